@@ -1,0 +1,2 @@
+-- Views and their order.
+pub mod Views

@@ -1,0 +1,43 @@
+-- A view: a finite map from ids to the sequence number and the bytes that were stored.
+use Rattle.std.specs.Prelude.{◌≡◌, ℕ, ◌≤◌, ◌<◌, ◌++◌, map, Option, Some, None, nat_lt, if◌then◌else◌, ◌⊎◌}
+use Rattle.std.specs.Ordering.{nat_cmp}
+use Rattle.std.specs.Coded.{Coded, coded_ℕ}
+use Rattle.std.specs.FinMap as fin
+use Rattle.sc_view.specs.declared.view.Stored.{Stored}
+use Rattle.sc_view.specs.contracts.view.Stored as stored
+
+abbrev pub ViewMap : Type 0
+ViewMap = fin.FinMap nat_cmp Stored
+
+abbrev pub view_code : Coded ViewMap
+view_code = fin.code coded_ℕ stored.the_row.coded
+
+-- of two values stored by one node the one with the larger number; at equal numbers the one that is there
+abbrev pub newer : Option Stored → Stored → Stored
+newer None e = e
+newer (Some old) e = if nat_lt old.number e.number then e else old
+
+-- the view after learning one value of a node
+abbrev pub put : ViewMap → ℕ → Stored → ViewMap
+put v id e = fin.insert v id (newer (fin.get v id) e)
+
+-- for each id the value with the larger number, v's at equal ones
+abbrev pub merge : ViewMap → ViewMap → ViewMap
+merge v w = fin.from_entries (map (λ e. (e.0, newer (fin.get v e.0) e.1)) (fin.entries w) ++ fin.entries v)
+
+abbrev pub number_of : Option Stored → ℕ
+number_of None = 0
+number_of (Some e) = e.number
+
+-- the sequence number at an id, and 0 where there is no entry
+abbrev pub number_at : ViewMap → ℕ → ℕ
+number_at v id = number_of (fin.get v id)
+
+-- at no id is v newer than w
+pub record IsBelow (v w : ViewMap) : Type 0 where
+  pub at : (id : ℕ) → number_at v id ≤ number_at w id
+
+-- the order on views: each entry of v is in w, or w has a newer one
+abbrev pub IsCoveredBy : ViewMap → ViewMap → Type 0
+IsCoveredBy v w =
+    (id : ℕ) (e : Stored) → fin.get v id ≡ Some e → (fin.get w id ≡ Some e) ⊎ (e.number < number_at w id)
