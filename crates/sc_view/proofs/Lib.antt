@@ -1,0 +1,3 @@
+-- Lemmas on views.
+pub mod Maps
+pub mod ViewLemmas

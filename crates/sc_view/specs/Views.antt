@@ -12,6 +12,15 @@ ViewMap = fin.FinMap nat_cmp Stored
 abbrev pub view_code : Coded ViewMap
 view_code = fin.code coded_ℕ stored.the_row.coded
 
+-- at most so many ids
+abbrev pub most_entries : ℕ
+most_entries = 256
+
+-- what each view keeps: few ids, and numbers that are counted from 1
+pub record IsView (v : ViewMap) : Type 0 where
+  pub few : fin.len v ≤ most_entries
+  pub counted : (id : ℕ) (e : Stored) → fin.get v id ≡ Some e → 1 ≤ e.number
+
 -- of two values stored by one node the one with the larger number; at equal numbers the one that is there
 abbrev pub newer : Option Stored → Stored → Stored
 newer None e = e
@@ -41,3 +50,8 @@ pub record IsBelow (v w : ViewMap) : Type 0 where
 abbrev pub IsCoveredBy : ViewMap → ViewMap → Type 0
 IsCoveredBy v w =
     (id : ℕ) (e : Stored) → fin.get v id ≡ Some e → (fin.get w id ≡ Some e) ⊎ (e.number < number_at w id)
+
+-- where both have one number at an id, they have the same value there
+abbrev pub Agree : ViewMap → ViewMap → Type 0
+Agree v w =
+    (id : ℕ) (d e : Stored) → fin.get v id ≡ Some d → fin.get w id ≡ Some e → d.number ≡ e.number → d ≡ e
