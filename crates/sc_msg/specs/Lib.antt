@@ -1,0 +1,7 @@
+-- Messages, their bytes and the first fault of other bytes.
+pub mod Numbers
+pub mod Kinds
+pub mod Entries
+pub mod Fields
+pub mod Messages
+pub mod Fault

@@ -16,21 +16,39 @@ pub enum Body {
     /// The sender has joined.
     Join,
     /// A node has joined, as the sender heard.
-    JoinEcho { about: u64 },
+    JoinEcho {
+        about: u64,
+    },
     /// The sender leaves.
     Leave,
     /// A node leaves, as the sender heard.
-    LeaveEcho { about: u64 },
+    LeaveEcho {
+        about: u64,
+    },
     /// The view that an operation of the sender stores, or stores back.
-    Store { tag: u64, view: View },
+    Store {
+        tag: u64,
+        view: View,
+    },
     /// The sender has learned what that operation of the node stores.
-    StoreAck { to: u64, tag: u64 },
+    StoreAck {
+        to: u64,
+        tag: u64,
+    },
     /// What the sender knows after a store.
-    StoreEcho { view: View },
+    StoreEcho {
+        view: View,
+    },
     /// An operation of the sender asks for views.
-    CollectQuery { tag: u64 },
+    CollectQuery {
+        tag: u64,
+    },
     /// The sender's view, for that operation of the node.
-    CollectReply { to: u64, tag: u64, view: View },
+    CollectReply {
+        to: u64,
+        tag: u64,
+        view: View,
+    },
 }
 
 /// A message, which is sent to all.

@@ -1,0 +1,107 @@
+-- The fields of each kind of message.
+use Rattle.std.specs.Prelude.{ℕ, ◌<◌, ◌^◌, ◌≡◌, ◌⊎◌, Bool, if◌then◌else◌, nat_lt, List, [], ◌∷◌, ◌++◌, length, map, Option, Some, None}
+use Rattle.std.specs.List.{flat_map, AllByRecursion}
+use Rattle.sc_members.specs.Ids.{Ids}
+use Rattle.sc_view.specs.Views.{ViewMap}
+use Rattle.sc_msg.specs.declared.message.Body.{Body}
+use Rattle.sc_msg.specs.declared.message.Body.TheVariants as bodies
+use Rattle.sc_msg.specs.declared.kind.Kind.{Kind}
+use Rattle.sc_msg.specs.declared.kind.Kind.TheVariants as kinds
+use Rattle.sc_msg.specs.declared.fault.MessageFault.{MessageFault}
+use Rattle.sc_msg.specs.declared.fault.MessageFault.TheVariants.{Short, BadField}
+use Rattle.sc_msg.specs.Numbers.{number_bytes, first_number}
+use Rattle.sc_msg.specs.Entries.{ids_bytes, view_bytes, ids_layout, view_layout, AreIds, AreRecords, IsEntryFault, Layout, count_fault}
+
+pub data Slot : Type 0 where
+  number_slot : Slot
+  flag_slot : Slot
+  ids_slot : Slot
+  view_slot : Slot
+
+pub data Field : Type 0 where
+  number : ℕ → Field
+  flag : Bool → Field
+  ids : Ids → Field
+  view : ViewMap → Field
+
+-- the fields that the bytes of a kind have, from left to right
+abbrev pub slots : Kind → List Slot
+slots kinds.Enter = []
+slots kinds.EnterEcho = number_slot ∷ flag_slot ∷ ids_slot ∷ ids_slot ∷ ids_slot ∷ view_slot ∷ []
+slots kinds.Join = []
+slots kinds.JoinEcho = number_slot ∷ []
+slots kinds.Leave = []
+slots kinds.LeaveEcho = number_slot ∷ []
+slots kinds.Store = number_slot ∷ view_slot ∷ []
+slots kinds.StoreAck = number_slot ∷ number_slot ∷ []
+slots kinds.StoreEcho = view_slot ∷ []
+slots kinds.CollectQuery = number_slot ∷ []
+slots kinds.CollectReply = number_slot ∷ number_slot ∷ view_slot ∷ []
+
+-- ---- the spelling
+
+abbrev pub fields : Body → List Field
+fields bodies.Enter = []
+fields (bodies.EnterEcho to joined facts v) = number to ∷ flag joined ∷ ids facts.entered ∷ ids facts.joined ∷ ids facts.left ∷ view v ∷ []
+fields bodies.Join = []
+fields (bodies.JoinEcho about) = number about ∷ []
+fields bodies.Leave = []
+fields (bodies.LeaveEcho about) = number about ∷ []
+fields (bodies.Store tag v) = number tag ∷ view v ∷ []
+fields (bodies.StoreAck to tag) = number to ∷ number tag ∷ []
+fields (bodies.StoreEcho v) = view v ∷ []
+fields (bodies.CollectQuery tag) = number tag ∷ []
+fields (bodies.CollectReply to tag v) = number to ∷ number tag ∷ view v ∷ []
+
+-- a number in eight bytes, a truth as 1 or 0 in one, ids and views by their entries
+abbrev pub field_bytes : Field → List ℕ
+field_bytes (number n) = number_bytes 8 n
+field_bytes (flag b) = (if b then 1 else 0) ∷ []
+field_bytes (ids s) = ids_bytes s
+field_bytes (view v) = view_bytes v
+
+abbrev pub fields_bytes : List Field → List ℕ
+fields_bytes fs = flat_map field_bytes fs
+
+-- which fields have a spelling
+abbrev pub IsField : Field → Type 0
+IsField (number n) = n < 2 ^ 64
+IsField (flag b) = Unit {0}
+IsField (ids s) = AreIds s
+IsField (view v) = AreRecords v
+
+abbrev pub slot_of : Field → Slot
+slot_of (number n) = number_slot
+slot_of (flag b) = flag_slot
+slot_of (ids s) = ids_slot
+slot_of (view v) = view_slot
+
+-- ---- the first fault
+
+abbrev pub number_fault : List ℕ → Option MessageFault
+number_fault bytes = if nat_lt (length bytes) 8 then Some Short else None
+
+abbrev pub flag_fault : List ℕ → Option MessageFault
+flag_fault bytes =
+    if nat_lt (length bytes) 1 then Some Short else (if nat_lt 1 (first_number 1 bytes) then Some BadField else None)
+
+-- the count is faulty, or an entry
+abbrev pub IsListFault : {A : Type 0} → Layout A → List ℕ → MessageFault → Type 0
+IsListFault layout bytes e = (count_fault layout.most bytes ≡ Some e) ⊎ IsEntryFault layout bytes e
+
+abbrev pub IsFieldFault : Slot → List ℕ → MessageFault → Type 0
+IsFieldFault number_slot bytes e = number_fault bytes ≡ Some e
+IsFieldFault flag_slot bytes e = flag_fault bytes ≡ Some e
+IsFieldFault ids_slot bytes e = IsListFault ids_layout bytes e
+IsFieldFault view_slot bytes e = IsListFault view_layout bytes e
+
+-- behind some of these fields stands the next one with this fault
+pub record IsFieldsFault (wanted : List Slot) (bytes : List ℕ) (e : MessageFault) : Type 0 where
+  pub before : List Field
+  pub fields : AllByRecursion IsField before
+  pub slot : Slot
+  pub after : List Slot
+  pub shape : wanted ≡ map slot_of before ++ slot ∷ after
+  pub rest : List ℕ
+  pub parts : bytes ≡ fields_bytes before ++ rest
+  pub faulty : IsFieldFault slot rest e

@@ -1,0 +1,83 @@
+//! Why bytes are no message, each reason with its number and its name.
+
+ghost use Rattle.std.specs.Prelude.{◌≡◌};
+ghost use Rattle.sc_msg.specs.Fault.{fault_number, fault_name};
+
+use std::alloc::{AllocError, AllocFailed};
+
+/// What is first wrong with bytes that are no message.
+#[derive(Clone, Copy, Debug, PartialEq, Eq)]
+pub enum MessageFault {
+    /// 71: the first three bytes are not 42 51 01: two bytes for the format and one for its version.
+    BadHead,
+    /// 72: the bytes end before the head of 12 bytes does, or before a field does.
+    Short,
+    /// 73: there are more than 60,000 bytes.
+    TooLong,
+    /// 74: the fourth byte is no kind, 1 to 11.
+    BadKind,
+    /// 75: an id is not above the one before it.
+    Unsorted,
+    /// 76: bytes stand behind the last field.
+    Extra,
+    /// 77: a joined byte above 1, a count above its limit, or a sequence number 0.
+    BadField,
+    /// 99: memory ran out. It may stand in place of any other answer.
+    OutOfMemory,
+}
+
+impl MessageFault {
+    /// The number by which the fault is reported, 71 to 77 or 99.
+    pub fn number(&self) -> u8
+        ensures { result ≡ fault_number self.now }
+    {
+        match self {
+            MessageFault::BadHead => 71,
+            MessageFault::Short => 72,
+            MessageFault::TooLong => 73,
+            MessageFault::BadKind => 74,
+            MessageFault::Unsorted => 75,
+            MessageFault::Extra => 76,
+            MessageFault::BadField => 77,
+            MessageFault::OutOfMemory => 99,
+        }
+    }
+
+    /// The name by which the fault is reported.
+    pub fn name(&self) -> &'static str
+        ensures { result.now ≡ fault_name self.now }
+    {
+        match self {
+            MessageFault::BadHead => "BadHead",
+            MessageFault::Short => "Short",
+            MessageFault::TooLong => "TooLong",
+            MessageFault::BadKind => "BadKind",
+            MessageFault::Unsorted => "Unsorted",
+            MessageFault::Extra => "Extra",
+            MessageFault::BadField => "BadField",
+            MessageFault::OutOfMemory => "OutOfMemory",
+        }
+    }
+}
+
+impl From<AllocError> for MessageFault {
+    ghost use Rattle.std.specs.Prelude.{◌≡◌};
+    ghost use Rattle.sc_msg.specs.declared.fault.MessageFault.TheVariants.{OutOfMemory};
+
+    ghost from_gives = { λ _ e. e ≡ OutOfMemory };
+
+    fn from(_error: AllocError) -> Self {
+        MessageFault::OutOfMemory
+    }
+}
+
+impl<T: Drop> From<AllocFailed<T>> for MessageFault {
+    ghost use Rattle.std.specs.Prelude.{◌≡◌};
+    ghost use Rattle.sc_msg.specs.declared.fault.MessageFault.TheVariants.{OutOfMemory};
+
+    ghost from_gives = { λ _ e. e ≡ OutOfMemory };
+
+    fn from(_error: AllocFailed<T>) -> Self {
+        MessageFault::OutOfMemory
+    }
+}
