@@ -1,0 +1,5 @@
+-- What a node does.
+pub mod Calls
+pub mod Sessions
+pub mod State
+pub mod Nodes

@@ -1,0 +1,302 @@
+-- What a node does at each call and at each message: one function for each aspect of its state, and one for each
+-- call, which gives the answer, the next state and the refusal together.
+use Rattle.std.specs.Prelude.{ℕ, ◌+◌, ◌^◌, Bool, true, false, not, ◌==◌, ◌&&◌, ◌||◌, nat_le, nat_lt, is_some, is_none, List, [], ◌∷◌, map, length, Option, Some, None, Result, Ok, Err, if◌then◌else◌}
+use Rattle.std.specs.Ordering.{nat_cmp}
+use Rattle.std.specs.FinMap as fin
+use Rattle.std.specs.FinSet as set
+use Rattle.sc_view.specs.Views.{ViewMap, put, merge}
+use Rattle.sc_members.specs.Ids.{Ids}
+use Rattle.sc_members.specs.Members.{Facts, Config, most_facts, present, members, threshold, union_facts, with_entered, with_joined, with_left}
+use Rattle.sc_msg.specs.declared.message.Message.{Message}
+use Rattle.sc_msg.specs.declared.message.Body.{Body}
+use Rattle.sc_msg.specs.declared.message.Body.TheVariants.{Enter, EnterEcho, Join, JoinEcho, Leave, LeaveEcho, Store, StoreAck, StoreEcho, CollectQuery, CollectReply}
+use Rattle.sc_node.specs.declared.session.Kind.TheVariants as kind
+use Rattle.sc_node.specs.declared.session.Phase.{Phase}
+use Rattle.sc_node.specs.declared.session.Session.{Session}
+use Rattle.sc_node.specs.declared.answer.Advance.{Advance}
+use Rattle.sc_node.specs.declared.answer.Advance.TheVariants as advance
+use Rattle.sc_node.specs.declared.answer.Progress.{Progress}
+use Rattle.sc_node.specs.declared.answer.Begun.{Begun}
+use Rattle.sc_node.specs.declared.answer.Delivered.{Delivered}
+use Rattle.sc_node.specs.declared.fault.NodeFault.{NodeFault}
+use Rattle.sc_node.specs.declared.fault.NodeFault.TheVariants as fault
+use Rattle.sc_node.specs.Sessions.{new_phase, count_sender, is_reached, querying, storing, apply, ends, ended_by, ended_view}
+use Rattle.sc_node.specs.State.{NodeState}
+
+-- so many operations may be open, and so many may ever begin
+abbrev pub most_open : ℕ
+most_open = 64
+
+abbrev pub most_operations : ℕ
+most_operations = 2 ^ 32
+
+-- so many ids may be in a view, and so many may be founders
+abbrev pub most_viewed : ℕ
+most_viewed = 256
+
+abbrev pub is_view_full : ViewMap → Bool
+is_view_full v = nat_lt most_viewed (fin.len v)
+
+abbrev pub is_facts_full : Facts → Bool
+is_facts_full f = nat_lt most_facts (set.len f.entered) || (nat_lt most_facts (set.len f.joined) || nat_lt most_facts (set.len f.left))
+
+-- how many answers a phase waits for that begins now
+abbrev pub beta_threshold : NodeState → ℕ
+beta_threshold n = threshold n.config.beta_num n.config.beta_den (members n.facts)
+
+-- how many echoes a node waits for, where these are the facts
+abbrev pub gamma_threshold : NodeState → Facts → ℕ
+gamma_threshold n f = threshold n.config.gamma_num n.config.gamma_den (present f)
+
+abbrev pub message_from : ℕ → Body → Message
+message_from id body = record { from = id; body = body }
+
+-- the message tells who entered, joined or left
+abbrev pub tells_facts : Body → Bool
+tells_facts Enter = true
+tells_facts (EnterEcho to j f v) = true
+tells_facts Join = true
+tells_facts (JoinEcho q) = true
+tells_facts Leave = true
+tells_facts (LeaveEcho q) = true
+tells_facts b = false
+
+-- the facts with those that a message tells
+abbrev pub facts_heard : NodeState → ℕ → Body → Facts
+facts_heard n from Enter = with_entered n.facts from
+facts_heard n from (EnterEcho to j f v) = union_facts n.facts f
+facts_heard n from Join = with_joined n.facts from
+facts_heard n from (JoinEcho q) = with_joined n.facts q
+facts_heard n from Leave = with_left n.facts from
+facts_heard n from (LeaveEcho q) = with_left n.facts q
+facts_heard n from b = n.facts
+
+-- the message is for an operation of this node that is in its query phase
+abbrev pub is_reply : NodeState → ℕ → ℕ → Bool
+is_reply n to tag = to == n.id && is_some (querying (fin.get n.sessions tag))
+
+-- the message's view is merged
+abbrev pub tells_view : NodeState → Body → Bool
+tells_view n (EnterEcho to j f v) = true
+tells_view n (Store t v) = true
+tells_view n (StoreEcho v) = true
+tells_view n (CollectReply to t v) = is_reply n to t
+tells_view n b = false
+
+-- the view after a message
+abbrev pub view_after : NodeState → Body → ViewMap
+view_after n (EnterEcho to j f v) = merge n.view v
+view_after n (Store t v) = merge n.view v
+view_after n (StoreEcho v) = merge n.view v
+view_after n (CollectReply to t v) = if is_reply n to t then merge n.view v else n.view
+view_after n b = n.view
+
+abbrev pub ack_progress : ℕ → ℕ → Option Phase → Option Progress
+ack_progress from tag None = None
+ack_progress from tag (Some p) =
+    Some (record { tag = tag; sender = from; advance = if is_reached (count_sender p from) then advance.Ended else advance.Counted })
+
+abbrev pub reply_progress : ℕ → ℕ → ViewMap → ℕ → Option Phase → Option Progress
+reply_progress from tag view next None = None
+reply_progress from tag view next (Some p) =
+    Some (record { tag = tag; sender = from; advance = if is_reached (count_sender p from) then advance.Turned next view else advance.Counted })
+
+-- The operation that a message moves. An acknowledgement counts where the operation is stored or stored back, and
+-- ends it at the threshold; a reply counts in the query phase, at whose threshold the view is stored back.
+abbrev pub progress_of : NodeState → ℕ → Body → Option Progress
+progress_of n from (StoreAck to t) = if to == n.id then ack_progress from t (storing (fin.get n.sessions t)) else None
+progress_of n from (CollectReply to t v) =
+    if to == n.id then reply_progress from t (merge n.view v) (beta_threshold n) (querying (fin.get n.sessions t)) else None
+progress_of n from b = None
+
+abbrev pub session_moved : fin.FinMap nat_cmp Session → Progress → Option Session → fin.FinMap nat_cmp Session
+session_moved m p None = m
+session_moved m p (Some s) = if ends p.advance then fin.remove m p.tag else fin.insert m p.tag (apply p s)
+
+-- the open operations after a progress
+abbrev pub sessions_after : fin.FinMap nat_cmp Session → Option Progress → fin.FinMap nat_cmp Session
+sessions_after m None = m
+sessions_after m (Some p) = session_moved m p (fin.get m p.tag)
+
+abbrev pub ended_session : fin.FinMap nat_cmp Session → Option Progress → Option Session
+ended_session m None = None
+ended_session m (Some p) = fin.get m p.tag
+
+-- the echoes that are counted by a node that waits to join
+abbrev pub echoes_after : NodeState → ℕ → Body → Ids
+echoes_after n from (EnterEcho to j f v) = if to == n.id && not n.joined then set.insert n.echoes from else n.echoes
+echoes_after n from b = n.echoes
+
+-- the first echo of a joined node sets how many a node waits for, by those present now
+abbrev pub join_threshold_after : NodeState → ℕ → Body → Option ℕ
+join_threshold_after n from (EnterEcho to j f v) =
+    if to == n.id && (not n.joined && (j && is_none n.join_threshold))
+    then Some (gamma_threshold n (union_facts n.facts f))
+    else n.join_threshold
+join_threshold_after n from b = n.join_threshold
+
+abbrev pub is_met : Option ℕ → Ids → Bool
+is_met None ids = false
+is_met (Some t) ids = nat_le t (set.len ids)
+
+-- the node joins at this message
+abbrev pub joins : NodeState → ℕ → Body → Bool
+joins n from (EnterEcho to j f v) =
+    to == n.id && (not n.joined && is_met (join_threshold_after n from (EnterEcho to j f v)) (echoes_after n from (EnterEcho to j f v)))
+joins n from b = false
+
+-- all facts after a message, its own join among them
+abbrev pub facts_after : NodeState → ℕ → Body → Facts
+facts_after n from b = if joins n from b then with_joined (facts_heard n from b) n.id else facts_heard n from b
+
+abbrev pub store_of : ℕ → Advance → List Body
+store_of tag (advance.Turned next view) = Store tag view ∷ []
+store_of tag a = []
+
+-- what a collect that ended its query phase stores back
+abbrev pub store_back : Option Progress → List Body
+store_back None = []
+store_back (Some p) = store_of p.tag p.advance
+
+-- what a node answers
+abbrev pub answers : NodeState → ℕ → Body → List Body
+answers n from Enter = EnterEcho from n.joined (facts_heard n from Enter) n.view ∷ []
+answers n from (EnterEcho to j f v) = if joins n from (EnterEcho to j f v) then Join ∷ [] else []
+answers n from Join = JoinEcho from ∷ []
+answers n from Leave = LeaveEcho from ∷ []
+answers n from (Store t v) = if n.joined then StoreAck from t ∷ StoreEcho (merge n.view v) ∷ [] else []
+answers n from (CollectQuery t) = if n.joined then CollectReply from t n.view ∷ [] else []
+answers n from (CollectReply to t v) = store_back (progress_of n from (CollectReply to t v))
+answers n from b = []
+
+-- the node after a message
+abbrev pub node_after : NodeState → ℕ → Body → NodeState
+node_after n from b =
+    record {
+      id = n.id;
+      config = n.config;
+      facts = facts_after n from b;
+      view = view_after n b;
+      joined = joins n from b || n.joined;
+      gone = n.gone;
+      join_threshold = join_threshold_after n from b;
+      echoes = echoes_after n from b;
+      sessions = sessions_after n.sessions (progress_of n from b);
+      stores = n.stores;
+      operations = n.operations;
+    }
+
+abbrev pub delivery : NodeState → ℕ → Body → Delivered
+delivery n from b =
+    record {
+      outs = map (message_from n.id) (answers n from b);
+      progress = progress_of n from b;
+      ended = ended_by (progress_of n from b) (ended_session n.sessions (progress_of n from b));
+    }
+
+-- the node takes a message
+abbrev pub delivered : NodeState → Message → Result (Delivered × NodeState) NodeFault
+delivered n m =
+    if n.gone then Err fault.Gone
+    else (if tells_view n m.body && is_view_full (view_after n m.body) then Err fault.ViewFull
+    else (if tells_facts m.body && is_facts_full (facts_after n m.from m.body) then Err fault.FactsFull
+    else Ok (delivery n m.from m.body, node_after n m.from m.body)))
+
+-- the view that a collect returns where this message ends it
+abbrev pub returning : NodeState → Message → Option ViewMap
+returning n m = ended_view (delivery n m.from m.body).ended
+
+-- the node with a new operation
+abbrev pub opened : NodeState → ViewMap → ℕ → Session → NodeState
+opened n view stores s =
+    record n { view = view; stores = stores; sessions = fin.insert n.sessions n.operations s; operations = n.operations + 1 }
+
+abbrev pub begun : NodeState → Session → Body → Begun
+begun n s b = record { tag = n.operations; session = s; outs = message_from n.id b ∷ [] }
+
+-- an operation may begin, if the rest allows it
+abbrev pub beginning : {A : Type 0} → NodeState → Result A NodeFault → Result A NodeFault
+beginning n rest =
+    if n.gone then Err fault.Gone
+    else (if not n.joined then Err fault.NotJoined
+    else (if nat_le most_open (fin.len n.sessions) then Err fault.SessionsFull
+    else (if nat_le most_operations n.operations then Err fault.NumbersOut
+    else rest)))
+
+abbrev pub next_stored : NodeState → List ℕ → Rattle.sc_view.specs.declared.view.Stored.Stored
+next_stored n value = record { number = n.stores + 1; value = value }
+
+abbrev pub stored_view : NodeState → List ℕ → ViewMap
+stored_view n value = put n.view n.id (next_stored n value)
+
+abbrev pub store_session : NodeState → List ℕ → Session
+store_session n value =
+    record { kind = kind.Store (next_stored n value); query = None; back = Some (record { view = stored_view n value; phase = new_phase (beta_threshold n) }) }
+
+-- the node begins to store a value
+abbrev pub store_begun : NodeState → List ℕ → Result (Begun × NodeState) NodeFault
+store_begun n value =
+    beginning n (if is_view_full (stored_view n value) then Err fault.ViewFull
+    else Ok (
+      begun n (store_session n value) (Store n.operations (stored_view n value)),
+      opened n (stored_view n value) (n.stores + 1) (store_session n value),
+    ))
+
+abbrev pub collect_session : NodeState → Session
+collect_session n = record { kind = kind.Collect; query = Some (new_phase (beta_threshold n)); back = None }
+
+-- the node begins to collect
+abbrev pub collect_begun : NodeState → Result (Begun × NodeState) NodeFault
+collect_begun n =
+    beginning n (Ok (begun n (collect_session n) (CollectQuery n.operations), opened n n.view n.stores (collect_session n)))
+
+-- the node leaves
+abbrev pub left : NodeState → Result (List Message × NodeState) NodeFault
+left n =
+    if n.gone then Err fault.Gone
+    else (if is_facts_full (with_left n.facts n.id) then Err fault.FactsFull
+    else Ok (message_from n.id Leave ∷ [], record n { facts = with_left n.facts n.id; gone = true }))
+
+-- a node before its first event
+abbrev pub fresh : Config → ℕ → Facts → Bool → NodeState
+fresh c id facts joined =
+    record {
+      id = id;
+      config = c;
+      facts = facts;
+      view = fin.empty;
+      joined = joined;
+      gone = false;
+      join_threshold = None;
+      echoes = set.empty;
+      sessions = fin.empty;
+      stores = 0;
+      operations = 0;
+    }
+
+-- a node that enters knows that it does, and tells it
+abbrev pub entering : Config → ℕ → NodeState
+entering c id = fresh c id (record { entered = set.insert set.empty id; joined = set.empty; left = set.empty }) false
+
+abbrev pub entered : Config → ℕ → NodeState × List Message
+entered c id = (entering c id, message_from id Enter ∷ [])
+
+-- a founder has joined, and knows that all founders have
+abbrev pub founder : Config → List ℕ → ℕ → NodeState
+founder c ids id = fresh c id (record { entered = set.from_list ids; joined = set.from_list ids; left = set.empty }) true
+
+abbrev pub rises_from : ℕ → List ℕ → Bool
+rises_from id [] = true
+rises_from id (next ∷ ids) = nat_lt id next && rises_from next ids
+
+-- each id is larger than the one before
+abbrev pub rises : List ℕ → Bool
+rises [] = true
+rises (id ∷ ids) = rises_from id ids
+
+-- the ids of 1 to 256 founders, strictly rising
+abbrev pub are_founders : List ℕ → Bool
+are_founders ids = nat_le 1 (length ids) && (nat_le (length ids) most_viewed && rises ids)
+
+abbrev pub founded : Config → ℕ → List ℕ → Result NodeState NodeFault
+founded c id ids = if are_founders ids && set.contains (set.from_list {R = nat_cmp} ids) id then Ok (founder c ids id) else Err fault.BadFounders

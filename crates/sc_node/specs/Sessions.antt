@@ -1,0 +1,118 @@
+-- Operations of a node, and how the answers to them move them.
+use Rattle.std.specs.Prelude.{ℕ, Bool, true, false, nat_le, Option, Some, None}
+use Rattle.std.specs.FinSet as set
+use Rattle.sc_view.specs.Views.{ViewMap}
+use Rattle.sc_members.specs.Ids.{Ids}
+use Rattle.sc_node.specs.declared.session.Kind.{Kind}
+use Rattle.sc_node.specs.declared.session.Kind.TheVariants as kind
+use Rattle.sc_node.specs.declared.session.Phase.{Phase}
+use Rattle.sc_node.specs.declared.session.StoreBack.{StoreBack}
+use Rattle.sc_node.specs.declared.session.Session.{Session}
+use Rattle.sc_node.specs.declared.answer.Advance.{Advance}
+use Rattle.sc_node.specs.declared.answer.Advance.TheVariants as advance
+use Rattle.sc_node.specs.declared.answer.Progress.{Progress}
+use Rattle.sc_node.specs.declared.answer.Completion.{Completion}
+use Rattle.sc_node.specs.declared.answer.Completion.TheVariants as completion
+use Rattle.sc_node.specs.declared.answer.Ended.{Ended}
+
+-- a phase that begins counts nobody
+abbrev pub new_phase : ℕ → Phase
+new_phase threshold = record { threshold = threshold; counted = set.empty }
+
+-- a sender is counted once
+abbrev pub count_sender : Phase → ℕ → Phase
+count_sender p from = record { threshold = p.threshold; counted = set.insert p.counted from }
+
+abbrev pub is_reached : Phase → Bool
+is_reached p = nat_le p.threshold (set.len p.counted)
+
+abbrev pub view_in : Option StoreBack → Option ViewMap
+view_in None = None
+view_in (Some b) = Some b.view
+
+-- the view that an operation stores, or stores back, once it does
+abbrev pub stored : Session → Option ViewMap
+stored s = view_in s.back
+
+abbrev pub counted_in : Option Phase → Ids
+counted_in None = set.empty
+counted_in (Some p) = p.counted
+
+abbrev pub phase_in : Option StoreBack → Option Phase
+phase_in None = None
+phase_in (Some b) = Some b.phase
+
+-- whose replies a collect counted
+abbrev pub repliers : Session → Ids
+repliers s = counted_in s.query
+
+-- whose acknowledgements an operation counted
+abbrev pub ackers : Session → Ids
+ackers s = counted_in (phase_in s.back)
+
+-- the query phase, while nothing is stored back
+abbrev pub query_before : Option StoreBack → Option Phase → Option Phase
+query_before None query = query
+query_before (Some b) query = None
+
+-- the query phase of an operation that is in it
+abbrev pub querying : Option Session → Option Phase
+querying None = None
+querying (Some s) = query_before s.back s.query
+
+-- the phase of an operation that is stored, or stored back
+abbrev pub storing : Option Session → Option Phase
+storing None = None
+storing (Some s) = phase_in s.back
+
+abbrev pub phase_with : Option Phase → ℕ → Option Phase
+phase_with None from = None
+phase_with (Some p) from = Some (count_sender p from)
+
+abbrev pub session_with : Session → Option StoreBack → ℕ → Session
+session_with s None from = record { kind = s.kind; query = phase_with s.query from; back = None }
+session_with s (Some b) from = record { kind = s.kind; query = s.query; back = Some (record { view = b.view; phase = count_sender b.phase from }) }
+
+-- the sender is counted in the phase that is open
+abbrev pub counted : Session → ℕ → Session
+counted s from = session_with s s.back from
+
+abbrev pub advanced_by : ℕ → Advance → Session → Session
+advanced_by from (advance.Turned threshold view) s =
+    record { kind = s.kind; query = phase_with s.query from; back = Some (record { view = view; phase = new_phase threshold }) }
+advanced_by from advance.Counted s = counted s from
+advanced_by from advance.Ended s = counted s from
+
+-- an operation after its progress
+abbrev pub apply : Progress → Session → Session
+apply p s = advanced_by p.sender p.advance s
+
+abbrev pub ends : Advance → Bool
+ends advance.Ended = true
+ends a = false
+
+abbrev pub completed : Kind → ViewMap → Completion
+completed (kind.Store e) view = completion.Stored
+completed kind.Collect view = completion.Returned view
+
+abbrev pub ended_with : ℕ → Kind → Option StoreBack → Option Ended
+ended_with tag k None = None
+ended_with tag k (Some b) = Some (record { tag = tag; what = completed k b.view })
+
+abbrev pub ended_at : ℕ → Advance → Option Session → Option Ended
+ended_at tag advance.Ended (Some s) = ended_with tag s.kind s.back
+ended_at tag a s = None
+
+-- the operation that ends, where its state was this
+abbrev pub ended_by : Option Progress → Option Session → Option Ended
+ended_by None s = None
+ended_by (Some p) s = ended_at p.tag p.advance s
+
+abbrev pub view_returned : Completion → Option ViewMap
+view_returned completion.Stored = None
+view_returned (completion.Returned view) = Some view
+
+-- the view that an ended collect returns
+abbrev pub ended_view : Option Ended → Option ViewMap
+ended_view None = None
+ended_view (Some e) = view_returned e.what

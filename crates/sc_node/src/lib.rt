@@ -1,0 +1,18 @@
+//! One node of a store-collect object: what it does at each call and at each message.
+//!
+//! A node knows who entered, joined and left, keeps a view, and has up to 64 operations open. A store puts a value
+//! into its view and waits until enough nodes acknowledged that view; a collect first asks for views, then stores
+//! back what it learned and returns that. Each call answers the messages that go to all nodes, the sender included.
+//!
+//! The definitions of every call stand in `specs/Nodes.antt`: the answer, the next state and the refusal together,
+//! refusals in the order in which they are tested. Each call meets its definition by the word `Steps`: it answers
+//! and leaves what is said, or refuses as is said, or was refused memory; after a refusal the node is as it was.
+//! The handlers follow the CCC store-collect algorithm (Attiya, Kumari, Somani, Welch 2020).
+#![tactic(auto)]
+
+pub mod answer;
+pub mod fault;
+pub mod node;
+pub mod outs;
+pub mod session;
+mod sessions;
