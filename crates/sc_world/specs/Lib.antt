@@ -1,0 +1,5 @@
+-- Every history of a store-collect object, and its regularity.
+pub mod State
+pub mod Worlds
+pub mod Records
+pub mod Regular

@@ -1,0 +1,117 @@
+-- What the record of an operation says of its world.
+use Rattle.std.specs.Prelude.{◌≡◌, ℕ, ◌<◌, List, [], ◌∷◌, Option, Some, None, ◌⊎◌, slice_get}
+use Rattle.std.specs.FinMap as fin
+use Rattle.std.specs.FinSet as set
+use Rattle.sc_view.specs.declared.view.Stored.{Stored}
+use Rattle.sc_view.specs.Views.{ViewMap}
+use Rattle.sc_members.specs.Ids.{Ids, Has}
+use Rattle.sc_msg.specs.declared.message.Message.{Message}
+use Rattle.sc_msg.specs.declared.message.Body.TheVariants.{StoreAck, CollectReply}
+use Rattle.sc_node.specs.declared.session.Kind.{Kind}
+use Rattle.sc_node.specs.declared.session.Kind.TheVariants as kind
+use Rattle.sc_node.specs.declared.session.Phase.{Phase}
+use Rattle.sc_node.specs.declared.session.StoreBack.{StoreBack}
+use Rattle.sc_node.specs.State.{NodeState}
+use Rattle.sc_node.specs.Nodes.{beta_threshold, message_from}
+use Rattle.sc_world.specs.declared.event.Event.{Event}
+use Rattle.sc_world.specs.declared.event.Event.TheVariants as event
+use Rattle.sc_world.specs.declared.op.Op.{Op}
+use Rattle.sc_world.specs.State.{WorldState}
+use Rattle.sc_world.specs.Worlds.{clock, WasBefore}
+
+-- x is an element
+abbrev pub Among : {X : Type 0} → X → List X → Type 0
+Among x [] = ⊥
+Among x (y ∷ ys) = (x ≡ y) ⊎ Among x ys
+
+-- the event that begins an operation of this kind
+abbrev pub beginning_of : ℕ → Kind → Event
+beginning_of node (kind.Store e) = event.Store node e.value
+beginning_of node kind.Collect = event.Collect node
+
+-- what answers a phase of an operation
+abbrev pub Answers : Type 1
+Answers = ℕ → Message → Type 0
+
+-- the sender's acknowledgement of what an operation stores, or stores back
+abbrev pub IsAck : Op → Answers
+IsAck o from m = m ≡ message_from from (StoreAck o.node o.tag)
+
+-- the sender's reply to a collect
+abbrev pub IsReply : Op → Answers
+IsReply o from m = (view : ViewMap) × (m ≡ message_from from (CollectReply o.node o.tag view))
+
+-- the sender's answer was sent, and delivered to the node at this place
+pub record IsDelivered (w : WorldState) (P : Answers) (node place from : ℕ) : Type 0 where
+  pub number : ℕ
+  pub message : Message
+  pub event : slice_get w.events place ≡ Some (event.Deliver number node)
+  pub sent : slice_get w.sent number ≡ Some message
+  pub answer : P from message
+
+-- the sender's answer was sent, and delivered to the node after one place and before another
+pub record IsAnswered (w : WorldState) (P : Answers) (node since until from : ℕ) : Type 0 where
+  pub place : ℕ
+  pub after : since < place
+  pub before : place < until
+  pub delivered : IsDelivered w P node place from
+
+-- a phase that waits: each counted sender's answer was delivered since it began, and they are too few yet
+pub record IsOpen (w : WorldState) (P : Answers) (node since : ℕ) (p : Phase) : Type 0 where
+  pub few : set.len p.counted < p.threshold
+  pub answered : (from : ℕ) → Has p.counted from → IsAnswered w P node since (clock w) from
+
+-- a phase that ended: the answer that was delivered at its end was the one that brought the number of counted
+-- senders to the threshold
+pub record IsOver (w : WorldState) (P : Answers) (node since end : ℕ) (p : Phase) : Type 0 where
+  pub later : since < end
+  pub others : Ids
+  pub last : ℕ
+  pub counted : p.counted ≡ set.insert others last
+  pub few : set.len others < p.threshold
+  pub reached : set.len p.counted ≡ p.threshold
+  pub answered : (from : ℕ) → Has others from → IsAnswered w P node since end from
+  pub finish : IsDelivered w P node end last
+
+-- the threshold is that of the members whom the node knew as the phase began
+pub record IsMeasured (w : WorldState) (node since : ℕ) (p : Phase) : Type 0 where
+  pub before : WorldState
+  pub was : WasBefore w since before
+  pub state : NodeState
+  pub at : fin.get before.nodes node ≡ Some state
+  pub threshold : p.threshold ≡ beta_threshold state
+
+-- a phase that has ended where there is an end, and waits where there is none
+abbrev pub IsUntil : WorldState → Answers → ℕ → ℕ → Phase → Option ℕ → Type 0
+IsUntil w P node since p None = IsOpen w P node since p
+IsUntil w P node since p (Some end) = IsOver w P node since end p
+
+-- a phase of the node that began at one place, and ended at another or waits
+pub record IsPhase (w : WorldState) (P : Answers) (node since : ℕ) (p : Phase) (end : Option ℕ) : Type 0 where
+  pub measured : IsMeasured w node since p
+  pub until : IsUntil w P node since p end
+
+-- how far an operation has come
+pub data IsRunning (w : WorldState) (o : Op) : Type 0 where
+  -- a store has one phase, from its beginning to its end
+  Stores : (e : Stored) (b : StoreBack) → o.session.kind ≡ kind.Store e → o.session.query ≡ None → o.session.back ≡ Some b
+      → IsPhase w (IsAck o) o.node o.begin b.phase o.end → IsRunning w o
+  -- a collect has first its query phase
+  Queries : (p : Phase) → o.session.kind ≡ kind.Collect → o.session.query ≡ Some p → o.session.back ≡ None
+      → o.end ≡ None → IsPhase w (IsReply o) o.node o.begin p None → IsRunning w o
+  -- and then stores back, from the place where the query phase ended
+  StoresBack : (p : Phase) (b : StoreBack) (turn : ℕ) → o.session.kind ≡ kind.Collect → o.session.query ≡ Some p → o.session.back ≡ Some b
+      → IsPhase w (IsReply o) o.node o.begin p (Some turn) → IsPhase w (IsAck o) o.node turn b.phase o.end → IsRunning w o
+
+-- the record of an operation is true of its world
+pub record IsRecord (w : WorldState) (o : Op) : Type 0 where
+  pub began : slice_get w.events o.begin ≡ Some (beginning_of o.node o.session.kind)
+  pub runs : IsRunning w o
+
+-- each operation has one record
+abbrev pub AreDistinct : List Op → Type 0
+AreDistinct ops = (i k : ℕ) (a b : Op) → slice_get ops i ≡ Some a → slice_get ops k ≡ Some b → a.node ≡ b.node → a.tag ≡ b.tag → i ≡ k
+
+pub record AreRecords (w : WorldState) : Type 0 where
+  pub distinct : AreDistinct w.ops
+  pub each : (o : Op) → Among o w.ops → IsRecord w o

@@ -1,0 +1,73 @@
+-- Regularity.
+use Rattle.std.specs.Prelude.{◌≡◌, ℕ, ◌≤◌, ◌<◌, Option, Some, None, List, slice_get}
+use Rattle.std.specs.FinMap as fin
+use Rattle.sc_view.specs.declared.view.Stored.{Stored}
+use Rattle.sc_view.specs.Views.{ViewMap, number_at, IsCoveredBy}
+use Rattle.sc_members.specs.Ids.{Has}
+use Rattle.sc_node.specs.declared.session.Kind.{Kind}
+use Rattle.sc_node.specs.declared.session.Kind.TheVariants as kind
+use Rattle.sc_node.specs.Sessions.{stored, repliers, ackers}
+use Rattle.sc_world.specs.declared.event.Event.TheVariants as event
+use Rattle.sc_world.specs.declared.op.Op.{Op}
+use Rattle.sc_world.specs.State.{WorldState}
+use Rattle.sc_world.specs.Records.{Among, AreRecords}
+
+-- the first operation ended before the second began
+pub record IsBefore (a b : Op) : Type 0 where
+  pub place : ℕ
+  pub ended : a.end ≡ Some place
+  pub earlier : place < b.begin
+
+-- the node acknowledged what the first stored, or stored back, and replied to the second
+pub record MeetsAt (a b : Op) (id : ℕ) : Type 0 where
+  pub acked : Has (ackers a.session) id
+  pub replied : Has (repliers b.session) id
+
+-- some node did
+pub record Meets (a b : Op) : Type 0 where
+  pub id : ℕ
+  pub at : MeetsAt a b id
+
+-- the least id of both sets, or none where there is none
+abbrev pub IsMeeting : Op → Op → Option ℕ → Type 0
+IsMeeting a b None = (id : ℕ) → MeetsAt a b id → ⊥
+IsMeeting a b (Some least) = MeetsAt a b least × ((id : ℕ) → MeetsAt a b id → least ≤ id)
+
+abbrev pub returned_by : Kind → Option ℕ → Option ViewMap → Option ViewMap
+returned_by kind.Collect (Some end) view = view
+returned_by k end view = None
+
+-- the view that an ended collect returned
+abbrev pub returned : Op → Option ViewMap
+returned o = returned_by o.session.kind o.end (stored o.session)
+
+-- the view has at least this number of the node
+abbrev pub Holds : ViewMap → ℕ → ℕ → Type 0
+Holds view node number = number ≤ number_at view node
+
+-- the node began to store this, at an earlier place
+pub record WasStored (w : WorldState) (place node : ℕ) (e : Stored) : Type 0 where
+  pub begin : ℕ
+  pub earlier : begin < place
+  pub event : slice_get w.events begin ≡ Some (event.Store node e.value)
+  pub op : Op
+  pub among : Among op w.ops
+  pub began : op.begin ≡ begin
+  pub by : op.node ≡ node
+  pub kind : op.session.kind ≡ kind.Store e
+
+-- each entry is the number and the value of a store that began at an earlier place
+pub record IsGenuine (w : WorldState) (place : ℕ) (v : ViewMap) : Type 0 where
+  pub stored : (id : ℕ) (e : Stored) → fin.get v id ≡ Some e → WasStored w place id e
+
+-- What is said of the view that an operation stores, or stores back: of an ended collect this is the view that it
+-- returned.
+pub record IsRegular (w : WorldState) : Type 0 where
+  -- it holds only what nodes began to store before the operation ended
+  pub genuine : (c : Op) (v : ViewMap) (place : ℕ) → Among c w.ops → stored c.session ≡ Some v → c.end ≡ Some place → IsGenuine w place v
+  -- it holds each store that ended before the collect began, and that meets it
+  pub holds : (s c : Op) (e : Stored) (v : ViewMap) → Among s w.ops → Among c w.ops → s.session.kind ≡ kind.Store e → stored c.session ≡ Some v
+      → IsBefore s c → Meets s c → Holds v s.node e.number
+  -- it lies above what an operation stored, or stored back, that ended before the collect began, and that meets it
+  pub above : (b c : Op) (u v : ViewMap) → Among b w.ops → Among c w.ops → stored b.session ≡ Some u → stored c.session ≡ Some v
+      → IsBefore b c → Meets b c → IsCoveredBy u v
