@@ -1,8 +1,9 @@
 -- Finite sets of ids.
-use Rattle.std.specs.Prelude.{◌≡◌, ℕ, true}
+use Rattle.std.specs.Prelude.{◌≡◌, ℕ, ◌≤◌, true, List, map, Option, IfSome, IfNone}
 use Rattle.std.specs.Ordering.{nat_cmp}
 use Rattle.std.specs.Coded.{Coded, coded_ℕ}
 use Rattle.std.specs.FinSet as set
+use Rattle.std.specs.FinMap as fin
 
 abbrev pub Ids : Type 0
 Ids = set.FinSet nat_cmp
@@ -13,3 +14,17 @@ ids_code = set.code coded_ℕ
 -- the id is in the set
 abbrev pub Has : Ids → ℕ → Type 0
 Has s id = set.contains s id ≡ true
+
+-- the least id that two sets share, and None just where they share none
+pub record IsLeastCommon (s t : Ids) (least_shared : Option ℕ) : Type 0 where
+  pub shared : IfSome least_shared (λ id. Has s id × Has t id)
+  pub least : IfSome least_shared (λ id. (q : ℕ) → Has s q → Has t q → id ≤ q)
+  pub none : IfNone least_shared ((q : ℕ) → Has s q → Has t q → ⊥)
+
+-- the set as a map with nothing at each id
+abbrev pub as_map : Ids → fin.FinMap nat_cmp (Unit {0})
+as_map s = fin.from_entries (map (λ id. (id, tt)) (set.items s))
+
+-- the ids in rising order
+abbrev pub rising : Ids → List ℕ
+rising s = fin.keys (as_map s)

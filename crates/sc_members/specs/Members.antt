@@ -1,5 +1,5 @@
 -- What is known of a cluster's nodes, and how many of them a phase waits for.
-use Rattle.std.specs.Prelude.{◌≡◌, ℕ, ◌+◌, ◌-◌, ◌*◌, ◌/◌, ◌≤◌, max}
+use Rattle.std.specs.Prelude.{◌≡◌, ℕ, ◌+◌, ◌-◌, ◌*◌, ◌/◌, ◌≤◌, max, List}
 use Rattle.std.specs.FinSet as set
 use Rattle.sc_members.specs.Ids.{Ids}
 
@@ -17,6 +17,14 @@ pub record IsFacts (f : Facts) : Type 0 where
   pub entered : set.len f.entered ≤ most_facts
   pub joined : set.len f.joined ≤ most_facts
   pub left : set.len f.left ≤ most_facts
+
+-- nobody entered, joined or left
+abbrev pub no_facts : Facts
+no_facts = record { entered = set.empty; joined = set.empty; left = set.empty }
+
+-- these have entered and joined
+abbrev pub founding : List ℕ → Facts
+founding ids = record { entered = set.from_list ids; joined = set.from_list ids; left = set.empty }
 
 -- entered and not left
 abbrev pub present : Facts → ℕ

@@ -1,6 +1,10 @@
+ghost use Rattle.std.specs.Prelude.{◌≡◌, ◌≤◌, ◌↔◌, IsTrue, IsOk, IfOk};
+ghost use Rattle.sc_members.specs.Members.{IsFraction, IsConfig, threshold};
+
 use std::marker::Model;
 
 /// The two fractions of a cluster: beta for the phases of operations, gamma for joining.
+/// Each is num / den with 1 <= num <= den <= 1,000.
 #[derive(Clone, Copy, Debug, PartialEq, Eq)]
 pub struct Config {
     beta_num: u16,
@@ -19,4 +23,90 @@ impl Model for Config {
     ghost invariant = { λ a. IsConfig (record { beta_num = a.beta_num; beta_den = a.beta_den; gamma_num = a.gamma_num; gamma_den = a.gamma_den }) };
 
     ghost inverse = { λ c. record { beta_num = c.beta_num; beta_den = c.beta_den; gamma_num = c.gamma_num; gamma_den = c.gamma_den } };
+}
+
+/// 45: a fraction isn't num / den with 1 <= num <= den <= 1,000.
+#[derive(Clone, Copy, Debug, PartialEq, Eq)]
+pub struct BadFraction;
+
+/// max(1, ceil(num * count / den)): how many answers a phase waits for where so many nodes count. Takes no memory.
+pub fn threshold(num: u64, den: u64, count: usize) -> u64
+    requires { IsFraction num den }
+    ensures { result ≡ threshold num den count }
+{
+    let ceiling = (u128::from(num) * count as u128 + u128::from(den - 1)) / u128::from(den);
+    ceiling.max(1) as u64
+}
+
+fn is_fraction(num: u64, den: u64) -> bool
+    ensures { IsTrue result ↔ IsFraction num den }
+{
+    1 <= num && num <= den && den <= 1000
+}
+
+impl Config {
+    /// Refuses 45 where one of the two fractions isn't num / den with 1 <= num <= den <= 1,000.
+    pub fn new(
+        beta_num: u64,
+        beta_den: u64,
+        gamma_num: u64,
+        gamma_den: u64,
+    ) -> Result<Config, BadFraction>
+        ensures accepted { IsOk result ↔ (IsFraction beta_num beta_den × IsFraction gamma_num gamma_den) }
+        ensures fields { IfOk result (λ config. config ≡ record { beta_num = beta_num; beta_den = beta_den; gamma_num = gamma_num; gamma_den = gamma_den }) }
+    {
+        if !is_fraction(beta_num, beta_den) || !is_fraction(gamma_num, gamma_den) {
+            return Err(BadFraction);
+        }
+        Ok(Config {
+            beta_num: beta_num as u16,
+            beta_den: beta_den as u16,
+            gamma_num: gamma_num as u16,
+            gamma_den: gamma_den as u16,
+        })
+    }
+
+    pub fn beta_num(&self) -> u64
+        ensures field { result ≡ self.now.beta_num }
+        ensures valid { IsConfig self.now }
+    {
+        u64::from(self.beta_num)
+    }
+
+    pub fn beta_den(&self) -> u64
+        ensures field { result ≡ self.now.beta_den }
+        ensures valid { IsConfig self.now }
+    {
+        u64::from(self.beta_den)
+    }
+
+    pub fn gamma_num(&self) -> u64
+        ensures field { result ≡ self.now.gamma_num }
+        ensures valid { IsConfig self.now }
+    {
+        u64::from(self.gamma_num)
+    }
+
+    pub fn gamma_den(&self) -> u64
+        ensures field { result ≡ self.now.gamma_den }
+        ensures valid { IsConfig self.now }
+    {
+        u64::from(self.gamma_den)
+    }
+
+    /// How many answers a phase of an operation waits for, where the node knows so many members.
+    pub fn beta_threshold(&self, members: usize) -> u64
+        ensures value { result ≡ threshold self.now.beta_num self.now.beta_den members }
+        ensures positive { 1 ≤ result }
+    {
+        threshold(self.beta_num(), self.beta_den(), members)
+    }
+
+    /// How many echoes a join waits for, where the node knows so many present nodes.
+    pub fn gamma_threshold(&self, present: usize) -> u64
+        ensures value { result ≡ threshold self.now.gamma_num self.now.gamma_den present }
+        ensures positive { 1 ≤ result }
+    {
+        threshold(self.gamma_num(), self.gamma_den(), present)
+    }
 }

@@ -1,5 +1,13 @@
+ghost use Rattle.std.specs.Prelude.{◌≡◌, IfOk, OnOk, OnErr};
+ghost use Rattle.std.specs.FinSet as set;
+ghost use Rattle.sc_members.specs.Members.{Facts as KnownFacts, IsFacts, no_facts, founding, present, members, union_facts, with_entered, with_joined, with_left};
+
 use crate::ids::IdSet;
+use std::alloc::{AllocError, Global};
 use std::marker::Model;
+
+/// The most ids that each of the three sets holds.
+pub const MOST_FACTS: usize = 1024;
 
 /// Who is known to have entered, joined and left: at most 1,024 ids each.
 #[derive(Drop)]
@@ -21,4 +29,164 @@ impl Model for Facts {
     ghost view = { λ a. record { entered = a.entered; joined = a.joined; left = a.left } };
 
     ghost invariant = { λ a. IsFacts (record { entered = a.entered; joined = a.joined; left = a.left }) };
+}
+
+/// Why facts don't take what they are given.
+#[derive(Clone, Copy, Debug, PartialEq, Eq)]
+pub enum FactsFault {
+    /// 47: a set would get more than 1,024 ids.
+    Full,
+    /// 99: no memory for the ids.
+    OutOfMemory,
+}
+
+impl From<AllocError> for FactsFault {
+    ghost use Rattle.std.specs.Prelude.{◌≡◌};
+    ghost use Rattle.sc_members.specs.declared.facts.FactsFault.TheVariants.{OutOfMemory};
+
+    ghost from_gives = { λ _ e. e ≡ OutOfMemory };
+
+    fn from(_: AllocError) -> FactsFault {
+        FactsFault::OutOfMemory
+    }
+}
+
+impl Facts {
+    /// Nobody entered, joined or left.
+    pub fn new(alloc: Global) -> Facts
+        ensures { result ≡ no_facts }
+    {
+        Facts {
+            entered: IdSet::new(alloc),
+            joined: IdSet::new(alloc),
+            left: IdSet::new(alloc),
+        }
+    }
+
+    /// These ids have entered and joined, and nobody left.
+    pub fn founders(alloc: Global, ids: &[u64]) -> Result<Facts, FactsFault>
+        ensures ok { IfOk result (λ facts. facts ≡ founding ids.now) }
+    {
+        Err(FactsFault::OutOfMemory)
+    }
+
+    pub fn entered(&self) -> &IdSet
+        ensures field { result.now ≡ self.now.entered }
+        ensures valid { IsFacts self.now }
+    {
+        &self.entered
+    }
+
+    pub fn joined(&self) -> &IdSet
+        ensures field { result.now ≡ self.now.joined }
+        ensures valid { IsFacts self.now }
+    {
+        &self.joined
+    }
+
+    pub fn left(&self) -> &IdSet
+        ensures field { result.now ≡ self.now.left }
+        ensures valid { IsFacts self.now }
+    {
+        &self.left
+    }
+}
+
+impl Facts {
+    /// How many nodes have entered and not left. Takes no memory.
+    pub fn present(&self) -> usize
+        ensures { result ≡ present self.now }
+    {
+        self.entered.difference_len(&self.left)
+    }
+
+    /// How many nodes have joined and not left. Takes no memory.
+    pub fn members(&self) -> usize
+        ensures { result ≡ members self.now }
+    {
+        self.joined.difference_len(&self.left)
+    }
+}
+
+// Each of these makes new facts and leaves these as they are. Refused 47 just where one of the three sets would get
+// more than 1,024 ids.
+impl Facts {
+    /// These facts, and that the node has entered.
+    pub fn with_entered(&self, id: u64) -> Result<Facts, FactsFault>
+        ensures ok { IfOk result (λ facts. facts ≡ with_entered self.now id) }
+    {
+        Err(FactsFault::OutOfMemory)
+    }
+
+    /// These facts, and that the node has entered and joined.
+    pub fn with_joined(&self, id: u64) -> Result<Facts, FactsFault>
+        ensures ok { IfOk result (λ facts. facts ≡ with_joined self.now id) }
+    {
+        Err(FactsFault::OutOfMemory)
+    }
+
+    /// These facts, and that the node has left.
+    pub fn with_left(&self, id: u64) -> Result<Facts, FactsFault>
+        ensures ok { IfOk result (λ facts. facts ≡ with_left self.now id) }
+    {
+        Err(FactsFault::OutOfMemory)
+    }
+
+    /// What these facts and the others say together.
+    pub fn united(&self, other: &Facts) -> Result<Facts, FactsFault>
+        ensures ok { IfOk result (λ facts. facts ≡ union_facts self.now other.now) }
+    {
+        Err(FactsFault::OutOfMemory)
+    }
+}
+
+// The same in place. At Err the facts are as they were.
+impl Facts {
+    /// Learns that the node has entered.
+    pub fn add_entered(&mut self, id: u64) -> Result<(), FactsFault>
+        ensures ok { OnOk result (self.new ≡ with_entered self.old id) }
+        ensures err { OnErr result (self.new ≡ self.old) }
+    {
+        *self = self.with_entered(id)?;
+        Ok(())
+    }
+
+    /// Learns that the node has entered and joined.
+    pub fn add_joined(&mut self, id: u64) -> Result<(), FactsFault>
+        ensures ok { OnOk result (self.new ≡ with_joined self.old id) }
+        ensures err { OnErr result (self.new ≡ self.old) }
+    {
+        *self = self.with_joined(id)?;
+        Ok(())
+    }
+
+    /// Learns that the node has left.
+    pub fn add_left(&mut self, id: u64) -> Result<(), FactsFault>
+        ensures ok { OnOk result (self.new ≡ with_left self.old id) }
+        ensures err { OnErr result (self.new ≡ self.old) }
+    {
+        *self = self.with_left(id)?;
+        Ok(())
+    }
+
+    /// Learns what the others know.
+    pub fn union(&mut self, other: &Facts) -> Result<(), FactsFault>
+        ensures ok { OnOk result (self.new ≡ union_facts self.old other.now) }
+        ensures err { OnErr result (self.new ≡ self.old) }
+    {
+        *self = self.united(other)?;
+        Ok(())
+    }
+}
+
+impl Clone for Facts {
+    ghost is_clone = { λ facts copy. copy ≡ facts };
+
+    fn clone(&self) -> Result<Facts, AllocError> {
+        Ok(Facts {
+            entered: self.entered.clone()?,
+            joined: self.joined.clone()?,
+            left: self.left.clone()?,
+        })
+    }
 }

@@ -6,8 +6,7 @@ ghost use Rattle.sc_view.specs.Views.{IsView, newer, put, merge, most_entries};
 ghost use Rattle.sc_view.specs.declared.view.ViewFault.TheVariants.{OutOfMemory};
 
 use std::alloc::{AllocError, AllocFailed, Global};
-use std::collections::BTreeMap;
-use std::collections::btree_map;
+use std::collections::{BTreeMap, btree_map};
 use std::marker::Model;
 
 /// The most ids that a view holds.

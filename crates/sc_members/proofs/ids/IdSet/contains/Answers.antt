@@ -1,0 +1,8 @@
+use Rattle.std.proofs.Common.{sym, ap, ◌∙◌}
+use Rattle.std.specs.FinSet as set
+use Rattle.sc_members.specs.Ids.{Ids}
+use Rattle.sc_members.proofs.Sets.{found}
+use Rattle.sc_members.proofs.ids.IdSet.contains.Goals as goal
+
+pub returns : goal.returns
+returns c = c.contains.ensures ∙ sym (found c.self.inside.ids.keys c.args.id) ∙ ap (λ (s : Ids). set.contains s c.args.id) c.self.view_is
