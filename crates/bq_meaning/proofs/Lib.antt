@@ -1,0 +1,5 @@
+pub mod Powers
+pub mod Storing
+pub mod Reach
+pub mod Once
+pub mod Folding

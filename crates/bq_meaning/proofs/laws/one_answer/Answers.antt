@@ -1,0 +1,5 @@
+use Rattle.bq_meaning.proofs.Folding.{same_answer}
+use Rattle.bq_meaning.proofs.laws.one_answer.Goals as goal
+
+pub returns : goal.returns
+returns c = same_answer

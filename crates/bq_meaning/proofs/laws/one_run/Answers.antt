@@ -1,0 +1,6 @@
+use Rattle.bq_meaning.specs.Runs.{entry_machine}
+use Rattle.bq_meaning.proofs.Once.{same_end}
+use Rattle.bq_meaning.proofs.laws.one_run.Goals as goal
+
+pub returns : goal.returns
+returns c = λ p text acc bytes frame n answer m other after left h i. same_end p text n m (entry_machine p acc bytes frame) answer other after left h i

@@ -1,0 +1,71 @@
+use Rattle.std.proofs.Common.{◌≡◌, ◌∙◌, ◌+◌, ◌<◌, ◌≤◌, ℕ, List, arith, ap, sym, subst, refl}
+use Rattle.std.specs.Prelude.{Ok, Err, Result}
+use Rattle.bq_meaning.specs.declared.fault.Fault.{Fault}
+use Rattle.bq_meaning.specs.declared.fault.Fault.TheVariants.{StepsOut}
+use Rattle.bq_meaning.specs.declared.step.Step.{Step}
+use Rattle.bq_meaning.specs.declared.step.Step.TheVariants.{Ends}
+use Rattle.bq_meaning.specs.declared.run.Ended.{Ended}
+use Rattle.bq_meaning.specs.Runs.{RunFaults, entry_machine}
+use Rattle.bq_meaning.proofs.Reach.{ends_after, faults_after, reaches_more, still_runs}
+use Rattle.bq_meaning.proofs.Once.{same_end, no_refusal, one_refusal}
+use Rattle.bq_meaning.proofs.run.run_checked.Goals as goal
+
+ends_alike : {a b n k : ℕ} → a ≡ b → n ≡ k → ◌≡◌ {A = Ended} (record { acc = a; steps = n }) (record { acc = b; steps = k })
+ends_alike e i = cc
+
+pub returns-in-Ok-Ends-clause-ok : goal.returns-in-Ok-Ends-clause-ok
+returns-in-Ok-Ends-clause-ok c =
+    let is : c.step_checked.result ≡ Ok (Ends c.in-Ok-Ends.acc) = let a = c.in-Ok-Ends.is in let b = c.in-Ok-Ends.field-0-is in cc in
+    let m = entry_machine c.args.placement.now c.args.acc c.args.«record».now c.args.frame.now in
+    ends_after c.args.placement.now c.args.text.now c.loop-done.done m c.loop-done.machine c.step_checked.new.machine c.in-Ok-Ends.acc c.step_checked.result c.loop-done.invariant.reached c.step_checked.ensures is
+
+pub returns-in-Err-clause-err : goal.returns-in-Err-clause-err
+returns-in-Err-clause-err c =
+    let m = entry_machine c.args.placement.now c.args.acc c.args.«record».now c.args.frame.now in
+    faults_after c.args.placement.now c.args.text.now c.loop-done.done c.args.limit m c.loop-done.machine c.step_checked.new.machine c.in-Err.fault c.step_checked.result (omega arith) c.loop-done.invariant.reached c.step_checked.ensures c.in-Err.is
+
+pub returns-clause-err : goal.returns-clause-err
+returns-clause-err c =
+    let m = entry_machine c.args.placement.now c.args.acc c.args.«record».now c.args.frame.now in
+    let all : c.loop-done.done ≡ c.args.limit = omega arith in
+    subst (λ n. RunFaults c.args.placement.now c.args.text.now m n StepsOut) all (still_runs c.args.placement.now c.args.text.now c.loop-done.done m c.loop-done.machine c.loop-done.invariant.reached)
+
+pub loop-done-preserved : goal.loop-done-preserved
+loop-done-preserved c =
+    let m = entry_machine c.args.placement.now c.args.acc c.args.«record».now c.args.frame.now in
+    record {
+      reached = reaches_more c.args.placement.now c.args.text.now c.loop-done.done m c.loop-done.machine c.step_checked.new.machine c.step_checked.result c.loop-done.invariant.reached c.step_checked.ensures (cc);
+      same = c.loop-done.invariant.same;
+    }
+
+pub returns-in-Ok-Ends-clause-complete : goal.returns-in-Ok-Ends-clause-complete
+returns-in-Ok-Ends-clause-complete c =
+    let m = entry_machine c.args.placement.now c.args.acc c.args.«record».now c.args.frame.now in
+    λ n answer after low run.
+    let same = same_end c.args.placement.now c.args.text.now (c.loop-done.done + 1) n m c.in-Ok-Ends.acc answer c.step_checked.new.machine.frame after (returns-in-Ok-Ends-clause-ok c) run in
+    (ap Ok (ends_alike same.1 same.0), same.2)
+
+pub returns-in-Ok-Ends-clause-faulty : goal.returns-in-Ok-Ends-clause-faulty
+returns-in-Ok-Ends-clause-faulty c =
+    let m = entry_machine c.args.placement.now c.args.acc c.args.«record».now c.args.frame.now in
+    λ f fault. absurd (no_refusal c.args.placement.now c.args.text.now (c.loop-done.done + 1) c.args.limit m c.in-Ok-Ends.acc c.step_checked.new.machine.frame f (returns-in-Ok-Ends-clause-ok c) (omega arith) fault)
+
+pub returns-in-Err-clause-complete : goal.returns-in-Err-clause-complete
+returns-in-Err-clause-complete c =
+    let m = entry_machine c.args.placement.now c.args.acc c.args.«record».now c.args.frame.now in
+    λ n answer after low run. absurd (no_refusal c.args.placement.now c.args.text.now n c.args.limit m answer after c.in-Err.fault run low (returns-in-Err-clause-err c))
+
+pub returns-in-Err-clause-faulty : goal.returns-in-Err-clause-faulty
+returns-in-Err-clause-faulty c =
+    let m = entry_machine c.args.placement.now c.args.acc c.args.«record».now c.args.frame.now in
+    λ f fault. ap Err (one_refusal c.args.placement.now c.args.text.now c.args.limit m c.in-Err.fault f (returns-in-Err-clause-err c) fault)
+
+pub returns-clause-complete : goal.returns-clause-complete
+returns-clause-complete c =
+    let m = entry_machine c.args.placement.now c.args.acc c.args.«record».now c.args.frame.now in
+    λ n answer after low run. absurd (no_refusal c.args.placement.now c.args.text.now n c.args.limit m answer after StepsOut run low (returns-clause-err c))
+
+pub returns-clause-faulty : goal.returns-clause-faulty
+returns-clause-faulty c =
+    let m = entry_machine c.args.placement.now c.args.acc c.args.«record».now c.args.frame.now in
+    λ f fault. ap Err (one_refusal c.args.placement.now c.args.text.now c.args.limit m StepsOut f (returns-clause-err c) fault)

@@ -1,0 +1,5 @@
+pub mod Place
+pub mod Memory
+pub mod Meaning
+pub mod Runs
+pub mod Answers

@@ -1,0 +1,88 @@
+ghost use Rattle.std.specs.Prelude.{◌≡◌, Some, None, IfOk, IfErr};
+ghost use Rattle.bq_meaning.specs.Meaning.{held, value, taken};
+ghost use Rattle.bq_meaning.specs.Runs.{entry_machine};
+
+use crate::fault::Fault;
+use crate::placement::Placement;
+use bq_insn::insn::Operand;
+use bq_insn::register::Register;
+use bq_word::AluOp;
+
+/// A machine. Pointers are plain words.
+#[derive(Clone, Copy)]
+pub struct Machine {
+    /// Which unit of the text is next, counted from 0.
+    pub unit: u64,
+    /// r0 to r10: none until it is written.
+    pub registers: [Option<u64>; 11],
+    pub frame: [u8; 512],
+    pub record: [u8; 64],
+}
+
+/// Where an access lies: so many bytes behind the start of the frame, or of the record.
+#[derive(Clone, Copy, Debug, PartialEq, Eq)]
+pub enum Location {
+    Frame(usize),
+    Record(usize),
+}
+
+impl Machine {
+    /// The machine at the entry of a record run.
+    pub(crate) fn at_entry(
+        placement: &Placement,
+        acc: u64,
+        record: &[u8; 64],
+        frame: &[u8; 512],
+    ) -> Machine
+        ensures { result ≡ entry_machine placement.now acc «record».now frame.now }
+    {
+        let record_start = placement.record();
+        let frame_end = placement.frame() + 512;
+        Machine {
+            unit: 0,
+            registers: [
+                None,
+                Some(record_start),
+                Some(64),
+                Some(acc),
+                None,
+                None,
+                None,
+                None,
+                None,
+                None,
+                Some(frame_end),
+            ],
+            frame: *frame,
+            record: *record,
+        }
+    }
+
+    pub(crate) fn read(&self, register: Register) -> Result<u64, Fault>
+        ensures ok { IfOk result (λ v. held self.now.registers register ≡ Some v) }
+        ensures err { IfErr result (λ f. (f ≡ Fault.ReadUnset) × (held self.now.registers register ≡ None)) }
+    {
+        self.registers[register.number() as usize].ok_or(Fault::ReadUnset)
+    }
+
+    pub(crate) fn value(&self, operand: Operand) -> Result<u64, Fault>
+        ensures ok { IfOk result (λ v. value self.now.registers operand ≡ Some v) }
+        ensures err { IfErr result (λ f. (f ≡ Fault.ReadUnset) × (value self.now.registers operand ≡ None)) }
+    {
+        match operand {
+            Operand::Number(number) => Ok(i64::from(number).cast_unsigned()),
+            Operand::Register(register) => self.read(register),
+        }
+    }
+
+    /// What an operation takes from its destination.
+    pub(crate) fn taken(&self, op: AluOp, dst: Register) -> Result<u64, Fault>
+        ensures ok { IfOk result (λ v. taken self.now.registers op dst ≡ Some v) }
+        ensures err { IfErr result (λ f. (f ≡ Fault.ReadUnset) × (taken self.now.registers op dst ≡ None)) }
+    {
+        match op {
+            AluOp::Mov => Ok(0),
+            _ => self.read(dst),
+        }
+    }
+}

@@ -1,0 +1,120 @@
+ghost use Rattle.std.specs.Prelude.{◌≡◌, ◌≤◌, ◌<◌, ◌+◌, ◌^◌, Some, None, IfOk, IfErr, IfSome, length};
+ghost use Rattle.bq_word.specs.Word.{le_number};
+ghost use Rattle.bq_meaning.specs.Memory.{is_inside, access, loaded, LiesWithin, size_bytes, signed_bytes};
+ghost use Rattle.bq_meaning.specs.Meaning.{reading, stored};
+ghost use Rattle.bq_meaning.specs.Runs.{StepAnswers};
+
+use crate::fault::Fault;
+use crate::machine::{Location, Machine};
+use crate::placement::Placement;
+use crate::step::Step;
+use bq_insn::insn::Size;
+use bq_word::SignBits;
+
+/// How many bytes an access moves.
+pub(crate) fn size_bytes(size: Size) -> usize
+    ensures value { result ≡ size_bytes size }
+    ensures small { result ≤ 8 }
+{
+    match size {
+        Size::B1 => 1,
+        Size::B2 => 2,
+        Size::B4 => 4,
+        Size::B8 => 8,
+    }
+}
+
+/// How many bytes a load with a sign reads.
+pub(crate) fn signed_bytes(bits: SignBits) -> usize
+    ensures value { result ≡ signed_bytes bits }
+    ensures small { result ≤ 8 }
+{
+    match bits {
+        SignBits::B8 => 1,
+        SignBits::B16 => 2,
+        SignBits::B32 => 4,
+    }
+}
+
+fn is_inside(start: u64, len: u64, address: u64, size: u64) -> bool
+    requires fits { start + len < 2 ^ 64 }
+    requires small { size ≤ len }
+    ensures { result ≡ is_inside start len address size }
+{
+    start <= address && address - start <= len - size
+}
+
+/// The number that bytes stand for, the least significant first.
+fn le_number(bytes: &[u8]) -> u64
+    requires { length bytes.now ≤ 8 }
+    ensures value { result ≡ le_number bytes.now }
+    ensures small { result < 256 ^ length bytes.now }
+{
+    match bytes {
+        [] => 0,
+        [first, rest @ ..] => u64::from(*first) + 256 * le_number(rest),
+    }
+}
+
+impl Placement {
+    /// Where so many bytes at an address lie, if they lie wholly in one region.
+    fn access(&self, address: u64, size: usize) -> Option<Location>
+        requires { size ≤ 8 }
+        ensures value { result ≡ access self.now address size }
+        ensures within { IfSome result (λ l. LiesWithin l size) }
+    {
+        let frame = self.frame();
+        let record = self.record();
+        if is_inside(frame, 512, address, size as u64) {
+            Some(Location::Frame((address - frame) as usize))
+        } else if is_inside(record, 64, address, size as u64) {
+            Some(Location::Record((address - record) as usize))
+        } else {
+            None
+        }
+    }
+}
+
+impl Machine {
+    /// The number that lies in so many bytes at an address.
+    pub(crate) fn load(
+        &self,
+        placement: &Placement,
+        address: u64,
+        size: usize,
+    ) -> Result<u64, Fault>
+        requires { size ≤ 8 }
+        ensures ok { IfOk result (λ v. (l : Location) × (access placement.now address size ≡ Some l) × (v ≡ le_number (loaded self.now l size))) }
+        ensures err { IfErr result (λ f. (f ≡ Fault.OutsideAccess) × (access placement.now address size ≡ None)) }
+    {
+        match placement.access(address, size) {
+            Some(Location::Frame(at)) => Ok(le_number(&self.frame[at..at + size])),
+            Some(Location::Record(at)) => Ok(le_number(&self.record[at..at + size])),
+            None => Err(Fault::OutsideAccess),
+        }
+    }
+
+    /// Puts the lowest bytes of a value at an address, and goes to the next unit.
+    pub(crate) fn store(
+        &mut self,
+        placement: &Placement,
+        address: u64,
+        size: usize,
+        value: u64,
+    ) -> Result<Step, Fault>
+        requires small { size ≤ 8 }
+        requires room { self.old.unit + 1 < 2 ^ 64 }
+        ensures { StepAnswers (reading Fault.OutsideAccess (access placement.now address size) (λ l. stored self.old l size value)) self.old result self.new }
+    {
+        match placement.access(address, size) {
+            Some(Location::Frame(at)) => {
+                let bytes = value.to_le_bytes();
+                self.frame[at..at + size].copy_from_slice(&bytes[..size]);
+                self.unit += 1;
+                Ok(Step::Continues)
+            }
+            Some(Location::Record(_)) => Err(Fault::WroteRecord),
+            None => Err(Fault::OutsideAccess),
+        }
+    }
+}

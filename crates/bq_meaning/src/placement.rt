@@ -1,0 +1,63 @@
+ghost use Rattle.std.specs.Prelude.{◌≡◌, ◌↔◌, ◌+◌, ◌^◌, ◌<◌, IsSome, IfSome};
+ghost use Rattle.bq_meaning.specs.Place.{Place, IsPlacement};
+
+use std::marker::Model;
+
+/// Where a machine's memory lies: the address of the frame's first byte and that of the record's, in a space of 2^64
+/// addresses. Both regions end below 2^64, and they lie apart.
+#[derive(Clone, Copy, Debug)]
+pub struct Placement {
+    frame: u64,
+    record: u64,
+}
+
+impl Model for Placement {
+    ghost use Rattle.bq_meaning.specs.Place.{Place, IsPlacement};
+
+    ghost Value = { Place };
+
+    ghost view = { λ p. record { frame = p.frame; «record» = p.record } };
+
+    ghost invariant = { λ p. IsPlacement (record { frame = p.frame; «record» = p.record }) };
+
+    ghost inverse = { λ p. record { frame = p.frame; «record» = p.record } };
+}
+
+impl Placement {
+    /// The placement with the frame's 512 bytes at one address and the record's 64 bytes at the other. There is none
+    /// where a region would reach 2^64 or where the two have a byte in common.
+    pub fn new(frame: u64, record: u64) -> Option<Placement>
+        ensures some { IsSome result ↔ IsPlacement (record { frame = frame; «record» = «record» }) }
+        ensures value { IfSome result (λ p. p ≡ record { frame = frame; «record» = «record» }) }
+    {
+        if frame < u64::MAX - 511 && record < u64::MAX - 63 {
+            if frame + 512 <= record || record + 64 <= frame {
+                return Some(Placement { frame, record });
+            }
+        }
+        None
+    }
+
+    /// Both regions end below 2^64, and they lie apart.
+    pub fn is_placement(&self)
+        ensures { IsPlacement self.now }
+    {
+        let _frame = &self.frame;
+    }
+
+    /// The address of the frame's first byte.
+    pub fn frame(&self) -> u64
+        ensures value { result ≡ self.now.frame }
+        ensures fits { result + 512 < 2 ^ 64 }
+    {
+        self.frame
+    }
+
+    /// The address of the record's first byte.
+    pub fn record(&self) -> u64
+        ensures value { result ≡ self.now.record }
+        ensures fits { result + 64 < 2 ^ 64 }
+    {
+        self.record
+    }
+}
