@@ -4,9 +4,10 @@ use Rattle.std.specs.Prelude.{ℕ, ◌+◌, ◌^◌, Bool, true, false, not, ◌
 use Rattle.std.specs.Ordering.{nat_cmp}
 use Rattle.std.specs.FinMap as fin
 use Rattle.std.specs.FinSet as set
-use Rattle.sc_view.specs.Views.{ViewMap, put, merge}
+use Rattle.sc_view.specs.declared.view.Stored.{Stored}
+use Rattle.sc_view.specs.Views.{ViewMap, most_entries, put, merge}
 use Rattle.sc_members.specs.Ids.{Ids}
-use Rattle.sc_members.specs.Members.{Facts, Config, most_facts, present, members, threshold, union_facts, with_entered, with_joined, with_left}
+use Rattle.sc_members.specs.Members.{Facts, Config, most_facts, no_facts, founding, present, members, threshold, union_facts, with_entered, with_joined, with_left}
 use Rattle.sc_msg.specs.declared.message.Message.{Message}
 use Rattle.sc_msg.specs.declared.message.Body.{Body}
 use Rattle.sc_msg.specs.declared.message.Body.TheVariants.{Enter, EnterEcho, Join, JoinEcho, Leave, LeaveEcho, Store, StoreAck, StoreEcho, CollectQuery, CollectReply}
@@ -30,12 +31,12 @@ most_open = 64
 abbrev pub most_operations : ℕ
 most_operations = 2 ^ 32
 
--- so many ids may be in a view, and so many may be founders
-abbrev pub most_viewed : ℕ
-most_viewed = 256
+-- so many nodes may found a cluster
+abbrev pub most_founders : ℕ
+most_founders = 256
 
 abbrev pub is_view_full : ViewMap → Bool
-is_view_full v = nat_lt most_viewed (fin.len v)
+is_view_full v = nat_lt most_entries (fin.len v)
 
 abbrev pub is_facts_full : Facts → Bool
 is_facts_full f = nat_lt most_facts (set.len f.entered) || (nat_lt most_facts (set.len f.joined) || nat_lt most_facts (set.len f.left))
@@ -223,7 +224,7 @@ beginning n rest =
     else (if nat_le most_operations n.operations then Err fault.NumbersOut
     else rest)))
 
-abbrev pub next_stored : NodeState → List ℕ → Rattle.sc_view.specs.declared.view.Stored.Stored
+abbrev pub next_stored : NodeState → List ℕ → Stored
 next_stored n value = record { number = n.stores + 1; value = value }
 
 abbrev pub stored_view : NodeState → List ℕ → ViewMap
@@ -276,14 +277,14 @@ fresh c id facts joined =
 
 -- a node that enters knows that it does, and tells it
 abbrev pub entering : Config → ℕ → NodeState
-entering c id = fresh c id (record { entered = set.insert set.empty id; joined = set.empty; left = set.empty }) false
+entering c id = fresh c id (with_entered no_facts id) false
 
 abbrev pub entered : Config → ℕ → NodeState × List Message
 entered c id = (entering c id, message_from id Enter ∷ [])
 
 -- a founder has joined, and knows that all founders have
 abbrev pub founder : Config → List ℕ → ℕ → NodeState
-founder c ids id = fresh c id (record { entered = set.from_list ids; joined = set.from_list ids; left = set.empty }) true
+founder c ids id = fresh c id (founding ids) true
 
 abbrev pub rises_from : ℕ → List ℕ → Bool
 rises_from id [] = true
@@ -296,7 +297,7 @@ rises (id ∷ ids) = rises_from id ids
 
 -- the ids of 1 to 256 founders, strictly rising
 abbrev pub are_founders : List ℕ → Bool
-are_founders ids = nat_le 1 (length ids) && (nat_le (length ids) most_viewed && rises ids)
+are_founders ids = nat_le 1 (length ids) && (nat_le (length ids) most_founders && rises ids)
 
 abbrev pub founded : Config → ℕ → List ℕ → Result NodeState NodeFault
 founded c id ids = if are_founders ids && set.contains (set.from_list {R = nat_cmp} ids) id then Ok (founder c ids id) else Err fault.BadFounders
