@@ -77,7 +77,7 @@ impl Placement {
 
 impl Machine {
     /// The number that lies in so many bytes at an address.
-    pub(crate) fn load(
+    pub(crate) fn number_at(
         &self,
         placement: &Placement,
         address: u64,
@@ -95,7 +95,7 @@ impl Machine {
     }
 
     /// Puts the lowest bytes of a value at an address, and goes to the next unit.
-    pub(crate) fn store(
+    pub(crate) fn store_at(
         &mut self,
         placement: &Placement,
         address: u64,

@@ -1,7 +1,8 @@
 ghost use Rattle.std.specs.Prelude.{◌≡◌, ◌+◌, ◌≤◌, ◌<◌, OnOk, IfErr, ℤ};
 ghost use Rattle.bq_word.specs.Word.{bits_of, swap_bits, extended};
 ghost use Rattle.bq_insn.specs.Insn.{extension_bits, extension_width};
-ghost use Rattle.bq_meaning.specs.Meaning.{Continues, at_unit, moved, ordered, perform, target, with_register, writing, written};
+ghost use Rattle.bq_meaning.specs.Meaning.{Continues, at_unit, moved, ordered, perform, target, writing, written};
+ghost use Rattle.bq_meaning.specs.Place.{Place};
 ghost use Rattle.bq_meaning.specs.Runs.{StepAnswers};
 
 use crate::fault::Fault;
@@ -70,14 +71,43 @@ impl Machine {
         Ok(Step::Continues)
     }
 
-    fn wide(&mut self, dst: Register, value: u64) -> Result<Step, Fault>
+    fn operate(
+        &mut self,
+        width: Width,
+        op: AluOp,
+        dst: Register,
+        operand: Operand,
+    ) -> Result<Step, Fault>
         requires { self.old.unit < 4096 }
-        ensures { StepAnswers (writing dst (Continues (at_unit (with_register self.old dst value) (self.old.unit + 2)))) self.old result self.new }
+        ensures { (p : Place) → StepAnswers (perform p (Insn.Alu width op dst operand) self.old) self.old result self.new }
     {
-        writable(dst)?;
-        self.registers[dst.number() as usize] = Some(value);
-        self.unit += 2;
-        Ok(Step::Continues)
+        let a = self.taken(op, dst)?;
+        let b = self.value(operand)?;
+        self.write(dst, alu(width, op, a, b))
+    }
+
+    fn negate(&mut self, width: Width, dst: Register) -> Result<Step, Fault>
+        requires { self.old.unit < 4096 }
+        ensures { (p : Place) → StepAnswers (perform p (Insn.Negate width dst) self.old) self.old result self.new }
+    {
+        let a = self.read(dst)?;
+        self.write(dst, alu(width, AluOp::Sub, 0, a))
+    }
+
+    fn extend(&mut self, extension: Extension, dst: Register, src: Register) -> Result<Step, Fault>
+        requires { self.old.unit < 4096 }
+        ensures { (p : Place) → StepAnswers (perform p (Insn.Extend extension dst src) self.old) self.old result self.new }
+    {
+        let b = self.read(src)?;
+        self.write(dst, extended(extension, b))
+    }
+
+    fn order(&mut self, order: ByteOrder, bits: SwapBits, dst: Register) -> Result<Step, Fault>
+        requires { self.old.unit < 4096 }
+        ensures { (p : Place) → StepAnswers (perform p (Insn.Order order bits dst) self.old) self.old result self.new }
+    {
+        let a = self.read(dst)?;
+        self.write(dst, ordered(order, bits, a))
     }
 
     fn jump(&mut self, distance: i32) -> Result<Step, Fault>
@@ -85,6 +115,93 @@ impl Machine {
         ensures { (z : ℤ) → z ≡ distance → StepAnswers (Continues (at_unit self.old (target self.old.unit z))) self.old result self.new }
     {
         self.unit = moved(self.unit + 1, distance);
+        Ok(Step::Continues)
+    }
+
+    fn jump_if(
+        &mut self,
+        width: Width,
+        relation: Relation,
+        dst: Register,
+        operand: Operand,
+        offset: i16,
+    ) -> Result<Step, Fault>
+        requires { self.old.unit < 4096 }
+        ensures { (p : Place) (z : ℤ) → z ≡ offset → StepAnswers (perform p (Insn.Branch width relation dst operand z) self.old) self.old result self.new }
+    {
+        let a = self.read(dst)?;
+        let b = self.value(operand)?;
+        let next = self.unit + 1;
+        self.unit = if relates(width, relation, a, b) {
+            moved(next, i32::from(offset))
+        } else {
+            next
+        };
+        Ok(Step::Continues)
+    }
+
+    fn load(
+        &mut self,
+        placement: &Placement,
+        size: Size,
+        dst: Register,
+        base: Register,
+        offset: i16,
+    ) -> Result<Step, Fault>
+        requires { self.old.unit < 4096 }
+        ensures { StepAnswers (perform placement.now (Insn.Load size dst base offset) self.old) self.old result self.new }
+    {
+        let a = self.read(base)?;
+        writable(dst)?;
+        let value = self.number_at(placement, moved(a, i32::from(offset)), size_bytes(size))?;
+        self.write(dst, value)
+    }
+
+    fn load_signed(
+        &mut self,
+        placement: &Placement,
+        size: SignBits,
+        dst: Register,
+        base: Register,
+        offset: i16,
+    ) -> Result<Step, Fault>
+        requires { self.old.unit < 4096 }
+        ensures { StepAnswers (perform placement.now (Insn.LoadSigned size dst base offset) self.old) self.old result self.new }
+    {
+        let a = self.read(base)?;
+        writable(dst)?;
+        let value = self.number_at(placement, moved(a, i32::from(offset)), signed_bytes(size))?;
+        self.write(dst, extend(size, Width::W64, value))
+    }
+
+    fn store(
+        &mut self,
+        placement: &Placement,
+        size: Size,
+        base: Register,
+        offset: i16,
+        value: Operand,
+    ) -> Result<Step, Fault>
+        requires { self.old.unit < 4096 }
+        ensures { StepAnswers (perform placement.now (Insn.Store size base offset value) self.old) self.old result self.new }
+    {
+        let a = self.read(base)?;
+        let value = self.value(value)?;
+        self.store_at(
+            placement,
+            moved(a, i32::from(offset)),
+            size_bytes(size),
+            value,
+        )
+    }
+
+    fn wide(&mut self, dst: Register, value: u64) -> Result<Step, Fault>
+        requires { self.old.unit < 4096 }
+        ensures { (p : Place) → StepAnswers (perform p (Insn.Wide dst value) self.old) self.old result self.new }
+    {
+        writable(dst)?;
+        self.registers[dst.number() as usize] = Some(value);
+        self.unit += 2;
         Ok(Step::Continues)
     }
 
@@ -99,27 +216,14 @@ impl Machine {
                 op,
                 dst,
                 operand,
-            } => {
-                let a = self.taken(op, dst)?;
-                let b = self.value(operand)?;
-                self.write(dst, alu(width, op, a, b))
-            }
-            Insn::Negate { width, dst } => {
-                let a = self.read(dst)?;
-                self.write(dst, alu(width, AluOp::Sub, 0, a))
-            }
+            } => self.operate(width, op, dst, operand),
+            Insn::Negate { width, dst } => self.negate(width, dst),
             Insn::Extend {
                 extension,
                 dst,
                 src,
-            } => {
-                let b = self.read(src)?;
-                self.write(dst, extended(extension, b))
-            }
-            Insn::Order { order, bits, dst } => {
-                let a = self.read(dst)?;
-                self.write(dst, ordered(order, bits, a))
-            }
+            } => self.extend(extension, dst, src),
+            Insn::Order { order, bits, dst } => self.order(order, bits, dst),
             Insn::Jump { offset } => self.jump(i32::from(offset)),
             Insn::JumpFar { distance } => self.jump(distance),
             Insn::Branch {
@@ -128,55 +232,26 @@ impl Machine {
                 dst,
                 operand,
                 offset,
-            } => {
-                let a = self.read(dst)?;
-                let b = self.value(operand)?;
-                let next = self.unit + 1;
-                self.unit = if relates(width, relation, a, b) {
-                    moved(next, i32::from(offset))
-                } else {
-                    next
-                };
-                Ok(Step::Continues)
-            }
+            } => self.jump_if(width, relation, dst, operand, offset),
             Insn::Exit => Ok(Step::Ends(self.read(Register::at(0))?)),
             Insn::Load {
                 size,
                 dst,
                 base,
                 offset,
-            } => {
-                let a = self.read(base)?;
-                writable(dst)?;
-                let value = self.load(placement, moved(a, i32::from(offset)), size_bytes(size))?;
-                self.write(dst, value)
-            }
+            } => self.load(placement, size, dst, base, offset),
             Insn::LoadSigned {
                 size,
                 dst,
                 base,
                 offset,
-            } => {
-                let a = self.read(base)?;
-                writable(dst)?;
-                let value = self.load(placement, moved(a, i32::from(offset)), signed_bytes(size))?;
-                self.write(dst, extend(size, Width::W64, value))
-            }
+            } => self.load_signed(placement, size, dst, base, offset),
             Insn::Store {
                 size,
                 base,
                 offset,
                 value,
-            } => {
-                let a = self.read(base)?;
-                let value = self.value(value)?;
-                self.store(
-                    placement,
-                    moved(a, i32::from(offset)),
-                    size_bytes(size),
-                    value,
-                )
-            }
+            } => self.store(placement, size, base, offset, value),
             Insn::Wide { dst, value } => self.wide(dst, value),
         }
     }

@@ -2,7 +2,7 @@ use Rattle.std.proofs.Common.{◌≡◌, Some}
 use Rattle.bq_meaning.specs.Memory.{access}
 use Rattle.bq_meaning.specs.declared.machine.Location.TheVariants.{Frame}
 use Rattle.bq_meaning.proofs.Storing.{stores}
-use Rattle.bq_meaning.proofs.machine.Machine.store.Goals as goal
+use Rattle.bq_meaning.proofs.machine.Machine.store_at.Goals as goal
 
 pub returns-in-Some-Frame : goal.returns-in-Some-Frame
 returns-in-Some-Frame c =
