@@ -1,5 +1,5 @@
 -- A view: a finite map from ids to the sequence number and the bytes that were stored.
-use Rattle.std.specs.Prelude.{◌≡◌, ℕ, ◌≤◌, ◌<◌, ◌++◌, map, Option, Some, None, nat_lt, if◌then◌else◌, ◌⊎◌}
+use Rattle.std.specs.Prelude.{◌≡◌, ℕ, ◌≤◌, ◌<◌, ◌++◌, map, Bool, true, Option, Some, None, nat_lt, if◌then◌else◌, ◌⊎◌}
 use Rattle.std.specs.Ordering.{nat_cmp}
 use Rattle.std.specs.Coded.{Coded, coded_ℕ}
 use Rattle.std.specs.FinMap as fin
@@ -20,6 +20,11 @@ most_entries = 256
 pub record IsView (v : ViewMap) : Type 0 where
   pub few : fin.len v ≤ most_entries
   pub counted : (id : ℕ) (e : Stored) → fin.get v id ≡ Some e → 1 ≤ e.number
+
+-- whether the value is news beside what is there
+abbrev pub is_newer : Option Stored → Stored → Bool
+is_newer None e = true
+is_newer (Some old) e = nat_lt old.number e.number
 
 -- of two values stored by one node the one with the larger number; at equal numbers the one that is there
 abbrev pub newer : Option Stored → Stored → Stored

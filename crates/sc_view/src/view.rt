@@ -1,8 +1,11 @@
-ghost use Rattle.std.specs.Prelude.{◌≡◌, ℕ, ◌≤◌, ◌<◌, ◌↔◌, length, IsTrue, IfSome, IfOk, OnOk, OnErr};
+ghost use Rattle.std.specs.Prelude.{◌≡◌, ℕ, ◌≤◌, ◌<◌, ◌↔◌, not, filter, is_some, length, IsTrue, IfSome, IfOk, OnOk, OnErr, IsErrOf};
 ghost use Rattle.std.specs.FinMap as fin;
+ghost use Rattle.std.specs.BTreeMap.{get, keys, IsOrdered};
+ghost use Rattle.std.specs.Ordering.{nat_cmp};
 ghost use Rattle.std.specs.Map.Iter.{TakesFirst};
 ghost use Rattle.std.specs.Iterator.{at_most};
-ghost use Rattle.sc_view.specs.Views.{IsView, newer, put, merge, most_entries};
+ghost use Rattle.sc_view.specs.Views.{IsView, is_newer, put, merge, most_entries};
+ghost use Rattle.sc_view.specs.declared.view.Stored.{Stored as StoredValue};
 ghost use Rattle.sc_view.specs.declared.view.ViewFault.TheVariants.{OutOfMemory};
 
 use std::alloc::{AllocError, AllocFailed, Global};
@@ -130,29 +133,103 @@ impl View {
     }
 
     /// Learns one value of a node: the one with the larger number stays, and at equal numbers the one that is there.
+    /// Refused 46 where a 257th id would come, and else 99; the view is then as it was.
     pub fn put(&mut self, id: u64, stored: Stored) -> Result<(), ViewFault>
         requires { 1 ≤ stored.number }
         ensures ok { OnOk result (self.new ≡ put self.old id stored) }
+        ensures valid { OnOk result (IsView self.new) }
+        ensures full { IsErrOf result ViewFault.Full ↔ (most_entries < fin.len (put self.old id stored)) }
         ensures err { OnErr result (self.new ≡ self.old) }
     {
-        Err(ViewFault::OutOfMemory)
+        if self.len_with(id) > MOST_ENTRIES {
+            return Err(ViewFault::Full);
+        }
+        learn(&mut self.entries, id, stored)?;
+        Ok(())
+    }
+
+    // How many ids the view has once it has this one.
+    fn len_with(&self, id: u64) -> usize
+        ensures count { (stored : StoredValue) → result ≡ fin.len (put self.now id stored) }
+        ensures valid { IsView self.now }
+    {
+        self.len() + usize::from(self.get(id).is_none())
     }
 
     /// This view and the other as one: for each node the value with the larger number, this view's at equal ones.
+    /// Refused 46 where the two have more than 256 ids together, and else 99.
     pub fn merged(&self, other: &View) -> Result<View, ViewFault>
         ensures ok { IfOk result (λ both. both ≡ merge self.now other.now) }
+        ensures valid { IfOk result IsView }
+        ensures full { IsErrOf result ViewFault.Full ↔ (most_entries < fin.len (merge self.now other.now)) }
     {
-        Err(ViewFault::OutOfMemory)
+        if self.merged_len(other) > MOST_ENTRIES {
+            return Err(ViewFault::Full);
+        }
+        let View { mut entries } = self.clone()?;
+        learn_all(&mut entries, &other.entries)?;
+        Ok(View { entries })
     }
 
-    /// Learns all that the other view holds.
+    // How many ids the two views have together.
+    fn merged_len(&self, other: &View) -> usize
+        ensures count { result ≡ fin.len (merge self.now other.now) }
+        ensures valid { IsView self.now }
+        ensures other_valid { IsView other.now }
+    {
+        self.len() + count_new(&self.entries, &other.entries)
+    }
+
+    /// Learns all that the other view holds, as `merged`. At Err the view is as it was.
     pub fn merge(&mut self, other: &View) -> Result<(), ViewFault>
         ensures ok { OnOk result (self.new ≡ merge self.old other.now) }
+        ensures valid { OnOk result (IsView self.new) }
+        ensures full { IsErrOf result ViewFault.Full ↔ (most_entries < fin.len (merge self.old other.now)) }
         ensures err { OnErr result (self.new ≡ self.old) }
     {
         *self = self.merged(other)?;
         Ok(())
     }
+}
+
+// How many ids of the second are not in the first.
+fn count_new(known: &BTreeMap<u64, Stored>, more: &BTreeMap<u64, Stored>) -> usize
+    ensures count { result ≡ length (filter (λ id. not (is_some (get nat_cmp known.now id))) (keys more.now)) }
+    ensures ordered { IsOrdered nat_cmp more.now }
+{
+    more.keys().filter(|id| !known.contains_key(*id)).count()
+}
+
+// Whether the value is newer than what is known.
+fn is_newer(known: Option<Stored>, stored: Stored) -> bool
+    ensures { result ≡ is_newer known stored }
+{
+    match known {
+        Some(known) => known.number < stored.number,
+        None => true,
+    }
+}
+
+fn learn(entries: &mut BTreeMap<u64, Stored>, id: u64, stored: Stored) -> Result<(), AllocError>
+    ensures ok { OnOk result (fin.from_entries entries.new.entries ≡ put (fin.from_entries entries.old.entries) id stored) }
+    ensures err { OnErr result (entries.new.entries ≡ entries.old.entries) }
+{
+    if is_newer(entries.get(&id).copied(), stored) {
+        entries.insert(id, stored)?;
+    }
+    Ok(())
+}
+
+fn learn_all(
+    entries: &mut BTreeMap<u64, Stored>,
+    more: &BTreeMap<u64, Stored>,
+) -> Result<(), AllocError>
+    ensures { OnOk result (fin.from_entries entries.new.entries ≡ merge (fin.from_entries entries.old.entries) (fin.from_entries more.now.entries)) }
+{
+    for (id, stored) in more {
+        learn(entries, *id, *stored)?;
+    }
+    Ok(())
 }
 
 impl Clone for View {

@@ -1,4 +1,4 @@
-use Rattle.std.proofs.Common.{◌≡◌, sym, subst, ap, ◌∙◌}
+use Rattle.std.proofs.Common.{sym, subst, ap, ◌∙◌}
 use Rattle.std.specs.FinMap as fin
 use Rattle.sc_view.specs.Views.{ViewMap, IsView}
 use Rattle.sc_view.proofs.Maps.{get_found}

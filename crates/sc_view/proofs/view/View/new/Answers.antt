@@ -1,6 +1,3 @@
-use Rattle.std.proofs.Common.{sym, subst, ap}
-use Rattle.std.specs.FinMap as fin
-use Rattle.sc_view.specs.Views.{ViewMap, IsView}
 use Rattle.sc_view.proofs.ViewLemmas.{empty_valid}
 use Rattle.sc_view.proofs.view.View.new.Goals as goal
 

@@ -1,6 +1,6 @@
-use Rattle.std.proofs.Common.{◌≤◌, length, sym, ap, subst, ◌∙◌}
+use Rattle.std.proofs.Common.{◌≤◌, sym, ap, subst, ◌∙◌}
 use Rattle.std.specs.FinMap as fin
-use Rattle.sc_view.specs.Views.{ViewMap, IsView, most_entries}
+use Rattle.sc_view.specs.Views.{ViewMap, most_entries}
 use Rattle.sc_view.proofs.Maps.{entries_found, len_found}
 use Rattle.sc_view.proofs.view.View.records.Goals as goal
 

@@ -1,0 +1,5 @@
+use Rattle.sc_view.proofs.ViewLemmas.{number-merge}
+use Rattle.sc_view.proofs.laws.merge_takes_the_larger_number.Goals as goal
+
+pub returns : goal.returns
+returns c = number-merge

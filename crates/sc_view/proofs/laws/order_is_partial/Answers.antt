@@ -1,0 +1,5 @@
+use Rattle.sc_view.proofs.ViewLemmas.{covered_antisymmetric}
+use Rattle.sc_view.proofs.laws.order_is_partial.Goals as goal
+
+pub returns-clause-antisymmetric : goal.returns-clause-antisymmetric
+returns-clause-antisymmetric c = covered_antisymmetric
