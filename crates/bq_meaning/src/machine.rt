@@ -9,13 +9,15 @@ use bq_insn::register::Register;
 use bq_word::AluOp;
 
 /// A machine. Pointers are plain words.
-#[derive(Clone, Copy)]
+#[derive(Clone, Copy, Debug, PartialEq, Eq)]
 pub struct Machine {
     /// Which unit of the text is next, counted from 0.
     pub unit: u64,
     /// r0 to r10: none until it is written.
     pub registers: [Option<u64>; 11],
+    /// What r10 points to the end of: read and written.
     pub frame: [u8; 512],
+    /// What r1 points to: only read.
     pub record: [u8; 64],
 }
 

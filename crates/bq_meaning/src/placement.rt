@@ -5,7 +5,7 @@ use std::marker::Model;
 
 /// Where a machine's memory lies: the address of the frame's first byte and that of the record's, in a space of 2^64
 /// addresses. Both regions end below 2^64, and they lie apart.
-#[derive(Clone, Copy, Debug)]
+#[derive(Clone, Copy, Debug, PartialEq, Eq)]
 pub struct Placement {
     frame: u64,
     record: u64,
