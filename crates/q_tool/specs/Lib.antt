@@ -1,0 +1,6 @@
+pub mod Files
+pub mod Listing
+pub mod Memory
+pub mod Perform
+pub mod Refusal
+pub mod Words

@@ -1,0 +1,18 @@
+-- Faults of the parts, by the names under which they are refused.
+use Rattle.q_tool.specs.declared.refusal.Refusal.{Refusal}
+use Rattle.q_tool.specs.declared.refusal.Refusal.TheVariants.{BadLength, TooLong, Syntax, Label, FileFailed, OutOfMemory}
+use Rattle.bq_asm.specs.declared.fault.AsmFault.{AsmFault}
+use Rattle.bq_asm.specs.declared.fault.AsmFault.TheVariants as asm
+use Rattle.q_tool.specs.declared.files.FileFault.{FileFault}
+use Rattle.q_tool.specs.declared.files.FileFault.TheVariants as file
+
+abbrev pub of_asm_fault : AsmFault → Refusal
+of_asm_fault asm.BadLength = BadLength
+of_asm_fault asm.TooLong = TooLong
+of_asm_fault (asm.Syntax line) = Syntax line
+of_asm_fault (asm.Label line) = Label line
+of_asm_fault asm.OutOfMemory = OutOfMemory
+
+abbrev pub of_file_fault : FileFault → Refusal
+of_file_fault file.Failed = FileFailed
+of_file_fault file.OutOfMemory = OutOfMemory

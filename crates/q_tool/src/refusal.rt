@@ -1,0 +1,73 @@
+//! Why a command is refused, each reason with its number and its name.
+
+use crate::files::FileFault;
+use bq_asm::fault::AsmFault;
+use std::alloc::AllocError;
+use thiserror::Error;
+
+/// A refusal. Its text is the line that the program prints.
+#[derive(Clone, Copy, Debug, PartialEq, Eq, Error)]
+pub enum Refusal {
+    /// The assembler text has no instruction.
+    #[error("refused 1 BadLength")]
+    BadLength,
+    /// The assembler text has more than 4,096 units.
+    #[error("refused 2 TooLong")]
+    TooLong,
+    /// The line, counted from 1, is of no form.
+    #[error("refused 9 Syntax line {0}")]
+    Syntax(usize),
+    /// The line, counted from 1, names a label that no later line defines, or one too far away, or
+    /// defines one again.
+    #[error("refused 10 Label line {0}")]
+    Label(usize),
+    /// A file could not be opened, read or written, or a text file is not UTF-8.
+    #[error("refused 87 FileFailed")]
+    FileFailed,
+    /// Memory ran out.
+    #[error("refused 99 OutOfMemory")]
+    OutOfMemory,
+}
+
+/// A fault of the assembler, by its name.
+impl From<AsmFault> for Refusal {
+    ghost use Rattle.std.specs.Prelude.{◌≡◌};
+    ghost use Rattle.q_tool.specs.Refusal.{of_asm_fault};
+
+    ghost from_gives = { λ fault refusal. refusal ≡ of_asm_fault fault };
+
+    fn from(fault: AsmFault) -> Self {
+        match fault {
+            AsmFault::BadLength => Refusal::BadLength,
+            AsmFault::TooLong => Refusal::TooLong,
+            AsmFault::Syntax { line } => Refusal::Syntax(line),
+            AsmFault::Label { line } => Refusal::Label(line),
+            AsmFault::OutOfMemory => Refusal::OutOfMemory,
+        }
+    }
+}
+
+impl From<FileFault> for Refusal {
+    ghost use Rattle.std.specs.Prelude.{◌≡◌};
+    ghost use Rattle.q_tool.specs.Refusal.{of_file_fault};
+
+    ghost from_gives = { λ fault refusal. refusal ≡ of_file_fault fault };
+
+    fn from(fault: FileFault) -> Self {
+        match fault {
+            FileFault::Failed => Refusal::FileFailed,
+            FileFault::OutOfMemory => Refusal::OutOfMemory,
+        }
+    }
+}
+
+impl From<AllocError> for Refusal {
+    ghost use Rattle.std.specs.Prelude.{◌≡◌};
+    ghost use Rattle.q_tool.specs.declared.refusal.Refusal.TheVariants.{OutOfMemory};
+
+    ghost from_gives = { λ _ refusal. refusal ≡ OutOfMemory };
+
+    fn from(_error: AllocError) -> Self {
+        Refusal::OutOfMemory
+    }
+}
