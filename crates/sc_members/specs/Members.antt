@@ -1,5 +1,5 @@
 -- What is known of a cluster's nodes, and how many of them a phase waits for.
-use Rattle.std.specs.Prelude.{◌≡◌, ℕ, ◌+◌, ◌-◌, ◌*◌, ◌/◌, ◌≤◌, max, List}
+use Rattle.std.specs.Prelude.{ℕ, ◌+◌, ◌-◌, ◌*◌, ◌/◌, ◌≤◌, max, Bool, ◌||◌, nat_lt, List}
 use Rattle.std.specs.FinSet as set
 use Rattle.sc_members.specs.Ids.{Ids}
 
@@ -17,6 +17,10 @@ pub record IsFacts (f : Facts) : Type 0 where
   pub entered : set.len f.entered ≤ most_facts
   pub joined : set.len f.joined ≤ most_facts
   pub left : set.len f.left ≤ most_facts
+
+-- one of the three has more
+abbrev pub is_overfull : Facts → Bool
+is_overfull f = nat_lt most_facts (set.len f.entered) || (nat_lt most_facts (set.len f.joined) || nat_lt most_facts (set.len f.left))
 
 -- nobody entered, joined or left
 abbrev pub no_facts : Facts

@@ -1,6 +1,6 @@
-ghost use Rattle.std.specs.Prelude.{◌≡◌, IfOk, OnOk, OnErr};
+ghost use Rattle.std.specs.Prelude.{◌≡◌, ◌≤◌, ◌↔◌, length, IsTrue, IfOk, OnOk, OnErr, IsErrOf};
 ghost use Rattle.std.specs.FinSet as set;
-ghost use Rattle.sc_members.specs.Members.{Facts as KnownFacts, IsFacts, no_facts, founding, present, members, union_facts, with_entered, with_joined, with_left};
+ghost use Rattle.sc_members.specs.Members.{Facts as KnownFacts, IsFacts, most_facts, is_overfull, no_facts, founding, present, members, union_facts, with_entered, with_joined, with_left};
 
 use crate::ids::IdSet;
 use std::alloc::{AllocError, Global};
@@ -64,10 +64,15 @@ impl Facts {
     }
 
     /// These ids have entered and joined, and nobody left.
-    pub fn founders(alloc: Global, ids: &[u64]) -> Result<Facts, FactsFault>
-        ensures ok { IfOk result (λ facts. facts ≡ founding ids.now) }
+    pub fn founders(alloc: Global, ids: &[u64]) -> Result<Facts, AllocError>
+        requires { length ids.now ≤ most_facts }
+        ensures { IfOk result (λ facts. facts ≡ founding ids.now) }
     {
-        Err(FactsFault::OutOfMemory)
+        Ok(Facts {
+            entered: IdSet::from_slice(alloc, ids)?,
+            joined: IdSet::from_slice(alloc, ids)?,
+            left: IdSet::new(alloc),
+        })
     }
 
     pub fn entered(&self) -> &IdSet
@@ -108,35 +113,73 @@ impl Facts {
     }
 }
 
-// Each of these makes new facts and leaves these as they are. Refused 47 just where one of the three sets would get
-// more than 1,024 ids.
+// Each of these makes new facts, and leaves these as they are.
 impl Facts {
-    /// These facts, and that the node has entered.
+    /// These facts, and that the node has entered. Refused 47 where a set would get more than 1,024 ids, and else 99.
     pub fn with_entered(&self, id: u64) -> Result<Facts, FactsFault>
         ensures ok { IfOk result (λ facts. facts ≡ with_entered self.now id) }
+        ensures few { IfOk result IsFacts }
+        ensures full { IsErrOf result FactsFault.Full ↔ IsTrue (is_overfull (with_entered self.now id)) }
     {
-        Err(FactsFault::OutOfMemory)
+        if self.entered.len_with(id) > MOST_FACTS {
+            return Err(FactsFault::Full);
+        }
+        Ok(Facts {
+            entered: self.entered.with(id)?,
+            joined: self.joined.clone()?,
+            left: self.left.clone()?,
+        })
     }
 
-    /// These facts, and that the node has entered and joined.
+    /// These facts, and that the node has entered and joined. Refused as `with_entered`.
     pub fn with_joined(&self, id: u64) -> Result<Facts, FactsFault>
         ensures ok { IfOk result (λ facts. facts ≡ with_joined self.now id) }
+        ensures few { IfOk result IsFacts }
+        ensures full { IsErrOf result FactsFault.Full ↔ IsTrue (is_overfull (with_joined self.now id)) }
     {
-        Err(FactsFault::OutOfMemory)
+        if self.entered.len_with(id).max(self.joined.len_with(id)) > MOST_FACTS {
+            return Err(FactsFault::Full);
+        }
+        Ok(Facts {
+            entered: self.entered.with(id)?,
+            joined: self.joined.with(id)?,
+            left: self.left.clone()?,
+        })
     }
 
-    /// These facts, and that the node has left.
+    /// These facts, and that the node has left. Refused as `with_entered`.
     pub fn with_left(&self, id: u64) -> Result<Facts, FactsFault>
         ensures ok { IfOk result (λ facts. facts ≡ with_left self.now id) }
+        ensures few { IfOk result IsFacts }
+        ensures full { IsErrOf result FactsFault.Full ↔ IsTrue (is_overfull (with_left self.now id)) }
     {
-        Err(FactsFault::OutOfMemory)
+        if self.left.len_with(id) > MOST_FACTS {
+            return Err(FactsFault::Full);
+        }
+        Ok(Facts {
+            entered: self.entered.clone()?,
+            joined: self.joined.clone()?,
+            left: self.left.with(id)?,
+        })
     }
 
-    /// What these facts and the others say together.
+    /// What these facts and the others say together. Refused as `with_entered`.
     pub fn united(&self, other: &Facts) -> Result<Facts, FactsFault>
         ensures ok { IfOk result (λ facts. facts ≡ union_facts self.now other.now) }
+        ensures few { IfOk result IsFacts }
+        ensures full { IsErrOf result FactsFault.Full ↔ IsTrue (is_overfull (union_facts self.now other.now)) }
     {
-        Err(FactsFault::OutOfMemory)
+        let entered = self.entered.union_len(&other.entered);
+        let joined = self.joined.union_len(&other.joined);
+        let left = self.left.union_len(&other.left);
+        if entered.max(joined).max(left) > MOST_FACTS {
+            return Err(FactsFault::Full);
+        }
+        Ok(Facts {
+            entered: self.entered.union(&other.entered)?,
+            joined: self.joined.union(&other.joined)?,
+            left: self.left.union(&other.left)?,
+        })
     }
 }
 
@@ -145,6 +188,8 @@ impl Facts {
     /// Learns that the node has entered.
     pub fn add_entered(&mut self, id: u64) -> Result<(), FactsFault>
         ensures ok { OnOk result (self.new ≡ with_entered self.old id) }
+        ensures few { OnOk result (IsFacts self.new) }
+        ensures full { IsErrOf result FactsFault.Full ↔ IsTrue (is_overfull (with_entered self.old id)) }
         ensures err { OnErr result (self.new ≡ self.old) }
     {
         *self = self.with_entered(id)?;
@@ -154,6 +199,8 @@ impl Facts {
     /// Learns that the node has entered and joined.
     pub fn add_joined(&mut self, id: u64) -> Result<(), FactsFault>
         ensures ok { OnOk result (self.new ≡ with_joined self.old id) }
+        ensures few { OnOk result (IsFacts self.new) }
+        ensures full { IsErrOf result FactsFault.Full ↔ IsTrue (is_overfull (with_joined self.old id)) }
         ensures err { OnErr result (self.new ≡ self.old) }
     {
         *self = self.with_joined(id)?;
@@ -163,6 +210,8 @@ impl Facts {
     /// Learns that the node has left.
     pub fn add_left(&mut self, id: u64) -> Result<(), FactsFault>
         ensures ok { OnOk result (self.new ≡ with_left self.old id) }
+        ensures few { OnOk result (IsFacts self.new) }
+        ensures full { IsErrOf result FactsFault.Full ↔ IsTrue (is_overfull (with_left self.old id)) }
         ensures err { OnErr result (self.new ≡ self.old) }
     {
         *self = self.with_left(id)?;
@@ -172,6 +221,8 @@ impl Facts {
     /// Learns what the others know.
     pub fn union(&mut self, other: &Facts) -> Result<(), FactsFault>
         ensures ok { OnOk result (self.new ≡ union_facts self.old other.now) }
+        ensures few { OnOk result (IsFacts self.new) }
+        ensures full { IsErrOf result FactsFault.Full ↔ IsTrue (is_overfull (union_facts self.old other.now)) }
         ensures err { OnErr result (self.new ≡ self.old) }
     {
         *self = self.united(other)?;

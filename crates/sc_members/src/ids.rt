@@ -1,4 +1,4 @@
-ghost use Rattle.std.specs.Prelude.{◌≡◌, ℕ, ◌↔◌, length, IsTrue, IfOk, OnOk, OnErr};
+ghost use Rattle.std.specs.Prelude.{◌≡◌, ℕ, ◌↔◌, ◌<◌, ◌^◌, length, IsTrue, IfOk, OnOk, OnErr};
 ghost use Rattle.std.specs.FinSet as set;
 ghost use Rattle.std.specs.Map.Iter.{TakesFirst};
 ghost use Rattle.std.specs.Iterator.{at_most};
@@ -65,7 +65,9 @@ impl IdSet {
     pub fn from_slice(alloc: Global, ids: &[u64]) -> Result<IdSet, AllocError>
         ensures { IfOk result (λ made. made ≡ set.from_list ids.now) }
     {
-        Err(AllocError)
+        Ok(IdSet {
+            ids: ids.iter().copied().collect(alloc)?,
+        })
     }
 
     /// Whether the id is in the set. Takes no memory.
@@ -86,7 +88,8 @@ impl IdSet {
 
     /// How many ids are in the set.
     pub fn len(&self) -> usize
-        ensures { result ≡ set.len self.now }
+        ensures count { result ≡ set.len self.now }
+        ensures small { result < 2 ^ 63 }
     {
         self.ids.len()
     }
@@ -117,7 +120,25 @@ impl IdSet {
     pub fn union(&self, other: &IdSet) -> Result<IdSet, AllocError>
         ensures { IfOk result (λ both. both ≡ set.union self.now other.now) }
     {
-        Err(AllocError)
+        let IdSet { mut ids } = self.clone()?;
+        ids.extend(&other.ids)?;
+        Ok(IdSet { ids })
+    }
+
+    /// The ids of the set, and this one.
+    pub fn with(&self, id: u64) -> Result<IdSet, AllocError>
+        ensures { IfOk result (λ more. more ≡ set.insert self.now id) }
+    {
+        let mut more = self.clone()?;
+        more.insert(id)?;
+        Ok(more)
+    }
+
+    /// How many ids the set has once it has this one. Takes no memory.
+    pub fn len_with(&self, id: u64) -> usize
+        ensures { result ≡ set.len (set.insert self.now id) }
+    {
+        self.len() + usize::from(!self.contains(id))
     }
 
     /// How many ids are in the one set or the other. Takes no memory.
