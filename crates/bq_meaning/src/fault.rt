@@ -1,3 +1,5 @@
+//! Why an instruction is not done, each reason with its number.
+
 /// Why an instruction can't be done. Where several of these hold, the one with the least number is answered.
 #[derive(Clone, Copy, Debug, PartialEq, Eq, Drop)]
 pub enum Fault {

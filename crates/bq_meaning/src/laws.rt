@@ -1,4 +1,5 @@
-//! Laws of runs and answers, each the contract of a function that does nothing.
+//! Laws of runs and answers, each the contract of a function that does nothing, so whoever needs one at a
+//! step calls it there.
 
 ghost use Rattle.std.specs.Prelude.{◌≡◌, ◌+◌, ◌++◌, ℕ, List, [], ◌∷◌};
 ghost use Rattle.bq_insn.specs.declared.insn.Insn.{Insn};
@@ -16,7 +17,7 @@ pub fn one_fold()
     ensures { (p : Place) (text : List Insn) (records : List (List ℕ)) (acc : ℕ) (frame : List ℕ) (answer steps other count : ℕ) (after left : List ℕ) → FoldsTo p text records acc frame answer steps after → FoldsTo p text records acc frame other count left → (answer ≡ other) × (steps ≡ count) × (after ≡ left) }
 {}
 
-/// A fold over records and then a record run over one more is a fold over them all.
+/// A fold over records and then a record run over one more is a fold over them all: what a loop over records keeps.
 pub fn appended()
     ensures { (p : Place) (text : List Insn) (records : List (List ℕ)) (bytes : List ℕ) (acc : ℕ) (frame : List ℕ) (middle steps : ℕ) (between : List ℕ) (n answer : ℕ) (after : List ℕ) → FoldsTo p text records acc frame middle steps between → RecordRun p text middle bytes between n answer after → FoldsTo p text (records ++ bytes ∷ []) acc frame answer (steps + n) after }
 {}

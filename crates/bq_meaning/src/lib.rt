@@ -1,12 +1,29 @@
-//! What instructions of RFC 9669 mean, as a machine that tests each access.
+//! What programs mean: the instructions of RFC 9669 as steps of a machine that tests each access.
 //!
-//! A machine has a unit index, eleven registers, a frame of 512 bytes and a record of 64 bytes, which lie at the two
-//! addresses of a `Placement`. `step_checked` does one instruction, or answers the `Fault` with the least number that
-//! stands in its way. `run_checked` does steps from the entry until an exit, a fault, or a limit. Neither takes memory.
+//! A machine has a unit index, eleven registers that hold a word of 64 bits or nothing yet, a frame of
+//! 512 bytes and a record of 64 bytes. The two lie at the addresses of a [`Placement`], in a space of
+//! 2^64 addresses; pointers are plain words, and memory is little-endian.
 //!
-//! The definitions are in `specs/`: `Meaning` has what each instruction does, `Runs` what a record run is, and
-//! `Answers` what a text answers over a list of records, the same at every placement. `laws` has what follows for all
-//! texts. The checker, the unchecked loop and the store-collect nodes are proved against these definitions.
+//! - [`step_checked`] does one instruction. A wide instruction is one step; a backward jump is as good
+//!   as any, and a unit index outside the text is a fault of the next step.
+//! - [`run_checked`] does steps over one record until an exit, a fault or a limit: r1 is the record's
+//!   address, r2 its length, r3 the accumulator and r10 the frame's end, and r0 is the answer.
+//!
+//! Both answer exactly what the definitions say, at each placement, and take no memory. The faults are
+//! 91 ReadUnset, 92 WroteFramePointer, 93 OutsideAccess, 94 WroteRecord, 95 BadPlace and 96 StepsOut;
+//! where several hold at a step, the least number is answered, and the frame is as it was.
+//!
+//! The definitions stand in `specs/`, apart from the code: `Place` has what a placement is, `Memory`
+//! where an access lies, `Meaning` what each form of instruction does, `Runs` what a record run is and
+//! how it fails, and `Answers` what a text answers over a list of records, the same at every placement.
+//! `laws` has what follows for all texts: one run, one answer, and an answer over no records.
+//!
+//! The checker, the loop that runs checked programs without tests, and all that speaks of an answer
+//! stand on these definitions.
+//!
+//! [`Placement`]: placement::Placement
+//! [`step_checked`]: step::step_checked
+//! [`run_checked`]: run::run_checked
 #![tactic(auto)]
 
 pub mod fault;

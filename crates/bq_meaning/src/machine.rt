@@ -1,3 +1,5 @@
+//! Machines, and what they read without memory: registers and operands.
+
 ghost use Rattle.std.specs.Prelude.{◌≡◌, Some, None, IfOk, IfErr};
 ghost use Rattle.bq_meaning.specs.Meaning.{held, value, taken};
 ghost use Rattle.bq_meaning.specs.Runs.{entry_machine};

@@ -1,3 +1,5 @@
+//! Loads and stores: where an access lies, and the bytes there.
+
 ghost use Rattle.std.specs.Prelude.{◌≡◌, ◌≤◌, ◌<◌, ◌+◌, ◌^◌, Some, None, IfOk, IfErr, IfSome, length};
 ghost use Rattle.bq_word.specs.Word.{le_number};
 ghost use Rattle.bq_meaning.specs.Memory.{is_inside, access, loaded, LiesWithin, size_bytes, signed_bytes};

@@ -1,3 +1,5 @@
+//! What each form of instruction does, one method for each.
+
 ghost use Rattle.std.specs.Prelude.{◌≡◌, ◌+◌, ◌≤◌, ◌<◌, OnOk, IfErr, ℤ};
 ghost use Rattle.bq_word.specs.Word.{bits_of, swap_bits, extended};
 ghost use Rattle.bq_insn.specs.Insn.{extension_bits, extension_width};

@@ -1,3 +1,5 @@
+//! Where the frame and the record lie.
+
 ghost use Rattle.std.specs.Prelude.{◌≡◌, ◌↔◌, ◌+◌, ◌^◌, ◌<◌, IsSome, IfSome};
 ghost use Rattle.bq_meaning.specs.Place.{Place, IsPlacement};
 

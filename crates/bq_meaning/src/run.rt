@@ -1,3 +1,5 @@
+//! Runs over one record.
+
 ghost use Rattle.std.specs.Prelude.{◌≡◌, ◌≤◌, IfOk, IfErr, OnErr, ℕ, List};
 ghost use Rattle.bq_meaning.specs.Runs.{RecordRun, RunFaults, entry_machine};
 
@@ -10,7 +12,9 @@ use bq_insn::text::Text;
 /// How a record run ended: r0 at its exit, and how many steps it took, the exit among them.
 #[derive(Clone, Copy, Debug, PartialEq, Eq, Drop)]
 pub struct Ended {
+    /// The next accumulator, and after the last record the answer.
     pub acc: u64,
+    /// At least 1.
     pub steps: u64,
 }
 

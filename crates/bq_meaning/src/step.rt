@@ -1,3 +1,5 @@
+//! One step of a machine.
+
 ghost use Rattle.std.specs.Prelude.{◌≡◌, ◌<◌, IfSome};
 ghost use Rattle.bq_meaning.specs.Meaning.{insn_at, step};
 ghost use Rattle.bq_meaning.specs.Runs.{StepAnswers};
@@ -30,7 +32,8 @@ fn insn_at(text: &Text, unit: u64) -> Option<Insn>
     }
 }
 
-/// One step of a machine (RFC 9669, sections 4 and 5). At a fault and at an exit the machine is as it was.
+/// One step of a machine (RFC 9669, sections 4 and 5), or the least of the faults 91 to 95 that stands in its way.
+/// At a fault and at an exit the machine is as it was.
 pub fn step_checked(
     text: &Text,
     placement: &Placement,
