@@ -1,0 +1,7 @@
+pub mod Ones
+pub mod Held
+pub mod Rows
+pub mod Pieces
+pub mod Places
+pub mod Edges
+pub mod Both

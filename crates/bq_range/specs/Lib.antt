@@ -1,0 +1,4 @@
+-- Ranges of words, and what an instruction makes of them.
+pub mod Interval
+pub mod Table
+pub mod Narrow
