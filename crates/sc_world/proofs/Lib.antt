@@ -1,0 +1,20 @@
+-- Every list of events leads to a regular world.
+pub mod Finite
+pub mod ViewLemmas
+pub mod Changes
+pub mod Soundness
+pub mod Links
+pub mod Steps
+pub mod Handlers
+pub mod Truths
+pub mod Truth
+pub mod Telling
+pub mod Numbers
+pub mod Numbering
+pub mod Inverts
+pub mod Runs
+pub mod Histories
+pub mod Recording
+pub mod Counting
+pub mod Ledgers
+pub mod EveryHistory

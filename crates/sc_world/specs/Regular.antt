@@ -1,16 +1,16 @@
 -- Regularity.
-use Rattle.std.specs.Prelude.{◌≡◌, ℕ, ◌≤◌, ◌<◌, Option, Some, None, List, slice_get}
+use Rattle.std.specs.Prelude.{◌≡◌, ℕ, ◌≤◌, ◌<◌, Option, Some, None, slice_get}
 use Rattle.std.specs.FinMap as fin
 use Rattle.sc_view.specs.declared.view.Stored.{Stored}
 use Rattle.sc_view.specs.Views.{ViewMap, number_at, IsCoveredBy}
-use Rattle.sc_members.specs.Ids.{Has}
+use Rattle.sc_members.specs.Ids.{Has, IsLeastCommon}
 use Rattle.sc_node.specs.declared.session.Kind.{Kind}
 use Rattle.sc_node.specs.declared.session.Kind.TheVariants as kind
 use Rattle.sc_node.specs.Sessions.{stored, repliers, ackers}
 use Rattle.sc_world.specs.declared.event.Event.TheVariants as event
 use Rattle.sc_world.specs.declared.op.Op.{Op}
 use Rattle.sc_world.specs.State.{WorldState}
-use Rattle.sc_world.specs.Records.{Among, AreRecords}
+use Rattle.sc_world.specs.Records.{Among}
 
 -- the first operation ended before the second began
 pub record IsBefore (a b : Op) : Type 0 where
@@ -28,10 +28,9 @@ pub record Meets (a b : Op) : Type 0 where
   pub id : ℕ
   pub at : MeetsAt a b id
 
--- the least id of both sets, or none where there is none
+-- the least such node, or none where there is none
 abbrev pub IsMeeting : Op → Op → Option ℕ → Type 0
-IsMeeting a b None = (id : ℕ) → MeetsAt a b id → ⊥
-IsMeeting a b (Some least) = MeetsAt a b least × ((id : ℕ) → MeetsAt a b id → least ≤ id)
+IsMeeting a b least = IsLeastCommon (ackers a.session) (repliers b.session) least
 
 abbrev pub returned_by : Kind → Option ℕ → Option ViewMap → Option ViewMap
 returned_by kind.Collect (Some end) view = view

@@ -5,7 +5,6 @@ use Rattle.std.specs.FinMap as fin
 use Rattle.std.specs.FinSet as set
 use Rattle.sc_members.specs.Members.{Config}
 use Rattle.sc_msg.specs.declared.message.Message.{Message}
-use Rattle.sc_node.specs.declared.session.Session.{Session}
 use Rattle.sc_node.specs.declared.answer.Advance.{Advance}
 use Rattle.sc_node.specs.declared.answer.Advance.TheVariants as advance
 use Rattle.sc_node.specs.declared.answer.Progress.{Progress}
@@ -14,7 +13,7 @@ use Rattle.sc_node.specs.declared.answer.Begun.{Begun}
 use Rattle.sc_node.specs.declared.answer.Delivered.{Delivered}
 use Rattle.sc_node.specs.declared.fault.NodeFault.{NodeFault}
 use Rattle.sc_node.specs.declared.fault.NodeFault.TheVariants as node_fault
-use Rattle.sc_node.specs.Sessions.{apply, ends}
+use Rattle.sc_node.specs.Sessions.{apply}
 use Rattle.sc_node.specs.State.{NodeState}
 use Rattle.sc_node.specs.Nodes.{delivered, store_begun, collect_begun, left, entered, founder, are_founders}
 use Rattle.sc_world.specs.declared.event.Event.{Event}

@@ -8,4 +8,5 @@
 #![tactic(auto)]
 
 pub mod event;
+pub mod laws;
 pub mod op;

@@ -1,0 +1,429 @@
+-- What each call and each kind of message makes of a node.
+use Rattle.std.proofs.Common.{◌≡◌, ℕ, ◌+◌, ◌≤◌, ◌<◌, Bool, true, false, cond, ◌==◌, ◌&&◌, List, [], ◌∷◌, ◌++◌, map, Option, Some, None, is_some, refl, sym, ap, ◌∙◌, subst, arith, ◌⊎◌, inl, inr}
+use Rattle.std.proofs.lemmas.Bool.{eqb-true, eq-eqb}
+use Rattle.std.specs.Ordering.{nat_cmp}
+use Rattle.std.specs.FinMap as fin
+use Rattle.std.specs.FinSet as set
+use Rattle.sc_view.specs.declared.view.Stored.{Stored}
+use Rattle.sc_view.specs.Views.{ViewMap, number_at, IsBelow, merge}
+use Rattle.sc_members.specs.Members.{Config, with_left}
+use Rattle.sc_msg.specs.declared.message.Message.{Message}
+use Rattle.sc_msg.specs.declared.message.Body.{Body}
+use Rattle.sc_msg.specs.declared.message.Body.TheVariants.{Enter, EnterEcho, Join, Leave, Store, StoreAck, StoreEcho, CollectQuery, CollectReply}
+use Rattle.sc_node.specs.declared.session.Kind.TheVariants as kind
+use Rattle.sc_node.specs.declared.session.Phase.{Phase}
+use Rattle.sc_node.specs.declared.session.StoreBack.{StoreBack}
+use Rattle.sc_node.specs.declared.session.Session.{Session}
+use Rattle.sc_node.specs.declared.answer.Advance.{Advance}
+use Rattle.sc_node.specs.declared.answer.Advance.TheVariants as advance
+use Rattle.sc_node.specs.declared.answer.Progress.{Progress}
+use Rattle.sc_node.specs.declared.answer.Begun.{Begun}
+use Rattle.sc_node.specs.Sessions.{stored, view_in, phase_in, counted_in, phase_with, session_with, advanced_by, apply, ends, is_reached, count_sender, querying, query_before, storing}
+use Rattle.sc_node.specs.State.{NodeState}
+use Rattle.sc_node.specs.Nodes as node
+use Rattle.sc_node.specs.Nodes.{message_from, is_reply, view_after, progress_of, sessions_after, ack_progress, reply_progress, beta_threshold, joins, answers, store_back, store_of, delivery, node_after, begun, opened, store_session, collect_session, stored_view, next_stored, entered, entering}
+use Rattle.sc_world.specs.declared.event.Event.{Event}
+use Rattle.sc_world.specs.declared.op.Op.{Op}
+use Rattle.sc_world.specs.State.{WorldState}
+use Rattle.sc_world.specs.Worlds.{clock, Outcome, of_entered, of_left, of_begun, of_delivered, end_at, advanced, op_begun, after}
+use Rattle.sc_world.specs.Records.{Among}
+use Rattle.sc_world.proofs.Changes.{view_of, view_at, Kept, IsAbout, IsSent, IsBodySent, IsChange}
+use Rattle.sc_world.proofs.Links.{IsLinked, session_moved, session_after, IsTransition, AckMakes, ReplyMakes, IsMove, IsProgress, Each, IsBodyKnown}
+use Rattle.sc_world.proofs.Finite.{get-insert, get-insert_same, get-remove}
+use Rattle.sc_world.proofs.ViewLemmas.{below_refl, below_merge, merge_above, below_put, put_has}
+use Rattle.sc_world.proofs.Steps.{among-append, among-map, length-more, advance_op, known_next, view_next, is_change, is_linked}
+
+-- what each event makes of a node, where it is accepted
+abbrev pub heard : NodeState → ℕ → Body → Outcome
+heard n from b = of_delivered (delivery n from b, node_after n from b)
+
+abbrev pub store_outcome : NodeState → List ℕ → Outcome
+store_outcome n value =
+    of_begun (begun n (store_session n value) (Store n.operations (stored_view n value)), opened n (stored_view n value) (n.stores + 1) (store_session n value))
+
+abbrev pub collect_outcome : NodeState → Outcome
+collect_outcome n = of_begun (begun n (collect_session n) (CollectQuery n.operations), opened n n.view n.stores (collect_session n))
+
+abbrev pub left_outcome : NodeState → Outcome
+left_outcome n = of_left (message_from n.id Leave ∷ [], record n { facts = with_left n.facts n.id; gone = true })
+
+abbrev pub entered_outcome : Config → ℕ → Outcome
+entered_outcome c id = of_entered (entered c id)
+
+below_if : (b : Bool) (v u : ViewMap) → IsBelow v u → IsBelow v (cond b u v)
+below_if true v u h = h
+below_if false v u h = below_refl v
+
+view_grows : (n : NodeState) (b : Body) → IsBelow n.view (view_after n b)
+view_grows n (EnterEcho to j f v) = below_merge n.view v
+view_grows n (Store t v) = below_merge n.view v
+view_grows n (StoreEcho v) = below_merge n.view v
+view_grows n (CollectReply to t v) = below_if (is_reply n to t) n.view (merge n.view v) (below_merge n.view v)
+view_grows n b = below_refl n.view
+
+-- a look-up after an operation moved
+none_moved : (m : fin.FinMap nat_cmp Session) (p : Progress) (t : ℕ) (b : Bool) → (t == p.tag) ≡ b → fin.get m p.tag ≡ None → fin.get m t ≡ cond b (session_moved p (fin.get m t)) (fin.get m t)
+none_moved m p t false is none = refl
+none_moved m p t true is none =
+    let at : fin.get m t ≡ None = ap (fin.get m) (eqb-true t p.tag is) ∙ none in
+    at ∙ sym (ap (session_moved p) at)
+
+some_moved : (m : fin.FinMap nat_cmp Session) (p : Progress) (t : ℕ) (s : Session) (b : Bool) → (t == p.tag) ≡ b → fin.get m p.tag ≡ Some s
+    → cond b (session_moved p (Some s)) (fin.get m t) ≡ cond b (session_moved p (fin.get m t)) (fin.get m t)
+some_moved m p t s false is at = refl
+some_moved m p t s true is at = ap (session_moved p) (sym (ap (fin.get m) (eqb-true t p.tag is) ∙ at))
+
+table_moved : (m : fin.FinMap nat_cmp Session) (p : Progress) (s : Session) (t : ℕ) (b : Bool)
+    → fin.get (cond b (fin.remove m p.tag) (fin.insert m p.tag (apply p s))) t ≡ cond (t == p.tag) (cond b None (Some (apply p s))) (fin.get m t)
+table_moved m p s t true = get-remove m p.tag t
+table_moved m p s t false = get-insert m p.tag (apply p s) t
+
+sessions_of : (m : fin.FinMap nat_cmp Session) (p : Progress) (t : ℕ) (o : Option Session) → fin.get m p.tag ≡ o
+    → fin.get (node.session_moved m p o) t ≡ cond (t == p.tag) (session_moved p (fin.get m t)) (fin.get m t)
+sessions_of m p t None is = none_moved m p t (t == p.tag) refl is
+sessions_of m p t (Some s) is = table_moved m p s t (ends p.advance) ∙ some_moved m p t s (t == p.tag) refl is
+
+get-sessions_after : (m : fin.FinMap nat_cmp Session) (p : Option Progress) (t : ℕ) → fin.get (sessions_after m p) t ≡ session_after p t (fin.get m t)
+get-sessions_after m None t = refl
+get-sessions_after m (Some p) t = sessions_of m p t (fin.get m p.tag) refl
+
+pub heard_moves : (n : NodeState) (from : ℕ) (b : Body) → IsTransition n (heard n from b)
+heard_moves n from b = record {
+  id = refl;
+  grows = view_grows n b;
+  more = omega arith;
+  sessions = λ t lt. get-sessions_after n.sessions (progress_of n from b) t;
+  begun = tt;
+}
+
+pub each_if : {X : Type 0} (P : X → Type 0) (b : Bool) (xs : List X) → Each P xs → Each P (cond b xs [])
+each_if P true xs h = h
+each_if P false xs h = tt
+
+-- what counting makes of a session
+acked_with : (s : Session) (x : Option StoreBack) (b : StoreBack) (from : ℕ) → s.back ≡ x → x ≡ Some b → AckMakes s (session_with s x from) from
+acked_with s None b from is at = absurd (cc)
+acked_with s (Some c) b from is at = record {
+  kind = refl;
+  view = sym (ap view_in is);
+  replied = refl;
+  acked = ap (λ (x : Option StoreBack). set.insert (counted_in (phase_in x)) from) (sym is);
+}
+
+ack_makes : (c : Bool) (s : Session) (b : StoreBack) (from : ℕ) → s.back ≡ Some b → AckMakes s (advanced_by from (cond c advance.Ended advance.Counted) s) from
+ack_makes true s b from is = acked_with s s.back b from refl is
+ack_makes false s b from is = acked_with s s.back b from refl is
+
+phase_counts : (x : Option Phase) (p : Phase) (from : ℕ) → x ≡ Some p → counted_in (phase_with x from) ≡ set.insert (counted_in x) from
+phase_counts None p from is = absurd (cc)
+phase_counts (Some y) p from is = refl
+
+replied_with : (s : Session) (x : Option StoreBack) (p : Phase) (from : ℕ) (v : ViewMap) → x ≡ None → s.query ≡ Some p → ReplyMakes s (session_with s x from) from v
+replied_with s (Some c) p from v at is = absurd (cc)
+replied_with s None p from v at is = record { kind = refl; replied = phase_counts s.query p from is; view = inl refl }
+
+reply_makes : (c : Bool) (s : Session) (p : Phase) (from next : ℕ) (v v' : ViewMap) → s.back ≡ None → s.query ≡ Some p → v ≡ v' → ReplyMakes s (advanced_by from (cond c (advance.Turned next v) advance.Counted) s) from v'
+reply_makes true s p from next v v' none is same = record { kind = refl; replied = phase_counts s.query p from is; view = inr (ap (λ (y : ViewMap). let o : Option ViewMap = Some y in o) same, refl) }
+reply_makes false s p from next v v' none is same = replied_with s s.back p from v' none is
+
+reply_stays : (c : Bool) (next : ℕ) (v : ViewMap) (place : ℕ) → end_at place (cond c (advance.Turned next v) advance.Counted) ≡ None
+reply_stays true next v place = refl
+reply_stays false next v place = refl
+
+-- which messages move an operation, and how
+module _ (n : NodeState) (from : ℕ) where
+  ack_back : (to t : ℕ) (s : Session) (b : Option StoreBack) → (to == n.id) ≡ true → fin.get n.sessions t ≡ Some s → s.back ≡ b → IsMove n from (StoreAck to t) (ack_progress from t (phase_in b))
+  ack_back to t s None is at back = tt
+  ack_back to t s (Some b) is at back = inl (record { session = s; back = b; was = at; stores = back; body = ap (λ (x : ℕ). StoreAck x t) (eqb-true to n.id is); sender = refl; advance = refl })
+
+  ack_move : (to t : ℕ) (c : Bool) (s : Option Session) → (to == n.id) ≡ c → fin.get n.sessions t ≡ s → IsMove n from (StoreAck to t) (cond c (ack_progress from t (storing s)) None)
+  ack_move to t false s is at = tt
+  ack_move to t true None is at = tt
+  ack_move to t true (Some s) is at = ack_back to t s s.back is at refl
+
+  reply_back : (to t : ℕ) (view : ViewMap) (s : Session) (b : Option StoreBack) (p : Option Phase) → (to == n.id) ≡ true → fin.get n.sessions t ≡ Some s → s.back ≡ b → s.query ≡ p
+      → IsMove n from (CollectReply to t view) (reply_progress from t (merge n.view view) (beta_threshold n) (query_before b p))
+  reply_back to t view s (Some b) p is at back query = tt
+  reply_back to t view s None None is at back query = tt
+  reply_back to t view s None (Some p) is at back query =
+      let test : is_reply n to t ≡ true =
+      ap (λ b. b && is_some (querying (fin.get n.sessions t))) is
+      ∙ ap (λ (o : Option Session). is_some (querying o)) at ∙ ap (λ (b : Option StoreBack). is_some (query_before b s.query)) back ∙ ap (λ (x : Option Phase). is_some x) query in
+      inr (record {
+        session = s;
+        phase = p;
+        view = view;
+        was = at;
+        none = back;
+        query = query;
+        body = ap (λ (x : ℕ). CollectReply x t view) (eqb-true to n.id is);
+        sender = refl;
+        learned = sym (ap (λ b. cond b (merge n.view view) n.view) test);
+        advance = refl;
+      })
+
+  reply_move : (to t : ℕ) (view : ViewMap) (c : Bool) (s : Option Session) → (to == n.id) ≡ c → fin.get n.sessions t ≡ s
+      → IsMove n from (CollectReply to t view) (cond c (reply_progress from t (merge n.view view) (beta_threshold n) (querying s)) None)
+  reply_move to t view false s is at = tt
+  reply_move to t view true None is at = tt
+  reply_move to t view true (Some s) is at = reply_back to t view s s.back s.query is at refl refl
+
+  pub moves : (b : Body) → IsMove n from b (progress_of n from b)
+  moves (StoreAck to t) = ack_move to t (to == n.id) (fin.get n.sessions t) refl refl
+  moves (CollectReply to t v) = reply_move to t v (to == n.id) (fin.get n.sessions t) refl refl
+  moves b = tt
+
+module _ (w : WorldState) (e : Event) (q : ℕ) (n : NodeState) (at : fin.get w.nodes q ≡ Some n) (linked : IsLinked w) (from : ℕ) where
+  -- the message, as its parts are known
+  named : (b : Body) (f : ℕ → Body) (sender : ℕ) → b ≡ f n.id → sender ≡ from → Among (message_from from b) w.sent → Among (message_from sender (f q)) w.sent
+  named b f sender body is sent =
+      subst (λ (x : ℕ). Among (message_from x (f q)) w.sent) (sym is)
+      (subst (λ (x : ℕ). Among (message_from from (f x)) w.sent) (linked.named q n at) (subst (λ (y : Body). Among (message_from from y) w.sent) body sent))
+
+  progress_by : (b : Body) (p : Option Progress) → IsMove n from b p → Among (message_from from b) w.sent → IsProgress w q n (heard n from b) p
+  progress_by b None k sent = tt
+  progress_by b (Some p) (inl k) sent =
+      inl (record {
+        session = k.session;
+        view = k.back.view;
+        was = k.was;
+        held = ap view_in k.stores;
+        sent = named b (λ x. StoreAck x p.tag) p.sender k.body k.sender sent;
+        makes =
+            subst (λ (a : Advance). AckMakes k.session (advanced_by p.sender a k.session) p.sender) (sym k.advance)
+            (ack_makes (is_reached (count_sender k.back.phase from)) k.session k.back p.sender k.stores);
+      })
+  progress_by b (Some p) (inr k) sent =
+      inr (record {
+        session = k.session;
+        view = k.view;
+        was = k.was;
+        held = ap view_in k.none;
+        sent = named b (λ x. CollectReply x p.tag k.view) p.sender k.body k.sender sent;
+        makes =
+            subst (λ (a : Advance). ReplyMakes k.session (advanced_by p.sender a k.session) p.sender (view_after n b)) (sym k.advance)
+            (reply_makes (is_reached (count_sender k.phase from)) k.session k.phase p.sender (beta_threshold n) (merge n.view k.view) (view_after n b) k.none k.query k.learned);
+        stays = λ place. ap (end_at place) k.advance ∙ reply_stays (is_reached (count_sender k.phase from)) (beta_threshold n) (merge n.view k.view) place;
+        learns = subst (λ (v : ViewMap). IsBelow k.view v) k.learned (merge_above n.view k.view);
+      })
+
+  pub progress_is : (b : Body) → Among (message_from from b) w.sent → IsProgress w q n (heard n from b) (progress_of n from b)
+  progress_is b sent = progress_by b (progress_of n from b) (moves n from b) sent
+
+  -- what a collect stores back is sent, and is what its record has
+  turned_sent : (p : Progress) (a : Advance) (r : Outcome) → r.progress ≡ Some p → r.begun ≡ None → p.advance ≡ a → Each (IsBodySent w (after w e q r) q) (store_of p.tag a)
+  turned_sent p advance.Counted r moves begins is = tt
+  turned_sent p advance.Ended r moves begins is = tt
+  turned_sent p (advance.Turned next v) r moves begins is = (
+    (λ o in' nq tt'.
+        let all : Among o (map (advanced q (clock w) (Some p)) w.ops) =
+        elim (among-append o (map (advanced q (clock w) r.progress) w.ops) (op_begun q (clock w) r.begun) in') [
+          | inl h ↦ subst (λ (x : Option Progress). Among o (map (advanced q (clock w) x) w.ops)) moves h
+          | inr h ↦ absurd (subst (λ (x : Option Begun). Among o (op_begun q (clock w) x)) begins h)
+        ]
+        in let k = among-map (advanced q (clock w) (Some p)) o w.ops all in
+        advance_op q (clock w) p k.0 (λ (y : Op). o ≡ y → stored o.session ≡ Some v)
+        (λ a b e. ap (λ (y : Op). stored y.session) e ∙ ap (λ (x : Advance). stored (advanced_by p.sender x k.0.session)) is)
+        (λ other e. absurd (other (sym (ap (λ (y : Op). y.node) e) ∙ nq) (sym (ap (λ (y : Op). y.tag) e) ∙ tt')))
+        k.2),
+    tt,
+  )
+
+  back_sent : (p : Option Progress) (r : Outcome) → r.progress ≡ p → r.begun ≡ None → Each (IsBodySent w (after w e q r) q) (store_back p)
+  back_sent None r moves begins = tt
+  back_sent (Some p) r moves begins = turned_sent p p.advance r moves begins refl
+
+  answers_sent : (b : Body) → Among (message_from from b) w.sent → Each (IsBodySent w (after w e q (heard n from b)) q) (answers n from b)
+  answers_sent Enter sent = (tt, tt)
+  answers_sent (EnterEcho to j f v) sent = each_if (IsBodySent w (after w e q (heard n from (EnterEcho to j f v))) q) (joins n from (EnterEcho to j f v)) (Join ∷ []) (tt, tt)
+  answers_sent Join sent = (tt, tt)
+  answers_sent Leave sent = (tt, tt)
+  answers_sent (Store t v) sent =
+      let r : Outcome = heard n from (Store t v) in
+      each_if (IsBodySent w (after w e q r) q) n.joined (StoreAck from t ∷ StoreEcho (merge n.view v) ∷ [])
+      ((v, sent, subst (λ (y : ViewMap). IsBelow v y) (sym (view_next w e q n r at linked (heard_moves n from (Store t v)))) (merge_above n.view v)), (tt, tt))
+  answers_sent (CollectQuery t) sent =
+      each_if (IsBodySent w (after w e q (heard n from (CollectQuery t))) q) n.joined (CollectReply from t n.view ∷ [])
+      ((sent, subst (λ (y : ViewMap). IsBelow y n.view) (sym (ap view_of at)) (below_refl n.view)), tt)
+  answers_sent (CollectReply to t v) sent = back_sent (progress_of n from (CollectReply to t v)) (heard n from (CollectReply to t v)) refl refl
+  answers_sent b sent = tt
+
+  back_known : (p : Option Progress) (r r' : Outcome) → IsTransition n r → IsProgress w q n r' p → Each (IsBodyKnown (after w e q r) q) (store_back p)
+  back_known None r r' x k = tt
+  back_known (Some p) r r' x k = go p.advance
+    where
+      known_tag : (node tag : ℕ) → (q ≡ node) × (p.tag ≡ tag) → (m : NodeState) × (fin.get w.nodes node ≡ Some m) × (tag < m.operations)
+      known_tag node tag about =
+          elim k [
+            | inl a ↦ linked.known (message_from p.sender (StoreAck q p.tag)) a.sent node tag about
+            | inr a ↦ linked.known (message_from p.sender (CollectReply q p.tag a.view)) a.sent node tag about
+          ]
+
+      go : (a : Advance) → Each (IsBodyKnown (after w e q r) q) (store_of p.tag a)
+      go advance.Counted = tt
+      go advance.Ended = tt
+      go (advance.Turned next v) = ((λ node tag about. let h = known_tag node tag about in known_next w e q n r at linked x node tag h.0 h.1 h.2), tt)
+
+  answers_known : (b : Body) → Among (message_from from b) w.sent → Each (IsBodyKnown (after w e q (heard n from b)) q) (answers n from b)
+  answers_known Enter sent = ((λ p t about. absurd about), tt)
+  answers_known (EnterEcho to j f v) sent = each_if (IsBodyKnown (after w e q (heard n from (EnterEcho to j f v))) q) (joins n from (EnterEcho to j f v)) (Join ∷ []) ((λ p t about. absurd about), tt)
+  answers_known Join sent = ((λ p t about. absurd about), tt)
+  answers_known Leave sent = ((λ p t about. absurd about), tt)
+  answers_known (Store t v) sent =
+      let r : Outcome = heard n from (Store t v) in
+      each_if (IsBodyKnown (after w e q r) q) n.joined (StoreAck from t ∷ StoreEcho (merge n.view v) ∷ [])
+      ((λ node tag about. let h = linked.known (message_from from (Store t v)) sent node tag about in known_next w e q n r at linked (heard_moves n from (Store t v)) node tag h.0 h.1 h.2), ((λ p t about. absurd about), tt))
+  answers_known (CollectQuery t) sent =
+      let r : Outcome = heard n from (CollectQuery t) in
+      each_if (IsBodyKnown (after w e q r) q) n.joined (CollectReply from t n.view ∷ [])
+      ((λ node tag about. let h = linked.known (message_from from (CollectQuery t)) sent node tag about in known_next w e q n r at linked (heard_moves n from (CollectQuery t)) node tag h.0 h.1 h.2), tt)
+  answers_known (CollectReply to t v) sent =
+      back_known (progress_of n from (CollectReply to t v)) (heard n from (CollectReply to t v)) (heard n from (CollectReply to t v))
+      (heard_moves n from (CollectReply to t v)) (progress_is (CollectReply to t v) sent)
+  answers_known b sent = tt
+
+  -- a node sends in its own name
+  pub sends : (bodies : List Body) → map (message_from n.id) bodies ≡ map (message_from q) bodies
+  sends bodies = ap (λ (i : ℕ). map (message_from i) bodies) (linked.named q n at)
+
+  pub delivery_change : (b : Body) → Among (message_from from b) w.sent → IsChange w (after w e q (heard n from b))
+  delivery_change b sent =
+      is_change w e q n (heard n from b) at linked (heard_moves n from b) (progress_is b sent) tt (answers n from b) (sends (answers n from b)) (answers_sent b sent)
+
+  pub delivery_linked : (b : Body) → Among (message_from from b) w.sent → IsLinked (after w e q (heard n from b))
+  delivery_linked b sent =
+      is_linked w e q n (heard n from b) at linked (heard_moves n from b) (progress_is b sent) (answers n from b) (sends (answers n from b)) (answers_known b sent)
+
+other_tag : (m : fin.FinMap nat_cmp Session) (k : ℕ) (s : Session) (t : ℕ) (b : Bool) → (t == k) ≡ b → t < k → cond b (Some s) (fin.get m t) ≡ fin.get m t
+other_tag m k s t true is lt = let e : t ≡ k = eqb-true t k is in absurd (omega arith)
+other_tag m k s t false is lt = refl
+
+-- a session that is opened leaves the others
+opened_sessions : (m : fin.FinMap nat_cmp Session) (k : ℕ) (s : Session) (t : ℕ) → t < k → fin.get (fin.insert m k s) t ≡ fin.get m t
+opened_sessions m k s t lt = get-insert m k s t ∙ other_tag m k s t (t == k) refl lt
+
+pub store_moves : (n : NodeState) (value : List ℕ) → IsTransition n (store_outcome n value)
+store_moves n value = record {
+  id = refl;
+  grows = below_put n.view n.id (next_stored n value);
+  more = omega arith;
+  sessions = λ t lt. opened_sessions n.sessions n.operations (store_session n value) t lt;
+  begun = (refl, get-insert_same n.sessions n.operations (store_session n value), omega arith);
+}
+
+pub collect_moves : (n : NodeState) → IsTransition n (collect_outcome n)
+collect_moves n = record {
+  id = refl;
+  grows = below_refl n.view;
+  more = omega arith;
+  sessions = λ t lt. opened_sessions n.sessions n.operations (collect_session n) t lt;
+  begun = (refl, get-insert_same n.sessions n.operations (collect_session n), omega arith);
+}
+
+pub left_moves : (n : NodeState) → IsTransition n (left_outcome n)
+left_moves n = record { id = refl; grows = below_refl n.view; more = omega arith; sessions = λ t lt. refl; begun = tt }
+
+module _ (w : WorldState) (e : Event) (q : ℕ) (n : NodeState) (at : fin.get w.nodes q ≡ Some n) (linked : IsLinked w) where
+  pub map_none : (o : Op) → Among o (map (advanced q (clock w) None) w.ops) → Among o w.ops
+  map_none o in' = let k = among-map (advanced q (clock w) None) o w.ops in' in subst (λ (y : Op). Among y w.ops) (sym k.2) k.1
+
+  pub own_name : (b : Body) → message_from n.id b ∷ [] ≡ map (message_from q) (b ∷ [])
+  own_name b = ap (λ (i : ℕ). message_from i b ∷ []) (linked.named q n at)
+
+  -- the store message has the view of its operation
+  store_sent : (value : List ℕ) → (o : Op) → Among o (after w e q (store_outcome n value)).ops → o.node ≡ q → o.tag ≡ n.operations → stored o.session ≡ Some (stored_view n value)
+  store_sent value o in' nq tt' =
+      elim (among-append o (map (advanced q (clock w) None) w.ops) (op_begun q (clock w) (store_outcome n value).begun) in') [
+        | inl h ↦
+            let k = linked.owned o (map_none o h) in
+            let same : k.node ≡ n = (let e : Some k.node ≡ Some n = sym k.at ∙ ap (fin.get w.nodes) nq ∙ at in cc) in
+            absurd (omega (arith, k.tag, ap (λ (y : NodeState). y.operations) same))
+        | inr (inl e) ↦ ap (λ (y : Op). stored y.session) e
+        | inr (inr none) ↦ absurd none
+      ]
+
+  pub store_number : (value : List ℕ) (s : Stored) → kind.Store (next_stored n value) ≡ kind.Store s → (v : ViewMap) × (Some (stored_view n value) ≡ Some v) × (s.number ≤ number_at v q)
+  store_number value s is =
+      let entry : next_stored n value ≡ s = cc in
+      let name : n.id ≡ q = linked.named q n at in
+      (stored_view n value, refl, omega (arith, ap (λ (x : Stored). x.number) entry, put_has n.view n.id (next_stored n value), ap (number_at (stored_view n value)) name))
+
+  pub store_change : (value : List ℕ) → IsChange w (after w e q (store_outcome n value))
+  store_change value =
+      is_change w e q n (store_outcome n value) at linked (store_moves n value) tt (record { replied = refl; acked = refl; number = store_number value })
+      (Store n.operations (stored_view n value) ∷ []) (own_name (Store n.operations (stored_view n value))) (store_sent value, tt)
+
+  begun_known : (r : Outcome) (node tag : ℕ) → n.operations < r.node.operations → (q ≡ node) × (n.operations ≡ tag) → (m : NodeState) × (fin.get (after w e q r).nodes node ≡ Some m) × (tag < m.operations)
+  begun_known r node tag lt about = (r.node, ap (fin.get (fin.insert w.nodes q r.node)) (sym about.0) ∙ get-insert_same w.nodes q r.node, omega (arith, about.1, lt))
+
+  pub store_linked : (value : List ℕ) → IsLinked (after w e q (store_outcome n value))
+  store_linked value =
+      is_linked w e q n (store_outcome n value) at linked (store_moves n value) tt (Store n.operations (stored_view n value) ∷ []) (own_name (Store n.operations (stored_view n value)))
+      ((λ p t about. begun_known (store_outcome n value) p t (omega arith) about), tt)
+
+  pub collect_change : IsChange w (after w e q (collect_outcome n))
+  collect_change =
+      is_change w e q n (collect_outcome n) at linked (collect_moves n) tt (record { replied = refl; acked = refl; number = λ e is. absurd (cc) })
+      (CollectQuery n.operations ∷ []) (own_name (CollectQuery n.operations)) (tt, tt)
+
+  pub collect_linked : IsLinked (after w e q (collect_outcome n))
+  collect_linked =
+      is_linked w e q n (collect_outcome n) at linked (collect_moves n) tt (CollectQuery n.operations ∷ []) (own_name (CollectQuery n.operations))
+      ((λ p t about. begun_known (collect_outcome n) p t (omega arith) about), tt)
+
+  pub left_change : IsChange w (after w e q (left_outcome n))
+  left_change = is_change w e q n (left_outcome n) at linked (left_moves n) tt tt (Leave ∷ []) (own_name Leave) (tt, tt)
+
+  pub left_linked : IsLinked (after w e q (left_outcome n))
+  left_linked = is_linked w e q n (left_outcome n) at linked (left_moves n) tt (Leave ∷ []) (own_name Leave) ((λ p t about. absurd about), tt)
+
+module _ (w : WorldState) (e : Event) (q : ℕ) (linked : IsLinked w) where
+  pub kept_op : (o : Op) → Among o (map (advanced q (clock w) None) w.ops ++ []) → Among o w.ops
+  kept_op o in' =
+      elim (among-append o (map (advanced q (clock w) None) w.ops) [] in') [
+        | inl h ↦ let k = among-map (advanced q (clock w) None) o w.ops h in subst (λ (y : Op). Among y w.ops) (sym k.2) k.1
+        | inr none ↦ absurd none
+      ]
+
+  module _ (c : Config) (absent : fin.get w.nodes q ≡ None) where
+    abbrev entry_world : WorldState
+    entry_world = after w e q (entered_outcome c q)
+
+    at_entry : (A : Option NodeState → Type 0) (id : ℕ) (b : Bool) → (id == q) ≡ b → (id ≡ q → A (Some (entering c q))) → ((id ≡ q → ⊥) → A (fin.get w.nodes id)) → A (cond b (Some (entering c q)) (fin.get w.nodes id))
+    at_entry A id true is here there = here (eqb-true id q is)
+    at_entry A id false is here there = there (λ e. let k : (id == q) ≡ true = eq-eqb id q e in absurd (cc))
+
+    pub entry_at : (A : Option NodeState → Type 0) (id : ℕ) → (id ≡ q → A (Some (entering c q))) → ((id ≡ q → ⊥) → A (fin.get w.nodes id)) → A (fin.get entry_world.nodes id)
+    entry_at A id here there = subst A (sym (get-insert w.nodes q (entering c q) id)) (at_entry A id (id == q) refl here there)
+
+    enter_grows : (id : ℕ) → IsBelow (view_at w id) (view_at entry_world id)
+    enter_grows id =
+        entry_at (λ (o : Option NodeState). IsBelow (view_at w id) (view_of o)) id
+        (λ here. subst (λ (v : ViewMap). IsBelow v fin.empty) (sym (ap view_of (ap (fin.get w.nodes) here ∙ absent))) (below_refl fin.empty))
+        (λ there. below_refl _)
+
+    enter_sent : (m : Message) → Among m entry_world.sent → Among m w.sent ⊎ IsSent w entry_world m
+    enter_sent m in' = elim (among-append m w.sent (message_from q Enter ∷ []) in') [
+      | inl h ↦ inl h
+      | inr (inl e) ↦ inr (subst (IsSent w entry_world) (sym e) tt)
+      | inr (inr none) ↦ absurd none
+    ]
+
+    pub enter_change : IsChange w entry_world
+    enter_change = record { clock = length-more w.events e; grows = enter_grows; ops = λ o in'. Kept (kept_op o in'); sent = enter_sent }
+
+    kept_node : (p : ℕ) (n : NodeState) → fin.get w.nodes p ≡ Some n → fin.get entry_world.nodes p ≡ Some n
+    kept_node p n is = entry_at (λ (o : Option NodeState). o ≡ Some n) p (λ here. let k : None ≡ Some n = sym absent ∙ ap (fin.get w.nodes) (sym here) ∙ is in absurd (cc)) (λ _. is)
+
+    pub enter_linked : IsLinked entry_world
+    enter_linked = record {
+      named = λ id n is. entry_at (λ (o : Option NodeState). o ≡ Some n → n.id ≡ id) id
+          (λ here e. let same : entering c q ≡ n = cc in sym (ap (λ (y : NodeState). y.id) same) ∙ sym here)
+          (λ there e. linked.named id n e) is;
+      owned = λ o in'. let h = linked.owned o (kept_op o in') in record { node = h.node; at = kept_node o.node h.node h.at; tag = h.tag; session = h.session };
+      known = λ m in' p t about. elim (among-append m w.sent (message_from q Enter ∷ []) in') [
+        | inl h ↦ let k = linked.known m h p t about in (k.0, kept_node p k.0 k.1, k.2)
+        | inr (inl e) ↦ absurd (subst (λ (y : Message). IsAbout y p t) e about)
+        | inr (inr none) ↦ absurd none
+      ];
+    }

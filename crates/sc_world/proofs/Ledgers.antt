@@ -1,0 +1,217 @@
+-- Every event keeps the records true, and one for each operation.
+use Rattle.std.proofs.Common.{◌≡◌, ℕ, zero, suc, ◌+◌, ◌<◌, List, [], ◌∷◌, ◌++◌, length, map, Option, Some, None, refl, sym, ap, ◌∙◌, subst, arith, ◌⊎◌, inl, inr, slice_get, Ok}
+use Rattle.std.specs.FinMap as fin
+use Rattle.std.specs.FinSet as set
+use Rattle.sc_msg.specs.declared.message.Message.{Message}
+use Rattle.sc_node.specs.declared.answer.Progress.{Progress}
+use Rattle.sc_node.specs.declared.answer.Begun.{Begun as Beginning}
+use Rattle.sc_node.specs.Sessions.{new_phase}
+use Rattle.sc_node.specs.State.{NodeState}
+use Rattle.sc_node.specs.Nodes.{progress_of, beta_threshold, next_stored, stored_view, store_session, collect_session}
+use Rattle.sc_world.specs.declared.event.Event.{Event}
+use Rattle.sc_world.specs.declared.event.Event.TheVariants as event
+use Rattle.sc_world.specs.declared.event.Stepped.{Stepped}
+use Rattle.sc_world.specs.declared.op.Op.{Op}
+use Rattle.sc_world.specs.State.{WorldState}
+use Rattle.sc_world.specs.Worlds.{clock, Outcome, advanced, op_begun, after, live_at, crashes, enters, leaves, stores, collects, delivers, stepped, IsHistory}
+use Rattle.sc_world.specs.Records.{Among, IsAck, IsReply, Stores, Queries, IsRecord, AreDistinct, AreRecords}
+use Rattle.sc_world.proofs.Changes.{IsSound}
+use Rattle.sc_world.proofs.Links.{IsLinked, IsMove}
+use Rattle.sc_world.proofs.Steps.{among-append, among-map, advance_op}
+use Rattle.sc_world.proofs.Handlers.{heard, store_outcome, collect_outcome, left_outcome, entered_outcome, heard_moves, moves}
+use Rattle.sc_world.proofs.Telling.{same_start}
+use Rattle.sc_world.proofs.Inverts.{same_answer, no_refusal, live_is, acts-ok, stores-ok, collects-ok, leaves-ok, delivers-ok}
+use Rattle.sc_world.proofs.Runs.{among_get}
+use Rattle.sc_world.proofs.Histories.{IsNext, step_next, was_now}
+use Rattle.sc_world.proofs.Recording.{record_kept, new_measured, new_open, event_new}
+use Rattle.sc_world.proofs.Counting.{moved_record}
+
+get_append : {X : Type 0} (xs ys : List X) (i : ℕ) (a : X) → slice_get (xs ++ ys) i ≡ Some a → (slice_get xs i ≡ Some a) ⊎ ((j : ℕ) × (i ≡ length xs + j) × (slice_get ys j ≡ Some a))
+get_append [] ys i a h = inr (i, omega arith, h)
+get_append (x ∷ xs) ys zero a h = inl h
+get_append (x ∷ xs) ys (suc i) a h = elim (get_append xs ys i a h) [ inl k ↦ inl k | inr k ↦ inr (k.0, omega (arith, k.1), k.2) ]
+
+get_map : {X Y : Type 0} (f : X → Y) (xs : List X) (i : ℕ) (a : Y) → slice_get (map f xs) i ≡ Some a → (x : X) × (slice_get xs i ≡ Some x) × (a ≡ f x)
+get_map f [] i a h = absurd (cc)
+get_map f (x ∷ xs) zero a h = (x, refl, (let e : f x ≡ a = cc in sym e))
+get_map f (x ∷ xs) (suc i) a h = get_map f xs i a h
+
+begun_tag : (b y : Beginning) → Some b ≡ Some y → b.tag ≡ y.tag
+begun_tag b y is = let same : b ≡ y = cc in ap (λ (z : Beginning). z.tag) same
+
+-- a list of records, some of them moved, and at most one new
+module _ (q place : ℕ) (p : Option Progress) (ops : List Op) (b : Option Beginning) (distinct : AreDistinct ops)
+    (fresh : (y : Beginning) → b ≡ Some y → (o : Op) → Among o ops → o.node ≡ q → o.tag ≡ y.tag → ⊥) where
+  -- where a record comes from
+  data From (i : ℕ) (a : Op) : Type 0 where
+    Old : (o : Op) → slice_get ops i ≡ Some o → a.node ≡ o.node → a.tag ≡ o.tag → From i a
+    New : (y : Beginning) → b ≡ Some y → i ≡ length (map (advanced q place p) ops) → a.node ≡ q → a.tag ≡ y.tag → From i a
+
+  begun_from : (i j : ℕ) (a : Op) (y : Option Beginning) → b ≡ y → i ≡ length (map (advanced q place p) ops) + j → slice_get (op_begun q place y) j ≡ Some a → From i a
+  begun_from i j a None is at h = absurd (cc)
+  begun_from i zero a (Some y) is at h =
+      let e : (let o : Op = record { node = q; tag = y.tag; begin = place; end = None; session = y.session } in o) ≡ a = cc in
+      New y is (omega (arith, at)) (ap (λ (o : Op). o.node) (sym e)) (ap (λ (o : Op). o.tag) (sym e))
+  begun_from i (suc j) a (Some y) is at h = absurd (cc)
+
+  from : (i : ℕ) (a : Op) → slice_get (map (advanced q place p) ops ++ op_begun q place b) i ≡ Some a → From i a
+  from i a h =
+      elim (get_append (map (advanced q place p) ops) (op_begun q place b) i a h) [
+        | inl old ↦ let k = get_map (advanced q place p) ops i a old in let s = same_start q place p k.0 in Old k.0 k.1 (ap (λ (o : Op). o.node) k.2 ∙ s.node) (ap (λ (o : Op). o.tag) k.2 ∙ s.tag)
+        | inr new ↦ begun_from i new.0 a b refl new.1 new.2
+      ]
+
+  one_place : (i k : ℕ) (a c : Op) → From i a → From k c → a.node ≡ c.node → a.tag ≡ c.tag → i ≡ k
+  one_place i k a c (Old x at nx tx) (Old y at' ny ty) node tag = distinct i k x y at at' (sym nx ∙ node ∙ ny) (sym tx ∙ tag ∙ ty)
+  one_place i k a c (Old x at nx tx) (New y is here ny ty) node tag = absurd (fresh y is x (among_get ops i x at) (sym nx ∙ node ∙ ny) (sym tx ∙ tag ∙ ty))
+  one_place i k a c (New y is here ny ty) (Old x at nx tx) node tag = absurd (fresh y is x (among_get ops k x at) (sym nx ∙ sym node ∙ ny) (sym tx ∙ sym tag ∙ ty))
+  one_place i k a c (New y is here ny ty) (New z is' there nz tz) node tag = here ∙ sym there
+
+  pub distinct_next : AreDistinct (map (advanced q place p) ops ++ op_begun q place b)
+  distinct_next i k a c ha hc node tag = one_place i k a c (from i a ha) (from k c hc) node tag
+
+module _ (w : WorldState) (history : IsHistory w) (linked : IsLinked w) (sound : IsSound w) (records : AreRecords w) where
+  module _ (e : Event) (w' : WorldState) (k : IsNext w e w') where
+    kept : (o : Op) → Among o w.ops → IsRecord w' o
+    kept o in' = record_kept w e w' k o (sound.began o in') (records.each o in')
+
+    -- an event that begins nothing, and moves nothing
+    pub quiet_records : w'.ops ≡ w.ops → AreRecords w'
+    quiet_records same = record { distinct = subst AreDistinct (sym same) records.distinct; each = λ o in'. kept o (subst (Among o) same in') }
+
+  module _ (e : Event) (q : ℕ) (r : Outcome) (k : IsNext w e (after w e q r)) (moves_none : r.progress ≡ None) where
+    abbrev next : WorldState
+    next = after w e q r
+
+    old_records : (o : Op) → Among o (map (advanced q (clock w) r.progress) w.ops) → IsRecord next o
+    old_records o in' =
+        let h = among-map (advanced q (clock w) r.progress) o w.ops in' in
+        let same : advanced q (clock w) r.progress h.0 ≡ h.0 = ap (λ (p : Option Progress). advanced q (clock w) p h.0) moves_none in
+        subst (IsRecord next) (sym (h.2 ∙ same)) (kept e next k h.0 h.1)
+
+    -- an operation may begin
+    pub begun_records : ((y : Beginning) → r.begun ≡ Some y → (o : Op) → Among o w.ops → o.node ≡ q → o.tag ≡ y.tag → ⊥)
+        → ((o : Op) → Among o (op_begun q (clock w) r.begun) → IsRecord next o) → AreRecords next
+    begun_records fresh new = record {
+      distinct = distinct_next q (clock w) r.progress w.ops r.begun records.distinct fresh;
+      each = λ o in'. elim (among-append o (map (advanced q (clock w) r.progress) w.ops) (op_begun q (clock w) r.begun) in') [
+        | inl old ↦ old_records o old
+        | inr new_op ↦ new o new_op
+      ];
+    }
+
+  -- tags of a node's operations are below its count
+  tag_below : (q : ℕ) (n : NodeState) → fin.get w.nodes q ≡ Some n → (o : Op) → Among o w.ops → o.node ≡ q → o.tag < n.operations
+  tag_below q n at o in' nq =
+      let h = linked.owned o in' in
+      let same : h.node ≡ n = (let e : Some h.node ≡ Some n = sym h.at ∙ ap (fin.get w.nodes) nq ∙ at in cc) in
+      omega (arith, h.tag, ap (λ (y : NodeState). y.operations) same)
+
+  pub store_records : (q : ℕ) (value : List ℕ) (n : NodeState) → fin.get w.nodes q ≡ Some n → IsNext w (event.Store q value) (after w (event.Store q value) q (store_outcome n value)) → AreRecords (after w (event.Store q value) q (store_outcome n value))
+  store_records q value n at k =
+      begun_records (event.Store q value) q (store_outcome n value) k refl
+      (λ y is o in' nq tq. let tag : n.operations ≡ y.tag = begun_tag _ y is in absurd (omega (arith, tag_below q n at o in' nq, tq, tag)))
+      new_store
+    where
+      new_store : (o : Op) → Among o (op_begun q (clock w) (store_outcome n value).begun) → IsRecord (after w (event.Store q value) q (store_outcome n value)) o
+      new_store o (inr none) = absurd none
+      new_store o (inl is) =
+          let w' : WorldState = after w (event.Store q value) q (store_outcome n value) in
+          let made : Op = record { node = q; tag = n.operations; begin = clock w; end = None; session = store_session n value } in
+          subst (IsRecord w') (sym is) (record {
+            began = event_new w (event.Store q value) w' k;
+            runs =
+                Stores (next_stored n value) (record { view = stored_view n value; phase = new_phase (beta_threshold n) }) refl refl refl
+                (record { measured = new_measured w (event.Store q value) w' k q n (was_now w history) at; until = new_open w' (IsAck made) q (clock w) n });
+          })
+
+  pub collect_records : (q : ℕ) (n : NodeState) → fin.get w.nodes q ≡ Some n → IsNext w (event.Collect q) (after w (event.Collect q) q (collect_outcome n)) → AreRecords (after w (event.Collect q) q (collect_outcome n))
+  collect_records q n at k =
+      begun_records (event.Collect q) q (collect_outcome n) k refl
+      (λ y is o in' nq tq. let tag : n.operations ≡ y.tag = begun_tag _ y is in absurd (omega (arith, tag_below q n at o in' nq, tq, tag)))
+      new_collect
+    where
+      new_collect : (o : Op) → Among o (op_begun q (clock w) (collect_outcome n).begun) → IsRecord (after w (event.Collect q) q (collect_outcome n)) o
+      new_collect o (inr none) = absurd none
+      new_collect o (inl is) =
+          let w' : WorldState = after w (event.Collect q) q (collect_outcome n) in
+          let made : Op = record { node = q; tag = n.operations; begin = clock w; end = None; session = collect_session n } in
+          subst (IsRecord w') (sym is) (record {
+            began = event_new w (event.Collect q) w' k;
+            runs =
+                Queries (new_phase (beta_threshold n)) refl refl refl refl
+                (record { measured = new_measured w (event.Collect q) w' k q n (was_now w history) at; until = new_open w' (IsReply made) q (clock w) n });
+          })
+
+  module _ (number q : ℕ) (n : NodeState) (m : Message) (at : fin.get w.nodes q ≡ Some n) (sent : slice_get w.sent number ≡ Some m)
+      (k : IsNext w (event.Deliver number q) (after w (event.Deliver number q) q (heard n m.from m.body))) where
+    abbrev heard_world : WorldState
+    heard_world = after w (event.Deliver number q) q (heard n m.from m.body)
+
+    advanced_record : (p : Option Progress) → IsMove n m.from m.body p → (o : Op) → Among o w.ops → IsRecord heard_world (advanced q (clock w) p o)
+    advanced_record None x o in' = kept (event.Deliver number q) heard_world k o in'
+    advanced_record (Some p) x o in' =
+        advance_op q (clock w) p o (IsRecord heard_world)
+        (λ nq tq. moved_record w number q heard_world k history n at linked m sent o (sound.began o in') (records.each o in') nq (heard n m.from m.body) (heard_moves n m.from m.body) in' p tq x)
+        (λ _. kept (event.Deliver number q) heard_world k o in')
+
+    pub deliver_records : AreRecords heard_world
+    deliver_records = record {
+      distinct = distinct_next q (clock w) (progress_of n m.from m.body) w.ops None records.distinct (λ y is. absurd (cc));
+      each = λ o in'. elim (among-append o (map (advanced q (clock w) (progress_of n m.from m.body)) w.ops) [] in') [
+        | inl old ↦
+            let h = among-map (advanced q (clock w) (progress_of n m.from m.body)) o w.ops old in
+            subst (IsRecord heard_world) (sym h.2) (advanced_record (progress_of n m.from m.body) (moves n m.from m.body) h.0 h.1)
+        | inr none ↦ absurd none
+      ];
+    }
+
+  left_records : (q : ℕ) (n : NodeState) → IsNext w (event.Leave q) (after w (event.Leave q) q (left_outcome n)) → AreRecords (after w (event.Leave q) q (left_outcome n))
+  left_records q n k = begun_records (event.Leave q) q (left_outcome n) k refl (λ y is. absurd (cc)) (λ o in'. absurd in')
+
+  entered_records : (q : ℕ) → IsNext w (event.Enter q) (after w (event.Enter q) q (entered_outcome w.config q)) → AreRecords (after w (event.Enter q) q (entered_outcome w.config q))
+  entered_records q k = begun_records (event.Enter q) q (entered_outcome w.config q) k refl (λ y is. absurd (cc)) (λ o in'. absurd in')
+
+  at_live : (q : ℕ) (n : NodeState) → live_at w q ≡ Some n → fin.get w.nodes q ≡ Some n
+  at_live q n h = live_is (set.contains w.crashed q) (fin.get w.nodes q) n h
+
+  -- after an outcome that is known
+  by_outcome : (e : Event) (q : ℕ) (x y : Outcome) (w' : WorldState) → x ≡ y → after w e q y ≡ w' → (IsNext w e (after w e q x) → AreRecords (after w e q x)) → IsNext w e w' → AreRecords w'
+  by_outcome e q x y w' same is f k =
+      let h : after w e q x ≡ w' = ap (after w e q) same ∙ is in
+      subst AreRecords h (f (subst (IsNext w e) (sym h) k))
+
+  delivered_any : (number q : ℕ) (n : NodeState) (m : Option Message) (x : Outcome) (w' : WorldState) → fin.get w.nodes q ≡ Some n → slice_get w.sent number ≡ m → delivers m n ≡ Ok x
+      → after w (event.Deliver number q) q x ≡ w' → IsNext w (event.Deliver number q) w' → AreRecords w'
+  delivered_any number q n None x w' at sent h is k = absurd (no_refusal _ x h)
+  delivered_any number q n (Some m) x w' at sent h is k =
+      by_outcome (event.Deliver number q) q (heard n m.from m.body) x w' (delivers-ok m n x h) is (deliver_records number q n m at sent) k
+
+  crashed_any : (q : ℕ) (o : Option NodeState) (a : Stepped) (w' : WorldState) → crashes w q o ≡ Ok (a, w') → IsNext w (event.Crash q) w' → AreRecords w'
+  crashed_any q None a w' h k = absurd (no_refusal _ (a, w') h)
+  crashed_any q (Some n) a w' h k = quiet_records (event.Crash q) w' k (ap (λ (z : Stepped × WorldState). z.1.ops) (sym (same_answer _ (a, w') h)))
+
+  entered_any : (q : ℕ) (o : Option NodeState) (a : Stepped) (w' : WorldState) → enters w q o ≡ Ok (a, w') → IsNext w (event.Enter q) w' → AreRecords w'
+  entered_any q (Some n) a w' h k = absurd (no_refusal _ (a, w') h)
+  entered_any q None a w' h k =
+      by_outcome (event.Enter q) q (entered_outcome w.config q) (entered_outcome w.config q) w' refl (ap (λ (z : Stepped × WorldState). z.1) (same_answer _ (a, w') h)) (entered_records q) k
+
+  step_by : (e : Event) (a : Stepped) (w' : WorldState) → stepped w e ≡ Ok (a, w') → IsNext w e w' → AreRecords w'
+  step_by (event.Enter q) a w' h k = entered_any q (fin.get w.nodes q) a w' h k
+  step_by (event.Leave q) a w' h k =
+      let t = acts-ok w (event.Leave q) q (live_at w q) leaves a w' h in
+      by_outcome (event.Leave q) q (left_outcome t.node) t.outcome w' (leaves-ok t.node t.outcome t.gives) t.is (left_records q t.node) k
+  step_by (event.Crash q) a w' h k = crashed_any q (live_at w q) a w' h k
+  step_by (event.Store q value) a w' h k =
+      let t = acts-ok w (event.Store q value) q (live_at w q) (stores value) a w' h in
+      by_outcome (event.Store q value) q (store_outcome t.node value) t.outcome w' (stores-ok value t.node t.outcome t.gives) t.is (store_records q value t.node (at_live q t.node t.at)) k
+  step_by (event.Collect q) a w' h k =
+      let t = acts-ok w (event.Collect q) q (live_at w q) collects a w' h in
+      by_outcome (event.Collect q) q (collect_outcome t.node) t.outcome w' (collects-ok t.node t.outcome t.gives) t.is (collect_records q t.node (at_live q t.node t.at)) k
+  step_by (event.Deliver number q) a w' h k =
+      let t = acts-ok w (event.Deliver number q) q (live_at w q) (delivers (slice_get w.sent number)) a w' h in
+      delivered_any number q t.node (slice_get w.sent number) t.outcome w' (at_live q t.node t.at) refl t.gives t.is k
+  step_by event.Other a w' h k = quiet_records event.Other w' k (ap (λ (z : Stepped × WorldState). z.1.ops) (sym (same_answer _ (a, w') h)))
+
+  pub step_records : (e : Event) (a : Stepped) (w' : WorldState) → stepped w e ≡ Ok (a, w') → AreRecords w'
+  step_records e a w' h = step_by e a w' h (step_next w e a w' h)

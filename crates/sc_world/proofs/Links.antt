@@ -1,0 +1,139 @@
+-- How the records of operations follow the nodes' own state.
+use Rattle.std.proofs.Common.{◌≡◌, ℕ, ◌≤◌, ◌<◌, cond, ◌==◌, is_none, List, [], ◌∷◌, Option, Some, None, ◌⊎◌}
+use Rattle.std.specs.FinMap as fin
+use Rattle.std.specs.FinSet as set
+use Rattle.sc_view.specs.declared.view.Stored.{Stored}
+use Rattle.sc_view.specs.Views.{ViewMap, number_at, IsBelow, merge}
+use Rattle.sc_msg.specs.declared.message.Message.{Message}
+use Rattle.sc_msg.specs.declared.message.Body.{Body}
+use Rattle.sc_msg.specs.declared.message.Body.TheVariants.{StoreAck, CollectReply}
+use Rattle.sc_node.specs.declared.session.Kind.TheVariants as kind
+use Rattle.sc_node.specs.declared.session.Phase.{Phase}
+use Rattle.sc_node.specs.declared.session.StoreBack.{StoreBack}
+use Rattle.sc_node.specs.declared.session.Session.{Session}
+use Rattle.sc_node.specs.declared.answer.Advance.TheVariants as advance
+use Rattle.sc_node.specs.declared.answer.Progress.{Progress}
+use Rattle.sc_node.specs.declared.answer.Begun.{Begun}
+use Rattle.sc_node.specs.Sessions.{stored, repliers, ackers, apply, ends, is_reached, count_sender}
+use Rattle.sc_node.specs.State.{NodeState}
+use Rattle.sc_node.specs.Nodes.{message_from, view_after, beta_threshold}
+use Rattle.sc_world.specs.declared.op.Op.{Op}
+use Rattle.sc_world.specs.State.{WorldState}
+use Rattle.sc_world.specs.Worlds.{Outcome, end_at}
+use Rattle.sc_world.specs.Records.{Among}
+use Rattle.sc_world.proofs.Changes.{IsAbout, IsBodyAbout}
+
+-- what a node keeps of an operation: its session while it is open
+abbrev pub open_session : Op → Option Session
+open_session o = cond (is_none o.end) (Some o.session) None
+
+pub record HasOwner (w : WorldState) (o : Op) : Type 0 where
+  pub node : NodeState
+  pub at : fin.get w.nodes o.node ≡ Some node
+  pub tag : o.tag < node.operations
+  pub session : fin.get node.sessions o.tag ≡ open_session o
+
+pub record IsLinked (w : WorldState) : Type 0 where
+  pub named : (q : ℕ) (n : NodeState) → fin.get w.nodes q ≡ Some n → n.id ≡ q
+  pub owned : (o : Op) → Among o w.ops → HasOwner w o
+  pub known : (m : Message) → Among m w.sent → (p t : ℕ) → IsAbout m p t → (n : NodeState) × (fin.get w.nodes p ≡ Some n) × (t < n.operations)
+
+abbrev pub session_moved : Progress → Option Session → Option Session
+session_moved p None = None
+session_moved p (Some s) = cond (ends p.advance) None (Some (apply p s))
+
+-- a session after its node's progress
+abbrev pub session_after : Option Progress → ℕ → Option Session → Option Session
+session_after None t s = s
+session_after (Some p) t s = cond (t == p.tag) (session_moved p s) s
+
+abbrev pub IsBegunAt : NodeState → NodeState → Option Begun → Type 0
+IsBegunAt n n' None = Unit {0}
+IsBegunAt n n' (Some b) = (b.tag ≡ n.operations) × (fin.get n'.sessions b.tag ≡ Some b.session) × (b.tag < n'.operations)
+
+-- what each event keeps of a node
+pub record IsTransition (n : NodeState) (r : Outcome) : Type 0 where
+  pub id : r.node.id ≡ n.id
+  pub grows : IsBelow n.view r.node.view
+  pub more : n.operations ≤ r.node.operations
+  pub sessions : (t : ℕ) → t < n.operations → fin.get r.node.sessions t ≡ session_after r.progress t (fin.get n.sessions t)
+  pub begun : IsBegunAt n r.node r.begun
+
+-- an acknowledgement is counted
+pub record AckMakes (s s' : Session) (from : ℕ) : Type 0 where
+  pub kind : s'.kind ≡ s.kind
+  pub view : stored s' ≡ stored s
+  pub replied : repliers s' ≡ repliers s
+  pub acked : ackers s' ≡ set.insert (ackers s) from
+
+-- a reply is counted, and may begin the store-back
+pub record ReplyMakes (s s' : Session) (from : ℕ) (v : ViewMap) : Type 0 where
+  pub kind : s'.kind ≡ s.kind
+  pub replied : repliers s' ≡ set.insert (repliers s) from
+  pub view : (stored s' ≡ None) ⊎ ((stored s' ≡ Some v) × (ackers s' ≡ set.empty))
+
+-- an acknowledgement that moves an operation of the node
+pub record IsAckMove (n : NodeState) (from : ℕ) (b : Body) (p : Progress) : Type 0 where
+  pub session : Session
+  pub back : StoreBack
+  pub was : fin.get n.sessions p.tag ≡ Some session
+  pub stores : session.back ≡ Some back
+  pub body : b ≡ StoreAck n.id p.tag
+  pub sender : p.sender ≡ from
+  pub advance : p.advance ≡ cond (is_reached (count_sender back.phase from)) advance.Ended advance.Counted
+
+-- a reply that moves one
+pub record IsReplyMove (n : NodeState) (from : ℕ) (b : Body) (p : Progress) : Type 0 where
+  pub session : Session
+  pub phase : Phase
+  pub view : ViewMap
+  pub was : fin.get n.sessions p.tag ≡ Some session
+  pub none : session.back ≡ None
+  pub query : session.query ≡ Some phase
+  pub body : b ≡ CollectReply n.id p.tag view
+  pub sender : p.sender ≡ from
+  pub learned : merge n.view view ≡ view_after n b
+  pub advance : p.advance ≡ cond (is_reached (count_sender phase from)) (advance.Turned (beta_threshold n) (merge n.view view)) advance.Counted
+
+abbrev pub IsMove : NodeState → ℕ → Body → Option Progress → Type 0
+IsMove n from b None = Unit {0}
+IsMove n from b (Some p) = IsAckMove n from b p ⊎ IsReplyMove n from b p
+
+pub record IsAckProgress (w : WorldState) (q : ℕ) (n : NodeState) (p : Progress) : Type 0 where
+  pub session : Session
+  pub view : ViewMap
+  pub was : fin.get n.sessions p.tag ≡ Some session
+  pub held : stored session ≡ Some view
+  pub sent : Among (message_from p.sender (StoreAck q p.tag)) w.sent
+  pub makes : AckMakes session (apply p session) p.sender
+
+pub record IsReplyProgress (w : WorldState) (q : ℕ) (n : NodeState) (r : Outcome) (p : Progress) : Type 0 where
+  pub session : Session
+  pub view : ViewMap
+  pub was : fin.get n.sessions p.tag ≡ Some session
+  pub held : stored session ≡ None
+  pub sent : Among (message_from p.sender (CollectReply q p.tag view)) w.sent
+  pub makes : ReplyMakes session (apply p session) p.sender r.node.view
+  pub stays : (place : ℕ) → end_at place p.advance ≡ None
+  pub learns : IsBelow view r.node.view
+
+abbrev pub IsProgress : WorldState → ℕ → NodeState → Outcome → Option Progress → Type 0
+IsProgress w q n r None = Unit {0}
+IsProgress w q n r (Some p) = IsAckProgress w q n p ⊎ IsReplyProgress w q n r p
+
+pub record IsFreshSession (q : ℕ) (s : Session) : Type 0 where
+  pub replied : repliers s ≡ set.empty
+  pub acked : ackers s ≡ set.empty
+  pub number : (e : Stored) → s.kind ≡ kind.Store e → (v : ViewMap) × (stored s ≡ Some v) × (e.number ≤ number_at v q)
+
+abbrev pub IsFresh : ℕ → Option Begun → Type 0
+IsFresh q None = Unit {0}
+IsFresh q (Some b) = IsFreshSession q b.session
+
+abbrev pub Each : {X : Type 0} → (X → Type 0) → List X → Type 0
+Each P [] = Unit {0}
+Each P (x ∷ xs) = P x × Each P xs
+
+-- each message that is sent belongs to an operation that has begun
+abbrev pub IsBodyKnown : WorldState → ℕ → Body → Type 0
+IsBodyKnown w q b = (p t : ℕ) → IsBodyAbout q b p t → (n : NodeState) × (fin.get w.nodes p ≡ Some n) × (t < n.operations)

@@ -1,0 +1,216 @@
+-- Each event tells the truth.
+use Rattle.std.proofs.Common.{◌≡◌, ℕ, Bool, true, false, cond, ◌==◌, List, [], ◌∷◌, map, Option, Some, None, refl, sym, ap, ◌∙◌, subst, arith, ◌⊎◌, inl, inr}
+use Rattle.std.specs.FinMap as fin
+use Rattle.sc_view.specs.Views.{ViewMap, merge}
+use Rattle.sc_msg.specs.declared.message.Message.{Message}
+use Rattle.sc_msg.specs.declared.message.Body.{Body}
+use Rattle.sc_msg.specs.declared.message.Body.TheVariants.{Enter, EnterEcho, Join, Leave, Store, StoreAck, StoreEcho, CollectQuery, CollectReply}
+use Rattle.sc_node.specs.declared.session.Phase.{Phase}
+use Rattle.sc_node.specs.declared.session.StoreBack.{StoreBack}
+use Rattle.sc_node.specs.declared.session.Session.{Session}
+use Rattle.sc_node.specs.declared.answer.Advance.{Advance}
+use Rattle.sc_node.specs.declared.answer.Advance.TheVariants as advance
+use Rattle.sc_node.specs.declared.answer.Progress.{Progress}
+use Rattle.sc_node.specs.declared.answer.Begun.{Begun as Beginning}
+use Rattle.sc_node.specs.Sessions.{stored, session_with, advanced_by, is_reached, count_sender, querying}
+use Rattle.sc_node.specs.State.{NodeState}
+use Rattle.sc_node.specs.Nodes.{message_from, is_reply, view_after, progress_of, reply_progress, beta_threshold, joins, answers, store_back, store_of, begun, store_session, collect_session, stored_view, next_stored}
+use Rattle.sc_world.specs.declared.event.Event.{Event}
+use Rattle.sc_world.specs.declared.op.Op.{Op}
+use Rattle.sc_world.specs.State.{WorldState}
+use Rattle.sc_world.specs.Worlds.{clock, Outcome, advanced, op_begun, after}
+use Rattle.sc_world.specs.Records.{Among}
+use Rattle.sc_world.proofs.Changes.{view_of, view_at, IsBegun, IsSound}
+use Rattle.sc_world.proofs.Links.{IsLinked, IsTransition, IsProgress, IsFresh, Each}
+use Rattle.sc_world.proofs.Truths.{IsTrue, body_view, IsTruthful, IsThere, IsTold}
+use Rattle.sc_world.proofs.Steps.{among-append, among-left, among-right, among-map, among-image, each-among, advance_op, clock_next, ops_from, node_next}
+use Rattle.sc_world.proofs.Handlers.{heard, store_outcome, collect_outcome, left_outcome, each_if, progress_is, sends, own_name, heard_moves, store_moves, collect_moves, left_moves, store_number}
+use Rattle.sc_world.proofs.Truth.{true_merge, true_put, true_if, lift}
+
+kind_with : (s : Session) (b : Option StoreBack) (from : ℕ) → (session_with s b from).kind ≡ s.kind
+kind_with s None from = refl
+kind_with s (Some b) from = refl
+
+-- an operation stays what it was begun for
+pub kind_kept : (s : Session) (from : ℕ) (a : Advance) → (advanced_by from a s).kind ≡ s.kind
+kind_kept s from (advance.Turned t v) = refl
+kind_kept s from advance.Counted = kind_with s s.back from
+kind_kept s from advance.Ended = kind_with s s.back from
+
+pub begun_session : (b y : Beginning) → Some b ≡ Some y → b.session ≡ y.session
+begun_session b y is = let same : b ≡ y = cc in ap (λ (z : Beginning). z.session) same
+
+-- what stays of an operation
+pub record SameStart (o y : Op) : Type 0 where
+  pub node : y.node ≡ o.node
+  pub tag : y.tag ≡ o.tag
+  pub kind : y.session.kind ≡ o.session.kind
+  pub begin : y.begin ≡ o.begin
+
+pub same_start : (q place : ℕ) (p : Option Progress) (o : Op) → SameStart o (advanced q place p o)
+same_start q place None o = record { node = refl; tag = refl; kind = refl; begin = refl }
+same_start q place (Some p) o =
+    advance_op q place p o (SameStart o)
+    (λ nq tt'. record { node = refl; tag = refl; kind = kind_kept o.session p.sender p.advance; begin = refl })
+    (λ _. record { node = refl; tag = refl; kind = refl; begin = refl })
+
+pub persists : (w : WorldState) (e : Event) (q : ℕ) (r : Outcome) (o : Op) → Among o w.ops → IsThere (after w e q r) o
+persists w e q r o in' =
+    let k = same_start q (clock w) r.progress o in
+    record {
+      op = advanced q (clock w) r.progress o;
+      among = among-left (advanced q (clock w) r.progress o) (map (advanced q (clock w) r.progress) w.ops) (op_begun q (clock w) r.begun) (among-image (advanced q (clock w) r.progress) o w.ops in');
+      node = k.node;
+      kind = k.kind;
+      begin = k.begin;
+    }
+
+module _ (w : WorldState) (e : Event) (q : ℕ) (n : NodeState) (r : Outcome) (at : fin.get w.nodes q ≡ Some n) (linked : IsLinked w) (x : IsTransition n r) (s : IsSound w) (t : IsTruthful w) where
+  abbrev next : WorldState
+  next = after w e q r
+
+  pub lifted : (v : ViewMap) → IsTrue w (clock w) v → IsTrue next (clock next) v
+  lifted v g = lift w next (clock w) (clock next) v (persists w e q r) (omega (arith, clock_next w e q n r at linked x)) g
+
+  module _ (progress : IsProgress w q n r r.progress) (fresh : IsFresh q r.begun) where
+    module _ (bodies : List Body) (names : r.outs ≡ map (message_from q) bodies) (view : IsTrue next (clock next) r.node.view)
+        (outs : Each (λ (b : Body). (v : ViewMap) → body_view b ≡ Some v → IsTrue next (clock next) v) bodies)
+        (opens : (y : Beginning) (v : ViewMap) → r.begun ≡ Some y → stored y.session ≡ Some v → IsTrue next (clock next) v) where
+      views' : (id : ℕ) → IsTrue next (clock next) (view_at next id)
+      views' id = node_next w e q n r at linked x (λ (o : Option NodeState). IsTrue next (clock next) (view_of o)) id (λ _. view) (λ _. lifted (view_at w id) (t.views id))
+
+      sent' : (m : Message) → Among m next.sent → Among m w.sent ⊎ ((v : ViewMap) → body_view m.body ≡ Some v → IsTrue next (clock next) v)
+      sent' m in' =
+          elim (among-append m w.sent r.outs in') [
+            | inl h ↦ inl h
+            | inr h ↦
+                let k = among-map (message_from q) m bodies (subst (Among m) names h) in
+                inr (λ v is. each-among (λ (b : Body). (v : ViewMap) → body_view b ≡ Some v → IsTrue next (clock next) v) k.0 bodies outs k.1 v (sym (ap (λ (y : Message). body_view y.body) k.2) ∙ is))
+          ]
+
+      new_begun : (y : Option Beginning) → r.begun ≡ y → (o : Op) → Among o (op_begun q (clock w) y) → (v : ViewMap) → stored o.session ≡ Some v → IsTrue next (clock next) v
+      new_begun None is o in' v held = absurd in'
+      new_begun (Some y) is o (inr none) v held = absurd none
+      new_begun (Some y) is o (inl e) v held = opens y v is (sym (ap (λ (z : Op). stored z.session) e) ∙ held)
+
+      begun' : (o : Op) → Among o next.ops → IsBegun w o → (v : ViewMap) → stored o.session ≡ Some v → IsTrue next (clock next) v
+      begun' o in' b v held =
+          elim (among-append o (map (advanced q (clock w) r.progress) w.ops) (op_begun q (clock w) r.begun) in') [
+            | inl h ↦
+                let k = among-map (advanced q (clock w) r.progress) o w.ops h in
+                let same = same_start q (clock w) r.progress k.0 in
+                absurd (omega (arith, b.begin, ap (λ (z : Op). z.begin) k.2, same.begin, s.began k.0 k.1))
+            | inr h ↦ new_begun r.begun refl o h v held
+          ]
+
+      pub told : IsTold w next
+      told = record { next = clock_next w e q n r at linked x; persists = persists w e q r; ops = ops_from w e q n r at linked x progress fresh; views = views'; sent = sent'; begun = begun' }
+
+module _ (w : WorldState) (e : Event) (q : ℕ) (n : NodeState) (at : fin.get w.nodes q ≡ Some n) (linked : IsLinked w) (s : IsSound w) (t : IsTruthful w) where
+  own : IsTrue w (clock w) n.view
+  own = subst (λ (o : Option NodeState). IsTrue w (clock w) (view_of o)) at (t.views q)
+
+  up : (from : ℕ) (b : Body) (v : ViewMap) → IsTrue w (clock w) v → IsTrue (after w e q (heard n from b)) (clock (after w e q (heard n from b))) v
+  up from b v g = lifted w e q n (heard n from b) at linked (heard_moves n from b) s t v g
+
+  -- the view after a message, before the world moves on
+  view_true : (from : ℕ) (b : Body) → Among (message_from from b) w.sent → IsTrue w (clock w) (view_after n b)
+  view_true from (EnterEcho to j f v) sent = true_merge w (clock w) n.view v own (t.sent (message_from from (EnterEcho to j f v)) sent v refl)
+  view_true from (Store tag v) sent = true_merge w (clock w) n.view v own (t.sent (message_from from (Store tag v)) sent v refl)
+  view_true from (StoreEcho v) sent = true_merge w (clock w) n.view v own (t.sent (message_from from (StoreEcho v)) sent v refl)
+  view_true from (CollectReply to tag v) sent =
+      true_if w (clock w) (is_reply n to tag) (merge n.view v) n.view (true_merge w (clock w) n.view v own (t.sent (message_from from (CollectReply to tag v)) sent v refl)) own
+  view_true from b sent = own
+
+  abbrev TellsOf : WorldState → Body → Type 0
+  TellsOf u b = (v : ViewMap) → body_view b ≡ Some v → IsTrue u (clock u) v
+
+  turned_true : (u : WorldState) (tag : ℕ) (a : Advance) → ((k : ℕ) (y : ViewMap) → a ≡ advance.Turned k y → IsTrue u (clock u) y) → Each (TellsOf u) (store_of tag a)
+  turned_true u tag advance.Counted g = tt
+  turned_true u tag advance.Ended g = tt
+  turned_true u tag (advance.Turned k y) g = ((λ v is. let same : y ≡ v = cc in subst (IsTrue u (clock u)) same (g k y refl)), tt)
+
+  back_true : (u : WorldState) (p : Option Progress) → ((c : Progress) (k : ℕ) (y : ViewMap) → p ≡ Some c → c.advance ≡ advance.Turned k y → IsTrue u (clock u) y) → Each (TellsOf u) (store_back p)
+  back_true u None g = tt
+  back_true u (Some p) g = turned_true u p.tag p.advance (λ k y. g p k y refl)
+
+  by_reached : (c : Bool) (next k : ℕ) (v z : ViewMap) (a : Advance) → cond c (advance.Turned next v) advance.Counted ≡ a → a ≡ advance.Turned k z → v ≡ z
+  by_reached true next k v z a is at' = let same : advance.Turned next v ≡ advance.Turned k z = is ∙ at' in cc
+  by_reached false next k v z a is at' = let same : advance.Counted ≡ advance.Turned k z = is ∙ at' in absurd (cc)
+
+  by_query : (b : Bool) (o : Option Phase) (from tag : ℕ) (v : ViewMap) (next : ℕ) (c : Progress) (k : ℕ) (z : ViewMap)
+      → (let x : Option Progress = cond b (reply_progress from tag v next o) None in x) ≡ Some c → c.advance ≡ advance.Turned k z → v ≡ z
+  by_query false o from tag v next c k z h is = absurd (cc)
+  by_query true None from tag v next c k z h is = absurd (cc)
+  by_query true (Some p) from tag v next c k z h is =
+      let same : (let x : Progress = record { tag = tag; sender = from; advance = cond (is_reached (count_sender p from)) (advance.Turned next v) advance.Counted } in x) ≡ c = cc in
+      by_reached (is_reached (count_sender p from)) next k v z c.advance (ap (λ (x : Progress). x.advance) same) is
+
+  -- what a collect stores back is true
+  reply_true : (from to tag : ℕ) (v : ViewMap) → Among (message_from from (CollectReply to tag v)) w.sent → (c : Progress) (k : ℕ) (z : ViewMap) → progress_of n from (CollectReply to tag v) ≡ Some c → c.advance ≡ advance.Turned k z → IsTrue w (clock w) z
+  reply_true from to tag v sent c k z h is =
+      subst (IsTrue w (clock w)) (by_query (to == n.id) (querying (fin.get n.sessions tag)) from tag (merge n.view v) (beta_threshold n) c k z h is)
+      (true_merge w (clock w) n.view v own (t.sent (message_from from (CollectReply to tag v)) sent v refl))
+
+  answers_true : (u : WorldState) (from : ℕ) (b : Body) → Among (message_from from b) w.sent → ((z : ViewMap) → IsTrue w (clock w) z → IsTrue u (clock u) z) → Each (TellsOf u) (answers n from b)
+  answers_true u from Enter sent lifts = ((λ v is. lifts v (subst (IsTrue w (clock w)) (some_is is) own)), tt)
+    where
+      some_is : {x y : ViewMap} → Some x ≡ Some y → x ≡ y
+      some_is h = cc
+  answers_true u from (EnterEcho to j f v) sent lifts = each_if (TellsOf u) (joins n from (EnterEcho to j f v)) (Join ∷ []) ((λ y is. absurd (cc)), tt)
+  answers_true u from Join sent lifts = ((λ y is. absurd (cc)), tt)
+  answers_true u from Leave sent lifts = ((λ y is. absurd (cc)), tt)
+  answers_true u from (Store tag v) sent lifts =
+      each_if (TellsOf u) n.joined (StoreAck from tag ∷ StoreEcho (merge n.view v) ∷ [])
+      ((λ y is. absurd (cc)), ((λ y is. let same : merge n.view v ≡ y = cc in lifts y (subst (IsTrue w (clock w)) same (view_true from (Store tag v) sent))), tt))
+  answers_true u from (CollectQuery tag) sent lifts =
+      each_if (TellsOf u) n.joined (CollectReply from tag n.view ∷ []) ((λ y is. let same : n.view ≡ y = cc in lifts y (subst (IsTrue w (clock w)) same own)), tt)
+  answers_true u from (CollectReply to tag v) sent lifts = back_true u (progress_of n from (CollectReply to tag v)) (λ c k y is st. lifts y (reply_true from to tag v sent c k y is st))
+  answers_true u from b sent lifts = tt
+
+  pub delivery_told : (from : ℕ) (b : Body) → Among (message_from from b) w.sent → IsTold w (after w e q (heard n from b))
+  delivery_told from b sent =
+      told w e q n (heard n from b) at linked (heard_moves n from b) s t (progress_is w e q n at linked from b sent) tt
+      (answers n from b) (sends w e q n at linked from (answers n from b))
+      (up from b (view_after n b) (view_true from b sent))
+      (answers_true (after w e q (heard n from b)) from b sent (up from b))
+      (λ y v is st. absurd (cc))
+
+  store_view : (value : List ℕ) → IsTrue (after w e q (store_outcome n value)) (clock (after w e q (store_outcome n value))) (stored_view n value)
+  store_view value =
+      let r : Outcome = store_outcome n value in
+      let u : WorldState = after w e q r in
+      let o : Op = record { node = q; tag = n.operations; begin = clock w; end = None; session = store_session n value } in
+      true_put u (clock u) n.view n.id (next_stored n value)
+      (lifted w e q n r at linked (store_moves n value) s t n.view own)
+      (record { op = o; among = among-right o (map (advanced q (clock w) None) w.ops) (op_begun q (clock w) r.begun) (inl refl); node = sym (linked.named q n at); kind = refl; begin = omega (arith, clock_next w e q n r at linked (store_moves n value)) })
+
+  pub store_told : (value : List ℕ) → IsTold w (after w e q (store_outcome n value))
+  store_told value =
+      let r : Outcome = store_outcome n value in
+      let u : WorldState = after w e q r in
+      told w e q n r at linked (store_moves n value) s t tt (record { replied = refl; acked = refl; number = store_number w e q n at linked value })
+      (Store n.operations (stored_view n value) ∷ []) (own_name w e q n at linked (Store n.operations (stored_view n value)))
+      (store_view value)
+      ((λ y is. let same : stored_view n value ≡ y = cc in subst (IsTrue u (clock u)) same (store_view value)), tt)
+      (λ y v is st.
+      let k : Some (stored_view n value) ≡ Some v = ap (λ (z : Session). stored z) (begun_session (begun n (store_session n value) (Store n.operations (stored_view n value))) y is) ∙ st in
+      let same : stored_view n value ≡ v = cc in
+      subst (IsTrue u (clock u)) same (store_view value))
+
+  pub collect_told : IsTold w (after w e q (collect_outcome n))
+  collect_told =
+      told w e q n (collect_outcome n) at linked (collect_moves n) s t tt (record { replied = refl; acked = refl; number = λ e is. absurd (cc) })
+      (CollectQuery n.operations ∷ []) (own_name w e q n at linked (CollectQuery n.operations))
+      (lifted w e q n (collect_outcome n) at linked (collect_moves n) s t n.view own)
+      ((λ y is. absurd (cc)), tt)
+      (λ y v is st.
+      let k : None ≡ Some v = ap (λ (z : Session). stored z) (begun_session (begun n (collect_session n) (CollectQuery n.operations)) y is) ∙ st in
+      absurd (cc))
+
+  pub left_told : IsTold w (after w e q (left_outcome n))
+  left_told =
+      told w e q n (left_outcome n) at linked (left_moves n) s t tt tt (Leave ∷ []) (own_name w e q n at linked Leave)
+      (lifted w e q n (left_outcome n) at linked (left_moves n) s t n.view own)
+      ((λ y is. absurd (cc)), tt)
+      (λ y v is st. absurd (cc))

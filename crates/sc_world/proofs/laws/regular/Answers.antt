@@ -1,0 +1,8 @@
+use Rattle.sc_world.proofs.EveryHistory.{every_lawful, lawful_regular}
+use Rattle.sc_world.proofs.laws.regular.Goals as goal
+
+pub returns : goal.returns
+returns c = record {
+  regular = λ c ids es w h. lawful_regular w (every_lawful c ids es w h);
+  records = λ c ids es w h. (every_lawful c ids es w h).records;
+}

@@ -1,0 +1,15 @@
+ghost use Rattle.std.specs.Prelude.{ℕ, List};
+ghost use Rattle.sc_members.specs.Members.{Config};
+ghost use Rattle.sc_world.specs.declared.event.Event.{Event};
+ghost use Rattle.sc_world.specs.State.{WorldState};
+ghost use Rattle.sc_world.specs.Worlds.{Reaches, start};
+ghost use Rattle.sc_world.specs.Records.{AreRecords};
+ghost use Rattle.sc_world.specs.Regular.{IsRegular};
+
+/// A law: whatever the founders are, and whatever list of events was accepted, in which messages are lost, repeated
+/// and reordered and nodes enter, leave and crash, the world that they lead to is regular, and the records of its
+/// operations are true.
+pub fn regular()
+    ensures regular { (c : Config) (founders : List ℕ) (events : List Event) (w : WorldState) → Reaches (start c founders) events w → IsRegular w }
+    ensures records { (c : Config) (founders : List ℕ) (events : List Event) (w : WorldState) → Reaches (start c founders) events w → AreRecords w }
+{}
