@@ -264,6 +264,7 @@ fn placements(rt: HostRuntime) {
 fn one_step(rt: HostRuntime) -> Result<(), Fail> {
     let text = text(&rt, &[EXIT])?;
     let [near, _] = places()?;
+    near.is_placement();
     assert_eq!(rt; (near.frame(), near.record()), (4096, 8192));
     let mut machine = Machine {
         unit: 0,
