@@ -1,2 +1,3 @@
--- Views and their order.
+-- Views, their order, and what refuses them.
 pub mod Views
+pub mod Faults

@@ -1,5 +1,17 @@
-//! Views of a store-collect object: for each node the newest value that is known of it.
+//! Views of a store-collect object (Attiya, Kumari, Somani, Welch 2020): for each node the newest value that is
+//! known of it.
+//!
+//! A `View` is a finite map from the ids of nodes to the values that they stored, each under the sequence number that
+//! the storing node gave it. It holds at most 256 ids, and its numbers count from 1. `put` and `merge` learn values:
+//! for each id the one with the larger number stays, and at equal numbers the one that is there. `records` gives the
+//! entries in rising order of their ids.
+//!
+//! Every contract speaks of the map itself. `laws` holds what follows for all views: `merge` takes the larger number at
+//! each id, the order on views is a partial order, and a merge is the least view above both. Nodes, messages and the
+//! runs of programs over a collected view stand on this crate.
 #![tactic(auto)]
 
 pub mod laws;
+#[cfg(test)]
+mod tests;
 pub mod view;

@@ -4,9 +4,9 @@ ghost use Rattle.std.specs.BTreeMap.{get, keys, IsOrdered};
 ghost use Rattle.std.specs.Ordering.{nat_cmp};
 ghost use Rattle.std.specs.Map.Iter.{TakesFirst};
 ghost use Rattle.std.specs.Iterator.{at_most};
+ghost use Rattle.sc_view.specs.Faults.{fault_number, fault_name};
 ghost use Rattle.sc_view.specs.Views.{IsView, is_newer, put, merge, most_entries};
 ghost use Rattle.sc_view.specs.declared.view.Stored.{Stored as StoredValue};
-ghost use Rattle.sc_view.specs.declared.view.ViewFault.TheVariants.{OutOfMemory};
 
 use std::alloc::{AllocError, AllocFailed, Global};
 use std::collections::{BTreeMap, btree_map};
@@ -32,6 +32,28 @@ pub enum ViewFault {
     OutOfMemory,
 }
 
+impl ViewFault {
+    /// The number by which the fault is reported, 46 or 99.
+    pub fn number(&self) -> u8
+        ensures { result ≡ fault_number self.now }
+    {
+        match self {
+            ViewFault::Full => 46,
+            ViewFault::OutOfMemory => 99,
+        }
+    }
+
+    /// The name by which the fault is reported.
+    pub fn name(&self) -> &'static str
+        ensures { result.now ≡ fault_name self.now }
+    {
+        match self {
+            ViewFault::Full => "ViewFull",
+            ViewFault::OutOfMemory => "OutOfMemory",
+        }
+    }
+}
+
 impl From<AllocError> for ViewFault {
     ghost use Rattle.std.specs.Prelude.{◌≡◌};
     ghost use Rattle.sc_view.specs.declared.view.ViewFault.TheVariants.{OutOfMemory};
@@ -39,6 +61,17 @@ impl From<AllocError> for ViewFault {
     ghost from_gives = { λ _ e. e ≡ OutOfMemory };
 
     fn from(_: AllocError) -> ViewFault {
+        ViewFault::OutOfMemory
+    }
+}
+
+impl<T: Drop> From<AllocFailed<T>> for ViewFault {
+    ghost use Rattle.std.specs.Prelude.{◌≡◌};
+    ghost use Rattle.sc_view.specs.declared.view.ViewFault.TheVariants.{OutOfMemory};
+
+    ghost from_gives = { λ _ e. e ≡ OutOfMemory };
+
+    fn from(_: AllocFailed<T>) -> ViewFault {
         ViewFault::OutOfMemory
     }
 }
