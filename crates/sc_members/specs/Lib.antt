@@ -1,3 +1,4 @@
--- Sets of ids, what is known of a cluster's nodes, and thresholds.
+-- Sets of ids, what is known of a cluster's nodes, thresholds, and refusals.
 pub mod Ids
 pub mod Members
+pub mod Faults

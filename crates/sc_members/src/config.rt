@@ -1,4 +1,4 @@
-ghost use Rattle.std.specs.Prelude.{◌≡◌, ◌≤◌, ◌↔◌, IsTrue, IsOk, IfOk};
+ghost use Rattle.std.specs.Prelude.{◌≡◌, ◌≤◌, ◌↔◌, IsTrue, IsOk, IfOk, codes};
 ghost use Rattle.sc_members.specs.Members.{IsFraction, IsConfig, threshold};
 
 use std::marker::Model;
@@ -29,6 +29,22 @@ impl Model for Config {
 #[derive(Clone, Copy, Debug, PartialEq, Eq)]
 pub struct BadFraction;
 
+impl BadFraction {
+    /// The number by which the fault is reported, 45.
+    pub fn number(&self) -> u8
+        ensures { result ≡ 45 }
+    {
+        45
+    }
+
+    /// The name by which the fault is reported.
+    pub fn name(&self) -> &'static str
+        ensures { result.now ≡ codes "BadFraction" }
+    {
+        "BadFraction"
+    }
+}
+
 /// max(1, ceil(num * count / den)): how many answers a phase waits for where so many nodes count. Takes no memory.
 pub fn threshold(num: u64, den: u64, count: usize) -> u64
     requires { IsFraction num den }
@@ -42,6 +58,22 @@ fn is_fraction(num: u64, den: u64) -> bool
     ensures { IsTrue result ↔ IsFraction num den }
 {
     1 <= num && num <= den && den <= 1000
+}
+
+/// Four fifths for both.
+impl Default for Config {
+    ghost use Rattle.std.specs.Prelude.{◌≡◌};
+
+    ghost is_default = { λ config. config ≡ record { beta_num = 4; beta_den = 5; gamma_num = 4; gamma_den = 5 } };
+
+    fn default() -> Config {
+        Config {
+            beta_num: 4,
+            beta_den: 5,
+            gamma_num: 4,
+            gamma_den: 5,
+        }
+    }
 }
 
 impl Config {

@@ -1,9 +1,10 @@
 ghost use Rattle.std.specs.Prelude.{◌≡◌, ◌≤◌, ◌↔◌, length, IsTrue, IfOk, OnOk, OnErr, IsErrOf};
 ghost use Rattle.std.specs.FinSet as set;
+ghost use Rattle.sc_members.specs.Faults.{fault_number, fault_name};
 ghost use Rattle.sc_members.specs.Members.{Facts as KnownFacts, IsFacts, most_facts, is_overfull, no_facts, founding, present, members, union_facts, with_entered, with_joined, with_left};
 
 use crate::ids::IdSet;
-use std::alloc::{AllocError, Global};
+use std::alloc::{AllocError, AllocFailed, Global};
 use std::marker::Model;
 
 /// The most ids that each of the three sets holds.
@@ -40,6 +41,28 @@ pub enum FactsFault {
     OutOfMemory,
 }
 
+impl FactsFault {
+    /// The number by which the fault is reported, 47 or 99.
+    pub fn number(&self) -> u8
+        ensures { result ≡ fault_number self.now }
+    {
+        match self {
+            FactsFault::Full => 47,
+            FactsFault::OutOfMemory => 99,
+        }
+    }
+
+    /// The name by which the fault is reported.
+    pub fn name(&self) -> &'static str
+        ensures { result.now ≡ fault_name self.now }
+    {
+        match self {
+            FactsFault::Full => "FactsFull",
+            FactsFault::OutOfMemory => "OutOfMemory",
+        }
+    }
+}
+
 impl From<AllocError> for FactsFault {
     ghost use Rattle.std.specs.Prelude.{◌≡◌};
     ghost use Rattle.sc_members.specs.declared.facts.FactsFault.TheVariants.{OutOfMemory};
@@ -47,6 +70,17 @@ impl From<AllocError> for FactsFault {
     ghost from_gives = { λ _ e. e ≡ OutOfMemory };
 
     fn from(_: AllocError) -> FactsFault {
+        FactsFault::OutOfMemory
+    }
+}
+
+impl<T: Drop> From<AllocFailed<T>> for FactsFault {
+    ghost use Rattle.std.specs.Prelude.{◌≡◌};
+    ghost use Rattle.sc_members.specs.declared.facts.FactsFault.TheVariants.{OutOfMemory};
+
+    ghost from_gives = { λ _ e. e ≡ OutOfMemory };
+
+    fn from(_: AllocFailed<T>) -> FactsFault {
         FactsFault::OutOfMemory
     }
 }
