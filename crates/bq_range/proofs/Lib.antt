@@ -5,3 +5,4 @@ pub mod Pieces
 pub mod Places
 pub mod Edges
 pub mod Both
+pub mod Covers

@@ -110,7 +110,7 @@ abbrev pub by_opposite : ℕ → Relation → Option Relation → Bool → Inter
 by_opposite w relation None taken a b = by_common_bit w taken a b
 by_opposite w relation (Some other) taken a b = narrowed_by w (if taken then relation else other) a b
 
--- words of more than w bits are not branched
+-- the ranges that an edge leaves, where it can be gone; ranges that go beyond w bits stay as they are
 abbrev pub branched : ℕ → Relation → Bool → Interval → Interval → Option (Interval × Interval)
 branched w relation taken a b = if nat_lt a.hi (2 ^ w) && nat_lt b.hi (2 ^ w) then by_opposite w relation (opposite relation) taken a b else Some (a, b)
 

@@ -1,14 +1,13 @@
 //! Ranges of words, and what BPF's instructions (RFC 9669) make of them.
 //!
-//! A [`Range`] is the words from one number to another, both included. It stands for what a
-//! register can hold, and a checker of programs computes with it in place of the word.
+//! A [`Range`](range::Range) is the words from one number to another, both included. It stands for
+//! what a register can hold, and a checker of programs computes with it in place of the word.
 //!
-//! - [`Range::alu`], [`Range::negate`], [`Range::extend`], [`Range::low_bits`] and
-//!   [`Range::swap`] give the range that an operation leaves (sections 4.1 and 4.2),
-//!   [`Range::of_load`] and [`Range::of_signed_load`] that of a load (sections 5.1 and 5.2).
-//! - [`Range::narrow`] gives what a branch leaves of its two operands (section 4.3), on the edge
+//! - `alu`, `negate`, `extend`, `low_bits` and `swap` give the range that an operation leaves
+//!   (sections 4.1 and 4.2), `of_load` and `of_signed_load` that of a load (sections 5.1 and 5.2).
+//! - `narrow` gives what a branch leaves of its two operands (section 4.3), on the edge
 //!   that is taken and on the one that is not, or says that no words lead there.
-//! - [`Range::join`], [`Range::meet`] and [`Range::covers`] compare and combine ranges.
+//! - `join`, `meet` and `covers` combine and compare ranges.
 //!
 //! Each of these is a table, which `specs/Interval.antt`, `specs/Table.antt` and
 //! `specs/Narrow.antt` write down in plain arithmetic, row by row: the clause `row` of a call
@@ -17,8 +16,13 @@
 //! range. Of single words the range is the exact result. What a branch leaves is the least range
 //! of the words that can be there.
 //!
+//! The same facts stand as lemmas over the tables in `proofs/Covers.antt`, for proofs of crates
+//! above that speak of no call.
+//!
 //! No call refuses an input, and none takes memory. States of registers and the checker of
 //! programs stand on this crate.
 #![tactic(auto)]
 
 pub mod range;
+#[cfg(test)]
+mod tests;
