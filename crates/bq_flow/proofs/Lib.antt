@@ -1,0 +1,4 @@
+pub mod Units
+pub mod Legal
+pub mod Best
+pub mod Words

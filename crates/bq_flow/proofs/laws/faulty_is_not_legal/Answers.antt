@@ -1,0 +1,5 @@
+use Rattle.bq_flow.proofs.Legal.{not_legal}
+use Rattle.bq_flow.proofs.laws.faulty_is_not_legal.Goals as goal
+
+pub returns : goal.returns
+returns c = not_legal

@@ -1,0 +1,5 @@
+use Rattle.bq_flow.proofs.Legal.{one_first}
+use Rattle.bq_flow.proofs.laws.one_first_fault.Goals as goal
+
+pub returns : goal.returns
+returns c = one_first

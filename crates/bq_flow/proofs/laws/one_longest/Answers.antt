@@ -1,0 +1,5 @@
+use Rattle.bq_flow.proofs.Best.{one_longest}
+use Rattle.bq_flow.proofs.laws.one_longest.Goals as goal
+
+pub returns : goal.returns
+returns c = one_longest
