@@ -1,3 +1,15 @@
 pub mod Parts
 pub mod Numbers
+pub mod Spaces
+pub mod Clean
 pub mod Mnemonics
+pub mod Again
+pub mod Spelled
+pub mod Sound
+pub mod Said
+pub mod First
+pub mod Repeating
+pub mod Resolving
+pub mod Unique
+pub mod Lines
+pub mod Encoded

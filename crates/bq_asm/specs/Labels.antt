@@ -1,9 +1,10 @@
 -- Labels: which line a jump's name means, and the instructions that lines mean.
-use Rattle.std.specs.Prelude.{◌≡◌, ℕ, ◌+◌, ◌<◌, pos, List, [], ◌∷◌, ◌++◌, length, Option, Some, None, option_map, if◌then◌else◌, ◌⊎◌}
+use Rattle.std.specs.Prelude.{◌≡◌, ℕ, ◌+◌, ◌^◌, ◌<◌, pos, List, [], ◌∷◌, ◌++◌, length, Option, Some, None, option_map, if◌then◌else◌, ◌⊎◌}
 use Rattle.std.specs.Str.{bytes_eq}
 use Rattle.bq_insn.specs.declared.insn.Insn.{Insn}
-use Rattle.bq_insn.specs.Insn.{IsInsn}
 use Rattle.bq_insn.specs.Slots.{units}
+use Rattle.bq_asm.specs.declared.jump.Jump.{Jump}
+use Rattle.bq_asm.specs.declared.jump.Jump.TheVariants as jumps
 use Rattle.bq_asm.specs.Operands.{jump_insn}
 use Rattle.bq_asm.specs.Line.{Statement, Complete, JumpTo, Line, Blank, Label, Instruction}
 
@@ -23,10 +24,15 @@ units_before label (Instruction s ∷ lines) = option_map (λ d. statement_units
 
 -- ---- meaning
 
+-- the least distance forward that a jump's field does not hold
+abbrev pub reach : Jump → ℕ
+reach jumps.Far = 2 ^ 31
+reach _ = 2 ^ 15
+
 -- The instruction that a statement means, before these lines. The distance of a jump is counted from the next instruction.
 abbrev pub Means : Statement → List Line → Insn → Type 0
 Means (Complete i) later insn = insn ≡ i
-Means (JumpTo j label) later insn = (d : ℕ) × (units_before label later ≡ Some d) × (insn ≡ jump_insn j (pos d)) × IsInsn insn
+Means (JumpTo j label) later insn = (d : ℕ) × (units_before label later ≡ Some d) × (d < reach j) × (insn ≡ jump_insn j (pos d))
 
 -- the instructions that lines mean, in order
 abbrev pub Mean : List Line → List Insn → Type 0

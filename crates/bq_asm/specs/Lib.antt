@@ -5,3 +5,5 @@ pub mod Labels
 pub mod Source
 pub mod Reading
 pub mod View
+pub mod Placed
+pub mod Steps

@@ -1,0 +1,118 @@
+-- Words: texts with no space, comma, colon, `#` or line feed.
+use Rattle.std.proofs.Common.{◌≡◌, ℕ, zero, suc, ◌+◌, ◌^◌, ◌<◌, ◌≤◌, Bool, true, false, cond, eqb, not, ◌&&◌, ◌||◌, List, [], ◌∷◌, ◌++◌, length, refl, ap, sym, ◌∙◌, subst, inl, inr, ◌⊎◌, arith, IsTrue}
+use Rattle.std.specs.Prelude.{ℤ, pos, negsuc, FitsSigned, codes}
+use Rattle.std.specs.List.{AllByRecursion, list_all}
+use Rattle.std.specs.Int.{w16, w32}
+use Rattle.std.specs.Char.{is_ascii_digit}
+use Rattle.std.specs.Fmt.{decimal, signed_decimal}
+use Rattle.std.proofs.lemmas.Bool.{cond-false, and_parts, cases_Bool, not-true}
+use Rattle.std.proofs.lemmas.Bool.Decides.{nat_tests}
+use Rattle.std.proofs.lemmas.Fmt.{digits_decimal, decimal_nonempty}
+use Rattle.bq_insn.specs.declared.insn.Operand.TheVariants as operands
+use Rattle.bq_insn.specs.declared.insn.Operand.{Operand}
+use Rattle.bq_insn.specs.Insn.{IsOperand}
+use Rattle.bq_asm.specs.Reading.{before_spaces}
+use Rattle.bq_asm.specs.Line.{IsName, is_letter, is_name_byte}
+use Rattle.bq_asm.specs.Operands.{register, operand, distance, memory}
+use Rattle.bq_asm.proofs.Parts.{Lacks}
+use Rattle.bq_asm.proofs.Spaces.{Starts, Ends}
+use Rattle.bq_asm.proofs.Numbers.{own}
+
+abbrev pub is_clean : ℕ → Bool
+is_clean c = not (eqb c 32) && (not (eqb c 35) && (not (eqb c 44) && (not (eqb c 58) && not (eqb c 10))))
+
+abbrev pub Clean : List ℕ → Type 0
+Clean s = AllByRecursion (λ c. is_clean c ≡ true) s
+
+pub clean_from : (s : List ℕ) → list_all is_clean s ≡ true → Clean s
+clean_from [] h = tt
+clean_from (c ∷ s) h = let p = and_parts _ _ h in (p.0, clean_from s p.1)
+
+pub clean_append : (a b : List ℕ) → Clean a → Clean b → Clean (a ++ b)
+clean_append [] b h k = k
+clean_append (c ∷ a) b h k = (h.0, clean_append a b h.1 k)
+
+pub clean_lacks : (k : ℕ) (s : List ℕ) → ((c : ℕ) → is_clean c ≡ true → eqb c k ≡ false) → Clean s → Lacks k s
+clean_lacks k [] f h = tt
+clean_lacks k (c ∷ s) f h = (f c h.0, clean_lacks k s f h.1)
+
+pub no_space : (c : ℕ) → is_clean c ≡ true → eqb c 32 ≡ false
+no_space c h = not-true _ (and_parts _ _ h).0
+
+pub no_hash : (c : ℕ) → is_clean c ≡ true → eqb c 35 ≡ false
+no_hash c h = not-true _ (and_parts _ _ (and_parts _ _ h).1).0
+
+pub no_comma : (c : ℕ) → is_clean c ≡ true → eqb c 44 ≡ false
+no_comma c h = not-true _ (and_parts _ _ (and_parts _ _ (and_parts _ _ h).1).1).0
+
+pub no_colon : (c : ℕ) → is_clean c ≡ true → eqb c 58 ≡ false
+no_colon c h = not-true (eqb c 58) (and_parts _ _ (and_parts (not (eqb c 44)) (not (eqb c 58) && not (eqb c 10)) (and_parts _ _ (and_parts _ _ h).1).1).1).0
+
+pub no_line_feed : (c : ℕ) → is_clean c ≡ true → eqb c 10 ≡ false
+no_line_feed c h = not-true (eqb c 10) (and_parts (not (eqb c 58)) (not (eqb c 10)) (and_parts (not (eqb c 44)) (not (eqb c 58) && not (eqb c 10)) (and_parts _ _ (and_parts _ _ h).1).1).1).1
+
+-- ---- words
+
+pub record Word (s : List ℕ) : Type 0 where
+  pub clean : Clean s
+  pub some : 0 < length s
+
+pub word_starts : (s : List ℕ) → Word s → Starts s
+word_starts [] w = absurd (omega (arith, w.some))
+word_starts (c ∷ s) w = no_space c w.clean.0
+
+pub clean_ends : (s : List ℕ) → Clean s → Ends s
+clean_ends [] h = refl
+clean_ends (c ∷ []) h = cond-false (eqb c 32) _ _ (no_space c h.0)
+clean_ends (c ∷ d ∷ ds) h = ap (before_spaces c) (clean_ends (d ∷ ds) h.1)
+
+-- ---- operands are words
+
+digit_clean : (c : ℕ) → is_ascii_digit c ≡ true → is_clean c ≡ true
+digit_clean c h = grind (arith, nat_tests)
+
+digits_clean : (s : List ℕ) → list_all is_ascii_digit s ≡ true → Clean s
+digits_clean [] h = tt
+digits_clean (c ∷ s) h = let p = and_parts _ _ h in (digit_clean c p.0, digits_clean s p.1)
+
+pub decimal_clean : (n : ℕ) → n < 2 ^ 64 → Clean (decimal n)
+decimal_clean n h = digits_clean (decimal n) (digits_decimal own n h)
+
+pub decimal_word : (n : ℕ) → n < 2 ^ 64 → Word (decimal n)
+decimal_word n h = record { clean = decimal_clean n h; some = decimal_nonempty n h }
+
+pub register_word : (r : ℕ) → r < 11 → Word (register r)
+register_word r h = record { clean = (refl, decimal_clean r (omega arith)); some = omega arith }
+
+pub distance_word : (z : ℤ) → FitsSigned w32 z → Word (distance z)
+distance_word (pos n) h = record { clean = (refl, decimal_clean n (omega arith)); some = omega arith }
+distance_word (negsuc n) h = record { clean = (refl, decimal_clean (suc n) (omega arith)); some = omega arith }
+
+pub operand_word : (x : Operand) → IsOperand x → Word (operand x)
+operand_word (operands.Register r) h = register_word r h
+operand_word (operands.Number (pos n)) h = decimal_word n (omega arith)
+operand_word (operands.Number (negsuc n)) h = record { clean = (refl, decimal_clean (suc n) (omega arith)); some = omega arith }
+
+pub wider : (z : ℤ) → FitsSigned w16 z → FitsSigned w32 z
+wider (pos n) h = omega arith
+wider (negsuc n) h = omega arith
+
+pub memory_word : (b : ℕ) (o : ℤ) → b < 11 → FitsSigned w16 o → Word (memory b o)
+memory_word b o h k = record {
+  clean = (refl, clean_append (register b ++ distance o) (codes "]") (clean_append (register b) (distance o) (register_word b h).clean (distance_word o (wider o k)).clean) (refl, tt));
+  some = omega arith;
+}
+
+name_byte_clean : (c : ℕ) → is_name_byte c ≡ true → is_clean c ≡ true
+name_byte_clean c h = grind (arith, nat_tests)
+
+letter_clean : (c : ℕ) → is_letter c ≡ true → is_clean c ≡ true
+letter_clean c h = grind (arith, nat_tests)
+
+name_bytes_clean : (s : List ℕ) → AllByRecursion (λ d. IsTrue (is_name_byte d)) s → Clean s
+name_bytes_clean [] h = tt
+name_bytes_clean (c ∷ s) h = (name_byte_clean c h.0, name_bytes_clean s h.1)
+
+pub name_word : (s : List ℕ) → IsName s → Word s
+name_word [] h = absurd h
+name_word (c ∷ s) h = record { clean = (letter_clean c h.0, name_bytes_clean s h.1); some = omega arith }

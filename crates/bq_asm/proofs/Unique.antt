@@ -1,0 +1,141 @@
+-- A source spells one text at most, and one that spells a text has no fault.
+use Rattle.std.proofs.Common.{◌≡◌, ℕ, suc, ◌+◌, ◌<◌, ◌≤◌, Bool, true, false, cond, List, [], ◌∷◌, ◌++◌, length, Option, Some, None, refl, ap, sym, ◌∙◌, subst, inl, inr, ◌⊎◌, arith, length-append}
+use Rattle.std.specs.Prelude.{pos, min, MatchOption, MatchResult, IfOk, IfErr, Result, Ok, Err}
+use Rattle.std.specs.List.{AllZip}
+use Rattle.bq_insn.specs.declared.insn.Insn.{Insn}
+use Rattle.bq_insn.specs.Slots.{units, IsText}
+use Rattle.bq_asm.specs.declared.fault.AsmFault.{AsmFault}
+use Rattle.bq_asm.specs.declared.fault.AsmFault.TheVariants as faults
+use Rattle.bq_asm.specs.declared.jump.Jump.{Jump}
+use Rattle.bq_asm.specs.Operands.{jump_insn}
+use Rattle.bq_asm.specs.Line.{Statement, Complete, JumpTo, Line, Blank, Label, Instruction, Spells}
+use Rattle.bq_asm.specs.Labels.{NoLine, IsFirstLine, IsRepeated, IsUnresolved, HasLabelFault, Mean, Means, units_before}
+use Rattle.bq_asm.specs.Source.{lines_of, Says, IsSource, IsUnreadable, IsFault}
+use Rattle.bq_asm.specs.Steps.{least}
+use Rattle.bq_asm.proofs.Said.{one_saying}
+
+says_unique : (texts : List (List ℕ)) (v w : List Line) → AllZip Spells texts v → AllZip Spells texts w → v ≡ w
+says_unique [] [] [] h k = refl
+says_unique [] [] (y ∷ w) h k = absurd k
+says_unique [] (x ∷ v) w h k = absurd h
+says_unique (t ∷ texts) [] w h k = absurd h
+says_unique (t ∷ texts) (x ∷ v) [] h k = absurd k
+says_unique (t ∷ texts) (x ∷ v) (y ∷ w) h k =
+    let e = one_saying t x y h.0 k.0 in
+    let f = says_unique texts v w h.1 k.1 in
+    ap (λ (z : Line). z ∷ v) e ∙ ap (λ (zs : List Line). y ∷ zs) f
+
+means_unique : (s : Statement) (later : List Line) (i j : Insn) → Means s later i → Means s later j → i ≡ j
+means_unique (Complete x) later i j h k = h ∙ sym k
+means_unique (JumpTo x label) later i j h k =
+    let e : ◌≡◌ {A = Option ℕ} (Some h.0) (Some k.0) = sym h.1 ∙ k.1 in
+    let f : h.0 ≡ k.0 = cc in
+    h.3 ∙ ap (λ (d : ℕ). jump_insn x (pos d)) f ∙ sym k.3
+
+mean_unique : (lines : List Line) (t u : List Insn) → Mean lines t → Mean lines u → t ≡ u
+mean_unique [] t u h k = h ∙ sym k
+mean_unique (Blank ∷ lines) t u h k = mean_unique lines t u h k
+mean_unique (Label label ∷ lines) t u h k = mean_unique lines t u h k
+mean_unique (Instruction s ∷ lines) [] u h k = absurd h
+mean_unique (Instruction s ∷ lines) (i ∷ t) [] h k = absurd k
+mean_unique (Instruction s ∷ lines) (i ∷ t) (j ∷ u) h k =
+    let e = means_unique s lines i j h.0 k.0 in
+    let f = mean_unique lines t u h.1 k.1 in
+    ap (λ (z : Insn). z ∷ t) e ∙ ap (λ (zs : List Insn). j ∷ zs) f
+
+pub one_text : (source : List ℕ) (t u : List Insn) → IsSource source t → IsSource source u → t ≡ u
+one_text source t u h k =
+    mean_unique h.lines t u h.means (subst (λ lines. Mean lines u) (says_unique (lines_of source) k.lines h.lines k.says h.says) k.means)
+
+-- ---- faults
+
+no_unreadable : (before texts : List (List ℕ)) (v : List Line) (n : ℕ) → AllZip Spells texts v → IsFirstLine IsUnreadable before texts n → ⊥
+no_unreadable before [] v n h f = f
+no_unreadable before (t ∷ texts) [] n h f = h
+no_unreadable before (t ∷ texts) (x ∷ v) n h (inl f) = f.0 x h.0
+no_unreadable before (t ∷ texts) (x ∷ v) n h (inr f) = no_unreadable (before ++ t ∷ []) texts v n h.1 f.1
+
+rest_of : (line : Line) (lines : List Line) (t : List Insn) → Mean (line ∷ lines) t → (u : List Insn) × Mean lines u
+rest_of Blank lines t m = (t, m)
+rest_of (Label label) lines t m = (t, m)
+rest_of (Instruction s) lines [] m = absurd m
+rest_of (Instruction s) lines (i ∷ t) m = (t, m.1)
+
+no_label_fault : (before lines : List Line) (t : List Insn) (n : ℕ) → NoLine IsRepeated before lines → Mean lines t → IsFirstLine HasLabelFault before lines n → ⊥
+no_label_fault before [] t n h m f = f
+no_label_fault before (line ∷ lines) t n h m (inr f) = no_label_fault (before ++ line ∷ []) lines (rest_of line lines t m).0 n h.1 (rest_of line lines t m).1 f.1
+no_label_fault before (Blank ∷ lines) t n h m (inl (inl r, e)) = r
+no_label_fault before (Blank ∷ lines) t n h m (inl (inr u, e)) = u
+no_label_fault before (Label label ∷ lines) t n h m (inl (inl r, e)) = h.0 r
+no_label_fault before (Label label ∷ lines) t n h m (inl (inr u, e)) = u
+no_label_fault before (Instruction s ∷ lines) t n h m (inl (inl r, e)) = r
+no_label_fault before (Instruction s ∷ lines) [] n h m (inl (inr u, e)) = m
+no_label_fault before (Instruction s ∷ lines) (i ∷ t) n h m (inl (inr u, e)) = u i m.0
+
+pub no_fault : (source : List ℕ) (t : List Insn) (e : AsmFault) → IsText t → IsSource source t → IsFault source e → e ≡ faults.OutOfMemory
+no_fault source t (faults.Syntax n) x h f = absurd (no_unreadable [] (lines_of source) h.lines n h.says f)
+no_fault source t (faults.Label n) x h f =
+    let e = says_unique (lines_of source) f.0 h.lines f.1 h.says in
+    absurd (no_label_fault [] h.lines t n h.once h.means (subst (λ lines. IsFirstLine HasLabelFault [] lines n) e f.2))
+no_fault source t faults.BadLength x h f =
+    let e = one_text source t [] h f in
+    let u = subst (λ (y : List Insn). 1 ≤ units y) e x.some in
+    absurd (omega (arith, u))
+no_fault source t faults.TooLong x h f =
+    let e = one_text source f.0 t f.1 h in
+    let u = subst (λ (y : List Insn). 4096 < units y) e f.2 in
+    absurd (omega (arith, u, x.few))
+no_fault source t faults.OutOfMemory x h f = refl
+
+pub all_from : (r : Result (List Insn) AsmFault) (source : List ℕ) (t : List Insn) → IsText t → IsSource source t → IfOk r (λ u. IsSource source u) → IfErr r (IsFault source) → MatchResult r (λ u. u ≡ t) (λ e. e ≡ faults.OutOfMemory)
+all_from (Ok u) source t x h s f = one_text source u t s h
+all_from (Err e) source t x h s f = no_fault source t e x h f
+
+-- ---- the least line of either kind
+
+first_above : {A : Type 0} (P : List A → A → List A → Type 0) (before lines : List A) (n : ℕ) → IsFirstLine P before lines n → length before < n
+first_above P before [] n f = absurd f
+first_above P before (line ∷ lines) n (inl f) = omega (arith, f.1)
+first_above P before (line ∷ lines) n (inr f) = omega (arith, first_above P (before ++ line ∷ []) lines n f.1, length-append before (line ∷ []))
+
+abbrev Either : {A : Type 0} → (List A → A → List A → Type 0) → (List A → A → List A → Type 0) → List A → A → List A → Type 0
+Either P Q before line after = P before line after ⊎ Q before line after
+
+neither : {A B C : Type 0} → (A → C) → (B → C) → A ⊎ B → C
+neither f g (inl a) = f a
+neither f g (inr b) = g b
+
+module _ {A : Type 0} (P Q : List A → A → List A → Type 0) where
+  first_left : (before lines : List A) (n : ℕ) → IsFirstLine P before lines n → NoLine Q before lines → IsFirstLine (Either P Q) before lines n
+  first_left before [] n f h = f
+  first_left before (line ∷ lines) n (inl f) h = inl (inl f.0, f.1)
+  first_left before (line ∷ lines) n (inr f) h = inr (neither f.0 h.0, first_left (before ++ line ∷ []) lines n f.1 h.1)
+
+  first_right : (before lines : List A) (n : ℕ) → NoLine P before lines → IsFirstLine Q before lines n → IsFirstLine (Either P Q) before lines n
+  first_right before [] n h f = f
+  first_right before (line ∷ lines) n h (inl f) = inl (inr f.0, f.1)
+  first_right before (line ∷ lines) n h (inr f) = inr (neither h.0 f.0, first_right (before ++ line ∷ []) lines n h.1 f.1)
+
+  first_both : (before lines : List A) (m n : ℕ) → IsFirstLine P before lines m → IsFirstLine Q before lines n → IsFirstLine (Either P Q) before lines (min m n)
+  first_both before [] m n f g = f
+  first_both before (line ∷ lines) m n (inl f) g = let l = first_above Q before (line ∷ lines) n g in inl (inl f.0, omega (arith, f.1, l))
+  first_both before (line ∷ lines) m n (inr f) (inl g) = let l = first_above P before (line ∷ lines) m (inr f) in inl (inr g.0, omega (arith, g.1, l))
+  first_both before (line ∷ lines) m n (inr f) (inr g) = inr (neither f.0 g.0, first_both (before ++ line ∷ []) lines m n f.1 g.1)
+
+abbrev pub Repeats : List Line → Option ℕ → Type 0
+Repeats lines o = MatchOption o (NoLine IsRepeated [] lines) (IsFirstLine IsRepeated [] lines)
+
+abbrev pub Resolves : List Line → List Insn → Option ℕ → Type 0
+Resolves lines t o = MatchOption o (NoLine IsUnresolved [] lines × Mean lines t) (IsFirstLine IsUnresolved [] lines)
+
+pub label_fault : (lines : List Line) (t : List Insn) (a b : Option ℕ) (n : ℕ) → Repeats lines a → Resolves lines t b → least a b ≡ Some n → IsFirstLine HasLabelFault [] lines n
+label_fault lines t None None n h k e = absurd cc
+label_fault lines t None (Some m) n h k e = let f : m ≡ n = cc in subst (IsFirstLine HasLabelFault [] lines) f (first_right IsRepeated IsUnresolved [] lines m h k)
+label_fault lines t (Some m) None n h k e = let f : m ≡ n = cc in subst (IsFirstLine HasLabelFault [] lines) f (first_left IsRepeated IsUnresolved [] lines m h k.0)
+label_fault lines t (Some m) (Some l) n h k e = let f : min m l ≡ n = cc in subst (IsFirstLine HasLabelFault [] lines) f (first_both IsRepeated IsUnresolved [] lines m l h k)
+
+pub no_label : (lines : List Line) (t : List Insn) (a b : Option ℕ) → Repeats lines a → Resolves lines t b → least a b ≡ None → NoLine IsRepeated [] lines × Mean lines t
+no_label lines t None None h k e = (h, k.1)
+no_label lines t None (Some m) h k e = absurd cc
+no_label lines t (Some m) None h k e = absurd cc
+no_label lines t (Some m) (Some l) h k e = absurd cc
