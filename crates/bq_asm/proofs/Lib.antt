@@ -13,3 +13,4 @@ pub mod Resolving
 pub mod Unique
 pub mod Lines
 pub mod Encoded
+pub mod Writing

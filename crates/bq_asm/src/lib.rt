@@ -6,6 +6,7 @@ pub mod disassemble;
 pub mod fault;
 pub mod jump;
 pub mod labels;
+pub mod laws;
 pub mod line;
 pub mod machine;
 pub mod mnemonic;

@@ -1,0 +1,5 @@
+use Rattle.bq_asm.proofs.Writing.{disassembly_spells}
+use Rattle.bq_asm.proofs.laws.disassembly_spells_the_text.Goals as goal
+
+pub returns : goal.returns
+returns c = λ t x. disassembly_spells t x.insns
