@@ -3,3 +3,4 @@ pub mod Calls
 pub mod Sessions
 pub mod State
 pub mod Nodes
+pub mod Faults

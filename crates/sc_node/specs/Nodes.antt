@@ -7,7 +7,7 @@ use Rattle.std.specs.FinSet as set
 use Rattle.sc_view.specs.declared.view.Stored.{Stored}
 use Rattle.sc_view.specs.Views.{ViewMap, most_entries, put, merge}
 use Rattle.sc_members.specs.Ids.{Ids}
-use Rattle.sc_members.specs.Members.{Facts, Config, most_facts, no_facts, founding, present, members, threshold, union_facts, with_entered, with_joined, with_left}
+use Rattle.sc_members.specs.Members.{Facts, Config, is_overfull, no_facts, founding, present, members, threshold, union_facts, with_entered, with_joined, with_left}
 use Rattle.sc_msg.specs.declared.message.Message.{Message}
 use Rattle.sc_msg.specs.declared.message.Body.{Body}
 use Rattle.sc_msg.specs.declared.message.Body.TheVariants.{Enter, EnterEcho, Join, JoinEcho, Leave, LeaveEcho, Store, StoreAck, StoreEcho, CollectQuery, CollectReply}
@@ -37,9 +37,6 @@ most_founders = 256
 
 abbrev pub is_view_full : ViewMap → Bool
 is_view_full v = nat_lt most_entries (fin.len v)
-
-abbrev pub is_facts_full : Facts → Bool
-is_facts_full f = nat_lt most_facts (set.len f.entered) || (nat_lt most_facts (set.len f.joined) || nat_lt most_facts (set.len f.left))
 
 -- how many answers a phase waits for that begins now
 abbrev pub beta_threshold : NodeState → ℕ
@@ -159,6 +156,10 @@ abbrev pub store_back : Option Progress → List Body
 store_back None = []
 store_back (Some p) = store_of p.tag p.advance
 
+-- at this reply the query phase of a collect ends, and the view is stored back
+abbrev pub turned : NodeState → ℕ → ℕ → ViewMap → Progress
+turned n from tag view = record { tag = tag; sender = from; advance = advance.Turned (beta_threshold n) view }
+
 -- what a node answers
 abbrev pub answers : NodeState → ℕ → Body → List Body
 answers n from Enter = EnterEcho from n.joined (facts_heard n from Enter) n.view ∷ []
@@ -200,8 +201,15 @@ abbrev pub delivered : NodeState → Message → Result (Delivered × NodeState)
 delivered n m =
     if n.gone then Err fault.Gone
     else (if tells_view n m.body && is_view_full (view_after n m.body) then Err fault.ViewFull
-    else (if tells_facts m.body && is_facts_full (facts_after n m.from m.body) then Err fault.FactsFull
+    else (if tells_facts m.body && is_overfull (facts_after n m.from m.body) then Err fault.FactsFull
     else Ok (delivery n m.from m.body, node_after n m.from m.body)))
+
+-- the node stores back what a collect learned, and has that view from then on
+abbrev pub query_ended : NodeState → ℕ → ℕ → ViewMap → Delivered × NodeState
+query_ended n from tag view = (
+  record { outs = message_from n.id (Store tag view) ∷ []; progress = Some (turned n from tag view); ended = None },
+  record n { view = view; sessions = sessions_after n.sessions (Some (turned n from tag view)) },
+)
 
 -- the view that a collect returns where this message ends it
 abbrev pub returning : NodeState → Message → Option ViewMap
@@ -255,7 +263,7 @@ collect_begun n =
 abbrev pub left : NodeState → Result (List Message × NodeState) NodeFault
 left n =
     if n.gone then Err fault.Gone
-    else (if is_facts_full (with_left n.facts n.id) then Err fault.FactsFull
+    else (if is_overfull (with_left n.facts n.id) then Err fault.FactsFull
     else Ok (message_from n.id Leave ∷ [], record n { facts = with_left n.facts n.id; gone = true }))
 
 -- a node before its first event

@@ -87,6 +87,29 @@ advanced_by from advance.Ended s = counted s from
 abbrev pub apply : Progress → Session → Session
 apply p s = advanced_by p.sender p.advance s
 
+-- the phase in which an operation counts now
+abbrev pub open_phase : Option StoreBack → Option Phase → Option Phase
+open_phase None query = query
+open_phase (Some b) query = Some b.phase
+
+-- the phase in which a sender was counted
+abbrev pub counting_phase : Advance → Session → Option Phase
+counting_phase (advance.Turned threshold view) s = s.query
+counting_phase a s = open_phase s.back s.query
+
+abbrev pub phase_counting : Option Phase → Ids → Option Phase
+phase_counting None ids = None
+phase_counting (Some p) ids = Some (record { threshold = p.threshold; counted = ids })
+
+-- an operation with another query phase
+abbrev pub replied : Session → Option Phase → Session
+replied s query = record { kind = s.kind; query = query; back = s.back }
+
+-- an operation that counts these in the phase that is open
+abbrev pub with_counted : Session → Option StoreBack → Ids → Session
+with_counted s None ids = record { kind = s.kind; query = phase_counting s.query ids; back = None }
+with_counted s (Some b) ids = record { kind = s.kind; query = s.query; back = Some (record { view = b.view; phase = record { threshold = b.phase.threshold; counted = ids } }) }
+
 abbrev pub ends : Advance → Bool
 ends advance.Ended = true
 ends a = false

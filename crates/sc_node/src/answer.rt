@@ -1,3 +1,5 @@
+ghost use Rattle.std.specs.Prelude.{◌≡◌, Some, None, option_copied};
+
 use crate::outs::Outs;
 use crate::session::Session;
 use sc_view::view::View;
@@ -55,4 +57,39 @@ pub struct Delivered {
     pub progress: Option<Progress>,
     /// The operation that the message ended.
     pub ended: Option<Ended>,
+}
+
+impl Delivered {
+    /// Only these messages are sent.
+    pub(crate) fn sending(outs: Outs) -> Delivered
+        ensures { result ≡ record { outs = outs; progress = None; ended = None } }
+    {
+        Delivered {
+            outs,
+            progress: None,
+            ended: None,
+        }
+    }
+
+    /// These messages are sent, and an operation is moved that goes on.
+    pub(crate) fn moving(outs: Outs, tag: u64, sender: u64, advance: Advance) -> Delivered
+        ensures { result ≡ record { outs = outs; progress = Some (record { tag = tag; sender = sender; advance = advance }); ended = None } }
+    {
+        Delivered {
+            outs,
+            progress: Some(Progress {
+                tag,
+                sender,
+                advance,
+            }),
+            ended: None,
+        }
+    }
+
+    /// The operation that the message ended.
+    pub fn ended(&self) -> Option<&Ended>
+        ensures { option_copied result ≡ self.now.ended }
+    {
+        self.ended.as_ref()
+    }
 }

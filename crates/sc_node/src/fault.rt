@@ -1,3 +1,12 @@
+//! Why a call is refused, each reason with its number and its name.
+
+ghost use Rattle.std.specs.Prelude.{◌≡◌};
+ghost use Rattle.sc_node.specs.Faults.{fault_number, fault_name};
+
+use sc_members::facts::FactsFault;
+use sc_view::view::ViewFault;
+use std::alloc::{AllocError, AllocFailed};
+
 /// Why a call on a node is refused. After a refusal the node is as it was. Where several hold, the first of 42, 41,
 /// 43, 48, 46, 47, 99 is answered; 49 is the founders' alone.
 #[derive(Clone, Copy, Debug, PartialEq, Eq)]
@@ -18,4 +27,88 @@ pub enum NodeFault {
     BadFounders,
     /// 99: memory was refused.
     OutOfMemory,
+}
+
+impl NodeFault {
+    /// The number by which the fault is reported.
+    pub fn number(&self) -> u8
+        ensures { result ≡ fault_number self.now }
+    {
+        match self {
+            NodeFault::NotJoined => 41,
+            NodeFault::Gone => 42,
+            NodeFault::SessionsFull => 43,
+            NodeFault::ViewFull => 46,
+            NodeFault::FactsFull => 47,
+            NodeFault::NumbersOut => 48,
+            NodeFault::BadFounders => 49,
+            NodeFault::OutOfMemory => 99,
+        }
+    }
+
+    /// The name by which the fault is reported.
+    pub fn name(&self) -> &'static str
+        ensures { result.now ≡ fault_name self.now }
+    {
+        match self {
+            NodeFault::NotJoined => "NotJoined",
+            NodeFault::Gone => "Gone",
+            NodeFault::SessionsFull => "SessionsFull",
+            NodeFault::ViewFull => "ViewFull",
+            NodeFault::FactsFull => "FactsFull",
+            NodeFault::NumbersOut => "NumbersOut",
+            NodeFault::BadFounders => "BadFounders",
+            NodeFault::OutOfMemory => "OutOfMemory",
+        }
+    }
+}
+
+impl From<AllocError> for NodeFault {
+    ghost use Rattle.std.specs.Prelude.{◌≡◌};
+    ghost use Rattle.sc_node.specs.declared.fault.NodeFault.TheVariants.{OutOfMemory};
+
+    ghost from_gives = { λ _ e. e ≡ OutOfMemory };
+
+    fn from(_: AllocError) -> NodeFault {
+        NodeFault::OutOfMemory
+    }
+}
+
+impl<T: Drop> From<AllocFailed<T>> for NodeFault {
+    ghost use Rattle.std.specs.Prelude.{◌≡◌};
+    ghost use Rattle.sc_node.specs.declared.fault.NodeFault.TheVariants.{OutOfMemory};
+
+    ghost from_gives = { λ _ e. e ≡ OutOfMemory };
+
+    fn from(_: AllocFailed<T>) -> NodeFault {
+        NodeFault::OutOfMemory
+    }
+}
+
+impl From<ViewFault> for NodeFault {
+    ghost use Rattle.std.specs.Prelude.{◌≡◌};
+    ghost use Rattle.sc_node.specs.Faults.{of_view};
+
+    ghost from_gives = { λ fault e. e ≡ of_view fault };
+
+    fn from(fault: ViewFault) -> NodeFault {
+        match fault {
+            ViewFault::Full => NodeFault::ViewFull,
+            ViewFault::OutOfMemory => NodeFault::OutOfMemory,
+        }
+    }
+}
+
+impl From<FactsFault> for NodeFault {
+    ghost use Rattle.std.specs.Prelude.{◌≡◌};
+    ghost use Rattle.sc_node.specs.Faults.{of_facts};
+
+    ghost from_gives = { λ fault e. e ≡ of_facts fault };
+
+    fn from(fault: FactsFault) -> NodeFault {
+        match fault {
+            FactsFault::Full => NodeFault::FactsFull,
+            FactsFault::OutOfMemory => NodeFault::OutOfMemory,
+        }
+    }
 }

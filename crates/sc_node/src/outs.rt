@@ -1,5 +1,8 @@
+ghost use Rattle.std.specs.Prelude.{◌≡◌, ◌==◌, ◌+◌, ◌≤◌, [], ◌∷◌, ◌++◌, length, vec_len, vec_capacity, slice_get, option_copied};
+
 use sc_msg::message::{Body, Message};
 use smallvec::SmallVec;
+use std::alloc::Global;
 use std::marker::Model;
 
 /// A message in its place; an unused place holds some message.
@@ -38,4 +41,66 @@ impl Model for Outs {
     ghost view = { λ a. map (λ s. s.message) a.slots.items };
 
     ghost invariant = { λ a. length a.slots.items ≤ 2 };
+}
+
+impl Outs {
+    /// No message.
+    pub fn none(alloc: Global) -> Outs
+        ensures { result ≡ [] }
+    {
+        Outs {
+            slots: SmallVec::new(alloc),
+        }
+    }
+
+    /// One message, which takes no memory.
+    pub fn one(alloc: Global, message: Message) -> Outs
+        ensures { result ≡ message ∷ [] }
+    {
+        let mut slots = SmallVec::new(alloc);
+        slots.push_reserved(Slot { message });
+        Outs { slots }
+    }
+
+    /// Two messages, which take no memory.
+    pub fn two(alloc: Global, first: Message, second: Message) -> Outs
+        ensures { result ≡ first ∷ second ∷ [] }
+    {
+        let mut slots = SmallVec::new(alloc);
+        slots.push_reserved(Slot { message: first });
+        slots.push_reserved(Slot { message: second });
+        Outs { slots }
+    }
+
+    /// How many there are.
+    pub fn len(&self) -> usize
+        ensures value { result ≡ length self.now }
+        ensures few { length self.now ≤ 2 }
+    {
+        self.slots.len()
+    }
+
+    pub fn is_empty(&self) -> bool
+        ensures { result ≡ (length self.now == 0) }
+    {
+        self.slots.is_empty()
+    }
+
+    /// The message in that place, counted from 0.
+    pub fn get(&self, index: usize) -> Option<&Message>
+        ensures { option_copied result ≡ slice_get self.now index }
+    {
+        let slot = self.slots.get(index)?;
+        Some(&slot.message)
+    }
+
+    /// Puts the messages behind those that were sent, where there is room for them. Takes no memory.
+    pub fn append_to(self, sent: &mut Vec<Message>)
+        requires { vec_len sent.old + length self ≤ vec_capacity sent.old }
+        ensures { sent.new.items ≡ sent.old.items ++ self }
+    {
+        for slot in self.slots {
+            sent.push_reserved(slot.message);
+        }
+    }
 }

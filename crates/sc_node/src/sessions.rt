@@ -1,4 +1,13 @@
-use crate::session::Session;
+ghost use Rattle.std.specs.Prelude.{◌≡◌, ℕ, Some, false, OnOk, OnErr, option_copied};
+ghost use Rattle.std.specs.FinMap as fin;
+ghost use Rattle.sc_node.specs.Sessions.{querying, storing, ends, ended_with, ended_at, ended_by, ended_view};
+ghost use Rattle.sc_node.specs.Nodes.{sessions_after, ack_progress, ended_session};
+ghost use Rattle.sc_node.specs.declared.answer.Advance.TheVariants as Advance;
+
+use crate::answer::{Advance, Completion, Ended};
+use crate::session::{Kind, Phase, Session, StoreBack};
+use sc_view::view::View;
+use std::alloc::{AllocError, Global};
 use std::collections::BTreeMap;
 use std::marker::Model;
 
@@ -20,4 +29,113 @@ impl Model for Sessions {
     ghost coded = { fin.code coded_ℕ session.the_row.coded };
 
     ghost view = { λ a. fin.from_entries a.entries.entries };
+}
+
+impl Sessions {
+    /// No open operation.
+    pub fn new(alloc: Global) -> Sessions
+        ensures { result ≡ fin.empty }
+    {
+        Sessions {
+            entries: BTreeMap::new(alloc),
+        }
+    }
+
+    /// How many are open.
+    pub fn len(&self) -> usize
+        ensures { result ≡ fin.len self.now }
+    {
+        self.entries.len()
+    }
+
+    /// The operation, if it is open.
+    pub fn get(&self, tag: u64) -> Option<&Session>
+        ensures { option_copied result ≡ fin.get self.now tag }
+    {
+        self.entries.get(&tag)
+    }
+
+    /// The query phase of an operation that is in it.
+    pub fn querying(&self, tag: u64) -> Option<&Phase>
+        ensures { option_copied result ≡ querying (fin.get self.now tag) }
+    {
+        let session = self.get(tag)?;
+        if session.back.is_some() {
+            return None;
+        }
+        session.query.as_ref()
+    }
+
+    /// The phase of an operation that is stored, or stored back.
+    pub fn storing(&self, tag: u64) -> Option<&Phase>
+        ensures { option_copied result ≡ storing (fin.get self.now tag) }
+    {
+        match &self.get(tag)?.back {
+            Some(back) => Some(&back.phase),
+            None => None,
+        }
+    }
+
+    /// The view that a collect returns, if it ends once this sender is counted.
+    pub fn returning(&self, tag: u64, sender: u64) -> Option<&View>
+        ensures { option_copied result ≡ (let moved = ack_progress sender tag (storing (fin.get self.now tag)) in ended_view (ended_by moved (ended_session self.now moved))) }
+    {
+        let session = self.get(tag)?;
+        let Some(back) = &session.back else {
+            return None;
+        };
+        if session.kind != Kind::Collect || !back.phase.is_reached_with(sender) {
+            return None;
+        }
+        Some(&back.view)
+    }
+
+    /// Opens an operation. At Err the operations are as they were.
+    pub fn insert(&mut self, tag: u64, session: Session) -> Result<(), AllocError>
+        ensures ok { OnOk result (self.new ≡ fin.insert self.old tag session) }
+        ensures err { OnErr result (self.new ≡ self.old) }
+    {
+        self.entries.insert(tag, session)?;
+        Ok(())
+    }
+
+    /// Moves an operation that goes on. At Err the operations are as they were.
+    pub fn advance(
+        &mut self,
+        alloc: Global,
+        tag: u64,
+        sender: u64,
+        advance: Advance,
+    ) -> Result<(), AllocError>
+        requires { ends advance ≡ false }
+        ensures ok { OnOk result (self.new ≡ sessions_after self.old (Some (record { tag = tag; sender = sender; advance = advance }))) }
+        ensures err { OnErr result (self.new ≡ self.old) }
+    {
+        let Some(session) = self.entries.get_mut(&tag) else {
+            return Ok(());
+        };
+        session.take(alloc, sender, advance)?;
+        Ok(())
+    }
+
+    /// Ends an operation, and gives what it ends with.
+    pub fn end(&mut self, tag: u64) -> Option<Ended>
+        ensures ended { result ≡ ended_at tag Advance.Ended (fin.get self.old tag) }
+        ensures removed { (sender : ℕ) → self.new ≡ sessions_after self.old (Some (record { tag = tag; sender = sender; advance = Advance.Ended })) }
+    {
+        let session = self.entries.remove(&tag)?;
+        ended_with(tag, session)
+    }
+}
+
+// What an operation ends with, where it is stored or stored back.
+fn ended_with(tag: u64, session: Session) -> Option<Ended>
+    ensures { result ≡ ended_with tag session.kind session.back }
+{
+    let StoreBack { view, .. } = session.back?;
+    let what = match session.kind {
+        Kind::Store(_) => Completion::Stored,
+        Kind::Collect => Completion::Returned(view),
+    };
+    Some(Ended { tag, what })
 }

@@ -1,0 +1,78 @@
+-- When the facts of a node that enters or joins are too many.
+use Rattle.std.proofs.Common.{◌≡◌, ℕ, ◌≤◌, ◌+◌, Bool, true, false, ◌||◌, nat_lt, cond, Result, Ok, Err, IsErrAnd, is_err, true≢false, ◌<◌, refl, sym, ap, ◌∙◌, arith}
+use Rattle.std.specs.Ordering.{nat_cmp}
+use Rattle.std.specs.Cmp.{nat_cmp_total}
+use Rattle.std.specs.FinSet as set
+use Rattle.std.specs.FinMap as fin
+use Rattle.sc_members.specs.Ids.{Ids}
+use Rattle.sc_members.specs.Members.{Facts, most_facts, is_overfull, no_facts, union_facts, with_entered, with_joined}
+use Rattle.sc_members.specs.declared.facts.FactsFault.{FactsFault}
+use Rattle.sc_members.specs.declared.facts.FactsFault.TheVariants as facts
+use Rattle.sc_view.specs.Views.{ViewMap, most_entries, merge}
+use Rattle.sc_msg.specs.declared.message.Body.TheVariants.{EnterEcho}
+use Rattle.sc_node.specs.declared.answer.Delivered.{Delivered}
+use Rattle.sc_node.specs.declared.fault.NodeFault.{NodeFault}
+use Rattle.sc_node.specs.declared.fault.NodeFault.TheVariants as fault
+use Rattle.sc_node.specs.State.{NodeState}
+use Rattle.sc_node.specs.Calls.{Steps}
+use Rattle.sc_node.specs.Faults.{of_facts}
+use Rattle.sc_node.specs.Nodes.{is_view_full, message_from, joins, node_after, delivery, facts_after, delivered}
+
+few : (a b c : ℕ) → a ≤ most_facts → b ≤ most_facts → c ≤ most_facts → (nat_lt most_facts a || (nat_lt most_facts b || nat_lt most_facts c)) ≡ false
+few a b c p q r = grind (arith, p, q, r)
+
+at_most_one_more : (b : Bool) (n : ℕ) → cond b n (n + 1) ≤ n + 1
+at_most_one_more true n = omega arith
+at_most_one_more false n = omega arith
+
+no_less : (b : Bool) (n : ℕ) → n ≤ cond b n (n + 1)
+no_less true n = omega arith
+no_less false n = omega arith
+
+-- who enters knows of itself alone
+pub entering_few : (id : ℕ) → is_overfull (with_entered no_facts id) ≡ false
+entering_few id =
+    let none : Ids = set.empty in
+    few (set.len (set.insert none id)) (set.len none) (set.len none)
+    (omega (arith, set.len-insert nat_cmp_total none id, at_most_one_more (set.contains none id) (set.len none), set.len-empty nat_cmp))
+    (omega (arith, set.len-empty nat_cmp)) (omega (arith, set.len-empty nat_cmp))
+
+grows : (s : Ids) (id : ℕ) → set.len s ≤ set.len (set.insert s id)
+grows s id = omega (arith, set.len-insert nat_cmp_total s id, no_less (set.contains s id) (set.len s))
+
+more : (a b c x y : ℕ) → a ≤ x → b ≤ y → (nat_lt most_facts a || (nat_lt most_facts b || nat_lt most_facts c)) ≡ true → (nat_lt most_facts x || (nat_lt most_facts y || nat_lt most_facts c)) ≡ true
+more a b c x y p q is = grind (arith, p, q, is)
+
+-- facts that are too many stay so where a node joins
+pub overfull_joined : (f : Facts) (id : ℕ) → is_overfull f ≡ true → is_overfull (with_joined f id) ≡ true
+overfull_joined f id is =
+    more (set.len f.entered) (set.len f.joined) (set.len f.left) (set.len (set.insert f.entered id)) (set.len (set.insert f.joined id))
+    (grows f.entered id) (grows f.joined id) is
+
+overfull_after : (b : Bool) (f : Facts) (id : ℕ) → is_overfull f ≡ true → is_overfull (cond b (with_joined f id) f) ≡ true
+overfull_after true f id is = overfull_joined f id is
+overfull_after false f id is = is
+
+is_room : (a b : ℕ) → (a < b → ⊥) → nat_lt a b ≡ false
+is_room a b h = grind (arith, h)
+
+-- an echo for this node with too many facts is refused, whether the node joins or not
+pub too_many : (n : NodeState) (from : ℕ) (j : Bool) (f : Facts) (v : ViewMap) → n.gone ≡ false → (most_entries < fin.len (merge n.view v) → ⊥)
+    → is_overfull (union_facts n.facts f) ≡ true → delivered n (message_from from (EnterEcho n.id j f v)) ≡ Err fault.FactsFull
+too_many n from j f v here room over =
+    let said = EnterEcho n.id j f v in
+    let taken : Result (Delivered × NodeState) NodeFault = Ok (delivery n from said, node_after n from said) in
+    let if_facts : Result (Delivered × NodeState) NodeFault = cond (is_overfull (facts_after n from said)) (Err fault.FactsFull) taken in
+    ap (λ b. cond b (Err fault.Gone) (cond (is_view_full (merge n.view v)) (Err fault.ViewFull) if_facts)) here
+    ∙ ap (λ b. cond b (Err fault.ViewFull) if_facts) (is_room most_entries (fin.len (merge n.view v)) room)
+    ∙ ap (λ b. cond b (Err fault.FactsFull) taken) (overfull_after (joins n from said) (union_facts n.facts f) n.id over)
+
+pub ok_is_no_err : {A E : Type 0} (a : A) (e : E) → Ok a ≡ Err e → ⊥
+ok_is_no_err a e is = true≢false (sym (ap is_err is))
+
+-- a call that facts refuse
+pub refused : (said : Result (Delivered × NodeState) NodeFault) (n : NodeState) (why : FactsFault) (r : Result Delivered NodeFault)
+    → IsErrAnd r (λ e. e ≡ of_facts why) → (why ≡ facts.Full → said ≡ Err fault.FactsFull) → Steps fault.OutOfMemory said n n r
+refused said n why (Ok d) same h = absurd same
+refused said n facts.Full (Err e) same h = (refl, λ _. h refl ∙ ap Err (sym same))
+refused said n facts.OutOfMemory (Err e) same h = (refl, λ other. absurd (other same))

@@ -1,0 +1,274 @@
+//! What a node does at each kind of message, where it has not left.
+
+ghost use Rattle.std.specs.Prelude.{◌≡◌, false, ◌&&◌, is_none, [], Some, None, Ok, if◌then◌else◌};
+ghost use Rattle.std.specs.FinSet as set;
+ghost use Rattle.sc_node.specs.Calls.{Steps};
+ghost use Rattle.sc_node.specs.declared.fault.NodeFault.TheVariants as NodeFault;
+ghost use Rattle.sc_node.specs.Nodes.{message_from, delivered, gamma_threshold, is_met, query_ended};
+ghost use Rattle.sc_msg.specs.declared.message.Body.TheVariants.{Enter, EnterEcho, Join, JoinEcho, Leave, LeaveEcho, Store, StoreAck, StoreEcho, CollectQuery, CollectReply};
+
+use super::Node;
+use crate::answer::{Advance, Delivered, Progress};
+use crate::fault::NodeFault;
+use crate::outs::Outs;
+use sc_members::facts::Facts;
+use sc_msg::message::Body;
+use sc_view::view::View;
+
+impl Node {
+    pub(super) fn on_enter(&mut self, from: u64) -> Result<Delivered, NodeFault>
+        requires { self.old.gone ≡ false }
+        ensures { Steps NodeFault.OutOfMemory (delivered self.old (message_from from Enter)) self.old self.new result }
+    {
+        let facts = self.facts.with_entered(from)?;
+        let echo = Body::EnterEcho {
+            to: from,
+            joined: self.joined,
+            facts: facts.clone()?,
+            view: self.view.clone()?,
+        };
+        self.facts = facts;
+        Ok(Delivered::sending(Outs::one(self.alloc, self.says(echo))))
+    }
+
+    pub(super) fn on_join(&mut self, from: u64) -> Result<Delivered, NodeFault>
+        requires { self.old.gone ≡ false }
+        ensures { Steps NodeFault.OutOfMemory (delivered self.old (message_from from Join)) self.old self.new result }
+    {
+        self.facts = self.facts.with_joined(from)?;
+        let echo = self.says(Body::JoinEcho { about: from });
+        Ok(Delivered::sending(Outs::one(self.alloc, echo)))
+    }
+
+    pub(super) fn on_join_echo(&mut self, from: u64, about: u64) -> Result<Delivered, NodeFault>
+        requires { self.old.gone ≡ false }
+        ensures { Steps NodeFault.OutOfMemory (delivered self.old (message_from from (JoinEcho about))) self.old self.new result }
+    {
+        self.facts = self.facts.with_joined(about)?;
+        Ok(self.silent())
+    }
+
+    pub(super) fn on_leave(&mut self, from: u64) -> Result<Delivered, NodeFault>
+        requires { self.old.gone ≡ false }
+        ensures { Steps NodeFault.OutOfMemory (delivered self.old (message_from from Leave)) self.old self.new result }
+    {
+        self.facts = self.facts.with_left(from)?;
+        let echo = self.says(Body::LeaveEcho { about: from });
+        Ok(Delivered::sending(Outs::one(self.alloc, echo)))
+    }
+
+    pub(super) fn on_leave_echo(&mut self, from: u64, about: u64) -> Result<Delivered, NodeFault>
+        requires { self.old.gone ≡ false }
+        ensures { Steps NodeFault.OutOfMemory (delivered self.old (message_from from (LeaveEcho about))) self.old self.new result }
+    {
+        self.facts = self.facts.with_left(about)?;
+        Ok(self.silent())
+    }
+
+    /// Learns the view, and acknowledges it.
+    pub(super) fn on_store(
+        &mut self,
+        from: u64,
+        tag: u64,
+        view: &View,
+    ) -> Result<Delivered, NodeFault>
+        requires { self.old.gone ≡ false }
+        ensures { Steps NodeFault.OutOfMemory (delivered self.old (message_from from (Store tag view.now))) self.old self.new result }
+    {
+        let learned = self.view.merged(view)?;
+        if !self.joined {
+            self.view = learned;
+            return Ok(self.silent());
+        }
+        let ack = self.says(Body::StoreAck { to: from, tag });
+        let echo = self.says(Body::StoreEcho {
+            view: learned.clone()?,
+        });
+        self.view = learned;
+        Ok(Delivered::sending(Outs::two(self.alloc, ack, echo)))
+    }
+
+    pub(super) fn on_store_echo(&mut self, from: u64, view: &View) -> Result<Delivered, NodeFault>
+        requires { self.old.gone ≡ false }
+        ensures { Steps NodeFault.OutOfMemory (delivered self.old (message_from from (StoreEcho view.now))) self.old self.new result }
+    {
+        self.view = self.view.merged(view)?;
+        Ok(self.silent())
+    }
+
+    /// Tells what it knows.
+    pub(super) fn on_collect_query(&mut self, from: u64, tag: u64) -> Result<Delivered, NodeFault>
+        requires { self.old.gone ≡ false }
+        ensures { Steps NodeFault.OutOfMemory (delivered self.old (message_from from (CollectQuery tag))) self.old self.new result }
+    {
+        if !self.joined {
+            return Ok(self.silent());
+        }
+        let reply = self.says(Body::CollectReply {
+            to: from,
+            tag,
+            view: self.view.clone()?,
+        });
+        Ok(Delivered::sending(Outs::one(self.alloc, reply)))
+    }
+
+    pub(super) fn on_enter_echo(
+        &mut self,
+        from: u64,
+        to: u64,
+        joined: bool,
+        facts: &Facts,
+        view: &View,
+    ) -> Result<Delivered, NodeFault>
+        requires { self.old.gone ≡ false }
+        ensures { Steps NodeFault.OutOfMemory (delivered self.old (message_from from (EnterEcho to joined facts.now view.now))) self.old self.new result }
+    {
+        if to == self.id && !self.joined {
+            return self.on_own_enter_echo(from, joined, facts, view);
+        }
+        let learned = self.view.merged(view)?;
+        self.facts = self.facts.united(facts)?;
+        self.view = learned;
+        Ok(self.silent())
+    }
+
+    // The echo is for this node, which has not joined. At enough echoes it joins.
+    fn on_own_enter_echo(
+        &mut self,
+        from: u64,
+        joined: bool,
+        facts: &Facts,
+        view: &View,
+    ) -> Result<Delivered, NodeFault>
+        requires here { self.old.gone ≡ false }
+        requires waits { self.old.joined ≡ false }
+        ensures { Steps NodeFault.OutOfMemory (delivered self.old (message_from from (EnterEcho self.old.id joined facts.now view.now))) self.old self.new result }
+    {
+        let learned = self.view.merged(view)?;
+        let heard = self.facts.united(facts)?;
+        let threshold = self.join_threshold_with(joined, &heard);
+        if !self.is_met_with(threshold, from) {
+            self.echoes.insert(from)?;
+            self.facts = heard;
+            self.view = learned;
+            self.join_threshold = threshold;
+            return Ok(self.silent());
+        }
+        let known = heard.with_joined(self.id)?;
+        self.echoes.insert(from)?;
+        self.facts = known;
+        self.view = learned;
+        self.join_threshold = threshold;
+        self.joined = true;
+        Ok(Delivered::sending(Outs::one(self.alloc, self.says(Body::Join))))
+    }
+
+    // How many echoes the node waits for once it has this one: the first of a joined node sets it.
+    fn join_threshold_with(&self, joined: bool, heard: &Facts) -> Option<u64>
+        ensures { result ≡ (if joined && is_none self.now.join_threshold then Some (gamma_threshold self.now heard.now) else self.now.join_threshold) }
+    {
+        if joined && self.join_threshold.is_none() {
+            return Some(self.config.gamma_threshold(heard.present()));
+        }
+        self.join_threshold
+    }
+
+    // Whether enough echoes came once this sender is counted.
+    fn is_met_with(&self, threshold: Option<u64>, sender: u64) -> bool
+        ensures { result ≡ is_met threshold (set.insert self.now.echoes sender) }
+    {
+        match threshold {
+            Some(threshold) => threshold <= self.echoes.len_with(sender) as u64,
+            None => false,
+        }
+    }
+
+    // The node sends nothing.
+    fn silent(&self) -> Delivered
+        ensures { result ≡ record { outs = []; progress = None; ended = None } }
+    {
+        Delivered::sending(Outs::none(self.alloc))
+    }
+
+    /// Counts the acknowledgement. At enough of them the operation ends.
+    pub(super) fn on_store_ack(
+        &mut self,
+        from: u64,
+        to: u64,
+        tag: u64,
+    ) -> Result<Delivered, NodeFault>
+        requires { self.old.gone ≡ false }
+        ensures { Steps NodeFault.OutOfMemory (delivered self.old (message_from from (StoreAck to tag))) self.old self.new result }
+    {
+        if to != self.id {
+            return Ok(self.silent());
+        }
+        let Some(phase) = self.sessions.storing(tag) else {
+            return Ok(self.silent());
+        };
+        if phase.is_reached_with(from) {
+            let ended = self.sessions.end(tag);
+            return Ok(Delivered {
+                outs: Outs::none(self.alloc),
+                progress: Some(Progress {
+                    tag,
+                    sender: from,
+                    advance: Advance::Ended,
+                }),
+                ended,
+            });
+        }
+        self.sessions
+            .advance(self.alloc, tag, from, Advance::Counted)?;
+        Ok(Delivered::moving(Outs::none(self.alloc), tag, from, Advance::Counted))
+    }
+
+    /// Counts the reply, and learns its view. At enough of them the view is stored back.
+    pub(super) fn on_collect_reply(
+        &mut self,
+        from: u64,
+        to: u64,
+        tag: u64,
+        view: &View,
+    ) -> Result<Delivered, NodeFault>
+        requires { self.old.gone ≡ false }
+        ensures { Steps NodeFault.OutOfMemory (delivered self.old (message_from from (CollectReply to tag view.now))) self.old self.new result }
+    {
+        if to != self.id {
+            return Ok(self.silent());
+        }
+        let Some(phase) = self.sessions.querying(tag) else {
+            return Ok(self.silent());
+        };
+        let learned = self.view.merged(view)?;
+        if phase.is_reached_with(from) {
+            return self.store_back(from, tag, learned);
+        }
+        self.sessions
+            .advance(self.alloc, tag, from, Advance::Counted)?;
+        self.view = learned;
+        Ok(Delivered::moving(Outs::none(self.alloc), tag, from, Advance::Counted))
+    }
+
+    // Stores back the view, which is the node's from now on: the query phase ends with this sender's reply.
+    fn store_back(&mut self, from: u64, tag: u64, view: View) -> Result<Delivered, NodeFault>
+        ensures { Steps NodeFault.OutOfMemory (Ok (query_ended self.old from tag view)) self.old self.new result }
+    {
+        let threshold = self.beta_threshold();
+        let store = self.says(Body::Store {
+            tag,
+            view: view.clone()?,
+        });
+        let turned = Advance::Turned {
+            threshold,
+            view: view.clone()?,
+        };
+        let kept = Advance::Turned {
+            threshold,
+            view: view.clone()?,
+        };
+        self.sessions.advance(self.alloc, tag, from, kept)?;
+        self.view = view;
+        Ok(Delivered::moving(Outs::one(self.alloc, store), tag, from, turned))
+    }
+}
