@@ -116,7 +116,7 @@ pub memory_again : (b : ℕ) (o : ℤ) → b < 11 → FitsSigned w16 o → memor
 unfolding memory_at
 memory_again b o l h =
     ap (λ q. q >>= λ p. cond (eqb (length p.1) 0) (place_at p.0) None)
-      (cut_at 93 (register b ++ distance o) [] (lacks_append 93 (register b) (distance o) (register_lacks 93 b l refl refl) (distance_lacks 93 o (wider o h) refl refl refl)))
+    (cut_at 93 (register b ++ distance o) [] (lacks_append 93 (register b) (distance o) (register_lacks 93 b l refl refl) (distance_lacks 93 o (wider o h) refl refl refl)))
     ∙ place_again b o l h
 
 -- ---- names
@@ -178,7 +178,7 @@ listed_ends [] text w h = subst Ends (sym h) refl
 listed_ends (x ∷ []) text w h = subst Ends (sym h) (clean_ends x w.0.clean)
 listed_ends (x ∷ y ∷ xs) text w h =
     subst Ends (append_assoc x h.0 h.1 ∙ sym h.4)
-      (ends_append (x ++ h.0) h.1 (listed_starts (y ∷ xs) h.1 tt w.1 h.3) (listed_ends (y ∷ xs) h.1 w.1 h.3))
+    (ends_append (x ++ h.0) h.1 (listed_starts (y ∷ xs) h.1 tt w.1 h.3) (listed_ends (y ∷ xs) h.1 w.1 h.3))
 
 -- no operand has the byte k, nor has a comma
 pub listed_lacks : (k : ℕ) → ((s : List ℕ) → Word s → Lacks k s) → eqb 32 k ≡ false → eqb 44 k ≡ false → (xs : List (List ℕ)) (text : List ℕ) → Words xs → AreListed xs text → Lacks k text
@@ -187,9 +187,9 @@ listed_lacks k f a b (x ∷ []) text w h = subst (Lacks k) (sym h) (f x w.0)
 listed_lacks k f a b (x ∷ y ∷ xs) text w h =
     let c = h.2 in
     subst (Lacks k) (sym h.4) (lacks_append k x (h.0 ++ h.1) (f x w.0)
-      (lacks_append k h.0 h.1
-        (subst (Lacks k) (sym c.parts) (lacks_append k c.before (44 ∷ c.after) (spaces_lack k c.before a c.spaces_before) (b, spaces_lack k c.after a c.spaces_after)))
-        (listed_lacks k f a b (y ∷ xs) h.1 w.1 h.3)))
+    (lacks_append k h.0 h.1
+    (subst (Lacks k) (sym c.parts) (lacks_append k c.before (44 ∷ c.after) (spaces_lack k c.before a c.spaces_before) (b, spaces_lack k c.after a c.spaces_after)))
+    (listed_lacks k f a b (y ∷ xs) h.1 w.1 h.3)))
 
 -- the first operand, and the others
 pub pair_listed : (x y : List ℕ) (ys : List (List ℕ)) (text : List ℕ) → Words (x ∷ y ∷ ys) → AreListed (x ∷ y ∷ ys) text → (rest : List ℕ) × (pair_at text ≡ Some (x, rest)) × AreListed (y ∷ ys) rest
@@ -197,14 +197,15 @@ unfolding pair_at
 pair_listed x y ys text w h =
     let c = h.2 in
     let parts : text ≡ (x ++ c.before) ++ (44 ∷ (c.after ++ h.1)) =
-        h.4 ∙ ap (λ (s : List ℕ). x ++ (s ++ h.1)) c.parts ∙ ap (λ (s : List ℕ). x ++ s) (append_assoc c.before (44 ∷ c.after) h.1) ∙ sym (append_assoc x c.before (44 ∷ (c.after ++ h.1))) in
+    h.4 ∙ ap (λ (s : List ℕ). x ++ (s ++ h.1)) c.parts ∙ ap (λ (s : List ℕ). x ++ s) (append_assoc c.before (44 ∷ c.after) h.1) ∙ sym (append_assoc x c.before (44 ∷ (c.after ++ h.1))) in
     let lacks : Lacks 44 (x ++ c.before) = lacks_append 44 x c.before (clean_lacks 44 x no_comma w.0.clean) (spaces_lack 44 c.before refl c.spaces_before) in
     let first : trimmed (x ++ c.before) ≡ x = trimmed_between [] x c.before tt (word_starts x w.0) (clean_ends x w.0.clean) c.spaces_before in
     let second : trimmed (c.after ++ h.1) ≡ h.1 =
-        ap (λ (s : List ℕ). trimmed (c.after ++ s)) (sym (append-nil h.1)) ∙ trimmed_between c.after h.1 [] c.spaces_after (listed_starts (y ∷ ys) h.1 tt w.1 h.3) (listed_ends (y ∷ ys) h.1 w.1 h.3) tt in
-    (h.1,
-     ap pair_at parts ∙ ap (λ o. o >>= λ p. Some (trimmed p.0, trimmed p.1)) (cut_at 44 (x ++ c.before) (c.after ++ h.1) lacks) ∙ rw (first, second) refl,
-     h.3)
+    ap (λ (s : List ℕ). trimmed (c.after ++ s)) (sym (append-nil h.1)) ∙ trimmed_between c.after h.1 [] c.spaces_after (listed_starts (y ∷ ys) h.1 tt w.1 h.3) (listed_ends (y ∷ ys) h.1 w.1 h.3) tt in (
+      h.1,
+      ap pair_at parts ∙ ap (λ o. o >>= λ p. Some (trimmed p.0, trimmed p.1)) (cut_at 44 (x ++ c.before) (c.after ++ h.1) lacks) ∙ rw (first, second) refl,
+      h.3,
+    )
 
 pair_two : (x y text : List ℕ) → Word x → Word y → AreListed (x ∷ y ∷ []) text → pair_at text ≡ Some (x, y)
 pair_two x y text v w h = let p = pair_listed x y [] text (v, (w, tt)) h in p.1 ∙ ap (λ (s : List ℕ). Some (x, s)) p.2

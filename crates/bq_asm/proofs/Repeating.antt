@@ -61,7 +61,7 @@ module _ {S : Type 0} (all before after : List Line) where
   repeats names q k e = going_found IsRepeated all before (Label q.now) after (defined_from q.now before (sym (k.known q) ∙ e)) k.going
 
   pub keeps_new : (names new : HashSet (Bor (List ℕ)) S) (q : Bor (List ℕ)) → Keeps names all before (Label q.now ∷ after) → contains_by (λ k. bytes_eq q.now k.now) names ≡ false
-    → ((p : Bor (List ℕ)) → contains_by (λ k. bytes_eq p.now k.now) new ≡ cond (bytes_eq q.now p.now) true (contains_by (λ k. bytes_eq p.now k.now) names)) → Keeps new all (before ++ Label q.now ∷ []) after
+      → ((p : Bor (List ℕ)) → contains_by (λ k. bytes_eq p.now k.now) new ≡ cond (bytes_eq q.now p.now) true (contains_by (λ k. bytes_eq p.now k.now) names)) → Keeps new all (before ++ Label q.now ∷ []) after
   keeps_new names new q k e u = record {
     known = λ p. u p ∙ cond_or (bytes_eq q.now p.now) (contains_by (λ k. bytes_eq p.now k.now) names) ∙ ap (λ b. b || contains_by (λ k. bytes_eq p.now k.now) names) (bytes_eq_sym q.now p.now) ∙ ap (λ b. bytes_eq p.now q.now || b) (k.known p) ∙ sym (defines_push p.now before (Label q.now));
     going = going_on IsRepeated all before (Label q.now) after (λ h. false≢true (sym e ∙ k.known q ∙ defined_to q.now before h)) k.going;
@@ -86,17 +86,17 @@ module _ {S : Type 0} (names : HashSet (Bor (List ℕ)) S) (xs : List code.Line)
   pub found_repeated : (q : Bor (List ℕ)) → x ≡ said.Label q → contains_by (λ k. bytes_eq q.now k.now) names ≡ true → IsFirstLine IsRepeated [] (map line_view xs) (i + 1)
   found_repeated q f c =
       subst (λ n. IsFirstLine IsRepeated [] (map line_view xs) (n + 1)) (at line_view xs i x l e).len
-        (repeats (map line_view xs) (map line_view (take i xs)) (map line_view (drop (i + 1) xs)) names q
-          (subst (λ y. Keeps names (map line_view xs) (map line_view (take i xs)) (line_view y ∷ map line_view (drop (i + 1) xs))) f here) c)
+      (repeats (map line_view xs) (map line_view (take i xs)) (map line_view (drop (i + 1) xs)) names q
+      (subst (λ y. Keeps names (map line_view xs) (map line_view (take i xs)) (line_view y ∷ map line_view (drop (i + 1) xs))) f here) c)
 
   pub more_new : (new : HashSet (Bor (List ℕ)) S) (q : Bor (List ℕ)) → x ≡ said.Label q → contains_by (λ k. bytes_eq q.now k.now) names ≡ false
-    → ((p : Bor (List ℕ)) → contains_by (λ k. bytes_eq p.now k.now) new ≡ cond (bytes_eq q.now p.now) true (contains_by (λ k. bytes_eq p.now k.now) names)) → Keeps new (map line_view xs) (map line_view (take (i + 1) xs)) (map line_view (drop (i + 1) xs))
+      → ((p : Bor (List ℕ)) → contains_by (λ k. bytes_eq p.now k.now) new ≡ cond (bytes_eq q.now p.now) true (contains_by (λ k. bytes_eq p.now k.now) names)) → Keeps new (map line_view xs) (map line_view (take (i + 1) xs)) (map line_view (drop (i + 1) xs))
   more_new new q f c u =
       subst (λ v. Keeps new (map line_view xs) v (map line_view (drop (i + 1) xs))) (ap (λ y. map line_view (take i xs) ++ line_view y ∷ []) (sym f) ∙ sym (at line_view xs i x l e).front)
-        (keeps_new (map line_view xs) (map line_view (take i xs)) (map line_view (drop (i + 1) xs)) names new q
-          (subst (λ y. Keeps names (map line_view xs) (map line_view (take i xs)) (line_view y ∷ map line_view (drop (i + 1) xs))) f here) c u)
+      (keeps_new (map line_view xs) (map line_view (take i xs)) (map line_view (drop (i + 1) xs)) names new q
+      (subst (λ y. Keeps names (map line_view xs) (map line_view (take i xs)) (line_view y ∷ map line_view (drop (i + 1) xs))) f here) c u)
 
   pub more_other : ((q : Bor (List ℕ)) → x ≡ said.Label q → ⊥) → Keeps names (map line_view xs) (map line_view (take (i + 1) xs)) (map line_view (drop (i + 1) xs))
   more_other n =
       subst (λ v. Keeps names (map line_view xs) v (map line_view (drop (i + 1) xs))) (sym (at line_view xs i x l e).front)
-        (keeps_other (map line_view xs) (map line_view (take i xs)) (map line_view (drop (i + 1) xs)) names (line_view x) (no_label x n) here)
+      (keeps_other (map line_view xs) (map line_view (take i xs)) (map line_view (drop (i + 1) xs)) names (line_view x) (no_label x n) here)

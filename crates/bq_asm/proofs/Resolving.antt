@@ -79,41 +79,47 @@ module _ {S : Type 0} (all items front : List code.Line) (x : code.Line) (labels
 
   pub solve_blank : line_view x ≡ Blank → Solves all front labels total found unresolved
   solve_blank f = record {
-    later = x ∷ k.later; parts = parts;
+    later = x ∷ k.later;
+    parts = parts;
     placed = subst (λ y. IsPlaced labels total (y ∷ map line_view k.later)) (sym f) k.placed;
     few = (let h = k.few in omega arith);
     finds = subst (λ y. Finds (map line_view front) (y ∷ map line_view k.later) found unresolved) (sym f)
-      (skips (map line_view front) (map line_view k.later) Blank found unresolved (λ n. n) (λ m. m) (here Blank f));
+        (skips (map line_view front) (map line_view k.later) Blank found unresolved (λ n. n) (λ m. m) (here Blank f));
   }
 
   pub solve_label : (new : HashMap (Bor (List ℕ)) ℕ S) (q : Bor (List ℕ)) → line_view x ≡ Label q.now
-    → ((p : Bor (List ℕ)) → get_by (λ c. bytes_eq p.now c.now) new ≡ cond (bytes_eq q.now p.now) (Some total) (get_by (λ c. bytes_eq p.now c.now) labels)) → Solves all front new total found unresolved
+      → ((p : Bor (List ℕ)) → get_by (λ c. bytes_eq p.now c.now) new ≡ cond (bytes_eq q.now p.now) (Some total) (get_by (λ c. bytes_eq p.now c.now) labels)) → Solves all front new total found unresolved
   solve_label new q f u = record {
-    later = x ∷ k.later; parts = parts;
+    later = x ∷ k.later;
+    parts = parts;
     placed = λ p. subst (λ y. Places p.now total (y ∷ map line_view k.later) (get_by (λ c. bytes_eq p.now c.now) new)) (sym f)
-      (subst (Places p.now total (Label q.now ∷ map line_view k.later)) (sym (u p))
+        (subst (Places p.now total (Label q.now ∷ map line_view k.later)) (sym (u p))
         (placed_label p.now q.now total (map line_view k.later) (get_by (λ c. bytes_eq p.now c.now) labels) (bytes_eq q.now p.now) (bytes_eq_sym p.now q.now) (k.placed p)));
     few = (let h = k.few in omega arith);
     finds = subst (λ y. Finds (map line_view front) (y ∷ map line_view k.later) found unresolved) (sym f)
-      (skips (map line_view front) (map line_view k.later) (Label q.now) found unresolved (λ n. n) (λ m. m) (here (Label q.now) f));
+        (skips (map line_view front) (map line_view k.later) (Label q.now) found unresolved (λ n. n) (λ m. m) (here (Label q.now) f));
   }
 
   placed_next : (s : Statement) → line_view x ≡ Instruction s → IsPlaced labels (total + statement_units s) (line_view x ∷ map line_view k.later)
   placed_next s f p = subst (λ y. Places p.now (total + statement_units s) (y ∷ map line_view k.later) (get_by (λ c. bytes_eq p.now c.now) labels)) (sym f)
-    (placed_more p.now total (map line_view k.later) s (get_by (λ c. bytes_eq p.now c.now) labels) (k.placed p))
+      (placed_more p.now total (map line_view k.later) s (get_by (λ c. bytes_eq p.now c.now) labels) (k.placed p))
 
   pub solve_some : (s : Statement) (i : Insn) → line_view x ≡ Instruction s → ((later : List Line) → IsPlaced labels total later → Means s later i) → Solves all front labels (total + statement_units s) (found ++ i ∷ []) unresolved
   solve_some s i f m = record {
-    later = x ∷ k.later; parts = parts; placed = placed_next s f;
+    later = x ∷ k.later;
+    parts = parts;
+    placed = placed_next s f;
     few = (let h = k.few in let g = units_few s in omega arith);
     finds = subst (λ y. Finds (map line_view front) (y ∷ map line_view k.later) (found ++ i ∷ []) unresolved) (sym f)
-      (solved (map line_view front) (map line_view k.later) s found i unresolved (m (map line_view k.later) k.placed) (here (Instruction s) f));
+        (solved (map line_view front) (map line_view k.later) s found i unresolved (m (map line_view k.later) k.placed) (here (Instruction s) f));
   }
 
   pub solve_none : (s : Statement) (n : ℕ) → n ≡ length front → line_view x ≡ Instruction s → ((later : List Line) → IsPlaced labels total later → (i : Insn) → Means s later i → ⊥) → Solves all front labels (total + statement_units s) found (Some (n + 1))
   solve_none s n d f m = record {
-    later = x ∷ k.later; parts = parts; placed = placed_next s f;
+    later = x ∷ k.later;
+    parts = parts;
+    placed = placed_next s f;
     few = (let h = k.few in let g = units_few s in omega arith);
     finds = subst (λ y. IsFirstLine IsUnresolved (map line_view front) (y ∷ map line_view k.later) (n + 1)) (sym f)
-      (inl (m (map line_view k.later) k.placed, ap (λ j. j + 1) (d ∙ sym (length-map front line_view))));
+        (inl (m (map line_view k.later) k.placed, ap (λ j. j + 1) (d ∙ sym (length-map front line_view))));
   }

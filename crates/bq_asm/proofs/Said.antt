@@ -42,8 +42,15 @@ code_alone : (text : List ℕ) (s : Statement) (xs : List (List ℕ)) → xs ≡
 code_alone text s [] e h t w p =
     let a = trimmed_of text in
     record {
-      before = a.before; gap = []; list = []; after = a.after; spaces_before = a.spaces_before; spaces_after = a.spaces_after;
-      is_gap = subst (λ ys. IsGap ys []) e refl; are_listed = subst (λ ys. AreListed ys []) e refl; legal = h;
+      before = a.before;
+      gap = [];
+      list = [];
+      after = a.after;
+      spaces_before = a.spaces_before;
+      spaces_after = a.spaces_after;
+      is_gap = subst (λ ys. IsGap ys []) e refl;
+      are_listed = subst (λ ys. AreListed ys []) e refl;
+      legal = h;
       parts = a.parts ∙ ap (λ (u : List ℕ). a.before ++ (u ++ a.after)) t;
     }
 code_alone text s (x ∷ xs) e h t w p =
@@ -63,9 +70,15 @@ code_rest text rest s [] e h t p =
     let gap = 32 ∷ (b.before ++ p.before) in
     let tail = p.after ++ (b.after ++ a.after) in
     record {
-      before = a.before; gap = []; list = []; after = gap ++ tail; spaces_before = a.spaces_before;
+      before = a.before;
+      gap = [];
+      list = [];
+      after = gap ++ tail;
+      spaces_before = a.spaces_before;
       spaces_after = spaces_append gap tail (refl, spaces_append b.before p.before b.spaces_before p.spaces_before) (spaces_append p.after (b.after ++ a.after) p.spaces_after (spaces_append b.after a.after b.spaces_after a.spaces_after));
-      is_gap = subst (λ ys. IsGap ys []) e refl; are_listed = subst (λ ys. AreListed ys []) e refl; legal = h;
+      is_gap = subst (λ ys. IsGap ys []) e refl;
+      are_listed = subst (λ ys. AreListed ys []) e refl;
+      legal = h;
       parts = a.parts ∙ ap (λ (u : List ℕ). a.before ++ (u ++ a.after)) (t ∙ ap (λ (u : List ℕ). m ++ (32 ∷ u)) whole) ∙ rest_parts a.before m b.before p.before p.list p.after b.after a.after ∙ ap (λ (u : List ℕ). a.before ++ (m ++ (gap ++ (u ++ tail)))) p.listed;
     }
 code_rest text rest s (x ∷ xs) e h t p =
@@ -75,10 +88,15 @@ code_rest text rest s (x ∷ xs) e h t p =
     let whole : rest ≡ b.before ++ ((p.before ++ (p.list ++ p.after)) ++ b.after) = b.parts ∙ ap (λ (u : List ℕ). b.before ++ (u ++ b.after)) p.parts in
     let gap = 32 ∷ (b.before ++ p.before) in
     record {
-      before = a.before; gap = gap; list = p.list; after = p.after ++ (b.after ++ a.after); spaces_before = a.spaces_before;
+      before = a.before;
+      gap = gap;
+      list = p.list;
+      after = p.after ++ (b.after ++ a.after);
+      spaces_before = a.spaces_before;
       spaces_after = spaces_append p.after (b.after ++ a.after) p.spaces_after (spaces_append b.after a.after b.spaces_after a.spaces_after);
       is_gap = subst (λ ys. IsGap ys gap) e ((refl, spaces_append b.before p.before b.spaces_before p.spaces_before), omega arith);
-      are_listed = subst (λ ys. AreListed ys p.list) e p.listed; legal = h;
+      are_listed = subst (λ ys. AreListed ys p.list) e p.listed;
+      legal = h;
       parts = a.parts ∙ ap (λ (u : List ℕ). a.before ++ (u ++ a.after)) (t ∙ ap (λ (u : List ℕ). m ++ (32 ∷ u)) whole) ∙ rest_parts a.before m b.before p.before p.list p.after b.after a.after;
     }
 
@@ -133,8 +151,17 @@ spelled line code comment v e h (inl k) = subst (Spells line) k.0 (record { spac
 spelled line code comment v e h (inr k) =
     let c = k.2 in
     subst (Spells line) k.1 (record {
-      before = c.before; gap = c.gap; list = c.list; after = c.after; comment = comment; spaces_before = c.spaces_before; is_gap = c.is_gap;
-      are_listed = c.are_listed; spaces_after = c.spaces_after; is_comment = h; legal = c.legal;
+      before = c.before;
+      gap = c.gap;
+      list = c.list;
+      after = c.after;
+      comment = comment;
+      spaces_before = c.spaces_before;
+      is_gap = c.is_gap;
+      are_listed = c.are_listed;
+      spaces_after = c.spaces_after;
+      is_comment = h;
+      legal = c.legal;
       parts = e ∙ ap (λ (u : List ℕ). u ++ comment) c.parts ∙ code_parts c.before (name (statement_mnemonic k.0)) c.gap c.list c.after comment;
     })
 
@@ -146,7 +173,11 @@ label_by line v (Some p) c e =
     let a = trimmed_of line in
     let t : trimmed line ≡ p.0 ++ (58 ∷ []) = cut_parts 58 (trimmed line) p c ∙ ap (λ (u : List ℕ). p.0 ++ (58 ∷ u)) (nil_from_length p.1 (eqb-true _ 0 k.0)) in
     subst (Spells line) h.1 (record {
-      before = a.before; after = a.after; spaces_before = a.spaces_before; spaces_after = a.spaces_after; is_name = name_sound p.0 k.1;
+      before = a.before;
+      after = a.after;
+      spaces_before = a.spaces_before;
+      spaces_after = a.spaces_after;
+      is_name = name_sound p.0 k.1;
       parts = a.parts ∙ ap (λ (u : List ℕ). a.before ++ (u ++ a.after)) t ∙ ap (λ (u : List ℕ). a.before ++ u) (append_assoc p.0 (58 ∷ []) a.after);
     })
 

@@ -138,11 +138,11 @@ place_of_sound base digits z sign p f e =
 place_by : (text : List ℕ) (p : ℕ × ℤ) (o : Option (List ℕ × List ℕ)) → cut 43 text ≡ o → place_else text o ≡ Some p → IsPlace text p
 place_by text p (Some q) s e =
     subst (λ t. IsPlace t p) (sym (cut_parts 43 text q s))
-      (place_of_sound q.0 q.1 (positive_at q.1) 43 p (λ o h. let k = positive_sound q.1 o h in ap (λ (xs : List ℕ). 43 ∷ xs) k.2 ∙ ap distance (sym k.1)) e)
+    (place_of_sound q.0 q.1 (positive_at q.1) 43 p (λ o h. let k = positive_sound q.1 o h in ap (λ (xs : List ℕ). 43 ∷ xs) k.2 ∙ ap distance (sym k.1)) e)
 place_by text p None s e =
     let b = bind_some (cut 45 text) (λ q. place_of q.0 (negative_at q.1)) p e in
     subst (λ t. IsPlace t p) (sym (cut_parts 45 text b.0 b.1))
-      (place_of_sound b.0.0 b.0.1 (negative_at b.0.1) 45 p (λ o h. let k = negative_sound b.0.1 o h in ap (λ (xs : List ℕ). 45 ∷ xs) k.2 ∙ ap distance (sym k.1)) b.2)
+    (place_of_sound b.0.0 b.0.1 (negative_at b.0.1) 45 p (λ o h. let k = negative_sound b.0.1 o h in ap (λ (xs : List ℕ). 45 ∷ xs) k.2 ∙ ap distance (sym k.1)) b.2)
 
 place_sound : (text : List ℕ) (p : ℕ × ℤ) → place_at text ≡ Some p → IsPlace text p
 unfolding place_at
@@ -161,7 +161,8 @@ memory_sound text p e =
     let h = guard_some (eqb (length q.0.1) 0) (place_at q.0.0) p q.2 in
     let k = place_sound q.0.0 p h.1 in
     record {
-      base = k.base; offset = k.offset;
+      base = k.base;
+      offset = k.offset;
       parts = strip_sound 91 text b.0 b.1 ∙ ap (λ (xs : List ℕ). 91 ∷ xs) (cut_parts 93 b.0 q.0 q.1 ∙ ap (λ (xs : List ℕ). q.0.0 ++ (93 ∷ xs)) (nil_from_length q.0.1 (eqb-true _ 0 h.0)) ∙ ap (λ (xs : List ℕ). xs ++ (93 ∷ [])) k.parts);
     }
 
@@ -302,9 +303,10 @@ statement_sound (mnemonics.Branch w r) text s e =
     let o = operand_sound q.0.0 x.0 x.1 in
     let j = target_sound (jumps.Branch w r d.0 x.0) q.0.1 s (k.1, o.1) x.2 in
     record {
-      mnemonic = j.mnemonic; legal = j.legal;
+      mnemonic = j.mnemonic;
+      legal = j.legal;
       spread = subst (λ xs. Spread xs text) (sym j.operands)
-        (spread_pair (register d.0) (operand x.0) (q.0.1 ∷ []) text p.0 p.1 k.0 (spread_pair (operand x.0) q.0.1 [] p.0.1 q.0 q.1 o.0 (spread_one q.0.1 q.0.1 refl)));
+          (spread_pair (register d.0) (operand x.0) (q.0.1 ∷ []) text p.0 p.1 k.0 (spread_pair (operand x.0) q.0.1 [] p.0.1 q.0 q.1 o.0 (spread_one q.0.1 q.0.1 refl)));
     }
 statement_sound mnemonics.Exit text s e =
     let h = cond_some (eqb (length text) 0) (Complete insns.Exit) s e in

@@ -135,7 +135,10 @@ trimmed_of s =
     let f = front_of s in
     let b = back_of (trim_start s) in
     record {
-      before = f.before; after = b.after; spaces_before = f.spaces; spaces_after = b.spaces;
+      before = f.before;
+      after = b.after;
+      spaces_before = f.spaces;
+      spaces_after = b.spaces;
       parts = f.parts ∙ ap (λ (xs : List ℕ). f.before ++ xs) b.parts;
     }
 

@@ -41,10 +41,10 @@ core_starts s core gap list k = subst Starts (sym k.parts) (starts_append (name 
 core_ends_by : (s : Statement) (core gap list : List ℕ) (xs : List (List ℕ)) → Core s core gap list → xs ≡ statement_operands s → IsGap xs gap → AreListed xs list → Words xs → Ends core
 core_ends_by s core gap list [] k e g l w =
     subst Ends (sym (k.parts ∙ ap (λ (t : List ℕ). name (statement_mnemonic s) ++ (t ++ list)) g ∙ ap (λ (t : List ℕ). name (statement_mnemonic s) ++ t) l ∙ append-nil (name (statement_mnemonic s))))
-      (clean_ends _ (name_clean (statement_mnemonic s)))
+    (clean_ends _ (name_clean (statement_mnemonic s)))
 core_ends_by s core gap list (x ∷ xs) k e g l w =
     subst Ends (append_assoc (name (statement_mnemonic s)) gap list ∙ sym k.parts)
-      (ends_append (name (statement_mnemonic s) ++ gap) list (listed_starts (x ∷ xs) list tt w l) (listed_ends (x ∷ xs) list w l))
+    (ends_append (name (statement_mnemonic s) ++ gap) list (listed_starts (x ∷ xs) list tt w l) (listed_ends (x ∷ xs) list w l))
 
 core_ends : (s : Statement) (core gap list : List ℕ) → Core s core gap list → Ends core
 core_ends s core gap list k = core_ends_by s core gap list (statement_operands s) k refl k.gaps k.listed (operands_words s k.legal)
@@ -56,8 +56,8 @@ gap_lacks k (x ∷ xs) gap e g = spaces_lack k gap e g.0
 core_lacks : (k : ℕ) → ((c : ℕ) → is_clean c ≡ true → eqb c k ≡ false) → eqb 32 k ≡ false → eqb 44 k ≡ false → (s : Statement) (core gap list : List ℕ) → Core s core gap list → Lacks k core
 core_lacks k f a b s core gap list c =
     subst (Lacks k) (sym c.parts) (lacks_append k (name (statement_mnemonic s)) (gap ++ list) (clean_lacks k _ f (name_clean (statement_mnemonic s)))
-      (lacks_append k gap list (gap_lacks k (statement_operands s) gap a c.gaps)
-        (listed_lacks k (λ t w. clean_lacks k t f w.clean) a b (statement_operands s) list (operands_words s c.legal) c.listed)))
+    (lacks_append k gap list (gap_lacks k (statement_operands s) gap a c.gaps)
+    (listed_lacks k (λ t w. clean_lacks k t f w.clean) a b (statement_operands s) list (operands_words s c.legal) c.listed)))
 
 words_core_by : (s : Statement) (core gap list : List ℕ) (xs : List (List ℕ)) → Core s core gap list → xs ≡ statement_operands s → IsGap xs gap → AreListed xs list → Words xs → words_else core (cut 32 core) ≡ Some (Instruction s)
 words_core_by s core gap list [] k e g l w =
@@ -102,7 +102,7 @@ label_again line label h =
     let core = label ++ (58 ∷ []) in
     let same : line ≡ h.before ++ (core ++ h.after) = h.parts ∙ ap (λ (t : List ℕ). h.before ++ t) (sym (append_assoc label (58 ∷ []) h.after)) in
     let lacks : Lacks 35 line = subst (Lacks 35) (sym same) (lacks_append 35 h.before (core ++ h.after) (spaces_lack 35 h.before refl h.spaces_before)
-      (lacks_append 35 core h.after (lacks_append 35 label (58 ∷ []) (clean_lacks 35 label no_hash w.clean) (refl, tt)) (spaces_lack 35 h.after refl h.spaces_after))) in
+    (lacks_append 35 core h.after (lacks_append 35 label (58 ∷ []) (clean_lacks 35 label no_hash w.clean) (refl, tt)) (spaces_lack 35 h.after refl h.spaces_after))) in
     let trim : trimmed line ≡ core = ap trimmed same ∙ trimmed_between h.before core h.after h.spaces_before (starts_append label (58 ∷ []) (word_starts label w)) (ends_append label (58 ∷ []) refl refl) h.spaces_after in
     let colon : cut 58 core ≡ Some (label, []) = cut_at 58 label [] (clean_lacks 58 label no_colon w.clean) in
     rw (cut_none 35 line lacks, trim, colon, name_again label h.is_name) refl
@@ -117,7 +117,7 @@ line_again line (Instruction s) h =
     let k : Core s core h.gap h.list = record { legal = h.legal; gaps = h.is_gap; listed = h.are_listed; parts = refl } in
     let code = h.before ++ (core ++ h.after) in
     let same : line ≡ code ++ h.comment =
-        h.parts ∙ simp append_assoc in
+    h.parts ∙ simp append_assoc in
     let trim : trimmed code ≡ core = trimmed_between h.before core h.after h.spaces_before (core_starts s core h.gap h.list k) (core_ends s core h.gap h.list k) h.spaces_after in
     let lacks : Lacks 35 code = lacks_append 35 h.before (core ++ h.after) (spaces_lack 35 h.before refl h.spaces_before) (lacks_append 35 core h.after (core_lacks 35 no_hash refl refl s core h.gap h.list k) (spaces_lack 35 h.after refl h.spaces_after)) in
     ap line_at same ∙ read_words code h.comment (Instruction s) lacks (ap (cut 58) trim ∙ cut_none 58 core (core_lacks 58 no_colon refl refl s core h.gap h.list k)) h.is_comment (words_statement s code core h.gap h.list k trim)

@@ -60,11 +60,29 @@ text_lacks i h = lacks_append 10 (name (mnemonic_of i)) (spaced (operands_of i))
 
 spells_by : (i : Insn) (xs : List (List ℕ)) → xs ≡ operands_of i → IsInsn i → Spells (name (mnemonic_of i) ++ spaced xs) (Instruction (Complete i))
 spells_by i [] e h = record {
-  before = []; gap = []; list = []; after = []; comment = []; spaces_before = tt; spaces_after = tt; is_comment = tt; legal = h;
-  is_gap = subst (λ ys. IsGap ys []) e refl; are_listed = subst (λ ys. AreListed ys []) e refl; parts = refl;
+  before = [];
+  gap = [];
+  list = [];
+  after = [];
+  comment = [];
+  spaces_before = tt;
+  spaces_after = tt;
+  is_comment = tt;
+  legal = h;
+  is_gap = subst (λ ys. IsGap ys []) e refl;
+  are_listed = subst (λ ys. AreListed ys []) e refl;
+  parts = refl;
 }
 spells_by i (x ∷ xs) e h = record {
-  before = []; gap = 32 ∷ []; list = listed (x ∷ xs); after = []; comment = []; spaces_before = tt; spaces_after = tt; is_comment = tt; legal = h;
+  before = [];
+  gap = 32 ∷ [];
+  list = listed (x ∷ xs);
+  after = [];
+  comment = [];
+  spaces_before = tt;
+  spaces_after = tt;
+  is_comment = tt;
+  legal = h;
   is_gap = subst (λ ys. IsGap ys (32 ∷ [])) e ((refl, tt), omega arith);
   are_listed = subst (λ ys. AreListed ys (listed (x ∷ xs))) e (are_listed (x ∷ xs));
   parts = ap (λ (u : List ℕ). name (mnemonic_of i) ++ (32 ∷ u)) (sym (append-nil (listed (x ∷ xs))));

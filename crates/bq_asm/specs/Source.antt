@@ -60,3 +60,19 @@ IsFault source (Label line) = (lines : List Line) × Says source lines × IsFirs
 IsFault source BadLength = IsSource source []
 IsFault source TooLong = (t : List Insn) × IsSource source t × (4096 < units t)
 IsFault source OutOfMemory = Unit {0}
+
+-- ---- the numbers and names by which faults are reported
+
+abbrev pub fault_number : AsmFault → ℕ
+fault_number (Syntax line) = 9
+fault_number (Label line) = 10
+fault_number BadLength = 1
+fault_number TooLong = 2
+fault_number OutOfMemory = 99
+
+abbrev pub fault_name : AsmFault → List ℕ
+fault_name (Syntax line) = codes "Syntax"
+fault_name (Label line) = codes "Label"
+fault_name BadLength = codes "BadLength"
+fault_name TooLong = codes "TooLong"
+fault_name OutOfMemory = codes "OutOfMemory"

@@ -59,7 +59,9 @@ fn mnemonic(insn: &Insn) -> Mnemonic
         Insn::Jump { .. } => Mnemonic::Jump,
         Insn::JumpFar { .. } => Mnemonic::JumpFar,
         Insn::Branch {
-            width, relation, ..
+            width,
+            relation,
+            ..
         } => Mnemonic::Branch(*width, *relation),
         Insn::Exit => Mnemonic::Exit,
         Insn::Load { size, .. } => Mnemonic::Load(*size),
@@ -128,10 +130,16 @@ fn push_operands(out: &mut String, insn: &Insn) -> Result<(), AllocError>
         }
         Insn::Exit => Ok(()),
         Insn::Load {
-            dst, base, offset, ..
+            dst,
+            base,
+            offset,
+            ..
         }
         | Insn::LoadSigned {
-            dst, base, offset, ..
+            dst,
+            base,
+            offset,
+            ..
         } => {
             push_first(out, *dst)?;
             push_place(out, *base, *offset)

@@ -14,14 +14,12 @@ use std::alloc::Global;
 /// A source spells one text at most.
 pub fn one_text()
     ensures { (source : List ℕ) (t u : List Insn) → IsSource source t → IsSource source u → t ≡ u }
-{
-}
+{}
 
 /// What is written of a text spells it.
 pub fn disassembly_spells_the_text()
     ensures { (t : List Insn) → IsText t → IsSource (disassembly t) t }
-{
-}
+{}
 
 /// What is written of a text is assembled to that text: the one error is that memory ran out.
 pub fn written_and_assembled(alloc: Global, text: &Text) -> Result<Text, AsmFault>

@@ -1,15 +1,45 @@
 //! Assembler text of RFC 9669 instructions.
+//!
+//! A source is lines of ASCII, each ended by a line feed (the last need not be). A line is blank, a
+//! comment from `#` to its end, a label `name:` alone, or an instruction with or without a comment
+//! behind it. An instruction is a mnemonic, spaces, and operands with commas between them; spaces may
+//! stand at both ends of a line and about a comma.
+//!
+//! - [`assemble`] gives the text that a source spells, or the first fault: 9 Syntax at the least line
+//!   that is of no form, then 10 Label at the least line that defines a name a second time or whose
+//!   jump names a label that no later line defines or that is too far, then 1 BadLength for no
+//!   instruction, then 2 TooLong for more than 4,096 units. 99 OutOfMemory may stand in place of any.
+//! - [`disassemble`] writes the one spelling of a text that has distances alone.
+//! - What is written of a text is assembled to that text, and a source spells one text at most
+//!   ([`laws`]).
+//!
+//! A label marks the next instruction, or the end of the text. A jump to a name means the first line
+//! behind it that defines the name; its distance is the number of units between. An operand has one
+//! text: a register is `r0` to `r10`, a number is decimal with no zero in front and `-` if it is below
+//! 0, a place in memory is `[r1+16]` with the sign always written, and so is a jump's distance.
+//!
+//! What a source spells is defined in `specs/`, apart from the code: `Mnemonic` has the mnemonics,
+//! `Operands` the operands of each instruction, `Line` the grammar of a line, `Labels` what lines
+//! mean, and `Source` the spellings of a text, the one that is written, and which fault stands first.
+//!
+//! The program that reads files of assembler text stands on this crate.
+//!
+//! [`assemble`]: assemble::assemble
+//! [`disassemble`]: disassemble::disassemble
+//! [`laws`]: laws
 #![tactic(auto)]
 
 pub mod assemble;
 pub mod disassemble;
 pub mod fault;
-pub mod jump;
-pub mod labels;
+mod jump;
+mod labels;
 pub mod laws;
-pub mod line;
-pub mod machine;
-pub mod mnemonic;
-pub mod number;
-pub mod operand;
-pub mod text;
+mod line;
+mod machine;
+mod mnemonic;
+mod number;
+mod operand;
+#[cfg(test)]
+mod tests;
+mod text;

@@ -136,7 +136,10 @@ fn opcode(insn: &Insn) -> u8
 {
     match insn {
         Insn::Alu {
-            width, op, operand, ..
+            width,
+            op,
+            operand,
+            ..
         } => alu_class(*width) + source_bit(operand) + 16 * op_code(*op),
         Insn::Negate { width, .. } => alu_class(*width) + 0x80,
         Insn::Extend { extension, .. } => extension_class(*extension) + 8 + 16 * 11,
@@ -262,7 +265,16 @@ fn push_unit(bytes: &mut Vec<u8>, fields: &Fields) -> Result<(), AllocError>
 {
     let [o0, o1] = fields.offset.to_le_bytes();
     let [i0, i1, i2, i3] = fields.imm.to_le_bytes();
-    let unit = [fields.opcode, fields.dst + 16 * fields.src, o0, o1, i0, i1, i2, i3];
+    let unit = [
+        fields.opcode,
+        fields.dst + 16 * fields.src,
+        o0,
+        o1,
+        i0,
+        i1,
+        i2,
+        i3,
+    ];
     bytes.extend_from_slice(&unit)
 }
 

@@ -22,7 +22,7 @@ pub loop-text-preserved : goal.loop-text-preserved
 loop-text-preserved c =
     let e = map_push (λ (x : Bor (List ℕ)). x.now) c.loop-text.yielded c.in-Some.text in
     subst (λ u. AllZip Spells u (map line_view c.push.new.self.items)) (sym e)
-      (read_more line_view (map (λ (x : Bor (List ℕ)). x.now) c.loop-text.yielded) c.in-Some.text.now c.loop-text.lines.items c.push.new.self.items c.in-Some-read.line c.push.result c.loop-text.invariant c.in-Some-read.ensures c.push.ensures.items (sym c.is_err.ensures.value ∙ c.if-is_err.false))
+    (read_more line_view (map (λ (x : Bor (List ℕ)). x.now) c.loop-text.yielded) c.in-Some.text.now c.loop-text.lines.items c.push.new.self.items c.in-Some-read.line c.push.result c.loop-text.invariant c.in-Some-read.ensures c.push.ensures.items (sym c.is_err.ensures.value ∙ c.if-is_err.false))
 
 pub returns-clause-read : goal.returns-clause-read
 returns-clause-read c =

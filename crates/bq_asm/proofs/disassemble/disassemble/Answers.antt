@@ -9,10 +9,10 @@ use Rattle.bq_asm.proofs.disassemble.disassemble.Goals.{in-Some+in_ok-push_line,
 pub loop-unit-preserved : goal.loop-unit-preserved
 loop-unit-preserved c =
     line_more c.args.text.now c.loop-unit.unit c.at.result (string_bytes c.loop-unit.out) (string_bytes c.match-at.out) (omega (arith, c.loop-unit-test.true, c.units-unit-end.ensures.value)) c.at.ensures c.loop-unit.invariant
-      (elim c.match-at.branch [
-        | in-Some+in_ok-push_line w ↦ rw (w.out-is, w.in-Some.is) (w.in_ok-push_line.ensures ∙ ap (λ (u : List ℕ). string_bytes c.loop-unit.out ++ u) (sym (append-nil (insn_line w.in-Some.insn))))
-        | in_default w ↦ rw (w.out-is, w.in_default.is) (sym (append-nil (string_bytes c.loop-unit.out)))
-      ])
+    (elim c.match-at.branch [
+      | in-Some+in_ok-push_line w ↦ rw (w.out-is, w.in-Some.is) (w.in_ok-push_line.ensures ∙ ap (λ (u : List ℕ). string_bytes c.loop-unit.out ++ u) (sym (append-nil (insn_line w.in-Some.insn))))
+      | in_default w ↦ rw (w.out-is, w.in_default.is) (sym (append-nil (string_bytes c.loop-unit.out)))
+    ])
 
 pub returns-clause-written : goal.returns-clause-written
 returns-clause-written c = all_written c.args.text.now c.loop-unit.unit (string_bytes c.loop-unit.out) (omega (arith, c.loop-unit-test.false, c.units-unit-end.ensures.value)) c.loop-unit.invariant
