@@ -35,7 +35,7 @@ impl<'a> Flow<'a> {
     /// The flow of a text, or the first fault in rising order of the instructions. At one instruction
     /// it is the least of 11 Backward, 12 OutsideText, 13 IntoWide and 14 FallsOff.
     ///
-    /// 99 OutOfMemory may stand in place of the flow, and of no fault: the tests take no memory.
+    /// 99 OutOfMemory may stand in place of any of these answers.
     pub fn of(alloc: Global, text: &'a Text) -> Result<Flow<'a>, FlowFault>
         // What is answered is the flow of this very text, which is legal.
         ensures text { IfOk result (λ f. f.text ≡ text.now) }
