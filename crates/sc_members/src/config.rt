@@ -98,6 +98,7 @@ impl Config {
         })
     }
 
+    /// Beta's numerator, 1 to beta's denominator.
     pub fn beta_num(&self) -> u64
         ensures field { result ≡ self.now.beta_num }
         ensures valid { IsConfig self.now }
@@ -105,6 +106,7 @@ impl Config {
         u64::from(self.beta_num)
     }
 
+    /// Beta's denominator, 1 to 1,000.
     pub fn beta_den(&self) -> u64
         ensures field { result ≡ self.now.beta_den }
         ensures valid { IsConfig self.now }
@@ -112,6 +114,7 @@ impl Config {
         u64::from(self.beta_den)
     }
 
+    /// Gamma's numerator, 1 to gamma's denominator.
     pub fn gamma_num(&self) -> u64
         ensures field { result ≡ self.now.gamma_num }
         ensures valid { IsConfig self.now }
@@ -119,6 +122,7 @@ impl Config {
         u64::from(self.gamma_num)
     }
 
+    /// Gamma's denominator, 1 to 1,000.
     pub fn gamma_den(&self) -> u64
         ensures field { result ≡ self.now.gamma_den }
         ensures valid { IsConfig self.now }

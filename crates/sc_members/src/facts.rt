@@ -109,6 +109,7 @@ impl Facts {
         })
     }
 
+    /// Who is known to have entered.
     pub fn entered(&self) -> &IdSet
         ensures field { result.now ≡ self.now.entered }
         ensures valid { IsFacts self.now }
@@ -116,6 +117,7 @@ impl Facts {
         &self.entered
     }
 
+    /// Who is known to have joined.
     pub fn joined(&self) -> &IdSet
         ensures field { result.now ≡ self.now.joined }
         ensures valid { IsFacts self.now }
@@ -123,6 +125,7 @@ impl Facts {
         &self.joined
     }
 
+    /// Who is known to have left.
     pub fn left(&self) -> &IdSet
         ensures field { result.now ≡ self.now.left }
         ensures valid { IsFacts self.now }

@@ -94,6 +94,7 @@ impl IdSet {
         self.ids.len()
     }
 
+    /// Whether no id is in the set.
     pub fn is_empty(&self) -> bool
         ensures { IsTrue result ↔ (set.len self.now ≡ 0) }
     {

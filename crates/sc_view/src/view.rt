@@ -20,6 +20,7 @@ pub const MOST_ENTRIES: usize = 256;
 pub struct Stored {
     /// The sequence number of the store, counted by the storing node from 1.
     pub number: u64,
+    /// The bytes that were stored.
     pub value: [u8; 48],
 }
 
@@ -149,6 +150,7 @@ impl View {
         self.entries.len()
     }
 
+    /// Whether the view has a value of no node.
     pub fn is_empty(&self) -> bool
         ensures { IsTrue result ↔ (fin.len self.now ≡ 0) }
     {
