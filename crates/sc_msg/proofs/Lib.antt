@@ -1,0 +1,11 @@
+pub mod Numbers
+pub mod Parts
+pub mod Lists
+pub mod Rising
+pub mod Fields
+pub mod Codes
+pub mod Whole
+pub mod Entries
+pub mod Sound
+pub mod Unique
+pub mod Writing

@@ -1,26 +1,15 @@
 -- Sets of ids and views as bytes: a count, and the entries in rising order of their ids.
-use Rattle.std.specs.Prelude.{ℕ, zero, suc, ◌+◌, ◌≤◌, ◌<◌, ◌^◌, ◌≡◌, Bool, true, List, [], ◌∷◌, ◌++◌, length, map, drop, All, Option, Some, None, nat_lt, ◌==◌, if◌then◌else◌}
+use Rattle.std.specs.Prelude.{ℕ, ◌≤◌, ◌<◌, ◌^◌, ◌≡◌, Bool, true, List, [], ◌∷◌, ◌++◌, length, map, drop, All, Option, Some, None, nat_lt, ◌==◌, if◌then◌else◌}
 use Rattle.std.specs.List.{flat_map, AllByRecursion}
 use Rattle.std.specs.FinMap as fin
 use Rattle.std.specs.FinSet as set
-use Rattle.sc_members.specs.Ids.{Ids, Has}
+use Rattle.sc_members.specs.Ids.{Ids, rising}
 use Rattle.sc_members.specs.Members.{most_facts}
 use Rattle.sc_view.specs.Views.{ViewMap, most_entries}
 use Rattle.sc_view.specs.declared.view.Stored.{Stored}
 use Rattle.sc_msg.specs.declared.fault.MessageFault.{MessageFault}
 use Rattle.sc_msg.specs.declared.fault.MessageFault.TheVariants.{Short, Unsorted, BadField}
 use Rattle.sc_msg.specs.Numbers.{number_bytes, first_number}
-
--- the ids of a set among n numbers from low on, in rising order
-unfoldable pub ids_from : Ids → ℕ → ℕ → List ℕ
-ids_from s low zero = []
-ids_from s low (suc n) = if set.contains s low then low ∷ ids_from s (suc low) n else ids_from s (suc low) n
-
--- the ids of a set in rising order
-abbrev pub rising_ids : Ids → List ℕ
-rising_ids s = ids_from s 0 (2 ^ 64)
-
--- ---- lists of entries
 
 -- a list of entries: how many there are at most, the id of each, how what stands behind the id is spelled, which entries
 -- have a spelling, and what is first wrong with the bytes behind an id
@@ -63,7 +52,7 @@ abbrev pub list_bytes : {A : Type 0} → Layout A → List A → List ℕ
 list_bytes layout es = number_bytes 2 (length es) ++ flat_map (entry_bytes layout) es
 
 abbrev pub ids_bytes : Ids → List ℕ
-ids_bytes s = list_bytes ids_layout (rising_ids s)
+ids_bytes s = list_bytes ids_layout (rising s)
 
 abbrev pub view_bytes : ViewMap → List ℕ
 view_bytes v = list_bytes view_layout (fin.entries v)
@@ -75,7 +64,7 @@ IsEntry layout e = (layout.id_of e < 2 ^ 64) × layout.IsValue e
 
 pub record AreIds (s : Ids) : Type 0 where
   pub few : set.len s ≤ most_facts
-  pub fit : (id : ℕ) → Has s id → id < 2 ^ 64
+  pub fit : AllByRecursion (IsEntry ids_layout) (rising s)
 
 pub record AreRecords (v : ViewMap) : Type 0 where
   pub few : fin.len v ≤ most_entries
@@ -101,11 +90,19 @@ abbrev pub count_fault : ℕ → List ℕ → Option MessageFault
 count_fault most bytes =
     if nat_lt (length bytes) 2 then Some Short else (if nat_lt most (first_number 2 bytes) then Some BadField else None)
 
--- what is first wrong with the bytes of an entry behind one with that id
+-- what is first wrong with an id behind that one
+abbrev pub id_fault : Option ℕ → List ℕ → Option MessageFault
+id_fault last bytes =
+    if nat_lt (length bytes) 8 then Some Short else (if is_above last (first_number 8 bytes) then None else Some Unsorted)
+
+-- the first of two faults
+abbrev pub first_of : Option MessageFault → Option MessageFault → Option MessageFault
+first_of (Some e) next = Some e
+first_of None next = next
+
+-- what is first wrong with an entry behind one with that id
 abbrev pub entry_fault : {A : Type 0} → Layout A → Option ℕ → List ℕ → Option MessageFault
-entry_fault layout last bytes =
-    if nat_lt (length bytes) 8 then Some Short
-    else (if is_above last (first_number 8 bytes) then layout.value_fault (drop 8 bytes) else Some Unsorted)
+entry_fault layout last bytes = first_of (id_fault last bytes) (layout.value_fault (drop 8 bytes))
 
 -- behind some entries, fewer than the count says, stands one with this fault
 pub record IsEntryFault {A : Type 0} (layout : Layout A) (bytes : List ℕ) (e : MessageFault) : Type 0 where

@@ -1,15 +1,16 @@
 -- The fields of each kind of message.
-use Rattle.std.specs.Prelude.{ℕ, ◌<◌, ◌^◌, ◌≡◌, ◌⊎◌, Bool, if◌then◌else◌, nat_lt, List, [], ◌∷◌, ◌++◌, length, map, Option, Some, None}
+use Rattle.std.specs.Prelude.{ℕ, ◌<◌, ◌^◌, ◌≡◌, ◌⊎◌, Bool, if◌then◌else◌, nat_lt, List, [], ◌∷◌, ◌++◌, length, map, slice_index, Option, Some, None}
 use Rattle.std.specs.List.{flat_map, AllByRecursion}
 use Rattle.sc_members.specs.Ids.{Ids}
+use Rattle.sc_members.specs.Members.{Facts}
 use Rattle.sc_view.specs.Views.{ViewMap}
 use Rattle.sc_msg.specs.declared.message.Body.{Body}
 use Rattle.sc_msg.specs.declared.message.Body.TheVariants as bodies
 use Rattle.sc_msg.specs.declared.kind.Kind.{Kind}
 use Rattle.sc_msg.specs.declared.kind.Kind.TheVariants as kinds
 use Rattle.sc_msg.specs.declared.fault.MessageFault.{MessageFault}
-use Rattle.sc_msg.specs.declared.fault.MessageFault.TheVariants.{Short, BadField}
-use Rattle.sc_msg.specs.Numbers.{number_bytes, first_number}
+use Rattle.sc_msg.specs.declared.fault.MessageFault.TheVariants.{Short, BadField, OutOfMemory}
+use Rattle.sc_msg.specs.Numbers.{number_bytes}
 use Rattle.sc_msg.specs.Entries.{ids_bytes, view_bytes, ids_layout, view_layout, AreIds, AreRecords, IsEntryFault, Layout, count_fault}
 
 pub data Slot : Type 0 where
@@ -24,10 +25,14 @@ pub data Field : Type 0 where
   ids : Ids → Field
   view : ViewMap → Field
 
+-- entered, joined, left
+abbrev pub facts_slots : List Slot
+facts_slots = ids_slot ∷ ids_slot ∷ ids_slot ∷ []
+
 -- the fields that the bytes of a kind have, from left to right
 abbrev pub slots : Kind → List Slot
 slots kinds.Enter = []
-slots kinds.EnterEcho = number_slot ∷ flag_slot ∷ ids_slot ∷ ids_slot ∷ ids_slot ∷ view_slot ∷ []
+slots kinds.EnterEcho = number_slot ∷ flag_slot ∷ facts_slots ++ view_slot ∷ []
 slots kinds.Join = []
 slots kinds.JoinEcho = number_slot ∷ []
 slots kinds.Leave = []
@@ -40,9 +45,12 @@ slots kinds.CollectReply = number_slot ∷ number_slot ∷ view_slot ∷ []
 
 -- ---- the spelling
 
+abbrev pub facts_fields : Facts → List Field
+facts_fields f = ids f.entered ∷ ids f.joined ∷ ids f.left ∷ []
+
 abbrev pub fields : Body → List Field
 fields bodies.Enter = []
-fields (bodies.EnterEcho to joined facts v) = number to ∷ flag joined ∷ ids facts.entered ∷ ids facts.joined ∷ ids facts.left ∷ view v ∷ []
+fields (bodies.EnterEcho to joined facts v) = number to ∷ flag joined ∷ facts_fields facts ++ view v ∷ []
 fields bodies.Join = []
 fields (bodies.JoinEcho about) = number about ∷ []
 fields bodies.Leave = []
@@ -78,12 +86,17 @@ slot_of (view v) = view_slot
 
 -- ---- the first fault
 
+-- memory ran out, or it is such a fault
+abbrev pub OrMemory : (MessageFault → Type 0) → MessageFault → Type 0
+OrMemory IsSuch OutOfMemory = Unit {0}
+OrMemory IsSuch e = IsSuch e
+
 abbrev pub number_fault : List ℕ → Option MessageFault
 number_fault bytes = if nat_lt (length bytes) 8 then Some Short else None
 
 abbrev pub flag_fault : List ℕ → Option MessageFault
 flag_fault bytes =
-    if nat_lt (length bytes) 1 then Some Short else (if nat_lt 1 (first_number 1 bytes) then Some BadField else None)
+    if nat_lt (length bytes) 1 then Some Short else (if nat_lt 1 (slice_index bytes 0) then Some BadField else None)
 
 -- the count is faulty, or an entry
 abbrev pub IsListFault : {A : Type 0} → Layout A → List ℕ → MessageFault → Type 0

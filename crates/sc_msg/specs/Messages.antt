@@ -1,6 +1,7 @@
 -- Messages as bytes.
-use Rattle.std.specs.Prelude.{ℕ, ◌<◌, ◌^◌, List, [], ◌∷◌, ◌++◌}
+use Rattle.std.specs.Prelude.{◌≡◌, ℕ, ◌<◌, ◌^◌, List, [], ◌∷◌, ◌++◌}
 use Rattle.std.specs.List.{AllByRecursion}
+use Rattle.sc_msg.specs.declared.message.Body.{Body}
 use Rattle.sc_msg.specs.declared.message.Message.{Message}
 use Rattle.sc_msg.specs.declared.kind.Kind.{Kind}
 use Rattle.sc_msg.specs.Kinds.{code, kind_of}
@@ -19,3 +20,9 @@ message_bytes m = head_bytes (kind_of m.body) m.from ++ fields_bytes (fields m.b
 pub record IsMessage (m : Message) : Type 0 where
   pub from : m.from < 2 ^ 64
   pub fields : AllByRecursion IsField (fields m.body)
+
+-- the fields of such a body stand first in these bytes, and the others behind it
+pub record ReadsBody (wanted : Kind) (bytes rest : List ℕ) (body : Body) : Type 0 where
+  pub kind : kind_of body ≡ wanted
+  pub legal : AllByRecursion IsField (fields body)
+  pub parts : bytes ≡ fields_bytes (fields body) ++ rest

@@ -6,7 +6,23 @@ ghost use Rattle.sc_msg.specs.Fault.{IsFault};
 
 use crate::fault::MessageFault;
 use crate::message::Message;
+use crate::reader::Reader;
 use std::alloc::Global;
+
+/// What [`decode`] answers.
+fn message_of(alloc: Global, bytes: &[u8]) -> Result<Message, MessageFault>
+    ensures spelled { IfOk result (λ m. bytes.now ≡ message_bytes m) }
+    ensures message { IfOk result IsMessage }
+    ensures fault { IfErr result (IsFault bytes.now) }
+{
+    let mut reader = Reader { rest: bytes };
+    let (kind, from) = reader.head()?;
+    let body = reader.body(alloc, kind)?;
+    if !reader.rest.is_empty() {
+        return Err(MessageFault::Extra);
+    }
+    Ok(Message { from, body })
+}
 
 /// The message that the bytes spell, or what is first wrong with them: 73 TooLong above 60,000
 /// bytes, 72 Short below 12, 71 BadHead for the first three, 74 BadKind for the fourth, and then
@@ -27,5 +43,5 @@ pub fn decode(alloc: Global, bytes: &[u8]) -> Result<Message, MessageFault>
     // Which fault it is.
     ensures fault { IfErr result (IsFault bytes.now) }
 {
-    Err(MessageFault::OutOfMemory)
+    message_of(alloc, bytes)
 }

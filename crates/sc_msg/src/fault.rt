@@ -3,6 +3,7 @@
 ghost use Rattle.std.specs.Prelude.{◌≡◌};
 ghost use Rattle.sc_msg.specs.Fault.{fault_number, fault_name};
 
+use sc_view::view::ViewFault;
 use std::alloc::{AllocError, AllocFailed};
 
 /// What is first wrong with bytes that are no message.
@@ -79,5 +80,19 @@ impl<T: Drop> From<AllocFailed<T>> for MessageFault {
 
     fn from(_error: AllocFailed<T>) -> Self {
         MessageFault::OutOfMemory
+    }
+}
+
+impl From<ViewFault> for MessageFault {
+    ghost use Rattle.std.specs.Prelude.{◌≡◌};
+    ghost use Rattle.sc_msg.specs.Fault.{view_fault};
+
+    ghost from_gives = { λ fault e. e ≡ view_fault fault };
+
+    fn from(fault: ViewFault) -> Self {
+        match fault {
+            ViewFault::Full => MessageFault::BadField,
+            ViewFault::OutOfMemory => MessageFault::OutOfMemory,
+        }
     }
 }

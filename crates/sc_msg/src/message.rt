@@ -1,5 +1,11 @@
+ghost use Rattle.std.specs.Prelude.{◌≡◌};
+
 use sc_members::facts::Facts;
 use sc_view::view::View;
+use std::alloc::AllocError;
+
+/// The most bytes of a message.
+pub const MOST_BYTES: usize = 60_000;
 
 /// What a message says.
 #[derive(Drop)]
@@ -56,4 +62,54 @@ pub enum Body {
 pub struct Message {
     pub from: u64,
     pub body: Body,
+}
+
+impl Clone for Body {
+    ghost is_clone = { λ body copy. copy ≡ body };
+
+    fn clone(&self) -> Result<Body, AllocError> {
+        Ok(match self {
+            Body::Enter => Body::Enter,
+            Body::EnterEcho {
+                to,
+                joined,
+                facts,
+                view,
+            } => Body::EnterEcho {
+                to: *to,
+                joined: *joined,
+                facts: facts.clone()?,
+                view: view.clone()?,
+            },
+            Body::Join => Body::Join,
+            Body::JoinEcho { about } => Body::JoinEcho { about: *about },
+            Body::Leave => Body::Leave,
+            Body::LeaveEcho { about } => Body::LeaveEcho { about: *about },
+            Body::Store { tag, view } => Body::Store {
+                tag: *tag,
+                view: view.clone()?,
+            },
+            Body::StoreAck { to, tag } => Body::StoreAck { to: *to, tag: *tag },
+            Body::StoreEcho { view } => Body::StoreEcho {
+                view: view.clone()?,
+            },
+            Body::CollectQuery { tag } => Body::CollectQuery { tag: *tag },
+            Body::CollectReply { to, tag, view } => Body::CollectReply {
+                to: *to,
+                tag: *tag,
+                view: view.clone()?,
+            },
+        })
+    }
+}
+
+impl Clone for Message {
+    ghost is_clone = { λ message copy. copy ≡ message };
+
+    fn clone(&self) -> Result<Message, AllocError> {
+        Ok(Message {
+            from: self.from,
+            body: self.body.clone()?,
+        })
+    }
 }

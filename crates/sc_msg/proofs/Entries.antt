@@ -1,0 +1,148 @@
+-- A list of entries has one spelling and at most one fault, and what is spelled has none.
+use Rattle.std.proofs.Common.{◌≡◌, ℕ, suc, ◌+◌, ◌<◌, ◌≤◌, ◌^◌, ◌==◌, true, false, nat_lt, List, [], ◌∷◌, ◌++◌, length, map, take, drop, Option, Some, None, refl, sym, ap, subst, ◌∙◌, arith, append_assoc, length-append, inl, inr}
+use Rattle.std.proofs.lemmas.Bool.{le-ltb, ne_eqb}
+use Rattle.std.proofs.lemmas.List.{take_at, drop_at}
+use Rattle.std.specs.List.{flat_map, AllByRecursion}
+use Rattle.sc_view.specs.declared.view.Stored.{Stored}
+use Rattle.sc_msg.specs.declared.fault.MessageFault.{MessageFault}
+use Rattle.sc_msg.specs.Numbers.{number_bytes, first_number}
+use Rattle.sc_msg.specs.Entries.{Layout, ids_layout, view_layout, IsStored, stored_bytes, stored_fault, entry_bytes, list_bytes, IsEntry, IsRising, last_of, is_above, count_fault, entry_fault, first_of, IsEntryFault}
+use Rattle.sc_msg.specs.Fields.{IsListFault}
+use Rattle.sc_msg.proofs.Numbers.{length-number_bytes, first_number-number_bytes}
+use Rattle.sc_msg.proofs.Lists.{id_sound, behind_id}
+
+no_fault : (e : MessageFault) → None ≡ Some e → ⊥
+no_fault e h = cc
+
+pub some_is : (d e : MessageFault) → Some d ≡ Some e → d ≡ e
+some_is d e h = cc
+
+-- bytes that begin with parts of one length
+pub same_front : (xs ys x y : List ℕ) (n : ℕ) → length xs ≡ n → length ys ≡ n → xs ++ x ≡ ys ++ y → (xs ≡ ys) × (x ≡ y)
+same_front xs ys x y n p q e =
+    (sym (take_at xs x n p) ∙ ap (take n) e ∙ take_at ys y n q, sym (drop_at xs x n p) ∙ ap (drop n) e ∙ drop_at ys y n q)
+
+pub number_front : (width m n : ℕ) (x y : List ℕ) → m < 256 ^ width → n < 256 ^ width → number_bytes width m ++ x ≡ number_bytes width n ++ y → (m ≡ n) × (x ≡ y)
+number_front width m n x y p q e = (
+  sym (first_number-number_bytes width m x p) ∙ ap (first_number width) e ∙ first_number-number_bytes width n y q,
+  (same_front (number_bytes width m) (number_bytes width n) x y width (length-number_bytes width m) (length-number_bytes width n) e).1,
+)
+
+-- what a list of entries needs of what stands behind its ids
+pub record IsLayout {A : Type 0} (layout : Layout A) : Type 0 where
+  pub few : layout.most < 2 ^ 16
+  pub front : (a b : A) (x y : List ℕ) → layout.id_of a ≡ layout.id_of b → layout.IsValue a → layout.IsValue b → layout.value_bytes a ++ x ≡ layout.value_bytes b ++ y → (a ≡ b) × (x ≡ y)
+  pub sound : (a : A) (x : List ℕ) → layout.IsValue a → layout.value_fault (layout.value_bytes a ++ x) ≡ None
+
+module _ {A : Type 0} (layout : Layout A) (law : IsLayout layout) where
+  entry_front : (a b : A) (x y : List ℕ) → IsEntry layout a → IsEntry layout b → entry_bytes layout a ++ x ≡ entry_bytes layout b ++ y → (a ≡ b) × (x ≡ y)
+  entry_front a b x y p q e =
+      let id = number_front 8 (layout.id_of a) (layout.id_of b) (layout.value_bytes a ++ x) (layout.value_bytes b ++ y) p.0 q.0 (sym (append_assoc (number_bytes 8 (layout.id_of a)) (layout.value_bytes a) x) ∙ e ∙ append_assoc (number_bytes 8 (layout.id_of b)) (layout.value_bytes b) y) in
+      law.front a b x y id.0 p.1 q.1 id.1
+
+  entry_sound : (last : Option ℕ) (a : A) (x : List ℕ) → IsEntry layout a → is_above last (layout.id_of a) ≡ true → entry_fault layout last (entry_bytes layout a ++ x) ≡ None
+  entry_sound last a x p above =
+      let parts : entry_bytes layout a ++ x ≡ number_bytes 8 (layout.id_of a) ++ (layout.value_bytes a ++ x) = append_assoc (number_bytes 8 (layout.id_of a)) (layout.value_bytes a) x in
+      ap (λ o. first_of o (layout.value_fault (drop 8 (entry_bytes layout a ++ x)))) (id_sound last (layout.id_of a) (entry_bytes layout a ++ x) (layout.value_bytes a ++ x) p.0 above parts)
+      ∙ ap layout.value_fault (behind_id (layout.id_of a) (entry_bytes layout a ++ x) (layout.value_bytes a ++ x) parts)
+      ∙ law.sound a x p.1
+
+  abbrev all_bytes : List A → List ℕ
+  all_bytes es = flat_map (entry_bytes layout) es
+
+  on : (a : A) (es : List A) (x : List ℕ) → all_bytes (a ∷ es) ++ x ≡ entry_bytes layout a ++ (all_bytes es ++ x)
+  on a es x = append_assoc (entry_bytes layout a) (all_bytes es) x
+
+  entries_front : (es fs : List A) (x y : List ℕ) → AllByRecursion (IsEntry layout) es → AllByRecursion (IsEntry layout) fs → length es ≡ length fs → all_bytes es ++ x ≡ all_bytes fs ++ y → (es ≡ fs) × (x ≡ y)
+  entries_front [] [] x y p q len e = (refl, e)
+  entries_front [] (f ∷ fs) x y p q len e = absurd (omega (arith, len))
+  entries_front (a ∷ es) [] x y p q len e = absurd (omega (arith, len))
+  entries_front (a ∷ es) (b ∷ fs) x y p q len e =
+      let h = entry_front a b (all_bytes es ++ x) (all_bytes fs ++ y) p.0 q.0 (sym (on a es x) ∙ e ∙ on b fs y) in
+      let t = entries_front es fs x y p.1 q.1 (omega (arith, len)) h.1 in
+      (ap (λ (c : A). c ∷ es) h.0 ∙ ap (λ (l : List A). b ∷ l) t.0, t.1)
+
+  -- ---- one spelling
+
+  counted : (es : List A) (x : List ℕ) → list_bytes layout es ++ x ≡ number_bytes 2 (length es) ++ (all_bytes es ++ x)
+  counted es x = append_assoc (number_bytes 2 (length es)) (all_bytes es) x
+
+  pub list_front : (es fs : List A) (x y : List ℕ) → AllByRecursion (IsEntry layout) es → AllByRecursion (IsEntry layout) fs → length es ≤ layout.most → length fs ≤ layout.most → list_bytes layout es ++ x ≡ list_bytes layout fs ++ y → (es ≡ fs) × (x ≡ y)
+  list_front es fs x y p q few fewer e =
+      let count = number_front 2 (length es) (length fs) (all_bytes es ++ x) (all_bytes fs ++ y) (omega (arith, law.few)) (omega (arith, law.few)) (sym (counted es x) ∙ e ∙ counted fs y) in
+      entries_front es fs x y p q count.0 count.1
+
+  -- ---- no fault in what is spelled
+
+  no_entry_fault : (last : Option ℕ) (before es : List A) (rest x : List ℕ) (e : MessageFault) → AllByRecursion (IsEntry layout) before → AllByRecursion (IsEntry layout) es → IsRising last (map layout.id_of es) → length before < length es → all_bytes before ++ rest ≡ all_bytes es ++ x → entry_fault layout (last_of last (map layout.id_of before)) rest ≡ Some e → ⊥
+  no_entry_fault last [] [] rest x e p q r fewer parts faulty = omega arith
+  no_entry_fault last [] (a ∷ es) rest x e p q r fewer parts faulty =
+      no_fault e (sym (entry_sound last a (all_bytes es ++ x) q.0 r.0) ∙ ap (entry_fault layout last) (sym (parts ∙ on a es x)) ∙ faulty)
+  no_entry_fault last (b ∷ before) [] rest x e p q r fewer parts faulty = omega arith
+  no_entry_fault last (b ∷ before) (a ∷ es) rest x e p q r fewer parts faulty =
+      let h = entry_front b a (all_bytes before ++ rest) (all_bytes es ++ x) p.0 q.0 (sym (on b before rest) ∙ parts ∙ on a es x) in
+      no_entry_fault (Some (layout.id_of a)) before es rest x e p.1 q.1 r.1 (omega (arith, fewer)) h.1 (ap (λ (c : A). entry_fault layout (last_of (Some (layout.id_of c)) (map layout.id_of before)) rest) (sym h.0) ∙ faulty)
+
+  no_count_fault : (bytes rest : List ℕ) (count : ℕ) → count ≤ layout.most → bytes ≡ number_bytes 2 count ++ rest → count_fault layout.most bytes ≡ None
+  no_count_fault bytes rest count few parts =
+      let long : nat_lt (length bytes) 2 ≡ false = le-ltb _ _ (omega (arith, ap length parts, length-append (number_bytes 2 count) rest, length-number_bytes 2 count)) in
+      let first : first_number 2 bytes ≡ count = ap (first_number 2) parts ∙ first_number-number_bytes 2 count rest (omega (arith, law.few)) in
+      let low : nat_lt layout.most (first_number 2 bytes) ≡ false = ap (nat_lt layout.most) first ∙ le-ltb _ _ few in
+      rw (long, low) refl
+
+  pub no_list_fault : (es : List A) (x : List ℕ) (e : MessageFault) → AllByRecursion (IsEntry layout) es → IsRising None (map layout.id_of es) → length es ≤ layout.most → IsListFault layout (list_bytes layout es ++ x) e → ⊥
+  no_list_fault es x e p r few (inl h) = no_fault e (sym (no_count_fault _ (all_bytes es ++ x) (length es) few (counted es x)) ∙ h)
+  no_list_fault es x e p r few (inr h) =
+      let count = number_front 2 h.count (length es) (all_bytes h.before ++ h.rest) (all_bytes es ++ x) (omega (arith, law.few, h.few)) (omega (arith, law.few)) (sym h.parts ∙ counted es x) in
+      no_entry_fault None h.before es h.rest x e h.entries p r (omega (arith, h.fewer, count.0)) count.1 h.faulty
+
+  -- ---- one fault
+
+  same_place : (last : Option ℕ) (before fs : List A) (x y : List ℕ) (d e : MessageFault) → AllByRecursion (IsEntry layout) before → AllByRecursion (IsEntry layout) fs → IsRising last (map layout.id_of before) → IsRising last (map layout.id_of fs) → all_bytes before ++ x ≡ all_bytes fs ++ y → entry_fault layout (last_of last (map layout.id_of before)) x ≡ Some d → entry_fault layout (last_of last (map layout.id_of fs)) y ≡ Some e → d ≡ e
+  same_place last [] [] x y d e p q r s parts bad worse = some_is d e (sym bad ∙ ap (entry_fault layout last) parts ∙ worse)
+  same_place last [] (f ∷ fs) x y d e p q r s parts bad worse =
+      absurd (no_fault d (sym (entry_sound last f (all_bytes fs ++ y) q.0 s.0) ∙ ap (entry_fault layout last) (sym (parts ∙ on f fs y)) ∙ bad))
+  same_place last (b ∷ before) [] x y d e p q r s parts bad worse =
+      absurd (no_fault e (sym (entry_sound last b (all_bytes before ++ x) p.0 r.0) ∙ ap (entry_fault layout last) (sym (on b before x) ∙ parts) ∙ worse))
+  same_place last (b ∷ before) (f ∷ fs) x y d e p q r s parts bad worse =
+      let h = entry_front b f (all_bytes before ++ x) (all_bytes fs ++ y) p.0 q.0 (sym (on b before x) ∙ parts ∙ on f fs y) in
+      same_place (Some (layout.id_of b)) before fs x y d e p.1 q.1 r.1 (subst (λ (c : A). IsRising (Some (layout.id_of c)) (map layout.id_of fs)) (sym h.0) s.1) h.1 bad (ap (λ (c : A). entry_fault layout (last_of (Some (layout.id_of c)) (map layout.id_of fs)) y) h.0 ∙ worse)
+
+  pub one_list_fault : (bytes : List ℕ) (d e : MessageFault) → IsListFault layout bytes d → IsListFault layout bytes e → d ≡ e
+  one_list_fault bytes d e (inl p) (inl q) = some_is d e (sym p ∙ q)
+  one_list_fault bytes d e (inl p) (inr q) = absurd (no_fault d (sym (no_count_fault bytes _ q.count q.few q.parts) ∙ p))
+  one_list_fault bytes d e (inr p) (inl q) = absurd (no_fault e (sym (no_count_fault bytes _ p.count p.few p.parts) ∙ q))
+  one_list_fault bytes d e (inr p) (inr q) =
+      let count = number_front 2 p.count q.count (all_bytes p.before ++ p.rest) (all_bytes q.before ++ q.rest) (omega (arith, law.few, p.few)) (omega (arith, law.few, q.few)) (sym p.parts ∙ q.parts) in
+      same_place None p.before q.before p.rest q.rest d e p.entries q.entries p.rising q.rising count.1 p.faulty q.faulty
+
+-- ---- the two layouts
+
+pub ids_law : IsLayout ids_layout
+ids_law = record { few = omega arith; front = λ a b x y same p q e. (same, e); sound = λ a x p. refl }
+
+pub stored_is : (d e : Stored) → d.number ≡ e.number → d.value ≡ e.value → d ≡ e
+stored_is d e p q = λ i. record { number = p i; value = q i }
+
+stored_front : (d e : Stored) (x y : List ℕ) → IsStored d → IsStored e → stored_bytes d ++ x ≡ stored_bytes e ++ y → (d ≡ e) × (x ≡ y)
+stored_front d e x y p q same =
+    let n = number_front 8 d.number e.number (d.value ++ x) (e.value ++ y) p.fits q.fits (sym (append_assoc (number_bytes 8 d.number) d.value x) ∙ same ∙ append_assoc (number_bytes 8 e.number) e.value y) in
+    let v = same_front d.value e.value x y 48 p.whole q.whole n.1 in
+    (stored_is d e n.0 v.0, v.1)
+
+stored_sound : (e : Stored) (x : List ℕ) → IsStored e → stored_fault (stored_bytes e ++ x) ≡ None
+stored_sound e x p =
+    let bytes = stored_bytes e ++ x in
+    let len : length bytes ≡ 56 + length x = omega (arith, length-append (stored_bytes e) x, length-append (number_bytes 8 e.number) e.value, length-number_bytes 8 e.number, p.whole) in
+    let long : nat_lt (length bytes) 8 ≡ false = le-ltb _ _ (omega (arith, len)) in
+    let first : first_number 8 bytes ≡ e.number = ap (first_number 8) (append_assoc (number_bytes 8 e.number) e.value x) ∙ first_number-number_bytes 8 e.number (e.value ++ x) p.fits in
+    let positive : (first_number 8 bytes == 0) ≡ false = ap (λ n. n == 0) first ∙ ne_eqb e.number 0 (λ z. omega (arith, z, p.positive)) in
+    let longer : nat_lt (length bytes) 56 ≡ false = le-ltb _ _ (omega (arith, len)) in
+    rw (long, positive, longer) refl
+
+pub view_law : IsLayout view_layout
+view_law = record {
+  few = omega arith;
+  front = λ a b x y same p q e. let h = stored_front a.1 b.1 x y p q e in ((λ i. (same i, h.0 i)), h.1);
+  sound = λ a x p. stored_sound a.1 x p;
+}

@@ -1,0 +1,44 @@
+-- Entries written one after another.
+use Rattle.std.proofs.Common.{◌≡◌, ℕ, ◌≤◌, List, [], ◌∷◌, ◌++◌, length, refl, sym, ap, subst, ◌∙◌, append_assoc}
+use Rattle.std.proofs.lemmas.List.{append-nil}
+use Rattle.std.proofs.lemmas.List.Concat.{flat_map-append}
+use Rattle.std.specs.List.{flat_map, AllByRecursion}
+use Rattle.sc_msg.specs.Numbers.{number_bytes}
+use Rattle.sc_msg.specs.Entries.{Layout, entry_bytes, list_bytes, IsEntry}
+use Rattle.sc_msg.proofs.Lists.{all-push}
+
+-- of the entries all but rest are written behind old
+pub record WrittenTo {A : Type 0} (layout : Layout A) (count : ℕ) (entries : List A) (old new : List ℕ) (rest : List A) : Type 0 where
+  pub done : List A
+  pub split : entries ≡ done ++ rest
+  pub legal : AllByRecursion (IsEntry layout) done
+  pub written : new ≡ old ++ (number_bytes 2 count ++ flat_map (entry_bytes layout) done)
+
+module _ {A : Type 0} (layout : Layout A) (count : ℕ) (entries : List A) (old : List ℕ) where
+  pub written_none : (new : List ℕ) → new ≡ old ++ number_bytes 2 count → WrittenTo layout count entries old new entries
+  written_none new is = record { done = []; split = refl; legal = tt; written = is ∙ ap (λ (l : List ℕ). old ++ l) (sym (append-nil (number_bytes 2 count))) }
+
+  pub written_more : (new after : List ℕ) (e : A) (rest : List A) → WrittenTo layout count entries old new (e ∷ rest) → IsEntry layout e → after ≡ new ++ entry_bytes layout e → WrittenTo layout count entries old after rest
+  written_more new after e rest w is more =
+      let spelled : flat_map (entry_bytes layout) (w.done ++ e ∷ []) ≡ flat_map (entry_bytes layout) w.done ++ entry_bytes layout e = flat_map-append (entry_bytes layout) w.done (e ∷ []) ∙ ap (λ (l : List ℕ). flat_map (entry_bytes layout) w.done ++ l) (append-nil (entry_bytes layout e)) in
+      record {
+        done = w.done ++ e ∷ [];
+        split = w.split ∙ sym (append_assoc w.done (e ∷ []) rest);
+        legal = all-push (IsEntry layout) w.done e w.legal is;
+        written = more ∙ ap (λ (l : List ℕ). l ++ entry_bytes layout e) w.written ∙ append_assoc old (number_bytes 2 count ++ flat_map (entry_bytes layout) w.done) (entry_bytes layout e)
+            ∙ ap (λ (l : List ℕ). old ++ l) (append_assoc (number_bytes 2 count) (flat_map (entry_bytes layout) w.done) (entry_bytes layout e) ∙ ap (λ (l : List ℕ). number_bytes 2 count ++ l) (sym spelled));
+      }
+
+  pub written_all : (new : List ℕ) → WrittenTo layout count entries old new [] → count ≡ length entries → AllByRecursion (IsEntry layout) entries × (new ≡ old ++ list_bytes layout entries)
+  written_all new w len =
+      let all : entries ≡ w.done = w.split ∙ append-nil w.done in (
+        subst (AllByRecursion (IsEntry layout)) (sym all) w.legal,
+        w.written ∙ ap (λ (l : List ℕ). old ++ l) (ap (λ n. number_bytes 2 n ++ flat_map (entry_bytes layout) w.done) len ∙ ap (λ (es : List A). number_bytes 2 (length entries) ++ flat_map (entry_bytes layout) es) (sym all)),
+      )
+
+pub all_at : {A : Type 0} (P : A → Type 0) (es done rest : List A) (e : A) → es ≡ done ++ e ∷ rest → AllByRecursion P es → P e
+all_at P es done rest e split h = second P done rest e (subst (AllByRecursion P) split h)
+  where
+    second : {A : Type 0} (P : A → Type 0) (done rest : List A) (e : A) → AllByRecursion P (done ++ e ∷ rest) → P e
+    second P [] rest e h = h.0
+    second P (d ∷ done) rest e h = second P done rest e h.1

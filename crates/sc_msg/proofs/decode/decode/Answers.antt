@@ -1,0 +1,5 @@
+use Rattle.sc_msg.proofs.Unique.{decodes}
+use Rattle.sc_msg.proofs.decode.decode.Goals as goal
+
+pub returns-clause-all : goal.returns-clause-all
+returns-clause-all c = decodes c.args.bytes.now c.message_of.result c.message_of.ensures.spelled c.message_of.ensures.message c.message_of.ensures.fault

@@ -1,0 +1,22 @@
+use Rattle.std.proofs.Common.{ℕ, [], ◌∷◌, ap, arith, length, length-append}
+use Rattle.sc_msg.specs.Numbers.{number_bytes}
+use Rattle.sc_msg.specs.Fields.{fields, fields_bytes}
+use Rattle.sc_msg.proofs.Numbers.{length-number_bytes}
+use Rattle.sc_msg.proofs.Unique.{body_small}
+use Rattle.sc_msg.proofs.encode.encode.Goals as goal
+
+pub returns-clause-small : goal.returns-clause-small
+returns-clause-small c =
+    let m = c.args.message.now in
+    omega (
+      arith,
+      ap length c.in_ok-push_body.ensures.spelled,
+      length-append c.push_number.new.out.items (fields_bytes (fields m.body)),
+      ap length c.in_ok-push_number.ensures.spelled,
+      length-append c.extend_from_slice.new.self.items (number_bytes 8 m.from),
+      ap length c.in_ok-extend_from_slice.ensures.items,
+      length-append c.new-out.result.items (0x42 ∷ 0x51 ∷ 0x01 ∷ c.byte.result ∷ []),
+      ap length c.new-out.ensures.items,
+      length-number_bytes 8 m.from,
+      body_small m.body c.in_ok-push_body.ensures.legal,
+    )

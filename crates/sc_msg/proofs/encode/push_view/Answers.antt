@@ -1,0 +1,33 @@
+use Rattle.std.proofs.Common.{ℕ, ◌≤◌, List, [], ◌++◌, ◌∷◌, sym, ap, subst, ◌∙◌, append_assoc}
+use Rattle.std.specs.FinMap as fin
+use Rattle.sc_view.specs.declared.view.Stored.{Stored}
+use Rattle.sc_msg.specs.Numbers.{number_bytes}
+use Rattle.sc_msg.specs.Entries.{view_layout, stored_bytes}
+use Rattle.sc_msg.proofs.Rising.{entries_counted}
+use Rattle.sc_msg.proofs.Writing.{WrittenTo, written_more, written_all, all_at}
+use Rattle.sc_msg.proofs.encode.push_view.Goals as goal
+
+pub push_stored-requires : goal.push_stored-requires
+push_stored-requires c =
+    let v = c.args.view.now in
+    let w = c.loop-id.invariant in
+    all_at (λ (e : ℕ × Stored). 1 ≤ e.1.number) (fin.entries v) w.done c.next.new.self (c.in-Some.id, c.in-Some.stored) (w.split ∙ ap (λ (l : List (ℕ × Stored)). w.done ++ l) c.in-Some.ensures.steps) (entries_counted v c.len.ensures.valid)
+
+pub loop-id-preserved : goal.loop-id-preserved
+loop-id-preserved c =
+    let v = c.args.view.now in
+    let old = c.args.out.now.items in
+    let new = c.loop-id.out.items in
+    let id = c.in-Some.id in
+    let stored = c.in-Some.stored in
+    let before = subst (λ (rest : List (ℕ × Stored)). WrittenTo view_layout (fin.len v) (fin.entries v) old new rest) c.in-Some.ensures.steps c.loop-id.invariant in
+    written_more view_layout (fin.len v) (fin.entries v) old new c.push_stored.new.out.items (id, stored) c.next.new.self before (c.in_ok-push_number.ensures.fits, c.in_ok-push_stored.ensures.legal)
+    (c.in_ok-push_stored.ensures.spelled ∙ ap (λ (l : List ℕ). l ++ stored_bytes stored) c.in_ok-push_number.ensures.spelled ∙ append_assoc new (number_bytes 8 id) (stored_bytes stored))
+
+pub returns-clause-spelled : goal.returns-clause-spelled
+returns-clause-spelled c =
+    let v = c.args.view.now in
+    let old = c.args.out.now.items in
+    let new = c.loop-id.out.items in
+    let whole = subst (λ (rest : List (ℕ × Stored)). WrittenTo view_layout (fin.len v) (fin.entries v) old new rest) c.in-None.ensures.steps.0 c.loop-id.invariant in
+    (written_all view_layout (fin.len v) (fin.entries v) old new whole (fin.len-entries v)).1

@@ -1,0 +1,11 @@
+use Rattle.std.proofs.Common.{arith, rules}
+use Rattle.sc_msg.proofs.Parts.{value_cut}
+use Rattle.sc_msg.proofs.reader.Reader.stored.Goals as goal
+
+pub returns-in_err-bytes-clause-fault : goal.returns-in_err-bytes-clause-fault
+returns-in_err-bytes-clause-fault c =
+    let cut = value_cut c.args.self.now.rest.now c.number.new.self.rest.now c.in_ok-number.number c.in_ok-number.ensures.long c.in_ok-number.ensures.first c.if-number-eq0.false c.in_ok-number.ensures.parts c.in_err-bytes.ensures.few in
+    search (rules, cut)
+
+pub returns-clause-stored : goal.returns-clause-stored
+returns-clause-stored c = record { positive = omega arith; fits = c.in_ok-number.ensures.fits; whole = c.copy_from_slice.ensures.len; bytes = rw c.copy_from_slice.ensures.after c.in_ok-bytes.ensures.bytes }

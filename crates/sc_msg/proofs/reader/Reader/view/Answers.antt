@@ -1,0 +1,53 @@
+use Rattle.std.proofs.Common.{◌≡◌, ◌<◌, Err, ap, length, arith, rules}
+use Rattle.std.specs.FinMap as fin
+use Rattle.sc_view.specs.declared.view.ViewFault.TheVariants as views
+use Rattle.sc_msg.specs.Entries.{view_layout}
+use Rattle.sc_msg.specs.Fields.{IsListFault}
+use Rattle.sc_msg.proofs.Lists.{read_fault, id_faulty, value_faulty, put_refused, view_none, view_more, view_len, view_has_room, view_parts}
+use Rattle.sc_msg.proofs.reader.Reader.view.Goals as goal
+
+pub loop-init : goal.loop-init
+loop-init c =
+    let n = view_none c.new-view.result c.in_ok-count.count c.args.self.now.rest.now c.count.new.self.rest.now c.new-view.ensures c.in_ok-count.ensures.parts in
+    record { read = n.0; len = n.1 }
+
+pub returns-in_err-id-clause-fault : goal.returns-in_err-id-clause-fault
+returns-in_err-id-clause-fault c =
+    let i = c.loop.invariant in
+    let d = c.in_err-id.field-0.0 in
+    let rest = c.loop.self.rest.now in
+    let fewer : length (fin.entries c.loop.view) < c.in_ok-count.count = omega (arith, i.len, fin.len-entries c.loop.view) in
+    let fact = read_fault view_layout c.in_ok-count.count c.args.self.now.rest.now (fin.entries c.loop.view) rest c.loop.last d i.read c.in_ok-count.ensures.few fewer (id_faulty view_layout c.loop.last rest d c.in_err-id.ensures.fault) in
+    search (rules, fact)
+
+pub returns-in_err-stored-clause-fault : goal.returns-in_err-stored-clause-fault
+returns-in_err-stored-clause-fault c =
+    let i = c.loop.invariant in
+    let d = c.in_err-stored.field-0.0 in
+    let rest = c.loop.self.rest.now in
+    let fewer : length (fin.entries c.loop.view) < c.in_ok-count.count = omega (arith, i.len, fin.len-entries c.loop.view) in
+    let faulty = value_faulty view_layout c.loop.last c.in_ok-id.id rest c.id_above.new.self.rest.now d c.in_ok-id.ensures.fits c.in_ok-id.ensures.above c.in_ok-id.ensures.parts c.in_err-stored.ensures.fault in
+    let fact = read_fault view_layout c.in_ok-count.count c.args.self.now.rest.now (fin.entries c.loop.view) rest c.loop.last d i.read c.in_ok-count.ensures.few fewer faulty in
+    search (rules, fact)
+
+pub returns-in_err-put-clause-fault : goal.returns-in_err-put-clause-fault
+returns-in_err-put-clause-fault c =
+    let i = c.loop.invariant in
+    let room = λ (h : c.in_err-put.field-0.0 ≡ views.Full). view_has_room c.loop.view c.in_ok-count.count c.args.self.now.rest.now c.loop.self.rest.now c.loop.last c.in_ok-id.id c.in_ok-stored.stored i.read c.in_ok-id.ensures.above (omega (arith, i.len, c.in_ok-count.ensures.few)) (c.in_err-put.ensures.full.0 (ap Err h)) in
+    let fact = put_refused (IsListFault view_layout c.args.self.now.rest.now) c.in_err-put.field-0.0 room in
+    search (rules, fact)
+
+pub loop-preserved : goal.loop-preserved
+loop-preserved c =
+    let i = c.loop.invariant in
+    let id = c.in_ok-id.id in
+    let stored = c.in_ok-stored.stored in
+    record {
+      read = view_more c.loop.view c.put.new.self c.in_ok-count.count c.args.self.now.rest.now c.loop.self.rest.now c.id_above.new.self.rest.now c.stored.new.self.rest.now c.loop.last id stored i.read c.in_ok-id.ensures.above c.in_ok-id.ensures.fits c.in_ok-stored.ensures.stored c.in_ok-id.ensures.parts c.in_ok-stored.ensures.parts c.in_ok-put.ensures.ok;
+      len = omega (arith, i.len, view_len c.loop.view c.put.new.self c.in_ok-count.count c.args.self.now.rest.now c.loop.self.rest.now c.loop.last id stored i.read c.in_ok-id.ensures.above c.in_ok-put.ensures.ok);
+    }
+
+pub returns-clause-parts : goal.returns-clause-parts
+returns-clause-parts c =
+    let i = c.loop.invariant in
+    view_parts c.loop.view c.in_ok-count.count c.args.self.now.rest.now c.loop.self.rest.now c.loop.last i.read (omega (arith, i.len))

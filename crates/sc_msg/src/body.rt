@@ -1,0 +1,114 @@
+//! The body of each kind of message, read field by field.
+
+ghost use Rattle.std.specs.Prelude.{◌≡◌, ◌≤◌, ◌<◌, ◌^◌, ◌++◌, length, Some, IfOk, IfErr, OnOk};
+ghost use Rattle.sc_msg.specs.Fields.{slots, IsFieldsFault, OrMemory};
+ghost use Rattle.sc_msg.specs.Messages.{head_bytes, ReadsBody};
+ghost use Rattle.sc_msg.specs.Fault.{head_fault, most_bytes};
+
+use crate::fault::MessageFault;
+use crate::kind::Kind;
+use crate::message::{Body, MOST_BYTES};
+use crate::reader::Reader;
+use std::alloc::Global;
+
+impl<'a> Reader<'a> {
+    /// The kind of the message, and its sender.
+    pub(crate) fn head(&mut self) -> Result<(Kind, u64), MessageFault>
+        ensures small { OnOk result (length self.old.rest.now ≤ most_bytes) }
+        ensures fits { IfOk result (λ x. x.1 < 2 ^ 64) }
+        ensures parts { IfOk result (λ x. self.old.rest.now ≡ head_bytes x.0 x.1 ++ self.new.rest.now) }
+        ensures fault { IfErr result (λ e. head_fault self.old.rest.now ≡ Some e) }
+    {
+        if self.rest.len() > MOST_BYTES {
+            return Err(MessageFault::TooLong);
+        }
+        if self.rest.len() < 12 {
+            return Err(MessageFault::Short);
+        }
+        let [0x42, 0x51, 0x01, code, rest @ ..] = self.rest else {
+            return Err(MessageFault::BadHead);
+        };
+        let Some(kind) = Kind::of_byte(*code) else {
+            return Err(MessageFault::BadKind);
+        };
+        self.rest = rest;
+        let from = self.number()?;
+        Ok((kind, from))
+    }
+
+    fn enter_echo(&mut self, alloc: Global) -> Result<Body, MessageFault>
+        ensures body { IfOk result (ReadsBody Kind.EnterEcho self.old.rest.now self.new.rest.now) }
+        ensures fault { IfErr result (OrMemory (IsFieldsFault (slots Kind.EnterEcho) self.old.rest.now)) }
+    {
+        let to = self.number()?;
+        let joined = self.flag()?;
+        let facts = self.facts(alloc)?;
+        let view = self.view(alloc)?;
+        Ok(Body::EnterEcho {
+            to,
+            joined,
+            facts,
+            view,
+        })
+    }
+
+    fn store(&mut self, alloc: Global) -> Result<Body, MessageFault>
+        ensures body { IfOk result (ReadsBody Kind.Store self.old.rest.now self.new.rest.now) }
+        ensures fault { IfErr result (OrMemory (IsFieldsFault (slots Kind.Store) self.old.rest.now)) }
+    {
+        let tag = self.number()?;
+        let view = self.view(alloc)?;
+        Ok(Body::Store { tag, view })
+    }
+
+    fn store_ack(&mut self) -> Result<Body, MessageFault>
+        ensures body { IfOk result (ReadsBody Kind.StoreAck self.old.rest.now self.new.rest.now) }
+        ensures fault { IfErr result (OrMemory (IsFieldsFault (slots Kind.StoreAck) self.old.rest.now)) }
+    {
+        let to = self.number()?;
+        let tag = self.number()?;
+        Ok(Body::StoreAck { to, tag })
+    }
+
+    fn collect_reply(&mut self, alloc: Global) -> Result<Body, MessageFault>
+        ensures body { IfOk result (ReadsBody Kind.CollectReply self.old.rest.now self.new.rest.now) }
+        ensures fault { IfErr result (OrMemory (IsFieldsFault (slots Kind.CollectReply) self.old.rest.now)) }
+    {
+        let to = self.number()?;
+        let tag = self.number()?;
+        let view = self.view(alloc)?;
+        Ok(Body::CollectReply { to, tag, view })
+    }
+
+    /// The body of a message of this kind.
+    pub(crate) fn body(&mut self, alloc: Global, kind: Kind) -> Result<Body, MessageFault>
+        ensures body { IfOk result (ReadsBody kind self.old.rest.now self.new.rest.now) }
+        ensures fault { IfErr result (OrMemory (IsFieldsFault (slots kind) self.old.rest.now)) }
+    {
+        match kind {
+            Kind::Enter => Ok(Body::Enter),
+            Kind::EnterEcho => self.enter_echo(alloc),
+            Kind::Join => Ok(Body::Join),
+            Kind::JoinEcho => {
+                let about = self.number()?;
+                Ok(Body::JoinEcho { about })
+            }
+            Kind::Leave => Ok(Body::Leave),
+            Kind::LeaveEcho => {
+                let about = self.number()?;
+                Ok(Body::LeaveEcho { about })
+            }
+            Kind::Store => self.store(alloc),
+            Kind::StoreAck => self.store_ack(),
+            Kind::StoreEcho => {
+                let view = self.view(alloc)?;
+                Ok(Body::StoreEcho { view })
+            }
+            Kind::CollectQuery => {
+                let tag = self.number()?;
+                Ok(Body::CollectQuery { tag })
+            }
+            Kind::CollectReply => self.collect_reply(alloc),
+        }
+    }
+}
