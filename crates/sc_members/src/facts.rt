@@ -109,6 +109,18 @@ impl Facts {
         })
     }
 
+    /// The facts of these three sets.
+    pub fn from_sets(entered: IdSet, joined: IdSet, left: IdSet) -> Facts
+        requires entered { set.len entered ≤ most_facts }
+        requires joined { set.len joined ≤ most_facts }
+        requires left { set.len left ≤ most_facts }
+        ensures entered { result.entered ≡ entered }
+        ensures joined { result.joined ≡ joined }
+        ensures left { result.left ≡ left }
+    {
+        Facts { entered, joined, left }
+    }
+
     /// Who is known to have entered.
     pub fn entered(&self) -> &IdSet
         ensures field { result.now ≡ self.now.entered }
