@@ -218,7 +218,7 @@ impl Node {
     pub fn deliver(&mut self, message: &Message) -> Result<Delivered, NodeFault>
         ensures { Steps NodeFault.OutOfMemory (delivered self.old message.now) self.old self.new result }
     {
-        if self.gone {
+        if self.is_gone() {
             return Err(NodeFault::Gone);
         }
         let from = message.from;

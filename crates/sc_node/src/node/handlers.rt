@@ -101,15 +101,15 @@ impl Node {
         requires { self.old.gone ≡ false }
         ensures { Steps NodeFault.OutOfMemory (delivered self.old (message_from from (CollectQuery tag))) self.old self.new result }
     {
-        if !self.joined {
-            return Ok(self.silent());
+        if self.joined {
+            let reply = self.says(Body::CollectReply {
+                to: from,
+                tag,
+                view: self.view.clone()?,
+            });
+            return Ok(Delivered::sending(Outs::one(self.alloc, reply)));
         }
-        let reply = self.says(Body::CollectReply {
-            to: from,
-            tag,
-            view: self.view.clone()?,
-        });
-        Ok(Delivered::sending(Outs::one(self.alloc, reply)))
+        Ok(self.silent())
     }
 
     pub(super) fn on_enter_echo(
