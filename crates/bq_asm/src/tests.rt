@@ -53,15 +53,20 @@ const ROWS: [(&str, &[u8]); 22] = [
     ),
 ];
 
+/// The source is assembled to these bytes, and these bytes are written as this source.
+fn is_row(alloc: Global, source: &str, bytes: &[u8]) -> Result<bool, Fail> {
+    let text = assemble(alloc, source)?;
+    let encoded = encode(alloc, &text)?;
+    let decoded = decode(alloc, bytes)?;
+    let written = disassemble(alloc, &decoded)?;
+    Ok(encoded.as_slice() == bytes && written.as_str() == source)
+}
+
 #[test]
 fn rows_are_assembled_and_written_back(rt: HostRuntime) -> Result<(), Fail> {
     for (source, bytes) in ROWS {
-        let text = assemble(rt.alloc(), source)?;
-        let encoded = encode(rt.alloc(), &text)?;
-        assert_eq!(rt; encoded.as_slice(), bytes, "{source}");
-        let decoded = decode(rt.alloc(), bytes)?;
-        let written = disassemble(rt.alloc(), &decoded)?;
-        assert_eq!(rt; written.as_str(), source);
+        let same = is_row(rt.alloc(), source, bytes)?;
+        assert!(rt; same, "{source}");
     }
     Ok(())
 }
