@@ -118,7 +118,11 @@ impl Facts {
         ensures joined { result.joined ≡ joined }
         ensures left { result.left ≡ left }
     {
-        Facts { entered, joined, left }
+        Facts {
+            entered,
+            joined,
+            left,
+        }
     }
 
     /// Who is known to have entered.
