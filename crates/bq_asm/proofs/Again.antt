@@ -1,6 +1,6 @@
 -- An operand that is written is read again, and so is a statement.
-use Rattle.std.proofs.Common.{◌≡◌, ◌≢◌, ℕ, zero, suc, ◌+◌, ◌-◌, ◌^◌, ◌<◌, ◌≤◌, Bool, true, false, cond, eqb, ltb, not, ◌&&◌, ◌||◌, List, [], ◌∷◌, ◌++◌, length, Option, Some, None, refl, ap, sym, ◌∙◌, subst, inl, inr, ◌⊎◌, arith, IsTrue}
-use Rattle.std.specs.Prelude.{ℤ, pos, negsuc, FitsSigned, codes, option_map}
+use Rattle.std.proofs.Common.{◌≡◌, ◌≢◌, ℕ, suc, ◌-◌, ◌^◌, ◌<◌, true, false, cond, eqb, ltb, ◌&&◌, List, [], ◌∷◌, ◌++◌, length, Option, Some, None, refl, ap, sym, ◌∙◌, subst, inl, inr, ◌⊎◌, arith, IsTrue}
+use Rattle.std.specs.Prelude.{ℤ, pos, negsuc, FitsSigned, option_map}
 use Rattle.std.specs.List.{AllByRecursion, list_all}
 use Rattle.std.specs.Int.{w16, w32}
 use Rattle.std.specs.Char.{is_ascii_digit}
@@ -12,17 +12,16 @@ use Rattle.std.proofs.lemmas.List.{append_assoc, append-nil}
 use Rattle.bq_insn.specs.declared.insn.Operand.TheVariants as operands
 use Rattle.bq_insn.specs.declared.insn.Operand.{Operand}
 use Rattle.bq_insn.specs.declared.insn.Insn.TheVariants as insns
-use Rattle.bq_insn.specs.declared.insn.Insn.{Insn}
 use Rattle.bq_insn.specs.Insn.{IsOperand, IsInsn}
 use Rattle.bq_asm.specs.declared.jump.Jump.{Jump}
 use Rattle.bq_asm.specs.declared.jump.Jump.TheVariants as jumps
-use Rattle.bq_asm.specs.Line.{Statement, Complete, JumpTo, IsName, IsJump, IsStatement, is_letter, is_name_byte, AreListed, IsComma, AreSpaces, statement_operands, statement_mnemonic}
+use Rattle.bq_asm.specs.Line.{Statement, Complete, JumpTo, IsName, IsJump, IsStatement, is_letter, is_name_byte, AreListed, statement_operands, statement_mnemonic}
 use Rattle.bq_asm.specs.Operands.{register, operand, distance, memory, jump_insn, jump_mnemonic, jump_operands}
-use Rattle.bq_asm.specs.Reading.{◌>>=◌, strip, cut, natural_at, positive_at, negative_at, signed_at, signed_else, distance_at, distance_else, positive_of, negative_of, fits, fitting, register_at, operand_at, operand_else, place_of, place_else, place_at, memory_at, is_name, jump_bits, jump_by, target_at, target_else, pair_at, trimmed, statement_at}
-use Rattle.bq_asm.proofs.Parts.{Lacks, cut_none, cut_at, strip_none, strip_at}
+use Rattle.bq_asm.specs.Reading.{◌>>=◌, strip, positive_at, negative_at, signed_at, signed_else, distance_at, distance_else, positive_of, negative_of, fits, register_at, operand_at, operand_else, place_of, place_else, place_at, memory_at, is_name, jump_bits, target_at, target_else, pair_at, trimmed, statement_at}
+use Rattle.bq_asm.proofs.Parts.{Lacks, cut_none, cut_at, strip_none}
 use Rattle.bq_asm.proofs.Numbers.{own, natural_decimal}
-use Rattle.bq_asm.proofs.Spaces.{Starts, Ends, spaces_lack, lacks_append, starts_append, ends_append, starts_some, trimmed_between}
-use Rattle.bq_asm.proofs.Clean.{Word, Clean, no_comma, clean_lacks, clean_ends, word_starts, register_word, operand_word, distance_word, decimal_word, memory_word, name_word, wider}
+use Rattle.bq_asm.proofs.Spaces.{Starts, Ends, spaces_lack, lacks_append, starts_append, ends_append, trimmed_between}
+use Rattle.bq_asm.proofs.Clean.{Word, no_comma, clean_lacks, clean_ends, word_starts, register_word, operand_word, distance_word, decimal_word, memory_word, name_word, wider}
 
 -- ---- digits
 

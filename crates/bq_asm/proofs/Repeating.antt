@@ -1,5 +1,5 @@
 -- Which names lines define.
-use Rattle.std.proofs.Common.{◌≡◌, ℕ, ◌+◌, ◌<◌, ◌≤◌, Bool, true, false, cond, ◌||◌, List, [], ◌∷◌, ◌++◌, length, map, take, drop, get_or, Option, Some, None, refl, ap, sym, ◌∙◌, subst, inl, inr, ◌⊎◌, arith, Bor}
+use Rattle.std.proofs.Common.{◌≡◌, ℕ, ◌+◌, ◌<◌, Bool, true, false, cond, ◌||◌, List, [], ◌∷◌, ◌++◌, length, map, take, drop, get_or, refl, ap, sym, ◌∙◌, subst, inl, inr, Bor}
 use Rattle.std.specs.Str.{bytes_eq}
 use Rattle.std.specs.HashSet.{HashSet, contains_by}
 use Rattle.std.proofs.lemmas.Bool.{false≢true, or_cases, or_left, or_right}
@@ -10,7 +10,7 @@ use Rattle.bq_asm.specs.declared.line.Line.TheVariants as said
 use Rattle.bq_asm.specs.View.{line_view}
 use Rattle.bq_asm.specs.Line.{Line, Blank, Label, Instruction}
 use Rattle.bq_asm.specs.Labels.{IsDefined, IsRepeated, IsFirstLine}
-use Rattle.bq_asm.proofs.First.{Going, going_on, going_found, At, at}
+use Rattle.bq_asm.proofs.First.{Going, going_on, going_found, at}
 
 abbrev pub defines_line : List ℕ → Line → Bool
 defines_line q (Label label) = bytes_eq q label

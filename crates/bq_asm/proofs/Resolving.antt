@@ -1,16 +1,14 @@
 -- Lines resolved from the last to the first.
-use Rattle.std.proofs.Common.{◌≡◌, ℕ, ◌+◌, ◌-◌, ◌*◌, ◌<◌, ◌≤◌, Bool, true, false, cond, List, [], ◌∷◌, ◌++◌, length, map, Option, Some, None, refl, ap, sym, ◌∙◌, subst, inl, inr, ◌⊎◌, arith, Bor, length-append}
+use Rattle.std.proofs.Common.{◌≡◌, ℕ, ◌+◌, ◌-◌, ◌*◌, ◌≤◌, Bool, true, false, cond, List, [], ◌∷◌, ◌++◌, length, map, Option, Some, None, ap, sym, ◌∙◌, subst, inl, inr, arith, Bor}
 use Rattle.std.specs.Prelude.{MatchOption, option_map, reverse}
 use Rattle.std.specs.Str.{bytes_eq}
 use Rattle.std.specs.HashMap.{HashMap, get_by}
-use Rattle.std.proofs.lemmas.Bool.{cases_Bool, cond-true, cond-false}
+use Rattle.std.proofs.lemmas.Bool.{cond-true, cond-false}
 use Rattle.std.proofs.lemmas.List.{map_push, append_assoc, reverse-append, length-map}
 use Rattle.bq_insn.specs.declared.insn.Insn.{Insn}
 use Rattle.bq_insn.specs.declared.insn.Insn.TheVariants as insns
 use Rattle.bq_asm.specs.declared.line.Line as code
-use Rattle.bq_asm.specs.declared.line.Line.TheVariants as said
-use Rattle.bq_asm.specs.declared.line.Statement as statements
-use Rattle.bq_asm.specs.View.{line_view, statement_view}
+use Rattle.bq_asm.specs.View.{line_view}
 use Rattle.bq_asm.specs.Line.{Statement, Complete, JumpTo, Line, Blank, Label, Instruction}
 use Rattle.bq_asm.specs.Labels.{NoLine, IsFirstLine, IsUnresolved, Mean, Means, units_before, statement_units}
 use Rattle.bq_asm.specs.Placed.{IsPlaced}

@@ -1,16 +1,16 @@
 -- A line spells what is read from it, and nothing else.
-use Rattle.std.proofs.Common.{◌≡◌, ◌≢◌, ℕ, zero, suc, ◌+◌, ◌<◌, ◌≤◌, Bool, true, false, cond, eqb, ltb, not, ◌&&◌, List, [], ◌∷◌, ◌++◌, length, Option, Some, None, refl, ap, sym, ◌∙◌, subst, inl, inr, ◌⊎◌, arith}
-use Rattle.std.specs.List.{AllByRecursion, list_all}
-use Rattle.std.proofs.lemmas.Bool.{cond-false, cond-true, eqb-true, eqb-false, and_parts, cases_Bool, ltb-true, not-true}
+use Rattle.std.proofs.Common.{◌≡◌, ◌≢◌, ℕ, ◌<◌, Bool, true, false, cond, eqb, ltb, not, ◌&&◌, List, [], ◌∷◌, ◌++◌, length, Option, Some, None, refl, ap, sym, ◌∙◌, subst, inl, inr, ◌⊎◌, arith}
+use Rattle.std.specs.List.{AllByRecursion}
+use Rattle.std.proofs.lemmas.Bool.{eqb-true, eqb-false, and_parts, ltb-true, not-true}
 use Rattle.std.proofs.lemmas.Option.{cond_some}
 use Rattle.std.proofs.lemmas.List.{append_assoc, append-nil, nil_from_length}
 use Rattle.bq_asm.specs.Mnemonic.{name, mnemonic_at}
-use Rattle.bq_asm.specs.Line.{Statement, Line, Blank, Label, Instruction, IsName, IsStatement, IsComment, AreListed, AreSpaces, IsGap, statement_operands, statement_mnemonic, Spells, SpellsBlank, SpellsLabel, SpellsStatement}
-use Rattle.bq_asm.specs.Reading.{◌>>=◌, Gives, cut, trimmed, is_comment, is_name, statement_at, instruction_at, words_else, words_at, label_else, line_else, line_at}
-use Rattle.bq_asm.proofs.Spaces.{Starts, spaces_append, trimmed_spaces, Trimmed, trimmed_of, cut_parts}
+use Rattle.bq_asm.specs.Line.{Statement, Line, Blank, Instruction, IsStatement, IsComment, AreListed, AreSpaces, IsGap, statement_operands, statement_mnemonic, Spells}
+use Rattle.bq_asm.specs.Reading.{◌>>=◌, cut, trimmed, is_comment, is_name, statement_at, instruction_at, words_else, words_at, label_else, line_else, line_at}
+use Rattle.bq_asm.proofs.Spaces.{Starts, spaces_append, trimmed_spaces, trimmed_of, cut_parts}
 use Rattle.bq_asm.proofs.Mnemonics.{mnemonic_sound}
 use Rattle.bq_asm.proofs.Again.{Words, listed_starts, operands_words}
-use Rattle.bq_asm.proofs.Sound.{bind_some, guard_some, name_sound, Spread, Reads, statement_sound}
+use Rattle.bq_asm.proofs.Sound.{bind_some, guard_some, name_sound, Spread, statement_sound}
 use Rattle.bq_asm.proofs.Spelled.{line_again}
 
 comment_sound : (c : List ℕ) → is_comment c ≡ true → AllByRecursion (λ d. (d < 128) × (d ≢ 13)) c

@@ -1,29 +1,25 @@
 -- What is read from a line is spelled by it.
-use Rattle.std.proofs.Common.{◌≡◌, ◌≢◌, ℕ, zero, suc, ◌+◌, ◌-◌, ◌^◌, ◌<◌, ◌≤◌, Bool, true, false, cond, eqb, ltb, not, ◌&&◌, List, [], ◌∷◌, ◌++◌, length, Option, Some, None, refl, ap, sym, ◌∙◌, subst, inl, inr, ◌⊎◌, arith, IsTrue}
-use Rattle.std.specs.Prelude.{ℤ, pos, negsuc, FitsSigned, codes, option_map}
+use Rattle.std.proofs.Common.{◌≡◌, ℕ, suc, ◌-◌, ◌^◌, ◌<◌, Bool, true, false, cond, eqb, ltb, ◌&&◌, List, [], ◌∷◌, ◌++◌, length, Option, Some, None, refl, ap, sym, ◌∙◌, subst, arith, IsTrue}
+use Rattle.std.specs.Prelude.{ℤ, pos, negsuc, FitsSigned, option_map}
 use Rattle.std.specs.List.{AllByRecursion, list_all}
 use Rattle.std.specs.Int.{w16, w32}
 use Rattle.std.specs.Fmt.{decimal, signed_decimal}
-use Rattle.std.proofs.lemmas.Bool.{cond-false, cond-true, eqb-true, eqb-false, and_parts, cases_Bool, ltb-true, not-true}
+use Rattle.std.proofs.lemmas.Bool.{eqb-true, and_parts, ltb-true}
 use Rattle.std.proofs.lemmas.Option.{cond_some}
 use Rattle.std.proofs.lemmas.List.{append_assoc, append-nil, nil_from_length}
 use Rattle.bq_insn.specs.declared.insn.Operand.TheVariants as operands
 use Rattle.bq_insn.specs.declared.insn.Operand.{Operand}
 use Rattle.bq_insn.specs.declared.insn.Insn.TheVariants as insns
-use Rattle.bq_insn.specs.declared.insn.Insn.{Insn}
 use Rattle.bq_insn.specs.Insn.{IsOperand, IsInsn}
 use Rattle.bq_asm.specs.declared.mnemonic.Mnemonic.{Mnemonic}
 use Rattle.bq_asm.specs.declared.mnemonic.Mnemonic.TheVariants as mnemonics
 use Rattle.bq_asm.specs.declared.jump.Jump.{Jump}
 use Rattle.bq_asm.specs.declared.jump.Jump.TheVariants as jumps
-use Rattle.bq_asm.specs.Mnemonic.{name, mnemonic_at}
-use Rattle.bq_asm.specs.Line.{Statement, Complete, JumpTo, Line, Blank, Label, Instruction, IsName, IsJump, IsStatement, IsComment, is_letter, is_name_byte, AreListed, IsComma, AreSpaces, IsGap, statement_operands, statement_mnemonic, Spells, SpellsBlank, SpellsLabel, SpellsStatement}
+use Rattle.bq_asm.specs.Line.{Statement, Complete, IsName, IsJump, IsStatement, is_letter, is_name_byte, AreListed, AreSpaces, statement_operands, statement_mnemonic}
 use Rattle.bq_asm.specs.Operands.{register, operand, distance, memory, jump_insn, jump_mnemonic, jump_operands}
-use Rattle.bq_asm.specs.Reading.{◌>>=◌, strip, cut, natural_at, positive_at, negative_at, signed_at, signed_else, distance_at, distance_else, positive_of, negative_of, fits, fitting, register_of, register_at, operand_at, operand_else, place_of, place_else, place_at, memory_at, is_name, is_comment, jump_bits, jump_by, target_at, target_else, pair_at, trimmed, statement_at, instruction_at, words_else, words_at, label_else, line_else, line_at}
+use Rattle.bq_asm.specs.Reading.{◌>>=◌, strip, cut, natural_at, positive_at, negative_at, signed_at, signed_else, distance_at, distance_else, positive_of, negative_of, fits, fitting, register_of, register_at, operand_at, operand_else, place_of, place_else, place_at, memory_at, is_name, jump_bits, jump_by, target_at, target_else, pair_at, trimmed, statement_at}
 use Rattle.bq_asm.proofs.Numbers.{natural_sound}
-use Rattle.bq_asm.proofs.Spaces.{Starts, spaces_append, trimmed_spaces, Trimmed, trimmed_of, cut_parts}
-use Rattle.bq_asm.proofs.Mnemonics.{mnemonic_sound}
-use Rattle.bq_asm.proofs.Again.{Words, listed_starts, operands_words}
+use Rattle.bq_asm.proofs.Spaces.{spaces_append, trimmed_of, cut_parts}
 
 pub bind_some : {A B : Type 0} (o : Option A) (f : A → Option B) (y : B) → (o >>= f) ≡ Some y → (x : A) × (o ≡ Some x) × (f x ≡ Some y)
 bind_some None f y e = absurd cc

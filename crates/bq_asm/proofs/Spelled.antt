@@ -1,16 +1,16 @@
 -- What a line spells is read from it.
-use Rattle.std.proofs.Common.{◌≡◌, ◌≢◌, ℕ, zero, suc, ◌+◌, ◌<◌, ◌≤◌, Bool, true, false, cond, eqb, ltb, not, ◌&&◌, List, [], ◌∷◌, ◌++◌, length, Option, Some, None, refl, ap, sym, ◌∙◌, subst, inl, inr, ◌⊎◌, arith, length-append}
-use Rattle.std.specs.List.{AllByRecursion, list_all}
-use Rattle.std.proofs.lemmas.Bool.{cond-false, cond-true, ne_eqb, and_from, lt-ltb, not_from_false}
+use Rattle.std.proofs.Common.{◌≡◌, ◌≢◌, ℕ, ◌<◌, true, false, eqb, List, [], ◌∷◌, ◌++◌, length, Some, None, refl, ap, sym, ◌∙◌, subst, arith}
+use Rattle.std.specs.List.{AllByRecursion}
+use Rattle.std.proofs.lemmas.Bool.{ne_eqb, and_from, lt-ltb, not_from_false}
 use Rattle.std.proofs.lemmas.List.{append_assoc, append-nil}
-use Rattle.bq_asm.specs.Mnemonic.{name, mnemonic_at}
-use Rattle.bq_asm.specs.Line.{Statement, Line, Blank, Label, Instruction, IsName, IsStatement, IsComment, AreListed, AreSpaces, IsGap, statement_operands, statement_mnemonic, Spells, SpellsBlank, SpellsLabel, SpellsStatement}
-use Rattle.bq_asm.specs.Reading.{◌>>=◌, cut, trimmed, is_comment, is_name, statement_at, instruction_at, words_else, words_at, label_else, line_else, line_at}
+use Rattle.bq_asm.specs.Mnemonic.{name}
+use Rattle.bq_asm.specs.Line.{Statement, Line, Blank, Label, Instruction, IsStatement, IsComment, AreListed, AreSpaces, IsGap, statement_operands, statement_mnemonic, Spells, SpellsLabel}
+use Rattle.bq_asm.specs.Reading.{cut, trimmed, is_comment, instruction_at, words_else, words_at, line_at}
 use Rattle.bq_asm.proofs.Parts.{Lacks, cut_none, cut_at}
-use Rattle.bq_asm.proofs.Spaces.{Starts, Ends, spaces_append, spaces_lack, lacks_append, starts_append, starts_some, ends_append, trimmed_between, trimmed_spaces}
-use Rattle.bq_asm.proofs.Clean.{is_clean, Word, Clean, no_space, no_hash, no_colon, clean_lacks, clean_ends, word_starts, name_word}
+use Rattle.bq_asm.proofs.Spaces.{Starts, Ends, spaces_lack, lacks_append, starts_append, starts_some, ends_append, trimmed_between, trimmed_spaces}
+use Rattle.bq_asm.proofs.Clean.{is_clean, Word, no_space, no_hash, no_colon, clean_lacks, clean_ends, word_starts, name_word}
 use Rattle.bq_asm.proofs.Mnemonics.{mnemonic_again, name_clean, name_some}
-use Rattle.bq_asm.proofs.Again.{Words, Some_of, listed_starts, listed_ends, listed_lacks, statement_again, operands_words, name_again}
+use Rattle.bq_asm.proofs.Again.{Words, listed_starts, listed_ends, listed_lacks, statement_again, operands_words, name_again}
 
 comment_again : (c : List ℕ) → AllByRecursion (λ d. (d < 128) × (d ≢ 13)) c → is_comment c ≡ true
 comment_again [] h = refl

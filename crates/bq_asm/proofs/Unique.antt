@@ -1,16 +1,15 @@
 -- A source spells one text at most, and one that spells a text has no fault.
-use Rattle.std.proofs.Common.{◌≡◌, ℕ, suc, ◌+◌, ◌<◌, ◌≤◌, Bool, true, false, cond, List, [], ◌∷◌, ◌++◌, length, Option, Some, None, refl, ap, sym, ◌∙◌, subst, inl, inr, ◌⊎◌, arith, length-append}
+use Rattle.std.proofs.Common.{◌≡◌, ℕ, ◌<◌, ◌≤◌, List, [], ◌∷◌, ◌++◌, length, Option, Some, None, refl, ap, sym, ◌∙◌, subst, inl, inr, ◌⊎◌, arith, length-append}
 use Rattle.std.specs.Prelude.{pos, min, MatchOption, MatchResult, IfOk, IfErr, Result, Ok, Err}
 use Rattle.std.specs.List.{AllZip}
 use Rattle.bq_insn.specs.declared.insn.Insn.{Insn}
 use Rattle.bq_insn.specs.Slots.{units, IsText}
 use Rattle.bq_asm.specs.declared.fault.AsmFault.{AsmFault}
 use Rattle.bq_asm.specs.declared.fault.AsmFault.TheVariants as faults
-use Rattle.bq_asm.specs.declared.jump.Jump.{Jump}
 use Rattle.bq_asm.specs.Operands.{jump_insn}
 use Rattle.bq_asm.specs.Line.{Statement, Complete, JumpTo, Line, Blank, Label, Instruction, Spells}
-use Rattle.bq_asm.specs.Labels.{NoLine, IsFirstLine, IsRepeated, IsUnresolved, HasLabelFault, Mean, Means, units_before}
-use Rattle.bq_asm.specs.Source.{lines_of, Says, IsSource, IsUnreadable, IsFault}
+use Rattle.bq_asm.specs.Labels.{NoLine, IsFirstLine, IsRepeated, IsUnresolved, HasLabelFault, Mean, Means}
+use Rattle.bq_asm.specs.Source.{lines_of, IsSource, IsUnreadable, IsFault}
 use Rattle.bq_asm.specs.Steps.{least}
 use Rattle.bq_asm.proofs.Said.{one_saying}
 

@@ -1,7 +1,7 @@
 -- The disassembly of a text: it is written unit by unit, and it spells the text.
-use Rattle.std.proofs.Common.{◌≡◌, ℕ, suc, ◌+◌, ◌<◌, ◌≤◌, Bool, true, false, cond, eqb, List, [], ◌∷◌, ◌++◌, length, map, take, get_or, Option, Some, None, refl, ap, sym, ◌∙◌, subst, inl, inr, ◌⊎◌, arith}
+use Rattle.std.proofs.Common.{◌≡◌, ℕ, ◌+◌, ◌<◌, ◌≤◌, false, eqb, List, [], ◌∷◌, ◌++◌, length, take, get_or, Option, None, refl, ap, sym, ◌∙◌, subst, arith}
 use Rattle.std.specs.Prelude.{codes}
-use Rattle.std.specs.List.{All, AllByRecursion, AllZip, slice_split}
+use Rattle.std.specs.List.{AllByRecursion, AllZip}
 use Rattle.std.proofs.lemmas.List.{take_more, take_all, append-nil, append_assoc}
 use Rattle.std.proofs.lemmas.List.Concat.{flat_map-append}
 use Rattle.std.proofs.lemmas.List.Elements.{All-from_recursion}
@@ -12,12 +12,12 @@ use Rattle.bq_insn.specs.Slots.{slots, slots_of, begun}
 use Rattle.bq_insn.proofs.Reading.{begun-append, begun-slots_of}
 use Rattle.bq_asm.specs.Mnemonic.{name}
 use Rattle.bq_asm.specs.Operands.{mnemonic_of, operands_of}
-use Rattle.bq_asm.specs.Line.{Complete, Line, Blank, Label, Instruction, AreListed, IsGap, Spells}
+use Rattle.bq_asm.specs.Line.{Complete, Line, Blank, Instruction, AreListed, IsGap, Spells}
 use Rattle.bq_asm.specs.Labels.{NoLine, IsRepeated, Mean}
 use Rattle.bq_asm.specs.Source.{lines_of, IsSource, listed, spaced, insn_line, disassembly}
 use Rattle.bq_asm.proofs.Parts.{Lacks}
 use Rattle.bq_asm.proofs.Spaces.{lacks_append}
-use Rattle.bq_asm.proofs.Clean.{Word, no_line_feed, clean_lacks}
+use Rattle.bq_asm.proofs.Clean.{no_line_feed, clean_lacks}
 use Rattle.bq_asm.proofs.Mnemonics.{name_clean}
 use Rattle.bq_asm.proofs.Again.{Words, operands_words}
 

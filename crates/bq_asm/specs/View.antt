@@ -1,5 +1,4 @@
 -- The grammar's values of the program's lines.
-use Rattle.std.specs.Prelude.{List}
 use Rattle.bq_asm.specs.declared.line.Statement.{Statement}
 use Rattle.bq_asm.specs.declared.line.Statement.TheVariants as statements
 use Rattle.bq_asm.specs.declared.line.Line.{Line}

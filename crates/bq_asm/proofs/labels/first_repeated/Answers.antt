@@ -1,7 +1,6 @@
-use Rattle.std.proofs.Common.{sym, ◌∙◌, subst, arith}
+use Rattle.std.proofs.Common.{sym, ◌∙◌, arith}
 use Rattle.std.proofs.lemmas.Bool.{not-false, not-true}
-use Rattle.bq_asm.specs.View.{line_view}
-use Rattle.bq_asm.proofs.Repeating.{Keeps, found_repeated, more_new, more_other}
+use Rattle.bq_asm.proofs.Repeating.{found_repeated, more_new, more_other}
 use Rattle.bq_asm.proofs.labels.first_repeated.Goals as goal
 use Rattle.bq_asm.proofs.labels.first_repeated.Goals.{in-Label+in_ok-insert+else-not-branch, in_default}
 

@@ -1,6 +1,6 @@
 use Rattle.std.proofs.Common.{ap, arith}
 use Rattle.bq_asm.specs.View.{line_view, statement_view}
-use Rattle.bq_asm.proofs.Resolving.{Solves, solve_label, solve_some, solve_none}
+use Rattle.bq_asm.proofs.Resolving.{solve_label, solve_some, solve_none}
 use Rattle.bq_asm.proofs.labels.resolve.Goals as goal
 use Rattle.bq_asm.proofs.labels.resolve.Goals.{in-Some-insn+in_ok-push-in-Some-insn, in-None}
 
