@@ -179,7 +179,6 @@ impl<'a> Reader<'a> {
         let entered = self.ids(alloc)?;
         let joined = self.ids(alloc)?;
         let left = self.ids(alloc)?;
-        drop((entered, joined, left));
-        Err(MessageFault::OutOfMemory)
+        Ok(Facts::from_sets(entered, joined, left))
     }
 }
