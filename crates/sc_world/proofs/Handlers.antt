@@ -17,7 +17,7 @@ use Rattle.sc_node.specs.declared.session.Session.{Session}
 use Rattle.sc_node.specs.declared.answer.Advance.{Advance}
 use Rattle.sc_node.specs.declared.answer.Advance.TheVariants as advance
 use Rattle.sc_node.specs.declared.answer.Progress.{Progress}
-use Rattle.sc_node.specs.declared.answer.Begun.{Begun}
+use Rattle.sc_world.specs.declared.act.Opened.{Opened}
 use Rattle.sc_node.specs.Sessions.{stored, view_in, phase_in, counted_in, phase_with, session_with, advanced_by, apply, ends, is_reached, count_sender, querying, query_before, storing}
 use Rattle.sc_node.specs.State.{NodeState}
 use Rattle.sc_node.specs.Nodes as node
@@ -219,7 +219,7 @@ module _ (w : WorldState) (e : Event) (q : ℕ) (n : NodeState) (at : fin.get w.
         let all : Among o (map (advanced q (clock w) (Some p)) w.ops) =
         elim (among-append o (map (advanced q (clock w) r.progress) w.ops) (op_begun q (clock w) r.begun) in') [
           | inl h ↦ subst (λ (x : Option Progress). Among o (map (advanced q (clock w) x) w.ops)) moves h
-          | inr h ↦ absurd (subst (λ (x : Option Begun). Among o (op_begun q (clock w) x)) begins h)
+          | inr h ↦ absurd (subst (λ (x : Option Opened). Among o (op_begun q (clock w) x)) begins h)
         ]
         in let k = among-map (advanced q (clock w) (Some p)) o w.ops all in
         advance_op q (clock w) p k.0 (λ (y : Op). o ≡ y → stored o.session ≡ Some v)

@@ -1,7 +1,7 @@
 -- What an accepted event was.
 use Rattle.std.proofs.Common.{◌≡◌, ℕ, ◌+◌, Bool, true, false, not, cond, ◌&&◌, nat_le, List, Option, Some, None, refl, sym, ap, ◌∙◌, Result, Ok, Err}
 use Rattle.std.specs.FinMap as fin
-use Rattle.sc_members.specs.Members.{with_left}
+use Rattle.sc_members.specs.Members.{is_overfull, with_left}
 use Rattle.sc_msg.specs.declared.message.Message.{Message}
 use Rattle.sc_msg.specs.declared.message.Body.TheVariants.{Store, CollectQuery}
 use Rattle.sc_node.specs.declared.answer.Begun.{Begun}
@@ -9,12 +9,12 @@ use Rattle.sc_node.specs.declared.answer.Delivered.{Delivered}
 use Rattle.sc_node.specs.declared.fault.NodeFault.{NodeFault}
 use Rattle.sc_node.specs.declared.fault.NodeFault.TheVariants as fault
 use Rattle.sc_node.specs.State.{NodeState}
-use Rattle.sc_node.specs.Nodes.{most_open, most_operations, is_view_full, is_facts_full, tells_view, view_after, tells_facts, facts_after, delivered, delivery, node_after, beginning, store_begun, store_session, stored_view, collect_begun, collect_session, begun, opened, left}
+use Rattle.sc_node.specs.Nodes.{most_open, most_operations, is_view_full, tells_view, view_after, tells_facts, facts_after, delivered, delivery, node_after, beginning, store_begun, store_session, stored_view, collect_begun, collect_session, begun, opened, left}
 use Rattle.sc_world.specs.declared.event.Event.{Event}
 use Rattle.sc_world.specs.declared.event.Stepped.{Stepped}
 use Rattle.sc_world.specs.declared.event.WorldFault.{WorldFault}
 use Rattle.sc_world.specs.State.{WorldState}
-use Rattle.sc_world.specs.Worlds.{Outcome, of_begun, of_left, of_delivered, by_node, live, took, acts, after, stores, collects, leaves, delivers}
+use Rattle.sc_world.specs.Worlds.{Outcome, of_begun, of_left, of_delivered, by_node, live, live_at, by_live, took, acts, after, stores, collects, leaves, delivers}
 use Rattle.sc_world.proofs.Handlers.{heard, store_outcome, collect_outcome, left_outcome}
 
 pub same_answer : {A E : Type 0} (x y : A) → (let r : Result A E = Ok x in r) ≡ Ok y → x ≡ y
@@ -52,13 +52,13 @@ collects-ok n x h =
 pub leaves-ok : (n : NodeState) (x : Outcome) → leaves n ≡ Ok x → left_outcome n ≡ x
 leaves-ok n x h =
     let k = by_node-ok of_left (left n) x h in
-    ap of_left (same_answer _ k.0 (if_passed (is_facts_full (with_left n.facts n.id)) fault.FactsFull _ k.0 (if_passed n.gone fault.Gone _ k.0 k.1))) ∙ k.2
+    ap of_left (same_answer _ k.0 (if_passed (is_overfull (with_left n.facts n.id)) fault.FactsFull _ k.0 (if_passed n.gone fault.Gone _ k.0 k.1))) ∙ k.2
 
 pub delivers-ok : (m : Message) (n : NodeState) (x : Outcome) → delivers (Some m) n ≡ Ok x → heard n m.from m.body ≡ x
 delivers-ok m n x h =
     let k = by_node-ok of_delivered (delivered n m) x h in
     let made : Delivered × NodeState = (delivery n m.from m.body, node_after n m.from m.body) in
-    ap of_delivered (same_answer made k.0 (if_passed (tells_facts m.body && is_facts_full (facts_after n m.from m.body)) fault.FactsFull _ k.0
+    ap of_delivered (same_answer made k.0 (if_passed (tells_facts m.body && is_overfull (facts_after n m.from m.body)) fault.FactsFull _ k.0
     (if_passed (tells_view n m.body && is_view_full (view_after n m.body)) fault.ViewFull _ k.0 (if_passed n.gone fault.Gone _ k.0 k.1)))) ∙ k.2
 
 pub live_is : (c : Bool) (o : Option NodeState) (n : NodeState) → live c o ≡ Some n → o ≡ Some n
@@ -71,9 +71,9 @@ live_is false (Some m) n h = go m.gone refl
     go false is = ap (λ (x : Bool). let o : Option NodeState = cond x None (Some m) in o) (sym is) ∙ h
 
 -- an event of a node that was accepted
-pub record IsTaken (w : WorldState) (e : Event) (id : ℕ) (f : NodeState → Result Outcome WorldFault) (o : Option NodeState) (w' : WorldState) : Type 0 where
+pub record IsTaken (w : WorldState) (e : Event) (id : ℕ) (f : NodeState → Result Outcome WorldFault) (w' : WorldState) : Type 0 where
   pub node : NodeState
-  pub at : o ≡ Some node
+  pub at : live_at w id ≡ Some node
   pub outcome : Outcome
   pub gives : f node ≡ Ok outcome
   pub is : after w e id outcome ≡ w'
@@ -82,6 +82,12 @@ took-ok : (w : WorldState) (e : Event) (id : ℕ) (r : Result Outcome WorldFault
 took-ok w e id (Ok x) a w' h = (x, refl, ap (λ (z : Stepped × WorldState). z.1) (same_answer _ (a, w') h))
 took-ok w e id (Err f) a w' h = absurd (no_refusal f (a, w') h)
 
-pub acts-ok : (w : WorldState) (e : Event) (id : ℕ) (o : Option NodeState) (f : NodeState → Result Outcome WorldFault) (a : Stepped) (w' : WorldState) → acts w e id o f ≡ Ok (a, w') → IsTaken w e id f o w'
-acts-ok w e id None f a w' h = absurd (no_refusal _ (a, w') h)
-acts-ok w e id (Some n) f a w' h = let k = took-ok w e id (f n) a w' h in record { node = n; at = refl; outcome = k.0; gives = k.1; is = k.2 }
+pub by_live-ok : (o : Option NodeState) (f : NodeState → Result Outcome WorldFault) (x : Outcome) → by_live o f ≡ Ok x → (n : NodeState) × (o ≡ Some n) × (f n ≡ Ok x)
+by_live-ok None f x h = absurd (no_refusal _ x h)
+by_live-ok (Some n) f x h = (n, refl, h)
+
+pub acts-ok : (w : WorldState) (e : Event) (id : ℕ) (f : NodeState → Result Outcome WorldFault) (a : Stepped) (w' : WorldState) → acts w e id f ≡ Ok (a, w') → IsTaken w e id f w'
+acts-ok w e id f a w' h =
+    let k = took-ok w e id (by_live (live_at w id) f) a w' h in
+    let n = by_live-ok (live_at w id) f k.0 k.1 in
+    record { node = n.0; at = n.1; outcome = k.0; gives = n.2; is = k.2 }

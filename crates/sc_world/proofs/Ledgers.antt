@@ -4,7 +4,7 @@ use Rattle.std.specs.FinMap as fin
 use Rattle.std.specs.FinSet as set
 use Rattle.sc_msg.specs.declared.message.Message.{Message}
 use Rattle.sc_node.specs.declared.answer.Progress.{Progress}
-use Rattle.sc_node.specs.declared.answer.Begun.{Begun as Beginning}
+use Rattle.sc_world.specs.declared.act.Opened.{Opened}
 use Rattle.sc_node.specs.Sessions.{new_phase}
 use Rattle.sc_node.specs.State.{NodeState}
 use Rattle.sc_node.specs.Nodes.{progress_of, beta_threshold, next_stored, stored_view, store_session, collect_session}
@@ -24,7 +24,7 @@ use Rattle.sc_world.proofs.Inverts.{same_answer, no_refusal, live_is, acts-ok, s
 use Rattle.sc_world.proofs.Runs.{among_get}
 use Rattle.sc_world.proofs.Histories.{IsNext, step_next, was_now}
 use Rattle.sc_world.proofs.Recording.{record_kept, new_measured, new_open, event_new}
-use Rattle.sc_world.proofs.Counting.{moved_record}
+use Rattle.sc_world.proofs.Answering.{moved_record}
 
 get_append : {X : Type 0} (xs ys : List X) (i : ℕ) (a : X) → slice_get (xs ++ ys) i ≡ Some a → (slice_get xs i ≡ Some a) ⊎ ((j : ℕ) × (i ≡ length xs + j) × (slice_get ys j ≡ Some a))
 get_append [] ys i a h = inr (i, omega arith, h)
@@ -36,18 +36,18 @@ get_map f [] i a h = absurd (cc)
 get_map f (x ∷ xs) zero a h = (x, refl, (let e : f x ≡ a = cc in sym e))
 get_map f (x ∷ xs) (suc i) a h = get_map f xs i a h
 
-begun_tag : (b y : Beginning) → Some b ≡ Some y → b.tag ≡ y.tag
-begun_tag b y is = let same : b ≡ y = cc in ap (λ (z : Beginning). z.tag) same
+begun_tag : (b y : Opened) → Some b ≡ Some y → b.tag ≡ y.tag
+begun_tag b y is = let same : b ≡ y = cc in ap (λ (z : Opened). z.tag) same
 
 -- a list of records, some of them moved, and at most one new
-module _ (q place : ℕ) (p : Option Progress) (ops : List Op) (b : Option Beginning) (distinct : AreDistinct ops)
-    (fresh : (y : Beginning) → b ≡ Some y → (o : Op) → Among o ops → o.node ≡ q → o.tag ≡ y.tag → ⊥) where
+module _ (q place : ℕ) (p : Option Progress) (ops : List Op) (b : Option Opened) (distinct : AreDistinct ops)
+    (fresh : (y : Opened) → b ≡ Some y → (o : Op) → Among o ops → o.node ≡ q → o.tag ≡ y.tag → ⊥) where
   -- where a record comes from
   data From (i : ℕ) (a : Op) : Type 0 where
     Old : (o : Op) → slice_get ops i ≡ Some o → a.node ≡ o.node → a.tag ≡ o.tag → From i a
-    New : (y : Beginning) → b ≡ Some y → i ≡ length (map (advanced q place p) ops) → a.node ≡ q → a.tag ≡ y.tag → From i a
+    New : (y : Opened) → b ≡ Some y → i ≡ length (map (advanced q place p) ops) → a.node ≡ q → a.tag ≡ y.tag → From i a
 
-  begun_from : (i j : ℕ) (a : Op) (y : Option Beginning) → b ≡ y → i ≡ length (map (advanced q place p) ops) + j → slice_get (op_begun q place y) j ≡ Some a → From i a
+  begun_from : (i j : ℕ) (a : Op) (y : Option Opened) → b ≡ y → i ≡ length (map (advanced q place p) ops) + j → slice_get (op_begun q place y) j ≡ Some a → From i a
   begun_from i j a None is at h = absurd (cc)
   begun_from i zero a (Some y) is at h =
       let e : (let o : Op = record { node = q; tag = y.tag; begin = place; end = None; session = y.session } in o) ≡ a = cc in
@@ -90,7 +90,7 @@ module _ (w : WorldState) (history : IsHistory w) (linked : IsLinked w) (sound :
         subst (IsRecord next) (sym (h.2 ∙ same)) (kept e next k h.0 h.1)
 
     -- an operation may begin
-    pub begun_records : ((y : Beginning) → r.begun ≡ Some y → (o : Op) → Among o w.ops → o.node ≡ q → o.tag ≡ y.tag → ⊥)
+    pub begun_records : ((y : Opened) → r.begun ≡ Some y → (o : Op) → Among o w.ops → o.node ≡ q → o.tag ≡ y.tag → ⊥)
         → ((o : Op) → Among o (op_begun q (clock w) r.begun) → IsRecord next o) → AreRecords next
     begun_records fresh new = record {
       distinct = distinct_next q (clock w) r.progress w.ops r.begun records.distinct fresh;
@@ -199,17 +199,17 @@ module _ (w : WorldState) (history : IsHistory w) (linked : IsLinked w) (sound :
   step_by : (e : Event) (a : Stepped) (w' : WorldState) → stepped w e ≡ Ok (a, w') → IsNext w e w' → AreRecords w'
   step_by (event.Enter q) a w' h k = entered_any q (fin.get w.nodes q) a w' h k
   step_by (event.Leave q) a w' h k =
-      let t = acts-ok w (event.Leave q) q (live_at w q) leaves a w' h in
+      let t = acts-ok w (event.Leave q) q leaves a w' h in
       by_outcome (event.Leave q) q (left_outcome t.node) t.outcome w' (leaves-ok t.node t.outcome t.gives) t.is (left_records q t.node) k
   step_by (event.Crash q) a w' h k = crashed_any q (live_at w q) a w' h k
   step_by (event.Store q value) a w' h k =
-      let t = acts-ok w (event.Store q value) q (live_at w q) (stores value) a w' h in
+      let t = acts-ok w (event.Store q value) q (stores value) a w' h in
       by_outcome (event.Store q value) q (store_outcome t.node value) t.outcome w' (stores-ok value t.node t.outcome t.gives) t.is (store_records q value t.node (at_live q t.node t.at)) k
   step_by (event.Collect q) a w' h k =
-      let t = acts-ok w (event.Collect q) q (live_at w q) collects a w' h in
+      let t = acts-ok w (event.Collect q) q collects a w' h in
       by_outcome (event.Collect q) q (collect_outcome t.node) t.outcome w' (collects-ok t.node t.outcome t.gives) t.is (collect_records q t.node (at_live q t.node t.at)) k
   step_by (event.Deliver number q) a w' h k =
-      let t = acts-ok w (event.Deliver number q) q (live_at w q) (delivers (slice_get w.sent number)) a w' h in
+      let t = acts-ok w (event.Deliver number q) q (delivers (slice_get w.sent number)) a w' h in
       delivered_any number q t.node (slice_get w.sent number) t.outcome w' (at_live q t.node t.at) refl t.gives t.is k
   step_by event.Other a w' h k = quiet_records event.Other w' k (ap (λ (z : Stepped × WorldState). z.1.ops) (sym (same_answer _ (a, w') h)))
 

@@ -15,6 +15,10 @@ pub mod Inverts
 pub mod Runs
 pub mod Histories
 pub mod Recording
-pub mod Counting
+pub mod Answering
 pub mod Ledgers
 pub mod EveryHistory
+pub mod Tables
+pub mod Moving
+pub mod Acting
+pub mod Meetings

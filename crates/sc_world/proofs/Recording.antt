@@ -20,10 +20,10 @@ use Rattle.sc_node.specs.Nodes.{beta_threshold}
 use Rattle.sc_world.specs.declared.event.Event.{Event}
 use Rattle.sc_world.specs.declared.op.Op.{Op}
 use Rattle.sc_world.specs.State.{WorldState}
-use Rattle.sc_world.specs.Worlds.{clock, end_at, WasBefore}
+use Rattle.sc_world.specs.Worlds.{moved, clock, end_at, WasBefore}
 use Rattle.sc_world.specs.Records.{Answers, IsAck, IsReply, IsDelivered, IsAnswered, IsOpen, IsMeasured, IsUntil, IsPhase, IsRunning, Stores, Queries, StoresBack, IsRecord}
 use Rattle.sc_world.proofs.Soundness.{counted}
-use Rattle.sc_world.proofs.Steps.{length-more, moved}
+use Rattle.sc_world.proofs.Steps.{length-more}
 use Rattle.sc_world.proofs.Histories.{IsNext, slice_get_front, slice_get_last, before_next}
 
 reached_at : (threshold count : ℕ) → nat_le threshold count ≡ true → threshold ≤ count

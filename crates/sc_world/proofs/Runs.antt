@@ -9,16 +9,16 @@ use Rattle.sc_view.specs.Views.{ViewMap}
 use Rattle.sc_members.specs.Ids.{Ids}
 use Rattle.sc_members.specs.Members.{Config}
 use Rattle.sc_msg.specs.declared.message.Message.{Message}
-use Rattle.sc_msg.specs.declared.message.Body.TheVariants.{Enter, Store, CollectQuery}
+use Rattle.sc_msg.specs.declared.message.Body.TheVariants.{Enter}
 use Rattle.sc_node.specs.declared.session.Kind.TheVariants as kind
 use Rattle.sc_node.specs.State.{NodeState}
-use Rattle.sc_node.specs.Nodes.{message_from, founder, begun, next_stored, store_session, collect_session, stored_view}
+use Rattle.sc_node.specs.Nodes.{message_from, founder, next_stored, store_session, collect_session}
 use Rattle.sc_world.specs.declared.event.Event.{Event}
 use Rattle.sc_world.specs.declared.event.Event.TheVariants as event
 use Rattle.sc_world.specs.declared.event.Stepped.{Stepped}
 use Rattle.sc_world.specs.declared.op.Op.{Op}
 use Rattle.sc_world.specs.State.{WorldState}
-use Rattle.sc_world.specs.Worlds.{clock, Outcome, after, live_at, crashes, enters, stores, collects, leaves, delivers, stepped, Reaches, start, founder_nodes}
+use Rattle.sc_world.specs.Worlds.{clock, Outcome, after, live_at, crashes, enters, stores, collects, leaves, delivers, stepped, Reaches, start, nodes_with}
 use Rattle.sc_world.specs.Records.{Among}
 use Rattle.sc_world.proofs.Changes.{Kept, IsChange, IsSound, view_at, view_of}
 use Rattle.sc_world.proofs.Links.{IsLinked}
@@ -71,7 +71,7 @@ module _ (w : WorldState) (e : Event) (linked : IsLinked w) where
     numbered = λ k.
         numbered_next w e q n (store_outcome n value) at linked (store_moves n value) k (omega arith)
         (λ y f b h.
-        let same : kind.Store (next_stored n value) ≡ kind.Store f = ap (λ z. z.kind) (begun_session (begun n (store_session n value) (Store n.operations (stored_view n value))) y b) ∙ h in
+        let same : kind.Store (next_stored n value) ≡ kind.Store f = ap (λ z. z.kind) (begun_session (record { tag = n.operations; session = store_session n value }) y b) ∙ h in
         let entry : next_stored n value ≡ f = cc in
         (omega (arith, ap (λ (z : Stored). z.number) entry), omega (arith, ap (λ (z : Stored). z.number) entry)));
   }
@@ -84,7 +84,7 @@ module _ (w : WorldState) (e : Event) (linked : IsLinked w) where
     numbered = λ k.
         numbered_next w e q n (collect_outcome n) at linked (collect_moves n) k (omega arith)
         (λ y f b h.
-        let same : kind.Collect ≡ kind.Store f = ap (λ z. z.kind) (begun_session (begun n (collect_session n) (CollectQuery n.operations)) y b) ∙ h in
+        let same : kind.Collect ≡ kind.Store f = ap (λ z. z.kind) (begun_session (record { tag = n.operations; session = collect_session n }) y b) ∙ h in
         absurd (cc));
   }
 
@@ -165,17 +165,17 @@ module _ (w : WorldState) (linked : IsLinked w) where
   pub step_good : (e : Event) (a : Stepped) (w' : WorldState) → stepped w e ≡ Ok (a, w') → IsGood w w'
   step_good (event.Enter q) a w' h = enter_any q (fin.get w.nodes q) a w' refl h
   step_good (event.Leave q) a w' h =
-      let k = acts-ok w (event.Leave q) q (live_at w q) leaves a w' h in
+      let k = acts-ok w (event.Leave q) q leaves a w' h in
       subst (IsGood w) k.is (subst (λ (y : Outcome). IsGood w (after w (event.Leave q) q y)) (leaves-ok k.node k.outcome k.gives) (left_good w (event.Leave q) linked q k.node (at_live q k.node k.at)))
   step_good (event.Crash q) a w' h = crash_any q (live_at w q) a w' h
   step_good (event.Store q value) a w' h =
-      let k = acts-ok w (event.Store q value) q (live_at w q) (stores value) a w' h in
+      let k = acts-ok w (event.Store q value) q (stores value) a w' h in
       subst (IsGood w) k.is (subst (λ (y : Outcome). IsGood w (after w (event.Store q value) q y)) (stores-ok value k.node k.outcome k.gives) (store_good w (event.Store q value) linked q value k.node (at_live q k.node k.at)))
   step_good (event.Collect q) a w' h =
-      let k = acts-ok w (event.Collect q) q (live_at w q) collects a w' h in
+      let k = acts-ok w (event.Collect q) q collects a w' h in
       subst (IsGood w) k.is (subst (λ (y : Outcome). IsGood w (after w (event.Collect q) q y)) (collects-ok k.node k.outcome k.gives) (collect_good w (event.Collect q) linked q k.node (at_live q k.node k.at)))
   step_good (event.Deliver number q) a w' h =
-      let k = acts-ok w (event.Deliver number q) q (live_at w q) (delivers (slice_get w.sent number)) a w' h in
+      let k = acts-ok w (event.Deliver number q) q (delivers (slice_get w.sent number)) a w' h in
       subst (IsGood w) k.is (deliver_any q number k.node (slice_get w.sent number) k.outcome (among_get w.sent number) k.at k.gives)
   step_good event.Other a w' h = subst (IsGood w) (ap (λ (z : Stepped × WorldState). z.1) (same_answer _ (a, w') h)) (quiet_good w event.Other linked w.crashed)
 
@@ -193,21 +193,27 @@ founder_by : (c : Config) (ids : List ℕ) (p q : ℕ) (o : Option NodeState) (b
 founder_by c ids p q o true n is rest h = let e : founder c ids p ≡ n = cc in sym (ap (λ (y : NodeState). y.id) e) ∙ sym (eqb-true q p is)
 founder_by c ids p q o false n is rest h = rest n h
 
-founder_named : (c : Config) (ids qs : List ℕ) (q : ℕ) (n : NodeState) → fin.get (founder_nodes c ids qs) q ≡ Some n → n.id ≡ q
-founder_named c ids [] q n h = let k : None ≡ Some n = sym (fin.get-empty nat_cmp q) ∙ h in absurd (cc)
-founder_named c ids (p ∷ qs) q n h =
-    founder_by c ids p q (fin.get (founder_nodes c ids qs) q) (q == p) n refl (founder_named c ids qs q)
-    (sym (get-insert (founder_nodes c ids qs) p (founder c ids p) q) ∙ h)
+founders_named : (c : Config) (ids qs : List ℕ) (nodes : fin.FinMap nat_cmp NodeState) → ((q : ℕ) (n : NodeState) → fin.get nodes q ≡ Some n → n.id ≡ q) → (q : ℕ) (n : NodeState) → fin.get (nodes_with c ids nodes qs) q ≡ Some n → n.id ≡ q
+founders_named c ids [] nodes named q n h = named q n h
+founders_named c ids (p ∷ qs) nodes named q n h =
+    founders_named c ids qs (fin.insert nodes p (founder c ids p))
+    (λ i m is. founder_by c ids p i (fin.get nodes i) (i == p) m refl (named i) (sym (get-insert nodes p (founder c ids p) i) ∙ is)) q n h
+
+nobody_named : (q : ℕ) (n : NodeState) → fin.get (fin.empty {R = nat_cmp}) q ≡ Some n → n.id ≡ q
+nobody_named q n h = let k : None ≡ Some n = sym (fin.get-empty nat_cmp q) ∙ h in absurd (cc)
 
 founder_view : (c : Config) (ids : List ℕ) (p : ℕ) (o : Option NodeState) (w : WorldState) (b : Bool) → IsTrue w 0 (view_of o) → IsTrue w 0 (view_of (cond b (Some (founder c ids p)) o))
 founder_view c ids p o w true g = true_empty w 0
 founder_view c ids p o w false g = g
 
-founder_views : (c : Config) (ids qs : List ℕ) (w : WorldState) (q : ℕ) → IsTrue w 0 (view_of (fin.get (founder_nodes c ids qs) q))
-founder_views c ids [] w q = subst (λ (o : Option NodeState). IsTrue w 0 (view_of o)) (sym (fin.get-empty nat_cmp q)) (true_empty w 0)
-founder_views c ids (p ∷ qs) w q =
-    subst (λ (o : Option NodeState). IsTrue w 0 (view_of o)) (sym (get-insert (founder_nodes c ids qs) p (founder c ids p) q))
-    (founder_view c ids p (fin.get (founder_nodes c ids qs) q) w (q == p) (founder_views c ids qs w q))
+founder_views : (c : Config) (ids qs : List ℕ) (nodes : fin.FinMap nat_cmp NodeState) (w : WorldState) → ((q : ℕ) → IsTrue w 0 (view_of (fin.get nodes q))) → (q : ℕ) → IsTrue w 0 (view_of (fin.get (nodes_with c ids nodes qs) q))
+founder_views c ids [] nodes w g q = g q
+founder_views c ids (p ∷ qs) nodes w g q =
+    founder_views c ids qs (fin.insert nodes p (founder c ids p)) w
+    (λ i. subst (λ (o : Option NodeState). IsTrue w 0 (view_of o)) (sym (get-insert nodes p (founder c ids p) i)) (founder_view c ids p (fin.get nodes i) w (i == p) (g i))) q
+
+nobody_views : (w : WorldState) (q : ℕ) → IsTrue w 0 (view_of (fin.get (fin.empty {R = nat_cmp}) q))
+nobody_views w q = subst (λ (o : Option NodeState). IsTrue w 0 (view_of o)) (sym (fin.get-empty nat_cmp q)) (true_empty w 0)
 
 pub start_invariant : (c : Config) (ids : List ℕ) → IsInvariant (start c ids)
 start_invariant c ids = record {
@@ -221,8 +227,8 @@ start_invariant c ids = record {
     gathering = λ c q h. absurd h;
     gathered = λ c v q h. absurd h;
   };
-  linked = record { named = founder_named c ids ids; owned = λ o h. absurd h; known = λ m h. absurd h };
-  truthful = record { views = founder_views c ids ids (start c ids); sent = λ m h. absurd h; kept = λ o h. absurd h };
+  linked = record { named = founders_named c ids ids fin.empty nobody_named; owned = λ o h. absurd h; known = λ m h. absurd h };
+  truthful = record { views = founder_views c ids ids fin.empty (start c ids) (nobody_views (start c ids)); sent = λ m h. absurd h; kept = λ o h. absurd h };
   numbered = record { counted = λ o h. absurd h; positive = λ o h. absurd h; one = λ o p h. absurd h };
 }
 

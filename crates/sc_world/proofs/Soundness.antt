@@ -17,7 +17,7 @@ use Rattle.sc_world.proofs.Changes.{view_at, IsAbout, IsReplied, OpFrom, Kept, B
 use Rattle.sc_world.proofs.Finite.{contains-insert}
 use Rattle.sc_world.proofs.ViewLemmas.{below_trans}
 
-nobody : (s : Ids) (q : ℕ) → s ≡ set.empty → Has s q → ⊥
+pub nobody : (s : Ids) (q : ℕ) → s ≡ set.empty → Has s q → ⊥
 nobody s q e h = let no : set.contains s q ≡ false = ap (λ x. set.contains x q) e ∙ set.contains-empty nat_cmp q in cc
 
 or_cases : (a b : Bool) → (a || b) ≡ true → (a ≡ true) ⊎ (b ≡ true)

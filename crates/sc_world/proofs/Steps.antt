@@ -10,14 +10,14 @@ use Rattle.sc_node.specs.declared.session.Session.{Session}
 use Rattle.sc_node.specs.declared.answer.Advance.{Advance}
 use Rattle.sc_node.specs.declared.answer.Advance.TheVariants as advance
 use Rattle.sc_node.specs.declared.answer.Progress.{Progress}
-use Rattle.sc_node.specs.declared.answer.Begun.{Begun as Beginning}
+use Rattle.sc_world.specs.declared.act.Opened.{Opened}
 use Rattle.sc_node.specs.Sessions.{stored, apply, ends}
 use Rattle.sc_node.specs.State.{NodeState}
 use Rattle.sc_node.specs.Nodes.{message_from}
 use Rattle.sc_world.specs.declared.event.Event.{Event}
 use Rattle.sc_world.specs.declared.op.Op.{Op}
 use Rattle.sc_world.specs.State.{WorldState}
-use Rattle.sc_world.specs.Worlds.{clock, Outcome, end_at, advanced, op_begun, after}
+use Rattle.sc_world.specs.Worlds.{clock, Outcome, end_at, moved, advanced, op_begun, after}
 use Rattle.sc_world.specs.Records.{Among}
 use Rattle.sc_world.proofs.Changes.{view_of, view_at, IsAbout, OpFrom, Kept, Begun, Acknowledged, Replied, IsSent, IsBodySent, IsChange}
 use Rattle.sc_world.proofs.Links.{open_session, HasOwner, IsLinked, session_moved, session_after, IsBegunAt, IsTransition, AckMakes, ReplyMakes, IsAckProgress, IsReplyProgress, IsProgress, IsFresh, Each, IsBodyKnown}
@@ -57,17 +57,13 @@ pub length-more : {X : Type 0} (xs : List X) (x : X) → length (xs ++ x ∷ [])
 length-more [] x = refl
 length-more (y ∷ xs) x = let h : length (xs ++ x ∷ []) ≡ length xs + 1 = length-more xs x in omega (arith, h)
 
-and_left : (a b : Bool) → (a && b) ≡ true → a ≡ true
+pub and_left : (a b : Bool) → (a && b) ≡ true → a ≡ true
 and_left true b h = refl
 and_left false b h = h
 
-and_right : (a b : Bool) → (a && b) ≡ true → b ≡ true
+pub and_right : (a b : Bool) → (a && b) ≡ true → b ≡ true
 and_right true b h = h
 and_right false b h = cc
-
--- the record of an operation that moves
-abbrev pub moved : ℕ → Progress → Op → Op
-moved place p o = record { node = o.node; tag = o.tag; begin = o.begin; end = end_at place p.advance; session = apply p o.session }
 
 by_test : (b : Bool) (q place : ℕ) (p : Progress) (o : Op) → (o.node == q && o.tag == p.tag) ≡ b → (A : Op → Type 0)
     → (o.node ≡ q → o.tag ≡ p.tag → A (moved place p o)) → ((o.node ≡ q → o.tag ≡ p.tag → ⊥) → A o) → A (cond b (moved place p o) o)
@@ -157,7 +153,7 @@ module _ (w : WorldState) (e : Event) (q : ℕ) (n : NodeState) (r : Outcome) (a
     from_old (Some p) (inl k) o in' = advance_op q (clock w) p o (OpFrom w next) (from_ack p k o in') (λ _. Kept in')
     from_old (Some p) (inr k) o in' = advance_op q (clock w) p o (OpFrom w next) (from_reply p k o in') (λ _. Kept in')
 
-    from_begun : (b : Option Beginning) → IsFresh q b → IsBegunAt n r.node b → (o : Op) → Among o (op_begun q (clock w) b) → OpFrom w next o
+    from_begun : (b : Option Opened) → IsFresh q b → IsBegunAt n r.node b → (o : Op) → Among o (op_begun q (clock w) b) → OpFrom w next o
     from_begun None f t o in' = absurd in'
     from_begun (Some b) f t o (inr none) = absurd none
     from_begun (Some b) f t o (inl e) =
@@ -271,7 +267,7 @@ module _ (w : WorldState) (e : Event) (q : ℕ) (n : NodeState) (r : Outcome) (a
         (λ there is. subst (HasOwner next) (sym (f.elsewhere there)) (record { node = h.node; at = is ∙ h.at; tag = h.tag; session = h.session }))
         refl
 
-    owned_begun : (b : Option Beginning) → IsBegunAt n r.node b → (o : Op) → Among o (op_begun q (clock w) b) → HasOwner next o
+    owned_begun : (b : Option Opened) → IsBegunAt n r.node b → (o : Op) → Among o (op_begun q (clock w) b) → HasOwner next o
     owned_begun None b o in' = absurd in'
     owned_begun (Some s) b o (inr none) = absurd none
     owned_begun (Some s) b o (inl e) = subst (HasOwner next) (sym e) (record { node = r.node; at = get-insert_same w.nodes q r.node; tag = b.2; session = b.1 })

@@ -11,10 +11,10 @@ use Rattle.sc_node.specs.declared.session.Session.{Session}
 use Rattle.sc_node.specs.declared.answer.Advance.{Advance}
 use Rattle.sc_node.specs.declared.answer.Advance.TheVariants as advance
 use Rattle.sc_node.specs.declared.answer.Progress.{Progress}
-use Rattle.sc_node.specs.declared.answer.Begun.{Begun as Beginning}
+use Rattle.sc_world.specs.declared.act.Opened.{Opened}
 use Rattle.sc_node.specs.Sessions.{stored, session_with, advanced_by, is_reached, count_sender, querying}
 use Rattle.sc_node.specs.State.{NodeState}
-use Rattle.sc_node.specs.Nodes.{message_from, is_reply, view_after, progress_of, reply_progress, beta_threshold, joins, answers, store_back, store_of, begun, store_session, collect_session, stored_view, next_stored}
+use Rattle.sc_node.specs.Nodes.{message_from, is_reply, view_after, progress_of, reply_progress, beta_threshold, joins, answers, store_back, store_of, store_session, collect_session, stored_view, next_stored}
 use Rattle.sc_world.specs.declared.event.Event.{Event}
 use Rattle.sc_world.specs.declared.op.Op.{Op}
 use Rattle.sc_world.specs.State.{WorldState}
@@ -37,8 +37,8 @@ kind_kept s from (advance.Turned t v) = refl
 kind_kept s from advance.Counted = kind_with s s.back from
 kind_kept s from advance.Ended = kind_with s s.back from
 
-pub begun_session : (b y : Beginning) → Some b ≡ Some y → b.session ≡ y.session
-begun_session b y is = let same : b ≡ y = cc in ap (λ (z : Beginning). z.session) same
+pub begun_session : (b y : Opened) → Some b ≡ Some y → b.session ≡ y.session
+begun_session b y is = let same : b ≡ y = cc in ap (λ (z : Opened). z.session) same
 
 -- what stays of an operation
 pub record SameStart (o y : Op) : Type 0 where
@@ -75,7 +75,7 @@ module _ (w : WorldState) (e : Event) (q : ℕ) (n : NodeState) (r : Outcome) (a
   module _ (progress : IsProgress w q n r r.progress) (fresh : IsFresh q r.begun) where
     module _ (bodies : List Body) (names : r.outs ≡ map (message_from q) bodies) (view : IsTrue next (clock next) r.node.view)
         (outs : Each (λ (b : Body). (v : ViewMap) → body_view b ≡ Some v → IsTrue next (clock next) v) bodies)
-        (opens : (y : Beginning) (v : ViewMap) → r.begun ≡ Some y → stored y.session ≡ Some v → IsTrue next (clock next) v) where
+        (opens : (y : Opened) (v : ViewMap) → r.begun ≡ Some y → stored y.session ≡ Some v → IsTrue next (clock next) v) where
       views' : (id : ℕ) → IsTrue next (clock next) (view_at next id)
       views' id = node_next w e q n r at linked x (λ (o : Option NodeState). IsTrue next (clock next) (view_of o)) id (λ _. view) (λ _. lifted (view_at w id) (t.views id))
 
@@ -88,7 +88,7 @@ module _ (w : WorldState) (e : Event) (q : ℕ) (n : NodeState) (r : Outcome) (a
                 inr (λ v is. each-among (λ (b : Body). (v : ViewMap) → body_view b ≡ Some v → IsTrue next (clock next) v) k.0 bodies outs k.1 v (sym (ap (λ (y : Message). body_view y.body) k.2) ∙ is))
           ]
 
-      new_begun : (y : Option Beginning) → r.begun ≡ y → (o : Op) → Among o (op_begun q (clock w) y) → (v : ViewMap) → stored o.session ≡ Some v → IsTrue next (clock next) v
+      new_begun : (y : Option Opened) → r.begun ≡ y → (o : Op) → Among o (op_begun q (clock w) y) → (v : ViewMap) → stored o.session ≡ Some v → IsTrue next (clock next) v
       new_begun None is o in' v held = absurd in'
       new_begun (Some y) is o (inr none) v held = absurd none
       new_begun (Some y) is o (inl e) v held = opens y v is (sym (ap (λ (z : Op). stored z.session) e) ∙ held)
@@ -194,7 +194,7 @@ module _ (w : WorldState) (e : Event) (q : ℕ) (n : NodeState) (at : fin.get w.
       (store_view value)
       ((λ y is. let same : stored_view n value ≡ y = cc in subst (IsTrue u (clock u)) same (store_view value)), tt)
       (λ y v is st.
-      let k : Some (stored_view n value) ≡ Some v = ap (λ (z : Session). stored z) (begun_session (begun n (store_session n value) (Store n.operations (stored_view n value))) y is) ∙ st in
+      let k : Some (stored_view n value) ≡ Some v = ap (λ (z : Session). stored z) (begun_session (record { tag = n.operations; session = store_session n value }) y is) ∙ st in
       let same : stored_view n value ≡ v = cc in
       subst (IsTrue u (clock u)) same (store_view value))
 
@@ -205,7 +205,7 @@ module _ (w : WorldState) (e : Event) (q : ℕ) (n : NodeState) (at : fin.get w.
       (lifted w e q n (collect_outcome n) at linked (collect_moves n) s t n.view own)
       ((λ y is. absurd (cc)), tt)
       (λ y v is st.
-      let k : None ≡ Some v = ap (λ (z : Session). stored z) (begun_session (begun n (collect_session n) (CollectQuery n.operations)) y is) ∙ st in
+      let k : None ≡ Some v = ap (λ (z : Session). stored z) (begun_session (record { tag = n.operations; session = collect_session n }) y is) ∙ st in
       absurd (cc))
 
   pub left_told : IsTold w (after w e q (left_outcome n))

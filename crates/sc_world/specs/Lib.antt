@@ -3,3 +3,4 @@ pub mod State
 pub mod Worlds
 pub mod Records
 pub mod Regular
+pub mod Acts

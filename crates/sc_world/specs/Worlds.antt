@@ -16,6 +16,9 @@ use Rattle.sc_node.specs.declared.fault.NodeFault.TheVariants as node_fault
 use Rattle.sc_node.specs.Sessions.{apply}
 use Rattle.sc_node.specs.State.{NodeState}
 use Rattle.sc_node.specs.Nodes.{delivered, store_begun, collect_begun, left, entered, founder, are_founders}
+use Rattle.sc_world.specs.declared.act.Act.{Act}
+use Rattle.sc_world.specs.declared.act.Act.TheVariants as act
+use Rattle.sc_world.specs.declared.act.Opened.{Opened}
 use Rattle.sc_world.specs.declared.event.Event.{Event}
 use Rattle.sc_world.specs.declared.event.Event.TheVariants as event
 use Rattle.sc_world.specs.declared.event.Stepped.{Stepped}
@@ -33,7 +36,7 @@ pub record Outcome : Type 0 where
   pub node : NodeState
   pub outs : List Message
   pub progress : Option Progress
-  pub begun : Option Begun
+  pub begun : Option Opened
   pub ended : Option Ended
 
 abbrev pub of_entered : NodeState × List Message → Outcome
@@ -43,7 +46,7 @@ abbrev pub of_left : List Message × NodeState → Outcome
 of_left l = record { node = l.1; outs = l.0; progress = None; begun = None; ended = None }
 
 abbrev pub of_begun : Begun × NodeState → Outcome
-of_begun b = record { node = b.1; outs = b.0.outs; progress = None; begun = Some b.0; ended = None }
+of_begun b = record { node = b.1; outs = b.0.outs; progress = None; begun = Some (record { tag = b.0.tag; session = b.0.session }); ended = None }
 
 abbrev pub of_delivered : Delivered × NodeState → Outcome
 of_delivered d = record { node = d.1; outs = d.0.outs; progress = d.0.progress; begun = None; ended = d.0.ended }
@@ -57,20 +60,21 @@ abbrev pub end_at : ℕ → Advance → Option ℕ
 end_at place advance.Ended = Some place
 end_at place a = None
 
--- a record after its node's progress at a place
+-- the record of an operation that moves at a place
+abbrev pub moved : ℕ → Progress → Op → Op
+moved place p o = record { node = o.node; tag = o.tag; begin = o.begin; end = end_at place p.advance; session = apply p o.session }
+
+-- a record after its node's progress
 abbrev pub advanced : ℕ → ℕ → Option Progress → Op → Op
 advanced node place None o = o
-advanced node place (Some p) o =
-    if o.node == node && o.tag == p.tag
-    then record { node = o.node; tag = o.tag; begin = o.begin; end = end_at place p.advance; session = apply p o.session }
-    else o
+advanced node place (Some p) o = if o.node == node && o.tag == p.tag then moved place p o else o
 
 -- the record of an operation that begins at a place
-abbrev pub op_begun : ℕ → ℕ → Option Begun → List Op
+abbrev pub op_begun : ℕ → ℕ → Option Opened → List Op
 op_begun node place None = []
 op_begun node place (Some b) = record { node = node; tag = b.tag; begin = place; end = None; session = b.session } ∷ []
 
-abbrev pub tag_of : Option Begun → Option ℕ
+abbrev pub tag_of : Option Opened → Option ℕ
 tag_of None = None
 tag_of (Some b) = Some b.tag
 
@@ -103,10 +107,14 @@ live false (Some n) = if n.gone then None else Some n
 abbrev pub live_at : WorldState → ℕ → Option NodeState
 live_at w id = live (set.contains w.crashed id) (fin.get w.nodes id)
 
+-- what a node does, where there is one
+abbrev pub by_live : Option NodeState → (NodeState → Result Outcome WorldFault) → Result Outcome WorldFault
+by_live None f = Err fault.NoSuchNode
+by_live (Some n) f = f n
+
 -- a live node takes an event
-abbrev pub acts : WorldState → Event → ℕ → Option NodeState → (NodeState → Result Outcome WorldFault) → Result (Stepped × WorldState) WorldFault
-acts w e node None f = Err fault.NoSuchNode
-acts w e node (Some n) f = took w e node (f n)
+abbrev pub acts : WorldState → Event → ℕ → (NodeState → Result Outcome WorldFault) → Result (Stepped × WorldState) WorldFault
+acts w e id f = took w e id (by_live (live_at w id) f)
 
 abbrev pub enters : WorldState → ℕ → Option NodeState → Result (Stepped × WorldState) WorldFault
 enters w id None = took w (event.Enter id) id (Ok (of_entered (entered w.config id)))
@@ -133,14 +141,28 @@ abbrev pub delivers : Option Message → NodeState → Result Outcome WorldFault
 delivers None n = Err fault.NeverSent
 delivers (Some m) n = by_node of_delivered (delivered n m)
 
+-- what a node does at an act
+abbrev pub acted : List Message → Act → NodeState → Result Outcome WorldFault
+acted sent act.Leave n = leaves n
+acted sent (act.Store value) n = stores value n
+acted sent act.Collect n = collects n
+acted sent (act.Deliver number) n = delivers (slice_get sent number) n
+
+-- the event at which a node so acts
+abbrev pub event_of : ℕ → Act → Event
+event_of id act.Leave = event.Leave id
+event_of id (act.Store value) = event.Store id value
+event_of id act.Collect = event.Collect id
+event_of id (act.Deliver number) = event.Deliver number id
+
 -- what an event answers and makes of a world, or why it is refused
 abbrev pub stepped : WorldState → Event → Result (Stepped × WorldState) WorldFault
 stepped w (event.Enter id) = enters w id (fin.get w.nodes id)
-stepped w (event.Leave id) = acts w (event.Leave id) id (live_at w id) leaves
+stepped w (event.Leave id) = acts w (event.Leave id) id (acted w.sent act.Leave)
 stepped w (event.Crash id) = crashes w id (live_at w id)
-stepped w (event.Store id value) = acts w (event.Store id value) id (live_at w id) (stores value)
-stepped w (event.Collect id) = acts w (event.Collect id) id (live_at w id) collects
-stepped w (event.Deliver number id) = acts w (event.Deliver number id) id (live_at w id) (delivers (slice_get w.sent number))
+stepped w (event.Store id value) = acts w (event.Store id value) id (acted w.sent (act.Store value))
+stepped w (event.Collect id) = acts w (event.Collect id) id (acted w.sent act.Collect)
+stepped w (event.Deliver number id) = acts w (event.Deliver number id) id (acted w.sent (act.Deliver number))
 stepped w event.Other = Ok (silent w, record w { events = w.events ++ event.Other ∷ [] })
 
 -- one world leads to another by accepted events
@@ -148,13 +170,20 @@ abbrev pub Reaches : WorldState → List Event → WorldState → Type 0
 Reaches w [] w' = w' ≡ w
 Reaches w (e ∷ es) w' = (a : Stepped) × (u : WorldState) × (stepped w e ≡ Ok (a, u)) × Reaches u es w'
 
-abbrev pub founder_nodes : Config → List ℕ → List ℕ → fin.FinMap nat_cmp NodeState
-founder_nodes c ids [] = fin.empty
-founder_nodes c ids (id ∷ rest) = fin.insert (founder_nodes c ids rest) id (founder c ids id)
+-- these nodes, and the founders of these ids
+abbrev pub nodes_with : Config → List ℕ → fin.FinMap nat_cmp NodeState → List ℕ → fin.FinMap nat_cmp NodeState
+nodes_with c ids nodes [] = nodes
+nodes_with c ids nodes (id ∷ rest) = nodes_with c ids (fin.insert nodes id (founder c ids id)) rest
+
+abbrev pub founder_nodes : Config → List ℕ → fin.FinMap nat_cmp NodeState
+founder_nodes c ids = nodes_with c ids fin.empty ids
 
 -- the world of the founders, before any event
 abbrev pub start : Config → List ℕ → WorldState
-start c ids = record { config = c; founders = ids; nodes = founder_nodes c ids ids; crashed = set.empty; events = []; sent = []; ops = [] }
+start c ids = record { config = c; founders = ids; nodes = founder_nodes c ids; crashed = set.empty; events = []; sent = []; ops = [] }
+
+abbrev pub founded_nodes : Config → List ℕ → Result (fin.FinMap nat_cmp NodeState) WorldFault
+founded_nodes c ids = if are_founders ids then Ok (founder_nodes c ids) else Err (fault.Node node_fault.BadFounders)
 
 abbrev pub started : Config → List ℕ → Result WorldState WorldFault
 started c ids = if are_founders ids then Ok (start c ids) else Err (fault.Node node_fault.BadFounders)

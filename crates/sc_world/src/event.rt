@@ -1,5 +1,6 @@
 use sc_node::answer::Ended;
 use sc_node::fault::NodeFault;
+use std::alloc::AllocError;
 
 /// What happens to a world.
 #[derive(Clone, Copy, Debug, PartialEq, Eq)]
@@ -49,4 +50,27 @@ pub enum WorldFault {
     NeverSent,
     /// The node's own refusal, and 49 and 99 of the world.
     Node(NodeFault),
+}
+
+impl From<NodeFault> for WorldFault {
+    ghost use Rattle.std.specs.Prelude.{◌≡◌};
+    ghost use Rattle.sc_world.specs.declared.event.WorldFault.TheVariants as fault;
+
+    ghost from_gives = { λ refusal e. e ≡ fault.Node refusal };
+
+    fn from(refusal: NodeFault) -> WorldFault {
+        WorldFault::Node(refusal)
+    }
+}
+
+impl From<AllocError> for WorldFault {
+    ghost use Rattle.std.specs.Prelude.{◌≡◌};
+    ghost use Rattle.sc_node.specs.declared.fault.NodeFault.TheVariants as node_fault;
+    ghost use Rattle.sc_world.specs.declared.event.WorldFault.TheVariants as fault;
+
+    ghost from_gives = { λ _ e. e ≡ fault.Node node_fault.OutOfMemory };
+
+    fn from(_: AllocError) -> WorldFault {
+        WorldFault::Node(NodeFault::OutOfMemory)
+    }
 }

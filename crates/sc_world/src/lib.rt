@@ -7,6 +7,10 @@
 //! least what an earlier collect that it meets had returned.
 #![tactic(auto)]
 
+mod act;
+mod counting;
 pub mod event;
 pub mod laws;
+mod nodes;
 pub mod op;
+pub mod world;

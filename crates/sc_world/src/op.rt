@@ -1,4 +1,12 @@
+ghost use Rattle.std.specs.Prelude.{◌≡◌};
+ghost use Rattle.std.specs.FinSet as set;
+ghost use Rattle.sc_node.specs.Sessions.{counted_in, counting_phase};
+ghost use Rattle.sc_world.specs.Worlds.{end_at, moved};
+
+use sc_members::ids::IdSet;
+use sc_node::answer::{Advance, Progress};
 use sc_node::session::Session;
+use std::alloc::Global;
 
 /// The record of an operation.
 #[derive(Drop)]
@@ -12,4 +20,32 @@ pub struct Op {
     pub end: Option<usize>,
     /// Its kind, and for each phase the threshold and all senders that were counted.
     pub session: Session,
+}
+
+impl Op {
+    /// Moves by a progress of its node at a place in the list of events. The set has all senders of the phase. Takes
+    /// no memory.
+    pub(crate) fn advance(
+        &mut self,
+        alloc: Global,
+        place: usize,
+        progress: Progress,
+        counted: IdSet,
+    )
+        requires { counted ≡ set.insert (counted_in (counting_phase progress.advance self.old.session)) progress.sender }
+        ensures { self.new ≡ moved place progress self.old }
+    {
+        self.end = end_at(place, &progress.advance);
+        self.session.advance(alloc, progress, counted);
+    }
+}
+
+/// The end of an operation that so moved at a place.
+fn end_at(place: usize, advance: &Advance) -> Option<usize>
+    ensures { result ≡ end_at place advance.now }
+{
+    match advance {
+        Advance::Ended => Some(place),
+        _ => None,
+    }
 }

@@ -17,10 +17,10 @@ use Rattle.sc_world.specs.declared.event.Event.{Event}
 use Rattle.sc_world.specs.declared.event.Event.TheVariants as event
 use Rattle.sc_world.specs.declared.op.Op.{Op}
 use Rattle.sc_world.specs.State.{WorldState}
-use Rattle.sc_world.specs.Worlds.{clock, Outcome, WasBefore, IsHistory}
+use Rattle.sc_world.specs.Worlds.{moved, clock, Outcome, WasBefore, IsHistory}
 use Rattle.sc_world.specs.Records.{Among, Answers, IsAck, IsReply, IsDelivered, IsPhase, IsRunning, Stores, Queries, StoresBack, IsRecord}
 use Rattle.sc_world.proofs.Links.{IsLinked, IsTransition, IsAckMove, IsReplyMove, IsMove}
-use Rattle.sc_world.proofs.Steps.{is_open, moved}
+use Rattle.sc_world.proofs.Steps.{is_open}
 use Rattle.sc_world.proofs.Histories.{IsNext, was_now}
 use Rattle.sc_world.proofs.Recording.{phase_kept, turn_before, record_kept, counted_phase, new_measured, new_open, event_new, sent_kept, acked_op, replied_op, moved_ack, moved_reply}
 

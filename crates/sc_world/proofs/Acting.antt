@@ -1,0 +1,119 @@
+-- What the parts of an event make together.
+use Rattle.std.proofs.Common.{◌≡◌, ◌≢◌, ℕ, zero, suc, ◌<◌, Bool, true, false, cond, ◌&&◌, ◌||◌, List, [], ◌∷◌, ◌++◌, map, length, get_or, Option, Some, None, is_some, refl, sym, ap, ◌∙◌, arith, Result, Ok, Err}
+use Rattle.std.proofs.lemmas.List.{append-nil}
+use Rattle.std.proofs.lemmas.Bool.{eq-eqb}
+use Rattle.std.specs.Ordering.{nat_cmp, eq_by_cmp}
+use Rattle.std.specs.Cmp.{nat_cmp_total, unsigned_tied}
+use Rattle.std.specs.List.{list_any}
+use Rattle.std.specs.FinMap as fin
+use Rattle.std.specs.FinSet as set
+use Rattle.sc_members.specs.Ids.{Ids}
+use Rattle.sc_members.specs.Members.{Config}
+use Rattle.sc_msg.specs.declared.message.Message.{Message}
+use Rattle.sc_node.specs.declared.fault.NodeFault.{NodeFault}
+use Rattle.sc_node.specs.declared.fault.NodeFault.TheVariants as node_fault
+use Rattle.sc_node.specs.State.{NodeState}
+use Rattle.sc_node.specs.Nodes.{entered, founded, founder, are_founders}
+use Rattle.sc_world.specs.declared.act.Act.{Act}
+use Rattle.sc_world.specs.declared.act.Act.TheVariants as act
+use Rattle.sc_world.specs.declared.act.Report.{Report}
+use Rattle.sc_world.specs.declared.event.Event.{Event}
+use Rattle.sc_world.specs.declared.event.Event.TheVariants as event
+use Rattle.sc_world.specs.declared.event.Sent.{Sent}
+use Rattle.sc_world.specs.declared.event.WorldFault.{WorldFault}
+use Rattle.sc_world.specs.declared.event.WorldFault.TheVariants as fault
+use Rattle.sc_world.specs.declared.op.Op.{Op}
+use Rattle.sc_world.specs.State.{WorldState}
+use Rattle.sc_world.specs.Worlds.{clock, live_at, by_live, took, acts, acted, advanced, op_begun, tag_of, silent, crashes, enters, event_of, stepped, founder_nodes, founded_nodes}
+use Rattle.sc_world.specs.Acts.{memory, outcome}
+
+same_map : (ops : List Op) → map (λ o. o) ops ≡ ops
+same_map [] = refl
+same_map (o ∷ ops) = ap (λ xs. o ∷ xs) (same_map ops)
+
+pub act_step : (w : WorldState) (e : Event) (id : ℕ) (a : Act) (r : Report) (n : NodeState) (nodes : fin.FinMap nat_cmp NodeState) (events : List Event) (sent : List Message) (ops : List Op) (tag : Option ℕ) (numbers : Sent)
+    → by_live (live_at w id) (acted w.sent a) ≡ Ok (outcome r n) → nodes ≡ fin.insert w.nodes id n → events ≡ w.events ++ e ∷ [] → sent ≡ w.sent ++ r.outs
+    → ops ≡ map (advanced id (clock w) r.progress) w.ops ++ op_begun id (clock w) r.begun → tag ≡ tag_of r.begun → numbers ≡ record { first = length w.sent; count = length r.outs }
+    → acts w e id (acted w.sent a)
+    ≡ Ok (record { tag = tag; ended = r.ended; sent = numbers }, record { config = w.config; founders = w.founders; nodes = nodes; crashed = w.crashed; events = events; sent = sent; ops = ops })
+act_step w e id a r n nodes events sent ops tag numbers said hn he hs ho ht hf =
+    ap (took w e id) said
+    ∙ (λ i. Ok (
+      record { tag = sym ht i; ended = r.ended; sent = sym hf i },
+      record { config = w.config; founders = w.founders; nodes = sym hn i; crashed = w.crashed; events = sym he i; sent = sym hs i; ops = sym ho i },
+    ))
+
+pub act_stepped : (w : WorldState) (id : ℕ) (a : Act) → stepped w (event_of id a) ≡ acts w (event_of id a) id (acted w.sent a)
+act_stepped w id act.Leave = refl
+act_stepped w id (act.Store value) = refl
+act_stepped w id act.Collect = refl
+act_stepped w id (act.Deliver number) = refl
+
+by_absent : (w : WorldState) (id : ℕ) (o : Option NodeState) → is_some o ≡ false → enters w id o ≡ enters w id None
+by_absent w id None h = refl
+by_absent w id (Some n) h = absurd (cc)
+
+pub enter_step : (w : WorldState) (id : ℕ) (node : NodeState) (outs : List Message) (nodes : fin.FinMap nat_cmp NodeState) (events : List Event) (sent : List Message) (numbers : Sent)
+    → is_some (fin.get w.nodes id) ≡ false → entered w.config id ≡ (node, outs) → nodes ≡ fin.insert w.nodes id node → events ≡ w.events ++ event.Enter id ∷ [] → sent ≡ w.sent ++ outs
+    → numbers ≡ record { first = length w.sent; count = length outs }
+    → enters w id (fin.get w.nodes id)
+    ≡ Ok (record { tag = None; ended = None; sent = numbers }, record { config = w.config; founders = w.founders; nodes = nodes; crashed = w.crashed; events = events; sent = sent; ops = w.ops })
+enter_step w id node outs nodes events sent numbers absent made hn he hs hf =
+    by_absent w id (fin.get w.nodes id) absent
+    ∙ (λ i. Ok (
+      record { tag = None; ended = None; sent = (ap (λ (p : NodeState × List Message). let x : Sent = record { first = length w.sent; count = length p.1 } in x) made ∙ sym hf) i },
+      record {
+        config = w.config;
+        founders = w.founders;
+        nodes = (ap (λ (p : NodeState × List Message). fin.insert w.nodes id p.0) made ∙ sym hn) i;
+        crashed = w.crashed;
+        events = sym he i;
+        sent = (ap (λ (p : NodeState × List Message). w.sent ++ p.1) made ∙ sym hs) i;
+        ops = (append-nil (map (λ o. o) w.ops) ∙ same_map w.ops) i;
+      },
+    ))
+
+by_live_node : (w : WorldState) (id : ℕ) (o : Option NodeState) (n : NodeState) → true ≡ is_some o → crashes w id o ≡ crashes w id (Some n)
+by_live_node w id (Some m) n h = refl
+by_live_node w id None n h = absurd (cc)
+
+live_node : (o : Option NodeState) → true ≡ is_some o → NodeState
+live_node (Some n) h = n
+live_node None h = absurd (cc)
+
+pub crash_step : (w : WorldState) (id : ℕ) (gone : Ids) (events : List Event) → true ≡ is_some (live_at w id) → gone ≡ set.insert w.crashed id → events ≡ w.events ++ event.Crash id ∷ []
+    → crashes w id (live_at w id) ≡ Ok (silent w, record { config = w.config; founders = w.founders; nodes = w.nodes; crashed = gone; events = events; sent = w.sent; ops = w.ops })
+crash_step w id gone events lives hg he =
+    by_live_node w id (live_at w id) (live_node (live_at w id) lives) lives
+    ∙ (λ i. Ok (silent w, record { config = w.config; founders = w.founders; nodes = w.nodes; crashed = sym hg i; events = sym he i; sent = w.sent; ops = w.ops }))
+
+pub other_step : (w : WorldState) (events : List Event) → events ≡ w.events ++ event.Other ∷ []
+    → stepped w event.Other ≡ Ok (silent w, record { config = w.config; founders = w.founders; nodes = w.nodes; crashed = w.crashed; events = events; sent = w.sent; ops = w.ops })
+other_step w events he = λ i. Ok (silent w, record { config = w.config; founders = w.founders; nodes = w.nodes; crashed = w.crashed; events = sym he i; sent = w.sent; ops = w.ops })
+
+-- a founder is among the founders
+or_right : (a b : Bool) → b ≡ true → (a || b) ≡ true
+or_right true b h = refl
+or_right false b h = h
+
+any_at : (ids : List ℕ) (k d : ℕ) → k < length ids → list_any (eq_by_cmp nat_cmp (get_or ids k d)) ids ≡ true
+any_at [] k d lt = absurd (omega (arith, lt))
+any_at (x ∷ ids) zero d lt = ap (λ b. b || list_any (eq_by_cmp nat_cmp x) ids) (unsigned_tied x x ∙ eq-eqb x x refl)
+any_at (x ∷ ids) (suc k) d lt = or_right (eq_by_cmp nat_cmp (get_or ids k d) x) (list_any (eq_by_cmp nat_cmp (get_or ids k d)) ids) (any_at ids k d (omega (arith, lt)))
+
+pub has_at : (ids : List ℕ) (k d : ℕ) → k < length ids → set.contains (set.from_list {R = nat_cmp} ids) (get_or ids k d) ≡ true
+has_at ids k d lt = set.contains-from_list nat_cmp_total ids (get_or ids k d) ∙ any_at ids k d lt
+
+by_founders : (c : Config) (ids : List ℕ) (x : ℕ) (f : NodeFault) (a b : Bool) → are_founders ids ≡ a → b ≡ true → (let r : Result NodeState NodeFault = cond (a && b) (Ok (founder c ids x)) (Err node_fault.BadFounders) in r) ≡ Err f
+    → founded_nodes c ids ≡ Err (fault.Node f)
+by_founders c ids x f a false is has h = absurd (cc)
+by_founders c ids x f true true is has h = absurd (cc)
+by_founders c ids x f false true is has h =
+    let same : node_fault.BadFounders ≡ f = cc in
+    ap (λ (t : Bool). let r : Result (fin.FinMap nat_cmp NodeState) WorldFault = cond t (Ok (founder_nodes c ids)) (Err (fault.Node node_fault.BadFounders)) in r) is
+    ∙ ap (λ (y : NodeFault). let r : Result (fin.FinMap nat_cmp NodeState) WorldFault = Err (fault.Node y) in r) same
+
+-- the refusal of one founder is that of all
+pub found_refused : (c : Config) (ids : List ℕ) (x : ℕ) (f : NodeFault) → set.contains (set.from_list {R = nat_cmp} ids) x ≡ true → (f ≢ node_fault.OutOfMemory → founded c x ids ≡ Err f) → fault.Node f ≢ memory → founded_nodes c ids ≡ Err (fault.Node f)
+found_refused c ids x f has h no_memory =
+    by_founders c ids x f (are_founders ids) (set.contains (set.from_list {R = nat_cmp} ids) x) refl has (h (λ e. no_memory (ap (λ (y : NodeFault). fault.Node y) e)))

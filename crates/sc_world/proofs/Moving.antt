@@ -1,0 +1,195 @@
+-- The record that was made ready is the one that moves.
+use Rattle.std.proofs.Common.{◌≡◌, ℕ, zero, suc, ◌≤◌, Bool, true, false, cond, ◌==◌, nat_lt, List, [], ◌∷◌, map, length, Option, Some, None, refl, sym, ap, ◌∙◌, subst, arith, inl, inr, slice_get, slice_set, position, Ok}
+use Rattle.std.proofs.lemmas.Bool.{eq-eqb, eqb-true}
+use Rattle.std.proofs.lemmas.Bool.Decides.{nat_tests}
+use Rattle.std.proofs.lemmas.List.Sums.{fails_before_first}
+use Rattle.std.proofs.lemmas.List.Quantifiers.{position-Some}
+use Rattle.std.proofs.lemmas.Option.{get_or_from_slice_get, slice_get_within}
+use Rattle.std.specs.List.{position_or_len}
+use Rattle.std.specs.FinMap as fin
+use Rattle.std.specs.FinSet as set
+use Rattle.sc_msg.specs.declared.message.Message.{Message}
+use Rattle.sc_msg.specs.declared.message.Body.{Body}
+use Rattle.sc_msg.specs.declared.message.Body.TheVariants.{StoreAck, CollectReply}
+use Rattle.sc_node.specs.declared.session.Phase.{Phase}
+use Rattle.sc_node.specs.declared.session.StoreBack.{StoreBack}
+use Rattle.sc_node.specs.declared.session.Session.{Session}
+use Rattle.sc_node.specs.declared.answer.Advance.{Advance}
+use Rattle.sc_node.specs.declared.answer.Advance.TheVariants as advance
+use Rattle.sc_node.specs.declared.answer.Progress.{Progress}
+use Rattle.sc_node.specs.Sessions.{open_phase, counting_phase, counted_in, is_reached, count_sender}
+use Rattle.sc_node.specs.State.{NodeState}
+use Rattle.sc_node.specs.Nodes.{progress_of}
+use Rattle.sc_world.specs.declared.act.Act.{Act}
+use Rattle.sc_world.specs.declared.act.Act.TheVariants as act
+use Rattle.sc_world.specs.declared.act.Report.{Report}
+use Rattle.sc_world.specs.declared.counting.Counting.{Counting}
+use Rattle.sc_world.specs.declared.event.Event.TheVariants as event
+use Rattle.sc_world.specs.declared.op.Op.{Op}
+use Rattle.sc_world.specs.State.{WorldState}
+use Rattle.sc_world.specs.Worlds.{clock, Outcome, moved, advanced, live, by_live, live_at, acted, delivers, IsHistory}
+use Rattle.sc_world.specs.Records.{Among, AreDistinct}
+use Rattle.sc_world.specs.Acts.{outcome, answered, answered_at, answered_by, is_op, IsReady, Fits, put_moved, moved_at}
+use Rattle.sc_world.proofs.Links.{IsLinked, IsAckMove, IsReplyMove, IsMove}
+use Rattle.sc_world.proofs.Steps.{and_left, and_right, is_open}
+use Rattle.sc_world.proofs.Handlers.{heard, heard_moves, moves}
+use Rattle.sc_world.proofs.Inverts.{no_refusal, live_is, by_live-ok, stores-ok, collects-ok, leaves-ok, delivers-ok}
+use Rattle.sc_world.proofs.Runs.{among_get}
+use Rattle.sc_world.proofs.EveryHistory.{IsLawful, every_lawful}
+
+-- a record that no other matches
+module _ (test : Op → Bool) (f : Op → Op) where
+  abbrev change : Op → Op
+  change o = cond (test o) (f o) o
+
+  off : (o : Op) → test o ≡ false → o ≡ change o
+  off o is = ap (λ b. cond b (f o) o) (sym is)
+
+  on : (o : Op) → test o ≡ true → f o ≡ change o
+  on o is = ap (λ b. cond b (f o) o) (sym is)
+
+  pub none_change : (ops : List Op) → ((o : Op) → Among o ops → test o ≡ false) → ops ≡ map change ops
+  none_change [] never = refl
+  none_change (o ∷ ops) never = λ i. off o (never o (inl refl)) i ∷ none_change ops (λ x in'. never x (inr in')) i
+
+  place_in : (ops : List Op) (o : Op) → Among o ops → (k : ℕ) × (slice_get ops k ≡ Some o)
+  place_in [] o in' = absurd in'
+  place_in (x ∷ ops) o (inl e) = (zero, ap (λ (y : Op). let z : Option Op = Some y in z) (sym e))
+  place_in (x ∷ ops) o (inr in') = let k = place_in ops o in' in (suc k.0, k.1)
+
+  not_tested : (b : Bool) → (b ≡ true → ⊥) → b ≡ false
+  not_tested true never = absurd (never refl)
+  not_tested false never = refl
+
+  pub one_changes : (ops : List Op) (k : ℕ) (o : Op) → slice_get ops k ≡ Some o → test o ≡ true → ((j : ℕ) (x : Op) → slice_get ops j ≡ Some x → test x ≡ true → j ≡ k) → slice_set ops k (f o) ≡ map change ops
+  one_changes [] k o at is only = absurd (cc)
+  one_changes (x ∷ ops) zero o at is only =
+      let same : x ≡ o = cc in
+      let rest : ops ≡ map change ops = none_change ops (λ y in'. not_tested (test y) (λ hit. let k = place_in ops y in' in let h : suc k.0 ≡ zero = only (suc k.0) y k.1 hit in absurd (omega (arith, h)))) in
+      λ i. (on o is ∙ ap change (sym same)) i ∷ rest i
+  one_changes (x ∷ ops) (suc k) o at is only =
+      let head : test x ≡ false = not_tested (test x) (λ hit. let h : zero ≡ suc k = only zero x refl hit in absurd (omega (arith, h))) in
+      λ i. off x head i ∷ one_changes ops k o at is (λ j y at' hit. let h : suc j ≡ suc k = only (suc j) y at' hit in omega (arith, h)) i
+
+  past : (ops : List Op) → position test ops ≡ None → length ops ≤ position_or_len test ops
+  past ops none = go (nat_lt (position_or_len test ops) (length ops)) refl none
+    where
+      go : (b : Bool) → nat_lt (position_or_len test ops) (length ops) ≡ b → (let r : Option ℕ = cond b (Some (position_or_len test ops)) None in r) ≡ None → length ops ≤ position_or_len test ops
+      go true is h = absurd (cc)
+      go false is h = grind (arith, nat_tests)
+
+  -- what is not found is not there
+  pub none_found : (ops : List Op) → position test ops ≡ None → (o : Op) → Among o ops → test o ≡ false
+  none_found ops none o in' =
+      let k = place_in ops o in' in
+      ap test (sym (get_or_from_slice_get ops k.0 o o k.1))
+      ∙ fails_before_first test ops k.0 o (omega (arith, past ops none, slice_get_within ops k.0 o k.1))
+
+  pub found_passes : (ops : List Op) (k : ℕ) (o : Op) → position test ops ≡ Some k → slice_get ops k ≡ Some o → test o ≡ true
+  found_passes ops k o at is = ap test (sym (get_or_from_slice_get ops k o o is)) ∙ (position-Some test ops k o at).1
+
+-- what is ready is right
+pub record IsRight (ops : List Op) (id place : ℕ) (p : Option Progress) (c : Option Counting) : Type 0 where
+  pub fits : Fits ops p c
+  pub moves : moved_at ops place p c ≡ map (advanced id place p) ops
+
+same_map : (ops : List Op) → ops ≡ map (λ o. o) ops
+same_map [] = refl
+same_map (o ∷ ops) = ap (λ xs. o ∷ xs) (same_map ops)
+
+still : (ops : List Op) (id place : ℕ) (p : Option Progress) (c : Option Counting) → p ≡ None → IsRight ops id place p c
+still ops id place None c is = record { fits = tt; moves = same_map ops }
+still ops id place (Some p) c is = absurd (cc)
+
+module _ (w : WorldState) (linked : IsLinked w) (distinct : AreDistinct w.ops) (id place : ℕ) (n : NodeState) (at : fin.get w.nodes id ≡ Some n) (from : ℕ) (b : Body) where
+  name : n.id ≡ id
+  name = linked.named id n at
+
+  own : (id == id) ≡ true
+  own = eq-eqb id id refl
+
+  -- which operation the message is for
+  ack_for : (p : Progress) → IsAckMove n from b p → answered id from b ≡ Some (p.tag, p.sender)
+  ack_for p k =
+      ap (answered id from) (k.body ∙ ap (λ (i : ℕ). StoreAck i p.tag) name)
+      ∙ ap (λ (t : Bool). let r : Option (ℕ × ℕ) = cond t (Some (p.tag, from)) None in r) own ∙ ap (λ (s : ℕ). let r : Option (ℕ × ℕ) = Some (p.tag, s) in r) (sym k.sender)
+
+  reply_for : (p : Progress) → IsReplyMove n from b p → answered id from b ≡ Some (p.tag, p.sender)
+  reply_for p k =
+      ap (answered id from) (k.body ∙ ap (λ (i : ℕ). CollectReply i p.tag k.view) name)
+      ∙ ap (λ (t : Bool). let r : Option (ℕ × ℕ) = cond t (Some (p.tag, from)) None in r) own ∙ ap (λ (s : ℕ). let r : Option (ℕ × ℕ) = Some (p.tag, s) in r) (sym k.sender)
+
+  ack_phase : (a : Advance) (c : Bool) (s : Session) → a ≡ cond c advance.Ended advance.Counted → counting_phase a s ≡ open_phase s.back s.query
+  ack_phase (advance.Turned t v) true s is = absurd (cc)
+  ack_phase (advance.Turned t v) false s is = absurd (cc)
+  ack_phase advance.Counted c s is = refl
+  ack_phase advance.Ended c s is = refl
+
+  reply_phase : (a : Advance) (s : Session) → s.back ≡ None → counting_phase a s ≡ open_phase s.back s.query
+  reply_phase (advance.Turned t v) s none = sym (ap (λ (x : Option StoreBack). open_phase x s.query) none)
+  reply_phase advance.Counted s none = refl
+  reply_phase advance.Ended s none = refl
+
+  -- the set that is counted is the one of the phase that is open
+  phase_of : (p : Progress) → IsMove n from b (Some p) → (o : Op) → Among o w.ops → o.node ≡ id → o.tag ≡ p.tag → counting_phase p.advance o.session ≡ open_phase o.session.back o.session.query
+  phase_of p (inl k) o in' nq tq = ack_phase p.advance (is_reached (count_sender k.back.phase from)) o.session k.advance
+  phase_of p (inr k) o in' nq tq =
+      let h = is_open w event.Other id n (heard n from b) at linked (heard_moves n from b) o k.session p.tag in' nq tq k.was in
+      reply_phase p.advance o.session (ap (λ (s : Session). s.back) h.1 ∙ k.none)
+
+  for_it : (p : Progress) → IsMove n from b (Some p) → answered id from b ≡ Some (p.tag, p.sender)
+  for_it p (inl k) = ack_for p k
+  for_it p (inr k) = reply_for p k
+
+  ready_right : (p : Progress) → IsMove n from b (Some p) → (c : Option Counting) → IsReady w.ops id (Some (p.tag, p.sender)) c → IsRight w.ops id place (Some p) c
+  ready_right p k None h = record { fits = tt; moves = none_change (is_op id p.tag) (moved place p) w.ops (none_found (is_op id p.tag) (moved place p) w.ops h) }
+  ready_right p k (Some c) h =
+      let o = h.0 in
+      let hit : is_op id p.tag o ≡ true = found_passes (is_op id p.tag) (moved place p) w.ops c.at o h.1 h.2 in
+      let nq : o.node ≡ id = eqb-true o.node id (and_left (o.node == id) (o.tag == p.tag) hit) in
+      let tq : o.tag ≡ p.tag = eqb-true o.tag p.tag (and_right (o.node == id) (o.tag == p.tag) hit) in
+      record {
+        fits = (o, h.2, h.3 ∙ ap (λ (x : Option Phase). set.insert (counted_in x) p.sender) (sym (phase_of p k o (among_get w.ops c.at o h.2) nq tq)));
+        moves =
+            ap (put_moved w.ops c.at place p) h.2
+            ∙ one_changes (is_op id p.tag) (moved place p) w.ops c.at o h.2 hit
+            (λ j x at' hit'. distinct j c.at x o at' h.2
+            (eqb-true x.node id (and_left (x.node == id) (x.tag == p.tag) hit') ∙ sym nq) (eqb-true x.tag p.tag (and_right (x.node == id) (x.tag == p.tag) hit') ∙ sym tq));
+      }
+
+  pub move_right : (p : Option Progress) → IsMove n from b p → (c : Option Counting) → IsReady w.ops id (answered id from b) c → IsRight w.ops id place p c
+  move_right None k c h = still w.ops id place None c refl
+  move_right (Some p) k c h = ready_right p k c (subst (λ (a : Option (ℕ × ℕ)). IsReady w.ops id a c) (for_it p k) h)
+
+module _ (w : WorldState) (l : IsLawful w) (id place : ℕ) (r : Report) (n' : NodeState) (c : Option Counting) where
+  still_by : (n : NodeState) (x : Outcome) → x.progress ≡ None → x ≡ outcome r n' → IsRight w.ops id place r.progress c
+  still_by n x none is = still w.ops id place r.progress c (ap (λ (y : Outcome). y.progress) (sym is) ∙ none)
+
+  deliver_right : (n : NodeState) (m : Option Message) → fin.get w.nodes id ≡ Some n → delivers m n ≡ Ok (outcome r n') → IsReady w.ops id (answered_by id m) c → IsRight w.ops id place r.progress c
+  deliver_right n None at h ready = absurd (no_refusal _ (outcome r n') h)
+  deliver_right n (Some m) at h ready =
+      let same : progress_of n m.from m.body ≡ r.progress = ap (λ (y : Outcome). y.progress) (delivers-ok m n (outcome r n') h) in
+      move_right w l.invariant.linked l.records.distinct id place n at m.from m.body r.progress (subst (IsMove n m.from m.body) same (moves n m.from m.body)) c ready
+
+  acted_right : (n : NodeState) (a : Act) → fin.get w.nodes id ≡ Some n → acted w.sent a n ≡ Ok (outcome r n') → IsReady w.ops id (answered_at id w.sent a) c → IsRight w.ops id place r.progress c
+  acted_right n act.Leave at h ready = still_by n _ refl (leaves-ok n (outcome r n') h)
+  acted_right n (act.Store value) at h ready = still_by n _ refl (stores-ok value n (outcome r n') h)
+  acted_right n act.Collect at h ready = still_by n _ refl (collects-ok n (outcome r n') h)
+  acted_right n (act.Deliver number) at h ready = deliver_right n (slice_get w.sent number) at h ready
+
+  -- whatever the act was
+  pub right : (a : Act) → by_live (live_at w id) (acted w.sent a) ≡ Ok (outcome r n') → IsReady w.ops id (answered_at id w.sent a) c → IsRight w.ops id place r.progress c
+  right a h ready =
+      let k = by_live-ok (live_at w id) (acted w.sent a) (outcome r n') h in
+      acted_right k.0 a (live_is (set.contains w.crashed id) (fin.get w.nodes id) k.0 k.1) k.2 ready
+
+-- what the parts of a world saw is what the world has
+module _ (w : WorldState) (history : IsHistory w) (id : ℕ) (a : Act) (crashed : Bool) (sent : List Message) (gone : crashed ≡ set.contains w.crashed id) (all : sent ≡ w.sent) where
+  pub seen : by_live (live_at w id) (acted w.sent a) ≡ by_live (live crashed (fin.get w.nodes id)) (acted sent a)
+  seen = λ i. by_live (live (sym gone i) (fin.get w.nodes id)) (acted (sym all i) a)
+
+  pub seen_right : (r : Report) (n : NodeState) (c : Option Counting) (ops : List Op) (read : List Message) → by_live (live crashed (fin.get w.nodes id)) (acted sent a) ≡ Ok (outcome r n)
+      → ops ≡ w.ops → read ≡ w.sent → IsReady ops id (answered_at id read a) c → IsRight w.ops id (clock w) r.progress c
+  seen_right r n c ops read said same same_sent ready =
+      right w (every_lawful w.config w.founders w.events w history) id (clock w) r n c a (seen ∙ said)
+      (subst (λ (xs : List Op). IsReady xs id (answered_at id w.sent a) c) same (subst (λ (ms : List Message). IsReady ops id (answered_at id ms a) c) same_sent ready))

@@ -1,0 +1,107 @@
+ghost use Rattle.std.specs.Prelude.{◌≡◌, None, Some};
+ghost use Rattle.sc_world.specs.Acts.{Acts};
+ghost use Rattle.sc_world.specs.Worlds.{acted, leaves, stores, collects, delivers};
+
+use crate::event::WorldFault;
+use sc_msg::message::Message;
+use sc_node::answer::{Begun, Delivered, Ended, Progress};
+use sc_node::node::Node;
+use sc_node::outs::Outs;
+use sc_node::session::Session;
+
+/// What a node that is there does at an event.
+#[derive(Clone, Copy)]
+pub(crate) enum Act {
+    Leave,
+    Store([u8; 48]),
+    Collect,
+    /// It takes the message of that number.
+    Deliver(usize),
+}
+
+/// An operation that began.
+#[derive(Drop)]
+pub(crate) struct Opened {
+    pub(crate) tag: u64,
+    pub(crate) session: Session,
+}
+
+/// What a node tells of an act.
+#[derive(Drop)]
+pub(crate) struct Report {
+    pub(crate) outs: Outs,
+    pub(crate) progress: Option<Progress>,
+    pub(crate) begun: Option<Opened>,
+    pub(crate) ended: Option<Ended>,
+}
+
+/// The node acts. At Err it is as it was.
+pub(crate) fn perform(node: &mut Node, act: &Act, sent: &[Message]) -> Result<Report, WorldFault>
+    ensures { Acts (acted sent.now act.now node.old) node.old node.new result }
+{
+    match act {
+        Act::Leave => leave(node),
+        Act::Store(value) => store(node, value),
+        Act::Collect => collect(node),
+        Act::Deliver(number) => match sent.get(*number) {
+            Some(message) => deliver(node, message),
+            None => Err(WorldFault::NeverSent),
+        },
+    }
+}
+
+fn leave(node: &mut Node) -> Result<Report, WorldFault>
+    ensures { Acts (leaves node.old) node.old node.new result }
+{
+    let outs = node.leave()?;
+    Ok(Report {
+        outs,
+        progress: None,
+        begun: None,
+        ended: None,
+    })
+}
+
+fn store(node: &mut Node, value: &[u8; 48]) -> Result<Report, WorldFault>
+    ensures { Acts (stores value.now node.old) node.old node.new result }
+{
+    let begun = node.begin_store(value)?;
+    Ok(Report::begun(begun))
+}
+
+fn collect(node: &mut Node) -> Result<Report, WorldFault>
+    ensures { Acts (collects node.old) node.old node.new result }
+{
+    let begun = node.begin_collect()?;
+    Ok(Report::begun(begun))
+}
+
+fn deliver(node: &mut Node, message: &Message) -> Result<Report, WorldFault>
+    ensures { Acts (delivers (Some message.now) node.old) node.old node.new result }
+{
+    let Delivered {
+        outs,
+        progress,
+        ended,
+    } = node.deliver(message)?;
+    Ok(Report {
+        outs,
+        progress,
+        begun: None,
+        ended,
+    })
+}
+
+impl Report {
+    fn begun(begun: Begun) -> Report
+        ensures { result ≡ record { outs = begun.outs; progress = None; begun = Some (record { tag = begun.tag; session = begun.session }); ended = None } }
+    {
+        let Begun { tag, session, outs } = begun;
+        Report {
+            outs,
+            progress: None,
+            begun: Some(Opened { tag, session }),
+            ended: None,
+        }
+    }
+}
