@@ -20,8 +20,8 @@ use Rattle.sc_world.specs.declared.act.Report.{Report}
 use Rattle.sc_world.specs.declared.event.Event.{Event}
 use Rattle.sc_world.specs.declared.event.Event.TheVariants as event
 use Rattle.sc_world.specs.declared.event.Sent.{Sent}
-use Rattle.sc_world.specs.declared.event.WorldFault.{WorldFault}
-use Rattle.sc_world.specs.declared.event.WorldFault.TheVariants as fault
+use Rattle.sc_world.specs.declared.fault.WorldFault.{WorldFault}
+use Rattle.sc_world.specs.declared.fault.WorldFault.TheVariants as fault
 use Rattle.sc_world.specs.declared.op.Op.{Op}
 use Rattle.sc_world.specs.State.{WorldState}
 use Rattle.sc_world.specs.Worlds.{clock, live_at, by_live, took, acts, acted, advanced, op_begun, tag_of, silent, crashes, enters, event_of, stepped, founder_nodes, founded_nodes}

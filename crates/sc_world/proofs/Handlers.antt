@@ -30,7 +30,7 @@ use Rattle.sc_world.specs.Records.{Among}
 use Rattle.sc_world.proofs.Changes.{view_of, view_at, Kept, IsAbout, IsSent, IsBodySent, IsChange}
 use Rattle.sc_world.proofs.Links.{IsLinked, session_moved, session_after, IsTransition, AckMakes, ReplyMakes, IsMove, IsProgress, Each, IsBodyKnown}
 use Rattle.sc_world.proofs.Finite.{get-insert, get-insert_same, get-remove}
-use Rattle.sc_world.proofs.ViewLemmas.{below_refl, below_merge, merge_above, below_put, put_has}
+use Rattle.sc_view.proofs.ViewLemmas.{below_refl, below_merge, merge_above, below_put, put_has}
 use Rattle.sc_world.proofs.Steps.{among-append, among-map, length-more, advance_op, known_next, view_next, is_change, is_linked}
 
 -- what each event makes of a node, where it is accepted

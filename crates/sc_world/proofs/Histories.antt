@@ -9,7 +9,7 @@ use Rattle.sc_node.specs.State.{NodeState}
 use Rattle.sc_world.specs.declared.event.Event.{Event}
 use Rattle.sc_world.specs.declared.event.Event.TheVariants as event
 use Rattle.sc_world.specs.declared.event.Stepped.{Stepped}
-use Rattle.sc_world.specs.declared.event.WorldFault.{WorldFault}
+use Rattle.sc_world.specs.declared.fault.WorldFault.{WorldFault}
 use Rattle.sc_world.specs.State.{WorldState}
 use Rattle.sc_world.specs.Worlds.{clock, Outcome, live_at, crashes, enters, stores, collects, leaves, delivers, stepped, Reaches, start, IsHistory, WasBefore}
 use Rattle.sc_world.proofs.Inverts.{same_answer, no_refusal, IsTaken, acts-ok}

@@ -12,7 +12,7 @@ use Rattle.sc_node.specs.State.{NodeState}
 use Rattle.sc_node.specs.Nodes.{most_open, most_operations, is_view_full, tells_view, view_after, tells_facts, facts_after, delivered, delivery, node_after, beginning, store_begun, store_session, stored_view, collect_begun, collect_session, begun, opened, left}
 use Rattle.sc_world.specs.declared.event.Event.{Event}
 use Rattle.sc_world.specs.declared.event.Stepped.{Stepped}
-use Rattle.sc_world.specs.declared.event.WorldFault.{WorldFault}
+use Rattle.sc_world.specs.declared.fault.WorldFault.{WorldFault}
 use Rattle.sc_world.specs.State.{WorldState}
 use Rattle.sc_world.specs.Worlds.{Outcome, of_begun, of_left, of_delivered, by_node, live, live_at, by_live, took, acts, after, stores, collects, leaves, delivers}
 use Rattle.sc_world.proofs.Handlers.{heard, store_outcome, collect_outcome, left_outcome}

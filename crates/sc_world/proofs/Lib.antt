@@ -1,6 +1,5 @@
 -- Every list of events leads to a regular world.
 pub mod Finite
-pub mod ViewLemmas
 pub mod Changes
 pub mod Soundness
 pub mod Links

@@ -25,7 +25,7 @@ use Rattle.sc_world.proofs.Links.{IsLinked}
 use Rattle.sc_world.proofs.Truths.{IsTrue, body_view, IsTruthful, IsThere, IsTold}
 use Rattle.sc_world.proofs.Numbers.{IsNumbered}
 use Rattle.sc_world.proofs.Finite.{get-insert}
-use Rattle.sc_world.proofs.ViewLemmas.{below_refl}
+use Rattle.sc_view.proofs.ViewLemmas.{below_refl}
 use Rattle.sc_world.proofs.Soundness.{sound_after}
 use Rattle.sc_world.proofs.Steps.{among-append, length-more}
 use Rattle.sc_world.proofs.Handlers.{heard, store_outcome, collect_outcome, left_outcome, entered_outcome, heard_moves, store_moves, collect_moves, left_moves, store_change, store_linked, collect_change, collect_linked, left_change, left_linked, delivery_change, delivery_linked, kept_op, entry_at, enter_change, enter_linked}

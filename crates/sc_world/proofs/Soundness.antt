@@ -15,7 +15,7 @@ use Rattle.sc_world.specs.Worlds.{clock}
 use Rattle.sc_world.specs.Records.{Among}
 use Rattle.sc_world.proofs.Changes.{view_at, IsAbout, IsReplied, OpFrom, Kept, Begun, Acknowledged, Replied, IsChange, KnownBy, IsSound, HasNumber, MeetsEarlier}
 use Rattle.sc_world.proofs.Finite.{contains-insert}
-use Rattle.sc_world.proofs.ViewLemmas.{below_trans}
+use Rattle.sc_view.proofs.ViewLemmas.{below_trans}
 
 pub nobody : (s : Ids) (q : ℕ) → s ≡ set.empty → Has s q → ⊥
 nobody s q e h = let no : set.contains s q ≡ false = ap (λ x. set.contains x q) e ∙ set.contains-empty nat_cmp q in cc

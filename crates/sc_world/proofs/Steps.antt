@@ -22,7 +22,7 @@ use Rattle.sc_world.specs.Records.{Among}
 use Rattle.sc_world.proofs.Changes.{view_of, view_at, IsAbout, OpFrom, Kept, Begun, Acknowledged, Replied, IsSent, IsBodySent, IsChange}
 use Rattle.sc_world.proofs.Links.{open_session, HasOwner, IsLinked, session_moved, session_after, IsBegunAt, IsTransition, AckMakes, ReplyMakes, IsAckProgress, IsReplyProgress, IsProgress, IsFresh, Each, IsBodyKnown}
 use Rattle.sc_world.proofs.Finite.{get-insert, get-insert_same}
-use Rattle.sc_world.proofs.ViewLemmas.{below_refl}
+use Rattle.sc_view.proofs.ViewLemmas.{below_refl}
 
 pub among-append : {X : Type 0} (x : X) (xs ys : List X) → Among x (xs ++ ys) → Among x xs ⊎ Among x ys
 among-append x [] ys h = inr h

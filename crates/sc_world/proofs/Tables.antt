@@ -9,8 +9,8 @@ use Rattle.std.specs.BTreeMap.{is_at}
 use Rattle.sc_view.proofs.Maps.{found, get_found, one_written}
 use Rattle.sc_node.specs.State.{NodeState}
 use Rattle.sc_world.specs.declared.act.Report.{Report}
-use Rattle.sc_world.specs.declared.event.WorldFault.{WorldFault}
-use Rattle.sc_world.specs.declared.event.WorldFault.TheVariants as fault
+use Rattle.sc_world.specs.declared.fault.WorldFault.{WorldFault}
+use Rattle.sc_world.specs.declared.fault.WorldFault.TheVariants as fault
 use Rattle.sc_world.specs.Worlds.{Outcome, live, by_live}
 use Rattle.sc_world.specs.Acts.{Acts, ActsAt}
 

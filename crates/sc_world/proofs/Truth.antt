@@ -13,7 +13,7 @@ use Rattle.sc_world.specs.Records.{Among}
 use Rattle.sc_world.proofs.Changes.{view_at, OpFrom, Kept, Begun, Acknowledged, Replied}
 use Rattle.sc_world.proofs.Truths.{WasBegun, IsTrue, limit, limit_by, IsTruthful, IsThere, IsTold}
 use Rattle.sc_world.proofs.Finite.{get-insert}
-use Rattle.sc_world.proofs.ViewLemmas.{get-merge, merged}
+use Rattle.sc_view.proofs.ViewLemmas.{get-merge, merged}
 
 pub true_empty : (w : WorldState) (t : ℕ) → IsTrue w t fin.empty
 true_empty w t = record { begun = λ id e is. let k : None ≡ Some e = sym (fin.get-empty nat_cmp id) ∙ is in absurd (cc) }

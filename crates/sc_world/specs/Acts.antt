@@ -16,8 +16,8 @@ use Rattle.sc_world.specs.declared.act.Act.{Act}
 use Rattle.sc_world.specs.declared.act.Act.TheVariants as act
 use Rattle.sc_world.specs.declared.act.Report.{Report}
 use Rattle.sc_world.specs.declared.counting.Counting.{Counting}
-use Rattle.sc_world.specs.declared.event.WorldFault.{WorldFault}
-use Rattle.sc_world.specs.declared.event.WorldFault.TheVariants as fault
+use Rattle.sc_world.specs.declared.fault.WorldFault.{WorldFault}
+use Rattle.sc_world.specs.declared.fault.WorldFault.TheVariants as fault
 use Rattle.sc_world.specs.declared.op.Op.{Op}
 use Rattle.sc_world.specs.Worlds.{Outcome, moved}
 

@@ -4,3 +4,4 @@ pub mod Worlds
 pub mod Records
 pub mod Regular
 pub mod Acts
+pub mod Faults

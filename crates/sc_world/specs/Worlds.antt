@@ -22,8 +22,8 @@ use Rattle.sc_world.specs.declared.act.Opened.{Opened}
 use Rattle.sc_world.specs.declared.event.Event.{Event}
 use Rattle.sc_world.specs.declared.event.Event.TheVariants as event
 use Rattle.sc_world.specs.declared.event.Stepped.{Stepped}
-use Rattle.sc_world.specs.declared.event.WorldFault.{WorldFault}
-use Rattle.sc_world.specs.declared.event.WorldFault.TheVariants as fault
+use Rattle.sc_world.specs.declared.fault.WorldFault.{WorldFault}
+use Rattle.sc_world.specs.declared.fault.WorldFault.TheVariants as fault
 use Rattle.sc_world.specs.declared.op.Op.{Op}
 use Rattle.sc_world.specs.State.{WorldState}
 

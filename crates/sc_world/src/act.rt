@@ -1,8 +1,10 @@
+//! What a node that is there does at an event.
+
 ghost use Rattle.std.specs.Prelude.{◌≡◌, None, Some};
 ghost use Rattle.sc_world.specs.Acts.{Acts};
 ghost use Rattle.sc_world.specs.Worlds.{acted, leaves, stores, collects, delivers};
 
-use crate::event::WorldFault;
+use crate::fault::WorldFault;
 use sc_msg::message::Message;
 use sc_node::answer::{Begun, Delivered, Ended, Progress};
 use sc_node::node::Node;

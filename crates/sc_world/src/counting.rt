@@ -1,3 +1,5 @@
+//! The record that a delivery may move: what it needs is made ready before the node changes.
+
 ghost use Rattle.std.specs.Prelude.{◌≡◌, ◌==◌, ◌&&◌, IfOk, position, slice_get, vec_capacity};
 ghost use Rattle.sc_world.specs.Acts.{answered_at, answered, is_op, counted_with, IsReady, Fits, moved_at};
 

@@ -1,3 +1,5 @@
+//! What is true of every history.
+
 ghost use Rattle.std.specs.Prelude.{ℕ, List};
 ghost use Rattle.sc_members.specs.Members.{Config};
 ghost use Rattle.sc_world.specs.declared.event.Event.{Event};

@@ -10,6 +10,7 @@
 mod act;
 mod counting;
 pub mod event;
+pub mod fault;
 pub mod laws;
 mod nodes;
 pub mod op;

@@ -1,3 +1,5 @@
+//! The nodes of a world, by their ids.
+
 ghost use Rattle.std.specs.Prelude.{◌≡◌, IfOk, OnOk, OnErr, is_some, option_copied};
 ghost use Rattle.std.specs.FinMap as fin;
 ghost use Rattle.sc_node.specs.Calls.{Gives};
@@ -5,7 +7,7 @@ ghost use Rattle.sc_world.specs.Acts.{ActsAt, memory};
 ghost use Rattle.sc_world.specs.Worlds.{acted, by_live, live, founded_nodes};
 
 use crate::act::{Act, Report, perform};
-use crate::event::WorldFault;
+use crate::fault::WorldFault;
 use sc_members::config::Config;
 use sc_msg::message::Message;
 use sc_node::fault::NodeFault;

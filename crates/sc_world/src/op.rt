@@ -1,6 +1,9 @@
+//! The record of an operation.
+
 ghost use Rattle.std.specs.Prelude.{◌≡◌};
 ghost use Rattle.std.specs.FinSet as set;
 ghost use Rattle.sc_node.specs.Sessions.{counted_in, counting_phase};
+ghost use Rattle.sc_world.specs.Regular.{IsMeeting};
 ghost use Rattle.sc_world.specs.Worlds.{end_at, moved};
 
 use sc_members::ids::IdSet;
@@ -48,4 +51,14 @@ fn end_at(place: usize, advance: &Advance) -> Option<usize>
         Advance::Ended => Some(place),
         _ => None,
     }
+}
+
+/// The least id that is both among the first operation's counted acknowledgers and among the second's counted
+/// repliers. Takes no memory.
+pub fn meets(first: &Op, second: &Op) -> Option<u64>
+    ensures { IsMeeting first.now second.now result }
+{
+    let back = first.session.back.as_ref()?;
+    let query = second.session.query.as_ref()?;
+    back.phase.counted.least_common(&query.counted)
 }

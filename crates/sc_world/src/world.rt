@@ -1,3 +1,5 @@
+//! A world: what each event makes of it, and what its history is.
+
 ghost use Rattle.std.specs.Prelude.{◌≡◌, ◌++◌, ◌∷◌, [], length, None, vec_len, vec_capacity, ◌<◌, slice_get, option_copied};
 ghost use Rattle.std.specs.FinMap as fin;
 ghost use Rattle.sc_node.specs.Calls.{Steps, Gives};
@@ -5,11 +7,12 @@ ghost use Rattle.sc_world.specs.declared.event.Event.TheVariants as event;
 ghost use Rattle.sc_world.specs.Acts.{memory};
 ghost use Rattle.sc_world.specs.Worlds.{enters, crashes, live_at, event_of, stepped, started, op_begun, tag_of, IsHistory};
 ghost use Rattle.sc_world.specs.Records.{AreRecords};
-ghost use Rattle.sc_world.specs.Regular.{IsRegular, IsMeeting};
+ghost use Rattle.sc_world.specs.Regular.{IsRegular};
 
 use crate::act::{Act, Opened, Report};
 use crate::counting::{make_ready, move_op};
-use crate::event::{Event, Sent, Stepped, WorldFault};
+use crate::event::{Event, Sent, Stepped};
+use crate::fault::WorldFault;
 use crate::nodes::{Nodes, found_nodes};
 use crate::op::Op;
 use sc_members::config::Config;
@@ -120,16 +123,6 @@ impl World {
     {
         self.nodes.get(id)
     }
-}
-
-/// The least id that is both among the first operation's counted acknowledgers and among the second's counted
-/// repliers. Takes no memory.
-pub fn meets(first: &Op, second: &Op) -> Option<u64>
-    ensures { IsMeeting first.now second.now result }
-{
-    let back = first.session.back.as_ref()?;
-    let query = second.session.query.as_ref()?;
-    back.phase.counted.least_common(&query.counted)
 }
 
 impl World {

@@ -4,8 +4,8 @@ use Rattle.std.specs.Ordering.{nat_cmp}
 use Rattle.std.specs.FinMap as fin
 use Rattle.sc_node.specs.State.{NodeState}
 use Rattle.sc_node.specs.Calls.{Gives}
-use Rattle.sc_world.specs.declared.event.WorldFault.{WorldFault}
-use Rattle.sc_world.specs.declared.event.WorldFault.TheVariants as fault
+use Rattle.sc_world.specs.declared.fault.WorldFault.{WorldFault}
+use Rattle.sc_world.specs.declared.fault.WorldFault.TheVariants as fault
 use Rattle.sc_world.specs.Acts.{memory}
 use Rattle.sc_world.specs.Worlds.{founded_nodes}
 use Rattle.sc_world.proofs.Acting.{has_at, found_refused}

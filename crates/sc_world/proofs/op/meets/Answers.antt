@@ -2,7 +2,7 @@ use Rattle.std.proofs.Common.{sym, ap, Option}
 use Rattle.sc_node.specs.declared.session.StoreBack.{StoreBack}
 use Rattle.sc_node.specs.Sessions.{counted_in, phase_in, ackers, repliers}
 use Rattle.sc_world.proofs.Meetings.{none_left, none_right}
-use Rattle.sc_world.proofs.world.meets.Goals as goal
+use Rattle.sc_world.proofs.op.meets.Goals as goal
 
 pub returns-in_err-back : goal.returns-in_err-back
 returns-in_err-back c =
