@@ -1,12 +1,12 @@
 -- A list of entries has one spelling and at most one fault, and what is spelled has none.
-use Rattle.std.proofs.Common.{◌≡◌, ℕ, suc, ◌+◌, ◌<◌, ◌≤◌, ◌^◌, ◌==◌, true, false, nat_lt, List, [], ◌∷◌, ◌++◌, length, map, take, drop, Option, Some, None, refl, sym, ap, subst, ◌∙◌, arith, append_assoc, length-append, inl, inr}
+use Rattle.std.proofs.Common.{◌≡◌, ℕ, ◌+◌, ◌<◌, ◌≤◌, ◌^◌, ◌==◌, true, false, nat_lt, List, [], ◌∷◌, ◌++◌, length, map, take, drop, Option, Some, None, refl, sym, ap, subst, ◌∙◌, arith, append_assoc, length-append, inl, inr}
 use Rattle.std.proofs.lemmas.Bool.{le-ltb, ne_eqb}
 use Rattle.std.proofs.lemmas.List.{take_at, drop_at}
 use Rattle.std.specs.List.{flat_map, AllByRecursion}
 use Rattle.sc_view.specs.declared.view.Stored.{Stored}
 use Rattle.sc_msg.specs.declared.fault.MessageFault.{MessageFault}
 use Rattle.sc_msg.specs.Numbers.{number_bytes, first_number}
-use Rattle.sc_msg.specs.Entries.{Layout, ids_layout, view_layout, IsStored, stored_bytes, stored_fault, entry_bytes, list_bytes, IsEntry, IsRising, last_of, is_above, count_fault, entry_fault, first_of, IsEntryFault}
+use Rattle.sc_msg.specs.Entries.{Layout, ids_layout, view_layout, IsStored, stored_bytes, stored_fault, entry_bytes, list_bytes, IsEntry, IsRising, last_of, is_above, count_fault, entry_fault, first_of}
 use Rattle.sc_msg.specs.Fields.{IsListFault}
 use Rattle.sc_msg.proofs.Numbers.{length-number_bytes, first_number-number_bytes}
 use Rattle.sc_msg.proofs.Lists.{id_sound, behind_id}

@@ -1,7 +1,6 @@
 -- Fields one behind another, and what is first wrong in them.
-use Rattle.std.proofs.Common.{◌≡◌, ℕ, ◌<◌, true, nat_lt, List, [], ◌∷◌, ◌++◌, map, length, Some, refl, sym, ap, subst, ◌∙◌, append_assoc, arith}
+use Rattle.std.proofs.Common.{◌≡◌, ℕ, ◌<◌, true, nat_lt, List, [], ◌∷◌, ◌++◌, map, length, refl, sym, ap, ◌∙◌, append_assoc}
 use Rattle.std.proofs.lemmas.Bool.{lt-ltb}
-use Rattle.std.specs.List.{flat_map, AllByRecursion}
 use Rattle.sc_msg.specs.declared.fault.MessageFault.{MessageFault}
 use Rattle.sc_msg.specs.declared.fault.MessageFault.TheVariants.{Short}
 use Rattle.sc_msg.specs.Fields.{Slot, number_slot, ids_slot, ids, facts_slots, facts_fields, Field, slot_of, field_bytes, fields_bytes, IsField, IsFieldFault, IsFieldsFault, OrMemory}

@@ -1,5 +1,5 @@
 -- Entries read one after another, and what is first wrong behind them.
-use Rattle.std.proofs.Common.{◌≡◌, ℕ, zero, suc, ◌+◌, ◌<◌, ◌≤◌, ◌^◌, Bool, true, false, cond, List, [], ◌∷◌, ◌++◌, length, map, drop, nat_lt, Option, Some, None, refl, sym, ap, subst, ◌∙◌, arith, append_assoc, length-append, inl, inr}
+use Rattle.std.proofs.Common.{◌≡◌, ℕ, ◌+◌, ◌<◌, ◌≤◌, ◌^◌, true, false, List, [], ◌∷◌, ◌++◌, length, map, drop, nat_lt, Option, Some, None, refl, sym, ap, subst, ◌∙◌, arith, append_assoc, length-append, inr}
 use Rattle.std.proofs.lemmas.List.{append-nil, drop_at, map-id, nil_from_length}
 use Rattle.std.proofs.lemmas.List.Concat.{flat_map-append}
 use Rattle.std.specs.List.{flat_map, AllByRecursion}
@@ -19,7 +19,7 @@ use Rattle.sc_view.specs.declared.view.ViewFault.TheVariants as views
 use Rattle.sc_msg.specs.Fault.{view_fault}
 use Rattle.sc_msg.proofs.Numbers.{length-number_bytes, first_number-number_bytes}
 use Rattle.sc_msg.proofs.Rising.{rising_made, len_made, entries-put}
-use Rattle.sc_msg.specs.Entries.{first_of, id_fault, view_bytes, AreIds, IsStored, ids_bytes, ids_layout, stored_bytes, view_layout, Layout, entry_bytes, list_bytes, IsEntry, IsRising, last_of, is_above, entry_fault, IsEntryFault, count_fault}
+use Rattle.sc_msg.specs.Entries.{first_of, id_fault, view_bytes, AreIds, IsStored, ids_bytes, ids_layout, stored_bytes, view_layout, Layout, entry_bytes, list_bytes, IsEntry, IsRising, last_of, is_above, entry_fault}
 use Rattle.sc_msg.specs.Fields.{IsListFault, OrMemory}
 
 pub or_memory : (P : MessageFault → Type 0) (e : MessageFault) → P e → OrMemory P e

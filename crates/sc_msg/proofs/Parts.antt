@@ -1,5 +1,5 @@
 -- What is first wrong behind a number that was read.
-use Rattle.std.proofs.Common.{◌≡◌, ℕ, ◌+◌, ◌<◌, ◌≤◌, Bool, true, false, cond, List, ◌++◌, length, Option, Some, None, refl, sym, ap, ◌∙◌, arith, length-append, eqb, nat_lt}
+use Rattle.std.proofs.Common.{◌≡◌, ℕ, ◌<◌, ◌≤◌, true, false, List, ◌++◌, length, Some, refl, ap, ◌∙◌, arith, length-append, eqb, nat_lt}
 use Rattle.std.proofs.lemmas.Bool.{lt-ltb, le-ltb, ne_eqb}
 use Rattle.sc_msg.specs.declared.fault.MessageFault.TheVariants.{Short}
 use Rattle.sc_msg.specs.Numbers.{number_bytes, first_number}

@@ -1,18 +1,17 @@
 -- A field has one spelling and at most one fault, what is spelled has none; and so have fields one behind another.
-use Rattle.std.proofs.Common.{◌≡◌, ℕ, suc, ◌+◌, ◌<◌, ◌≤◌, ◌^◌, Bool, true, false, cond, nat_lt, List, [], ◌∷◌, ◌++◌, length, map, Option, Some, None, is_some, refl, sym, ap, subst, ◌∙◌, arith, append_assoc, length-append}
+use Rattle.std.proofs.Common.{◌≡◌, ℕ, suc, Bool, true, false, cond, nat_lt, List, [], ◌∷◌, ◌++◌, length, map, Option, Some, None, is_some, refl, sym, ap, subst, ◌∙◌, arith, append_assoc, length-append}
 use Rattle.std.proofs.lemmas.Bool.{le-ltb}
 use Rattle.std.proofs.lemmas.List.{map-id}
-use Rattle.std.specs.List.{flat_map, AllByRecursion, list_any}
+use Rattle.std.specs.List.{AllByRecursion, list_any}
 use Rattle.std.specs.Ordering.{nat_cmp, eq_by_cmp}
 use Rattle.std.specs.FinMap as fin
 use Rattle.std.specs.FinSet as set
 use Rattle.sc_members.specs.Ids.{Ids, as_map, rising}
 use Rattle.sc_members.proofs.Sets.{get-as_map, set_of}
-use Rattle.sc_view.specs.Views.{ViewMap}
 use Rattle.sc_msg.specs.declared.fault.MessageFault.{MessageFault}
-use Rattle.sc_msg.specs.Entries.{ids_layout, view_layout, AreIds, AreRecords, IsEntry, IsRising, list_bytes}
+use Rattle.sc_msg.specs.Entries.{ids_layout, view_layout, IsRising}
 use Rattle.sc_msg.specs.Numbers.{number_bytes}
-use Rattle.sc_msg.specs.Fields.{Slot, number_slot, flag_slot, ids_slot, view_slot, Field, number, flag, ids, view, slot_of, field_bytes, fields_bytes, IsField, IsFieldFault, IsFieldsFault, number_fault}
+use Rattle.sc_msg.specs.Fields.{Slot, number_slot, flag_slot, ids_slot, view_slot, Field, number, flag, ids, view, slot_of, field_bytes, fields_bytes, IsField, IsFieldFault, IsFieldsFault}
 use Rattle.sc_msg.proofs.Numbers.{length-number_bytes}
 use Rattle.sc_msg.proofs.Rising.{rising_rising, entries_rising, len_made}
 use Rattle.sc_msg.proofs.Entries.{some_is, number_front, list_front, no_list_fault, one_list_fault, ids_law, view_law}

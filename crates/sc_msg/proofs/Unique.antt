@@ -1,5 +1,5 @@
 -- A message has one spelling, other bytes at most one fault, and a message none.
-use Rattle.std.proofs.Common.{◌≡◌, ℕ, suc, ◌+◌, ◌*◌, ◌<◌, ◌≤◌, ◌^◌, Bool, true, false, nat_lt, List, [], ◌∷◌, ◌++◌, length, map, Option, Some, None, is_some, Result, Ok, Err, MatchResult, IfOk, IfErr, refl, sym, ap, subst, ◌∙◌, arith, append_assoc, length-append, inl, inr}
+use Rattle.std.proofs.Common.{◌≡◌, ℕ, ◌+◌, ◌*◌, ◌<◌, ◌≤◌, ◌^◌, Bool, false, nat_lt, List, [], ◌∷◌, ◌++◌, length, map, Some, None, Result, Ok, Err, MatchResult, IfOk, IfErr, refl, sym, ap, subst, ◌∙◌, arith, append_assoc, length-append, inl, inr}
 use Rattle.std.proofs.lemmas.Bool.{le-ltb}
 use Rattle.std.proofs.lemmas.List.{append-nil}
 use Rattle.std.specs.List.{flat_map, AllByRecursion}
@@ -16,10 +16,10 @@ use Rattle.sc_msg.specs.declared.fault.MessageFault.{MessageFault}
 use Rattle.sc_msg.specs.declared.fault.MessageFault.TheVariants.{BadHead, Short, TooLong, BadKind, Unsorted, Extra, BadField, OutOfMemory}
 use Rattle.sc_msg.specs.Kinds.{code, kind_of, kind_at}
 use Rattle.sc_msg.specs.Numbers.{number_bytes}
-use Rattle.sc_msg.specs.Entries.{entry_bytes, ids_layout, view_layout, ids_bytes, view_bytes, AreIds, AreRecords, IsEntry, IsStored, stored_bytes}
+use Rattle.sc_msg.specs.Entries.{entry_bytes, ids_layout, view_layout, ids_bytes, view_bytes, AreIds, AreRecords, IsEntry, stored_bytes}
 use Rattle.sc_msg.specs.Fields.{Field, number, flag, ids, view, Slot, slots, slot_of, field_bytes, fields, fields_bytes, IsField, IsFieldsFault, OrMemory}
 use Rattle.sc_msg.specs.Messages.{head_bytes, message_bytes, IsMessage}
-use Rattle.sc_msg.specs.Fault.{most_bytes, head_fault, IsBodyFault, IsExtra, IsFirstFault, IsFault}
+use Rattle.sc_msg.specs.Fault.{most_bytes, head_fault, IsBodyFault, IsFirstFault, IsFault}
 use Rattle.sc_msg.proofs.Numbers.{length-number_bytes}
 use Rattle.sc_msg.proofs.Codes.{kind_at-code}
 use Rattle.sc_msg.proofs.Entries.{some_is, number_front}

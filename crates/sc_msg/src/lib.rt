@@ -9,3 +9,5 @@ pub mod kind;
 pub mod laws;
 pub mod message;
 mod reader;
+#[cfg(test)]
+mod tests;

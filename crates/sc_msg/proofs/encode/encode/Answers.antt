@@ -1,4 +1,4 @@
-use Rattle.std.proofs.Common.{ℕ, [], ◌∷◌, ap, arith, length, length-append}
+use Rattle.std.proofs.Common.{[], ◌∷◌, ap, arith, length, length-append}
 use Rattle.sc_msg.specs.Numbers.{number_bytes}
 use Rattle.sc_msg.specs.Fields.{fields, fields_bytes}
 use Rattle.sc_msg.proofs.Numbers.{length-number_bytes}

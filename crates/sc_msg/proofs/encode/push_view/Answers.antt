@@ -1,4 +1,4 @@
-use Rattle.std.proofs.Common.{ℕ, ◌≤◌, List, [], ◌++◌, ◌∷◌, sym, ap, subst, ◌∙◌, append_assoc}
+use Rattle.std.proofs.Common.{ℕ, ◌≤◌, List, ◌++◌, ap, subst, ◌∙◌, append_assoc}
 use Rattle.std.specs.FinMap as fin
 use Rattle.sc_view.specs.declared.view.Stored.{Stored}
 use Rattle.sc_msg.specs.Numbers.{number_bytes}

@@ -1,6 +1,6 @@
-use Rattle.std.proofs.Common.{[], ◌∷◌, ◌++◌, rules}
-use Rattle.sc_msg.specs.Fields.{number, flag, number_slot, flag_slot, ids_slot, view_slot, facts_slots}
-use Rattle.sc_msg.proofs.Fields.{here_or, later_or, longer_or, number_cut, facts_later}
+use Rattle.std.proofs.Common.{[], ◌∷◌, rules}
+use Rattle.sc_msg.specs.Fields.{number, number_slot, view_slot}
+use Rattle.sc_msg.proofs.Fields.{here_or, later_or, number_cut}
 use Rattle.sc_msg.proofs.reader.Reader.collect_reply.Goals as goal
 
 pub returns-in_err-to-clause-fault : goal.returns-in_err-to-clause-fault

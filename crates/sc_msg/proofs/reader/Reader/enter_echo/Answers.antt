@@ -1,5 +1,5 @@
 use Rattle.std.proofs.Common.{[], ◌∷◌, ◌++◌, rules}
-use Rattle.sc_msg.specs.Fields.{IsFieldFault, number, flag, number_slot, flag_slot, ids_slot, view_slot, facts_slots}
+use Rattle.sc_msg.specs.Fields.{IsFieldFault, number, flag, number_slot, flag_slot, view_slot, facts_slots}
 use Rattle.sc_msg.proofs.Lists.{or_memory}
 use Rattle.sc_msg.proofs.Fields.{here_or, later_or, longer_or, number_cut, facts_later}
 use Rattle.sc_msg.proofs.reader.Reader.enter_echo.Goals as goal
