@@ -8,16 +8,27 @@ use crate::message::{Body, Message};
 /// What a message is about, without what it carries.
 #[derive(Clone, Copy, Debug, PartialEq, Eq)]
 pub enum Kind {
+    /// 1: a node enters.
     Enter,
+    /// 2: what the sender knows, for a node that enters.
     EnterEcho,
+    /// 3: a node has joined.
     Join,
+    /// 4: the sender heard that a node has joined.
     JoinEcho,
+    /// 5: a node leaves.
     Leave,
+    /// 6: the sender heard that a node leaves.
     LeaveEcho,
+    /// 7: a view is stored, or stored back.
     Store,
+    /// 8: the sender has learned what is stored.
     StoreAck,
+    /// 9: what the sender knows after a store.
     StoreEcho,
+    /// 10: views are asked for.
     CollectQuery,
+    /// 11: the sender's view, for who asked.
     CollectReply,
 }
 

@@ -60,7 +60,9 @@ pub enum Body {
 /// A message, which is sent to all.
 #[derive(Drop)]
 pub struct Message {
+    /// The id of the sender.
     pub from: u64,
+    /// What it says.
     pub body: Body,
 }
 
