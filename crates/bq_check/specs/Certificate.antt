@@ -1,0 +1,16 @@
+-- What a certificate holds.
+use Rattle.std.specs.Prelude.{ℕ, List, Option}
+use Rattle.bq_insn.specs.declared.insn.Insn.{Insn}
+use Rattle.bq_flow.specs.Paths.{IsLongest}
+use Rattle.bq_state.specs.declared.kind.Kind.{Kind}
+use Rattle.bq_sound.specs.Passes.{Passes}
+
+-- a text, its notes, and the greatest number of instructions on a path
+pub record Certificate : Type 0 where
+  pub text : List Insn
+  pub notes : List (Option (List Kind))
+  pub longest : ℕ
+
+pub record IsCertified (c : Certificate) : Type 0 where
+  pub passes : Passes c.text c.notes
+  pub longest : IsLongest c.text c.longest

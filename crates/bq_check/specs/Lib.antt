@@ -1,0 +1,4 @@
+-- Which fault comes first, what a certificate holds, and how notes are spelt.
+pub mod Faults
+pub mod Certificate
+pub mod Spelling

@@ -1,0 +1,3 @@
+-- Which notes pass for a text, and what is then promised of it.
+pub mod Passes
+pub mod Safe

@@ -1,0 +1,25 @@
+-- What a certificate promises of a text.
+use Rattle.std.specs.Prelude.{◌≡◌, ℕ, ◌^◌, ◌<◌, ◌≤◌, List, length, All}
+use Rattle.bq_insn.specs.declared.insn.Insn.{Insn}
+use Rattle.bq_meaning.specs.Place.{Place, IsPlacement}
+use Rattle.bq_meaning.specs.Runs.{RecordRun}
+
+-- so many bytes
+pub record AreBytes (n : ℕ) (bytes : List ℕ) : Type 0 where
+  pub count : length bytes ≡ n
+  pub each : All (λ b. b < 256) bytes
+
+-- One outcome of the record run from an accumulator, a record and a frame: the run gives it at every placement, with no
+-- fault, within the longest path.
+pub record RunsAlike (text : List Insn) (longest acc : ℕ) (bytes frame : List ℕ) : Type 0 where
+  pub steps : ℕ
+  pub answer : ℕ
+  pub after : List ℕ
+  pub within : steps ≤ longest
+  pub word : answer < 2 ^ 64
+  pub whole : AreBytes 512 after
+  pub run : (p : Place) → IsPlacement p → RecordRun p text acc bytes frame steps answer after
+
+-- from every accumulator, record and frame
+pub record IsSafe (text : List Insn) (longest : ℕ) : Type 0 where
+  pub runs : (acc : ℕ) (bytes frame : List ℕ) → acc < 2 ^ 64 → AreBytes 64 bytes → AreBytes 512 frame → RunsAlike text longest acc bytes frame

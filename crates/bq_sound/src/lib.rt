@@ -1,0 +1,2 @@
+//! Why notes that pass make a text safe to run.
+#![tactic(auto)]

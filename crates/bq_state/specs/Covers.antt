@@ -1,0 +1,32 @@
+-- What a state says of a machine under a placement.
+use Rattle.std.specs.Prelude.{◌≡◌, ℕ, ◌+◌, ℤ, ⊤, List, Option, Some}
+use Rattle.bq_meaning.specs.Place.{Place}
+use Rattle.bq_meaning.specs.Meaning.{held, moved}
+use Rattle.bq_range.specs.Interval.{Interval, IsIn}
+use Rattle.bq_state.specs.Offsets.{Span, IsOffset}
+use Rattle.bq_state.specs.Kinds.{kind_of}
+use Rattle.bq_state.specs.declared.kind.Kind.{Kind}
+use Rattle.bq_state.specs.declared.kind.Kind.TheVariants.{Unset, Number, FramePointer, RecordPointer}
+
+-- a word of the range
+pub record IsNumber (a : Interval) (register : Option ℕ) : Type 0 where
+  pub word : ℕ
+  pub held : register ≡ Some word
+  pub within : IsIn word a
+
+-- a region's start plus one of the offsets, modulo 2^64
+pub record IsPointer (start : ℕ) (s : Span) (register : Option ℕ) : Type 0 where
+  pub offset : ℤ
+  pub held : register ≡ Some (moved start offset)
+  pub within : IsOffset offset s
+
+-- what a kind says of a register
+abbrev pub KindHolds : Place → Kind → Option ℕ → Type 0
+KindHolds p Unset register = ⊤
+KindHolds p (Number a) register = IsNumber a register
+KindHolds p (FramePointer s) register = IsPointer p.frame s register
+KindHolds p (RecordPointer s) register = IsPointer p.record s register
+
+-- a state covers a machine's registers
+pub record StateHolds (p : Place) (state : List Kind) (registers : List (Option ℕ)) : Type 0 where
+  pub each : (r : ℕ) → KindHolds p (kind_of state r) (held registers r)

@@ -1,0 +1,39 @@
+-- What is known of a register, and of the eleven registers.
+use Rattle.std.specs.Prelude.{ℕ, pos, ⊤, List, [], ◌∷◌, slice_index_or}
+use Rattle.bq_range.specs.Interval.{Interval, Within, single, all_words, join}
+use Rattle.bq_state.specs.Offsets.{Span, SpanWithin, at_offset, join_spans}
+use Rattle.bq_state.specs.declared.kind.Kind.{Kind}
+use Rattle.bq_state.specs.declared.kind.Kind.TheVariants.{Unset, Number, FramePointer, RecordPointer}
+
+-- the kind of a register
+abbrev pub kind_of : List Kind → ℕ → Kind
+kind_of state r = slice_index_or state r Unset
+
+-- what holds of the second kind's registers holds of the first's
+abbrev pub KindCovers : Kind → Kind → Type 0
+KindCovers Unset k = ⊤
+KindCovers (Number a) (Number b) = Within b a
+KindCovers (FramePointer a) (FramePointer b) = SpanWithin b a
+KindCovers (RecordPointer a) (RecordPointer b) = SpanWithin b a
+KindCovers a b = ⊥
+
+pub record StateCovers (a b : List Kind) : Type 0 where
+  pub each : (r : ℕ) → KindCovers (kind_of a r) (kind_of b r)
+
+-- the least kind that covers both
+abbrev pub join_kinds : Kind → Kind → Kind
+join_kinds (Number a) (Number b) = Number (join a b)
+join_kinds (FramePointer a) (FramePointer b) = FramePointer (join_spans a b)
+join_kinds (RecordPointer a) (RecordPointer b) = RecordPointer (join_spans a b)
+join_kinds a b = Unset
+
+abbrev pub join_states : List Kind → List Kind → List Kind
+join_states [] ys = []
+join_states (a ∷ xs) [] = []
+join_states (a ∷ xs) (b ∷ ys) = join_kinds a b ∷ join_states xs ys
+
+-- the entry of a record run: r1 points to the record, r2 is its length, r3 any accumulator, r10 points to the frame's end
+abbrev pub entry_state : List Kind
+entry_state =
+    Unset ∷ RecordPointer (at_offset (pos 0)) ∷ Number (single 64) ∷ Number all_words ∷ Unset ∷ Unset ∷ Unset ∷ Unset ∷ Unset ∷ Unset
+    ∷ FramePointer (at_offset (pos 512)) ∷ []

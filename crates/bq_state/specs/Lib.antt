@@ -1,0 +1,6 @@
+-- What is known of a machine at a unit, and the rules of the checker.
+pub mod Offsets
+pub mod Kinds
+pub mod Rules
+pub mod Edges
+pub mod Covers

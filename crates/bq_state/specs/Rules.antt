@@ -1,0 +1,143 @@
+-- The rules at one unit, in their order, and what an instruction makes of a state.
+use Rattle.std.specs.Prelude.{ℕ, ◌*◌, ℤ, List, Option, Some, None, Result, Ok, Err, if◌then◌else◌, nat_lt, slice_set, option_map}
+use Rattle.bq_word.specs.Word.{bits_of, modulo, swap_bits}
+use Rattle.bq_word.specs.declared.Width.{Width}
+use Rattle.bq_word.specs.declared.Width.TheVariants.{W32, W64}
+use Rattle.bq_word.specs.declared.AluOp.{AluOp}
+use Rattle.bq_word.specs.declared.AluOp.TheVariants as ops
+use Rattle.bq_insn.specs.Insn.{extension_bits, extension_width}
+use Rattle.bq_insn.specs.declared.insn.Insn.{Insn}
+use Rattle.bq_insn.specs.declared.insn.Insn.TheVariants as insns
+use Rattle.bq_insn.specs.declared.insn.Operand.{Operand}
+use Rattle.bq_insn.specs.declared.insn.Operand.TheVariants as operands
+use Rattle.bq_insn.specs.declared.insn.ByteOrder.{ByteOrder}
+use Rattle.bq_insn.specs.declared.insn.ByteOrder.TheVariants as orders
+use Rattle.bq_meaning.specs.Memory.{size_bytes, signed_bytes}
+use Rattle.bq_range.specs.Interval.{Interval, single, whole, all_words}
+use Rattle.bq_range.specs.Table.{operated, negated, sign_extended, low_range, swapped_range}
+use Rattle.bq_state.specs.Offsets.{Span, moved_on, moved_back, fits}
+use Rattle.bq_state.specs.Kinds.{kind_of}
+use Rattle.bq_state.specs.declared.kind.Kind.{Kind}
+use Rattle.bq_state.specs.declared.kind.Kind.TheVariants.{Unset, Number, FramePointer, RecordPointer}
+use Rattle.bq_state.specs.declared.rule.Rule.{Rule}
+use Rattle.bq_state.specs.declared.rule.Rule.TheVariants.{UnsetRegister, WrongKind, OutsideFrame, OutsideRecord, RecordWritten, FramePointerWritten, AnswerKind}
+
+-- and then, where no rule was broken
+abbrev pub and_then : {A B : Type 0} → Result A Rule → (A → Result B Rule) → Result B Rule
+and_then (Ok a) go = go a
+and_then (Err rule) go = Err rule
+
+-- ---- the rules
+
+-- a register that is read is set
+abbrev pub known : Kind → Result Kind Rule
+known Unset = Err UnsetRegister
+known k = Ok k
+
+-- instructions write r0 to r9
+abbrev pub writable : ℕ → Result (Unit {0}) Rule
+writable dst = if nat_lt dst 10 then Ok tt else Err FramePointerWritten
+
+-- a number, or else this rule is broken
+abbrev pub number : Rule → Kind → Result Interval Rule
+number rule (Number a) = Ok a
+number rule k = Err rule
+
+abbrev pub allowed : Option Kind → Result Kind Rule
+allowed None = Err WrongKind
+allowed (Some k) = Ok k
+
+-- size bytes may be read at a distance from there
+abbrev pub readable : Kind → ℤ → ℕ → Result (Unit {0}) Rule
+readable (FramePointer s) offset size = if fits s offset size 512 then Ok tt else Err OutsideFrame
+readable (RecordPointer s) offset size = if fits s offset size 64 then Ok tt else Err OutsideRecord
+readable k offset size = Err WrongKind
+
+-- a number may be written there: the value's kind comes before the region, and the region before the bounds
+abbrev pub storable : Kind → Kind → ℤ → ℕ → Result (Unit {0}) Rule
+storable (FramePointer s) (Number v) offset size = if fits s offset size 512 then Ok tt else Err OutsideFrame
+storable (RecordPointer s) (Number v) offset size = Err RecordWritten
+storable k v offset size = Err WrongKind
+
+-- ---- kinds of results
+
+-- a pointer moves by a number, at 64 bits, by addition in either order, or by subtraction of the number
+abbrev pub sum_kind : Kind → Kind → Option Kind
+sum_kind (FramePointer s) (Number b) = option_map FramePointer (moved_on s b)
+sum_kind (RecordPointer s) (Number b) = option_map RecordPointer (moved_on s b)
+sum_kind (Number a) (FramePointer s) = option_map FramePointer (moved_on s a)
+sum_kind (Number a) (RecordPointer s) = option_map RecordPointer (moved_on s a)
+sum_kind a b = None
+
+abbrev pub difference_kind : Kind → Kind → Option Kind
+difference_kind (FramePointer s) (Number b) = option_map FramePointer (moved_back s b)
+difference_kind (RecordPointer s) (Number b) = option_map RecordPointer (moved_back s b)
+difference_kind a b = None
+
+-- what an operation makes of two kinds where one is no number
+abbrev pub pointer_kind : Width → AluOp → Kind → Kind → Option Kind
+pointer_kind W64 ops.Mov a b = Some b
+pointer_kind W64 ops.Add a b = sum_kind a b
+pointer_kind W64 ops.Sub a b = difference_kind a b
+pointer_kind w op a b = None
+
+abbrev pub alu_kind : Width → AluOp → Kind → Kind → Option Kind
+alu_kind w op (Number a) (Number b) = Some (Number (operated (bits_of w) op a b))
+alu_kind w op a b = pointer_kind w op a b
+
+abbrev pub ordered_range : ByteOrder → ℕ → Interval → Interval
+ordered_range orders.Little n a = low_range n a
+ordered_range orders.Big n a = swapped_range n a
+ordered_range orders.Swapped n a = swapped_range n a
+
+-- ---- states
+
+-- an operand's kind; a number is extended with its sign to 64 bits
+abbrev pub operand_kind : List Kind → Operand → Kind
+operand_kind state (operands.Register r) = kind_of state r
+operand_kind state (operands.Number z) = Number (single (modulo 64 z))
+
+-- what an operation reads of its destination; a move reads nothing there
+abbrev pub taken_kind : List Kind → AluOp → ℕ → Kind
+taken_kind state ops.Mov d = Number (single 0)
+taken_kind state op d = kind_of state d
+
+-- the state with a number that an instruction makes of a register's number
+abbrev pub mapped : List Kind → ℕ → ℕ → (Interval → Interval) → Result (List Kind) Rule
+mapped state d s f =
+    and_then (known (kind_of state s)) (λ k.
+    and_then (writable d) (λ _.
+    and_then (number WrongKind k) (λ a. Ok (slice_set state d (Number (f a))))))
+
+-- the state with a number that was loaded from size bytes
+abbrev pub loaded_state : List Kind → ℕ → ℕ → ℤ → ℕ → Interval → Result (List Kind) Rule
+loaded_state state d base offset size range =
+    and_then (known (kind_of state base)) (λ k.
+    and_then (writable d) (λ _.
+    and_then (readable k offset size) (λ _. Ok (slice_set state d (Number range)))))
+
+-- the state after an instruction, or the first rule that it breaks
+abbrev pub transfer : Insn → List Kind → Result (List Kind) Rule
+transfer (insns.Alu w op d x) state =
+    and_then (known (taken_kind state op d)) (λ a.
+    and_then (known (operand_kind state x)) (λ b.
+    and_then (writable d) (λ _.
+    and_then (allowed (alu_kind w op a b)) (λ k. Ok (slice_set state d k)))))
+transfer (insns.Negate w d) state = mapped state d d (negated (bits_of w))
+transfer (insns.Extend e d s) state = mapped state d s (sign_extended (extension_bits e) (bits_of (extension_width e)))
+transfer (insns.Order o bits d) state = mapped state d d (ordered_range o (swap_bits bits))
+transfer (insns.Jump offset) state = Ok state
+transfer (insns.JumpFar distance) state = Ok state
+transfer (insns.Branch w r d x offset) state =
+    and_then (known (kind_of state d)) (λ a.
+    and_then (known (operand_kind state x)) (λ b.
+    and_then (number WrongKind a) (λ _.
+    and_then (number WrongKind b) (λ _. Ok state))))
+transfer insns.Exit state = and_then (known (kind_of state 0)) (λ k. and_then (number AnswerKind k) (λ _. Ok state))
+transfer (insns.Load size d base offset) state = loaded_state state d base offset (size_bytes size) (whole (8 * size_bytes size))
+transfer (insns.LoadSigned bits d base offset) state = loaded_state state d base offset (signed_bytes bits) all_words
+transfer (insns.Store size base offset x) state =
+    and_then (known (kind_of state base)) (λ k.
+    and_then (known (operand_kind state x)) (λ v.
+    and_then (storable k v offset (size_bytes size)) (λ _. Ok state)))
+transfer (insns.Wide d v) state = and_then (writable d) (λ _. Ok (slice_set state d (Number (single v))))

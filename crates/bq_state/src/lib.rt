@@ -1,0 +1,7 @@
+//! What is known of a machine at a unit of a program.
+#![tactic(auto)]
+
+pub mod kind;
+pub mod offsets;
+pub mod rule;
+pub mod state;
