@@ -1,5 +1,5 @@
 -- What a state says of a machine under a placement.
-use Rattle.std.specs.Prelude.{◌≡◌, ℕ, ◌+◌, ℤ, ⊤, List, Option, Some}
+use Rattle.std.specs.Prelude.{◌≡◌, ℕ, ℤ, ⊤, List, Option, Some}
 use Rattle.bq_meaning.specs.Place.{Place}
 use Rattle.bq_meaning.specs.Meaning.{held, moved}
 use Rattle.bq_range.specs.Interval.{Interval, IsIn}

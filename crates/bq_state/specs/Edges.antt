@@ -12,7 +12,7 @@ use Rattle.bq_range.specs.Interval.{Interval, single}
 use Rattle.bq_range.specs.Narrow.{branched}
 use Rattle.bq_state.specs.Kinds.{kind_of}
 use Rattle.bq_state.specs.declared.kind.Kind.{Kind}
-use Rattle.bq_state.specs.declared.kind.Kind.TheVariants.{Unset, Number, FramePointer, RecordPointer}
+use Rattle.bq_state.specs.declared.kind.Kind.TheVariants.{Number}
 
 -- the state on an edge of a comparison of a register with a number
 abbrev pub with_number : List Kind → ℕ → Option (Interval × Interval) → Option (List Kind)

@@ -1,7 +1,7 @@
 -- What is known of a register, and of the eleven registers.
 use Rattle.std.specs.Prelude.{ℕ, pos, ⊤, List, [], ◌∷◌, slice_index_or}
-use Rattle.bq_range.specs.Interval.{Interval, Within, single, all_words, join}
-use Rattle.bq_state.specs.Offsets.{Span, SpanWithin, at_offset, join_spans}
+use Rattle.bq_range.specs.Interval.{Within, single, all_words, join}
+use Rattle.bq_state.specs.Offsets.{SpanWithin, at_offset, join_spans}
 use Rattle.bq_state.specs.declared.kind.Kind.{Kind}
 use Rattle.bq_state.specs.declared.kind.Kind.TheVariants.{Unset, Number, FramePointer, RecordPointer}
 

@@ -2,7 +2,7 @@
 use Rattle.std.specs.Prelude.{ℕ, ◌*◌, ℤ, List, Option, Some, None, Result, Ok, Err, if◌then◌else◌, nat_lt, slice_set, option_map}
 use Rattle.bq_word.specs.Word.{bits_of, modulo, swap_bits}
 use Rattle.bq_word.specs.declared.Width.{Width}
-use Rattle.bq_word.specs.declared.Width.TheVariants.{W32, W64}
+use Rattle.bq_word.specs.declared.Width.TheVariants.{W64}
 use Rattle.bq_word.specs.declared.AluOp.{AluOp}
 use Rattle.bq_word.specs.declared.AluOp.TheVariants as ops
 use Rattle.bq_insn.specs.Insn.{extension_bits, extension_width}
@@ -15,7 +15,7 @@ use Rattle.bq_insn.specs.declared.insn.ByteOrder.TheVariants as orders
 use Rattle.bq_meaning.specs.Memory.{size_bytes, signed_bytes}
 use Rattle.bq_range.specs.Interval.{Interval, single, whole, all_words}
 use Rattle.bq_range.specs.Table.{operated, negated, sign_extended, low_range, swapped_range}
-use Rattle.bq_state.specs.Offsets.{Span, moved_on, moved_back, fits}
+use Rattle.bq_state.specs.Offsets.{moved_on, moved_back, fits}
 use Rattle.bq_state.specs.Kinds.{kind_of}
 use Rattle.bq_state.specs.declared.kind.Kind.{Kind}
 use Rattle.bq_state.specs.declared.kind.Kind.TheVariants.{Unset, Number, FramePointer, RecordPointer}
