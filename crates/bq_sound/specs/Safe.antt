@@ -1,8 +1,9 @@
 -- What a certificate promises of a text.
-use Rattle.std.specs.Prelude.{◌≡◌, ℕ, ◌^◌, ◌<◌, ◌≤◌, List, length, All}
+use Rattle.std.specs.Prelude.{◌≡◌, ℕ, ◌*◌, ◌^◌, ◌<◌, ◌≤◌, List, length, All}
 use Rattle.bq_insn.specs.declared.insn.Insn.{Insn}
 use Rattle.bq_meaning.specs.Place.{Place, IsPlacement}
 use Rattle.bq_meaning.specs.Runs.{RecordRun}
+use Rattle.bq_meaning.specs.Answers.{IsAnswer}
 
 -- so many bytes
 pub record AreBytes (n : ℕ) (bytes : List ℕ) : Type 0 where
@@ -23,3 +24,11 @@ pub record RunsAlike (text : List Insn) (longest acc : ℕ) (bytes frame : List 
 -- from every accumulator, record and frame
 pub record IsSafe (text : List Insn) (longest : ℕ) : Type 0 where
   pub runs : (acc : ℕ) (bytes frame : List ℕ) → acc < 2 ^ 64 → AreBytes 64 bytes → AreBytes 512 frame → RunsAlike text longest acc bytes frame
+
+-- One answer over records from a start value, which is a word, within the longest path for each record.
+pub record HasAnswer (text : List Insn) (longest : ℕ) (records : List (List ℕ)) (start : ℕ) : Type 0 where
+  pub answer : ℕ
+  pub steps : ℕ
+  pub is : IsAnswer text records start answer steps
+  pub within : steps ≤ longest * length records
+  pub word : answer < 2 ^ 64

@@ -1,0 +1,125 @@
+-- An access that the bounds allow lies in one region, at every placement.
+use Rattle.std.proofs.Common.{◌≡◌, ℕ, ◌+◌, ◌-◌, ◌^◌, ◌<◌, ◌≤◌, refl, ap, ◌∙◌, inl, inr, arith, Some, true, false, Result, Ok, Err}
+use Rattle.std.specs.Prelude.{ℤ, pos, negsuc, ◌+ℤ◌, ◌≤ℤ◌, int_le}
+use Rattle.std.proofs.lemmas.Int.{ints}
+use Rattle.std.proofs.lemmas.Bool.{and_parts, cases_Bool}
+use Rattle.std.proofs.lemmas.Bool.Decides.{nat_tests}
+use Rattle.bq_meaning.specs.Place.{Place, IsPlacement}
+use Rattle.bq_meaning.specs.Memory.{is_inside, access}
+use Rattle.bq_meaning.specs.Meaning.{moved}
+use Rattle.bq_meaning.specs.declared.machine.Location.{Location}
+use Rattle.bq_meaning.specs.declared.machine.Location.TheVariants.{Frame, Record}
+use Rattle.bq_state.specs.Offsets.{Span, IsOffset, fits}
+use Rattle.bq_state.specs.declared.kind.Kind.{Kind}
+use Rattle.bq_state.specs.declared.kind.Kind.TheVariants.{Unset, Number, FramePointer, RecordPointer}
+use Rattle.bq_state.specs.declared.rule.Rule.{Rule}
+use Rattle.bq_state.specs.declared.rule.Rule.TheVariants.{OutsideFrame, OutsideRecord}
+use Rattle.bq_state.specs.Rules.{and_then, readable, storable}
+use Rattle.bq_sound.proofs.Words.{moved_on}
+use Rattle.bq_sound.proofs.Tags.{Region, InFrame, InRecord, Tagged, Num, Ptr, start, image, HoldsPointer, TagHolds}
+
+abbrev pub extent : Region → ℕ
+extent InFrame = 512
+extent InRecord = 64
+
+abbrev pub location : Region → ℕ → Location
+location InFrame at = Frame at
+location InRecord at = Record at
+
+-- so many bytes at a distance from an offset lie in the region, at a place
+pub record Inside (region : Region) (z distance : ℤ) (size : ℕ) : Type 0 where
+  pub at : ℕ
+  pub is : z +ℤ distance ≡ pos at
+  pub room : at + size ≤ extent region
+
+natural : (z : ℤ) → pos 0 ≤ℤ z → (n : ℕ) × (z ≡ pos n)
+natural (pos n) h = (n, refl)
+natural (negsuc n) h = absurd (omega (arith, ints))
+
+pub inside : (region : Region) (s : Span) (distance z : ℤ) (size : ℕ) → fits s distance size (extent region) ≡ true → IsOffset z s → Inside region z distance size
+inside region s distance z size e h =
+    let b = and_parts (int_le (pos 0) (s.lo +ℤ distance)) (int_le (s.hi +ℤ distance +ℤ pos size) (pos (extent region))) e in
+    let n = natural (z +ℤ distance) (omega (arith, ints, b.0, h.low)) in
+    record { at = n.0; is = n.1; room = omega (arith, ints, b.1, n.1, h.high) }
+
+region_fits : (p : Place) → IsPlacement p → (region : Region) → start p region + extent region < 2 ^ 64
+region_fits p place InFrame = place.frame_fits
+region_fits p place InRecord = place.record_fits
+
+address_is : (p : Place) → IsPlacement p → (region : Region) (z distance : ℤ) (size : ℕ) (h : Inside region z distance size) → moved (moved (start p region) z) distance ≡ start p region + h.at
+address_is p place region z distance size h = moved_on (start p region) z distance ∙ ap (moved (start p region)) h.is ∙ below (start p region) h.at (omega (arith, region_fits p place region, h.room))
+  where
+    below : (a n : ℕ) → a + n < 2 ^ 64 → moved a (pos n) ≡ a + n
+    below a n h = omega arith
+
+before : (p : Place) (at size : ℕ) → 1 ≤ size → p.frame + 512 ≤ p.record → is_inside p.frame 512 (p.record + at) size ≡ false
+before p at size some h = grind (arith, nat_tests)
+
+behind : (p : Place) (at size : ℕ) → 1 ≤ size → at + size ≤ 64 → p.record + 64 ≤ p.frame → is_inside p.frame 512 (p.record + at) size ≡ false
+behind p at size some room h = grind (arith, nat_tests)
+
+within : (start len at size : ℕ) → at + size ≤ len → is_inside start len (start + at) size ≡ true
+within start len at size h = grind (arith, nat_tests)
+
+-- an access goes to the same place of the same region
+pub accesses : (p : Place) → IsPlacement p → (region : Region) (z distance : ℤ) (size : ℕ) → 1 ≤ size → (h : Inside region z distance size)
+    → access p (moved (image p (Ptr region z)) distance) size ≡ Some (location region h.at)
+accesses p place InFrame z distance size some h =
+    let e = address_is p place InFrame z distance size h in
+    let t = within p.frame 512 h.at size h.room in
+    let same : p.frame + h.at - p.frame ≡ h.at = omega arith in
+    rw (e, t, same) refl
+accesses p place InRecord z distance size some h =
+    let e = address_is p place InRecord z distance size h in
+    let f : is_inside p.frame 512 (p.record + h.at) size ≡ false = elim place.apart [ inl a ↦ before p h.at size some a | inr b ↦ behind p h.at size some h.room b ] in
+    let t = within p.record 64 h.at size h.room in
+    let same : p.record + h.at - p.record ≡ h.at = omega arith in
+    rw (e, f, t, same) refl
+
+-- ---- the rules on accesses
+
+-- a pointer whose access is allowed
+pub record Reads (v : Tagged) (distance : ℤ) (size : ℕ) : Type 0 where
+  pub region : Region
+  pub z : ℤ
+  pub is : v ≡ Ptr region z
+  pub inside : Inside region z distance size
+
+reads_within : (region : Region) (s : Span) (distance : ℤ) (size : ℕ) (v : Tagged) → HoldsPointer region s (Some v) → fits s distance size (extent region) ≡ true → Reads v distance size
+reads_within region s distance size v h e = record { region = region; z = h.offset; is = cc; inside = inside region s distance h.offset size e h.within }
+
+pub allows : {B : Type 0} (k : Kind) (distance : ℤ) (size : ℕ) (go : Unit {0} → Result B Rule) (after : B) (v : Tagged) → TagHolds k (Some v) → and_then (readable k distance size) go ≡ Ok after
+    → Reads v distance size × (go tt ≡ Ok after)
+allows Unset distance size go after v h e = cc
+allows (Number a) distance size go after v h e = cc
+allows (FramePointer s) distance size go after v h e =
+    elim (cases_Bool (fits s distance size 512)) [ inl t ↦ (reads_within InFrame s distance size v h t, rw t at e) | inr f ↦ let no : Err OutsideFrame ≡ Ok after = rw f at e in cc ]
+allows (RecordPointer s) distance size go after v h e =
+    elim (cases_Bool (fits s distance size 64)) [ inl t ↦ (reads_within InRecord s distance size v h t, rw t at e) | inr f ↦ let no : Err OutsideRecord ≡ Ok after = rw f at e in cc ]
+
+-- a pointer into the frame and a number that may be written there
+pub record Writes (u v : Tagged) (distance : ℤ) (size : ℕ) : Type 0 where
+  pub z : ℤ
+  pub is : u ≡ Ptr InFrame z
+  pub inside : Inside InFrame z distance size
+  pub word : ℕ
+  pub number : v ≡ Num word
+
+same_word : (v : Tagged) (w : ℕ) → Some v ≡ Some (Num w) → v ≡ Num w
+same_word v w e = cc
+
+same_pointer : (v : Tagged) (z : ℤ) → Some v ≡ Some (Ptr InFrame z) → v ≡ Ptr InFrame z
+same_pointer v z e = cc
+
+pub stores : {B : Type 0} (k l : Kind) (distance : ℤ) (size : ℕ) (go : Unit {0} → Result B Rule) (after : B) (u v : Tagged) → TagHolds k (Some u) → TagHolds l (Some v)
+    → and_then (storable k l distance size) go ≡ Ok after → Writes u v distance size × (go tt ≡ Ok after)
+stores (FramePointer s) (Number a) distance size go after u v h i e =
+    elim (cases_Bool (fits s distance size 512)) [
+      | inl t ↦ (record { z = h.offset; is = same_pointer u h.offset h.is; inside = inside InFrame s distance h.offset size t h.within; word = i.word; number = same_word v i.word i.is }, rw t at e)
+      | inr f ↦ let no : Err OutsideFrame ≡ Ok after = rw f at e in cc
+    ]
+stores (RecordPointer s) Unset distance size go after u v h i e = cc
+stores (RecordPointer s) (Number a) distance size go after u v h i e = cc
+stores (RecordPointer s) (FramePointer t) distance size go after u v h i e = cc
+stores (RecordPointer s) (RecordPointer t) distance size go after u v h i e = cc
+stores k l distance size go after u v h i e = cc

@@ -1,0 +1,168 @@
+-- Jumps: the state on the edge that is gone holds.
+use Rattle.std.proofs.Common.{◌≡◌, ℕ, ◌+◌, ◌^◌, ◌≤◌, refl, sym, ap, ◌∙◌, subst, inl, inr, arith, List, [], ◌∷◌, ◌++◌, Option, Some, None, Bool, true, false, cond, Ok}
+use Rattle.std.specs.Prelude.{ℤ, pos, slice_set}
+use Rattle.std.specs.Option.{IsSomeAnd}
+use Rattle.std.proofs.lemmas.Bool.{cases_eq, cases_Bool, eq-eqb, ne_eqb}
+use Rattle.std.proofs.Math.Nat.{mod-mod}
+use Rattle.bq_word.specs.Word.{bits_of, low, modulo}
+use Rattle.bq_word.specs.Relations.{relates}
+use Rattle.bq_word.specs.declared.Width.{Width}
+use Rattle.bq_word.specs.declared.Relation.{Relation}
+use Rattle.bq_word.proofs.Low.{relates_low}
+use Rattle.bq_insn.specs.Slots.{units}
+use Rattle.bq_insn.specs.declared.insn.Insn.{Insn}
+use Rattle.bq_insn.specs.declared.insn.Insn.TheVariants as insns
+use Rattle.bq_insn.specs.declared.insn.Operand.{Operand}
+use Rattle.bq_insn.specs.declared.insn.Operand.TheVariants as operands
+use Rattle.bq_flow.specs.Paths.{insn_at, Among, IsLegalFlow}
+use Rattle.bq_flow.specs.Successors.{successors, destination}
+use Rattle.bq_flow.proofs.Units.{insn_within}
+use Rattle.bq_flow.proofs.Words.{in_words}
+use Rattle.bq_meaning.specs.Place.{Place}
+use Rattle.bq_meaning.specs.Meaning.{Continues, target, at_unit, perform}
+use Rattle.bq_range.specs.Interval.{Interval, IsIn, single}
+use Rattle.bq_range.specs.Narrow.{branched}
+use Rattle.bq_range.proofs.Covers.{branched_covers}
+use Rattle.bq_state.specs.declared.kind.Kind.{Kind}
+use Rattle.bq_state.specs.declared.kind.Kind.TheVariants.{Number}
+use Rattle.bq_state.specs.declared.rule.Rule.TheVariants.{WrongKind}
+use Rattle.bq_state.specs.Kinds.{kind_of}
+use Rattle.bq_state.specs.Rules.{and_then, known, number, operand_kind}
+use Rattle.bq_state.specs.Edges.{with_number, with_numbers, refined_by_number, refined_by_register, refined, along}
+use Rattle.bq_sound.specs.Passes.{NoteCovers, AllCovered, IsFine}
+use Rattle.bq_sound.proofs.Tags.{Tagged, Num, tag_at, HoldsNumber, TagHolds, TagsHold, narrowed_holds}
+use Rattle.bq_sound.proofs.Rules.{same_state, read, numbered}
+use Rattle.bq_sound.proofs.Machine.{Common, machine, GoesOn, Stands, goes_on}
+use Rattle.bq_sound.proofs.Operands.{operand_tag, held_is, value_is, operand_holds}
+
+-- ---- where a jump leads
+
+-- a legal jump leads to the unit that its destination names
+pub lands : (text : List Insn) (unit : ℕ) (i : Insn) (distance : ℤ) → units text ≤ 4096 → IsLegalFlow text → insn_at text unit ≡ Some i → Among (destination unit distance) (successors unit i)
+    → pos (target unit distance) ≡ destination unit distance
+lands text unit i distance few legal there among =
+    let f = legal.each unit i (destination unit distance) there among in
+    let here = insn_within text unit i there in
+    let next = insn_within text f.next f.insn f.begins in
+    ap pos (in_words unit f.next distance (omega (arith, here, few)) (omega (arith, next, few)) f.is) ∙ sym f.is
+
+pub jumps : (text : List Insn) (notes : List (Option (List Kind))) (m : Common) (i : Insn) (unit : ℕ) (state after : List Kind) → Stands text m i state → TagsHold after m.tags
+    → NoteCovers notes (unit, after) → Among (pos unit) (successors m.unit i) → ((p : Place) → perform p i (machine p m) ≡ Continues (at_unit (machine p m) unit)) → GoesOn text notes m
+jumps text notes m i unit state after s holds covered among does =
+    goes_on text notes m (record { unit = unit; tags = m.tags; frame = m.frame; «record» = m.record }) i state after s
+    (record { words = s.whole.words; frame = s.whole.frame; «record» = s.whole.record }) holds covered among (λ p place. does p)
+
+pub does_jump : (text : List Insn) (notes : List (Option (List Kind))) (m : Common) (distance : ℤ) (state : List Kind) → units text ≤ 4096 → IsLegalFlow text
+    → Stands text m (insns.Jump distance) state → IsFine notes m.unit (insns.Jump distance) state → GoesOn text notes m
+does_jump text notes m distance state few legal s fine =
+    jumps text notes m (insns.Jump distance) (target m.unit distance) state fine.after s (subst (λ q. TagsHold q m.tags) (same_state state fine.after fine.rules) s.holds) fine.covered.0
+    (inl (lands text m.unit (insns.Jump distance) distance few legal s.there (inl refl))) (λ p. refl)
+
+pub does_jump_far : (text : List Insn) (notes : List (Option (List Kind))) (m : Common) (distance : ℤ) (state : List Kind) → units text ≤ 4096 → IsLegalFlow text
+    → Stands text m (insns.JumpFar distance) state → IsFine notes m.unit (insns.JumpFar distance) state → GoesOn text notes m
+does_jump_far text notes m distance state few legal s fine =
+    jumps text notes m (insns.JumpFar distance) (target m.unit distance) state fine.after s (subst (λ q. TagsHold q m.tags) (same_state state fine.after fine.rules) s.holds) fine.covered.0
+    (inl (lands text m.unit (insns.JumpFar distance) distance few legal s.there (inl refl))) (λ p. refl)
+
+-- ---- what an edge of a branch says
+
+-- the state on an edge, which holds of the registers
+record Leads (o : Option (List Kind)) (tags : List (Option Tagged)) : Type 0 where
+  state : List Kind
+  is : o ≡ Some state
+  holds : TagsHold state tags
+
+in_range : (a : Interval) (t : Option Tagged) (w : ℕ) → t ≡ Some (Num w) → IsIn w a → HoldsNumber a t
+in_range a t w e h = record { word = w; is = e; within = h }
+
+with_number_leads : (state : List Kind) (tags : List (Option Tagged)) (d x y : ℕ) (o : Option (Interval × Interval)) → TagsHold state tags → tag_at tags d ≡ Some (Num x)
+    → IsSomeAnd o (λ p. IsIn x p.0 × IsIn y p.1) → Leads (with_number state d o) tags
+with_number_leads state tags d x y None h e b = absurd b
+with_number_leads state tags d x y (Some p) h e b = record {
+  state = slice_set state d (Number p.0);
+  is = refl;
+  holds = narrowed_holds state tags d (Number p.0) h (in_range p.0 (tag_at tags d) x e b.0);
+}
+
+with_numbers_leads : (state : List Kind) (tags : List (Option Tagged)) (d s x y : ℕ) (o : Option (Interval × Interval)) → TagsHold state tags → tag_at tags d ≡ Some (Num x) → tag_at tags s ≡ Some (Num y)
+    → IsSomeAnd o (λ p. IsIn x p.0 × IsIn y p.1) → Leads (with_numbers state d s o) tags
+with_numbers_leads state tags d s x y None h e f b = absurd b
+with_numbers_leads state tags d s x y (Some p) h e f b = record {
+  state = slice_set (slice_set state d (Number p.0)) s (Number p.1);
+  is = refl;
+  holds = narrowed_holds (slice_set state d (Number p.0)) tags s (Number p.1) (narrowed_holds state tags d (Number p.0) h (in_range p.0 (tag_at tags d) x e b.0)) (in_range p.1 (tag_at tags s) y f b.1);
+}
+
+-- the low bits of the second operand alone matter
+relates_second : (w : ℕ) (r : Relation) (x y : ℕ) → relates w r x (low w y) ≡ relates w r x y
+relates_second w r x y =
+    let twice : low w (low w y) ≡ low w y = mod-mod y (2 ^ w) in
+    sym (relates_low w r x (low w y)) ∙ ap (relates w r (low w x)) twice ∙ relates_low w r x y
+
+itself : (n : ℕ) → IsIn n (single n)
+itself n = record { low = omega arith; high = omega arith }
+
+same_number : (x y : ℕ) (t : Option Tagged) → t ≡ Some (Num x) → t ≡ Some (Num y) → x ≡ y
+same_number x y t e f = cc
+
+refined_leads : (state : List Kind) (tags : List (Option Tagged)) (w : Width) (r : Relation) (taken : Bool) (d : ℕ) (operand : Operand) (a b : Interval) (x y : ℕ) → TagsHold state tags
+    → kind_of state d ≡ Number a → operand_kind state operand ≡ Number b → tag_at tags d ≡ Some (Num x) → operand_tag tags operand ≡ Some (Num y) → IsIn x a → IsIn y b
+    → relates (bits_of w) r x y ≡ taken → Leads (refined state w r taken d operand) tags
+refined_leads state tags w r taken d (operands.Number z) a b x y h ka kb ex ey ix iy e =
+    let n = modulo 64 z in
+    let same : n ≡ y = same_number n y (Some (Num n)) refl ey in
+    let related : relates (bits_of w) r x (low (bits_of w) n) ≡ taken = relates_second (bits_of w) r x n ∙ ap (relates (bits_of w) r x) same ∙ e in
+    let b' = single (low (bits_of w) n) in
+    let covers = branched_covers w r taken a b' x (low (bits_of w) n) ix (itself (low (bits_of w) n)) related in
+    let l = with_number_leads state tags d x (low (bits_of w) n) (branched (bits_of w) r taken a b') h ex covers in
+    subst (λ k. Leads (refined_by_number state w r taken d n k) tags) (sym ka) l
+refined_leads state tags w r taken d (operands.Register s) a b x y h ka kb ex ey ix iy e =
+    elim (cases_eq d s) [
+      | inl same ↦ rw (eq-eqb d s same) (record { state = state; is = refl; holds = h })
+      | inr ne ↦
+          let covers = branched_covers w r taken a b x y ix iy e in
+          let l = with_numbers_leads state tags d s x y (branched (bits_of w) r taken a b) h ex ey covers in
+          let l' : Leads (refined_by_register state w r taken d s (Number a) (kind_of state s)) tags = subst (λ k. Leads (refined_by_register state w r taken d s (Number a) k) tags) (sym kb) l in
+          rw (ne_eqb d s ne) (subst (λ k. Leads (refined_by_register state w r taken d s k (kind_of state s)) tags) (sym ka) l')
+    ]
+
+-- ---- branches
+
+covered_append : (notes : List (Option (List Kind))) (xs ys : List (ℕ × List Kind)) → AllCovered notes (xs ++ ys) → AllCovered notes xs × AllCovered notes ys
+covered_append notes [] ys h = (tt, h)
+covered_append notes (x ∷ xs) ys h = let r = covered_append notes xs ys h.1 in ((h.0, r.0), r.1)
+
+along_covers : (notes : List (Option (List Kind))) (unit : ℕ) (o : Option (List Kind)) (state : List Kind) → o ≡ Some state → AllCovered notes (along unit o) → NoteCovers notes (unit, state)
+along_covers notes unit o state e h = let g : AllCovered notes (along unit (Some state)) = subst (λ q. AllCovered notes (along unit q)) e h in g.0
+
+branch_performs : (p : Place) (m : Common) (w : Width) (r : Relation) (d : ℕ) (operand : Operand) (distance : ℤ) (x y : ℕ) (taken : Bool) → tag_at m.tags d ≡ Some (Num x) → operand_tag m.tags operand ≡ Some (Num y)
+    → relates (bits_of w) r x y ≡ taken → perform p (insns.Branch w r d operand distance) (machine p m) ≡ Continues (at_unit (machine p m) (cond taken (target m.unit distance) (m.unit + 1)))
+branch_performs p m w r d operand distance x y taken ex ey e = rw (held_is p m.tags d (Num x) ex, value_is p m.tags operand (Num y) ey, e) refl
+
+pub does_branch : (text : List Insn) (notes : List (Option (List Kind))) (m : Common) (w : Width) (r : Relation) (d : ℕ) (operand : Operand) (distance : ℤ) (state : List Kind) → units text ≤ 4096 → IsLegalFlow text
+    → Stands text m (insns.Branch w r d operand distance) state → IsFine notes m.unit (insns.Branch w r d operand distance) state → GoesOn text notes m
+does_branch text notes m w r d operand distance state few legal s fine =
+    let i = insns.Branch w r d operand distance in
+    let k = kind_of state d in
+    let l = operand_kind state operand in
+    let hv = operand_holds state m.tags operand s.holds in
+    let ru = read k (tag_at m.tags d) (λ k'. and_then (known l) (λ l'. and_then (number WrongKind k') (λ _. and_then (number WrongKind l') (λ _. Ok state)))) fine.after (s.holds.each d) fine.rules in
+    let rv = read l (operand_tag m.tags operand) (λ l'. and_then (number WrongKind k) (λ _. and_then (number WrongKind l') (λ _. Ok state))) fine.after hv ru.2 in
+    let na = numbered WrongKind k (λ _. and_then (number WrongKind l) (λ _. Ok state)) fine.after rv.2 in
+    let nb = numbered WrongKind l (λ _. Ok state) fine.after na.2 in
+    let is : state ≡ fine.after = same_state state fine.after nb.2 in
+    let hx : HoldsNumber na.0 (tag_at m.tags d) = subst (λ q. TagHolds q (tag_at m.tags d)) na.1 (s.holds.each d) in
+    let hy : HoldsNumber nb.0 (operand_tag m.tags operand) = subst (λ q. TagHolds q (operand_tag m.tags operand)) nb.1 hv in
+    let stay = along (m.unit + 1) (refined state w r false d operand) in
+    let go = along (target m.unit distance) (refined state w r true d operand) in
+    let both = covered_append notes stay go (subst (λ q. AllCovered notes (along (m.unit + 1) (refined q w r false d operand) ++ along (target m.unit distance) (refined q w r true d operand))) (sym is) fine.covered) in
+    elim (cases_Bool (relates (bits_of w) r hx.word hy.word)) [
+      | inl e ↦
+          let to = refined_leads state m.tags w r true d operand na.0 nb.0 hx.word hy.word s.holds na.1 nb.1 hx.is hy.is hx.within hy.within e in
+          jumps text notes m i (target m.unit distance) state to.state s to.holds (along_covers notes (target m.unit distance) (refined state w r true d operand) to.state to.is both.1)
+          (inr (inl (lands text m.unit i distance few legal s.there (inr (inl refl))))) (λ p. branch_performs p m w r d operand distance hx.word hy.word true hx.is hy.is e)
+      | inr e ↦
+          let to = refined_leads state m.tags w r false d operand na.0 nb.0 hx.word hy.word s.holds na.1 nb.1 hx.is hy.is hx.within hy.within e in
+          jumps text notes m i (m.unit + 1) state to.state s to.holds (along_covers notes (m.unit + 1) (refined state w r false d operand) to.state to.is both.0)
+          (inl refl) (λ p. branch_performs p m w r d operand distance hx.word hy.word false hx.is hy.is e)
+    ]

@@ -1,0 +1,15 @@
+pub mod Words
+pub mod Tags
+pub mod Rules
+pub mod Moves
+pub mod Made
+pub mod Machine
+pub mod Operands
+pub mod Registers
+pub mod Bytes
+pub mod Access
+pub mod Memory
+pub mod Branches
+pub mod Progress
+pub mod Runs
+pub mod Folds

@@ -1,0 +1,102 @@
+-- A machine for all placements, and what a step of it comes to.
+use Rattle.std.proofs.Common.{◌≡◌, ℕ, ◌^◌, ◌<◌, sym, ap, ◌∙◌, subst, inl, inr, arith, List, length, Option, Some}
+use Rattle.std.specs.Prelude.{pos, slice_set}
+use Rattle.std.proofs.lemmas.Bool.{cases_eq}
+use Rattle.std.proofs.lemmas.List.{length-set}
+use Rattle.bq_insn.specs.declared.insn.Insn.{Insn}
+use Rattle.bq_insn.specs.declared.insn.Insn.TheVariants.{Exit}
+use Rattle.bq_flow.specs.Paths.{insn_at, Among}
+use Rattle.bq_flow.specs.Successors.{successors}
+use Rattle.bq_meaning.specs.Place.{Place, IsPlacement}
+use Rattle.bq_meaning.specs.Meaning.{Continues, Ends, at_unit, with_register, perform, step}
+use Rattle.bq_meaning.specs.declared.machine.Machine.{Machine}
+use Rattle.bq_state.specs.declared.kind.Kind.{Kind}
+use Rattle.bq_sound.specs.Passes.{note_at, NoteCovers}
+use Rattle.bq_sound.specs.Safe.{AreBytes}
+use Rattle.bq_sound.proofs.Tags.{Tagged, image, images, images_set, IsWord, tag_at, tag_set_same, tag_set_other, TagHolds, TagsHold, covered_tags, written_holds}
+
+pub record Common : Type 0 where
+  pub unit : ℕ
+  pub tags : List (Option Tagged)
+  pub frame : List ℕ
+  pub «record» : List ℕ
+
+abbrev pub machine : Place → Common → Machine
+machine p m = record { unit = m.unit; registers = images p m.tags; frame = m.frame; «record» = m.record }
+
+pub record AreWords (tags : List (Option Tagged)) : Type 0 where
+  pub count : length tags ≡ 11
+  pub each : (r : ℕ) (v : Tagged) → tag_at tags r ≡ Some v → IsWord v
+
+pub record IsWhole (m : Common) : Type 0 where
+  pub words : AreWords m.tags
+  pub frame : AreBytes 512 m.frame
+  pub «record» : AreBytes 64 m.record
+
+-- one step, the same at every placement
+pub record GoesOn (text : List Insn) (notes : List (Option (List Kind))) (m : Common) : Type 0 where
+  pub next : Common
+  pub insn : Insn
+  pub there : insn_at text m.unit ≡ Some insn
+  pub along : Among (pos next.unit) (successors m.unit insn)
+  pub whole : IsWhole next
+  pub steps : (p : Place) → IsPlacement p → step p text (machine p m) ≡ Continues (machine p next)
+  pub note : List Kind
+  pub noted : note_at notes next.unit ≡ Some note
+  pub holds : TagsHold note next.tags
+
+pub record Stops (text : List Insn) (m : Common) : Type 0 where
+  pub answer : ℕ
+  pub word : answer < 2 ^ 64
+  pub there : insn_at text m.unit ≡ Some Exit
+  pub steps : (p : Place) → IsPlacement p → step p text (machine p m) ≡ Ends answer
+
+-- what is known at an instruction: where it stands, and that the state at its unit holds of the machine
+pub record Stands (text : List Insn) (m : Common) (i : Insn) (state : List Kind) : Type 0 where
+  pub there : insn_at text m.unit ≡ Some i
+  pub whole : IsWhole m
+  pub holds : TagsHold state m.tags
+
+-- a machine that goes on to another
+pub goes_on : (text : List Insn) (notes : List (Option (List Kind))) (m next : Common) (i : Insn) (state after : List Kind) → Stands text m i state → IsWhole next → TagsHold after next.tags
+    → NoteCovers notes (next.unit, after) → Among (pos next.unit) (successors m.unit i) → ((p : Place) → IsPlacement p → perform p i (machine p m) ≡ Continues (machine p next))
+    → GoesOn text notes m
+goes_on text notes m next i state after s whole holds covered among does = record {
+  next = next;
+  insn = i;
+  there = s.there;
+  along = among;
+  whole = whole;
+  steps = λ p place. rw s.there (does p place);
+  note = covered.note;
+  noted = covered.there;
+  holds = covered_tags covered.note after next.tags covered.covers holds;
+}
+
+-- ---- an instruction that writes a register
+
+abbrev pub put : Common → ℕ → ℕ → Tagged → Common
+put m unit d v = record { unit = unit; tags = slice_set m.tags d (Some v); frame = m.frame; «record» = m.record }
+
+put_words : (tags : List (Option Tagged)) (d : ℕ) (v : Tagged) → AreWords tags → d < 10 → IsWord v → AreWords (slice_set tags d (Some v))
+put_words tags d v h low small = record {
+  count = length-set tags d (Some v) ∙ h.count;
+  each = λ r x e. elim (cases_eq r d) [
+    | inl same ↦
+        let here : tag_at (slice_set tags d (Some v)) d ≡ Some v = tag_set_same tags d v (omega (arith, h.count)) in
+        let there : tag_at (slice_set tags d (Some v)) d ≡ Some x = subst (λ q. tag_at (slice_set tags d (Some v)) q ≡ Some x) same e in
+        let is : v ≡ x = cc in subst IsWord is small
+    | inr ne ↦ h.each r x (sym (tag_set_other tags d r v ne) ∙ e)
+  ];
+}
+
+pub puts : (text : List Insn) (notes : List (Option (List Kind))) (m : Common) (i : Insn) (unit d : ℕ) (state after : List Kind) (k : Kind) (v : Tagged) → Stands text m i state → d < 10
+    → TagHolds k (Some v) → IsWord v → slice_set state d k ≡ after → NoteCovers notes (unit, after) → Among (pos unit) (successors m.unit i)
+    → ((p : Place) → IsPlacement p → perform p i (machine p m) ≡ Continues (at_unit (with_register (machine p m) d (image p v)) unit))
+    → GoesOn text notes m
+puts text notes m i unit d state after k v s low here small is covered among does =
+    goes_on text notes m (put m unit d v) i state after s
+    (record { words = put_words m.tags d v s.whole.words low small; frame = s.whole.frame; «record» = s.whole.record })
+    (subst (λ q. TagsHold q (slice_set m.tags d (Some v))) is (written_holds state m.tags d k v s.holds (omega (arith, s.whole.words.count)) here))
+    covered among
+    (λ p place. does p place ∙ ap (λ (rs : List (Option ℕ)). Continues (record { unit = unit; registers = rs; frame = m.frame; «record» = m.record })) (images_set p m.tags d v))

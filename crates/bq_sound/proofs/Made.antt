@@ -1,0 +1,136 @@
+-- What an operation makes of two values, at every placement.
+use Rattle.std.proofs.Common.{◌≡◌, ℕ, ◌^◌, ◌<◌, refl, ap, ◌∙◌, subst, arith, Option, Some, None}
+use Rattle.std.specs.Prelude.{ℤ, option_map}
+use Rattle.bq_word.specs.Word.{low, operation, bits_of}
+use Rattle.bq_word.specs.declared.Width.{Width}
+use Rattle.bq_word.specs.declared.Width.TheVariants.{W64}
+use Rattle.bq_word.specs.declared.AluOp.{AluOp}
+use Rattle.bq_word.specs.declared.AluOp.TheVariants.{Add, Sub, Mov}
+use Rattle.bq_word.proofs.Bounds.{operation_bound}
+use Rattle.bq_meaning.specs.Place.{Place}
+use Rattle.bq_meaning.specs.Meaning.{moved}
+use Rattle.bq_range.specs.Interval.{Interval, IsIn}
+use Rattle.bq_range.specs.Table.{operated}
+use Rattle.bq_range.proofs.Held.{words}
+use Rattle.bq_range.proofs.Covers.{operated_covers}
+use Rattle.bq_state.specs.Offsets.{Span, moved_on, moved_back}
+use Rattle.bq_state.specs.declared.kind.Kind.{Kind}
+use Rattle.bq_state.specs.declared.kind.Kind.TheVariants.{Number, FramePointer, RecordPointer}
+use Rattle.bq_state.specs.Rules.{sum_kind, difference_kind, pointer_kind, alu_kind}
+use Rattle.bq_sound.proofs.Moves.{Moved, on, back}
+use Rattle.bq_sound.proofs.Tags.{Region, InFrame, InRecord, Tagged, Num, Ptr, start, image, IsWord, image_small, HoldsNumber, HoldsPointer, holds_word, TagHolds}
+
+-- a value of a kind that is so much at each placement
+pub record Made (k : Kind) (f : Place → ℕ) : Type 0 where
+  pub value : Tagged
+  pub holds : TagHolds k (Some value)
+  pub word : IsWord value
+  pub is : (p : Place) → f p ≡ image p value
+
+-- a number of a range
+pub made_number : (a : Interval) (f : Place → ℕ) (n : ℕ) → IsIn n a → n < 2 ^ 64 → ((p : Place) → f p ≡ n) → Made (Number a) f
+made_number a f n h small is = record { value = Num n; holds = holds_word a n h; word = small; is = is }
+
+same_word : (u : Tagged) (w : ℕ) → Some u ≡ Some (Num w) → u ≡ Num w
+same_word u w e = cc
+
+same_pointer : (u : Tagged) (region : Region) (z : ℤ) → Some u ≡ Some (Ptr region z) → u ≡ Ptr region z
+same_pointer u region z e = cc
+
+some_of : {A B : Type 0} (f : A → B) (o : Option A) (b : B) → option_map f o ≡ Some b → (a : A) × (o ≡ Some a) × (f a ≡ b)
+some_of f None b e = cc
+some_of f (Some a) b e = (a, refl, cc)
+
+pub operation_word : (w : Width) (op : AluOp) (x y : ℕ) → operation (bits_of w) op x y < 2 ^ 64
+operation_word w op x y = let b = operation_bound (bits_of w) op x y in let c = words w in omega (arith, b, c)
+
+numbers_made : (w : Width) (op : AluOp) (a b : Interval) (u v : Tagged) → HoldsNumber a (Some u) → HoldsNumber b (Some v)
+    → Made (Number (operated (bits_of w) op a b)) (λ p. operation (bits_of w) op (image p u) (image p v))
+numbers_made w op a b u v hu hv =
+    let eu = same_word u hu.word hu.is in
+    let ev = same_word v hv.word hv.is in
+    made_number _ (λ p. operation (bits_of w) op (image p u) (image p v)) (operation (bits_of w) op hu.word hv.word)
+    (operated_covers w op a b hu.word hv.word hu.within hv.within) (operation_word w op hu.word hv.word)
+    (λ p. ap (λ (x : ℕ). operation (bits_of w) op x (image p v)) (ap (image p) eu) ∙ ap (operation (bits_of w) op hu.word) (ap (image p) ev))
+
+-- a pointer and a number, as an operation that moves the pointer takes them
+moved_made : (region : Region) (kind : Span → Kind) (t : Span) (f g : Place → ℕ) → ((o : Option Tagged) → HoldsPointer region t o → TagHolds (kind t) o) → ((p : Place) → g p ≡ f p) → Moved region t f → Made (kind t) g
+moved_made region kind t f g holds same m = record {
+  value = Ptr region m.z;
+  holds = holds (Some (Ptr region m.z)) (record { offset = m.z; is = refl; within = m.within });
+  word = tt;
+  is = λ p. same p ∙ m.is p;
+}
+
+made_like : (k l : Kind) (f : Place → ℕ) → k ≡ l → Made k f → Made l f
+made_like k l f e m = subst (λ q. Made q f) e m
+
+held_word : (v : Tagged) (w : ℕ) → v ≡ Num w → IsWord v → w < 2 ^ 64
+held_word v w e h = subst IsWord e h
+
+made_on : (region : Region) (kind : Span → Kind) (s t : Span) (a : Interval) (u v : Tagged) → ((o : Option Tagged) → HoldsPointer region t o → TagHolds (kind t) o)
+    → HoldsPointer region s (Some u) → HoldsNumber a (Some v) → IsWord v → moved_on s a ≡ Some t → Made (kind t) (λ p. operation 64 Add (image p u) (image p v))
+made_on region kind s t a u v holds hu hv small e =
+    let eu = same_pointer u region hu.offset hu.is in
+    let ev = same_word v hv.word hv.is in
+    moved_made region kind t (λ p. operation 64 Add (moved (start p region) hu.offset) hv.word) (λ p. operation 64 Add (image p u) (image p v)) holds
+    (λ p. ap (λ (x : ℕ). operation 64 Add x (image p v)) (ap (image p) eu) ∙ ap (operation 64 Add (image p (Ptr region hu.offset))) (ap (image p) ev))
+    (on region s t a hu.offset hv.word hu.within hv.within (held_word v hv.word ev small) e)
+
+made_back : (region : Region) (kind : Span → Kind) (s t : Span) (a : Interval) (u v : Tagged) → ((o : Option Tagged) → HoldsPointer region t o → TagHolds (kind t) o)
+    → HoldsPointer region s (Some u) → HoldsNumber a (Some v) → IsWord v → moved_back s a ≡ Some t → Made (kind t) (λ p. operation 64 Sub (image p u) (image p v))
+made_back region kind s t a u v holds hu hv small e =
+    let eu = same_pointer u region hu.offset hu.is in
+    let ev = same_word v hv.word hv.is in
+    moved_made region kind t (λ p. operation 64 Sub (moved (start p region) hu.offset) hv.word) (λ p. operation 64 Sub (image p u) (image p v)) holds
+    (λ p. ap (λ (x : ℕ). operation 64 Sub x (image p v)) (ap (image p) eu) ∙ ap (operation 64 Sub (image p (Ptr region hu.offset))) (ap (image p) ev))
+    (back region s t a hu.offset hv.word hu.within hv.within (held_word v hv.word ev small) e)
+
+turned : (k : Kind) (u v : Tagged) → Made k (λ p. operation 64 Add (image p v) (image p u)) → Made k (λ p. operation 64 Add (image p u) (image p v))
+turned k u v m = record { value = m.value; holds = m.holds; word = m.word; is = λ p. swap (image p u) (image p v) ∙ m.is p }
+  where
+    swap : (x y : ℕ) → operation 64 Add x y ≡ operation 64 Add y x
+    swap x y = omega arith
+
+sums_made : (a b k : Kind) (u v : Tagged) → sum_kind a b ≡ Some k → TagHolds a (Some u) → TagHolds b (Some v) → IsWord u → IsWord v → Made k (λ p. operation 64 Add (image p u) (image p v))
+sums_made (FramePointer s) (Number b) k u v e hu hv su sv =
+    let t = some_of FramePointer (moved_on s b) k e in
+    made_like (FramePointer t.0) k _ t.2 (made_on InFrame FramePointer s t.0 b u v (λ o h. h) hu hv sv t.1)
+sums_made (RecordPointer s) (Number b) k u v e hu hv su sv =
+    let t = some_of RecordPointer (moved_on s b) k e in
+    made_like (RecordPointer t.0) k _ t.2 (made_on InRecord RecordPointer s t.0 b u v (λ o h. h) hu hv sv t.1)
+sums_made (Number a) (FramePointer s) k u v e hu hv su sv =
+    let t = some_of FramePointer (moved_on s a) k e in
+    turned k u v (made_like (FramePointer t.0) k _ t.2 (made_on InFrame FramePointer s t.0 a v u (λ o h. h) hv hu su t.1))
+sums_made (Number a) (RecordPointer s) k u v e hu hv su sv =
+    let t = some_of RecordPointer (moved_on s a) k e in
+    turned k u v (made_like (RecordPointer t.0) k _ t.2 (made_on InRecord RecordPointer s t.0 a v u (λ o h. h) hv hu su t.1))
+sums_made a b k u v e hu hv su sv = cc
+
+differences_made : (a b k : Kind) (u v : Tagged) → difference_kind a b ≡ Some k → TagHolds a (Some u) → TagHolds b (Some v) → IsWord u → IsWord v → Made k (λ p. operation 64 Sub (image p u) (image p v))
+differences_made (FramePointer s) (Number b) k u v e hu hv su sv =
+    let t = some_of FramePointer (moved_back s b) k e in
+    made_like (FramePointer t.0) k _ t.2 (made_back InFrame FramePointer s t.0 b u v (λ o h. h) hu hv sv t.1)
+differences_made (RecordPointer s) (Number b) k u v e hu hv su sv =
+    let t = some_of RecordPointer (moved_back s b) k e in
+    made_like (RecordPointer t.0) k _ t.2 (made_back InRecord RecordPointer s t.0 b u v (λ o h. h) hu hv sv t.1)
+differences_made a b k u v e hu hv su sv = cc
+
+same_kind : (k l : Kind) → Some k ≡ Some l → k ≡ l
+same_kind k l e = cc
+
+pointers_made : (w : Width) (op : AluOp) (a b k : Kind) (u v : Tagged) → pointer_kind w op a b ≡ Some k → TagHolds a (Some u) → TagHolds b (Some v) → IsWord u → IsWord v
+    → Made k (λ p. operation (bits_of w) op (image p u) (image p v))
+pointers_made W64 Mov a b k u v e hu hv su sv =
+    record { value = v; holds = subst (λ q. TagHolds q (Some v)) (same_kind b k e) hv; word = sv; is = λ p. whole_word (image p v) (image_small p v sv) }
+  where
+    whole_word : (x : ℕ) → x < 2 ^ 64 → low 64 x ≡ x
+    whole_word x h = omega arith
+pointers_made W64 Add a b k u v e hu hv su sv = sums_made a b k u v e hu hv su sv
+pointers_made W64 Sub a b k u v e hu hv su sv = differences_made a b k u v e hu hv su sv
+pointers_made w op a b k u v e hu hv su sv = cc
+
+pub alu_made : (w : Width) (op : AluOp) (a b k : Kind) (u v : Tagged) → alu_kind w op a b ≡ Some k → TagHolds a (Some u) → TagHolds b (Some v) → IsWord u → IsWord v
+    → Made k (λ p. operation (bits_of w) op (image p u) (image p v))
+alu_made w op (Number a) (Number b) k u v e hu hv su sv = made_like _ k _ (same_kind (Number (operated (bits_of w) op a b)) k e) (numbers_made w op a b u v hu hv)
+alu_made w op a b k u v e hu hv su sv = pointers_made w op a b k u v e hu hv su sv

@@ -1,0 +1,59 @@
+-- The operands of an instruction, at every placement.
+use Rattle.std.proofs.Common.{◌≡◌, ℕ, ◌^◌, ◌<◌, ap, ◌∙◌, subst, arith, List, Option, Some}
+use Rattle.std.specs.Prelude.{option_map}
+use Rattle.bq_word.specs.Word.{modulo}
+use Rattle.bq_word.specs.declared.AluOp.{AluOp}
+use Rattle.bq_word.specs.declared.AluOp.TheVariants as ops
+use Rattle.bq_word.proofs.Bounds.{modulo_bound}
+use Rattle.bq_insn.specs.declared.insn.Operand.{Operand}
+use Rattle.bq_insn.specs.declared.insn.Operand.TheVariants as operands
+use Rattle.bq_meaning.specs.Place.{Place}
+use Rattle.bq_meaning.specs.Meaning.{held, value, taken}
+use Rattle.bq_range.specs.Interval.{single}
+use Rattle.bq_state.specs.declared.kind.Kind.{Kind}
+use Rattle.bq_state.specs.Rules.{operand_kind, taken_kind}
+use Rattle.bq_sound.proofs.Tags.{Tagged, Num, image, images, held_image, IsWord, tag_at, HoldsNumber, holds_word, TagHolds, TagsHold}
+use Rattle.bq_sound.proofs.Machine.{AreWords}
+
+abbrev pub operand_tag : List (Option Tagged) → Operand → Option Tagged
+operand_tag tags (operands.Register r) = tag_at tags r
+operand_tag tags (operands.Number z) = Some (Num (modulo 64 z))
+
+abbrev pub taken_tag : List (Option Tagged) → AluOp → ℕ → Option Tagged
+taken_tag tags ops.Mov d = Some (Num 0)
+taken_tag tags op d = tag_at tags d
+
+-- what is read of a register, at a placement
+pub held_is : (p : Place) (tags : List (Option Tagged)) (r : ℕ) (v : Tagged) → tag_at tags r ≡ Some v → held (images p tags) r ≡ Some (image p v)
+held_is p tags r v e = held_image p tags r ∙ ap (option_map (image p)) e
+
+pub value_is : (p : Place) (tags : List (Option Tagged)) (x : Operand) (v : Tagged) → operand_tag tags x ≡ Some v → value (images p tags) x ≡ Some (image p v)
+value_is p tags (operands.Register r) v e = held_is p tags r v e
+value_is p tags (operands.Number z) v e = ap (option_map (image p)) e
+
+pub taken_is : (p : Place) (tags : List (Option Tagged)) (op : AluOp) (d : ℕ) (v : Tagged) → taken_tag tags op d ≡ Some v → taken (images p tags) op d ≡ Some (image p v)
+taken_is p tags ops.Mov d v e = ap (option_map (image p)) e
+taken_is p tags op d v e = held_is p tags d v e
+
+-- what is known of it
+number_of : (n : ℕ) → HoldsNumber (single n) (Some (Num n))
+number_of n = holds_word (single n) n (record { low = omega arith; high = omega arith })
+
+pub operand_holds : (state : List Kind) (tags : List (Option Tagged)) (x : Operand) → TagsHold state tags → TagHolds (operand_kind state x) (operand_tag tags x)
+operand_holds state tags (operands.Register r) h = h.each r
+operand_holds state tags (operands.Number z) h = number_of (modulo 64 z)
+
+pub taken_holds : (state : List Kind) (tags : List (Option Tagged)) (op : AluOp) (d : ℕ) → TagsHold state tags → TagHolds (taken_kind state op d) (taken_tag tags op d)
+taken_holds state tags ops.Mov d h = number_of 0
+taken_holds state tags op d h = h.each d
+
+word_of : (n : ℕ) (v : Tagged) → n < 2 ^ 64 → Some (Num n) ≡ Some v → IsWord v
+word_of n v h e = let is : Num n ≡ v = cc in subst IsWord is h
+
+pub operand_word : (tags : List (Option Tagged)) (x : Operand) (v : Tagged) → AreWords tags → operand_tag tags x ≡ Some v → IsWord v
+operand_word tags (operands.Register r) v h e = h.each r v e
+operand_word tags (operands.Number z) v h e = word_of (modulo 64 z) v (modulo_bound 64 z) e
+
+pub taken_word : (tags : List (Option Tagged)) (op : AluOp) (d : ℕ) (v : Tagged) → AreWords tags → taken_tag tags op d ≡ Some v → IsWord v
+taken_word tags ops.Mov d v h e = word_of 0 v (omega arith) e
+taken_word tags op d v h e = h.each d v e

@@ -1,0 +1,58 @@
+-- A machine that stands at an instruction that breaks no rule goes on or ends.
+use Rattle.std.proofs.Common.{◌≡◌, ℕ, subst, inl, inr, List, [], ◌∷◌, ◌++◌, Option, Some, None}
+use Rattle.std.specs.Prelude.{◌⊎◌, ⊤, All}
+use Rattle.std.specs.List.{AllByRecursion}
+use Rattle.std.proofs.lemmas.Bool.{cases_lt}
+use Rattle.std.proofs.lemmas.List.{get_or_past}
+use Rattle.std.proofs.lemmas.List.Concat.{flat_map-cons}
+use Rattle.std.proofs.lemmas.List.Elements.{All-append, All-nil, All-same, All-get_or, All-from_recursion}
+use Rattle.bq_insn.specs.Insn.{IsInsn}
+use Rattle.bq_insn.specs.Slots.{slots_of, slots, units, IsText}
+use Rattle.bq_insn.specs.declared.insn.Insn.{Insn}
+use Rattle.bq_insn.specs.declared.insn.Insn.TheVariants as insns
+use Rattle.bq_flow.specs.Paths.{insn_at, IsLegalFlow}
+use Rattle.bq_state.specs.declared.kind.Kind.{Kind}
+use Rattle.bq_sound.specs.Passes.{IsFine}
+use Rattle.bq_sound.proofs.Machine.{Common, GoesOn, Stops, Stands}
+use Rattle.bq_sound.proofs.Registers.{does_alu, does_negate, does_extend, does_order, does_wide, does_exit}
+use Rattle.bq_sound.proofs.Memory.{does_load, does_load_signed, does_store}
+use Rattle.bq_sound.proofs.Branches.{does_jump, does_jump_far, does_branch}
+
+-- ---- the instructions of a text
+
+abbrev InSlot : Option Insn → Type 0
+InSlot None = ⊤
+InSlot (Some i) = IsInsn i
+
+in_slots_of : (i : Insn) → IsInsn i → AllByRecursion InSlot (slots_of i)
+in_slots_of (insns.Wide d v) h = (h, (tt, tt))
+in_slots_of i h = (h, tt)
+
+in_slots : (t : List Insn) → AllByRecursion IsInsn t → All InSlot (slots t)
+in_slots [] h = All-nil InSlot
+in_slots (i ∷ t) h =
+    All-same InSlot (slots (i ∷ t)) (slots_of i ++ slots t) (flat_map-cons slots_of i t)
+    (All-append InSlot (slots_of i) (slots t) (All-from_recursion InSlot (slots_of i) (in_slots_of i h.0)) (in_slots t h.1))
+
+pub is_insn : (t : List Insn) (unit : ℕ) (i : Insn) → IsText t → insn_at t unit ≡ Some i → IsInsn i
+is_insn t unit i h e = elim (cases_lt unit (units t)) [
+  | inl l ↦ subst InSlot e (All-get_or InSlot (slots t) unit None l (in_slots t h.insns))
+  | inr g ↦ let none : insn_at t unit ≡ None = get_or_past (slots t) unit None g in cc
+]
+
+-- ---- every instruction
+
+pub progress : (text : List Insn) (notes : List (Option (List Kind))) (m : Common) (i : Insn) (state : List Kind) → IsText text → IsLegalFlow text → Stands text m i state → IsFine notes m.unit i state
+    → GoesOn text notes m ⊎ Stops text m
+progress text notes m (insns.Alu w op d x) state t legal s fine = inl (does_alu text notes m w op d x state s fine)
+progress text notes m (insns.Negate w d) state t legal s fine = inl (does_negate text notes m w d state s fine)
+progress text notes m (insns.Extend e d r) state t legal s fine = inl (does_extend text notes m e d r state s fine)
+progress text notes m (insns.Order o bits d) state t legal s fine = inl (does_order text notes m o bits d state s fine)
+progress text notes m (insns.Jump distance) state t legal s fine = inl (does_jump text notes m distance state t.few legal s fine)
+progress text notes m (insns.JumpFar distance) state t legal s fine = inl (does_jump_far text notes m distance state t.few legal s fine)
+progress text notes m (insns.Branch w r d x distance) state t legal s fine = inl (does_branch text notes m w r d x distance state t.few legal s fine)
+progress text notes m insns.Exit state t legal s fine = inr (does_exit text notes m state s fine)
+progress text notes m (insns.Load size d base distance) state t legal s fine = inl (does_load text notes m size d base distance state s fine)
+progress text notes m (insns.LoadSigned bits d base distance) state t legal s fine = inl (does_load_signed text notes m bits d base distance state s fine)
+progress text notes m (insns.Store size base distance x) state t legal s fine = inl (does_store text notes m size base distance x state s fine)
+progress text notes m (insns.Wide d v) state t legal s fine = inl (does_wide text notes m d v state (is_insn text m.unit (insns.Wide d v) t s.there).1 s fine)

@@ -1,0 +1,154 @@
+-- Runs from the entry: one outcome, the same at every placement, on a path of the text.
+use Rattle.std.proofs.Common.{◌≡◌, ℕ, zero, suc, ◌+◌, ◌^◌, ◌<◌, ◌≤◌, refl, subst, inl, inr, arith, List, [], ◌∷◌, length, Option, Some, None}
+use Rattle.std.specs.Prelude.{pos, ⊤}
+use Rattle.std.proofs.lemmas.Int.{ints}
+use Rattle.std.proofs.lemmas.Bool.{cases_lt}
+use Rattle.std.proofs.lemmas.List.{get_or_past}
+use Rattle.bq_insn.specs.Slots.{units, IsText}
+use Rattle.bq_insn.specs.declared.insn.Insn.{Insn}
+use Rattle.bq_flow.specs.Paths.{Path, IsLongest}
+use Rattle.bq_meaning.specs.Place.{Place, IsPlacement}
+use Rattle.bq_meaning.specs.Meaning.{moved}
+use Rattle.bq_meaning.specs.Runs.{entry_machine, RunsTo}
+use Rattle.bq_range.specs.Interval.{single, all_words}
+use Rattle.bq_state.specs.Offsets.{IsOffset, at_offset}
+use Rattle.bq_state.specs.declared.kind.Kind.{Kind}
+use Rattle.bq_state.specs.Kinds.{kind_of, entry_state}
+use Rattle.bq_sound.specs.Passes.{note_at, Passes}
+use Rattle.bq_sound.specs.Safe.{AreBytes, IsSafe}
+use Rattle.bq_sound.proofs.Tags.{InFrame, InRecord, Tagged, Num, Ptr, IsWord, tag_at, HoldsNumber, HoldsPointer, TagHolds, TagsHold, covered_tags}
+use Rattle.bq_sound.proofs.Machine.{Common, machine, IsWhole}
+use Rattle.bq_sound.proofs.Progress.{progress}
+
+-- ---- from a unit with a state to an exit
+
+record Ends (text : List Insn) (m : Common) : Type 0 where
+  count : ℕ
+  answer : ℕ
+  after : List ℕ
+  word : answer < 2 ^ 64
+  whole : AreBytes 512 after
+  path : Path text m.unit count
+  run : (p : Place) → IsPlacement p → RunsTo p text (machine p m) count answer after
+
+note_within : (notes : List (Option (List Kind))) (unit : ℕ) (state : List Kind) → note_at notes unit ≡ Some state → unit < length notes
+note_within notes unit state e = elim (cases_lt unit (length notes)) [ inl l ↦ l | inr g ↦ let none : note_at notes unit ≡ None = get_or_past notes unit None g in cc ]
+
+ends : (fuel : ℕ) (text : List Insn) (notes : List (Option (List Kind))) (m : Common) (state : List Kind) → IsText text → Passes text notes → IsWhole m → note_at notes m.unit ≡ Some state → TagsHold state m.tags
+    → units text ≤ m.unit + fuel → Ends text m
+ends zero text notes m state t passes whole noted holds room = absurd (omega (arith, note_within notes m.unit state noted, passes.count))
+ends (suc fuel) text notes m state t passes whole noted holds room =
+    let within : m.unit < units text = omega (arith, note_within notes m.unit state noted, passes.count) in
+    let i = passes.halves.each m.unit state within noted in
+    let fine = passes.fine.each m.unit state i.0 within noted i.1 in
+    elim (progress text notes m i.0 state t passes.flow (record { there = i.1; whole = whole; holds = holds }) fine) [
+      | inl on ↦
+          let forward = passes.flow.each m.unit on.insn (pos on.next.unit) on.there on.along in
+          let rest = ends fuel text notes on.next on.note t passes on.whole on.noted on.holds (omega (arith, ints, forward.is, forward.forward)) in
+          record {
+            count = suc rest.count;
+            answer = rest.answer;
+            after = rest.after;
+            word = rest.word;
+            whole = rest.whole;
+            path = inr (on.insn, on.next.unit, on.there, on.along, rest.path);
+            run = λ p place. inr (machine p on.next, on.steps p place, rest.run p place);
+          }
+      | inr stop ↦ record {
+        count = 1;
+        answer = stop.answer;
+        after = m.frame;
+        word = stop.word;
+        whole = whole.frame;
+        path = inl (refl, stop.there);
+        run = λ p place. inl (refl, stop.steps p place, refl);
+      }
+    ]
+
+-- ---- the entry
+
+abbrev entry_common : ℕ → List ℕ → List ℕ → Common
+entry_common acc bytes frame = record {
+  unit = 0;
+  tags = None ∷ Some (Ptr InRecord (pos 0)) ∷ Some (Num 64) ∷ Some (Num acc) ∷ None ∷ None ∷ None ∷ None ∷ None ∷ None ∷ Some (Ptr InFrame (pos 512)) ∷ [];
+  frame = frame;
+  «record» = bytes;
+}
+
+entry_is : (p : Place) → IsPlacement p → (acc : ℕ) (bytes frame : List ℕ) → machine p (entry_common acc bytes frame) ≡ entry_machine p acc bytes frame
+entry_is p place acc bytes frame =
+    let a : moved p.record (pos 0) ≡ p.record = omega (arith, place.record_fits) in
+    let b : moved p.frame (pos 512) ≡ p.frame + 512 = omega (arith, place.frame_fits) in
+    rw (a, b) refl
+
+-- kinds and registers, one by one
+AllHold : List Kind → List (Option Tagged) → Type 0
+AllHold [] [] = ⊤
+AllHold [] (t ∷ ts) = ⊥
+AllHold (k ∷ ks) [] = ⊥
+AllHold (k ∷ ks) (t ∷ ts) = TagHolds k t × AllHold ks ts
+
+all_hold : (state : List Kind) (tags : List (Option Tagged)) → AllHold state tags → (r : ℕ) → TagHolds (kind_of state r) (tag_at tags r)
+unfolding AllHold
+all_hold [] [] h r = tt
+all_hold [] (t ∷ ts) h r = absurd h
+all_hold (k ∷ ks) [] h r = absurd h
+all_hold (k ∷ ks) (t ∷ ts) h zero = h.0
+all_hold (k ∷ ks) (t ∷ ts) h (suc r) = all_hold ks ts h.1 r
+
+OptionWord : Option Tagged → Type 0
+OptionWord None = ⊤
+OptionWord (Some v) = IsWord v
+
+AllWords : List (Option Tagged) → Type 0
+AllWords [] = ⊤
+AllWords (t ∷ ts) = OptionWord t × AllWords ts
+
+word_at : (tags : List (Option Tagged)) → AllWords tags → (r : ℕ) (v : Tagged) → tag_at tags r ≡ Some v → IsWord v
+unfolding AllWords OptionWord
+word_at [] h r v e = cc
+word_at (t ∷ ts) h zero v e = subst OptionWord e h.0
+word_at (t ∷ ts) h (suc r) v e = word_at ts h.1 r v e
+
+offset_zero : IsOffset (pos 0) (at_offset (pos 0))
+offset_zero = record { low = omega (arith, ints); high = omega (arith, ints) }
+
+offset_end : IsOffset (pos 512) (at_offset (pos 512))
+offset_end = record { low = omega (arith, ints); high = omega (arith, ints) }
+
+entry_holds : (acc : ℕ) (bytes frame : List ℕ) → acc < 2 ^ 64 → TagsHold entry_state (entry_common acc bytes frame).tags
+unfolding AllHold
+entry_holds acc bytes frame h =
+    let any : HoldsNumber all_words (Some (Num acc)) = record { word = acc; is = refl; within = record { low = omega arith; high = omega arith } } in
+    let len : HoldsNumber (single 64) (Some (Num 64)) = record { word = 64; is = refl; within = record { low = omega arith; high = omega arith } } in
+    let here : HoldsPointer InRecord (at_offset (pos 0)) (Some (Ptr InRecord (pos 0))) = record { offset = pos 0; is = refl; within = offset_zero } in
+    let end : HoldsPointer InFrame (at_offset (pos 512)) (Some (Ptr InFrame (pos 512))) = record { offset = pos 512; is = refl; within = offset_end } in
+    record { each = all_hold entry_state (entry_common acc bytes frame).tags (tt, (here, (len, (any, (tt, (tt, (tt, (tt, (tt, (tt, (end, tt))))))))))) }
+
+entry_whole : (acc : ℕ) (bytes frame : List ℕ) → acc < 2 ^ 64 → AreBytes 64 bytes → AreBytes 512 frame → IsWhole (entry_common acc bytes frame)
+unfolding AllWords OptionWord
+entry_whole acc bytes frame h b f = record {
+  words = record { count = refl; each = word_at (entry_common acc bytes frame).tags (tt, (tt, (omega arith, (h, (tt, (tt, (tt, (tt, (tt, (tt, (tt, tt))))))))))) };
+  frame = f;
+  «record» = b;
+}
+
+-- ---- notes that pass make a text safe
+
+pub safe : (text : List Insn) (notes : List (Option (List Kind))) (longest : ℕ) → IsText text → Passes text notes → IsLongest text longest → IsSafe text longest
+safe text notes longest t passes most = record {
+  runs = λ acc bytes frame small b f.
+      let m = entry_common acc bytes frame in
+      let start = passes.entry in
+      let holds = covered_tags start.note entry_state m.tags start.covers (entry_holds acc bytes frame small) in
+      let r = ends (units text) text notes m start.note t passes (entry_whole acc bytes frame small b f) start.there holds (omega arith) in
+      record {
+        steps = r.count;
+        answer = r.answer;
+        after = r.after;
+        within = most.bound r.count r.path;
+        word = r.word;
+        whole = r.whole;
+        run = λ p place. subst (λ n. RunsTo p text n r.count r.answer r.after) (entry_is p place acc bytes frame) (r.run p place);
+      };
+}

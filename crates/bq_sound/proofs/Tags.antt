@@ -1,0 +1,137 @@
+-- Registers that say which region they point into: one for all placements.
+use Rattle.std.proofs.Common.{◌≡◌, ℕ, zero, suc, ◌^◌, ◌<◌, refl, sym, subst, inl, inr, arith, List, [], ◌∷◌, length, Option, Some, None}
+use Rattle.std.specs.Prelude.{ℤ, ⊤, map, option_map, slice_set, slice_index_or}
+use Rattle.std.proofs.lemmas.Int.{ints}
+use Rattle.std.proofs.lemmas.Bool.{cases_eq}
+use Rattle.std.proofs.lemmas.List.{map-set, get_or-set_same, get_or-set_other}
+use Rattle.bq_meaning.specs.Place.{Place}
+use Rattle.bq_meaning.specs.Meaning.{held, moved}
+use Rattle.bq_range.specs.Interval.{Interval, IsIn, Within}
+use Rattle.bq_state.specs.Offsets.{Span, SpanWithin, IsOffset}
+use Rattle.bq_state.specs.declared.kind.Kind.{Kind}
+use Rattle.bq_state.specs.declared.kind.Kind.TheVariants.{Unset, Number, FramePointer, RecordPointer}
+use Rattle.bq_state.specs.Kinds.{kind_of, KindCovers, StateCovers}
+use Rattle.bq_sound.proofs.Words.{moved_small}
+
+pub data Region : Type 0 where
+  InFrame : Region
+  InRecord : Region
+
+-- a word, or a region's start and an offset from it
+pub data Tagged : Type 0 where
+  Num : (word : ℕ) → Tagged
+  Ptr : (region : Region) (offset : ℤ) → Tagged
+
+abbrev pub start : Place → Region → ℕ
+start p InFrame = p.frame
+start p InRecord = p.record
+
+-- the word at a placement
+abbrev pub image : Place → Tagged → ℕ
+image p (Num w) = w
+image p (Ptr region offset) = moved (start p region) offset
+
+abbrev pub IsWord : Tagged → Type 0
+IsWord (Num w) = w < 2 ^ 64
+IsWord (Ptr region offset) = ⊤
+
+pub image_small : (p : Place) (v : Tagged) → IsWord v → image p v < 2 ^ 64
+image_small p (Num w) h = h
+image_small p (Ptr region offset) h = moved_small (start p region) offset
+
+abbrev pub tag_at : List (Option Tagged) → ℕ → Option Tagged
+tag_at tags r = slice_index_or tags r None
+
+abbrev pub images : Place → List (Option Tagged) → List (Option ℕ)
+images p tags = map (option_map (image p)) tags
+
+pub held_image : (p : Place) (tags : List (Option Tagged)) (r : ℕ) → held (images p tags) r ≡ option_map (image p) (tag_at tags r)
+held_image p [] r = refl
+held_image p (t ∷ ts) zero = refl
+held_image p (t ∷ ts) (suc r) = held_image p ts r
+
+pub images_set : (p : Place) (tags : List (Option Tagged)) (r : ℕ) (v : Tagged) → slice_set (images p tags) r (Some (image p v)) ≡ images p (slice_set tags r (Some v))
+images_set p tags r v = sym (map-set (option_map (image p)) tags r (Some v))
+
+pub tag_set_same : (tags : List (Option Tagged)) (d : ℕ) (v : Tagged) → d < length tags → tag_at (slice_set tags d (Some v)) d ≡ Some v
+tag_set_same tags d v h = get_or-set_same tags d (Some v) None h
+
+pub tag_set_other : (tags : List (Option Tagged)) (d r : ℕ) (v : Tagged) → (r ≡ d → ⊥) → tag_at (slice_set tags d (Some v)) r ≡ tag_at tags r
+tag_set_other tags d r v h = get_or-set_other tags d r (Some v) None h
+
+-- ---- what a kind says of a register
+
+pub record HoldsNumber (a : Interval) (t : Option Tagged) : Type 0 where
+  pub word : ℕ
+  pub is : t ≡ Some (Num word)
+  pub within : IsIn word a
+
+pub record HoldsPointer (region : Region) (s : Span) (t : Option Tagged) : Type 0 where
+  pub offset : ℤ
+  pub is : t ≡ Some (Ptr region offset)
+  pub within : IsOffset offset s
+
+pub holds_word : (a : Interval) (w : ℕ) → IsIn w a → HoldsNumber a (Some (Num w))
+holds_word a w h = record { word = w; is = refl; within = h }
+
+abbrev pub TagHolds : Kind → Option Tagged → Type 0
+TagHolds Unset t = ⊤
+TagHolds (Number a) t = HoldsNumber a t
+TagHolds (FramePointer s) t = HoldsPointer InFrame s t
+TagHolds (RecordPointer s) t = HoldsPointer InRecord s t
+
+pub record TagsHold (state : List Kind) (tags : List (Option Tagged)) : Type 0 where
+  pub each : (r : ℕ) → TagHolds (kind_of state r) (tag_at tags r)
+
+number_held : (a b : Interval) (t : Option Tagged) → Within b a → HoldsNumber b t → HoldsNumber a t
+number_held a b t c h = record { word = h.word; is = h.is; within = record { low = omega arith; high = omega arith } }
+
+pointer_held : (region : Region) (a b : Span) (t : Option Tagged) → SpanWithin b a → HoldsPointer region b t → HoldsPointer region a t
+pointer_held region a b t c h = record { offset = h.offset; is = h.is; within = record { low = omega (arith, ints); high = omega (arith, ints) } }
+
+covered_tag : (a b : Kind) (t : Option Tagged) → KindCovers a b → TagHolds b t → TagHolds a t
+covered_tag Unset b t c h = tt
+covered_tag (Number a) Unset t c h = absurd c
+covered_tag (Number a) (Number b) t c h = number_held a b t c h
+covered_tag (Number a) (FramePointer b) t c h = absurd c
+covered_tag (Number a) (RecordPointer b) t c h = absurd c
+covered_tag (FramePointer a) Unset t c h = absurd c
+covered_tag (FramePointer a) (Number b) t c h = absurd c
+covered_tag (FramePointer a) (FramePointer b) t c h = pointer_held InFrame a b t c h
+covered_tag (FramePointer a) (RecordPointer b) t c h = absurd c
+covered_tag (RecordPointer a) Unset t c h = absurd c
+covered_tag (RecordPointer a) (Number b) t c h = absurd c
+covered_tag (RecordPointer a) (FramePointer b) t c h = absurd c
+covered_tag (RecordPointer a) (RecordPointer b) t c h = pointer_held InRecord a b t c h
+
+pub covered_tags : (a b : List Kind) (tags : List (Option Tagged)) → StateCovers a b → TagsHold b tags → TagsHold a tags
+covered_tags a b tags c h = record { each = λ r. covered_tag (kind_of a r) (kind_of b r) (tag_at tags r) (c.each r) (h.each r) }
+
+-- ---- a register that is written, and one that more is known of
+
+kind_set_same : (state : List Kind) (d : ℕ) (k : Kind) (t : Option Tagged) → TagHolds k t → TagHolds (kind_of (slice_set state d k) d) t
+kind_set_same [] d k t h = tt
+kind_set_same (x ∷ xs) zero k t h = h
+kind_set_same (x ∷ xs) (suc d) k t h = kind_set_same xs d k t h
+
+pub kind_set_other : (state : List Kind) (d r : ℕ) (k : Kind) → (r ≡ d → ⊥) → kind_of (slice_set state d k) r ≡ kind_of state r
+kind_set_other state d r k h = get_or-set_other state d r k Unset h
+
+pub written_holds : (state : List Kind) (tags : List (Option Tagged)) (d : ℕ) (k : Kind) (v : Tagged) → TagsHold state tags → d < length tags → TagHolds k (Some v)
+    → TagsHold (slice_set state d k) (slice_set tags d (Some v))
+written_holds state tags d k v h low here = record {
+  each = λ r. elim (cases_eq r d) [
+    | inl e ↦ subst (λ q. TagHolds (kind_of (slice_set state d k) q) (tag_at (slice_set tags d (Some v)) q)) (sym e)
+        (subst (TagHolds (kind_of (slice_set state d k) d)) (sym (tag_set_same tags d v low)) (kind_set_same state d k (Some v) here))
+    | inr ne ↦ subst (λ t. TagHolds (kind_of (slice_set state d k) r) t) (sym (tag_set_other tags d r v ne))
+        (subst (λ q. TagHolds q (tag_at tags r)) (sym (kind_set_other state d r k ne)) (h.each r))
+  ];
+}
+
+pub narrowed_holds : (state : List Kind) (tags : List (Option Tagged)) (d : ℕ) (k : Kind) → TagsHold state tags → TagHolds k (tag_at tags d) → TagsHold (slice_set state d k) tags
+narrowed_holds state tags d k h here = record {
+  each = λ r. elim (cases_eq r d) [
+    | inl e ↦ subst (λ q. TagHolds (kind_of (slice_set state d k) q) (tag_at tags q)) (sym e) (kind_set_same state d k (tag_at tags d) here)
+    | inr ne ↦ subst (λ q. TagHolds q (tag_at tags r)) (sym (kind_set_other state d r k ne)) (h.each r)
+  ];
+}

@@ -1,0 +1,61 @@
+-- Numbers that move by signed numbers modulo 2^64.
+use Rattle.std.proofs.Common.{◌≡◌, ℕ, ◌+◌, ◌-◌, ◌*◌, ◌/◌, ◌^◌, ◌<◌, arith}
+use Rattle.std.specs.Prelude.{ℤ, pos, negsuc, ◌+ℤ◌, ◌-ℤ◌}
+use Rattle.std.proofs.lemmas.Int.{ints}
+use borrow.Author.Differences.{up, down}
+use Rattle.bq_word.specs.Word.{modulo}
+use Rattle.bq_meaning.specs.Meaning.{moved}
+
+-- two words that differ by multiples of 2^64 are one
+same_residue : (a b j k : ℕ) → a < 2 ^ 64 → b < 2 ^ 64 → a + j * 2 ^ 64 ≡ b + k * 2 ^ 64 → a ≡ b
+same_residue a b j k h i e = omega arith
+
+-- a signed number modulo 2^64 is that number but for multiples of 2^64
+record Residue (z : ℤ) : Type 0 where
+  less : ℕ
+  more : ℕ
+  is : modulo 64 z + less * 2 ^ 64 + down z ≡ up z + more * 2 ^ 64
+  small : modulo 64 z < 2 ^ 64
+
+residue : (z : ℤ) → Residue z
+residue (pos n) = record { less = n / 2 ^ 64; more = 0; is = omega arith; small = omega arith }
+residue (negsuc n) = record { less = 0; more = n / 2 ^ 64 + 1; is = omega arith; small = omega arith }
+
+pub moved_small : (a : ℕ) (z : ℤ) → moved a z < 2 ^ 64
+moved_small a z = omega arith
+
+-- two moves are one
+pub moved_on : (a : ℕ) (x y : ℤ) → moved (moved a x) y ≡ moved a (x +ℤ y)
+moved_on a x y =
+    let rx = residue x in
+    let ry = residue y in
+    let rs = residue (x +ℤ y) in
+    let mx : ℕ = modulo 64 x in
+    let my : ℕ = modulo 64 y in
+    let ms : ℕ = modulo 64 (x +ℤ y) in
+    let q : ℕ = (a + mx) / 2 ^ 64 in
+    let q' : ℕ = (moved a x + my) / 2 ^ 64 in
+    let q'' : ℕ = (a + ms) / 2 ^ 64 in
+    let e : moved (moved a x) y + (q + q' + rx.less + ry.less + rs.more) * 2 ^ 64 ≡ moved a (x +ℤ y) + (q'' + rx.more + ry.more + rs.less) * 2 ^ 64 = omega (arith, ints, rx.is, ry.is, rs.is) in
+    same_residue _ _ (q + q' + rx.less + ry.less + rs.more) (q'' + rx.more + ry.more + rs.less) (moved_small (moved a x) y) (moved_small a (x +ℤ y)) e
+
+-- a number below it is a move back
+pub moved_back : (a w : ℕ) (x y : ℤ) → modulo 64 y ≡ w → modulo 64 (pos (moved a x) -ℤ pos w) ≡ moved a (x -ℤ y)
+moved_back a w x y f =
+    let rx = residue x in
+    let ry = residue y in
+    let rs = residue (x -ℤ y) in
+    let rd = residue (pos (moved a x) -ℤ pos w) in
+    let mx : ℕ = modulo 64 x in
+    let ms : ℕ = modulo 64 (x -ℤ y) in
+    let q : ℕ = (a + mx) / 2 ^ 64 in
+    let q'' : ℕ = (a + ms) / 2 ^ 64 in
+    let e : modulo 64 (pos (moved a x) -ℤ pos w) + (rd.less + q + rx.less + ry.more + rs.more) * 2 ^ 64 ≡ moved a (x -ℤ y) + (rd.more + q'' + rx.more + ry.less + rs.less) * 2 ^ 64 = omega (arith, ints, rx.is, ry.is, rs.is, rd.is, f) in
+    same_residue _ _ (rd.less + q + rx.less + ry.more + rs.more) (rd.more + q'' + rx.more + ry.less + rs.less) rd.small (moved_small a (x -ℤ y)) e
+
+-- a number of 64 bits, read with its sign or without
+pub word_is : (w : ℕ) → w < 2 ^ 64 → modulo 64 (pos w) ≡ w
+word_is w h = omega arith
+
+pub negative_is : (w : ℕ) → w < 2 ^ 64 → modulo 64 (negsuc (2 ^ 64 - 1 - w)) ≡ w
+negative_is w h = omega arith

@@ -1,0 +1,5 @@
+use Rattle.bq_sound.proofs.Runs.{safe}
+use Rattle.bq_sound.proofs.laws.passing_is_safe.Goals as goal
+
+pub returns : goal.returns
+returns c = safe

@@ -1,0 +1,22 @@
+//! Laws of notes that pass, each the contract of a function that does nothing. Whoever needs one at a
+//! step calls it there.
+
+ghost use Rattle.std.specs.Prelude.{ℕ, ◌^◌, ◌<◌, List, Option, All};
+ghost use Rattle.bq_insn.specs.Slots.{IsText};
+ghost use Rattle.bq_insn.specs.declared.insn.Insn.{Insn};
+ghost use Rattle.bq_flow.specs.Paths.{IsLongest};
+ghost use Rattle.bq_state.specs.declared.kind.Kind.{Kind};
+ghost use Rattle.bq_sound.specs.Passes.{Passes};
+ghost use Rattle.bq_sound.specs.Safe.{AreBytes, IsSafe, HasAnswer};
+
+/// A text whose notes pass never faults: from every accumulator, record and frame its record run ends
+/// within the longest path, with one answer and one frame that are the same at every placement.
+pub fn passing_is_safe()
+    ensures { (text : List Insn) (notes : List (Option (List Kind))) (longest : ℕ) → IsText text → Passes text notes → IsLongest text longest → IsSafe text longest }
+{}
+
+/// A safe text has an answer over any records of 64 bytes from any start value. It is a word, and
+/// takes at most the longest path for each record.
+pub fn safe_folds()
+    ensures { (text : List Insn) (longest : ℕ) (records : List (List ℕ)) (start : ℕ) → IsSafe text longest → All (AreBytes 64) records → start < 2 ^ 64 → HasAnswer text longest records start }
+{}
