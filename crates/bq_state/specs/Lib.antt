@@ -4,3 +4,5 @@ pub mod Kinds
 pub mod Rules
 pub mod Edges
 pub mod Covers
+pub mod Listed
+pub mod Numbers

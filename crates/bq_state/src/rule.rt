@@ -1,5 +1,8 @@
 //! The rules of the checker.
 
+ghost use Rattle.std.specs.Prelude.{◌≡◌};
+ghost use Rattle.bq_state.specs.Numbers.{rule_number, rule_name};
+
 /// A rule of the checker that an instruction breaks.
 #[derive(Clone, Copy, Debug, PartialEq, Eq)]
 pub enum Rule {
@@ -17,4 +20,36 @@ pub enum Rule {
     FramePointerWritten,
     /// 30: the answer is a pointer.
     AnswerKind,
+}
+
+impl Rule {
+    /// The number by which it is reported: 23 to 28, or 30.
+    pub fn number(&self) -> u8
+        ensures { result ≡ rule_number self.now }
+    {
+        match self {
+            Rule::UnsetRegister => 23,
+            Rule::WrongKind => 24,
+            Rule::OutsideFrame => 25,
+            Rule::OutsideRecord => 26,
+            Rule::RecordWritten => 27,
+            Rule::FramePointerWritten => 28,
+            Rule::AnswerKind => 30,
+        }
+    }
+
+    /// The name by which it is reported.
+    pub fn name(&self) -> &'static str
+        ensures { result.now ≡ rule_name self.now }
+    {
+        match self {
+            Rule::UnsetRegister => "UnsetRegister",
+            Rule::WrongKind => "WrongKind",
+            Rule::OutsideFrame => "OutsideFrame",
+            Rule::OutsideRecord => "OutsideRecord",
+            Rule::RecordWritten => "RecordWritten",
+            Rule::FramePointerWritten => "FramePointerWritten",
+            Rule::AnswerKind => "AnswerKind",
+        }
+    }
 }

@@ -1,0 +1,140 @@
+-- What covers what.
+use Rattle.std.proofs.Common.{◌≡◌, ℕ, zero, suc, ◌<◌, arith, List, [], ◌∷◌, length, refl, ap, sym, ◌∙◌, ◌+◌, get_or, set}
+use Rattle.std.proofs.lemmas.Int.{ints, clamps}
+use Rattle.std.proofs.lemmas.List.{ext_get_or, get_or_default}
+use Rattle.std.proofs.lemmas.List.Edits.{fill_by_more}
+use Rattle.bq_range.specs.Interval.{Interval, Within}
+use Rattle.bq_state.specs.Offsets.{Span, SpanWithin, join_spans}
+use Rattle.bq_state.specs.Kinds.{kind_of, KindCovers, StateCovers, join_kinds, join_states}
+use Rattle.bq_state.specs.declared.kind.Kind.{Kind}
+use Rattle.bq_state.specs.declared.kind.Kind.TheVariants.{Unset, Number, FramePointer, RecordPointer}
+
+-- ---- ranges and offsets
+
+within_itself : (a : Interval) → Within a a
+within_itself a = record { low = omega arith; high = omega arith }
+
+within_through : (a b c : Interval) → Within b a → Within c b → Within c a
+within_through a b c h k = record { low = omega arith; high = omega arith }
+
+span_in_itself : (a : Span) → SpanWithin a a
+span_in_itself a = record { low = omega (arith, ints); high = omega (arith, ints) }
+
+span_through : (a b c : Span) → SpanWithin b a → SpanWithin c b → SpanWithin c a
+span_through a b c h k = record { low = omega (arith, ints); high = omega (arith, ints) }
+
+span_left : (a b : Span) → SpanWithin a (join_spans a b)
+span_left a b = record { low = omega (arith, ints, clamps); high = omega (arith, ints, clamps) }
+
+span_right : (a b : Span) → SpanWithin b (join_spans a b)
+span_right a b = record { low = omega (arith, ints, clamps); high = omega (arith, ints, clamps) }
+
+-- ---- kinds
+
+pub kind_covers_itself : (a : Kind) → KindCovers a a
+kind_covers_itself Unset = tt
+kind_covers_itself (Number a) = within_itself a
+kind_covers_itself (FramePointer a) = span_in_itself a
+kind_covers_itself (RecordPointer a) = span_in_itself a
+
+pub kind_covers_through : (a b c : Kind) → KindCovers a b → KindCovers b c → KindCovers a c
+kind_covers_through Unset b c h k = tt
+kind_covers_through (Number x) Unset c h k = absurd h
+kind_covers_through (Number x) (Number y) Unset h k = absurd k
+kind_covers_through (Number x) (Number y) (Number z) h k = within_through x y z h k
+kind_covers_through (Number x) (Number y) (FramePointer z) h k = absurd k
+kind_covers_through (Number x) (Number y) (RecordPointer z) h k = absurd k
+kind_covers_through (Number x) (FramePointer y) c h k = absurd h
+kind_covers_through (Number x) (RecordPointer y) c h k = absurd h
+kind_covers_through (FramePointer x) Unset c h k = absurd h
+kind_covers_through (FramePointer x) (Number y) c h k = absurd h
+kind_covers_through (FramePointer x) (FramePointer y) Unset h k = absurd k
+kind_covers_through (FramePointer x) (FramePointer y) (Number z) h k = absurd k
+kind_covers_through (FramePointer x) (FramePointer y) (FramePointer z) h k = span_through x y z h k
+kind_covers_through (FramePointer x) (FramePointer y) (RecordPointer z) h k = absurd k
+kind_covers_through (FramePointer x) (RecordPointer y) c h k = absurd h
+kind_covers_through (RecordPointer x) Unset c h k = absurd h
+kind_covers_through (RecordPointer x) (Number y) c h k = absurd h
+kind_covers_through (RecordPointer x) (FramePointer y) c h k = absurd h
+kind_covers_through (RecordPointer x) (RecordPointer y) Unset h k = absurd k
+kind_covers_through (RecordPointer x) (RecordPointer y) (Number z) h k = absurd k
+kind_covers_through (RecordPointer x) (RecordPointer y) (FramePointer z) h k = absurd k
+kind_covers_through (RecordPointer x) (RecordPointer y) (RecordPointer z) h k = span_through x y z h k
+
+pub kind_join_left : (a b : Kind) → KindCovers (join_kinds a b) a
+kind_join_left (Number x) (Number y) = record { low = omega arith; high = omega arith }
+kind_join_left (FramePointer x) (FramePointer y) = span_left x y
+kind_join_left (RecordPointer x) (RecordPointer y) = span_left x y
+kind_join_left Unset b = tt
+kind_join_left (Number x) Unset = tt
+kind_join_left (Number x) (FramePointer y) = tt
+kind_join_left (Number x) (RecordPointer y) = tt
+kind_join_left (FramePointer x) Unset = tt
+kind_join_left (FramePointer x) (Number y) = tt
+kind_join_left (FramePointer x) (RecordPointer y) = tt
+kind_join_left (RecordPointer x) Unset = tt
+kind_join_left (RecordPointer x) (Number y) = tt
+kind_join_left (RecordPointer x) (FramePointer y) = tt
+
+pub kind_join_right : (a b : Kind) → KindCovers (join_kinds a b) b
+kind_join_right (Number x) (Number y) = record { low = omega arith; high = omega arith }
+kind_join_right (FramePointer x) (FramePointer y) = span_right x y
+kind_join_right (RecordPointer x) (RecordPointer y) = span_right x y
+kind_join_right Unset b = tt
+kind_join_right (Number x) Unset = tt
+kind_join_right (Number x) (FramePointer y) = tt
+kind_join_right (Number x) (RecordPointer y) = tt
+kind_join_right (FramePointer x) Unset = tt
+kind_join_right (FramePointer x) (Number y) = tt
+kind_join_right (FramePointer x) (RecordPointer y) = tt
+kind_join_right (RecordPointer x) Unset = tt
+kind_join_right (RecordPointer x) (Number y) = tt
+kind_join_right (RecordPointer x) (FramePointer y) = tt
+
+-- ---- states
+
+pub state_covers_itself : (a : List Kind) → StateCovers a a
+state_covers_itself a = record { each = λ r. kind_covers_itself (kind_of a r) }
+
+pub state_covers_through : (a b c : List Kind) → StateCovers a b → StateCovers b c → StateCovers a c
+state_covers_through a b c h k = record { each = λ r. kind_covers_through (kind_of a r) (kind_of b r) (kind_of c r) (h.each r) (k.each r) }
+
+joined_left : (a b : List Kind) (r : ℕ) → KindCovers (kind_of (join_states a b) r) (kind_of a r)
+joined_left [] b r = tt
+joined_left (x ∷ xs) [] r = tt
+joined_left (x ∷ xs) (y ∷ ys) zero = kind_join_left x y
+joined_left (x ∷ xs) (y ∷ ys) (suc r) = joined_left xs ys r
+
+joined_right : (a b : List Kind) (r : ℕ) → KindCovers (kind_of (join_states a b) r) (kind_of b r)
+joined_right [] b r = tt
+joined_right (x ∷ xs) [] r = tt
+joined_right (x ∷ xs) (y ∷ ys) zero = kind_join_right x y
+joined_right (x ∷ xs) (y ∷ ys) (suc r) = joined_right xs ys r
+
+pub join_covers : (a b : List Kind) → StateCovers (join_states a b) a × StateCovers (join_states a b) b
+join_covers a b = (record { each = joined_left a b }, record { each = joined_right a b })
+
+pub joined_count : (a b : List Kind) → length a ≡ length b → length (join_states a b) ≡ length a
+joined_count [] b e = refl
+joined_count (x ∷ xs) [] e = absurd (omega arith)
+joined_count (x ∷ xs) (y ∷ ys) e = let same : length xs ≡ length ys = omega arith in ap suc (joined_count xs ys same)
+
+pub joined_kind : (a b : List Kind) (r : ℕ) → r < length a → r < length b → kind_of (join_states a b) r ≡ join_kinds (kind_of a r) (kind_of b r)
+joined_kind [] b r h k = absurd (omega arith)
+joined_kind (x ∷ xs) [] r h k = absurd (omega arith)
+joined_kind (x ∷ xs) (y ∷ ys) zero h k = refl
+joined_kind (x ∷ xs) (y ∷ ys) (suc r) h k = joined_kind xs ys r (omega arith) (omega arith)
+
+-- a list that holds, for each register, the join of both
+pub joined_lists : (a b l : List Kind) (n : ℕ) → length a ≡ n → length b ≡ n → length l ≡ n → ((r : ℕ) → r < n → kind_of l r ≡ join_kinds (kind_of a r) (kind_of b r)) → l ≡ join_states a b
+joined_lists a b l n e f g h =
+    let count : length (join_states a b) ≡ length a = joined_count a b (omega arith) in
+    ext_get_or Unset l (join_states a b) (omega arith) (λ r k. h r (omega arith) ∙ sym (joined_kind a b r (omega arith) (omega arith)))
+
+pub joined_more : (a b l : List Kind) (n i : ℕ) (k x y : Kind) → length a ≡ n → length b ≡ n → length l ≡ n → i < n → x ≡ get_or a i x → y ≡ get_or b i y → k ≡ join_kinds (get_or a i x) (get_or b i y)
+    → ((r : ℕ) → r < i → kind_of l r ≡ join_kinds (kind_of a r) (kind_of b r)) → (r : ℕ) → r < i + 1 → kind_of (set l i k) r ≡ join_kinds (kind_of a r) (kind_of b r)
+joined_more a b l n i k x y e f g h p q j before =
+    let u : get_or a i x ≡ kind_of a i = get_or_default a i x Unset (omega arith) in
+    let v : get_or b i y ≡ kind_of b i = get_or_default b i y Unset (omega arith) in
+    let w : k ≡ join_kinds (kind_of a i) (kind_of b i) = rw (← u, ← v) j in
+    rw w (fill_by_more (λ (r : ℕ). join_kinds (kind_of a r) (kind_of b r)) l i Unset (omega arith) before)

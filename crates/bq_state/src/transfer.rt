@@ -1,0 +1,257 @@
+//! What an instruction makes of a state.
+
+ghost use Rattle.std.specs.Prelude.{◌≡◌, ◌≤◌, ◌*◌, ℤ};
+ghost use Rattle.bq_word.specs.Word.{bits_of, swap_bits, modulo};
+ghost use Rattle.bq_insn.specs.Insn.{extension_bits, extension_width};
+ghost use Rattle.bq_range.specs.Interval.{Interval, whole, all_words};
+ghost use Rattle.bq_range.specs.Table.{sign_extended};
+ghost use Rattle.bq_meaning.specs.Memory.{size_bytes, signed_bytes};
+ghost use Rattle.bq_state.specs.Kinds.{kind_of};
+ghost use Rattle.bq_state.specs.Rules.{and_then, known, number, writable, allowed, ordered_range, operand_kind, taken_kind, loaded_state, transfer};
+
+use crate::kind::Kind;
+use crate::rule::Rule;
+use crate::state::State;
+use bq_insn::insn::{ByteOrder, Extension, Insn, Operand, Size};
+use bq_insn::register::Register;
+use bq_range::range::Range;
+use bq_word::{AluOp, Relation, SignBits, SwapBits, Width};
+
+// Instructions write r0 to r9.
+fn writable(dst: Register) -> Result<(), Rule>
+    ensures { result ≡ writable dst }
+{
+    if dst.number() < 10 {
+        Ok(())
+    } else {
+        Err(Rule::FramePointerWritten)
+    }
+}
+
+fn allowed(kind: Option<Kind>) -> Result<Kind, Rule>
+    ensures { result ≡ allowed kind }
+{
+    kind.ok_or(Rule::WrongKind)
+}
+
+// A number in the instruction is extended with its sign to 64 bits.
+pub(crate) fn word_of(number: i32) -> u64
+    ensures { result ≡ modulo 64 number }
+{
+    i64::from(number).cast_unsigned()
+}
+
+fn extended(extension: Extension, range: Range) -> Range
+    ensures { result ≡ sign_extended (extension_bits extension) (bits_of (extension_width extension)) range }
+{
+    match extension {
+        Extension::W32From8 => Range::extend(SignBits::B8, Width::W32, range),
+        Extension::W32From16 => Range::extend(SignBits::B16, Width::W32, range),
+        Extension::W64From8 => Range::extend(SignBits::B8, Width::W64, range),
+        Extension::W64From16 => Range::extend(SignBits::B16, Width::W64, range),
+        Extension::W64From32 => Range::extend(SignBits::B32, Width::W64, range),
+    }
+}
+
+fn ordered(order: ByteOrder, bits: SwapBits, range: Range) -> Range
+    ensures { result ≡ ordered_range order (swap_bits bits) range }
+{
+    match order {
+        ByteOrder::Little => Range::low_bits(bits, range),
+        ByteOrder::Big | ByteOrder::Swapped => Range::swap(bits, range),
+    }
+}
+
+// How many bytes an access moves.
+fn size_bytes(size: Size) -> u32
+    ensures value { result ≡ size_bytes size }
+    ensures some { 1 ≤ result }
+    ensures small { result ≤ 8 }
+{
+    match size {
+        Size::B1 => 1,
+        Size::B2 => 2,
+        Size::B4 => 4,
+        Size::B8 => 8,
+    }
+}
+
+// How many bytes a load with a sign reads.
+fn signed_bytes(bits: SignBits) -> u32
+    ensures { result ≡ signed_bytes bits }
+{
+    match bits {
+        SignBits::B8 => 1,
+        SignBits::B16 => 2,
+        SignBits::B32 => 4,
+    }
+}
+
+impl State {
+    fn operand(&self, operand: Operand) -> Kind
+        ensures { result ≡ operand_kind self.now operand }
+    {
+        match operand {
+            Operand::Register(register) => self.kind(register.number()),
+            Operand::Number(number) => Kind::Number(Range::single(word_of(number))),
+        }
+    }
+
+    // What an operation reads of its destination; a move reads nothing there.
+    fn taken(&self, op: AluOp, dst: Register) -> Kind
+        ensures { result ≡ taken_kind self.now op dst }
+    {
+        match op {
+            AluOp::Mov => Kind::Number(Range::single(0)),
+            _ => self.kind(dst.number()),
+        }
+    }
+
+    fn operate(
+        &self,
+        width: Width,
+        op: AluOp,
+        dst: Register,
+        operand: Operand,
+    ) -> Result<State, Rule>
+        ensures { result ≡ transfer (Insn.Alu width op dst operand) self.now }
+    {
+        let a = self.taken(op, dst).known()?;
+        let b = self.operand(operand).known()?;
+        writable(dst)?;
+        let kind = allowed(Kind::alu(width, op, a, b))?;
+        Ok(self.with(dst, kind))
+    }
+
+    // The number in a register from which an instruction makes one in `dst`.
+    fn source(&self, dst: Register, src: Register) -> Result<Range, Rule>
+        ensures { result ≡ and_then (known (kind_of self.now src)) (λ k. and_then (writable dst) (λ _. number Rule.WrongKind k)) }
+    {
+        let kind = self.kind(src.number()).known()?;
+        writable(dst)?;
+        kind.number(Rule::WrongKind)
+    }
+
+    fn negate(&self, width: Width, dst: Register) -> Result<State, Rule>
+        ensures { result ≡ transfer (Insn.Negate width dst) self.now }
+    {
+        let range = self.source(dst, dst)?;
+        Ok(self.with(dst, Kind::Number(Range::negate(width, range))))
+    }
+
+    fn extend(&self, extension: Extension, dst: Register, src: Register) -> Result<State, Rule>
+        ensures { result ≡ transfer (Insn.Extend extension dst src) self.now }
+    {
+        let range = self.source(dst, src)?;
+        Ok(self.with(dst, Kind::Number(extended(extension, range))))
+    }
+
+    fn order(&self, order: ByteOrder, bits: SwapBits, dst: Register) -> Result<State, Rule>
+        ensures { result ≡ transfer (Insn.Order order bits dst) self.now }
+    {
+        let range = self.source(dst, dst)?;
+        Ok(self.with(dst, Kind::Number(ordered(order, bits, range))))
+    }
+
+    fn branch(&self, dst: Register, operand: Operand) -> Result<State, Rule>
+        ensures { (w : Width) (r : Relation) (z : ℤ) → result ≡ transfer (Insn.Branch w r dst operand z) self.now }
+    {
+        let a = self.kind(dst.number()).known()?;
+        let b = self.operand(operand).known()?;
+        a.number(Rule::WrongKind)?;
+        b.number(Rule::WrongKind)?;
+        Ok(*self)
+    }
+
+    fn exit(&self) -> Result<State, Rule>
+        ensures { result ≡ transfer Insn.Exit self.now }
+    {
+        self.kind(0).known()?.number(Rule::AnswerKind)?;
+        Ok(*self)
+    }
+
+    // The state with a number that was loaded from so many bytes.
+    fn load(
+        &self,
+        dst: Register,
+        base: Register,
+        offset: i16,
+        size: u32,
+        range: Range,
+    ) -> Result<State, Rule>
+        ensures { result ≡ loaded_state self.now dst base offset size range }
+    {
+        let from = self.kind(base.number()).known()?;
+        writable(dst)?;
+        from.readable(offset, size)?;
+        Ok(self.with(dst, Kind::Number(range)))
+    }
+
+    fn store(&self, size: Size, base: Register, offset: i16, value: Operand) -> Result<State, Rule>
+        ensures { result ≡ transfer (Insn.Store size base offset value) self.now }
+    {
+        let to = self.kind(base.number()).known()?;
+        let value = self.operand(value).known()?;
+        to.storable(value, offset, size_bytes(size))?;
+        Ok(*self)
+    }
+
+    fn wide(&self, dst: Register, value: u64) -> Result<State, Rule>
+        ensures { result ≡ transfer (Insn.Wide dst value) self.now }
+    {
+        writable(dst)?;
+        Ok(self.with(dst, Kind::Number(Range::single(value))))
+    }
+
+    /// The state after an instruction, or the first rule that it breaks.
+    pub fn transfer(&self, insn: &Insn) -> Result<State, Rule>
+        ensures { result ≡ transfer insn.now self.now }
+    {
+        match *insn {
+            Insn::Alu {
+                width,
+                op,
+                dst,
+                operand,
+            } => self.operate(width, op, dst, operand),
+            Insn::Negate { width, dst } => self.negate(width, dst),
+            Insn::Extend {
+                extension,
+                dst,
+                src,
+            } => self.extend(extension, dst, src),
+            Insn::Order { order, bits, dst } => self.order(order, bits, dst),
+            Insn::Jump { .. } | Insn::JumpFar { .. } => Ok(*self),
+            Insn::Branch { dst, operand, .. } => self.branch(dst, operand),
+            Insn::Exit => self.exit(),
+            Insn::Load {
+                size,
+                dst,
+                base,
+                offset,
+            } => {
+                let bytes = size_bytes(size);
+                self.load(dst, base, offset, bytes, Range::of_load(bytes))
+            }
+            Insn::LoadSigned {
+                size,
+                dst,
+                base,
+                offset,
+            } => self.load(
+                dst,
+                base,
+                offset,
+                signed_bytes(size),
+                Range::of_signed_load(),
+            ),
+            Insn::Store {
+                size,
+                base,
+                offset,
+                value,
+            } => self.store(size, base, offset, value),
+            Insn::Wide { dst, value } => self.wide(dst, value),
+        }
+    }
+}
