@@ -29,6 +29,9 @@ span_left a b = record { low = omega (arith, ints, clamps); high = omega (arith,
 span_right : (a b : Span) → SpanWithin b (join_spans a b)
 span_right a b = record { low = omega (arith, ints, clamps); high = omega (arith, ints, clamps) }
 
+span_least : (c a b : Span) → SpanWithin a c → SpanWithin b c → SpanWithin (join_spans a b) c
+span_least c a b h k = record { low = omega (arith, ints, clamps); high = omega (arith, ints, clamps) }
+
 -- ---- kinds
 
 pub kind_covers_itself : (a : Kind) → KindCovers a a
@@ -91,6 +94,30 @@ kind_join_right (RecordPointer x) Unset = tt
 kind_join_right (RecordPointer x) (Number y) = tt
 kind_join_right (RecordPointer x) (FramePointer y) = tt
 
+pub kind_join_least : (c a b : Kind) → KindCovers c a → KindCovers c b → KindCovers c (join_kinds a b)
+kind_join_least Unset a b h k = tt
+kind_join_least (Number z) Unset b h k = absurd h
+kind_join_least (Number z) (FramePointer x) b h k = absurd h
+kind_join_least (Number z) (RecordPointer x) b h k = absurd h
+kind_join_least (Number z) (Number x) Unset h k = absurd k
+kind_join_least (Number z) (Number x) (FramePointer y) h k = absurd k
+kind_join_least (Number z) (Number x) (RecordPointer y) h k = absurd k
+kind_join_least (Number z) (Number x) (Number y) h k = record { low = omega arith; high = omega arith }
+kind_join_least (FramePointer z) Unset b h k = absurd h
+kind_join_least (FramePointer z) (Number x) b h k = absurd h
+kind_join_least (FramePointer z) (RecordPointer x) b h k = absurd h
+kind_join_least (FramePointer z) (FramePointer x) Unset h k = absurd k
+kind_join_least (FramePointer z) (FramePointer x) (Number y) h k = absurd k
+kind_join_least (FramePointer z) (FramePointer x) (RecordPointer y) h k = absurd k
+kind_join_least (FramePointer z) (FramePointer x) (FramePointer y) h k = span_least z x y h k
+kind_join_least (RecordPointer z) Unset b h k = absurd h
+kind_join_least (RecordPointer z) (Number x) b h k = absurd h
+kind_join_least (RecordPointer z) (FramePointer x) b h k = absurd h
+kind_join_least (RecordPointer z) (RecordPointer x) Unset h k = absurd k
+kind_join_least (RecordPointer z) (RecordPointer x) (Number y) h k = absurd k
+kind_join_least (RecordPointer z) (RecordPointer x) (FramePointer y) h k = absurd k
+kind_join_least (RecordPointer z) (RecordPointer x) (RecordPointer y) h k = span_least z x y h k
+
 -- ---- states
 
 pub state_covers_itself : (a : List Kind) → StateCovers a a
@@ -113,6 +140,15 @@ joined_right (x ∷ xs) (y ∷ ys) (suc r) = joined_right xs ys r
 
 pub join_covers : (a b : List Kind) → StateCovers (join_states a b) a × StateCovers (join_states a b) b
 join_covers a b = (record { each = joined_left a b }, record { each = joined_right a b })
+
+join_least_at : (k : Kind) (a b : List Kind) (r : ℕ) → length a ≡ length b → KindCovers k (kind_of a r) → KindCovers k (kind_of b r) → KindCovers k (kind_of (join_states a b) r)
+join_least_at k [] b r e h i = h
+join_least_at k (x ∷ xs) [] r e h i = absurd (omega arith)
+join_least_at k (x ∷ xs) (y ∷ ys) zero e h i = kind_join_least k x y h i
+join_least_at k (x ∷ xs) (y ∷ ys) (suc r) e h i = let same : length xs ≡ length ys = omega arith in join_least_at k xs ys r same h i
+
+pub join_least : (a b c : List Kind) → length a ≡ length b → StateCovers c a → StateCovers c b → StateCovers c (join_states a b)
+join_least a b c e h i = record { each = λ r. join_least_at (kind_of c r) a b r e (h.each r) (i.each r) }
 
 pub joined_count : (a b : List Kind) → length a ≡ length b → length (join_states a b) ≡ length a
 joined_count [] b e = refl

@@ -99,9 +99,9 @@ impl State {
         &self,
         width: Width,
         relation: Relation,
-        taken: bool,
         dst: Register,
         operand: Operand,
+        taken: bool,
     ) -> Option<State>
         ensures { result ≡ refined self.now width relation taken dst operand }
     {
@@ -131,7 +131,7 @@ impl State {
     ) -> Option<Edge>
         ensures { edge_list result ≡ along unit (refined self.now width relation taken dst operand.now) }
     {
-        let state = self.refine(width, relation, taken, dst, *operand)?;
+        let state = self.refine(width, relation, dst, *operand, taken)?;
         Some(Edge { unit, state })
     }
 

@@ -1,8 +1,44 @@
-//! What is known of a machine at a unit of a program.
+//! What is known of a machine at a unit of a program, and the rules of the checker.
+//!
+//! A [`State`] says of each of the eleven registers what is known of it, its [`Kind`]: nothing, a
+//! number in a range, or a pointer to the frame or the record plus one of a range of [`Offsets`].
+//! Offsets lie within -65,536 to 65,536.
+//!
+//! - [`State::entry`] is the state at the entry of a run over a record.
+//! - [`State::transfer`] gives the state that an instruction leaves, or the first [`Rule`] that it
+//!   breaks, in the order of the tests: registers that are read are set (23 UnsetRegister), the one
+//!   that is written is not r10 (28 FramePointerWritten), operands have the kinds that the operation
+//!   takes (24 WrongKind, and 30 AnswerKind for the answer), a store's region is the frame (27
+//!   RecordWritten), and the bytes of an access lie in its region (25 OutsideFrame, 26
+//!   OutsideRecord).
+//! - [`State::edges`] gives the units where control may go on, each with its state: a branch narrows
+//!   the ranges that it compares, and an edge that no numbers lead to is left out.
+//! - [`State::covers`] compares states, and [`State::join`] gives the least that covers two.
+//!
+//! Pointers move by numbers at 64 bits alone, may be moved from register to register and nothing
+//! else, and never are stored, compared or answered.
+//!
+//! The tables stand in `specs/`, apart from the code: `Offsets`, `Kinds`, `Rules` with what each
+//! instruction makes of a state, `Edges`, `Listed` with the list that a call's edges are, and
+//! `Numbers`. `Covers` says what a state says of a machine's registers under a placement. `laws` has
+//! what follows for all states. No call takes memory, and none refuses an input.
+//!
+//! The soundness of the rules, the checker and the verifier stand on this crate.
+//!
+//! [`State`]: state::State
+//! [`State::entry`]: state::State::entry
+//! [`State::transfer`]: state::State::transfer
+//! [`State::edges`]: state::State::edges
+//! [`State::covers`]: state::State::covers
+//! [`State::join`]: state::State::join
+//! [`Kind`]: kind::Kind
+//! [`Offsets`]: offsets::Offsets
+//! [`Rule`]: rule::Rule
 #![tactic(auto)]
 
 pub mod edges;
 pub mod kind;
+pub mod laws;
 pub mod offsets;
 pub mod rule;
 pub mod state;

@@ -1,0 +1,5 @@
+use Rattle.bq_state.proofs.Covering.{joined_count}
+use Rattle.bq_state.proofs.laws.join_keeps_count.Goals as goal
+
+pub returns : goal.returns
+returns c = joined_count

@@ -1,0 +1,5 @@
+use Rattle.bq_state.proofs.Counts.{refined_count}
+use Rattle.bq_state.proofs.laws.refined_keeps_count.Goals as goal
+
+pub returns : goal.returns
+returns c = refined_count

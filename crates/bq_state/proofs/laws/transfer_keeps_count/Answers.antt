@@ -1,0 +1,5 @@
+use Rattle.bq_state.proofs.Counts.{transfer_count}
+use Rattle.bq_state.proofs.laws.transfer_keeps_count.Goals as goal
+
+pub returns : goal.returns
+returns c = transfer_count
