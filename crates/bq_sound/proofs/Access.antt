@@ -16,7 +16,7 @@ use Rattle.bq_state.specs.declared.rule.Rule.{Rule}
 use Rattle.bq_state.specs.declared.rule.Rule.TheVariants.{OutsideFrame, OutsideRecord}
 use Rattle.bq_state.specs.Rules.{and_then, readable, storable}
 use Rattle.bq_sound.proofs.Words.{moved_on}
-use Rattle.bq_sound.proofs.Tags.{Region, InFrame, InRecord, Tagged, Num, Ptr, start, image, HoldsPointer, TagHolds}
+use Rattle.bq_sound.proofs.Tags.{Region, InFrame, InRecord, Tagged, Num, Ptr, start, image, same_word, same_pointer, HoldsPointer, TagHolds}
 
 abbrev pub extent : Region → ℕ
 extent InFrame = 512
@@ -105,17 +105,11 @@ pub record Writes (u v : Tagged) (distance : ℤ) (size : ℕ) : Type 0 where
   pub word : ℕ
   pub number : v ≡ Num word
 
-same_word : (v : Tagged) (w : ℕ) → Some v ≡ Some (Num w) → v ≡ Num w
-same_word v w e = cc
-
-same_pointer : (v : Tagged) (z : ℤ) → Some v ≡ Some (Ptr InFrame z) → v ≡ Ptr InFrame z
-same_pointer v z e = cc
-
 pub stores : {B : Type 0} (k l : Kind) (distance : ℤ) (size : ℕ) (go : Unit {0} → Result B Rule) (after : B) (u v : Tagged) → TagHolds k (Some u) → TagHolds l (Some v)
     → and_then (storable k l distance size) go ≡ Ok after → Writes u v distance size × (go tt ≡ Ok after)
 stores (FramePointer s) (Number a) distance size go after u v h i e =
     elim (cases_Bool (fits s distance size 512)) [
-      | inl t ↦ (record { z = h.offset; is = same_pointer u h.offset h.is; inside = inside InFrame s distance h.offset size t h.within; word = i.word; number = same_word v i.word i.is }, rw t at e)
+      | inl t ↦ (record { z = h.offset; is = same_pointer u InFrame h.offset h.is; inside = inside InFrame s distance h.offset size t h.within; word = i.word; number = same_word v i.word i.is }, rw t at e)
       | inr f ↦ let no : Err OutsideFrame ≡ Ok after = rw f at e in cc
     ]
 stores (RecordPointer s) Unset distance size go after u v h i e = cc

@@ -1,6 +1,6 @@
 -- Jumps: the state on the edge that is gone holds.
-use Rattle.std.proofs.Common.{◌≡◌, ℕ, ◌+◌, ◌^◌, ◌≤◌, refl, sym, ap, ◌∙◌, subst, inl, inr, arith, List, [], ◌∷◌, ◌++◌, Option, Some, None, Bool, true, false, cond, Ok}
-use Rattle.std.specs.Prelude.{ℤ, pos, slice_set}
+use Rattle.std.proofs.Common.{◌≡◌, ℕ, ◌+◌, ◌^◌, refl, sym, ap, ◌∙◌, subst, inl, inr, arith, List, [], ◌∷◌, ◌++◌, Option, Some, None, Bool, true, false, cond, Ok}
+use Rattle.std.specs.Prelude.{ℤ, slice_set}
 use Rattle.std.specs.Option.{IsSomeAnd}
 use Rattle.std.proofs.lemmas.Bool.{cases_eq, cases_Bool, eq-eqb, ne_eqb}
 use Rattle.std.proofs.Math.Nat.{mod-mod}
@@ -9,15 +9,11 @@ use Rattle.bq_word.specs.Relations.{relates}
 use Rattle.bq_word.specs.declared.Width.{Width}
 use Rattle.bq_word.specs.declared.Relation.{Relation}
 use Rattle.bq_word.proofs.Low.{relates_low}
-use Rattle.bq_insn.specs.Slots.{units}
 use Rattle.bq_insn.specs.declared.insn.Insn.{Insn}
 use Rattle.bq_insn.specs.declared.insn.Insn.TheVariants as insns
 use Rattle.bq_insn.specs.declared.insn.Operand.{Operand}
 use Rattle.bq_insn.specs.declared.insn.Operand.TheVariants as operands
-use Rattle.bq_flow.specs.Paths.{insn_at, Among, IsLegalFlow}
-use Rattle.bq_flow.specs.Successors.{successors, destination}
-use Rattle.bq_flow.proofs.Units.{insn_within}
-use Rattle.bq_flow.proofs.Words.{in_words}
+use Rattle.bq_flow.specs.Paths.{Among}
 use Rattle.bq_meaning.specs.Place.{Place}
 use Rattle.bq_meaning.specs.Meaning.{Continues, target, at_unit, perform}
 use Rattle.bq_range.specs.Interval.{Interval, IsIn, single}
@@ -27,42 +23,28 @@ use Rattle.bq_state.specs.declared.kind.Kind.{Kind}
 use Rattle.bq_state.specs.declared.kind.Kind.TheVariants.{Number}
 use Rattle.bq_state.specs.declared.rule.Rule.TheVariants.{WrongKind}
 use Rattle.bq_state.specs.Kinds.{kind_of}
-use Rattle.bq_state.specs.Rules.{and_then, known, number, operand_kind}
-use Rattle.bq_state.specs.Edges.{with_number, with_numbers, refined_by_number, refined_by_register, refined, along}
-use Rattle.bq_sound.specs.Passes.{NoteCovers, AllCovered, IsFine}
+use Rattle.bq_state.specs.Rules.{transfer, and_then, known, number, operand_kind}
+use Rattle.bq_state.specs.Edges.{with_number, with_numbers, refined_by_number, refined_by_register, refined, along, edges}
 use Rattle.bq_sound.proofs.Tags.{Tagged, Num, tag_at, HoldsNumber, TagHolds, TagsHold, narrowed_holds}
 use Rattle.bq_sound.proofs.Rules.{same_state, read, numbered}
 use Rattle.bq_sound.proofs.Machine.{Common, machine, GoesOn, Stands, goes_on}
 use Rattle.bq_sound.proofs.Operands.{operand_tag, held_is, value_is, operand_holds}
 
--- ---- where a jump leads
+-- ---- jumps
 
--- a legal jump leads to the unit that its destination names
-pub lands : (text : List Insn) (unit : ℕ) (i : Insn) (distance : ℤ) → units text ≤ 4096 → IsLegalFlow text → insn_at text unit ≡ Some i → Among (destination unit distance) (successors unit i)
-    → pos (target unit distance) ≡ destination unit distance
-lands text unit i distance few legal there among =
-    let f = legal.each unit i (destination unit distance) there among in
-    let here = insn_within text unit i there in
-    let next = insn_within text f.next f.insn f.begins in
-    ap pos (in_words unit f.next distance (omega (arith, here, few)) (omega (arith, next, few)) f.is) ∙ sym f.is
+jumps : (m : Common) (i : Insn) (unit : ℕ) (state after left : List Kind) → Stands m state → TagsHold left m.tags → Among (unit, left) (edges m.unit i after)
+    → ((p : Place) → perform p i (machine p m) ≡ Continues (at_unit (machine p m) unit)) → GoesOn m i after
+jumps m i unit state after left s holds among does =
+    goes_on m (record { unit = unit; tags = m.tags; frame = m.frame; «record» = m.record }) i after left
+    (record { words = s.whole.words; frame = s.whole.frame; «record» = s.whole.record }) holds among (λ p place. does p)
 
-pub jumps : (text : List Insn) (notes : List (Option (List Kind))) (m : Common) (i : Insn) (unit : ℕ) (state after : List Kind) → Stands text m i state → TagsHold after m.tags
-    → NoteCovers notes (unit, after) → Among (pos unit) (successors m.unit i) → ((p : Place) → perform p i (machine p m) ≡ Continues (at_unit (machine p m) unit)) → GoesOn text notes m
-jumps text notes m i unit state after s holds covered among does =
-    goes_on text notes m (record { unit = unit; tags = m.tags; frame = m.frame; «record» = m.record }) i state after s
-    (record { words = s.whole.words; frame = s.whole.frame; «record» = s.whole.record }) holds covered among (λ p place. does p)
+pub does_jump : (m : Common) (distance : ℤ) (state after : List Kind) → Stands m state → transfer (insns.Jump distance) state ≡ Ok after → GoesOn m (insns.Jump distance) after
+does_jump m distance state after s rules =
+    jumps m (insns.Jump distance) (target m.unit distance) state after after s (subst (λ q. TagsHold q m.tags) (same_state state after rules) s.holds) (inl refl) (λ p. refl)
 
-pub does_jump : (text : List Insn) (notes : List (Option (List Kind))) (m : Common) (distance : ℤ) (state : List Kind) → units text ≤ 4096 → IsLegalFlow text
-    → Stands text m (insns.Jump distance) state → IsFine notes m.unit (insns.Jump distance) state → GoesOn text notes m
-does_jump text notes m distance state few legal s fine =
-    jumps text notes m (insns.Jump distance) (target m.unit distance) state fine.after s (subst (λ q. TagsHold q m.tags) (same_state state fine.after fine.rules) s.holds) fine.covered.0
-    (inl (lands text m.unit (insns.Jump distance) distance few legal s.there (inl refl))) (λ p. refl)
-
-pub does_jump_far : (text : List Insn) (notes : List (Option (List Kind))) (m : Common) (distance : ℤ) (state : List Kind) → units text ≤ 4096 → IsLegalFlow text
-    → Stands text m (insns.JumpFar distance) state → IsFine notes m.unit (insns.JumpFar distance) state → GoesOn text notes m
-does_jump_far text notes m distance state few legal s fine =
-    jumps text notes m (insns.JumpFar distance) (target m.unit distance) state fine.after s (subst (λ q. TagsHold q m.tags) (same_state state fine.after fine.rules) s.holds) fine.covered.0
-    (inl (lands text m.unit (insns.JumpFar distance) distance few legal s.there (inl refl))) (λ p. refl)
+pub does_jump_far : (m : Common) (distance : ℤ) (state after : List Kind) → Stands m state → transfer (insns.JumpFar distance) state ≡ Ok after → GoesOn m (insns.JumpFar distance) after
+does_jump_far m distance state after s rules =
+    jumps m (insns.JumpFar distance) (target m.unit distance) state after after s (subst (λ q. TagsHold q m.tags) (same_state state after rules) s.holds) (inl refl) (λ p. refl)
 
 -- ---- what an edge of a branch says
 
@@ -128,41 +110,55 @@ refined_leads state tags w r taken d (operands.Register s) a b x y h ka kb ex ey
 
 -- ---- branches
 
-covered_append : (notes : List (Option (List Kind))) (xs ys : List (ℕ × List Kind)) → AllCovered notes (xs ++ ys) → AllCovered notes xs × AllCovered notes ys
-covered_append notes [] ys h = (tt, h)
-covered_append notes (x ∷ xs) ys h = let r = covered_append notes xs ys h.1 in ((h.0, r.0), r.1)
+-- an edge that leads to a state is one of the edges
+along_edge : (unit : ℕ) (o : Option (List Kind)) (state : List Kind) → o ≡ Some state → Among (unit, state) (along unit o)
+along_edge unit o state e = subst (λ q. Among (unit, state) (along unit q)) (sym e) (inl refl)
 
-along_covers : (notes : List (Option (List Kind))) (unit : ℕ) (o : Option (List Kind)) (state : List Kind) → o ≡ Some state → AllCovered notes (along unit o) → NoteCovers notes (unit, state)
-along_covers notes unit o state e h = let g : AllCovered notes (along unit (Some state)) = subst (λ q. AllCovered notes (along unit q)) e h in g.0
+among_left : (x : ℕ × List Kind) (xs ys : List (ℕ × List Kind)) → Among x xs → Among x (xs ++ ys)
+among_left x [] ys h = absurd h
+among_left x (y ∷ xs) ys (inl e) = inl e
+among_left x (y ∷ xs) ys (inr h) = inr (among_left x xs ys h)
+
+among_right : (x : ℕ × List Kind) (xs ys : List (ℕ × List Kind)) → Among x ys → Among x (xs ++ ys)
+among_right x [] ys h = h
+among_right x (y ∷ xs) ys h = inr (among_right x xs ys h)
+
+abbrev sides : ℕ → ℕ → Width → Relation → ℕ → Operand → List Kind → List (ℕ × List Kind)
+sides stay go w r d operand state = along stay (refined state w r false d operand) ++ along go (refined state w r true d operand)
+
+gone : (stay go : ℕ) (w : Width) (r : Relation) (d : ℕ) (operand : Operand) (state after left : List Kind) → state ≡ after → refined state w r true d operand ≡ Some left → Among (go, left) (sides stay go w r d operand after)
+gone stay go w r d operand state after left is e =
+    subst (λ q. Among (go, left) (sides stay go w r d operand q)) is (among_right (go, left) (along stay (refined state w r false d operand)) (along go (refined state w r true d operand)) (along_edge go (refined state w r true d operand) left e))
+
+stayed : (stay go : ℕ) (w : Width) (r : Relation) (d : ℕ) (operand : Operand) (state after left : List Kind) → state ≡ after → refined state w r false d operand ≡ Some left → Among (stay, left) (sides stay go w r d operand after)
+stayed stay go w r d operand state after left is e =
+    subst (λ q. Among (stay, left) (sides stay go w r d operand q)) is (among_left (stay, left) (along stay (refined state w r false d operand)) (along go (refined state w r true d operand)) (along_edge stay (refined state w r false d operand) left e))
 
 branch_performs : (p : Place) (m : Common) (w : Width) (r : Relation) (d : ℕ) (operand : Operand) (distance : ℤ) (x y : ℕ) (taken : Bool) → tag_at m.tags d ≡ Some (Num x) → operand_tag m.tags operand ≡ Some (Num y)
     → relates (bits_of w) r x y ≡ taken → perform p (insns.Branch w r d operand distance) (machine p m) ≡ Continues (at_unit (machine p m) (cond taken (target m.unit distance) (m.unit + 1)))
 branch_performs p m w r d operand distance x y taken ex ey e = rw (held_is p m.tags d (Num x) ex, value_is p m.tags operand (Num y) ey, e) refl
 
-pub does_branch : (text : List Insn) (notes : List (Option (List Kind))) (m : Common) (w : Width) (r : Relation) (d : ℕ) (operand : Operand) (distance : ℤ) (state : List Kind) → units text ≤ 4096 → IsLegalFlow text
-    → Stands text m (insns.Branch w r d operand distance) state → IsFine notes m.unit (insns.Branch w r d operand distance) state → GoesOn text notes m
-does_branch text notes m w r d operand distance state few legal s fine =
+pub does_branch : (m : Common) (w : Width) (r : Relation) (d : ℕ) (operand : Operand) (distance : ℤ) (state after : List Kind)
+    → Stands m state → transfer (insns.Branch w r d operand distance) state ≡ Ok after → GoesOn m (insns.Branch w r d operand distance) after
+does_branch m w r d operand distance state after s rules =
     let i = insns.Branch w r d operand distance in
     let k = kind_of state d in
     let l = operand_kind state operand in
     let hv = operand_holds state m.tags operand s.holds in
-    let ru = read k (tag_at m.tags d) (λ k'. and_then (known l) (λ l'. and_then (number WrongKind k') (λ _. and_then (number WrongKind l') (λ _. Ok state)))) fine.after (s.holds.each d) fine.rules in
-    let rv = read l (operand_tag m.tags operand) (λ l'. and_then (number WrongKind k) (λ _. and_then (number WrongKind l') (λ _. Ok state))) fine.after hv ru.2 in
-    let na = numbered WrongKind k (λ _. and_then (number WrongKind l) (λ _. Ok state)) fine.after rv.2 in
-    let nb = numbered WrongKind l (λ _. Ok state) fine.after na.2 in
-    let is : state ≡ fine.after = same_state state fine.after nb.2 in
+    let ru = read k (tag_at m.tags d) (λ k'. and_then (known l) (λ l'. and_then (number WrongKind k') (λ _. and_then (number WrongKind l') (λ _. Ok state)))) after (s.holds.each d) rules in
+    let rv = read l (operand_tag m.tags operand) (λ l'. and_then (number WrongKind k) (λ _. and_then (number WrongKind l') (λ _. Ok state))) after hv ru.2 in
+    let na = numbered WrongKind k (λ _. and_then (number WrongKind l) (λ _. Ok state)) after rv.2 in
+    let nb = numbered WrongKind l (λ _. Ok state) after na.2 in
+    let is : state ≡ after = same_state state after nb.2 in
     let hx : HoldsNumber na.0 (tag_at m.tags d) = subst (λ q. TagHolds q (tag_at m.tags d)) na.1 (s.holds.each d) in
     let hy : HoldsNumber nb.0 (operand_tag m.tags operand) = subst (λ q. TagHolds q (operand_tag m.tags operand)) nb.1 hv in
-    let stay = along (m.unit + 1) (refined state w r false d operand) in
-    let go = along (target m.unit distance) (refined state w r true d operand) in
-    let both = covered_append notes stay go (subst (λ q. AllCovered notes (along (m.unit + 1) (refined q w r false d operand) ++ along (target m.unit distance) (refined q w r true d operand))) (sym is) fine.covered) in
     elim (cases_Bool (relates (bits_of w) r hx.word hy.word)) [
       | inl e ↦
           let to = refined_leads state m.tags w r true d operand na.0 nb.0 hx.word hy.word s.holds na.1 nb.1 hx.is hy.is hx.within hy.within e in
-          jumps text notes m i (target m.unit distance) state to.state s to.holds (along_covers notes (target m.unit distance) (refined state w r true d operand) to.state to.is both.1)
-          (inr (inl (lands text m.unit i distance few legal s.there (inr (inl refl))))) (λ p. branch_performs p m w r d operand distance hx.word hy.word true hx.is hy.is e)
+          jumps m i (target m.unit distance) state after to.state s to.holds (gone (m.unit + 1) (target m.unit distance) w r d operand state after to.state is to.is)
+          (λ p. branch_performs p m w r d operand distance hx.word hy.word true hx.is hy.is e)
       | inr e ↦
           let to = refined_leads state m.tags w r false d operand na.0 nb.0 hx.word hy.word s.holds na.1 nb.1 hx.is hy.is hx.within hy.within e in
-          jumps text notes m i (m.unit + 1) state to.state s to.holds (along_covers notes (m.unit + 1) (refined state w r false d operand) to.state to.is both.0)
-          (inl refl) (λ p. branch_performs p m w r d operand distance hx.word hy.word false hx.is hy.is e)
+          jumps m i (m.unit + 1) state after to.state s to.holds (stayed (m.unit + 1) (target m.unit distance) w r d operand state after to.state is to.is)
+          (λ p. branch_performs p m w r d operand distance hx.word hy.word false hx.is hy.is e)
     ]

@@ -11,5 +11,7 @@ pub mod Access
 pub mod Memory
 pub mod Branches
 pub mod Progress
+pub mod Along
 pub mod Runs
 pub mod Folds
+pub mod Lifted

@@ -1,19 +1,18 @@
 -- A machine for all placements, and what a step of it comes to.
 use Rattle.std.proofs.Common.{◌≡◌, ℕ, ◌^◌, ◌<◌, sym, ap, ◌∙◌, subst, inl, inr, arith, List, length, Option, Some}
-use Rattle.std.specs.Prelude.{pos, slice_set}
+use Rattle.std.specs.Prelude.{slice_set}
 use Rattle.std.proofs.lemmas.Bool.{cases_eq}
 use Rattle.std.proofs.lemmas.List.{length-set}
 use Rattle.bq_insn.specs.declared.insn.Insn.{Insn}
 use Rattle.bq_insn.specs.declared.insn.Insn.TheVariants.{Exit}
-use Rattle.bq_flow.specs.Paths.{insn_at, Among}
-use Rattle.bq_flow.specs.Successors.{successors}
+use Rattle.bq_flow.specs.Paths.{Among}
 use Rattle.bq_meaning.specs.Place.{Place, IsPlacement}
-use Rattle.bq_meaning.specs.Meaning.{Continues, Ends, at_unit, with_register, perform, step}
+use Rattle.bq_meaning.specs.Meaning.{Continues, Ends, at_unit, with_register, perform}
 use Rattle.bq_meaning.specs.declared.machine.Machine.{Machine}
 use Rattle.bq_state.specs.declared.kind.Kind.{Kind}
-use Rattle.bq_sound.specs.Passes.{note_at, NoteCovers}
+use Rattle.bq_state.specs.Edges.{edges}
 use Rattle.bq_sound.specs.Safe.{AreBytes}
-use Rattle.bq_sound.proofs.Tags.{Tagged, image, images, images_set, IsWord, tag_at, tag_set_same, tag_set_other, TagHolds, TagsHold, covered_tags, written_holds}
+use Rattle.bq_sound.proofs.Tags.{Tagged, image, images, images_set, IsWord, tag_at, tag_set_same, tag_set_other, TagHolds, TagsHold, written_holds}
 
 pub record Common : Type 0 where
   pub unit : ℕ
@@ -33,45 +32,29 @@ pub record IsWhole (m : Common) : Type 0 where
   pub frame : AreBytes 512 m.frame
   pub «record» : AreBytes 64 m.record
 
--- one step, the same at every placement
-pub record GoesOn (text : List Insn) (notes : List (Option (List Kind))) (m : Common) : Type 0 where
-  pub next : Common
-  pub insn : Insn
-  pub there : insn_at text m.unit ≡ Some insn
-  pub along : Among (pos next.unit) (successors m.unit insn)
-  pub whole : IsWhole next
-  pub steps : (p : Place) → IsPlacement p → step p text (machine p m) ≡ Continues (machine p next)
-  pub note : List Kind
-  pub noted : note_at notes next.unit ≡ Some note
-  pub holds : TagsHold note next.tags
-
-pub record Stops (text : List Insn) (m : Common) : Type 0 where
-  pub answer : ℕ
-  pub word : answer < 2 ^ 64
-  pub there : insn_at text m.unit ≡ Some Exit
-  pub steps : (p : Place) → IsPlacement p → step p text (machine p m) ≡ Ends answer
-
--- what is known at an instruction: where it stands, and that the state at its unit holds of the machine
-pub record Stands (text : List Insn) (m : Common) (i : Insn) (state : List Kind) : Type 0 where
-  pub there : insn_at text m.unit ≡ Some i
+-- what is known before an instruction: the state holds of the machine
+pub record Stands (m : Common) (state : List Kind) : Type 0 where
   pub whole : IsWhole m
   pub holds : TagsHold state m.tags
 
--- a machine that goes on to another
-pub goes_on : (text : List Insn) (notes : List (Option (List Kind))) (m next : Common) (i : Insn) (state after : List Kind) → Stands text m i state → IsWhole next → TagsHold after next.tags
-    → NoteCovers notes (next.unit, after) → Among (pos next.unit) (successors m.unit i) → ((p : Place) → IsPlacement p → perform p i (machine p m) ≡ Continues (machine p next))
-    → GoesOn text notes m
-goes_on text notes m next i state after s whole holds covered among does = record {
-  next = next;
-  insn = i;
-  there = s.there;
-  along = among;
-  whole = whole;
-  steps = λ p place. rw s.there (does p place);
-  note = covered.note;
-  noted = covered.there;
-  holds = covered_tags covered.note after next.tags covered.covers holds;
-}
+-- it goes on, alike at every placement, along an edge whose state holds
+pub record GoesOn (m : Common) (i : Insn) (after : List Kind) : Type 0 where
+  pub next : Common
+  pub left : List Kind
+  pub edge : Among (next.unit, left) (edges m.unit i after)
+  pub stands : Stands next left
+  pub steps : (p : Place) → IsPlacement p → perform p i (machine p m) ≡ Continues (machine p next)
+
+-- it ends, alike at every placement
+pub record Stops (m : Common) (i : Insn) : Type 0 where
+  pub answer : ℕ
+  pub word : answer < 2 ^ 64
+  pub exits : i ≡ Exit
+  pub steps : (p : Place) → IsPlacement p → perform p i (machine p m) ≡ Ends answer
+
+pub goes_on : (m next : Common) (i : Insn) (after left : List Kind) → IsWhole next → TagsHold left next.tags → Among (next.unit, left) (edges m.unit i after)
+    → ((p : Place) → IsPlacement p → perform p i (machine p m) ≡ Continues (machine p next)) → GoesOn m i after
+goes_on m next i after left whole holds among does = record { next = next; left = left; edge = among; stands = record { whole = whole; holds = holds }; steps = does }
 
 -- ---- an instruction that writes a register
 
@@ -90,13 +73,13 @@ put_words tags d v h low small = record {
   ];
 }
 
-pub puts : (text : List Insn) (notes : List (Option (List Kind))) (m : Common) (i : Insn) (unit d : ℕ) (state after : List Kind) (k : Kind) (v : Tagged) → Stands text m i state → d < 10
-    → TagHolds k (Some v) → IsWord v → slice_set state d k ≡ after → NoteCovers notes (unit, after) → Among (pos unit) (successors m.unit i)
+pub puts : (m : Common) (i : Insn) (unit d : ℕ) (state after : List Kind) (k : Kind) (v : Tagged) → Stands m state → d < 10
+    → TagHolds k (Some v) → IsWord v → slice_set state d k ≡ after → Among (unit, after) (edges m.unit i after)
     → ((p : Place) → IsPlacement p → perform p i (machine p m) ≡ Continues (at_unit (with_register (machine p m) d (image p v)) unit))
-    → GoesOn text notes m
-puts text notes m i unit d state after k v s low here small is covered among does =
-    goes_on text notes m (put m unit d v) i state after s
+    → GoesOn m i after
+puts m i unit d state after k v s low here small is among does =
+    goes_on m (put m unit d v) i after after
     (record { words = put_words m.tags d v s.whole.words low small; frame = s.whole.frame; «record» = s.whole.record })
     (subst (λ q. TagsHold q (slice_set m.tags d (Some v))) is (written_holds state m.tags d k v s.holds (omega (arith, s.whole.words.count)) here))
-    covered among
+    among
     (λ p place. does p place ∙ ap (λ (rs : List (Option ℕ)). Continues (record { unit = unit; registers = rs; frame = m.frame; «record» = m.record })) (images_set p m.tags d v))

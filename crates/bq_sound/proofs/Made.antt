@@ -1,6 +1,6 @@
 -- What an operation makes of two values, at every placement.
 use Rattle.std.proofs.Common.{◌≡◌, ℕ, ◌^◌, ◌<◌, refl, ap, ◌∙◌, subst, arith, Option, Some, None}
-use Rattle.std.specs.Prelude.{ℤ, option_map}
+use Rattle.std.specs.Prelude.{option_map}
 use Rattle.bq_word.specs.Word.{low, operation, bits_of}
 use Rattle.bq_word.specs.declared.Width.{Width}
 use Rattle.bq_word.specs.declared.Width.TheVariants.{W64}
@@ -18,7 +18,7 @@ use Rattle.bq_state.specs.declared.kind.Kind.{Kind}
 use Rattle.bq_state.specs.declared.kind.Kind.TheVariants.{Number, FramePointer, RecordPointer}
 use Rattle.bq_state.specs.Rules.{sum_kind, difference_kind, pointer_kind, alu_kind}
 use Rattle.bq_sound.proofs.Moves.{Moved, on, back}
-use Rattle.bq_sound.proofs.Tags.{Region, InFrame, InRecord, Tagged, Num, Ptr, start, image, IsWord, image_small, HoldsNumber, HoldsPointer, holds_word, TagHolds}
+use Rattle.bq_sound.proofs.Tags.{Region, InFrame, InRecord, Tagged, Num, Ptr, start, image, IsWord, same_word, same_pointer, image_small, HoldsNumber, HoldsPointer, holds_word, TagHolds}
 
 -- a value of a kind that is so much at each placement
 pub record Made (k : Kind) (f : Place → ℕ) : Type 0 where
@@ -30,12 +30,6 @@ pub record Made (k : Kind) (f : Place → ℕ) : Type 0 where
 -- a number of a range
 pub made_number : (a : Interval) (f : Place → ℕ) (n : ℕ) → IsIn n a → n < 2 ^ 64 → ((p : Place) → f p ≡ n) → Made (Number a) f
 made_number a f n h small is = record { value = Num n; holds = holds_word a n h; word = small; is = is }
-
-same_word : (u : Tagged) (w : ℕ) → Some u ≡ Some (Num w) → u ≡ Num w
-same_word u w e = cc
-
-same_pointer : (u : Tagged) (region : Region) (z : ℤ) → Some u ≡ Some (Ptr region z) → u ≡ Ptr region z
-same_pointer u region z e = cc
 
 some_of : {A B : Type 0} (f : A → B) (o : Option A) (b : B) → option_map f o ≡ Some b → (a : A) × (o ≡ Some a) × (f a ≡ b)
 some_of f None b e = cc

@@ -1,6 +1,6 @@
 -- Loads and stores.
 use Rattle.std.proofs.Common.{◌≡◌, ℕ, ◌+◌, ◌*◌, ◌^◌, ◌<◌, ◌≤◌, refl, ap, ◌∙◌, subst, inl, arith, List, Option, Some, Ok}
-use Rattle.std.specs.Prelude.{ℤ, pos, slice_set, slice_range}
+use Rattle.std.specs.Prelude.{ℤ, slice_set, slice_range}
 use Rattle.std.specs.List.{splice}
 use Rattle.std.proofs.lemmas.Bool.{lt-ltb}
 use Rattle.bq_word.specs.Word.{le_bytes, le_number, sign_bits, extended}
@@ -13,7 +13,6 @@ use Rattle.bq_insn.specs.declared.insn.Operand.{Operand}
 use Rattle.bq_insn.specs.declared.insn.Size.{Size}
 use Rattle.bq_insn.specs.declared.insn.Size.TheVariants.{B1, B2, B4, B8}
 use Rattle.bq_flow.specs.Paths.{Among}
-use Rattle.bq_flow.specs.Successors.{successors}
 use Rattle.bq_meaning.specs.Place.{Place, IsPlacement}
 use Rattle.bq_meaning.specs.Memory.{size_bytes, signed_bytes, loaded}
 use Rattle.bq_meaning.specs.Meaning.{Outcome, Continues, written, loading, perform}
@@ -21,8 +20,8 @@ use Rattle.bq_range.specs.Interval.{Interval, IsIn, whole, all_words}
 use Rattle.bq_state.specs.declared.kind.Kind.{Kind}
 use Rattle.bq_state.specs.declared.kind.Kind.TheVariants.{Number}
 use Rattle.bq_state.specs.Kinds.{kind_of}
-use Rattle.bq_state.specs.Rules.{and_then, known, writable, readable, storable, operand_kind, loaded_state}
-use Rattle.bq_sound.specs.Passes.{NoteCovers, IsFine}
+use Rattle.bq_state.specs.Rules.{transfer, and_then, known, writable, readable, storable, operand_kind, loaded_state}
+use Rattle.bq_state.specs.Edges.{edges}
 use Rattle.bq_sound.specs.Safe.{AreBytes}
 use Rattle.bq_sound.proofs.Tags.{Region, InFrame, InRecord, Tagged, Num, Ptr, tag_at, holds_word, TagHolds, TagsHold}
 use Rattle.bq_sound.proofs.Rules.{same_state, read, wrote}
@@ -60,10 +59,10 @@ load_performs : (p : Place) → IsPlacement p → (m : Common) (d base : ℕ) (d
 load_performs p place m d base distance size f region z some h e low o is =
     rw (is, held_is p m.tags base (Ptr region z) e, lt-ltb d 10 low, accesses p place region z distance size some h, loaded_is p m region h.at size) refl
 
-does_loading : (text : List Insn) (notes : List (Option (List Kind))) (m : Common) (i : Insn) (d base : ℕ) (distance : ℤ) (size : ℕ) (f : ℕ → ℕ) (range : Interval) (state after : List Kind)
-    → Loads size f range → Stands text m i state → loaded_state state d base distance size range ≡ Ok after → NoteCovers notes (m.unit + 1, after) → Among (pos (m.unit + 1)) (successors m.unit i)
-    → ((p : Place) → perform p i (machine p m) ≡ loading p (machine p m) d base distance size f) → GoesOn text notes m
-does_loading text notes m i d base distance size f range state after l s rules covered among does =
+does_loading : (m : Common) (i : Insn) (d base : ℕ) (distance : ℤ) (size : ℕ) (f : ℕ → ℕ) (range : Interval) (state after : List Kind)
+    → Loads size f range → Stands m state → loaded_state state d base distance size range ≡ Ok after → Among (m.unit + 1, after) (edges m.unit i after)
+    → ((p : Place) → perform p i (machine p m) ≡ loading p (machine p m) d base distance size f) → GoesOn m i after
+does_loading m i d base distance size f range state after l s rules among does =
     let k = kind_of state base in
     let r = read k (tag_at m.tags base) (λ k'. and_then (writable d) (λ _. and_then (readable k' distance size) (λ _. Ok (slice_set state d (Number range))))) after (s.holds.each base) rules in
     let low = wrote d (λ _. and_then (readable k distance size) (λ _. Ok (slice_set state d (Number range)))) after r.2 in
@@ -72,7 +71,7 @@ does_loading text notes m i d base distance size f range state after l s rules c
     let at : tag_at m.tags base ≡ Some (Ptr region from.0.z) = known_pointer (tag_at m.tags base) r.0 (Ptr region from.0.z) r.1 from.0.is in
     let n = le_number (slice_range (region_bytes m region) from.0.inside.at (from.0.inside.at + size)) in
     let below : n < 256 ^ size = read_below (extent region) (region_bytes m region) from.0.inside.at size (region_whole m s.whole region) from.0.inside.room in
-    puts text notes m i (m.unit + 1) d state after (Number range) (Num (f n)) s low.0 (holds_word range (f n) (l.within n below)) (l.small n below) (same_state _ _ from.1) covered among
+    puts m i (m.unit + 1) d state after (Number range) (Num (f n)) s low.0 (holds_word range (f n) (l.within n below)) (l.small n below) (same_state _ _ from.1) among
     (λ p place. load_performs p place m d base distance size f region from.0.z l.some from.0.inside at low.0 (perform p i (machine p m)) (does p))
 
 plain_loads : (size : Size) → Loads (size_bytes size) (λ n. n) (whole (8 * size_bytes size))
@@ -96,15 +95,15 @@ signed_loads bits = record {
   small = λ n h. extended_bound (sign_bits bits) 64 n;
 }
 
-pub does_load : (text : List Insn) (notes : List (Option (List Kind))) (m : Common) (size : Size) (d base : ℕ) (distance : ℤ) (state : List Kind)
-    → Stands text m (insns.Load size d base distance) state → IsFine notes m.unit (insns.Load size d base distance) state → GoesOn text notes m
-does_load text notes m size d base distance state s fine =
-    does_loading text notes m (insns.Load size d base distance) d base distance (size_bytes size) (λ n. n) (whole (8 * size_bytes size)) state fine.after (plain_loads size) s fine.rules fine.covered.0 (inl refl) (λ p. refl)
+pub does_load : (m : Common) (size : Size) (d base : ℕ) (distance : ℤ) (state after : List Kind)
+    → Stands m state → transfer (insns.Load size d base distance) state ≡ Ok after → GoesOn m (insns.Load size d base distance) after
+does_load m size d base distance state after s rules =
+    does_loading m (insns.Load size d base distance) d base distance (size_bytes size) (λ n. n) (whole (8 * size_bytes size)) state after (plain_loads size) s rules (inl refl) (λ p. refl)
 
-pub does_load_signed : (text : List Insn) (notes : List (Option (List Kind))) (m : Common) (bits : SignBits) (d base : ℕ) (distance : ℤ) (state : List Kind)
-    → Stands text m (insns.LoadSigned bits d base distance) state → IsFine notes m.unit (insns.LoadSigned bits d base distance) state → GoesOn text notes m
-does_load_signed text notes m bits d base distance state s fine =
-    does_loading text notes m (insns.LoadSigned bits d base distance) d base distance (signed_bytes bits) (extended (sign_bits bits) 64) all_words state fine.after (signed_loads bits) s fine.rules fine.covered.0 (inl refl) (λ p. refl)
+pub does_load_signed : (m : Common) (bits : SignBits) (d base : ℕ) (distance : ℤ) (state after : List Kind)
+    → Stands m state → transfer (insns.LoadSigned bits d base distance) state ≡ Ok after → GoesOn m (insns.LoadSigned bits d base distance) after
+does_load_signed m bits d base distance state after s rules =
+    does_loading m (insns.LoadSigned bits d base distance) d base distance (signed_bytes bits) (extended (sign_bits bits) 64) all_words state after (signed_loads bits) s rules (inl refl) (λ p. refl)
 
 -- ---- stores
 
@@ -123,23 +122,23 @@ store_performs : (p : Place) → IsPlacement p → (m : Common) (size : Size) (b
 store_performs p place m size base distance x z w h e f =
     rw (held_is p m.tags base (Ptr InFrame z) e, value_is p m.tags x (Num w) f, accesses p place InFrame z distance (size_bytes size) (some_size size) h) refl
 
-does_storing : (text : List Insn) (notes : List (Option (List Kind))) (m : Common) (size : Size) (base : ℕ) (distance : ℤ) (x : Operand) (state after : List Kind) (z : ℤ) (w : ℕ) (h : Inside InFrame z distance (size_bytes size))
-    → tag_at m.tags base ≡ Some (Ptr InFrame z) → operand_tag m.tags x ≡ Some (Num w) → Stands text m (insns.Store size base distance x) state → state ≡ after → NoteCovers notes (m.unit + 1, after) → GoesOn text notes m
-does_storing text notes m size base distance x state after z w h e f s is covered =
-    goes_on text notes m (with_bytes m h.at (size_bytes size) w) (insns.Store size base distance x) state after s
+does_storing : (m : Common) (size : Size) (base : ℕ) (distance : ℤ) (x : Operand) (state after : List Kind) (z : ℤ) (w : ℕ) (h : Inside InFrame z distance (size_bytes size))
+    → tag_at m.tags base ≡ Some (Ptr InFrame z) → operand_tag m.tags x ≡ Some (Num w) → Stands m state → state ≡ after → GoesOn m (insns.Store size base distance x) after
+does_storing m size base distance x state after z w h e f s is =
+    goes_on m (with_bytes m h.at (size_bytes size) w) (insns.Store size base distance x) after after
     (record { words = s.whole.words; frame = written_bytes 512 m.frame h.at (size_bytes size) w s.whole.frame h.room; «record» = s.whole.record })
-    (subst (λ q. TagsHold q m.tags) is s.holds) covered (inl refl) (λ p place. store_performs p place m size base distance x z w h e f)
+    (subst (λ q. TagsHold q m.tags) is s.holds) (inl refl) (λ p place. store_performs p place m size base distance x z w h e f)
 
-pub does_store : (text : List Insn) (notes : List (Option (List Kind))) (m : Common) (size : Size) (base : ℕ) (distance : ℤ) (x : Operand) (state : List Kind)
-    → Stands text m (insns.Store size base distance x) state → IsFine notes m.unit (insns.Store size base distance x) state → GoesOn text notes m
-does_store text notes m size base distance x state s fine =
+pub does_store : (m : Common) (size : Size) (base : ℕ) (distance : ℤ) (x : Operand) (state after : List Kind)
+    → Stands m state → transfer (insns.Store size base distance x) state ≡ Ok after → GoesOn m (insns.Store size base distance x) after
+does_store m size base distance x state after s rules =
     let k = kind_of state base in
     let l = operand_kind state x in
     let n = size_bytes size in
     let hv = operand_holds state m.tags x s.holds in
-    let ru = read k (tag_at m.tags base) (λ k'. and_then (known l) (λ l'. and_then (storable k' l' distance n) (λ _. Ok state))) fine.after (s.holds.each base) fine.rules in
-    let rv = read l (operand_tag m.tags x) (λ l'. and_then (storable k l' distance n) (λ _. Ok state)) fine.after hv ru.2 in
-    let to = stores k l distance n (λ _. Ok state) fine.after ru.0 rv.0 (subst (TagHolds k) ru.1 (s.holds.each base)) (subst (TagHolds l) rv.1 hv) rv.2 in
+    let ru = read k (tag_at m.tags base) (λ k'. and_then (known l) (λ l'. and_then (storable k' l' distance n) (λ _. Ok state))) after (s.holds.each base) rules in
+    let rv = read l (operand_tag m.tags x) (λ l'. and_then (storable k l' distance n) (λ _. Ok state)) after hv ru.2 in
+    let to = stores k l distance n (λ _. Ok state) after ru.0 rv.0 (subst (TagHolds k) ru.1 (s.holds.each base)) (subst (TagHolds l) rv.1 hv) rv.2 in
     let at_base : tag_at m.tags base ≡ Some (Ptr InFrame to.0.z) = known_pointer (tag_at m.tags base) ru.0 (Ptr InFrame to.0.z) ru.1 to.0.is in
     let at_value : operand_tag m.tags x ≡ Some (Num to.0.word) = known_pointer (operand_tag m.tags x) rv.0 (Num to.0.word) rv.1 to.0.number in
-    does_storing text notes m size base distance x state fine.after to.0.z to.0.word to.0.inside at_base at_value s (same_state state fine.after to.1) fine.covered.0
+    does_storing m size base distance x state after to.0.z to.0.word to.0.inside at_base at_value s (same_state state after to.1)

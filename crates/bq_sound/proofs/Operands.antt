@@ -1,5 +1,5 @@
 -- The operands of an instruction, at every placement.
-use Rattle.std.proofs.Common.{◌≡◌, ℕ, ◌^◌, ◌<◌, ap, ◌∙◌, subst, arith, List, Option, Some}
+use Rattle.std.proofs.Common.{◌≡◌, ℕ, ap, ◌∙◌, arith, List, Option, Some}
 use Rattle.std.specs.Prelude.{option_map}
 use Rattle.bq_word.specs.Word.{modulo}
 use Rattle.bq_word.specs.declared.AluOp.{AluOp}
@@ -12,7 +12,7 @@ use Rattle.bq_meaning.specs.Meaning.{held, value, taken}
 use Rattle.bq_range.specs.Interval.{single}
 use Rattle.bq_state.specs.declared.kind.Kind.{Kind}
 use Rattle.bq_state.specs.Rules.{operand_kind, taken_kind}
-use Rattle.bq_sound.proofs.Tags.{Tagged, Num, image, images, held_image, IsWord, tag_at, HoldsNumber, holds_word, TagHolds, TagsHold}
+use Rattle.bq_sound.proofs.Tags.{Tagged, Num, image, images, held_image, IsWord, word_of, tag_at, HoldsNumber, holds_word, TagHolds, TagsHold}
 use Rattle.bq_sound.proofs.Machine.{AreWords}
 
 abbrev pub operand_tag : List (Option Tagged) → Operand → Option Tagged
@@ -46,9 +46,6 @@ operand_holds state tags (operands.Number z) h = number_of (modulo 64 z)
 pub taken_holds : (state : List Kind) (tags : List (Option Tagged)) (op : AluOp) (d : ℕ) → TagsHold state tags → TagHolds (taken_kind state op d) (taken_tag tags op d)
 taken_holds state tags ops.Mov d h = number_of 0
 taken_holds state tags op d h = h.each d
-
-word_of : (n : ℕ) (v : Tagged) → n < 2 ^ 64 → Some (Num n) ≡ Some v → IsWord v
-word_of n v h e = let is : Num n ≡ v = cc in subst IsWord is h
 
 pub operand_word : (tags : List (Option Tagged)) (x : Operand) (v : Tagged) → AreWords tags → operand_tag tags x ≡ Some v → IsWord v
 operand_word tags (operands.Register r) v h e = h.each r v e

@@ -1,5 +1,5 @@
 -- A machine that stands at an instruction that breaks no rule goes on or ends.
-use Rattle.std.proofs.Common.{◌≡◌, ℕ, subst, inl, inr, List, [], ◌∷◌, ◌++◌, Option, Some, None}
+use Rattle.std.proofs.Common.{◌≡◌, ℕ, subst, inl, inr, List, [], ◌∷◌, ◌++◌, Option, Some, None, Ok}
 use Rattle.std.specs.Prelude.{◌⊎◌, ⊤, All}
 use Rattle.std.specs.List.{AllByRecursion}
 use Rattle.std.proofs.lemmas.Bool.{cases_lt}
@@ -10,9 +10,9 @@ use Rattle.bq_insn.specs.Insn.{IsInsn}
 use Rattle.bq_insn.specs.Slots.{slots_of, slots, units, IsText}
 use Rattle.bq_insn.specs.declared.insn.Insn.{Insn}
 use Rattle.bq_insn.specs.declared.insn.Insn.TheVariants as insns
-use Rattle.bq_flow.specs.Paths.{insn_at, IsLegalFlow}
+use Rattle.bq_flow.specs.Paths.{insn_at}
 use Rattle.bq_state.specs.declared.kind.Kind.{Kind}
-use Rattle.bq_sound.specs.Passes.{IsFine}
+use Rattle.bq_state.specs.Rules.{transfer}
 use Rattle.bq_sound.proofs.Machine.{Common, GoesOn, Stops, Stands}
 use Rattle.bq_sound.proofs.Registers.{does_alu, does_negate, does_extend, does_order, does_wide, does_exit}
 use Rattle.bq_sound.proofs.Memory.{does_load, does_load_signed, does_store}
@@ -42,17 +42,16 @@ is_insn t unit i h e = elim (cases_lt unit (units t)) [
 
 -- ---- every instruction
 
-pub progress : (text : List Insn) (notes : List (Option (List Kind))) (m : Common) (i : Insn) (state : List Kind) → IsText text → IsLegalFlow text → Stands text m i state → IsFine notes m.unit i state
-    → GoesOn text notes m ⊎ Stops text m
-progress text notes m (insns.Alu w op d x) state t legal s fine = inl (does_alu text notes m w op d x state s fine)
-progress text notes m (insns.Negate w d) state t legal s fine = inl (does_negate text notes m w d state s fine)
-progress text notes m (insns.Extend e d r) state t legal s fine = inl (does_extend text notes m e d r state s fine)
-progress text notes m (insns.Order o bits d) state t legal s fine = inl (does_order text notes m o bits d state s fine)
-progress text notes m (insns.Jump distance) state t legal s fine = inl (does_jump text notes m distance state t.few legal s fine)
-progress text notes m (insns.JumpFar distance) state t legal s fine = inl (does_jump_far text notes m distance state t.few legal s fine)
-progress text notes m (insns.Branch w r d x distance) state t legal s fine = inl (does_branch text notes m w r d x distance state t.few legal s fine)
-progress text notes m insns.Exit state t legal s fine = inr (does_exit text notes m state s fine)
-progress text notes m (insns.Load size d base distance) state t legal s fine = inl (does_load text notes m size d base distance state s fine)
-progress text notes m (insns.LoadSigned bits d base distance) state t legal s fine = inl (does_load_signed text notes m bits d base distance state s fine)
-progress text notes m (insns.Store size base distance x) state t legal s fine = inl (does_store text notes m size base distance x state s fine)
-progress text notes m (insns.Wide d v) state t legal s fine = inl (does_wide text notes m d v state (is_insn text m.unit (insns.Wide d v) t s.there).1 s fine)
+pub progress : (m : Common) (i : Insn) (state after : List Kind) → IsInsn i → Stands m state → transfer i state ≡ Ok after → GoesOn m i after ⊎ Stops m i
+progress m (insns.Alu w op d x) state after legal s rules = inl (does_alu m w op d x state after s rules)
+progress m (insns.Negate w d) state after legal s rules = inl (does_negate m w d state after s rules)
+progress m (insns.Extend e d r) state after legal s rules = inl (does_extend m e d r state after s rules)
+progress m (insns.Order o bits d) state after legal s rules = inl (does_order m o bits d state after s rules)
+progress m (insns.Jump distance) state after legal s rules = inl (does_jump m distance state after s rules)
+progress m (insns.JumpFar distance) state after legal s rules = inl (does_jump_far m distance state after s rules)
+progress m (insns.Branch w r d x distance) state after legal s rules = inl (does_branch m w r d x distance state after s rules)
+progress m insns.Exit state after legal s rules = inr (does_exit m state after s rules)
+progress m (insns.Load size d base distance) state after legal s rules = inl (does_load m size d base distance state after s rules)
+progress m (insns.LoadSigned bits d base distance) state after legal s rules = inl (does_load_signed m bits d base distance state after s rules)
+progress m (insns.Store size base distance x) state after legal s rules = inl (does_store m size base distance x state after s rules)
+progress m (insns.Wide d v) state after legal s rules = inl (does_wide m d v state after legal.1 s rules)

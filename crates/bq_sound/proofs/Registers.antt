@@ -1,6 +1,6 @@
 -- Instructions that work on registers alone.
-use Rattle.std.proofs.Common.{◌≡◌, ℕ, ◌+◌, ◌^◌, ◌<◌, ◌≤◌, refl, ◌∙◌, subst, inl, arith, List, Option, Some, Ok}
-use Rattle.std.specs.Prelude.{pos, slice_set}
+use Rattle.std.proofs.Common.{◌≡◌, ℕ, ◌+◌, ◌^◌, ◌<◌, ◌≤◌, refl, ◌∙◌, subst, inl, arith, List, Some, Ok}
+use Rattle.std.specs.Prelude.{slice_set}
 use Rattle.std.proofs.lemmas.Bool.{lt-ltb}
 use Rattle.bq_word.specs.Word.{bits_of, operation, low, swap_bits, swapped, extended}
 use Rattle.bq_word.specs.declared.Width.{Width}
@@ -20,7 +20,6 @@ use Rattle.bq_insn.specs.declared.insn.Extension.TheVariants as extensions
 use Rattle.bq_insn.specs.declared.insn.ByteOrder.{ByteOrder}
 use Rattle.bq_insn.specs.declared.insn.ByteOrder.TheVariants as orders
 use Rattle.bq_flow.specs.Paths.{Among}
-use Rattle.bq_flow.specs.Successors.{successors}
 use Rattle.bq_meaning.specs.Place.{Place}
 use Rattle.bq_meaning.specs.Meaning.{Outcome, Continues, Ends, held, value, ordered, reading, writing, written, perform}
 use Rattle.bq_meaning.specs.declared.fault.Fault.TheVariants.{ReadUnset}
@@ -32,8 +31,8 @@ use Rattle.bq_state.specs.declared.kind.Kind.{Kind}
 use Rattle.bq_state.specs.declared.kind.Kind.TheVariants.{Number}
 use Rattle.bq_state.specs.declared.rule.Rule.TheVariants.{WrongKind, AnswerKind}
 use Rattle.bq_state.specs.Kinds.{kind_of}
-use Rattle.bq_state.specs.Rules.{and_then, known, writable, number, allowed, operand_kind, taken_kind, alu_kind, mapped, ordered_range}
-use Rattle.bq_sound.specs.Passes.{NoteCovers, IsFine}
+use Rattle.bq_state.specs.Rules.{transfer, and_then, known, writable, number, allowed, operand_kind, taken_kind, alu_kind, mapped, ordered_range}
+use Rattle.bq_state.specs.Edges.{edges}
 use Rattle.bq_sound.proofs.Tags.{Tagged, Num, image, images, tag_at, HoldsNumber, holds_word, TagHolds}
 use Rattle.bq_sound.proofs.Rules.{same_state, read, wrote, gave, numbered}
 use Rattle.bq_sound.proofs.Made.{alu_made, operation_word}
@@ -47,19 +46,19 @@ alu_performs : (p : Place) (m : Common) (w : Width) (op : AluOp) (d : ℕ) (x : 
     → perform p (insns.Alu w op d x) (machine p m) ≡ Continues (written (machine p m) d (image p value))
 alu_performs p m w op d x u v value eu ev low is = rw (taken_is p m.tags op d u eu, value_is p m.tags x v ev, lt-ltb d 10 low, is) refl
 
-pub does_alu : (text : List Insn) (notes : List (Option (List Kind))) (m : Common) (w : Width) (op : AluOp) (d : ℕ) (x : Operand) (state : List Kind)
-    → Stands text m (insns.Alu w op d x) state → IsFine notes m.unit (insns.Alu w op d x) state → GoesOn text notes m
-does_alu text notes m w op d x state s fine =
+pub does_alu : (m : Common) (w : Width) (op : AluOp) (d : ℕ) (x : Operand) (state after : List Kind)
+    → Stands m state → transfer (insns.Alu w op d x) state ≡ Ok after → GoesOn m (insns.Alu w op d x) after
+does_alu m w op d x state after s rules =
     let a = taken_kind state op d in
     let b = operand_kind state x in
     let hu = taken_holds state m.tags op d s.holds in
     let hv = operand_holds state m.tags x s.holds in
-    let ru = read a (taken_tag m.tags op d) (λ a'. and_then (known b) (λ b'. and_then (writable d) (λ _. and_then (allowed (alu_kind w op a' b')) (λ k. Ok (slice_set state d k))))) fine.after hu fine.rules in
-    let rv = read b (operand_tag m.tags x) (λ b'. and_then (writable d) (λ _. and_then (allowed (alu_kind w op a b')) (λ k. Ok (slice_set state d k)))) fine.after hv ru.2 in
-    let low = wrote d (λ _. and_then (allowed (alu_kind w op a b)) (λ k. Ok (slice_set state d k))) fine.after rv.2 in
-    let is = gave (alu_kind w op a b) (λ k. Ok (slice_set state d k)) fine.after low.1 in
+    let ru = read a (taken_tag m.tags op d) (λ a'. and_then (known b) (λ b'. and_then (writable d) (λ _. and_then (allowed (alu_kind w op a' b')) (λ k. Ok (slice_set state d k))))) after hu rules in
+    let rv = read b (operand_tag m.tags x) (λ b'. and_then (writable d) (λ _. and_then (allowed (alu_kind w op a b')) (λ k. Ok (slice_set state d k)))) after hv ru.2 in
+    let low = wrote d (λ _. and_then (allowed (alu_kind w op a b)) (λ k. Ok (slice_set state d k))) after rv.2 in
+    let is = gave (alu_kind w op a b) (λ k. Ok (slice_set state d k)) after low.1 in
     let made = alu_made w op a b is.0 ru.0 rv.0 is.1 (subst (TagHolds a) ru.1 hu) (subst (TagHolds b) rv.1 hv) (taken_word m.tags op d ru.0 s.whole.words ru.1) (operand_word m.tags x rv.0 s.whole.words rv.1) in
-    puts text notes m (insns.Alu w op d x) (m.unit + 1) d state fine.after is.0 made.value s low.0 made.holds made.word (same_state _ _ is.2) fine.covered.0 (inl refl)
+    puts m (insns.Alu w op d x) (m.unit + 1) d state after is.0 made.value s low.0 made.holds made.word (same_state _ _ is.2) (inl refl)
     (λ p place. alu_performs p m w op d x ru.0 rv.0 made.value ru.1 rv.1 low.0 (made.is p))
 
 -- ---- operations of one operand
@@ -75,26 +74,26 @@ one m p d s f = reading ReadUnset (held (images p m.tags) s) (λ a. writing d (C
 one_performs : (p : Place) (m : Common) (d s : ℕ) (f : ℕ → ℕ) (w : ℕ) → tag_at m.tags s ≡ Some (Num w) → d < 10 → one m p d s f ≡ Continues (written (machine p m) d (f w))
 one_performs p m d s f w e low = rw (held_is p m.tags s (Num w) e, lt-ltb d 10 low) refl
 
-does_one : (text : List Insn) (notes : List (Option (List Kind))) (m : Common) (i : Insn) (d s : ℕ) (f : ℕ → ℕ) (g : Interval → Interval) (state after : List Kind)
-    → Covers f g → Stands text m i state → mapped state d s g ≡ Ok after → NoteCovers notes (m.unit + 1, after) → Among (pos (m.unit + 1)) (successors m.unit i)
-    → ((p : Place) → perform p i (machine p m) ≡ one m p d s f) → GoesOn text notes m
-does_one text notes m i d s f g state after c stands rules covered among does =
+does_one : (m : Common) (i : Insn) (d s : ℕ) (f : ℕ → ℕ) (g : Interval → Interval) (state after : List Kind)
+    → Covers f g → Stands m state → mapped state d s g ≡ Ok after → Among (m.unit + 1, after) (edges m.unit i after)
+    → ((p : Place) → perform p i (machine p m) ≡ one m p d s f) → GoesOn m i after
+does_one m i d s f g state after c stands rules among does =
     let k = kind_of state s in
     let r = read k (tag_at m.tags s) (λ k'. and_then (writable d) (λ _. and_then (number WrongKind k') (λ a. Ok (slice_set state d (Number (g a)))))) after (stands.holds.each s) rules in
     let low = wrote d (λ _. and_then (number WrongKind k) (λ a. Ok (slice_set state d (Number (g a))))) after r.2 in
     let n = numbered WrongKind k (λ a. Ok (slice_set state d (Number (g a)))) after low.1 in
     let h : HoldsNumber n.0 (tag_at m.tags s) = subst (λ q. TagHolds q (tag_at m.tags s)) n.1 (stands.holds.each s) in
-    puts text notes m i (m.unit + 1) d state after (Number (g n.0)) (Num (f h.word)) stands low.0
-    (holds_word (g n.0) (f h.word) (c.covers n.0 h.word h.within)) (c.small h.word) (same_state _ _ n.2) covered among
+    puts m i (m.unit + 1) d state after (Number (g n.0)) (Num (f h.word)) stands low.0
+    (holds_word (g n.0) (f h.word) (c.covers n.0 h.word h.within)) (c.small h.word) (same_state _ _ n.2) among
     (λ p place. does p ∙ one_performs p m d s f h.word h.is low.0)
 
 negation : (w : Width) → Covers (operation (bits_of w) Sub 0) (negated (bits_of w))
 negation w = record { small = operation_word w Sub 0; covers = negated_covers (bits_of w) }
 
-pub does_negate : (text : List Insn) (notes : List (Option (List Kind))) (m : Common) (w : Width) (d : ℕ) (state : List Kind)
-    → Stands text m (insns.Negate w d) state → IsFine notes m.unit (insns.Negate w d) state → GoesOn text notes m
-does_negate text notes m w d state s fine =
-    does_one text notes m (insns.Negate w d) d d (operation (bits_of w) Sub 0) (negated (bits_of w)) state fine.after (negation w) s fine.rules fine.covered.0 (inl refl) (λ p. refl)
+pub does_negate : (m : Common) (w : Width) (d : ℕ) (state after : List Kind)
+    → Stands m state → transfer (insns.Negate w d) state ≡ Ok after → GoesOn m (insns.Negate w d) after
+does_negate m w d state after s rules =
+    does_one m (insns.Negate w d) d d (operation (bits_of w) Sub 0) (negated (bits_of w)) state after (negation w) s rules (inl refl) (λ p. refl)
 
 extended_word : (bits : ℕ) (w : Width) (x : ℕ) → extended bits (bits_of w) x < 2 ^ 64
 extended_word bits w x = let b = extended_bound bits (bits_of w) x in let c = words w in omega (arith, b, c)
@@ -106,10 +105,10 @@ extension extensions.W64From8 = record { small = extended_word 8 W64; covers = s
 extension extensions.W64From16 = record { small = extended_word 16 W64; covers = sign_extended_covers B16 W64 }
 extension extensions.W64From32 = record { small = extended_word 32 W64; covers = sign_extended_covers B32 W64 }
 
-pub does_extend : (text : List Insn) (notes : List (Option (List Kind))) (m : Common) (e : Extension) (d r : ℕ) (state : List Kind)
-    → Stands text m (insns.Extend e d r) state → IsFine notes m.unit (insns.Extend e d r) state → GoesOn text notes m
-does_extend text notes m e d r state s fine =
-    does_one text notes m (insns.Extend e d r) d r _ _ state fine.after (extension e) s fine.rules fine.covered.0 (inl refl) (λ p. refl)
+pub does_extend : (m : Common) (e : Extension) (d r : ℕ) (state after : List Kind)
+    → Stands m state → transfer (insns.Extend e d r) state ≡ Ok after → GoesOn m (insns.Extend e d r) after
+does_extend m e d r state after s rules =
+    does_one m (insns.Extend e d r) d r _ _ state after (extension e) s rules (inl refl) (λ p. refl)
 
 low_word : (bits : SwapBits) (x : ℕ) → low (swap_bits bits) x < 2 ^ 64
 low_word swaps.B16 x = omega arith
@@ -129,29 +128,29 @@ order orders.Little bits = record { small = low_word bits; covers = low_range_co
 order orders.Big bits = record { small = swapped_word bits; covers = swapped_range_covers bits }
 order orders.Swapped bits = record { small = swapped_word bits; covers = swapped_range_covers bits }
 
-pub does_order : (text : List Insn) (notes : List (Option (List Kind))) (m : Common) (o : ByteOrder) (bits : SwapBits) (d : ℕ) (state : List Kind)
-    → Stands text m (insns.Order o bits d) state → IsFine notes m.unit (insns.Order o bits d) state → GoesOn text notes m
-does_order text notes m o bits d state s fine =
-    does_one text notes m (insns.Order o bits d) d d (ordered o (swap_bits bits)) (ordered_range o (swap_bits bits)) state fine.after (order o bits) s fine.rules fine.covered.0 (inl refl) (λ p. refl)
+pub does_order : (m : Common) (o : ByteOrder) (bits : SwapBits) (d : ℕ) (state after : List Kind)
+    → Stands m state → transfer (insns.Order o bits d) state ≡ Ok after → GoesOn m (insns.Order o bits d) after
+does_order m o bits d state after s rules =
+    does_one m (insns.Order o bits d) d d (ordered o (swap_bits bits)) (ordered_range o (swap_bits bits)) state after (order o bits) s rules (inl refl) (λ p. refl)
 
 -- ---- a number of 64 bits, and an exit
 
-pub does_wide : (text : List Insn) (notes : List (Option (List Kind))) (m : Common) (d v : ℕ) (state : List Kind) → v < 2 ^ 64
-    → Stands text m (insns.Wide d v) state → IsFine notes m.unit (insns.Wide d v) state → GoesOn text notes m
-does_wide text notes m d v state small s fine =
-    let low = wrote d (λ _. Ok (slice_set state d (Number (single v)))) fine.after fine.rules in
+pub does_wide : (m : Common) (d v : ℕ) (state after : List Kind) → v < 2 ^ 64
+    → Stands m state → transfer (insns.Wide d v) state ≡ Ok after → GoesOn m (insns.Wide d v) after
+does_wide m d v state after small s rules =
+    let low = wrote d (λ _. Ok (slice_set state d (Number (single v)))) after rules in
     let lt = lt-ltb d 10 low.0 in
-    puts text notes m (insns.Wide d v) (m.unit + 2) d state fine.after (Number (single v)) (Num v) s low.0
-    (holds_word (single v) v (record { low = omega arith; high = omega arith })) small (same_state _ _ low.1) fine.covered.0 (inl refl)
+    puts m (insns.Wide d v) (m.unit + 2) d state after (Number (single v)) (Num v) s low.0
+    (holds_word (single v) v (record { low = omega arith; high = omega arith })) small (same_state _ _ low.1) (inl refl)
     (λ p place. rw lt refl)
 
 exit_performs : (p : Place) (m : Common) (w : ℕ) → tag_at m.tags 0 ≡ Some (Num w) → perform p insns.Exit (machine p m) ≡ Ends w
 exit_performs p m w e = rw (held_is p m.tags 0 (Num w) e) refl
 
-pub does_exit : (text : List Insn) (notes : List (Option (List Kind))) (m : Common) (state : List Kind) → Stands text m insns.Exit state → IsFine notes m.unit insns.Exit state → Stops text m
-does_exit text notes m state s fine =
+pub does_exit : (m : Common) (state after : List Kind) → Stands m state → transfer insns.Exit state ≡ Ok after → Stops m insns.Exit
+does_exit m state after s rules =
     let k = kind_of state 0 in
-    let r = read k (tag_at m.tags 0) (λ k'. and_then (number AnswerKind k') (λ _. Ok state)) fine.after (s.holds.each 0) fine.rules in
-    let n = numbered AnswerKind k (λ _. Ok state) fine.after r.2 in
+    let r = read k (tag_at m.tags 0) (λ k'. and_then (number AnswerKind k') (λ _. Ok state)) after (s.holds.each 0) rules in
+    let n = numbered AnswerKind k (λ _. Ok state) after r.2 in
     let h : HoldsNumber n.0 (tag_at m.tags 0) = subst (λ q. TagHolds q (tag_at m.tags 0)) n.1 (s.holds.each 0) in
-    record { answer = h.word; word = s.whole.words.each 0 (Num h.word) h.is; there = s.there; steps = λ p place. rw s.there (exit_performs p m h.word h.is) }
+    record { answer = h.word; word = s.whole.words.each 0 (Num h.word) h.is; exits = refl; steps = λ p place. exit_performs p m h.word h.is }

@@ -1,14 +1,15 @@
 -- Runs from the entry: one outcome, the same at every placement, on a path of the text.
-use Rattle.std.proofs.Common.{◌≡◌, ℕ, zero, suc, ◌+◌, ◌^◌, ◌<◌, ◌≤◌, refl, subst, inl, inr, arith, List, [], ◌∷◌, length, Option, Some, None}
+use Rattle.std.proofs.Common.{◌≡◌, ◌∙◌, ap, ℕ, zero, suc, ◌+◌, ◌^◌, ◌<◌, ◌≤◌, refl, subst, inl, inr, arith, List, [], ◌∷◌, length, Option, Some, None}
 use Rattle.std.specs.Prelude.{pos, ⊤}
 use Rattle.std.proofs.lemmas.Int.{ints}
 use Rattle.std.proofs.lemmas.Bool.{cases_lt}
 use Rattle.std.proofs.lemmas.List.{get_or_past}
 use Rattle.bq_insn.specs.Slots.{units, IsText}
 use Rattle.bq_insn.specs.declared.insn.Insn.{Insn}
-use Rattle.bq_flow.specs.Paths.{Path, IsLongest}
+use Rattle.bq_flow.specs.Paths.{insn_at, Path, IsLongest}
 use Rattle.bq_meaning.specs.Place.{Place, IsPlacement}
-use Rattle.bq_meaning.specs.Meaning.{moved}
+use Rattle.bq_meaning.specs.Meaning.{Outcome, Continues, moved, perform, step}
+use Rattle.bq_meaning.specs.Meaning.{Ends as Answers}
 use Rattle.bq_meaning.specs.Runs.{entry_machine, RunsTo}
 use Rattle.bq_range.specs.Interval.{single, all_words}
 use Rattle.bq_state.specs.Offsets.{IsOffset, at_offset}
@@ -18,9 +19,14 @@ use Rattle.bq_sound.specs.Passes.{note_at, Passes}
 use Rattle.bq_sound.specs.Safe.{AreBytes, IsSafe}
 use Rattle.bq_sound.proofs.Tags.{InFrame, InRecord, Tagged, Num, Ptr, IsWord, tag_at, HoldsNumber, HoldsPointer, TagHolds, TagsHold, covered_tags}
 use Rattle.bq_sound.proofs.Machine.{Common, machine, IsWhole}
-use Rattle.bq_sound.proofs.Progress.{progress}
+use Rattle.bq_sound.proofs.Along.{among_covered, along_successors}
+use Rattle.bq_sound.proofs.Progress.{is_insn, progress}
+use Rattle.bq_state.specs.Edges.{edges}
 
 -- ---- from a unit with a state to an exit
+
+stepped : (p : Place) (text : List Insn) (m : Common) (i : Insn) (o : Outcome) → insn_at text m.unit ≡ Some i → perform p i (machine p m) ≡ o → step p text (machine p m) ≡ o
+stepped p text m i o e is = rw e is
 
 record Ends (text : List Insn) (m : Common) : Type 0 where
   count : ℕ
@@ -41,18 +47,21 @@ ends (suc fuel) text notes m state t passes whole noted holds room =
     let within : m.unit < units text = omega (arith, note_within notes m.unit state noted, passes.count) in
     let i = passes.halves.each m.unit state within noted in
     let fine = passes.fine.each m.unit state i.0 within noted i.1 in
-    elim (progress text notes m i.0 state t passes.flow (record { there = i.1; whole = whole; holds = holds }) fine) [
+    elim (progress m i.0 state fine.after (is_insn text m.unit i.0 t i.1) (record { whole = whole; holds = holds }) fine.rules) [
       | inl on ↦
-          let forward = passes.flow.each m.unit on.insn (pos on.next.unit) on.there on.along in
-          let rest = ends fuel text notes on.next on.note t passes on.whole on.noted on.holds (omega (arith, ints, forward.is, forward.forward)) in
+          let covered = among_covered notes (edges m.unit i.0 fine.after) (on.next.unit, on.left) fine.covered on.edge in
+          let along = along_successors text m.unit i.0 fine.after (on.next.unit, on.left) t.few passes.flow i.1 on.edge in
+          let forward = passes.flow.each m.unit i.0 (pos on.next.unit) i.1 along in
+          let holds' = covered_tags covered.note on.left on.next.tags covered.covers on.stands.holds in
+          let rest = ends fuel text notes on.next covered.note t passes on.stands.whole covered.there holds' (omega (arith, ints, forward.is, forward.forward)) in
           record {
             count = suc rest.count;
             answer = rest.answer;
             after = rest.after;
             word = rest.word;
             whole = rest.whole;
-            path = inr (on.insn, on.next.unit, on.there, on.along, rest.path);
-            run = λ p place. inr (machine p on.next, on.steps p place, rest.run p place);
+            path = inr (i.0, on.next.unit, i.1, along, rest.path);
+            run = λ p place. inr (machine p on.next, stepped p text m i.0 (Continues (machine p on.next)) i.1 (on.steps p place), rest.run p place);
           }
       | inr stop ↦ record {
         count = 1;
@@ -60,8 +69,8 @@ ends (suc fuel) text notes m state t passes whole noted holds room =
         after = m.frame;
         word = stop.word;
         whole = whole.frame;
-        path = inl (refl, stop.there);
-        run = λ p place. inl (refl, stop.steps p place, refl);
+        path = inl (refl, i.1 ∙ ap Some stop.exits);
+        run = λ p place. inl (refl, stepped p text m i.0 (Answers stop.answer) i.1 (stop.steps p place), refl);
       }
     ]
 

@@ -45,6 +45,15 @@ tag_at tags r = slice_index_or tags r None
 abbrev pub images : Place → List (Option Tagged) → List (Option ℕ)
 images p tags = map (option_map (image p)) tags
 
+pub same_word : (v : Tagged) (w : ℕ) → Some v ≡ Some (Num w) → v ≡ Num w
+same_word v w e = cc
+
+pub same_pointer : (v : Tagged) (region : Region) (z : ℤ) → Some v ≡ Some (Ptr region z) → v ≡ Ptr region z
+same_pointer v region z e = cc
+
+pub word_of : (n : ℕ) (v : Tagged) → n < 2 ^ 64 → Some (Num n) ≡ Some v → IsWord v
+word_of n v h e = let is : Num n ≡ v = cc in subst IsWord is h
+
 pub held_image : (p : Place) (tags : List (Option Tagged)) (r : ℕ) → held (images p tags) r ≡ option_map (image p) (tag_at tags r)
 held_image p [] r = refl
 held_image p (t ∷ ts) zero = refl
@@ -114,7 +123,7 @@ kind_set_same [] d k t h = tt
 kind_set_same (x ∷ xs) zero k t h = h
 kind_set_same (x ∷ xs) (suc d) k t h = kind_set_same xs d k t h
 
-pub kind_set_other : (state : List Kind) (d r : ℕ) (k : Kind) → (r ≡ d → ⊥) → kind_of (slice_set state d k) r ≡ kind_of state r
+kind_set_other : (state : List Kind) (d r : ℕ) (k : Kind) → (r ≡ d → ⊥) → kind_of (slice_set state d k) r ≡ kind_of state r
 kind_set_other state d r k h = get_or-set_other state d r k Unset h
 
 pub written_holds : (state : List Kind) (tags : List (Option Tagged)) (d : ℕ) (k : Kind) (v : Tagged) → TagsHold state tags → d < length tags → TagHolds k (Some v)

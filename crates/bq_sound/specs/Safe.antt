@@ -25,7 +25,7 @@ pub record RunsAlike (text : List Insn) (longest acc : ℕ) (bytes frame : List 
 pub record IsSafe (text : List Insn) (longest : ℕ) : Type 0 where
   pub runs : (acc : ℕ) (bytes frame : List ℕ) → acc < 2 ^ 64 → AreBytes 64 bytes → AreBytes 512 frame → RunsAlike text longest acc bytes frame
 
--- One answer over records from a start value, which is a word, within the longest path for each record.
+-- An answer over records from a start value. It is a word, and takes at most the longest path for each record.
 pub record HasAnswer (text : List Insn) (longest : ℕ) (records : List (List ℕ)) (start : ℕ) : Type 0 where
   pub answer : ℕ
   pub steps : ℕ

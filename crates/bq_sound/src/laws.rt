@@ -1,13 +1,27 @@
 //! Laws of notes that pass, each the contract of a function that does nothing. Whoever needs one at a
 //! step calls it there.
 
-ghost use Rattle.std.specs.Prelude.{ℕ, ◌^◌, ◌<◌, List, Option, All};
+ghost use Rattle.std.specs.Prelude.{◌≡◌, ℕ, ◌^◌, ◌<◌, List, Option, Ok, All};
+ghost use Rattle.bq_insn.specs.Insn.{IsInsn};
 ghost use Rattle.bq_insn.specs.Slots.{IsText};
 ghost use Rattle.bq_insn.specs.declared.insn.Insn.{Insn};
 ghost use Rattle.bq_flow.specs.Paths.{IsLongest};
+ghost use Rattle.bq_meaning.specs.Place.{Place, IsPlacement};
+ghost use Rattle.bq_meaning.specs.Meaning.{perform};
+ghost use Rattle.bq_meaning.specs.declared.machine.Machine.{Machine};
 ghost use Rattle.bq_state.specs.declared.kind.Kind.{Kind};
+ghost use Rattle.bq_state.specs.Covers.{StateHolds};
+ghost use Rattle.bq_state.specs.Rules.{transfer};
+ghost use Rattle.bq_state.specs.Edges.{edges};
 ghost use Rattle.bq_sound.specs.Passes.{Passes};
+ghost use Rattle.bq_sound.specs.Steps.{IsMachine, IsCovered};
 ghost use Rattle.bq_sound.specs.Safe.{AreBytes, IsSafe, HasAnswer};
+
+/// An instruction that breaks no rule of a state does not fault in a machine that the state covers. It
+/// ends with a word, or goes on along a feasible edge, whose state covers the machine that it leaves.
+pub fn step_is_covered()
+    ensures { (p : Place) (i : Insn) (state after : List Kind) (m : Machine) → IsPlacement p → IsInsn i → IsMachine m → StateHolds p state m.registers → transfer i state ≡ Ok after → IsCovered p (edges m.unit i after) (perform p i m) }
+{}
 
 /// A text whose notes pass never faults: from every accumulator, record and frame its record run ends
 /// within the longest path, with one answer and one frame that are the same at every placement.

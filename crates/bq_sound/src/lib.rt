@@ -4,13 +4,16 @@
 //! They pass where the flow is legal, the state at unit 0 covers the entry, the instruction at each unit
 //! with a state breaks no rule, and the state at each feasible successor covers what it leaves.
 //!
-//! [`laws`] has what follows. A text whose notes pass never faults: from every accumulator, record and
-//! frame its run ends within the longest path, with one answer and one frame at every placement. So over
-//! any records there is one answer, and nothing of an address reaches it.
+//! [`laws`] has what follows. An instruction that breaks no rule of a state does not fault in a machine
+//! that the state covers, and what it leaves is covered by the state of a feasible edge. A text whose
+//! notes pass never faults: from every accumulator, record and frame its run ends within the longest
+//! path, with one answer and one frame at every placement. So over any records there is one answer, and
+//! nothing of an address reaches it.
 //!
-//! The definitions are in `specs/`: `Passes` says which notes pass, and `Safe` what is promised. The
-//! proof steps a machine whose registers are numbers, or offsets from the start of the frame or of the
-//! record: at each placement it is the machine of the meaning, and both step alike.
+//! The definitions are in `specs/`: `Passes` says which notes pass, `Steps` what a step keeps, and `Safe`
+//! what is promised of a text. The proof steps a machine whose registers are numbers, or offsets from the
+//! start of the frame or of the record: at each placement it is the machine of the meaning, and both step
+//! alike.
 //!
 //! The checker answers a certificate by these laws, and the loop over records runs by them with no test.
 #![tactic(auto)]

@@ -1,0 +1,55 @@
+-- An edge of an instruction leads to a successor, and to a note that covers its state.
+use Rattle.std.proofs.Common.{◌≡◌, ℕ, ◌+◌, ◌≤◌, refl, sym, ap, ◌∙◌, subst, inl, inr, arith, List, [], ◌∷◌, ◌++◌, Option, Some, None, true, false}
+use Rattle.std.specs.Prelude.{ℤ, pos, ◌⊎◌}
+use Rattle.bq_insn.specs.Slots.{units}
+use Rattle.bq_insn.specs.declared.insn.Insn.{Insn}
+use Rattle.bq_insn.specs.declared.insn.Insn.TheVariants as insns
+use Rattle.bq_flow.specs.Paths.{insn_at, Among, IsLegalFlow}
+use Rattle.bq_flow.specs.Successors.{successors, destination}
+use Rattle.bq_flow.proofs.Units.{insn_within}
+use Rattle.bq_flow.proofs.Words.{in_words}
+use Rattle.bq_meaning.specs.Meaning.{target}
+use Rattle.bq_state.specs.declared.kind.Kind.{Kind}
+use Rattle.bq_state.specs.Edges.{refined, along, edges}
+use Rattle.bq_sound.specs.Passes.{NoteCovers, AllCovered}
+
+pub among_covered : (notes : List (Option (List Kind))) (es : List (ℕ × List Kind)) (e : ℕ × List Kind) → AllCovered notes es → Among e es → NoteCovers notes e
+among_covered notes [] e h a = absurd a
+among_covered notes (x ∷ es) e h (inl is) = subst (NoteCovers notes) (sym is) h.0
+among_covered notes (x ∷ es) e h (inr a) = among_covered notes es e h.1 a
+
+-- a legal jump leads to the unit that its destination names
+lands : (text : List Insn) (unit : ℕ) (i : Insn) (distance : ℤ) → units text ≤ 4096 → IsLegalFlow text → insn_at text unit ≡ Some i → Among (destination unit distance) (successors unit i)
+    → pos (target unit distance) ≡ destination unit distance
+lands text unit i distance few legal there among =
+    let f = legal.each unit i (destination unit distance) there among in
+    let here = insn_within text unit i there in
+    let next = insn_within text f.next f.insn f.begins in
+    ap pos (in_words unit f.next distance (omega (arith, here, few)) (omega (arith, next, few)) f.is) ∙ sym f.is
+
+along_unit : (unit : ℕ) (o : Option (List Kind)) (e : ℕ × List Kind) → Among e (along unit o) → e.0 ≡ unit
+along_unit unit None e h = absurd h
+along_unit unit (Some state) e (inl is) = ap (λ (x : ℕ × List Kind). x.0) is
+along_unit unit (Some state) e (inr h) = absurd h
+
+among_both : (e : ℕ × List Kind) (xs ys : List (ℕ × List Kind)) → Among e (xs ++ ys) → Among e xs ⊎ Among e ys
+among_both e [] ys h = inr h
+among_both e (x ∷ xs) ys (inl is) = inl (inl is)
+among_both e (x ∷ xs) ys (inr h) = elim (among_both e xs ys h) [ inl l ↦ inl (inr l) | inr r ↦ inr r ]
+
+only : (unit : ℕ) (state : List Kind) (e : ℕ × List Kind) → Among e ((unit, state) ∷ []) → pos e.0 ≡ pos unit
+only unit state e (inl is) = ap (λ (x : ℕ × List Kind). pos x.0) is
+only unit state e (inr h) = absurd h
+
+pub along_successors : (text : List Insn) (unit : ℕ) (i : Insn) (after : List Kind) (e : ℕ × List Kind) → units text ≤ 4096 → IsLegalFlow text → insn_at text unit ≡ Some i → Among e (edges unit i after)
+    → Among (pos e.0) (successors unit i)
+along_successors text unit (insns.Jump distance) after e few legal there h = inl (only (target unit distance) after e h ∙ lands text unit (insns.Jump distance) distance few legal there (inl refl))
+along_successors text unit (insns.JumpFar distance) after e few legal there h = inl (only (target unit distance) after e h ∙ lands text unit (insns.JumpFar distance) distance few legal there (inl refl))
+along_successors text unit (insns.Branch w r d x distance) after e few legal there h =
+    elim (among_both e (along (unit + 1) (refined after w r false d x)) (along (target unit distance) (refined after w r true d x)) h) [
+      | inl l ↦ inl (ap pos (along_unit (unit + 1) (refined after w r false d x) e l))
+      | inr g ↦ inr (inl (ap pos (along_unit (target unit distance) (refined after w r true d x) e g) ∙ lands text unit (insns.Branch w r d x distance) distance few legal there (inr (inl refl))))
+    ]
+along_successors text unit insns.Exit after e few legal there h = absurd h
+along_successors text unit (insns.Wide d v) after e few legal there h = inl (only (unit + 2) after e h)
+along_successors text unit i after e few legal there h = inl (only (unit + 1) after e h)
