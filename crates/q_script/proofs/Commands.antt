@@ -1,0 +1,73 @@
+-- The table has all commands, and each word is that of one command.
+use Rattle.std.proofs.Common.{◌≡◌, ℕ, Bool, true, false, cond, eqb, not, List, [], ◌∷◌, Option, Some, refl, ap, sym, ◌∙◌, inl, inr, ◌⊎◌}
+use Rattle.std.specs.Prelude.{find, codes}
+use Rattle.std.specs.Str.{bytes_eq}
+use Rattle.std.specs.List.{list_all}
+use Rattle.std.proofs.lemmas.Bool.{and_parts, eq-eqb, not-true}
+use Rattle.std.proofs.lemmas.Slice.Eq.{bytes_eq-Decides}
+use Rattle.q_script.specs.declared.command.TheConstants as consts
+use Rattle.q_script.specs.declared.command.Command.{Command}
+use Rattle.q_script.specs.declared.command.Command.TheVariants.{Program, Store, Ask, Deliver, All, Hand, Run}
+use Rattle.q_script.specs.Words.{Lacks}
+use Rattle.q_script.specs.Command.{name, all_commands, command_at}
+
+whole : consts.COMMANDS ≡ all_commands
+whole = refl
+
+pub table_is : (word : List ℕ) → find (λ c. bytes_eq (name c) word) consts.COMMANDS ≡ command_at word
+unfolding command_at
+table_is word = ap (find (λ c. bytes_eq (name c) word)) whole
+
+chosen : (t : Bool) (c d : Command) (r : Option Command) → cond t (Some c) r ≡ Some d → ((t ≡ true) × (c ≡ d)) ⊎ (r ≡ Some d)
+chosen true c d r e = inl (refl, cc)
+chosen false c d r e = inr e
+
+found : (word : List ℕ) (cs : List Command) (d : Command) → find (λ c. bytes_eq (name c) word) cs ≡ Some d → word ≡ name d
+found word [] d e = absurd cc
+found word (c ∷ cs) d e =
+    elim (chosen (bytes_eq (name c) word) c d (find (λ c. bytes_eq (name c) word) cs) e) [
+      | inl g ↦ sym ((bytes_eq-Decides (name c) word).0 g.0) ∙ ap name g.1
+      | inr g ↦ found word cs d g
+    ]
+
+-- a command that is read has that word
+pub command_sound : (word : List ℕ) (c : Command) → command_at word ≡ Some c → word ≡ name c
+unfolding command_at
+command_sound word c e = found word all_commands c e
+
+-- each word is read as its command
+pub command_again : (c : Command) → command_at (name c) ≡ Some c
+unfolding command_at
+command_again Program = refl
+command_again Store = refl
+command_again Ask = refl
+command_again Deliver = refl
+command_again All = refl
+command_again Hand = refl
+command_again Run = refl
+
+true_false : (b : Bool) → b ≡ true → b ≡ false → ⊥
+true_false b h k = absurd cc
+
+-- no byte of these is c
+abbrev are_not : ℕ → List ℕ → Bool
+are_not c s = list_all (λ d. not (eqb d c)) s
+
+lacks_by_test : (c : ℕ) (s : List ℕ) → are_not c s ≡ true → Lacks c s
+lacks_by_test c [] h = tt
+lacks_by_test c (d ∷ s) h = let p = and_parts _ _ h in ((λ e. let t : eqb d c ≡ true = eq-eqb d c e in let f : eqb d c ≡ false = not-true _ p.0 in true_false _ t f), lacks_by_test c s p.1)
+
+name_test : (c : Command) → are_not 32 (name c) ≡ true
+name_test Program = refl
+name_test Store = refl
+name_test Ask = refl
+name_test Deliver = refl
+name_test All = refl
+name_test Hand = refl
+name_test Run = refl
+
+pub name_lacks_space : (c : Command) → Lacks 32 (name c)
+name_lacks_space c = lacks_by_test 32 (name c) (name_test c)
+
+pub nodes_lack_space : Lacks 32 (codes "nodes")
+nodes_lack_space = lacks_by_test 32 (codes "nodes") refl

@@ -1,0 +1,60 @@
+-- The lines of a script, read one after another.
+use Rattle.std.proofs.Common.{◌≡◌, ℕ, suc, ◌+◌, ◌<◌, false, cond, List, [], ◌∷◌, ◌++◌, length, take, drop, get_or, ap, sym, ◌∙◌, subst, inl, inr, arith, refl}
+use Rattle.std.specs.Prelude.{Result, Ok, Err}
+use Rattle.std.specs.Result.{is_ok, is_err}
+use Rattle.std.specs.List.{AllZip, onto_first}
+use Rattle.std.proofs.lemmas.Bool.{ne_eqb}
+use Rattle.std.proofs.lemmas.List.{take-append-drop, drop_more}
+use Rattle.std.proofs.lemmas.List.Splits.{slice_split-cons_no, slice_split-cons_yes}
+use Rattle.q_script.specs.declared.line.ScriptLine.{ScriptLine}
+use Rattle.q_script.specs.Words.{Lacks}
+use Rattle.q_script.specs.Lines.{parts_of, IsFirst}
+use Rattle.q_script.specs.Line.{Spells}
+use Rattle.q_script.specs.Script.{IsOther}
+
+-- ---- parts between line feeds
+
+pub one_part : (s : List ℕ) → Lacks 10 s → parts_of s ≡ s ∷ []
+one_part [] h = refl
+one_part (d ∷ ds) h = slice_split-cons_no _ d ds (ne_eqb d 10 h.0) ∙ ap (onto_first d) (one_part ds h.1)
+
+pub first_part : (xs ys : List ℕ) → Lacks 10 xs → parts_of (xs ++ (10 ∷ ys)) ≡ xs ∷ parts_of ys
+first_part [] ys h = slice_split-cons_yes _ 10 ys refl
+first_part (d ∷ ds) ys h = slice_split-cons_no _ d (ds ++ (10 ∷ ys)) (ne_eqb d 10 h.0) ∙ ap (onto_first d) (first_part ds ys h.1)
+
+-- ---- the loop over lines
+
+zip_push : {A B : Type 0} (R : A → B → Type 0) (xs : List A) (ys : List B) (x : A) (y : B) → AllZip R xs ys → R x y → AllZip R (xs ++ x ∷ []) (ys ++ y ∷ [])
+zip_push R [] [] x y h r = (r, tt)
+zip_push R [] (z ∷ ys) x y h r = absurd h
+zip_push R (w ∷ xs) [] x y h r = absurd h
+zip_push R (w ∷ xs) (z ∷ ys) x y h r = (h.0, zip_push R xs ys x y h.1 r)
+
+pieces_at : {A : Type 0} (all front : List A) (i : ℕ) (x : A) → front ≡ take i all → i < length all → x ≡ get_or all i x → all ≡ front ++ (x ∷ drop (i + 1) all)
+pieces_at all front i x f l e =
+    sym (take-append-drop i all) ∙ ap (λ u. u ++ drop i all) (sym f)
+    ∙ ap (λ u. front ++ u) (drop_more all i x l ∙ ap (λ y. y ∷ drop (i + 1) all) (sym e))
+
+first_from : (b : ℕ) (done : List (List ℕ)) (v : List ScriptLine) (t : List ℕ) (rest : List (List ℕ)) → AllZip Spells done v → ((w : ScriptLine) → Spells t w → ⊥) → IsFirst IsOther (suc b) (done ++ t ∷ rest) (b + length v + 2)
+first_from b [] [] t rest h n = inl (n, omega arith)
+first_from b [] (y ∷ v) t rest h n = absurd h
+first_from b (x ∷ done) [] t rest h n = absurd h
+first_from b (x ∷ done) (y ∷ v) t rest h n =
+    inr (λ f. f y h.0, subst (IsFirst IsOther (suc (suc b)) (done ++ t ∷ rest)) (omega arith) (first_from (suc b) done v t rest h.1 n))
+
+pub first_other : (texts done : List (List ℕ)) (items : List ScriptLine) (t : List ℕ) (i k : ℕ) → done ≡ take i texts → i < length texts → t ≡ get_or texts i t
+    → AllZip Spells done items → ((w : ScriptLine) → Spells t w → ⊥) → k ≡ length items → IsFirst IsOther 1 texts (k + 2)
+first_other texts done items t i k f l e h n d =
+    let here = first_from 0 done items t (drop (i + 1) texts) h n in
+    subst (λ u. IsFirst IsOther 1 u (k + 2)) (sym (pieces_at texts done i t f l e)) (subst (IsFirst IsOther 1 (done ++ t ∷ drop (i + 1) texts)) (omega (arith, d)) here)
+
+pushed : {X E : Type 0} (items new : List X) (x : X) (r : Result (Unit {0}) E) → new ≡ cond (is_ok r) (items ++ x ∷ []) items → is_err r ≡ false → new ≡ items ++ x ∷ []
+pushed items new x (Ok u) e f = e
+pushed items new x (Err d) e f = absurd cc
+
+pub all_read : (texts done : List (List ℕ)) (items : List ScriptLine) → done ≡ texts → AllZip Spells done items → AllZip Spells texts items
+all_read texts done items e h = subst (λ u. AllZip Spells u items) e h
+
+pub read_more : {E : Type 0} (done : List (List ℕ)) (t : List ℕ) (items new : List ScriptLine) (x : ScriptLine) (r : Result (Unit {0}) E) → AllZip Spells done items → Spells t x
+    → new ≡ cond (is_ok r) (items ++ x ∷ []) items → is_err r ≡ false → AllZip Spells (done ++ t ∷ []) new
+read_more done t items new x r h s p f = subst (AllZip Spells (done ++ t ∷ [])) (sym (pushed items new x r p f)) (zip_push Spells done items t x h s)

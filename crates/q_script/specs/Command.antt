@@ -1,0 +1,21 @@
+-- The words of the commands.
+use Rattle.std.specs.Prelude.{ℕ, List, [], ◌∷◌, Option, codes, find}
+use Rattle.std.specs.Str.{bytes_eq}
+use Rattle.q_script.specs.declared.command.Command.{Command}
+use Rattle.q_script.specs.declared.command.Command.TheVariants.{Program, Store, Ask, Deliver, All, Hand, Run}
+
+abbrev pub name : Command → List ℕ
+name Program = codes "program"
+name Store = codes "store"
+name Ask = codes "ask"
+name Deliver = codes "deliver"
+name All = codes "all"
+name Hand = codes "hand"
+name Run = codes "run"
+
+abbrev pub all_commands : List Command
+all_commands = Program ∷ Store ∷ Ask ∷ Deliver ∷ All ∷ Hand ∷ Run ∷ []
+
+-- the command with this word, if there is one
+unfoldable pub command_at : List ℕ → Option Command
+command_at word = find (λ c. bytes_eq (name c) word) all_commands

@@ -1,0 +1,7 @@
+pub mod Words
+pub mod Parts
+pub mod Lines
+pub mod Command
+pub mod Line
+pub mod Founding
+pub mod Script

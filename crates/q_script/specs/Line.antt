@@ -1,0 +1,77 @@
+-- The lines of a script behind its first: which event each spells.
+use Rattle.std.specs.Prelude.{◌≡◌, ℕ, ◌≤◌, List, ◌∷◌, ◌++◌, length, Result, Ok, Err}
+use Rattle.hex.specs.Hex.{decode_of}
+use Rattle.q_script.specs.declared.command.Command.{Command}
+use Rattle.q_script.specs.declared.command.Command.TheVariants as command
+use Rattle.q_script.specs.declared.line.ScriptLine.{ScriptLine}
+use Rattle.q_script.specs.declared.line.ScriptLine.TheVariants.{Program, Store, Ask, Deliver, All, Hand, Run}
+use Rattle.q_script.specs.declared.line.LineFault.{LineFault}
+use Rattle.q_script.specs.declared.line.LineFault.TheVariants.{Form, OutOfMemory}
+use Rattle.q_script.specs.Words.{IsNumeral, IsPair, IsFollowed}
+use Rattle.q_script.specs.Command.{name}
+
+-- one byte at least, each as two hexadecimal digits, small or capital
+abbrev pub IsCode : List ℕ → List ℕ → Type 0
+IsCode digits code = (decode_of digits ≡ Ok code) × (1 ≤ length digits)
+
+-- ---- the operands of each command
+
+-- `NODE HEX`
+abbrev pub IsProgram : List ℕ → ScriptLine → Type 0
+IsProgram text (Program node code) = (digits : List ℕ) × IsFollowed 32 text (node, digits) × IsCode digits code.items
+IsProgram text _ = ⊥
+
+-- `NODE U64`
+abbrev pub IsStore : List ℕ → ScriptLine → Type 0
+IsStore text (Store node value) = IsPair 32 text (node, value)
+IsStore text _ = ⊥
+
+-- `NODE PROGRAM START`
+abbrev pub IsAsk : List ℕ → ScriptLine → Type 0
+IsAsk text (Ask node program start) = (rest : List ℕ) × IsFollowed 32 text (node, rest) × IsPair 32 rest (program, start)
+IsAsk text _ = ⊥
+
+-- `M NODE`
+abbrev pub IsDeliver : List ℕ → ScriptLine → Type 0
+IsDeliver text (Deliver message node) = IsPair 32 text (message, node)
+IsDeliver text _ = ⊥
+
+-- `LIMIT`
+abbrev pub IsAll : List ℕ → ScriptLine → Type 0
+IsAll text (All limit) = IsNumeral text limit
+IsAll text _ = ⊥
+
+-- `NODE`
+abbrev pub IsHand : List ℕ → ScriptLine → Type 0
+IsHand text (Hand node) = IsNumeral text node
+IsHand text _ = ⊥
+
+-- `J`
+abbrev pub IsRun : List ℕ → ScriptLine → Type 0
+IsRun text (Run job) = IsNumeral text job
+IsRun text _ = ⊥
+
+-- the event has this command, and the text spells its operands
+abbrev pub HasOperands : Command → List ℕ → ScriptLine → Type 0
+HasOperands command.Program = IsProgram
+HasOperands command.Store = IsStore
+HasOperands command.Ask = IsAsk
+HasOperands command.Deliver = IsDeliver
+HasOperands command.All = IsAll
+HasOperands command.Hand = IsHand
+HasOperands command.Run = IsRun
+
+-- ---- lines
+
+-- the line spells the event: a command's word, a space, and the operands
+pub record Spells (text : List ℕ) (line : ScriptLine) : Type 0 where
+  pub command : Command
+  pub rest : List ℕ
+  pub parts : text ≡ name command ++ (32 ∷ rest)
+  pub operands : HasOperands command rest line
+
+-- What is read is what the text spells, and a fault of form comes only where the text spells nothing.
+abbrev pub Judges : {X : Type 0} → (List ℕ → X → Type 0) → List ℕ → Result X LineFault → Type 0
+Judges spells text (Ok x) = spells text x
+Judges {X} spells text (Err Form) = (x : X) → spells text x → ⊥
+Judges spells text (Err OutOfMemory) = Unit {0}

@@ -1,0 +1,62 @@
+ghost use Rattle.std.specs.Prelude.{◌≡◌, find};
+ghost use Rattle.std.specs.Str.{bytes_eq};
+ghost use Rattle.q_script.specs.Command.{name, command_at};
+
+/// What the first word of a line tells to do.
+#[derive(Clone, Copy, Debug, PartialEq, Eq)]
+pub enum Command {
+    Program,
+    Store,
+    Ask,
+    Deliver,
+    All,
+    Hand,
+    Run,
+}
+
+/// Every command.
+static COMMANDS: [Command; 7] = [
+    Command::Program,
+    Command::Store,
+    Command::Ask,
+    Command::Deliver,
+    Command::All,
+    Command::Hand,
+    Command::Run,
+];
+
+impl Command {
+    /// The word of a command.
+    pub fn name(self) -> &'static str
+        ensures { result.now ≡ name self }
+    {
+        match self {
+            Command::Program => "program",
+            Command::Store => "store",
+            Command::Ask => "ask",
+            Command::Deliver => "deliver",
+            Command::All => "all",
+            Command::Hand => "hand",
+            Command::Run => "run",
+        }
+    }
+
+    /// The command with this word, where there is one.
+    pub fn read(word: &str) -> Option<Command>
+        ensures { result ≡ command_at word.now }
+    {
+        find(&COMMANDS, word)
+    }
+}
+
+/// The one of these commands that has this word.
+fn find(commands: &[Command], word: &str) -> Option<Command>
+    ensures { result ≡ find (λ c. bytes_eq (name c) word.now) commands.now }
+{
+    for command in commands {
+        if command.name() == word {
+            return Some(*command);
+        }
+    }
+    None
+}

@@ -1,0 +1,58 @@
+//! The line that founds a cluster.
+
+ghost use Rattle.std.specs.Prelude.{◌≡◌};
+ghost use Rattle.q_script.specs.Words.{Reads};
+ghost use Rattle.q_script.specs.Founding.{SpellsFraction, SpellsFounding};
+
+use crate::number::{leading, pair};
+use crate::text::cut;
+
+/// A fraction as it is written, in lowest terms or not.
+#[derive(Clone, Copy, Debug, PartialEq, Eq)]
+pub struct Fraction {
+    /// What stands before the slash.
+    pub numerator: u64,
+    /// What stands behind it, perhaps 0.
+    pub denominator: u64,
+}
+
+impl Fraction {
+    /// A fraction as `4/5`.
+    fn read(text: &str) -> Option<Fraction>
+        ensures { Reads SpellsFraction text.now result }
+    {
+        let (numerator, denominator) = pair(text, '/')?;
+        Some(Fraction {
+            numerator,
+            denominator,
+        })
+    }
+}
+
+/// How a cluster is founded.
+#[derive(Clone, Copy, Debug, PartialEq, Eq)]
+pub struct Founding {
+    /// The founders are 1 to this number.
+    pub count: u64,
+    /// The fraction for the phases of operations.
+    pub beta: Fraction,
+    /// The fraction for joining.
+    pub gamma: Fraction,
+}
+
+impl Founding {
+    /// A line as `nodes 3 4/5 4/5`, with beta before gamma.
+    pub fn read(text: &str) -> Option<Founding>
+        ensures { Reads SpellsFounding text.now result }
+    {
+        let (word, rest) = cut(text, ' ')?;
+        if word != "nodes" {
+            return None;
+        }
+        let (count, fractions) = leading(rest, ' ')?;
+        let (beta, gamma) = cut(fractions, ' ')?;
+        let beta = Fraction::read(beta)?;
+        let gamma = Fraction::read(gamma)?;
+        Some(Founding { count, beta, gamma })
+    }
+}

@@ -1,0 +1,28 @@
+//! Scripts of a simulated cluster, read from their texts.
+//!
+//! A script is lines, each ended by a line feed (the last need not be). A line is words with one space between. A number
+//! is a u64 in decimal, with no zero in front of other digits and no sign.
+//!
+//! - [`Script::read`] reads a script. Its first line founds the cluster, as `nodes 3 4/5 4/5`: founders 1 to 3 and the
+//!   fractions beta and gamma. Each other line is an event ([`ScriptLine`]). Refused is 9 Syntax, with the least line
+//!   that is of another form; an empty text is one empty line.
+//! - [`number`] reads a number.
+//!
+//! Lines are counted from 1, and all are judged before anything runs. 99 OutOfMemory may stand in place of any other
+//! answer. What a line spells is defined in `specs/`, apart from the code. Whether founders, fractions and programs are
+//! good is not judged here. The program that runs scripts stands on this crate.
+//!
+//! [`Script::read`]: script::Script::read
+//! [`ScriptLine`]: line::ScriptLine
+//! [`number`]: number::number
+#![tactic(auto)]
+
+mod command;
+pub mod founding;
+pub mod line;
+pub mod number;
+mod operands;
+pub mod script;
+#[cfg(test)]
+mod tests;
+mod text;

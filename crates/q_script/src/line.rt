@@ -1,0 +1,83 @@
+//! The lines of a script behind its first.
+
+ghost use Rattle.std.specs.Prelude.{◌≡◌};
+ghost use Rattle.q_script.specs.Line.{Spells, Judges};
+
+use crate::command::Command;
+use crate::operands::operands;
+use crate::text::cut;
+use std::alloc::Global;
+
+/// An event of a script.
+#[derive(Debug, PartialEq, Eq, Drop)]
+pub enum ScriptLine {
+    /// `program NODE HEX`: register at a node the program whose bytes are spelled in hexadecimal digits.
+    Program {
+        /// The node.
+        node: u64,
+        /// The program's bytes, one at least.
+        code: Vec<u8>,
+    },
+    /// `store NODE U64`: begin to store a value at a node.
+    Store {
+        /// The node.
+        node: u64,
+        /// The value.
+        value: u64,
+    },
+    /// `ask NODE PROGRAM START`: ask a node for a program's answer.
+    Ask {
+        /// The node.
+        node: u64,
+        /// The program's number at this node.
+        program: u64,
+        /// The accumulator that the program begins with.
+        start: u64,
+    },
+    /// `deliver M NODE`: deliver a message to a node.
+    Deliver {
+        /// The message's number.
+        message: u64,
+        /// The node.
+        node: u64,
+    },
+    /// `all LIMIT`: deliver what is not yet delivered, so many times at most.
+    All {
+        /// The most deliveries.
+        limit: u64,
+    },
+    /// `hand NODE`: hand out a job of a node.
+    Hand {
+        /// The node.
+        node: u64,
+    },
+    /// `run J`: run a job that was handed out.
+    Run {
+        /// The job's number.
+        job: u64,
+    },
+}
+
+/// Why a line is not read.
+#[derive(Clone, Copy, Debug, PartialEq, Eq)]
+pub enum LineFault {
+    /// The line is of another form.
+    Form,
+    /// Memory ran out.
+    OutOfMemory,
+}
+
+impl ScriptLine {
+    /// The event that a line spells.
+    pub fn read(alloc: Global, text: &str) -> Result<ScriptLine, LineFault>
+        ensures { Judges Spells text.now result }
+    {
+        let Some((word, rest)) = cut(text, ' ') else {
+            return Err(LineFault::Form);
+        };
+        let Some(command) = Command::read(word) else {
+            return Err(LineFault::Form);
+        };
+        operands(alloc, command, rest)
+    }
+}

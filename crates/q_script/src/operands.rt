@@ -1,0 +1,110 @@
+ghost use Rattle.std.specs.Prelude.{◌≡◌};
+ghost use Rattle.q_script.specs.Line.{IsCode, IsProgram, IsStore, IsAsk, IsDeliver, IsAll, IsHand, IsRun, HasOperands, Judges};
+
+use crate::command::Command;
+use crate::line::{LineFault, ScriptLine};
+use crate::number::{leading, number, pair};
+use hex::FromHexError;
+use std::alloc::Global;
+
+/// The bytes that hexadecimal digits spell, one byte at least.
+fn code(alloc: Global, digits: &str) -> Result<Vec<u8>, LineFault>
+    ensures { Judges (λ text code. IsCode text code.items) digits.now result }
+{
+    if digits.is_empty() {
+        return Err(LineFault::Form);
+    }
+    match hex::decode(alloc, digits) {
+        Ok(code) => Ok(code),
+        Err(FromHexError::OutOfMemory) => Err(LineFault::OutOfMemory),
+        Err(_) => Err(LineFault::Form),
+    }
+}
+
+fn program(alloc: Global, text: &str) -> Result<ScriptLine, LineFault>
+    ensures { Judges IsProgram text.now result }
+{
+    let Some((node, digits)) = leading(text, ' ') else {
+        return Err(LineFault::Form);
+    };
+    match code(alloc, digits) {
+        Ok(code) => Ok(ScriptLine::Program { node, code }),
+        Err(fault) => Err(fault),
+    }
+}
+
+fn store(text: &str) -> Result<ScriptLine, LineFault>
+    ensures { Judges IsStore text.now result }
+{
+    match pair(text, ' ') {
+        Some((node, value)) => Ok(ScriptLine::Store { node, value }),
+        None => Err(LineFault::Form),
+    }
+}
+
+fn ask(text: &str) -> Result<ScriptLine, LineFault>
+    ensures { Judges IsAsk text.now result }
+{
+    let Some((node, rest)) = leading(text, ' ') else {
+        return Err(LineFault::Form);
+    };
+    match pair(rest, ' ') {
+        Some((program, start)) => Ok(ScriptLine::Ask {
+            node,
+            program,
+            start,
+        }),
+        None => Err(LineFault::Form),
+    }
+}
+
+fn deliver(text: &str) -> Result<ScriptLine, LineFault>
+    ensures { Judges IsDeliver text.now result }
+{
+    match pair(text, ' ') {
+        Some((message, node)) => Ok(ScriptLine::Deliver { message, node }),
+        None => Err(LineFault::Form),
+    }
+}
+
+fn all(text: &str) -> Result<ScriptLine, LineFault>
+    ensures { Judges IsAll text.now result }
+{
+    match number(text) {
+        Some(limit) => Ok(ScriptLine::All { limit }),
+        None => Err(LineFault::Form),
+    }
+}
+
+fn hand(text: &str) -> Result<ScriptLine, LineFault>
+    ensures { Judges IsHand text.now result }
+{
+    match number(text) {
+        Some(node) => Ok(ScriptLine::Hand { node }),
+        None => Err(LineFault::Form),
+    }
+}
+
+fn run(text: &str) -> Result<ScriptLine, LineFault>
+    ensures { Judges IsRun text.now result }
+{
+    match number(text) {
+        Some(job) => Ok(ScriptLine::Run { job }),
+        None => Err(LineFault::Form),
+    }
+}
+
+/// The event of this command with the operands that a text spells.
+pub fn operands(alloc: Global, command: Command, text: &str) -> Result<ScriptLine, LineFault>
+    ensures { Judges (HasOperands command) text.now result }
+{
+    match command {
+        Command::Program => program(alloc, text),
+        Command::Store => store(text),
+        Command::Ask => ask(text),
+        Command::Deliver => deliver(text),
+        Command::All => all(text),
+        Command::Hand => hand(text),
+        Command::Run => run(text),
+    }
+}

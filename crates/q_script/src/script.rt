@@ -1,0 +1,106 @@
+//! Scripts.
+
+ghost use Rattle.std.specs.Prelude.{◌≡◌, IfOk, IfErr, MatchResult};
+ghost use Rattle.q_script.specs.Founding.{SpellsFounding};
+ghost use Rattle.q_script.specs.Script.{IsScript, IsFault, AreLines, IsLaterFault, IsOther, fault_number, fault_name};
+
+use crate::founding::Founding;
+use crate::line::{LineFault, ScriptLine};
+use crate::text::{cut, without_last_feed};
+use std::alloc::Global;
+
+/// A script: how its cluster is founded, and its events in turn.
+#[derive(Debug, PartialEq, Eq, Drop)]
+pub struct Script {
+    /// How the cluster is founded.
+    pub founding: Founding,
+    /// The events, of which the first stands on line 2.
+    pub lines: Vec<ScriptLine>,
+}
+
+/// Why a script is not read.
+#[derive(Clone, Copy, Debug, PartialEq, Eq)]
+pub enum ScriptFault {
+    /// 9: this is the least line of another form, counted from 1.
+    Syntax {
+        /// The line.
+        line: usize,
+    },
+    /// 99: memory ran out.
+    OutOfMemory,
+}
+
+impl ScriptFault {
+    /// The number by which the fault is reported, 9 or 99.
+    pub fn number(&self) -> u8
+        ensures { result ≡ fault_number self.now }
+    {
+        match self {
+            ScriptFault::Syntax { .. } => 9,
+            ScriptFault::OutOfMemory => 99,
+        }
+    }
+
+    /// The name by which the fault is reported.
+    pub fn name(&self) -> &'static str
+        ensures { result.now ≡ fault_name self.now }
+    {
+        match self {
+            ScriptFault::Syntax { .. } => "Syntax",
+            ScriptFault::OutOfMemory => "OutOfMemory",
+        }
+    }
+}
+
+/// The founding of line 1.
+fn found(text: &str) -> Result<Founding, ScriptFault>
+    ensures { MatchResult result (SpellsFounding text.now) (λ fault. (fault ≡ ScriptFault.Syntax 1) × IsOther 0 text.now) }
+{
+    match Founding::read(text) {
+        Some(founding) => Ok(founding),
+        None => Err(ScriptFault::Syntax { line: 1 }),
+    }
+}
+
+/// The events of these lines, of which the first is line 2 of a script.
+fn read_lines(alloc: Global, text: &str) -> Result<Vec<ScriptLine>, ScriptFault>
+    ensures read { IfOk result (λ lines. AreLines text.now lines.items) }
+    ensures fault { IfErr result (IsLaterFault text.now) }
+{
+    let mut lines = Vec::new(alloc);
+    for part in text.split('\n') {
+        let line = match ScriptLine::read(alloc, part) {
+            Ok(line) => line,
+            Err(LineFault::Form) => {
+                return Err(ScriptFault::Syntax {
+                    line: lines.len() + 2,
+                });
+            }
+            Err(LineFault::OutOfMemory) => return Err(ScriptFault::OutOfMemory),
+        };
+        if lines.push(line).is_err() {
+            return Err(ScriptFault::OutOfMemory);
+        }
+    }
+    Ok(lines)
+}
+
+impl Script {
+    /// The script that a text spells. Refused are 9 Syntax, with the least line that is of another form, and 99.
+    pub fn read(alloc: Global, source: &str) -> Result<Script, ScriptFault>
+        ensures read { IfOk result (IsScript source.now) }
+        ensures fault { IfErr result (IsFault source.now) }
+    {
+        let body = without_last_feed(source);
+        let Some((first, rest)) = cut(body, '\n') else {
+            let founding = found(body)?;
+            return Ok(Script {
+                founding,
+                lines: Vec::new(alloc),
+            });
+        };
+        let founding = found(first)?;
+        let lines = read_lines(alloc, rest)?;
+        Ok(Script { founding, lines })
+    }
+}
