@@ -1,0 +1,325 @@
+use crate::event::{Event, Stepped};
+use crate::fault::WorldFault;
+use crate::laws::regular;
+use crate::op::{Op, meets};
+use crate::world::World;
+use sc_members::config::Config;
+use sc_node::answer::{Completion, Ended};
+use sc_node::fault::NodeFault;
+use std::alloc::Global;
+use std::process::Abort;
+use std::test::Fail;
+
+const fn store(node: u64, byte: u8) -> Event {
+    Event::Store {
+        node,
+        value: [byte; 48],
+    }
+}
+
+const fn deliver(message: usize, node: u64) -> Event {
+    Event::Deliver { message, node }
+}
+
+// The world of these founders, whose operations wait for such a fraction of the members, and whose joins for 4/5.
+fn founded(alloc: Global, num: u64, den: u64, founders: &[u64]) -> Result<World, Fail> {
+    let config = Config::new(num, den, 4, 5)?;
+    Ok(World::new(alloc, config, founders)?)
+}
+
+fn step_all(world: &mut World, events: &[Event]) -> Result<(), WorldFault> {
+    for event in events {
+        world.step(*event)?;
+    }
+    Ok(())
+}
+
+// What an event is refused with, 0 where it is accepted.
+fn refusal(world: &mut World, event: Event) -> u8 {
+    match world.step(event) {
+        Ok(_) => 0,
+        Err(fault) => fault.number(),
+    }
+}
+
+// The number of the first message that an event sends, and how many it sends.
+fn sent(world: &mut World, event: Event) -> Result<(usize, usize), WorldFault> {
+    let Stepped { sent, .. } = world.step(event)?;
+    Ok((sent.first, sent.count))
+}
+
+// How many values the view has that an event returns, if it ends a collect.
+fn returned(world: &mut World, event: Event) -> Result<Option<usize>, WorldFault> {
+    match world.step(event)?.ended {
+        Some(
+            Ended {
+                what: Completion::Returned(view),
+                ..
+            },
+        ) => Ok(Some(view.len())),
+        _ => Ok(None),
+    }
+}
+
+// The kind of the message of that number, and nothing where none was sent.
+fn kind(world: &World, number: usize) -> &'static str {
+    match world.message(number) {
+        Some(message) => message.kind().name(),
+        None => "",
+    }
+}
+
+// How many values a node knows.
+fn known(world: &World, id: u64) -> Option<usize> {
+    Some(world.node(id)?.view().len())
+}
+
+// The threshold of the query phase of an operation, and how many senders it counted.
+fn queried(op: &Op) -> Option<(u64, usize)> {
+    let phase = op.session.query.as_ref()?;
+    Some((phase.threshold, phase.counted.len()))
+}
+
+// The same of the phase in which it was stored or stored back.
+fn stored(op: &Op) -> Option<(u64, usize)> {
+    let back = op.session.back.as_ref()?;
+    Some((back.phase.threshold, back.phase.counted.len()))
+}
+
+// What the first operation and the second have in common.
+fn common(world: &World) -> Option<u64> {
+    match world.ops() {
+        [first, second, ..] => meets(first, second),
+        _ => None,
+    }
+}
+
+#[test]
+fn replies_of_one_node_count_once(rt: HostRuntime) -> Result<(), Fail> {
+    let mut world = founded(rt.alloc(), 4, 5, &[1, 2, 3])?;
+    assert_eq!(rt; sent(&mut world, Event::Collect(1))?, (0, 1));
+    assert_eq!(rt; sent(&mut world, deliver(0, 2))?, (1, 1));
+    assert_eq!(rt; kind(&world, 1), "collect-reply");
+    for _ in 0..3 {
+        assert_eq!(rt; sent(&mut world, deliver(1, 1))?, (2, 0));
+    }
+    assert_eq!(rt; world.ops().first().and_then(queried), Some((3, 1)));
+    assert_eq!(rt; world.ops().first().and_then(stored), None);
+    assert_eq!(rt; world.events().len(), 5);
+    Ok(())
+}
+
+#[test]
+fn one_of_three_need_not_meet(rt: HostRuntime) -> Result<(), Fail> {
+    let mut world = founded(rt.alloc(), 1, 3, &[1, 2, 3])?;
+    step_all(&mut world, &[store(1, 5), deliver(0, 1), deliver(1, 1)])?;
+    assert_eq!(rt; sent(&mut world, Event::Collect(2))?, (3, 1));
+    step_all(&mut world, &[deliver(3, 2), deliver(4, 2), deliver(5, 2)])?;
+    assert_eq!(rt; returned(&mut world, deliver(6, 2))?, Some(0));
+    assert_eq!(rt; common(&world), None);
+    Ok(())
+}
+
+#[test]
+fn two_of_three_meet(rt: HostRuntime) -> Result<(), Fail> {
+    let mut world = founded(rt.alloc(), 2, 3, &[1, 2, 3])?;
+    step_all(&mut world, &meeting()[..13])?;
+    assert_eq!(rt; returned(&mut world, deliver(11, 2))?, Some(1));
+    assert_eq!(rt; common(&world), Some(2));
+    Ok(())
+}
+
+// Each of the messages reaches each of the nodes, the least message first, and then the least node.
+fn deliver_all(world: &mut World, messages: usize, nodes: u64) -> Result<(), WorldFault> {
+    for message in 0..messages {
+        for node in 0..nodes {
+            world.step(deliver(message, node + 1))?;
+        }
+    }
+    Ok(())
+}
+
+#[test]
+fn a_node_enters_and_stores(rt: HostRuntime) -> Result<(), Fail> {
+    let mut world = founded(rt.alloc(), 4, 5, &[1, 2])?;
+    assert_eq!(rt; sent(&mut world, Event::Enter(3))?, (0, 1));
+    assert_eq!(rt; refusal(&mut world, store(3, 9)), 41);
+    deliver_all(&mut world, 8, 3)?;
+    assert_eq!(rt; sent(&mut world, store(3, 9))?, (8, 1));
+    assert_eq!(rt; world.ops().first().map(|op| op.tag), Some(0));
+    assert_eq!(rt; refusal(&mut world, Event::Enter(3)), 44);
+    assert_eq!(rt; sent(&mut world, Event::Leave(2))?, (9, 1));
+    assert_eq!(rt; sent(&mut world, deliver(9, 3))?, (10, 1));
+    assert_eq!(rt; sent(&mut world, Event::Crash(1))?, (11, 0));
+    assert_eq!(rt; refusal(&mut world, store(1, 5)), 81);
+    for (number, name) in [
+        (0, "enter"),
+        (4, "join"),
+        (8, "store"),
+        (9, "leave"),
+        (10, "leave-echo"),
+        (11, ""),
+    ] {
+        assert_eq!(rt; kind(&world, number), name);
+    }
+    Ok(())
+}
+
+// While it stores back, the first collector learns a value that no acknowledger has. It does not return it: the
+// later collect, which meets the first, does not see it either.
+#[test]
+fn a_collect_returns_what_it_stored_back(rt: HostRuntime) -> Result<(), Fail> {
+    let mut world = founded(rt.alloc(), 1, 2, &[1, 2, 3, 4])?;
+    step_all(
+        &mut world,
+        &[
+            Event::Collect(1),
+            deliver(0, 2),
+            deliver(0, 3),
+            deliver(1, 1),
+            deliver(2, 1),
+            store(4, 7),
+            deliver(4, 1),
+            deliver(3, 2),
+            deliver(3, 3),
+            deliver(7, 1),
+        ],
+    )?;
+    assert_eq!(rt; returned(&mut world, deliver(9, 1))?, Some(0));
+    assert_eq!(rt; known(&world, 1), Some(1));
+    step_all(
+        &mut world,
+        &[
+            Event::Collect(2),
+            deliver(11, 2),
+            deliver(11, 3),
+            deliver(12, 2),
+            deliver(13, 2),
+            deliver(14, 2),
+            deliver(14, 3),
+            deliver(15, 2),
+        ],
+    )?;
+    assert_eq!(rt; returned(&mut world, deliver(17, 2))?, Some(0));
+    match world.ops() {
+        [first, _, later] => assert_eq!(rt; meets(first, later), Some(2)),
+        _ => assert!(rt; false),
+    }
+    Ok(())
+}
+
+#[test]
+fn refusals(rt: HostRuntime) -> Result<(), Fail> {
+    for founders in [[].as_slice(), &[2, 1], &[1, 1]] {
+        let refused = World::new(rt.alloc(), Config::default(), founders);
+        assert_eq!(rt;
+            refused.err(),
+            Some(WorldFault::Node(NodeFault::BadFounders))
+        );
+    }
+    let mut world = founded(rt.alloc(), 1, 1, &[1, 2])?;
+    for (event, number) in [
+        (deliver(0, 1), 82),
+        (deliver(0, 9), 81),
+        (Event::Collect(9), 81),
+        (Event::Enter(1), 44),
+        (Event::Other, 0),
+        (Event::Leave(1), 0),
+        (Event::Leave(1), 81),
+        (Event::Crash(1), 81),
+    ] {
+        assert_eq!(rt; refusal(&mut world, event), number);
+    }
+    assert!(rt; known(&world, 1).is_some() && known(&world, 9).is_none());
+    regular();
+    Ok(())
+}
+
+#[test]
+fn faults_have_numbers_and_names(rt: HostRuntime) {
+    for (fault, number, name) in [
+        (WorldFault::IdUsed, 44, "IdUsed"),
+        (WorldFault::NoSuchNode, 81, "NoSuchNode"),
+        (WorldFault::NeverSent, 82, "NeverSent"),
+        (WorldFault::Node(NodeFault::NotJoined), 41, "NotJoined"),
+    ] {
+        assert_eq!(rt; (fault.number(), fault.name()), (number, name));
+    }
+}
+
+// A store and a collect that meets it.
+fn meeting() -> [Event; 14] {
+    [
+        store(1, 5),
+        deliver(0, 1),
+        deliver(0, 2),
+        deliver(1, 1),
+        deliver(3, 1),
+        Event::Collect(2),
+        deliver(5, 2),
+        deliver(5, 3),
+        deliver(6, 2),
+        deliver(7, 2),
+        deliver(8, 2),
+        deliver(8, 3),
+        deliver(9, 2),
+        deliver(11, 2),
+    ]
+}
+
+// Then a node enters, one leaves, and one crashes.
+fn churn() -> [Event; 6] {
+    [
+        Event::Enter(4),
+        deliver(13, 1),
+        deliver(14, 4),
+        Event::Leave(3),
+        deliver(15, 1),
+        Event::Crash(2),
+    ]
+}
+
+// What can be seen of a world: how many events and operations there are, and how many operations were stored or
+// stored back.
+fn size(world: &World) -> (usize, usize, usize) {
+    let counted = world.ops().iter().filter_map(stored).count();
+    (world.events().len(), world.ops().len(), counted)
+}
+
+// Takes an event, and once more where memory is refused: the world is then as it was.
+fn step_again(rt: &impl Abort, world: &mut World, event: Event) -> Result<(), WorldFault> {
+    let before = size(world);
+    match world.step(event) {
+        Err(fault) if fault.number() == 99 => {
+            assert_eq!(rt; size(world), before);
+            world.step(event)?;
+            Ok(())
+        }
+        Err(fault) => Err(fault),
+        Ok(_) => Ok(()),
+    }
+}
+
+// The world of three founders, and once more where memory is refused.
+fn founded_again(alloc: Global, config: Config) -> Result<World, WorldFault> {
+    match World::new(alloc, config, &[1, 2, 3]) {
+        Err(fault) if fault.number() == 99 => World::new(alloc, config, &[1, 2, 3]),
+        other => other,
+    }
+}
+
+/// Run with any one allocation refused, the event at which it is refused changes nothing, and then succeeds.
+#[test]
+fn want_of_memory_changes_nothing(rt: HostRuntime) -> Result<(), Fail> {
+    let mut world = founded_again(rt.alloc(), Config::new(2, 3, 4, 5)?)?;
+    for event in meeting() {
+        step_again(&rt, &mut world, event)?;
+    }
+    for event in churn() {
+        step_again(&rt, &mut world, event)?;
+    }
+    assert_eq!(rt; world.events().len(), 20);
+    assert_eq!(rt; common(&world), Some(2));
+    assert_eq!(rt; (kind(&world, 16), kind(&world, 17)), ("leave-echo", ""));
+    Ok(())
+}
