@@ -1,6 +1,7 @@
 //! Kinds: what is known of one register.
 
-ghost use Rattle.std.specs.Prelude.{◌≡◌, ◌↔◌, IsTrue};
+ghost use Rattle.std.specs.Prelude.{◌≡◌, ◌↔◌, IsTrue, Ok, Err, if◌then◌else◌};
+ghost use Rattle.bq_state.specs.Offsets.{fits};
 ghost use Rattle.bq_state.specs.Kinds.{KindCovers, join_kinds};
 ghost use Rattle.bq_state.specs.Rules.{known, number, readable, storable, sum_kind, difference_kind, pointer_kind, alu_kind};
 ghost use Rattle.bq_range.specs.Interval.{Interval};
@@ -21,6 +22,28 @@ pub enum Kind {
     FramePointer(Offsets),
     /// The start of the record plus one of these offsets.
     RecordPointer(Offsets),
+}
+
+// Whether so many bytes at a distance from there lie in the frame.
+fn in_frame(at: Offsets, offset: i16, size: u32) -> Result<(), Rule>
+    ensures { result ≡ (if fits at offset size 512 then Ok tt else Err Rule.OutsideFrame) }
+{
+    if at.fits(offset, size, 512) {
+        Ok(())
+    } else {
+        Err(Rule::OutsideFrame)
+    }
+}
+
+// Whether so many bytes at a distance from there lie in the record.
+fn in_record(at: Offsets, offset: i16, size: u32) -> Result<(), Rule>
+    ensures { result ≡ (if fits at offset size 64 then Ok tt else Err Rule.OutsideRecord) }
+{
+    if at.fits(offset, size, 64) {
+        Ok(())
+    } else {
+        Err(Rule::OutsideRecord)
+    }
 }
 
 impl Kind {
@@ -91,10 +114,8 @@ impl Kind {
         ensures { result ≡ readable self offset size }
     {
         match self {
-            Kind::FramePointer(at) if at.fits(offset, size, 512) => Ok(()),
-            Kind::FramePointer(_) => Err(Rule::OutsideFrame),
-            Kind::RecordPointer(at) if at.fits(offset, size, 64) => Ok(()),
-            Kind::RecordPointer(_) => Err(Rule::OutsideRecord),
+            Kind::FramePointer(at) => in_frame(at, offset, size),
+            Kind::RecordPointer(at) => in_record(at, offset, size),
             _ => Err(Rule::WrongKind),
         }
     }
@@ -107,8 +128,7 @@ impl Kind {
             return Err(Rule::WrongKind);
         };
         match self {
-            Kind::FramePointer(at) if at.fits(offset, size, 512) => Ok(()),
-            Kind::FramePointer(_) => Err(Rule::OutsideFrame),
+            Kind::FramePointer(at) => in_frame(at, offset, size),
             Kind::RecordPointer(_) => Err(Rule::RecordWritten),
             _ => Err(Rule::WrongKind),
         }

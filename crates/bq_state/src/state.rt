@@ -107,6 +107,6 @@ impl State {
         for register in 0..11 {
             kinds[register] = self.kinds[register].join(other.kinds[register]);
         }
-        State { kinds }
+        State::new(kinds)
     }
 }

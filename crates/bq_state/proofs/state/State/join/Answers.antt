@@ -11,7 +11,8 @@ loop-register-preserved c =
     (count, joined_more c.self.inside.kinds c.other.inside.kinds l 11 i c.join.result c.index-self-register.result c.index-other-register.result c.self.invariant c.other.invariant c.loop-register.invariant.0 c.loop-register-test.true c.index-self-register.is c.index-other-register.is c.join.ensures c.loop-register.invariant.1)
 
 pub returns-clause-row : goal.returns-clause-row
-returns-clause-row c = rw (← c.self.view_is, ← c.other.view_is) (joined_lists c.self.inside.kinds c.other.inside.kinds c.loop-register.kinds 11 c.self.invariant c.other.invariant c.loop-register.invariant.0 (λ r h. c.loop-register.invariant.1 r (omega arith)))
+returns-clause-row c =
+    c.new.ensures ∙ rw (← c.self.view_is, ← c.other.view_is) (joined_lists c.self.inside.kinds c.other.inside.kinds c.loop-register.kinds 11 c.self.invariant c.other.invariant c.loop-register.invariant.0 (λ r h. c.loop-register.invariant.1 r (omega arith)))
 
 pub returns-clause-covers : goal.returns-clause-covers
 returns-clause-covers c = rw (returns-clause-row c) (join_covers c.args.self.now c.args.other.now)
