@@ -12,5 +12,4 @@ pub mod Repeating
 pub mod Resolving
 pub mod Unique
 pub mod Lines
-pub mod Encoded
 pub mod Writing

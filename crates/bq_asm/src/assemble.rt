@@ -1,13 +1,13 @@
 ghost use Rattle.std.specs.Prelude.{◌≡◌, IfOk, IfErr, MatchResult, List, map};
 ghost use Rattle.bq_insn.specs.Slots.{IsText};
 ghost use Rattle.bq_asm.specs.Source.{Says, IsSource, IsFault};
-ghost use Rattle.bq_asm.specs.Steps.{IsReadFault, least};
+ghost use Rattle.bq_asm.specs.Steps.{IsReadFault, IsLengthFault, least};
 ghost use Rattle.bq_asm.specs.View.{line_view};
 
 use crate::fault::AsmFault;
 use crate::labels::{first_repeated, resolve};
 use crate::line::Line;
-use crate::machine::text_of;
+use bq_insn::fault::DecodeFault;
 use bq_insn::insn::Insn;
 use bq_insn::text::Text;
 use std::alloc::Global;
@@ -39,6 +39,21 @@ fn least(a: Option<usize>, b: Option<usize>) -> Option<usize>
         (Some(a), Some(b)) => Some(a.min(b)),
         (Some(a), None) => Some(a),
         (None, b) => b,
+    }
+}
+
+/// The text of these instructions.
+fn text_of(alloc: Global, insns: &[Insn]) -> Result<Text, AsmFault>
+    ensures same { IfOk result (λ t. t ≡ insns.now) }
+    ensures text { IfOk result IsText }
+    ensures fault { IfErr result (IsLengthFault insns.now) }
+{
+    match Text::of(alloc, insns) {
+        Ok(text) => Ok(text),
+        Err(DecodeFault::BadLength) => Err(AsmFault::BadLength),
+        Err(DecodeFault::TooLong) => Err(AsmFault::TooLong),
+        Err(DecodeFault::OutOfMemory) => Err(AsmFault::OutOfMemory),
+        Err(DecodeFault::At { .. }) => unreachable!(),
     }
 }
 

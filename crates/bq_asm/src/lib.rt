@@ -36,7 +36,6 @@ mod jump;
 mod labels;
 pub mod laws;
 mod line;
-mod machine;
 mod mnemonic;
 mod number;
 mod operand;
