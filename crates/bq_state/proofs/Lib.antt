@@ -1,3 +1,4 @@
 pub mod Spans
 pub mod Covering
 pub mod Counts
+pub mod Ways
