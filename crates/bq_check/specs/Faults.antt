@@ -1,5 +1,5 @@
 -- The first fault of notes that do not pass: 21, then the flow's, then 31, 22, and the units with a state in rising order.
-use Rattle.std.specs.Prelude.{◌≡◌, ◌≢◌, ℕ, List, [], ◌∷◌, length, Option, Some, None, Result, Ok, Err}
+use Rattle.std.specs.Prelude.{◌≡◌, ◌≢◌, ℕ, List, length, Option, Some, None, Ok, Err}
 use Rattle.bq_insn.specs.Slots.{units}
 use Rattle.bq_insn.specs.declared.insn.Insn.{Insn}
 use Rattle.bq_flow.specs.Paths.{insn_at, IsLegalFlow}
@@ -31,6 +31,12 @@ pub record IsOpened (text : List Insn) (notes : List (Option (List Kind))) : Typ
   pub flow : IsLegalFlow text
   pub halves : NoHalves text notes (units text)
   pub entry : NoteCovers notes (0, entry_state)
+
+-- what is wrong with the instruction at a unit with a state
+abbrev pub IsUnitFault : List (Option (List Kind)) → ℕ → Insn → List Kind → CheckFault → Type 0
+IsUnitFault notes unit i state (Rule at rule) = (at ≡ unit) × (transfer i state ≡ Err rule)
+IsUnitFault notes unit i state (NotCovered at) = (at ≡ unit) × ((after : List Kind) × (transfer i state ≡ Ok after) × (AllCovered notes (edges unit i after) → ⊥))
+IsUnitFault notes unit i state f = ⊥
 
 abbrev pub IsFirstFault : List Insn → List (Option (List Kind)) → CheckFault → Type 0
 IsFirstFault text notes WrongCount = length notes ≢ units text

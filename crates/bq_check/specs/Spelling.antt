@@ -1,27 +1,70 @@
 -- The bytes of notes: a count, and then for each unit nothing, or the kinds of the eleven registers.
-use Rattle.std.specs.Prelude.{ℕ, ℤ, List, [], ◌∷◌, ◌++◌, length, Option, Some, None}
-use Rattle.std.specs.List.{flat_map}
-use Rattle.std.specs.Int.{w32, cast_unsigned}
-use Rattle.bq_word.specs.Word.{le_bytes}
-use Rattle.bq_state.specs.Offsets.{Span}
+use Rattle.std.specs.Prelude.{◌≡◌, ℕ, ◌≤◌, ℤ, List, [], ◌∷◌, ◌++◌, length, Option, Some, None}
+use Rattle.std.specs.List.{flat_map, AllByRecursion}
+use Rattle.std.specs.Int.{w32, w64, cast_unsigned, to_le_bytes}
+use Rattle.bq_range.specs.Interval.{Interval, IsInterval}
+use Rattle.bq_state.specs.Offsets.{Span, IsSpan}
 use Rattle.bq_state.specs.declared.kind.Kind.{Kind}
 use Rattle.bq_state.specs.declared.kind.Kind.TheVariants.{Unset, Number, FramePointer, RecordPointer}
 
+-- ---- the bytes, those of a number from the lowest
+
+unfoldable pub short_bytes : ℕ → List ℕ
+short_bytes n = to_le_bytes w32 n
+
+unfoldable pub long_bytes : ℕ → List ℕ
+long_bytes n = to_le_bytes w64 n
+
+abbrev pub range_bytes : Interval → List ℕ
+range_bytes a = long_bytes a.lo ++ long_bytes a.hi
+
+-- offsets in two's complement
 abbrev pub offset_bytes : ℤ → List ℕ
-offset_bytes z = le_bytes 4 (cast_unsigned w32 z)
+offset_bytes z = short_bytes (cast_unsigned w32 z)
 
 abbrev pub span_bytes : Span → List ℕ
 span_bytes s = offset_bytes s.lo ++ offset_bytes s.hi
 
 abbrev pub kind_bytes : Kind → List ℕ
 kind_bytes Unset = 0 ∷ []
-kind_bytes (Number a) = 1 ∷ (le_bytes 8 a.lo ++ le_bytes 8 a.hi)
+kind_bytes (Number a) = 1 ∷ range_bytes a
 kind_bytes (FramePointer s) = 2 ∷ span_bytes s
 kind_bytes (RecordPointer s) = 3 ∷ span_bytes s
 
+abbrev pub state_bytes : List Kind → List ℕ
+state_bytes state = flat_map kind_bytes state
+
 abbrev pub note_bytes : Option (List Kind) → List ℕ
 note_bytes None = 0 ∷ []
-note_bytes (Some state) = 1 ∷ flat_map kind_bytes state
+note_bytes (Some state) = 1 ∷ state_bytes state
 
 abbrev pub notes_bytes : List (Option (List Kind)) → List ℕ
-notes_bytes notes = le_bytes 4 (length notes) ++ flat_map note_bytes notes
+notes_bytes notes = short_bytes (length notes) ++ flat_map note_bytes notes
+
+-- ---- the notes that have bytes
+
+abbrev pub IsKind : Kind → Type 0
+IsKind Unset = Unit {0}
+IsKind (Number a) = IsInterval a
+IsKind (FramePointer s) = IsSpan s
+IsKind (RecordPointer s) = IsSpan s
+
+-- eleven kinds
+pub record IsState (state : List Kind) : Type 0 where
+  pub count : length state ≡ 11
+  pub kinds : AllByRecursion IsKind state
+
+abbrev pub IsNote : Option (List Kind) → Type 0
+IsNote None = Unit {0}
+IsNote (Some state) = IsState state
+
+-- at most 4,096 notes
+pub record IsNotes (notes : List (Option (List Kind))) : Type 0 where
+  pub few : length notes ≤ 4096
+  pub each : AllByRecursion IsNote notes
+
+-- ---- bytes that are no notes
+
+-- the bytes do not begin with those of a value
+pub record BeginsNone {A : Type 0} (bytes_of : A → List ℕ) (Legal : A → Type 0) (bytes : List ℕ) : Type 0 where
+  pub none : (a : A) (more : List ℕ) → Legal a → bytes ≡ bytes_of a ++ more → ⊥

@@ -1,19 +1,20 @@
 //! A text that was checked.
 
-ghost use Rattle.std.specs.Prelude.{◌≡◌};
-ghost use Rattle.bq_sound.specs.Safe.{IsSafe};
-ghost use Rattle.bq_check.specs.Certificate.{IsCertified};
+ghost use Rattle.std.specs.Prelude.{◌≡◌, ◌≤◌};
+ghost use Rattle.bq_flow.specs.Paths.{IsLongest};
+ghost use Rattle.bq_sound.specs.Passes.{Passes};
 
 use crate::notes::Notes;
 use bq_insn::text::Text;
 use std::marker::Model;
 
-/// A text whose notes pass.
+/// A text whose notes pass, with these notes and its longest path. [`check`](crate::check::check)
+/// alone makes one.
 #[derive(Drop)]
 pub struct Certified {
-    text: Text,
-    notes: Notes,
-    longest: u32,
+    pub(crate) text: Text,
+    pub(crate) notes: Notes,
+    pub(crate) longest: u32,
 }
 
 impl Model for Certified {
@@ -34,9 +35,21 @@ impl Certified {
         &self.text
     }
 
-    /// The greatest number of instructions on a path from unit 0 to an EXIT.
+    /// The notes, which pass for the text.
+    pub fn notes(&self) -> &Notes
+        ensures value { result.now ≡ self.now.notes }
+        ensures passes { Passes self.now.text self.now.notes }
+    {
+        &self.notes
+    }
+
+    /// The greatest number of instructions on a path from unit 0 to an EXIT, from 1 to 4,096. A wide
+    /// instruction counts once.
     pub fn longest(&self) -> u32
-        ensures { result ≡ self.now.longest }
+        ensures value { result ≡ self.now.longest }
+        ensures longest { IsLongest self.now.text result }
+        ensures some { 1 ≤ result }
+        ensures within { result ≤ 4096 }
     {
         self.longest
     }

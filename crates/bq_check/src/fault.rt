@@ -1,23 +1,156 @@
-//! Why a text with notes is refused.
+//! Why a text with notes is refused, and why bytes are no notes, each reason with its number and its
+//! name.
 
-use bq_flow::fault::FlowRule;
+ghost use Rattle.std.specs.Prelude.{◌≡◌};
+ghost use Rattle.bq_check.specs.Numbers.{fault_number, fault_name, fault_unit, notes_number, notes_name};
+
+use bq_flow::fault::{FlowFault, FlowRule};
 use bq_state::rule::Rule;
+use std::alloc::{AllocError, AllocFailed};
 
-/// Why a text with notes is refused: the first fault.
+/// Why a text with notes is refused: the first fault, in the order in which they stand here.
 #[derive(Clone, Copy, Debug, PartialEq, Eq)]
 pub enum CheckFault {
     /// 21: not one note for each unit.
     WrongCount,
     /// 11 to 14: the text's flow is not legal.
-    Flow { unit: usize, rule: FlowRule },
+    Flow {
+        /// The unit where the instruction begins, counted from 0.
+        unit: usize,
+        /// The first rule of the flow that it breaks.
+        rule: FlowRule,
+    },
     /// 31: a second half of a wide instruction has a state.
-    NoteForm { unit: usize },
+    NoteForm {
+        /// Its unit, counted from 0.
+        unit: usize,
+    },
     /// 22: the note at the first unit does not cover the entry.
     Entry,
     /// 23 to 28 and 30: an instruction breaks a rule.
-    Rule { unit: usize, rule: Rule },
+    Rule {
+        /// The unit where it begins, counted from 0.
+        unit: usize,
+        /// The first rule that it breaks.
+        rule: Rule,
+    },
     /// 29: the state at a feasible successor does not cover what the instruction leaves.
-    NotCovered { unit: usize },
-    /// 99.
+    NotCovered {
+        /// The unit where the instruction begins, counted from 0.
+        unit: usize,
+    },
+    /// 99: memory ran out. It may stand in place of any other answer.
     OutOfMemory,
+}
+
+impl CheckFault {
+    /// The number by which the fault is reported: 11 to 14, 21 to 31 or 99.
+    pub fn number(&self) -> u8
+        ensures { result ≡ fault_number self.now }
+    {
+        match self {
+            CheckFault::WrongCount => 21,
+            CheckFault::Flow { rule, .. } => rule.number(),
+            CheckFault::NoteForm { .. } => 31,
+            CheckFault::Entry => 22,
+            CheckFault::Rule { rule, .. } => rule.number(),
+            CheckFault::NotCovered { .. } => 29,
+            CheckFault::OutOfMemory => 99,
+        }
+    }
+
+    /// The name by which the fault is reported.
+    pub fn name(&self) -> &'static str
+        ensures { result.now ≡ fault_name self.now }
+    {
+        match self {
+            CheckFault::WrongCount => "WrongCount",
+            CheckFault::Flow { rule, .. } => rule.name(),
+            CheckFault::NoteForm { .. } => "NoteForm",
+            CheckFault::Entry => "Entry",
+            CheckFault::Rule { rule, .. } => rule.name(),
+            CheckFault::NotCovered { .. } => "NotCovered",
+            CheckFault::OutOfMemory => "OutOfMemory",
+        }
+    }
+
+    /// The unit where the fault is, counted from 0; none of 21, 22 and 99.
+    pub fn unit(&self) -> Option<usize>
+        ensures { result ≡ fault_unit self.now }
+    {
+        match self {
+            CheckFault::WrongCount | CheckFault::Entry | CheckFault::OutOfMemory => None,
+            CheckFault::Flow { unit, .. }
+            | CheckFault::NoteForm { unit }
+            | CheckFault::Rule { unit, .. }
+            | CheckFault::NotCovered { unit } => Some(*unit),
+        }
+    }
+}
+
+impl From<FlowFault> for CheckFault {
+    ghost use Rattle.std.specs.Prelude.{◌≡◌};
+    ghost use Rattle.bq_check.specs.Numbers.{flow_refusal};
+
+    ghost from_gives = { λ fault e. e ≡ flow_refusal fault };
+
+    fn from(fault: FlowFault) -> Self {
+        match fault {
+            FlowFault::At { unit, rule } => CheckFault::Flow { unit, rule },
+            FlowFault::OutOfMemory => CheckFault::OutOfMemory,
+        }
+    }
+}
+
+/// Why bytes are not read as notes.
+#[derive(Clone, Copy, Debug, PartialEq, Eq)]
+pub enum NotesFault {
+    /// 31: they spell no notes.
+    NoteForm,
+    /// 99: memory ran out. It may stand in place of the other answer.
+    OutOfMemory,
+}
+
+impl NotesFault {
+    /// The number by which the fault is reported, 31 or 99.
+    pub fn number(&self) -> u8
+        ensures { result ≡ notes_number self.now }
+    {
+        match self {
+            NotesFault::NoteForm => 31,
+            NotesFault::OutOfMemory => 99,
+        }
+    }
+
+    /// The name by which the fault is reported.
+    pub fn name(&self) -> &'static str
+        ensures { result.now ≡ notes_name self.now }
+    {
+        match self {
+            NotesFault::NoteForm => "NoteForm",
+            NotesFault::OutOfMemory => "OutOfMemory",
+        }
+    }
+}
+
+impl From<AllocError> for NotesFault {
+    ghost use Rattle.std.specs.Prelude.{◌≡◌};
+    ghost use Rattle.bq_check.specs.declared.fault.NotesFault.TheVariants.{OutOfMemory};
+
+    ghost from_gives = { λ _ e. e ≡ OutOfMemory };
+
+    fn from(_error: AllocError) -> Self {
+        NotesFault::OutOfMemory
+    }
+}
+
+impl<T: Drop> From<AllocFailed<T>> for NotesFault {
+    ghost use Rattle.std.specs.Prelude.{◌≡◌};
+    ghost use Rattle.bq_check.specs.declared.fault.NotesFault.TheVariants.{OutOfMemory};
+
+    ghost from_gives = { λ _ e. e ≡ OutOfMemory };
+
+    fn from(_error: AllocFailed<T>) -> Self {
+        NotesFault::OutOfMemory
+    }
 }

@@ -1,0 +1,73 @@
+-- How the checker goes on by one unit, and its first fault.
+use Rattle.std.proofs.Common.{◌≡◌, ℕ, ◌+◌, ◌<◌, List, length, Option, Some, sym, ap, subst, ◌∙◌, arith, inl, inr}
+use Rattle.std.proofs.lemmas.Bool.{cases_lt}
+use Rattle.bq_insn.specs.Slots.{units}
+use Rattle.bq_insn.specs.declared.insn.Insn.{Insn}
+use Rattle.bq_flow.specs.Paths.{insn_at}
+use Rattle.bq_flow.specs.declared.fault.FlowFault.{FlowFault}
+use Rattle.bq_flow.specs.declared.fault.FlowFault.TheVariants as flows
+use Rattle.bq_flow.specs.Faults.{IsFlowFault}
+use Rattle.bq_state.specs.declared.kind.Kind.{Kind}
+use Rattle.bq_sound.specs.Passes.{note_at, NoHalves, IsFine, AllFine}
+use Rattle.bq_check.specs.declared.fault.CheckFault.{CheckFault}
+use Rattle.bq_check.specs.declared.fault.CheckFault.TheVariants.{WrongCount, Flow, NoteForm, Entry, Rule, NotCovered, OutOfMemory}
+use Rattle.bq_check.specs.Numbers.{flow_refusal}
+use Rattle.bq_check.specs.Faults.{IsOpened, IsUnitFault, IsFirstFault}
+
+module _ (text : List Insn) (notes : List (Option (List Kind))) where
+  -- ---- second halves
+
+  pub halves_more : (unit : ℕ) → NoHalves text notes unit → ((state : List Kind) → note_at notes unit ≡ Some state → (i : Insn) × (insn_at text unit ≡ Some i)) → NoHalves text notes (unit + 1)
+  halves_more unit h here = record { each = λ u state l noted. each u state l noted }
+    where
+      each : (u : ℕ) (state : List Kind) → u < unit + 1 → note_at notes u ≡ Some state → (i : Insn) × (insn_at text u ≡ Some i)
+      each u state l noted = elim (cases_lt u unit) [
+        | inl m ↦ h.each u state m noted
+        | inr g ↦
+            let e : u ≡ unit = omega (arith, l, g) in
+            let i = here state (ap (note_at notes) (sym e) ∙ noted) in
+            (i.0, ap (insn_at text) e ∙ i.1)
+      ]
+
+  -- ---- units
+
+  pub fine_more : (unit : ℕ) → AllFine text notes unit → ((state : List Kind) (i : Insn) → note_at notes unit ≡ Some state → insn_at text unit ≡ Some i → IsFine notes unit i state) → AllFine text notes (unit + 1)
+  fine_more unit h here = record { each = λ u state i l noted there. each u state i l noted there }
+    where
+      each : (u : ℕ) (state : List Kind) (i : Insn) → u < unit + 1 → note_at notes u ≡ Some state → insn_at text u ≡ Some i → IsFine notes u i state
+      each u state i l noted there = elim (cases_lt u unit) [
+        | inl m ↦ h.each u state i m noted there
+        | inr g ↦
+            let e : u ≡ unit = omega (arith, l, g) in
+            subst (λ n. IsFine notes n i state) (sym e) (here state i (ap (note_at notes) (sym e) ∙ noted) (ap (insn_at text) (sym e) ∙ there))
+      ]
+
+  same_state : (a b : List Kind) (o : Option (List Kind)) → o ≡ Some a → o ≡ Some b → a ≡ b
+  same_state a b o p q = let e : Some a ≡ Some b = sym p ∙ q in cc
+
+  same_insn : (i j : Insn) (o : Option Insn) → o ≡ Some i → o ≡ Some j → i ≡ j
+  same_insn i j o p q = let e : Some i ≡ Some j = sym p ∙ q in cc
+
+  pub fine_here : (unit : ℕ) (state : List Kind) (i : Insn) → note_at notes unit ≡ Some state → insn_at text unit ≡ Some i → IsFine notes unit i state → (s : List Kind) (j : Insn) → note_at notes unit ≡ Some s → insn_at text unit ≡ Some j → IsFine notes unit j s
+  fine_here unit state i noted there fine s j noted_too there_too =
+      subst (λ x. IsFine notes unit x s) (same_insn i j (insn_at text unit) there there_too)
+      (subst (λ x. IsFine notes unit i x) (same_state state s (note_at notes unit) noted noted_too) fine)
+
+  pub first_fault : (unit : ℕ) (state : List Kind) (i : Insn) (f : CheckFault) → IsOpened text notes → AllFine text notes unit → note_at notes unit ≡ Some state → insn_at text unit ≡ Some i → IsUnitFault notes unit i state f → IsFirstFault text notes f
+  first_fault unit state i WrongCount opened below noted there fault = absurd fault
+  first_fault unit state i (Flow at rule) opened below noted there fault = absurd fault
+  first_fault unit state i (NoteForm at) opened below noted there fault = absurd fault
+  first_fault unit state i Entry opened below noted there fault = absurd fault
+  first_fault unit state i (Rule at rule) opened below noted there fault =
+      subst (λ u. IsFirstFault text notes (Rule u rule)) (sym fault.0)
+      (opened, (i, state, record { below = below; noted = noted; there = there }, fault.1))
+  first_fault unit state i (NotCovered at) opened below noted there fault =
+      subst (λ u. IsFirstFault text notes (NotCovered u)) (sym fault.0)
+      (opened, (i, state, fault.1.0, record { below = below; noted = noted; there = there }, fault.1.1, fault.1.2))
+  first_fault unit state i OutOfMemory opened below noted there fault = absurd fault
+
+  -- ---- the flow
+
+  pub flow_fault : (f : FlowFault) → length notes ≡ units text → IsFlowFault text f → IsFirstFault text notes (flow_refusal f)
+  flow_fault (flows.At unit rule) count fault = (count, fault)
+  flow_fault flows.OutOfMemory count fault = tt

@@ -1,0 +1,6 @@
+pub mod Codes
+pub mod Fields
+pub mod Checked
+pub mod Once
+pub mod Read
+pub mod Written

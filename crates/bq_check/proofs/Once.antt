@@ -1,0 +1,187 @@
+-- Notes that pass have no fault, and other notes have one first fault.
+use Rattle.std.proofs.Common.{◌≡◌, ℕ, ◌<◌, List, length, Option, Some, None, Result, Ok, Err, refl, sym, ap, subst, ◌∙◌, arith, inl, inr}
+use Rattle.std.specs.Prelude.{MatchResult, IfErr, ⊤}
+use Rattle.std.proofs.lemmas.Bool.{cases_lt}
+use Rattle.std.proofs.lemmas.List.{get_or_past}
+use Rattle.bq_insn.specs.Slots.{units}
+use Rattle.bq_insn.specs.declared.insn.Insn.{Insn}
+use Rattle.bq_flow.specs.Paths.{insn_at}
+use Rattle.bq_flow.proofs.Units.{insn_within}
+use Rattle.bq_flow.proofs.Legal.{not_legal, one_first}
+use Rattle.bq_state.specs.declared.kind.Kind.{Kind}
+use Rattle.bq_state.specs.declared.rule.Rule.{Rule as Broken}
+use Rattle.bq_state.specs.Rules.{transfer}
+use Rattle.bq_state.specs.Edges.{edges}
+use Rattle.bq_sound.specs.Passes.{note_at, AllCovered, NoHalves, IsFine, AllFine, Passes}
+use Rattle.bq_check.specs.Certificate.{Certificate}
+use Rattle.bq_check.specs.declared.fault.CheckFault.{CheckFault}
+use Rattle.bq_check.specs.declared.fault.CheckFault.TheVariants.{WrongCount, Flow, NoteForm, Entry, Rule, NotCovered, OutOfMemory}
+use Rattle.bq_check.specs.Faults.{IsReached, IsFirstHalf, IsFirstFault}
+
+module _ (text : List Insn) (notes : List (Option (List Kind))) where
+  -- ---- second halves
+
+  no_state : (state : List Kind) (o : Option (List Kind)) → o ≡ None → o ≡ Some state → ⊥
+  no_state state o e f = let bad : Some state ≡ None = sym f ∙ e in cc
+
+  no_insn : (i : Insn) (o : Option Insn) → o ≡ None → o ≡ Some i → ⊥
+  no_insn i o e f = let bad : Some i ≡ None = sym f ∙ e in cc
+
+  note_within : (unit : ℕ) (state : List Kind) → note_at notes unit ≡ Some state → unit < length notes
+  note_within unit state noted = elim (cases_lt unit (length notes)) [
+    | inl l ↦ l
+    | inr g ↦ absurd (no_state state (note_at notes unit) (get_or_past notes unit None g) noted)
+  ]
+
+  half_before : (unit n : ℕ) → IsFirstHalf text notes unit → NoHalves text notes n → unit < n → ⊥
+  half_before unit n f h l =
+      let i = h.each unit f.state l f.noted in
+      no_insn i.0 (insn_at text unit) f.second i.1
+
+  no_half : (unit : ℕ) → IsFirstHalf text notes unit → length notes ≡ units text → NoHalves text notes (units text) → ⊥
+  no_half unit f count h = half_before unit (units text) f h (let l = note_within unit f.state f.noted in omega (arith, l, count))
+
+  one_half : (unit other : ℕ) → IsFirstHalf text notes unit → IsFirstHalf text notes other → unit ≡ other
+  one_half unit other f g = elim (cases_lt unit other) [
+    | inl l ↦ absurd (half_before unit other f g.below l)
+    | inr m ↦ elim (cases_lt other unit) [
+      | inl l ↦ absurd (half_before other unit g f.below l)
+      | inr n ↦ omega (arith, m, n)
+    ]
+  ]
+
+  -- ---- units
+
+  -- the first unit that is not fine
+  record IsFirstBad (unit : ℕ) (i : Insn) (state : List Kind) : Type 0 where
+    reached : IsReached text notes unit i state
+    bad : IsFine notes unit i state → ⊥
+
+  broken_is_bad : (unit : ℕ) (i : Insn) (state : List Kind) (rule : Broken) → IsReached text notes unit i state → transfer i state ≡ Err rule → IsFirstBad unit i state
+  broken_is_bad unit i state rule reached e = record { reached = reached; bad = λ fine. bad fine }
+    where
+      differ : (after : List Kind) (r : Result (List Kind) Broken) → r ≡ Ok after → r ≡ Err rule → ⊥
+      differ after r p q = let no_way : Ok after ≡ Err rule = sym p ∙ q in cc
+
+      bad : IsFine notes unit i state → ⊥
+      bad fine = differ fine.after (transfer i state) fine.rules e
+
+  uncovered_is_bad : (unit : ℕ) (i : Insn) (state after : List Kind) → IsReached text notes unit i state → transfer i state ≡ Ok after → (AllCovered notes (edges unit i after) → ⊥) → IsFirstBad unit i state
+  uncovered_is_bad unit i state after reached e uncovered = record { reached = reached; bad = λ fine. bad fine }
+    where
+      same : (a b : List Kind) (r : Result (List Kind) Broken) → r ≡ Ok a → r ≡ Ok b → a ≡ b
+      same a b r p q = let both : Ok a ≡ Ok b = sym p ∙ q in cc
+
+      bad : IsFine notes unit i state → ⊥
+      bad fine = uncovered (subst (λ s. AllCovered notes (edges unit i s)) (same fine.after after (transfer i state) fine.rules e) fine.covered)
+
+  bad_before : (unit n : ℕ) (i : Insn) (state : List Kind) → IsFirstBad unit i state → AllFine text notes n → unit < n → ⊥
+  bad_before unit n i state b fine l = b.bad (fine.each unit state i l b.reached.noted b.reached.there)
+
+  not_all_fine : (unit : ℕ) (i : Insn) (state : List Kind) → IsFirstBad unit i state → AllFine text notes (units text) → ⊥
+  not_all_fine unit i state b fine = bad_before unit (units text) i state b fine (insn_within text unit i b.reached.there)
+
+  one_bad : (unit other : ℕ) (i j : Insn) (state old : List Kind) → IsFirstBad unit i state → IsFirstBad other j old → unit ≡ other
+  one_bad unit other i j state old f g = elim (cases_lt unit other) [
+    | inl l ↦ absurd (bad_before unit other i state f g.reached.below l)
+    | inr m ↦ elim (cases_lt other unit) [
+      | inl l ↦ absurd (bad_before other unit j old g f.reached.below l)
+      | inr n ↦ omega (arith, m, n)
+    ]
+  ]
+
+  same_state : (unit other : ℕ) (a b : List Kind) → unit ≡ other → note_at notes unit ≡ Some a → note_at notes other ≡ Some b → a ≡ b
+  same_state unit other a b e p q = let h : Some a ≡ Some b = sym p ∙ ap (note_at notes) e ∙ q in cc
+
+  same_insn : (unit other : ℕ) (i j : Insn) → unit ≡ other → insn_at text unit ≡ Some i → insn_at text other ≡ Some j → i ≡ j
+  same_insn unit other i j e p q = let h : Some i ≡ Some j = sym p ∙ ap (insn_at text) e ∙ q in cc
+
+  same_transfer : (unit other : ℕ) (i j : Insn) (state old : List Kind) → unit ≡ other → IsReached text notes unit i state → IsReached text notes other j old → transfer i state ≡ transfer j old
+  same_transfer unit other i j state old e r s =
+      ap (λ x. transfer x state) (same_insn unit other i j e r.there s.there) ∙ ap (transfer j) (same_state unit other state old e r.noted s.noted)
+
+  one_rule : (rule wrong : Broken) (r s : Result (List Kind) Broken) → r ≡ s → r ≡ Err rule → s ≡ Err wrong → rule ≡ wrong
+  one_rule rule wrong r s e p q = let h : Err rule ≡ Err wrong = sym p ∙ e ∙ q in cc
+
+  broken_or_not : (rule : Broken) (after : List Kind) (r s : Result (List Kind) Broken) → r ≡ s → r ≡ Err rule → s ≡ Ok after → ⊥
+  broken_or_not rule after r s e p q = let h : Err rule ≡ Ok after = sym p ∙ e ∙ q in cc
+
+  rule_or_uncovered : (unit other : ℕ) (rule : Broken) → IsFirstFault text notes (Rule unit rule) → IsFirstFault text notes (NotCovered other) → ⊥
+  rule_or_uncovered unit other rule f g =
+      let a = broken_is_bad unit f.1.0 f.1.1 rule f.1.2 f.1.3 in
+      let b = uncovered_is_bad other g.1.0 g.1.1 g.1.2 g.1.3 g.1.4 g.1.5 in
+      let e = one_bad unit other f.1.0 g.1.0 f.1.1 g.1.1 a b in
+      let t = same_transfer unit other f.1.0 g.1.0 f.1.1 g.1.1 e f.1.2 g.1.3 in
+      broken_or_not rule g.1.2 (transfer f.1.0 f.1.1) (transfer g.1.0 g.1.1) t f.1.3 g.1.4
+
+  -- ---- no fault where the notes pass
+
+  pub only_memory : (f : CheckFault) → IsFirstFault text notes f → Passes text notes → f ≡ OutOfMemory
+  only_memory WrongCount f p = absurd (f p.count)
+  only_memory (Flow unit rule) f p = absurd (not_legal text unit rule f.1 p.flow)
+  only_memory (NoteForm unit) f p = absurd (no_half unit f.2 f.0 p.halves)
+  only_memory Entry f p = absurd (f.3 p.entry)
+  only_memory (Rule unit rule) f p = absurd (not_all_fine unit f.1.0 f.1.1 (broken_is_bad unit f.1.0 f.1.1 rule f.1.2 f.1.3) p.fine)
+  only_memory (NotCovered unit) f p = absurd (not_all_fine unit f.1.0 f.1.1 (uncovered_is_bad unit f.1.0 f.1.1 f.1.2 f.1.3 f.1.4 f.1.5) p.fine)
+  only_memory OutOfMemory f p = refl
+
+  pub accepts : (r : Result Certificate CheckFault) → IfErr r (IsFirstFault text notes) → Passes text notes → MatchResult r (λ c. ⊤) (λ e. e ≡ OutOfMemory)
+  accepts (Ok c) fault p = tt
+  accepts (Err f) fault p = only_memory f fault p
+
+  -- ---- one first fault
+
+  pub one_fault : (f g : CheckFault) → IsFirstFault text notes f → IsFirstFault text notes g → (f ≡ OutOfMemory → ⊥) → (g ≡ OutOfMemory → ⊥) → f ≡ g
+  one_fault OutOfMemory g p q no_f no_g = absurd (no_f refl)
+  one_fault WrongCount OutOfMemory p q no_f no_g = absurd (no_g refl)
+  one_fault WrongCount WrongCount p q no_f no_g = refl
+  one_fault WrongCount (Flow v s) p q no_f no_g = absurd (p q.0)
+  one_fault WrongCount (NoteForm v) p q no_f no_g = absurd (p q.0)
+  one_fault WrongCount Entry p q no_f no_g = absurd (p q.0)
+  one_fault WrongCount (Rule v s) p q no_f no_g = absurd (p q.0.count)
+  one_fault WrongCount (NotCovered v) p q no_f no_g = absurd (p q.0.count)
+  one_fault (Flow u r) OutOfMemory p q no_f no_g = absurd (no_g refl)
+  one_fault (Flow u r) WrongCount p q no_f no_g = absurd (q p.0)
+  one_fault (Flow u r) (Flow v s) p q no_f no_g =
+      let e = one_first text u v r s p.1 q.1 in
+      ap (λ n. Flow n r) e.0 ∙ ap (λ n. Flow v n) e.1
+  one_fault (Flow u r) (NoteForm v) p q no_f no_g = absurd (not_legal text u r p.1 q.1)
+  one_fault (Flow u r) Entry p q no_f no_g = absurd (not_legal text u r p.1 q.1)
+  one_fault (Flow u r) (Rule v s) p q no_f no_g = absurd (not_legal text u r p.1 q.0.flow)
+  one_fault (Flow u r) (NotCovered v) p q no_f no_g = absurd (not_legal text u r p.1 q.0.flow)
+  one_fault (NoteForm u) OutOfMemory p q no_f no_g = absurd (no_g refl)
+  one_fault (NoteForm u) WrongCount p q no_f no_g = absurd (q p.0)
+  one_fault (NoteForm u) (Flow v s) p q no_f no_g = absurd (not_legal text v s q.1 p.1)
+  one_fault (NoteForm u) (NoteForm v) p q no_f no_g = ap NoteForm (one_half u v p.2 q.2)
+  one_fault (NoteForm u) Entry p q no_f no_g = absurd (no_half u p.2 p.0 q.2)
+  one_fault (NoteForm u) (Rule v s) p q no_f no_g = absurd (no_half u p.2 p.0 q.0.halves)
+  one_fault (NoteForm u) (NotCovered v) p q no_f no_g = absurd (no_half u p.2 p.0 q.0.halves)
+  one_fault Entry OutOfMemory p q no_f no_g = absurd (no_g refl)
+  one_fault Entry WrongCount p q no_f no_g = absurd (q p.0)
+  one_fault Entry (Flow v s) p q no_f no_g = absurd (not_legal text v s q.1 p.1)
+  one_fault Entry (NoteForm v) p q no_f no_g = absurd (no_half v q.2 q.0 p.2)
+  one_fault Entry Entry p q no_f no_g = refl
+  one_fault Entry (Rule v s) p q no_f no_g = absurd (p.3 q.0.entry)
+  one_fault Entry (NotCovered v) p q no_f no_g = absurd (p.3 q.0.entry)
+  one_fault (Rule u r) OutOfMemory p q no_f no_g = absurd (no_g refl)
+  one_fault (Rule u r) WrongCount p q no_f no_g = absurd (q p.0.count)
+  one_fault (Rule u r) (Flow v s) p q no_f no_g = absurd (not_legal text v s q.1 p.0.flow)
+  one_fault (Rule u r) (NoteForm v) p q no_f no_g = absurd (no_half v q.2 q.0 p.0.halves)
+  one_fault (Rule u r) Entry p q no_f no_g = absurd (q.3 p.0.entry)
+  one_fault (Rule u r) (Rule v s) p q no_f no_g =
+      let a = broken_is_bad u p.1.0 p.1.1 r p.1.2 p.1.3 in
+      let b = broken_is_bad v q.1.0 q.1.1 s q.1.2 q.1.3 in
+      let e = one_bad u v p.1.0 q.1.0 p.1.1 q.1.1 a b in
+      let t = same_transfer u v p.1.0 q.1.0 p.1.1 q.1.1 e p.1.2 q.1.2 in
+      ap (λ n. Rule n r) e ∙ ap (λ n. Rule v n) (one_rule r s (transfer p.1.0 p.1.1) (transfer q.1.0 q.1.1) t p.1.3 q.1.3)
+  one_fault (Rule u r) (NotCovered v) p q no_f no_g = absurd (rule_or_uncovered u v r p q)
+  one_fault (NotCovered u) OutOfMemory p q no_f no_g = absurd (no_g refl)
+  one_fault (NotCovered u) WrongCount p q no_f no_g = absurd (q p.0.count)
+  one_fault (NotCovered u) (Flow v s) p q no_f no_g = absurd (not_legal text v s q.1 p.0.flow)
+  one_fault (NotCovered u) (NoteForm v) p q no_f no_g = absurd (no_half v q.2 q.0 p.0.halves)
+  one_fault (NotCovered u) Entry p q no_f no_g = absurd (q.3 p.0.entry)
+  one_fault (NotCovered u) (Rule v s) p q no_f no_g = absurd (rule_or_uncovered v u s q p)
+  one_fault (NotCovered u) (NotCovered v) p q no_f no_g =
+      let a = uncovered_is_bad u p.1.0 p.1.1 p.1.2 p.1.3 p.1.4 p.1.5 in
+      let b = uncovered_is_bad v q.1.0 q.1.1 q.1.2 q.1.3 q.1.4 q.1.5 in
+      ap NotCovered (one_bad u v p.1.0 q.1.0 p.1.1 q.1.1 a b)

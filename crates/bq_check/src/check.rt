@@ -1,0 +1,147 @@
+//! The checker: whether notes pass for a text, and else their first fault.
+
+ghost use Rattle.std.specs.Prelude.{◌≡◌, ◌<◌, ◌≤◌, ◌↔◌, ℕ, length, IsTrue, IfSome, IfNone, IfOk, IfErr, OnOk, MatchResult, ⊤};
+ghost use Rattle.bq_insn.specs.Slots.{units};
+ghost use Rattle.bq_flow.specs.Paths.{IsLongest};
+ghost use Rattle.bq_state.specs.Listed.{edge_list, listed};
+ghost use Rattle.bq_sound.specs.Passes.{NoteCovers, AllCovered, NoHalves, IsFine, AllFine, Passes};
+ghost use Rattle.bq_check.specs.Certificate.{IsCertified};
+ghost use Rattle.bq_check.specs.Faults.{IsFirstHalf, IsOpened, IsUnitFault, IsFirstFault};
+
+use crate::certified::Certified;
+use crate::fault::CheckFault;
+use crate::notes::Notes;
+use bq_flow::flow::Flow;
+use bq_insn::insn::Insn;
+use bq_insn::text::Text;
+use bq_state::edges::{Edge, Edges};
+use bq_state::state::State;
+use std::alloc::Global;
+
+impl Notes {
+    /// Whether the state at a unit covers another; where there is none it does not.
+    fn cover(&self, unit: usize, state: &State) -> bool
+        ensures { IsTrue result ↔ NoteCovers self.now (unit, state.now) }
+    {
+        match self.at(unit) {
+            Some(note) => note.covers(state),
+            None => false,
+        }
+    }
+
+    fn cover_edge(&self, edge: &Option<Edge>) -> bool
+        ensures { IsTrue result ↔ AllCovered self.now (edge_list edge.now) }
+    {
+        match edge {
+            Some(edge) => self.cover(edge.unit as usize, &edge.state),
+            None => true,
+        }
+    }
+
+    fn cover_edges(&self, edges: &Edges) -> bool
+        ensures { IsTrue result ↔ AllCovered self.now (listed edges.now) }
+    {
+        self.cover_edge(&edges.behind) && self.cover_edge(&edges.jump)
+    }
+}
+
+/// The first unit with a state where no instruction begins.
+fn first_half(text: &Text, notes: &Notes) -> Option<usize>
+    ensures found { IfSome result (IsFirstHalf text.now notes.now) }
+    ensures none { IfNone result (NoHalves text.now notes.now (units text.now)) }
+{
+    for unit in 0..text.units() {
+        if notes.at(unit).is_some() && text.at(unit).is_none() {
+            return Some(unit);
+        }
+    }
+    None
+}
+
+/// Whether the instruction at a unit with a state is fine.
+fn check_unit(notes: &Notes, unit: usize, insn: &Insn, state: &State) -> Result<(), CheckFault>
+    requires { unit < 4096 }
+    ensures fine { OnOk result (IsFine notes.now unit insn.now state.now) }
+    ensures fault { IfErr result (IsUnitFault notes.now unit insn.now state.now) }
+{
+    match state.transfer(insn) {
+        Ok(after) => if notes.cover_edges(&after.edges(unit as u64, insn)) {
+            Ok(())
+        } else {
+            Err(CheckFault::NotCovered { unit })
+        },
+        Err(rule) => Err(CheckFault::Rule { unit, rule }),
+    }
+}
+
+/// Whether all units with a state are fine, in rising order.
+fn check_units(text: &Text, notes: &Notes) -> Result<(), CheckFault>
+    requires { IsOpened text.now notes.now }
+    ensures fine { OnOk result (AllFine text.now notes.now (units text.now)) }
+    ensures fault { IfErr result (IsFirstFault text.now notes.now) }
+{
+    for unit in 0..text.units() {
+        if let Some(state) = notes.at(unit) {
+            if let Some(insn) = text.at(unit) {
+                check_unit(notes, unit, &insn, &state)?;
+            }
+        }
+    }
+    Ok(())
+}
+
+/// What is looked at before the units: the count, the flow, second halves and the entry. The longest
+/// path is answered.
+fn open(alloc: Global, text: &Text, notes: &Notes) -> Result<u32, CheckFault>
+    ensures opened { OnOk result (IsOpened text.now notes.now) }
+    ensures longest { IfOk result (IsLongest text.now) }
+    ensures small { IfOk result (λ n. n ≤ 4096) }
+    ensures fault { IfErr result (IsFirstFault text.now notes.now) }
+{
+    if notes.len() != text.units() {
+        return Err(CheckFault::WrongCount);
+    }
+    let longest = Flow::of(alloc, text)?.longest();
+    if let Some(unit) = first_half(text, notes) {
+        return Err(CheckFault::NoteForm { unit });
+    }
+    if !notes.cover(0, &State::entry()) {
+        return Err(CheckFault::Entry);
+    }
+    Ok(longest)
+}
+
+/// What [`check`] answers.
+fn certify(alloc: Global, text: Text, notes: Notes) -> Result<Certified, CheckFault>
+    ensures same { IfOk result (λ c. (c.text ≡ text) × (c.notes ≡ notes)) }
+    ensures passes { IfOk result IsCertified }
+    ensures fault { IfErr result (IsFirstFault text notes) }
+{
+    let longest = open(alloc, &text, &notes)?;
+    check_units(&text, &notes)?;
+    Ok(Certified {
+        text,
+        notes,
+        longest,
+    })
+}
+
+/// The text with these notes as a certificate, where they pass; else the first fault: 21 WrongCount,
+/// the flow's first fault, 11 to 14, 31 NoteForm at the first second half of a wide instruction that
+/// has a state, 22 Entry, and then the units with a state in rising order. At one unit that is the
+/// first rule that the instruction breaks, 23 to 28 or 30, and then 29 NotCovered.
+///
+/// 99 OutOfMemory may stand in place of any of these answers.
+pub fn check(alloc: Global, text: Text, notes: Notes) -> Result<Certified, CheckFault>
+    // A certificate is of this very text and these notes, and they pass.
+    ensures same { IfOk result (λ c. (c.text ≡ text) × (c.notes ≡ notes)) }
+    ensures passes { IfOk result IsCertified }
+
+    // What passes is refused for want of memory alone.
+    ensures all { Passes text notes → MatchResult result (λ c. ⊤) (λ e. e ≡ CheckFault.OutOfMemory) }
+
+    // Which fault it is.
+    ensures fault { IfErr result (IsFirstFault text notes) }
+{
+    certify(alloc, text, notes)
+}

@@ -1,0 +1,181 @@
+//! Bytes to notes.
+
+ghost use Rattle.std.specs.Prelude.{◌≡◌, ◌≤◌, ◌<◌, ◌^◌, ◌++◌, ◌∷◌, [], List, Option, length, IfSome, IfNone, IfOk, IfErr, MatchResult};
+ghost use Rattle.std.specs.List.{AllByRecursion};
+ghost use Rattle.bq_range.specs.Interval.{IsInterval};
+ghost use Rattle.bq_state.specs.Offsets.{IsSpan};
+ghost use Rattle.bq_state.specs.declared.kind.Kind.{Kind};
+ghost use Rattle.bq_check.specs.Spelling.{short_bytes, long_bytes, range_bytes, span_bytes, kind_bytes, note_bytes, state_bytes, notes_bytes, IsKind, IsState, IsNote, IsNotes, BeginsNone};
+
+use crate::fault::NotesFault;
+use crate::notes::Notes;
+use bq_range::range::Range;
+use bq_state::kind::Kind;
+use bq_state::offsets::Offsets;
+use bq_state::state::State;
+use std::alloc::Global;
+
+/// What is left of the bytes of notes. After a refusal it is not used again.
+#[derive(Drop)]
+struct Reader<'a> {
+    rest: &'a [u8],
+}
+
+impl<'a> Reader<'a> {
+    fn byte(&mut self) -> Option<u8>
+        ensures parts { IfSome result (λ b. self.old.rest.now ≡ b ∷ self.new.rest.now) }
+        ensures none { IfNone result (self.old.rest.now ≡ []) }
+    {
+        let [byte, rest @ ..] = self.rest else {
+            return None;
+        };
+        self.rest = rest;
+        Some(*byte)
+    }
+
+    /// A number of four bytes.
+    #[tactic(auto, unfolding(crate::specs::Spelling::short_bytes))]
+    fn short_number(&mut self) -> Option<u32>
+        ensures fits { IfSome result (λ n. n < 2 ^ 32) }
+        ensures parts { IfSome result (λ n. self.old.rest.now ≡ short_bytes n ++ self.new.rest.now) }
+        ensures none { IfNone result (length self.old.rest.now < 4) }
+    {
+        let [a, b, c, d, rest @ ..] = self.rest else {
+            return None;
+        };
+        self.rest = rest;
+        Some(u32::from_le_bytes([*a, *b, *c, *d]))
+    }
+
+    /// A number of eight bytes.
+    #[tactic(auto, unfolding(crate::specs::Spelling::long_bytes))]
+    fn long_number(&mut self) -> Option<u64>
+        ensures fits { IfSome result (λ n. n < 2 ^ 64) }
+        ensures parts { IfSome result (λ n. self.old.rest.now ≡ long_bytes n ++ self.new.rest.now) }
+        ensures none { IfNone result (length self.old.rest.now < 8) }
+    {
+        let [a, b, c, d, e, f, g, h, rest @ ..] = self.rest else {
+            return None;
+        };
+        self.rest = rest;
+        Some(u64::from_le_bytes([*a, *b, *c, *d, *e, *f, *g, *h]))
+    }
+
+    fn range(&mut self) -> Option<Range>
+        ensures legal { IfSome result IsInterval }
+        ensures parts { IfSome result (λ r. self.old.rest.now ≡ range_bytes r ++ self.new.rest.now) }
+        ensures none { IfNone result (BeginsNone range_bytes IsInterval self.old.rest.now) }
+    {
+        let lo = self.long_number()?;
+        let hi = self.long_number()?;
+        Range::new(lo, hi)
+    }
+
+    fn offsets(&mut self) -> Option<Offsets>
+        ensures legal { IfSome result IsSpan }
+        ensures parts { IfSome result (λ s. self.old.rest.now ≡ span_bytes s ++ self.new.rest.now) }
+        ensures none { IfNone result (BeginsNone span_bytes IsSpan self.old.rest.now) }
+    {
+        let lo = self.short_number()?.cast_signed();
+        let hi = self.short_number()?.cast_signed();
+        Offsets::new(lo, hi)
+    }
+
+    fn kind(&mut self) -> Option<Kind>
+        ensures legal { IfSome result IsKind }
+        ensures parts { IfSome result (λ k. self.old.rest.now ≡ kind_bytes k ++ self.new.rest.now) }
+        ensures none { IfNone result (BeginsNone kind_bytes IsKind self.old.rest.now) }
+    {
+        match self.byte()? {
+            0 => Some(Kind::Unset),
+            1 => Some(Kind::Number(self.range()?)),
+            2 => Some(Kind::FramePointer(self.offsets()?)),
+            3 => Some(Kind::RecordPointer(self.offsets()?)),
+            _ => None,
+        }
+    }
+
+    fn state(&mut self) -> Option<State>
+        ensures legal { IfSome result IsState }
+        ensures parts { IfSome result (λ s. self.old.rest.now ≡ state_bytes s ++ self.new.rest.now) }
+        ensures none { IfNone result (BeginsNone state_bytes IsState self.old.rest.now) }
+    {
+        let mut kinds = [Kind::Unset; 11];
+        for register in 0..11 {
+            let Some(kind) = self.kind() else {
+                return None;
+            };
+            kinds[register] = kind;
+        }
+        Some(State::new(kinds))
+    }
+
+    /// The state of one unit, or none.
+    fn note(&mut self) -> Option<Option<State>>
+        ensures legal { IfSome result IsNote }
+        ensures parts { IfSome result (λ s. self.old.rest.now ≡ note_bytes s ++ self.new.rest.now) }
+        ensures none { IfNone result (BeginsNone note_bytes IsNote self.old.rest.now) }
+    {
+        match self.byte()? {
+            0 => Some(None),
+            1 => Some(Some(self.state()?)),
+            _ => None,
+        }
+    }
+
+    fn notes(&mut self, alloc: Global) -> Result<Notes, NotesFault>
+        ensures legal { IfOk result IsNotes }
+        ensures parts { IfOk result (λ n. self.old.rest.now ≡ notes_bytes n ++ self.new.rest.now) }
+        ensures fault { IfErr result (λ e. e ≡ NotesFault.NoteForm → BeginsNone notes_bytes IsNotes self.old.rest.now) }
+    {
+        let Some(count) = self.short_number() else {
+            return Err(NotesFault::NoteForm);
+        };
+        if count > 4096 {
+            return Err(NotesFault::NoteForm);
+        }
+        let mut states = Vec::new(alloc);
+        for _ in 0..count {
+            let Some(note) = self.note() else {
+                return Err(NotesFault::NoteForm);
+            };
+            states.push(note)?;
+        }
+        Ok(Notes { states })
+    }
+}
+
+/// What [`Notes::read`] answers.
+fn notes_of(alloc: Global, bytes: &[u8]) -> Result<Notes, NotesFault>
+    ensures legal { IfOk result IsNotes }
+    ensures spelled { IfOk result (λ n. bytes.now ≡ notes_bytes n) }
+    ensures refused { IfErr result (λ e. e ≡ NotesFault.NoteForm → (n : List (Option (List Kind))) → IsNotes n → bytes.now ≡ notes_bytes n → ⊥) }
+{
+    let mut reader = Reader { rest: bytes };
+    let notes = reader.notes(alloc)?;
+    if !reader.rest.is_empty() {
+        return Err(NotesFault::NoteForm);
+    }
+    Ok(notes)
+}
+
+impl Notes {
+    /// The notes that the bytes spell, or 31 NoteForm where they spell none: a count of four bytes,
+    /// at most 4,096, and for each unit a byte 0, or a byte 1 and the kinds of r0 to r10. A kind is a
+    /// byte 0 for a register of which nothing is known; 1 and the least and the greatest of its
+    /// numbers, eight bytes each; or 2 for a pointer into the frame or 3 into the record, and the
+    /// least and the greatest of its offsets, four bytes each in two's complement and within -65,536
+    /// to 65,536. Numbers have their lowest byte first, and nothing follows the last note.
+    ///
+    /// 99 OutOfMemory may stand in place of either answer.
+    pub fn read(alloc: Global, bytes: &[u8]) -> Result<Notes, NotesFault>
+        // What is read are notes that are spelled so.
+        ensures legal { IfOk result IsNotes }
+        ensures spelled { IfOk result (λ n. bytes.now ≡ notes_bytes n) }
+
+        // What spells notes is read as these, unless memory runs out.
+        ensures all { (n : List (Option (List Kind))) → IsNotes n → bytes.now ≡ notes_bytes n → MatchResult result (λ m. m ≡ n) (λ e. e ≡ NotesFault.OutOfMemory) }
+    {
+        notes_of(alloc, bytes)
+    }
+}
