@@ -6,3 +6,5 @@ pub mod Events
 pub mod Foundings
 pub mod Lines
 pub mod Scripts
+pub mod Learning
+pub mod Faults

@@ -24,13 +24,13 @@ first_part (d ∷ ds) ys h = slice_split-cons_no _ d (ds ++ (10 ∷ ys)) (ne_eqb
 
 -- ---- the loop over lines
 
-zip_push : {A B : Type 0} (R : A → B → Type 0) (xs : List A) (ys : List B) (x : A) (y : B) → AllZip R xs ys → R x y → AllZip R (xs ++ x ∷ []) (ys ++ y ∷ [])
+pub zip_push : {A B : Type 0} (R : A → B → Type 0) (xs : List A) (ys : List B) (x : A) (y : B) → AllZip R xs ys → R x y → AllZip R (xs ++ x ∷ []) (ys ++ y ∷ [])
 zip_push R [] [] x y h r = (r, tt)
 zip_push R [] (z ∷ ys) x y h r = absurd h
 zip_push R (w ∷ xs) [] x y h r = absurd h
 zip_push R (w ∷ xs) (z ∷ ys) x y h r = (h.0, zip_push R xs ys x y h.1 r)
 
-pieces_at : {A : Type 0} (all front : List A) (i : ℕ) (x : A) → front ≡ take i all → i < length all → x ≡ get_or all i x → all ≡ front ++ (x ∷ drop (i + 1) all)
+pub pieces_at : {A : Type 0} (all front : List A) (i : ℕ) (x : A) → front ≡ take i all → i < length all → x ≡ get_or all i x → all ≡ front ++ (x ∷ drop (i + 1) all)
 pieces_at all front i x f l e =
     sym (take-append-drop i all) ∙ ap (λ u. u ++ drop i all) (sym f)
     ∙ ap (λ u. front ++ u) (drop_more all i x l ∙ ap (λ y. y ∷ drop (i + 1) all) (sym e))

@@ -5,3 +5,4 @@ pub mod Command
 pub mod Line
 pub mod Founding
 pub mod Script
+pub mod Records

@@ -1,11 +1,14 @@
-//! Scripts of a simulated cluster, read from their texts.
+//! Scripts of a simulated cluster, and lists of records, read from their texts.
 //!
-//! A script is lines, each ended by a line feed (the last need not be). A line is words with one space between. A number
+//! Both are lines, each ended by a line feed (the last need not be). A line is words with one space between. A number
 //! is a u64 in decimal, with no zero in front of other digits and no sign.
 //!
 //! - [`Script::read`] reads a script. Its first line founds the cluster, as `nodes 3 4/5 4/5`: founders 1 to 3 and the
 //!   fractions beta and gamma. Each other line is an event ([`ScriptLine`]). Refused is 9 Syntax, with the least line
 //!   that is of another form; an empty text is one empty line.
+//! - [`read_records`] reads lines `ID SEQ VALUE`, one for each record of a view, and gives the view. An empty text has
+//!   no line. Refused is what is wrong with the least faulty line, with its number: in this order 9 Syntax, 75 Unsorted
+//!   for an id not above the one before, 77 BadField for a sequence number 0, 46 ViewFull for a 257th record.
 //! - [`number`] reads a number.
 //!
 //! Lines are counted from 1, and all are judged before anything runs. 99 OutOfMemory may stand in place of any other
@@ -14,6 +17,7 @@
 //!
 //! [`Script::read`]: script::Script::read
 //! [`ScriptLine`]: line::ScriptLine
+//! [`read_records`]: records::read_records
 //! [`number`]: number::number
 #![tactic(auto)]
 
@@ -22,6 +26,7 @@ pub mod founding;
 pub mod line;
 pub mod number;
 mod operands;
+pub mod records;
 pub mod script;
 #[cfg(test)]
 mod tests;

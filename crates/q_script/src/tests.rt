@@ -1,6 +1,7 @@
 use crate::founding::{Founding, Fraction};
 use crate::line::{LineFault, ScriptLine};
 use crate::number::number;
+use crate::records::{RecordFault, RecordsFault, read_records};
 use crate::script::{Script, ScriptFault};
 use std::alloc::Global;
 use std::test::Fail;
@@ -211,4 +212,94 @@ fn numbers_and_names_of_faults(rt: HostRuntime) {
     assert_eq!(rt; (syntax.number(), syntax.name()), (9, "Syntax"));
     let memory = ScriptFault::OutOfMemory;
     assert_eq!(rt; (memory.number(), memory.name()), (99, "OutOfMemory"));
+}
+
+#[test]
+fn reads_records(rt: HostRuntime) -> Result<(), Fail> {
+    let view = read_records(rt.alloc(), "0 1 258\n7 2 18446744073709551615")?;
+    assert_eq!(rt; view.len(), 2);
+    let first = view.get(0).ok_or("no record 0")?;
+    assert_eq!(rt; first.number, 1);
+    assert_eq!(rt; &first.value[..9], [2, 1, 0, 0, 0, 0, 0, 0, 0].as_slice());
+    let second = view.get(7).ok_or("no record 7")?;
+    assert_eq!(rt; second.number, 2);
+    assert_eq!(rt;
+        &second.value[..9],
+        [255, 255, 255, 255, 255, 255, 255, 255, 0].as_slice()
+    );
+    Ok(())
+}
+
+#[test]
+fn no_line_is_no_record(rt: HostRuntime) -> Result<(), Fail> {
+    let view = read_records(rt.alloc(), "")?;
+    assert!(rt; view.is_empty());
+    Ok(())
+}
+
+#[test]
+fn names_the_least_faulty_record(rt: HostRuntime) {
+    let alloc = rt.alloc();
+    for (source, line, fault) in [
+        ("\n", 1, RecordFault::Syntax),
+        ("1 1 1\n\n", 2, RecordFault::Syntax),
+        ("1 1 1\n1 0 01\n", 2, RecordFault::Syntax),
+        ("1 1", 1, RecordFault::Syntax),
+        ("1 1 1 1", 1, RecordFault::Syntax),
+        ("1 1 1\r\n", 1, RecordFault::Syntax),
+        ("2 1 1\n2 0 1\n", 2, RecordFault::Unsorted),
+        ("2 1 1\n1 1 1\nx\n", 2, RecordFault::Unsorted),
+        ("2 0 1", 1, RecordFault::BadField),
+    ] {
+        let fault = RecordsFault::Line { line, fault };
+        assert!(rt; is_refused(alloc, source, fault), "at {source}");
+    }
+}
+
+/// Whether a list of records is refused so.
+fn is_refused(alloc: Global, source: &str, fault: RecordsFault) -> bool {
+    match read_records(alloc, source) {
+        Ok(_) => false,
+        Err(found) => found == fault,
+    }
+}
+
+/// So many good lines, from id 1 on.
+fn good_lines(alloc: Global, count: u64) -> Result<String, Fail> {
+    let mut lines = String::new(alloc);
+    for id in 1..=count {
+        write!(lines, "{id} 1 0\n")?;
+    }
+    Ok(lines)
+}
+
+#[test]
+fn a_257th_record_is_too_many(rt: HostRuntime) -> Result<(), Fail> {
+    let alloc = rt.alloc();
+    let mut lines = good_lines(alloc, 256)?;
+    assert_eq!(rt; read_records(alloc, lines.as_str())?.len(), 256);
+    lines.push_str("257 0 0")?;
+    let bad = RecordsFault::Line {
+        line: 257,
+        fault: RecordFault::BadField,
+    };
+    assert!(rt; is_refused(alloc, lines.as_str(), bad));
+    let full = RecordsFault::Line {
+        line: 257,
+        fault: RecordFault::Full,
+    };
+    assert!(rt; is_refused(alloc, good_lines(alloc, 257)?.as_str(), full));
+    Ok(())
+}
+
+#[test]
+fn numbers_and_names_of_records(rt: HostRuntime) {
+    for (fault, number, name) in [
+        (RecordFault::Syntax, 9, "Syntax"),
+        (RecordFault::Unsorted, 75, "Unsorted"),
+        (RecordFault::BadField, 77, "BadField"),
+        (RecordFault::Full, 46, "ViewFull"),
+    ] {
+        assert_eq!(rt; (fault.number(), fault.name()), (number, name));
+    }
 }

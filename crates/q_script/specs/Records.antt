@@ -1,0 +1,102 @@
+-- Lists of records, the view that they make, and what is first wrong with a list.
+use Rattle.std.specs.Prelude.{◌≡◌, ℕ, ◌+◌, ◌≤◌, ◌<◌, List, [], ◌∷◌, ◌++◌, length, codes, Option, Some, None, replicate}
+use Rattle.std.specs.List.{AllZip}
+use Rattle.std.specs.Int.{w64, to_le_bytes}
+use Rattle.std.specs.FinMap as fin
+use Rattle.sc_view.specs.declared.view.Stored.{Stored}
+use Rattle.sc_view.specs.Views.{ViewMap, put, most_entries}
+use Rattle.q_script.specs.declared.records.Record.{Record}
+use Rattle.q_script.specs.declared.records.RecordFault.{RecordFault}
+use Rattle.q_script.specs.declared.records.RecordFault.TheVariants.{Syntax, Unsorted, BadField, Full}
+use Rattle.q_script.specs.declared.records.RecordsFault.{RecordsFault}
+use Rattle.q_script.specs.declared.records.RecordsFault.TheVariants.{Line, OutOfMemory}
+use Rattle.q_script.specs.Words.{IsFollowed, IsPair}
+use Rattle.q_script.specs.Lines.{lines_of}
+
+-- ---- one line
+
+-- `ID SEQ VALUE`
+abbrev pub IsRecord : List ℕ → Record → Type 0
+IsRecord text r = (rest : List ℕ) × IsFollowed 32 text (r.id, rest) × IsPair 32 rest (r.number, r.value)
+
+-- the id is above the last one, if there is one
+abbrev pub IsAbove : Option ℕ → ℕ → Type 0
+IsAbove None id = Unit {0}
+IsAbove (Some last) id = last < id
+
+-- what is wrong with a line that stands behind so many records, of which the last has this id
+abbrev pub HasFault : Option ℕ → ℕ → List ℕ → RecordFault → Type 0
+HasFault last count text Syntax = (r : Record) → IsRecord text r → ⊥
+HasFault last count text Unsorted = (r : Record) × IsRecord text r × (IsAbove last r.id → ⊥)
+HasFault last count text BadField = (r : Record) × IsRecord text r × IsAbove last r.id × (r.number ≡ 0)
+HasFault last count text Full = (r : Record) × IsRecord text r × IsAbove last r.id × (1 ≤ r.number) × (count ≡ most_entries)
+
+-- ---- the view
+
+-- the bytes of a number that is stored: little-endian, before zeros
+abbrev pub value_bytes : ℕ → List ℕ
+value_bytes n = to_le_bytes w64 n ++ replicate 40 0
+
+abbrev pub stored_of : Record → Stored
+stored_of r = record { number = r.number; value = value_bytes r.value }
+
+-- a view that has learnt these records in turn
+abbrev pub learned : ViewMap → List Record → ViewMap
+learned v [] = v
+learned v (r ∷ rs) = learned (put v r.id (stored_of r)) rs
+
+-- ---- all lines
+
+-- behind this id the ids rise strictly, and the sequence numbers count from 1
+abbrev pub AreGood : Option ℕ → List Record → Type 0
+AreGood last [] = Unit {0}
+AreGood last (r ∷ rs) = IsAbove last r.id × (1 ≤ r.number) × AreGood (Some r.id) rs
+
+-- the last id
+abbrev pub last_id : Option ℕ → List Record → Option ℕ
+last_id last [] = last
+last_id last (r ∷ rs) = last_id (Some r.id) rs
+
+-- the lines spell these records, and none has a fault
+pub record IsReading (lines : List (List ℕ)) (records : List Record) : Type 0 where
+  pub spelled : AllZip IsRecord lines records
+  pub good : AreGood None records
+
+-- the lines of a list: an empty text has none
+abbrev pub record_lines : List ℕ → List (List ℕ)
+record_lines [] = []
+record_lines (c ∷ cs) = lines_of (c ∷ cs)
+
+-- the view of the records that a text lists
+abbrev pub IsView : List ℕ → ViewMap → Type 0
+IsView source view = (records : List Record) × IsReading (record_lines source) records × (view ≡ learned fin.empty records)
+
+-- the line with this number, counted from 1, has this fault, and no line before it has one
+pub record IsFaultAt (lines : List (List ℕ)) (line : ℕ) (fault : RecordFault) : Type 0 where
+  pub before : List (List ℕ)
+  pub text : List ℕ
+  pub after : List (List ℕ)
+  pub parts : lines ≡ before ++ (text ∷ after)
+  pub number : line ≡ length before + 1
+  pub records : List Record
+  pub read : IsReading before records
+  pub has_fault : HasFault (last_id None records) (length records) text fault
+
+-- why a list is refused
+abbrev pub IsRefusal : List ℕ → RecordsFault → Type 0
+IsRefusal source (Line line fault) = IsFaultAt (record_lines source) line fault
+IsRefusal source OutOfMemory = Unit {0}
+
+-- ---- the numbers and names by which faults are reported
+
+abbrev pub fault_number : RecordFault → ℕ
+fault_number Syntax = 9
+fault_number Unsorted = 75
+fault_number BadField = 77
+fault_number Full = 46
+
+abbrev pub fault_name : RecordFault → List ℕ
+fault_name Syntax = codes "Syntax"
+fault_name Unsorted = codes "Unsorted"
+fault_name BadField = codes "BadField"
+fault_name Full = codes "ViewFull"

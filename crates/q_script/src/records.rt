@@ -1,0 +1,157 @@
+//! Lists of records.
+
+ghost use Rattle.std.specs.Prelude.{◌≡◌, ℕ, ◌≤◌, ◌++◌, IfOk, IfErr, MatchResult, replicate};
+ghost use Rattle.q_script.specs.Words.{Reads};
+ghost use Rattle.q_script.specs.Records.{IsRecord, IsAbove, HasFault, IsView, IsRefusal, value_bytes, stored_of, fault_number, fault_name};
+
+use crate::number::{leading, pair};
+use crate::text::without_last_feed;
+use sc_view::view::{Stored, View, ViewFault};
+use std::alloc::Global;
+
+/// The line of a record, `ID SEQ VALUE`.
+#[derive(Clone, Copy, Debug, PartialEq, Eq)]
+pub struct Record {
+    /// The id of the node.
+    pub id: u64,
+    /// The sequence number of its store.
+    pub number: u64,
+    /// The value that it stored.
+    pub value: u64,
+}
+
+/// What is wrong with a line.
+#[derive(Clone, Copy, Debug, PartialEq, Eq)]
+pub enum RecordFault {
+    /// 9: the line is of another form.
+    Syntax,
+    /// 75: the id is not above the one before.
+    Unsorted,
+    /// 77: the sequence number is 0.
+    BadField,
+    /// 46: a 257th record would come.
+    Full,
+}
+
+impl RecordFault {
+    /// The number by which the fault is reported.
+    pub fn number(&self) -> u8
+        ensures { result ≡ fault_number self.now }
+    {
+        match self {
+            RecordFault::Syntax => 9,
+            RecordFault::Unsorted => 75,
+            RecordFault::BadField => 77,
+            RecordFault::Full => 46,
+        }
+    }
+
+    /// The name by which the fault is reported.
+    pub fn name(&self) -> &'static str
+        ensures { result.now ≡ fault_name self.now }
+    {
+        match self {
+            RecordFault::Syntax => "Syntax",
+            RecordFault::Unsorted => "Unsorted",
+            RecordFault::BadField => "BadField",
+            RecordFault::Full => "ViewFull",
+        }
+    }
+}
+
+/// Why records are not read.
+#[derive(Clone, Copy, Debug, PartialEq, Eq)]
+pub enum RecordsFault {
+    /// This is wrong with the least faulty line.
+    Line {
+        /// The line, counted from 1.
+        line: usize,
+        /// What is wrong.
+        fault: RecordFault,
+    },
+    /// 99: memory ran out.
+    OutOfMemory,
+}
+
+/// The 48 bytes of a number that is stored: its eight bytes, little-endian, and then zeros.
+pub fn value_bytes(number: u64) -> [u8; 48]
+    ensures { result ≡ value_bytes number }
+{
+    let mut bytes = [0; 48];
+    bytes[..8].copy_from_slice(&number.to_le_bytes());
+    bytes
+}
+
+impl Record {
+    /// The record that a line spells.
+    fn read(text: &str) -> Option<Record>
+        ensures { Reads IsRecord text.now result }
+    {
+        let (id, rest) = leading(text, ' ')?;
+        let (number, value) = pair(rest, ' ')?;
+        Some(Record { id, number, value })
+    }
+
+    /// What the node stored.
+    fn stored(&self) -> Stored
+        ensures { result ≡ stored_of self.now }
+    {
+        Stored {
+            number: self.number,
+            value: value_bytes(self.value),
+        }
+    }
+}
+
+/// The record of a line behind the record with this id, or behind none.
+fn judged(text: &str, last: Option<u64>) -> Result<Record, RecordFault>
+    ensures { MatchResult result (λ r. IsRecord text.now r × IsAbove last r.id × (1 ≤ r.number)) (λ fault. (count : ℕ) → HasFault last count text.now fault) }
+{
+    let Some(record) = Record::read(text) else {
+        return Err(RecordFault::Syntax);
+    };
+    if let Some(last) = last
+        && record.id <= last
+    {
+        return Err(RecordFault::Unsorted);
+    }
+    if record.number == 0 {
+        return Err(RecordFault::BadField);
+    }
+    Ok(record)
+}
+
+/// The view of the records that a text lists, each value in the first eight bytes, little-endian, before zeros.
+/// Refused is what is wrong with the least faulty line, in the order of [`RecordFault`], and 99.
+pub fn read_records(alloc: Global, source: &str) -> Result<View, RecordsFault>
+    ensures read { IfOk result (IsView source.now) }
+    ensures fault { IfErr result (IsRefusal source.now) }
+{
+    let mut view = View::new(alloc);
+    if source.is_empty() {
+        return Ok(view);
+    }
+    let mut last = None;
+    for text in without_last_feed(source).split('\n') {
+        let record = match judged(text, last) {
+            Ok(record) => record,
+            Err(fault) => {
+                return Err(RecordsFault::Line {
+                    line: view.len() + 1,
+                    fault,
+                });
+            }
+        };
+        match view.put(record.id, record.stored()) {
+            Ok(()) => last = Some(record.id),
+            Err(ViewFault::Full) => {
+                return Err(RecordsFault::Line {
+                    line: view.len() + 1,
+                    fault: RecordFault::Full,
+                });
+            }
+            Err(ViewFault::OutOfMemory) => return Err(RecordsFault::OutOfMemory),
+        }
+    }
+    Ok(view)
+}
