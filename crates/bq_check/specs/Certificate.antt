@@ -1,5 +1,6 @@
 -- What a certificate holds.
-use Rattle.std.specs.Prelude.{ℕ, ◌≤◌, List, Option}
+use Rattle.std.specs.Prelude.{ℕ, List, Option}
+use Rattle.bq_insn.specs.Slots.{IsText}
 use Rattle.bq_insn.specs.declared.insn.Insn.{Insn}
 use Rattle.bq_flow.specs.Paths.{IsLongest}
 use Rattle.bq_state.specs.declared.kind.Kind.{Kind}
@@ -11,8 +12,8 @@ pub record Certificate : Type 0 where
   pub notes : List (Option (List Kind))
   pub longest : ℕ
 
--- the notes pass, and that is the longest path
+-- a legal text, its notes pass, and that is the longest path
 pub record IsCertified (c : Certificate) : Type 0 where
+  pub legal : IsText c.text
   pub passes : Passes c.text c.notes
   pub longest : IsLongest c.text c.longest
-  pub small : c.longest ≤ 4096

@@ -3,9 +3,11 @@
 ghost use Rattle.std.specs.Prelude.{◌≡◌, ◌≤◌};
 ghost use Rattle.bq_flow.specs.Paths.{IsLongest};
 ghost use Rattle.bq_sound.specs.Passes.{Passes};
+ghost use Rattle.bq_sound.specs.Safe.{IsSafe};
 
 use crate::notes::Notes;
 use bq_insn::text::Text;
+use bq_sound::laws::passing_is_safe;
 use std::marker::Model;
 
 /// A text whose notes pass, with these notes and its longest path. [`check`](crate::check::check)
@@ -52,5 +54,13 @@ impl Certified {
         ensures within { result ≤ 4096 }
     {
         self.longest
+    }
+    /// From every accumulator, record and frame a record run of the text ends within the longest path,
+    /// with no fault, and with one answer and one frame that are the same at every placement.
+    pub fn is_safe(&self)
+        ensures { IsSafe self.now.text self.now.longest }
+    {
+        passing_is_safe();
+        let _longest = &self.longest;
     }
 }

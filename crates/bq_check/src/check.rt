@@ -1,7 +1,7 @@
 //! The checker: whether notes pass for a text, and else their first fault.
 
 ghost use Rattle.std.specs.Prelude.{◌≡◌, ◌<◌, ◌≤◌, ◌↔◌, ℕ, length, IsTrue, IfSome, IfNone, IfOk, IfErr, OnOk, MatchResult, ⊤};
-ghost use Rattle.bq_insn.specs.Slots.{units};
+ghost use Rattle.bq_insn.specs.Slots.{units, IsText};
 ghost use Rattle.bq_flow.specs.Paths.{IsLongest};
 ghost use Rattle.bq_state.specs.Listed.{edge_list, listed};
 ghost use Rattle.bq_sound.specs.Passes.{NoteCovers, AllCovered, NoHalves, IsFine, AllFine, Passes};
@@ -93,9 +93,9 @@ fn check_units(text: &Text, notes: &Notes) -> Result<(), CheckFault>
 /// What is looked at before the units: the count, the flow, second halves and the entry. The longest
 /// path is answered.
 fn open(alloc: Global, text: &Text, notes: &Notes) -> Result<u32, CheckFault>
+    ensures legal { OnOk result (IsText text.now) }
     ensures opened { OnOk result (IsOpened text.now notes.now) }
     ensures longest { IfOk result (IsLongest text.now) }
-    ensures small { IfOk result (λ n. n ≤ 4096) }
     ensures fault { IfErr result (IsFirstFault text.now notes.now) }
 {
     if notes.len() != text.units() {

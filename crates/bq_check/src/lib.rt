@@ -35,4 +35,7 @@ pub mod fault;
 pub mod laws;
 pub mod notes;
 mod reading;
+mod run;
+#[cfg(test)]
+mod tests;
 mod writing;

@@ -1,5 +1,11 @@
-use Rattle.bq_flow.proofs.Best.{longest_some}
+use Rattle.std.proofs.Common.{arith}
+use Rattle.bq_flow.proofs.Best.{longest_some, longest_within}
 use Rattle.bq_check.proofs.certified.Certified.longest.Goals as goal
 
 pub returns-clause-some : goal.returns-clause-some
 returns-clause-some c = longest_some c.self.inside.text c.self.inside.longest c.self.invariant.longest
+
+pub returns-clause-within : goal.returns-clause-within
+returns-clause-within c =
+    let within = longest_within c.self.inside.text c.self.inside.longest c.self.invariant.passes.flow c.self.invariant.longest in
+    omega (arith, within, c.self.invariant.legal.few)

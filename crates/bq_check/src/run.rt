@@ -1,0 +1,36 @@
+//! Record runs of certificates.
+
+ghost use Rattle.std.specs.Prelude.{◌≤◌};
+ghost use Rattle.bq_meaning.specs.Place.{Place, IsPlacement};
+ghost use Rattle.bq_meaning.specs.Runs.{RecordRun};
+
+use crate::certified::Certified;
+use bq_meaning::placement::Placement;
+use bq_meaning::run::{Ended, run_checked};
+
+impl Certified {
+    /// One record run of the text, from an accumulator and a frame. It has no fault and ends within the
+    /// longest path.
+    pub fn run_certified(
+        &self,
+        placement: &Placement,
+        record: &[u8; 64],
+        frame: &mut [u8; 512],
+        acc: u64,
+    ) -> Ended
+        // It is the record run at this placement.
+        ensures run { RecordRun placement.now self.now.text acc «record».now frame.old result.steps result.acc frame.new }
+        ensures within { result.steps ≤ self.now.longest }
+
+        // Every other placement gives the same answer and the same frame.
+        ensures alike { (p : Place) → IsPlacement p → RecordRun p self.now.text acc «record».now frame.old result.steps result.acc frame.new }
+    {
+        self.is_safe();
+        placement.is_placement();
+        let limit = u64::from(self.longest());
+        match run_checked(self.text(), placement, record, frame, acc, limit) {
+            Ok(ended) => ended,
+            Err(_) => unreachable!(),
+        }
+    }
+}
