@@ -295,6 +295,13 @@ impl Node {
         self.operations
     }
 
+    /// How many operations are open, at most 64.
+    pub fn open_operations(&self) -> usize
+        ensures { result ≡ fin.len self.now.sessions }
+    {
+        self.sessions.len()
+    }
+
     /// The open operation with the tag.
     pub fn session(&self, tag: u64) -> Option<&Session>
         ensures { option_copied result ≡ fin.get self.now.sessions tag }

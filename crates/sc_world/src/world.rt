@@ -110,11 +110,29 @@ impl World {
         &self.events
     }
 
+    /// How many messages were sent: the number of the next one.
+    pub fn sent(&self) -> usize
+        ensures { result ≡ length self.now.sent }
+    {
+        self.sent.len()
+    }
+
     /// The message of that number, which counts from 0.
     pub fn message(&self, number: usize) -> Option<&Message>
         ensures { option_copied result ≡ slice_get self.now.sent number }
     {
         self.sent.get(number)
+    }
+
+    /// The node of this id, where it is there: it has neither left nor crashed.
+    pub fn live(&self, id: u64) -> Option<&Node>
+        ensures { option_copied result ≡ live_at self.now id }
+    {
+        if self.crashed.contains(id) {
+            return None;
+        }
+        let node = self.nodes.get(id)?;
+        if node.is_gone() { None } else { Some(node) }
     }
 
     /// The node of this id, also where it has left or crashed.
