@@ -1,0 +1,87 @@
+//! A certified program that several owners share, and its id.
+
+ghost use Rattle.std.specs.Prelude.{◌≡◌, IfOk};
+
+use bq_check::certified::Certified;
+use std::alloc::AllocError;
+use std::marker::Model;
+use std::sync::Arc;
+
+/// The number of a program in its table, from 0. Contracts see it as that number.
+#[derive(Clone, Copy, Debug, PartialEq, Eq)]
+pub struct ProgramId(u32);
+
+impl Model for ProgramId {
+    ghost use Rattle.std.specs.Prelude.{ℕ};
+
+    ghost Value = { ℕ };
+
+    ghost view = { λ p. p.0 };
+
+    ghost inverse = { λ n. record { 0 = n } };
+}
+
+impl ProgramId {
+    /// The id of this number.
+    pub fn new(number: u32) -> ProgramId
+        ensures { result ≡ number }
+    {
+        ProgramId(number)
+    }
+
+    /// The number, from 0.
+    pub fn number(&self) -> u32
+        ensures { result ≡ self.now }
+    {
+        self.0
+    }
+}
+
+/// A certified program that several owners share. Contracts see it as the certificate.
+#[derive(Drop)]
+pub struct Program {
+    certified: Arc<Certified>,
+}
+
+impl Model for Program {
+    ghost use Rattle.bq_check.specs.Certificate.{Certificate};
+
+    ghost Value = { Certificate };
+
+    ghost view = { λ p. p.certified.value };
+}
+
+impl Program {
+    /// One more owner of a certified program. The one error is that memory ran out (99 OutOfMemory).
+    pub fn share(certified: &Arc<Certified>) -> Result<Program, AllocError>
+        ensures { IfOk result (λ p. p ≡ certified.now.value) }
+    {
+        Ok(Program {
+            certified: certified.clone()?,
+        })
+    }
+
+    /// The certificate.
+    pub fn certified(&self) -> &Certified
+        ensures { result.now ≡ self.now }
+    {
+        &self.certified
+    }
+
+    /// The certificate, to share once more.
+    pub fn shared(&self) -> &Arc<Certified>
+        ensures { result.now.value ≡ self.now }
+    {
+        &self.certified
+    }
+}
+
+impl Clone for Program {
+    ghost use Rattle.std.specs.Prelude.{◌≡◌};
+
+    ghost is_clone = { λ program copy. copy ≡ program };
+
+    fn clone(&self) -> Result<Program, AllocError> {
+        Program::share(&self.certified)
+    }
+}

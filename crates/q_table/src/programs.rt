@@ -1,0 +1,96 @@
+//! Programs by their ids.
+
+ghost use Rattle.std.specs.Prelude.{◌≡◌, [], length, option_map, option_copied, slice_get, position, Ok};
+ghost use Rattle.q_table.specs.Calls.{Steps, Gives};
+ghost use Rattle.q_table.specs.declared.fault.TableFault.TheVariants as fault;
+ghost use Rattle.q_table.specs.Programs.{registered, checked, IsTable};
+
+use crate::fault::TableFault;
+use crate::program::{Program, ProgramId};
+use bq_check::certified::Certified;
+use bq_insn::encode::encode;
+use indexmap::IndexMap;
+use std::alloc::Global;
+use std::marker::Model;
+use std::sync::Arc;
+
+/// The most programs of a table.
+pub const MOST_PROGRAMS: usize = 1024;
+
+/// Certified programs of distinct texts, by the bytes of their texts, in the order in which they were registered.
+/// Contracts see it as the list of the certificates.
+#[derive(Drop)]
+pub struct Programs {
+    alloc: Global,
+    by_text: IndexMap<Vec<u8>, Program>,
+}
+
+impl Model for Programs {
+    ghost use Rattle.std.specs.Prelude.{List, map};
+    ghost use Rattle.bq_check.specs.Certificate.{Certificate};
+    ghost use Rattle.q_table.specs.Programs.{IsTable, AreSpelled};
+
+    ghost Value = { List Certificate };
+
+    ghost view = { λ p. map (λ e. e.1) p.by_text.entries };
+
+    ghost invariant = { λ p. IsTable (map (λ e. e.1) p.by_text.entries) × AreSpelled (map (λ e. (e.0.items, e.1)) p.by_text.entries) };
+}
+
+impl Programs {
+    /// No programs.
+    pub fn new(alloc: Global) -> Programs
+        ensures { result ≡ [] }
+    {
+        Programs {
+            alloc,
+            by_text: IndexMap::new(alloc),
+        }
+    }
+
+    /// Registers a program: a text that is there keeps its id and its first certificate, a new one gets the next id.
+    /// Refused with 52 where a new text would be the 1,025th; else 99.
+    pub fn register(&mut self, certified: &Arc<Certified>) -> Result<ProgramId, TableFault>
+        ensures { Steps fault.OutOfMemory (registered self.old certified.now.value) self.old self.new result }
+    {
+        let bytes = encode(self.alloc, certified.text())?;
+        if let Some(id) = self.by_text.get_index_of(&bytes) {
+            return Ok(ProgramId::new(id as u32));
+        }
+        let id = self.by_text.len();
+        if MOST_PROGRAMS <= id {
+            return Err(TableFault::Full);
+        }
+        match self.by_text.insert(bytes, Program::share(certified)?) {
+            Ok(_) => Ok(ProgramId::new(id as u32)),
+            Err(_) => Err(TableFault::OutOfMemory),
+        }
+    }
+
+    /// Whether `register` would refuse the program for another cause than memory: with 52; else 99.
+    pub fn check(&self, certified: &Certified) -> Result<(), TableFault>
+        ensures { Gives fault.OutOfMemory (checked self.now certified.now) result }
+    {
+        let bytes = encode(self.alloc, certified.text())?;
+        if self.by_text.get_index_of(&bytes).is_none() && MOST_PROGRAMS <= self.by_text.len() {
+            return Err(TableFault::Full);
+        }
+        Ok(())
+    }
+
+    /// The program with this id. Takes no memory.
+    pub fn get(&self, id: ProgramId) -> Option<&Program>
+        ensures { option_copied result ≡ slice_get self.now id }
+    {
+        let (_, program) = self.by_text.get_index(id.number() as usize)?;
+        Some(program)
+    }
+
+    /// How many programs there are.
+    pub fn len(&self) -> usize
+        ensures count { result ≡ length self.now }
+        ensures table { IsTable self.now }
+    {
+        self.by_text.len()
+    }
+}
