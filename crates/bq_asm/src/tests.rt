@@ -4,11 +4,12 @@ use crate::fault::AsmFault;
 use crate::laws::written_and_assembled;
 use bq_insn::decode::decode;
 use bq_insn::encode::encode;
+use bq_insn::insn::Insn;
 use std::alloc::{AllocError, Global};
 use std::test::Fail;
 
 /// Lines and their bytes, by RFC 9669.
-const ROWS: [(&str, &[u8]); 22] = [
+const ROWS: [(&str, &[u8]); 28] = [
     ("mov32s8 r0, r4\n", &[0xbc, 0x40, 8, 0, 0, 0, 0, 0]),
     ("sdiv64 r0, r4\n", &[0x3f, 0x40, 1, 0, 0, 0, 0, 0]),
     ("be16 r0\n", &[0xdc, 0, 0, 0, 0x10, 0, 0, 0]),
@@ -50,6 +51,40 @@ const ROWS: [(&str, &[u8]); 22] = [
         &[
             0x18, 9, 0, 0, 0xff, 0xff, 0xff, 0xff, 0, 0, 0, 0, 0xff, 0xff, 0xff, 0xff,
         ],
+    ),
+    (
+        "mov64 r0, r3\nadd64 r0, 1\nexit\n",
+        &[
+            0xbf, 0x30, 0, 0, 0, 0, 0, 0, 7, 0, 0, 0, 1, 0, 0, 0, 0x95, 0, 0, 0, 0, 0, 0, 0,
+        ],
+    ),
+    (
+        "mov64 r0, -1\nneg32 r0\nexit\n",
+        &[
+            0xb7, 0, 0, 0, 0xff, 0xff, 0xff, 0xff, 0x84, 0, 0, 0, 0, 0, 0, 0, 0x95, 0, 0, 0, 0, 0,
+            0, 0,
+        ],
+    ),
+    (
+        "mov64 r0, 1\nbe32 r0\nexit\n",
+        &[
+            0xb7, 0, 0, 0, 1, 0, 0, 0, 0xdc, 0, 0, 0, 0x20, 0, 0, 0, 0x95, 0, 0, 0, 0, 0, 0, 0,
+        ],
+    ),
+    (
+        "wide r0, 72623859790382856\nswap64 r0\nexit\n",
+        &[
+            0x18, 0, 0, 0, 8, 7, 6, 5, 0, 0, 0, 0, 4, 3, 2, 1, 0xd7, 0, 0, 0, 0x40, 0, 0, 0, 0x95,
+            0, 0, 0, 0, 0, 0, 0,
+        ],
+    ),
+    (
+        "ja -1\nexit\n",
+        &[5, 0, 0xff, 0xff, 0, 0, 0, 0, 0x95, 0, 0, 0, 0, 0, 0, 0],
+    ),
+    (
+        "ja +5\nexit\n",
+        &[5, 0, 5, 0, 0, 0, 0, 0, 0x95, 0, 0, 0, 0, 0, 0, 0],
     ),
 ];
 
@@ -131,7 +166,7 @@ fn fault(alloc: Global, source: &str) -> Option<AsmFault> {
 }
 
 /// Lines that are of no form.
-const UNREADABLE: [&str; 44] = [
+const UNREADABLE: [&str; 48] = [
     "mov64 r0, 01",
     "mov64 r0, -0",
     "mov64 r0, +1",
@@ -176,6 +211,10 @@ const UNREADABLE: [&str; 44] = [
     "ja -32769",
     "ja32 +2147483648",
     "wide r0, 18446744073709551616",
+    "ja abcdefghijklmnopqrstuvwxyz0123456",
+    "store8 [r10-8], 2147483648",
+    "jeq64 r0, 1, +32768",
+    "exit\t",
 ];
 
 #[test]
@@ -230,26 +269,39 @@ fn jump_over(alloc: Global, jump: &str, count: usize) -> Result<String, AllocErr
 }
 
 #[test]
-fn lengths_and_distances_end_at_their_bounds(rt: HostRuntime) -> Result<(), Fail> {
-    let longest = jump_over(rt.alloc(), "ja end\n", 4095)?;
-    let text = assemble(rt.alloc(), longest.as_str())?;
+fn the_longest_jump_goes_over_4095_units(rt: HostRuntime) -> Result<(), Fail> {
+    let source = jump_over(rt.alloc(), "ja32 end\n", 4095)?;
+    let text = assemble(rt.alloc(), source.as_str())?;
     assert_eq!(rt; text.units(), 4096);
+    assert_eq!(rt; text.at(0), Some(Insn::JumpFar { distance: 4095 }));
+    Ok(())
+}
+
+#[test]
+fn labels_are_as_far_as_their_fields_reach(rt: HostRuntime) -> Result<(), Fail> {
+    for (jump, count, expected) in [
+        ("exit\n", 4096, AsmFault::TooLong),
+        ("ja end\n", 32767, AsmFault::TooLong),
+        ("ja end\n", 32768, AsmFault::Label { line: 1 }),
+        ("jne64 r1, 0, end\n", 32767, AsmFault::TooLong),
+        ("jne64 r1, 0, end\n", 32768, AsmFault::Label { line: 1 }),
+        ("ja32 end\n", 32768, AsmFault::TooLong),
+    ] {
+        let source = jump_over(rt.alloc(), jump, count)?;
+        assert_eq!(rt;
+            fault(rt.alloc(), source.as_str()),
+            Some(expected),
+            "{jump}"
+        );
+    }
+    Ok(())
+}
+
+#[test]
+fn what_is_written_is_assembled_again(rt: HostRuntime) -> Result<(), Fail> {
+    let text = assemble(rt.alloc(), "ja -1\nja32 -2147483648\n")?;
     let same = written_and_assembled(rt.alloc(), &text)?;
-    assert_eq!(rt; same.at(0), text.at(0));
-    let longer = jump_over(rt.alloc(), "ja end\n", 4096)?;
-    assert_eq!(rt; fault(rt.alloc(), longer.as_str()), Some(AsmFault::TooLong));
-    let farthest = jump_over(rt.alloc(), "jne64 r1, 0, end\n", 32767)?;
-    assert_eq!(rt;
-        fault(rt.alloc(), farthest.as_str()),
-        Some(AsmFault::TooLong)
-    );
-    let too_far = jump_over(rt.alloc(), "jne64 r1, 0, end\n", 32768)?;
-    assert_eq!(rt;
-        fault(rt.alloc(), too_far.as_str()),
-        Some(AsmFault::Label { line: 1 })
-    );
-    let far = jump_over(rt.alloc(), "ja32 end\n", 32768)?;
-    assert_eq!(rt; fault(rt.alloc(), far.as_str()), Some(AsmFault::TooLong));
+    assert_eq!(rt; same.at(1), Some(Insn::JumpFar { distance: i32::MIN }));
     Ok(())
 }
 
@@ -259,4 +311,16 @@ fn a_text_is_written(rt: HostRuntime) -> Result<(), Fail> {
     let written = disassemble(rt.alloc(), &text)?;
     assert_eq!(rt; written.as_str(), "mov64 r0, r3\nadd64 r0, 1\nexit\n");
     Ok(())
+}
+
+/// Run with any one allocation refused, each call gives its answer or says so.
+#[test]
+fn want_of_memory_is_named(rt: HostRuntime) {
+    match assemble(rt.alloc(), "ja over\nexit\nover:\nexit\n") {
+        Ok(text) => match disassemble(rt.alloc(), &text) {
+            Ok(written) => assert_eq!(rt; written.as_str(), "ja +1\nexit\nexit\n"),
+            Err(_) => (),
+        },
+        Err(fault) => assert_eq!(rt; fault, AsmFault::OutOfMemory),
+    }
 }
