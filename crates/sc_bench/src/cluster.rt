@@ -1,0 +1,185 @@
+//! A world under load.
+
+use sc_members::config::Config;
+use sc_world::event::{Event, Stepped};
+use sc_world::fault::WorldFault;
+use sc_world::world::World;
+use std::alloc::Global;
+use std::mem;
+
+/// How many nodes are there.
+const NODES: usize = 32;
+
+/// All of them but the one that gives way to a node that enters.
+const STAYING: usize = 31;
+
+/// A world, and the nodes that are there and have joined.
+#[derive(Drop)]
+pub(crate) struct Cluster {
+    world: World,
+    nodes: Vec<u64>,
+    /// The id of the next node that enters.
+    next: u64,
+}
+
+/// A value to store.
+fn value(number: u64) -> [u8; 48] {
+    let mut value = [0; 48];
+    value[..8].copy_from_slice(&number.to_le_bytes());
+    value
+}
+
+/// The number of the first message that an event sent.
+fn first_sent(stepped: Stepped) -> Option<usize> {
+    match stepped.sent.count {
+        0 => None,
+        _ => Some(stepped.sent.first),
+    }
+}
+
+impl Cluster {
+    /// A cluster of so many founders. All but 32 store and leave, and then the others store.
+    pub(crate) fn new(alloc: Global, ids: u64) -> Result<Cluster, WorldFault> {
+        let founders: Vec<u64> = (0..ids).collect(alloc)?;
+        let (leaving, staying) = founders.split_at(founders.len().saturating_sub(NODES));
+        let mut cluster = Cluster {
+            world: World::new(alloc, Config::default(), &founders)?,
+            nodes: Vec::from_slice(alloc, staying)?,
+            next: ids,
+        };
+        for node in leaving {
+            cluster.tell(Event::Store {
+                node: *node,
+                value: value(*node),
+            })?;
+            cluster.tell(Event::Leave(*node))?;
+        }
+        for node in staying {
+            cluster.store(*node)?;
+        }
+        Ok(cluster)
+    }
+
+    /// So many rounds of load.
+    pub(crate) fn rounds(&mut self, rounds: u64) -> Result<(), WorldFault> {
+        for round in 0..rounds {
+            let storer = (round % STAYING as u64) as usize;
+            let collector = (storer + NODES / 2) % STAYING;
+            if let Some(node) = self.nodes.get(storer).copied() {
+                self.store(node)?;
+            }
+            if let Some(node) = self.nodes.get(collector).copied() {
+                self.collect(node)?;
+            }
+            if round % 4 == 3 {
+                self.turn_over()?;
+            }
+        }
+        Ok(())
+    }
+
+    /// A node stores, until the store ends.
+    fn store(&mut self, node: u64) -> Result<(), WorldFault> {
+        let event = Event::Store {
+            node,
+            value: value(node),
+        };
+        if let Some(store) = first_sent(self.world.step(event)?) {
+            self.ask(node, store)?;
+        }
+        Ok(())
+    }
+
+    /// A node collects, until the collect ends.
+    fn collect(&mut self, node: u64) -> Result<(), WorldFault> {
+        let Some(query) = first_sent(self.world.step(Event::Collect(node))?) else {
+            return Ok(());
+        };
+        if let Some(store) = self.ask(node, query)? {
+            self.ask(node, store)?;
+        }
+        Ok(())
+    }
+
+    /// A node enters and joins, and the one that entered before it leaves.
+    fn turn_over(&mut self) -> Result<(), WorldFault> {
+        let node = self.next;
+        self.next = node.wrapping_add(1);
+        let entered = first_sent(self.world.step(Event::Enter(node))?);
+        if let Some(enter) = entered {
+            if let Some(join) = self.ask(node, enter)? {
+                self.spread(join)?;
+            }
+        }
+        let Some(newest) = self.nodes.last_mut() else {
+            return Ok(());
+        };
+        let left = mem::replace(newest, node);
+        self.tell(Event::Leave(left))
+    }
+
+    /// An event, of which all nodes are told.
+    fn tell(&mut self, event: Event) -> Result<(), WorldFault> {
+        match first_sent(self.world.step(event)?) {
+            Some(message) => self.spread(message),
+            None => Ok(()),
+        }
+    }
+
+    /// A message reaches each node.
+    fn spread(&mut self, message: usize) -> Result<(), WorldFault> {
+        for node in &self.nodes {
+            deliver(&mut self.world, message, *node)?;
+        }
+        Ok(())
+    }
+
+    /// A message reaches each node, and the first message with which each answers reaches the one that asked. Gives
+    /// the number of the message that this one sends in turn.
+    fn ask(&mut self, asker: u64, message: usize) -> Result<Option<usize>, WorldFault> {
+        let mut turn = None;
+        for node in &self.nodes {
+            if let Some(answer) = deliver(&mut self.world, message, *node)? {
+                turn = deliver(&mut self.world, answer, asker)?.or(turn);
+            }
+        }
+        Ok(turn)
+    }
+}
+
+/// A message reaches a node. Gives the number of the first message that the node sends then.
+fn deliver(world: &mut World, message: usize, node: u64) -> Result<Option<usize>, WorldFault> {
+    Ok(first_sent(world.step(Event::Deliver { message, node })?))
+}
+
+// What there is to count.
+impl Cluster {
+    /// Of how many nodes the first one's view has a value.
+    pub(crate) fn ids(&self) -> usize {
+        let first = self.nodes.first().copied();
+        let node = first.and_then(|id| self.world.node(id));
+        node.map_or(0, |node| node.view().len())
+    }
+
+    /// How many messages were delivered.
+    pub(crate) fn deliveries(&self) -> usize {
+        let events = self.world.events().iter();
+        events
+            .filter(|event| matches!(event, Event::Deliver { .. }))
+            .count()
+    }
+
+    /// How many operations began.
+    pub(crate) fn operations(&self) -> usize {
+        self.world.ops().len()
+    }
+
+    /// How many operations ended.
+    pub(crate) fn ended(&self) -> usize {
+        self.world
+            .ops()
+            .iter()
+            .filter(|op| op.end.is_some())
+            .count()
+    }
+}
