@@ -61,6 +61,6 @@ impl Certified {
         ensures { IsSafe self.now.text self.now.longest }
     {
         passing_is_safe();
-        let _longest = &self.longest;
+        let _text = &self.text;
     }
 }

@@ -67,10 +67,21 @@ fn text(rt: &HostRuntime, units: &[Unit]) -> Result<Text, Fail> {
     Ok(decode(rt.alloc(), &bytes)?)
 }
 
+/// Nothing is known but r0.
+fn nothing_but(kind: Kind) -> State {
+    let mut kinds = [Kind::Unset; 11];
+    kinds[0] = kind;
+    State::new(kinds)
+}
+
 /// The entry, with another kind of r0.
 fn entry_with(kind: Kind) -> State {
-    let mut kinds = *State::entry().kinds();
+    let mut kinds = [Kind::Unset; 11];
     kinds[0] = kind;
+    kinds[1] = Kind::RecordPointer(Offsets::at(0));
+    kinds[2] = Kind::Number(Range::single(64));
+    kinds[3] = Kind::Number(Range::full());
+    kinds[10] = Kind::FramePointer(Offsets::at(512));
     State::new(kinds)
 }
 
@@ -163,9 +174,9 @@ fn beginnings_are_refused(rt: HostRuntime) -> Result<(), Fail> {
     bytes.push(0)?;
     let longer = Notes::read(rt.alloc(), &bytes).err();
     assert_eq!(rt; longer, Some(NotesFault::NoteForm));
-    let _last = bytes.pop();
-    while let Some(_byte) = bytes.pop() {
-        let fault = Notes::read(rt.alloc(), &bytes).err();
+    for count in 0..140 {
+        let beginning = bytes.get(..count).ok_or("short")?;
+        let fault = Notes::read(rt.alloc(), beginning).err();
         assert_eq!(rt; fault, Some(NotesFault::NoteForm));
     }
     Ok(())
@@ -199,16 +210,11 @@ fn certificates_keep_text_and_notes(rt: HostRuntime) -> Result<(), Fail> {
 
 #[test]
 fn states_at_the_exit_are_tested(rt: HostRuntime) -> Result<(), Fail> {
-    let weakest = State::new([Kind::Unset; 11]);
-    let mut kinds = *weakest.kinds();
-    kinds[0] = Kind::Number(Range::full());
+    let pointer = Kind::RecordPointer(Offsets::at(0));
     let rows = [
-        (Some(State::new(kinds)), None),
-        (Some(weakest), Some((23, Some(1)))),
-        (
-            Some(entry_with(Kind::RecordPointer(Offsets::at(0)))),
-            Some((29, Some(0))),
-        ),
+        (Some(nothing_but(Kind::Number(Range::full()))), None),
+        (Some(nothing_but(Kind::Unset)), Some((23, Some(1)))),
+        (Some(entry_with(pointer)), Some((29, Some(0)))),
         (None, Some((29, Some(0)))),
     ];
     for (at_exit, fault) in rows {
