@@ -1,0 +1,5 @@
+pub mod Forward
+pub mod Joins
+pub mod Arrivals
+pub mod Passing
+pub mod Filling

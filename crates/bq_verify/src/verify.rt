@@ -1,0 +1,98 @@
+//! The pass over the units.
+
+ghost use Rattle.std.specs.Prelude.{◌≡◌, ℕ, ◌<◌, ◌+◌, IfOk, IfErr, List, Some, None, Ok, Err, [], ◌∷◌, length};
+ghost use Rattle.bq_insn.specs.Slots.{units, IsText};
+ghost use Rattle.bq_flow.specs.Paths.{insn_at, IsLegalFlow};
+ghost use Rattle.bq_state.specs.declared.kind.Kind.{Kind};
+ghost use Rattle.bq_state.specs.declared.rule.Rule.{Rule};
+ghost use Rattle.bq_state.specs.Kinds.{entry_state};
+ghost use Rattle.bq_state.specs.Rules.{transfer};
+ghost use Rattle.bq_state.specs.Edges.{edges};
+ghost use Rattle.bq_state.specs.Listed.{edge_list};
+ghost use Rattle.bq_sound.specs.Passes.{Passes, note_at};
+ghost use Rattle.bq_verify.specs.States.{AreStates, edges_from};
+ghost use Rattle.bq_verify.specs.Refused.{IsRefused};
+ghost use Rattle.bq_verify.specs.Table.{with_arrivals, IsFilled, AllWithin};
+
+use bq_check::fault::CheckFault;
+use bq_check::notes::Notes;
+use bq_flow::flow::Flow;
+use bq_insn::insn::Insn;
+use bq_insn::text::Text;
+use bq_state::edges::Edge;
+use bq_state::state::State;
+use std::alloc::{AllocError, Global};
+
+/// The states of so many units, of which the first alone has one: that of the entry.
+fn entered(alloc: Global, units: usize) -> Result<Vec<Option<State>>, AllocError>
+    requires { 0 < units }
+    ensures count { IfOk result (λ states. length states.items ≡ units) }
+    ensures first { IfOk result (λ states. note_at states.items 0 ≡ Some entry_state) }
+    ensures others { IfOk result (λ states. (unit : ℕ) → 0 < unit → note_at states.items unit ≡ None) }
+{
+    let mut states = vec![in alloc; None; units]?;
+    states[0] = Some(State::entry());
+    Ok(states)
+}
+
+/// A state arrives at the unit where an edge leads.
+fn arrive(states: &mut Vec<Option<State>>, edge: Option<Edge>)
+    requires { AllWithin states.old.items (edge_list edge) }
+    ensures { states.new.items ≡ with_arrivals states.old.items (edge_list edge) }
+{
+    let Some(Edge { unit, state }) = edge else {
+        return;
+    };
+    let there = &mut states[unit as usize];
+    *there = Some(match there {
+        Some(joined) => joined.join(&state),
+        None => state,
+    });
+}
+
+/// What the instruction at a unit leaves arrives where its feasible edges lead; or the rule that it
+/// breaks is answered.
+fn lead_on(
+    states: &mut Vec<Option<State>>,
+    unit: usize,
+    insn: &Insn,
+    state: State,
+) -> Result<(), CheckFault>
+    requires within { unit < 4096 }
+    requires edges { (after : List Kind) → transfer insn.now state ≡ Ok after → AllWithin states.old.items (edges unit insn.now after) }
+    ensures ok { IfOk result (λ _. (after : List Kind) × (transfer insn.now state ≡ Ok after) × (states.new.items ≡ with_arrivals states.old.items (edges unit insn.now after))) }
+    ensures err { IfErr result (λ fault. (rule : Rule) × (fault ≡ CheckFault.Rule unit rule) × (transfer insn.now state ≡ Err rule)) }
+{
+    let after = match state.transfer(insn) {
+        Ok(after) => after,
+        Err(rule) => return Err(CheckFault::Rule { unit, rule }),
+    };
+    let edges = after.edges(unit as u64, insn);
+    arrive(states, edges.behind);
+    arrive(states, edges.jump);
+    Ok(())
+}
+
+/// The notes of a text: in rising order of the units the state of each is the join of what its feasible
+/// predecessors leave, that of unit 0 of the entry too, and a unit that none of them reaches has none.
+/// They pass the checker.
+///
+/// Refused with the first fault of the flow (11 Backward, 12 OutsideText, 13 IntoWide, 14 FallsOff), or
+/// with the first rule, in rising order of the units, that an instruction breaks in its state (23 to 28
+/// and 30); else with 99 OutOfMemory. One pass: its time is linear in the number of units.
+pub fn verify(alloc: Global, text: &Text) -> Result<Notes, CheckFault>
+    ensures states { IfOk result (λ notes. AreStates text.now notes (units text.now)) }
+    ensures passes { IfOk result (Passes text.now) }
+    ensures refused { IfErr result (IsRefused text.now) }
+{
+    Flow::of(alloc, text)?;
+    let Ok(mut states) = entered(alloc, text.units()) else {
+        return Err(CheckFault::OutOfMemory);
+    };
+    for unit in 0..text.units() {
+        if let (Some(insn), Some(state)) = (text.at(unit), states[unit]) {
+            lead_on(&mut states, unit, &insn, state)?;
+        }
+    }
+    Ok(Notes::new(states))
+}
