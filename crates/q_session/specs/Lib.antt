@@ -1,0 +1,4 @@
+-- Queries and their jobs, and when an answer is right.
+pub mod Records
+pub mod Right
+pub mod Done

@@ -1,0 +1,53 @@
+//! Jobs that were run.
+
+ghost use Rattle.std.specs.Prelude.{◌≡◌};
+ghost use Rattle.q_session.specs.Done.{IsFinished};
+
+use crate::fold::fold_checked;
+use crate::job::Job;
+use crate::ran::Ran;
+use std::marker::Model;
+
+/// A job that was run, with its right answer.
+#[derive(Drop)]
+pub struct Done {
+    job: Job,
+    ran: Ran,
+}
+
+impl Model for Done {
+    ghost use Rattle.q_session.specs.Done.{Finished, IsFinished, finished_code};
+
+    ghost Value = { Finished };
+
+    ghost coded = { finished_code };
+
+    ghost view = { λ d. record { job = d.job; ran = d.ran } };
+
+    ghost invariant = { λ d. IsFinished (record { job = d.job; ran = d.ran }) };
+}
+
+impl Done {
+    /// Runs a job: its program over its view from its start value. Takes no memory.
+    pub fn run(job: Job) -> Done
+        ensures { result.job ≡ job }
+    {
+        let ran = fold_checked(job.certified.certified(), &job.view, job.start);
+        Done { job, ran }
+    }
+
+    /// The job. The answer is right.
+    pub fn job(&self) -> &Job
+        ensures job { result.now ≡ self.now.job }
+        ensures right { IsFinished self.now }
+    {
+        &self.job
+    }
+
+    /// The job's answer.
+    pub fn ran(&self) -> Ran
+        ensures { result ≡ self.now.ran }
+    {
+        self.ran
+    }
+}

@@ -1,0 +1,50 @@
+//! The fold of a program over a view.
+
+ghost use Rattle.std.specs.Prelude.{◌≡◌};
+ghost use Rattle.q_session.specs.Records.{record_bytes};
+ghost use Rattle.q_session.specs.Right.{IsRight};
+
+use crate::ran::Ran;
+use bq_check::certified::Certified;
+use bq_meaning::laws::appended;
+use bq_meaning::placement::Placement;
+use sc_view::view::{Stored, View};
+
+/// What the record runs of a certified program come to over the entries of a view in rising order of ids: the first
+/// with the start value and a frame of zeros, each later one with the accumulator and the frame that the one before
+/// left. It is the answer at every placement, and takes at most the longest path for each entry. Takes no memory.
+pub fn fold_checked(certified: &Certified, view: &View, start: u64) -> Ran
+    ensures right { IsRight certified.now view.now start result }
+{
+    let Some(placement) = Placement::new(4096, 8192) else {
+        unreachable!()
+    };
+    // A record run takes at most 4,096 steps.
+    let _longest = certified.longest();
+    let mut frame = [0; 512];
+    let mut ran = Ran {
+        acc: start,
+        steps: 0,
+    };
+    for (id, stored) in view.records() {
+        appended();
+        let bytes = record_bytes(id, &stored);
+        let ended = certified.run_certified(&placement, &bytes, &mut frame, ran.acc);
+        ran = Ran {
+            acc: ended.acc,
+            steps: ran.steps + ended.steps,
+        };
+    }
+    ran
+}
+
+// The 64 bytes of an entry.
+fn record_bytes(id: u64, stored: &Stored) -> [u8; 64]
+    ensures { result ≡ record_bytes (id, stored.now) }
+{
+    let mut bytes = [0; 64];
+    bytes[..8].copy_from_slice(&id.to_le_bytes());
+    bytes[8..16].copy_from_slice(&stored.number.to_le_bytes());
+    bytes[16..].copy_from_slice(&stored.value);
+    bytes
+}
