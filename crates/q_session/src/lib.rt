@@ -12,3 +12,5 @@ pub mod fold;
 pub mod job;
 pub mod query;
 pub mod ran;
+#[cfg(test)]
+mod tests;

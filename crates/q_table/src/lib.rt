@@ -11,3 +11,5 @@
 pub mod fault;
 pub mod program;
 pub mod programs;
+#[cfg(test)]
+mod tests;
