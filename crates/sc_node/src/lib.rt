@@ -16,3 +16,5 @@ pub mod node;
 pub mod outs;
 pub mod session;
 mod sessions;
+#[cfg(test)]
+mod tests;
