@@ -236,6 +236,15 @@ fn refusals(rt: HostRuntime) -> Result<(), Fail> {
 }
 
 #[test]
+fn a_node_that_left_is_not_there(rt: HostRuntime) -> Result<(), Fail> {
+    let mut world = founded(rt.alloc(), 1, 1, &[1, 2])?;
+    assert_eq!(rt; sent(&mut world, Event::Leave(1))?, (0, 1));
+    assert_eq!(rt; world.sent(), 1);
+    assert!(rt; world.live(1).is_none() && world.live(2).is_some());
+    Ok(())
+}
+
+#[test]
 fn faults_have_numbers_and_names(rt: HostRuntime) {
     for (fault, number, name) in [
         (WorldFault::IdUsed, 44, "IdUsed"),
