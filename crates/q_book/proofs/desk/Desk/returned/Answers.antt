@@ -1,0 +1,11 @@
+use Rattle.std.proofs.Common.{List, sym, subst}
+use Rattle.q_session.specs.declared.query.Query.{Query}
+use Rattle.q_book.specs.Answers.{IsDesk}
+use Rattle.q_book.proofs.Keeps.{desk-ready}
+use Rattle.q_book.proofs.desk.Desk.returned.Goals as goal
+
+pub invariant_of-self : goal.invariant_of-self
+invariant_of-self c =
+    let s = c.self.inside in
+    subst (λ (queries : List Query). IsDesk (record { programs = s.programs; queries = queries; events = s.events })) (sym c.set_phase.ensures)
+    (desk-ready _ c.in_ok-number.number c.args.view c.self.invariant)
