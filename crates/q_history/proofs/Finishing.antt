@@ -1,0 +1,98 @@
+-- A job that is handed out, and one that is finished, keep what is true of every cluster.
+use Rattle.std.proofs.Common.{◌≡◌, ℕ, true, [], ◌∷◌, ◌++◌, Option, Some, None, IfSome, sym, ap, ◌∙◌, subst, inl, inr, slice_get, Ok}
+use Rattle.std.specs.FinMap as fin
+use Rattle.sc_view.specs.Views.{ViewMap}
+use Rattle.sc_world.specs.declared.op.Op.{Op}
+use Rattle.sc_world.specs.State.{WorldState}
+use Rattle.sc_world.specs.Regular.{returned}
+use Rattle.sc_world.proofs.Finite.{get-insert_same}
+use Rattle.sc_world.proofs.Inverts.{no_refusal}
+use Rattle.q_session.specs.declared.ran.Ran.{Ran}
+use Rattle.q_session.specs.declared.query.Phase.{Phase}
+use Rattle.q_session.specs.declared.query.Phase.TheVariants.{Running, Answered}
+use Rattle.q_session.specs.declared.query.Query.{Query}
+use Rattle.q_session.specs.declared.job.Job.{Job}
+use Rattle.q_book.specs.State.{DeskState}
+use Rattle.q_book.specs.Answers.{IsAnswered}
+use Rattle.q_book.specs.Desks as desk
+use Rattle.q_history.specs.declared.event.Stepped.{Stepped}
+use Rattle.q_history.specs.State.{ClusterState}
+use Rattle.q_history.specs.Clusters.{at as at_node, hands, handed_out, finishes, posted, finished}
+use Rattle.q_history.specs.Calls.{Answers}
+use Rattle.q_history.proofs.Lists.{same_some, get_snoc}
+use Rattle.q_history.proofs.Moves.{Keeps, keeps_itself, Moves, Nothing, IsRephased}
+use Rattle.q_history.proofs.Jobs.{IsReadyJob, IsHanded, IsPosted, handed_out-ok, posted-ok, right_of_job}
+use Rattle.q_history.proofs.Ops.{onward_itself}
+use Rattle.q_history.proofs.Kept.{HasView, IsTied, IsDeskOf, IsKnown, IsKept, IsStep, known_on, desk_moved, put_stays, put, put_desk}
+use Rattle.q_history.proofs.Events.{with_part, done-ok, at-ok, keeps_here, quiet}
+
+-- a query of the desk that had this view, and still has it
+rephased_tied : (w : WorldState) (id : ℕ) (d : DeskState) (k : ℕ) (p : Phase) (view : ViewMap) → IsDeskOf w id d → ((o : Op) → returned o ≡ Some view → HasView o p)
+    → ((old : Query) → slice_get d.queries k ≡ Some old → (o : Op) → HasView o old.phase → returned o ≡ Some view) → (q : Query) → IsRephased d k p q → IsTied w id q
+rephased_tied w id d k p view is has had q r =
+    let t = is.tied k r.old r.at in
+    subst (IsTied w id) r.is (record { op = t.op; among = t.among; by = t.by; tagged = t.tagged; has = has t.op (had r.old r.at t.op t.has) })
+
+module _ (c : ClusterState) (kept : IsKept c) where
+  known_new : (d e : DeskState) (id : ℕ) (j : Job) → IsReadyJob d id j → Keeps d e → IsKnown (fin.insert c.desks id e) j
+  known_new d e id j r keeps = record {
+    desk = e;
+    at = ap (fin.get (fin.insert c.desks id e)) r.by ∙ get-insert_same c.desks id e;
+    certified = keeps.programs j.program j.certified r.certified;
+  }
+
+  handed-kept : (id : ℕ) (d : DeskState) (o : Option Job) (e : DeskState) → fin.get c.desks id ≡ Some d → IsHanded d id e o → IsStep c (with_part c.world (hands c id o e))
+  handed-kept id d None e at same =
+      quiet c kept c.world id d e kept.world (onward_itself c.world) at
+      (subst (λ (x : DeskState). Moves d x Nothing) same (record { keeps = keeps_itself d; queries = λ k q h. inl h }))
+  handed-kept id d (Some j) e at h =
+      let ready = h.0 in
+      let m = h.1 in
+      let keeps = keeps_here c kept id d e at m.keeps in
+      put c kept c.world id e (c.jobs ++ j ∷ []) kept.world (onward_itself c.world)
+      (desk_moved c.world c.world (onward_itself c.world) id d e (IsRephased d j.query (Running j.view)) m (kept.desks id d at)
+      (rephased_tied c.world id d j.query (Running j.view) j.view (kept.desks id d at) (λ o is. is)
+      (λ old here o has. subst (HasView o) (ap (λ (x : Query). x.phase) (same_some old ready.query (sym here ∙ ready.at)) ∙ ready.phase) has))
+      (λ q r view ran is. let no : Running j.view ≡ Answered view ran = ap (λ (x : Query). x.phase) r.is ∙ is in absurd (cc)))
+      keeps
+      (λ k i here. elim (get_snoc c.jobs j k i here) [
+        | inl old ↦ known_on c.desks (fin.insert c.desks id e) i (put_stays c kept c.world id e keeps) (kept.jobs k i old)
+        | inr new ↦ subst (IsKnown (fin.insert c.desks id e)) new (known_new d e id j ready m.keeps)
+      ])
+
+  pub hand_out_step : (id : ℕ) (y : Stepped × ClusterState) → at_node c id (handed_out c id) ≡ Ok y → IsStep c y.1
+  hand_out_step id y h =
+      let a = at-ok c id (handed_out c id) y h in
+      let k = done-ok c.world (hands c id) (desk.handed_out a.desk id) y a.gives in
+      subst (IsStep c) k.2 (handed-kept id a.desk k.0.0 k.0.1 a.at (handed_out-ok a.desk id k.0 k.1))
+
+  same_answered : (v w : ViewMap) (a b : Ran) → Answered v a ≡ Answered w b → (v ≡ w) × (a ≡ b)
+  same_answered v w a b h = (cc, cc)
+
+  -- the answer of a job that its node knows is right
+  posted_right : (d e : DeskState) (j : Job) (ran : Ran) → IsPosted d j ran e → slice_get d.programs j.program ≡ Some j.certified → Answers j ran
+      → (view : ViewMap) (q : Query) → IsRephased d j.query (Answered view ran) q → desk.is_job_of d.programs j q view ≡ true → (v : ViewMap) (r : Ran) → q.phase ≡ Answered v r → IsAnswered e q v r
+  posted_right d e j ran p named right view q r fits v x is =
+      let same = same_answered view v ran x (ap (λ (z : Query). z.phase) r.is ∙ is) in
+      let a = right_of_job d j q view ran fits named right in
+      let b : IsAnswered e q view ran = record { program = a.program; named = p.moves.keeps.programs q.program a.program a.named; right = a.right } in
+      subst (λ (z : ViewMap). IsAnswered e q z x) same.0 (subst (λ (z : Ran). IsAnswered e q view z) same.1 b)
+
+  finished-kept : (j : Job) (d e : DeskState) (ran : Ran) → IsKnown c.desks j → fin.get c.desks j.node ≡ Some d → IsPosted d j ran e → Answers j ran
+      → IsStep c (record { world = c.world; desks = fin.insert c.desks j.node e; jobs = c.jobs })
+  finished-kept j d e ran known at p right =
+      let named : slice_get d.programs j.program ≡ Some j.certified = ap (λ (x : DeskState). slice_get x.programs j.program) (same_some d known.desk (sym at ∙ known.at)) ∙ known.certified in
+      put_desk c kept c.world j.node e kept.world (onward_itself c.world)
+      (desk_moved c.world c.world (onward_itself c.world) j.node d e (IsRephased d j.query (Answered p.view ran)) p.moves (kept.desks j.node d at)
+      (rephased_tied c.world j.node d j.query (Answered p.view ran) p.view (kept.desks j.node d at) (λ o is. is)
+      (λ old here o has. subst (HasView o) (ap (λ (x : Query). x.phase) (same_some old p.query (sym here ∙ p.at)) ∙ p.phase) has))
+      (λ q r v x is. posted_right d e j ran p named right p.view q r
+      (subst (λ (z : Query). desk.is_job_of d.programs j z p.view ≡ true) r.is (ap (λ (z : Query). desk.is_job_of d.programs j z p.view) (same_some r.old p.query (sym r.at ∙ p.at)) ∙ p.fits)) v x is))
+      (keeps_here c kept j.node d e at p.moves.keeps)
+
+  pub finish_step : (number : ℕ) (ran : Ran) (o : Option Job) (y : Stepped × ClusterState) → slice_get c.jobs number ≡ o → IfSome o (λ j. Answers j ran) → finished c ran o ≡ Ok y → IsStep c y.1
+  finish_step number ran None y is right h = absurd (no_refusal _ y h)
+  finish_step number ran (Some j) y is right h =
+      let a = at-ok c j.node (posted c j ran) y h in
+      let k = done-ok c.world (finishes c j ran) (desk.posted a.desk j.node j ran) y a.gives in
+      subst (IsStep c) k.2 (finished-kept j a.desk k.0.1 ran (kept.jobs number j is) a.at (posted-ok a.desk j ran k.0 j.node k.1) right)

@@ -1,0 +1,42 @@
+-- Histories that go on.
+use Rattle.std.proofs.Common.{ℕ, List, [], ◌∷◌, ◌++◌, refl, sym, subst}
+use Rattle.sc_members.specs.Members.{Config}
+use Rattle.q_history.specs.declared.event.Event.{Event}
+use Rattle.q_history.specs.declared.event.Stepped.{Stepped}
+use Rattle.q_history.specs.State.{ClusterState}
+use Rattle.q_history.specs.Clusters.{start}
+use Rattle.q_history.specs.Calls.{Follows, Reaches, IsHistory}
+use Rattle.q_history.specs.Headline.{AnswersAreTrue}
+use Rattle.q_history.proofs.Kept.{IsKept}
+use Rattle.q_history.proofs.EveryHistory.{run_kept, start_kept, kept_true}
+
+pub reaches_on : (es fs : List Event) (c d e : ClusterState) → Reaches c es d → Reaches d fs e → Reaches c (es ++ fs) e
+reaches_on [] fs c d e r s = subst (λ (x : ClusterState). Reaches x fs e) r s
+reaches_on (x ∷ es) fs c d e r s = (r.0, r.1, r.2, reaches_on es fs r.1 d e r.3 s)
+
+pub reaches_one : (c d : ClusterState) (e : Event) (told : Stepped) → Follows c e told d → Reaches c (e ∷ []) d
+reaches_one c d e told f = (told, d, f, refl)
+
+pub reaches_next : (es : List Event) (c d : ClusterState) (e : Event) (told : Stepped) (f : ClusterState) → Reaches c es d → Follows d e told f → Reaches c (es ++ e ∷ []) f
+reaches_next es c d e told f r s = reaches_on es (e ∷ []) c d f r (reaches_one d f e told s)
+
+pub start_history : (config : Config) (ids : List ℕ) → IsHistory (start config ids)
+start_history config ids = ([], refl)
+
+pub history_kept : (c : ClusterState) → IsHistory c → IsKept c
+history_kept c h = (run_kept h.0 (start c.world.config c.world.founders) c (start_kept c.world.config c.world.founders) h.1).kept
+
+pub history_run : (es : List Event) (c d : ClusterState) → IsHistory c → Reaches c es d → IsHistory d
+history_run es c d h r =
+    let k = run_kept es c d (history_kept c h) r in
+    let whole = reaches_on h.0 es (start c.world.config c.world.founders) c d h.1 r in (
+      h.0 ++ es,
+      subst (λ (x : Config). Reaches (start x d.world.founders) (h.0 ++ es) d) (sym k.config)
+          (subst (λ (x : List ℕ). Reaches (start c.world.config x) (h.0 ++ es) d) (sym k.founders) whole),
+    )
+
+pub history_next : (c d : ClusterState) (e : Event) (told : Stepped) → IsHistory c → Follows c e told d → IsHistory d
+history_next c d e told h f = history_run (e ∷ []) c d h (reaches_one c d e told f)
+
+pub history_true : (c : ClusterState) → IsHistory c → AnswersAreTrue c
+history_true c h = kept_true c (history_kept c h)

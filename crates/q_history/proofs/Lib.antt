@@ -1,0 +1,13 @@
+-- Every history's answers are true, and stay.
+pub mod Lists
+pub mod Moves
+pub mod Jobs
+pub mod Ops
+pub mod Accepted
+pub mod Returns
+pub mod Kept
+pub mod Events
+pub mod Delivering
+pub mod Finishing
+pub mod EveryHistory
+pub mod Histories

@@ -1,0 +1,136 @@
+-- What each call of a desk makes of its programs and its queries.
+use Rattle.std.proofs.Common.{◌≡◌, ℕ, ◌==◌, true, nat_lt, List, [], ◌∷◌, length, Option, Some, None, refl, sym, ap, ◌∙◌, subst, ◌⊎◌, inl, inr, slice_get, position, Result, Ok, Err}
+use Rattle.sc_view.specs.Views.{ViewMap}
+use Rattle.sc_world.proofs.Histories.{slice_get_front}
+use Rattle.sc_world.proofs.Steps.{and_right}
+use Rattle.sc_world.proofs.Inverts.{same_answer, no_refusal}
+use Rattle.bq_check.specs.Certificate.{Certificate}
+use Rattle.q_table.specs.declared.fault.TableFault.{TableFault}
+use Rattle.q_table.specs.declared.fault.TableFault.TheVariants as table_fault
+use Rattle.q_table.specs.Programs as table
+use Rattle.q_session.specs.declared.ran.Ran.{Ran}
+use Rattle.q_session.specs.declared.query.Phase.{Phase}
+use Rattle.q_session.specs.declared.query.Phase.TheVariants.{Collecting, Ready, Running, Answered}
+use Rattle.q_session.specs.declared.query.Query.{Query}
+use Rattle.q_book.specs.State.{DeskState}
+use Rattle.q_book.specs.Desks as desk
+use Rattle.q_book.specs.declared.fault.DeskFault.TheVariants as fault
+use Rattle.q_history.proofs.Lists.{passed, get_snoc, get_written, get_elsewhere, found}
+
+-- a phase with no answer
+abbrev pub HasNone : Phase → Type 0
+HasNone p = (view : ViewMap) (ran : Ran) → p ≡ Answered view ran → ⊥
+
+-- the desk keeps its programs, and the answers that it recorded
+pub record Keeps (d e : DeskState) : Type 0 where
+  pub programs : (i : ℕ) (p : Certificate) → slice_get d.programs i ≡ Some p → slice_get e.programs i ≡ Some p
+  pub answers : (k : ℕ) (q : Query) (view : ViewMap) (ran : Ran) → slice_get d.queries k ≡ Some q → q.phase ≡ Answered view ran → slice_get e.queries k ≡ Some q
+
+-- one desk comes from another, and of each query that is not as it was, this is known
+pub record Moves (d e : DeskState) (New : Query → Type 0) : Type 0 where
+  pub keeps : Keeps d e
+  pub queries : (k : ℕ) (q : Query) → slice_get e.queries k ≡ Some q → (slice_get d.queries k ≡ Some q) ⊎ New q
+
+abbrev pub Nothing : Query → Type 0
+Nothing q = ⊥
+
+-- it is a query of the desk in another phase
+pub record IsRephased (d : DeskState) (k : ℕ) (p : Phase) (q : Query) : Type 0 where
+  pub old : Query
+  pub at : slice_get d.queries k ≡ Some old
+  pub is : record old { phase = p } ≡ q
+
+-- it waited for the collect with this tag, and has its view now
+pub record IsReadied (d : DeskState) (tag : ℕ) (view : ViewMap) (q : Query) : Type 0 where
+  pub number : ℕ
+  pub rephased : IsRephased d number (Ready view) q
+  pub waits : desk.waits tag rephased.old ≡ true
+
+pub keeps_itself : (d : DeskState) → Keeps d d
+keeps_itself d = record { programs = λ i p h. h; answers = λ k q view ran h a. h }
+
+pub keeps_on : (d e f : DeskState) → Keeps d e → Keeps e f → Keeps d f
+keeps_on d e f a b = record {
+  programs = λ i p h. b.programs i p (a.programs i p h);
+  answers = λ k q view ran h is. b.answers k q view ran (a.answers k q view ran h is) is;
+}
+
+pub noted_moves : (d : DeskState) → Moves d (desk.noted d) Nothing
+noted_moves d = record { keeps = record { programs = λ i p h. h; answers = λ k q view ran h a. h }; queries = λ k q h. inl h }
+
+-- ---- programs
+
+more_programs : (ps : List Certificate) (c : Certificate) (o : Option ℕ) (r : ℕ × List Certificate) → table.registered_at ps c o ≡ Ok r → (i : ℕ) (p : Certificate) → slice_get ps i ≡ Some p → slice_get r.1 i ≡ Some p
+more_programs ps c (Some id) r h i p at =
+    subst (λ (z : ℕ × List Certificate). slice_get z.1 i ≡ Some p) (same_answer _ r h) at
+more_programs ps c None r h i p at =
+    let k = passed (nat_lt (length ps) table.most_programs) table_fault.Full _ r h in
+    subst (λ (z : ℕ × List Certificate). slice_get z.1 i ≡ Some p) (same_answer _ r k.1) (slice_get_front ps (c ∷ []) i p at)
+
+registered_by-moves : (d : DeskState) (r : Result (ℕ × List Certificate) TableFault) (y : ℕ × DeskState)
+    → ((z : ℕ × List Certificate) → r ≡ Ok z → (i : ℕ) (p : Certificate) → slice_get d.programs i ≡ Some p → slice_get z.1 i ≡ Some p)
+    → desk.registered_by d r ≡ Ok y → Moves d y.1 Nothing
+registered_by-moves d (Err e) y more h = absurd (no_refusal _ y h)
+registered_by-moves d (Ok z) y more h =
+    let k = passed (desk.has_room d) fault.BookFull _ y h in
+    subst (λ (x : ℕ × DeskState). Moves d x.1 Nothing) (same_answer _ y k.1)
+    (record { keeps = record { programs = more z refl; answers = λ k q view ran h a. h }; queries = λ k q h. inl h })
+
+pub registered_moves : (d : DeskState) (program : Certificate) (y : ℕ × DeskState) → desk.registered d program ≡ Ok y → Moves d y.1 Nothing
+registered_moves d program y h =
+    registered_by-moves d (table.registered d.programs program) y (λ z is. more_programs d.programs program (table.id_of d.programs program.text) z is) h
+
+-- ---- queries
+
+pub asked_moves : (d : DeskState) (tag program start : ℕ) (y : ℕ × DeskState) → desk.asked d tag program start ≡ Ok y → Moves d y.1 (λ q. desk.begun tag program start ≡ q)
+asked_moves d tag program start y h =
+    let a = passed (desk.knows d program) fault.UnknownProgram _ y h in
+    let b = passed (nat_lt (length d.queries) desk.most_queries) fault.BookFull _ y a.1 in
+    let c = passed (desk.has_room d) fault.BookFull _ y b.1 in
+    subst (λ (x : ℕ × DeskState). Moves d x.1 (λ q. desk.begun tag program start ≡ q)) (same_answer _ y c.1)
+    (record {
+      keeps = record { programs = λ i p h. h; answers = λ k q view ran h a. slice_get_front d.queries (desk.begun tag program start ∷ []) k q h };
+      queries = λ k q h. get_snoc d.queries (desk.begun tag program start) k q h;
+    })
+
+module _ (d : DeskState) (k : ℕ) (p : Phase) (m : ℕ) where
+  phase_by : (o : Option Query) → slice_get d.queries k ≡ o → ((q : Query) → o ≡ Some q → HasNone q.phase) → Moves d (record d { queries = desk.in_phase d.queries k p o; events = m }) (IsRephased d k p)
+  phase_by None is none = record { keeps = record { programs = λ i p h. h; answers = λ k q view ran h a. h }; queries = λ k q h. inl h }
+  phase_by (Some old) is none = record {
+    keeps = record {
+      programs = λ i p h. h;
+      answers = λ i q view ran h a. get_elsewhere d.queries k (record old { phase = p }) i q
+          (λ here. none q (sym is ∙ ap (slice_get d.queries) (sym here) ∙ h) view ran a) h;
+    };
+    queries = λ i q h. elim (get_written d.queries k (record old { phase = p }) i q h) [
+      | inl a ↦ inl a
+      | inr e ↦ inr (record { old = old; at = is; is = e })
+    ];
+  }
+
+  -- a query that has no answer is put into another phase
+  pub phase_moves : ((q : Query) → slice_get d.queries k ≡ Some q → HasNone q.phase) → Moves d (record d { queries = desk.with_phase d.queries k p; events = m }) (IsRephased d k p)
+  phase_moves none = phase_by (slice_get d.queries k) refl none
+
+collecting_has_none : (p : Phase) → desk.is_collecting p ≡ true → HasNone p
+collecting_has_none Collecting h view ran is = absurd (cc)
+collecting_has_none (Ready v) h view ran is = absurd (cc)
+collecting_has_none (Running v) h view ran is = absurd (cc)
+collecting_has_none (Answered v a) h view ran is = absurd (cc)
+
+module _ (d : DeskState) (tag : ℕ) (view : ViewMap) where
+  returned_by : (o : Option ℕ) → position (desk.waits tag) d.queries ≡ o → Moves d (desk.returned_to d view o).1 (IsReadied d tag view)
+  returned_by None is = record { keeps = keeps_itself d; queries = λ k q h. inl h }
+  returned_by (Some k) is =
+      let waiting : (q : Query) → slice_get d.queries k ≡ Some q → desk.waits tag q ≡ true = λ q at. found (desk.waits tag) d.queries k q is at in
+      let moves = phase_moves d k (Ready view) d.events (λ q at. collecting_has_none q.phase (and_right (q.tag == tag) (desk.is_collecting q.phase) (waiting q at))) in
+      record {
+        keeps = moves.keeps;
+        queries = λ i q h. elim (moves.queries i q h) [
+          | inl a ↦ inl a
+          | inr r ↦ inr (record { number = k; rephased = r; waits = waiting r.old r.at })
+        ];
+      }
+
+  pub returned_moves : Moves d (desk.returned d tag view).1 (IsReadied d tag view)
+  returned_moves = returned_by (position (desk.waits tag) d.queries) refl

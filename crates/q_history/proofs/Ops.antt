@@ -1,0 +1,79 @@
+-- What an event of a world keeps of its operations and its nodes, and what it adds.
+use Rattle.std.proofs.Common.{◌≡◌, ℕ, Bool, true, false, cond, ◌==◌, [], ◌∷◌, map, Option, Some, None, refl, sym, ap, ◌∙◌, inl}
+use Rattle.std.specs.Ordering.{nat_cmp}
+use Rattle.std.specs.FinMap as fin
+use Rattle.sc_view.specs.Views.{ViewMap}
+use Rattle.sc_node.specs.declared.session.Kind.{Kind}
+use Rattle.sc_node.specs.declared.session.Kind.TheVariants as kind
+use Rattle.sc_node.specs.declared.answer.Progress.{Progress}
+use Rattle.sc_node.specs.Sessions.{stored}
+use Rattle.sc_node.specs.State.{NodeState}
+use Rattle.sc_node.specs.Nodes.{collect_session}
+use Rattle.sc_world.specs.declared.event.Event.{Event}
+use Rattle.sc_world.specs.declared.op.Op.{Op}
+use Rattle.sc_world.specs.State.{WorldState}
+use Rattle.sc_world.specs.Worlds.{clock, Outcome, advanced, op_begun, after}
+use Rattle.sc_world.specs.Records.{Among}
+use Rattle.sc_world.specs.Regular.{returned_by, returned}
+use Rattle.sc_world.proofs.Finite.{get-insert}
+use Rattle.sc_world.proofs.Steps.{among-left, among-right, among-image, advance_op}
+use Rattle.sc_world.proofs.Handlers.{collect_outcome}
+use Rattle.sc_world.proofs.Telling.{same_start}
+
+-- the operation is there later, and what it returned it returned for good
+pub record IsLater (w : WorldState) (o : Op) : Type 0 where
+  pub op : Op
+  pub among : Among op w.ops
+  pub by : op.node ≡ o.node
+  pub tagged : op.tag ≡ o.tag
+  pub returned : (v : ViewMap) → returned o ≡ Some v → returned op ≡ Some v
+
+-- nothing is lost from one world to another of the same founders
+pub record IsOnward (w w' : WorldState) : Type 0 where
+  pub config : w'.config ≡ w.config
+  pub founders : w'.founders ≡ w.founders
+  pub ops : (o : Op) → Among o w.ops → IsLater w' o
+  pub nodes : (id : ℕ) (n : NodeState) → fin.get w.nodes id ≡ Some n → (m : NodeState) × (fin.get w'.nodes id ≡ Some m)
+
+pub onward_itself : (w : WorldState) → IsOnward w w
+onward_itself w = record { config = refl; founders = refl; ops = λ o in'. record { op = o; among = in'; by = refl; tagged = refl; returned = λ v h. h }; nodes = λ id n at. (n, at) }
+
+none_returned : (k : Kind) (view : Option ViewMap) → returned_by k None view ≡ None
+none_returned (kind.Store e) view = refl
+none_returned kind.Collect view = refl
+
+-- an operation that has not ended has returned nothing
+open_returns : (o : Op) (v : ViewMap) → o.end ≡ None → returned o ≡ Some v → ⊥
+open_returns o v running h =
+    let k : None ≡ Some v = sym (ap (λ (x : Option ℕ). returned_by o.session.kind x (stored o.session)) running ∙ none_returned o.session.kind (stored o.session)) ∙ h in
+    absurd (cc)
+
+insert_has : (m : fin.FinMap nat_cmp NodeState) (k : ℕ) (v : NodeState) (q : ℕ) (x : NodeState) (b : Bool) → (q == k) ≡ b → fin.get m q ≡ Some x → (y : NodeState) × (fin.get (fin.insert m k v) q ≡ Some y)
+insert_has m k v q x true is at = (v, get-insert m k v q ∙ ap (λ (b : Bool). cond b (Some v) (fin.get m q)) is)
+insert_has m k v q x false is at = (x, get-insert m k v q ∙ ap (λ (b : Bool). cond b (Some v) (fin.get m q)) is ∙ at)
+
+module _ (w : WorldState) (e : Event) (q : ℕ) (r : Outcome) where
+  kept_view : (p : Option Progress) (o : Op) → ((k : Progress) → p ≡ Some k → o.node ≡ q → o.tag ≡ k.tag → o.end ≡ None) → (v : ViewMap) → returned o ≡ Some v → returned (advanced q (clock w) p o) ≡ Some v
+  kept_view None o running v h = h
+  kept_view (Some p) o running v h = advance_op q (clock w) p o (λ (y : Op). returned y ≡ Some v) (λ by tagged. absurd (open_returns o v (running p refl by tagged) h)) (λ _. h)
+
+  later : (o : Op) → Among o w.ops → ((k : Progress) → r.progress ≡ Some k → o.node ≡ q → o.tag ≡ k.tag → o.end ≡ None) → IsLater (after w e q r) o
+  later o in' running =
+      let k = same_start q (clock w) r.progress o in
+      record {
+        op = advanced q (clock w) r.progress o;
+        among = among-left (advanced q (clock w) r.progress o) (map (advanced q (clock w) r.progress) w.ops) (op_begun q (clock w) r.begun) (among-image (advanced q (clock w) r.progress) o w.ops in');
+        by = k.node;
+        tagged = k.tag;
+        returned = kept_view r.progress o running;
+      }
+
+  -- an event that moves only operations that have not ended
+  pub after_onward : ((o : Op) → Among o w.ops → (k : Progress) → r.progress ≡ Some k → o.node ≡ q → o.tag ≡ k.tag → o.end ≡ None) → IsOnward w (after w e q r)
+  after_onward running = record { config = refl; founders = refl; ops = λ o in'. later o in' (running o in'); nodes = λ id n at. insert_has w.nodes q r.node id n (id == q) refl at }
+
+-- an event at which a node begins to collect
+pub collect_among : (w : WorldState) (e : Event) (q : ℕ) (n : NodeState) → (o : Op) × Among o (after w e q (collect_outcome n)).ops × (o.node ≡ q) × (o.tag ≡ n.operations)
+collect_among w e q n =
+    let o : Op = record { node = q; tag = n.operations; begin = clock w; end = None; session = collect_session n } in
+    (o, among-right o (map (advanced q (clock w) None) w.ops) (o ∷ []) (inl refl), refl, refl)

@@ -1,0 +1,27 @@
+-- The refusals of desks as a cluster's, and the numbers and names by which refusals are reported.
+use Rattle.std.specs.Prelude.{ℕ, List, codes}
+use Rattle.sc_world.specs.Acts as acts
+use Rattle.sc_world.specs.Faults as world
+use Rattle.q_book.specs.Faults as desk
+use Rattle.q_book.specs.declared.fault.DeskFault.{DeskFault}
+use Rattle.q_book.specs.declared.fault.DeskFault.TheVariants as desk_fault
+use Rattle.q_history.specs.declared.fault.ClusterFault.{ClusterFault}
+use Rattle.q_history.specs.declared.fault.ClusterFault.TheVariants as fault
+
+-- memory was refused
+abbrev pub memory : ClusterFault
+memory = fault.World acts.memory
+
+abbrev pub of_desk : DeskFault → ClusterFault
+of_desk desk_fault.OutOfMemory = memory
+of_desk f = fault.Desk f
+
+abbrev pub fault_number : ClusterFault → ℕ
+fault_number fault.NoSuchJob = 83
+fault_number (fault.World f) = world.fault_number f
+fault_number (fault.Desk f) = desk.fault_number f
+
+abbrev pub fault_name : ClusterFault → List ℕ
+fault_name fault.NoSuchJob = codes "NoSuchJob"
+fault_name (fault.World f) = world.fault_name f
+fault_name (fault.Desk f) = desk.fault_name f

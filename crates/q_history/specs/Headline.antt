@@ -1,0 +1,43 @@
+-- What is true of every answer that a cluster records.
+use Rattle.std.specs.Prelude.{◌≡◌, ℕ, Some, slice_get}
+use Rattle.std.specs.FinMap as fin
+use Rattle.sc_view.specs.declared.view.Stored.{Stored}
+use Rattle.sc_view.specs.Views.{ViewMap}
+use Rattle.sc_node.specs.declared.session.Kind.TheVariants as kind
+use Rattle.sc_world.specs.declared.op.Op.{Op}
+use Rattle.sc_world.specs.State.{WorldState}
+use Rattle.sc_world.specs.Records.{Among}
+use Rattle.sc_world.specs.Regular.{IsBefore, Meets, Holds, returned}
+use Rattle.q_book.specs.State.{DeskState}
+use Rattle.q_book.specs.Answers.{IsAnswered}
+use Rattle.q_session.specs.declared.ran.Ran.{Ran}
+use Rattle.q_session.specs.declared.query.Phase.TheVariants.{Answered}
+use Rattle.q_session.specs.declared.query.Query.{Query}
+use Rattle.q_history.specs.State.{ClusterState}
+
+-- The node's collect with this tag ended and returned the view, and the view holds each store that ended before the
+-- collect began and that meets it.
+pub record IsReturned (w : WorldState) (node tag : ℕ) (view : ViewMap) : Type 0 where
+  pub collect : Op
+  pub among : Among collect w.ops
+  pub by : collect.node ≡ node
+  pub tagged : collect.tag ≡ tag
+  pub returned : returned collect ≡ Some view
+  pub holds : (s : Op) (e : Stored) → Among s w.ops → s.session.kind ≡ kind.Store e → IsBefore s collect → Meets s collect → Holds view s.node e.number
+
+-- The answer of a query of this node is right: it is the meaning of the program that the query names, from the query's
+-- start, over the view that the query's collect returned.
+pub record IsTrue (c : ClusterState) (node : ℕ) (d : DeskState) (q : Query) (view : ViewMap) (ran : Ran) : Type 0 where
+  pub answered : IsAnswered d q view ran
+  pub returned : IsReturned c.world node q.tag view
+
+-- each recorded answer of each node is
+abbrev pub AnswersAreTrue : ClusterState → Type 0
+AnswersAreTrue c = (node k : ℕ) (d : DeskState) (q : Query) (view : ViewMap) (ran : Ran) →
+    fin.get c.desks node ≡ Some d → slice_get d.queries k ≡ Some q → q.phase ≡ Answered view ran → IsTrue c node d q view ran
+
+-- a recorded answer stays as it is
+abbrev pub AnswersStay : ClusterState → ClusterState → Type 0
+AnswersStay c later = (node k : ℕ) (d : DeskState) (q : Query) (view : ViewMap) (ran : Ran) →
+    fin.get c.desks node ≡ Some d → slice_get d.queries k ≡ Some q → q.phase ≡ Answered view ran
+    → (e : DeskState) × (fin.get later.desks node ≡ Some e) × (slice_get e.queries k ≡ Some q)

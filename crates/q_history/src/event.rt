@@ -1,0 +1,91 @@
+//! What happens to a cluster, and what it tells.
+
+use q_session::ran::Ran;
+use q_table::program::{Program, ProgramId};
+use sc_world::event::Sent;
+
+/// What happens to a cluster.
+#[derive(Drop)]
+pub enum Event {
+    /// A node with a new id enters.
+    Enter(u64),
+    /// A node leaves for good, and tells it.
+    Leave(u64),
+    /// A node stops for good, and tells nobody.
+    Crash(u64),
+    /// A node registers a program.
+    Register {
+        node: u64,
+        program: Program,
+    },
+    /// A query begins, and with it a collect.
+    Ask {
+        node: u64,
+        program: ProgramId,
+        start: u64,
+    },
+    /// A node begins to store a value.
+    Store {
+        node: u64,
+        value: [u8; 48],
+    },
+    /// A message that was sent, by its number, reaches a node.
+    Deliver {
+        message: usize,
+        node: u64,
+    },
+    /// A node hands out the job of its ready query with the least number, if there is one.
+    HandOut(u64),
+    /// A job, by its number, is run, and its node records the answer.
+    Finish(usize),
+}
+
+/// An operation of a node that ended.
+#[derive(Clone, Copy, Debug, PartialEq, Eq)]
+pub enum Completed {
+    /// The store with this tag.
+    Stored(u64),
+    /// The collect of the query with this number.
+    Returned(usize),
+}
+
+/// A job that was handed out, and its query.
+#[derive(Clone, Copy, Debug, PartialEq, Eq)]
+pub struct Handed {
+    pub job: usize,
+    pub query: usize,
+}
+
+/// The recorded answer of a query.
+#[derive(Clone, Copy, Debug, PartialEq, Eq)]
+pub struct Answer {
+    pub node: u64,
+    pub query: usize,
+    pub ran: Ran,
+}
+
+/// What an accepted event tells, beside its messages.
+#[derive(Clone, Copy, Debug, PartialEq, Eq)]
+pub enum Told {
+    Entered,
+    Left,
+    Crashed,
+    /// The program's id.
+    Registered(ProgramId),
+    /// The query's number.
+    Asked(usize),
+    /// The tag of the store that began.
+    Stored(u64),
+    /// The operation that ended.
+    Delivered(Option<Completed>),
+    /// The job, where a query was ready.
+    HandedOut(Option<Handed>),
+    Finished(Answer),
+}
+
+/// What an accepted event tells, and the messages that it sent.
+#[derive(Clone, Copy, Debug, PartialEq, Eq)]
+pub struct Stepped {
+    pub told: Told,
+    pub sent: Sent,
+}

@@ -1,0 +1,43 @@
+//! Why an event is refused, each reason with its number and its name.
+
+ghost use Rattle.std.specs.Prelude.{◌≡◌};
+ghost use Rattle.q_history.specs.Faults.{fault_number, fault_name};
+
+use q_book::fault::DeskFault;
+use sc_world::fault::WorldFault;
+
+/// Why an event is refused. After a refusal the cluster is as it was. Where several hold, the first of 83, 81, 82, 42,
+/// 41, 51, 52, 56, 55, 43, 53, 48, 46, 47 is answered.
+#[derive(Clone, Copy, Debug, PartialEq, Eq)]
+pub enum ClusterFault {
+    /// 83: no job of this number was handed out.
+    NoSuchJob,
+    /// The world's own refusal, and 99 of the cluster.
+    World(WorldFault),
+    /// The desk's own refusal.
+    Desk(DeskFault),
+}
+
+impl ClusterFault {
+    /// The number by which the fault is reported.
+    pub fn number(&self) -> u8
+        ensures { result ≡ fault_number self.now }
+    {
+        match self {
+            ClusterFault::NoSuchJob => 83,
+            ClusterFault::World(fault) => fault.number(),
+            ClusterFault::Desk(fault) => fault.number(),
+        }
+    }
+
+    /// The name by which the fault is reported.
+    pub fn name(&self) -> &'static str
+        ensures { result.now ≡ fault_name self.now }
+    {
+        match self {
+            ClusterFault::NoSuchJob => "NoSuchJob",
+            ClusterFault::World(fault) => fault.name(),
+            ClusterFault::Desk(fault) => fault.name(),
+        }
+    }
+}

@@ -1,0 +1,23 @@
+//! What is true of every history.
+
+ghost use Rattle.std.specs.Prelude.{ℕ, List};
+ghost use Rattle.sc_members.specs.Members.{Config};
+ghost use Rattle.q_history.specs.declared.event.Event.{Event};
+ghost use Rattle.q_history.specs.State.{ClusterState};
+ghost use Rattle.q_history.specs.Clusters.{start};
+ghost use Rattle.q_history.specs.Calls.{Reaches, IsHistory};
+ghost use Rattle.q_history.specs.Headline.{AnswersAreTrue, AnswersStay};
+
+/// A law: whatever the founders are, and whatever list of events is accepted, in which messages are lost, repeated and
+/// reordered, nodes enter, leave and crash, and jobs are finished in any order or never, each recorded answer is right.
+/// It is the meaning of the program that its query names, folded from the query's start over the records of the view
+/// that the query's own collect returned; and that view holds each store that ended before the collect began and that
+/// meets it.
+pub fn every_answer_is_true()
+    ensures { (config : Config) (founders : List ℕ) (events : List Event) (c : ClusterState) → Reaches (start config founders) events c → AnswersAreTrue c }
+{}
+
+/// A law: in every history a recorded answer stays as it is, whatever is accepted after it.
+pub fn answers_stay()
+    ensures { (c later : ClusterState) (events : List Event) → IsHistory c → Reaches c events later → AnswersStay c later }
+{}
