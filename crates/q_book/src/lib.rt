@@ -13,3 +13,5 @@
 pub mod desk;
 pub mod fault;
 mod same;
+#[cfg(test)]
+mod tests;
