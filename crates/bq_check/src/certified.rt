@@ -55,6 +55,7 @@ impl Certified {
     {
         self.longest
     }
+
     /// From every accumulator, record and frame a record run of the text ends within the longest path,
     /// with no fault, and with one answer and one frame that are the same at every placement.
     pub fn is_safe(&self)
