@@ -242,12 +242,14 @@ impl Node {
         }
     }
 
+    /// The node's id.
     pub fn id(&self) -> u64
         ensures { result ≡ self.now.id }
     {
         self.id
     }
 
+    /// The fractions that set the node's thresholds.
     pub fn config(&self) -> Config
         ensures { result ≡ self.now.config }
     {
@@ -268,6 +270,7 @@ impl Node {
         &self.view
     }
 
+    /// Whether the node has joined: it answers stores and collects, and may begin its own.
     pub fn has_joined(&self) -> bool
         ensures { result ≡ self.now.joined }
     {

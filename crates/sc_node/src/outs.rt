@@ -80,6 +80,7 @@ impl Outs {
         self.slots.len()
     }
 
+    /// Whether there is no message.
     pub fn is_empty(&self) -> bool
         ensures { result ≡ (length self.now == 0) }
     {
