@@ -1,5 +1,5 @@
 -- The lines of the units, taken from the front.
-use Rattle.std.proofs.Common.{◌≡◌, ◌∙◌, ℕ, ◌+◌, ◌-◌, ◌/◌, ◌<◌, ◌≤◌, zero, suc, List, [], ◌∷◌, ◌++◌, length, take, drop, ap, ap₂, refl, arith, append_assoc, append-nil, sym}
+use Rattle.std.proofs.Common.{◌≡◌, ◌∙◌, ℕ, ◌+◌, ◌-◌, ◌/◌, ◌<◌, ◌≤◌, suc, List, [], ◌++◌, length, take, drop, ap, ap₂, arith, append_assoc, append-nil, sym}
 use Rattle.std.proofs.lemmas.List.{length-drop}
 use lib.Seq.{take-append_seam, drop-append_seam}
 use lib.ListN.{length-append}

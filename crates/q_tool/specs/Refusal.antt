@@ -1,8 +1,12 @@
 -- Faults of the parts, by the names under which they are refused.
 use Rattle.q_tool.specs.declared.refusal.Refusal.{Refusal}
-use Rattle.q_tool.specs.declared.refusal.Refusal.TheVariants.{BadLength, TooLong, Syntax, Label, FileFailed, OutOfMemory}
+use Rattle.q_tool.specs.declared.refusal.Refusal.TheVariants.{BadLength, TooLong, Syntax, Label, Check, Record, FileFailed, OutOfMemory}
 use Rattle.bq_asm.specs.declared.fault.AsmFault.{AsmFault}
 use Rattle.bq_asm.specs.declared.fault.AsmFault.TheVariants as asm
+use Rattle.bq_check.specs.declared.fault.CheckFault.{CheckFault}
+use Rattle.bq_check.specs.declared.fault.CheckFault.TheVariants as check
+use Rattle.q_script.specs.declared.records.RecordsFault.{RecordsFault}
+use Rattle.q_script.specs.declared.records.RecordsFault.TheVariants as records
 use Rattle.q_tool.specs.declared.files.FileFault.{FileFault}
 use Rattle.q_tool.specs.declared.files.FileFault.TheVariants as file
 
@@ -12,6 +16,14 @@ of_asm_fault asm.TooLong = TooLong
 of_asm_fault (asm.Syntax line) = Syntax line
 of_asm_fault (asm.Label line) = Label line
 of_asm_fault asm.OutOfMemory = OutOfMemory
+
+abbrev pub of_check_fault : CheckFault → Refusal
+of_check_fault check.OutOfMemory = OutOfMemory
+of_check_fault fault = Check fault
+
+abbrev pub of_records_fault : RecordsFault → Refusal
+of_records_fault (records.Line line fault) = Record line fault
+of_records_fault records.OutOfMemory = OutOfMemory
 
 abbrev pub of_file_fault : FileFault → Refusal
 of_file_fault file.Failed = FileFailed

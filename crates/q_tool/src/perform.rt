@@ -1,28 +1,55 @@
 //! Commands, run over files and a writer.
 
-ghost use Rattle.std.specs.Prelude.{◌≡◌, ◌≤◌, ℕ, List, IfOk, IfErr, IsOk, string_bytes, IsUtf8};
+ghost use Rattle.std.specs.Prelude.{◌≡◌, ◌≤◌, ℕ, List, IfOk, string_bytes, IsUtf8};
 ghost use Rattle.std.specs.Io.KnownBytes.{Appends};
-ghost use Rattle.q_tool.specs.Perform.{Answers, Lists};
+ghost use Rattle.bq_asm.specs.Source.{IsSource};
+ghost use Rattle.q_tool.specs.Perform.{Accepts, Answers, Computes, Lists};
 
 use crate::files::Files;
 use crate::listing::listing;
+use crate::program::{certified, program, utf8};
 use crate::refusal::Refusal;
 use crate::words::Line;
-use bq_asm::assemble::assemble;
+use bq_check::certified::Certified;
+use q_script::records::read_records;
+use q_session::fold::fold_checked;
 use std::alloc::Global;
 use std::io::Write;
-use std::str;
 
-/// The listing of the program that assembler text spells.
-///
-/// Refused are 87 FileFailed, where the bytes are not UTF-8, and what the assembler refuses.
+/// The listing of the program that assembler text spells, refused as [`program`].
 fn assembled(alloc: Global, source: &[u8]) -> Result<String, Refusal>
     ensures listed { IfOk result (λ lines. Lists source.now (string_bytes lines)) }
     ensures text { ¬ (IsUtf8 source.now) → result ≡ Err Refusal.FileFailed }
 {
-    let source = str::from_utf8(source).map_err(|_| Refusal::FileFailed)?;
-    let text = assemble(alloc, source)?;
+    let text = program(alloc, source)?;
     Ok(listing(alloc, &text)?)
+}
+
+/// What `check` prints of assembler text.
+fn accepted(alloc: Global, source: &[u8]) -> Result<String, Refusal>
+    ensures { IfOk result (λ lines. Accepts source.now (string_bytes lines)) }
+{
+    let certified = certified(alloc, source)?;
+    let longest = certified.longest();
+    let _notes = certified.notes();
+    Ok(format!(in alloc; "accepted longest {longest}\n")?)
+}
+
+/// What `run` prints of a program over the records that a text lists.
+fn computed(
+    alloc: Global,
+    certified: &Certified,
+    start: u64,
+    listed: &[u8],
+) -> Result<String, Refusal>
+    ensures { IfOk result (λ lines. (source : List ℕ) → IsSource source certified.now.text → Computes source start listed.now (string_bytes lines)) }
+{
+    let listed = utf8(listed)?;
+    let view = read_records(alloc, listed)?;
+    let ran = fold_checked(certified, &view, start);
+    let acc = ran.acc;
+    let steps = ran.steps;
+    Ok(format!(in alloc; "acc {acc} steps {steps}\n")?)
 }
 
 /// What a command prints, or why it is refused.
@@ -33,6 +60,20 @@ fn answer<F: Files>(alloc: Global, line: &Line<'_>, files: &mut F) -> Result<Str
         Line::Asm { file } => {
             let source = files.read(alloc, file)?;
             assembled(alloc, source.as_slice())
+        }
+        Line::Check { file } => {
+            let source = files.read(alloc, file)?;
+            accepted(alloc, source.as_slice())
+        }
+        Line::Run {
+            file,
+            start,
+            records,
+        } => {
+            let source = files.read(alloc, file)?;
+            let certified = certified(alloc, source.as_slice())?;
+            let listed = files.read(alloc, records)?;
+            computed(alloc, &certified, *start, listed.as_slice())
         }
     }
 }

@@ -2,8 +2,24 @@
 
 use crate::files::FileFault;
 use bq_asm::fault::AsmFault;
+use bq_check::fault::CheckFault;
+use q_script::records::{RecordFault, RecordsFault};
 use std::alloc::AllocError;
+use std::fmt;
 use thiserror::Error;
+
+/// The unit of a refusal, where it carries one.
+#[derive(Drop)]
+struct At(Option<usize>);
+
+impl fmt::Display for At {
+    fn fmt<W: fmt::Write>(&self, f: &mut fmt::Formatter<W>) -> fmt::Result {
+        match self.0 {
+            Some(unit) => write!(f, " at {unit}"),
+            None => Ok(()),
+        }
+    }
+}
 
 /// A refusal. Its text is the line that the program prints.
 #[derive(Clone, Copy, Debug, PartialEq, Eq, Error)]
@@ -21,6 +37,17 @@ pub enum Refusal {
     /// defines one again.
     #[error("refused 10 Label line {0}")]
     Label(usize),
+    /// The checker or the verifier refuses the program.
+    #[error("refused {} {}{}", .0.number(), .0.name(), At(.0.unit()))]
+    Check(CheckFault),
+    /// The line of a list of records, counted from 1, is faulty.
+    #[error("refused {} {} line {line}", .fault.number(), .fault.name())]
+    Record {
+        /// The line.
+        line: usize,
+        /// What is wrong with it.
+        fault: RecordFault,
+    },
     /// A file could not be opened, read or written, or a text file is not UTF-8.
     #[error("refused 87 FileFailed")]
     FileFailed,
@@ -43,6 +70,36 @@ impl From<AsmFault> for Refusal {
             AsmFault::Syntax { line } => Refusal::Syntax(line),
             AsmFault::Label { line } => Refusal::Label(line),
             AsmFault::OutOfMemory => Refusal::OutOfMemory,
+        }
+    }
+}
+
+/// A fault of the checker or the verifier.
+impl From<CheckFault> for Refusal {
+    ghost use Rattle.std.specs.Prelude.{◌≡◌};
+    ghost use Rattle.q_tool.specs.Refusal.{of_check_fault};
+
+    ghost from_gives = { λ fault refusal. refusal ≡ of_check_fault fault };
+
+    fn from(fault: CheckFault) -> Self {
+        match fault {
+            CheckFault::OutOfMemory => Refusal::OutOfMemory,
+            fault => Refusal::Check(fault),
+        }
+    }
+}
+
+/// A fault of a list of records.
+impl From<RecordsFault> for Refusal {
+    ghost use Rattle.std.specs.Prelude.{◌≡◌};
+    ghost use Rattle.q_tool.specs.Refusal.{of_records_fault};
+
+    ghost from_gives = { λ fault refusal. refusal ≡ of_records_fault fault };
+
+    fn from(fault: RecordsFault) -> Self {
+        match fault {
+            RecordsFault::Line { line, fault } => Refusal::Record { line, fault },
+            RecordsFault::OutOfMemory => Refusal::OutOfMemory,
         }
     }
 }

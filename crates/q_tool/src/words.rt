@@ -1,12 +1,13 @@
 //! The words of the command line.
 
-ghost use Rattle.std.specs.Prelude.{◌≡◌, IfOk, map, false, true};
-ghost use Rattle.clap.specs.Words.{app_of};
+ghost use Rattle.std.specs.Prelude.{◌≡◌, codes, IfOk, MatchResult, map, false, true};
+ghost use Rattle.clap.specs.Words.{app_of, found_of, rows_of, with_rule, with_subcommand};
 ghost use Rattle.clap.specs.declared.builder.command.Command.TheViews.{out-Command};
-ghost use Rattle.q_tool.specs.Words.{asm_app, bqview, Reads};
+ghost use Rattle.q_tool.specs.Words.{asm_app, check_app, run_app, bqview, operand, operand_of, HasCommand, HasBadStart, Reads};
 
 use clap::error::ErrorKind;
-use clap::{Arg, ArgAction, Command, Error};
+use clap::{Arg, ArgAction, ArgMatches, Command, Error};
+use q_script::number::number;
 use std::alloc::{AllocError, Global};
 
 /// A command with its operands.
@@ -16,6 +17,20 @@ pub enum Line<'a> {
     Asm {
         /// The name of the file.
         file: &'a str,
+    },
+    /// `check FILE`: check the program that a file of assembler text spells.
+    Check {
+        /// The name of the file.
+        file: &'a str,
+    },
+    /// `run FILE START RECORDS`: run the program that a file of assembler text spells over records.
+    Run {
+        /// The name of the file.
+        file: &'a str,
+        /// The accumulator that the program begins with.
+        start: u64,
+        /// The name of the file that lists the records.
+        records: &'a str,
     },
 }
 
@@ -27,6 +42,8 @@ pub enum WordsFault {
     /// They are no command line. The text says what is wrong with them, and belongs to the standard
     /// error.
     Wrong(Error),
+    /// The START of `run` is no number.
+    BadStart,
     /// 99: memory ran out.
     OutOfMemory,
 }
@@ -56,31 +73,112 @@ impl From<AllocError> for WordsFault {
     }
 }
 
+/// What FILE names.
+const ASSEMBLER: &str = "A file of assembler text, one instruction a line";
+
+/// The command with one more operand, which must be there.
+fn with_operand<'a>(
+    alloc: Global,
+    command: Command<'a>,
+    name: &'a str,
+    help: &'a str,
+) -> Result<Command<'a>, AllocError>
+    ensures app { IfOk result (λ c. app_of c ≡ with_rule (app_of command.entry) (operand name.entry.now)) }
+    ensures local { IfOk result (λ c. (out-Command c).has_globals ≡ (out-Command command.entry).has_globals) }
+{
+    let operand = Arg::new(alloc, name)
+        .help(help)
+        .required(true)
+        .action(ArgAction::Set);
+    command.arg(operand)
+}
+
 /// The command `asm`.
 fn asm_command<'a>(alloc: Global) -> Result<Command<'a>, AllocError>
     ensures { IfOk result (λ c. (app_of c ≡ asm_app) × ((out-Command c).has_globals ≡ false)) }
 {
-    let file = Arg::new(alloc, "FILE")
-        .help("A file of assembler text, one instruction a line")
-        .required(true)
-        .action(ArgAction::Set);
-    Command::new(alloc, "asm")
+    let command = Command::new(alloc, "asm")
         .about("Prints each unit of a program as 16 hexadecimal digits, one a line")
-        .after_help("Example: bqview asm examples/count.bpf")
-        .arg(file)
+        .after_help("Example: bqview asm examples/count.bpf");
+    with_operand(alloc, command, "FILE", ASSEMBLER)
+}
+
+/// The command `check`.
+fn check_command<'a>(alloc: Global) -> Result<Command<'a>, AllocError>
+    ensures { IfOk result (λ c. (app_of c ≡ check_app) × ((out-Command c).has_globals ≡ false)) }
+{
+    let command = Command::new(alloc, "check")
+        .about(
+            "Proves that a program never faults, and prints the most steps that it does for one record",
+        )
+        .after_help("Example: bqview check examples/count.bpf");
+    with_operand(alloc, command, "FILE", ASSEMBLER)
+}
+
+/// The command `run`.
+fn run_command<'a>(alloc: Global) -> Result<Command<'a>, AllocError>
+    ensures { IfOk result (λ c. (app_of c ≡ run_app) × ((out-Command c).has_globals ≡ false)) }
+{
+    let command = Command::new(alloc, "run")
+        .about("Runs a program over records, and prints the last accumulator and the steps done")
+        .after_help("Example: bqview run examples/sum.bpf 0 examples/three.records");
+    let command = with_operand(alloc, command, "FILE", ASSEMBLER)?;
+    let command = with_operand(
+        alloc,
+        command,
+        "START",
+        "The accumulator to begin with, a number below 2^64 in decimal",
+    )?;
+    with_operand(
+        alloc,
+        command,
+        "RECORDS",
+        "A file of lines `ID SEQ VALUE`, one for each record, by rising ids",
+    )
+}
+
+/// The command with one more command below it.
+fn with_command<'a>(command: Command<'a>, below: Command<'a>) -> Result<Command<'a>, AllocError>
+    requires { (out-Command below).has_globals ≡ false }
+    ensures app { IfOk result (λ c. app_of c ≡ with_subcommand (app_of command.entry) (app_of below.entry).top) }
+    ensures local { IfOk result (λ c. (out-Command c).has_globals ≡ (out-Command command.entry).has_globals) }
+{
+    command.subcommand(below)
 }
 
 /// The program's command line.
 fn program<'a>(alloc: Global) -> Result<Command<'a>, AllocError>
     ensures { IfOk result (λ c. (app_of c ≡ bqview) × ((out-Command c).has_globals ≡ false)) }
 {
-    let asm = asm_command(alloc)?;
-    Command::new(alloc, "bqview")
+    let command = Command::new(alloc, "bqview")
         .about("Programs of RFC 9669 over store-collect views")
-        .after_help("Example: bqview asm examples/count.bpf")
+        .after_help("Example: bqview run examples/sum.bpf 0 examples/three.records")
         .subcommand_required(true)
-        .disable_help_subcommand(true)
-        .subcommand(asm)
+        .disable_help_subcommand(true);
+    let command = with_command(command, asm_command(alloc)?)?;
+    let command = with_command(command, check_command(alloc)?)?;
+    with_command(command, run_command(alloc)?)
+}
+
+/// The text of an operand.
+fn operand_text<'a>(found: &ArgMatches<'a>, name: &str) -> &'a str
+    ensures { result.now ≡ operand_of name.now (rows_of (found_of found.now)) }
+{
+    found.get_str(name).unwrap_or("")
+}
+
+/// The command `run` with what was found for its operands.
+fn run_line<'a>(found: &ArgMatches<'a>) -> Result<Line<'a>, WordsFault>
+    ensures { MatchResult result (λ line. HasCommand line (codes "run", rows_of (found_of found.now))) (λ e. (e ≡ WordsFault.BadStart) × HasBadStart (codes "run", rows_of (found_of found.now))) }
+{
+    match number(operand_text(found, "START")) {
+        Some(start) => Ok(Line::Run {
+            file: operand_text(found, "FILE"),
+            start,
+            records: operand_text(found, "RECORDS"),
+        }),
+        None => Err(WordsFault::BadStart),
+    }
 }
 
 /// Reads the words of the command line, of which the first is the program's name.
@@ -88,10 +186,16 @@ pub fn read_words<'a>(alloc: Global, words: &'a [&'a str]) -> Result<Line<'a>, W
     ensures { Reads (map (λ word. word.now) words.entry.now) result }
 {
     let matches = program(alloc)?.try_get_matches_from(words)?;
-    match matches.subcommand_matches("asm") {
-        Some(found) => Ok(Line::Asm {
-            file: found.get_str("FILE").unwrap_or(""),
-        }),
+    if let Some(found) = matches.subcommand_matches("asm") {
+        let file = operand_text(found, "FILE");
+        return Ok(Line::Asm { file });
+    }
+    if let Some(found) = matches.subcommand_matches("check") {
+        let file = operand_text(found, "FILE");
+        return Ok(Line::Check { file });
+    }
+    match matches.subcommand_matches("run") {
+        Some(found) => run_line(found),
         None => unreachable!(),
     }
 }

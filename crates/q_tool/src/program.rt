@@ -1,0 +1,53 @@
+//! Programs from assembler text, and their certificates.
+
+ghost use Rattle.std.specs.Prelude.{◌≡◌, IfOk, IfErr, IsUtf8};
+ghost use Rattle.bq_insn.specs.Slots.{IsText};
+ghost use Rattle.bq_asm.specs.Source.{IsSource};
+
+use crate::refusal::Refusal;
+use bq_asm::assemble::assemble;
+use bq_check::certified::Certified;
+use bq_check::check::check;
+use bq_insn::text::Text;
+use bq_verify::verify::verify;
+use std::alloc::Global;
+use std::str;
+
+/// The text of a file.
+///
+/// The one refusal is 87 FileFailed, where the bytes are not UTF-8.
+pub fn utf8(bytes: &[u8]) -> Result<&str, Refusal>
+    ensures same { IfOk result (λ text. text.now ≡ bytes.now) }
+    ensures refused { IfErr result (λ e. (e ≡ Refusal.FileFailed) × ¬ (IsUtf8 bytes.now)) }
+{
+    str::from_utf8(bytes).map_err(|_| Refusal::FileFailed)
+}
+
+/// The program that assembler text spells.
+///
+/// Refused are 87 FileFailed, where the bytes are not UTF-8, and what the assembler refuses.
+pub fn program(alloc: Global, source: &[u8]) -> Result<Text, Refusal>
+    ensures spelled { IfOk result (λ text. IsSource source.now text) }
+    ensures legal { IfOk result IsText }
+    ensures text { ¬ (IsUtf8 source.now) → result ≡ Err Refusal.FileFailed }
+{
+    let source = utf8(source)?;
+    Ok(assemble(alloc, source)?)
+}
+
+/// The certificate of a program. Refused is what the verifier and the checker refuse.
+pub fn certified_text(alloc: Global, text: Text) -> Result<Certified, Refusal>
+    ensures { IfOk result (λ c. c.text ≡ text) }
+{
+    let notes = verify(alloc, &text)?;
+    Ok(check(alloc, text, notes)?)
+}
+
+/// The program that assembler text spells, with its certificate. Refused as [`program`], and then as
+/// [`certified_text`].
+pub fn certified(alloc: Global, source: &[u8]) -> Result<Certified, Refusal>
+    ensures { IfOk result (λ c. IsSource source.now c.text) }
+{
+    let text = program(alloc, source)?;
+    certified_text(alloc, text)
+}
