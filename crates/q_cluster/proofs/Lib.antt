@@ -1,0 +1,5 @@
+-- Events of a cluster, by its parts.
+pub mod Tables
+pub mod Histories
+pub mod Events
+pub mod Going

@@ -1,0 +1,10 @@
+use Rattle.std.proofs.Common.{subst}
+use Rattle.q_history.specs.Headline.{AnswersAreTrue}
+use Rattle.q_history.specs.State.{ClusterState}
+use Rattle.q_cluster.specs.contracts.cluster.Cluster as cluster
+use Rattle.q_cluster.proofs.cluster.Cluster.answers_are_true.Goals as goal
+
+pub returns : goal.returns
+returns c =
+    let v : ClusterState = cluster.the_view c.self.inside in
+    subst (λ (x : ClusterState). AnswersAreTrue x) c.self.view_is (c.every_answer_is_true.ensures v.world.config v.world.founders c.self.invariant.0 v c.self.invariant.1)

@@ -1,0 +1,7 @@
+use Rattle.std.proofs.Common.{subst}
+use Rattle.q_history.specs.Calls.{IsHistory}
+use Rattle.q_history.specs.State.{ClusterState}
+use Rattle.q_cluster.proofs.cluster.Cluster.comes_of_events.Goals as goal
+
+pub returns : goal.returns
+returns c = subst (λ (x : ClusterState). IsHistory x) c.self.view_is c.self.invariant

@@ -1,0 +1,35 @@
+use Rattle.std.proofs.Common.{◌≡◌, refl, sym, subst, List, take, Some, slice_get, Err}
+use Rattle.std.proofs.lemmas.Option.{slice_get_read}
+use Rattle.q_history.specs.declared.event.Event.{Event}
+use Rattle.q_history.specs.State.{ClusterState}
+use Rattle.q_history.specs.Clusters.{stepped}
+use Rattle.q_history.specs.Calls.{Reaches}
+use Rattle.q_cluster.proofs.Histories.{reaches_next, take_next, take_past}
+use Rattle.q_cluster.proofs.cluster.Cluster.take_all.Goals as goal
+
+pub returns-in-Err : goal.returns-in-Err
+returns-in-Err c =
+    let es : List Event = c.args.events.now in
+    let e : Event = c.index-events-place.result in
+    let h = c.in-Err.ensures {u = tt} in (
+      subst (λ (x : ClusterState). Reaches c.args.self.now (take c.loop-place.place es) x) (sym h.0) c.loop-place.invariant,
+      (
+        e,
+        slice_get_read es _ c.loop-place.place e refl c.loop-place-test.true c.index-events-place.is,
+        λ loud ran. subst (λ (x : ClusterState). stepped ran x e ≡ Err c.in-Err.fault) (sym h.0) (h.1 loud ran),
+      ),
+    )
+
+pub loop-place-preserved : goal.loop-place-preserved
+loop-place-preserved c =
+    let es : List Event = c.args.events.now in
+    let e : Event = c.index-events-place.result in
+    let at : slice_get es c.loop-place.place ≡ Some e = slice_get_read es _ c.loop-place.place e refl c.loop-place-test.true c.index-events-place.is in
+    subst (λ (xs : List Event). Reaches c.args.self.now xs c.take.new.self) (sym (take_next es c.loop-place.place e at))
+    (reaches_next (take c.loop-place.place es) c.args.self.now c.loop-place.self e c.in_default.field-0 c.take.new.self c.loop-place.invariant (c.in_default.ensures {u = tt}))
+
+pub returns : goal.returns
+returns c = subst (λ (xs : List Event). Reaches c.args.self.now xs c.loop-place.self) (take_past c.args.events.now c.loop-place.place c.loop-place-test.false) c.loop-place.invariant
+
+pub loop-place-init : goal.loop-place-init
+loop-place-init c = refl

@@ -1,0 +1,11 @@
+use Rattle.std.proofs.Common.{Option, IsSome, refl, subst}
+use Rattle.q_book.specs.State.{DeskState}
+use Rattle.q_book.specs.Desks as desk
+use Rattle.q_cluster.proofs.Tables.{steps_at}
+use Rattle.q_cluster.proofs.desks.Desks.ask.Goals as goal
+
+pub returns : goal.returns
+returns c =
+    steps_at c.self.inside.entries.entries (c.get_mut.follows.lender c.ask.new.self).entries c.args.self.now c.args.id c.in-Some.desk.now c.self.view_is c.in-Some.ensures.value
+    (λ (d : DeskState). desk.asked d c.args.tag c.args.program c.args.start) c.ask.new.self c.ask.result c.ask.ensures
+    ((c.get_mut.follows.holds c.ask.new.self).3 (subst (λ (o : Option DeskState). IsSome o) c.in-Some.ensures.value refl)).0

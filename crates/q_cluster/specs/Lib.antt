@@ -1,0 +1,3 @@
+-- What the parts of a cluster do at an event.
+pub mod Acts
+pub mod Codes
