@@ -1,6 +1,6 @@
 //! The pass over the units.
 
-ghost use Rattle.std.specs.Prelude.{◌≡◌, ℕ, ◌<◌, ◌+◌, IfOk, IfErr, List, Some, None, Ok, Err, [], ◌∷◌, length};
+ghost use Rattle.std.specs.Prelude.{◌≡◌, ℕ, ◌<◌, ◌≤◌, ◌+◌, IfOk, IfErr, List, Option, Some, None, Ok, Err, [], ◌∷◌, length};
 ghost use Rattle.bq_insn.specs.Slots.{units, IsText};
 ghost use Rattle.bq_flow.specs.Paths.{insn_at, IsLegalFlow};
 ghost use Rattle.bq_state.specs.declared.kind.Kind.{Kind};
@@ -73,6 +73,24 @@ fn lead_on(
     Ok(())
 }
 
+/// The states that the units below `end` lead to: those of the units up to `end` are done.
+fn fill(alloc: Global, text: &Text, end: usize) -> Result<Vec<Option<State>>, CheckFault>
+    requires { end ≤ units text.now }
+    ensures filled { IfOk result (λ states. IsFilled text.now states.items end) }
+    ensures refused { IfErr result (IsRefused text.now) }
+{
+    Flow::of(alloc, text)?;
+    let Ok(mut states) = entered(alloc, text.units()) else {
+        return Err(CheckFault::OutOfMemory);
+    };
+    for unit in 0..end {
+        if let (Some(insn), Some(state)) = (text.at(unit), states[unit]) {
+            lead_on(&mut states, unit, &insn, state)?;
+        }
+    }
+    Ok(states)
+}
+
 /// The notes of a text: in rising order of the units the state of each is the join of what its feasible
 /// predecessors leave, that of unit 0 of the entry too, and a unit that none of them reaches has none.
 /// They pass the checker.
@@ -85,14 +103,21 @@ pub fn verify(alloc: Global, text: &Text) -> Result<Notes, CheckFault>
     ensures passes { IfOk result (Passes text.now) }
     ensures refused { IfErr result (IsRefused text.now) }
 {
-    Flow::of(alloc, text)?;
-    let Ok(mut states) = entered(alloc, text.units()) else {
-        return Err(CheckFault::OutOfMemory);
-    };
-    for unit in 0..text.units() {
-        if let (Some(insn), Some(state)) = (text.at(unit), states[unit]) {
-            lead_on(&mut states, unit, &insn, state)?;
-        }
-    }
+    let states = fill(alloc, text, text.units())?;
     Ok(Notes::new(states))
+}
+
+/// What is known where the instruction at a unit begins, from the units below it; none where nothing
+/// reaches it, or behind the text. It tells why `verify` refuses a text at that unit.
+///
+/// Refused where an instruction below the unit is refused, as by `verify`.
+pub fn state_at(alloc: Global, text: &Text, unit: usize) -> Result<Option<State>, CheckFault>
+    ensures state { IfOk result (λ state. unit < units text.now → (notes : List (Option (List Kind))) × AreStates text.now notes unit × (state ≡ note_at notes unit)) }
+    ensures refused { IfErr result (IsRefused text.now) }
+{
+    if text.units() <= unit {
+        return Ok(None);
+    }
+    let states = fill(alloc, text, unit)?;
+    Ok(states[unit])
 }
