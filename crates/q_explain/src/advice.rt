@@ -1,0 +1,40 @@
+//! What would satisfy a rule.
+
+use bq_flow::fault::FlowRule;
+use bq_state::rule::Rule;
+
+/// What a rule asks of the instruction that breaks it.
+pub(crate) fn of_rule(rule: Rule) -> &'static str {
+    match rule {
+        Rule::UnsetRegister => {
+            "It reads a register of which nothing is known. Write the register before, on each way that leads here, and the same kind of value on each."
+        }
+        Rule::WrongKind => {
+            "It takes a pointer where a number must stand, or the other way round, or moves a pointer too far. Addresses are pointers; to a pointer only a number may be added, or subtracted from it, at 64 bits, and its offset stays within 65536; comparisons, other arithmetic and stored values take numbers."
+        }
+        Rule::OutsideFrame => {
+            "It may access bytes outside the frame. The pointer's least offset plus the distance must be at least 0, and its greatest offset plus the distance plus the size at most 512. r10 has offset 512: load8 r0, [r10-8] reads the frame's last bytes."
+        }
+        Rule::OutsideRecord => {
+            "It may access bytes outside the record. The pointer's least offset plus the distance must be at least 0, and its greatest offset plus the distance plus the size at most 64. Narrow an index first, by and64 or by a jump around the access."
+        }
+        Rule::RecordWritten =>
+            "It writes into the record, which is read only. Store into the frame.",
+        Rule::FramePointerWritten =>
+            "It writes r10, which points to the frame's end. Take another register.",
+        Rule::AnswerKind => "It answers a pointer. Put a number into r0 before exit.",
+    }
+}
+
+/// What legal flow asks of the instruction that breaks it.
+pub(crate) fn of_flow(rule: FlowRule) -> &'static str {
+    match rule {
+        FlowRule::Backward =>
+            "It jumps to itself or back. Jumps go forward, so programs have no loops.",
+        FlowRule::OutsideText => "It jumps behind the program's end.",
+        FlowRule::IntoWide =>
+            "It jumps into the second half of a wide instruction, which takes two units.",
+        FlowRule::FallsOff =>
+            "The program may go on behind its end. Its last instruction is exit, or a jump is missing.",
+    }
+}

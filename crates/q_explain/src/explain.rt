@@ -1,0 +1,98 @@
+//! The explanation of a refusal.
+
+use crate::advice::{of_flow, of_rule};
+use bq_asm::disassemble::disassemble;
+use bq_check::fault::CheckFault;
+use bq_insn::text::Text;
+use bq_range::range::Range;
+use bq_state::kind::Kind;
+use bq_state::offsets::Offsets;
+use bq_state::state::State;
+use bq_verify::verify::{state_at, verify};
+use std::alloc::{AllocError, Global};
+
+/// The instruction at a unit, as assembler text.
+fn write_instruction(
+    alloc: Global,
+    out: &mut String,
+    text: &Text,
+    unit: usize,
+) -> Result<(), AllocError> {
+    let source = disassemble(alloc, text)?;
+    let mut before = 0_usize;
+    for below in 0..unit {
+        if text.at(below).is_some() {
+            before = before.saturating_add(1);
+        }
+    }
+    write!(out, "unit {unit}")?;
+    if let Some(line) = source.lines().nth(before) {
+        write!(out, ": {line}")?;
+    }
+    out.push('\n')
+}
+
+fn write_range(out: &mut String, range: Range) -> Result<(), AllocError> {
+    let (lo, hi) = (range.lo(), range.hi());
+    if lo == hi {
+        write!(out, "the number {lo}")
+    } else if lo == 0 && hi == u64::MAX {
+        out.push_str("any number")
+    } else {
+        write!(out, "a number from {lo} to {hi}")
+    }
+}
+
+fn write_offsets(out: &mut String, region: &str, offsets: Offsets) -> Result<(), AllocError> {
+    let (lo, hi) = (offsets.lo(), offsets.hi());
+    if lo == hi {
+        write!(out, "a pointer to the {region}'s start plus {lo}")
+    } else {
+        write!(out, "a pointer to the {region}'s start plus {lo} to {hi}")
+    }
+}
+
+/// What is known of a register; nothing is written where nothing is.
+fn write_register(out: &mut String, register: u8, kind: Kind) -> Result<(), AllocError> {
+    if let Kind::Unset = kind {
+        return Ok(());
+    }
+    write!(out, "  r{register}: ")?;
+    match kind {
+        Kind::Unset => {}
+        Kind::Number(range) => write_range(out, range)?,
+        Kind::FramePointer(offsets) => write_offsets(out, "frame", offsets)?,
+        Kind::RecordPointer(offsets) => write_offsets(out, "record", offsets)?,
+    }
+    out.push('\n')
+}
+
+/// What is known of the registers; of the others nothing is.
+fn write_state(out: &mut String, state: &State) -> Result<(), AllocError> {
+    out.push_str("known of the registers there (of the others nothing):\n")?;
+    for register in 0..11_u8 {
+        write_register(out, register, state.kind(register))?;
+    }
+    Ok(())
+}
+
+/// Why a text is refused at a unit, with this advice.
+fn told(alloc: Global, text: &Text, unit: usize, advice: &str) -> Result<String, AllocError> {
+    let mut out = String::new(alloc);
+    write_instruction(alloc, &mut out, text, unit)?;
+    if let Ok(Some(state)) = state_at(alloc, text, unit) {
+        write_state(&mut out, &state)?;
+    }
+    out.push_str(advice)?;
+    out.push('\n')?;
+    Ok(out)
+}
+
+/// Why the verifier refuses a text, in a few lines; none where it does not, or for want of memory alone.
+pub fn explain(alloc: Global, text: &Text) -> Result<Option<String>, AllocError> {
+    match verify(alloc, text) {
+        Err(CheckFault::Rule { unit, rule }) => Ok(Some(told(alloc, text, unit, of_rule(rule))?)),
+        Err(CheckFault::Flow { unit, rule }) => Ok(Some(told(alloc, text, unit, of_flow(rule))?)),
+        _ => Ok(None),
+    }
+}
