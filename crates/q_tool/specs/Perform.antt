@@ -11,10 +11,12 @@ use Rattle.bq_meaning.specs.Answers.{IsAnswer}
 use Rattle.sc_view.specs.Views.{ViewMap}
 use Rattle.q_session.specs.Records.{view_records}
 use Rattle.q_script.specs.Records.{IsView}
+use Rattle.q_script.specs.Script.{IsScript}
+use Rattle.q_script.specs.declared.script.Script.{Script}
 use Rattle.q_tool.specs.Listing.{listing_of}
 use Rattle.q_tool.specs.declared.files.FileFault.{FileFault}
 use Rattle.q_tool.specs.declared.words.Line.{Line}
-use Rattle.q_tool.specs.declared.words.Line.TheVariants.{Asm, Check, Run}
+use Rattle.q_tool.specs.declared.words.Line.TheVariants.{Asm, Check, Run, Sim}
 
 -- the lines are the units of the program that the assembler text spells
 pub record Lists (source lines : List ℕ) : Type 0 where
@@ -44,6 +46,10 @@ pub record Computes (source : List ℕ) (start : ℕ) (listed lines : List ℕ) 
   pub right : IsAnswer text (view_records view) start acc steps
   pub told : lines ≡ codes "acc " ++ (decimal acc ++ (codes " steps " ++ (decimal steps ++ 10 ∷ [])))
 
+-- the text spells a script
+abbrev pub IsSimulated : List ℕ → Type 0
+IsSimulated source = (script : Script) × IsScript source script
+
 -- the command answers these lines, over files that stand thus before and after
 abbrev pub Answers : {F : Type 0} → (F → List ℕ → Result (List ℕ) FileFault → F → Type 0) → Line → F → List ℕ → F → Type 0
 Answers reads (Asm file) old lines new = (source : List ℕ) × reads old file.now (Ok source) new × Lists source lines
@@ -51,3 +57,4 @@ Answers reads (Check file) old lines new = (source : List ℕ) × reads old file
 Answers {F} reads (Run file start records) old lines new =
     (source : List ℕ) × (listed : List ℕ) × (between : F) × reads old file.now (Ok source) between × reads between records.now (Ok listed) new
     × Computes source start listed lines
+Answers reads (Sim script) old lines new = (source : List ℕ) × reads old script.now (Ok source) new × IsSimulated source

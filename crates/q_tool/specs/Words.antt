@@ -6,7 +6,7 @@ use Rattle.clap.specs.declared.error.kind.ErrorKind.TheVariants.{DisplayHelp}
 use Rattle.clap.specs.declared.error.kind.ErrorKind.TheVariants as kind
 use Rattle.clap.specs.declared.builder.action.ArgAction.TheVariants.{Set}
 use Rattle.q_tool.specs.declared.words.Line.{Line}
-use Rattle.q_tool.specs.declared.words.Line.TheVariants.{Asm, Check, Run}
+use Rattle.q_tool.specs.declared.words.Line.TheVariants.{Asm, Check, Run, Sim}
 use Rattle.q_tool.specs.declared.words.WordsFault.{WordsFault}
 use Rattle.q_tool.specs.declared.words.WordsFault.TheVariants.{Help, Wrong, BadStart, OutOfMemory}
 use Rattle.q_script.specs.Words.{IsNumeral}
@@ -29,12 +29,16 @@ check_app = with_rule (new_app (codes "check")) (operand (codes "FILE"))
 abbrev pub run_app : App
 run_app = with_rule (with_rule (with_rule (new_app (codes "run")) (operand (codes "FILE"))) (operand (codes "START"))) (operand (codes "RECORDS"))
 
+-- `sim SCRIPT`
+abbrev pub sim_app : App
+sim_app = with_rule (new_app (codes "sim")) (operand (codes "SCRIPT"))
+
 -- the program, of which one command is wanted
 abbrev pub bqview : App
 bqview =
     let plain = new_app (codes "bqview") in
     let one = record plain { top = record plain.top { subcommand_required = true; disable_help_subcommand = true } } in
-    with_subcommand (with_subcommand (with_subcommand one asm_app.top) check_app.top) run_app.top
+    with_subcommand (with_subcommand (with_subcommand (with_subcommand one asm_app.top) check_app.top) run_app.top) sim_app.top
 
 -- ---- what the words say
 
@@ -49,6 +53,7 @@ HasCommand (Check file) met = (met.0 ≡ codes "check") × (file.now ≡ operand
 HasCommand (Run file start records) met =
     (met.0 ≡ codes "run") × (file.now ≡ operand_of (codes "FILE") met.1) × IsNumeral (operand_of (codes "START") met.1) start
     × (records.now ≡ operand_of (codes "RECORDS") met.1)
+HasCommand (Sim script) met = (met.0 ≡ codes "sim") × (script.now ≡ operand_of (codes "SCRIPT") met.1)
 
 -- the command `run` was met, and its START is no number
 abbrev pub HasBadStart : Text × List Row → Type 0

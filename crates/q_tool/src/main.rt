@@ -5,10 +5,29 @@
 //! | `asm FILE` | each unit of the program as 16 lower-case hexadecimal digits, one a line |
 //! | `check FILE` | `accepted longest L`: the program never faults, and does L steps for a record at most |
 //! | `run FILE START RECORDS` | `acc A steps S`: the last accumulator, and all steps |
+//! | `sim SCRIPT` | what each event of a script tells, over a cluster in memory |
 //!
 //! FILE holds assembler text. START is a number in decimal. RECORDS holds a line `ID SEQ VALUE` for each record, by
 //! rising ids: the node, the sequence number of its store, and the number that it stored, whose eight bytes are the first
 //! of the value's 48.
+//!
+//! SCRIPT holds one event a line. Words have one space between, numbers are below 2^64 in decimal.
+//!
+//! | Line | Prints |
+//! |---|---|
+//! | `nodes N B/B G/G`, first | nothing: the cluster of the founders 1 to N, with the fractions beta and gamma |
+//! | `program NODE HEX` | `program P`: the program of these bytes is registered, decoded, verified and checked before |
+//! | `store NODE U64` | `store TAG`, messages: the node begins to store the number |
+//! | `ask NODE PROGRAM START` | `query Q`, messages: the node begins to collect a view for the program |
+//! | `deliver M NODE` | `stored TAG` or `returned Q` where that ends an operation, messages |
+//! | `all LIMIT` | nothing: delivers each message to each live node that it was not delivered to, the least message first, then the least node, LIMIT times at most |
+//! | `hand NODE` | `job J query Q`, or `no job` where no query is ready |
+//! | `run J` | `answer NODE Q ACC STEPS`: the job is run, and its node records the answer |
+//!
+//! Messages are printed as `message I KIND`, one a line. A delivery that is refused counts as one for `all`, and `all`
+//! passes over what it tried and what `deliver` delivered. A refused event prints its refusal, and the script goes on; the
+//! exit status stays 0. Refused `nodes` end the script: 45 before 49. A line of another form is 9 before anything runs.
+//!
 //! A refusal prints `refused N Name`, then ` at U` where it carries a unit, or ` line L` where a line ([`Refusal`]).
 //! `run` finds faults in this order: FILE, its text, the verifier and the checker, RECORDS, its lines.
 //! The exit status is 0, or 1 after a refusal or where the standard output failed, or 2 for a wrong command line, which
@@ -20,6 +39,8 @@
 //!   that the command answers: the listing of the program that FILE spells; the longest path of that program, whose
 //!   notes pass; what that program means over the records that RECORDS lists, from START.
 //! - [`program`] has programs from assembler text, with their certificates.
+//! - [`simulate`] takes each event of a script as one step of a cluster, whose type keeps that every recorded answer is
+//!   true, and prints what the step tells.
 //! - [`listing`] is the text that `asm` prints.
 //!
 //! `main` alone reaches the machine: its words, its files and its standard output.
@@ -29,6 +50,7 @@
 //! [`perform`]: perform::perform
 //! [`program`]: program::certified
 //! [`Files`]: files::Files
+//! [`simulate`]: sim::simulate
 //! [`listing`]: listing::listing
 #![tactic(auto)]
 
@@ -39,6 +61,7 @@ mod memory;
 mod perform;
 mod program;
 mod refusal;
+mod sim;
 #[cfg(test)]
 mod tests;
 mod words;

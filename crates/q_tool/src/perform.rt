@@ -3,15 +3,17 @@
 ghost use Rattle.std.specs.Prelude.{◌≡◌, ◌≤◌, ℕ, List, IfOk, string_bytes, IsUtf8};
 ghost use Rattle.std.specs.Io.KnownBytes.{Appends};
 ghost use Rattle.bq_asm.specs.Source.{IsSource};
-ghost use Rattle.q_tool.specs.Perform.{Accepts, Answers, Computes, Lists};
+ghost use Rattle.q_tool.specs.Perform.{Accepts, Answers, Computes, IsSimulated, Lists};
 
 use crate::files::Files;
 use crate::listing::listing;
 use crate::program::{certified, program, utf8};
 use crate::refusal::Refusal;
+use crate::sim::simulate;
 use crate::words::Line;
 use bq_check::certified::Certified;
 use q_script::records::read_records;
+use q_script::script::Script;
 use q_session::fold::fold_checked;
 use std::alloc::Global;
 use std::io::Write;
@@ -52,6 +54,16 @@ fn computed(
     Ok(format!(in alloc; "acc {acc} steps {steps}\n")?)
 }
 
+/// What `sim` prints of a script. Refused are 87 FileFailed, where the bytes are not UTF-8, 9 Syntax with the least line
+/// of another form, and what [`simulate`] refuses.
+fn simulated(alloc: Global, source: &[u8]) -> Result<String, Refusal>
+    ensures { IfOk result (λ lines. IsSimulated source.now) }
+{
+    let source = utf8(source)?;
+    let script = Script::read(alloc, source)?;
+    simulate(alloc, script)
+}
+
 /// What a command prints, or why it is refused.
 fn answer<F: Files>(alloc: Global, line: &Line<'_>, files: &mut F) -> Result<String, Refusal>
     ensures { IfOk result (λ lines. Answers F.read_gives line.now files.old (string_bytes lines) files.new) }
@@ -74,6 +86,10 @@ fn answer<F: Files>(alloc: Global, line: &Line<'_>, files: &mut F) -> Result<Str
             let certified = certified(alloc, source.as_slice())?;
             let listed = files.read(alloc, records)?;
             computed(alloc, &certified, *start, listed.as_slice())
+        }
+        Line::Sim { script } => {
+            let source = files.read(alloc, script)?;
+            simulated(alloc, source.as_slice())
         }
     }
 }

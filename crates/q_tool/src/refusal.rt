@@ -3,7 +3,10 @@
 use crate::files::FileFault;
 use bq_asm::fault::AsmFault;
 use bq_check::fault::CheckFault;
+use bq_insn::fault::DecodeFault;
+use q_history::fault::ClusterFault;
 use q_script::records::{RecordFault, RecordsFault};
+use q_script::script::ScriptFault;
 use std::alloc::AllocError;
 use std::fmt;
 use thiserror::Error;
@@ -48,6 +51,15 @@ pub enum Refusal {
         /// What is wrong with it.
         fault: RecordFault,
     },
+    /// Bytes spell no program.
+    #[error("refused {} {}{}", .0.number(), .0.name(), At(decode_unit(.0)))]
+    Decode(DecodeFault),
+    /// A fraction of a cluster is not num / den with 1 <= num <= den <= 1,000.
+    #[error("refused 45 BadFraction")]
+    BadFraction,
+    /// The cluster refuses its founders, or an event.
+    #[error("refused {} {}", .0.number(), .0.name())]
+    Cluster(ClusterFault),
     /// A file could not be opened, read or written, or a text file is not UTF-8.
     #[error("refused 87 FileFailed")]
     FileFailed,
@@ -71,6 +83,56 @@ impl From<AsmFault> for Refusal {
             AsmFault::Label { line } => Refusal::Label(line),
             AsmFault::OutOfMemory => Refusal::OutOfMemory,
         }
+    }
+}
+
+/// The unit that a fault of bytes carries.
+fn decode_unit(fault: &DecodeFault) -> Option<usize> {
+    match fault {
+        DecodeFault::At { unit, .. } => Some(*unit),
+        _ => None,
+    }
+}
+
+/// A fault of bytes.
+impl From<DecodeFault> for Refusal {
+    ghost use Rattle.std.specs.Prelude.{◌≡◌};
+    ghost use Rattle.q_tool.specs.Refusal.{of_decode_fault};
+
+    ghost from_gives = { λ fault refusal. refusal ≡ of_decode_fault fault };
+
+    fn from(fault: DecodeFault) -> Self {
+        match fault {
+            DecodeFault::OutOfMemory => Refusal::OutOfMemory,
+            fault => Refusal::Decode(fault),
+        }
+    }
+}
+
+/// A fault of a script.
+impl From<ScriptFault> for Refusal {
+    ghost use Rattle.std.specs.Prelude.{◌≡◌};
+    ghost use Rattle.q_tool.specs.Refusal.{of_script_fault};
+
+    ghost from_gives = { λ fault refusal. refusal ≡ of_script_fault fault };
+
+    fn from(fault: ScriptFault) -> Self {
+        match fault {
+            ScriptFault::Syntax { line } => Refusal::Syntax(line),
+            ScriptFault::OutOfMemory => Refusal::OutOfMemory,
+        }
+    }
+}
+
+/// A fault of a cluster.
+impl From<ClusterFault> for Refusal {
+    ghost use Rattle.std.specs.Prelude.{◌≡◌};
+    ghost use Rattle.q_tool.specs.declared.refusal.Refusal.TheVariants.{Cluster};
+
+    ghost from_gives = { λ fault refusal. refusal ≡ Cluster fault };
+
+    fn from(fault: ClusterFault) -> Self {
+        Refusal::Cluster(fault)
     }
 }
 

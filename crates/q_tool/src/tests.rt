@@ -327,13 +327,25 @@ fn answers_1_where_the_writer_fails(rt: HostRuntime) -> Result<(), Fail> {
 #[test]
 fn reads_the_words(rt: HostRuntime) {
     let alloc = rt.alloc();
+    assert!(rt;
+        matches!(
+            read_words(alloc, ["bqview", "check", "a.bpf"].as_slice()),
+            Ok(Line::Check { file: "a.bpf" })
+        )
+    );
+    assert!(rt;
+        matches!(
+            read_words(alloc, ["bqview", "sim", "a.sim"].as_slice()),
+            Ok(Line::Sim { script: "a.sim" })
+        )
+    );
     for words in [
         ["bqview", "asm", "a.bpf"].as_slice(),
         ["bqview", "asm", "--", "a.bpf"].as_slice(),
     ] {
         assert!(rt; matches!(read_words(alloc, words), Ok(Line::Asm { file: "a.bpf" })));
     }
-    let wrong: [&[&str]; 7] = [
+    let wrong: [&[&str]; 8] = [
         &["bqview"],
         &["bqview", "asx"],
         &["bqview", "asm"],
@@ -341,16 +353,18 @@ fn reads_the_words(rt: HostRuntime) {
         &["bqview", "asm", "-x", "a"],
         &["bqview", "check"],
         &["bqview", "run", "a", "7"],
+        &["bqview", "sim"],
     ];
     for words in wrong {
         assert!(rt; matches!(read_words(alloc, words), Err(WordsFault::Wrong(_))));
     }
-    let help: [&[&str]; 5] = [
+    let help: [&[&str]; 6] = [
         &["bqview", "--help"],
         &["bqview", "-h"],
         &["bqview", "asm", "--help"],
         &["bqview", "check", "--help"],
         &["bqview", "run", "--help"],
+        &["bqview", "sim", "--help"],
     ];
     for words in help {
         assert!(rt; matches!(read_words(alloc, words), Err(WordsFault::Help(_))));
@@ -383,4 +397,139 @@ fn reads_start(rt: HostRuntime) {
             "at {start}"
         );
     }
+}
+
+/// What a script prints, with the exit status.
+fn simulated(alloc: Global, source: &[u8]) -> Result<(u8, String), Fail> {
+    let mut files = MemoryFiles::new(alloc);
+    files.write("a.sim", source)?;
+    let mut out = Vec::new(alloc);
+    let status = perform(alloc, &Line::Sim { script: "a.sim" }, &mut files, &mut out);
+    Ok((status, String::from_utf8(out)?))
+}
+
+/// Whether a script prints this, with exit status 0.
+fn says(alloc: Global, source: &str, want: &str) -> Result<bool, Fail> {
+    let (status, text) = simulated(alloc, source.as_bytes())?;
+    Ok(status == 0 && text.as_str() == want)
+}
+
+/// A cluster of one founder with a program that counts its records.
+const COUNTING: &str =
+    "nodes 1 4/5 4/5\nprogram 1 bf3000000000000007000000010000009500000000000000\n";
+
+/// The lines of one script behind another.
+fn behind(alloc: Global, first: &str, rest: &str) -> Result<String, Fail> {
+    let mut source = String::from_str(alloc, first)?;
+    source.push_str(rest)?;
+    Ok(source)
+}
+
+/// Whether a script prints this behind the founding of a cluster that counts, and `program 0`.
+fn counts(alloc: Global, rest: &str, want: &str) -> Result<bool, Fail> {
+    let source = behind(alloc, COUNTING, rest)?;
+    let want = behind(alloc, "program 0\n", want)?;
+    says(alloc, source.as_str(), want.as_str())
+}
+
+#[test]
+fn counts_records(rt: HostRuntime) -> Result<(), Fail> {
+    let alloc = rt.alloc();
+    for (rest, want) in [
+        (
+            "store 1 5\nall 100\nask 1 0 0\nall 100\nhand 1\nrun 0\nrun 0\n",
+            "store 0\nmessage 0 store\nquery 0\nmessage 3 collect-query\njob 0 query 0\nanswer 1 0 1 3\nrefused 56 AlreadyAnswered\n",
+        ),
+        (
+            "ask 1 0 7\nall 100\nhand 1\nrun 0\n",
+            "query 0\nmessage 0 collect-query\njob 0 query 0\nanswer 1 0 7 0\n",
+        ),
+        (
+            "store 1 5\nall 100\nask 1 0 0\nall 3\nhand 1\nrun 0\n",
+            "store 0\nmessage 0 store\nquery 0\nmessage 3 collect-query\nno job\nrefused 83 NoSuchJob\n",
+        ),
+        (
+            "store 1 5\nall 100\nask 1 0 0\nall 4\nhand 1\nrun 0\n",
+            "store 0\nmessage 0 store\nquery 0\nmessage 3 collect-query\njob 0 query 0\nanswer 1 0 1 3\n",
+        ),
+        (
+            "ask 1 1 0\nask 1 4294967296 0\n",
+            "refused 51 UnknownProgram\nrefused 51 UnknownProgram\n",
+        ),
+        (
+            "store 2 5\ndeliver 0 1\ndeliver 0 2\nhand 2\nrun 0\n",
+            "refused 81 NoSuchNode\nrefused 82 NeverSent\nrefused 81 NoSuchNode\nrefused 81 NoSuchNode\nrefused 83 NoSuchJob\n",
+        ),
+    ] {
+        assert!(rt; counts(alloc, rest, want)?, "at {rest}");
+    }
+    Ok(())
+}
+
+#[test]
+fn sums_records(rt: HostRuntime) -> Result<(), Fail> {
+    let source =
+        "nodes 1 4/5 4/5\nprogram 1 bf3000000000000079141000000000000F400000000000009500000000000000\nstore 1 5\nall 100\nask 1 0 0\nall 100\nhand 1\nrun 0\n";
+    let want =
+        "program 0\nstore 0\nmessage 0 store\nquery 0\nmessage 3 collect-query\njob 0 query 0\nanswer 1 0 5 4\n";
+    assert!(rt; says(rt.alloc(), source, want)?);
+    Ok(())
+}
+
+#[test]
+fn counts_a_sender_once(rt: HostRuntime) -> Result<(), Fail> {
+    let source =
+        "nodes 3 4/5 4/5\nprogram 1 bf3000000000000007000000010000009500000000000000\nask 1 0 0\ndeliver 0 2\ndeliver 1 1\ndeliver 1 1\ndeliver 1 1\nhand 1\n";
+    let want = "program 0\nquery 0\nmessage 0 collect-query\nmessage 1 collect-reply\nno job\n";
+    assert!(rt; says(rt.alloc(), source, want)?);
+    Ok(())
+}
+
+#[test]
+fn a_collect_that_meets_no_store(rt: HostRuntime) -> Result<(), Fail> {
+    let source =
+        "nodes 3 1/3 1/3\nprogram 2 bf3000000000000007000000010000009500000000000000\nstore 1 5\ndeliver 0 1\ndeliver 1 1\nask 2 0 0\ndeliver 3 2\ndeliver 4 2\ndeliver 5 2\ndeliver 6 2\nhand 2\nrun 0\n";
+    let want =
+        "program 0\nstore 0\nmessage 0 store\nmessage 1 store-ack\nmessage 2 store-echo\nstored 0\nquery 0\nmessage 3 collect-query\nmessage 4 collect-reply\nmessage 5 store\nmessage 6 store-ack\nmessage 7 store-echo\nreturned 0\njob 0 query 0\nanswer 2 0 0 0\n";
+    assert!(rt; says(rt.alloc(), source, want)?);
+    Ok(())
+}
+
+#[test]
+fn refuses_programs(rt: HostRuntime) -> Result<(), Fail> {
+    let source =
+        "nodes 1 4/5 4/5\nprogram 2 9500000000000000\nprogram 2 b70000000000000095000000000000\nprogram 2 b7000000000000009500000000000000\nprogram 1 9500000001000000\nprogram 1 bf50000000000000\nprogram 1 bf500000000000009500000000000000\n";
+    let want =
+        "refused 23 UnsetRegister at 0\nrefused 1 BadLength\nrefused 81 NoSuchNode\nrefused 5 UnusedField at 0\nrefused 14 FallsOff at 0\nrefused 23 UnsetRegister at 0\n";
+    assert!(rt; says(rt.alloc(), source, want)?);
+    Ok(())
+}
+
+#[test]
+fn refuses_scripts(rt: HostRuntime) -> Result<(), Fail> {
+    let alloc = rt.alloc();
+    let cases: [(&[u8], &str); 7] = [
+        (b"", "refused 9 Syntax line 1\n"),
+        (
+            b"nodes 1 4/5 4/5\nstore 1 5\nstore 01 5\n",
+            "refused 9 Syntax line 3\n",
+        ),
+        (
+            b"nodes 1 4/5 4/5\nstore 1 5\r\n",
+            "refused 9 Syntax line 2\n",
+        ),
+        (b"\xff", "refused 87 FileFailed\n"),
+        (b"nodes 0 5/4 4/5\nstore 1 5\n", "refused 45 BadFraction\n"),
+        (b"nodes 0 4/5 4/5", "refused 49 BadFounders\n"),
+        (
+            b"nodes 18446744073709551615 4/5 4/5",
+            "refused 49 BadFounders\n",
+        ),
+    ];
+    for (source, want) in cases {
+        let (status, text) = simulated(alloc, source)?;
+        assert_eq!(rt; text.as_str(), want);
+        assert_eq!(rt; status, 1, "at {want}");
+    }
+    Ok(())
 }

@@ -3,7 +3,7 @@
 ghost use Rattle.std.specs.Prelude.{◌≡◌, codes, IfOk, MatchResult, map, false, true};
 ghost use Rattle.clap.specs.Words.{app_of, found_of, rows_of, with_rule, with_subcommand};
 ghost use Rattle.clap.specs.declared.builder.command.Command.TheViews.{out-Command};
-ghost use Rattle.q_tool.specs.Words.{asm_app, check_app, run_app, bqview, operand, operand_of, HasCommand, HasBadStart, Reads};
+ghost use Rattle.q_tool.specs.Words.{asm_app, check_app, run_app, sim_app, bqview, operand, operand_of, HasCommand, HasBadStart, Reads};
 
 use clap::error::ErrorKind;
 use clap::{Arg, ArgAction, ArgMatches, Command, Error};
@@ -31,6 +31,11 @@ pub enum Line<'a> {
         start: u64,
         /// The name of the file that lists the records.
         records: &'a str,
+    },
+    /// `sim SCRIPT`: run a script over a cluster.
+    Sim {
+        /// The name of the file.
+        script: &'a str,
     },
 }
 
@@ -137,6 +142,21 @@ fn run_command<'a>(alloc: Global) -> Result<Command<'a>, AllocError>
     )
 }
 
+/// The command `sim`.
+fn sim_command<'a>(alloc: Global) -> Result<Command<'a>, AllocError>
+    ensures { IfOk result (λ c. (app_of c ≡ sim_app) × ((out-Command c).has_globals ≡ false)) }
+{
+    let command = Command::new(alloc, "sim")
+        .about("Runs a script over a cluster in memory, and prints what each event told")
+        .after_help("Example: bqview sim examples/count.sim");
+    with_operand(
+        alloc,
+        command,
+        "SCRIPT",
+        "A file of events, one a line, of which the first founds the cluster",
+    )
+}
+
 /// The command with one more command below it.
 fn with_command<'a>(command: Command<'a>, below: Command<'a>) -> Result<Command<'a>, AllocError>
     requires { (out-Command below).has_globals ≡ false }
@@ -152,12 +172,13 @@ fn program<'a>(alloc: Global) -> Result<Command<'a>, AllocError>
 {
     let command = Command::new(alloc, "bqview")
         .about("Programs of RFC 9669 over store-collect views")
-        .after_help("Example: bqview run examples/sum.bpf 0 examples/three.records")
+        .after_help("Example: bqview sim examples/count.sim")
         .subcommand_required(true)
         .disable_help_subcommand(true);
     let command = with_command(command, asm_command(alloc)?)?;
     let command = with_command(command, check_command(alloc)?)?;
-    with_command(command, run_command(alloc)?)
+    let command = with_command(command, run_command(alloc)?)?;
+    with_command(command, sim_command(alloc)?)
 }
 
 /// The text of an operand.
@@ -194,8 +215,13 @@ pub fn read_words<'a>(alloc: Global, words: &'a [&'a str]) -> Result<Line<'a>, W
         let file = operand_text(found, "FILE");
         return Ok(Line::Check { file });
     }
-    match matches.subcommand_matches("run") {
-        Some(found) => run_line(found),
+    if let Some(found) = matches.subcommand_matches("run") {
+        return run_line(found);
+    }
+    match matches.subcommand_matches("sim") {
+        Some(found) => Ok(Line::Sim {
+            script: operand_text(found, "SCRIPT"),
+        }),
         None => unreachable!(),
     }
 }
