@@ -42,6 +42,7 @@
 //! - [`simulate`] takes each event of a script as one step of a cluster, whose type keeps that every recorded answer is
 //!   true, and prints what the step tells.
 //! - [`listing`] is the text that `asm` prints.
+//! - [`advice`] explains a refusal of the verifier on the standard error, in words.
 //!
 //! `main` alone reaches the machine: its words, its files and its standard output.
 //!
@@ -52,8 +53,10 @@
 //! [`Files`]: files::Files
 //! [`simulate`]: sim::simulate
 //! [`listing`]: listing::listing
+//! [`advice`]: advice::advice
 #![tactic(auto)]
 
+mod advice;
 mod files;
 mod folder;
 mod listing;
@@ -66,6 +69,7 @@ mod sim;
 mod tests;
 mod words;
 
+use crate::advice::advice;
 use crate::folder::Folder;
 use crate::perform::perform;
 use crate::refusal::Refusal;
@@ -104,7 +108,15 @@ fn main(rt: HostRuntime) -> io::Result<ExitCode> {
     let args: Vec<String> = env::args(&rt)?.collect(alloc)?;
     let words: Vec<&str> = args.iter().map(|word| word.as_str()).collect(alloc)?;
     let status = match read_words(alloc, words.as_slice()) {
-        Ok(line) => perform(alloc, &line, &mut Folder::new(&rt), &mut io::writer(&rt)),
+        Ok(line) => {
+            let status = perform(alloc, &line, &mut Folder::new(&rt), &mut io::writer(&rt));
+            if status == 1 {
+                if let Some(text) = advice(alloc, &line, &mut Folder::new(&rt)) {
+                    rt.eprint(text)?;
+                }
+            }
+            status
+        }
         Err(fault) => explain(&rt, &fault)?,
     };
     Ok(ExitCode::from(status))
