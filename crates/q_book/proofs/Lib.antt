@@ -1,8 +1,4 @@
--- What keeps a desk a desk, and when a job is that of a query.
-mod Lists
-mod Keeps
-mod Insns
-mod Texts
-mod Views
-mod Jobs
-mod Phases
+-- Why a book stays the replay of its journal, and what its parts make of its calls.
+mod Replays
+mod Journals
+mod Calls

@@ -1,5 +1,5 @@
--- Desks: what each call answers and does, and why answers are right.
+-- Books: what each call answers and does, and that a book is the replay of its journal.
 pub mod State
-pub mod Desks
-pub mod Answers
 pub mod Faults
+pub mod Books
+pub mod Replays

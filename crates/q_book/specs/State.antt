@@ -1,13 +1,12 @@
--- What contracts see of a desk.
-use Rattle.std.specs.Prelude.{ℕ, List, []}
-use Rattle.bq_check.specs.Certificate.{Certificate}
-use Rattle.q_session.specs.declared.query.Query.{Query}
+-- What contracts see of a book.
+use Rattle.std.specs.Prelude.{ℕ, List, Option}
+use Rattle.sc_members.specs.Members.{Config}
+use Rattle.sc_node.specs.State.{NodeState}
+use Rattle.q_desk.specs.State.{DeskState}
 
--- A program's id and a query's number are their places.
-pub record DeskState : Type 0 where
-  pub programs : List Certificate
-  pub queries : List Query
-  pub events : ℕ  -- how many were accepted
-
-abbrev pub new_desk : DeskState
-new_desk = record { programs = []; queries = []; events = 0 }
+pub record BookState : Type 0 where
+  pub id : ℕ  -- of the node
+  pub config : Config
+  pub founders : Option (List ℕ)  -- all of them, where the node is one; none where it entered
+  pub node : NodeState
+  pub desk : DeskState

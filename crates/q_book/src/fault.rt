@@ -1,44 +1,30 @@
-//! Why a desk refuses a call, each reason with its number and its name.
+//! Why a book refuses a call, each reason with its number and its name.
 
 ghost use Rattle.std.specs.Prelude.{◌≡◌};
-ghost use Rattle.q_book.specs.Faults.{of_table, fault_number, fault_name};
+ghost use Rattle.q_book.specs.Faults.{fault_number, fault_name};
 
-use q_table::fault::TableFault;
+use q_desk::fault::DeskFault;
+use sc_node::fault::NodeFault;
 use std::alloc::AllocError;
 
-/// Why a desk refuses a call. After a refusal the desk is as it was. Where several hold, the first of 51, 52, 56, 55
-/// and 53 is answered.
+/// Why a book refuses a call. After a refusal the book is as it was. Where several hold, the first of 42, 41, 51, 52,
+/// 56, 55, 43, 53, 48, 46, 47 is answered; 49 is the founders' alone, 54 that of a question for an answer.
 #[derive(Clone, Copy, Debug, PartialEq, Eq)]
-pub enum DeskFault {
-    /// 51: no program has this id.
-    UnknownProgram,
-    /// 52: a 1,025th program would come.
-    TableFull,
-    /// 53: a 4,097th query or a 65,537th event would come.
-    BookFull,
-    /// 54: no query has this number.
-    NoSuchQuery,
-    /// 55: the result is of another node, program, view or start, or of a query that does not run.
-    Stranger,
-    /// 56: the query's answer is recorded.
-    AlreadyAnswered,
-    /// 99.
-    OutOfMemory,
+pub enum BookFault {
+    /// The node's own refusal, and 99 of the book.
+    Node(NodeFault),
+    /// The desk's own refusal.
+    Desk(DeskFault),
 }
 
-impl DeskFault {
+impl BookFault {
     /// The number by which the fault is reported.
     pub fn number(&self) -> u8
         ensures { result ≡ fault_number self.now }
     {
         match self {
-            DeskFault::UnknownProgram => 51,
-            DeskFault::TableFull => 52,
-            DeskFault::BookFull => 53,
-            DeskFault::NoSuchQuery => 54,
-            DeskFault::Stranger => 55,
-            DeskFault::AlreadyAnswered => 56,
-            DeskFault::OutOfMemory => 99,
+            BookFault::Node(fault) => fault.number(),
+            BookFault::Desk(fault) => fault.number(),
         }
     }
 
@@ -47,38 +33,44 @@ impl DeskFault {
         ensures { result.now ≡ fault_name self.now }
     {
         match self {
-            DeskFault::UnknownProgram => "UnknownProgram",
-            DeskFault::TableFull => "TableFull",
-            DeskFault::BookFull => "BookFull",
-            DeskFault::NoSuchQuery => "NoSuchQuery",
-            DeskFault::Stranger => "Stranger",
-            DeskFault::AlreadyAnswered => "AlreadyAnswered",
-            DeskFault::OutOfMemory => "OutOfMemory",
+            BookFault::Node(fault) => fault.name(),
+            BookFault::Desk(fault) => fault.name(),
         }
     }
 }
 
-impl From<TableFault> for DeskFault {
+impl From<NodeFault> for BookFault {
     ghost use Rattle.std.specs.Prelude.{◌≡◌};
-    ghost use Rattle.q_book.specs.Faults.{of_table};
+    ghost use Rattle.q_book.specs.declared.fault.BookFault.TheVariants.{Node};
 
-    ghost from_gives = { λ refusal e. e ≡ of_table refusal };
+    ghost from_gives = { λ refusal e. e ≡ Node refusal };
 
-    fn from(refusal: TableFault) -> DeskFault {
+    fn from(refusal: NodeFault) -> BookFault {
+        BookFault::Node(refusal)
+    }
+}
+
+impl From<DeskFault> for BookFault {
+    ghost use Rattle.std.specs.Prelude.{◌≡◌};
+    ghost use Rattle.q_book.specs.Faults.{of_desk};
+
+    ghost from_gives = { λ refusal e. e ≡ of_desk refusal };
+
+    fn from(refusal: DeskFault) -> BookFault {
         match refusal {
-            TableFault::Full => DeskFault::TableFull,
-            TableFault::OutOfMemory => DeskFault::OutOfMemory,
+            DeskFault::OutOfMemory => BookFault::Node(NodeFault::OutOfMemory),
+            other => BookFault::Desk(other),
         }
     }
 }
 
-impl From<AllocError> for DeskFault {
+impl From<AllocError> for BookFault {
     ghost use Rattle.std.specs.Prelude.{◌≡◌};
-    ghost use Rattle.q_book.specs.declared.fault.DeskFault.TheVariants.{OutOfMemory};
+    ghost use Rattle.q_book.specs.Faults.{memory};
 
-    ghost from_gives = { λ _ e. e ≡ OutOfMemory };
+    ghost from_gives = { λ _ e. e ≡ memory };
 
-    fn from(_: AllocError) -> DeskFault {
-        DeskFault::OutOfMemory
+    fn from(_: AllocError) -> BookFault {
+        BookFault::Node(NodeFault::OutOfMemory)
     }
 }

@@ -1,17 +1,19 @@
-//! Desks: the programs and queries of one node.
+//! Books: a node of a store-collect object with its desk, as one value.
 //!
-//! A [`Desk`] registers certified programs and takes queries of them. A query collects until its collect returns a view,
-//! is handed out as a job, and its answer is posted once the job was run. Each recorded answer is right: the meaning of
-//! the query's program, folded over the view that its collect returned.
+//! A [`Book`] is what the lock of a running node guards. Its calls are those of the node and of the desk, put together:
+//! a query begins with a collect, and the view that the collect returns goes to that query. Each call is exact:
+//! `specs/Books` says what it answers and which book it leaves, or with which fault it refuses. After a refusal, 99
+//! OutOfMemory among them, the book is as it was.
 //!
-//! Each call is exact: `specs/Desks` says what it answers and which state it leaves, or with which fault it refuses.
-//! After a refusal the desk is as it was.
+//! Its type keeps that a book is the replay of its journal: the calls that the journal names, from the first state of
+//! its node, lead to this book and to no other entry of the journal. So each recorded answer is the meaning of its
+//! query's program, folded over the view that its own collect returned.
 //!
-//! [`Desk`]: desk::Desk
+//! [`Book`]: book::Book
 #![tactic(auto)]
 
-pub mod desk;
+pub mod answer;
+pub mod book;
 pub mod fault;
-mod same;
 #[cfg(test)]
 mod tests;

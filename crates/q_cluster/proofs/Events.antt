@@ -1,8 +1,8 @@
 -- What the parts of an event make together.
-use Rattle.std.proofs.Common.{◌≡◌, ◌≢◌, ℕ, ◌==◌, Bool, true, false, cond, List, length, refl, sym, ap, subst, ◌∙◌, is_none, nat_le, Option, Some, None, slice_get, IsTrue, Result, Ok, Err, MatchResult}
+use Rattle.std.proofs.Common.{◌≡◌, ◌≢◌, ℕ, ◌==◌, Bool, true, false, cond, List, length, refl, sym, ap, subst, ◌∙◌, nat_le, Option, Some, None, slice_get, IsTrue, Result, Ok, Err, MatchResult}
 use Rattle.std.specs.FinMap as fin
+use Rattle.sc_msg.specs.declared.message.Message.{Message}
 use Rattle.sc_node.specs.State.{NodeState}
-use Rattle.sc_node.specs.Calls.{Steps as WorldSteps}
 use Rattle.sc_node.specs.Nodes.{most_open}
 use Rattle.sc_world.specs.declared.event.Event.{Event as WorldEvent}
 use Rattle.sc_world.specs.declared.event.Event.TheVariants as world_event
@@ -14,10 +14,11 @@ use Rattle.sc_world.specs.Acts as acts
 use Rattle.sc_world.specs.State.{WorldState}
 use Rattle.sc_world.specs.Worlds as world
 use Rattle.q_table.specs.Calls.{Steps}
-use Rattle.q_book.specs.State.{DeskState}
-use Rattle.q_book.specs.Desks as desk
-use Rattle.q_book.specs.declared.fault.DeskFault.{DeskFault}
-use Rattle.q_book.specs.declared.fault.DeskFault.TheVariants as desk_fault
+use Rattle.q_desk.specs.State.{DeskState}
+use Rattle.q_desk.specs.Desks as desk
+use Rattle.q_desk.specs.declared.journal.Entry.{Entry}
+use Rattle.q_desk.specs.declared.fault.DeskFault.{DeskFault}
+use Rattle.q_desk.specs.declared.fault.DeskFault.TheVariants as desk_fault
 use Rattle.q_session.specs.declared.job.Job.{Job}
 use Rattle.q_session.specs.declared.query.Phase.{Phase}
 use Rattle.q_session.specs.declared.query.Phase.TheVariants.{Collecting, Ready, Running, Answered}
@@ -31,8 +32,8 @@ use Rattle.q_history.specs.declared.fault.ClusterFault.{ClusterFault}
 use Rattle.q_history.specs.declared.fault.ClusterFault.TheVariants as fault
 use Rattle.q_history.specs.Faults.{memory, of_desk}
 use Rattle.q_history.specs.State.{ClusterState}
-use Rattle.q_history.specs.Clusters.{Part, taken, done, by_node, at, joined, free, room, asked, asked_by, asks, stored, stores, delivered, delivers, finishes, posted, finished, left, leaves}
-use Rattle.q_cluster.specs.Acts.{DeskMap, Doing, IsThere, StepsAt, MayStore, MayDeliver, MayLeave, MayRun}
+use Rattle.q_history.specs.Clusters.{Part, taken, done, by_node, at, joined, free, room, asked, asked_by, asks, stored, stores, delivered, delivered_as, delivers, finishes, posted, finished}
+use Rattle.q_cluster.specs.Acts.{DeskMap, Doing, IsThere, StepsAt, MayStore, TakesNoted, MayRun}
 
 abbrev pub Said : Type 0
 Said = Result (Stepped × ClusterState) ClusterFault
@@ -85,20 +86,6 @@ module _ {A : Type 0} (n : NodeState) (rest : Result A ClusterFault) where
 
   pub free_err : (f : ClusterFault) → refused f ≡ free n fine → free n rest ≡ Err f
   free_err f h = failed_not (nat_le most_open (fin.len n.sessions)) _ f rest h
-
-module _ {A : Type 0} (d : DeskState) (rest : Result A ClusterFault) where
-  pub room_ok : fine ≡ room d fine → room d rest ≡ rest
-  room_ok h = passed (desk.has_room d) _ rest h
-
-  pub room_err : (f : ClusterFault) → refused f ≡ room d fine → room d rest ≡ Err f
-  room_err f h = failed (desk.has_room d) _ f rest h
-
-has_room : (d : DeskState) → fine ≡ room d fine → IsTrue (desk.has_room d)
-has_room d h = go (desk.has_room d) h
-  where
-    go : (b : Bool) → fine ≡ cond b (Ok tt) (Err (fault.Desk desk_fault.BookFull)) → IsTrue b
-    go true h = refl
-    go false h = absurd (cc)
 
 -- ---- what a desk does, or the world
 
@@ -159,51 +146,82 @@ module _ (c : ClusterState) (id program start : ℕ) (n : NodeState) (d : DeskSt
     ask_stopped k desks s x h loud =
         at_there c id n d there (asked c id program start) ∙ passes ∙ ap (asked_by c id) s.1 ∙ taken_err c (asks c id (k, s.0)) (world_event.Collect id) x (fault.World x) h refl loud
 
+-- ---- the journal and the world
+
+room_ok : {A : Type 0} (d : DeskState) (rest : Result A ClusterFault) → IsTrue (desk.has_room d) → room d rest ≡ rest
+room_ok {A} d rest h = ap (λ (b : Bool). let r : Result A ClusterFault = cond b rest (Err (fault.Desk desk_fault.BookFull)) in r) h
+
+abbrev Noted : Type 0
+Noted = Result (Unit {0} × DeskState) DeskFault
+
+same_desk : (w d : DeskState) → (let r : Noted = Ok (tt, w) in r) ≡ Ok (tt, d) → d ≡ w
+same_desk w d h = let e : (tt, d) ≡ (tt, w) = cc in ap (λ (p : Unit {0} × DeskState). p.1) e
+
+noted_ok : (b : Bool) (w d : DeskState) → (let r : Noted = cond b (Ok (tt, w)) (Err desk_fault.BookFull) in r) ≡ Ok (tt, d) → IsTrue b × (d ≡ w)
+noted_ok true w d h = (refl, same_desk w d h)
+noted_ok false w d h = absurd (cc)
+
+noted_err : (b : Bool) (w : DeskState) (x : DeskFault) (rest : Said) → (let r : Noted = cond b (Ok (tt, w)) (Err desk_fault.BookFull) in r) ≡ Err x → cond b rest (Err (fault.Desk desk_fault.BookFull)) ≡ Err (of_desk x)
+noted_err true w x rest h = absurd (cc)
+noted_err false w x rest h = let k : desk_fault.BookFull ≡ x = cc in ap (λ (y : DeskFault). let r : Said = Err (of_desk y) in r) k
+
+module _ (old new : WorldState) (desks : DeskMap) (id : ℕ) (d : DeskState) (entry : Entry) (e : WorldEvent) where
+  -- the entry is written, and the world takes the event
+  pub note_taken : (after : DeskMap) → (let z : Result (Unit {0}) DeskFault = Ok tt in StepsAt (desk.noted d entry) desks after id z) → (a : WorldStepped) → world.stepped old e ≡ Ok (a, new)
+      → (let z : Result WorldStepped ClusterFault = Ok a in TakesNoted old new desks after id d entry e z)
+  note_taken after s a h = let k = noted_ok (desk.has_room d) (desk.with_entry d entry) s.0 s.1 in (k.0, h, s.2 ∙ ap (fin.insert desks id) k.1)
+
+  -- the journal refuses the entry
+  pub note_refused : (r : Result (Unit {0}) DeskFault) (after : DeskMap) → StepsAt (desk.noted d entry) desks after id r → (x : ClusterFault) → MatchResult r (λ a. (let z : Result (Unit {0}) ClusterFault = Err x in z) ≡ Ok a) (λ y. x ≡ of_desk y)
+      → (let z : Result WorldStepped ClusterFault = Err x in TakesNoted old old desks after id d entry e z)
+  note_refused (Ok u) after s x k = absurd (cc)
+  note_refused (Err y) after s x k = (
+    refl,
+    s.0,
+    λ loud part. noted_err (desk.has_room d) (desk.with_entry d entry) y (taken part (world.stepped old e)) (s.1 (λ same. loud (k ∙ ap of_desk same))) ∙ ap (λ (z : ClusterFault). let q : Said = Err z in q) (sym k),
+  )
+
+  -- the world refuses the event, and the entry is taken back
+  pub note_undone : (between after : DeskMap) → (let z : Result (Unit {0}) DeskFault = Ok tt in StepsAt (desk.noted d entry) desks between id z) → after ≡ desks
+      → (x : WorldFault) → (new ≡ old) × (x ≢ acts.memory → world.stepped old e ≡ Err x) → (let z : Result WorldStepped ClusterFault = Err (fault.World x) in TakesNoted old new desks after id d entry e z)
+  note_undone between after s back x h =
+      let k = noted_ok (desk.has_room d) (desk.with_entry d entry) s.0 s.1 in
+      (h.0, back, λ loud part. room_ok d (taken part (world.stepped old e)) k.0 ∙ ap (taken part) (h.1 (λ same. loud (ap fault.World same))))
+
+-- an event of a node that goes into its journal
+module _ (c : ClusterState) (id : ℕ) (n : NodeState) (d : DeskState) (there : IsThere c id n d) (f : Doing) (part : WorldStepped → Part) (e : WorldEvent) (passes : f n d ≡ room d (taken part (world.stepped c.world e))) where
+  pub noted_says : IsTrue (desk.has_room d) → at c id f ≡ taken part (world.stepped c.world e)
+  noted_says h = at_there c id n d there f ∙ passes ∙ room_ok d (taken part (world.stepped c.world e)) h
+
+  pub noted_turns : (entry : Entry) (w : WorldState) (desks : DeskMap) (x : ClusterFault) → (let z : Result WorldStepped ClusterFault = Err x in TakesNoted c.world w c.desks desks id d entry e z)
+      → (t : Result Stepped ClusterFault) → t ≡ Err x → Steps memory (at c id f) c (with c w desks c.jobs) t
+  noted_turns entry w desks x h t is =
+      subst (λ (z : Result Stepped ClusterFault). Steps memory (at c id f) c (with c w desks c.jobs) z) (sym is)
+      ((λ i. with c (h.0 i) (h.1 i) c.jobs), λ loud. at_there c id n d there f ∙ passes ∙ h.2 loud part)
+
 -- ---- stores
 
 module _ (c : ClusterState) (id : ℕ) (value : List ℕ) (n : NodeState) (d : DeskState) (there : IsThere c id n d) where
   abbrev last_store : Said
-  last_store = taken (stores c id n d) (world.stepped c.world (world_event.Store id value))
+  last_store = room d (taken (stores c id value n d) (world.stepped c.world (world_event.Store id value)))
 
-  pub store_passed : fine ≡ joined n fine → fine ≡ free n fine → fine ≡ room d fine → MayStore c id value n.operations n d
-  store_passed hj hf hr = (refl, has_room d hr, joined_ok n _ hj ∙ free_ok n _ hf ∙ room_ok d last_store hr)
+  pub store_passed : fine ≡ joined n fine → fine ≡ free n fine → MayStore c id value n.operations n d
+  store_passed hj hf = (refl, joined_ok n _ hj ∙ free_ok n last_store hf)
 
   pub store_early : (f : ClusterFault) → refused f ≡ joined n fine → at c id (stored c id value) ≡ Err f
   store_early f hj = at_there c id n d there (stored c id value) ∙ joined_err n _ f hj
 
   pub store_busy : (f : ClusterFault) → fine ≡ joined n fine → refused f ≡ free n fine → at c id (stored c id value) ≡ Err f
-  store_busy f hj hf = at_there c id n d there (stored c id value) ∙ joined_ok n _ hj ∙ free_err n (room d last_store) f hf
+  store_busy f hj hf = at_there c id n d there (stored c id value) ∙ joined_ok n _ hj ∙ free_err n last_store f hf
 
-  pub store_full : (f : ClusterFault) → fine ≡ joined n fine → fine ≡ free n fine → refused f ≡ room d fine → at c id (stored c id value) ≡ Err f
-  store_full f hj hf hr = at_there c id n d there (stored c id value) ∙ joined_ok n _ hj ∙ free_ok n (room d last_store) hf ∙ room_err d last_store f hr
+-- ---- messages
 
--- ---- messages and leaving
+module _ (c : ClusterState) (number id : ℕ) (n : NodeState) (d : DeskState) where
+  pub deliver_passes : (m : Message) → slice_get c.world.sent number ≡ Some m → delivered c number id n d ≡ room d (taken (delivers c id m d) (world.stepped c.world (world_event.Deliver number id)))
+  deliver_passes m h = ap (delivered_as c number id d) h
 
-module _ (c : ClusterState) (number id : ℕ) (n : NodeState) (d : DeskState) (there : IsThere c id n d) where
-  abbrev last_deliver : Said
-  last_deliver = taken (delivers c id d) (world.stepped c.world (world_event.Deliver number id))
-
-  abbrev by_sent : Bool → Said
-  by_sent b = cond b (Err (fault.World world_fault.NeverSent)) (room d last_deliver)
-
-  pub deliver_passed : is_none (slice_get c.world.sent number) ≡ false → fine ≡ room d fine → MayDeliver c number id n d
-  deliver_passed hs hr = (has_room d hr, ap by_sent hs ∙ room_ok d last_deliver hr)
-
-  pub deliver_unsent : is_none (slice_get c.world.sent number) ≡ true → at c id (delivered c number id) ≡ Err (fault.World world_fault.NeverSent)
-  deliver_unsent hs = at_there c id n d there (delivered c number id) ∙ ap by_sent hs
-
-  pub deliver_full : (f : ClusterFault) → is_none (slice_get c.world.sent number) ≡ false → refused f ≡ room d fine → at c id (delivered c number id) ≡ Err f
-  deliver_full f hs hr = at_there c id n d there (delivered c number id) ∙ ap by_sent hs ∙ room_err d last_deliver f hr
-
-module _ (c : ClusterState) (id : ℕ) (n : NodeState) (d : DeskState) (there : IsThere c id n d) where
-  abbrev last_leave : Said
-  last_leave = taken (leaves c id d) (world.stepped c.world (world_event.Leave id))
-
-  pub leave_passed : fine ≡ room d fine → MayLeave c id n d
-  leave_passed hr = (has_room d hr, room_ok d last_leave hr)
-
-  pub leave_full : (f : ClusterFault) → refused f ≡ room d fine → at c id (left c id) ≡ Err f
-  leave_full f hr = at_there c id n d there (left c id) ∙ room_err d last_leave f hr
+  pub deliver_unsent : IsThere c id n d → slice_get c.world.sent number ≡ None → at c id (delivered c number id) ≡ Err (fault.World world_fault.NeverSent)
+  deliver_unsent there h = at_there c id n d there (delivered c number id) ∙ ap (delivered_as c number id d) h
 
 -- ---- an answer
 
@@ -245,15 +263,6 @@ finish_refused c number j k r same m x f h is loud ran =
     (λ other. posted_err m.1 j r ran x j.node (subst (λ (y : Job). desk.posted m.1 y.node j r ≡ Err x) same (h other))) is loud
 
 -- ---- refusals
-
--- the world refuses an event of a node
-pub world_turns : (c : ClusterState) (id : ℕ) (n : NodeState) (d : DeskState) → IsThere c id n d → (f : Doing) (part : WorldStepped → Part) (e : WorldEvent) → f n d ≡ taken part (world.stepped c.world e)
-    → (r : Result WorldStepped WorldFault) (w : WorldState) → WorldSteps acts.memory (world.stepped c.world e) c.world w r → (x : ClusterFault) → MatchResult r (λ a. (let z : Result WorldStepped ClusterFault = Err x in z) ≡ Ok a) (λ y. x ≡ fault.World y)
-    → (t : Result Stepped ClusterFault) → t ≡ Err x → Steps memory (at c id f) c (with c w c.desks c.jobs) t
-world_turns c id n d there f part e said (Ok a) w h x k t is = absurd (cc)
-world_turns c id n d there f part e said (Err y) w h x k t is =
-    subst (λ (z : Result Stepped ClusterFault). Steps memory (at c id f) c (with c w c.desks c.jobs) z) (sym is)
-    ((λ i. with c (h.0 i) c.desks c.jobs), λ loud. at_there c id n d there f ∙ said ∙ taken_err c part e y x h.1 k loud)
 
 -- a desk refuses to ask
 pub ask_turns : (c : ClusterState) (id program start : ℕ) (n : NodeState) (d : DeskState) (there : IsThere c id n d) (tag : ℕ) (passes : asked c id program start n d ≡ asked_by c id (desk.asked d tag program start))

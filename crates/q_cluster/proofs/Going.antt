@@ -1,11 +1,10 @@
 -- What an event adds to the history of a cluster, by its parts; and what a test passes on.
-use Rattle.std.proofs.Common.{◌≡◌, ℕ, Bool, true, false, cond, List, [], refl, sym, ap, subst, ◌∙◌, is_none, is_some, Option, Some, None, Bor, option_copied, slice_get, IsTrue, IfSome, Result, Ok, Err, MatchResult}
+use Rattle.std.proofs.Common.{◌≡◌, ℕ, Bool, true, false, cond, List, [], refl, sym, ap, subst, ◌∙◌, Option, IfSome, Result, Ok, Err, is_ok, IfOk, MatchResult}
 use Rattle.std.specs.Bool.{⊤}
 use Rattle.std.specs.FinMap as fin
 use Rattle.sc_members.specs.Members.{Config}
 use Rattle.sc_node.specs.Nodes.{are_founders}
 use Rattle.sc_node.specs.declared.fault.NodeFault.TheVariants as node_fault
-use Rattle.sc_node.specs.State.{NodeState}
 use Rattle.sc_world.specs.declared.event.Event.{Event as WorldEvent}
 use Rattle.sc_world.specs.declared.event.Stepped.{Stepped as WorldStepped}
 use Rattle.sc_world.specs.declared.fault.WorldFault.{WorldFault}
@@ -14,9 +13,9 @@ use Rattle.sc_world.specs.State.{WorldState}
 use Rattle.sc_world.specs.Worlds as world
 use Rattle.sc_world.specs.Acts as acts
 use Rattle.sc_node.specs.Calls.{Steps as WorldSteps, Gives as WorldGives}
-use Rattle.q_book.specs.State.{DeskState}
-use Rattle.q_book.specs.Desks as desk
-use Rattle.q_book.specs.declared.fault.DeskFault.{DeskFault}
+use Rattle.q_desk.specs.State.{DeskState}
+use Rattle.q_desk.specs.Desks as desk
+use Rattle.q_desk.specs.declared.fault.DeskFault.{DeskFault}
 use Rattle.q_session.specs.declared.job.Job.{Job}
 use Rattle.q_session.specs.Done.{Finished, IsFinished}
 use Rattle.q_session.specs.declared.ran.Ran.{Ran}
@@ -26,12 +25,11 @@ use Rattle.q_history.specs.declared.event.Told.TheVariants as told
 use Rattle.q_history.specs.declared.event.Stepped.{Stepped}
 use Rattle.q_history.specs.declared.fault.ClusterFault.{ClusterFault}
 use Rattle.q_history.specs.State.{ClusterState}
-use Rattle.q_history.specs.Clusters.{Part, stepped, taken, done, desks_with, delivered, left, room}
+use Rattle.q_history.specs.Clusters.{Part, stepped, taken, done, desks_with, founded}
 use Rattle.q_history.specs.Calls.{Answers, AnswersTo, Follows, IsHistory}
-use Rattle.q_cluster.specs.Acts.{DeskMap, IsThere, StepsAt, Tests, MayDeliver, MayLeave, MayRun}
-use Rattle.q_cluster.proofs.Tables.{same_some}
+use Rattle.q_cluster.specs.Acts.{DeskMap, StepsAt, MayRun}
 use Rattle.q_cluster.proofs.Histories.{follows, history_next, keeps_same, keeps_step}
-use Rattle.q_cluster.proofs.Events.{Test, fine, silent, with, taken_ok, done_ok, deliver_passed, deliver_full, leave_passed, leave_full, finish_step}
+use Rattle.q_cluster.proofs.Events.{silent, with, taken_ok, done_ok, finish_step}
 
 -- what an error's map passes on
 pub mapped : {T E : Type 0} (r : Result T E) (t : T) → MatchResult r (λ x. (let y : Result T ClusterFault = Ok t in y) ≡ Ok x) (λ e. ⊥) → r ≡ Ok t
@@ -48,6 +46,11 @@ world_made said r w is h = subst (WorldGives acts.memory said) is h
 pub copied : {T E : Type 0} (r : Result T E) (t v : T) → MatchResult r (λ x. x ≡ v) (λ _. ⊤) → MatchResult r (λ x. (let y : Result T ClusterFault = Ok t in y) ≡ Ok x) (λ e. ⊥) → t ≡ v
 copied (Ok x) t v h k = let e : t ≡ x = cc in e ∙ h
 copied (Err e) t v h k = absurd k
+
+pub made : {T E : Type 0} (X Y : E → Type 0) (r : Result T E) (s : Result T ClusterFault) (v : T) (P : T → Type 0) → MatchResult r (λ x. s ≡ Ok x) X → MatchResult r (λ x. x ≡ v) Y → is_ok s ≡ is_ok r → P v → IfOk s P
+made X Y (Ok x) s v P h k e p = subst (λ z. IfOk z P) (sym h) (subst P (sym k) p)
+made X Y (Err y) (Ok z) v P h k e p = absurd (cc)
+made X Y (Err y) (Err z) v P h k e p = tt
 
 pub taken_history : (c : ClusterState) (e : Event) (we : WorldEvent) (part : WorldStepped → Part) → ((ran : Ran) → AnswersTo c e ran) → ((ran : Ran) → stepped ran c e ≡ taken part (world.stepped c.world we)) → IsHistory c
     → (a : WorldStepped) (w : WorldState) → world.stepped c.world we ≡ Ok (a, w) → (part a).jobs ≡ c.jobs → (desks : DeskMap) → desks ≡ (part a).desks → IsHistory (with c w desks c.jobs)
@@ -69,29 +72,7 @@ founders_are false v w h = absurd (cc)
 pub new_history : (config : Config) (ids : List ℕ) (w : WorldState) (desks : DeskMap) → world.started config ids ≡ Ok w → desks ≡ desks_with fin.empty ids → IsHistory (record { world = w; desks = desks; jobs = [] })
 new_history config ids w desks h hd =
     subst (λ (x : WorldState). IsHistory (record { world = x; desks = desks; jobs = [] })) (sym (founders_are (are_founders ids) (world.start config ids) w h))
-    ([], λ i. record { world = world.start config ids; desks = hd i; jobs = [] })
-
--- ---- tests
-
-pub sent_known : {X : Type 0} (r : Option (Bor X)) (o : Option X) → option_copied r ≡ o → is_some r ≡ true → is_none o ≡ false
-sent_known None o h k = absurd (cc)
-sent_known (Some x) o h k = ap is_none (sym h)
-
--- the desk that is there is the one in the table
-pub same_desk : (c : ClusterState) (id : ℕ) (n : NodeState) (d : DeskState) → IsThere c id n d → (e : DeskState) → fin.get c.desks id ≡ Some e → d ≡ e
-same_desk c id n d h e at = same_some d e (sym h.desk ∙ at)
-
-pub room_there : (c : ClusterState) (id : ℕ) (n : NodeState) (d : DeskState) → IsThere c id n d → IsTrue (desk.has_room d) → (e : DeskState) → fin.get c.desks id ≡ Some e → IsTrue (desk.has_room e)
-room_there c id n d h r e at = subst (λ (x : DeskState). IsTrue (desk.has_room x)) (same_desk c id n d h e at) r
-
-pub tests_deliver : (c : ClusterState) (number id : ℕ) (n : NodeState) (d : DeskState) → IsThere c id n d → is_none (slice_get c.world.sent number) ≡ false → (r : Test) → r ≡ room d fine
-    → Tests c id (delivered c number id) (λ u n d. MayDeliver c number id n d) r
-tests_deliver c number id n d h k (Ok u) e = (n, d, h, deliver_passed c number id n d h k e)
-tests_deliver c number id n d h k (Err f) e = deliver_full c number id n d h f k e
-
-pub tests_leave : (c : ClusterState) (id : ℕ) (n : NodeState) (d : DeskState) → IsThere c id n d → (r : Test) → r ≡ room d fine → Tests c id (left c id) (λ u n d. MayLeave c id n d) r
-tests_leave c id n d h (Ok u) e = (n, d, h, leave_passed c id n d h e)
-tests_leave c id n d h (Err f) e = leave_full c id n d h f e
+    ([], λ i. record { world = world.start config ids; desks = hd i; jobs = [] }, ap (founded config ids) h)
 
 pub put_desk : {E : Type 0} (r : Result (Option DeskState) E) (t : Option DeskState) (old new : DeskMap) (id : ℕ) (d : DeskState) → MatchResult r (λ x. (let y : Result (Option DeskState) ClusterFault = Ok t in y) ≡ Ok x) (λ e. ⊥)
     → MatchResult r (λ last. (last ≡ fin.get old id) × (new ≡ fin.insert old id d)) (λ _. ⊤) → new ≡ fin.insert old id d

@@ -13,7 +13,7 @@ use Rattle.q_history.specs.declared.event.Stepped.{Stepped}
 use Rattle.q_history.specs.declared.fault.ClusterFault.{ClusterFault}
 use Rattle.q_history.specs.Faults.{memory}
 use Rattle.q_history.specs.State.{ClusterState}
-use Rattle.q_history.specs.Clusters.{stepped, start}
+use Rattle.q_history.specs.Clusters.{stepped, start, started}
 use Rattle.q_history.specs.Calls.{AnswersTo, Follows, Takes, Reaches, Runs, IsHistory}
 
 nothing : Ran
@@ -47,6 +47,7 @@ pub history_next : (c : ClusterState) (e : Event) (told : Stepped) (d : ClusterS
 history_next c e told d h s k = (
   h.0 ++ e ∷ [],
   subst (λ (p : Config × List ℕ). Reaches (start p.0 p.1) (h.0 ++ e ∷ []) d) (λ i. (sym k.config i, sym k.founders i)) (reaches_next h.0 _ c e told d h.1 s),
+  subst (λ (p : Config × List ℕ). started p.0 p.1 ≡ Ok (start p.0 p.1)) (λ i. (sym k.config i, sym k.founders i)) h.2,
 )
 
 take_suc : {X : Type 0} (xs : List X) (i : ℕ) (x : X) → slice_get xs i ≡ Some x → take (suc i) xs ≡ take i xs ++ x ∷ []

@@ -8,16 +8,9 @@ use Rattle.std.specs.BTreeMap.{is_at}
 use Rattle.sc_view.proofs.Maps.{found, get_found, one_written}
 use Rattle.sc_world.proofs.Finite.{get-insert, get-insert_same, get-remove}
 use Rattle.q_table.specs.Calls.{Steps}
-use Rattle.q_book.specs.State.{DeskState}
-use Rattle.q_book.specs.Desks as desk
-use Rattle.q_book.specs.declared.fault.DeskFault.{DeskFault}
-use Rattle.q_book.specs.declared.fault.DeskFault.TheVariants as fault
-use Rattle.sc_node.specs.declared.answer.Completion.{Completion}
-use Rattle.sc_node.specs.declared.answer.Completion.TheVariants as completion
-use Rattle.sc_node.specs.declared.answer.Ended.{Ended}
-use Rattle.q_history.specs.declared.event.Completed.{Completed}
-use Rattle.q_history.specs.declared.event.Completed.TheVariants as completed
-use Rattle.q_history.specs.Clusters.{returns, ends, completes, completed_by}
+use Rattle.q_desk.specs.State.{DeskState}
+use Rattle.q_desk.specs.declared.fault.DeskFault.{DeskFault}
+use Rattle.q_desk.specs.declared.fault.DeskFault.TheVariants as fault
 use Rattle.q_cluster.specs.Acts.{DeskMap, StepsAt}
 
 same_map : (m n : DeskMap) → ((q : ℕ) → fin.get m q ≡ fin.get n q) → m ≡ n
@@ -75,22 +68,17 @@ module _ (es fs : List (ℕ × DeskState)) (old : DeskMap) (id : ℕ) (n : DeskS
   steps_at said n' (Ok a) h writes d there = (n', ap said (sym (is_desk d there)) ∙ h, written n' writes)
   steps_at said n' (Err e) h writes d there = (unchanged n' h.0 writes, λ no. ap said (sym (is_desk d there)) ∙ h.1 no)
 
-  -- and one that does not refuse
-  pub does_at : (f : DeskState → DeskState) (n' : DeskState) → n' ≡ f n → Writes es fs id n' → (d : DeskState) → fin.get old id ≡ Some d → fin.from_entries fs ≡ fin.insert old id (f d)
-  does_at f n' h writes d there = written n' writes ∙ ap (fin.insert old id) (h ∙ ap f (is_desk d there))
+  -- and one that does not refuse, and tells something
+  pub gives_at : {A : Type 0} (f : DeskState → A) (g : DeskState → DeskState) (a : A) (n' : DeskState) → a ≡ f n → n' ≡ g n → Writes es fs id n'
+      → (d : DeskState) → fin.get old id ≡ Some d → (a ≡ f d) × (fin.from_entries fs ≡ fin.insert old id (g d))
+  gives_at f g a n' told new writes d there = (told ∙ ap f (is_desk d there), written n' writes ∙ ap (fin.insert old id) (new ∙ ap g (is_desk d there)))
 
-  -- and one that answers
-  pub gives_at : {A : Type 0} (f : DeskState → A × DeskState) (n' : DeskState) (a : A) → (a, n') ≡ f n → Writes es fs id n' → (d : DeskState) → fin.get old id ≡ Some d → (a ≡ (f d).0) × (fin.from_entries fs ≡ fin.insert old id (f d).1)
-  gives_at f n' a h writes d there =
-      let e : (a, n') ≡ f d = h ∙ ap f (is_desk d there) in
-      (ap (λ p. p.0) e, written n' writes ∙ ap (fin.insert old id) (ap (λ p. p.1) e))
-
-  -- and one that undoes what was asked
-  pub withdrawn_at : (n' : DeskState) → ((d : DeskState) (tag program start k : ℕ) → desk.asked d tag program start ≡ Ok (k, n) → n' ≡ d) → Writes es fs id n'
-      → (before : DeskMap) (d e : DeskState) (tag program start k : ℕ) → fin.get before id ≡ Some d → desk.asked d tag program start ≡ Ok (k, e) → old ≡ fin.insert before id e → fin.from_entries fs ≡ before
-  withdrawn_at n' undone writes before d e tag program start k there asked put =
+  -- and one that undoes a call
+  pub undone_at : {A : Type 0} (said : DeskState → Result (A × DeskState) DeskFault) (a : A) (n' : DeskState) → ((d : DeskState) → said d ≡ Ok (a, n) → n' ≡ d) → Writes es fs id n'
+      → (before : DeskMap) (d e : DeskState) → fin.get before id ≡ Some d → said d ≡ Ok (a, e) → old ≡ fin.insert before id e → fin.from_entries fs ≡ before
+  undone_at said a n' undone writes before d e there did put =
       let is_e : n ≡ e = is_desk e (ap (λ (m : DeskMap). fin.get m id) put ∙ get-insert_same before id e) in
-      let is_d : n' ≡ d = undone d tag program start k (asked ∙ (λ i. Ok (k, sym is_e i))) in
+      let is_d : n' ≡ d = undone d (did ∙ (λ i. Ok (a, sym is_e i))) in
       written n' writes ∙ (λ i. fin.insert (put i) id (is_d i)) ∙ insert_back before id e d there
 
   -- a desk that was put is replaced by the one before
@@ -111,16 +99,3 @@ module _ (es : List (ℕ × DeskState)) (old : DeskMap) (id : ℕ) (is : fin.fro
   -- a desk that was put where none stood is removed
   pub removed_at : (fs : List (ℕ × DeskState)) → ((q : ℕ) → found fs q ≡ cond (is_at (nat_cmp id) q) None (found es q)) → (before : DeskMap) (d : DeskState) → None ≡ fin.get before id → old ≡ fin.insert before id d → fin.from_entries fs ≡ before
   removed_at fs writes before d was put = one_removed es fs id writes ∙ ap (λ (m : DeskMap). fin.remove m id) (is ∙ put) ∙ remove_back before id d (sym was)
-
-pub ended_none : (old : DeskMap) (id : ℕ) (ended : Option Ended) (r : Option Completed) → ended ≡ None → r ≡ None → (d : DeskState) → fin.get old id ≡ Some d → (r ≡ completed_by ended (ends ended d).0) × (old ≡ fin.insert old id (ends ended d).1)
-ended_none old id ended r is none d there = (
-  none ∙ ap (λ (e : Option Ended). completed_by e (ends e d).0) (sym is),
-  sym (insert_same old id d there) ∙ ap (λ (e : Option Ended). fin.insert old id (ends e d).1) (sym is),
-)
-
-pub ended_stored : (old : DeskMap) (id : ℕ) (ended : Option Ended) (e : Ended) → ended ≡ Some e → e.what ≡ completion.Stored → (d : DeskState) → fin.get old id ≡ Some d
-    → (Some (completed.Stored e.tag) ≡ completed_by ended (ends ended d).0) × (old ≡ fin.insert old id (ends ended d).1)
-ended_stored old id ended e is what d there = (
-  ap (λ (w : Completion). completes e.tag w (returns e.tag w d).0) (sym what) ∙ ap (λ (o : Option Ended). completed_by o (ends o d).0) (sym is),
-  sym (insert_same old id d there) ∙ ap (λ (w : Completion). fin.insert old id (returns e.tag w d).1) (sym what) ∙ ap (λ (o : Option Ended). fin.insert old id (ends o d).1) (sym is),
-)

@@ -3,17 +3,22 @@ use Rattle.std.specs.Prelude.{◌≡◌, ◌≢◌, ℕ, IsTrue, List, Some, sli
 use Rattle.std.specs.Ordering.{nat_cmp}
 use Rattle.std.specs.FinMap as fin
 use Rattle.sc_node.specs.State.{NodeState}
+use Rattle.sc_world.specs.State.{WorldState}
 use Rattle.sc_world.specs.Worlds.{live_at, stepped}
+use Rattle.sc_world.specs.declared.event.Event.{Event as WorldEvent}
 use Rattle.sc_world.specs.declared.event.Event.TheVariants as world_event
-use Rattle.q_book.specs.State.{DeskState}
-use Rattle.q_book.specs.Desks.{has_room}
-use Rattle.q_book.specs.declared.fault.DeskFault.{DeskFault}
-use Rattle.q_book.specs.declared.fault.DeskFault.TheVariants as fault
+use Rattle.sc_world.specs.declared.event.Stepped.{Stepped as WorldStepped}
+use Rattle.q_desk.specs.State.{DeskState}
+use Rattle.q_desk.specs.Desks.{has_room, with_entry}
+use Rattle.q_desk.specs.declared.journal.Entry.{Entry}
+use Rattle.q_desk.specs.declared.fault.DeskFault.{DeskFault}
+use Rattle.q_desk.specs.declared.fault.DeskFault.TheVariants as fault
 use Rattle.q_history.specs.declared.event.Stepped.{Stepped}
 use Rattle.q_history.specs.declared.fault.ClusterFault.{ClusterFault}
 use Rattle.q_history.specs.State.{ClusterState}
 use Rattle.q_session.specs.declared.job.Job.{Job}
-use Rattle.q_history.specs.Clusters.{at, taken, stored, stores, delivered, delivers, left, leaves}
+use Rattle.q_history.specs.Faults.{memory}
+use Rattle.q_history.specs.Clusters.{Part, at, room, taken, stored, stores}
 
 abbrev pub DeskMap : Type 0
 DeskMap = fin.FinMap nat_cmp DeskState
@@ -37,15 +42,15 @@ abbrev pub Tests : {A : Type 0} → ClusterState → ℕ → Doing → (A → No
 Tests c id said passes (Ok a) = (n : NodeState) × (d : DeskState) × IsThere c id n d × passes a n d
 Tests c id said passes (Err e) = at c id said ≡ Err e
 
--- the desk has room for the event, which is then the world's
+-- the store is left to the journal, if it has room, and to the world
 abbrev pub MayStore : ClusterState → ℕ → List ℕ → ℕ → NodeState → DeskState → Type 0
-MayStore c id value tag n d = (tag ≡ n.operations) × IsTrue (has_room d) × (stored c id value n d ≡ taken (stores c id n d) (stepped c.world (world_event.Store id value)))
+MayStore c id value tag n d = (tag ≡ n.operations) × (stored c id value n d ≡ room d (taken (stores c id value n d) (stepped c.world (world_event.Store id value))))
 
-abbrev pub MayDeliver : ClusterState → ℕ → ℕ → NodeState → DeskState → Type 0
-MayDeliver c number id n d = IsTrue (has_room d) × (delivered c number id n d ≡ taken (delivers c id d) (stepped c.world (world_event.Deliver number id)))
-
-abbrev pub MayLeave : ClusterState → ℕ → NodeState → DeskState → Type 0
-MayLeave c id n d = IsTrue (has_room d) × (left c id n d ≡ taken (leaves c id d) (stepped c.world (world_event.Leave id)))
+-- The desk of that id has room, its journal goes on with the entry, and the world takes the event. Or there is no room
+-- or the world refuses, and both are as they were.
+abbrev pub TakesNoted : WorldState → WorldState → DeskMap → DeskMap → ℕ → DeskState → Entry → WorldEvent → Result WorldStepped ClusterFault → Type 0
+TakesNoted old new desks after id d e event (Ok a) = IsTrue (has_room d) × (stepped old event ≡ Ok (a, new)) × (after ≡ fin.insert desks id (with_entry d e))
+TakesNoted old new desks after id d e event (Err f) = (new ≡ old) × (after ≡ desks) × (f ≢ memory → (part : WorldStepped → Part) → room d (taken part (stepped old event)) ≡ Err f)
 
 -- the job has that number, and its node is there
 abbrev pub MayRun : ClusterState → ℕ → Job → Type 0

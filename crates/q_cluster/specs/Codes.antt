@@ -4,7 +4,7 @@ use Rattle.std.specs.Coded.{Coded, code_by, coded×, coded_list, coded_ℕ}
 use Rattle.std.specs.FinMap as fin
 use Rattle.sc_world.specs.State.{WorldState}
 use Rattle.sc_world.specs.contracts.world.World as world
-use Rattle.q_book.specs.contracts.desk.Desk as desk
+use Rattle.q_desk.specs.contracts.desk.Desk as desk
 use Rattle.q_session.specs.declared.job.Job.{Job}
 use Rattle.q_session.specs.contracts.job.Job as job
 use Rattle.q_history.specs.State.{ClusterState}

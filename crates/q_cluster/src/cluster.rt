@@ -5,20 +5,24 @@ ghost use Rattle.std.specs.FinMap as fin;
 ghost use Rattle.sc_world.specs.Worlds as world;
 ghost use Rattle.sc_world.specs.declared.event.Event.TheVariants as world_event;
 ghost use Rattle.q_table.specs.Calls.{Steps, Gives};
-ghost use Rattle.q_book.specs.Desks as desk;
+ghost use Rattle.q_desk.specs.Desks as desk;
+ghost use Rattle.q_desk.specs.State.{DeskState};
+ghost use Rattle.sc_node.specs.State.{NodeState};
 ghost use Rattle.q_session.specs.declared.ran.Ran.{Ran};
 ghost use Rattle.q_history.specs.Faults.{memory, of_desk};
-ghost use Rattle.q_history.specs.Clusters.{at, taken, registered, asked, asked_by, stored, delivered, handed_out, handed, with_job, finished, left, enters, crashes, joined, free, room, started};
+ghost use Rattle.q_history.specs.Clusters.{at, taken, registered, asked, asked_by, stored, delivered, handed_out, handed, with_job, finished, left, enters, crashes, joined, free, started};
 ghost use Rattle.q_history.specs.Calls.{Takes, Runs, IsHistory};
 ghost use Rattle.q_history.specs.Headline.{AnswersAreTrue, AnswersStay};
-ghost use Rattle.q_cluster.specs.Acts.{Doing, IsThere, Tests, MayStore, MayDeliver, MayLeave, MayRun};
+ghost use Rattle.q_history.specs.Books.{BooksAreReplays};
+ghost use Rattle.q_cluster.specs.Acts.{Doing, IsThere, Tests, MayStore, MayRun, TakesNoted};
 
 use crate::desks::{Desks, found_desks};
-use q_book::desk::Desk;
-use q_book::fault::DeskFault;
+use q_desk::desk::Desk;
+use q_desk::fault::DeskFault;
+use q_desk::journal::Entry;
 use q_history::event::{Answer, Event, Handed, Stepped, Told};
 use q_history::fault::ClusterFault;
-use q_history::laws::{answers_stay, every_answer_is_true};
+use q_history::laws::{answers_stay, every_answer_is_true, every_book_is_a_replay};
 use q_session::done::Done;
 use q_session::job::Job;
 use q_table::program::{Program, ProgramId};
@@ -26,7 +30,7 @@ use sc_members::config::Config;
 use sc_msg::message::Message;
 use sc_node::fault::NodeFault;
 use sc_node::node::{MOST_OPEN, Node};
-use sc_world::event::{Event as WorldEvent, Sent};
+use sc_world::event::{Event as WorldEvent, Sent, Stepped as WorldStepped};
 use sc_world::fault::WorldFault;
 use sc_world::op::Op;
 use sc_world::world::World;
@@ -74,13 +78,16 @@ impl Cluster {
     }
 
     /// Takes an event, or refuses it with the first of 83, 81, 82, 42, 41, 51, 52, 56, 55, 43, 53, 48, 46 and 47, with
-    /// 44, or with 99; then the cluster is as it was. Whether accepted or refused, each recorded answer is true.
+    /// 44, or with 99; then the cluster is as it was. Whether accepted or refused, each recorded answer is true, and each
+    /// node with its desk is the replay of its own journal.
     pub fn step(&mut self, event: &Event) -> Result<Stepped, ClusterFault>
         ensures takes { Takes self.old event.now self.new result }
         ensures answers { AnswersAreTrue self.new }
+        ensures books { BooksAreReplays self.new }
     {
         let stepped = self.take(event);
         self.answers_are_true();
+        self.books_are_replays();
         stepped
     }
 
@@ -105,15 +112,18 @@ impl Cluster {
     }
 
     /// Takes the events in turn, up to the first that is refused, which is answered by its place with its refusal. Each
-    /// recorded answer is true, and those that were recorded before stay.
+    /// recorded answer is true, those that were recorded before stay, and each node with its desk is the replay of its own
+    /// journal.
     pub fn run(&mut self, events: &[Event]) -> Result<(), (usize, ClusterFault)>
         ensures runs { Runs self.old events.now self.new result }
         ensures answers { AnswersAreTrue self.new }
+        ensures books { BooksAreReplays self.new }
         ensures stay { AnswersStay self.old self.new }
     {
         self.comes_of_events();
         let ran = self.take_all(events);
         self.answers_are_true();
+        self.books_are_replays();
         answers_stay();
         ran
     }
@@ -135,6 +145,15 @@ impl Cluster {
         ensures { AnswersAreTrue self.now }
     {
         every_answer_is_true();
+        let _jobs = self.jobs.len();
+    }
+
+    /// A law of every cluster: each node with its desk is the replay of its own journal, also where the node has left or
+    /// crashed.
+    pub fn books_are_replays(&self)
+        ensures { BooksAreReplays self.now }
+    {
+        every_book_is_a_replay();
         let _jobs = self.jobs.len();
     }
 
@@ -203,12 +222,14 @@ impl Cluster {
     fn leave(&mut self, id: u64) -> Result<Stepped, ClusterFault>
         ensures { Steps memory (at self.old id (left self.old id)) self.old self.new result }
     {
-        self.may_leave(id)?;
-        let stepped = self
-            .world
-            .step(WorldEvent::Leave(id))
-            .map_err(ClusterFault::World)?;
-        self.desks.note(id);
+        self.place(id)?;
+        let stepped = take_noted(
+            &mut self.world,
+            &mut self.desks,
+            id,
+            Entry::Leave,
+            WorldEvent::Leave(id),
+        )?;
         Ok(told(Told::Left, stepped.sent))
     }
 
@@ -254,20 +275,22 @@ impl Cluster {
             node: id,
             value: *value,
         };
-        let stepped = self.world.step(event).map_err(ClusterFault::World)?;
-        self.desks.note(id);
+        let stepped = take_noted(
+            &mut self.world,
+            &mut self.desks,
+            id,
+            Entry::Store(*value),
+            event,
+        )?;
         Ok(told(Told::Stored(tag), stepped.sent))
     }
 
     fn deliver(&mut self, message: usize, id: u64) -> Result<Stepped, ClusterFault>
         ensures { Steps memory (at self.old id (delivered self.old message id)) self.old self.new result }
     {
-        self.may_deliver(message, id)?;
-        let stepped = self
-            .world
-            .step(WorldEvent::Deliver { message, node: id })
-            .map_err(ClusterFault::World)?;
-        self.desks.note(id);
+        let entry = Entry::Deliver(self.may_deliver(message, id)?);
+        let event = WorldEvent::Deliver { message, node: id };
+        let stepped = take_noted(&mut self.world, &mut self.desks, id, entry, event)?;
         let completed = self.desks.end(id, stepped.ended);
         Ok(told(Told::Delivered(completed), stepped.sent))
     }
@@ -329,28 +352,22 @@ impl Cluster {
     fn may_store(&self, id: u64) -> Result<u64, ClusterFault>
         ensures { (value : List ℕ) → Tests self.now id (stored self.now id value) (λ tag n d. MayStore self.now id value tag n d) result }
     {
-        let Place { node, desk } = self.place(id)?;
+        let Place { node, .. } = self.place(id)?;
         joined(node)?;
         free(node)?;
-        room(desk)?;
         Ok(node.operations())
     }
 
-    fn may_deliver(&self, message: usize, id: u64) -> Result<(), ClusterFault>
-        ensures { Tests self.now id (delivered self.now message id) (λ u n d. MayDeliver self.now message id n d) result }
+    // A copy of the message that would be delivered to a node that is there.
+    fn may_deliver(&self, message: usize, id: u64) -> Result<Message, ClusterFault>
+        ensures message { IfOk result (λ m. (slice_get self.now.world.sent message ≡ Some m) × ((n : NodeState) × (d : DeskState) × IsThere self.now id n d)) }
+        ensures refused { IfErr result (λ e. e ≢ memory → at self.now id (delivered self.now message id) ≡ Err e) }
     {
-        let Place { desk, .. } = self.place(id)?;
-        if self.world.message(message).is_none() {
+        self.place(id)?;
+        let Some(message) = self.world.message(message) else {
             return Err(ClusterFault::World(WorldFault::NeverSent));
-        }
-        room(desk)
-    }
-
-    fn may_leave(&self, id: u64) -> Result<(), ClusterFault>
-        ensures { Tests self.now id (left self.now id) (λ u n d. MayLeave self.now id n d) result }
-    {
-        let Place { desk, .. } = self.place(id)?;
-        room(desk)
+        };
+        message.clone().map_err(out_of_memory)
     }
 
     // A copy of the job of that number, whose node is there.
@@ -394,16 +411,6 @@ fn free(node: &Node) -> Result<(), ClusterFault>
     }
 }
 
-fn room(desk: &Desk) -> Result<(), ClusterFault>
-    ensures { result ≡ room desk.now (Ok tt) }
-{
-    if desk.has_room() {
-        Ok(())
-    } else {
-        Err(ClusterFault::Desk(DeskFault::BookFull))
-    }
-}
-
 fn copy_of(job: &Job) -> Result<Job, AllocError>
     ensures { IfOk result (λ copy. copy ≡ job.now) }
 {
@@ -415,6 +422,26 @@ fn copy_of(job: &Job) -> Result<Job, AllocError>
         certified: job.certified.clone()?,
         view: job.view.clone()?,
     })
+}
+
+// The entry goes into the journal of the node's desk, which is there, and the world takes the event; or neither.
+fn take_noted(
+    world: &mut World,
+    desks: &mut Desks,
+    id: u64,
+    entry: Entry,
+    event: WorldEvent,
+) -> Result<WorldStepped, ClusterFault>
+    ensures { (d : DeskState) → fin.get desks.old id ≡ Some d → TakesNoted world.old world.new desks.old desks.new id d entry event result }
+{
+    desks.note(id, entry).map_err(of_desk)?;
+    match world.step(event) {
+        Ok(stepped) => Ok(stepped),
+        Err(fault) => {
+            desks.forget(id);
+            Err(ClusterFault::World(fault))
+        }
+    }
 }
 
 // Puts a job, for which there is room, at the end.

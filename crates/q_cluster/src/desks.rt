@@ -2,19 +2,20 @@
 
 ghost use Rattle.std.specs.Prelude.{◌≡◌, ℕ, IsTrue, IfOk, OnErr, option_copied};
 ghost use Rattle.std.specs.FinMap as fin;
-ghost use Rattle.q_book.specs.State.{DeskState, new_desk};
-ghost use Rattle.q_book.specs.Desks as desk;
-ghost use Rattle.q_history.specs.Clusters.{desks_with, ends, completed_by};
+ghost use Rattle.q_desk.specs.State.{DeskState, new_desk};
+ghost use Rattle.q_desk.specs.Desks as desk;
+ghost use Rattle.q_desk.specs.declared.journal.Entry.{Entry as EntryValue};
+ghost use Rattle.q_history.specs.Clusters.{desks_with};
 ghost use Rattle.q_cluster.specs.Acts.{StepsAt, DeskMap};
 
-use q_book::desk::Desk;
-use q_book::fault::DeskFault;
-use q_history::event::Completed;
+use q_desk::completed::Completed;
+use q_desk::desk::Desk;
+use q_desk::fault::DeskFault;
+use q_desk::journal::Entry;
 use q_session::done::Done;
 use q_session::job::Job;
 use q_table::program::{Program, ProgramId};
-use sc_node::answer::{Completion, Ended};
-use sc_view::view::View;
+use sc_node::answer::Ended;
 use std::alloc::{AllocError, Global};
 use std::collections::BTreeMap;
 use std::marker::Model;
@@ -29,8 +30,8 @@ impl Model for Desks {
     ghost use Rattle.std.specs.FinMap as fin;
     ghost use Rattle.std.specs.Ordering.{nat_cmp};
     ghost use Rattle.std.specs.Coded.{coded_ℕ};
-    ghost use Rattle.q_book.specs.State.{DeskState};
-    ghost use Rattle.q_book.specs.contracts.desk.Desk as desk;
+    ghost use Rattle.q_desk.specs.State.{DeskState};
+    ghost use Rattle.q_desk.specs.contracts.desk.Desk as desk;
 
     ghost Value = { fin.FinMap nat_cmp DeskState };
 
@@ -114,38 +115,34 @@ impl Desks {
         desk.withdraw();
     }
 
-    /// Counts an event at the desk of this node, which has room.
-    pub(crate) fn note(&mut self, id: u64)
-        requires { (d : DeskState) → fin.get self.old id ≡ Some d → IsTrue (desk.has_room d) }
-        ensures { (d : DeskState) → fin.get self.old id ≡ Some d → self.new ≡ fin.insert self.old id (desk.noted d) }
+    /// Puts an entry into the journal of this node's desk, which is there.
+    pub(crate) fn note(&mut self, id: u64, entry: Entry) -> Result<(), DeskFault>
+        ensures { (d : DeskState) → fin.get self.old id ≡ Some d → StepsAt (desk.noted d entry) self.old self.new id result }
+    {
+        let Some(desk) = self.entries.get_mut(&id) else {
+            return Err(DeskFault::OutOfMemory);
+        };
+        desk.note(entry)
+    }
+
+    /// Takes back the last entry of the journal of this node's desk: undoes a `note`.
+    pub(crate) fn forget(&mut self, id: u64)
+        ensures { (before : DeskMap) (d e : DeskState) (entry : EntryValue) → fin.get before id ≡ Some d → desk.noted d entry ≡ Ok (tt, e) → self.old ≡ fin.insert before id e → self.new ≡ before }
     {
         let Some(desk) = self.entries.get_mut(&id) else {
             return;
         };
-        desk.note();
+        desk.forget();
     }
 
     /// An operation of this node ended: the view of a collect goes to the query that waits for it.
     pub(crate) fn end(&mut self, id: u64, ended: Option<Ended>) -> Option<Completed>
-        ensures { (d : DeskState) → fin.get self.old id ≡ Some d → (result ≡ completed_by ended (ends ended d).0) × (self.new ≡ fin.insert self.old id (ends ended d).1) }
-    {
-        let Ended { tag, what } = ended?;
-        match what {
-            Completion::Stored => Some(Completed::Stored(tag)),
-            Completion::Returned(view) => {
-                let query = self.returned(id, tag, view)?;
-                Some(Completed::Returned(query))
-            }
-        }
-    }
-
-    fn returned(&mut self, id: u64, tag: u64, view: View) -> Option<usize>
-        ensures { (d : DeskState) → fin.get self.old id ≡ Some d → (result ≡ (desk.returned d tag view).0) × (self.new ≡ fin.insert self.old id (desk.returned d tag view).1) }
+        ensures { (d : DeskState) → fin.get self.old id ≡ Some d → (result ≡ desk.completed_by ended (desk.ends ended d).0) × (self.new ≡ fin.insert self.old id (desk.ends ended d).1) }
     {
         let Some(desk) = self.entries.get_mut(&id) else {
             return None;
         };
-        desk.returned(tag, view)
+        desk.end(ended)
     }
 
     /// Hands out a job at the desk of this node, which is there.

@@ -9,3 +9,5 @@
 
 pub mod cluster;
 mod desks;
+#[cfg(test)]
+mod tests;

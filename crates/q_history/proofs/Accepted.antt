@@ -48,7 +48,7 @@ module _ (w : WorldState) where
       subst (IsOnward w) (ap (after w e q) same ∙ is)
       (after_onward w e q r (λ o in' k some by tagged. absurd (no_some k (sym still ∙ some))))
 
-  enter-ok : (q : ℕ) (o : Option NodeState) (y : Stepped × WorldState) → enters w q o ≡ Ok y → (o ≡ None) × (after w (event.Enter q) q (entered_outcome w.config q) ≡ y.1)
+  pub enter-ok : (q : ℕ) (o : Option NodeState) (y : Stepped × WorldState) → enters w q o ≡ Ok y → (o ≡ None) × (after w (event.Enter q) q (entered_outcome w.config q) ≡ y.1)
   enter-ok q (Some n) y h = absurd (no_refusal _ y h)
   enter-ok q None y h = (refl, ap (λ (z : Stepped × WorldState). z.1) (same_answer _ y h))
 

@@ -1,5 +1,5 @@
 -- What each accepted event of a cluster was, and that it keeps what is true of every cluster.
-use Rattle.std.proofs.Common.{◌≡◌, ℕ, List, Option, Some, None, refl, sym, ap, ◌∙◌, subst, nat_le, Result, Ok, Err}
+use Rattle.std.proofs.Common.{◌≡◌, ℕ, Bool, true, false, cond, List, Option, Some, None, refl, sym, ap, ◌∙◌, subst, nat_le, Result, Ok, Err}
 use Rattle.std.specs.FinMap as fin
 use Rattle.sc_view.specs.Views.{ViewMap}
 use Rattle.sc_node.specs.State.{NodeState}
@@ -12,14 +12,15 @@ use Rattle.sc_world.specs.declared.fault.WorldFault.{WorldFault}
 use Rattle.sc_world.specs.declared.fault.WorldFault.TheVariants as world_fault
 use Rattle.sc_world.specs.State.{WorldState}
 use Rattle.sc_world.specs.Worlds as world
-use Rattle.sc_world.proofs.Inverts.{same_answer, no_refusal, if_passed}
+use Rattle.sc_world.proofs.Inverts.{same_answer, no_refusal}
 use Rattle.sc_world.proofs.EveryHistory.{IsLawful, step_lawful}
 use Rattle.bq_check.specs.Certificate.{Certificate}
-use Rattle.q_book.specs.State.{DeskState, new_desk}
-use Rattle.q_book.specs.Desks as desk
-use Rattle.q_book.specs.declared.fault.DeskFault.{DeskFault}
-use Rattle.q_book.specs.declared.fault.DeskFault.TheVariants as desk_fault
-use Rattle.q_book.specs.Answers.{IsAnswered}
+use Rattle.q_desk.specs.State.{DeskState, new_desk}
+use Rattle.q_desk.specs.Desks as desk
+use Rattle.q_desk.specs.declared.journal.Entry.TheVariants as entry
+use Rattle.q_desk.specs.declared.fault.DeskFault.{DeskFault}
+use Rattle.q_desk.specs.declared.fault.DeskFault.TheVariants as desk_fault
+use Rattle.q_desk.specs.Answers.{IsAnswered}
 use Rattle.q_session.specs.declared.ran.Ran.{Ran}
 use Rattle.q_session.specs.declared.query.Phase.TheVariants.{Collecting, Answered}
 use Rattle.q_session.specs.declared.query.Query.{Query}
@@ -48,6 +49,24 @@ pub done-ok : {A : Type 0} (w : WorldState) (part : A → DeskState → Part) (r
     → (d : A × DeskState) × (r ≡ Ok d) × (with_part w (part d.0 d.1) ≡ y.1)
 done-ok w part (Err e) y h = absurd (no_refusal _ y h)
 done-ok w part (Ok d) y h = (d, refl, ap (λ (z : Stepped × ClusterState). z.1) (same_answer _ y h))
+
+-- what the tests of a node let through
+
+pub joined-ok : (n : NodeState) (r : Result (Stepped × ClusterState) ClusterFault) (y : Stepped × ClusterState) → joined n r ≡ Ok y → (n.joined ≡ true) × (r ≡ Ok y)
+joined-ok n r y h = passed n.joined (fault.World (world_fault.Node node_fault.NotJoined)) r y h
+
+not_full : (b : Bool) (r : Result (Stepped × ClusterState) ClusterFault) (y : Stepped × ClusterState) → cond b (Err (fault.World (world_fault.Node node_fault.SessionsFull))) r ≡ Ok y → (b ≡ false) × (r ≡ Ok y)
+not_full true r y h = absurd (no_refusal _ y h)
+not_full false r y h = (refl, h)
+
+pub free-ok : (n : NodeState) (r : Result (Stepped × ClusterState) ClusterFault) (y : Stepped × ClusterState) → free n r ≡ Ok y → (nat_le most_open (fin.len n.sessions) ≡ false) × (r ≡ Ok y)
+free-ok n r y h = not_full (nat_le most_open (fin.len n.sessions)) r y h
+
+-- the desk took the query, and the world its collect
+pub asked_by-ok : (c : ClusterState) (id : ℕ) (r : Result (ℕ × DeskState) DeskFault) (y : Stepped × ClusterState) → asked_by c id r ≡ Ok y
+    → (d : ℕ × DeskState) × (r ≡ Ok d) × (w : WorldStepped × WorldState) × (world.stepped c.world (world_event.Collect id) ≡ Ok w) × (with_part w.1 (asks c id d w.0) ≡ y.1)
+asked_by-ok c id (Err e) y h = absurd (no_refusal _ y h)
+asked_by-ok c id (Ok d) y h = let k = taken-ok (asks c id d) (world.stepped c.world (world_event.Collect id)) y h in (d, refl, k.0, k.1, k.2)
 
 -- the node is there, with its desk
 pub record IsAt {A : Type 0} (c : ClusterState) (id : ℕ) (f : NodeState → DeskState → Result A ClusterFault) (y : A) : Type 0 where
@@ -114,7 +133,7 @@ module _ (c : ClusterState) (kept : IsKept c) where
       let r = passed (desk.has_room a.desk) (fault.Desk desk_fault.BookFull) _ y a.gives in
       let k = taken-ok (leaves c id a.desk) (world.stepped c.world (world_event.Leave id)) y r.1 in
       subst (IsStep c) k.2
-      (quiet k.0.1 id a.desk (desk.noted a.desk) (lawful_next (world_event.Leave id) k.0 k.1) (left-ok c.world id k.0 k.1) a.at (noted_moves a.desk))
+      (quiet k.0.1 id a.desk (desk.with_entry a.desk entry.Leave) (lawful_next (world_event.Leave id) k.0 k.1) (left-ok c.world id k.0 k.1) a.at (noted_moves a.desk entry.Leave))
 
   pub register_step : (id : ℕ) (program : Certificate) (y : Stepped × ClusterState) → at_node c id (registered c id program) ≡ Ok y → IsStep c y.1
   register_step id program y h =
@@ -123,25 +142,14 @@ module _ (c : ClusterState) (kept : IsKept c) where
       subst (IsStep c) k.2
       (quiet c.world id a.desk k.0.1 kept.world (onward_itself c.world) a.at (registered_moves a.desk program k.0 k.1))
 
-  free-ok : (n : NodeState) (r : Result (Stepped × ClusterState) ClusterFault) (y : Stepped × ClusterState) → free n r ≡ Ok y → r ≡ Ok y
-  free-ok n r y h = if_passed (nat_le most_open (fin.len n.sessions)) (fault.World (world_fault.Node node_fault.SessionsFull)) r y h
-
-  joined-ok : (n : NodeState) (r : Result (Stepped × ClusterState) ClusterFault) (y : Stepped × ClusterState) → joined n r ≡ Ok y → r ≡ Ok y
-  joined-ok n r y h = (passed n.joined (fault.World (world_fault.Node node_fault.NotJoined)) r y h).1
-
   pub store_step : (id : ℕ) (value : List ℕ) (y : Stepped × ClusterState) → at_node c id (stored c id value) ≡ Ok y → IsStep c y.1
   store_step id value y h =
       let a = at-ok c id (stored c id value) y h in
-      let f = free-ok a.node _ y (joined-ok a.node _ y a.gives) in
-      let r = passed (desk.has_room a.desk) (fault.Desk desk_fault.BookFull) _ y f in
-      let k = taken-ok (stores c id a.node a.desk) (world.stepped c.world (world_event.Store id value)) y r.1 in
+      let f = free-ok a.node _ y (joined-ok a.node _ y a.gives).1 in
+      let r = passed (desk.has_room a.desk) (fault.Desk desk_fault.BookFull) _ y f.1 in
+      let k = taken-ok (stores c id value a.node a.desk) (world.stepped c.world (world_event.Store id value)) y r.1 in
       subst (IsStep c) k.2
-      (quiet k.0.1 id a.desk (desk.noted a.desk) (lawful_next (world_event.Store id value) k.0 k.1) (stored-ok c.world id value k.0 k.1) a.at (noted_moves a.desk))
-
-  asked_by-ok : (id : ℕ) (r : Result (ℕ × DeskState) DeskFault) (y : Stepped × ClusterState) → asked_by c id r ≡ Ok y
-      → (d : ℕ × DeskState) × (r ≡ Ok d) × (w : WorldStepped × WorldState) × (world.stepped c.world (world_event.Collect id) ≡ Ok w) × (with_part w.1 (asks c id d w.0) ≡ y.1)
-  asked_by-ok id (Err e) y h = absurd (no_refusal _ y h)
-  asked_by-ok id (Ok d) y h = let k = taken-ok (asks c id d) (world.stepped c.world (world_event.Collect id)) y h in (d, refl, k.0, k.1, k.2)
+      (quiet k.0.1 id a.desk (desk.with_entry a.desk (entry.Store value)) (lawful_next (world_event.Store id value) k.0 k.1) (stored-ok c.world id value k.0 k.1) a.at (noted_moves a.desk (entry.Store value)))
 
   -- the query's collect is the one that its node begins
   asked_tied : (id tag program start : ℕ) (n : NodeState) (w' : WorldState) → world.live_at c.world id ≡ Some n → n.operations ≡ tag → IsCollecting c.world id w' → (q : Query) → desk.begun tag program start ≡ q → IsTied w' id q
@@ -156,8 +164,8 @@ module _ (c : ClusterState) (kept : IsKept c) where
   ask_step id program start y h =
       let a = at-ok c id (asked c id program start) y h in
       let tag = a.node.operations in
-      let p = passed (desk.knows a.desk program) (fault.Desk desk_fault.UnknownProgram) _ y (joined-ok a.node _ y a.gives) in
-      let k = asked_by-ok id (desk.asked a.desk tag program start) y (free-ok a.node _ y p.1) in
+      let p = passed (desk.knows a.desk program) (fault.Desk desk_fault.UnknownProgram) _ y (joined-ok a.node _ y a.gives).1 in
+      let k = asked_by-ok c id (desk.asked a.desk tag program start) y (free-ok a.node _ y p.1).1 in
       let m = asked_moves a.desk tag program start k.0 k.1 in
       let col = collected-ok c.world id k.2 k.3 in
       subst (IsStep c) k.4

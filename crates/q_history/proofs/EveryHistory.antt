@@ -13,7 +13,7 @@ use Rattle.sc_world.specs.Worlds.{nodes_with}
 use Rattle.sc_world.specs.Regular.{returned, returned_by}
 use Rattle.sc_world.proofs.Finite.{get-insert}
 use Rattle.sc_world.proofs.EveryHistory.{every_lawful, lawful_regular}
-use Rattle.q_book.specs.State.{DeskState, new_desk}
+use Rattle.q_desk.specs.State.{DeskState, new_desk}
 use Rattle.q_history.specs.declared.event.Event.{Event}
 use Rattle.q_history.specs.declared.event.Event.TheVariants as event
 use Rattle.q_history.specs.declared.event.Stepped.{Stepped}

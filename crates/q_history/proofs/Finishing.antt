@@ -12,9 +12,9 @@ use Rattle.q_session.specs.declared.query.Phase.{Phase}
 use Rattle.q_session.specs.declared.query.Phase.TheVariants.{Running, Answered}
 use Rattle.q_session.specs.declared.query.Query.{Query}
 use Rattle.q_session.specs.declared.job.Job.{Job}
-use Rattle.q_book.specs.State.{DeskState}
-use Rattle.q_book.specs.Answers.{IsAnswered}
-use Rattle.q_book.specs.Desks as desk
+use Rattle.q_desk.specs.State.{DeskState}
+use Rattle.q_desk.specs.Answers.{IsAnswered}
+use Rattle.q_desk.specs.Desks as desk
 use Rattle.q_history.specs.declared.event.Stepped.{Stepped}
 use Rattle.q_history.specs.State.{ClusterState}
 use Rattle.q_history.specs.Clusters.{at as at_node, hands, handed_out, finishes, posted, finished}

@@ -1,10 +1,10 @@
 -- Histories that go on.
-use Rattle.std.proofs.Common.{ℕ, List, [], ◌∷◌, ◌++◌, refl, sym, subst}
+use Rattle.std.proofs.Common.{◌≡◌, ℕ, List, [], ◌∷◌, ◌++◌, Ok, refl, sym, subst}
 use Rattle.sc_members.specs.Members.{Config}
 use Rattle.q_history.specs.declared.event.Event.{Event}
 use Rattle.q_history.specs.declared.event.Stepped.{Stepped}
 use Rattle.q_history.specs.State.{ClusterState}
-use Rattle.q_history.specs.Clusters.{start}
+use Rattle.q_history.specs.Clusters.{start, started}
 use Rattle.q_history.specs.Calls.{Follows, Reaches, IsHistory}
 use Rattle.q_history.specs.Headline.{AnswersAreTrue}
 use Rattle.q_history.proofs.Kept.{IsKept}
@@ -20,9 +20,6 @@ reaches_one c d e told f = (told, d, f, refl)
 pub reaches_next : (es : List Event) (c d : ClusterState) (e : Event) (told : Stepped) (f : ClusterState) → Reaches c es d → Follows d e told f → Reaches c (es ++ e ∷ []) f
 reaches_next es c d e told f r s = reaches_on es (e ∷ []) c d f r (reaches_one d f e told s)
 
-pub start_history : (config : Config) (ids : List ℕ) → IsHistory (start config ids)
-start_history config ids = ([], refl)
-
 pub history_kept : (c : ClusterState) → IsHistory c → IsKept c
 history_kept c h = (run_kept h.0 (start c.world.config c.world.founders) c (start_kept c.world.config c.world.founders) h.1).kept
 
@@ -33,6 +30,8 @@ history_run es c d h r =
       h.0 ++ es,
       subst (λ (x : Config). Reaches (start x d.world.founders) (h.0 ++ es) d) (sym k.config)
           (subst (λ (x : List ℕ). Reaches (start c.world.config x) (h.0 ++ es) d) (sym k.founders) whole),
+      subst (λ (x : Config). started x d.world.founders ≡ Ok (start x d.world.founders)) (sym k.config)
+          (subst (λ (x : List ℕ). started c.world.config x ≡ Ok (start c.world.config x)) (sym k.founders) h.2),
     )
 
 pub history_next : (c d : ClusterState) (e : Event) (told : Stepped) → IsHistory c → Follows c e told d → IsHistory d

@@ -1,5 +1,5 @@
 -- What a desk hands out, and what it records.
-use Rattle.std.proofs.Common.{◌≡◌, ℕ, ◌+◌, ◌==◌, true, List, [], ◌∷◌, Option, Some, None, refl, sym, ap, ◌∙◌, subst, slice_get, position, Ok}
+use Rattle.std.proofs.Common.{◌≡◌, ℕ, ◌==◌, true, List, [], ◌∷◌, ◌++◌, Option, Some, None, refl, sym, ap, ◌∙◌, subst, slice_get, position, Ok}
 use Rattle.std.proofs.lemmas.Bool.{eqb-true}
 use Rattle.std.proofs.lemmas.Slice.Eq.{bytes_eq-Decides}
 use Rattle.std.specs.FinMap as fin
@@ -15,10 +15,11 @@ use Rattle.q_session.specs.declared.query.Phase.{Phase}
 use Rattle.q_session.specs.declared.query.Phase.TheVariants.{Collecting, Ready, Running, Answered}
 use Rattle.q_session.specs.declared.query.Query.{Query}
 use Rattle.q_session.specs.declared.job.Job.{Job}
-use Rattle.q_book.specs.State.{DeskState}
-use Rattle.q_book.specs.Answers.{IsAnswered}
-use Rattle.q_book.specs.Desks as desk
-use Rattle.q_book.specs.declared.fault.DeskFault.TheVariants as fault
+use Rattle.q_desk.specs.State.{DeskState}
+use Rattle.q_desk.specs.Answers.{IsAnswered}
+use Rattle.q_desk.specs.Desks as desk
+use Rattle.q_desk.specs.declared.journal.Entry.TheVariants as entry
+use Rattle.q_desk.specs.declared.fault.DeskFault.TheVariants as fault
 use Rattle.q_history.proofs.Lists.{same_some, no_some, passed}
 use Rattle.q_history.proofs.Moves.{HasNone, Moves, IsRephased, phase_moves}
 
@@ -62,7 +63,7 @@ module _ (d : DeskState) (node : ℕ) where
       let k = passed (desk.has_room d) fault.BookFull _ y h in
       let r = ready j refl in
       subst (λ (z : Option Job × DeskState). IsHanded d node z.1 z.0) (same_answer _ y k.1)
-      (r, phase_moves d j.query (Running j.view) (d.events + 1) (λ q at. ready_has_none q.phase j.view (ap (λ (x : Query). x.phase) (same_some q r.query (sym at ∙ r.at)) ∙ r.phase)))
+      (r, phase_moves d j.query (Running j.view) (d.journal ++ entry.HandOut ∷ []) (λ q at. ready_has_none q.phase j.view (ap (λ (x : Query). x.phase) (same_some q r.query (sym at ∙ r.at)) ∙ r.phase)))
 
   pub handed_out-ok : (y : Option Job × DeskState) → desk.handed_out d node ≡ Ok y → IsHanded d node y.1 y.0
   handed_out-ok y h = hands-ok (desk.next_job d node) y (λ j is. job_from-is (position (λ (q : Query). desk.is_ready q.phase) d.queries) j is) h
@@ -92,7 +93,7 @@ module _ (d : DeskState) (j : Job) (ran : Ran) (y : Unit {0} × DeskState) where
         fits = a.0;
         moves =
             subst (λ (z : Unit {0} × DeskState). Moves d z.1 (IsRephased d j.query (Answered view ran))) (same_answer _ y b.1)
-            (phase_moves d j.query (Answered view ran) (d.events + 1) (λ x here. running_has_none x.phase view (ap (λ (z : Query). z.phase) (same_some x q (sym here ∙ at)) ∙ is)));
+            (phase_moves d j.query (Answered view ran) (d.journal ++ entry.Post j.query ran ∷ []) (λ x here. running_has_none x.phase view (ap (λ (z : Query). z.phase) (same_some x q (sym here ∙ at)) ∙ is)));
       }
 
   posted_at-ok : (o : Option Query) → slice_get d.queries j.query ≡ o → desk.posted_at d j ran o ≡ Ok y → IsPosted d j ran y.1

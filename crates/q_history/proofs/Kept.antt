@@ -15,8 +15,8 @@ use Rattle.q_session.specs.declared.query.Phase.{Phase}
 use Rattle.q_session.specs.declared.query.Phase.TheVariants.{Collecting, Ready, Running, Answered}
 use Rattle.q_session.specs.declared.query.Query.{Query}
 use Rattle.q_session.specs.declared.job.Job.{Job}
-use Rattle.q_book.specs.State.{DeskState}
-use Rattle.q_book.specs.Answers.{IsAnswered, AnswersAreRight}
+use Rattle.q_desk.specs.State.{DeskState}
+use Rattle.q_desk.specs.Answers.{IsAnswered, AnswersAreRight}
 use Rattle.q_history.specs.State.{ClusterState}
 use Rattle.q_history.specs.Clusters.{Desks}
 use Rattle.q_history.proofs.Lists.{same_some}

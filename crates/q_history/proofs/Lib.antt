@@ -1,4 +1,4 @@
--- Every history's answers are true, and stay.
+-- Every history's answers are true, and stay, and its books are replays.
 pub mod Lists
 pub mod Moves
 pub mod Jobs
@@ -11,3 +11,7 @@ pub mod Delivering
 pub mod Finishing
 pub mod EveryHistory
 pub mod Histories
+pub mod Journals
+pub mod Replays
+pub mod Booked
+pub mod EveryBook

@@ -12,9 +12,10 @@ use Rattle.q_session.specs.declared.ran.Ran.{Ran}
 use Rattle.q_session.specs.declared.query.Phase.{Phase}
 use Rattle.q_session.specs.declared.query.Phase.TheVariants.{Collecting, Ready, Running, Answered}
 use Rattle.q_session.specs.declared.query.Query.{Query}
-use Rattle.q_book.specs.State.{DeskState}
-use Rattle.q_book.specs.Desks as desk
-use Rattle.q_book.specs.declared.fault.DeskFault.TheVariants as fault
+use Rattle.q_desk.specs.State.{DeskState}
+use Rattle.q_desk.specs.Desks as desk
+use Rattle.q_desk.specs.declared.journal.Entry.{Entry}
+use Rattle.q_desk.specs.declared.fault.DeskFault.TheVariants as fault
 use Rattle.q_history.proofs.Lists.{passed, get_snoc, get_written, get_elsewhere, found}
 
 -- a phase with no answer
@@ -55,8 +56,8 @@ keeps_on d e f a b = record {
   answers = λ k q view ran h is. b.answers k q view ran (a.answers k q view ran h is) is;
 }
 
-pub noted_moves : (d : DeskState) → Moves d (desk.noted d) Nothing
-noted_moves d = record { keeps = record { programs = λ i p h. h; answers = λ k q view ran h a. h }; queries = λ k q h. inl h }
+pub noted_moves : (d : DeskState) (e : Entry) → Moves d (desk.with_entry d e) Nothing
+noted_moves d e = record { keeps = record { programs = λ i p h. h; answers = λ k q view ran h a. h }; queries = λ k q h. inl h }
 
 -- ---- programs
 
@@ -67,18 +68,18 @@ more_programs ps c None r h i p at =
     let k = passed (nat_lt (length ps) table.most_programs) table_fault.Full _ r h in
     subst (λ (z : ℕ × List Certificate). slice_get z.1 i ≡ Some p) (same_answer _ r k.1) (slice_get_front ps (c ∷ []) i p at)
 
-registered_by-moves : (d : DeskState) (r : Result (ℕ × List Certificate) TableFault) (y : ℕ × DeskState)
+registered_by-moves : (d : DeskState) (program : Certificate) (r : Result (ℕ × List Certificate) TableFault) (y : ℕ × DeskState)
     → ((z : ℕ × List Certificate) → r ≡ Ok z → (i : ℕ) (p : Certificate) → slice_get d.programs i ≡ Some p → slice_get z.1 i ≡ Some p)
-    → desk.registered_by d r ≡ Ok y → Moves d y.1 Nothing
-registered_by-moves d (Err e) y more h = absurd (no_refusal _ y h)
-registered_by-moves d (Ok z) y more h =
+    → desk.registered_by d program r ≡ Ok y → Moves d y.1 Nothing
+registered_by-moves d program (Err e) y more h = absurd (no_refusal _ y h)
+registered_by-moves d program (Ok z) y more h =
     let k = passed (desk.has_room d) fault.BookFull _ y h in
     subst (λ (x : ℕ × DeskState). Moves d x.1 Nothing) (same_answer _ y k.1)
     (record { keeps = record { programs = more z refl; answers = λ k q view ran h a. h }; queries = λ k q h. inl h })
 
 pub registered_moves : (d : DeskState) (program : Certificate) (y : ℕ × DeskState) → desk.registered d program ≡ Ok y → Moves d y.1 Nothing
 registered_moves d program y h =
-    registered_by-moves d (table.registered d.programs program) y (λ z is. more_programs d.programs program (table.id_of d.programs program.text) z is) h
+    registered_by-moves d program (table.registered d.programs program) y (λ z is. more_programs d.programs program (table.id_of d.programs program.text) z is) h
 
 -- ---- queries
 
@@ -93,8 +94,8 @@ asked_moves d tag program start y h =
       queries = λ k q h. get_snoc d.queries (desk.begun tag program start) k q h;
     })
 
-module _ (d : DeskState) (k : ℕ) (p : Phase) (m : ℕ) where
-  phase_by : (o : Option Query) → slice_get d.queries k ≡ o → ((q : Query) → o ≡ Some q → HasNone q.phase) → Moves d (record d { queries = desk.in_phase d.queries k p o; events = m }) (IsRephased d k p)
+module _ (d : DeskState) (k : ℕ) (p : Phase) (m : List Entry) where
+  phase_by : (o : Option Query) → slice_get d.queries k ≡ o → ((q : Query) → o ≡ Some q → HasNone q.phase) → Moves d (record d { queries = desk.in_phase d.queries k p o; journal = m }) (IsRephased d k p)
   phase_by None is none = record { keeps = record { programs = λ i p h. h; answers = λ k q view ran h a. h }; queries = λ k q h. inl h }
   phase_by (Some old) is none = record {
     keeps = record {
@@ -109,7 +110,7 @@ module _ (d : DeskState) (k : ℕ) (p : Phase) (m : ℕ) where
   }
 
   -- a query that has no answer is put into another phase
-  pub phase_moves : ((q : Query) → slice_get d.queries k ≡ Some q → HasNone q.phase) → Moves d (record d { queries = desk.with_phase d.queries k p; events = m }) (IsRephased d k p)
+  pub phase_moves : ((q : Query) → slice_get d.queries k ≡ Some q → HasNone q.phase) → Moves d (record d { queries = desk.with_phase d.queries k p; journal = m }) (IsRephased d k p)
   phase_moves none = phase_by (slice_get d.queries k) refl none
 
 collecting_has_none : (p : Phase) → desk.is_collecting p ≡ true → HasNone p
@@ -123,7 +124,7 @@ module _ (d : DeskState) (tag : ℕ) (view : ViewMap) where
   returned_by None is = record { keeps = keeps_itself d; queries = λ k q h. inl h }
   returned_by (Some k) is =
       let waiting : (q : Query) → slice_get d.queries k ≡ Some q → desk.waits tag q ≡ true = λ q at. found (desk.waits tag) d.queries k q is at in
-      let moves = phase_moves d k (Ready view) d.events (λ q at. collecting_has_none q.phase (and_right (q.tag == tag) (desk.is_collecting q.phase) (waiting q at))) in
+      let moves = phase_moves d k (Ready view) d.journal (λ q at. collecting_has_none q.phase (and_right (q.tag == tag) (desk.is_collecting q.phase) (waiting q at))) in
       record {
         keeps = moves.keeps;
         queries = λ i q h. elim (moves.queries i q h) [

@@ -48,7 +48,7 @@ open_returns o v running h =
     let k : None ≡ Some v = sym (ap (λ (x : Option ℕ). returned_by o.session.kind x (stored o.session)) running ∙ none_returned o.session.kind (stored o.session)) ∙ h in
     absurd (cc)
 
-insert_has : (m : fin.FinMap nat_cmp NodeState) (k : ℕ) (v : NodeState) (q : ℕ) (x : NodeState) (b : Bool) → (q == k) ≡ b → fin.get m q ≡ Some x → (y : NodeState) × (fin.get (fin.insert m k v) q ≡ Some y)
+pub insert_has : (m : fin.FinMap nat_cmp NodeState) (k : ℕ) (v : NodeState) (q : ℕ) (x : NodeState) (b : Bool) → (q == k) ≡ b → fin.get m q ≡ Some x → (y : NodeState) × (fin.get (fin.insert m k v) q ≡ Some y)
 insert_has m k v q x true is at = (v, get-insert m k v q ∙ ap (λ (b : Bool). cond b (Some v) (fin.get m q)) is)
 insert_has m k v q x false is at = (x, get-insert m k v q ∙ ap (λ (b : Bool). cond b (Some v) (fin.get m q)) is ∙ at)
 

@@ -9,7 +9,7 @@ use Rattle.q_history.specs.declared.event.Stepped.{Stepped}
 use Rattle.q_history.specs.declared.fault.ClusterFault.{ClusterFault}
 use Rattle.q_history.specs.Faults.{memory}
 use Rattle.q_history.specs.State.{ClusterState}
-use Rattle.q_history.specs.Clusters.{stepped, start}
+use Rattle.q_history.specs.Clusters.{stepped, start, started}
 
 -- the right answer of a job
 abbrev pub Answers : Job → Ran → Type 0
@@ -45,6 +45,9 @@ Runs old es new (Err r) =
     Reaches old (take r.0 es) new
     × ((e : Event) × (slice_get es r.0 ≡ Some e) × (r.1 ≢ memory → (ran : Ran) → stepped ran new e ≡ Err r.1))
 
--- the cluster is what some events made of its founders
+-- the cluster is what some events made of its founders, who were not refused
 abbrev pub IsHistory : ClusterState → Type 0
-IsHistory c = (es : List Event) × Reaches (start c.world.config c.world.founders) es c
+IsHistory c =
+    (es : List Event)
+    × Reaches (start c.world.config c.world.founders) es c
+    × (started c.world.config c.world.founders ≡ Ok (start c.world.config c.world.founders))

@@ -1,14 +1,12 @@
 -- What each event makes of a cluster: the world's part is said by the world's definitions, the desk's by the desk's.
 -- Refusals stand in this order: no such job, no such node, never sent; not joined, unknown program, the table is full,
 -- already answered, a stranger, too many operations open, the book is full; then the world's own.
-use Rattle.std.specs.Prelude.{ℕ, nat_le, is_none, List, [], ◌∷◌, ◌++◌, length, slice_get, Option, Some, None, option_map, Result, Ok, Err, if◌then◌else◌}
+use Rattle.std.specs.Prelude.{ℕ, nat_le, List, [], ◌∷◌, ◌++◌, length, slice_get, Option, Some, None, Result, Ok, Err, if◌then◌else◌}
 use Rattle.std.specs.Ordering.{nat_cmp}
 use Rattle.std.specs.FinMap as fin
 use Rattle.sc_members.specs.Members.{Config}
+use Rattle.sc_msg.specs.declared.message.Message.{Message}
 use Rattle.sc_node.specs.declared.fault.NodeFault.TheVariants as node_fault
-use Rattle.sc_node.specs.declared.answer.Completion.{Completion}
-use Rattle.sc_node.specs.declared.answer.Completion.TheVariants as completion
-use Rattle.sc_node.specs.declared.answer.Ended.{Ended}
 use Rattle.sc_node.specs.State.{NodeState}
 use Rattle.sc_node.specs.Nodes.{most_open}
 use Rattle.sc_world.specs.declared.event.Event.TheVariants as world_event
@@ -18,16 +16,16 @@ use Rattle.sc_world.specs.declared.fault.WorldFault.TheVariants as world_fault
 use Rattle.sc_world.specs.State.{WorldState}
 use Rattle.sc_world.specs.Worlds as world
 use Rattle.bq_check.specs.Certificate.{Certificate}
-use Rattle.q_book.specs.State.{DeskState, new_desk}
-use Rattle.q_book.specs.Desks as desk
+use Rattle.q_desk.specs.State.{DeskState, new_desk}
+use Rattle.q_desk.specs.Desks as desk
+use Rattle.q_desk.specs.Desks.{ends, completed_by}
+use Rattle.q_desk.specs.declared.journal.Entry.TheVariants as entry
 use Rattle.q_session.specs.declared.ran.Ran.{Ran}
 use Rattle.q_session.specs.declared.job.Job.{Job}
-use Rattle.q_book.specs.declared.fault.DeskFault.{DeskFault}
-use Rattle.q_book.specs.declared.fault.DeskFault.TheVariants as desk_fault
+use Rattle.q_desk.specs.declared.fault.DeskFault.{DeskFault}
+use Rattle.q_desk.specs.declared.fault.DeskFault.TheVariants as desk_fault
 use Rattle.q_history.specs.declared.event.Event.{Event}
 use Rattle.q_history.specs.declared.event.Event.TheVariants as event
-use Rattle.q_history.specs.declared.event.Completed.{Completed}
-use Rattle.q_history.specs.declared.event.Completed.TheVariants as completed
 use Rattle.q_history.specs.declared.event.Handed.{Handed}
 use Rattle.q_history.specs.declared.event.Told.{Told}
 use Rattle.q_history.specs.declared.event.Told.TheVariants as told
@@ -108,45 +106,29 @@ asked c id program start n d =
     then free n (asked_by c id (desk.asked d n.operations program start))
     else Err (fault.Desk desk_fault.UnknownProgram))
 
-abbrev pub stores : ClusterState → ℕ → NodeState → DeskState → WorldStepped → Part
-stores c id n d w = record { told = told.Stored n.operations; desks = with_desk c id (desk.noted d); jobs = c.jobs }
+abbrev pub stores : ClusterState → ℕ → List ℕ → NodeState → DeskState → WorldStepped → Part
+stores c id value n d w = record { told = told.Stored n.operations; desks = with_desk c id (desk.with_entry d (entry.Store value)); jobs = c.jobs }
 
 abbrev pub stored : ClusterState → ℕ → List ℕ → NodeState → DeskState → Result (Stepped × ClusterState) ClusterFault
-stored c id value n d = joined n (free n (room d (taken (stores c id n d) (world.stepped c.world (world_event.Store id value)))))
+stored c id value n d = joined n (free n (room d (taken (stores c id value n d) (world.stepped c.world (world_event.Store id value)))))
 
 -- ---- messages
 
-abbrev pub returns : ℕ → Completion → DeskState → Option ℕ × DeskState
-returns tag completion.Stored d = (None, d)
-returns tag (completion.Returned view) d = desk.returned d tag view
-
 -- the view of a collect that ended goes to the query that waits for it
-abbrev pub ends : Option Ended → DeskState → Option ℕ × DeskState
-ends None d = (None, d)
-ends (Some e) d = returns e.tag e.what d
-
-abbrev pub completes : ℕ → Completion → Option ℕ → Option Completed
-completes tag completion.Stored query = Some (completed.Stored tag)
-completes tag (completion.Returned view) query = option_map completed.Returned query
-
--- the store that ended, or the query whose collect did
-abbrev pub completed_by : Option Ended → Option ℕ → Option Completed
-completed_by None query = None
-completed_by (Some e) query = completes e.tag e.what query
-
-abbrev pub delivers : ClusterState → ℕ → DeskState → WorldStepped → Part
-delivers c id d w =
+abbrev pub delivers : ClusterState → ℕ → Message → DeskState → WorldStepped → Part
+delivers c id m d w =
     record {
-      told = told.Delivered (completed_by w.ended (ends w.ended (desk.noted d)).0);
-      desks = with_desk c id (ends w.ended (desk.noted d)).1;
+      told = told.Delivered (completed_by w.ended (ends w.ended (desk.with_entry d (entry.Deliver m))).0);
+      desks = with_desk c id (ends w.ended (desk.with_entry d (entry.Deliver m))).1;
       jobs = c.jobs;
     }
 
+abbrev pub delivered_as : ClusterState → ℕ → ℕ → DeskState → Option Message → Result (Stepped × ClusterState) ClusterFault
+delivered_as c number id d None = Err (fault.World world_fault.NeverSent)
+delivered_as c number id d (Some m) = room d (taken (delivers c id m d) (world.stepped c.world (world_event.Deliver number id)))
+
 abbrev pub delivered : ClusterState → ℕ → ℕ → NodeState → DeskState → Result (Stepped × ClusterState) ClusterFault
-delivered c number id n d =
-    if is_none (slice_get c.world.sent number)
-    then Err (fault.World world_fault.NeverSent)
-    else room d (taken (delivers c id d) (world.stepped c.world (world_event.Deliver number id)))
+delivered c number id n d = delivered_as c number id d (slice_get c.world.sent number)
 
 -- ---- jobs
 
@@ -182,7 +164,7 @@ abbrev pub enters : ClusterState → ℕ → WorldStepped → Part
 enters c id w = record { told = told.Entered; desks = with_desk c id new_desk; jobs = c.jobs }
 
 abbrev pub leaves : ClusterState → ℕ → DeskState → WorldStepped → Part
-leaves c id d w = record { told = told.Left; desks = with_desk c id (desk.noted d); jobs = c.jobs }
+leaves c id d w = record { told = told.Left; desks = with_desk c id (desk.with_entry d entry.Leave); jobs = c.jobs }
 
 abbrev pub left : ClusterState → ℕ → NodeState → DeskState → Result (Stepped × ClusterState) ClusterFault
 left c id n d = room d (taken (leaves c id d) (world.stepped c.world (world_event.Leave id)))

@@ -2,9 +2,9 @@
 use Rattle.std.specs.Prelude.{ℕ, List, codes}
 use Rattle.sc_world.specs.Acts as acts
 use Rattle.sc_world.specs.Faults as world
-use Rattle.q_book.specs.Faults as desk
-use Rattle.q_book.specs.declared.fault.DeskFault.{DeskFault}
-use Rattle.q_book.specs.declared.fault.DeskFault.TheVariants as desk_fault
+use Rattle.q_desk.specs.Faults as desk
+use Rattle.q_desk.specs.declared.fault.DeskFault.{DeskFault}
+use Rattle.q_desk.specs.declared.fault.DeskFault.TheVariants as desk_fault
 use Rattle.q_history.specs.declared.fault.ClusterFault.{ClusterFault}
 use Rattle.q_history.specs.declared.fault.ClusterFault.TheVariants as fault
 

@@ -8,8 +8,8 @@ use Rattle.sc_world.specs.declared.op.Op.{Op}
 use Rattle.sc_world.specs.State.{WorldState}
 use Rattle.sc_world.specs.Records.{Among}
 use Rattle.sc_world.specs.Regular.{IsBefore, Meets, Holds, returned}
-use Rattle.q_book.specs.State.{DeskState}
-use Rattle.q_book.specs.Answers.{IsAnswered}
+use Rattle.q_desk.specs.State.{DeskState}
+use Rattle.q_desk.specs.Answers.{IsAnswered}
 use Rattle.q_session.specs.declared.ran.Ran.{Ran}
 use Rattle.q_session.specs.declared.query.Phase.TheVariants.{Answered}
 use Rattle.q_session.specs.declared.query.Query.{Query}

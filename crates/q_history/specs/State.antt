@@ -3,7 +3,7 @@ use Rattle.std.specs.Prelude.{List}
 use Rattle.std.specs.Ordering.{nat_cmp}
 use Rattle.std.specs.FinMap as fin
 use Rattle.sc_world.specs.State.{WorldState}
-use Rattle.q_book.specs.State.{DeskState}
+use Rattle.q_desk.specs.State.{DeskState}
 use Rattle.q_session.specs.declared.job.Job.{Job}
 
 pub record ClusterState : Type 0 where

@@ -1,5 +1,6 @@
 //! What happens to a cluster, and what it tells.
 
+use q_desk::completed::Completed;
 use q_session::ran::Ran;
 use q_table::program::{Program, ProgramId};
 use sc_world::event::Sent;
@@ -38,15 +39,6 @@ pub enum Event {
     HandOut(u64),
     /// A job, by its number, is run, and its node records the answer.
     Finish(usize),
-}
-
-/// An operation of a node that ended.
-#[derive(Clone, Copy, Debug, PartialEq, Eq)]
-pub enum Completed {
-    /// The store with this tag.
-    Stored(u64),
-    /// The collect of the query with this number.
-    Returned(usize),
 }
 
 /// A job that was handed out, and its query.

@@ -3,7 +3,7 @@
 ghost use Rattle.std.specs.Prelude.{◌≡◌};
 ghost use Rattle.q_history.specs.Faults.{fault_number, fault_name};
 
-use q_book::fault::DeskFault;
+use q_desk::fault::DeskFault;
 use sc_world::fault::WorldFault;
 
 /// Why an event is refused. After a refusal the cluster is as it was. Where several hold, the first of 83, 81, 82, 42,

@@ -1,12 +1,13 @@
 //! What is true of every history.
 
-ghost use Rattle.std.specs.Prelude.{ℕ, List};
+ghost use Rattle.std.specs.Prelude.{◌≡◌, ℕ, List, Ok};
 ghost use Rattle.sc_members.specs.Members.{Config};
 ghost use Rattle.q_history.specs.declared.event.Event.{Event};
 ghost use Rattle.q_history.specs.State.{ClusterState};
-ghost use Rattle.q_history.specs.Clusters.{start};
+ghost use Rattle.q_history.specs.Clusters.{start, started};
 ghost use Rattle.q_history.specs.Calls.{Reaches, IsHistory};
 ghost use Rattle.q_history.specs.Headline.{AnswersAreTrue, AnswersStay};
+ghost use Rattle.q_history.specs.Books.{BooksAreReplays};
 
 /// A law: whatever the founders are, and whatever list of events is accepted, in which messages are lost, repeated and
 /// reordered, nodes enter, leave and crash, and jobs are finished in any order or never, each recorded answer is right.
@@ -20,4 +21,11 @@ pub fn every_answer_is_true()
 /// A law: in every history a recorded answer stays as it is, whatever is accepted after it.
 pub fn answers_stay()
     ensures { (c later : ClusterState) (events : List Event) → IsHistory c → Reaches c events later → AnswersStay c later }
+{}
+
+/// A law: in every history of founders that are not refused, each node with its desk is the replay of its own journal,
+/// also where the node has left or crashed. The calls that the journal names, from the node's first state, lead to this
+/// node and this desk.
+pub fn every_book_is_a_replay()
+    ensures { (config : Config) (founders : List ℕ) (events : List Event) (c : ClusterState) → started config founders ≡ Ok (start config founders) → Reaches (start config founders) events c → BooksAreReplays c }
 {}

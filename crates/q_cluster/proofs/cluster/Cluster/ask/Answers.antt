@@ -2,8 +2,8 @@ use Rattle.std.proofs.Common.{◌≡◌, ◌∙◌, refl, sym, ap, subst, ℕ, R
 use Rattle.std.proofs.lemmas.Result.{err_from_is_err_and}
 use Rattle.sc_world.specs.declared.event.Event.TheVariants as world_event
 use Rattle.q_table.specs.Calls.{Steps}
-use Rattle.q_book.specs.Desks as desk
-use Rattle.q_book.specs.declared.fault.DeskFault.{DeskFault}
+use Rattle.q_desk.specs.Desks as desk
+use Rattle.q_desk.specs.declared.fault.DeskFault.{DeskFault}
 use Rattle.q_history.specs.declared.event.Event.TheVariants as event
 use Rattle.q_history.specs.declared.event.Stepped.{Stepped}
 use Rattle.q_history.specs.declared.event.Told.TheVariants as told

@@ -1,8 +1,8 @@
 use Rattle.std.proofs.Common.{◌≡◌, ◌∙◌, refl, sym, ap, subst, Some, Result, Ok, Err}
 use Rattle.std.proofs.lemmas.Result.{err_from_is_err_and}
 use Rattle.std.specs.FinMap as fin
-use Rattle.q_book.specs.Desks as desk
-use Rattle.q_book.specs.declared.fault.DeskFault.{DeskFault}
+use Rattle.q_desk.specs.Desks as desk
+use Rattle.q_desk.specs.declared.fault.DeskFault.{DeskFault}
 use Rattle.q_session.specs.declared.job.Job.{Job}
 use Rattle.q_session.specs.Done.{Finished}
 use Rattle.q_history.specs.declared.event.Event.TheVariants as event

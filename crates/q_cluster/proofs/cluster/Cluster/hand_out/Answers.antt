@@ -1,6 +1,6 @@
 use Rattle.std.proofs.Common.{sym, subst, ap, ◌∙◌, List, Option, Result}
-use Rattle.q_book.specs.Desks as desk
-use Rattle.q_book.specs.declared.fault.DeskFault.{DeskFault}
+use Rattle.q_desk.specs.Desks as desk
+use Rattle.q_desk.specs.declared.fault.DeskFault.{DeskFault}
 use Rattle.q_session.specs.declared.job.Job.{Job}
 use Rattle.q_history.specs.declared.event.Event.TheVariants as event
 use Rattle.q_history.specs.State.{ClusterState}

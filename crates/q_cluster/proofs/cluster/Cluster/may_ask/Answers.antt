@@ -1,5 +1,5 @@
 use Rattle.std.proofs.Common.{◌≡◌, ℕ, sym, subst}
-use Rattle.q_book.specs.Desks as desk
+use Rattle.q_desk.specs.Desks as desk
 use Rattle.q_history.specs.Clusters.{asked, asked_by}
 use Rattle.q_cluster.specs.Acts.{IsThere}
 use Rattle.q_cluster.proofs.Events.{is_fine, ask_passed}

@@ -1,13 +1,16 @@
-use Rattle.std.proofs.Common.{◌≡◌, subst, is_none, false, slice_get}
+use Rattle.std.proofs.Common.{◌≡◌, sym, subst, Some, slice_get}
+use Rattle.sc_msg.specs.declared.message.Message.{Message}
+use Rattle.sc_node.specs.State.{NodeState}
+use Rattle.q_desk.specs.State.{DeskState}
 use Rattle.q_history.specs.State.{ClusterState}
 use Rattle.q_cluster.specs.Acts.{IsThere}
-use Rattle.q_cluster.proofs.Going.{tests_deliver, sent_known}
+use Rattle.q_cluster.proofs.Going.{made}
 use Rattle.q_cluster.proofs.cluster.Cluster.may_deliver.Goals as goal
 
-pub returns : goal.returns
-returns c =
-    let d = c.in_ok-desk.field-0.desk.now in
-    let n = c.in_ok-desk.field-0.node.now in
-    let there : IsThere c.args.self.now c.args.id n d = c.in_ok-desk.ensures.there in
-    let sent : is_none (slice_get c.args.self.now.world.sent c.args.message) ≡ false = subst (λ (x : ClusterState). is_none (slice_get x.world.sent c.args.message) ≡ false) c.self.view_is (sent_known c.message.result _ c.message.ensures c.if-is_none.ensures) in
-    tests_deliver c.args.self.now c.args.message c.args.id n d there sent c.room.result c.room.ensures
+pub returns-clause-message : goal.returns-clause-message
+returns-clause-message c =
+    let x : ClusterState = c.args.self.now in
+    let m : Message = c.in-Some.message.now in
+    let sent : slice_get x.world.sent c.args.message ≡ Some m = subst (λ (y : ClusterState). slice_get y.world.sent c.args.message ≡ Some m) c.self.view_is (sym c.in-Some.ensures) in
+    made _ _ c.clone.result c.map_err.result m (λ (a : Message). (slice_get x.world.sent c.args.message ≡ Some a) × ((n : NodeState) × (d : DeskState) × IsThere x c.args.id n d)) c.map_err.ensures.cases c.clone.ensures.cases c.map_err.ensures.variant
+    (sent, (c.in_ok-place.field-0.node.now, c.in_ok-place.field-0.desk.now, c.in_ok-place.ensures.there))

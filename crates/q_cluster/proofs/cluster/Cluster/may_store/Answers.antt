@@ -7,5 +7,5 @@ returns c value =
     let n = c.in_ok-node.field-0.node.now in
     let d = c.in_ok-node.field-0.desk.now in
     let there : IsThere c.args.self.now c.args.id n d = c.in_ok-node.ensures.there in
-    let p = store_passed c.args.self.now c.args.id value n d there (is_fine c.in_ok-joined.field-0 _ c.in_ok-joined.ensures) (is_fine c.in_ok-free.field-0 _ c.in_ok-free.ensures) (is_fine c.in_ok-room.field-0 _ c.in_ok-room.ensures) in
-    (n, d, there, (c.operations.ensures, p.1, p.2))
+    let p = store_passed c.args.self.now c.args.id value n d there (is_fine c.in_ok-joined.field-0 _ c.in_ok-joined.ensures) (is_fine c.in_ok-free.field-0 _ c.in_ok-free.ensures) in
+    (n, d, there, (c.operations.ensures, p.1))

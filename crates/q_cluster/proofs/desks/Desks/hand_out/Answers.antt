@@ -1,6 +1,6 @@
 use Rattle.std.proofs.Common.{Option, IsSome, refl, subst}
-use Rattle.q_book.specs.State.{DeskState}
-use Rattle.q_book.specs.Desks as desk
+use Rattle.q_desk.specs.State.{DeskState}
+use Rattle.q_desk.specs.Desks as desk
 use Rattle.q_cluster.proofs.Tables.{steps_at}
 use Rattle.q_cluster.proofs.desks.Desks.hand_out.Goals as goal
 

@@ -1,9 +1,9 @@
 use Rattle.std.proofs.Common.{Option, IsSome, refl, subst}
 use Rattle.bq_check.specs.Certificate.{Certificate}
 use Rattle.q_table.specs.Calls.{Steps}
-use Rattle.q_book.specs.declared.fault.DeskFault.TheVariants as fault
-use Rattle.q_book.specs.State.{DeskState}
-use Rattle.q_book.specs.Desks as desk
+use Rattle.q_desk.specs.declared.fault.DeskFault.TheVariants as fault
+use Rattle.q_desk.specs.State.{DeskState}
+use Rattle.q_desk.specs.Desks as desk
 use Rattle.q_cluster.proofs.Tables.{steps_at}
 use Rattle.q_cluster.proofs.desks.Desks.register.Goals as goal
 

@@ -1,5 +1,5 @@
 use Rattle.std.proofs.Common.{Option, IsSome, refl, sym, subst, ◌∙◌}
-use Rattle.q_book.specs.State.{DeskState}
+use Rattle.q_desk.specs.State.{DeskState}
 use Rattle.q_cluster.proofs.Tables.{restored_at, removed_at, not_there}
 use Rattle.q_cluster.proofs.desks.Desks.restore.Goals as goal
 

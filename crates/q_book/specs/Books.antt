@@ -1,0 +1,132 @@
+-- What each call of a book answers and makes of it, or why it is refused: the node's part is said by the node's
+-- definitions, the desk's by the desk's. Refusals stand in this order: the node has left, has not joined; unknown
+-- program, the table is full, already answered, a stranger; too many operations open, the book is full; then the node's
+-- own.
+use Rattle.std.specs.Prelude.{ℕ, nat_le, List, Option, Some, None, Result, Ok, Err, if◌then◌else◌}
+use Rattle.std.specs.FinMap as fin
+use Rattle.sc_members.specs.Members.{Config}
+use Rattle.sc_msg.specs.declared.message.Message.{Message}
+use Rattle.sc_node.specs.declared.answer.Begun.{Begun}
+use Rattle.sc_node.specs.declared.answer.Delivered.{Delivered}
+use Rattle.sc_node.specs.declared.fault.NodeFault.{NodeFault}
+use Rattle.sc_node.specs.declared.fault.NodeFault.TheVariants as node_fault
+use Rattle.sc_node.specs.State.{NodeState}
+use Rattle.sc_node.specs.Nodes as node
+use Rattle.bq_check.specs.Certificate.{Certificate}
+use Rattle.q_session.specs.declared.ran.Ran.{Ran}
+use Rattle.q_session.specs.declared.job.Job.{Job}
+use Rattle.q_desk.specs.State.{DeskState, new_desk}
+use Rattle.q_desk.specs.Desks as desk
+use Rattle.q_desk.specs.declared.fault.DeskFault.{DeskFault}
+use Rattle.q_desk.specs.declared.fault.DeskFault.TheVariants as desk_fault
+use Rattle.q_desk.specs.declared.journal.Entry.{Entry}
+use Rattle.q_desk.specs.declared.journal.Entry.TheVariants as entry
+use Rattle.q_book.specs.declared.answer.Asked.{Asked}
+use Rattle.q_book.specs.declared.answer.Storing.{Storing}
+use Rattle.q_book.specs.declared.answer.Taken.{Taken}
+use Rattle.q_book.specs.declared.fault.BookFault.{BookFault}
+use Rattle.q_book.specs.declared.fault.BookFault.TheVariants as fault
+use Rattle.q_book.specs.Faults.{of_desk}
+use Rattle.q_book.specs.State.{BookState}
+
+-- ---- how the parts are put together
+
+-- the desk does its part, and the rest follows
+abbrev pub by_desk : {A B : Type 0} → (A → DeskState → Result B BookFault) → Result (A × DeskState) DeskFault → Result B BookFault
+by_desk f (Ok a) = f a.0 a.1
+by_desk f (Err e) = Err (of_desk e)
+
+-- the node does its part, and the rest follows
+abbrev pub by_node : {A B : Type 0} → (A → NodeState → B) → Result (A × NodeState) NodeFault → Result B BookFault
+by_node f (Ok a) = Ok (f a.0 a.1)
+by_node f (Err e) = Err (fault.Node e)
+
+abbrev pub here : {A : Type 0} → BookState → Result A BookFault → Result A BookFault
+here b rest = if b.node.gone then Err (fault.Node node_fault.Gone) else rest
+
+abbrev pub joined : {A : Type 0} → BookState → Result A BookFault → Result A BookFault
+joined b rest = if b.node.joined then rest else Err (fault.Node node_fault.NotJoined)
+
+abbrev pub free : {A : Type 0} → BookState → Result A BookFault → Result A BookFault
+free b rest = if nat_le node.most_open (fin.len b.node.sessions) then Err (fault.Node node_fault.SessionsFull) else rest
+
+abbrev pub known : {A : Type 0} → BookState → ℕ → Result A BookFault → Result A BookFault
+known b program rest = if desk.knows b.desk program then rest else Err (fault.Desk desk_fault.UnknownProgram)
+
+-- ---- the desk's calls
+
+abbrev pub with_desk : {A : Type 0} → BookState → A → DeskState → Result (A × BookState) BookFault
+with_desk b a d = Ok (a, record b { desk = d })
+
+abbrev pub registered : BookState → Certificate → Result (ℕ × BookState) BookFault
+registered b program = here b (by_desk (with_desk b) (desk.registered b.desk program))
+
+abbrev pub handed_out : BookState → Result (Option Job × BookState) BookFault
+handed_out b = here b (by_desk (with_desk b) (desk.handed_out b.desk b.id))
+
+abbrev pub posted : BookState → Job → Ran → Result (Unit {0} × BookState) BookFault
+posted b j ran = here b (by_desk (with_desk b) (desk.posted b.desk b.id j ran))
+
+-- ---- queries and stores
+
+abbrev pub asks : BookState → ℕ → DeskState → Begun → NodeState → Asked × BookState
+asks b query d begun n = (record { query = query; outs = begun.outs }, record b { node = n; desk = d })
+
+abbrev pub asks_node : BookState → ℕ → DeskState → Result (Asked × BookState) BookFault
+asks_node b query d = by_node (asks b query d) (node.collect_begun b.node)
+
+-- the node begins to collect, and the query waits for that collect, by its tag
+abbrev pub asked : BookState → ℕ → ℕ → Result (Asked × BookState) BookFault
+asked b program start =
+    here b (joined b (known b program (free b (by_desk (asks_node b) (desk.asked b.desk b.node.operations program start)))))
+
+abbrev pub stores : BookState → DeskState → Begun → NodeState → Storing × BookState
+stores b d begun n = (record { tag = begun.tag; outs = begun.outs }, record b { node = n; desk = d })
+
+abbrev pub stores_node : BookState → List ℕ → Unit {0} → DeskState → Result (Storing × BookState) BookFault
+stores_node b value u d = by_node (stores b d) (node.store_begun b.node value)
+
+abbrev pub stored : BookState → List ℕ → Result (Storing × BookState) BookFault
+stored b value = here b (joined b (free b (by_desk (stores_node b value) (desk.noted b.desk (entry.Store value)))))
+
+-- ---- messages
+
+-- the view of a collect that ended goes to the query that waits for it
+abbrev pub delivers : BookState → DeskState → Delivered → NodeState → Taken × BookState
+delivers b d told n = (
+  record { outs = told.outs; completed = desk.completed_by told.ended (desk.ends told.ended d).0 },
+  record b { node = n; desk = (desk.ends told.ended d).1 },
+)
+
+abbrev pub delivers_node : BookState → Message → Unit {0} → DeskState → Result (Taken × BookState) BookFault
+delivers_node b m u d = by_node (delivers b d) (node.delivered b.node m)
+
+abbrev pub delivered : BookState → Message → Result (Taken × BookState) BookFault
+delivered b m = here b (by_desk (delivers_node b m) (desk.noted b.desk (entry.Deliver m)))
+
+abbrev pub leaves : BookState → DeskState → List Message → NodeState → List Message × BookState
+leaves b d outs n = (outs, record b { node = n; desk = d })
+
+abbrev pub leaves_node : BookState → Unit {0} → DeskState → Result (List Message × BookState) BookFault
+leaves_node b u d = by_node (leaves b d) (node.left b.node)
+
+abbrev pub left : BookState → Result (List Message × BookState) BookFault
+left b = here b (by_desk (leaves_node b) (desk.noted b.desk entry.Leave))
+
+-- ---- the first state
+
+-- a book before any call
+abbrev pub new_book : ℕ → Config → Option (List ℕ) → NodeState → BookState
+new_book id config founders n = record { id = id; config = config; founders = founders; node = n; desk = new_desk }
+
+abbrev pub founds : ℕ → Config → List ℕ → Result NodeState NodeFault → Result BookState BookFault
+founds id config ids (Ok n) = Ok (new_book id config (Some ids) n)
+founds id config ids (Err e) = Err (fault.Node e)
+
+-- the book of a founder
+abbrev pub founded : Config → ℕ → List ℕ → Result BookState BookFault
+founded config id ids = founds id config ids (node.founded config id ids)
+
+-- the book of a node that enters, and what the node sends
+abbrev pub entered : Config → ℕ → BookState × List Message
+entered config id = (new_book id config None (node.entered config id).0, (node.entered config id).1)

@@ -1,0 +1,40 @@
+-- That a book is the replay of its journal.
+use Rattle.std.specs.Prelude.{◌≡◌, ℕ, List, [], ◌∷◌, Option, Some, None, Result, Ok}
+use Rattle.sc_msg.specs.declared.message.Message.{Message}
+use Rattle.sc_node.specs.State.{NodeState}
+use Rattle.sc_node.specs.Nodes as node
+use Rattle.q_session.specs.Right.{IsRight}
+use Rattle.q_session.specs.declared.job.Job.{Job}
+use Rattle.q_desk.specs.declared.journal.Entry.{Entry}
+use Rattle.q_desk.specs.declared.journal.Entry.TheVariants as entry
+use Rattle.q_book.specs.declared.answer.Asked.{Asked}
+use Rattle.q_book.specs.declared.answer.Storing.{Storing}
+use Rattle.q_book.specs.declared.answer.Taken.{Taken}
+use Rattle.q_book.specs.State.{BookState}
+use Rattle.q_book.specs.Books.{registered, asked, stored, delivered, left, handed_out, posted, new_book}
+
+-- The call of an entry is accepted, and leads from one book to another. What is posted is the right answer of a job.
+abbrev pub Follows : BookState → Entry → BookState → Type 0
+Follows b entry.Leave c = (outs : List Message) × (left b ≡ Ok (outs, c))
+Follows b (entry.Register program) c = (id : ℕ) × (registered b program ≡ Ok (id, c))
+Follows b (entry.Ask program start) c = (a : Asked) × (asked b program start ≡ Ok (a, c))
+Follows b (entry.Store value) c = (a : Storing) × (stored b value ≡ Ok (a, c))
+Follows b (entry.Deliver m) c = (a : Taken) × (delivered b m ≡ Ok (a, c))
+Follows b entry.HandOut c = (j : Job) × (handed_out b ≡ Ok (Some j, c))
+Follows b (entry.Post query ran) c = (j : Job) × (j.query ≡ query) × IsRight j.certified j.view j.start ran × (posted b j ran ≡ Ok (tt, c))
+
+-- the calls of these entries lead from one book to another
+abbrev pub Replays : BookState → List Entry → BookState → Type 0
+Replays b [] c = c ≡ b
+Replays b (e ∷ es) c = (between : BookState) × Follows b e between × Replays between es c
+
+-- the node before its first event: a founder's, or that of a node that enters
+abbrev pub IsFirst : BookState → NodeState → Option (List ℕ) → Type 0
+IsFirst b n (Some ids) = node.founded b.config b.id ids ≡ Ok n
+IsFirst b n None = n ≡ (node.entered b.config b.id).0
+
+-- the book is what its journal makes of its first state
+pub record IsReplay (b : BookState) : Type 0 where
+  pub first : NodeState
+  pub begun : IsFirst b first b.founders
+  pub replayed : Replays (new_book b.id b.config b.founders first) b.desk.journal b

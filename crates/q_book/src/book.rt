@@ -1,0 +1,286 @@
+//! A book: a node with its desk.
+
+ghost use Rattle.std.specs.Prelude.{◌≡◌, length, Ok};
+ghost use Rattle.q_table.specs.Calls.{Steps, Gives};
+ghost use Rattle.q_desk.specs.Desks as desk;
+ghost use Rattle.q_desk.specs.Desks.{ends, completed_by};
+ghost use Rattle.q_desk.specs.Answers.{AnswersAreRight};
+ghost use Rattle.q_book.specs.Faults.{memory};
+ghost use Rattle.q_book.specs.Books.{here, joined, known, free, registered, asked, stored, delivered, left, handed_out, posted, founded, entered};
+ghost use Rattle.q_book.specs.Replays.{IsReplay};
+
+use crate::answer::{Asked, Storing, Taken};
+use crate::fault::BookFault;
+use q_desk::desk::Desk;
+use q_desk::fault::DeskFault;
+use q_desk::journal::Entry;
+use q_session::done::Done;
+use q_session::job::Job;
+use q_session::ran::Ran;
+use q_table::program::{Program, ProgramId};
+use sc_members::config::Config;
+use sc_msg::message::Message;
+use sc_node::answer::Delivered;
+use sc_node::fault::NodeFault;
+use sc_node::node::{MOST_OPEN, Node};
+use sc_node::outs::Outs;
+use std::alloc::Global;
+use std::marker::Model;
+
+/// A node with its desk. Contracts see it as the record of its fields. It is the replay of its journal.
+#[derive(Drop)]
+pub struct Book {
+    id: u64,
+    config: Config,
+    founders: Option<Vec<u64>>,
+    node: Node,
+    desk: Desk,
+}
+
+impl Model for Book {
+    ghost use Rattle.std.specs.Prelude.{option_map};
+    ghost use Rattle.std.specs.Coded.{codes};
+    ghost use Rattle.sc_node.specs.contracts.node.Node as node_row;
+    ghost use Rattle.q_desk.specs.contracts.desk.Desk as desk_row;
+    ghost use Rattle.q_book.specs.State.{BookState};
+    ghost use Rattle.q_book.specs.Replays.{IsReplay};
+
+    ghost Value = { BookState };
+
+    ghost coded = { Prim.hlevel (codes, node_row.the_row.coded, desk_row.the_row.coded) };
+
+    ghost view = { λ b. record { id = b.id; config = b.config; founders = option_map (λ v. v.items) b.founders; node = b.node; desk = b.desk } };
+
+    ghost invariant = { λ b. IsReplay (record { id = b.id; config = b.config; founders = option_map (λ v. v.items) b.founders; node = b.node; desk = b.desk }) };
+}
+
+impl Book {
+    /// The book of a founder. The ids rise strictly, are 1 to 256, and hold this one; else it is refused with 49, or
+    /// with 99.
+    pub fn founder(
+        alloc: Global,
+        config: Config,
+        id: u64,
+        founders: &[u64],
+    ) -> Result<Book, BookFault>
+        ensures { Gives memory (founded config id founders.now) result }
+    {
+        let node = Node::founder(alloc, config, id, founders)?;
+        let founders = Vec::from_slice(alloc, founders)?;
+        Ok(Book {
+            id,
+            config,
+            founders: Some(founders),
+            node,
+            desk: Desk::new(alloc),
+        })
+    }
+
+    /// The book of a node that enters a running cluster, and what it sends. Refused with 99 alone.
+    pub fn entering(alloc: Global, config: Config, id: u64) -> Result<(Book, Outs), BookFault>
+        ensures { Gives memory (Ok (entered config id)) result }
+    {
+        let (node, outs) = Node::entering(alloc, config, id)?;
+        let book = Book {
+            id,
+            config,
+            founders: None,
+            node,
+            desk: Desk::new(alloc),
+        };
+        Ok((book, outs))
+    }
+
+    /// Registers a program; a text that is there keeps its id. Refused with 42, 52, 53, 99.
+    pub fn register(&mut self, program: &Program) -> Result<ProgramId, BookFault>
+        ensures { Steps memory (registered self.old program.now) self.old self.new result }
+    {
+        self.check_here()?;
+        let id = self.desk.register(program.shared())?;
+        Ok(id)
+    }
+
+    /// A query begins, and with it a collect. Refused with 42, 41, 51, 43, 53, 48, 99.
+    pub fn ask(&mut self, program: ProgramId, start: u64) -> Result<Asked, BookFault>
+        ensures { Steps memory (asked self.old program start) self.old self.new result }
+    {
+        self.check_asking(program)?;
+        let query = self.desk.ask(self.node.operations(), program, start)?;
+        match self.node.begin_collect() {
+            Ok(begun) => Ok(Asked::new(query, begun)),
+            Err(fault) => {
+                self.desk.withdraw();
+                Err(BookFault::Node(fault))
+            }
+        }
+    }
+
+    /// Begins to store a value. Refused with 42, 41, 43, 53, 48, 46, 99.
+    pub fn store(&mut self, value: &[u8; 48]) -> Result<Storing, BookFault>
+        ensures { Steps memory (stored self.old value.now) self.old self.new result }
+    {
+        self.check_storing()?;
+        self.desk.note(Entry::Store(*value))?;
+        match self.node.begin_store(value) {
+            Ok(begun) => Ok(Storing::new(begun)),
+            Err(fault) => {
+                self.desk.forget();
+                Err(BookFault::Node(fault))
+            }
+        }
+    }
+
+    /// Takes a message, also one that it took before, and its own. The view of a collect that ends goes to its query.
+    /// Refused with 42, 53, 46, 47, 99.
+    pub fn deliver(&mut self, message: &Message) -> Result<Taken, BookFault>
+        ensures { Steps memory (delivered self.old message.now) self.old self.new result }
+    {
+        self.check_here()?;
+        self.desk.note(Entry::Deliver(message.clone()?))?;
+        match self.node.deliver(message) {
+            Ok(delivered) => Ok(take(&mut self.desk, delivered)),
+            Err(fault) => {
+                self.desk.forget();
+                Err(BookFault::Node(fault))
+            }
+        }
+    }
+
+    /// Leaves for good: every later call that changes something is refused with 42. Refused with 42, 53, 47, 99.
+    pub fn leave(&mut self) -> Result<Outs, BookFault>
+        ensures { Steps memory (left self.old) self.old self.new result }
+    {
+        self.check_here()?;
+        self.desk.note(Entry::Leave)?;
+        match self.node.leave() {
+            Ok(outs) => Ok(outs),
+            Err(fault) => {
+                self.desk.forget();
+                Err(BookFault::Node(fault))
+            }
+        }
+    }
+
+    /// Hands out the job of the ready query with the least number; none where no query is ready, also where the journal
+    /// is full. Refused with 42, 53, 99.
+    pub fn hand_out(&mut self) -> Result<Option<Job>, BookFault>
+        ensures { Steps memory (handed_out self.old) self.old self.new result }
+    {
+        self.check_here()?;
+        let job = self.desk.hand_out(self.id)?;
+        Ok(job)
+    }
+
+    /// Records the result of a job as its query's answer. Refused with 42, 56, 55, 53, 99.
+    pub fn post(&mut self, done: &Done) -> Result<(), BookFault>
+        ensures { Steps memory (posted self.old done.now.job done.now.ran) self.old self.new result }
+    {
+        self.check_here()?;
+        let _job = done.job();
+        self.desk.post(self.id, done)?;
+        Ok(())
+    }
+
+    /// The recorded answer of a query, if there is one yet; also where the node has left. Refused with 54. Takes no
+    /// memory.
+    pub fn answer(&self, query: usize) -> Result<Option<Ran>, DeskFault>
+        ensures { result ≡ desk.answer_of self.now.desk query }
+    {
+        self.desk.answer(query)
+    }
+
+    /// The node.
+    pub fn node(&self) -> &Node
+        ensures { result.now ≡ self.now.node }
+    {
+        &self.node
+    }
+
+    /// The desk: its programs and queries. Each recorded answer is right.
+    pub fn desk(&self) -> &Desk
+        ensures desk { result.now ≡ self.now.desk }
+        ensures right { AnswersAreRight self.now.desk }
+    {
+        let _queries = self.desk.queries();
+        &self.desk
+    }
+
+    /// The journal: each call that was accepted and changed something, in turn. The book is its replay.
+    pub fn journal(&self) -> &[Entry]
+        ensures journal { result.now ≡ self.now.desk.journal }
+        ensures replay { IsReplay self.now }
+    {
+        self.desk.journal()
+    }
+
+    /// How many entries the journal has.
+    pub fn events(&self) -> usize
+        ensures { result ≡ length self.now.desk.journal }
+    {
+        self.journal().len()
+    }
+}
+
+impl Book {
+    // Whether the node has not left.
+    fn check_here(&self) -> Result<(), BookFault>
+        ensures { result ≡ here self.now (Ok tt) }
+    {
+        if self.node.is_gone() {
+            return Err(BookFault::Node(NodeFault::Gone));
+        }
+        Ok(())
+    }
+
+    // Whether the node is there and has joined.
+    fn check_joined(&self) -> Result<(), BookFault>
+        ensures { result ≡ here self.now (joined self.now (Ok tt)) }
+    {
+        self.check_here()?;
+        if !self.node.has_joined() {
+            return Err(BookFault::Node(NodeFault::NotJoined));
+        }
+        Ok(())
+    }
+
+    // Whether one more operation may be open.
+    fn check_free(&self) -> Result<(), BookFault>
+        ensures { result ≡ free self.now (Ok tt) }
+    {
+        if MOST_OPEN <= self.node.open_operations() {
+            return Err(BookFault::Node(NodeFault::SessionsFull));
+        }
+        Ok(())
+    }
+
+    // Whether a query of this program may begin, as far as the book's room is not asked.
+    fn check_asking(&self, program: ProgramId) -> Result<(), BookFault>
+        ensures { result ≡ here self.now (joined self.now (known self.now program (free self.now (Ok tt)))) }
+    {
+        self.check_joined()?;
+        if !self.desk.knows(program) {
+            return Err(BookFault::Desk(DeskFault::UnknownProgram));
+        }
+        self.check_free()
+    }
+
+    // Whether a store may begin, as far as the book's room is not asked.
+    fn check_storing(&self) -> Result<(), BookFault>
+        ensures { result ≡ here self.now (joined self.now (free self.now (Ok tt))) }
+    {
+        self.check_joined()?;
+        self.check_free()
+    }
+}
+
+// What is told of a message that the node took; the view of a collect that ended goes to its query.
+fn take(desk: &mut Desk, delivered: Delivered) -> Taken
+    ensures told { result ≡ record { outs = delivered.outs; completed = completed_by delivered.ended (ends delivered.ended desk.old).0 } }
+    ensures new { desk.new ≡ (ends delivered.ended desk.old).1 }
+{
+    let completed = desk.end(delivered.ended);
+    Taken {
+        outs: delivered.outs,
+        completed,
+    }
+}

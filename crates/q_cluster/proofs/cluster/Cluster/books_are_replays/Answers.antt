@@ -1,0 +1,10 @@
+use Rattle.std.proofs.Common.{subst}
+use Rattle.q_history.specs.Books.{BooksAreReplays}
+use Rattle.q_history.specs.State.{ClusterState}
+use Rattle.q_cluster.specs.contracts.cluster.Cluster as cluster
+use Rattle.q_cluster.proofs.cluster.Cluster.books_are_replays.Goals as goal
+
+pub returns : goal.returns
+returns c =
+    let v : ClusterState = cluster.the_view c.self.inside in
+    subst (λ (x : ClusterState). BooksAreReplays x) c.self.view_is (c.every_book_is_a_replay.ensures v.world.config v.world.founders c.self.invariant.0 v c.self.invariant.2 c.self.invariant.1)

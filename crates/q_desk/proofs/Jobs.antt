@@ -1,0 +1,102 @@
+-- What a job that is handed out or posted makes of a desk.
+use Rattle.std.proofs.Common.{◌≡◌, ℕ, true, List, length, Option, Some, None, Ok, refl, sym, ap, subst, ◌∙◌, rules, eq-eqb}
+use Rattle.std.specs.Prelude.{slice_get, position, nat_lt, ◌==◌}
+use Rattle.std.specs.Cmp.{first_so, second_so, unsigned_Decides}
+use Rattle.sc_view.specs.Views.{ViewMap}
+use Rattle.bq_check.specs.Certificate.{Certificate}
+use Rattle.q_session.specs.Right.{IsRight}
+use Rattle.q_session.specs.declared.ran.Ran.{Ran}
+use Rattle.q_session.specs.declared.query.Phase.{Phase}
+use Rattle.q_session.specs.declared.query.Phase.TheVariants.{Collecting, Ready, Running, Answered}
+use Rattle.q_session.specs.declared.query.Query.{Query}
+use Rattle.q_session.specs.declared.job.Job.{Job}
+use Rattle.q_desk.specs.State.{DeskState}
+use Rattle.q_desk.specs.declared.journal.Entry.{Entry}
+use Rattle.q_desk.specs.declared.journal.Entry.TheVariants as entry
+use Rattle.q_desk.specs.Desks.{most_entries, with_phase, is_ready, is_same_view, is_job_of, job_of, job_at, job_from, next_job, handed_out, posted}
+use Rattle.q_desk.specs.Answers.{IsDesk, IsAnswered}
+use Rattle.q_desk.proofs.Views.{same-view, right-of_same}
+use Rattle.q_desk.proofs.Keeps.{IsAppended, desk-appended, desk-running, desk-with_phase}
+
+-- a ready query of the desk whose view the job has
+record IsFound (s : DeskState) (j : Job) : Type 0 where
+  query : Query
+  there : slice_get s.queries j.query ≡ Some query
+  ready : query.phase ≡ Ready j.view
+
+found-of : (s : DeskState) (node k : ℕ) (q : Query) (p : Phase) (c : Option Certificate) (j : Job) → slice_get s.queries k ≡ Some q → q.phase ≡ p → job_of node k q p c ≡ Some j → IsFound s j
+found-of s node k q (Ready view) (Some c) j there ready e =
+    let made : Job = record { node = node; query = k; program = q.program; start = q.start; certified = c; view = view } in
+    let same : made ≡ j = cc in
+    subst (λ (x : Job). IsFound s x) same (record { query = q; there = there; ready = ready })
+found-of s node k q (Ready view) None j there ready e = absurd (cc)
+found-of s node k q Collecting c j there ready e = absurd (cc)
+found-of s node k q (Running view) c j there ready e = absurd (cc)
+found-of s node k q (Answered view ran) c j there ready e = absurd (cc)
+
+found-at : (s : DeskState) (node k : ℕ) (o : Option Query) (j : Job) → slice_get s.queries k ≡ o → job_at s node k o ≡ Some j → IsFound s j
+found-at s node k None j there e = absurd (cc)
+found-at s node k (Some q) j there e = found-of s node k q q.phase (slice_get s.programs q.program) j there refl e
+
+found-from : (s : DeskState) (node : ℕ) (o : Option ℕ) (j : Job) → job_from s node o ≡ Some j → IsFound s j
+found-from s node None j e = absurd (cc)
+found-from s node (Some k) j e = found-at s node k (slice_get s.queries k) j refl e
+
+found : (s : DeskState) (node : ℕ) (j : Job) → Some j ≡ next_job s node → IsFound s j
+found s node j e = found-from s node (position (λ q. is_ready q.phase) s.queries) j (sym e)
+
+-- the query of this number is in the next phase, where it is in the first
+abbrev pub Moves : List Query → List Query → ℕ → Phase → Phase → Type 0
+Moves queries after k from to = (q : Query) → slice_get queries k ≡ Some q → q.phase ≡ from → after ≡ with_phase queries k to
+
+pub desk-handed : (s : DeskState) (node : ℕ) (j : Job) (queries : List Query) (journal : List Entry) → IsDesk s → Some j ≡ next_job s node → IsAppended s entry.HandOut journal → ((view : ViewMap) → Moves s.queries queries j.query (Ready view) (Running view)) → IsDesk (record s { queries = queries; journal = journal })
+desk-handed s node j queries journal d next a moves =
+    let f = found s node j next in
+    subst (λ (x : List Query). IsDesk (record s { queries = x; journal = journal })) (sym (moves j.view f.query f.there f.ready))
+    (desk-appended (record s { queries = with_phase s.queries j.query (Running j.view) }) entry.HandOut journal (record { room = a.room; is = a.is }) (desk-running s j.query j.view d))
+
+pub handed : (s : DeskState) (node : ℕ) (j : Job) (queries : List Query) (journal : List Entry) → Some j ≡ next_job s node → IsAppended s entry.HandOut journal → ((view : ViewMap) → Moves s.queries queries j.query (Ready view) (Running view)) → handed_out s node ≡ Ok (Some j, record s { queries = queries; journal = journal })
+handed s node j queries journal next a moves =
+    let f = found s node j next in
+    let room = a.room in
+    let small : nat_lt (length s.journal) most_entries ≡ true = search rules in
+    rw (← next, small, moves j.view f.query f.there f.ready, a.is) refl
+
+pub desk-posted : (s : DeskState) (j : Job) (ran : Ran) (q : Query) (view : ViewMap) (queries : List Query) (journal : List Entry) → IsDesk s → slice_get s.queries j.query ≡ Some q → IsAnswered s q view ran → IsAppended s (entry.Post j.query ran) journal → queries ≡ with_phase s.queries j.query (Answered view ran) → IsDesk (record s { queries = queries; journal = journal })
+desk-posted s j ran q view queries journal d there right a after =
+    let kept = desk-with_phase s j.query (Answered view ran) d (λ p here v r e.
+    let same : q ≡ p = cc in
+    let program = right.program in
+    let named : slice_get s.programs p.program ≡ Some program = ap (λ (x : Query). slice_get s.programs x.program) (sym same) ∙ right.named in
+    let sound : IsRight program view p.start ran = subst (λ (x : Query). IsRight program view x.start ran) same right.right in
+    let v-same : view ≡ v = cc in
+    let r-same : ran ≡ r = cc in
+    record { program = program; named = named; right = subst (λ (x : ViewMap). IsRight program x p.start r) v-same (subst (λ (x : Ran). IsRight program view p.start x) r-same sound) }) in
+    subst (λ (x : List Query). IsDesk (record s { queries = x; journal = journal })) (sym after)
+    (desk-appended (record s { queries = with_phase s.queries j.query (Answered view ran) }) (entry.Post j.query ran) journal (record { room = a.room; is = a.is }) kept)
+
+pub posts : (s : DeskState) (node : ℕ) (j : Job) (ran : Ran) (q : Query) (view : ViewMap) (queries : List Query) (journal : List Entry) → j.node ≡ node → slice_get s.queries j.query ≡ Some q → q.phase ≡ Running view → true ≡ is_job_of s.programs j q view → IsAppended s (entry.Post j.query ran) journal → queries ≡ with_phase s.queries j.query (Answered view ran) → posted s node j ran ≡ Ok (tt, record s { queries = queries; journal = journal })
+posts s node j ran q view queries journal own there phase fits a after =
+    let same : (j.node == node) ≡ true = eq-eqb j.node node own in
+    let room = a.room in
+    let small : nat_lt (length s.journal) most_entries ≡ true = search rules in
+    rw (same, there, phase, ← fits, small, after, a.is) refl
+
+-- ---- what passes the tests of a posted job
+
+job-fits : (programs : List Certificate) (j : Job) (q : Query) (view : ViewMap) → is_job_of programs j q view ≡ true → (j.start ≡ q.start) × (j.view ≡ view)
+job-fits programs j q view h =
+    let a = second_so (j.program == q.program) _ h in
+    let b = second_so (j.start == q.start) _ a in
+    ((unsigned_Decides j.start q.start).0 (first_so (j.start == q.start) _ a), same-view j.view view (first_so (is_same_view j.view view) _ b))
+
+-- a right answer of the job is one of the query
+pub job-right : (s : DeskState) (programs : List Certificate) (j : Job) (q : Query) (view : ViewMap) (ran : Ran) (program : Certificate) → s.programs ≡ programs → slice_get programs q.program ≡ Some program → is_job_of programs j q view ≡ true → j.certified.text ≡ program.text → j.certified.longest ≡ program.longest → IsRight j.certified j.view j.start ran → IsAnswered s q view ran
+job-right s programs j q view ran program same there fits text longest right =
+    let f = job-fits programs j q view fits in
+    let started : IsRight program j.view q.start ran = subst (λ n. IsRight program j.view n ran) f.0 (right-of_same j.certified program j.view j.start ran text longest right) in
+    record {
+      program = program;
+      named = ap (λ (ps : List Certificate). slice_get ps q.program) same ∙ there;
+      right = subst (λ (v : ViewMap). IsRight program v q.start ran) f.1 started;
+    }

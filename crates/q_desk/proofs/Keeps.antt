@@ -1,0 +1,128 @@
+-- What keeps a desk a desk.
+use Rattle.std.proofs.Common.{◌≡◌, ◌⊎◌, ◌<◌, ◌≤◌, ℕ, Bool, true, false, List, [], ◌∷◌, ◌++◌, length, take, Option, Some, None, Result, Ok, Err, refl, sym, ap, subst, ◌∙◌, inl, inr, ⊎_elim, arith, length-append, if◌then◌else◌}
+use Rattle.std.proofs.lemmas.List.{length-set, length-take, length_push}
+use Rattle.std.specs.Prelude.{slice_get, slice_set, nat_lt}
+use Rattle.sc_view.specs.Views.{ViewMap}
+use Rattle.bq_check.specs.Certificate.{Certificate}
+use Rattle.q_table.specs.declared.fault.TableFault.{TableFault}
+use Rattle.q_table.specs.declared.fault.TableFault.TheVariants as table
+use Rattle.q_table.specs.Programs.{IsTable, registered_at, most_programs}
+use Rattle.q_session.specs.declared.ran.Ran.{Ran}
+use Rattle.q_session.specs.declared.query.Phase.{Phase}
+use Rattle.q_session.specs.declared.query.Phase.TheVariants.{Collecting, Ready, Running, Answered}
+use Rattle.q_session.specs.declared.query.Query.{Query}
+use Rattle.q_desk.specs.State.{DeskState}
+use Rattle.q_desk.specs.Desks.{most_queries, most_entries, in_phase, with_phase}
+use Rattle.q_desk.specs.declared.journal.Entry.{Entry}
+use Rattle.q_desk.specs.Answers.{IsDesk, IsAnswered}
+use Rattle.q_desk.proofs.Lists.{get-front, get-snoc, get-written, get-taken}
+
+-- an answer stays right where its program stays
+kept : (s t : DeskState) (q : Query) (view : ViewMap) (ran : Ran) → ((c : Certificate) → slice_get s.programs q.program ≡ Some c → slice_get t.programs q.program ≡ Some c) → IsAnswered s q view ran → IsAnswered t q view ran
+kept s t q view ran front a = record { program = a.program; named = front a.program a.named; right = a.right }
+
+-- nothing else of a desk speaks of its journal
+pub desk-journal : (s : DeskState) (journal : List Entry) → IsDesk s → length journal ≤ most_entries → IsDesk (record s { journal = journal })
+desk-journal s journal d few = record {
+  table = d.table;
+  few = d.few;
+  brief = few;
+  known = d.known;
+  right = λ k q view ran e f. kept s (record s { journal = journal }) q view ran (λ c h. h) (d.right k q view ran e f);
+}
+
+-- the journal goes on with an entry, for which there was room
+pub record IsAppended (s : DeskState) (e : Entry) (journal : List Entry) : Type 0 where
+  pub room : length s.journal < most_entries
+  pub is : journal ≡ s.journal ++ e ∷ []
+
+pub desk-appended : (s : DeskState) (e : Entry) (journal : List Entry) → IsAppended s e journal → IsDesk s → IsDesk (record s { journal = journal })
+desk-appended s e journal a d = desk-journal s journal d (omega (arith, a.room, ap length a.is, length_push s.journal e))
+
+-- entries are taken back
+pub desk-cut : (s : DeskState) (m : ℕ) → IsDesk s → IsDesk (record s { journal = take m s.journal })
+desk-cut s m d = desk-journal s (take m s.journal) d (omega (arith, length-take m s.journal, d.brief))
+
+-- a query begins
+pub desk-begun : (s : DeskState) (q : Query) → IsDesk s → length s.queries < most_queries → q.program < length s.programs → q.phase ≡ Collecting → IsDesk (record s { queries = s.queries ++ q ∷ [] })
+desk-begun s q d few known phase = record {
+  table = d.table;
+  few = omega (arith, length-append s.queries (q ∷ []));
+  brief = d.brief;
+  known = λ k p e. ⊎_elim (λ a. d.known k p a) (λ b. subst (λ (x : Query). x.program < length s.programs) b.1 known) (get-snoc s.queries q k p e);
+  right = λ k p view ran e f. ⊎_elim (λ a. kept s (record s { queries = s.queries ++ q ∷ [] }) p view ran (λ c h. h) (d.right k p view ran a f)) (λ b. let other : Collecting ≡ Answered view ran = sym phase ∙ ap (λ (x : Query). x.phase) b.1 ∙ f in absurd (cc)) (get-snoc s.queries q k p e);
+}
+
+-- queries are taken back
+pub desk-taken : (s : DeskState) (m : ℕ) → IsDesk s → IsDesk (record s { queries = take m s.queries })
+desk-taken s m d = record {
+  table = d.table;
+  few = omega (arith, length-take m s.queries, d.few);
+  brief = d.brief;
+  known = λ k p e. d.known k p (get-taken s.queries m k p e);
+  right = λ k p view ran e f. kept s (record s { queries = take m s.queries }) p view ran (λ c h. h) (d.right k p view ran (get-taken s.queries m k p e) f);
+}
+
+-- an answer of a query in this phase is right
+abbrev pub PhaseIsRight : DeskState → Query → Phase → Type 0
+PhaseIsRight s q p = (view : ViewMap) (ran : Ran) → p ≡ Answered view ran → IsAnswered s q view ran
+
+desk-written : (s : DeskState) (i : ℕ) (q : Query) (p : Phase) → IsDesk s → slice_get s.queries i ≡ Some q → PhaseIsRight s q p → IsDesk (record s { queries = slice_set s.queries i (record q { phase = p }) })
+desk-written s i q p d there right =
+    let new : Query = record q { phase = p } in
+    let t : DeskState = record s { queries = slice_set s.queries i new } in
+    record {
+      table = d.table;
+      few = rw length-set d.few;
+      brief = d.brief;
+      known = λ k x e. ⊎_elim (λ a. d.known k x a.1) (λ b. subst (λ (y : Query). y.program < length s.programs) b.1 (d.known i q there)) (get-written s.queries i new k x e);
+      right = λ k x view ran e f. ⊎_elim (λ a. kept s t x view ran (λ c h. h) (d.right k x view ran a.1 f)) (λ b. subst (λ (y : Query). IsAnswered t y view ran) b.1 (let a = right view ran (ap (λ (y : Query). y.phase) b.1 ∙ f) in record { program = a.program; named = a.named; right = a.right })) (get-written s.queries i new k x e);
+    }
+
+desk-in_phase : (s : DeskState) (i : ℕ) (p : Phase) (o : Option Query) → slice_get s.queries i ≡ o → IsDesk s → ((q : Query) → slice_get s.queries i ≡ Some q → PhaseIsRight s q p) → IsDesk (record s { queries = in_phase s.queries i p o })
+desk-in_phase s i p None there d right = d
+desk-in_phase s i p (Some q) there d right = desk-written s i q p d there (right q there)
+
+-- a query comes into another phase
+pub desk-with_phase : (s : DeskState) (i : ℕ) (p : Phase) → IsDesk s → ((q : Query) → slice_get s.queries i ≡ Some q → PhaseIsRight s q p) → IsDesk (record s { queries = with_phase s.queries i p })
+desk-with_phase s i p d right = desk-in_phase s i p (slice_get s.queries i) refl d right
+
+pub desk-ready : (s : DeskState) (i : ℕ) (view : ViewMap) → IsDesk s → IsDesk (record s { queries = with_phase s.queries i (Ready view) })
+desk-ready s i view d = desk-with_phase s i (Ready view) d (λ q there v r e. absurd (cc))
+
+pub desk-running : (s : DeskState) (i : ℕ) (view : ViewMap) → IsDesk s → IsDesk (record s { queries = with_phase s.queries i (Running view) })
+desk-running s i view d = desk-with_phase s i (Running view) d (λ q there v r e. absurd (cc))
+
+-- ---- programs
+
+ok-snd : {A B E : Type 0} {x x' : A} {y y' : B} → ◌≡◌ {A = Result (A × B) E} (Ok (x, y)) (Ok (x', y')) → y ≡ y'
+ok-snd {A = A} {B = B} {x = x} {x' = x'} {y = y} {y' = y'} h = let e : ◌≡◌ {A = A × B} (x, y) (x', y') = cc in ap (λ p. p.1) e
+
+abbrev Table : Type 0
+Table = Result (ℕ × List Certificate) TableFault
+
+grown-if : (r : Table) (id : ℕ) (qs : List Certificate) (b : Bool) → (if b then r else Err table.Full) ≡ Ok (id, qs) → r ≡ Ok (id, qs)
+grown-if r id qs true e = e
+grown-if r id qs false e = absurd (cc)
+
+grown : (ps qs : List Certificate) (c : Certificate) (id : ℕ) (o : Option ℕ) → registered_at ps c o ≡ Ok (id, qs) → (ps ≡ qs) ⊎ (ps ++ c ∷ [] ≡ qs)
+grown ps qs c id (Some k) e = inl (ok-snd e)
+grown ps qs c id None e = inr (ok-snd (grown-if (Ok (length ps, ps ++ c ∷ [])) id qs (nat_lt (length ps) most_programs) e))
+
+-- a table that only grew
+desk-grown : (s : DeskState) (c : Certificate) → IsDesk s → IsTable (s.programs ++ c ∷ []) → IsDesk (record s { programs = s.programs ++ c ∷ [] })
+desk-grown s c d is_table =
+    let t : DeskState = record s { programs = s.programs ++ c ∷ [] } in
+    record {
+      table = is_table;
+      few = d.few;
+      brief = d.brief;
+      known = λ k q e. omega (arith, d.known k q e, length-append s.programs (c ∷ []));
+      right = λ k q view ran e f. kept s t q view ran (λ p h. get-front s.programs (c ∷ []) q.program p h) (d.right k q view ran e f);
+    }
+
+pub desk-registered : (s : DeskState) (qs : List Certificate) (c : Certificate) (id : ℕ) (o : Option ℕ) → registered_at s.programs c o ≡ Ok (id, qs) → IsDesk s → IsTable qs → IsDesk (record s { programs = qs })
+desk-registered s qs c id o e d is_table =
+    ⊎_elim (λ a. subst (λ (ps : List Certificate). IsDesk (record s { programs = ps })) a d)
+    (λ b. subst (λ (ps : List Certificate). IsDesk (record s { programs = ps })) b (desk-grown s c d (subst IsTable (sym b) is_table)))
+    (grown s.programs qs c id o e)

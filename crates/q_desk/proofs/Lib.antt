@@ -1,0 +1,8 @@
+-- What keeps a desk a desk, and when a job is that of a query.
+mod Lists
+mod Keeps
+mod Insns
+mod Texts
+mod Views
+mod Jobs
+mod Phases

@@ -1,0 +1,25 @@
+-- A query whose phase is written twice.
+use Rattle.std.proofs.Common.{◌≡◌, ◌<◌, ℕ, zero, suc, List, [], ◌∷◌, length, get_or, Some, refl, sym, ap, ◌∙◌}
+use Rattle.std.proofs.lemmas.Option.{slice_get_read}
+use Rattle.std.specs.Prelude.{slice_get, slice_set}
+use Rattle.q_session.specs.declared.query.Phase.{Phase}
+use Rattle.q_session.specs.declared.query.Query.{Query}
+use Rattle.q_desk.specs.Desks.{in_phase, with_phase}
+
+get-same : {X : Type 0} (xs : List X) (k : ℕ) (x y : X) → slice_get xs k ≡ Some x → slice_get (slice_set xs k y) k ≡ Some y
+get-same [] k x y h = absurd (cc)
+get-same (z ∷ xs) zero x y h = refl
+get-same (z ∷ xs) (suc k) x y h = get-same xs k x y h
+
+set-twice : {X : Type 0} (xs : List X) (k : ℕ) (y z : X) → slice_set (slice_set xs k y) k z ≡ slice_set xs k z
+set-twice [] k y z = refl
+set-twice (x ∷ xs) zero y z = refl
+set-twice (x ∷ xs) (suc k) y z = ap (λ (r : List _). x ∷ r) (set-twice xs k y z)
+
+pub twice : (xs : List Query) (k : ℕ) (q : Query) (p r : Phase) → slice_get xs k ≡ Some q → with_phase (slice_set xs k (record q { phase = r })) k p ≡ with_phase xs k p
+twice xs k q p r there =
+    let new : Query = record q { phase = r } in
+    ap (in_phase (slice_set xs k new) k p) (get-same xs k q new there) ∙ set-twice xs k new (record q { phase = p }) ∙ sym (ap (in_phase xs k p) there)
+
+pub found-there : (xs : List Query) (k : ℕ) (at q : Query) → k < length xs → at ≡ get_or xs k at → slice_get xs k ≡ Some q → at ≡ q
+found-there xs k at q h e there = let same : slice_get xs k ≡ Some at = slice_get_read xs _ k at refl h e in cc

@@ -1,0 +1,17 @@
+use Rattle.std.proofs.Common.{◌≡◌, Some, rules, sym, ◌∙◌}
+use Rattle.std.specs.Prelude.{slice_get}
+use Rattle.q_desk.specs.Desks.{is_job_of}
+use Rattle.q_desk.proofs.Jobs.{job-right}
+use Rattle.q_desk.proofs.same.is_job_of.Goals as goal
+
+pub returns-then-is_same_view-clause-right : goal.returns-then-is_same_view-clause-right
+returns-then-is_same_view-clause-right c = λ s ran told programs right.
+    let job = c.args.job.now in
+    let program = c.in-Some.program.now in
+    let there : slice_get c.args.programs.now c.args.query.now.program ≡ Some program = search rules in
+    let fits : c.is_same_program.result ≡ is_job_of c.args.programs.now job c.args.query.now c.args.view.now = search rules in
+    let t = c.is_same_program.ensures.text told in
+    let l = c.is_same_program.ensures.longest told in
+    let text : job.certified.text ≡ program.text = cc in
+    let longest : job.certified.longest ≡ program.longest = cc in
+    job-right s c.args.programs.now job c.args.query.now c.args.view.now ran program programs there (sym fits ∙ told) text longest right

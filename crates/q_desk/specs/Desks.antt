@@ -1,0 +1,212 @@
+-- What each call of a desk answers and does, or why it refuses.
+use Rattle.std.specs.Prelude.{ℕ, ◌-◌, ◌==◌, ◌&&◌, Bool, true, false, bytes_eq, nat_lt, List, [], ◌∷◌, ◌++◌, length, take, position, slice_get, slice_set, Option, Some, None, option_map, Result, Ok, Err, if◌then◌else◌}
+use Rattle.std.specs.Cmp.Lexicographic.{pointwise}
+use Rattle.std.specs.FinMap as fin
+use Rattle.sc_view.specs.declared.view.Stored.{Stored}
+use Rattle.sc_view.specs.Views.{ViewMap}
+use Rattle.bq_check.specs.Certificate.{Certificate}
+use Rattle.q_table.specs.declared.fault.TableFault.{TableFault}
+use Rattle.q_table.specs.Programs as table
+use Rattle.sc_node.specs.declared.answer.Completion.{Completion}
+use Rattle.sc_node.specs.declared.answer.Completion.TheVariants as completion
+use Rattle.sc_node.specs.declared.answer.Ended.{Ended}
+use Rattle.q_desk.specs.declared.completed.Completed.{Completed}
+use Rattle.q_desk.specs.declared.completed.Completed.TheVariants as completed
+use Rattle.q_desk.specs.declared.journal.Entry.{Entry}
+use Rattle.q_desk.specs.declared.journal.Entry.TheVariants as entry
+use Rattle.q_desk.specs.Faults.{of_table}
+use Rattle.q_desk.specs.State.{DeskState}
+use Rattle.q_session.specs.declared.ran.Ran.{Ran}
+use Rattle.q_session.specs.declared.query.Phase.{Phase}
+use Rattle.q_session.specs.declared.query.Phase.TheVariants.{Collecting, Ready, Running, Answered}
+use Rattle.q_session.specs.declared.query.Query.{Query}
+use Rattle.q_session.specs.declared.job.Job.{Job}
+use Rattle.q_desk.specs.declared.fault.DeskFault.{DeskFault}
+use Rattle.q_desk.specs.declared.fault.DeskFault.TheVariants as fault
+
+-- at most so many queries, and so many entries of the journal
+abbrev pub most_queries : ℕ
+most_queries = 4096
+
+abbrev pub most_entries : ℕ
+most_entries = 65536
+
+-- ---- the journal
+
+abbrev pub has_room : DeskState → Bool
+has_room s = nat_lt (length s.journal) most_entries
+
+-- one more entry, if there is room
+abbrev pub room : {A : Type 0} → DeskState → Result A DeskFault → Result A DeskFault
+room s r = if has_room s then r else Err fault.BookFull
+
+-- the journal goes on with an entry
+abbrev pub with_entry : DeskState → Entry → DeskState
+with_entry s e = record s { journal = s.journal ++ e ∷ [] }
+
+-- an entry that changes nothing else
+abbrev pub noted : DeskState → Entry → Result (Unit {0} × DeskState) DeskFault
+noted s e = room s (Ok (tt, with_entry s e))
+
+-- the last entry is taken back
+abbrev pub forgotten : DeskState → DeskState
+forgotten s = record s { journal = take (length s.journal - 1) s.journal }
+
+-- ---- programs
+
+abbrev pub registered_by : DeskState → Certificate → Result (ℕ × List Certificate) TableFault → Result (ℕ × DeskState) DeskFault
+registered_by s program (Ok r) = room s (Ok (r.0, with_entry (record s { programs = r.1 }) (entry.Register program)))
+registered_by s program (Err e) = Err (of_table e)
+
+abbrev pub registered : DeskState → Certificate → Result (ℕ × DeskState) DeskFault
+registered s program = registered_by s program (table.registered s.programs program)
+
+abbrev pub knows : DeskState → ℕ → Bool
+knows s program = nat_lt program (length s.programs)
+
+-- ---- queries
+
+abbrev pub is_collecting : Phase → Bool
+is_collecting Collecting = true
+is_collecting p = false
+
+abbrev pub is_ready : Phase → Bool
+is_ready (Ready view) = true
+is_ready p = false
+
+abbrev pub in_phase : List Query → ℕ → Phase → Option Query → List Query
+in_phase queries k p None = queries
+in_phase queries k p (Some q) = slice_set queries k (record q { phase = p })
+
+-- the queries, with this one in another phase
+abbrev pub with_phase : List Query → ℕ → Phase → List Query
+with_phase queries k p = in_phase queries k p (slice_get queries k)
+
+abbrev pub begun : ℕ → ℕ → ℕ → Query
+begun tag program start = record { tag = tag; program = program; start = start; phase = Collecting }
+
+-- a query begins whose collect has this tag
+abbrev pub asked : DeskState → ℕ → ℕ → ℕ → Result (ℕ × DeskState) DeskFault
+asked s tag program start =
+    if knows s program
+    then (if nat_lt (length s.queries) most_queries
+    then room s (Ok (length s.queries, with_entry (record s { queries = s.queries ++ begun tag program start ∷ [] }) (entry.Ask program start)))
+    else Err fault.BookFull)
+    else Err fault.UnknownProgram
+
+abbrev pub withdrawn_at : DeskState → Option Query → DeskState
+withdrawn_at s None = s
+withdrawn_at s (Some q) =
+    if is_collecting q.phase
+    then forgotten (record s { queries = take (length s.queries - 1) s.queries })
+    else s
+
+-- the query that began last is taken back, while it collects, and its entry
+abbrev pub withdrawn : DeskState → DeskState
+withdrawn s = withdrawn_at s (slice_get s.queries (length s.queries - 1))
+
+-- the query waits for the collect with this tag
+abbrev pub waits : ℕ → Query → Bool
+waits tag q = q.tag == tag && is_collecting q.phase
+
+abbrev pub returned_to : DeskState → ViewMap → Option ℕ → Option ℕ × DeskState
+returned_to s view None = (None, s)
+returned_to s view (Some k) = (Some k, record s { queries = with_phase s.queries k (Ready view) })
+
+-- the collect with this tag returned a view: the query that waits for it is ready
+abbrev pub returned : DeskState → ℕ → ViewMap → Option ℕ × DeskState
+returned s tag view = returned_to s view (position (waits tag) s.queries)
+
+-- ---- operations that end
+
+abbrev pub returns : ℕ → Completion → DeskState → Option ℕ × DeskState
+returns tag completion.Stored s = (None, s)
+returns tag (completion.Returned view) s = returned s tag view
+
+-- the view of a collect that ended goes to the query that waits for it
+abbrev pub ends : Option Ended → DeskState → Option ℕ × DeskState
+ends None s = (None, s)
+ends (Some e) s = returns e.tag e.what s
+
+abbrev pub completes : ℕ → Completion → Option ℕ → Option Completed
+completes tag completion.Stored query = Some (completed.Stored tag)
+completes tag (completion.Returned view) query = option_map completed.Returned query
+
+-- the store that ended, or the query whose collect did
+abbrev pub completed_by : Option Ended → Option ℕ → Option Completed
+completed_by None query = None
+completed_by (Some e) query = completes e.tag e.what query
+
+-- ---- jobs
+
+-- the job of a ready query of this node
+abbrev pub job_of : ℕ → ℕ → Query → Phase → Option Certificate → Option Job
+job_of node k q (Ready view) (Some program) =
+    Some (record { node = node; query = k; program = q.program; start = q.start; certified = program; view = view })
+job_of node k q p program = None
+
+abbrev pub job_at : DeskState → ℕ → ℕ → Option Query → Option Job
+job_at s node k None = None
+job_at s node k (Some q) = job_of node k q q.phase (slice_get s.programs q.program)
+
+abbrev pub job_from : DeskState → ℕ → Option ℕ → Option Job
+job_from s node None = None
+job_from s node (Some k) = job_at s node k (slice_get s.queries k)
+
+-- the job of the ready query with the least number
+abbrev pub next_job : DeskState → ℕ → Option Job
+next_job s node = job_from s node (position (λ q. is_ready q.phase) s.queries)
+
+abbrev pub hands : DeskState → Option Job → Result (Option Job × DeskState) DeskFault
+hands s None = Ok (None, s)
+hands s (Some j) = room s (Ok (Some j, with_entry (record s { queries = with_phase s.queries j.query (Running j.view) }) entry.HandOut))
+
+-- it is handed out; where there is none, nothing changes
+abbrev pub handed_out : DeskState → ℕ → Result (Option Job × DeskState) DeskFault
+handed_out s node = hands s (next_job s node)
+
+-- ---- answers
+
+abbrev pub is_same_entry : ℕ × Stored → ℕ × Stored → Bool
+is_same_entry a b = a.0 == b.0 && (a.1.number == b.1.number && bytes_eq a.1.value b.1.value)
+
+-- the ids, the sequence numbers and the values are the same
+abbrev pub is_same_view : ViewMap → ViewMap → Bool
+is_same_view v w = pointwise is_same_entry (fin.entries v) (fin.entries w)
+
+abbrev pub is_same_program : Certificate → Option Certificate → Bool
+is_same_program c None = false
+is_same_program c (Some d) = table.is_same_text c.text d.text && c.longest == d.longest
+
+-- the job is that of a query which runs over this view
+abbrev pub is_job_of : List Certificate → Job → Query → ViewMap → Bool
+is_job_of programs j q view =
+    j.program == q.program && (j.start == q.start && (is_same_view j.view view && is_same_program j.certified (slice_get programs q.program)))
+
+abbrev pub posted_to : DeskState → Job → Ran → Query → Phase → Result (Unit {0} × DeskState) DeskFault
+posted_to s j ran q (Answered view old) = Err fault.AlreadyAnswered
+posted_to s j ran q (Running view) =
+    if is_job_of s.programs j q view
+    then room s (Ok (tt, with_entry (record s { queries = with_phase s.queries j.query (Answered view ran) }) (entry.Post j.query ran)))
+    else Err fault.Stranger
+posted_to s j ran q p = Err fault.Stranger
+
+abbrev pub posted_at : DeskState → Job → Ran → Option Query → Result (Unit {0} × DeskState) DeskFault
+posted_at s j ran None = Err fault.Stranger
+posted_at s j ran (Some q) = posted_to s j ran q q.phase
+
+-- the result of a job of this node is recorded as its query's answer
+abbrev pub posted : DeskState → ℕ → Job → Ran → Result (Unit {0} × DeskState) DeskFault
+posted s node j ran = if j.node == node then posted_at s j ran (slice_get s.queries j.query) else Err fault.Stranger
+
+abbrev pub answer_in : Phase → Option Ran
+answer_in (Answered view ran) = Some ran
+answer_in p = None
+
+abbrev pub answer_at : Option Query → Result (Option Ran) DeskFault
+answer_at None = Err fault.NoSuchQuery
+answer_at (Some q) = Ok (answer_in q.phase)
+
+-- the recorded answer of a query, if there is one yet
+abbrev pub answer_of : DeskState → ℕ → Result (Option Ran) DeskFault
+answer_of s k = answer_at (slice_get s.queries k)

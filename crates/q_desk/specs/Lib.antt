@@ -1,0 +1,5 @@
+-- Desks: what each call answers and does, and why answers are right.
+pub mod State
+pub mod Desks
+pub mod Answers
+pub mod Faults

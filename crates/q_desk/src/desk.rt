@@ -1,0 +1,376 @@
+//! A desk: the programs and queries of one node.
+
+ghost use Rattle.std.specs.Prelude.{◌≡◌, ℕ, Ok, Some, IfOk, slice_get, position, option_copied, IsTrue};
+ghost use Rattle.sc_view.specs.Views.{ViewMap};
+ghost use Rattle.q_table.specs.Calls.{Steps};
+ghost use Rattle.q_session.specs.declared.query.Query.{Query as QueryValue};
+ghost use Rattle.q_desk.specs.State.{DeskState, new_desk};
+ghost use Rattle.q_desk.specs.Desks as desk;
+ghost use Rattle.q_desk.specs.declared.journal.Entry.{Entry as EntryValue};
+ghost use Rattle.q_desk.specs.Answers.{IsDesk, AnswersAreRight};
+
+use crate::completed::Completed;
+use crate::fault::DeskFault;
+use crate::journal::Entry;
+use crate::same::is_job_of;
+use bq_check::certified::Certified;
+use q_session::done::Done;
+use q_session::job::Job;
+use q_session::query::{Phase, Query};
+use q_session::ran::Ran;
+use q_table::program::{Program, ProgramId};
+use q_table::programs::Programs;
+use sc_node::answer::{Completion, Ended};
+use sc_view::view::View;
+use std::alloc::{AllocError, Global};
+use std::marker::Model;
+use std::mem;
+use std::sync::Arc;
+
+/// The most queries of a desk.
+pub const MOST_QUERIES: usize = 4096;
+
+/// The most entries of a journal.
+pub const MOST_ENTRIES: usize = 65_536;
+
+/// The programs and queries of one node, and its journal: each call that was accepted and changed something, in turn.
+/// Contracts see it as the record of these.
+#[derive(Drop)]
+pub struct Desk {
+    programs: Programs,
+    queries: Vec<Query>,
+    journal: Vec<Entry>,
+}
+
+impl Model for Desk {
+    ghost use Rattle.std.specs.Coded.{codes};
+    ghost use Rattle.sc_view.specs.Views.{view_code};
+    ghost use Rattle.q_desk.specs.contracts.journal.Entry as entry;
+    ghost use Rattle.q_desk.specs.State.{DeskState};
+    ghost use Rattle.q_desk.specs.Answers.{IsDesk};
+
+    ghost Value = { DeskState };
+
+    ghost coded = { Prim.hlevel (codes, view_code, entry.the_row.coded) };
+
+    ghost view = { λ d. record { programs = d.programs; queries = d.queries.items; journal = d.journal.items } };
+
+    ghost invariant = { λ d. IsDesk (record { programs = d.programs; queries = d.queries.items; journal = d.journal.items }) };
+}
+
+impl Desk {
+    /// A desk with no programs and no queries.
+    pub fn new(alloc: Global) -> Desk
+        ensures { result ≡ new_desk }
+    {
+        Desk {
+            programs: Programs::new(alloc),
+            queries: Vec::new(alloc),
+            journal: Vec::new(alloc),
+        }
+    }
+
+    /// Whether there is room for one more entry of the journal.
+    pub fn has_room(&self) -> bool
+        ensures { result ≡ desk.has_room self.now }
+    {
+        self.journal.len() < MOST_ENTRIES
+    }
+
+    /// Puts an entry into the journal, and changes nothing else. Refused with 53, 99.
+    pub fn note(&mut self, entry: Entry) -> Result<(), DeskFault>
+        ensures { Steps DeskFault.OutOfMemory (desk.noted self.old entry) self.old self.new result }
+    {
+        if !self.has_room() {
+            return Err(DeskFault::BookFull);
+        }
+        self.journal.reserve(1)?;
+        self.journal.push_reserved(entry);
+        Ok(())
+    }
+
+    /// Takes the last entry back: undoes a `note`. Takes no memory.
+    pub fn forget(&mut self)
+        ensures new { self.new ≡ desk.forgotten self.old }
+        ensures undone { (before : DeskState) (e : EntryValue) → desk.noted before e ≡ Ok (tt, self.old) → self.new ≡ before }
+    {
+        let last = self.journal.len().saturating_sub(1);
+        self.journal.truncate(last);
+    }
+
+    /// Registers a program; a text that is there keeps its id. Refused with 52, 53, 99.
+    pub fn register(&mut self, certified: &Arc<Certified>) -> Result<ProgramId, DeskFault>
+        ensures { Steps DeskFault.OutOfMemory (desk.registered self.old certified.now.value) self.old self.new result }
+    {
+        self.programs.check(certified)?;
+        if !self.has_room() {
+            return Err(DeskFault::BookFull);
+        }
+        self.journal.reserve(1)?;
+        let program = Program::share(certified)?;
+        let id = self.programs.register(certified)?;
+        let _count = self.programs.len();
+        self.journal.push_reserved(Entry::Register(program));
+        Ok(id)
+    }
+
+    /// Whether a program has this id.
+    pub fn knows(&self, program: ProgramId) -> bool
+        ensures { result ≡ desk.knows self.now program }
+    {
+        (program.number() as usize) < self.programs.len()
+    }
+
+    /// The program with this id.
+    pub fn program(&self, id: ProgramId) -> Option<&Program>
+        ensures { option_copied result ≡ slice_get self.now.programs id }
+    {
+        self.programs.get(id)
+    }
+
+    /// A query begins, whose collect has this tag; its number is answered. Refused with 51, 53, 99.
+    pub fn ask(&mut self, tag: u64, program: ProgramId, start: u64) -> Result<usize, DeskFault>
+        ensures { Steps DeskFault.OutOfMemory (desk.asked self.old tag program start) self.old self.new result }
+    {
+        if self.programs.len() <= program.number() as usize {
+            return Err(DeskFault::UnknownProgram);
+        }
+        let number = self.queries.len();
+        if MOST_QUERIES <= number {
+            return Err(DeskFault::BookFull);
+        }
+        if !self.has_room() {
+            return Err(DeskFault::BookFull);
+        }
+        self.queries.reserve(1)?;
+        self.journal.reserve(1)?;
+        self.queries.push_reserved(Query {
+            tag,
+            program,
+            start,
+            phase: Phase::Collecting,
+        });
+        self.journal.push_reserved(Entry::Ask { program, start });
+        Ok(number)
+    }
+
+    /// Takes back the query that began last, while it collects, and its entry: undoes an `ask`. Takes no memory.
+    pub fn withdraw(&mut self)
+        ensures new { self.new ≡ desk.withdrawn self.old }
+        ensures undone { (before : DeskState) (tag program start k : ℕ) → desk.asked before tag program start ≡ Ok (k, self.old) → self.new ≡ before }
+    {
+        let last = self.queries.len().saturating_sub(1);
+        let Some(query) = self.queries.get(last) else {
+            return;
+        };
+        if !is_collecting(&query.phase) {
+            return;
+        }
+        self.queries.truncate(last);
+        self.journal.truncate(self.journal.len().saturating_sub(1));
+    }
+
+    /// The collect with this tag returned a view: the query that waits for it is ready. Its number is answered. Takes
+    /// no memory.
+    pub fn returned(&mut self, tag: u64, view: View) -> Option<usize>
+        ensures { (result, self.new) ≡ desk.returned self.old tag view }
+    {
+        let number = waiting(&self.queries, tag)?;
+        set_phase(&mut self.queries, number, Phase::Ready(view));
+        Some(number)
+    }
+
+    /// An operation of the node ended: the view of a collect goes to the query that waits for it. What ended is
+    /// answered. Takes no memory.
+    pub fn end(&mut self, ended: Option<Ended>) -> Option<Completed>
+        ensures told { result ≡ desk.completed_by ended (desk.ends ended self.old).0 }
+        ensures new { self.new ≡ (desk.ends ended self.old).1 }
+    {
+        let Ended { tag, what } = ended?;
+        match what {
+            Completion::Stored => Some(Completed::Stored(tag)),
+            Completion::Returned(view) => {
+                let query = self.returned(tag, view)?;
+                Some(Completed::Returned(query))
+            }
+        }
+    }
+
+    /// Hands out the job of the ready query with the least number; none where no query is ready. Refused with 53, 99.
+    pub fn hand_out(&mut self, node: u64) -> Result<Option<Job>, DeskFault>
+        ensures { Steps DeskFault.OutOfMemory (desk.handed_out self.old node) self.old self.new result }
+    {
+        let Some(job) = next_job(&self.programs, &self.queries, node)? else {
+            return Ok(None);
+        };
+        if !self.has_room() {
+            return Err(DeskFault::BookFull);
+        }
+        self.journal.reserve(1)?;
+        run(&mut self.queries, job.query);
+        self.journal.push_reserved(Entry::HandOut);
+        Ok(Some(job))
+    }
+
+    /// Records the result of a job as its query's answer, as desk of this node. Refused with 56, 55, 53, 99.
+    pub fn post(&mut self, node: u64, done: &Done) -> Result<(), DeskFault>
+        ensures { Steps DeskFault.OutOfMemory (desk.posted self.old node done.now.job done.now.ran) self.old self.new result }
+    {
+        let job = done.job();
+        if job.node != node {
+            return Err(DeskFault::Stranger);
+        }
+        let Some(query) = self.queries.get(job.query) else {
+            return Err(DeskFault::Stranger);
+        };
+        if answer_in(&query.phase).is_some() {
+            return Err(DeskFault::AlreadyAnswered);
+        }
+        let Phase::Running(view) = &query.phase else {
+            return Err(DeskFault::Stranger);
+        };
+        if !is_job_of(&self.programs, job, query, view) {
+            return Err(DeskFault::Stranger);
+        }
+        if !self.has_room() {
+            return Err(DeskFault::BookFull);
+        }
+        self.journal.reserve(1)?;
+        record_answer(&mut self.queries, job.query, done.ran());
+        self.journal.push_reserved(Entry::Post {
+            query: job.query,
+            ran: done.ran(),
+        });
+        Ok(())
+    }
+
+    /// The recorded answer of a query, if there is one yet. Refused with 54. Takes no memory.
+    pub fn answer(&self, query: usize) -> Result<Option<Ran>, DeskFault>
+        ensures { result ≡ desk.answer_of self.now query }
+    {
+        match self.queries.get(query) {
+            Some(query) => Ok(answer_in(&query.phase)),
+            None => Err(DeskFault::NoSuchQuery),
+        }
+    }
+
+    /// The queries, by their numbers. Each recorded answer is right.
+    pub fn queries(&self) -> &[Query]
+        ensures queries { result.now ≡ self.now.queries }
+        ensures right { AnswersAreRight self.now }
+    {
+        self.queries.as_slice()
+    }
+
+    /// The journal: each call that was accepted and changed something, in turn.
+    pub fn journal(&self) -> &[Entry]
+        ensures { result.now ≡ self.now.journal }
+    {
+        self.journal.as_slice()
+    }
+}
+
+fn answer_in(phase: &Phase) -> Option<Ran>
+    ensures { result ≡ desk.answer_in phase.now }
+{
+    match phase {
+        Phase::Answered(_, ran) => Some(*ran),
+        _ => None,
+    }
+}
+
+fn is_collecting(phase: &Phase) -> bool
+    ensures { result ≡ desk.is_collecting phase.now }
+{
+    matches!(phase, Phase::Collecting)
+}
+
+// The number of the query that waits for the collect with this tag.
+fn waiting(queries: &[Query], tag: u64) -> Option<usize>
+    ensures { result ≡ position (desk.waits tag) queries.now }
+{
+    queries
+        .iter()
+        .position(|q| q.tag == tag && is_collecting(&q.phase))
+}
+
+// The number of the first query that is ready.
+fn first_ready(queries: &[Query]) -> Option<usize>
+    ensures { result ≡ position (λ q. desk.is_ready q.phase) queries.now }
+{
+    queries
+        .iter()
+        .position(|q| matches!(q.phase, Phase::Ready(_)))
+}
+
+fn set_phase(queries: &mut Vec<Query>, number: usize, phase: Phase)
+    ensures { queries.new.items ≡ desk.with_phase queries.old.items number phase }
+{
+    if number < queries.len() {
+        queries[number].phase = phase;
+    }
+}
+
+// The job of the ready query with the least number.
+fn next_job(programs: &Programs, queries: &[Query], node: u64) -> Result<Option<Job>, AllocError>
+    ensures { (s : DeskState) → s.programs ≡ programs.now → s.queries ≡ queries.now → IfOk result (λ job. job ≡ desk.next_job s node) }
+{
+    let Some(number) = first_ready(queries) else {
+        return Ok(None);
+    };
+    let Some(query) = queries.get(number) else {
+        return Ok(None);
+    };
+    let Phase::Ready(view) = &query.phase else {
+        return Ok(None);
+    };
+    let Some(program) = programs.get(query.program) else {
+        return Ok(None);
+    };
+    Ok(Some(Job {
+        node,
+        query: number,
+        program: query.program,
+        start: query.start,
+        certified: program.clone()?,
+        view: view.clone()?,
+    }))
+}
+
+// A ready query runs over its view.
+fn run(queries: &mut Vec<Query>, number: usize)
+    ensures { (q : QueryValue) (view : ViewMap) → slice_get queries.old.items number ≡ Some q → q.phase ≡ Phase.Ready view → queries.new.items ≡ desk.with_phase queries.old.items number (Phase.Running view) }
+{
+    if number < queries.len() {
+        let phase = mem::replace(&mut queries[number].phase, Phase::Collecting);
+        set_phase(queries, number, running(phase));
+    }
+}
+
+// A running query is answered.
+fn record_answer(queries: &mut Vec<Query>, number: usize, ran: Ran)
+    ensures { (q : QueryValue) (view : ViewMap) → slice_get queries.old.items number ≡ Some q → q.phase ≡ Phase.Running view → queries.new.items ≡ desk.with_phase queries.old.items number (Phase.Answered view ran) }
+{
+    if number < queries.len() {
+        let phase = mem::replace(&mut queries[number].phase, Phase::Collecting);
+        set_phase(queries, number, answered(phase, ran));
+    }
+}
+
+fn running(phase: Phase) -> Phase
+    ensures { (view : ViewMap) → phase ≡ Phase.Ready view → result ≡ Phase.Running view }
+{
+    match phase {
+        Phase::Ready(view) => Phase::Running(view),
+        other => other,
+    }
+}
+
+fn answered(phase: Phase, ran: Ran) -> Phase
+    ensures { (view : ViewMap) → phase ≡ Phase.Running view → result ≡ Phase.Answered view ran }
+{
+    match phase {
+        Phase::Running(view) => Phase::Answered(view, ran),
+        other => other,
+    }
+}

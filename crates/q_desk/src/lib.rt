@@ -1,0 +1,22 @@
+//! Desks: the programs and queries of one node, and its journal.
+//!
+//! A [`Desk`] registers certified programs and takes queries of them. A query collects until its collect returns a view,
+//! is handed out as a job, and its answer is posted once the job was run. Each recorded answer is right: the meaning of
+//! the query's program, folded over the view that its collect returned.
+//!
+//! Each call that is accepted and changes something puts one entry into the desk's journal, which also holds what its
+//! node did beside it: stores, deliveries and its leave. No call drops or changes an earlier entry.
+//!
+//! Each call is exact: `specs/Desks` says what it answers and which state it leaves, or with which fault it refuses.
+//! After a refusal the desk is as it was.
+//!
+//! [`Desk`]: desk::Desk
+#![tactic(auto)]
+
+pub mod completed;
+pub mod desk;
+pub mod fault;
+pub mod journal;
+mod same;
+#[cfg(test)]
+mod tests;

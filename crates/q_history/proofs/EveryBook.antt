@@ -1,0 +1,139 @@
+-- In every history each node's book is the replay of its journal.
+use Rattle.std.proofs.Common.{◌≡◌, ℕ, Bool, true, false, cond, ◌==◌, ◌&&◌, ◌||◌, List, [], ◌∷◌, Some, None, refl, sym, ap, ◌∙◌, subst, ◌⊎◌, inl, inr, slice_get, Result, Ok, Err}
+use Rattle.std.proofs.lemmas.Bool.{eqb-true, eq-eqb}
+use Rattle.std.specs.Ordering.{nat_cmp}
+use Rattle.std.specs.FinMap as fin
+use Rattle.std.specs.FinSet as set
+use Rattle.sc_members.specs.Members.{Config}
+use Rattle.sc_node.specs.State.{NodeState}
+use Rattle.sc_node.specs.Nodes.{founder, are_founders}
+use Rattle.sc_node.specs.declared.fault.NodeFault.{NodeFault}
+use Rattle.sc_node.specs.declared.fault.NodeFault.TheVariants as node_fault
+use Rattle.sc_world.specs.declared.fault.WorldFault.TheVariants as world_fault
+use Rattle.sc_world.specs.Worlds.{nodes_with}
+use Rattle.sc_world.specs.Worlds as world
+use Rattle.sc_world.proofs.Finite.{get-insert, contains-insert}
+use Rattle.sc_world.proofs.Inverts.{no_refusal}
+use Rattle.q_desk.specs.State.{DeskState, new_desk}
+use Rattle.q_book.specs.Replays.{IsFirst, IsReplay}
+use Rattle.q_history.specs.declared.event.Event.{Event}
+use Rattle.q_history.specs.declared.event.Event.TheVariants as event
+use Rattle.q_history.specs.declared.event.Stepped.{Stepped}
+use Rattle.q_history.specs.State.{ClusterState}
+use Rattle.q_history.specs.Clusters.{Desks, desks_with, start, founded, started}
+use Rattle.q_history.specs.Calls.{Follows, Reaches, IsHistory}
+use Rattle.q_history.specs.Books.{founders_for, book_of, BooksAreReplays}
+use Rattle.q_history.proofs.Lists.{same_some, no_some}
+use Rattle.q_history.proofs.Ops.{insert_has}
+use Rattle.q_history.proofs.Booked.{AreBooks, enter_books, crash_books, leave_books, register_books, store_books, ask_books, deliver_books, hand_out_books, finish_books}
+
+step_books : (c d : ClusterState) (e : Event) (told : Stepped) → AreBooks c → Follows c e told d → AreBooks d
+step_books c d (event.Enter id) told books f = enter_books c books id (told, d) f.stepped
+step_books c d (event.Leave id) told books f = leave_books c books id (told, d) f.stepped
+step_books c d (event.Crash id) told books f = crash_books c books id (told, d) f.stepped
+step_books c d (event.Register id program) told books f = register_books c books id program (told, d) f.stepped
+step_books c d (event.Ask id program start) told books f = ask_books c books id program start (told, d) f.stepped
+step_books c d (event.Store id value) told books f = store_books c books id value (told, d) f.stepped
+step_books c d (event.Deliver number id) told books f = deliver_books c books number id (told, d) f.stepped
+step_books c d (event.HandOut id) told books f = hand_out_books c books id (told, d) f.stepped
+step_books c d (event.Finish number) told books f = finish_books c books f.ran (slice_get c.jobs number) (told, d) f.right f.stepped
+
+run_books : (es : List Event) (c d : ClusterState) → AreBooks c → Reaches c es d → AreBooks d
+run_books [] c d books r = subst AreBooks (sym r) books
+run_books (e ∷ es) c d books r = run_books es r.1 d (step_books c r.1 e r.0 books r.2) r.3
+
+-- ---- founders
+
+abbrev IsAmong : List ℕ → ℕ → Type 0
+IsAmong ids id = set.contains (set.from_list {R = nat_cmp} ids) id ≡ true
+
+among_first : (id : ℕ) (ids : List ℕ) → IsAmong (id ∷ ids) id
+among_first id ids = contains-insert (set.from_list ids) id id ∙ ap (λ (b : Bool). b || set.contains (set.from_list {R = nat_cmp} ids) id) (eq-eqb id id refl)
+
+or_true : (b : Bool) → (b || true) ≡ true
+or_true true = refl
+or_true false = refl
+
+among_rest : (p : ℕ) (ids : List ℕ) (id : ℕ) → IsAmong ids id → IsAmong (p ∷ ids) id
+among_rest p ids id in' = contains-insert (set.from_list ids) p id ∙ ap (λ (b : Bool). (id == p) || b) in' ∙ or_true (id == p)
+
+module _ (config : Config) (ids : List ℕ) where
+  -- a node before any event
+  record IsFounder (id : ℕ) (n : NodeState) : Type 0 where
+    listed : IsAmong ids id
+    is : founder config ids id ≡ n
+
+  founder_by : (nodes : fin.FinMap nat_cmp NodeState) (p id : ℕ) (n : NodeState) (b : Bool) → (id == p) ≡ b → IsAmong ids p → (fin.get nodes id ≡ Some n → IsFounder id n)
+      → cond b (Some (founder config ids p)) (fin.get nodes id) ≡ Some n → IsFounder id n
+  founder_by nodes p id n true is listed old h =
+      subst (λ (x : ℕ). IsFounder x n) (sym (eqb-true id p is)) (record { listed = listed; is = same_some (founder config ids p) n h })
+  founder_by nodes p id n false is listed old h = old h
+
+  -- each node is a founder
+  all_founders : (qs : List ℕ) (nodes : fin.FinMap nat_cmp NodeState) → ((id : ℕ) → IsAmong qs id → IsAmong ids id) → ((id : ℕ) (n : NodeState) → fin.get nodes id ≡ Some n → IsFounder id n)
+      → (id : ℕ) (n : NodeState) → fin.get (nodes_with config ids nodes qs) id ≡ Some n → IsFounder id n
+  all_founders [] nodes listed old id n at = old id n at
+  all_founders (p ∷ qs) nodes listed old id n at =
+      all_founders qs (fin.insert nodes p (founder config ids p)) (λ i in'. listed i (among_rest p qs i in'))
+      (λ i m here. founder_by nodes p i m (i == p) refl (listed p (among_first p qs)) (old i m) (sym (get-insert nodes p (founder config ids p) i) ∙ here)) id n at
+
+  -- a node is there, or comes with one of these founders
+  abbrev Comes : fin.FinMap nat_cmp NodeState → List ℕ → ℕ → Type 0
+  Comes nodes qs id = ((m : NodeState) × (fin.get nodes id ≡ Some m)) ⊎ IsAmong qs id
+
+  comes_next : (p : ℕ) (qs : List ℕ) (nodes : fin.FinMap nat_cmp NodeState) (id : ℕ) (b : Bool) → (id == p) ≡ b → (b || set.contains (set.from_list {R = nat_cmp} qs) id) ≡ true
+      → Comes (fin.insert nodes p (founder config ids p)) qs id
+  comes_next p qs nodes id true is h = inl (founder config ids p, get-insert nodes p (founder config ids p) id ∙ ap (λ (b : Bool). cond b (Some (founder config ids p)) (fin.get nodes id)) is)
+  comes_next p qs nodes id false is h = inr h
+
+  -- each founder is there
+  founder_there : (qs : List ℕ) (nodes : fin.FinMap nat_cmp NodeState) (id : ℕ) → Comes nodes qs id → (n : NodeState) × (fin.get (nodes_with config ids nodes qs) id ≡ Some n)
+  founder_there [] nodes id (inl h) = h
+  founder_there [] nodes id (inr h) = let none : false ≡ true = sym (set.contains-empty nat_cmp id) ∙ h in absurd (cc)
+  founder_there (p ∷ qs) nodes id (inl h) = founder_there qs (fin.insert nodes p (founder config ids p)) id (inl (insert_has nodes p (founder config ids p) id h.0 (id == p) refl h.1))
+  founder_there (p ∷ qs) nodes id (inr h) =
+      founder_there qs (fin.insert nodes p (founder config ids p)) id (comes_next p qs nodes id (id == p) refl (sym (contains-insert (set.from_list qs) p id) ∙ h))
+
+  new_by : (desks : Desks) (p id : ℕ) (d : DeskState) (b : Bool) → (fin.get desks id ≡ Some d → new_desk ≡ d) → cond b (Some new_desk) (fin.get desks id) ≡ Some d → new_desk ≡ d
+  new_by desks p id d true old h = same_some new_desk d h
+  new_by desks p id d false old h = old h
+
+  -- each desk is new
+  all_new : (qs : List ℕ) (desks : Desks) → ((id : ℕ) (d : DeskState) → fin.get desks id ≡ Some d → new_desk ≡ d) → (id : ℕ) (d : DeskState) → fin.get (desks_with desks qs) id ≡ Some d → new_desk ≡ d
+  all_new [] desks old id d at = old id d at
+  all_new (p ∷ qs) desks old id d at =
+      all_new qs (fin.insert desks p new_desk) (λ i x here. new_by desks p i x (i == p) (old i x) (sym (get-insert desks p new_desk i) ∙ here)) id d at
+
+  nowhere : {X : Type 0} (id : ℕ) (x : X) → fin.get (fin.empty {R = nat_cmp}) id ≡ Some x → ⊥
+  nowhere id x at = no_some x (sym (fin.get-empty nat_cmp id) ∙ at)
+
+  first_founder : (id : ℕ) → are_founders ids ≡ true → IsAmong ids id → IsFirst (book_of (start config ids) id (founder config ids id) new_desk) (founder config ids id) (founders_for id ids)
+  first_founder id are listed =
+      subst (λ (b : Bool). IsFirst (book_of (start config ids) id (founder config ids id) new_desk) (founder config ids id) (cond b (Some ids) None)) (sym listed)
+      (ap (λ (b : Bool). let r : Result NodeState NodeFault = cond (b && set.contains (set.from_list {R = nat_cmp} ids) id) (Ok (founder config ids id)) (Err node_fault.BadFounders) in r) are
+      ∙ ap (λ (b : Bool). let r : Result NodeState NodeFault = cond b (Ok (founder config ids id)) (Err node_fault.BadFounders) in r) listed)
+
+  founder_book : (id : ℕ) (n : NodeState) (d : DeskState) → are_founders ids ≡ true → IsFounder id n → new_desk ≡ d → IsReplay (book_of (start config ids) id n d)
+  founder_book id n d are f new =
+      subst (λ (x : DeskState). IsReplay (book_of (start config ids) id n x)) new
+      (subst (λ (x : NodeState). IsReplay (book_of (start config ids) id x new_desk)) f.is
+      (record { first = founder config ids id; begun = first_founder id are f.listed; replayed = refl }))
+
+  start_books : are_founders ids ≡ true → AreBooks (start config ids)
+  start_books are = record {
+    replays = λ id n d at here.
+        founder_book id n d are
+        (all_founders ids fin.empty (λ i in'. in') (λ i m none. absurd (nowhere i m none)) id n at)
+        (all_new ids fin.empty (λ i x none. absurd (nowhere i x none)) id d here);
+    founders = λ id listed. founder_there ids fin.empty id (inr listed);
+  }
+
+  founders_are : (b : Bool) → are_founders ids ≡ b → founded config ids (cond b (Ok (world.start config ids)) (Err (world_fault.Node node_fault.BadFounders))) ≡ Ok (start config ids) → are_founders ids ≡ true
+  founders_are true is h = is
+  founders_are false is h = absurd (no_refusal _ _ h)
+
+  pub every_book : (es : List Event) (c : ClusterState) → started config ids ≡ Ok (start config ids) → Reaches (start config ids) es c → BooksAreReplays c
+  every_book es c begun r = (run_books es (start config ids) c (start_books (founders_are (are_founders ids) refl begun)) r).replays
+
+pub history_books : (c : ClusterState) → IsHistory c → BooksAreReplays c
+history_books c h = every_book c.world.config c.world.founders h.0 c h.2 h.1
