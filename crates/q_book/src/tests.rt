@@ -1,3 +1,4 @@
+use crate::answer::Taken;
 use crate::book::Book;
 use crate::fault::BookFault;
 use bq_check::check::check;
@@ -10,7 +11,6 @@ use q_desk::completed::Completed;
 use q_session::done::Done;
 use q_table::program::{Program, ProgramId};
 use sc_members::config::Config;
-use sc_msg::message::{Body, Message};
 use sc_node::outs::Outs;
 use std::sync::Arc;
 use std::test::Fail;
@@ -32,33 +32,31 @@ fn alone(rt: &HostRuntime) -> Result<Book, Fail> {
     Ok(Book::founder(rt.alloc(), config, 1, &[1])?)
 }
 
-/// Delivers the first of these messages to their own node, the first that it answers, and so on, up to the end of an
-/// operation.
-fn ended(book: &mut Book, mut outs: Outs) -> Result<Option<Completed>, Fail> {
-    for _ in 0..4 {
-        let Some(message) = outs.get(0) else {
-            return Ok(None);
-        };
-        let taken = book.deliver(message)?;
-        if taken.completed.is_some() {
-            return Ok(taken.completed);
-        }
-        outs = taken.outs;
-    }
-    Ok(None)
+/// The first of these messages reaches the node that sent it.
+fn deliver_first(book: &mut Book, outs: &Outs) -> Result<Taken, Fail> {
+    let message = outs.get(0).ok_or("no message")?;
+    Ok(book.deliver(message)?)
 }
 
-/// Whether a store came to its end.
-fn stores(book: &mut Book) -> Result<bool, Fail> {
+/// What ends where a store is begun and both its messages are delivered.
+fn stored(book: &mut Book) -> Result<Option<Completed>, Fail> {
     let storing = book.store(&[7; 48])?;
-    let ended = ended(book, storing.outs)?;
-    Ok(matches!(ended, Some(Completed::Stored(_))))
+    let acknowledging = deliver_first(book, &storing.outs)?;
+    Ok(deliver_first(book, &acknowledging.outs)?.completed)
 }
 
-/// What ended where a query of this program was asked.
-fn asked(book: &mut Book, program: ProgramId) -> Result<Option<Completed>, Fail> {
+/// The view of a query's collect, stored back: the message that tells it.
+fn stored_back(book: &mut Book, program: ProgramId) -> Result<Outs, Fail> {
     let asked = book.ask(program, 4)?;
-    ended(book, asked.outs)
+    let replying = deliver_first(book, &asked.outs)?;
+    Ok(deliver_first(book, &replying.outs)?.outs)
+}
+
+/// What ends where a query is asked and all four of its messages are delivered.
+fn asked(book: &mut Book, program: ProgramId) -> Result<Option<Completed>, Fail> {
+    let outs = stored_back(book, program)?;
+    let acknowledging = deliver_first(book, &outs)?;
+    Ok(deliver_first(book, &acknowledging.outs)?.completed)
 }
 
 /// The job of a query of `mov64 r0, 5 / exit`, which was run.
@@ -69,12 +67,6 @@ fn finished(rt: &HostRuntime, book: &mut Book) -> Result<Done, Fail> {
     Ok(Done::run(job))
 }
 
-/// The accumulator of that query's answer, once it was posted.
-fn posted(book: &mut Book, done: &Done) -> Result<Option<u64>, Fail> {
-    book.post(done)?;
-    Ok(book.answer(0)?.map(|ran| ran.acc))
-}
-
 /// The number of the refusal, and 0 where the call is accepted.
 fn refusal<T: Drop>(answer: Result<T, BookFault>) -> u8 {
     match answer {
@@ -83,27 +75,31 @@ fn refusal<T: Drop>(answer: Result<T, BookFault>) -> u8 {
     }
 }
 
-/// The refusals of the calls that a node alone may make.
-fn refusals(book: &mut Book) -> [u8; 4] {
-    let join = Message {
-        from: 2,
-        body: Body::Join,
-    };
-    [
-        refusal(book.ask(ProgramId::new(0), 4)),
-        refusal(book.store(&[7; 48])),
-        refusal(book.deliver(&join)),
-        refusal(book.leave()),
-    ]
+#[test]
+fn a_store_ends_and_is_journalled(rt: HostRuntime) -> Result<(), Fail> {
+    let mut book = alone(&rt)?;
+    assert_eq!(rt; stored(&mut book)?, Some(Completed::Stored(0)));
+    assert_eq!(rt; book.events(), 3);
+    Ok(())
 }
 
 #[test]
-fn queries_read_what_was_stored(rt: HostRuntime) -> Result<(), Fail> {
+fn a_collect_ends_for_its_query(rt: HostRuntime) -> Result<(), Fail> {
     let mut book = alone(&rt)?;
-    assert!(rt; stores(&mut book)?);
+    let program = book.register(&five(&rt)?)?;
+    assert_eq!(rt; asked(&mut book, program)?, Some(Completed::Returned(0)));
+    assert_eq!(rt; book.journal().len(), 6);
+    Ok(())
+}
+
+#[test]
+fn results_are_posted_once(rt: HostRuntime) -> Result<(), Fail> {
+    let mut book = alone(&rt)?;
+    stored(&mut book)?;
     let done = finished(&rt, &mut book)?;
-    assert_eq!(rt; posted(&mut book, &done)?, Some(5));
-    // The store with its two messages, the program, the question with its four, the job and its answer.
+    assert_eq!(rt; refusal(book.post(&done)), 0);
+    assert_eq!(rt; refusal(book.post(&done)), 56);
+    assert_eq!(rt; book.answer(0)?.map(|ran| ran.acc), Some(5));
     assert_eq!(rt; book.events(), 11);
     Ok(())
 }
@@ -111,37 +107,27 @@ fn queries_read_what_was_stored(rt: HostRuntime) -> Result<(), Fail> {
 #[test]
 fn a_node_that_left_changes_no_more(rt: HostRuntime) -> Result<(), Fail> {
     let mut book = alone(&rt)?;
-    let done = finished(&rt, &mut book)?;
-    let program = five(&rt)?;
     book.leave()?;
-    let events = book.events();
-    assert_eq!(rt; refusals(&mut book), [42; 4]);
-    assert_eq!(rt; refusal(book.register(&program)), 42);
+    assert_eq!(rt; refusal(book.leave()), 42);
+    assert_eq!(rt; refusal(book.store(&[7; 48])), 42);
     assert_eq!(rt; refusal(book.hand_out()), 42);
-    assert_eq!(rt; refusal(book.post(&done)), 42);
-    assert_eq!(rt; book.events(), events);
+    assert_eq!(rt; book.events(), 1);
     Ok(())
 }
 
 #[test]
-fn questions_need_a_program_and_a_joined_node(rt: HostRuntime) -> Result<(), Fail> {
+fn programs_that_are_asked_are_registered(rt: HostRuntime) -> Result<(), Fail> {
     let mut book = alone(&rt)?;
     assert_eq!(rt; refusal(book.ask(ProgramId::new(0), 4)), 51);
-    let (mut entering, outs) = Book::entering(rt.alloc(), Config::new(1, 1, 1, 1)?, 2)?;
-    assert_eq!(rt; outs.len(), 1);
-    assert_eq!(rt; refusal(entering.ask(ProgramId::new(0), 4)), 41);
-    assert_eq!(rt; entering.node().operations(), 0);
     Ok(())
 }
 
 #[test]
-fn results_are_posted_once(rt: HostRuntime) -> Result<(), Fail> {
-    let mut book = alone(&rt)?;
-    let done = finished(&rt, &mut book)?;
-    posted(&mut book, &done)?;
-    let events = book.events();
-    assert_eq!(rt; refusal(book.post(&done)), 56);
-    assert_eq!(rt; book.journal().len(), events);
+fn a_node_asks_once_it_has_joined(rt: HostRuntime) -> Result<(), Fail> {
+    let config = Config::new(1, 1, 1, 1)?;
+    let (mut book, outs) = Book::entering(rt.alloc(), config, 2)?;
+    assert_eq!(rt; outs.len(), 1);
+    assert_eq!(rt; refusal(book.ask(ProgramId::new(0), 4)), 41);
     Ok(())
 }
 
@@ -151,6 +137,6 @@ fn no_job_is_handed_out_before_a_view_came(rt: HostRuntime) -> Result<(), Fail> 
     let program = book.register(&five(&rt)?)?;
     book.ask(program, 4)?;
     assert!(rt; book.hand_out()?.is_none());
-    assert_eq!(rt; (book.events(), book.desk().queries().len()), (2, 1));
+    assert_eq!(rt; book.events(), 2);
     Ok(())
 }
