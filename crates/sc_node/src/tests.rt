@@ -282,19 +282,3 @@ fn no_1025th_fact(rt: HostRuntime) -> Result<(), Fail> {
     assert_eq!(rt; node.facts().present(), 1024);
     Ok(())
 }
-
-#[test]
-fn faults_have_numbers_and_names(rt: HostRuntime) {
-    for (fault, number, name) in [
-        (NodeFault::NotJoined, 41, "NotJoined"),
-        (NodeFault::Gone, 42, "Gone"),
-        (NodeFault::SessionsFull, 43, "SessionsFull"),
-        (NodeFault::ViewFull, 46, "ViewFull"),
-        (NodeFault::FactsFull, 47, "FactsFull"),
-        (NodeFault::NumbersOut, 48, "NumbersOut"),
-        (NodeFault::BadFounders, 49, "BadFounders"),
-        (NodeFault::OutOfMemory, 99, "OutOfMemory"),
-    ] {
-        assert_eq!(rt; (fault.number(), fault.name()), (number, name));
-    }
-}
