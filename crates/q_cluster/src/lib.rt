@@ -5,6 +5,8 @@
 //! among them, the cluster is as it was. So every cluster is what some list of events made of its founders, and each
 //! answer that any of its desks recorded is true: the meaning of its query's program over the view that the query's own
 //! collect returned, which holds each store that ended before the collect began and that meets it.
+//!
+//! Each node with its desk is the replay of its own journal, also where it has left or crashed.
 #![tactic(auto)]
 
 pub mod cluster;
