@@ -185,6 +185,10 @@ head_sound k f x small =
 no_head_fault : (bytes rest : List ℕ) (k : Kind) (f : ℕ) (e : MessageFault) → length bytes ≤ most_bytes → bytes ≡ head_bytes k f ++ rest → head_fault bytes ≡ Some e → ⊥
 no_head_fault bytes rest k f e small parts h = no_fault e (sym (head_sound k f rest (omega (arith, small, ap length parts))) ∙ ap head_fault (sym parts) ∙ h)
 
+-- behind a head that was read the answer is no fault of the head
+pub head_is_right : (bytes rest : List ℕ) (k : Kind) (f : ℕ) (r : Result Message MessageFault) → length bytes ≤ most_bytes → bytes ≡ head_bytes k f ++ rest → (e : MessageFault) → head_fault bytes ≡ Some e → r ≡ Err e
+head_is_right bytes rest k f r small parts e h = absurd (no_head_fault bytes rest k f e small parts h)
+
 -- a field that is faulty behind the head of what is spelled
 no_body_fault : (bytes x : List ℕ) (m : Message) (e : MessageFault) → IsMessage m → bytes ≡ message_bytes m ++ x → IsBodyFault bytes e → ⊥
 no_body_fault bytes x m e p parts b =

@@ -2,7 +2,7 @@
 
 ghost use Rattle.std.specs.Prelude.{◌≡◌, IfOk, IfErr, MatchResult};
 ghost use Rattle.sc_msg.specs.Messages.{message_bytes, IsMessage};
-ghost use Rattle.sc_msg.specs.Fault.{IsFault};
+ghost use Rattle.sc_msg.specs.Fault.{head_fault, IsFault};
 
 use crate::fault::MessageFault;
 use crate::message::Message;
@@ -14,6 +14,7 @@ fn message_of(alloc: Global, bytes: &[u8]) -> Result<Message, MessageFault>
     ensures spelled { IfOk result (λ m. bytes.now ≡ message_bytes m) }
     ensures message { IfOk result IsMessage }
     ensures fault { IfErr result (IsFault bytes.now) }
+    ensures head { (e : MessageFault) → head_fault bytes.now ≡ Some e → result ≡ Err e }
 {
     let mut reader = Reader { rest: bytes };
     let (kind, from) = reader.head()?;
@@ -42,6 +43,9 @@ pub fn decode(alloc: Global, bytes: &[u8]) -> Result<Message, MessageFault>
 
     // Which fault it is.
     ensures fault { IfErr result (IsFault bytes.now) }
+
+    // A fault of the head is answered whatever memory is left.
+    ensures head { (e : MessageFault) → head_fault bytes.now ≡ Some e → result ≡ Err e }
 {
     message_of(alloc, bytes)
 }
