@@ -5,7 +5,6 @@ use crate::op::{Op, meets};
 use crate::world::World;
 use sc_members::config::Config;
 use sc_node::answer::{Completion, Ended};
-use sc_node::fault::NodeFault;
 use std::alloc::Global;
 use std::process::Abort;
 use std::test::Fail;
@@ -34,11 +33,11 @@ fn step_all(world: &mut World, events: &[Event]) -> Result<(), WorldFault> {
     Ok(())
 }
 
-// What an event is refused with, 0 where it is accepted.
-fn refusal(world: &mut World, event: Event) -> u8 {
+// What an event is refused with, and nothing where it is accepted.
+fn refusal(world: &mut World, event: Event) -> &'static str {
     match world.step(event) {
-        Ok(_) => 0,
-        Err(fault) => fault.number(),
+        Ok(_) => "",
+        Err(fault) => fault.name(),
     }
 }
 
@@ -95,26 +94,44 @@ fn common(world: &World) -> Option<u64> {
 }
 
 #[test]
-fn replies_of_one_node_count_once(rt: HostRuntime) -> Result<(), Fail> {
+fn a_collect_is_replied_to(rt: HostRuntime) -> Result<(), Fail> {
     let mut world = founded(rt.alloc(), 4, 5, &[1, 2, 3])?;
     assert_eq!(rt; sent(&mut world, Event::Collect(1))?, (0, 1));
     assert_eq!(rt; sent(&mut world, deliver(0, 2))?, (1, 1));
     assert_eq!(rt; kind(&world, 1), "collect-reply");
-    for _ in 0..3 {
-        assert_eq!(rt; sent(&mut world, deliver(1, 1))?, (2, 0));
-    }
+    Ok(())
+}
+
+#[test]
+fn replies_of_one_node_count_once(rt: HostRuntime) -> Result<(), Fail> {
+    let mut world = founded(rt.alloc(), 4, 5, &[1, 2, 3])?;
+    let reply = deliver(1, 1);
+    step_all(
+        &mut world,
+        &[Event::Collect(1), deliver(0, 2), reply, reply, reply],
+    )?;
     assert_eq!(rt; world.ops().first().and_then(queried), Some((3, 1)));
     assert_eq!(rt; world.ops().first().and_then(stored), None);
-    assert_eq!(rt; world.events().len(), 5);
     Ok(())
+}
+
+// A store that one founder of three acknowledges, and a collect to which another replies.
+fn missing() -> [Event; 7] {
+    [
+        store(1, 5),
+        deliver(0, 1),
+        deliver(1, 1),
+        Event::Collect(2),
+        deliver(3, 2),
+        deliver(4, 2),
+        deliver(5, 2),
+    ]
 }
 
 #[test]
 fn one_of_three_need_not_meet(rt: HostRuntime) -> Result<(), Fail> {
     let mut world = founded(rt.alloc(), 1, 3, &[1, 2, 3])?;
-    step_all(&mut world, &[store(1, 5), deliver(0, 1), deliver(1, 1)])?;
-    assert_eq!(rt; sent(&mut world, Event::Collect(2))?, (3, 1));
-    step_all(&mut world, &[deliver(3, 2), deliver(4, 2), deliver(5, 2)])?;
+    step_all(&mut world, &missing())?;
     assert_eq!(rt; returned(&mut world, deliver(6, 2))?, Some(0));
     assert_eq!(rt; common(&world), None);
     Ok(())
@@ -129,6 +146,14 @@ fn two_of_three_meet(rt: HostRuntime) -> Result<(), Fail> {
     Ok(())
 }
 
+#[test]
+fn a_node_that_entered_may_not_store_yet(rt: HostRuntime) -> Result<(), Fail> {
+    let mut world = founded(rt.alloc(), 4, 5, &[1, 2])?;
+    assert_eq!(rt; sent(&mut world, Event::Enter(3))?, (0, 1));
+    assert_eq!(rt; refusal(&mut world, store(3, 9)), "NotJoined");
+    Ok(())
+}
+
 // Each of the messages reaches each of the nodes, the least message first, and then the least node.
 fn deliver_all(world: &mut World, messages: usize, nodes: u64) -> Result<(), WorldFault> {
     for message in 0..messages {
@@ -139,99 +164,96 @@ fn deliver_all(world: &mut World, messages: usize, nodes: u64) -> Result<(), Wor
     Ok(())
 }
 
-#[test]
-fn a_node_enters_and_stores(rt: HostRuntime) -> Result<(), Fail> {
-    let mut world = founded(rt.alloc(), 4, 5, &[1, 2])?;
-    assert_eq!(rt; sent(&mut world, Event::Enter(3))?, (0, 1));
-    assert_eq!(rt; refusal(&mut world, store(3, 9)), 41);
+// The world of two founders and of a node that has entered and joined.
+fn entered(alloc: Global) -> Result<World, Fail> {
+    let mut world = founded(alloc, 4, 5, &[1, 2])?;
+    world.step(Event::Enter(3))?;
     deliver_all(&mut world, 8, 3)?;
+    Ok(world)
+}
+
+#[test]
+fn a_node_that_joined_stores(rt: HostRuntime) -> Result<(), Fail> {
+    let mut world = entered(rt.alloc())?;
+    assert_eq!(rt; (kind(&world, 0), kind(&world, 4)), ("enter", "join"));
     assert_eq!(rt; sent(&mut world, store(3, 9))?, (8, 1));
-    assert_eq!(rt; world.ops().first().map(|op| op.tag), Some(0));
-    assert_eq!(rt; refusal(&mut world, Event::Enter(3)), 44);
-    assert_eq!(rt; sent(&mut world, Event::Leave(2))?, (9, 1));
-    assert_eq!(rt; sent(&mut world, deliver(9, 3))?, (10, 1));
-    assert_eq!(rt; sent(&mut world, Event::Crash(1))?, (11, 0));
-    assert_eq!(rt; refusal(&mut world, store(1, 5)), 81);
-    for (number, name) in [
-        (0, "enter"),
-        (4, "join"),
-        (8, "store"),
-        (9, "leave"),
-        (10, "leave-echo"),
-        (11, ""),
-    ] {
-        assert_eq!(rt; kind(&world, number), name);
-    }
+    assert_eq!(rt; kind(&world, 8), "store");
     Ok(())
 }
 
-// While it stores back, the first collector learns a value that no acknowledger has. It does not return it: the
-// later collect, which meets the first, does not see it either.
+#[test]
+fn a_node_tells_that_it_leaves(rt: HostRuntime) -> Result<(), Fail> {
+    let mut world = entered(rt.alloc())?;
+    assert_eq!(rt; sent(&mut world, Event::Leave(2))?, (8, 1));
+    assert_eq!(rt; sent(&mut world, deliver(8, 3))?, (9, 1));
+    assert_eq!(rt; (kind(&world, 8), kind(&world, 9)), ("leave", "leave-echo"));
+    Ok(())
+}
+
+#[test]
+fn a_node_that_crashes_tells_nobody(rt: HostRuntime) -> Result<(), Fail> {
+    let mut world = founded(rt.alloc(), 4, 5, &[1, 2])?;
+    assert_eq!(rt; sent(&mut world, Event::Crash(1))?, (0, 0));
+    assert_eq!(rt; refusal(&mut world, store(1, 5)), "NoSuchNode");
+    Ok(())
+}
+
+// A collect of node 1, which stores back. While it does so, it learns a value that no acknowledger has.
+fn learning() -> [Event; 10] {
+    [
+        Event::Collect(1),
+        deliver(0, 2),
+        deliver(0, 3),
+        deliver(1, 1),
+        deliver(2, 1),
+        store(4, 7),
+        deliver(4, 1),
+        deliver(3, 2),
+        deliver(3, 3),
+        deliver(7, 1),
+    ]
+}
+
 #[test]
 fn a_collect_returns_what_it_stored_back(rt: HostRuntime) -> Result<(), Fail> {
     let mut world = founded(rt.alloc(), 1, 2, &[1, 2, 3, 4])?;
-    step_all(
-        &mut world,
-        &[
-            Event::Collect(1),
-            deliver(0, 2),
-            deliver(0, 3),
-            deliver(1, 1),
-            deliver(2, 1),
-            store(4, 7),
-            deliver(4, 1),
-            deliver(3, 2),
-            deliver(3, 3),
-            deliver(7, 1),
-        ],
-    )?;
+    step_all(&mut world, &learning())?;
     assert_eq!(rt; returned(&mut world, deliver(9, 1))?, Some(0));
     assert_eq!(rt; known(&world, 1), Some(1));
-    step_all(
-        &mut world,
-        &[
-            Event::Collect(2),
-            deliver(11, 2),
-            deliver(11, 3),
-            deliver(12, 2),
-            deliver(13, 2),
-            deliver(14, 2),
-            deliver(14, 3),
-            deliver(15, 2),
-        ],
-    )?;
-    assert_eq!(rt; returned(&mut world, deliver(17, 2))?, Some(0));
-    match world.ops() {
-        [first, _, later] => assert_eq!(rt; meets(first, later), Some(2)),
-        _ => assert!(rt; false),
-    }
     Ok(())
 }
 
+// Then the collect ends, and node 2 begins another, which meets it.
+fn later() -> [Event; 9] {
+    [
+        deliver(9, 1),
+        Event::Collect(2),
+        deliver(11, 2),
+        deliver(11, 3),
+        deliver(12, 2),
+        deliver(13, 2),
+        deliver(14, 2),
+        deliver(14, 3),
+        deliver(15, 2),
+    ]
+}
+
+// What the first operation and the third have in common.
+fn common_with_third(world: &World) -> Option<u64> {
+    match world.ops() {
+        [first, _, third] => meets(first, third),
+        _ => None,
+    }
+}
+
+// The later collect does not see the value that the first one learned and did not return.
 #[test]
-fn refusals(rt: HostRuntime) -> Result<(), Fail> {
-    for founders in [[].as_slice(), &[2, 1], &[1, 1]] {
-        let refused = World::new(rt.alloc(), Config::default(), founders);
-        assert_eq!(rt;
-            refused.err(),
-            Some(WorldFault::Node(NodeFault::BadFounders))
-        );
-    }
-    let mut world = founded(rt.alloc(), 1, 1, &[1, 2])?;
-    for (event, number) in [
-        (deliver(0, 1), 82),
-        (deliver(0, 9), 81),
-        (Event::Collect(9), 81),
-        (Event::Enter(1), 44),
-        (Event::Other, 0),
-        (Event::Leave(1), 0),
-        (Event::Leave(1), 81),
-        (Event::Crash(1), 81),
-    ] {
-        assert_eq!(rt; refusal(&mut world, event), number);
-    }
-    assert!(rt; known(&world, 1).is_some() && known(&world, 9).is_none());
-    regular();
+fn a_later_collect_sees_what_was_stored_back(rt: HostRuntime) -> Result<(), Fail> {
+    let mut world = founded(rt.alloc(), 1, 2, &[1, 2, 3, 4])?;
+    step_all(&mut world, &learning())?;
+    step_all(&mut world, &later())?;
+    assert_eq!(rt; returned(&mut world, deliver(17, 2))?, Some(0));
+    assert_eq!(rt; common_with_third(&world), Some(2));
     Ok(())
 }
 
@@ -239,21 +261,18 @@ fn refusals(rt: HostRuntime) -> Result<(), Fail> {
 fn a_node_that_left_is_not_there(rt: HostRuntime) -> Result<(), Fail> {
     let mut world = founded(rt.alloc(), 1, 1, &[1, 2])?;
     assert_eq!(rt; sent(&mut world, Event::Leave(1))?, (0, 1));
-    assert_eq!(rt; world.sent(), 1);
     assert!(rt; world.live(1).is_none() && world.live(2).is_some());
+    assert!(rt; world.node(1).is_some());
     Ok(())
 }
 
 #[test]
-fn faults_have_numbers_and_names(rt: HostRuntime) {
-    for (fault, number, name) in [
-        (WorldFault::IdUsed, 44, "IdUsed"),
-        (WorldFault::NoSuchNode, 81, "NoSuchNode"),
-        (WorldFault::NeverSent, 82, "NeverSent"),
-        (WorldFault::Node(NodeFault::NotJoined), 41, "NotJoined"),
-    ] {
-        assert_eq!(rt; (fault.number(), fault.name()), (number, name));
-    }
+fn what_happens_beside_the_world_sends_nothing(rt: HostRuntime) -> Result<(), Fail> {
+    let mut world = founded(rt.alloc(), 1, 1, &[1, 2])?;
+    assert_eq!(rt; sent(&mut world, Event::Other)?, (0, 0));
+    assert_eq!(rt; (world.events().len(), world.sent()), (1, 0));
+    regular();
+    Ok(())
 }
 
 // A store and a collect that meets it.
