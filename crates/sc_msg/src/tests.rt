@@ -165,13 +165,6 @@ fn fault(alloc: Global, bytes: &[u8]) -> u8 {
     }
 }
 
-#[test]
-fn beginnings_are_short(rt: HostRuntime) {
-    for len in 0..ENTER_ECHO.len() {
-        assert_eq!(rt; fault(rt.alloc(), &ENTER_ECHO[..len]), 72, "at {len}");
-    }
-}
-
 /// The bytes, of which one is another.
 fn changed(alloc: Global, bytes: &[u8], at: usize, byte: u8) -> Result<Vec<u8>, Fail> {
     let mut changed = Vec::from_slice(alloc, bytes)?;
@@ -213,30 +206,6 @@ fn each_fault_of_a_changed_echo(rt: HostRuntime) -> Result<(), Fail> {
     ] {
         let bytes = changed(rt.alloc(), &ENTER_ECHO, at, byte)?;
         assert_eq!(rt; fault(rt.alloc(), &bytes), number, "{byte} at {at}");
-    }
-    Ok(())
-}
-
-/// A store of two records, of which only so much of the second is there.
-fn second_record(alloc: Global, id: u64, number: &[u8]) -> Result<Vec<u8>, Fail> {
-    let mut bytes = changed(alloc, &STORE, 20, 2)?;
-    bytes.extend_from_slice(&id.to_le_bytes())?;
-    bytes.extend_from_slice(number)?;
-    Ok(bytes)
-}
-
-#[test]
-fn a_record_is_judged_from_left_to_right(rt: HostRuntime) -> Result<(), Fail> {
-    // the second id, the bytes of its number, and the fault
-    for (id, number, expected) in [
-        (1, [].as_slice(), 75),
-        (1, [0, 0, 0, 0, 0, 0, 0, 0].as_slice(), 75),
-        (2, [].as_slice(), 72),
-        (2, [0, 0, 0, 0, 0, 0, 0, 0].as_slice(), 77),
-        (2, [1, 0, 0, 0, 0, 0, 0, 0].as_slice(), 72),
-    ] {
-        let bytes = second_record(rt.alloc(), id, number)?;
-        assert_eq!(rt; fault(rt.alloc(), &bytes), expected);
     }
     Ok(())
 }
