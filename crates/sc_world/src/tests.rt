@@ -33,12 +33,11 @@ fn step_all(world: &mut World, events: &[Event]) -> Result<(), WorldFault> {
     Ok(())
 }
 
-// What an event is refused with, and nothing where it is accepted.
-fn refusal(world: &mut World, event: Event) -> &'static str {
-    match world.step(event) {
-        Ok(_) => "",
-        Err(fault) => fault.name(),
-    }
+// The world after these events.
+fn then(world: World, events: &[Event]) -> Result<World, Fail> {
+    let mut world = world;
+    step_all(&mut world, events)?;
+    Ok(world)
 }
 
 // The number of the first message that an event sends, and how many it sends.
@@ -85,20 +84,32 @@ fn stored(op: &Op) -> Option<(u64, usize)> {
     Some((back.phase.threshold, back.phase.counted.len()))
 }
 
-// What the first operation and the second have in common.
+// What the first operation and the last have in common.
 fn common(world: &World) -> Option<u64> {
     match world.ops() {
-        [first, second, ..] => meets(first, second),
+        [first, .., last] => meets(first, last),
         _ => None,
     }
 }
 
+// The number of the first message that an event sends, how many it sends, and the kind of the first.
+fn sends(world: World, event: Event) -> Result<(usize, usize, &'static str), Fail> {
+    let mut world = world;
+    let (first, count) = sent(&mut world, event)?;
+    Ok((first, count, kind(&world, first)))
+}
+
+// How many values the view has that an event returns, and what the first operation and the last have in common.
+fn returns(world: World, event: Event) -> Result<(Option<usize>, Option<u64>), Fail> {
+    let mut world = world;
+    let values = returned(&mut world, event)?;
+    Ok((values, common(&world)))
+}
+
 #[test]
 fn a_collect_is_replied_to(rt: HostRuntime) -> Result<(), Fail> {
-    let mut world = founded(rt.alloc(), 4, 5, &[1, 2, 3])?;
-    assert_eq!(rt; sent(&mut world, Event::Collect(1))?, (0, 1));
-    assert_eq!(rt; sent(&mut world, deliver(0, 2))?, (1, 1));
-    assert_eq!(rt; kind(&world, 1), "collect-reply");
+    let world = then(founded(rt.alloc(), 4, 5, &[1, 2, 3])?, &[Event::Collect(1)])?;
+    assert_eq!(rt; sends(world, deliver(0, 2))?, (1, 1, "collect-reply"));
     Ok(())
 }
 
@@ -130,27 +141,15 @@ fn missing() -> [Event; 7] {
 
 #[test]
 fn one_of_three_need_not_meet(rt: HostRuntime) -> Result<(), Fail> {
-    let mut world = founded(rt.alloc(), 1, 3, &[1, 2, 3])?;
-    step_all(&mut world, &missing())?;
-    assert_eq!(rt; returned(&mut world, deliver(6, 2))?, Some(0));
-    assert_eq!(rt; common(&world), None);
+    let world = then(founded(rt.alloc(), 1, 3, &[1, 2, 3])?, &missing())?;
+    assert_eq!(rt; returns(world, deliver(6, 2))?, (Some(0), None));
     Ok(())
 }
 
 #[test]
 fn two_of_three_meet(rt: HostRuntime) -> Result<(), Fail> {
-    let mut world = founded(rt.alloc(), 2, 3, &[1, 2, 3])?;
-    step_all(&mut world, &meeting()[..13])?;
-    assert_eq!(rt; returned(&mut world, deliver(11, 2))?, Some(1));
-    assert_eq!(rt; common(&world), Some(2));
-    Ok(())
-}
-
-#[test]
-fn a_node_that_entered_may_not_store_yet(rt: HostRuntime) -> Result<(), Fail> {
-    let mut world = founded(rt.alloc(), 4, 5, &[1, 2])?;
-    assert_eq!(rt; sent(&mut world, Event::Enter(3))?, (0, 1));
-    assert_eq!(rt; refusal(&mut world, store(3, 9)), "NotJoined");
+    let world = then(founded(rt.alloc(), 2, 3, &[1, 2, 3])?, &meeting()[..13])?;
+    assert_eq!(rt; returns(world, deliver(11, 2))?, (Some(1), Some(2)));
     Ok(())
 }
 
@@ -164,37 +163,39 @@ fn deliver_all(world: &mut World, messages: usize, nodes: u64) -> Result<(), Wor
     Ok(())
 }
 
-// The world of two founders and of a node that has entered and joined.
-fn entered(alloc: Global) -> Result<World, Fail> {
+// The world of two founders and of a node that has entered and joined, after these events.
+fn entered(alloc: Global, events: &[Event]) -> Result<World, Fail> {
     let mut world = founded(alloc, 4, 5, &[1, 2])?;
     world.step(Event::Enter(3))?;
     deliver_all(&mut world, 8, 3)?;
-    Ok(world)
+    then(world, events)
 }
 
 #[test]
 fn a_node_that_joined_stores(rt: HostRuntime) -> Result<(), Fail> {
-    let mut world = entered(rt.alloc())?;
-    assert_eq!(rt; (kind(&world, 0), kind(&world, 4)), ("enter", "join"));
-    assert_eq!(rt; sent(&mut world, store(3, 9))?, (8, 1));
-    assert_eq!(rt; kind(&world, 8), "store");
+    let world = entered(rt.alloc(), &[])?;
+    assert_eq!(rt; sends(world, store(3, 9))?, (8, 1, "store"));
     Ok(())
 }
 
 #[test]
 fn a_node_tells_that_it_leaves(rt: HostRuntime) -> Result<(), Fail> {
-    let mut world = entered(rt.alloc())?;
-    assert_eq!(rt; sent(&mut world, Event::Leave(2))?, (8, 1));
-    assert_eq!(rt; sent(&mut world, deliver(8, 3))?, (9, 1));
-    assert_eq!(rt; (kind(&world, 8), kind(&world, 9)), ("leave", "leave-echo"));
+    let world = entered(rt.alloc(), &[])?;
+    assert_eq!(rt; sends(world, Event::Leave(2))?, (8, 1, "leave"));
+    Ok(())
+}
+
+#[test]
+fn who_hears_of_it_tells_it_too(rt: HostRuntime) -> Result<(), Fail> {
+    let world = entered(rt.alloc(), &[Event::Leave(2)])?;
+    assert_eq!(rt; sends(world, deliver(8, 3))?, (9, 1, "leave-echo"));
     Ok(())
 }
 
 #[test]
 fn a_node_that_crashes_tells_nobody(rt: HostRuntime) -> Result<(), Fail> {
-    let mut world = founded(rt.alloc(), 4, 5, &[1, 2])?;
-    assert_eq!(rt; sent(&mut world, Event::Crash(1))?, (0, 0));
-    assert_eq!(rt; refusal(&mut world, store(1, 5)), "NoSuchNode");
+    let world = founded(rt.alloc(), 4, 5, &[1, 2])?;
+    assert_eq!(rt; sends(world, Event::Crash(1))?, (0, 0, ""));
     Ok(())
 }
 
@@ -238,39 +239,36 @@ fn later() -> [Event; 9] {
     ]
 }
 
-// What the first operation and the third have in common.
-fn common_with_third(world: &World) -> Option<u64> {
-    match world.ops() {
-        [first, _, third] => meets(first, third),
-        _ => None,
-    }
-}
-
 // The later collect does not see the value that the first one learned and did not return.
 #[test]
 fn a_later_collect_sees_what_was_stored_back(rt: HostRuntime) -> Result<(), Fail> {
-    let mut world = founded(rt.alloc(), 1, 2, &[1, 2, 3, 4])?;
-    step_all(&mut world, &learning())?;
-    step_all(&mut world, &later())?;
-    assert_eq!(rt; returned(&mut world, deliver(17, 2))?, Some(0));
-    assert_eq!(rt; common_with_third(&world), Some(2));
+    let world = then(founded(rt.alloc(), 1, 2, &[1, 2, 3, 4])?, &learning())?;
+    let world = then(world, &later())?;
+    assert_eq!(rt; returns(world, deliver(17, 2))?, (Some(0), Some(2)));
     Ok(())
+}
+
+// Whether a node is there, and whether it ever was.
+fn is_there(world: World, id: u64) -> (bool, bool) {
+    (world.live(id).is_some(), world.node(id).is_some())
 }
 
 #[test]
 fn a_node_that_left_is_not_there(rt: HostRuntime) -> Result<(), Fail> {
-    let mut world = founded(rt.alloc(), 1, 1, &[1, 2])?;
-    assert_eq!(rt; sent(&mut world, Event::Leave(1))?, (0, 1));
-    assert!(rt; world.live(1).is_none() && world.live(2).is_some());
-    assert!(rt; world.node(1).is_some());
+    let world = then(founded(rt.alloc(), 1, 1, &[1, 2])?, &[Event::Leave(1)])?;
+    assert_eq!(rt; is_there(world, 1), (false, true));
     Ok(())
+}
+
+// How many events were accepted, and how many messages were sent.
+fn counts(world: World) -> (usize, usize) {
+    (world.events().len(), world.sent())
 }
 
 #[test]
 fn what_happens_beside_the_world_sends_nothing(rt: HostRuntime) -> Result<(), Fail> {
-    let mut world = founded(rt.alloc(), 1, 1, &[1, 2])?;
-    assert_eq!(rt; sent(&mut world, Event::Other)?, (0, 0));
-    assert_eq!(rt; (world.events().len(), world.sent()), (1, 0));
+    let world = then(founded(rt.alloc(), 1, 1, &[1, 2])?, &[Event::Other])?;
+    assert_eq!(rt; counts(world), (1, 0));
     regular();
     Ok(())
 }
