@@ -42,4 +42,6 @@ pub mod laws;
 pub mod offsets;
 pub mod rule;
 pub mod state;
+#[cfg(test)]
+mod tests;
 mod transfer;
