@@ -113,6 +113,7 @@ pub fn verify(alloc: Global, text: &Text) -> Result<Notes, CheckFault>
 /// Refused where an instruction below the unit is refused, as by `verify`.
 pub fn state_at(alloc: Global, text: &Text, unit: usize) -> Result<Option<State>, CheckFault>
     ensures state { IfOk result (λ state. unit < units text.now → (notes : List (Option (List Kind))) × AreStates text.now notes unit × (state ≡ note_at notes unit)) }
+    ensures behind { units text.now ≤ unit → result ≡ Ok None }
     ensures refused { IfErr result (IsRefused text.now) }
 {
     if text.units() <= unit {
