@@ -5,7 +5,7 @@ ghost use Rattle.sc_members.specs.Members.{Config};
 ghost use Rattle.q_history.specs.declared.event.Event.{Event};
 ghost use Rattle.q_history.specs.State.{ClusterState};
 ghost use Rattle.q_history.specs.Clusters.{start, started};
-ghost use Rattle.q_history.specs.Calls.{Reaches, IsHistory};
+ghost use Rattle.q_history.specs.Calls.{Reaches};
 ghost use Rattle.q_history.specs.Headline.{AnswersAreTrue, AnswersStay};
 ghost use Rattle.q_history.specs.Books.{BooksAreReplays};
 
@@ -20,7 +20,7 @@ pub fn every_answer_is_true()
 
 /// A law: in every history a recorded answer stays as it is, whatever is accepted after it.
 pub fn answers_stay()
-    ensures { (c later : ClusterState) (events : List Event) → IsHistory c → Reaches c events later → AnswersStay c later }
+    ensures { (config : Config) (founders : List ℕ) (before after : List Event) (c later : ClusterState) → Reaches (start config founders) before c → Reaches c after later → AnswersStay c later }
 {}
 
 /// A law: in every history of founders that are not refused, each node with its desk is the replay of its own journal,
