@@ -1,5 +1,5 @@
 -- What the parts of an event make together.
-use Rattle.std.proofs.Common.{◌≡◌, ◌≢◌, ℕ, ◌==◌, Bool, true, false, cond, List, length, refl, sym, ap, subst, ◌∙◌, nat_le, Option, Some, None, slice_get, IsTrue, Result, Ok, Err, MatchResult}
+use Rattle.std.proofs.Common.{◌≡◌, ◌≢◌, ℕ, ◌==◌, Bool, true, false, cond, List, length, refl, sym, ap, subst, ◌∙◌, nat_le, Option, Some, None, slice_get, IsTrue, Result, Ok, Err}
 use Rattle.std.specs.FinMap as fin
 use Rattle.sc_msg.specs.declared.message.Message.{Message}
 use Rattle.sc_node.specs.State.{NodeState}
@@ -13,7 +13,6 @@ use Rattle.sc_world.specs.declared.fault.WorldFault.TheVariants as world_fault
 use Rattle.sc_world.specs.Acts as acts
 use Rattle.sc_world.specs.State.{WorldState}
 use Rattle.sc_world.specs.Worlds as world
-use Rattle.q_table.specs.Calls.{Steps}
 use Rattle.q_desk.specs.State.{DeskState}
 use Rattle.q_desk.specs.Desks as desk
 use Rattle.q_desk.specs.declared.journal.Entry.{Entry}
@@ -24,9 +23,7 @@ use Rattle.q_session.specs.declared.query.Phase.{Phase}
 use Rattle.q_session.specs.declared.query.Phase.TheVariants.{Collecting, Ready, Running, Answered}
 use Rattle.q_session.specs.declared.query.Query.{Query}
 use Rattle.q_session.specs.declared.ran.Ran.{Ran}
-use Rattle.q_history.specs.declared.event.Event.TheVariants as event
 use Rattle.q_history.specs.declared.event.Stepped.{Stepped}
-use Rattle.q_history.specs.Calls.{Takes}
 use Rattle.q_history.specs.declared.event.Told.TheVariants as told
 use Rattle.q_history.specs.declared.fault.ClusterFault.{ClusterFault}
 use Rattle.q_history.specs.declared.fault.ClusterFault.TheVariants as fault
@@ -148,7 +145,7 @@ module _ (c : ClusterState) (id program start : ℕ) (n : NodeState) (d : DeskSt
 
 -- ---- the journal and the world
 
-room_ok : {A : Type 0} (d : DeskState) (rest : Result A ClusterFault) → IsTrue (desk.has_room d) → room d rest ≡ rest
+pub room_ok : {A : Type 0} (d : DeskState) (rest : Result A ClusterFault) → IsTrue (desk.has_room d) → room d rest ≡ rest
 room_ok {A} d rest h = ap (λ (b : Bool). let r : Result A ClusterFault = cond b rest (Err (fault.Desk desk_fault.BookFull)) in r) h
 
 abbrev Noted : Type 0
@@ -172,13 +169,12 @@ module _ (old new : WorldState) (desks : DeskMap) (id : ℕ) (d : DeskState) (en
   note_taken after s a h = let k = noted_ok (desk.has_room d) (desk.with_entry d entry) s.0 s.1 in (k.0, h, s.2 ∙ ap (fin.insert desks id) k.1)
 
   -- the journal refuses the entry
-  pub note_refused : (r : Result (Unit {0}) DeskFault) (after : DeskMap) → StepsAt (desk.noted d entry) desks after id r → (x : ClusterFault) → MatchResult r (λ a. (let z : Result (Unit {0}) ClusterFault = Err x in z) ≡ Ok a) (λ y. x ≡ of_desk y)
+  pub note_refused : (after : DeskMap) (y : DeskFault) → (let z : Result (Unit {0}) DeskFault = Err y in StepsAt (desk.noted d entry) desks after id z) → (x : ClusterFault) → x ≡ of_desk y
       → (let z : Result WorldStepped ClusterFault = Err x in TakesNoted old old desks after id d entry e z)
-  note_refused (Ok u) after s x k = absurd (cc)
-  note_refused (Err y) after s x k = (
+  note_refused after y s x is = (
     refl,
     s.0,
-    λ loud part. noted_err (desk.has_room d) (desk.with_entry d entry) y (taken part (world.stepped old e)) (s.1 (λ same. loud (k ∙ ap of_desk same))) ∙ ap (λ (z : ClusterFault). let q : Said = Err z in q) (sym k),
+    λ loud part. noted_err (desk.has_room d) (desk.with_entry d entry) y (taken part (world.stepped old e)) (s.1 (λ same. loud (is ∙ ap of_desk same))) ∙ ap (λ (z : ClusterFault). let q : Said = Err z in q) (sym is),
   )
 
   -- the world refuses the event, and the entry is taken back
@@ -187,17 +183,6 @@ module _ (old new : WorldState) (desks : DeskMap) (id : ℕ) (d : DeskState) (en
   note_undone between after s back x h =
       let k = noted_ok (desk.has_room d) (desk.with_entry d entry) s.0 s.1 in
       (h.0, back, λ loud part. room_ok d (taken part (world.stepped old e)) k.0 ∙ ap (taken part) (h.1 (λ same. loud (ap fault.World same))))
-
--- an event of a node that goes into its journal
-module _ (c : ClusterState) (id : ℕ) (n : NodeState) (d : DeskState) (there : IsThere c id n d) (f : Doing) (part : WorldStepped → Part) (e : WorldEvent) (passes : f n d ≡ room d (taken part (world.stepped c.world e))) where
-  pub noted_says : IsTrue (desk.has_room d) → at c id f ≡ taken part (world.stepped c.world e)
-  noted_says h = at_there c id n d there f ∙ passes ∙ room_ok d (taken part (world.stepped c.world e)) h
-
-  pub noted_turns : (entry : Entry) (w : WorldState) (desks : DeskMap) (x : ClusterFault) → (let z : Result WorldStepped ClusterFault = Err x in TakesNoted c.world w c.desks desks id d entry e z)
-      → (t : Result Stepped ClusterFault) → t ≡ Err x → Steps memory (at c id f) c (with c w desks c.jobs) t
-  noted_turns entry w desks x h t is =
-      subst (λ (z : Result Stepped ClusterFault). Steps memory (at c id f) c (with c w desks c.jobs) z) (sym is)
-      ((λ i. with c (h.0 i) (h.1 i) c.jobs), λ loud. at_there c id n d there f ∙ passes ∙ h.2 loud part)
 
 -- ---- stores
 
@@ -261,27 +246,3 @@ finish_refused c number j k r same m x f h is loud ran =
     ap (finished c ran) m.2 ∙ at_there c j.node m.0 m.1 m.3 (posted c j ran)
     ∙ done_err c (finishes c j ran) (desk.posted m.1 j.node j ran) x f
     (λ other. posted_err m.1 j r ran x j.node (subst (λ (y : Job). desk.posted m.1 y.node j r ≡ Err x) same (h other))) is loud
-
--- ---- refusals
-
--- a desk refuses to ask
-pub ask_turns : (c : ClusterState) (id program start : ℕ) (n : NodeState) (d : DeskState) (there : IsThere c id n d) (tag : ℕ) (passes : asked c id program start n d ≡ asked_by c id (desk.asked d tag program start))
-    → (r : Result ℕ DeskFault) (desks : DeskMap) → StepsAt (desk.asked d tag program start) c.desks desks id r → (x : ClusterFault) → MatchResult r (λ a. (let z : Result ℕ ClusterFault = Err x in z) ≡ Ok a) (λ y. x ≡ of_desk y)
-    → (desks ≡ c.desks) × ((t : Result Stepped ClusterFault) → t ≡ Err x → Steps memory (at c id (asked c id program start)) c (with c c.world desks c.jobs) t)
-ask_turns c id program start n d there tag passes (Ok a) desks h x k = absurd (cc)
-ask_turns c id program start n d there tag passes (Err y) desks h x k = (
-  h.0,
-  λ t is. subst (λ (z : Result Stepped ClusterFault). Steps memory (at c id (asked c id program start)) c (with c c.world desks c.jobs) z) (sym is)
-      ((λ i. with c c.world (h.0 i) c.jobs), λ loud. ask_refused c id program start n d there tag passes y x h.1 k loud),
-)
-
--- a desk refuses a result
-pub finish_turns : (c : ClusterState) (number : ℕ) (j k : Job) (r : Ran) → k ≡ j → (m : MayRun c number j) → (p : Result (Unit {0}) DeskFault) (desks : DeskMap) → StepsAt (desk.posted m.1 k.node j r) c.desks desks k.node p
-    → (x : ClusterFault) → MatchResult p (λ a. (let z : Result (Unit {0}) ClusterFault = Err x in z) ≡ Ok a) (λ y. x ≡ of_desk y)
-    → (desks ≡ c.desks) × ((t : Result Stepped ClusterFault) → t ≡ Err x → Takes c (event.Finish number) (with c c.world desks c.jobs) t)
-finish_turns c number j k r same m (Ok a) desks h x q = absurd (cc)
-finish_turns c number j k r same m (Err y) desks h x q = (
-  h.0,
-  λ t is. subst (λ (z : Result Stepped ClusterFault). Takes c (event.Finish number) (with c c.world desks c.jobs) z) (sym is)
-      ((λ i. with c c.world (h.0 i) c.jobs), λ loud. finish_refused c number j k r same m y x h.1 q loud),
-)

@@ -1,6 +1,5 @@
--- What an event adds to the history of a cluster, by its parts; and what a test passes on.
-use Rattle.std.proofs.Common.{◌≡◌, ℕ, Bool, true, false, cond, List, [], refl, sym, ap, subst, ◌∙◌, Option, IfSome, Result, Ok, Err, is_ok, IfOk, MatchResult}
-use Rattle.std.specs.Bool.{⊤}
+-- What an event adds to the history of a cluster, by its parts.
+use Rattle.std.proofs.Common.{◌≡◌, ℕ, Bool, true, false, cond, List, [], refl, sym, ap, subst, ◌∙◌, Option, IfSome, Result, Ok, Err}
 use Rattle.std.specs.FinMap as fin
 use Rattle.sc_members.specs.Members.{Config}
 use Rattle.sc_node.specs.Nodes.{are_founders}
@@ -11,8 +10,6 @@ use Rattle.sc_world.specs.declared.fault.WorldFault.{WorldFault}
 use Rattle.sc_world.specs.declared.fault.WorldFault.TheVariants as world_fault
 use Rattle.sc_world.specs.State.{WorldState}
 use Rattle.sc_world.specs.Worlds as world
-use Rattle.sc_world.specs.Acts as acts
-use Rattle.sc_node.specs.Calls.{Steps as WorldSteps, Gives as WorldGives}
 use Rattle.q_desk.specs.State.{DeskState}
 use Rattle.q_desk.specs.Desks as desk
 use Rattle.q_desk.specs.declared.fault.DeskFault.{DeskFault}
@@ -23,46 +20,25 @@ use Rattle.q_history.specs.declared.event.Event.{Event}
 use Rattle.q_history.specs.declared.event.Event.TheVariants as event
 use Rattle.q_history.specs.declared.event.Told.TheVariants as told
 use Rattle.q_history.specs.declared.event.Stepped.{Stepped}
-use Rattle.q_history.specs.declared.fault.ClusterFault.{ClusterFault}
 use Rattle.q_history.specs.State.{ClusterState}
 use Rattle.q_history.specs.Clusters.{Part, stepped, taken, done, desks_with, founded}
 use Rattle.q_history.specs.Calls.{Answers, AnswersTo, Follows, IsHistory}
 use Rattle.q_cluster.specs.Acts.{DeskMap, StepsAt, MayRun}
-use Rattle.q_cluster.proofs.Histories.{follows, history_next, keeps_same, keeps_step}
+use Rattle.q_history.proofs.Histories.{history_next}
+use Rattle.q_cluster.proofs.Histories.{follows}
 use Rattle.q_cluster.proofs.Events.{silent, with, taken_ok, done_ok, finish_step}
-
--- what an error's map passes on
-pub mapped : {T E : Type 0} (r : Result T E) (t : T) → MatchResult r (λ x. (let y : Result T ClusterFault = Ok t in y) ≡ Ok x) (λ e. ⊥) → r ≡ Ok t
-mapped {T} {E} (Ok x) t h = let e : t ≡ x = cc in ap (λ (z : T). let y : Result T E = Ok z in y) (sym e)
-mapped (Err e) t h = absurd h
-
-pub world_took : (said : Result (WorldStepped × WorldState) WorldFault) (old new : WorldState) (r : Result WorldStepped WorldFault) (a : WorldStepped) → r ≡ Ok a → WorldSteps acts.memory said old new r → said ≡ Ok (a, new)
-world_took said old new r a is h = subst (WorldSteps acts.memory said old new) is h
-
-pub world_made : (said : Result WorldState WorldFault) (r : Result WorldState WorldFault) (w : WorldState) → r ≡ Ok w → WorldGives acts.memory said r → said ≡ Ok w
-world_made said r w is h = subst (WorldGives acts.memory said) is h
-
--- what a call answers that may fail, through an error's map
-pub copied : {T E : Type 0} (r : Result T E) (t v : T) → MatchResult r (λ x. x ≡ v) (λ _. ⊤) → MatchResult r (λ x. (let y : Result T ClusterFault = Ok t in y) ≡ Ok x) (λ e. ⊥) → t ≡ v
-copied (Ok x) t v h k = let e : t ≡ x = cc in e ∙ h
-copied (Err e) t v h k = absurd k
-
-pub made : {T E : Type 0} (X Y : E → Type 0) (r : Result T E) (s : Result T ClusterFault) (v : T) (P : T → Type 0) → MatchResult r (λ x. s ≡ Ok x) X → MatchResult r (λ x. x ≡ v) Y → is_ok s ≡ is_ok r → P v → IfOk s P
-made X Y (Ok x) s v P h k e p = subst (λ z. IfOk z P) (sym h) (subst P (sym k) p)
-made X Y (Err y) (Ok z) v P h k e p = absurd (cc)
-made X Y (Err y) (Err z) v P h k e p = tt
 
 pub taken_history : (c : ClusterState) (e : Event) (we : WorldEvent) (part : WorldStepped → Part) → ((ran : Ran) → AnswersTo c e ran) → ((ran : Ran) → stepped ran c e ≡ taken part (world.stepped c.world we)) → IsHistory c
     → (a : WorldStepped) (w : WorldState) → world.stepped c.world we ≡ Ok (a, w) → (part a).jobs ≡ c.jobs → (desks : DeskMap) → desks ≡ (part a).desks → IsHistory (with c w desks c.jobs)
 taken_history c e we part any is h a w s hj desks hd =
     let t : Stepped = record { told = (part a).told; sent = a.sent } in
-    history_next c e t (with c w desks c.jobs) h (follows c e t (with c w desks c.jobs) any (λ ran. is ran ∙ taken_ok c part we a w s hj desks hd t refl)) (keeps_step c.world we a w s)
+    history_next c (with c w desks c.jobs) e t h (follows c e t (with c w desks c.jobs) any (λ ran. is ran ∙ taken_ok c part we a w s hj desks hd t refl))
 
 pub done_history : {A : Type 0} (c : ClusterState) (e : Event) (part : A → DeskState → Part) (said : Result (A × DeskState) DeskFault) → ((ran : Ran) → AnswersTo c e ran) → ((ran : Ran) → stepped ran c e ≡ done c.world part said) → IsHistory c
     → (a : A) (d : DeskState) → said ≡ Ok (a, d) → (desks : DeskMap) → desks ≡ (part a d).desks → (jobs : List Job) → jobs ≡ (part a d).jobs → IsHistory (with c c.world desks jobs)
 done_history c e part said any is h a d s desks hd jobs hj =
     let t : Stepped = record { told = (part a d).told; sent = silent c.world } in
-    history_next c e t (with c c.world desks jobs) h (follows c e t (with c c.world desks jobs) any (λ ran. is ran ∙ done_ok c part said a d s desks hd jobs hj t refl)) (keeps_same c.world)
+    history_next c (with c c.world desks jobs) e t h (follows c e t (with c c.world desks jobs) any (λ ran. is ran ∙ done_ok c part said a d s desks hd jobs hj t refl))
 
 -- the founders are a history of no events
 founders_are : (b : Bool) (v w : WorldState) → (let r : Result WorldState WorldFault = cond b (Ok v) (Err (world_fault.Node node_fault.BadFounders)) in r) ≡ Ok w → w ≡ v
@@ -73,11 +49,6 @@ pub new_history : (config : Config) (ids : List ℕ) (w : WorldState) (desks : D
 new_history config ids w desks h hd =
     subst (λ (x : WorldState). IsHistory (record { world = x; desks = desks; jobs = [] })) (sym (founders_are (are_founders ids) (world.start config ids) w h))
     ([], λ i. record { world = world.start config ids; desks = hd i; jobs = [] }, ap (founded config ids) h)
-
-pub put_desk : {E : Type 0} (r : Result (Option DeskState) E) (t : Option DeskState) (old new : DeskMap) (id : ℕ) (d : DeskState) → MatchResult r (λ x. (let y : Result (Option DeskState) ClusterFault = Ok t in y) ≡ Ok x) (λ e. ⊥)
-    → MatchResult r (λ last. (last ≡ fin.get old id) × (new ≡ fin.insert old id d)) (λ _. ⊤) → new ≡ fin.insert old id d
-put_desk (Ok x) t old new id d k h = h.1
-put_desk (Err e) t old new id d k h = absurd k
 
 -- the job of a number is finished with its right answer
 pub finish_follows : (c : ClusterState) (number : ℕ) (f : Finished) (k : Job) → k ≡ f.job → IsFinished f → (m : MayRun c number f.job) (desks : DeskMap) → StepsAt (desk.posted m.1 k.node f.job f.ran) c.desks desks k.node (Ok tt)

@@ -9,7 +9,7 @@ ghost use Rattle.q_desk.specs.Desks as desk;
 ghost use Rattle.q_desk.specs.State.{DeskState};
 ghost use Rattle.sc_node.specs.State.{NodeState};
 ghost use Rattle.q_session.specs.declared.ran.Ran.{Ran};
-ghost use Rattle.q_history.specs.Faults.{memory, of_desk};
+ghost use Rattle.q_history.specs.Faults.{memory};
 ghost use Rattle.q_history.specs.Clusters.{at, taken, registered, asked, asked_by, stored, delivered, handed_out, handed, with_job, finished, left, enters, crashes, joined, free, started};
 ghost use Rattle.q_history.specs.Calls.{Takes, Runs, IsHistory};
 ghost use Rattle.q_history.specs.Headline.{AnswersAreTrue, AnswersStay};
@@ -67,8 +67,8 @@ impl Cluster {
     pub fn new(alloc: Global, config: Config, founders: &[u64]) -> Result<Cluster, ClusterFault>
         ensures { Gives memory (started config founders.now) result }
     {
-        let world = World::new(alloc, config, founders).map_err(ClusterFault::World)?;
-        let desks = found_desks(alloc, founders).map_err(out_of_memory)?;
+        let world = World::new(alloc, config, founders)?;
+        let desks = found_desks(alloc, founders)?;
         Ok(Cluster {
             alloc,
             world,
@@ -205,10 +205,7 @@ impl Cluster {
     fn enter(&mut self, id: u64) -> Result<Stepped, ClusterFault>
         ensures { Steps memory (taken (enters self.old id) (world.stepped self.old.world (world_event.Enter id))) self.old self.new result }
     {
-        let last = self
-            .desks
-            .insert(id, Desk::new(self.alloc))
-            .map_err(out_of_memory)?;
+        let last = self.desks.insert(id, Desk::new(self.alloc))?;
         let stepped = match self.world.step(WorldEvent::Enter(id)) {
             Ok(stepped) => stepped,
             Err(fault) => {
@@ -236,10 +233,7 @@ impl Cluster {
     fn crash(&mut self, id: u64) -> Result<Stepped, ClusterFault>
         ensures { Steps memory (taken (crashes self.old) (world.stepped self.old.world (world_event.Crash id))) self.old self.new result }
     {
-        let stepped = self
-            .world
-            .step(WorldEvent::Crash(id))
-            .map_err(ClusterFault::World)?;
+        let stepped = self.world.step(WorldEvent::Crash(id))?;
         Ok(told(Told::Crashed, stepped.sent))
     }
 
@@ -247,7 +241,7 @@ impl Cluster {
         ensures { Steps memory (at self.old id (registered self.old id program.now)) self.old self.new result }
     {
         self.place(id)?;
-        let program = self.desks.register(id, program).map_err(of_desk)?;
+        let program = self.desks.register(id, program)?;
         Ok(told(Told::Registered(program), silent(&self.world)))
     }
 
@@ -256,7 +250,7 @@ impl Cluster {
         ensures { Steps memory (at self.old id (asked self.old id program start)) self.old self.new result }
     {
         let tag = self.may_ask(id, program)?;
-        let query = self.desks.ask(id, tag, program, start).map_err(of_desk)?;
+        let query = self.desks.ask(id, tag, program, start)?;
         let stepped = match self.world.step(WorldEvent::Collect(id)) {
             Ok(stepped) => stepped,
             Err(fault) => {
@@ -299,8 +293,8 @@ impl Cluster {
         ensures { Steps memory (at self.old id (handed_out self.old id)) self.old self.new result }
     {
         self.place(id)?;
-        self.jobs.reserve(1).map_err(out_of_memory)?;
-        let job = self.desks.hand_out(id).map_err(of_desk)?;
+        self.jobs.reserve(1)?;
+        let job = self.desks.hand_out(id)?;
         let handed = put_job(&mut self.jobs, job);
         Ok(told(Told::HandedOut(handed), silent(&self.world)))
     }
@@ -310,7 +304,7 @@ impl Cluster {
     {
         let done = Done::run(self.job_to_run(number)?);
         let job = done.job();
-        self.desks.post(job.node, &done).map_err(of_desk)?;
+        self.desks.post(job.node, &done)?;
         let answer = Answer {
             node: job.node,
             query: job.query,
@@ -367,7 +361,7 @@ impl Cluster {
         let Some(message) = self.world.message(message) else {
             return Err(ClusterFault::World(WorldFault::NeverSent));
         };
-        message.clone().map_err(out_of_memory)
+        Ok(message.clone()?)
     }
 
     // A copy of the job of that number, whose node is there.
@@ -379,8 +373,7 @@ impl Cluster {
             return Err(ClusterFault::NoSuchJob);
         };
         self.place(job.node)?;
-        let copy = copy_of(job).map_err(out_of_memory)?;
-        Ok(copy)
+        Ok(copy_of(job)?)
     }
 }
 
@@ -434,7 +427,7 @@ fn take_noted(
 ) -> Result<WorldStepped, ClusterFault>
     ensures { (d : DeskState) → fin.get desks.old id ≡ Some d → TakesNoted world.old world.new desks.old desks.new id d entry event result }
 {
-    desks.note(id, entry).map_err(of_desk)?;
+    desks.note(id, entry)?;
     match world.step(event) {
         Ok(stepped) => Ok(stepped),
         Err(fault) => {
@@ -473,19 +466,4 @@ fn told(told: Told, sent: Sent) -> Stepped
     ensures { result ≡ record { told = told; sent = sent } }
 {
     Stepped { told, sent }
-}
-
-fn of_desk(fault: DeskFault) -> ClusterFault
-    ensures { result ≡ of_desk fault }
-{
-    match fault {
-        DeskFault::OutOfMemory => out_of_memory(AllocError),
-        fault => ClusterFault::Desk(fault),
-    }
-}
-
-fn out_of_memory(_: AllocError) -> ClusterFault
-    ensures { result ≡ memory }
-{
-    ClusterFault::World(WorldFault::Node(NodeFault::OutOfMemory))
 }

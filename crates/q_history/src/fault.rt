@@ -4,7 +4,9 @@ ghost use Rattle.std.specs.Prelude.{◌≡◌};
 ghost use Rattle.q_history.specs.Faults.{fault_number, fault_name};
 
 use q_desk::fault::DeskFault;
+use sc_node::fault::NodeFault;
 use sc_world::fault::WorldFault;
+use std::alloc::AllocError;
 
 /// Why an event is refused. After a refusal the cluster is as it was. Where several hold, the first of 83, 81, 82, 42,
 /// 41, 51, 52, 56, 55, 43, 53, 48, 46, 47 is answered.
@@ -39,5 +41,41 @@ impl ClusterFault {
             ClusterFault::World(fault) => fault.name(),
             ClusterFault::Desk(fault) => fault.name(),
         }
+    }
+}
+
+impl From<WorldFault> for ClusterFault {
+    ghost use Rattle.std.specs.Prelude.{◌≡◌};
+    ghost use Rattle.q_history.specs.declared.fault.ClusterFault.TheVariants.{World};
+
+    ghost from_gives = { λ refusal e. e ≡ World refusal };
+
+    fn from(refusal: WorldFault) -> ClusterFault {
+        ClusterFault::World(refusal)
+    }
+}
+
+impl From<DeskFault> for ClusterFault {
+    ghost use Rattle.std.specs.Prelude.{◌≡◌};
+    ghost use Rattle.q_history.specs.Faults.{of_desk};
+
+    ghost from_gives = { λ refusal e. e ≡ of_desk refusal };
+
+    fn from(refusal: DeskFault) -> ClusterFault {
+        match refusal {
+            DeskFault::OutOfMemory => ClusterFault::from(AllocError),
+            other => ClusterFault::Desk(other),
+        }
+    }
+}
+
+impl From<AllocError> for ClusterFault {
+    ghost use Rattle.std.specs.Prelude.{◌≡◌};
+    ghost use Rattle.q_history.specs.Faults.{memory};
+
+    ghost from_gives = { λ _ e. e ≡ memory };
+
+    fn from(_: AllocError) -> ClusterFault {
+        ClusterFault::World(WorldFault::Node(NodeFault::OutOfMemory))
     }
 }

@@ -5,7 +5,7 @@ use Rattle.q_history.specs.declared.event.Event.TheVariants as event
 use Rattle.q_history.specs.State.{ClusterState}
 use Rattle.q_history.specs.Clusters.{enters}
 use Rattle.q_cluster.specs.contracts.cluster.Cluster as cluster
-use Rattle.q_cluster.proofs.Going.{put_desk, taken_history}
+use Rattle.q_cluster.proofs.Going.{taken_history}
 use Rattle.q_cluster.proofs.cluster.Cluster.enter.Goals as goal
 
 pub invariant_of-self-in-Ok : goal.invariant_of-self-in-Ok
@@ -13,4 +13,4 @@ invariant_of-self-in-Ok c =
     let v : ClusterState = cluster.the_view c.self.inside in
     taken_history v (event.Enter c.args.id) (world_event.Enter c.args.id) (enters v c.args.id) (λ _. tt) (λ _. refl) c.self.invariant
     c.in-Ok.stepped c.step.new.self c.in-Ok.ensures refl c.insert.new.self
-    (put_desk c.insert.result c.in_ok-last.last v.desks c.insert.new.self c.args.id c.new.result c.in_ok-last.ensures.cases c.insert.ensures.ok ∙ ap (fin.insert v.desks c.args.id) c.new.ensures)
+    (c.in_ok-last.ensures.ok.1 ∙ ap (fin.insert v.desks c.args.id) c.new.ensures)

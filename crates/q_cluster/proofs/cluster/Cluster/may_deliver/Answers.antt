@@ -4,7 +4,6 @@ use Rattle.sc_node.specs.State.{NodeState}
 use Rattle.q_desk.specs.State.{DeskState}
 use Rattle.q_history.specs.State.{ClusterState}
 use Rattle.q_cluster.specs.Acts.{IsThere}
-use Rattle.q_cluster.proofs.Going.{made}
 use Rattle.q_cluster.proofs.cluster.Cluster.may_deliver.Goals as goal
 
 pub returns-clause-message : goal.returns-clause-message
@@ -12,5 +11,5 @@ returns-clause-message c =
     let x : ClusterState = c.args.self.now in
     let m : Message = c.in-Some.message.now in
     let sent : slice_get x.world.sent c.args.message ≡ Some m = subst (λ (y : ClusterState). slice_get y.world.sent c.args.message ≡ Some m) c.self.view_is (sym c.in-Some.ensures) in
-    made _ _ c.clone.result c.map_err.result m (λ (a : Message). (slice_get x.world.sent c.args.message ≡ Some a) × ((n : NodeState) × (d : DeskState) × IsThere x c.args.id n d)) c.map_err.ensures.cases c.clone.ensures.cases c.map_err.ensures.variant
+    subst (λ (a : Message). (slice_get x.world.sent c.args.message ≡ Some a) × ((n : NodeState) × (d : DeskState) × IsThere x c.args.id n d)) (sym c.in_ok-clone.ensures.cases)
     (sent, (c.in_ok-place.field-0.node.now, c.in_ok-place.field-0.desk.now, c.in_ok-place.ensures.there))

@@ -1,66 +1,37 @@
-use Rattle.std.proofs.Common.{◌≡◌, ℕ, List, refl, sym, subst, ap, ◌∙◌, Result, Ok, Err}
+use Rattle.std.proofs.Common.{ℕ, refl, ap, ◌∙◌}
 use Rattle.std.proofs.lemmas.Result.{err_from_is_err_and}
 use Rattle.sc_world.specs.declared.event.Event.TheVariants as world_event
-use Rattle.sc_world.specs.declared.event.Stepped.{Stepped as WorldStepped}
-use Rattle.q_table.specs.Calls.{Steps}
 use Rattle.q_desk.specs.declared.journal.Entry.TheVariants as entry
 use Rattle.q_history.specs.declared.event.Event.TheVariants as event
 use Rattle.q_history.specs.declared.event.Stepped.{Stepped}
-use Rattle.q_history.specs.declared.event.Told.TheVariants as told
-use Rattle.q_history.specs.declared.fault.ClusterFault.{ClusterFault}
-use Rattle.q_history.specs.Faults.{memory}
 use Rattle.q_history.specs.State.{ClusterState}
-use Rattle.q_history.specs.Calls.{IsHistory}
-use Rattle.q_history.specs.Clusters.{at, stored, stores}
-use Rattle.q_cluster.specs.Acts.{Tests, MayStore, TakesNoted}
+use Rattle.q_history.specs.declared.event.Told.TheVariants as told
+use Rattle.q_history.specs.Clusters.{stored, stores}
 use Rattle.q_cluster.specs.contracts.cluster.Cluster as cluster
-use Rattle.q_cluster.proofs.Events.{with, taken_ok, noted_says, noted_turns}
-use Rattle.q_cluster.proofs.Going.{taken_history}
+use Rattle.q_cluster.proofs.Noting.{noted_kept, noted_turns, noted_history, noted_says}
 use Rattle.q_cluster.proofs.cluster.Cluster.store.Goals as goal
-
-abbrev MayStoreAs : ClusterState → ℕ → List ℕ → ℕ → Type 0
-MayStoreAs x id value tag = let r : Result ℕ ClusterFault = Ok tag in Tests x id (stored x id value) (λ tag n d. MayStore x id value tag n d) r
 
 pub invariant_of-self : goal.invariant_of-self
 invariant_of-self c =
-    let v : ClusterState = cluster.the_view c.self.inside in
-    let id = c.args.id in
-    let value = c.args.value.now in
-    let m : MayStoreAs v id value c.in_ok-tag.tag = subst (λ (x : ClusterState). MayStoreAs x id value c.in_ok-tag.tag) (sym c.self.view_is) (c.in_ok-tag.ensures value) in
-    let took = subst (λ (r : Result WorldStepped ClusterFault). TakesNoted v.world c.take_noted.new.world v.desks c.take_noted.new.desks id m.1 (entry.Store value) (world_event.Store id value) r) (c.in_err-stepped.was {u = tt}) (c.take_noted.ensures m.1 m.2.desk) in
-    subst (λ (x : ClusterState). IsHistory x) (λ i. with v (sym took.0 i) (sym took.1 i) v.jobs) c.self.invariant
+    let m = c.in_ok-tag.ensures c.args.value.now in
+    noted_kept (cluster.the_view c.self.inside) c.args.self.now c.self.view_is c.args.id m.0 m.1 m.2 (λ (x : ClusterState). stored x c.args.id c.args.value.now) (λ (x : ClusterState). stores x c.args.id c.args.value.now m.0 m.1) (world_event.Store c.args.id c.args.value.now) m.3.1 (entry.Store c.args.value.now) c.take_noted.new.world c.take_noted.new.desks
+    c.in_err-stepped.field-0.0 c.in_err-stepped.ensures c.self.invariant
 
 pub returns-in_err-stepped : goal.returns-in_err-stepped
 returns-in_err-stepped c =
-    let v : ClusterState = cluster.the_view c.self.inside in
-    let id = c.args.id in
-    let value = c.args.value.now in
-    let m : MayStoreAs v id value c.in_ok-tag.tag = subst (λ (x : ClusterState). MayStoreAs x id value c.in_ok-tag.tag) (sym c.self.view_is) (c.in_ok-tag.ensures value) in
-    let took = subst (λ (r : Result WorldStepped ClusterFault). TakesNoted v.world c.take_noted.new.world v.desks c.take_noted.new.desks id m.1 (entry.Store value) (world_event.Store id value) r) (c.in_err-stepped.was {u = tt}) (c.take_noted.ensures m.1 m.2.desk) in
+    let m = c.in_ok-tag.ensures c.args.value.now in
     let k = err_from_is_err_and c.from_residual-in_err-stepped.result c.from_residual-in_err-stepped.ensures.1 in
-    let is : c.from_residual-in_err-stepped.result ≡ Err c.in_err-stepped.field-0.0 = k.1 ∙ ap (λ (x : ClusterFault). let r : Result Stepped ClusterFault = Err x in r) k.2 in
-    subst (λ (x : ClusterState). Steps memory (at x id (stored x id value)) x (with v c.take_noted.new.world c.take_noted.new.desks v.jobs) c.from_residual-in_err-stepped.result) c.self.view_is
-    (noted_turns v id m.0 m.1 m.2 (stored v id value) (stores v id value m.0 m.1) (world_event.Store id value) m.3.1 (entry.Store value) c.take_noted.new.world c.take_noted.new.desks c.in_err-stepped.field-0.0 took
-    c.from_residual-in_err-stepped.result is)
+    noted_turns (cluster.the_view c.self.inside) c.args.self.now c.self.view_is c.args.id m.0 m.1 m.2 (λ (x : ClusterState). stored x c.args.id c.args.value.now) (λ (x : ClusterState). stores x c.args.id c.args.value.now m.0 m.1) (world_event.Store c.args.id c.args.value.now) m.3.1 (entry.Store c.args.value.now) c.take_noted.new.world c.take_noted.new.desks
+    c.in_err-stepped.field-0.0 c.in_err-stepped.ensures k.0 k.2 c.from_residual-in_err-stepped.result k.1
 
 pub invariant_of-self-2 : goal.invariant_of-self-2
 invariant_of-self-2 c =
-    let v : ClusterState = cluster.the_view c.self.inside in
-    let id = c.args.id in
-    let value = c.args.value.now in
-    let m : MayStoreAs v id value c.in_ok-tag.tag = subst (λ (x : ClusterState). MayStoreAs x id value c.in_ok-tag.tag) (sym c.self.view_is) (c.in_ok-tag.ensures value) in
-    let took = subst (λ (r : Result WorldStepped ClusterFault). TakesNoted v.world c.take_noted.new.world v.desks c.take_noted.new.desks id m.1 (entry.Store value) (world_event.Store id value) r) (c.in_ok-stepped.was {u = tt}) (c.take_noted.ensures m.1 m.2.desk) in
-    taken_history v (event.Store id value) (world_event.Store id value) (stores v id value m.0 m.1) (λ _. tt) (λ _. noted_says v id m.0 m.1 m.2 (stored v id value) (stores v id value m.0 m.1) (world_event.Store id value) m.3.1 took.0) c.self.invariant
-    c.in_ok-stepped.stepped c.take_noted.new.world took.1 refl c.take_noted.new.desks took.2
+    let m = c.in_ok-tag.ensures c.args.value.now in
+    noted_history (cluster.the_view c.self.inside) c.args.self.now c.self.view_is c.args.id m.0 m.1 m.2 (λ (x : ClusterState). stored x c.args.id c.args.value.now) (λ (x : ClusterState). stores x c.args.id c.args.value.now m.0 m.1) (world_event.Store c.args.id c.args.value.now) m.3.1 (entry.Store c.args.value.now) c.take_noted.new.world c.take_noted.new.desks
+    c.in_ok-stepped.stepped c.in_ok-stepped.ensures refl c.take_noted.new.desks (λ put. put) (event.Store c.args.id c.args.value.now) (λ _. tt) (λ _. refl) c.self.invariant
 
 pub returns : goal.returns
 returns c =
-    let v : ClusterState = cluster.the_view c.self.inside in
-    let id = c.args.id in
-    let value = c.args.value.now in
-    let m : MayStoreAs v id value c.in_ok-tag.tag = subst (λ (x : ClusterState). MayStoreAs x id value c.in_ok-tag.tag) (sym c.self.view_is) (c.in_ok-tag.ensures value) in
-    let took = subst (λ (r : Result WorldStepped ClusterFault). TakesNoted v.world c.take_noted.new.world v.desks c.take_noted.new.desks id m.1 (entry.Store value) (world_event.Store id value) r) (c.in_ok-stepped.was {u = tt}) (c.take_noted.ensures m.1 m.2.desk) in
-    rw (← c.self.view_is)
-    (noted_says v id m.0 m.1 m.2 (stored v id value) (stores v id value m.0 m.1) (world_event.Store id value) m.3.1 took.0
-    ∙ taken_ok v (stores v id value m.0 m.1) (world_event.Store id value) c.in_ok-stepped.stepped c.take_noted.new.world took.1 refl c.take_noted.new.desks took.2
-    c.told.result (c.told.ensures ∙ ap (λ k. let t : Stepped = record { told = told.Stored k; sent = c.in_ok-stepped.stepped.sent } in t) m.3.0))
+    let m = c.in_ok-tag.ensures c.args.value.now in
+    noted_says (cluster.the_view c.self.inside) c.args.self.now c.self.view_is c.args.id m.0 m.1 m.2 (λ (x : ClusterState). stored x c.args.id c.args.value.now) (λ (x : ClusterState). stores x c.args.id c.args.value.now m.0 m.1) (world_event.Store c.args.id c.args.value.now) m.3.1 (entry.Store c.args.value.now) c.take_noted.new.world c.take_noted.new.desks
+    c.in_ok-stepped.stepped c.in_ok-stepped.ensures refl c.take_noted.new.desks (λ put. put) c.told.result (λ _. c.told.ensures ∙ ap (λ (tag : ℕ). let t : Stepped = record { told = told.Stored tag; sent = c.in_ok-stepped.stepped.sent } in t) m.3.0)

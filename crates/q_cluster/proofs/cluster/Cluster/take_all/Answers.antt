@@ -1,10 +1,11 @@
-use Rattle.std.proofs.Common.{◌≡◌, refl, sym, subst, List, take, Some, slice_get, Err}
+use Rattle.std.proofs.Common.{◌≡◌, refl, sym, ap, subst, ◌∙◌, List, [], ◌∷◌, ◌++◌, take, Err}
+use Rattle.std.proofs.lemmas.List.{take_more, take_all}
 use Rattle.std.proofs.lemmas.Option.{slice_get_read}
 use Rattle.q_history.specs.declared.event.Event.{Event}
 use Rattle.q_history.specs.State.{ClusterState}
 use Rattle.q_history.specs.Clusters.{stepped}
 use Rattle.q_history.specs.Calls.{Reaches}
-use Rattle.q_cluster.proofs.Histories.{reaches_next, take_next, take_past}
+use Rattle.q_history.proofs.Histories.{reaches_next}
 use Rattle.q_cluster.proofs.cluster.Cluster.take_all.Goals as goal
 
 pub returns-in-Err : goal.returns-in-Err
@@ -24,12 +25,12 @@ pub loop-place-preserved : goal.loop-place-preserved
 loop-place-preserved c =
     let es : List Event = c.args.events.now in
     let e : Event = c.index-events-place.result in
-    let at : slice_get es c.loop-place.place ≡ Some e = slice_get_read es _ c.loop-place.place e refl c.loop-place-test.true c.index-events-place.is in
-    subst (λ (xs : List Event). Reaches c.args.self.now xs c.take.new.self) (sym (take_next es c.loop-place.place e at))
+    let more = take_more es c.loop-place.place e c.loop-place-test.true ∙ ap (λ (x : Event). take c.loop-place.place es ++ x ∷ []) (sym c.index-events-place.is) in
+    subst (λ (xs : List Event). Reaches c.args.self.now xs c.take.new.self) (sym more)
     (reaches_next (take c.loop-place.place es) c.args.self.now c.loop-place.self e c.in_default.field-0 c.take.new.self c.loop-place.invariant (c.in_default.ensures {u = tt}))
 
 pub returns : goal.returns
-returns c = subst (λ (xs : List Event). Reaches c.args.self.now xs c.loop-place.self) (take_past c.args.events.now c.loop-place.place c.loop-place-test.false) c.loop-place.invariant
+returns c = subst (λ (xs : List Event). Reaches c.args.self.now xs c.loop-place.self) (take_all c.loop-place.place c.args.events.now c.loop-place-test.false) c.loop-place.invariant
 
 pub loop-place-init : goal.loop-place-init
 loop-place-init c = refl
