@@ -3,6 +3,7 @@ use crate::line::{LineFault, ScriptLine};
 use crate::number::number;
 use crate::records::{RecordFault, RecordsFault, read_records};
 use crate::script::{Script, ScriptFault};
+use sc_view::view::View;
 use std::alloc::Global;
 use std::test::Fail;
 
@@ -11,17 +12,39 @@ const FOUR_FIFTHS: Fraction = Fraction {
     denominator: 5,
 };
 
-/// What the lines behind the first spell, where a line founds the cluster before them.
-fn events(alloc: Global, lines: &str) -> Result<Vec<ScriptLine>, Fail> {
-    let mut source = String::from_str(alloc, "nodes 1 4/5 4/5\n")?;
-    source.push_str(lines)?;
-    let Script { founding: _, lines } = Script::read(alloc, source.as_str())?;
-    Ok(lines)
+/// Whether a line spells this event.
+fn is_event(alloc: Global, line: &str, event: ScriptLine) -> bool {
+    ScriptLine::read(alloc, line) == Ok(event)
 }
 
-/// The event of one line.
-fn event(alloc: Global, line: &str) -> Result<ScriptLine, LineFault> {
-    ScriptLine::read(alloc, line)
+/// Whether a line is of another form than those of events.
+fn is_other(alloc: Global, line: &str) -> bool {
+    ScriptLine::read(alloc, line) == Err(LineFault::Form)
+}
+
+/// Whether a script has the events `all 1` and `run 0`.
+fn has_two_events(alloc: Global, source: &str) -> bool {
+    let wanted = [ScriptLine::All { limit: 1 }, ScriptLine::Run { job: 0 }];
+    match Script::read(alloc, source) {
+        Ok(script) => script.lines.as_slice() == wanted.as_slice(),
+        Err(_) => false,
+    }
+}
+
+/// Whether this line is the least one of a text that is of another form.
+fn is_first_other(alloc: Global, source: &str, line: usize) -> bool {
+    match Script::read(alloc, source) {
+        Ok(_) => false,
+        Err(fault) => fault == ScriptFault::Syntax { line },
+    }
+}
+
+/// Whether a view holds at this id a store of this number, whose value begins with these bytes.
+fn is_stored(view: &View, id: u64, number: u64, value: [u8; 9]) -> bool {
+    match view.get(id) {
+        Some(stored) => stored.number == number && stored.value.starts_with(&value),
+        None => false,
+    }
 }
 
 #[test]
@@ -47,49 +70,42 @@ fn founds(rt: HostRuntime) -> Result<(), Fail> {
 fn reads_a_program(rt: HostRuntime) -> Result<(), Fail> {
     let alloc = rt.alloc();
     let code = vec![in alloc; 0xbf, 0x30, 0x0a]?;
-    assert_eq!(rt;
-        event(alloc, "program 7 bF300A"),
-        Ok(ScriptLine::Program { node: 7, code })
-    );
+    let program = ScriptLine::Program { node: 7, code };
+    assert!(rt; is_event(alloc, "program 7 bF300A", program));
     Ok(())
 }
 
 #[test]
-fn reads_numbers_of_events(rt: HostRuntime) {
-    let alloc = rt.alloc();
-    assert_eq!(rt;
-        event(alloc, "store 1 5"),
-        Ok(ScriptLine::Store { node: 1, value: 5 })
-    );
+fn reads_two_numbers(rt: HostRuntime) {
+    let store = ScriptLine::Store { node: 1, value: 5 };
+    assert!(rt; is_event(rt.alloc(), "store 1 5", store));
+    let deliver = ScriptLine::Deliver {
+        message: 12,
+        node: 3,
+    };
+    assert!(rt; is_event(rt.alloc(), "deliver 12 3", deliver));
+}
+
+#[test]
+fn reads_three_numbers(rt: HostRuntime) {
     let ask = ScriptLine::Ask {
         node: 1,
         program: 0,
         start: 18_446_744_073_709_551_615,
     };
-    assert_eq!(rt; event(alloc, "ask 1 0 18446744073709551615"), Ok(ask));
-    assert_eq!(rt;
-        event(alloc, "deliver 12 3"),
-        Ok(ScriptLine::Deliver {
-            message: 12,
-            node: 3
-        })
-    );
+    assert!(rt; is_event(rt.alloc(), "ask 1 0 18446744073709551615", ask));
 }
 
 #[test]
 fn reads_one_number(rt: HostRuntime) {
-    let alloc = rt.alloc();
-    assert_eq!(rt; event(alloc, "all 100"), Ok(ScriptLine::All { limit: 100 }));
-    assert_eq!(rt; event(alloc, "hand 1"), Ok(ScriptLine::Hand { node: 1 }));
-    assert_eq!(rt; event(alloc, "run 0"), Ok(ScriptLine::Run { job: 0 }));
+    let hand = ScriptLine::Hand { node: 1 };
+    assert!(rt; is_event(rt.alloc(), "hand 1", hand));
 }
 
 #[test]
-fn lines_of_another_form(rt: HostRuntime) {
+fn stores_of_another_form(rt: HostRuntime) {
     let alloc = rt.alloc();
     for line in [
-        "",
-        " ",
         "store",
         "store 1",
         "store 1 ",
@@ -103,13 +119,19 @@ fn lines_of_another_form(rt: HostRuntime) {
         "Store 1 5",
         "stores 1 5",
         "store 01 5",
-        "store +1 5",
-        "store -1 5",
-        "store 1 0x5",
         "store 1 18446744073709551616",
-        "store 1 5\t",
         "# store 1 5",
-        "program 1",
+    ] {
+        assert!(rt; is_other(alloc, line), "at {line}");
+    }
+}
+
+#[test]
+fn events_of_another_form(rt: HostRuntime) {
+    let alloc = rt.alloc();
+    for line in [
+        "",
+        " ",
         "program 1 ",
         "program 1 b",
         "program 1 bg",
@@ -117,19 +139,13 @@ fn lines_of_another_form(rt: HostRuntime) {
         "program bf",
         "ask 1 0",
         "ask 1 0 0 0",
-        "deliver 1",
         "all",
-        "all ",
         "all 1 2",
-        "hand",
         "hand x",
-        "run",
-        "run 0 0",
         "nodes 1 4/5 4/5",
-        "pairs",
         "enter 3",
     ] {
-        assert_eq!(rt; event(alloc, line), Err(LineFault::Form), "at {line}");
+        assert!(rt; is_other(alloc, line), "at {line}");
     }
 }
 
@@ -150,7 +166,7 @@ fn foundings_of_another_form(rt: HostRuntime) {
         "nodes 01 4/5 4/5",
         "store 1 5",
     ] {
-        assert_eq!(rt; Founding::read(line), None, "at {line}");
+        assert!(rt; Founding::read(line).is_none(), "at {line}");
     }
 }
 
@@ -167,29 +183,25 @@ fn names_the_least_line_of_another_form(rt: HostRuntime) {
         ("nodes 1 4/5 4/5\nall 1\nnodes 1 4/5 4/5\nall", 3),
         ("nodes 1 4/5 4/5\nall 01\nall 02", 2),
     ] {
-        assert_eq!(rt;
-            Script::read(alloc, source),
-            Err(ScriptFault::Syntax { line }),
-            "at {source}"
-        );
+        assert!(rt; is_first_other(alloc, source, line), "at {source}");
     }
 }
 
 #[test]
-fn the_last_line_feed_is_optional(rt: HostRuntime) -> Result<(), Fail> {
+fn the_last_line_feed_is_optional(rt: HostRuntime) {
     let alloc = rt.alloc();
-    for lines in ["all 1\nrun 0", "all 1\nrun 0\n"] {
-        let events = events(alloc, lines)?;
-        let wanted = [ScriptLine::All { limit: 1 }, ScriptLine::Run { job: 0 }];
-        assert_eq!(rt; events.as_slice(), wanted.as_slice());
-    }
-    Ok(())
+    assert!(rt; has_two_events(alloc, "nodes 1 4/5 4/5\nall 1\nrun 0"));
+    assert!(rt; has_two_events(alloc, "nodes 1 4/5 4/5\nall 1\nrun 0\n"));
 }
 
 #[test]
 fn reads_numbers(rt: HostRuntime) {
     assert_eq!(rt; number("0"), Some(0));
     assert_eq!(rt; number("18446744073709551615"), Some(u64::MAX));
+}
+
+#[test]
+fn texts_that_are_no_numbers(rt: HostRuntime) {
     for text in [
         "",
         "00",
@@ -202,31 +214,15 @@ fn reads_numbers(rt: HostRuntime) {
         "18446744073709551616",
         "a",
     ] {
-        assert_eq!(rt; number(text), None, "at {text}");
+        assert!(rt; number(text).is_none(), "at {text}");
     }
-}
-
-#[test]
-fn numbers_and_names_of_faults(rt: HostRuntime) {
-    let syntax = ScriptFault::Syntax { line: 1 };
-    assert_eq!(rt; (syntax.number(), syntax.name()), (9, "Syntax"));
-    let memory = ScriptFault::OutOfMemory;
-    assert_eq!(rt; (memory.number(), memory.name()), (99, "OutOfMemory"));
 }
 
 #[test]
 fn reads_records(rt: HostRuntime) -> Result<(), Fail> {
     let view = read_records(rt.alloc(), "0 1 258\n7 2 18446744073709551615")?;
-    assert_eq!(rt; view.len(), 2);
-    let first = view.get(0).ok_or("no record 0")?;
-    assert_eq!(rt; first.number, 1);
-    assert_eq!(rt; &first.value[..9], [2, 1, 0, 0, 0, 0, 0, 0, 0].as_slice());
-    let second = view.get(7).ok_or("no record 7")?;
-    assert_eq!(rt; second.number, 2);
-    assert_eq!(rt;
-        &second.value[..9],
-        [255, 255, 255, 255, 255, 255, 255, 255, 0].as_slice()
-    );
+    assert!(rt; is_stored(&view, 0, 1, [2, 1, 0, 0, 0, 0, 0, 0, 0]));
+    assert!(rt; is_stored(&view, 7, 2, [255, 255, 255, 255, 255, 255, 255, 255, 0]));
     Ok(())
 }
 
@@ -251,16 +247,15 @@ fn names_the_least_faulty_record(rt: HostRuntime) {
         ("2 1 1\n1 1 1\nx\n", 2, RecordFault::Unsorted),
         ("2 0 1", 1, RecordFault::BadField),
     ] {
-        let fault = RecordsFault::Line { line, fault };
-        assert!(rt; is_refused(alloc, source, fault), "at {source}");
+        assert!(rt; is_refused(alloc, source, line, fault), "at {source}");
     }
 }
 
-/// Whether a list of records is refused so.
-fn is_refused(alloc: Global, source: &str, fault: RecordsFault) -> bool {
+/// Whether a list of records is refused for this fault of this line.
+fn is_refused(alloc: Global, source: &str, line: usize, fault: RecordFault) -> bool {
     match read_records(alloc, source) {
         Ok(_) => false,
-        Err(found) => found == fault,
+        Err(found) => found == RecordsFault::Line { line, fault },
     }
 }
 
@@ -276,30 +271,16 @@ fn good_lines(alloc: Global, count: u64) -> Result<String, Fail> {
 #[test]
 fn a_257th_record_is_too_many(rt: HostRuntime) -> Result<(), Fail> {
     let alloc = rt.alloc();
-    let mut lines = good_lines(alloc, 256)?;
-    assert_eq!(rt; read_records(alloc, lines.as_str())?.len(), 256);
-    lines.push_str("257 0 0")?;
-    let bad = RecordsFault::Line {
-        line: 257,
-        fault: RecordFault::BadField,
-    };
-    assert!(rt; is_refused(alloc, lines.as_str(), bad));
-    let full = RecordsFault::Line {
-        line: 257,
-        fault: RecordFault::Full,
-    };
-    assert!(rt; is_refused(alloc, good_lines(alloc, 257)?.as_str(), full));
+    let lines = good_lines(alloc, 257)?;
+    assert!(rt; is_refused(alloc, lines.as_str(), 257, RecordFault::Full));
     Ok(())
 }
 
 #[test]
-fn numbers_and_names_of_records(rt: HostRuntime) {
-    for (fault, number, name) in [
-        (RecordFault::Syntax, 9, "Syntax"),
-        (RecordFault::Unsorted, 75, "Unsorted"),
-        (RecordFault::BadField, 77, "BadField"),
-        (RecordFault::Full, 46, "ViewFull"),
-    ] {
-        assert_eq!(rt; (fault.number(), fault.name()), (number, name));
-    }
+fn what_else_is_wrong_with_a_257th_record_is_told(rt: HostRuntime) -> Result<(), Fail> {
+    let alloc = rt.alloc();
+    let mut lines = good_lines(alloc, 256)?;
+    lines.push_str("257 0 0")?;
+    assert!(rt; is_refused(alloc, lines.as_str(), 257, RecordFault::BadField));
+    Ok(())
 }
