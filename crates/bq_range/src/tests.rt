@@ -1,384 +1,227 @@
 use crate::range::Range;
-use bq_word::{AluOp, Relation, SignBits, SwapBits, Width, alu, extend, relates, swap};
+use bq_word::{AluOp, Relation, SignBits, SwapBits, Width};
+use std::test::Fail;
+
+// The least and the greatest word of a range.
+type Ends = (u64, u64);
+
+const W32: Width = Width::W32;
+
+const W64: Width = Width::W64;
 
 const MAX: u64 = u64::MAX;
 
-const WIDTHS: [Width; 2] = [Width::W32, Width::W64];
+const ALL: Ends = (0, MAX);
 
-const OPERATIONS: [AluOp; 14] = [
-    AluOp::Add,
-    AluOp::Sub,
-    AluOp::Mul,
-    AluOp::Div,
-    AluOp::SignedDiv,
-    AluOp::Or,
-    AluOp::And,
-    AluOp::ShiftLeft,
-    AluOp::ShiftRight,
-    AluOp::Mod,
-    AluOp::SignedMod,
-    AluOp::Xor,
-    AluOp::Mov,
-    AluOp::ArithmeticShiftRight,
-];
+const LOW: Ends = (1, 3);
 
-const RELATIONS: [Relation; 11] = [
-    Relation::Equal,
-    Relation::Greater,
-    Relation::GreaterOrEqual,
-    Relation::CommonBit,
-    Relation::NotEqual,
-    Relation::SignedGreater,
-    Relation::SignedGreaterOrEqual,
-    Relation::Less,
-    Relation::LessOrEqual,
-    Relation::SignedLess,
-    Relation::SignedLessOrEqual,
-];
+const HIGH: Ends = (5, 9);
 
-// Small ranges at the edges: of small numbers, of the signs and ends of both widths.
-const RANGES: [(u64, u64); 14] = [
-    (0, 0),
-    (0, 4),
-    (1, 3),
-    (3, 3),
-    (5, 9),
-    (0x7fff_fffe, 0x8000_0001),
-    (0x8000_0000, 0x8000_0002),
-    (0xffff_fffd, 0xffff_ffff),
-    (0xffff_fffe, 0x1_0000_0001),
-    (0x1_0000_0003, 0x1_0000_0005),
-    (0x7fff_ffff_ffff_fffe, 0x8000_0000_0000_0001),
-    (0x8000_0000_0000_0000, 0x8000_0000_0000_0003),
-    (0xffff_ffff_ffff_fffc, 0xffff_ffff_ffff_fffe),
-    (0xffff_ffff_ffff_ffff, 0xffff_ffff_ffff_ffff),
-];
+const TEN: Ends = (10, 10);
 
-fn holds(range: Range, x: u64) -> bool {
-    range.lo() <= x && x <= range.hi()
+fn range((lo, hi): Ends) -> Result<Range, Fail> {
+    Ok(Range::new(lo, hi).ok_or("a range")?)
 }
 
-fn is(range: Range, lo: u64, hi: u64) -> bool {
-    range.lo() == lo && range.hi() == hi
-}
-
-// Whether what an operation leaves of any two members lies in the range that is given for it.
-fn operation_covers(width: Width, op: AluOp, a: (u64, u64), b: (u64, u64)) -> bool {
-    let (Some(left), Some(right)) = (Range::new(a.0, a.1), Range::new(b.0, b.1)) else {
-        return false;
-    };
-    let result = Range::alu(width, op, left, right);
-    for x in a.0..=a.1 {
-        for y in b.0..=b.1 {
-            if !holds(result, alu(width, op, x, y)) {
-                return false;
-            }
-        }
-    }
-    true
-}
-
-#[test]
-fn each_result_of_members_lies_in_the_range(rt: HostRuntime) {
-    for width in WIDTHS {
-        for op in OPERATIONS {
-            for a in RANGES {
-                for b in RANGES {
-                    assert!(rt; operation_covers(width, op, a, b));
-                }
-            }
-        }
-    }
-}
-
-// Whether what each operation of one operand leaves of any member lies in its range.
-fn one_operand_covers(width: Width, a: (u64, u64)) -> bool {
-    let Some(range) = Range::new(a.0, a.1) else {
-        return false;
-    };
-    let negated = Range::negate(width, range);
-    for x in a.0..=a.1 {
-        if !holds(negated, alu(width, AluOp::Sub, 0, x)) {
-            return false;
-        }
-        for bits in [SignBits::B8, SignBits::B16, SignBits::B32] {
-            if !holds(Range::extend(bits, width, range), extend(bits, width, x)) {
-                return false;
-            }
-        }
-        for bits in [SwapBits::B16, SwapBits::B32, SwapBits::B64] {
-            let swapped = swap(bits, x);
-            if !holds(Range::swap(bits, range), swapped) {
-                return false;
-            }
-            if !holds(Range::low_bits(bits, range), swap(bits, swapped)) {
-                return false;
-            }
-        }
-    }
-    true
-}
-
-#[test]
-fn each_result_of_a_member_lies_in_the_range(rt: HostRuntime) {
-    for width in WIDTHS {
-        for a in RANGES {
-            assert!(rt; one_operand_covers(width, a));
-        }
-    }
-}
-
-// Whether an edge leaves exactly the least ranges of the members that lead there.
-fn narrows_to_members(
-    width: Width,
-    relation: Relation,
-    taken: bool,
-    a: (u64, u64),
-    b: (u64, u64),
-) -> bool {
-    let (Some(left), Some(right)) = (Range::new(a.0, a.1), Range::new(b.0, b.1)) else {
-        return false;
-    };
-    let mut found: Option<(Range, Range)> = None;
-    for x in a.0..=a.1 {
-        for y in b.0..=b.1 {
-            if relates(width, relation, x, y) == taken {
-                let (one, other) = (Range::single(x), Range::single(y));
-                found = match found {
-                    None => Some((one, other)),
-                    Some((l, r)) => Some((l.join(one), r.join(other))),
-                };
-            }
-        }
-    }
-    match (Range::narrow(width, relation, taken, left, right), found) {
-        (None, None) => true,
-        (Some((l, r)), Some((one, other))) => l == one && r == other,
-        _ => false,
-    }
-}
-
-#[test]
-fn an_edge_leaves_the_least_ranges(rt: HostRuntime) {
-    for relation in RELATIONS {
-        if !matches!(relation, Relation::CommonBit) {
-            for taken in [false, true] {
-                for a in RANGES {
-                    for b in RANGES {
-                        assert!(rt; narrows_to_members(Width::W64, relation, taken, a, b));
-                        if a.1 < 0x1_0000_0000 && b.1 < 0x1_0000_0000 {
-                            assert!(rt; narrows_to_members(Width::W32, relation, taken, a, b));
-                        }
-                    }
-                }
-            }
-        }
-    }
-}
-
-fn range(lo: u64, hi: u64) -> Range {
-    match Range::new(lo, hi) {
-        Some(range) => range,
-        None => Range::full(),
-    }
+fn ends(range: Range) -> Ends {
+    (range.lo(), range.hi())
 }
 
 // Rows of the table, worked by hand.
+const OPERATIONS: [(Width, AluOp, Ends, Ends, Ends); 26] = [
+    (W64, AluOp::Add, HIGH, LOW, (6, 12)),
+    (W64, AluOp::Add, (MAX - 3, MAX - 1), (4, 6), (0, 4)),
+    (W64, AluOp::Add, (MAX - 3, MAX), LOW, ALL),
+    (W64, AluOp::Sub, HIGH, LOW, (2, 8)),
+    (W64, AluOp::Sub, LOW, HIGH, (MAX - 7, MAX - 1)),
+    (W64, AluOp::Sub, (0, 4), LOW, ALL),
+    (W64, AluOp::Mul, HIGH, LOW, (5, 27)),
+    (W64, AluOp::Div, HIGH, LOW, (1, 9)),
+    (W64, AluOp::Div, HIGH, (0, 4), (0, 9)),
+    (W64, AluOp::SignedDiv, HIGH, LOW, ALL),
+    (W64, AluOp::Or, HIGH, LOW, (5, 15)),
+    (W64, AluOp::And, ALL, (31, 31), (0, 31)),
+    (W64, AluOp::ShiftLeft, HIGH, (66, 66), (20, 36)),
+    (W64, AluOp::ShiftLeft, HIGH, LOW, ALL),
+    (W64, AluOp::ShiftRight, HIGH, (1, 1), (2, 4)),
+    (W64, AluOp::ShiftRight, HIGH, LOW, (0, 9)),
+    (W64, AluOp::Mod, HIGH, LOW, (0, 2)),
+    (W64, AluOp::Mod, LOW, HIGH, (1, 3)),
+    (W64, AluOp::Mod, HIGH, (0, 4), (0, 9)),
+    (W64, AluOp::SignedMod, HIGH, LOW, ALL),
+    (W64, AluOp::Xor, HIGH, LOW, (0, 15)),
+    (W32, AluOp::Mov, LOW, (0x1_0000_0005, 0x1_0000_0009), HIGH),
+    (W32, AluOp::Mov, LOW, (5, 0x1_0000_0005), (0, 0xffff_ffff)),
+    (
+        W32,
+        AluOp::Mul,
+        (0x1_0000, 0x1_0000),
+        (0x1_0000, 0x1_0000),
+        (0, 0),
+    ),
+    (
+        W64,
+        AluOp::ArithmeticShiftRight,
+        (MAX - 3, MAX),
+        (1, 1),
+        (MAX - 1, MAX),
+    ),
+    (W64, AluOp::ArithmeticShiftRight, HIGH, LOW, (0, 9)),
+];
+
 #[test]
-fn rows_of_operations(rt: HostRuntime) {
-    let (low, high) = (range(1, 3), range(5, 9));
-    let w64 = Width::W64;
-    assert!(rt; Range::new(2, 1).is_none());
-    assert!(rt; is(Range::alu(w64, AluOp::Add, high, low), 6, 12));
-    assert!(rt;
-        is(
-            Range::alu(w64, AluOp::Add, range(MAX - 3, MAX - 1), range(4, 6)),
-            0,
-            4
-        )
-    );
-    assert!(rt;
-        is(
-            Range::alu(w64, AluOp::Add, range(MAX - 3, MAX), low),
-            0,
-            MAX
-        )
-    );
-    assert!(rt; is(Range::alu(w64, AluOp::Sub, high, low), 2, 8));
-    assert!(rt; is(Range::alu(w64, AluOp::Sub, low, high), MAX - 7, MAX - 1));
-    assert!(rt; is(Range::alu(w64, AluOp::Sub, range(0, 4), low), 0, MAX));
-    assert!(rt; is(Range::alu(w64, AluOp::Mul, high, low), 5, 27));
-    assert!(rt; is(Range::alu(w64, AluOp::Div, high, low), 1, 9));
-    assert!(rt; is(Range::alu(w64, AluOp::Div, high, range(0, 4)), 0, 9));
-    assert!(rt; is(Range::alu(w64, AluOp::Mod, high, low), 0, 2));
-    assert!(rt; is(Range::alu(w64, AluOp::Mod, low, high), 1, 3));
-    assert!(rt; is(Range::alu(w64, AluOp::Mod, high, range(0, 4)), 0, 9));
-    assert!(rt;
-        is(
-            Range::alu(w64, AluOp::And, Range::full(), Range::single(31)),
-            0,
-            31
-        )
-    );
-    assert!(rt; is(Range::alu(w64, AluOp::Or, high, low), 5, 15));
-    assert!(rt; is(Range::alu(w64, AluOp::Xor, high, low), 0, 15));
-    assert!(rt;
-        is(
-            Range::alu(w64, AluOp::ShiftLeft, high, Range::single(66)),
-            20,
-            36
-        )
-    );
-    assert!(rt; is(Range::alu(w64, AluOp::ShiftLeft, high, low), 0, MAX));
-    assert!(rt;
-        is(
-            Range::alu(w64, AluOp::ShiftRight, high, Range::single(1)),
-            2,
-            4
-        )
-    );
-    assert!(rt; is(Range::alu(w64, AluOp::ShiftRight, high, low), 0, 9));
-    assert!(rt;
-        is(
-            Range::alu(
-                w64,
-                AluOp::ArithmeticShiftRight,
-                range(MAX - 3, MAX),
-                Range::single(1)
-            ),
-            MAX - 1,
-            MAX
-        )
-    );
-    assert!(rt;
-        is(
-            Range::alu(w64, AluOp::ArithmeticShiftRight, high, low),
-            0,
-            9
-        )
-    );
-    assert!(rt; is(Range::alu(w64, AluOp::SignedDiv, high, low), 0, MAX));
-    assert!(rt;
-        is(
-            Range::alu(
-                Width::W32,
-                AluOp::Mov,
-                low,
-                range(0x1_0000_0005, 0x1_0000_0009)
-            ),
-            5,
-            9
-        )
-    );
-    assert!(rt;
-        is(
-            Range::alu(Width::W32, AluOp::Mov, low, range(5, 0x1_0000_0005)),
-            0,
-            0xffff_ffff
-        )
-    );
-    assert!(rt;
-        is(
-            Range::alu(
-                Width::W32,
-                AluOp::Mul,
-                Range::single(0x1_0000),
-                Range::single(0x1_0000)
-            ),
-            0,
-            0
-        )
-    );
+fn rows_of_operations(rt: HostRuntime) -> Result<(), Fail> {
+    for (width, op, a, b, expected) in OPERATIONS {
+        let result = Range::alu(width, op, range(a)?, range(b)?);
+        assert_eq!(rt; ends(result), expected, "{op:?}");
+    }
+    Ok(())
 }
 
 #[test]
-fn rows_of_one_operand(rt: HostRuntime) {
-    let low = range(1, 3);
-    assert!(rt; is(Range::negate(Width::W64, low), MAX - 2, MAX));
-    assert!(rt; is(Range::negate(Width::W32, low), 0xffff_fffd, 0xffff_ffff));
-    assert!(rt; is(Range::negate(Width::W64, range(0, 4)), 0, MAX));
-    assert!(rt;
-        is(
-            Range::extend(SignBits::B8, Width::W64, range(100, 127)),
-            100,
-            127
-        )
-    );
-    assert!(rt;
-        is(
-            Range::extend(SignBits::B8, Width::W32, range(100, 128)),
-            0,
-            0xffff_ffff
-        )
-    );
-    assert!(rt; is(Range::low_bits(SwapBits::B16, range(0, 0xffff)), 0, 0xffff));
-    assert!(rt;
-        is(
-            Range::low_bits(SwapBits::B16, range(7, 0x1_0000)),
-            0,
-            0xffff
-        )
-    );
-    assert!(rt; is(Range::swap(SwapBits::B16, low), 0, 0xffff));
-    assert!(rt;
-        is(
-            Range::swap(SwapBits::B16, Range::single(0x1234)),
-            0x3412,
-            0x3412
-        )
-    );
-    assert!(rt; is(Range::of_load(1), 0, 255));
-    assert!(rt; is(Range::of_load(8), 0, MAX));
-    assert!(rt; is(Range::of_signed_load(), 0, MAX));
-    assert!(rt; is(range(0, 4).join(range(5, 9)), 0, 9));
-    assert!(rt; range(0, 4).meet(range(3, 9)) == Some(range(3, 4)));
-    assert!(rt; range(0, 4).meet(range(5, 9)).is_none());
-    assert!(rt; range(0, 9).covers(range(3, 9)));
-    assert!(rt; !range(3, 9).covers(range(0, 9)));
+fn rows_of_negation(rt: HostRuntime) -> Result<(), Fail> {
+    for (width, a, expected) in [
+        (W64, LOW, (MAX - 2, MAX)),
+        (W32, LOW, (0xffff_fffd, 0xffff_ffff)),
+        (W64, (0, 4), ALL),
+    ] {
+        assert_eq!(rt; ends(Range::negate(width, range(a)?)), expected);
+    }
+    Ok(())
 }
 
 #[test]
-fn edges_that_are_told_apart(rt: HostRuntime) {
+fn a_number_below_the_sign_is_left_as_it_is(rt: HostRuntime) -> Result<(), Fail> {
+    let below = Range::extend(SignBits::B8, W64, range((100, 127))?);
+    assert_eq!(rt; ends(below), (100, 127));
+    let across = Range::extend(SignBits::B8, W32, range((100, 128))?);
+    assert_eq!(rt; ends(across), (0, 0xffff_ffff));
+    Ok(())
+}
+
+#[test]
+fn low_bits_are_kept_where_the_words_have_no_others(rt: HostRuntime) -> Result<(), Fail> {
+    let kept = Range::low_bits(SwapBits::B16, range((7, 0xffff))?);
+    assert_eq!(rt; ends(kept), (7, 0xffff));
+    let cut = Range::low_bits(SwapBits::B16, range((7, 0x1_0000))?);
+    assert_eq!(rt; ends(cut), (0, 0xffff));
+    Ok(())
+}
+
+#[test]
+fn one_word_is_swapped(rt: HostRuntime) -> Result<(), Fail> {
+    let one = Range::swap(SwapBits::B16, Range::single(0x1234));
+    assert_eq!(rt; ends(one), (0x3412, 0x3412));
+    let some = Range::swap(SwapBits::B16, range(LOW)?);
+    assert_eq!(rt; ends(some), (0, 0xffff));
+    Ok(())
+}
+
+#[test]
+fn loads(rt: HostRuntime) {
+    for (bytes, hi) in [(1, 0xff), (2, 0xffff), (4, 0xffff_ffff), (8, MAX)] {
+        assert_eq!(rt; ends(Range::of_load(bytes)), (0, hi));
+    }
+    assert_eq!(rt; ends(Range::of_signed_load()), ALL);
+}
+
+#[test]
+fn ranges_are_joined_and_met(rt: HostRuntime) -> Result<(), Fail> {
+    let (low, high) = (range((0, 4))?, range((3, 9))?);
+    assert_eq!(rt; ends(low.join(high)), (0, 9));
+    assert_eq!(rt; low.meet(high).map(ends), Some((3, 4)));
+    Ok(())
+}
+
+#[test]
+fn ranges_apart_have_no_common_word(rt: HostRuntime) -> Result<(), Fail> {
+    assert_eq!(rt; range(LOW)?.meet(range(HIGH)?), None);
+    Ok(())
+}
+
+#[test]
+fn a_range_covers_what_lies_inside(rt: HostRuntime) -> Result<(), Fail> {
     let all = Range::full();
-    let ten = Range::single(10);
-    let (w32, w64) = (Width::W32, Width::W64);
-    assert!(rt; Range::narrow(w64, Relation::Less, true, all, ten) == Some((range(0, 9), ten)));
-    assert!(rt; Range::narrow(w64, Relation::Less, false, all, ten) == Some((range(10, MAX), ten)));
-    assert!(rt;
-        Range::narrow(w64, Relation::SignedGreater, true, all, ten)
-            == Some((range(11, MAX >> 1), ten))
-    );
-    assert!(rt; Range::narrow(w64, Relation::SignedGreater, false, all, ten) == Some((all, ten)));
-    assert!(rt; Range::narrow(w64, Relation::Equal, true, range(5, 9), ten).is_none());
-    assert!(rt;
-        Range::narrow(w64, Relation::NotEqual, true, range(5, 10), ten) == Some((range(5, 9), ten))
-    );
-    assert!(rt; Range::narrow(w64, Relation::NotEqual, true, ten, ten).is_none());
+    let ten = Range::up_to(10);
+    assert!(rt; all.covers(ten) && !ten.covers(all));
+    assert!(rt; !ten.is_single());
+    Ok(())
+}
+
+#[test]
+fn ends_in_the_wrong_order_are_no_range(rt: HostRuntime) {
+    assert!(rt; Range::new(2, 1).is_none());
+}
+
+// What each edge of a branch leaves, worked by hand; none where no words lead there.
+type Edge = (Width, Relation, bool, Ends, Ends, Option<(Ends, Ends)>);
+
+const EDGES: [Edge; 13] = [
+    (W64, Relation::Less, true, ALL, TEN, Some(((0, 9), TEN))),
+    (W64, Relation::Less, false, ALL, TEN, Some(((10, MAX), TEN))),
+    (
+        W64,
+        Relation::SignedGreater,
+        true,
+        ALL,
+        TEN,
+        Some(((11, MAX >> 1), TEN)),
+    ),
+    (
+        W64,
+        Relation::SignedGreater,
+        false,
+        ALL,
+        TEN,
+        Some((ALL, TEN)),
+    ),
+    (W64, Relation::Equal, true, HIGH, TEN, None),
+    (
+        W64,
+        Relation::NotEqual,
+        true,
+        (5, 10),
+        TEN,
+        Some((HIGH, TEN)),
+    ),
+    (W64, Relation::NotEqual, true, TEN, TEN, None),
     // Ranges that reach 2^32 are not narrowed at 32 bits.
-    assert!(rt; Range::narrow(w32, Relation::Less, true, all, ten) == Some((all, ten)));
-    assert!(rt;
-        Range::narrow(
-            w32,
-            Relation::SignedLess,
-            true,
-            range(0, 0xffff_ffff),
-            Range::single(0)
-        ) == Some((range(0x8000_0000, 0xffff_ffff), Range::single(0)))
-    );
+    (W32, Relation::Less, true, ALL, TEN, Some((ALL, TEN))),
+    (
+        W32,
+        Relation::SignedLess,
+        true,
+        (0, 0xffff_ffff),
+        (0, 0),
+        Some(((0x8000_0000, 0xffff_ffff), (0, 0))),
+    ),
     // Common bits are decided by two single words alone.
-    assert!(rt; Range::narrow(w64, Relation::CommonBit, true, ten, Range::single(5)).is_none());
-    assert!(rt;
-        Range::narrow(w64, Relation::CommonBit, false, ten, Range::single(5))
-            == Some((ten, Range::single(5)))
-    );
-    assert!(rt; Range::narrow(w64, Relation::CommonBit, false, ten, Range::single(2)).is_none());
-    assert!(rt;
-        Range::narrow(
-            w64,
-            Relation::CommonBit,
-            true,
-            range(0, 10),
-            Range::single(0)
-        ) == Some((range(0, 10), Range::single(0)))
-    );
+    (W64, Relation::CommonBit, true, TEN, (5, 5), None),
+    (
+        W64,
+        Relation::CommonBit,
+        false,
+        TEN,
+        (5, 5),
+        Some((TEN, (5, 5))),
+    ),
+    (W64, Relation::CommonBit, false, TEN, (2, 2), None),
+    (
+        W64,
+        Relation::CommonBit,
+        true,
+        (0, 10),
+        (0, 0),
+        Some(((0, 10), (0, 0))),
+    ),
+];
+
+#[test]
+fn edges_that_are_told_apart(rt: HostRuntime) -> Result<(), Fail> {
+    for (width, relation, taken, a, b, expected) in EDGES {
+        let edge = Range::narrow(width, relation, taken, range(a)?, range(b)?);
+        let found = edge.map(|(left, right)| (ends(left), ends(right)));
+        assert_eq!(rt; found, expected, "{relation:?}");
+    }
+    Ok(())
 }
