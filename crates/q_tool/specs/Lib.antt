@@ -2,5 +2,4 @@ pub mod Files
 pub mod Listing
 pub mod Memory
 pub mod Perform
-pub mod Refusal
 pub mod Words

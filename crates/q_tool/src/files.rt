@@ -4,6 +4,7 @@ ghost use Rattle.std.specs.Prelude.{◌≡◌, ℕ, List, Result};
 ghost use Rattle.q_tool.specs.Files.{failures_after, seen_as};
 ghost use Rattle.q_tool.specs.declared.files.FileFault.{FileFault};
 
+use q_sim::refusal::Refusal;
 use std::alloc::{AllocError, Global};
 
 /// Why a file was not read or written.
@@ -23,6 +24,20 @@ impl From<AllocError> for FileFault {
 
     fn from(_error: AllocError) -> Self {
         FileFault::OutOfMemory
+    }
+}
+
+impl From<FileFault> for Refusal {
+    ghost use Rattle.std.specs.Prelude.{◌≡◌};
+    ghost use Rattle.q_tool.specs.Files.{refusal_of};
+
+    ghost from_gives = { λ fault refusal. refusal ≡ refusal_of fault };
+
+    fn from(fault: FileFault) -> Self {
+        match fault {
+            FileFault::Failed => Refusal::FileFailed,
+            FileFault::OutOfMemory => Refusal::OutOfMemory,
+        }
     }
 }
 

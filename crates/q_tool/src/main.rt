@@ -39,19 +39,19 @@
 //!   that the command answers: the listing of the program that FILE spells; the longest path of that program, whose
 //!   notes pass; what that program means over the records that RECORDS lists, from START.
 //! - [`program`] has programs from assembler text, with their certificates.
-//! - [`simulate`] takes each event of a script as one step of a cluster, whose type keeps that every recorded answer is
-//!   true, and prints what the step tells.
+//! - [`simulate`], of the crate below, takes each event of a script as one step of a cluster, whose type keeps that every
+//!   recorded answer is true, and answers the lines of what the steps tell.
 //! - [`listing`] is the text that `asm` prints.
 //! - [`advice`] explains a refusal of the verifier on the standard error, in words.
 //!
 //! `main` alone reaches the machine: its words, its files and its standard output.
 //!
-//! [`Refusal`]: refusal::Refusal
+//! [`Refusal`]: q_sim::refusal::Refusal
 //! [`read_words`]: words::read_words
 //! [`perform`]: perform::perform
 //! [`program`]: program::certified
 //! [`Files`]: files::Files
-//! [`simulate`]: sim::simulate
+//! [`simulate`]: q_sim::simulation::simulate
 //! [`listing`]: listing::listing
 //! [`advice`]: advice::advice
 #![tactic(auto)]
@@ -63,8 +63,6 @@ mod listing;
 mod memory;
 mod perform;
 mod program;
-mod refusal;
-mod sim;
 #[cfg(test)]
 mod tests;
 mod words;
@@ -72,8 +70,8 @@ mod words;
 use crate::advice::advice;
 use crate::folder::Folder;
 use crate::perform::perform;
-use crate::refusal::Refusal;
 use crate::words::{WordsFault, read_words};
+use q_sim::refusal::Refusal;
 use std::process::ExitCode;
 use std::{env, io};
 

@@ -8,13 +8,13 @@ ghost use Rattle.q_tool.specs.Perform.{Accepts, Answers, Computes, IsSimulated, 
 use crate::files::Files;
 use crate::listing::listing;
 use crate::program::{certified, program, utf8};
-use crate::refusal::Refusal;
-use crate::sim::simulate;
 use crate::words::Line;
 use bq_check::certified::Certified;
 use q_script::records::read_records;
 use q_script::script::Script;
 use q_session::fold::fold_checked;
+use q_sim::refusal::Refusal;
+use q_sim::simulation::simulate;
 use std::alloc::Global;
 use std::io::Write;
 

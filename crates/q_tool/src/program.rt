@@ -4,12 +4,11 @@ ghost use Rattle.std.specs.Prelude.{◌≡◌, IfOk, IfErr, IsUtf8};
 ghost use Rattle.bq_insn.specs.Slots.{IsText};
 ghost use Rattle.bq_asm.specs.Source.{IsSource};
 
-use crate::refusal::Refusal;
 use bq_asm::assemble::assemble;
 use bq_check::certified::Certified;
-use bq_check::check::check;
 use bq_insn::text::Text;
-use bq_verify::verify::verify;
+use q_sim::program::certified_text;
+use q_sim::refusal::Refusal;
 use std::alloc::Global;
 use std::str;
 
@@ -33,14 +32,6 @@ pub fn program(alloc: Global, source: &[u8]) -> Result<Text, Refusal>
 {
     let source = utf8(source)?;
     Ok(assemble(alloc, source)?)
-}
-
-/// The certificate of a program. Refused is what the verifier and the checker refuse.
-pub fn certified_text(alloc: Global, text: Text) -> Result<Certified, Refusal>
-    ensures { IfOk result (λ c. c.text ≡ text) }
-{
-    let notes = verify(alloc, &text)?;
-    Ok(check(alloc, text, notes)?)
 }
 
 /// The program that assembler text spells, with its certificate. Refused as [`program`], and then as

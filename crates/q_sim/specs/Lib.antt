@@ -1,0 +1,5 @@
+pub mod Delivered
+pub mod Printing
+pub mod Programs
+pub mod Refusal
+pub mod Simulates

@@ -1,0 +1,26 @@
+-- Programs that a script or a file gives, and why one is refused.
+use Rattle.std.specs.Prelude.{◌≡◌, ℕ, List}
+use Rattle.bq_insn.specs.declared.insn.Insn.{Insn}
+use Rattle.bq_insn.specs.Slots.{IsText, spelling}
+use Rattle.bq_insn.specs.Fault as bytes
+use Rattle.bq_check.specs.Certificate.{Certificate}
+use Rattle.bq_verify.specs.Refused as verify
+use Rattle.q_sim.specs.declared.refusal.Refusal.{Refusal}
+use Rattle.q_sim.specs.declared.refusal.Refusal.TheVariants.{Bytes, Program, OutOfMemory}
+
+-- why a text gets no certificate: the verifier refuses it, or memory was refused
+abbrev pub IsUncertified : List Insn → Refusal → Type 0
+IsUncertified text (Program f) = verify.IsRefused text f
+IsUncertified text OutOfMemory = Unit {0}
+IsUncertified text r = ⊥
+
+-- the certificate is of the text that the bytes spell
+abbrev pub IsProgram : List ℕ → Certificate → Type 0
+IsProgram code certificate = IsText certificate.text × (code ≡ spelling certificate.text)
+
+-- why bytes give no program: they spell no text, or the text that they spell gets no certificate
+abbrev pub IsRefusal : List ℕ → Refusal → Type 0
+IsRefusal code (Bytes f) = bytes.IsFault code f
+IsRefusal code (Program f) = (text : List Insn) × IsText text × (code ≡ spelling text) × verify.IsRefused text f
+IsRefusal code OutOfMemory = Unit {0}
+IsRefusal code r = ⊥

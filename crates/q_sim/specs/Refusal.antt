@@ -1,0 +1,67 @@
+-- Refusals: the number, the name and the place by which each is reported, and its line.
+use Rattle.std.specs.Prelude.{ℕ, List, [], ◌∷◌, ◌++◌, codes, Option, Some, None}
+use Rattle.std.specs.Fmt.{decimal}
+use Rattle.bq_asm.specs.Source as asm
+use Rattle.bq_asm.specs.declared.fault.AsmFault.TheVariants as asm_fault
+use Rattle.bq_insn.specs.Fault as bytes
+use Rattle.bq_insn.specs.declared.fault.DecodeFault.TheVariants as bytes_fault
+use Rattle.bq_check.specs.Numbers as program
+use Rattle.q_script.specs.Records as records
+use Rattle.q_script.specs.declared.records.RecordsFault.TheVariants as records_fault
+use Rattle.q_script.specs.Script as script
+use Rattle.q_script.specs.declared.script.ScriptFault.TheVariants as script_fault
+use Rattle.q_history.specs.Faults as cluster
+use Rattle.q_sim.specs.declared.refusal.Refusal.{Refusal}
+use Rattle.q_sim.specs.declared.refusal.Refusal.TheVariants.{FileFailed, Assembler, Bytes, Program, Records, Script, Fraction, Cluster, OutOfMemory}
+use Rattle.q_sim.specs.declared.refusal.Place.{Place}
+use Rattle.q_sim.specs.declared.refusal.Place.TheVariants.{Untold, Unit, Line}
+
+abbrev pub number : Refusal → ℕ
+number FileFailed = 87
+number (Assembler f) = asm.fault_number f
+number (Bytes f) = bytes.fault_number f
+number (Program f) = program.fault_number f
+number (Records (records_fault.Line line f)) = records.fault_number f
+number (Records records_fault.OutOfMemory) = 99
+number (Script f) = script.fault_number f
+number (Fraction f) = 45
+number (Cluster f) = cluster.fault_number f
+number OutOfMemory = 99
+
+abbrev pub name : Refusal → List ℕ
+name FileFailed = codes "FileFailed"
+name (Assembler f) = asm.fault_name f
+name (Bytes f) = bytes.fault_name f
+name (Program f) = program.fault_name f
+name (Records (records_fault.Line line f)) = records.fault_name f
+name (Records records_fault.OutOfMemory) = codes "OutOfMemory"
+name (Script f) = script.fault_name f
+name (Fraction f) = codes "BadFraction"
+name (Cluster f) = cluster.fault_name f
+name OutOfMemory = codes "OutOfMemory"
+
+abbrev pub at_unit : Option ℕ → Place
+at_unit None = Untold
+at_unit (Some u) = Unit u
+
+abbrev pub place : Refusal → Place
+place (Assembler (asm_fault.Syntax line)) = Line line
+place (Assembler (asm_fault.Label line)) = Line line
+place (Bytes (bytes_fault.At unit fault)) = Unit unit
+place (Program f) = at_unit (program.fault_unit f)
+place (Records (records_fault.Line line f)) = Line line
+place (Script (script_fault.Syntax line)) = Line line
+place r = Untold
+
+abbrev pub place_text : Place → List ℕ
+place_text Untold = []
+place_text (Unit u) = codes " at " ++ decimal u
+place_text (Line l) = codes " line " ++ decimal l
+
+-- `refused N Name`, and then ` at U` or ` line L`
+abbrev pub text : Refusal → List ℕ
+text r = codes "refused " ++ (decimal (number r) ++ (32 ∷ (name r ++ place_text (place r))))
+
+-- the line that is printed
+abbrev pub refusal_line : Refusal → List ℕ
+refusal_line r = text r ++ 10 ∷ []

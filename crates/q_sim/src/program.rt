@@ -1,0 +1,34 @@
+//! Programs with their certificates.
+
+ghost use Rattle.std.specs.Prelude.{◌≡◌, IfOk, IfErr};
+ghost use Rattle.q_sim.specs.Programs.{IsProgram, IsRefusal, IsUncertified};
+
+use crate::refusal::Refusal;
+use bq_check::certified::Certified;
+use bq_check::check::check;
+use bq_insn::decode::decode;
+use bq_insn::text::Text;
+use bq_verify::verify::verify;
+use q_table::program::Program;
+use std::alloc::{AllocError, Global};
+use std::sync::Arc;
+
+/// The certificate of a text. Refused is what the verifier refuses, or 99.
+pub fn certified_text(alloc: Global, text: Text) -> Result<Certified, Refusal>
+    ensures same { IfOk result (λ certified. certified.text ≡ text) }
+    ensures refused { IfErr result (IsUncertified text) }
+{
+    let notes = verify(alloc, &text)?;
+    Ok(check(alloc, text, notes)?)
+}
+
+/// The program of these bytes, with its certificate. Refused is what decoding and then verifying refuse, or 99.
+pub fn certified_code(alloc: Global, code: &[u8]) -> Result<Program, Refusal>
+    ensures program { IfOk result (IsProgram code.now) }
+    ensures refused { IfErr result (IsRefusal code.now) }
+{
+    let text = decode(alloc, code)?;
+    let certified = certified_text(alloc, text)?;
+    let shared = Arc::new(alloc, certified).map_err(AllocError::from)?;
+    Ok(Program::share(&shared)?)
+}

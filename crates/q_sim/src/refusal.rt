@@ -1,0 +1,223 @@
+//! Why a command or an event is refused, each reason with its number and its name.
+
+ghost use Rattle.std.specs.Prelude.{◌≡◌};
+ghost use Rattle.q_sim.specs.Refusal as refusal;
+
+use bq_asm::fault::AsmFault;
+use bq_check::fault::CheckFault;
+use bq_insn::fault::DecodeFault;
+use q_history::fault::ClusterFault;
+use q_script::records::RecordsFault;
+use q_script::script::ScriptFault;
+use sc_members::config::BadFraction;
+use std::alloc::AllocError;
+use std::error::Error;
+use std::fmt;
+
+/// A refusal. Its text is the line that the program prints, without the line feed.
+#[derive(Clone, Copy, Debug, PartialEq, Eq)]
+pub enum Refusal {
+    /// 87: a file could not be opened, read or written, or a text file is not UTF-8.
+    FileFailed,
+    /// The assembler refuses a text.
+    Assembler(AsmFault),
+    /// Bytes spell no program.
+    Bytes(DecodeFault),
+    /// The verifier or the checker refuses a program.
+    Program(CheckFault),
+    /// A list of records is not read.
+    Records(RecordsFault),
+    /// A script is not read.
+    Script(ScriptFault),
+    /// 45: a fraction of a cluster is not num / den with 1 <= num <= den <= 1,000.
+    Fraction(BadFraction),
+    /// A cluster refuses its founders, or an event.
+    Cluster(ClusterFault),
+    /// 99: memory ran out.
+    OutOfMemory,
+}
+
+/// Where a refusal arose, as its line tells it.
+#[derive(Clone, Copy, Debug, PartialEq, Eq)]
+pub enum Place {
+    /// The line does not tell it.
+    Untold,
+    /// At this unit of a program, counted from 0.
+    Unit(usize),
+    /// On this line of a file, counted from 1.
+    Line(usize),
+}
+
+impl fmt::Display for Place {
+    ghost use Rattle.std.specs.Prelude.{Some};
+    ghost use Rattle.q_sim.specs.Refusal.{place_text};
+
+    ghost output = { λ place. Some (place_text place) };
+
+    fn fmt<W: fmt::Write>(&self, f: &mut fmt::Formatter<W>) -> fmt::Result {
+        match self {
+            Place::Untold => Ok(()),
+            Place::Unit(unit) => write!(f, " at {unit}"),
+            Place::Line(line) => write!(f, " line {line}"),
+        }
+    }
+}
+
+impl Refusal {
+    /// The number by which the refusal is reported.
+    pub fn number(&self) -> u8
+        ensures { result ≡ refusal.number self.now }
+    {
+        match self {
+            Refusal::FileFailed => 87,
+            Refusal::Assembler(fault) => fault.number(),
+            Refusal::Bytes(fault) => fault.number(),
+            Refusal::Program(fault) => fault.number(),
+            Refusal::Records(RecordsFault::Line { fault, .. }) => fault.number(),
+            Refusal::Script(fault) => fault.number(),
+            Refusal::Fraction(fault) => fault.number(),
+            Refusal::Cluster(fault) => fault.number(),
+            Refusal::Records(RecordsFault::OutOfMemory) | Refusal::OutOfMemory => 99,
+        }
+    }
+
+    /// The name by which the refusal is reported.
+    pub fn name(&self) -> &'static str
+        ensures { result.now ≡ refusal.name self.now }
+    {
+        match self {
+            Refusal::FileFailed => "FileFailed",
+            Refusal::Assembler(fault) => fault.name(),
+            Refusal::Bytes(fault) => fault.name(),
+            Refusal::Program(fault) => fault.name(),
+            Refusal::Records(RecordsFault::Line { fault, .. }) => fault.name(),
+            Refusal::Script(fault) => fault.name(),
+            Refusal::Fraction(fault) => fault.name(),
+            Refusal::Cluster(fault) => fault.name(),
+            Refusal::Records(RecordsFault::OutOfMemory) | Refusal::OutOfMemory => "OutOfMemory",
+        }
+    }
+
+    /// The unit of a program or the line of a file at which the refusal arose, where it carries one.
+    pub fn place(&self) -> Place
+        ensures { result ≡ refusal.place self.now }
+    {
+        match self {
+            Refusal::Assembler(AsmFault::Syntax { line } | AsmFault::Label { line }) => {
+                Place::Line(*line)
+            }
+            Refusal::Bytes(DecodeFault::At { unit, .. }) => Place::Unit(*unit),
+            Refusal::Program(fault) => match fault.unit() {
+                Some(unit) => Place::Unit(unit),
+                None => Place::Untold,
+            },
+            Refusal::Records(RecordsFault::Line { line, .. }) => Place::Line(*line),
+            Refusal::Script(ScriptFault::Syntax { line }) => Place::Line(*line),
+            _ => Place::Untold,
+        }
+    }
+}
+
+impl fmt::Display for Refusal {
+    ghost use Rattle.std.specs.Prelude.{Some};
+    ghost use Rattle.q_sim.specs.Refusal.{text};
+
+    ghost output = { λ refusal. Some (text refusal) };
+
+    fn fmt<W: fmt::Write>(&self, f: &mut fmt::Formatter<W>) -> fmt::Result {
+        let number = self.number();
+        let name = self.name();
+        let place = self.place();
+        write!(f, "refused {number} {name}{place}")
+    }
+}
+
+impl Error for Refusal {}
+
+impl From<AsmFault> for Refusal {
+    ghost use Rattle.std.specs.Prelude.{◌≡◌};
+    ghost use Rattle.q_sim.specs.declared.refusal.Refusal.TheVariants.{Assembler};
+
+    ghost from_gives = { λ fault refusal. refusal ≡ Assembler fault };
+
+    fn from(fault: AsmFault) -> Self {
+        Refusal::Assembler(fault)
+    }
+}
+
+impl From<DecodeFault> for Refusal {
+    ghost use Rattle.std.specs.Prelude.{◌≡◌};
+    ghost use Rattle.q_sim.specs.declared.refusal.Refusal.TheVariants.{Bytes};
+
+    ghost from_gives = { λ fault refusal. refusal ≡ Bytes fault };
+
+    fn from(fault: DecodeFault) -> Self {
+        Refusal::Bytes(fault)
+    }
+}
+
+impl From<CheckFault> for Refusal {
+    ghost use Rattle.std.specs.Prelude.{◌≡◌};
+    ghost use Rattle.q_sim.specs.declared.refusal.Refusal.TheVariants.{Program};
+
+    ghost from_gives = { λ fault refusal. refusal ≡ Program fault };
+
+    fn from(fault: CheckFault) -> Self {
+        Refusal::Program(fault)
+    }
+}
+
+impl From<RecordsFault> for Refusal {
+    ghost use Rattle.std.specs.Prelude.{◌≡◌};
+    ghost use Rattle.q_sim.specs.declared.refusal.Refusal.TheVariants.{Records};
+
+    ghost from_gives = { λ fault refusal. refusal ≡ Records fault };
+
+    fn from(fault: RecordsFault) -> Self {
+        Refusal::Records(fault)
+    }
+}
+
+impl From<ScriptFault> for Refusal {
+    ghost use Rattle.std.specs.Prelude.{◌≡◌};
+    ghost use Rattle.q_sim.specs.declared.refusal.Refusal.TheVariants.{Script};
+
+    ghost from_gives = { λ fault refusal. refusal ≡ Script fault };
+
+    fn from(fault: ScriptFault) -> Self {
+        Refusal::Script(fault)
+    }
+}
+
+impl From<BadFraction> for Refusal {
+    ghost use Rattle.std.specs.Prelude.{◌≡◌};
+    ghost use Rattle.q_sim.specs.declared.refusal.Refusal.TheVariants.{Fraction};
+
+    ghost from_gives = { λ fault refusal. refusal ≡ Fraction fault };
+
+    fn from(fault: BadFraction) -> Self {
+        Refusal::Fraction(fault)
+    }
+}
+
+impl From<ClusterFault> for Refusal {
+    ghost use Rattle.std.specs.Prelude.{◌≡◌};
+    ghost use Rattle.q_sim.specs.declared.refusal.Refusal.TheVariants.{Cluster};
+
+    ghost from_gives = { λ fault refusal. refusal ≡ Cluster fault };
+
+    fn from(fault: ClusterFault) -> Self {
+        Refusal::Cluster(fault)
+    }
+}
+
+impl From<AllocError> for Refusal {
+    ghost use Rattle.std.specs.Prelude.{◌≡◌};
+    ghost use Rattle.q_sim.specs.declared.refusal.Refusal.TheVariants.{OutOfMemory};
+
+    ghost from_gives = { λ _ refusal. refusal ≡ OutOfMemory };
+
+    fn from(_error: AllocError) -> Self {
+        Refusal::OutOfMemory
+    }
+}

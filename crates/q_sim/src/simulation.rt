@@ -1,0 +1,196 @@
+//! Scripts, run over a cluster in memory.
+
+ghost use Rattle.std.specs.Prelude.{◌≡◌, ◌++◌, ◌-◌, ◌^◌, ℕ, List, min, IfOk, IfErr, OnOk, string_bytes};
+ghost use Rattle.q_history.specs.declared.event.Event.TheVariants as event;
+ghost use Rattle.q_history.specs.Headline.{AnswersAreTrue};
+ghost use Rattle.q_history.specs.Books.{BooksAreReplays};
+ghost use Rattle.q_sim.specs.Simulates.{Acts, Awaits, Begins, Does, IsSimulationFault, Prints, Registers, Simulates, Spreads, first_ids, seen};
+
+use crate::delivered::Delivered;
+use crate::printing::{print_messages, print_told};
+use crate::program::certified_code;
+use crate::refusal::Refusal;
+use q_cluster::cluster::Cluster;
+use q_history::event::{Event, Stepped};
+use q_history::fault::ClusterFault;
+use q_script::founding::Founding;
+use q_script::line::ScriptLine;
+use q_script::records::value_bytes;
+use q_script::script::Script;
+use q_table::program::ProgramId;
+use sc_members::config::Config;
+use std::alloc::{AllocError, Global};
+
+/// A cluster that a script runs, and what the script printed.
+#[derive(Drop)]
+struct Simulation {
+    alloc: Global,
+    cluster: Cluster,
+    /// The ids that entered, in rising order.
+    nodes: Vec<u64>,
+    /// The deliveries that were accepted, or tried by `all`.
+    delivered: Delivered,
+    lines: String,
+}
+
+/// What a script prints.
+///
+/// Refused are 45 BadFraction and then 49 BadFounders, by which the script ends before any event, and 99 OutOfMemory.
+/// Each event is one step of the cluster; a refused one prints its refusal, and the script goes on.
+pub fn simulate(alloc: Global, script: Script) -> Result<String, Refusal>
+    ensures printed { IfOk result (λ lines. Simulates script (string_bytes lines)) }
+    ensures refused { IfErr result (IsSimulationFault script.founding) }
+{
+    let Script { founding, lines } = script;
+    let mut simulation = Simulation::new(alloc, &founding)?;
+    for line in lines {
+        simulation.perform(line)?;
+    }
+    simulation.cluster.answers_are_true();
+    simulation.cluster.books_are_replays();
+    let Simulation { lines, .. } = simulation;
+    Ok(lines)
+}
+
+/// The ids of so many founders, counted from 1: 257 of them at most, which is one more than a cluster takes.
+fn founders(alloc: Global, count: u64) -> Result<Vec<u64>, AllocError>
+    ensures { IfOk result (λ ids. ids.items ≡ first_ids (min count 257)) }
+{
+    (1..=count.min(257)).collect(alloc)
+}
+
+impl Simulation {
+    /// The cluster of the founders; nothing is delivered or printed.
+    fn new(alloc: Global, founding: &Founding) -> Result<Simulation, Refusal>
+        ensures begun { IfOk result (λ s. Begins founding.now (seen s) × (string_bytes s.lines ≡ [])) }
+        ensures refused { IfErr result (IsSimulationFault founding.now) }
+    {
+        let beta = founding.beta;
+        let gamma = founding.gamma;
+        let config = Config::new(
+            beta.numerator,
+            beta.denominator,
+            gamma.numerator,
+            gamma.denominator,
+        )?;
+        let nodes = founders(alloc, founding.count)?;
+        let cluster = Cluster::new(alloc, config, nodes.as_slice())?;
+        Ok(Simulation {
+            alloc,
+            cluster,
+            nodes,
+            delivered: Delivered::new(alloc),
+            lines: String::new(alloc),
+        })
+    }
+
+    /// Runs a line.
+    fn perform(&mut self, line: ScriptLine) -> Result<(), AllocError>
+        ensures { OnOk result (Prints (Does line) self.old self.new) }
+    {
+        match line {
+            ScriptLine::Program { node, code } => self.register(node, code.as_slice()),
+            ScriptLine::Store { node, value } => {
+                let value = value_bytes(value);
+                self.step(&Event::Store { node, value })
+            }
+            ScriptLine::Ask {
+                node,
+                program,
+                start,
+            } => {
+                let program = program_id(program);
+                self.step(&Event::Ask {
+                    node,
+                    program,
+                    start,
+                })
+            }
+            ScriptLine::Deliver { message, node } => self.step(&Event::Deliver {
+                message: message as usize,
+                node,
+            }),
+            ScriptLine::All { limit } => self.deliver_all(limit),
+            ScriptLine::Hand { node } => self.step(&Event::HandOut(node)),
+            ScriptLine::Run { job } => self.step(&Event::Finish(job as usize)),
+        }
+    }
+
+    /// Registers a program of these bytes at a node. It is decoded, verified and checked before the node is looked for.
+    fn register(&mut self, node: u64, code: &[u8]) -> Result<(), AllocError>
+        ensures { OnOk result (Prints (Registers node code.now) self.old self.new) }
+    {
+        match certified_code(self.alloc, code) {
+            Ok(program) => self.step(&Event::Register { node, program }),
+            Err(refusal) => self.refuse(&refusal),
+        }
+    }
+
+    /// Takes one event, and prints what it tells or its refusal. A delivery that is accepted is noted.
+    fn step(&mut self, event: &Event) -> Result<(), AllocError>
+        ensures { OnOk result (Prints (Acts event.now) self.old self.new) }
+    {
+        let answer = self.cluster.step(event);
+        if let (Ok(_), Event::Deliver { message, node }) = (&answer, event) {
+            self.delivered.insert(*message, *node)?;
+        }
+        self.print(&answer)
+    }
+
+    /// Delivers what was not delivered, the least message first and each to the least node first, so many times at most.
+    fn deliver_all(&mut self, limit: u64) -> Result<(), AllocError>
+        ensures { OnOk result (Prints (Spreads limit) self.old self.new) }
+    {
+        let mut left = limit;
+        for message in 0..usize::MAX {
+            if left == 0 || message >= self.cluster.world().sent() {
+                break;
+            }
+            left = self.spread(message, left)?;
+        }
+        Ok(())
+    }
+
+    /// Delivers a message to each live node that it was not delivered to, so many times at most. How many times are left
+    /// then. A refused delivery counts as one.
+    fn spread(&mut self, message: usize, limit: u64) -> Result<u64, AllocError> {
+        let mut left = limit;
+        for place in 0..self.nodes.len() {
+            let node = self.nodes[place];
+            if left > 0 && self.awaits(message, node) {
+                self.delivered.insert(message, node)?;
+                let _ = self.cluster.step(&Event::Deliver { message, node });
+                left -= 1;
+            }
+        }
+        Ok(left)
+    }
+
+    /// Whether the node is live and the message was not delivered to it.
+    fn awaits(&self, message: usize, node: u64) -> bool {
+        self.cluster.world().live(node).is_some() && !self.delivered.contains(message, node)
+    }
+
+    /// Prints a refusal.
+    fn refuse(&mut self, refusal: &Refusal) -> Result<(), AllocError> {
+        writeln!(self.lines, "{refusal}")
+    }
+
+    /// Prints what an event answered: what it tells and its messages, or its refusal.
+    fn print(&mut self, answer: &Result<Stepped, ClusterFault>) -> Result<(), AllocError> {
+        match answer {
+            Ok(stepped) => {
+                print_told(&mut self.lines, &stepped.told)?;
+                print_messages(&mut self.lines, &self.cluster, stepped.sent)
+            }
+            Err(fault) => self.refuse(&Refusal::Cluster(*fault)),
+        }
+    }
+}
+
+/// The id of this number. Of a number that is too large it is the greatest id, which no program has.
+fn program_id(number: u64) -> ProgramId
+    ensures { result ≡ min number (2 ^ 32 - 1) }
+{
+    ProgramId::new(u32::try_from(number).unwrap_or(u32::MAX))
+}
