@@ -1,6 +1,7 @@
 -- Sets of deliveries.
 use Rattle.std.specs.Prelude.{ℕ}
-use Rattle.std.specs.Ordering.{Ordering, ordering_then, nat_cmp}
+use Rattle.std.specs.declared.cmp.Ordering.{Ordering}
+use Rattle.std.specs.Ordering.{ordering_then, nat_cmp}
 use Rattle.std.specs.FinSet as set
 use Rattle.std.specs.Coded.{Coded, coded_ℕ, coded×}
 

@@ -2,4 +2,5 @@ pub mod Delivered
 pub mod Printing
 pub mod Programs
 pub mod Refusal
+pub mod Seen
 pub mod Simulates

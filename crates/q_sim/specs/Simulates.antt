@@ -1,5 +1,5 @@
 -- What a script does to a cluster, and what it prints.
-use Rattle.std.specs.Prelude.{◌≡◌, ◌≢◌, ◌⊎◌, ℕ, ◌<◌, ◌≤◌, ◌-◌, ◌^◌, zero, suc, min, List, [], ◌∷◌, ◌++◌, length, string_bytes, Result, Ok, Err, IsFalse}
+use Rattle.std.specs.Prelude.{◌≡◌, ◌≢◌, ◌⊎◌, ℕ, ◌<◌, ◌≤◌, ◌-◌, ◌^◌, zero, suc, min, List, [], ◌∷◌, ◌++◌, length, slice_index, Result, Ok, Err, IsFalse}
 use Rattle.std.specs.List.{Contains}
 use Rattle.std.specs.Option.{IsSome}
 use Rattle.std.specs.FinSet as set
@@ -23,7 +23,6 @@ use Rattle.q_history.specs.Headline.{AnswersAreTrue}
 use Rattle.q_history.specs.Books.{BooksAreReplays}
 use Rattle.q_sim.specs.declared.refusal.Refusal.{Refusal}
 use Rattle.q_sim.specs.declared.refusal.Refusal.TheVariants as refusal
-use Rattle.q_sim.specs.declared.simulation.Simulation.{Simulation}
 use Rattle.q_sim.specs.Delivered.{Deliveries}
 use Rattle.q_sim.specs.Programs.{IsProgram, IsRefusal}
 use Rattle.q_sim.specs.Printing.{printed}
@@ -34,6 +33,10 @@ pub record SimState : Type 0 where
   pub cluster : ClusterState
   pub nodes : List ℕ  -- the ids that entered, in rising order
   pub delivered : Deliveries  -- what was delivered, or tried by `all`
+
+-- each id is greater than those before it
+abbrev pub Rises : List ℕ → Type 0
+Rises ids = (i j : ℕ) → i < j → j < length ids → slice_index ids i < slice_index ids j
 
 -- ---- one event
 
@@ -48,7 +51,7 @@ pub record Acts (e : Event) (s : SimState) (text : List ℕ) (t : SimState) : Ty
   pub takes : Takes s.cluster e t.cluster result
   pub nodes : t.nodes ≡ s.nodes
   pub delivered : t.delivered ≡ noted e result s.delivered
-  pub text : text ≡ printed t.cluster result
+  pub says : text ≡ printed t.cluster result
 
 -- The bytes spell a program that the verifier accepts, and it is registered; or what refuses them is printed, and
 -- nothing is done.
@@ -88,6 +91,24 @@ DeliversAll (suc n) s t =
 -- nothing is printed of them
 abbrev pub Spreads : ℕ → SimState → List ℕ → SimState → Type 0
 Spreads limit s text t = DeliversAll limit s t × (text ≡ [])
+
+-- ---- the deliveries of one message
+
+-- nothing is left but this message, by the nodes from this place on, and the messages behind it
+abbrev pub Ahead : SimState → ℕ → ℕ → Type 0
+Ahead s message place = (m n : ℕ) → Awaits s m n
+    → (message < m) ⊎ ((message ≡ m) × ((k : ℕ) × (place ≤ k) × (k < length s.nodes) × (slice_index s.nodes k ≡ n)))
+
+-- some deliveries were made, each of what was next, and so many are left of the limit
+pub record IsOnward (limit : ℕ) (s : SimState) (left : ℕ) (t : SimState) : Type 0 where
+  pub nodes : t.nodes ≡ s.nodes
+  pub sent : length s.cluster.world.sent ≤ length t.cluster.world.sent
+  pub rest : (u : SimState) → DeliversAll left t u → DeliversAll limit s u
+
+-- they were all made, or none of this message is left
+pub record IsSpread (message limit : ℕ) (s : SimState) (left : ℕ) (t : SimState) : Type 0 where
+  pub onward : IsOnward limit s left t
+  pub over : (left ≡ 0) ⊎ Ahead t (suc message) 0
 
 -- ---- lines
 
@@ -151,12 +172,3 @@ pub record Simulates (script : Script) (text : List ℕ) : Type 0 where
   pub plays : Plays script.lines.items first text last
   pub answers : AnswersAreTrue last.cluster
   pub books : BooksAreReplays last.cluster
-
--- ---- the program's own view of this
-
-abbrev pub seen : Simulation → SimState
-seen s = record { cluster = s.cluster; nodes = s.nodes.items; delivered = s.delivered }
-
--- it does that, and what it prints stands behind what was printed
-abbrev pub Prints : (SimState → List ℕ → SimState → Type 0) → Simulation → Simulation → Type 0
-Prints does old new = (text : List ℕ) × does (seen old) text (seen new) × (string_bytes new.lines ≡ string_bytes old.lines ++ text)

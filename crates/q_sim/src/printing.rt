@@ -51,9 +51,9 @@ fn print_message(lines: &mut String, cluster: &Cluster, number: usize) -> Result
 pub fn print_messages(lines: &mut String, cluster: &Cluster, sent: Sent) -> Result<(), AllocError>
     ensures { OnOk result (string_bytes lines.new ≡ string_bytes lines.old ++ message_lines cluster.now.world.sent sent.first sent.count) }
 {
-    let first = sent.first;
-    for number in first..first.saturating_add(sent.count) {
-        print_message(lines, cluster, number)?;
+    let there = cluster.world().sent().saturating_sub(sent.first);
+    for offset in 0..sent.count.min(there) {
+        print_message(lines, cluster, sent.first + offset)?;
     }
     Ok(())
 }

@@ -1,10 +1,7 @@
 //! Scripts, run over a cluster in memory.
 
-ghost use Rattle.std.specs.Prelude.{◌≡◌, ◌++◌, ◌-◌, ◌^◌, ℕ, List, min, IfOk, IfErr, OnOk, string_bytes};
-ghost use Rattle.q_history.specs.declared.event.Event.TheVariants as event;
-ghost use Rattle.q_history.specs.Headline.{AnswersAreTrue};
-ghost use Rattle.q_history.specs.Books.{BooksAreReplays};
-ghost use Rattle.q_sim.specs.Simulates.{Acts, Awaits, Begins, Does, IsSimulationFault, Prints, Registers, Simulates, Spreads, first_ids, seen};
+ghost use Rattle.std.specs.Prelude.{◌≡◌, ◌<◌, ◌↔◌, ◌++◌, ◌-◌, ◌^◌, [], length, min, IfOk, IfErr, OnOk, IsTrue, IsFalse, string_bytes};
+ghost use Rattle.q_sim.specs.Simulates.{IsSimulationFault, Rises, Simulates, first_ids};
 
 use crate::delivered::Delivered;
 use crate::printing::{print_messages, print_told};
@@ -31,6 +28,7 @@ struct Simulation {
     /// The deliveries that were accepted, or tried by `all`.
     delivered: Delivered,
     lines: String,
+    ghost rising: { Rises nodes.items },
 }
 
 /// What a script prints.
@@ -56,10 +54,22 @@ pub fn simulate(alloc: Global, script: Script) -> Result<String, Refusal>
 fn founders(alloc: Global, count: u64) -> Result<Vec<u64>, AllocError>
     ensures { IfOk result (λ ids. ids.items ≡ first_ids (min count 257)) }
 {
-    (1..=count.min(257)).collect(alloc)
+    let mut ids = Vec::new(alloc);
+    for known in 0..count.min(257) {
+        ids.push(known + 1)?;
+    }
+    Ok(ids)
 }
 
 impl Simulation {
+    ghost use Rattle.std.specs.Option.{IsSome};
+    ghost use Rattle.std.specs.FinSet as set;
+    ghost use Rattle.sc_world.specs.Worlds.{live_at};
+    ghost use Rattle.q_sim.specs.Simulates.{Acts, Ahead, Begins, Does, IsSpread, Registers, Spreads, Tries, noted};
+    ghost use Rattle.q_sim.specs.Printing.{printed};
+    ghost use Rattle.q_sim.specs.Refusal.{refusal_line};
+    ghost use Rattle.q_sim.specs.Seen.{Prints, seen};
+
     /// The cluster of the founders; nothing is delivered or printed.
     fn new(alloc: Global, founding: &Founding) -> Result<Simulation, Refusal>
         ensures begun { IfOk result (λ s. Begins founding.now (seen s) × (string_bytes s.lines ≡ [])) }
@@ -131,10 +141,22 @@ impl Simulation {
         ensures { OnOk result (Prints (Acts event.now) self.old self.new) }
     {
         let answer = self.cluster.step(event);
-        if let (Ok(_), Event::Deliver { message, node }) = (&answer, event) {
+        self.note(event, &answer)?;
+        self.print(&answer)
+    }
+
+    /// Notes a delivery that was accepted.
+    fn note(
+        &mut self,
+        event: &Event,
+        answer: &Result<Stepped, ClusterFault>,
+    ) -> Result<(), AllocError>
+        ensures { OnOk result (self.new ≡ record self.old { delivered = noted event.now answer.now self.old.delivered }) }
+    {
+        if let (Ok(_), Event::Deliver { message, node }) = (answer, event) {
             self.delivered.insert(*message, *node)?;
         }
-        self.print(&answer)
+        Ok(())
     }
 
     /// Delivers what was not delivered, the least message first and each to the least node first, so many times at most.
@@ -142,42 +164,66 @@ impl Simulation {
         ensures { OnOk result (Prints (Spreads limit) self.old self.new) }
     {
         let mut left = limit;
-        for message in 0..usize::MAX {
-            if left == 0 || message >= self.cluster.world().sent() {
-                break;
-            }
+        let mut message = 0;
+        while left > 0 && message < self.cluster.world().sent() {
             left = self.spread(message, left)?;
+            message += 1;
         }
         Ok(())
     }
 
-    /// Delivers a message to each live node that it was not delivered to, so many times at most. How many times are left
-    /// then. A refused delivery counts as one.
-    fn spread(&mut self, message: usize, limit: u64) -> Result<u64, AllocError> {
+    /// Delivers a message to each live node that it was not delivered to, the least node first, so many times at most.
+    /// How many times are left then. A refused delivery counts as one.
+    fn spread(&mut self, message: usize, limit: u64) -> Result<u64, AllocError>
+        requires sent { message < length self.old.cluster.world.sent }
+        requires ahead { Ahead (seen self.old) message 0 }
+        ensures spread { IfOk result (λ left. IsSpread message limit (seen self.old) left (seen self.new)) }
+        ensures silent { OnOk result (self.new.lines ≡ self.old.lines) }
+    {
         let mut left = limit;
         for place in 0..self.nodes.len() {
+            if left == 0 {
+                return Ok(0);
+            }
             let node = self.nodes[place];
-            if left > 0 && self.awaits(message, node) {
-                self.delivered.insert(message, node)?;
-                let _ = self.cluster.step(&Event::Deliver { message, node });
+            if self.awaits(message, node) {
+                self.attempt(message, node)?;
                 left -= 1;
             }
         }
         Ok(left)
     }
 
+    /// Delivers a message to a node, and notes that it was tried.
+    fn attempt(&mut self, message: usize, node: u64) -> Result<(), AllocError>
+        ensures tries { OnOk result (Tries (seen self.old) message node (seen self.new)) }
+        ensures silent { OnOk result (self.new.lines ≡ self.old.lines) }
+    {
+        self.delivered.insert(message, node)?;
+        let _ = self.cluster.step(&Event::Deliver { message, node });
+        Ok(())
+    }
+
     /// Whether the node is live and the message was not delivered to it.
-    fn awaits(&self, message: usize, node: u64) -> bool {
+    fn awaits(&self, message: usize, node: u64) -> bool
+        ensures { IsTrue result ↔ (IsSome (live_at self.now.cluster.world node) × IsFalse (set.contains self.now.delivered (message, node))) }
+    {
         self.cluster.world().live(node).is_some() && !self.delivered.contains(message, node)
     }
 
     /// Prints a refusal.
-    fn refuse(&mut self, refusal: &Refusal) -> Result<(), AllocError> {
+    fn refuse(&mut self, refusal: &Refusal) -> Result<(), AllocError>
+        ensures same { OnOk result (seen self.new ≡ seen self.old) }
+        ensures line { OnOk result (string_bytes self.new.lines ≡ string_bytes self.old.lines ++ refusal_line refusal.now) }
+    {
         writeln!(self.lines, "{refusal}")
     }
 
     /// Prints what an event answered: what it tells and its messages, or its refusal.
-    fn print(&mut self, answer: &Result<Stepped, ClusterFault>) -> Result<(), AllocError> {
+    fn print(&mut self, answer: &Result<Stepped, ClusterFault>) -> Result<(), AllocError>
+        ensures same { OnOk result (seen self.new ≡ seen self.old) }
+        ensures lines { OnOk result (string_bytes self.new.lines ≡ string_bytes self.old.lines ++ printed self.old.cluster answer.now) }
+    {
         match answer {
             Ok(stepped) => {
                 print_told(&mut self.lines, &stepped.told)?;

@@ -1,0 +1,10 @@
+-- Deliveries in their order, lines in turn, and what is printed.
+mod Pairs
+mod Goes
+mod Spreading
+mod Playing
+mod Lines
+mod Uncertified
+mod Founders
+mod Steps
+mod Performing
