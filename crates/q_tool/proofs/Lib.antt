@@ -1,2 +1,3 @@
 mod Lines
 mod Commands
+mod Refused

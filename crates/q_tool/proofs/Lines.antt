@@ -1,7 +1,6 @@
 -- The lines of the units, taken from the front.
 use Rattle.std.proofs.Common.{◌≡◌, ◌∙◌, ℕ, ◌+◌, ◌-◌, ◌/◌, ◌<◌, ◌≤◌, suc, List, [], ◌++◌, length, take, drop, ap, ap₂, arith, append_assoc, append-nil, sym}
 use Rattle.std.proofs.lemmas.List.{length-drop}
-use Rattle.std.specs.Prelude.{Result, Ok, Err, IfOk}
 use lib.Seq.{take-append_seam, drop-append_seam}
 use lib.ListN.{length-append}
 use Rattle.q_tool.specs.Listing.{first_lines, listing_of, unit_line}
@@ -30,8 +29,3 @@ one_more before bytes unit rest all split eight e =
 -- at the end there is no line to come
 pub no_more : (before bytes all : List ℕ) → length bytes < 8 → before ++ listing_of bytes ≡ all → before ≡ all
 no_more before bytes all h e = sym (append-nil before) ∙ ap (λ l. before ++ l) (sym (no_unit bytes h)) ∙ e
-
--- what holds holds of each answer
-pub of_each : {X E : Type 0} (P : Type 0) (r : Result X E) → P → IfOk r (λ x. P)
-of_each P (Ok x) h = h
-of_each P (Err e) h = tt

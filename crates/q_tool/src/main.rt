@@ -29,15 +29,19 @@
 //! exit status stays 0. Refused `nodes` end the script: 45 before 49. A line of another form is 9 before anything runs.
 //!
 //! A refusal prints `refused N Name`, then ` at U` where it carries a unit, or ` line L` where a line ([`Refusal`]).
-//! `run` finds faults in this order: FILE, its text, the verifier and the checker, RECORDS, its lines.
+//! `run` finds faults in this order: FILE, its text, the verifier and the checker, RECORDS, its lines. `sim` finds them in
+//! this: SCRIPT, its text, its founders. Want of memory, 99, may stand in place of any answer and of any other refusal.
 //! The exit status is 0, or 1 after a refusal or where the standard output failed, or 2 for a wrong command line, which
 //! is explained on the standard error.
 //!
 //! - [`read_words`] reads the words of the command line with `clap`. Where it answers a command, that is the command
-//!   with the operands which `clap`'s rules find in the words.
-//! - [`perform`] runs a command over any [`Files`] and any writer. Where it answers 0, the writer took exactly the text
-//!   that the command answers: the listing of the program that FILE spells; the longest path of that program, whose
-//!   notes pass; what that program means over the records that RECORDS lists, from START.
+//!   with the operands which `clap`'s rules find in the words. Its fault prints what is wrong with them, or the help.
+//! - [`carry_out`] runs a command over any [`Files`] and any writer, and says how it ended. Where it answered, the writer
+//!   took exactly the text that the command answers: the listing of the program that FILE spells; the longest path of
+//!   that program, whose notes pass; what that program means over the records that RECORDS lists, from START; what the
+//!   script prints that SCRIPT spells. Where it was refused, the writer took exactly the line of the refusal, whose
+//!   reason holds of the files.
+//! - [`perform`] does that and gives the exit status.
 //! - [`program`] has programs from assembler text, with their certificates.
 //! - [`simulate`], of the crate below, takes each event of a script as one step of a cluster, whose type keeps that every
 //!   recorded answer is true, and answers the lines of what the steps tell.
@@ -48,6 +52,7 @@
 //!
 //! [`Refusal`]: q_sim::refusal::Refusal
 //! [`read_words`]: words::read_words
+//! [`carry_out`]: perform::carry_out
 //! [`perform`]: perform::perform
 //! [`program`]: program::certified
 //! [`Files`]: files::Files
@@ -71,31 +76,22 @@ use crate::advice::advice;
 use crate::folder::Folder;
 use crate::perform::perform;
 use crate::words::{WordsFault, read_words};
-use q_sim::refusal::Refusal;
 use std::process::ExitCode;
 use std::{env, io};
-
-/// What is wrong with START.
-const BAD_START: &str =
-    "error: START is the accumulator to begin with: a number from 0 to 18446744073709551615 in decimal, with no zero in front of other digits and no sign\n\nFor more information, try 'bqview run --help'.";
 
 /// Says why no command runs, where `clap` says that text belongs, and answers the exit status.
 fn explain(rt: &(impl Print + Eprint), fault: &WordsFault) -> io::Result<u8> {
     match fault {
-        WordsFault::Help(help) => {
-            rt.print(help)?;
+        WordsFault::Help(_) => {
+            rt.print(fault)?;
             Ok(0)
         }
-        WordsFault::Wrong(error) => {
-            rt.eprint(error)?;
-            Ok(2)
-        }
-        WordsFault::BadStart => {
-            rt.eprintln(BAD_START)?;
+        WordsFault::Wrong(_) | WordsFault::BadStart => {
+            rt.eprint(fault)?;
             Ok(2)
         }
         WordsFault::OutOfMemory => {
-            rt.println(Refusal::OutOfMemory)?;
+            rt.println(fault)?;
             Ok(1)
         }
     }

@@ -1,8 +1,7 @@
 //! Programs from assembler text, and their certificates.
 
 ghost use Rattle.std.specs.Prelude.{◌≡◌, IfOk, IfErr, IsUtf8};
-ghost use Rattle.bq_insn.specs.Slots.{IsText};
-ghost use Rattle.bq_asm.specs.Source.{IsSource};
+ghost use Rattle.q_tool.specs.Perform.{IsProgram, IsUnaccepted, IsUnassembled};
 
 use bq_asm::assemble::assemble;
 use bq_check::certified::Certified;
@@ -16,7 +15,7 @@ use std::str;
 ///
 /// The one refusal is 87 FileFailed, where the bytes are not UTF-8.
 pub fn utf8(bytes: &[u8]) -> Result<&str, Refusal>
-    ensures same { IfOk result (λ text. text.now ≡ bytes.now) }
+    ensures same { IfOk result (λ text. (text.now ≡ bytes.now) × IsUtf8 bytes.now) }
     ensures refused { IfErr result (λ e. (e ≡ Refusal.FileFailed) × ¬ (IsUtf8 bytes.now)) }
 {
     str::from_utf8(bytes).map_err(|_| Refusal::FileFailed)
@@ -26,9 +25,8 @@ pub fn utf8(bytes: &[u8]) -> Result<&str, Refusal>
 ///
 /// Refused are 87 FileFailed, where the bytes are not UTF-8, and what the assembler refuses.
 pub fn program(alloc: Global, source: &[u8]) -> Result<Text, Refusal>
-    ensures spelled { IfOk result (λ text. IsSource source.now text) }
-    ensures legal { IfOk result IsText }
-    ensures text { ¬ (IsUtf8 source.now) → result ≡ Err Refusal.FileFailed }
+    ensures spelled { IfOk result (IsProgram source.now) }
+    ensures refused { IfErr result (IsUnassembled source.now) }
 {
     let source = utf8(source)?;
     Ok(assemble(alloc, source)?)
@@ -37,7 +35,8 @@ pub fn program(alloc: Global, source: &[u8]) -> Result<Text, Refusal>
 /// The program that assembler text spells, with its certificate. Refused as [`program`], and then as
 /// [`certified_text`].
 pub fn certified(alloc: Global, source: &[u8]) -> Result<Certified, Refusal>
-    ensures { IfOk result (λ c. IsSource source.now c.text) }
+    ensures spelled { IfOk result (λ certified. IsProgram source.now certified.text) }
+    ensures refused { IfErr result (IsUnaccepted source.now) }
 {
     let text = program(alloc, source)?;
     certified_text(alloc, text)

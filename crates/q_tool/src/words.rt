@@ -39,17 +39,21 @@ pub enum Line<'a> {
     },
 }
 
-/// Why the words name no command.
-#[derive(Debug, Drop)]
+/// Why the words name no command. Its text is what the program prints.
+#[derive(Debug, Drop, thiserror::Error)]
 pub enum WordsFault {
     /// They ask for help, which is the text of this. It belongs to the standard output.
+    #[error(transparent)]
     Help(Error),
     /// They are no command line. The text says what is wrong with them, and belongs to the standard
     /// error.
+    #[error(transparent)]
     Wrong(Error),
-    /// The START of `run` is no number.
+    /// The START of `run` is no number. The text belongs to the standard error.
+    #[error("error: START is the accumulator to begin with: a number from 0 to 18446744073709551615 in decimal, with no zero in front of other digits and no sign\n\nFor more information, try 'bqview run --help'.\n")]
     BadStart,
-    /// 99: memory ran out.
+    /// 99: memory ran out. The text is that of a refusal, and belongs to the standard output.
+    #[error("refused 99 OutOfMemory")]
     OutOfMemory,
 }
 
