@@ -39,6 +39,4 @@ mod line;
 mod mnemonic;
 mod number;
 mod operand;
-#[cfg(test)]
-mod tests;
 mod text;

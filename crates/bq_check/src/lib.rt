@@ -36,6 +36,4 @@ pub mod laws;
 pub mod notes;
 mod reading;
 mod run;
-#[cfg(test)]
-mod tests;
 mod writing;

@@ -31,5 +31,3 @@ pub mod flow;
 pub mod laws;
 mod longest;
 pub mod successors;
-#[cfg(test)]
-mod tests;

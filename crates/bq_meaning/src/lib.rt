@@ -34,5 +34,3 @@ mod perform;
 pub mod placement;
 pub mod run;
 pub mod step;
-#[cfg(test)]
-mod tests;

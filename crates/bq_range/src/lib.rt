@@ -24,5 +24,3 @@
 #![tactic(auto)]
 
 pub mod range;
-#[cfg(test)]
-mod tests;

@@ -42,6 +42,4 @@ pub mod laws;
 pub mod offsets;
 pub mod rule;
 pub mod state;
-#[cfg(test)]
-mod tests;
 mod transfer;

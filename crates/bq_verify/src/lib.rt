@@ -11,6 +11,4 @@
 //! [`verify`]: verify::verify
 #![tactic(auto)]
 
-#[cfg(test)]
-mod tests;
 pub mod verify;

@@ -15,5 +15,3 @@
 pub mod answer;
 pub mod book;
 pub mod fault;
-#[cfg(test)]
-mod tests;

@@ -11,5 +11,3 @@
 
 pub mod cluster;
 mod desks;
-#[cfg(test)]
-mod tests;

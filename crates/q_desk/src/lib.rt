@@ -18,5 +18,3 @@ pub mod desk;
 pub mod fault;
 pub mod journal;
 mod same;
-#[cfg(test)]
-mod tests;

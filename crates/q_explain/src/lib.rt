@@ -9,5 +9,3 @@
 
 mod advice;
 pub mod explain;
-#[cfg(test)]
-mod tests;

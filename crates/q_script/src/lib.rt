@@ -28,6 +28,4 @@ pub mod number;
 mod operands;
 pub mod records;
 pub mod script;
-#[cfg(test)]
-mod tests;
 mod text;

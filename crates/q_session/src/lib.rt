@@ -12,5 +12,3 @@ pub mod fold;
 pub mod job;
 pub mod query;
 pub mod ran;
-#[cfg(test)]
-mod tests;

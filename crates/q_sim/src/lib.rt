@@ -20,5 +20,3 @@ pub mod printing;
 pub mod program;
 pub mod refusal;
 pub mod simulation;
-#[cfg(test)]
-mod tests;

@@ -11,5 +11,3 @@
 pub mod fault;
 pub mod program;
 pub mod programs;
-#[cfg(test)]
-mod tests;

@@ -13,5 +13,3 @@
 pub mod config;
 pub mod facts;
 pub mod ids;
-#[cfg(test)]
-mod tests;

@@ -27,5 +27,3 @@ pub mod kind;
 pub mod laws;
 pub mod message;
 mod reader;
-#[cfg(test)]
-mod tests;

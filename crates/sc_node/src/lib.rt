@@ -16,5 +16,3 @@ pub mod node;
 pub mod outs;
 pub mod session;
 mod sessions;
-#[cfg(test)]
-mod tests;

@@ -12,6 +12,4 @@
 #![tactic(auto)]
 
 pub mod laws;
-#[cfg(test)]
-mod tests;
 pub mod view;

@@ -14,6 +14,4 @@ pub mod fault;
 pub mod laws;
 mod nodes;
 pub mod op;
-#[cfg(test)]
-mod tests;
 pub mod world;

@@ -1,8 +1,8 @@
-use crate::founding::{Founding, Fraction};
-use crate::line::{LineFault, ScriptLine};
-use crate::number::number;
-use crate::records::{RecordFault, RecordsFault, read_records};
-use crate::script::{Script, ScriptFault};
+use q_script::founding::{Founding, Fraction};
+use q_script::line::{LineFault, ScriptLine};
+use q_script::number::number;
+use q_script::records::{RecordFault, RecordsFault, read_records};
+use q_script::script::{Script, ScriptFault};
 use sc_view::view::View;
 use std::alloc::Global;
 use std::test::Fail;

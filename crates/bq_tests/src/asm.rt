@@ -1,7 +1,7 @@
-use crate::assemble::assemble;
-use crate::disassemble::disassemble;
-use crate::fault::AsmFault;
-use crate::laws::written_and_assembled;
+use bq_asm::assemble::assemble;
+use bq_asm::disassemble::disassemble;
+use bq_asm::fault::AsmFault;
+use bq_asm::laws::written_and_assembled;
 use bq_insn::decode::decode;
 use bq_insn::encode::encode;
 use bq_insn::insn::Insn;

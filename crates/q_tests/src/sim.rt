@@ -1,8 +1,8 @@
 //! Scripts and what they print.
 
-use crate::refusal::Refusal;
-use crate::simulation::simulate;
 use q_script::script::Script;
+use q_sim::refusal::Refusal;
+use q_sim::simulation::simulate;
 use std::alloc::Global;
 use std::test::Fail;
 

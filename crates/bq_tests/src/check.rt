@@ -1,7 +1,7 @@
-use crate::certified::Certified;
-use crate::check::check;
-use crate::fault::{CheckFault, NotesFault};
-use crate::notes::Notes;
+use bq_check::certified::Certified;
+use bq_check::check::check;
+use bq_check::fault::{CheckFault, NotesFault};
+use bq_check::notes::Notes;
 use bq_insn::decode::decode;
 use bq_insn::text::Text;
 use bq_meaning::placement::Placement;

@@ -1,11 +1,11 @@
 //! Texts whose notes the checker takes, and texts that are refused.
 
-use crate::verify::{state_at, verify};
 use bq_check::check::check;
 use bq_check::fault::CheckFault;
 use bq_insn::decode::decode;
 use bq_range::range::Range;
 use bq_state::kind::Kind;
+use bq_verify::verify::{state_at, verify};
 use std::test::Fail;
 
 /// `jeq64 r2, 64, +2 / mov64 r0, 1 / exit / mov64 r0, 2 / exit`

@@ -1,11 +1,11 @@
 ghost use Rattle.std.specs.Prelude.{◌≡◌};
 
-use crate::fault::NodeFault;
-use crate::node::Node;
-use crate::outs::Outs;
 use sc_members::config::Config;
 use sc_members::facts::Facts;
 use sc_msg::message::{Body, Message};
+use sc_node::fault::NodeFault;
+use sc_node::node::Node;
+use sc_node::outs::Outs;
 use sc_view::view::{Stored, View, ViewFault};
 use std::alloc::Global;
 

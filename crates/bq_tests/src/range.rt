@@ -1,4 +1,4 @@
-use crate::range::Range;
+use bq_range::range::Range;
 use bq_word::{AluOp, Relation, SignBits, SwapBits, Width};
 
 // The least and the greatest word of a range.

@@ -1,10 +1,10 @@
-use crate::fault::Fault;
-use crate::machine::Machine;
-use crate::placement::Placement;
-use crate::run::{Ended, run_checked};
-use crate::step::{Step, step_checked};
 use bq_insn::decode::decode;
 use bq_insn::text::Text;
+use bq_meaning::fault::Fault;
+use bq_meaning::machine::Machine;
+use bq_meaning::placement::Placement;
+use bq_meaning::run::{Ended, run_checked};
+use bq_meaning::step::{Step, step_checked};
 use std::alloc::AllocGlobal;
 use std::process::Abort;
 use std::test::Fail;

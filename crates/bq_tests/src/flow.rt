@@ -1,9 +1,9 @@
-use crate::fault::{FlowFault, FlowRule};
-use crate::flow::Flow;
-use crate::laws::{
+use bq_flow::fault::{FlowFault, FlowRule};
+use bq_flow::flow::Flow;
+use bq_flow::laws::{
     destination_in_words, faulty_is_not_legal, first_unit_begins, one_first_fault, one_longest,
 };
-use crate::successors::Successors;
+use bq_flow::successors::Successors;
 use bq_insn::decode::decode;
 use bq_insn::text::Text;
 use std::test::Fail;

@@ -1,12 +1,12 @@
-use crate::answer::Taken;
-use crate::book::Book;
-use crate::fault::BookFault;
 use bq_check::check::check;
 use bq_check::notes::Notes;
 use bq_insn::decode::decode;
 use bq_range::range::Range;
 use bq_state::kind::Kind;
 use bq_state::state::State;
+use q_book::answer::Taken;
+use q_book::book::Book;
+use q_book::fault::BookFault;
 use q_desk::completed::Completed;
 use q_session::done::Done;
 use q_table::program::{Program, ProgramId};

@@ -1,7 +1,3 @@
-use crate::completed::Completed;
-use crate::desk::Desk;
-use crate::fault::DeskFault;
-use crate::journal::Entry;
 use bq_check::certified::Certified;
 use bq_check::check::check;
 use bq_check::notes::Notes;
@@ -9,6 +5,10 @@ use bq_insn::decode::decode;
 use bq_range::range::Range;
 use bq_state::kind::Kind;
 use bq_state::state::State;
+use q_desk::completed::Completed;
+use q_desk::desk::Desk;
+use q_desk::fault::DeskFault;
+use q_desk::journal::Entry;
 use q_session::done::Done;
 use q_table::program::ProgramId;
 use sc_node::answer::{Completion, Ended};

@@ -1,9 +1,9 @@
 ghost use Rattle.std.specs.Prelude.{◌≤◌, length};
 ghost use Rattle.sc_members.specs.Members.{most_facts};
 
-use crate::config::{BadFraction, Config, threshold};
-use crate::facts::{Facts, FactsFault};
-use crate::ids::IdSet;
+use sc_members::config::{BadFraction, Config, threshold};
+use sc_members::facts::{Facts, FactsFault};
+use sc_members::ids::IdSet;
 use std::alloc::{AllocError, Global};
 use std::test::Fail;
 

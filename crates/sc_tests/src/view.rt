@@ -1,10 +1,10 @@
 ghost use Rattle.std.specs.Prelude.{◌≡◌};
 
-use crate::laws::{
+use sc_view::laws::{
     merge_is_idempotent, merge_is_least_upper_bound, merge_takes_the_larger_number,
     order_is_partial,
 };
-use crate::view::{Stored, View, ViewFault};
+use sc_view::view::{Stored, View, ViewFault};
 use std::alloc::Global;
 use std::test::Fail;
 

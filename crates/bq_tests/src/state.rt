@@ -1,13 +1,13 @@
 //! Worked rows: what single instructions make of the state at the entry, and where they lead.
 
-use crate::edges::Edge;
-use crate::kind::Kind;
-use crate::offsets::Offsets;
-use crate::rule::Rule;
-use crate::state::State;
 use bq_insn::insn::{ByteOrder, Extension, Insn, Operand, Size};
 use bq_insn::register::Register;
 use bq_range::range::Range;
+use bq_state::edges::Edge;
+use bq_state::kind::Kind;
+use bq_state::offsets::Offsets;
+use bq_state::rule::Rule;
+use bq_state::state::State;
 use bq_word::{AluOp, Relation, SignBits, SwapBits, Width};
 
 fn number(word: u64) -> Kind {

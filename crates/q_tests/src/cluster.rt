@@ -1,4 +1,4 @@
-use crate::cluster::Cluster;
+use q_cluster::cluster::Cluster;
 use q_desk::completed::Completed;
 use q_desk::fault::DeskFault;
 use q_history::event::{Event, Told};

@@ -1,7 +1,7 @@
 //! What a person reads of a refused program.
 
-use crate::explain::explain;
 use bq_asm::assemble::assemble;
+use q_explain::explain::explain;
 use std::test::Fail;
 
 #[test]

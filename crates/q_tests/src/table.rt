@@ -1,6 +1,3 @@
-use crate::fault::TableFault;
-use crate::program::{Program, ProgramId};
-use crate::programs::Programs;
 use bq_check::certified::Certified;
 use bq_check::check::check;
 use bq_check::notes::Notes;
@@ -8,6 +5,9 @@ use bq_insn::decode::decode;
 use bq_range::range::Range;
 use bq_state::kind::Kind;
 use bq_state::state::State;
+use q_table::fault::TableFault;
+use q_table::program::{Program, ProgramId};
+use q_table::programs::Programs;
 use std::sync::Arc;
 use std::test::Fail;
 

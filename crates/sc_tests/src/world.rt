@@ -1,10 +1,10 @@
-use crate::event::{Event, Stepped};
-use crate::fault::WorldFault;
-use crate::laws::regular;
-use crate::op::{Op, meets};
-use crate::world::World;
 use sc_members::config::Config;
 use sc_node::answer::{Completion, Ended};
+use sc_world::event::{Event, Stepped};
+use sc_world::fault::WorldFault;
+use sc_world::laws::regular;
+use sc_world::op::{Op, meets};
+use sc_world::world::World;
 use std::alloc::Global;
 use std::process::Abort;
 use std::test::Fail;

@@ -1,8 +1,5 @@
 ghost use Rattle.std.specs.Prelude.{◌≡◌};
 
-use crate::done::Done;
-use crate::fold::fold_checked;
-use crate::job::Job;
 use bq_check::certified::Certified;
 use bq_check::check::check;
 use bq_check::notes::Notes;
@@ -11,6 +8,9 @@ use bq_range::range::Range;
 use bq_state::kind::Kind;
 use bq_state::offsets::Offsets;
 use bq_state::state::State;
+use q_session::done::Done;
+use q_session::fold::fold_checked;
+use q_session::job::Job;
 use q_table::program::{Program, ProgramId};
 use sc_view::view::{Stored, View};
 use std::sync::Arc;

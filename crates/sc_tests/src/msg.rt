@@ -1,10 +1,10 @@
 ghost use Rattle.std.specs.Prelude.{◌≡◌};
 
-use crate::decode::decode;
-use crate::encode::encode;
-use crate::fault::MessageFault;
-use crate::laws::{one_fault, one_spelling, read_and_written, written_and_read};
-use crate::message::{Body, Message};
+use sc_msg::decode::decode;
+use sc_msg::encode::encode;
+use sc_msg::fault::MessageFault;
+use sc_msg::laws::{one_fault, one_spelling, read_and_written, written_and_read};
+use sc_msg::message::{Body, Message};
 use sc_view::view::{Stored, View, ViewFault};
 use std::alloc::{AllocError, Global};
 use std::test::Fail;
