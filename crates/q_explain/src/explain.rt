@@ -1,5 +1,8 @@
 //! The explanation of a refusal.
 
+ghost use Rattle.std.specs.Prelude.{IfOk};
+ghost use Rattle.q_explain.specs.Told.{IsTold};
+
 use crate::advice::{of_flow, of_rule};
 use bq_asm::disassemble::disassemble;
 use bq_check::fault::CheckFault;
@@ -88,11 +91,16 @@ fn told(alloc: Global, text: &Text, unit: usize, advice: &str) -> Result<String,
     Ok(out)
 }
 
-/// Why the verifier refuses a text, in a few lines; none where it does not, or for want of memory alone.
-pub fn explain(alloc: Global, text: &Text) -> Result<Option<String>, AllocError> {
+/// Why the verifier refuses a text, in a few lines; none where it accepts it.
+///
+/// The one error is that memory ran out (99 OutOfMemory).
+pub fn explain(alloc: Global, text: &Text) -> Result<Option<String>, AllocError>
+    ensures { IfOk result (IsTold text.now) }
+{
     match verify(alloc, text) {
+        Ok(_) => Ok(None),
         Err(CheckFault::Rule { unit, rule }) => Ok(Some(told(alloc, text, unit, of_rule(rule))?)),
         Err(CheckFault::Flow { unit, rule }) => Ok(Some(told(alloc, text, unit, of_flow(rule))?)),
-        _ => Ok(None),
+        Err(_) => Err(AllocError),
     }
 }

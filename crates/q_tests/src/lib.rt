@@ -9,6 +9,8 @@ mod book;
 #[cfg(test)]
 mod cluster;
 #[cfg(test)]
+mod command;
+#[cfg(test)]
 mod desk;
 #[cfg(test)]
 mod explain;

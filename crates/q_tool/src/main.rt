@@ -34,66 +34,29 @@
 //! The exit status is 0, or 1 after a refusal or where the standard output failed, or 2 for a wrong command line, which
 //! is explained on the standard error.
 //!
-//! - [`read_words`] reads the words of the command line with `clap`. Where it answers a command, that is the command
-//!   with the operands which `clap`'s rules find in the words. Its fault prints what is wrong with them, or the help.
-//! - [`carry_out`] runs a command over any [`Files`] and any writer, and says how it ended. Where it answered, the writer
-//!   took exactly the text that the command answers: the listing of the program that FILE spells; the longest path of
-//!   that program, whose notes pass; what that program means over the records that RECORDS lists, from START; what the
-//!   script prints that SCRIPT spells. Where it was refused, the writer took exactly the line of the refusal, whose
-//!   reason holds of the files.
-//! - [`perform`] does that and gives the exit status.
-//! - [`program`] has programs from assembler text, with their certificates.
-//! - [`simulate`], of the crate below, takes each event of a script as one step of a cluster, whose type keeps that every
-//!   recorded answer is true, and answers the lines of what the steps tell.
-//! - [`listing`] is the text that `asm` prints.
-//! - [`advice`] explains a refusal of the verifier on the standard error, in words.
-//!
-//! `main` alone reaches the machine: its words, its files and its standard output.
+//! [`read_words`] reads the words of the command line, [`perform`] runs the command, and [`advice`] explains a refusal of
+//! the verifier on the standard error: their contracts say what the program does. `main` alone reaches the machine: its
+//! words, its files, its standard output and its standard error.
 //!
 //! [`Refusal`]: q_sim::refusal::Refusal
-//! [`read_words`]: words::read_words
-//! [`carry_out`]: perform::carry_out
-//! [`perform`]: perform::perform
-//! [`program`]: program::certified
-//! [`Files`]: files::Files
-//! [`simulate`]: q_sim::simulation::simulate
-//! [`listing`]: listing::listing
-//! [`advice`]: advice::advice
+//! [`read_words`]: q_words::words::read_words
+//! [`perform`]: q_command::perform::perform
+//! [`advice`]: q_command::advice::advice
 #![tactic(auto)]
 
-mod advice;
-mod files;
-mod folder;
-mod listing;
-mod memory;
-mod perform;
-mod program;
-#[cfg(test)]
-mod tests;
-mod words;
-
-use crate::advice::advice;
-use crate::folder::Folder;
-use crate::perform::perform;
-use crate::words::{WordsFault, read_words};
+use q_command::advice::advice;
+use q_command::folder::Folder;
+use q_command::perform::perform;
+use q_words::words::{WordsFault, read_words};
 use std::process::ExitCode;
 use std::{env, io};
 
-/// Says why no command runs, where `clap` says that text belongs, and answers the exit status.
-fn explain(rt: &(impl Print + Eprint), fault: &WordsFault) -> io::Result<u8> {
+/// Says why no command runs, where `clap` says that text belongs.
+fn explain(rt: &(impl Print + Eprint), fault: &WordsFault) -> io::Result<()> {
     match fault {
-        WordsFault::Help(_) => {
-            rt.print(fault)?;
-            Ok(0)
-        }
-        WordsFault::Wrong(_) | WordsFault::BadStart => {
-            rt.eprint(fault)?;
-            Ok(2)
-        }
-        WordsFault::OutOfMemory => {
-            rt.println(fault)?;
-            Ok(1)
-        }
+        WordsFault::Help(_) => rt.print(fault),
+        WordsFault::Wrong(_) | WordsFault::BadStart => rt.eprint(fault),
+        WordsFault::OutOfMemory => rt.println(fault),
     }
 }
 
@@ -101,17 +64,18 @@ fn main(rt: HostRuntime) -> io::Result<ExitCode> {
     let alloc = rt.alloc();
     let args: Vec<String> = env::args(&rt)?.collect(alloc)?;
     let words: Vec<&str> = args.iter().map(|word| word.as_str()).collect(alloc)?;
-    let status = match read_words(alloc, words.as_slice()) {
-        Ok(line) => {
-            let status = perform(alloc, &line, &mut Folder::new(&rt), &mut io::writer(&rt));
-            if status == 1 {
-                if let Some(text) = advice(alloc, &line, &mut Folder::new(&rt)) {
-                    rt.eprint(text)?;
-                }
-            }
-            status
+    let line = match read_words(alloc, words.as_slice()) {
+        Ok(line) => line,
+        Err(fault) => {
+            explain(&rt, &fault)?;
+            return Ok(ExitCode::from(fault.status()));
         }
-        Err(fault) => explain(&rt, &fault)?,
     };
+    let status = perform(alloc, &line, &mut Folder::new(&rt), &mut io::writer(&rt));
+    if status == 1 {
+        if let Ok(Some(text)) = advice(alloc, &line, &mut Folder::new(&rt)) {
+            rt.eprint(text)?;
+        }
+    }
     Ok(ExitCode::from(status))
 }

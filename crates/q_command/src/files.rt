@@ -1,0 +1,68 @@
+//! Files by name: what a command asks of the folder that it runs in.
+
+ghost use Rattle.std.specs.Prelude.{◌≡◌, ℕ, List, Result};
+ghost use Rattle.q_command.specs.Files.{failures_after, seen_as};
+ghost use Rattle.q_command.specs.declared.files.FileFault.{FileFault};
+
+use q_sim::refusal::Refusal;
+use std::alloc::{AllocError, Global};
+
+/// Why a file was not read or written.
+#[derive(Clone, Copy, Debug, PartialEq, Eq)]
+pub enum FileFault {
+    /// 87: the file could not be opened, read or written.
+    Failed,
+    /// 99: memory ran out.
+    OutOfMemory,
+}
+
+impl From<AllocError> for FileFault {
+    ghost use Rattle.std.specs.Prelude.{◌≡◌};
+    ghost use Rattle.q_command.specs.declared.files.FileFault.TheVariants.{OutOfMemory};
+
+    ghost from_gives = { λ _ e. e ≡ OutOfMemory };
+
+    fn from(_error: AllocError) -> Self {
+        FileFault::OutOfMemory
+    }
+}
+
+impl From<FileFault> for Refusal {
+    ghost use Rattle.std.specs.Prelude.{◌≡◌};
+    ghost use Rattle.q_command.specs.Files.{refusal_of};
+
+    ghost from_gives = { λ fault refusal. refusal ≡ refusal_of fault };
+
+    fn from(fault: FileFault) -> Self {
+        match fault {
+            FileFault::Failed => Refusal::FileFailed,
+            FileFault::OutOfMemory => Refusal::OutOfMemory,
+        }
+    }
+}
+
+/// Files that are read and written whole, by their names.
+pub trait Files {
+    // How many calls failed so far.
+    ghost failed: { Self → ℕ };
+
+    // What a read of a name may answer, before and after the call.
+    ghost read_gives: { Self → List ℕ → Result (List ℕ) FileFault → Self → Type 0 };
+
+    // What a write of bytes under a name may answer, before and after the call.
+    ghost write_gives: { Self → List ℕ → List ℕ → Result (Unit {0}) FileFault → Self → Type 0 };
+
+    /// The bytes of a file. A call that fails changes nothing but the count of failures.
+    fn read(&mut self, alloc: Global, name: &str) -> Result<Vec<u8>, FileFault>
+        ensures counted { failed self.new ≡ failures_after result (failed self.old) }
+        ensures bytes { read_gives self.old name.now (seen_as (λ bytes. bytes.items) result) self.new };
+
+    /// Makes a file of these bytes, or replaces the bytes of the one that is there.
+    fn write(&mut self, name: &str, bytes: &[u8]) -> Result<(), FileFault>
+        ensures counted { failed self.new ≡ failures_after result (failed self.old) }
+        ensures written { write_gives self.old name.now bytes.now result self.new };
+
+    /// How many calls failed so far, those that wanted memory aside. It stays at its greatest value.
+    fn failures(&self) -> u64
+        ensures { result ≡ failed self.now };
+}

@@ -1,0 +1,35 @@
+//! The commands of the program `bqview`, over any files and any writer.
+//!
+//! - [`carry_out`] runs a command over any [`Files`] and any writer, and says how it ended. Where it answered, the writer
+//!   took exactly the text that the command answers: the listing of the program that FILE spells; the longest path of
+//!   that program, whose notes pass; what that program means over the records that RECORDS lists, from START; what the
+//!   script prints that SCRIPT spells. Where it was refused, the writer took exactly the line of the refusal, whose
+//!   reason holds of the files.
+//! - [`perform`] does that and gives the exit status.
+//! - [`program`] has programs from assembler text, with their certificates.
+//! - [`listing`] is the text that `asm` prints.
+//! - [`advice`] explains a refusal of the verifier in words, of exactly the programs that it refuses.
+//! - [`Folder`] is the machine's files, of which no contract says what they hold, and [`MemoryFiles`] files in memory, of
+//!   which each call's contract does.
+//!
+//! Scripts are run by [`simulate`], of the crate below: it takes each event of a script as one step of a cluster, whose type
+//! keeps that every recorded answer is true, and answers the lines of what the steps tell.
+//!
+//! [`carry_out`]: perform::carry_out
+//! [`perform`]: perform::perform
+//! [`program`]: program::certified
+//! [`Files`]: files::Files
+//! [`Folder`]: folder::Folder
+//! [`MemoryFiles`]: memory::MemoryFiles
+//! [`simulate`]: q_sim::simulation::simulate
+//! [`listing`]: listing::listing
+//! [`advice`]: advice::advice
+#![tactic(auto)]
+
+pub mod advice;
+pub mod files;
+pub mod folder;
+pub mod listing;
+pub mod memory;
+pub mod perform;
+pub mod program;

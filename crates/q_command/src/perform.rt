@@ -1,0 +1,143 @@
+//! Commands, run over files and a writer.
+
+ghost use Rattle.std.specs.Prelude.{◌≡◌, ℕ, List, IfOk, IfErr, string_bytes};
+ghost use Rattle.std.specs.Io.KnownBytes.{Appends};
+ghost use Rattle.q_command.specs.Perform.{Accepts, Answers, Computes, Ends, IsProgram, IsSimulated, IsUnaccepted, IsUnassembled, IsUnlisted, IsUnsimulated, Lists, Refuses, status_of};
+ghost use Rattle.q_command.specs.declared.perform.Ended.{Ended};
+
+use crate::files::Files;
+use crate::listing::listing;
+use crate::program::{certified, program, utf8};
+use bq_check::certified::Certified;
+use q_script::records::read_records;
+use q_script::script::Script;
+use q_session::fold::fold_checked;
+use q_sim::refusal::Refusal;
+use q_sim::simulation::simulate;
+use q_words::words::Line;
+use std::alloc::Global;
+use std::io::Write;
+
+/// How a command ended.
+#[derive(Clone, Copy, Debug, PartialEq, Eq)]
+pub enum Ended {
+    /// It wrote its answer.
+    Answered,
+    /// It wrote its refusal.
+    Refused(Refusal),
+    /// The writer failed.
+    Unwritten,
+}
+
+/// The listing of the program that assembler text spells, refused as [`program`].
+fn assembled(alloc: Global, source: &[u8]) -> Result<String, Refusal>
+    ensures listed { IfOk result (λ lines. Lists source.now (string_bytes lines)) }
+    ensures refused { IfErr result (IsUnassembled source.now) }
+{
+    let text = program(alloc, source)?;
+    Ok(listing(alloc, &text)?)
+}
+
+/// What `check` prints of assembler text.
+fn accepted(alloc: Global, source: &[u8]) -> Result<String, Refusal>
+    ensures accepted { IfOk result (λ lines. Accepts source.now (string_bytes lines)) }
+    ensures refused { IfErr result (IsUnaccepted source.now) }
+{
+    let certified = certified(alloc, source)?;
+    let longest = certified.longest();
+    let _notes = certified.notes();
+    Ok(format!(in alloc; "accepted longest {longest}\n")?)
+}
+
+/// What `run` prints of a program over the records that a text lists.
+fn computed(
+    alloc: Global,
+    certified: &Certified,
+    start: u64,
+    listed: &[u8],
+) -> Result<String, Refusal>
+    ensures computed { IfOk result (λ lines. (source : List ℕ) → IsProgram source certified.now.text → Computes source start listed.now (string_bytes lines)) }
+    ensures refused { IfErr result (IsUnlisted listed.now) }
+{
+    let listed = utf8(listed)?;
+    let view = read_records(alloc, listed)?;
+    let ran = fold_checked(certified, &view, start);
+    let acc = ran.acc;
+    let steps = ran.steps;
+    Ok(format!(in alloc; "acc {acc} steps {steps}\n")?)
+}
+
+/// What `sim` prints of a script. Refused are 87 FileFailed, where the bytes are not UTF-8, 9 Syntax with the least line
+/// of another form, and what [`simulate`] refuses, in this order.
+fn simulated(alloc: Global, source: &[u8]) -> Result<String, Refusal>
+    ensures simulated { IfOk result (λ lines. IsSimulated source.now (string_bytes lines)) }
+    ensures refused { IfErr result (IsUnsimulated source.now) }
+{
+    let source = utf8(source)?;
+    let script = Script::read(alloc, source)?;
+    simulate(alloc, script)
+}
+
+/// What a command prints, or why it is refused.
+fn answer<F: Files>(alloc: Global, line: &Line<'_>, files: &mut F) -> Result<String, Refusal>
+    ensures answered { IfOk result (λ lines. Answers F.read_gives line.now files.old (string_bytes lines) files.new) }
+    ensures refused { IfErr result (λ r. Refuses F.read_gives line.now files.old r files.new) }
+{
+    match line {
+        Line::Asm { file } => {
+            let source = files.read(alloc, file)?;
+            assembled(alloc, source.as_slice())
+        }
+        Line::Check { file } => {
+            let source = files.read(alloc, file)?;
+            accepted(alloc, source.as_slice())
+        }
+        Line::Run {
+            file,
+            start,
+            records,
+        } => {
+            let source = files.read(alloc, file)?;
+            let certified = certified(alloc, source.as_slice())?;
+            let listed = files.read(alloc, records)?;
+            computed(alloc, &certified, *start, listed.as_slice())
+        }
+        Line::Sim { script } => {
+            let source = files.read(alloc, script)?;
+            simulated(alloc, source.as_slice())
+        }
+    }
+}
+
+/// Runs a command, and writes its answer or its refusal.
+pub fn carry_out<F: Files, W: Write>(
+    alloc: Global,
+    line: &Line<'_>,
+    files: &mut F,
+    out: &mut W,
+) -> Ended
+    ensures { Ends F.read_gives line.now files.old (W.contents out.old) result files.new (W.contents out.new) }
+{
+    match answer(alloc, line, files) {
+        Ok(lines) => match out.write_all(lines.as_bytes()) {
+            Ok(()) => Ended::Answered,
+            Err(_) => Ended::Unwritten,
+        },
+        Err(refusal) => match writeln!(out, "{refusal}") {
+            Ok(()) => Ended::Refused(refusal),
+            Err(_) => Ended::Unwritten,
+        },
+    }
+}
+
+/// Runs a command, writes its answer or its refusal, and gives the exit status: 0, or 1 after a
+/// refusal or where the writer fails.
+pub fn perform<F: Files, W: Write>(alloc: Global, line: &Line<'_>, files: &mut F, out: &mut W) -> u8
+    ensures ended { (ended : Ended) × Ends F.read_gives line.now files.old (W.contents out.old) ended files.new (W.contents out.new) × (result ≡ status_of ended) }
+    ensures told { result ≡ 0 → (lines : List ℕ) × Answers F.read_gives line.now files.old lines files.new × Appends (W.contents out.old) (W.contents out.new) lines }
+{
+    match carry_out(alloc, line, files, out) {
+        Ended::Answered => 0,
+        Ended::Refused(_) | Ended::Unwritten => 1,
+    }
+}

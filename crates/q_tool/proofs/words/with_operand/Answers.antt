@@ -1,6 +1,0 @@
-use Rattle.std.proofs.Common.{rules}
-use Rattle.q_tool.proofs.Commands.{local_kept}
-use Rattle.q_tool.proofs.words.with_operand.Goals as goal
-
-pub returns-clause-local : goal.returns-clause-local
-returns-clause-local c = local_kept c.args.command c.action-operand.result c.arg.result c.arg.ensures (search rules)

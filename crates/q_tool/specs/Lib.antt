@@ -1,5 +1,0 @@
-pub mod Files
-pub mod Listing
-pub mod Memory
-pub mod Perform
-pub mod Words

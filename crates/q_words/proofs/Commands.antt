@@ -1,0 +1,115 @@
+-- The command that the words name.
+use Rattle.std.proofs.Common.{◌≡◌, ◌∙◌, Bool, true, false, List, [], ◌∷◌, Option, Some, None, ap, ap₂, refl, sym, codes, Bor, option_map, unwrap_or, IsSomeAnd, is_some, map, cond, ◌⊎◌, inl, inr, subst, true≢false}
+use Rattle.std.specs.Prelude.{Box, find, Result, Ok, Err, IfOk, MatchResult, ◌||◌}
+use Rattle.std.specs.Box.{box_value}
+use Rattle.clap.specs.Words.{App, fault_of, subcommand_of, Row, Shape, Text, found_of, is_simple, is_simple_and_free, rows_of, subcommand_rows}
+use Rattle.clap.specs.Simple.{argument_words, built, entered, label_of, names_of, rows_at}
+use Rattle.clap.specs.Walk.{answers_to, stop_after}
+use Rattle.clap.specs.Words.{app_of, with_subcommand}
+use Rattle.clap.specs.Built.{AddsArg}
+use Rattle.clap.specs.declared.builder.arg.Arg.{Arg}
+use Rattle.clap.specs.declared.builder.command.Command.{Command}
+use Rattle.clap.specs.declared.builder.command.Command.TheViews.{out-Command}
+use Rattle.clap.specs.declared.parser.matches.SubCommand.{SubCommand}
+use Rattle.clap.specs.declared.parser.matches.ArgMatches.TheViews.{out-SubCommand}
+use Rattle.clap.proofs.OnLiterals.{clap_on_literals}
+use Rattle.q_words.specs.declared.words.Line.{Line}
+use Rattle.q_words.specs.declared.words.WordsFault.{WordsFault}
+use Rattle.q_words.specs.declared.words.WordsFault.TheVariants.{BadStart}
+use Rattle.q_words.specs.Words.{bqview, HasCommand, HasBadStart, Reads}
+
+pub simple : is_simple bqview ≡ true
+unfolding clap_on_literals
+simple = refl
+
+pub free : is_simple_and_free bqview ≡ true
+unfolding clap_on_literals
+free = refl
+
+abbrev is_met : {X : Type 0} → Option X → Type 0
+is_met None = ⊥
+is_met (Some x) = Unit {0}
+
+no_some : {X : Type 0} {x : X} → None ≡ Some x → ⊥
+no_some e = subst is_met (sym e) tt
+
+-- what was met, from its name and what was found for its operands
+pub met_rows : {Z : Type 0} (o : Option (Box SubCommand Z)) (name : Text) (rows : List Row)
+    → option_map (λ b. (out-SubCommand (box_value b)).name.now) o ≡ Some name
+    → option_map (λ p. p.1) (subcommand_rows o) ≡ Some rows → subcommand_rows o ≡ Some (name, rows)
+met_rows None name rows e f = absurd (no_some e)
+met_rows (Some b) name rows e f = ap₂ (λ n r. Some (n, r)) (ap (λ o. unwrap_or o []) e) (ap (λ o. unwrap_or o []) f)
+
+pub operand_text : (o : Option (Bor Text)) (d file : Bor Text) (t : Option Text) → option_map (λ s. s.now) o ≡ t → file ≡ unwrap_or o d → d.now ≡ []
+    → file.now ≡ unwrap_or t []
+operand_text None d file t e f g = ap (λ s. s.now) f ∙ g ∙ ap (λ x. unwrap_or x []) e
+operand_text (Some s) d file t e f g = ap (λ s. s.now) f ∙ ap (λ x. unwrap_or x []) e
+
+-- what was said was met
+pub was_met : (P : Text × List Row → Type 0) (said : Option (Text × List Row)) (met : Text × List Row) → said ≡ Some met → P met → IsSomeAnd said P
+was_met P said met e h = subst (λ o. IsSomeAnd o P) (sym e) h
+
+-- ---- which commands there are
+
+abbrev In : Text → List Text → Type 0
+In n [] = ⊥
+In n (m ∷ ms) = (n ≡ m) ⊎ In n ms
+
+abbrev names : List Shape → List Text
+names ss = map (λ s. s.name) ss
+
+same_name : (p q : Text × List Row) → Some p ≡ Some q → q.0 ≡ p.0
+same_name p q e = ap (λ o. (unwrap_or o p).0) (sym e)
+
+not_some : (p : Text × List Row) → None ≡ Some p → ⊥
+not_some p e = absurd (no_some e)
+
+found_in : (b : Bool) (s : Shape) (rest : Option Shape) (words : List Text) (ss : List Shape) (p : Text × List Row) → (option_map (λ t. rows_at t words) rest ≡ Some p → In p.0 (names ss))
+    → option_map (λ t. rows_at t words) (cond b (Some s) rest) ≡ Some p → In p.0 (s.name ∷ names ss)
+found_in true s rest words ss p f e = inl (same_name (rows_at s words) p e)
+found_in false s rest words ss p f e = inr (f e)
+
+find_in : (test : Shape → Bool) (ss : List Shape) (words : List Text) (p : Text × List Row) → option_map (λ t. rows_at t words) (find test ss) ≡ Some p → In p.0 (names ss)
+find_in test [] words p e = not_some p e
+find_in test (s ∷ ss) words p e = found_in (test s) s (find test ss) words ss p (find_in test ss words p) e
+
+entered_in : (a : App) (stop : Option (Text × List Text)) (p : Text × List Row) → entered a stop ≡ Some p → In p.0 (names a.subs)
+entered_in a None p e = absurd (not_some p e)
+entered_in a (Some q) p e = find_in (λ s. answers_to q.0 (label_of s)) a.subs q.1 p e
+
+all_names : names (built bqview).subs ≡ codes "asm" ∷ codes "check" ∷ codes "run" ∷ codes "sim" ∷ []
+all_names = refl
+
+one_of_four : (n : Text) → In n (codes "asm" ∷ codes "check" ∷ codes "run" ∷ codes "sim" ∷ []) → (n ≡ codes "asm" → ⊥) → (n ≡ codes "check" → ⊥) → (n ≡ codes "run" → ⊥) → (n ≡ codes "sim" → ⊥) → ⊥
+one_of_four n h a b c d = elim h [ inl e ↦ a e | inr h ↦ elim h [ inl e ↦ b e | inr h ↦ elim h [ inl e ↦ c e | inr h ↦ elim h [ inl e ↦ d e | inr h ↦ h ] ] ] ]
+
+pub other_command : {Z : Type 0} (o : Option (Box SubCommand Z)) (words : List Text) → is_some o ≡ true → subcommand_rows o ≡ subcommand_of bqview words
+    → let name = option_map (λ b. (out-SubCommand (box_value b)).name.now) o in (name ≡ Some (codes "asm") → ⊥) → (name ≡ Some (codes "check") → ⊥) → (name ≡ Some (codes "run") → ⊥) → (name ≡ Some (codes "sim") → ⊥) → ⊥
+other_command None words s e a b c d = true≢false (sym s)
+other_command (Some x) words s e a b c d =
+    let n : Text = (out-SubCommand (box_value x)).name.now in
+    let known = entered_in (built bqview) (stop_after (built bqview).top.rules (names_of (built bqview)) (argument_words bqview words)) (n, rows_of (found_of (out-SubCommand (box_value x)).matches)) (sym e) in
+    one_of_four n (subst (In n) all_names known) (λ k. a (ap (λ t. Some t) k)) (λ k. b (ap (λ t. Some t) k)) (λ k. c (ap (λ t. Some t) k)) (λ k. d (ap (λ t. Some t) k))
+
+-- ---- how commands are put together
+
+pub or_false : (b c : Bool) → c ≡ false → (b || c) ≡ b
+or_false true c e = refl
+or_false false c e = e
+
+pub local_kept : {E : Type 0} (old : Command) (a : Arg) (r : Result Command E) → IfOk r (AddsArg old a) → a.global ≡ false → IfOk r (λ c. (out-Command c).has_globals ≡ (out-Command old).has_globals)
+local_kept old a (Ok c) h e = h.globals ∙ or_false (out-Command old).has_globals a.global e
+local_kept old a (Err e) h f = tt
+
+pub below_one_more : (a b s t : App) → a ≡ b → s ≡ t → with_subcommand a s.top ≡ with_subcommand b t.top
+below_one_more a b s t e f = ap₂ (λ (x y : App). with_subcommand x y.top) e f
+
+pub made : {E : Type 0} (r : Result Command E) (x y : App) (g : Bool) → IfOk r (λ c. app_of c ≡ x) → IfOk r (λ c. (out-Command c).has_globals ≡ g) → x ≡ y → g ≡ false → IfOk r (λ c. (app_of c ≡ y) × ((out-Command c).has_globals ≡ false))
+made (Ok c) x y g h k e f = (h ∙ e, k ∙ f)
+made (Err d) x y g h k e f = tt
+
+-- what is read of `run`
+pub run_read : (words : List Text) (r : Result Line WordsFault) (rows : List Row) → fault_of bqview words ≡ [] → subcommand_of bqview words ≡ Some (codes "run", rows)
+    → MatchResult r (λ line. HasCommand line (codes "run", rows)) (λ e. (e ≡ BadStart) × HasBadStart (codes "run", rows)) → Reads words r
+run_read words (Ok line) rows n s h = (n, was_met (HasCommand line) _ (codes "run", rows) s h)
+run_read words (Err e) rows n s h = subst (λ d. Reads words (Err d)) (sym h.0) (n, was_met HasBadStart _ (codes "run", rows) s h.1)

@@ -1,0 +1,86 @@
+-- The command line of the program, and what its words say.
+use Rattle.std.specs.Prelude.{◌≡◌, ℕ, List, [], Some, IsSomeAnd, unwrap_or, codes, true, Result, Ok, Err, ⊤}
+use Rattle.clap.specs.Words.{App, IsAmong, Row, Rule, Text, fault_of, first_of, kind_of, new_app, new_rule, subcommand_of, with_rule, with_subcommand}
+use Rattle.clap.specs.declared.error.Error.{Error}
+use Rattle.clap.specs.declared.error.kind.ErrorKind.TheVariants.{DisplayHelp}
+use Rattle.clap.specs.declared.error.kind.ErrorKind.TheVariants as kind
+use Rattle.clap.specs.declared.builder.action.ArgAction.TheVariants.{Set}
+use Rattle.q_words.specs.declared.words.Line.{Line}
+use Rattle.q_words.specs.declared.words.Line.TheVariants.{Asm, Check, Run, Sim}
+use Rattle.q_words.specs.declared.words.WordsFault.{WordsFault}
+use Rattle.q_words.specs.declared.words.WordsFault.TheVariants.{Help, Wrong, BadStart, OutOfMemory}
+use Rattle.q_script.specs.Words.{IsNumeral}
+
+-- ---- the command line
+
+-- an operand that must be there
+abbrev pub operand : Text → Rule
+operand name = record (new_rule name) { required = true; action = Some Set }
+
+-- `asm FILE`
+abbrev pub asm_app : App
+asm_app = with_rule (new_app (codes "asm")) (operand (codes "FILE"))
+
+-- `check FILE`
+abbrev pub check_app : App
+check_app = with_rule (new_app (codes "check")) (operand (codes "FILE"))
+
+-- `run FILE START RECORDS`
+abbrev pub run_app : App
+run_app = with_rule (with_rule (with_rule (new_app (codes "run")) (operand (codes "FILE"))) (operand (codes "START"))) (operand (codes "RECORDS"))
+
+-- `sim SCRIPT`
+abbrev pub sim_app : App
+sim_app = with_rule (new_app (codes "sim")) (operand (codes "SCRIPT"))
+
+-- the program, of which one command is wanted
+abbrev pub bqview : App
+bqview =
+    let plain = new_app (codes "bqview") in
+    let one = record plain { top = record plain.top { subcommand_required = true; disable_help_subcommand = true } } in
+    with_subcommand (with_subcommand (with_subcommand (with_subcommand one asm_app.top) check_app.top) run_app.top) sim_app.top
+
+-- ---- what the words say
+
+-- the text of an operand
+abbrev pub operand_of : Text → List Row → Text
+operand_of name rows = unwrap_or (first_of name rows) []
+
+-- the command that was met, by its name and what was found for its operands
+abbrev pub HasCommand : Line → Text × List Row → Type 0
+HasCommand (Asm file) met = (met.0 ≡ codes "asm") × (file.now ≡ operand_of (codes "FILE") met.1)
+HasCommand (Check file) met = (met.0 ≡ codes "check") × (file.now ≡ operand_of (codes "FILE") met.1)
+HasCommand (Run file start records) met =
+    (met.0 ≡ codes "run") × (file.now ≡ operand_of (codes "FILE") met.1) × IsNumeral (operand_of (codes "START") met.1) start
+    × (records.now ≡ operand_of (codes "RECORDS") met.1)
+HasCommand (Sim script) met = (met.0 ≡ codes "sim") × (script.now ≡ operand_of (codes "SCRIPT") met.1)
+
+-- the command `run` was met, and its START is no number
+abbrev pub HasBadStart : Text × List Row → Type 0
+HasBadStart met = (met.0 ≡ codes "run") × ((n : ℕ) → IsNumeral (operand_of (codes "START") met.1) n → ⊥)
+
+-- the fault tells what the error of `clap` says
+abbrev pub Tells : Error → WordsFault → Type 0
+Tells error (Help e) = (e ≡ error) × (kind_of error ≡ DisplayHelp)
+Tells error (Wrong e) = (e ≡ error) × (kind_of error ≡ DisplayHelp → ⊥) × (kind_of error ≡ kind.OutOfMemory → ⊥)
+Tells error OutOfMemory = kind_of error ≡ kind.OutOfMemory
+Tells error BadStart = ⊥
+
+-- help is asked for, the words have a mistake of one of the kinds, the START of `run` is no number, or memory ran out
+abbrev pub HasFault : List Text → WordsFault → Type 0
+HasFault words (Help e) = (kind_of e ≡ DisplayHelp) × IsAmong DisplayHelp (fault_of bqview words)
+HasFault words (Wrong e) = (kind_of e ≡ DisplayHelp → ⊥) × IsAmong (kind_of e) (fault_of bqview words)
+HasFault words BadStart = (fault_of bqview words ≡ []) × IsSomeAnd (subcommand_of bqview words) HasBadStart
+HasFault words OutOfMemory = ⊤
+
+-- a command is read exactly where the words have no fault by the rules of `clap`, and the START of `run` is a number
+abbrev pub Reads : List Text → Result Line WordsFault → Type 0
+Reads words (Ok line) = (fault_of bqview words ≡ []) × IsSomeAnd (subcommand_of bqview words) (HasCommand line)
+Reads words (Err e) = HasFault words e
+
+-- the exit status of the program, where it runs no command
+abbrev pub exit_status : WordsFault → ℕ
+exit_status (Help e) = 0
+exit_status OutOfMemory = 1
+exit_status (Wrong e) = 2
+exit_status BadStart = 2

@@ -1,0 +1,245 @@
+//! The words of the command line.
+
+ghost use Rattle.std.specs.Prelude.{◌≡◌, codes, IfOk, MatchResult, map, false, true};
+ghost use Rattle.clap.specs.Words.{app_of, found_of, rows_of, with_rule, with_subcommand};
+ghost use Rattle.clap.specs.declared.builder.command.Command.TheViews.{out-Command};
+ghost use Rattle.q_words.specs.Words.{asm_app, check_app, run_app, sim_app, bqview, operand, operand_of, HasCommand, HasBadStart, Reads, exit_status};
+
+use clap::error::ErrorKind;
+use clap::{Arg, ArgAction, ArgMatches, Command, Error};
+use q_script::number::number;
+use std::alloc::{AllocError, Global};
+
+/// A command with its operands.
+#[derive(Clone, Copy, Debug, PartialEq, Eq)]
+pub enum Line<'a> {
+    /// `asm FILE`: list the units of the program that a file of assembler text spells.
+    Asm {
+        /// The name of the file.
+        file: &'a str,
+    },
+    /// `check FILE`: check the program that a file of assembler text spells.
+    Check {
+        /// The name of the file.
+        file: &'a str,
+    },
+    /// `run FILE START RECORDS`: run the program that a file of assembler text spells over records.
+    Run {
+        /// The name of the file.
+        file: &'a str,
+        /// The accumulator that the program begins with.
+        start: u64,
+        /// The name of the file that lists the records.
+        records: &'a str,
+    },
+    /// `sim SCRIPT`: run a script over a cluster.
+    Sim {
+        /// The name of the file.
+        script: &'a str,
+    },
+}
+
+/// Why the words name no command. Its text is what the program prints.
+#[derive(Debug, Drop, thiserror::Error)]
+pub enum WordsFault {
+    /// They ask for help, which is the text of this. It belongs to the standard output.
+    #[error(transparent)]
+    Help(Error),
+    /// They are no command line. The text says what is wrong with them, and belongs to the standard
+    /// error.
+    #[error(transparent)]
+    Wrong(Error),
+    /// The START of `run` is no number. The text belongs to the standard error.
+    #[error("error: START is the accumulator to begin with: a number from 0 to 18446744073709551615 in decimal, with no zero in front of other digits and no sign\n\nFor more information, try 'bqview run --help'.\n")]
+    BadStart,
+    /// 99: memory ran out. The text is that of a refusal, and belongs to the standard output.
+    #[error("refused 99 OutOfMemory")]
+    OutOfMemory,
+}
+
+impl WordsFault {
+    /// The exit status of the program: 0 where help was asked for, 1 for want of memory, 2 where the words are no command
+    /// line.
+    pub fn status(&self) -> u8
+        ensures { result ≡ exit_status self.now }
+    {
+        match self {
+            WordsFault::Help(_) => 0,
+            WordsFault::OutOfMemory => 1,
+            WordsFault::Wrong(_) | WordsFault::BadStart => 2,
+        }
+    }
+}
+
+impl From<Error> for WordsFault {
+    ghost use Rattle.q_words.specs.Words.{Tells};
+
+    ghost from_gives = { Tells };
+
+    fn from(error: Error) -> Self {
+        match error.kind() {
+            ErrorKind::DisplayHelp => WordsFault::Help(error),
+            ErrorKind::OutOfMemory => WordsFault::OutOfMemory,
+            _ => WordsFault::Wrong(error),
+        }
+    }
+}
+
+impl From<AllocError> for WordsFault {
+    ghost use Rattle.std.specs.Prelude.{◌≡◌};
+    ghost use Rattle.q_words.specs.declared.words.WordsFault.TheVariants.{OutOfMemory};
+
+    ghost from_gives = { λ _ e. e ≡ OutOfMemory };
+
+    fn from(_error: AllocError) -> Self {
+        WordsFault::OutOfMemory
+    }
+}
+
+/// What FILE names.
+const ASSEMBLER: &str = "A file of assembler text, one instruction a line";
+
+/// The command with one more operand, which must be there.
+fn with_operand<'a>(
+    alloc: Global,
+    command: Command<'a>,
+    name: &'a str,
+    help: &'a str,
+) -> Result<Command<'a>, AllocError>
+    ensures app { IfOk result (λ c. app_of c ≡ with_rule (app_of command.entry) (operand name.entry.now)) }
+    ensures local { IfOk result (λ c. (out-Command c).has_globals ≡ (out-Command command.entry).has_globals) }
+{
+    let operand = Arg::new(alloc, name)
+        .help(help)
+        .required(true)
+        .action(ArgAction::Set);
+    command.arg(operand)
+}
+
+/// The command `asm`.
+fn asm_command<'a>(alloc: Global) -> Result<Command<'a>, AllocError>
+    ensures { IfOk result (λ c. (app_of c ≡ asm_app) × ((out-Command c).has_globals ≡ false)) }
+{
+    let command = Command::new(alloc, "asm")
+        .about("Prints each unit of a program as 16 hexadecimal digits, one a line")
+        .after_help("Example: bqview asm examples/count.bpf");
+    with_operand(alloc, command, "FILE", ASSEMBLER)
+}
+
+/// The command `check`.
+fn check_command<'a>(alloc: Global) -> Result<Command<'a>, AllocError>
+    ensures { IfOk result (λ c. (app_of c ≡ check_app) × ((out-Command c).has_globals ≡ false)) }
+{
+    let command = Command::new(alloc, "check")
+        .about(
+            "Proves that a program never faults, and prints the most steps that it does for one record",
+        )
+        .after_help("Example: bqview check examples/count.bpf");
+    with_operand(alloc, command, "FILE", ASSEMBLER)
+}
+
+/// The command `run`.
+fn run_command<'a>(alloc: Global) -> Result<Command<'a>, AllocError>
+    ensures { IfOk result (λ c. (app_of c ≡ run_app) × ((out-Command c).has_globals ≡ false)) }
+{
+    let command = Command::new(alloc, "run")
+        .about("Runs a program over records, and prints the last accumulator and the steps done")
+        .after_help("Example: bqview run examples/sum.bpf 0 examples/three.records");
+    let command = with_operand(alloc, command, "FILE", ASSEMBLER)?;
+    let command = with_operand(
+        alloc,
+        command,
+        "START",
+        "The accumulator to begin with, a number below 2^64 in decimal",
+    )?;
+    with_operand(
+        alloc,
+        command,
+        "RECORDS",
+        "A file of lines `ID SEQ VALUE`, one for each record, by rising ids",
+    )
+}
+
+/// The command `sim`.
+fn sim_command<'a>(alloc: Global) -> Result<Command<'a>, AllocError>
+    ensures { IfOk result (λ c. (app_of c ≡ sim_app) × ((out-Command c).has_globals ≡ false)) }
+{
+    let command = Command::new(alloc, "sim")
+        .about("Runs a script over a cluster in memory, and prints what each event told")
+        .after_help("Example: bqview sim examples/count.sim");
+    with_operand(
+        alloc,
+        command,
+        "SCRIPT",
+        "A file of events, one a line, of which the first founds the cluster",
+    )
+}
+
+/// The command with one more command below it.
+fn with_command<'a>(command: Command<'a>, below: Command<'a>) -> Result<Command<'a>, AllocError>
+    requires { (out-Command below).has_globals ≡ false }
+    ensures app { IfOk result (λ c. app_of c ≡ with_subcommand (app_of command.entry) (app_of below.entry).top) }
+    ensures local { IfOk result (λ c. (out-Command c).has_globals ≡ (out-Command command.entry).has_globals) }
+{
+    command.subcommand(below)
+}
+
+/// The program's command line.
+fn program<'a>(alloc: Global) -> Result<Command<'a>, AllocError>
+    ensures { IfOk result (λ c. (app_of c ≡ bqview) × ((out-Command c).has_globals ≡ false)) }
+{
+    let command = Command::new(alloc, "bqview")
+        .about("Programs of RFC 9669 over store-collect views")
+        .after_help("Example: bqview sim examples/count.sim")
+        .subcommand_required(true)
+        .disable_help_subcommand(true);
+    let command = with_command(command, asm_command(alloc)?)?;
+    let command = with_command(command, check_command(alloc)?)?;
+    let command = with_command(command, run_command(alloc)?)?;
+    with_command(command, sim_command(alloc)?)
+}
+
+/// The text of an operand.
+fn operand_text<'a>(found: &ArgMatches<'a>, name: &str) -> &'a str
+    ensures { result.now ≡ operand_of name.now (rows_of (found_of found.now)) }
+{
+    found.get_str(name).unwrap_or("")
+}
+
+/// The command `run` with what was found for its operands.
+fn run_line<'a>(found: &ArgMatches<'a>) -> Result<Line<'a>, WordsFault>
+    ensures { MatchResult result (λ line. HasCommand line (codes "run", rows_of (found_of found.now))) (λ e. (e ≡ WordsFault.BadStart) × HasBadStart (codes "run", rows_of (found_of found.now))) }
+{
+    match number(operand_text(found, "START")) {
+        Some(start) => Ok(Line::Run {
+            file: operand_text(found, "FILE"),
+            start,
+            records: operand_text(found, "RECORDS"),
+        }),
+        None => Err(WordsFault::BadStart),
+    }
+}
+
+/// Reads the words of the command line, of which the first is the program's name.
+pub fn read_words<'a>(alloc: Global, words: &'a [&'a str]) -> Result<Line<'a>, WordsFault>
+    ensures { Reads (map (λ word. word.now) words.entry.now) result }
+{
+    let matches = program(alloc)?.try_get_matches_from(words)?;
+    if let Some(found) = matches.subcommand_matches("asm") {
+        let file = operand_text(found, "FILE");
+        return Ok(Line::Asm { file });
+    }
+    if let Some(found) = matches.subcommand_matches("check") {
+        let file = operand_text(found, "FILE");
+        return Ok(Line::Check { file });
+    }
+    if let Some(found) = matches.subcommand_matches("run") {
+        return run_line(found);
+    }
+    match matches.subcommand_matches("sim") {
+        Some(found) => Ok(Line::Sim {
+            script: operand_text(found, "SCRIPT"),
+        }),
+        None => unreachable!(),
+    }
+}
