@@ -182,7 +182,5 @@ pub broken_first : (text : List Insn) (notes : Notes) (n : ℕ) (i : Insn) (stat
 broken_first text notes n i state fault h there here broken =
     subst (IsRefused text) (sym broken.1) (h.legal, record { notes = notes; states = h.states; below = h.unbroken; insn = i; there = there; state = state; noted = here; broken = broken.2 })
 
-pub passed_on : {A : Type 0} (text : List Insn) (result : Result A CheckFault) (x fault : CheckFault) → result ≡ Err x → x ≡ fault → IsRefused text fault → IfErr result (IsRefused text)
-passed_on {A} text result x fault is same refused =
-    let P : Result A CheckFault → Type 0 = λ r. IfErr r (IsRefused text) in
-    subst P (sym is) (subst (IsRefused text) (sym same) refused)
+pub passed_on : {A : Type 0} (P : CheckFault → Type 0) (result : Result A CheckFault) (x fault : CheckFault) → result ≡ Err x → x ≡ fault → P fault → IfErr result P
+passed_on P result x fault is same holds = subst (λ r. IfErr r P) (sym is) (subst P (sym same) holds)

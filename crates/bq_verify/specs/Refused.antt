@@ -1,5 +1,5 @@
 -- What the verifier refuses: the first fault of the flow, or the first rule that is broken, in rising order of the units.
-use Rattle.std.specs.Prelude.{◌≡◌, ℕ, List, Option, Some, Err}
+use Rattle.std.specs.Prelude.{◌≡◌, ℕ, ◌<◌, List, Option, Some, Err}
 use Rattle.bq_insn.specs.declared.insn.Insn.{Insn}
 use Rattle.bq_flow.specs.Paths.{insn_at, IsLegalFlow}
 use Rattle.bq_flow.specs.Faults.{IsFirstFlowFault}
@@ -27,3 +27,8 @@ IsRefused text (Flow unit rule) = IsFirstFlowFault text unit rule
 IsRefused text (Rule unit rule) = IsLegalFlow text × IsFirstBroken text unit rule
 IsRefused text OutOfMemory = Unit {0}
 IsRefused text fault = ⊥
+
+-- where a rule is broken, the instruction that breaks it stands below this unit
+abbrev pub IsBelow : ℕ → CheckFault → Type 0
+IsBelow end (Rule unit rule) = unit < end
+IsBelow end fault = Unit {0}

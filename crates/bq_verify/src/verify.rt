@@ -11,7 +11,7 @@ ghost use Rattle.bq_state.specs.Edges.{edges};
 ghost use Rattle.bq_state.specs.Listed.{edge_list};
 ghost use Rattle.bq_sound.specs.Passes.{Passes, note_at};
 ghost use Rattle.bq_verify.specs.States.{AreStates, edges_from};
-ghost use Rattle.bq_verify.specs.Refused.{IsRefused};
+ghost use Rattle.bq_verify.specs.Refused.{IsRefused, IsBelow};
 ghost use Rattle.bq_verify.specs.Table.{with_arrivals, IsFilled, AllWithin};
 
 use bq_check::fault::CheckFault;
@@ -78,6 +78,7 @@ fn fill(alloc: Global, text: &Text, end: usize) -> Result<Vec<Option<State>>, Ch
     requires { end ≤ units text.now }
     ensures filled { IfOk result (λ states. IsFilled text.now states.items end) }
     ensures refused { IfErr result (IsRefused text.now) }
+    ensures below { IfErr result (IsBelow end) }
 {
     Flow::of(alloc, text)?;
     let Ok(mut states) = entered(alloc, text.units()) else {
@@ -110,11 +111,12 @@ pub fn verify(alloc: Global, text: &Text) -> Result<Notes, CheckFault>
 /// What is known where the instruction at a unit begins, from the units below it; none where nothing
 /// reaches it, or behind the text. It tells why `verify` refuses a text at that unit.
 ///
-/// Refused where an instruction below the unit is refused, as by `verify`.
+/// Refused as by `verify` where the flow is refused, or where an instruction below the unit breaks a rule.
 pub fn state_at(alloc: Global, text: &Text, unit: usize) -> Result<Option<State>, CheckFault>
     ensures state { IfOk result (λ state. unit < units text.now → (notes : List (Option (List Kind))) × AreStates text.now notes unit × (state ≡ note_at notes unit)) }
     ensures behind { units text.now ≤ unit → result ≡ Ok None }
     ensures refused { IfErr result (IsRefused text.now) }
+    ensures below { IfErr result (IsBelow unit) }
 {
     if text.units() <= unit {
         return Ok(None);

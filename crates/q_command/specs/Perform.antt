@@ -136,11 +136,11 @@ Refuses reads (Sim script) old r new = RefusesFile reads IsUnsimulated script.no
 -- ---- ends
 
 -- The command ends so, over files and a writer that stand thus before and after: the writer took exactly the lines of the
--- answer, or exactly the line of the refusal. Where it failed, it may have taken a part.
+-- answer, or exactly the line of the refusal. Where it failed, there was one of them, of which it may have taken a part.
 abbrev pub Ends : {F : Type 0} → (F → List ℕ → Result (List ℕ) FileFault → F → Type 0) → Line → F → Option (List ℕ) → Ended → F → Option (List ℕ) → Type 0
 Ends reads line old written Answered new writes = (lines : List ℕ) × Answers reads line old lines new × Appends written writes lines
 Ends reads line old written (Refused r) new writes = Refuses reads line old r new × Appends written writes (refusal_line r)
-Ends reads line old written Unwritten new writes = Unit {0}
+Ends reads line old written Unwritten new writes = ((lines : List ℕ) × Answers reads line old lines new) ⊎ ((r : Refusal) × Refuses reads line old r new)
 
 -- the exit status
 abbrev pub status_of : Ended → ℕ

@@ -1,13 +1,12 @@
 use Rattle.std.proofs.Common.{rules, ◌≡◌, ◌<◌, ◌+◌, Some, None, ap, sym, subst, ◌∙◌, length}
 use Rattle.std.proofs.lemmas.List.{get_or_default}
 use Rattle.std.proofs.lemmas.Result.{err_from_is_err_and}
-use Rattle.bq_insn.specs.Slots.{units}
 use Rattle.bq_flow.specs.Paths.{insn_at}
 use Rattle.bq_state.specs.Edges.{edges}
-use Rattle.bq_sound.specs.Passes.{Passes, note_at}
+use Rattle.bq_sound.specs.Passes.{note_at}
+use Rattle.bq_verify.specs.Refused.{IsRefused, IsBelow}
 use Rattle.bq_verify.specs.Table.{IsFilled, with_arrivals}
 use Rattle.bq_verify.proofs.Filling.{edges_within, filled_by, filled_half, filled_unreached, broken_first, passed_on}
-use Rattle.bq_verify.proofs.Passing.{states_pass}
 use Rattle.bq_verify.proofs.verify.fill.Goals.{in-Some-Some+in_ok-lead_on, in-Some+in-None-1, in-None-1}
 use Rattle.bq_verify.proofs.verify.fill.Goals as goal
 
@@ -54,4 +53,13 @@ returns-in_err-lead_on-clause-refused c =
     let some : c.index.result.now ≡ Some state = search rules in
     let p = err_from_is_err_and c.from_residual-in_err-lead_on.result c.from_residual-in_err-lead_on.ensures.1 in
     let refused = broken_first text notes n i state c.in_err-lead_on.field-0.0 c.loop-unit.invariant there (sym is ∙ some) c.in_err-lead_on.ensures.err in
-    passed_on text c.from_residual-in_err-lead_on.result p.0 c.in_err-lead_on.field-0.0 p.1 p.2 refused
+    passed_on (IsRefused text) c.from_residual-in_err-lead_on.result p.0 c.in_err-lead_on.field-0.0 p.1 p.2 refused
+
+pub returns-in_err-lead_on-clause-below : goal.returns-in_err-lead_on-clause-below
+returns-in_err-lead_on-clause-below c =
+    let end = c.args.end in
+    let p = err_from_is_err_and c.from_residual-in_err-lead_on.result c.from_residual-in_err-lead_on.ensures.1 in
+    let within : c.loop-unit.unit < end = search rules in
+    let told = c.in_err-lead_on.ensures.err in
+    let below : IsBelow end c.in_err-lead_on.field-0.0 = subst (IsBelow end) (sym told.1) within in
+    passed_on (IsBelow end) c.from_residual-in_err-lead_on.result p.0 c.in_err-lead_on.field-0.0 p.1 p.2 below
