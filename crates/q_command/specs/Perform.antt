@@ -136,7 +136,7 @@ Refuses reads (Sim script) old r new = RefusesFile reads IsUnsimulated script.no
 -- ---- ends
 
 -- The command ends so, over files and a writer that stand thus before and after: the writer took exactly the lines of the
--- answer, or exactly the line of the refusal. Where it failed, there was one of them, of which it may have taken a part.
+-- answer, or exactly the line of the refusal. Where the writer failed, it was given one of the two, and may have taken a part.
 abbrev pub Ends : {F : Type 0} → (F → List ℕ → Result (List ℕ) FileFault → F → Type 0) → Line → F → Option (List ℕ) → Ended → F → Option (List ℕ) → Type 0
 Ends reads line old written Answered new writes = (lines : List ℕ) × Answers reads line old lines new × Appends written writes lines
 Ends reads line old written (Refused r) new writes = Refuses reads line old r new × Appends written writes (refusal_line r)
