@@ -6,9 +6,13 @@
 //! so that `bq_check::check` certifies the text with them. Else it names the first fault of the flow,
 //! or the first rule that an instruction breaks in its state.
 //!
+//! [`state_at`] gives what is known where one instruction begins, from the units below it alone, so that it
+//! can be asked of the instruction that breaks a rule.
+//!
 //! The definitions are in `specs/`: `States` has the states of a text and `Refused` what is refused.
 //!
 //! [`verify`]: verify::verify
+//! [`state_at`]: verify::state_at
 #![tactic(auto)]
 
 pub mod verify;
