@@ -33,8 +33,8 @@ drop_twice (suc a) (suc k) (x ∷ xs) = let e : suc a + suc k ≡ suc (a + suc k
 part_is : (a k : ℕ) (xs ys : List ℕ) → put_mid a (a + k - a) xs ys ≡ splice xs a (a + k) ys
 part_is a k xs ys = let e : a + k - a ≡ k = omega arith in rw e (ap (λ zs. take a xs ++ (ys ++ zs)) (drop_twice a k xs))
 
-pub stores : (p : Place) (m : Machine) (address size v at : ℕ) (bytes ys : List ℕ) → size ≤ 8 → access p address size ≡ Some (Frame at) → bytes ≡ to_le_bytes w64 v → ys ≡ take size bytes
-    → StepAnswers (reading OutsideAccess (access p address size) (λ l. stored m l size v)) m (Ok steps.Continues) (record { unit = m.unit + 1; registers = m.registers; frame = put_mid at (at + size - at) m.frame ys; «record» = m.record })
-stores p m address size v at bytes ys small is written part =
+pub stores : (p : Place) (m : Machine) (len address size v at : ℕ) (bytes ys : List ℕ) → size ≤ 8 → access p len address size ≡ Some (Frame at) → bytes ≡ to_le_bytes w64 v → ys ≡ take size bytes
+    → StepAnswers (reading OutsideAccess (access p len address size) (λ l. stored m l size v)) m (Ok steps.Continues) (record { unit = m.unit + 1; registers = m.registers; frame = put_mid at (at + size - at) m.frame ys; «record» = m.record })
+stores p m len address size v at bytes ys small is written part =
     let same : ys ≡ le_bytes size v = part ∙ ap (take size) (written ∙ eight_bytes v) ∙ take_le_bytes size 8 v small in
     rw is (refl, ap (λ zs. record { unit = m.unit + 1; registers = m.registers; frame = zs; «record» = m.record }) (part_is at size m.frame ys ∙ ap (splice m.frame at (at + size)) same))

@@ -62,8 +62,8 @@ impl Placement {
     /// Where so many bytes at an address lie, if they lie wholly in one region.
     fn access(&self, address: u64, size: usize) -> Option<Location>
         requires { size ≤ 8 }
-        ensures value { result ≡ access self.now address size }
-        ensures within { IfSome result (λ l. LiesWithin l size) }
+        ensures value { result ≡ access self.now 64 address size }
+        ensures within { IfSome result (λ l. LiesWithin 64 l size) }
     {
         let frame = self.frame();
         let record = self.record();
@@ -86,8 +86,8 @@ impl Machine {
         size: usize,
     ) -> Result<u64, Fault>
         requires { size ≤ 8 }
-        ensures ok { IfOk result (λ v. (l : Location) × (access placement.now address size ≡ Some l) × (v ≡ le_number (loaded self.now l size))) }
-        ensures err { IfErr result (λ f. (f ≡ Fault.OutsideAccess) × (access placement.now address size ≡ None)) }
+        ensures ok { IfOk result (λ v. (l : Location) × (access placement.now 64 address size ≡ Some l) × (v ≡ le_number (loaded self.now l size))) }
+        ensures err { IfErr result (λ f. (f ≡ Fault.OutsideAccess) × (access placement.now 64 address size ≡ None)) }
     {
         match placement.access(address, size) {
             Some(Location::Frame(at)) => Ok(le_number(&self.frame[at..at + size])),
@@ -106,7 +106,7 @@ impl Machine {
     ) -> Result<Step, Fault>
         requires small { size ≤ 8 }
         requires room { self.old.unit + 1 < 2 ^ 64 }
-        ensures { StepAnswers (reading Fault.OutsideAccess (access placement.now address size) (λ l. stored self.old l size value)) self.old result self.new }
+        ensures { StepAnswers (reading Fault.OutsideAccess (access placement.now 64 address size) (λ l. stored self.old l size value)) self.old result self.new }
     {
         match placement.access(address, size) {
             Some(Location::Frame(at)) => {

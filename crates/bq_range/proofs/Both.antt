@@ -150,7 +150,7 @@ common_inside w taken a b =
     (λ _. tt)
     (λ _. (record { low = omega arith; high = omega arith }, record { low = omega arith; high = omega arith }))
 
-is_common : (relation : Relation) → (relation ≡ CommonBit) ⊎ (relation ≡ CommonBit → ⊥)
+pub is_common : (relation : Relation) → (relation ≡ CommonBit) ⊎ (relation ≡ CommonBit → ⊥)
 is_common Equal = inr (λ e. cc)
 is_common NotEqual = inr (λ e. cc)
 is_common Less = inr (λ e. cc)

@@ -6,3 +6,5 @@ pub mod Places
 pub mod Edges
 pub mod Both
 pub mod Covers
+pub mod Monotone
+pub mod MonotoneEdges

@@ -100,7 +100,7 @@ right_shifts_hold w a b x y h k =
 half_le : (w : ℕ) → 2 ^ (w - 1) ≤ 2 ^ w
 half_le w = pow-le-pow_right (omega arith) (omega arith)
 
-plain : (w x y : ℕ) → x < 2 ^ (w - 1) → operation w ArithmeticShiftRight x y ≡ x / 2 ^ (y % w)
+pub plain : (w x y : ℕ) → x < 2 ^ (w - 1) → operation w ArithmeticShiftRight x y ≡ x / 2 ^ (y % w)
 plain w x y h =
     let e : x % 2 ^ w ≡ x = mod-eq_of_lt (omega (arith, half_le w)) in
     rw (e, lt-ltb x (2 ^ (w - 1)) h) (mod-eq_of_lt (omega (arith, half_le w, shr_le x (y % w))))

@@ -4,7 +4,7 @@ use Rattle.std.specs.Prelude.{ℤ, pos, negsuc, ◌+ℤ◌, ◌≤ℤ◌, int_le
 use Rattle.std.proofs.lemmas.Int.{ints}
 use Rattle.std.proofs.lemmas.Bool.{and_parts, cases_Bool}
 use Rattle.std.proofs.lemmas.Bool.Decides.{nat_tests}
-use Rattle.bq_meaning.specs.Place.{Place, IsPlacement}
+use Rattle.bq_meaning.specs.Place.{Place, IsPlacement, record_room}
 use Rattle.bq_meaning.specs.Memory.{is_inside, access}
 use Rattle.bq_meaning.specs.Meaning.{moved}
 use Rattle.bq_meaning.specs.declared.machine.Location.{Location}
@@ -61,9 +61,9 @@ behind p at size some room h = grind (arith, nat_tests)
 within : (start len at size : ℕ) → at + size ≤ len → is_inside start len (start + at) size ≡ true
 within start len at size h = grind (arith, nat_tests)
 
--- an access goes to the same place of the same region
+-- an access to a record that fills its room goes to the same place of the same region
 pub accesses : (p : Place) → IsPlacement p → (region : Region) (z distance : ℤ) (size : ℕ) → 1 ≤ size → (h : Inside region z distance size)
-    → access p (moved (image p (Ptr region z)) distance) size ≡ Some (location region h.at)
+    → access p record_room (moved (image p (Ptr region z)) distance) size ≡ Some (location region h.at)
 accesses p place InFrame z distance size some h =
     let e = address_is p place InFrame z distance size h in
     let t = within p.frame 512 h.at size h.room in

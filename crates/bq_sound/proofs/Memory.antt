@@ -1,5 +1,5 @@
 -- Loads and stores.
-use Rattle.std.proofs.Common.{◌≡◌, ℕ, ◌+◌, ◌*◌, ◌^◌, ◌<◌, ◌≤◌, refl, ap, ◌∙◌, subst, inl, arith, List, Option, Some, Ok}
+use Rattle.std.proofs.Common.{◌≡◌, ℕ, ◌+◌, ◌*◌, ◌^◌, ◌<◌, ◌≤◌, refl, ap, ◌∙◌, subst, inl, arith, List, length, Option, Some, Ok}
 use Rattle.std.specs.Prelude.{ℤ, slice_set, slice_range}
 use Rattle.std.specs.List.{splice}
 use Rattle.std.proofs.lemmas.Bool.{lt-ltb}
@@ -13,7 +13,7 @@ use Rattle.bq_insn.specs.declared.insn.Operand.{Operand}
 use Rattle.bq_insn.specs.declared.insn.Size.{Size}
 use Rattle.bq_insn.specs.declared.insn.Size.TheVariants.{B1, B2, B4, B8}
 use Rattle.bq_flow.specs.Paths.{Among}
-use Rattle.bq_meaning.specs.Place.{Place, IsPlacement}
+use Rattle.bq_meaning.specs.Place.{Place, IsPlacement, record_room}
 use Rattle.bq_meaning.specs.Memory.{size_bytes, signed_bytes, loaded}
 use Rattle.bq_meaning.specs.Meaning.{Outcome, Continues, written, loading, perform}
 use Rattle.bq_range.specs.Interval.{Interval, IsIn, whole, all_words}
@@ -53,11 +53,11 @@ loaded_is : (p : Place) (m : Common) (region : Region) (at size : ℕ) → loade
 loaded_is p m InFrame at size = refl
 loaded_is p m InRecord at size = refl
 
-load_performs : (p : Place) → IsPlacement p → (m : Common) (d base : ℕ) (distance : ℤ) (size : ℕ) (f : ℕ → ℕ) (region : Region) (z : ℤ) → 1 ≤ size → (h : Inside region z distance size)
+load_performs : (p : Place) → IsPlacement p → (m : Common) → length m.record ≡ record_room → (d base : ℕ) (distance : ℤ) (size : ℕ) (f : ℕ → ℕ) (region : Region) (z : ℤ) → 1 ≤ size → (h : Inside region z distance size)
     → tag_at m.tags base ≡ Some (Ptr region z) → d < 10 → (o : Outcome) → o ≡ loading p (machine p m) d base distance size f
     → o ≡ Continues (written (machine p m) d (f (le_number (slice_range (region_bytes m region) h.at (h.at + size)))))
-load_performs p place m d base distance size f region z some h e low o is =
-    rw (is, held_is p m.tags base (Ptr region z) e, lt-ltb d 10 low, accesses p place region z distance size some h, loaded_is p m region h.at size) refl
+load_performs p place m full d base distance size f region z some h e low o is =
+    rw (is, held_is p m.tags base (Ptr region z) e, lt-ltb d 10 low, full, accesses p place region z distance size some h, loaded_is p m region h.at size) refl
 
 does_loading : (m : Common) (i : Insn) (d base : ℕ) (distance : ℤ) (size : ℕ) (f : ℕ → ℕ) (range : Interval) (state after : List Kind)
     → Loads size f range → Stands m state → loaded_state state d base distance size range ≡ Ok after → Among (m.unit + 1, after) (edges m.unit i after)
@@ -72,7 +72,7 @@ does_loading m i d base distance size f range state after l s rules among does =
     let n = le_number (slice_range (region_bytes m region) from.0.inside.at (from.0.inside.at + size)) in
     let below : n < 256 ^ size = read_below (extent region) (region_bytes m region) from.0.inside.at size (region_whole m s.whole region) from.0.inside.room in
     puts m i (m.unit + 1) d state after (Number range) (Num (f n)) s low.0 (holds_word range (f n) (l.within n below)) (l.small n below) (same_state _ _ from.1) among
-    (λ p place. load_performs p place m d base distance size f region from.0.z l.some from.0.inside at low.0 (perform p i (machine p m)) (does p))
+    (λ p place. load_performs p place m s.whole.record.count d base distance size f region from.0.z l.some from.0.inside at low.0 (perform p i (machine p m)) (does p))
 
 plain_loads : (size : Size) → Loads (size_bytes size) (λ n. n) (whole (8 * size_bytes size))
 plain_loads B1 = record { some = omega arith; within = λ n h. record { low = omega arith; high = omega arith }; small = λ n h. omega arith }
@@ -116,18 +116,18 @@ some_size B2 = omega arith
 some_size B4 = omega arith
 some_size B8 = omega arith
 
-store_performs : (p : Place) → IsPlacement p → (m : Common) (size : Size) (base : ℕ) (distance : ℤ) (x : Operand) (z : ℤ) (w : ℕ) (h : Inside InFrame z distance (size_bytes size))
+store_performs : (p : Place) → IsPlacement p → (m : Common) → length m.record ≡ record_room → (size : Size) (base : ℕ) (distance : ℤ) (x : Operand) (z : ℤ) (w : ℕ) (h : Inside InFrame z distance (size_bytes size))
     → tag_at m.tags base ≡ Some (Ptr InFrame z) → operand_tag m.tags x ≡ Some (Num w)
     → perform p (insns.Store size base distance x) (machine p m) ≡ Continues (machine p (with_bytes m h.at (size_bytes size) w))
-store_performs p place m size base distance x z w h e f =
-    rw (held_is p m.tags base (Ptr InFrame z) e, value_is p m.tags x (Num w) f, accesses p place InFrame z distance (size_bytes size) (some_size size) h) refl
+store_performs p place m full size base distance x z w h e f =
+    rw (held_is p m.tags base (Ptr InFrame z) e, value_is p m.tags x (Num w) f, full, accesses p place InFrame z distance (size_bytes size) (some_size size) h) refl
 
 does_storing : (m : Common) (size : Size) (base : ℕ) (distance : ℤ) (x : Operand) (state after : List Kind) (z : ℤ) (w : ℕ) (h : Inside InFrame z distance (size_bytes size))
     → tag_at m.tags base ≡ Some (Ptr InFrame z) → operand_tag m.tags x ≡ Some (Num w) → Stands m state → state ≡ after → GoesOn m (insns.Store size base distance x) after
 does_storing m size base distance x state after z w h e f s is =
     goes_on m (with_bytes m h.at (size_bytes size) w) (insns.Store size base distance x) after after
     (record { words = s.whole.words; frame = written_bytes 512 m.frame h.at (size_bytes size) w s.whole.frame h.room; «record» = s.whole.record })
-    (subst (λ q. TagsHold q m.tags) is s.holds) (inl refl) (λ p place. store_performs p place m size base distance x z w h e f)
+    (subst (λ q. TagsHold q m.tags) is s.holds) (inl refl) (λ p place. store_performs p place m s.whole.record.count size base distance x z w h e f)
 
 pub does_store : (m : Common) (size : Size) (base : ℕ) (distance : ℤ) (x : Operand) (state after : List Kind)
     → Stands m state → transfer (insns.Store size base distance x) state ≡ Ok after → GoesOn m (insns.Store size base distance x) after

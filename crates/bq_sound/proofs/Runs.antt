@@ -7,7 +7,7 @@ use Rattle.std.proofs.lemmas.List.{get_or_past}
 use Rattle.bq_insn.specs.Slots.{units, IsText}
 use Rattle.bq_insn.specs.declared.insn.Insn.{Insn}
 use Rattle.bq_flow.specs.Paths.{insn_at, Path, IsLongest}
-use Rattle.bq_meaning.specs.Place.{Place, IsPlacement}
+use Rattle.bq_meaning.specs.Place.{Place, IsPlacement, record_room}
 use Rattle.bq_meaning.specs.Meaning.{Outcome, Continues, moved, perform, step}
 use Rattle.bq_meaning.specs.Meaning.{Ends as Answers}
 use Rattle.bq_meaning.specs.Runs.{entry_machine, RunsTo}
@@ -84,11 +84,11 @@ entry_common acc bytes frame = record {
   «record» = bytes;
 }
 
-entry_is : (p : Place) → IsPlacement p → (acc : ℕ) (bytes frame : List ℕ) → machine p (entry_common acc bytes frame) ≡ entry_machine p acc bytes frame
-entry_is p place acc bytes frame =
+entry_is : (p : Place) → IsPlacement p → (acc : ℕ) (bytes frame : List ℕ) → length bytes ≡ record_room → machine p (entry_common acc bytes frame) ≡ entry_machine p acc bytes frame
+entry_is p place acc bytes frame full =
     let a : moved p.record (pos 0) ≡ p.record = omega (arith, place.record_fits) in
     let b : moved p.frame (pos 512) ≡ p.frame + 512 = omega (arith, place.frame_fits) in
-    rw (a, b) refl
+    rw (a, b, full) refl
 
 -- kinds and registers, one by one
 AllHold : List Kind → List (Option Tagged) → Type 0
@@ -158,6 +158,6 @@ safe text notes longest t passes most = record {
         within = most.bound r.count r.path;
         word = r.word;
         whole = r.whole;
-        run = λ p place. subst (λ n. RunsTo p text n r.count r.answer r.after) (entry_is p place acc bytes frame) (r.run p place);
+        run = λ p place. subst (λ n. RunsTo p text n r.count r.answer r.after) (entry_is p place acc bytes frame b.count) (r.run p place);
       };
 }

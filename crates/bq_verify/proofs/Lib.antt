@@ -3,3 +3,4 @@ pub mod Joins
 pub mod Arrivals
 pub mod Passing
 pub mod Filling
+mod Least

@@ -28,7 +28,7 @@ among_right : {A : Type 0} (x : A) (xs ys : List A) → Among x ys → Among x (
 among_right x [] ys a = a
 among_right x (z ∷ xs) ys a = inr (among_right x xs ys a)
 
-among_either : {A : Type 0} (x : A) (xs ys : List A) → Among x (xs ++ ys) → Among x xs ⊎ Among x ys
+pub among_either : {A : Type 0} (x : A) (xs ys : List A) → Among x (xs ++ ys) → Among x xs ⊎ Among x ys
 among_either x [] ys a = inr a
 among_either x (z ∷ xs) ys (inl e) = inl (inl e)
 among_either x (z ∷ xs) ys (inr a) = elim (among_either x xs ys a) [
@@ -47,7 +47,7 @@ brought unit edge (f ∷ es) e (inr a) =
     among_right edge.1 (if f.0 == unit then f.1 ∷ [] else []) (leading_to unit es) (brought unit edge es e a)
 
 -- what came to a unit came by an edge
-came : (text : List Insn) (from unit : ℕ) (x : List Kind) (es : List (ℕ × List Kind)) → AllLead text from es → Among x (leading_to unit es) → Leads text from unit
+pub came : (text : List Insn) (from unit : ℕ) (x : List Kind) (es : List (ℕ × List Kind)) → AllLead text from es → Among x (leading_to unit es) → Leads text from unit
 came text from unit x [] l a = absurd a
 came text from unit x (f ∷ es) l a =
     elim (cases_Bool (f.0 == unit)) [

@@ -9,8 +9,10 @@ ghost use Rattle.bq_state.specs.Kinds.{entry_state};
 ghost use Rattle.bq_state.specs.Rules.{transfer};
 ghost use Rattle.bq_state.specs.Edges.{edges};
 ghost use Rattle.bq_state.specs.Listed.{edge_list};
-ghost use Rattle.bq_sound.specs.Passes.{Passes, note_at};
+ghost use Rattle.bq_sound.specs.Passes.{Passes, note_at, NoteCovers};
 ghost use Rattle.bq_verify.specs.States.{AreStates, edges_from};
+ghost use Rattle.bq_insn.specs.declared.insn.Insn.{Insn};
+ghost use Rattle.bq_check.specs.declared.fault.CheckFault.{CheckFault};
 ghost use Rattle.bq_verify.specs.Refused.{IsRefused, IsBelow};
 ghost use Rattle.bq_verify.specs.Table.{with_arrivals, IsFilled, AllWithin};
 
@@ -92,6 +94,16 @@ fn fill(alloc: Global, text: &Text, end: usize) -> Result<Vec<Option<State>>, Ch
     Ok(states)
 }
 
+/// The states of a text are covered by all notes that pass.
+pub fn least_of_all()
+    ensures { (text : List Insn) (notes more : List (Option (List Kind))) (unit : ℕ) (state : List Kind) → IsText text → AreStates text notes (units text) → Passes text more → note_at notes unit ≡ Some state → NoteCovers more (unit, state) }
+{}
+
+/// No notes of a text pass that is refused.
+pub fn none_of_all()
+    ensures { (text : List Insn) (more : List (Option (List Kind))) (fault : CheckFault) → IsText text → IsRefused text fault → (fault ≡ CheckFault.OutOfMemory → ⊥) → Passes text more → ⊥ }
+{}
+
 /// The notes of a text: in rising order of the units the state of each is the join of what its feasible
 /// predecessors leave, that of unit 0 of the entry too, and a unit that none of them reaches has none.
 /// They pass the checker.
@@ -102,8 +114,12 @@ fn fill(alloc: Global, text: &Text, end: usize) -> Result<Vec<Option<State>>, Ch
 pub fn verify(alloc: Global, text: &Text) -> Result<Notes, CheckFault>
     ensures states { IfOk result (λ notes. AreStates text.now notes (units text.now)) }
     ensures passes { IfOk result (Passes text.now) }
+    ensures least { IfOk result (λ notes. (more : List (Option (List Kind))) (unit : ℕ) (state : List Kind) → Passes text.now more → note_at notes unit ≡ Some state → NoteCovers more (unit, state)) }
     ensures refused { IfErr result (IsRefused text.now) }
+    ensures none { IfErr result (λ fault. (fault ≡ CheckFault.OutOfMemory → ⊥) → (more : List (Option (List Kind))) → Passes text.now more → ⊥) }
 {
+    least_of_all();
+    none_of_all();
     let states = fill(alloc, text, text.units())?;
     Ok(Notes::new(states))
 }

@@ -100,7 +100,7 @@ pub asked_replay : (b : BookState) (program start tag k : ℕ) (u : Unit {0}) (b
 asked_replay b program start tag k u begun n d passed next h g r =
     let now : desk.asked b.desk b.node.operations program start ≡ Ok (k, d) = ap (λ (t : ℕ). desk.asked b.desk t program start) (sym next) ∙ h in
     replay_next b (entry.Ask program start) n d r (asked-adds b.desk tag program start k d h) (
-      record { query = k; outs = begun.outs },
+      record { query = k; begun = begun },
       passes-asking b program u (by_desk (asks_node b) (desk.asked b.desk b.node.operations program start)) passed ∙ ap (by_desk (asks_node b)) now ∙ ap (by_node (asks b k d)) g,
     )
 
@@ -108,7 +108,7 @@ pub stored_replay : (b : BookState) (value : List ℕ) (u w : Unit {0}) (begun :
     → desk.noted b.desk (entry.Store value) ≡ Ok (w, d) → node.store_begun b.node value ≡ Ok (begun, n) → IsReplay b → IsReplay (with b n d)
 stored_replay b value u w begun n d passed h g r =
     replay_next b (entry.Store value) n d r (noted-adds b.desk (entry.Store value) d h) (
-      record { tag = begun.tag; outs = begun.outs },
+      begun,
       passes-storing b u (by_desk (stores_node b value) (desk.noted b.desk (entry.Store value))) passed ∙ ap (by_desk (stores_node b value)) h ∙ ap (by_node (stores b d)) g,
     )
 
@@ -135,7 +135,7 @@ delivered_ended : (b : BookState) (m : Message) (u w : Unit {0}) (told : Deliver
     → desk.noted b.desk (entry.Deliver m) ≡ Ok (w, d) → node.delivered b.node m ≡ Ok (told, n) → IsReplay b → IsReplay (with b n (desk.ends told.ended d).1)
 delivered_ended b m u w told n d passed h g r =
     replay_next b (entry.Deliver m) n (desk.ends told.ended d).1 r (ends-quiet d told.ended ∙ noted-adds b.desk (entry.Deliver m) d h) (
-      record { outs = told.outs; completed = desk.completed_by told.ended (desk.ends told.ended d).0 },
+      record { outs = told.outs; progress = told.progress; completed = desk.completed_by told.ended (desk.ends told.ended d).0 },
       passes-here b u (by_desk (delivers_node b m) (desk.noted b.desk (entry.Deliver m))) passed ∙ ap (by_desk (delivers_node b m)) h ∙ ap (by_node (delivers b d)) g,
     )
 

@@ -22,7 +22,6 @@ use Rattle.q_desk.specs.declared.fault.DeskFault.TheVariants as desk_fault
 use Rattle.q_desk.specs.declared.journal.Entry.{Entry}
 use Rattle.q_desk.specs.declared.journal.Entry.TheVariants as entry
 use Rattle.q_book.specs.declared.answer.Asked.{Asked}
-use Rattle.q_book.specs.declared.answer.Storing.{Storing}
 use Rattle.q_book.specs.declared.answer.Taken.{Taken}
 use Rattle.q_book.specs.declared.fault.BookFault.{BookFault}
 use Rattle.q_book.specs.declared.fault.BookFault.TheVariants as fault
@@ -70,7 +69,7 @@ posted b j ran = here b (by_desk (with_desk b) (desk.posted b.desk b.id j ran))
 -- ---- queries and stores
 
 abbrev pub asks : BookState → ℕ → DeskState → Begun → NodeState → Asked × BookState
-asks b query d begun n = (record { query = query; outs = begun.outs }, record b { node = n; desk = d })
+asks b query d begun n = (record { query = query; begun = begun }, record b { node = n; desk = d })
 
 abbrev pub asks_node : BookState → ℕ → DeskState → Result (Asked × BookState) BookFault
 asks_node b query d = by_node (asks b query d) (node.collect_begun b.node)
@@ -80,13 +79,13 @@ abbrev pub asked : BookState → ℕ → ℕ → Result (Asked × BookState) Boo
 asked b program start =
     here b (joined b (known b program (free b (by_desk (asks_node b) (desk.asked b.desk b.node.operations program start)))))
 
-abbrev pub stores : BookState → DeskState → Begun → NodeState → Storing × BookState
-stores b d begun n = (record { tag = begun.tag; outs = begun.outs }, record b { node = n; desk = d })
+abbrev pub stores : BookState → DeskState → Begun → NodeState → Begun × BookState
+stores b d begun n = (begun, record b { node = n; desk = d })
 
-abbrev pub stores_node : BookState → List ℕ → Unit {0} → DeskState → Result (Storing × BookState) BookFault
+abbrev pub stores_node : BookState → List ℕ → Unit {0} → DeskState → Result (Begun × BookState) BookFault
 stores_node b value u d = by_node (stores b d) (node.store_begun b.node value)
 
-abbrev pub stored : BookState → List ℕ → Result (Storing × BookState) BookFault
+abbrev pub stored : BookState → List ℕ → Result (Begun × BookState) BookFault
 stored b value = here b (joined b (free b (by_desk (stores_node b value) (desk.noted b.desk (entry.Store value)))))
 
 -- ---- messages
@@ -94,7 +93,7 @@ stored b value = here b (joined b (free b (by_desk (stores_node b value) (desk.n
 -- the view of a collect that ended goes to the query that waits for it
 abbrev pub delivers : BookState → DeskState → Delivered → NodeState → Taken × BookState
 delivers b d told n = (
-  record { outs = told.outs; completed = desk.completed_by told.ended (desk.ends told.ended d).0 },
+  record { outs = told.outs; progress = told.progress; completed = desk.completed_by told.ended (desk.ends told.ended d).0 },
   record b { node = n; desk = (desk.ends told.ended d).1 },
 )
 

@@ -1,6 +1,7 @@
 -- That a book is the replay of its journal.
 use Rattle.std.specs.Prelude.{◌≡◌, ℕ, List, [], ◌∷◌, Option, Some, None, Result, Ok}
 use Rattle.sc_msg.specs.declared.message.Message.{Message}
+use Rattle.sc_node.specs.declared.answer.Begun.{Begun}
 use Rattle.sc_node.specs.State.{NodeState}
 use Rattle.sc_node.specs.Nodes as node
 use Rattle.q_session.specs.Right.{IsRight}
@@ -8,7 +9,6 @@ use Rattle.q_session.specs.declared.job.Job.{Job}
 use Rattle.q_desk.specs.declared.journal.Entry.{Entry}
 use Rattle.q_desk.specs.declared.journal.Entry.TheVariants as entry
 use Rattle.q_book.specs.declared.answer.Asked.{Asked}
-use Rattle.q_book.specs.declared.answer.Storing.{Storing}
 use Rattle.q_book.specs.declared.answer.Taken.{Taken}
 use Rattle.q_book.specs.State.{BookState}
 use Rattle.q_book.specs.Books.{registered, asked, stored, delivered, left, handed_out, posted, new_book}
@@ -18,7 +18,7 @@ abbrev pub Follows : BookState → Entry → BookState → Type 0
 Follows b entry.Leave c = (outs : List Message) × (left b ≡ Ok (outs, c))
 Follows b (entry.Register program) c = (id : ℕ) × (registered b program ≡ Ok (id, c))
 Follows b (entry.Ask program start) c = (a : Asked) × (asked b program start ≡ Ok (a, c))
-Follows b (entry.Store value) c = (a : Storing) × (stored b value ≡ Ok (a, c))
+Follows b (entry.Store value) c = (a : Begun) × (stored b value ≡ Ok (a, c))
 Follows b (entry.Deliver m) c = (a : Taken) × (delivered b m ≡ Ok (a, c))
 Follows b entry.HandOut c = (j : Job) × (handed_out b ≡ Ok (Some j, c))
 Follows b (entry.Post query ran) c = (j : Job) × (j.query ≡ query) × IsRight j.certified j.view j.start ran × (posted b j ran ≡ Ok (tt, c))

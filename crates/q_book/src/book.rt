@@ -9,7 +9,7 @@ ghost use Rattle.q_book.specs.Faults.{memory};
 ghost use Rattle.q_book.specs.Books.{here, joined, known, free, registered, asked, stored, delivered, left, handed_out, posted, founded, entered};
 ghost use Rattle.q_book.specs.Replays.{IsReplay};
 
-use crate::answer::{Asked, Storing, Taken};
+use crate::answer::{Asked, Taken};
 use crate::fault::BookFault;
 use q_desk::desk::Desk;
 use q_desk::fault::DeskFault;
@@ -20,7 +20,7 @@ use q_session::ran::Ran;
 use q_table::program::{Program, ProgramId};
 use sc_members::config::Config;
 use sc_msg::message::Message;
-use sc_node::answer::Delivered;
+use sc_node::answer::{Begun, Delivered};
 use sc_node::fault::NodeFault;
 use sc_node::node::{MOST_OPEN, Node};
 use sc_node::outs::Outs;
@@ -107,7 +107,7 @@ impl Book {
         self.check_asking(program)?;
         let query = self.desk.ask(self.node.operations(), program, start)?;
         match self.node.begin_collect() {
-            Ok(begun) => Ok(Asked::new(query, begun)),
+            Ok(begun) => Ok(Asked { query, begun }),
             Err(fault) => {
                 self.desk.withdraw();
                 Err(BookFault::Node(fault))
@@ -116,13 +116,13 @@ impl Book {
     }
 
     /// Begins to store a value. Refused with 42, 41, 43, 53, 48, 46, 99.
-    pub fn store(&mut self, value: &[u8; 48]) -> Result<Storing, BookFault>
+    pub fn store(&mut self, value: &[u8; 48]) -> Result<Begun, BookFault>
         ensures { Steps memory (stored self.old value.now) self.old self.new result }
     {
         self.check_storing()?;
         self.desk.note(Entry::Store(*value))?;
         match self.node.begin_store(value) {
-            Ok(begun) => Ok(Storing::new(begun)),
+            Ok(begun) => Ok(begun),
             Err(fault) => {
                 self.desk.forget();
                 Err(BookFault::Node(fault))
@@ -275,12 +275,18 @@ impl Book {
 
 // What is told of a message that the node took; the view of a collect that ended goes to its query.
 fn take(desk: &mut Desk, delivered: Delivered) -> Taken
-    ensures told { result ≡ record { outs = delivered.outs; completed = completed_by delivered.ended (ends delivered.ended desk.old).0 } }
+    ensures told { result ≡ record { outs = delivered.outs; progress = delivered.progress; completed = completed_by delivered.ended (ends delivered.ended desk.old).0 } }
     ensures new { desk.new ≡ (ends delivered.ended desk.old).1 }
 {
-    let completed = desk.end(delivered.ended);
+    let Delivered {
+        outs,
+        progress,
+        ended,
+    } = delivered;
+    let completed = desk.end(ended);
     Taken {
-        outs: delivered.outs,
+        outs,
+        progress,
         completed,
     }
 }

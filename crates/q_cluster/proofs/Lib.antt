@@ -1,8 +1,8 @@
--- Events of a cluster, by its parts.
-pub mod Tables
+-- What the parts of an event make together.
 pub mod Histories
-pub mod Events
+pub mod Tables
+pub mod Heads
+pub mod Calls
+pub mod Posting
 pub mod Going
-pub mod Noting
-pub mod Asking
-pub mod Finishing
+pub mod Founding

@@ -1,57 +1,82 @@
--- What the parts of a cluster do at an event of a node.
-use Rattle.std.specs.Prelude.{◌≡◌, ◌≢◌, ℕ, IsTrue, List, Some, slice_get, Result, Ok, Err}
-use Rattle.std.specs.Ordering.{nat_cmp}
+-- What the parts of a cluster are, and what they do at an event.
+use Rattle.std.specs.Prelude.{◌≡◌, ◌≢◌, ℕ, true, false, List, [], ◌∷◌, Option, Some, None, slice_get, Result, Ok, Err}
 use Rattle.std.specs.FinMap as fin
+use Rattle.sc_members.specs.Members.{Config}
 use Rattle.sc_node.specs.State.{NodeState}
-use Rattle.sc_world.specs.State.{WorldState}
-use Rattle.sc_world.specs.Worlds.{live_at, stepped}
-use Rattle.sc_world.specs.declared.event.Event.{Event as WorldEvent}
-use Rattle.sc_world.specs.declared.event.Event.TheVariants as world_event
-use Rattle.sc_world.specs.declared.event.Stepped.{Stepped as WorldStepped}
+use Rattle.sc_node.specs.Nodes.{founder, are_founders}
+use Rattle.sc_node.specs.declared.fault.NodeFault.TheVariants as node_fault
+use Rattle.sc_world.specs.State.{Past, world_of}
+use Rattle.sc_world.specs.Worlds.{live_at}
 use Rattle.q_desk.specs.State.{DeskState}
-use Rattle.q_desk.specs.Desks.{has_room, with_entry}
-use Rattle.q_desk.specs.declared.journal.Entry.{Entry}
-use Rattle.q_desk.specs.declared.fault.DeskFault.{DeskFault}
-use Rattle.q_desk.specs.declared.fault.DeskFault.TheVariants as fault
+use Rattle.q_book.specs.State.{BookState}
+use Rattle.q_book.specs.Books.{new_book}
+use Rattle.q_book.specs.declared.fault.BookFault.{BookFault}
+use Rattle.q_book.specs.declared.fault.BookFault.TheVariants as fault
+use Rattle.q_book.specs.Faults.{memory}
+use Rattle.q_session.specs.declared.job.Job.{Job}
 use Rattle.q_history.specs.declared.event.Stepped.{Stepped}
 use Rattle.q_history.specs.declared.fault.ClusterFault.{ClusterFault}
 use Rattle.q_history.specs.State.{ClusterState}
-use Rattle.q_session.specs.declared.job.Job.{Job}
-use Rattle.q_history.specs.Faults.{memory}
-use Rattle.q_history.specs.Clusters.{Part, at, room, taken, stored, stores}
+use Rattle.q_history.specs.Clusters.{at}
+use Rattle.q_history.specs.Calls.{IsHistory}
+use Rattle.q_history.specs.Books.{founders_for, book_of}
+use Rattle.q_cluster.specs.Tables.{BookMap, each}
 
-abbrev pub DeskMap : Type 0
-DeskMap = fin.FinMap nat_cmp DeskState
+-- a cluster by its parts
+abbrev pub cluster_of : BookMap → Past → List Job → ClusterState
+cluster_of books past jobs =
+    record { world = world_of (each (λ (b : BookState). b.node) books) past; desks = each (λ (b : BookState). b.desk) books; jobs = jobs }
 
--- the desk of that id does what is said, and the others are as they were; or it refuses, and all are
-abbrev pub StepsAt : {A : Type 0} → Result (A × DeskState) DeskFault → DeskMap → DeskMap → ℕ → Result A DeskFault → Type 0
-StepsAt said old new id (Ok a) = (d : DeskState) × (said ≡ Ok (a, d)) × (new ≡ fin.insert old id d)
-StepsAt said old new id (Err e) = (new ≡ old) × (e ≢ fault.OutOfMemory → said ≡ Err e)
+-- the book is headed as that of this node
+pub record IsHeaded (past : Past) (node : ℕ) (b : BookState) : Type 0 where
+  pub id : b.id ≡ node
+  pub config : b.config ≡ past.config
+  pub founders : b.founders ≡ founders_for node past.founders
+
+-- each book stands under its own node's id
+abbrev pub AreFiled : BookMap → Past → Type 0
+AreFiled books past = (id : ℕ) (b : BookState) → fin.get books id ≡ Some b → IsHeaded past id b
+
+-- what is true of the parts of every cluster
+pub record IsCluster (books : BookMap) (past : Past) (jobs : List Job) : Type 0 where
+  pub history : IsHistory (cluster_of books past jobs)
+  pub filed : AreFiled books past
+
+-- the book of that id does what is said, and the others are as they were; or it refuses, and all are
+abbrev pub StepsAt : {A : Type 0} → Result (A × BookState) BookFault → BookMap → BookMap → ℕ → Result A BookFault → Type 0
+StepsAt said old new id (Ok a) = (b : BookState) × (said ≡ Ok (a, b)) × (new ≡ fin.insert old id b)
+StepsAt said old new id (Err e) = (new ≡ old) × (e ≢ memory → said ≡ Err e)
 
 -- what a node and its desk make of an event
 abbrev pub Doing : Type 0
 Doing = NodeState → DeskState → Result (Stepped × ClusterState) ClusterFault
 
 -- a node that is there, with its desk
-pub record IsThere (c : ClusterState) (id : ℕ) (n : NodeState) (d : DeskState) : Type 0 where
-  pub node : live_at c.world id ≡ Some n
-  pub desk : fin.get c.desks id ≡ Some d
-
--- The tests of an event: the node is there, with its desk, and passes them; or the event is refused.
-abbrev pub Tests : {A : Type 0} → ClusterState → ℕ → Doing → (A → NodeState → DeskState → Type 0) → Result A ClusterFault → Type 0
-Tests c id said passes (Ok a) = (n : NodeState) × (d : DeskState) × IsThere c id n d × passes a n d
-Tests c id said passes (Err e) = at c id said ≡ Err e
-
--- the store is left to the journal, if it has room, and to the world
-abbrev pub MayStore : ClusterState → ℕ → List ℕ → ℕ → NodeState → DeskState → Type 0
-MayStore c id value tag n d = (tag ≡ n.operations) × (stored c id value n d ≡ room d (taken (stores c id value n d) (stepped c.world (world_event.Store id value))))
-
--- The desk of that id has room, its journal goes on with the entry, and the world takes the event. Or there is no room
--- or the world refuses, and both are as they were.
-abbrev pub TakesNoted : WorldState → WorldState → DeskMap → DeskMap → ℕ → DeskState → Entry → WorldEvent → Result WorldStepped ClusterFault → Type 0
-TakesNoted old new desks after id d e event (Ok a) = IsTrue (has_room d) × (stepped old event ≡ Ok (a, new)) × (after ≡ fin.insert desks id (with_entry d e))
-TakesNoted old new desks after id d e event (Err f) = (new ≡ old) × (after ≡ desks) × (f ≢ memory → (part : WorldStepped → Part) → room d (taken part (stepped old event)) ≡ Err f)
+pub record IsThere (c : ClusterState) (id : ℕ) : Type 0 where
+  pub node : NodeState
+  pub desk : DeskState
+  pub live : live_at c.world id ≡ Some node
+  pub at : fin.get c.desks id ≡ Some desk
 
 -- the job has that number, and its node is there
-abbrev pub MayRun : ClusterState → ℕ → Job → Type 0
-MayRun c number j = (n : NodeState) × (d : DeskState) × (slice_get c.jobs number ≡ Some j) × IsThere c j.node n d
+pub record MayRun (c : ClusterState) (number : ℕ) (j : Job) : Type 0 where
+  pub job : slice_get c.jobs number ≡ Some j
+  pub there : IsThere c j.node
+
+abbrev pub booked : ClusterState → ℕ → Option NodeState → Option DeskState → Option BookState
+booked c id (Some n) (Some d) = Some (book_of c id n d)
+booked c id n d = None
+
+-- the book of a node that was ever there
+abbrev pub book_at : ClusterState → ℕ → Option BookState
+book_at c id = booked c id (fin.get c.world.nodes id) (fin.get c.desks id)
+
+-- these books, and those of the founders of these ids
+abbrev pub books_with : Config → List ℕ → BookMap → List ℕ → BookMap
+books_with c ids books [] = books
+books_with c ids books (id ∷ rest) = books_with c ids (fin.insert books id (new_book id c (Some ids) (founder c ids id))) rest
+
+-- the books of the founders are given, or they are refused
+abbrev pub Founds : BookFault → Config → List ℕ → Result BookMap BookFault → Type 0
+Founds e c ids (Ok books) = (are_founders ids ≡ true) × (books ≡ books_with c ids fin.empty ids)
+Founds e c ids (Err f) = f ≢ e → (are_founders ids ≡ false) × (f ≡ fault.Node node_fault.BadFounders)

@@ -1,25 +1,20 @@
 //! A cluster: what each event makes of it, and what its answers are.
 
-ghost use Rattle.std.specs.Prelude.{◌≡◌, ◌≢◌, ◌<◌, ℕ, List, Ok, Err, IfOk, IfErr, option_copied, slice_get, length, vec_len, vec_capacity};
-ghost use Rattle.std.specs.FinMap as fin;
+ghost use Rattle.std.specs.Prelude.{◌≡◌, ◌≢◌, ◌<◌, ℕ, List, Ok, Err, IfOk, IfErr, is_some, option_copied, slice_get, length, vec_len, vec_capacity};
 ghost use Rattle.sc_world.specs.Worlds as world;
 ghost use Rattle.sc_world.specs.declared.event.Event.TheVariants as world_event;
 ghost use Rattle.q_table.specs.Calls.{Steps, Gives};
-ghost use Rattle.q_desk.specs.Desks as desk;
-ghost use Rattle.q_desk.specs.State.{DeskState};
-ghost use Rattle.sc_node.specs.State.{NodeState};
 ghost use Rattle.q_session.specs.declared.ran.Ran.{Ran};
 ghost use Rattle.q_history.specs.Faults.{memory};
-ghost use Rattle.q_history.specs.Clusters.{at, taken, registered, asked, asked_by, stored, delivered, handed_out, handed, with_job, finished, left, enters, crashes, joined, free, started};
+ghost use Rattle.q_history.specs.Clusters.{at, taken, registered, asked, stored, delivered, handed_out, handed, with_job, finished, left, enters, crashes, started};
 ghost use Rattle.q_history.specs.Calls.{Takes, Runs, IsHistory};
 ghost use Rattle.q_history.specs.Headline.{AnswersAreTrue, AnswersStay};
 ghost use Rattle.q_history.specs.Books.{BooksAreReplays};
-ghost use Rattle.q_cluster.specs.Acts.{Doing, IsThere, Tests, MayStore, MayRun, TakesNoted};
+ghost use Rattle.q_cluster.specs.Acts.{Doing, IsThere, MayRun, book_at};
 
-use crate::desks::{Desks, found_desks};
-use q_desk::desk::Desk;
-use q_desk::fault::DeskFault;
-use q_desk::journal::Entry;
+use crate::books::{Books, found_books};
+use q_book::answer::{Asked, Taken};
+use q_book::book::Book;
 use q_history::event::{Answer, Event, Handed, Stepped, Told};
 use q_history::fault::ClusterFault;
 use q_history::laws::{answers_stay, every_answer_is_true, every_book_is_a_replay};
@@ -28,37 +23,37 @@ use q_session::job::Job;
 use q_table::program::{Program, ProgramId};
 use sc_members::config::Config;
 use sc_msg::message::Message;
-use sc_node::fault::NodeFault;
-use sc_node::node::{MOST_OPEN, Node};
-use sc_world::event::{Event as WorldEvent, Sent, Stepped as WorldStepped};
+use sc_node::answer::Begun;
+use sc_world::act::Opened;
+use sc_world::event::{Event as WorldEvent, Sent};
 use sc_world::fault::WorldFault;
+use sc_world::ledger::Ledger;
 use sc_world::op::Op;
-use sc_world::world::World;
 use std::alloc::{AllocError, Global};
 use std::marker::Model;
 
-/// The nodes of a store-collect object, the desk of each, and the jobs that were handed out. Contracts see it as the
-/// record of these. Some list of events made it of its founders.
+/// The book of each node, what is kept of every event, and the jobs that were handed out. Contracts see it as a world with
+/// a desk for each node. Some list of events made it of its founders.
 #[derive(Drop)]
 pub struct Cluster {
     alloc: Global,
-    world: World,
-    desks: Desks,
+    books: Books,
+    ledger: Ledger,
     jobs: Vec<Job>,
 }
 
 impl Model for Cluster {
     ghost use Rattle.q_history.specs.State.{ClusterState};
-    ghost use Rattle.q_history.specs.Calls.{IsHistory};
+    ghost use Rattle.q_cluster.specs.Acts.{cluster_of, IsCluster};
     ghost use Rattle.q_cluster.specs.Codes.{cluster_code};
 
     ghost Value = { ClusterState };
 
     ghost coded = { cluster_code };
 
-    ghost view = { λ a. record { world = a.world; desks = a.desks; jobs = a.jobs.items } };
+    ghost view = { λ a. cluster_of a.books a.ledger.past a.jobs.items };
 
-    ghost invariant = { λ a. IsHistory (record { world = a.world; desks = a.desks; jobs = a.jobs.items }) };
+    ghost invariant = { λ a. IsCluster a.books a.ledger.past a.jobs.items };
 }
 
 impl Cluster {
@@ -67,12 +62,12 @@ impl Cluster {
     pub fn new(alloc: Global, config: Config, founders: &[u64]) -> Result<Cluster, ClusterFault>
         ensures { Gives memory (started config founders.now) result }
     {
-        let world = World::new(alloc, config, founders)?;
-        let desks = found_desks(alloc, founders)?;
+        let books = found_books(alloc, config, founders)?;
+        let ledger = Ledger::new(alloc, config, founders)?;
         Ok(Cluster {
             alloc,
-            world,
-            desks,
+            books,
+            ledger,
             jobs: Vec::new(alloc),
         })
     }
@@ -164,32 +159,42 @@ impl Cluster {
         let _jobs = self.jobs.len();
     }
 
-    /// The nodes and their messages.
-    pub fn world(&self) -> &World
-        ensures { result.now ≡ self.now.world }
+    /// The book of this node, also where it has left or crashed.
+    pub fn book(&self, node: u64) -> Option<&Book>
+        ensures { option_copied result ≡ book_at self.now node }
     {
-        &self.world
+        self.books.get(node)
+    }
+
+    /// Whether the node of this id is there: it has neither left nor crashed.
+    pub fn is_live(&self, id: u64) -> bool
+        ensures { result ≡ is_some (world.live_at self.now.world id) }
+    {
+        match self.books.get(id) {
+            Some(book) => !self.ledger.has_crashed(id) && !book.node().is_gone(),
+            None => false,
+        }
     }
 
     /// The record of each operation, in the order in which they began.
     pub fn ops(&self) -> &[Op]
         ensures { result.now ≡ self.now.world.ops }
     {
-        self.world.ops()
+        self.ledger.ops()
     }
 
-    /// The desk of this node, also where it has left or crashed.
-    pub fn desk(&self, node: u64) -> Option<&Desk>
-        ensures { option_copied result ≡ fin.get self.now.desks node }
+    /// How many messages were sent: the number of the next one.
+    pub fn sent(&self) -> usize
+        ensures { result ≡ length self.now.world.sent }
     {
-        self.desks.get(node)
+        self.ledger.sent().len()
     }
 
     /// The message of that number, which counts from 0.
     pub fn message(&self, number: usize) -> Option<&Message>
         ensures { option_copied result ≡ slice_get self.now.world.sent number }
     {
-        self.world.message(number)
+        self.ledger.sent().get(number)
     }
 
     /// The job of that number, which counts from 0.
@@ -201,102 +206,109 @@ impl Cluster {
 }
 
 impl Cluster {
-    /// The desk comes first, since that may fail, and goes again where the world refuses.
     fn enter(&mut self, id: u64) -> Result<Stepped, ClusterFault>
         ensures { Steps memory (taken (enters self.old id) (world.stepped self.old.world (world_event.Enter id))) self.old self.new result }
     {
-        let last = self.desks.insert(id, Desk::new(self.alloc))?;
-        let stepped = match self.world.step(WorldEvent::Enter(id)) {
-            Ok(stepped) => stepped,
-            Err(fault) => {
-                self.desks.restore(id, last);
-                return Err(ClusterFault::World(fault));
-            }
-        };
-        Ok(told(Told::Entered, stepped.sent))
+        if self.books.get(id).is_some() {
+            return Err(ClusterFault::World(WorldFault::IdUsed));
+        }
+        self.ledger.reserve(id)?;
+        let (book, outs) = Book::entering(self.alloc, self.ledger.config(), id)?;
+        self.books.insert(id, book)?;
+        let sent = self
+            .ledger
+            .record(WorldEvent::Enter(id), id, outs, None, None, None);
+        Ok(told(Told::Entered, sent))
     }
 
     fn leave(&mut self, id: u64) -> Result<Stepped, ClusterFault>
         ensures { Steps memory (at self.old id (left self.old id)) self.old self.new result }
     {
-        self.place(id)?;
-        let stepped = take_noted(
-            &mut self.world,
-            &mut self.desks,
-            id,
-            Entry::Leave,
-            WorldEvent::Leave(id),
-        )?;
-        Ok(told(Told::Left, stepped.sent))
+        self.check_live(id)?;
+        self.ledger.reserve(id)?;
+        let outs = self.books.leave(id)?;
+        let sent = self
+            .ledger
+            .record(WorldEvent::Leave(id), id, outs, None, None, None);
+        Ok(told(Told::Left, sent))
     }
 
     fn crash(&mut self, id: u64) -> Result<Stepped, ClusterFault>
         ensures { Steps memory (taken (crashes self.old) (world.stepped self.old.world (world_event.Crash id))) self.old self.new result }
     {
-        let stepped = self.world.step(WorldEvent::Crash(id))?;
-        Ok(told(Told::Crashed, stepped.sent))
+        if !self.is_live(id) {
+            return Err(ClusterFault::World(WorldFault::NoSuchNode));
+        }
+        let sent = self.ledger.crash(id)?;
+        Ok(told(Told::Crashed, sent))
     }
 
     fn register(&mut self, id: u64, program: &Program) -> Result<Stepped, ClusterFault>
         ensures { Steps memory (at self.old id (registered self.old id program.now)) self.old self.new result }
     {
-        self.place(id)?;
-        let program = self.desks.register(id, program)?;
-        Ok(told(Told::Registered(program), silent(&self.world)))
+        self.check_live(id)?;
+        let program = self.books.register(id, program)?;
+        Ok(told(Told::Registered(program), self.ledger.silent()))
     }
 
-    /// The query waits for the collect that begins with it, and is taken back where the world refuses that.
     fn ask(&mut self, id: u64, program: ProgramId, start: u64) -> Result<Stepped, ClusterFault>
         ensures { Steps memory (at self.old id (asked self.old id program start)) self.old self.new result }
     {
-        let tag = self.may_ask(id, program)?;
-        let query = self.desks.ask(id, tag, program, start)?;
-        let stepped = match self.world.step(WorldEvent::Collect(id)) {
-            Ok(stepped) => stepped,
-            Err(fault) => {
-                self.desks.withdraw(id);
-                return Err(ClusterFault::World(fault));
-            }
-        };
-        Ok(told(Told::Asked(query), stepped.sent))
+        self.check_live(id)?;
+        self.ledger.reserve(id)?;
+        let Asked { query, begun } = self.books.ask(id, program, start)?;
+        let Begun { tag, session, outs } = begun;
+        let opened = Some(Opened { tag, session });
+        let sent = self
+            .ledger
+            .record(WorldEvent::Collect(id), id, outs, None, opened, None);
+        Ok(told(Told::Asked(query), sent))
     }
 
     fn store(&mut self, id: u64, value: &[u8; 48]) -> Result<Stepped, ClusterFault>
         ensures { Steps memory (at self.old id (stored self.old id value.now)) self.old self.new result }
     {
-        let tag = self.may_store(id)?;
+        self.check_live(id)?;
+        self.ledger.reserve(id)?;
+        let Begun { tag, session, outs } = self.books.store(id, value)?;
+        let opened = Some(Opened { tag, session });
         let event = WorldEvent::Store {
             node: id,
             value: *value,
         };
-        let stepped = take_noted(
-            &mut self.world,
-            &mut self.desks,
-            id,
-            Entry::Store(*value),
-            event,
-        )?;
-        Ok(told(Told::Stored(tag), stepped.sent))
+        let sent = self.ledger.record(event, id, outs, None, opened, None);
+        Ok(told(Told::Stored(tag), sent))
     }
 
     fn deliver(&mut self, message: usize, id: u64) -> Result<Stepped, ClusterFault>
         ensures { Steps memory (at self.old id (delivered self.old message id)) self.old self.new result }
     {
-        let entry = Entry::Deliver(self.may_deliver(message, id)?);
+        self.check_live(id)?;
+        self.ledger.reserve(id)?;
+        let Some(taken) = self.ledger.sent().get(message) else {
+            return Err(ClusterFault::World(WorldFault::NeverSent));
+        };
+        let counting = self.ledger.find(id, taken)?;
+        let Taken {
+            outs,
+            progress,
+            completed,
+        } = self.books.deliver(id, taken)?;
         let event = WorldEvent::Deliver { message, node: id };
-        let stepped = take_noted(&mut self.world, &mut self.desks, id, entry, event)?;
-        let completed = self.desks.end(id, stepped.ended);
-        Ok(told(Told::Delivered(completed), stepped.sent))
+        let sent = self
+            .ledger
+            .record(event, id, outs, progress, None, counting);
+        Ok(told(Told::Delivered(completed), sent))
     }
 
     fn hand_out(&mut self, id: u64) -> Result<Stepped, ClusterFault>
         ensures { Steps memory (at self.old id (handed_out self.old id)) self.old self.new result }
     {
-        self.place(id)?;
+        self.check_live(id)?;
         self.jobs.reserve(1)?;
-        let job = self.desks.hand_out(id)?;
+        let job = self.books.hand_out(id)?;
         let handed = put_job(&mut self.jobs, job);
-        Ok(told(Told::HandedOut(handed), silent(&self.world)))
+        Ok(told(Told::HandedOut(handed), self.ledger.silent()))
     }
 
     fn finish(&mut self, number: usize) -> Result<Stepped, ClusterFault>
@@ -304,64 +316,28 @@ impl Cluster {
     {
         let done = Done::run(self.job_to_run(number)?);
         let job = done.job();
-        self.desks.post(job.node, &done)?;
+        self.books.post(job.node, &done)?;
         let answer = Answer {
             node: job.node,
             query: job.query,
             ran: done.ran(),
         };
-        Ok(told(Told::Finished(answer), silent(&self.world)))
+        Ok(told(Told::Finished(answer), self.ledger.silent()))
     }
 }
 
 impl Cluster {
-    // The node of this id with its desk, if it is there.
-    fn place(&self, id: u64) -> Result<Place<'_>, ClusterFault>
-        ensures there { IfOk result (λ p. IsThere self.now id p.node.now p.desk.now) }
+    // Whether the node of this id is there.
+    fn check_live(&self, id: u64) -> Result<(), ClusterFault>
+        ensures there { IfOk result (λ _. IsThere self.now id) }
         ensures absent { IfErr result (λ e. (f : Doing) → at self.now id f ≡ Err e) }
     {
-        let Some(node) = self.world.live(id) else {
-            return Err(ClusterFault::World(WorldFault::NoSuchNode));
-        };
-        let Some(desk) = self.desks.get(id) else {
-            return Err(ClusterFault::World(WorldFault::NoSuchNode));
-        };
-        Ok(Place { node, desk })
-    }
-
-    // Whether the node may ask this, and the tag of the collect that would begin.
-    fn may_ask(&self, id: u64, program: ProgramId) -> Result<u64, ClusterFault>
-        ensures { (start : ℕ) → Tests self.now id (asked self.now id program start) (λ tag n d. asked self.now id program start n d ≡ asked_by self.now id (desk.asked d tag program start)) result }
-    {
-        let Place { node, desk } = self.place(id)?;
-        joined(node)?;
-        if !desk.knows(program) {
-            return Err(ClusterFault::Desk(DeskFault::UnknownProgram));
+        let _jobs = self.jobs.len();
+        if self.is_live(id) {
+            Ok(())
+        } else {
+            Err(ClusterFault::World(WorldFault::NoSuchNode))
         }
-        free(node)?;
-        Ok(node.operations())
-    }
-
-    // Whether the node may store, and the tag of the store that would begin.
-    fn may_store(&self, id: u64) -> Result<u64, ClusterFault>
-        ensures { (value : List ℕ) → Tests self.now id (stored self.now id value) (λ tag n d. MayStore self.now id value tag n d) result }
-    {
-        let Place { node, .. } = self.place(id)?;
-        joined(node)?;
-        free(node)?;
-        Ok(node.operations())
-    }
-
-    // A copy of the message that would be delivered to a node that is there.
-    fn may_deliver(&self, message: usize, id: u64) -> Result<Message, ClusterFault>
-        ensures message { IfOk result (λ m. (slice_get self.now.world.sent message ≡ Some m) × ((n : NodeState) × (d : DeskState) × IsThere self.now id n d)) }
-        ensures refused { IfErr result (λ e. e ≢ memory → at self.now id (delivered self.now message id) ≡ Err e) }
-    {
-        self.place(id)?;
-        let Some(message) = self.world.message(message) else {
-            return Err(ClusterFault::World(WorldFault::NeverSent));
-        };
-        Ok(message.clone()?)
     }
 
     // A copy of the job of that number, whose node is there.
@@ -372,35 +348,8 @@ impl Cluster {
         let Some(job) = self.jobs.get(number) else {
             return Err(ClusterFault::NoSuchJob);
         };
-        self.place(job.node)?;
+        self.check_live(job.node)?;
         Ok(copy_of(job)?)
-    }
-}
-
-// A node that is there, with its desk.
-#[derive(Clone, Copy)]
-struct Place<'a> {
-    node: &'a Node,
-    desk: &'a Desk,
-}
-
-fn joined(node: &Node) -> Result<(), ClusterFault>
-    ensures { result ≡ joined node.now (Ok tt) }
-{
-    if node.has_joined() {
-        Ok(())
-    } else {
-        Err(ClusterFault::World(WorldFault::Node(NodeFault::NotJoined)))
-    }
-}
-
-fn free(node: &Node) -> Result<(), ClusterFault>
-    ensures { result ≡ free node.now (Ok tt) }
-{
-    if MOST_OPEN <= node.open_operations() {
-        Err(ClusterFault::World(WorldFault::Node(NodeFault::SessionsFull)))
-    } else {
-        Ok(())
     }
 }
 
@@ -417,26 +366,6 @@ fn copy_of(job: &Job) -> Result<Job, AllocError>
     })
 }
 
-// The entry goes into the journal of the node's desk, which is there, and the world takes the event; or neither.
-fn take_noted(
-    world: &mut World,
-    desks: &mut Desks,
-    id: u64,
-    entry: Entry,
-    event: WorldEvent,
-) -> Result<WorldStepped, ClusterFault>
-    ensures { (d : DeskState) → fin.get desks.old id ≡ Some d → TakesNoted world.old world.new desks.old desks.new id d entry event result }
-{
-    desks.note(id, entry)?;
-    match world.step(event) {
-        Ok(stepped) => Ok(stepped),
-        Err(fault) => {
-            desks.forget(id);
-            Err(ClusterFault::World(fault))
-        }
-    }
-}
-
 // Puts a job, for which there is room, at the end.
 fn put_job(jobs: &mut Vec<Job>, job: Option<Job>) -> Option<Handed>
     requires { vec_len jobs.old < vec_capacity jobs.old }
@@ -450,16 +379,6 @@ fn put_job(jobs: &mut Vec<Job>, job: Option<Job>) -> Option<Handed>
     };
     jobs.push_reserved(job);
     Some(handed)
-}
-
-// No messages.
-fn silent(world: &World) -> Sent
-    ensures { result ≡ record { first = length world.now.sent; count = 0 } }
-{
-    Sent {
-        first: world.sent(),
-        count: 0,
-    }
 }
 
 fn told(told: Told, sent: Sent) -> Stepped

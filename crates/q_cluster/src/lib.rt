@@ -10,4 +10,4 @@
 #![tactic(auto)]
 
 pub mod cluster;
-mod desks;
+mod books;

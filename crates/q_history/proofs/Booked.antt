@@ -71,7 +71,7 @@ live_here false None n h = absurd (no_some n h)
 live_here false (Some m) n h = stays_here n m m.gone refl h
 
 -- a live node has not left
-is_here : (w : WorldState) (id : ℕ) (n : NodeState) → world.live_at w id ≡ Some n → n.gone ≡ false
+pub is_here : (w : WorldState) (id : ℕ) (n : NodeState) → world.live_at w id ≡ Some n → n.gone ≡ false
 is_here w id n h = live_here (set.contains w.crashed id) (fin.get w.nodes id) n h
 
 module _ (c : ClusterState) (books : AreBooks c) where

@@ -44,17 +44,17 @@ run_books (e ∷ es) c d books r = run_books es r.1 d (step_books c r.1 e r.0 bo
 
 -- ---- founders
 
-abbrev IsAmong : List ℕ → ℕ → Type 0
+abbrev pub IsAmong : List ℕ → ℕ → Type 0
 IsAmong ids id = set.contains (set.from_list {R = nat_cmp} ids) id ≡ true
 
-among_first : (id : ℕ) (ids : List ℕ) → IsAmong (id ∷ ids) id
+pub among_first : (id : ℕ) (ids : List ℕ) → IsAmong (id ∷ ids) id
 among_first id ids = contains-insert (set.from_list ids) id id ∙ ap (λ (b : Bool). b || set.contains (set.from_list {R = nat_cmp} ids) id) (eq-eqb id id refl)
 
 or_true : (b : Bool) → (b || true) ≡ true
 or_true true = refl
 or_true false = refl
 
-among_rest : (p : ℕ) (ids : List ℕ) (id : ℕ) → IsAmong ids id → IsAmong (p ∷ ids) id
+pub among_rest : (p : ℕ) (ids : List ℕ) (id : ℕ) → IsAmong ids id → IsAmong (p ∷ ids) id
 among_rest p ids id in' = contains-insert (set.from_list ids) p id ∙ ap (λ (b : Bool). (id == p) || b) in' ∙ or_true (id == p)
 
 module _ (config : Config) (ids : List ℕ) where
@@ -132,8 +132,14 @@ module _ (config : Config) (ids : List ℕ) where
   founders_are true is h = is
   founders_are false is h = absurd (no_refusal _ _ h)
 
+  pub every_are : (es : List Event) (c : ClusterState) → started config ids ≡ Ok (start config ids) → Reaches (start config ids) es c → AreBooks c
+  every_are es c begun r = run_books es (start config ids) c (start_books (founders_are (are_founders ids) refl begun)) r
+
   pub every_book : (es : List Event) (c : ClusterState) → started config ids ≡ Ok (start config ids) → Reaches (start config ids) es c → BooksAreReplays c
-  every_book es c begun r = (run_books es (start config ids) c (start_books (founders_are (are_founders ids) refl begun)) r).replays
+  every_book es c begun r = (every_are es c begun r).replays
+
+pub history_are : (c : ClusterState) → IsHistory c → AreBooks c
+history_are c h = every_are c.world.config c.world.founders h.0 c h.2 h.1
 
 pub history_books : (c : ClusterState) → IsHistory c → BooksAreReplays c
 history_books c h = every_book c.world.config c.world.founders h.0 c h.2 h.1

@@ -17,7 +17,6 @@ use Rattle.q_desk.specs.declared.fault.DeskFault.TheVariants as desk_fault
 use Rattle.q_desk.specs.declared.journal.Entry.{Entry}
 use Rattle.q_desk.specs.declared.journal.Entry.TheVariants as entry
 use Rattle.q_book.specs.declared.answer.Asked.{Asked}
-use Rattle.q_book.specs.declared.answer.Storing.{Storing}
 use Rattle.q_book.specs.declared.fault.BookFault.{BookFault}
 use Rattle.q_book.specs.declared.fault.BookFault.TheVariants as fault
 use Rattle.q_book.specs.State.{BookState}
@@ -56,8 +55,8 @@ module _ (b : BookState) (there : b.node.gone ≡ false) where
   pub stored_follows : (value : List ℕ) (r : Begun × NodeState) → b.node.joined ≡ true → nat_le node.most_open (fin.len b.node.sessions) ≡ false → desk.has_room b.desk ≡ true
       → node.store_begun b.node value ≡ Ok r → Follows b (entry.Store value) (record b { node = r.1; desk = desk.with_entry b.desk (entry.Store value) })
   stored_follows value r joined free room is =
-      let call : Result (Storing × BookState) BookFault = book.by_desk (book.stores_node b value) (desk.noted b.desk (entry.Store value)) in (
-        record { tag = r.0.tag; outs = r.0.outs },
+      let call : Result (Begun × BookState) BookFault = book.by_desk (book.stores_node b value) (desk.noted b.desk (entry.Store value)) in (
+        r.0,
         here-ok b (book.joined b (book.free b call)) there
             ∙ joined-ok b (book.free b call) joined
             ∙ free-ok b call free
@@ -79,7 +78,7 @@ module _ (b : BookState) (there : b.node.gone ≡ false) where
       → Follows b (entry.Ask program start) (record b { node = r.1; desk = d.1 })
   asked_follows program start d r joined knows free asked is =
       let call : Result (Asked × BookState) BookFault = book.by_desk (book.asks_node b) (desk.asked b.desk b.node.operations program start) in (
-        record { query = d.0; outs = r.0.outs },
+        record { query = d.0; begun = r.0 },
         here-ok b (book.joined b (book.known b program (book.free b call))) there
             ∙ joined-ok b (book.known b program (book.free b call)) joined
             ∙ known-ok b (book.free b call) program knows

@@ -1,10 +1,13 @@
--- The refusals of desks as a cluster's, and the numbers and names by which refusals are reported.
+-- The refusals of desks and books as a cluster's, and the numbers and names by which refusals are reported.
 use Rattle.std.specs.Prelude.{ℕ, List, codes}
 use Rattle.sc_world.specs.Acts as acts
 use Rattle.sc_world.specs.Faults as world
 use Rattle.q_desk.specs.Faults as desk
 use Rattle.q_desk.specs.declared.fault.DeskFault.{DeskFault}
 use Rattle.q_desk.specs.declared.fault.DeskFault.TheVariants as desk_fault
+use Rattle.sc_world.specs.declared.fault.WorldFault.TheVariants as world_fault
+use Rattle.q_book.specs.declared.fault.BookFault.{BookFault}
+use Rattle.q_book.specs.declared.fault.BookFault.TheVariants as book_fault
 use Rattle.q_history.specs.declared.fault.ClusterFault.{ClusterFault}
 use Rattle.q_history.specs.declared.fault.ClusterFault.TheVariants as fault
 
@@ -15,6 +18,10 @@ memory = fault.World acts.memory
 abbrev pub of_desk : DeskFault → ClusterFault
 of_desk desk_fault.OutOfMemory = memory
 of_desk f = fault.Desk f
+
+abbrev pub of_book : BookFault → ClusterFault
+of_book (book_fault.Node f) = fault.World (world_fault.Node f)
+of_book (book_fault.Desk f) = fault.Desk f
 
 abbrev pub fault_number : ClusterFault → ℕ
 fault_number fault.NoSuchJob = 83

@@ -3,6 +3,7 @@
 ghost use Rattle.std.specs.Prelude.{◌≡◌};
 ghost use Rattle.q_history.specs.Faults.{fault_number, fault_name};
 
+use q_book::fault::BookFault;
 use q_desk::fault::DeskFault;
 use sc_node::fault::NodeFault;
 use sc_world::fault::WorldFault;
@@ -65,6 +66,20 @@ impl From<DeskFault> for ClusterFault {
         match refusal {
             DeskFault::OutOfMemory => ClusterFault::from(AllocError),
             other => ClusterFault::Desk(other),
+        }
+    }
+}
+
+impl From<BookFault> for ClusterFault {
+    ghost use Rattle.std.specs.Prelude.{◌≡◌};
+    ghost use Rattle.q_history.specs.Faults.{of_book};
+
+    ghost from_gives = { λ refusal e. e ≡ of_book refusal };
+
+    fn from(refusal: BookFault) -> ClusterFault {
+        match refusal {
+            BookFault::Node(fault) => ClusterFault::World(WorldFault::Node(fault)),
+            BookFault::Desk(fault) => ClusterFault::Desk(fault),
         }
     }
 }

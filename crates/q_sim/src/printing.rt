@@ -51,7 +51,7 @@ fn print_message(lines: &mut String, cluster: &Cluster, number: usize) -> Result
 pub fn print_messages(lines: &mut String, cluster: &Cluster, sent: Sent) -> Result<(), AllocError>
     ensures { OnOk result (string_bytes lines.new ≡ string_bytes lines.old ++ message_lines cluster.now.world.sent sent.first sent.count) }
 {
-    let there = cluster.world().sent().saturating_sub(sent.first);
+    let there = cluster.sent().saturating_sub(sent.first);
     for offset in 0..sent.count.min(there) {
         print_message(lines, cluster, sent.first + offset)?;
     }

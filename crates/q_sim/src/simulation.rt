@@ -165,7 +165,7 @@ impl Simulation {
     {
         let mut left = limit;
         let mut message = 0;
-        while left > 0 && message < self.cluster.world().sent() {
+        while left > 0 && message < self.cluster.sent() {
             left = self.spread(message, left)?;
             message += 1;
         }
@@ -208,7 +208,7 @@ impl Simulation {
     fn awaits(&self, message: usize, node: u64) -> bool
         ensures { IsTrue result ↔ (IsSome (live_at self.now.cluster.world node) × IsFalse (set.contains self.now.delivered (message, node))) }
     {
-        self.cluster.world().live(node).is_some() && !self.delivered.contains(message, node)
+        self.cluster.is_live(node) && !self.delivered.contains(message, node)
     }
 
     /// Prints a refusal.

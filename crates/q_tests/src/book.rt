@@ -48,7 +48,7 @@ fn stored(book: &mut Book) -> Result<Option<Completed>, Fail> {
 /// The view of a query's collect, stored back: the message that tells it.
 fn stored_back(book: &mut Book, program: ProgramId) -> Result<Outs, Fail> {
     let asked = book.ask(program, 4)?;
-    let replying = deliver_first(book, &asked.outs)?;
+    let replying = deliver_first(book, &asked.begun.outs)?;
     Ok(deliver_first(book, &replying.outs)?.outs)
 }
 

@@ -28,7 +28,7 @@ fn a_store_ends_and_is_journalled(rt: HostRuntime) -> Result<(), Fail> {
     let stepped = cluster.step(&deliver(1))?;
     let completed = Some(Completed::Stored(0));
     assert_eq!(rt; stepped.told, Told::Delivered(completed));
-    let desk = cluster.desk(1).ok_or("no desk")?;
+    let desk = cluster.book(1).ok_or("no book")?.desk();
     assert_eq!(rt; desk.journal().len(), 3);
     Ok(())
 }

@@ -23,25 +23,17 @@ use Rattle.sc_world.specs.declared.event.Sent.{Sent}
 use Rattle.sc_world.specs.declared.fault.WorldFault.{WorldFault}
 use Rattle.sc_world.specs.declared.fault.WorldFault.TheVariants as fault
 use Rattle.sc_world.specs.declared.op.Op.{Op}
-use Rattle.sc_world.specs.State.{WorldState}
-use Rattle.sc_world.specs.Worlds.{clock, live_at, by_live, took, acts, acted, advanced, op_begun, tag_of, silent, crashes, enters, event_of, stepped, founder_nodes, founded_nodes}
+use Rattle.sc_world.specs.State.{WorldState, Past, world_of, past_of}
+use Rattle.sc_world.specs.Ledgers.{recorded, numbered, stopped, passed}
+use Rattle.sc_world.specs.Worlds.{live_at, by_live, took, acts, acted, of_entered, tag_of, crashes, enters, event_of, stepped, founder_nodes, founded_nodes}
 use Rattle.sc_world.specs.Acts.{memory, outcome}
 
-same_map : (ops : List Op) → map (λ o. o) ops ≡ ops
-same_map [] = refl
-same_map (o ∷ ops) = ap (λ xs. o ∷ xs) (same_map ops)
-
-pub act_step : (w : WorldState) (e : Event) (id : ℕ) (a : Act) (r : Report) (n : NodeState) (nodes : fin.FinMap nat_cmp NodeState) (events : List Event) (sent : List Message) (ops : List Op) (tag : Option ℕ) (numbers : Sent)
-    → by_live (live_at w id) (acted w.sent a) ≡ Ok (outcome r n) → nodes ≡ fin.insert w.nodes id n → events ≡ w.events ++ e ∷ [] → sent ≡ w.sent ++ r.outs
-    → ops ≡ map (advanced id (clock w) r.progress) w.ops ++ op_begun id (clock w) r.begun → tag ≡ tag_of r.begun → numbers ≡ record { first = length w.sent; count = length r.outs }
-    → acts w e id (acted w.sent a)
-    ≡ Ok (record { tag = tag; ended = r.ended; sent = numbers }, record { config = w.config; founders = w.founders; nodes = nodes; crashed = w.crashed; events = events; sent = sent; ops = ops })
-act_step w e id a r n nodes events sent ops tag numbers said hn he hs ho ht hf =
-    ap (took w e id) said
-    ∙ (λ i. Ok (
-      record { tag = sym ht i; ended = r.ended; sent = sym hf i },
-      record { config = w.config; founders = w.founders; nodes = sym hn i; crashed = w.crashed; events = sym he i; sent = sym hs i; ops = sym ho i },
-    ))
+pub act_step : (w : WorldState) (e : Event) (id : ℕ) (a : Act) (r : Report) (n : NodeState) (nodes : fin.FinMap nat_cmp NodeState) (past : Past) (tag : Option ℕ) (numbers : Sent)
+    → by_live (live_at w id) (acted w.sent a) ≡ Ok (outcome r n) → nodes ≡ fin.insert w.nodes id n → past ≡ recorded (past_of w) e id r.outs r.progress r.begun
+    → tag ≡ tag_of r.begun → numbers ≡ numbered (past_of w) r.outs
+    → acts w e id (acted w.sent a) ≡ Ok (record { tag = tag; ended = r.ended; sent = numbers }, world_of nodes past)
+act_step w e id a r n nodes past tag numbers said hn hp ht hf =
+    ap (took w e id) said ∙ (λ i. Ok (record { tag = sym ht i; ended = r.ended; sent = sym hf i }, world_of (sym hn i) (sym hp i)))
 
 pub act_stepped : (w : WorldState) (id : ℕ) (a : Act) → stepped w (event_of id a) ≡ acts w (event_of id a) id (acted w.sent a)
 act_stepped w id act.Leave = refl
@@ -53,25 +45,14 @@ by_absent : (w : WorldState) (id : ℕ) (o : Option NodeState) → is_some o ≡
 by_absent w id None h = refl
 by_absent w id (Some n) h = absurd (cc)
 
-pub enter_step : (w : WorldState) (id : ℕ) (node : NodeState) (outs : List Message) (nodes : fin.FinMap nat_cmp NodeState) (events : List Event) (sent : List Message) (numbers : Sent)
-    → is_some (fin.get w.nodes id) ≡ false → entered w.config id ≡ (node, outs) → nodes ≡ fin.insert w.nodes id node → events ≡ w.events ++ event.Enter id ∷ [] → sent ≡ w.sent ++ outs
-    → numbers ≡ record { first = length w.sent; count = length outs }
-    → enters w id (fin.get w.nodes id)
-    ≡ Ok (record { tag = None; ended = None; sent = numbers }, record { config = w.config; founders = w.founders; nodes = nodes; crashed = w.crashed; events = events; sent = sent; ops = w.ops })
-enter_step w id node outs nodes events sent numbers absent made hn he hs hf =
+pub enter_step : (w : WorldState) (id : ℕ) (node : NodeState) (outs : List Message) (nodes : fin.FinMap nat_cmp NodeState) (past : Past) (numbers : Sent)
+    → is_some (fin.get w.nodes id) ≡ false → entered w.config id ≡ (node, outs) → nodes ≡ fin.insert w.nodes id node → past ≡ recorded (past_of w) (event.Enter id) id outs None None
+    → numbers ≡ numbered (past_of w) outs
+    → enters w id (fin.get w.nodes id) ≡ Ok (record { tag = None; ended = None; sent = numbers }, world_of nodes past)
+enter_step w id node outs nodes past numbers absent made hn hp hf =
     by_absent w id (fin.get w.nodes id) absent
-    ∙ (λ i. Ok (
-      record { tag = None; ended = None; sent = (ap (λ (p : NodeState × List Message). let x : Sent = record { first = length w.sent; count = length p.1 } in x) made ∙ sym hf) i },
-      record {
-        config = w.config;
-        founders = w.founders;
-        nodes = (ap (λ (p : NodeState × List Message). fin.insert w.nodes id p.0) made ∙ sym hn) i;
-        crashed = w.crashed;
-        events = sym he i;
-        sent = (ap (λ (p : NodeState × List Message). w.sent ++ p.1) made ∙ sym hs) i;
-        ops = (append-nil (map (λ o. o) w.ops) ∙ same_map w.ops) i;
-      },
-    ))
+    ∙ ap (λ (p : NodeState × List Message). took w (event.Enter id) id (Ok (of_entered p))) made
+    ∙ (λ i. Ok (record { tag = None; ended = None; sent = sym hf i }, world_of (sym hn i) (sym hp i)))
 
 by_live_node : (w : WorldState) (id : ℕ) (o : Option NodeState) (n : NodeState) → true ≡ is_some o → crashes w id o ≡ crashes w id (Some n)
 by_live_node w id (Some m) n h = refl
@@ -81,15 +62,15 @@ live_node : (o : Option NodeState) → true ≡ is_some o → NodeState
 live_node (Some n) h = n
 live_node None h = absurd (cc)
 
-pub crash_step : (w : WorldState) (id : ℕ) (gone : Ids) (events : List Event) → true ≡ is_some (live_at w id) → gone ≡ set.insert w.crashed id → events ≡ w.events ++ event.Crash id ∷ []
-    → crashes w id (live_at w id) ≡ Ok (silent w, record { config = w.config; founders = w.founders; nodes = w.nodes; crashed = gone; events = events; sent = w.sent; ops = w.ops })
-crash_step w id gone events lives hg he =
+pub crash_step : (w : WorldState) (id : ℕ) (past : Past) (numbers : Sent) → true ≡ is_some (live_at w id) → past ≡ stopped (past_of w) id → numbers ≡ record { first = length w.sent; count = 0 }
+    → crashes w id (live_at w id) ≡ Ok (record { tag = None; ended = None; sent = numbers }, world_of w.nodes past)
+crash_step w id past numbers lives hp hf =
     by_live_node w id (live_at w id) (live_node (live_at w id) lives) lives
-    ∙ (λ i. Ok (silent w, record { config = w.config; founders = w.founders; nodes = w.nodes; crashed = sym hg i; events = sym he i; sent = w.sent; ops = w.ops }))
+    ∙ (λ i. Ok (record { tag = None; ended = None; sent = sym hf i }, world_of w.nodes (sym hp i)))
 
-pub other_step : (w : WorldState) (events : List Event) → events ≡ w.events ++ event.Other ∷ []
-    → stepped w event.Other ≡ Ok (silent w, record { config = w.config; founders = w.founders; nodes = w.nodes; crashed = w.crashed; events = events; sent = w.sent; ops = w.ops })
-other_step w events he = λ i. Ok (silent w, record { config = w.config; founders = w.founders; nodes = w.nodes; crashed = w.crashed; events = sym he i; sent = w.sent; ops = w.ops })
+pub other_step : (w : WorldState) (past : Past) (numbers : Sent) → past ≡ passed (past_of w) → numbers ≡ record { first = length w.sent; count = 0 }
+    → stepped w event.Other ≡ Ok (record { tag = None; ended = None; sent = numbers }, world_of w.nodes past)
+other_step w past numbers hp hf = λ i. Ok (record { tag = None; ended = None; sent = sym hf i }, world_of w.nodes (sym hp i))
 
 -- a founder is among the founders
 or_right : (a b : Bool) → b ≡ true → (a || b) ≡ true

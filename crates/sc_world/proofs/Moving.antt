@@ -3,7 +3,6 @@ use Rattle.std.proofs.Common.{◌≡◌, ℕ, zero, suc, ◌≤◌, Bool, true, 
 use Rattle.std.proofs.lemmas.Bool.{eq-eqb, eqb-true}
 use Rattle.std.proofs.lemmas.Bool.Decides.{nat_tests}
 use Rattle.std.proofs.lemmas.List.Sums.{fails_before_first}
-use Rattle.std.proofs.lemmas.List.Quantifiers.{position-Some}
 use Rattle.std.proofs.lemmas.Option.{get_or_from_slice_get, slice_get_within}
 use Rattle.std.specs.List.{position_or_len}
 use Rattle.std.specs.FinMap as fin
@@ -16,10 +15,11 @@ use Rattle.sc_node.specs.declared.session.StoreBack.{StoreBack}
 use Rattle.sc_node.specs.declared.session.Session.{Session}
 use Rattle.sc_node.specs.declared.answer.Advance.{Advance}
 use Rattle.sc_node.specs.declared.answer.Advance.TheVariants as advance
+use Rattle.sc_node.specs.declared.answer.Delivered.{Delivered}
 use Rattle.sc_node.specs.declared.answer.Progress.{Progress}
 use Rattle.sc_node.specs.Sessions.{open_phase, counting_phase, counted_in, is_reached, count_sender}
 use Rattle.sc_node.specs.State.{NodeState}
-use Rattle.sc_node.specs.Nodes.{progress_of}
+use Rattle.sc_node.specs.Nodes.{progress_of, delivered}
 use Rattle.sc_world.specs.declared.act.Act.{Act}
 use Rattle.sc_world.specs.declared.act.Act.TheVariants as act
 use Rattle.sc_world.specs.declared.act.Report.{Report}
@@ -27,9 +27,10 @@ use Rattle.sc_world.specs.declared.counting.Counting.{Counting}
 use Rattle.sc_world.specs.declared.event.Event.TheVariants as event
 use Rattle.sc_world.specs.declared.op.Op.{Op}
 use Rattle.sc_world.specs.State.{WorldState}
-use Rattle.sc_world.specs.Worlds.{clock, Outcome, moved, advanced, live, by_live, live_at, acted, delivers, IsHistory}
+use Rattle.sc_world.specs.Worlds.{clock, Outcome, of_delivered, by_node, moved, advanced, live, by_live, live_at, acted, delivers, IsHistory}
 use Rattle.sc_world.specs.Records.{Among, AreDistinct}
-use Rattle.sc_world.specs.Acts.{outcome, answered, answered_at, answered_by, is_op, IsReady, Fits, put_moved, moved_at}
+use Rattle.sc_world.specs.Acts.{outcome, answered, answered_at, answered_by, is_op, IsReady, put_moved}
+use Rattle.sc_world.specs.Ledgers.{IsRight}
 use Rattle.sc_world.proofs.Links.{IsLinked, IsAckMove, IsReplyMove, IsMove}
 use Rattle.sc_world.proofs.Steps.{and_left, and_right, is_open}
 use Rattle.sc_world.proofs.Handlers.{heard, heard_moves, moves}
@@ -85,17 +86,13 @@ module _ (test : Op → Bool) (f : Op → Op) where
       ap test (sym (get_or_from_slice_get ops k.0 o o k.1))
       ∙ fails_before_first test ops k.0 o (omega (arith, past ops none, slice_get_within ops k.0 o k.1))
 
-  pub found_passes : (ops : List Op) (k : ℕ) (o : Op) → position test ops ≡ Some k → slice_get ops k ≡ Some o → test o ≡ true
-  found_passes ops k o at is = ap test (sym (get_or_from_slice_get ops k o o is)) ∙ (position-Some test ops k o at).1
-
--- what is ready is right
-pub record IsRight (ops : List Op) (id place : ℕ) (p : Option Progress) (c : Option Counting) : Type 0 where
-  pub fits : Fits ops p c
-  pub moves : moved_at ops place p c ≡ map (advanced id place p) ops
-
 same_map : (ops : List Op) → ops ≡ map (λ o. o) ops
 same_map [] = refl
 same_map (o ∷ ops) = ap (λ xs. o ∷ xs) (same_map ops)
+
+-- where nothing moves, nothing has to be ready
+pub nothing_moves : (ops : List Op) (id place : ℕ) → IsRight ops id place None None
+nothing_moves ops id place = record { fits = tt; moves = same_map ops }
 
 still : (ops : List Op) (id place : ℕ) (p : Option Progress) (c : Option Counting) → p ≡ None → IsRight ops id place p c
 still ops id place None c is = record { fits = tt; moves = same_map ops }
@@ -145,7 +142,7 @@ module _ (w : WorldState) (linked : IsLinked w) (distinct : AreDistinct w.ops) (
   ready_right p k None h = record { fits = tt; moves = none_change (is_op id p.tag) (moved place p) w.ops (none_found (is_op id p.tag) (moved place p) w.ops h) }
   ready_right p k (Some c) h =
       let o = h.0 in
-      let hit : is_op id p.tag o ≡ true = found_passes (is_op id p.tag) (moved place p) w.ops c.at o h.1 h.2 in
+      let hit : is_op id p.tag o ≡ true = h.1 in
       let nq : o.node ≡ id = eqb-true o.node id (and_left (o.node == id) (o.tag == p.tag) hit) in
       let tq : o.tag ≡ p.tag = eqb-true o.tag p.tag (and_right (o.node == id) (o.tag == p.tag) hit) in
       record {
@@ -182,6 +179,14 @@ module _ (w : WorldState) (l : IsLawful w) (id place : ℕ) (r : Report) (n' : N
   right a h ready =
       let k = by_live-ok (live_at w id) (acted w.sent a) (outcome r n') h in
       acted_right k.0 a (live_is (set.contains w.crashed id) (fin.get w.nodes id) k.0 k.1) k.2 ready
+
+-- a node takes a message
+pub delivery_right : (w : WorldState) → IsHistory w → (id : ℕ) (n n' : NodeState) (m : Message) (told : Delivered) (c : Option Counting) → fin.get w.nodes id ≡ Some n → delivered n m ≡ Ok (told, n')
+    → IsReady w.ops id (answered id m.from m.body) c → IsRight w.ops id (clock w) told.progress c
+delivery_right w history id n n' m told c at is ready =
+    let l = every_lawful w.config w.founders w.events w history in
+    let same : progress_of n m.from m.body ≡ told.progress = ap (λ (y : Outcome). y.progress) (delivers-ok m n (of_delivered (told, n')) (ap (by_node of_delivered) is)) in
+    move_right w l.invariant.linked l.records.distinct id (clock w) n at m.from m.body told.progress (subst (IsMove n m.from m.body) same (moves n m.from m.body)) c ready
 
 -- what the parts of a world saw is what the world has
 module _ (w : WorldState) (history : IsHistory w) (id : ℕ) (a : Act) (crashed : Bool) (sent : List Message) (gone : crashed ≡ set.contains w.crashed id) (all : sent ≡ w.sent) where

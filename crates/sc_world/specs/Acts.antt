@@ -1,5 +1,5 @@
 -- What the parts of a world do at an event of a node.
-use Rattle.std.specs.Prelude.{◌≡◌, ◌≢◌, ℕ, Bool, ◌==◌, ◌&&◌, List, Option, Some, None, Result, Ok, Err, if◌then◌else◌, slice_get, slice_set, position}
+use Rattle.std.specs.Prelude.{◌≡◌, ◌≢◌, ℕ, Bool, IsTrue, ◌==◌, ◌&&◌, List, Option, Some, None, Result, Ok, Err, if◌then◌else◌, slice_get, slice_set, position}
 use Rattle.std.specs.Ordering.{nat_cmp}
 use Rattle.std.specs.FinMap as fin
 use Rattle.std.specs.FinSet as set
@@ -65,7 +65,7 @@ counted_with s from = set.insert (counted_in (open_phase s.back s.query)) from
 abbrev pub IsReady : List Op → ℕ → Option (ℕ × ℕ) → Option Counting → Type 0
 IsReady ops node None c = Unit {0}
 IsReady ops node (Some a) None = position (is_op node a.0) ops ≡ None
-IsReady ops node (Some a) (Some c) = (o : Op) × (position (is_op node a.0) ops ≡ Some c.at) × (slice_get ops c.at ≡ Some o) × (c.counted ≡ counted_with o.session a.1)
+IsReady ops node (Some a) (Some c) = (o : Op) × IsTrue (is_op node a.0 o) × (slice_get ops c.at ≡ Some o) × (c.counted ≡ counted_with o.session a.1)
 
 -- the set is that of the record, with the sender
 abbrev pub Fits : List Op → Option Progress → Option Counting → Type 0

@@ -4,4 +4,5 @@ pub mod Worlds
 pub mod Records
 pub mod Regular
 pub mod Acts
+pub mod Ledgers
 pub mod Faults

@@ -1,5 +1,5 @@
--- What contracts see of a world.
-use Rattle.std.specs.Prelude.{ℕ, List}
+-- What contracts see of a world and of its ledger.
+use Rattle.std.specs.Prelude.{ℕ, Bool, List}
 use Rattle.std.specs.Ordering.{nat_cmp}
 use Rattle.std.specs.FinMap as fin
 use Rattle.sc_members.specs.Ids.{Ids}
@@ -17,3 +17,24 @@ pub record WorldState : Type 0 where
   pub events : List Event  -- those that were accepted
   pub sent : List Message  -- every message that was ever sent, by its number
   pub ops : List Op  -- a record of each operation, in the order in which they began
+
+-- what a world keeps beside its nodes
+pub record Past : Type 0 where
+  pub config : Config
+  pub founders : List ℕ
+  pub crashed : Ids
+  pub events : List Event
+  pub sent : List Message
+  pub ops : List Op
+
+pub record LedgerState : Type 0 where
+  pub past : Past
+  pub room : Bool  -- what one node does can be recorded without memory
+
+-- a world is its nodes and its past
+abbrev pub world_of : fin.FinMap nat_cmp NodeState → Past → WorldState
+world_of nodes p =
+    record { config = p.config; founders = p.founders; nodes = nodes; crashed = p.crashed; events = p.events; sent = p.sent; ops = p.ops }
+
+abbrev pub past_of : WorldState → Past
+past_of w = record { config = w.config; founders = w.founders; crashed = w.crashed; events = w.events; sent = w.sent; ops = w.ops }

@@ -23,9 +23,10 @@ pub(crate) enum Act {
 
 /// An operation that began.
 #[derive(Drop)]
-pub(crate) struct Opened {
-    pub(crate) tag: u64,
-    pub(crate) session: Session,
+pub struct Opened {
+    /// The operation's tag.
+    pub tag: u64,
+    pub session: Session,
 }
 
 /// What a node tells of an act.

@@ -1,10 +1,11 @@
 //! The record that a delivery may move: what it needs is made ready before the node changes.
 
-ghost use Rattle.std.specs.Prelude.{◌≡◌, ◌==◌, ◌&&◌, IfOk, position, slice_get, vec_capacity};
-ghost use Rattle.sc_world.specs.Acts.{answered_at, answered, is_op, counted_with, IsReady, Fits, moved_at};
+ghost use Rattle.std.specs.Prelude.{◌≡◌, IsTrue, IfOk, IfSome, IfNone, Some, None, position, slice_get, vec_capacity};
+ghost use Rattle.sc_world.specs.declared.op.Op.{Op as OpValue};
+ghost use Rattle.sc_world.specs.Acts.{answered, is_op, counted_with, IsReady, Fits, moved_at};
 
-use crate::act::Act;
 use crate::op::Op;
+use crate::places::Places;
 use sc_members::ids::IdSet;
 use sc_msg::message::{Body, Message};
 use sc_node::answer::Progress;
@@ -13,41 +14,32 @@ use std::alloc::{AllocError, Global};
 
 /// The place of the record that an answer may move, and all senders of its open phase with this one.
 #[derive(Drop)]
-pub(crate) struct Counting {
+pub struct Counting {
     pub(crate) at: usize,
     pub(crate) counted: IdSet,
 }
 
-/// Makes ready what the record of an operation needs, should the act of this node move it.
+/// Makes ready what the record of an operation needs, should this message move it as it reaches the node.
 pub(crate) fn make_ready(
     alloc: Global,
     ops: &[Op],
+    places: &Places,
     node: u64,
-    act: &Act,
-    sent: &[Message],
+    message: &Message,
 ) -> Result<Option<Counting>, AllocError>
-    ensures { IfOk result (IsReady ops.now node (answered_at node sent.now act.now)) }
+    ensures { IfOk result (IsReady ops.now node (answered node message.now.from message.now.body)) }
 {
-    let Some((tag, sender)) = answered_at(node, act, sent) else {
+    let Some((tag, sender)) = answered(node, message) else {
         return Ok(None);
     };
-    let Some(at) = place_of(ops, node, tag) else {
+    let Some(at) = place_of(ops, places, node, tag) else {
         return Ok(None);
     };
     let counted = counted_with(alloc, &ops[at].session, sender)?;
     Ok(Some(Counting { at, counted }))
 }
 
-/// The operation of the node that the act answers, by its tag, and who answers.
-fn answered_at(node: u64, act: &Act, sent: &[Message]) -> Option<(u64, u64)>
-    ensures { result ≡ answered_at node sent.now act.now }
-{
-    let Act::Deliver(number) = act else {
-        return None;
-    };
-    answered(node, sent.get(*number)?)
-}
-
+/// The operation of the node that a message answers, by its tag, and who answers.
 fn answered(node: u64, message: &Message) -> Option<(u64, u64)>
     ensures { result ≡ answered node message.now.from message.now.body }
 {
@@ -58,10 +50,31 @@ fn answered(node: u64, message: &Message) -> Option<(u64, u64)>
     }
 }
 
-fn place_of(ops: &[Op], node: u64, tag: u64) -> Option<usize>
-    ensures { result ≡ position (is_op node tag) ops.now }
+/// Where the record of this operation stands.
+fn place_of(ops: &[Op], places: &Places, node: u64, tag: u64) -> Option<usize>
+    ensures found { IfSome result (λ at. (o : OpValue) × IsTrue (is_op node tag o) × (slice_get ops.now at ≡ Some o)) }
+    ensures absent { IfNone result (position (is_op node tag) ops.now ≡ None) }
 {
-    ops.iter().position(|op| op.node == node && op.tag == tag)
+    if let Some(at) = places.get(node, tag)
+        && at < ops.len()
+        && is_op(&ops[at], node, tag)
+    {
+        return Some(at);
+    }
+    look_through(ops, node, tag)
+}
+
+fn look_through(ops: &[Op], node: u64, tag: u64) -> Option<usize>
+    ensures found { IfSome result (λ at. (o : OpValue) × IsTrue (is_op node tag o) × (slice_get ops.now at ≡ Some o)) }
+    ensures value { result ≡ position (is_op node tag) ops.now }
+{
+    ops.iter().position(|op| is_op(op, node, tag))
+}
+
+fn is_op(op: &Op, node: u64, tag: u64) -> bool
+    ensures { result ≡ is_op node tag op.now }
+{
+    op.node == node && op.tag == tag
 }
 
 /// The senders that the operation counts in its open phase, and this one.

@@ -7,11 +7,13 @@
 //! least what an earlier collect that it meets had returned.
 #![tactic(auto)]
 
-mod act;
-mod counting;
+pub mod act;
+pub mod counting;
 pub mod event;
 pub mod fault;
 pub mod laws;
+pub mod ledger;
 mod nodes;
 pub mod op;
+mod places;
 pub mod world;

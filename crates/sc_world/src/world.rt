@@ -1,25 +1,25 @@
 //! A world: what each event makes of it, and what its history is.
 
-ghost use Rattle.std.specs.Prelude.{◌≡◌, ◌++◌, ◌∷◌, [], length, None, vec_len, vec_capacity, ◌<◌, slice_get, option_copied};
+ghost use Rattle.std.specs.Prelude.{◌≡◌, length, None, IfOk, slice_get, option_copied};
 ghost use Rattle.std.specs.FinMap as fin;
 ghost use Rattle.sc_node.specs.Calls.{Steps, Gives};
 ghost use Rattle.sc_world.specs.declared.event.Event.TheVariants as event;
-ghost use Rattle.sc_world.specs.Acts.{memory};
-ghost use Rattle.sc_world.specs.Worlds.{enters, crashes, live_at, event_of, stepped, started, op_begun, tag_of, IsHistory};
+ghost use Rattle.sc_world.specs.Acts.{memory, answered_at, IsReady};
+ghost use Rattle.sc_world.specs.Worlds.{enters, crashes, live_at, event_of, stepped, started, tag_of, IsHistory};
 ghost use Rattle.sc_world.specs.Records.{AreRecords};
 ghost use Rattle.sc_world.specs.Regular.{IsRegular};
 
 use crate::act::{Act, Opened, Report};
-use crate::counting::{make_ready, move_op};
+use crate::counting::Counting;
 use crate::event::{Event, Sent, Stepped};
 use crate::fault::WorldFault;
+use crate::ledger::Ledger;
 use crate::nodes::{Nodes, found_nodes};
 use crate::op::Op;
 use sc_members::config::Config;
-use sc_members::ids::IdSet;
 use sc_msg::message::Message;
 use sc_node::node::Node;
-use std::alloc::Global;
+use std::alloc::{AllocError, Global};
 use std::marker::Model;
 
 /// The nodes of a store-collect object, the list of accepted events, every message that was ever sent, and the
@@ -27,13 +27,8 @@ use std::marker::Model;
 #[derive(Drop)]
 pub struct World {
     alloc: Global,
-    config: Config,
-    founders: Vec<u64>,
     nodes: Nodes,
-    crashed: IdSet,
-    events: Vec<Event>,
-    sent: Vec<Message>,
-    ops: Vec<Op>,
+    ledger: Ledger,
 }
 
 impl Model for World {
@@ -43,7 +38,7 @@ impl Model for World {
     ghost use Rattle.sc_members.specs.Ids.{ids_code};
     ghost use Rattle.sc_msg.specs.contracts.message.Message as message;
     ghost use Rattle.sc_node.specs.contracts.node.Node as node;
-    ghost use Rattle.sc_world.specs.State.{WorldState};
+    ghost use Rattle.sc_world.specs.State.{WorldState, world_of};
     ghost use Rattle.sc_world.specs.Worlds.{IsHistory};
     ghost use Rattle.sc_world.specs.contracts.event.Event as event;
     ghost use Rattle.sc_world.specs.contracts.op.Op as op;
@@ -52,9 +47,9 @@ impl Model for World {
 
     ghost coded = { Prim.hlevel (codes, ids_code, fin.code {R = nat_cmp} coded_ℕ node.the_row.coded, event.the_row.coded, message.the_row.coded, op.the_row.coded) };
 
-    ghost view = { λ a. record { config = a.config; founders = a.founders.items; nodes = a.nodes; crashed = a.crashed; events = a.events.items; sent = a.sent.items; ops = a.ops.items } };
+    ghost view = { λ a. world_of a.nodes a.ledger.past };
 
-    ghost invariant = { λ a. IsHistory (record { config = a.config; founders = a.founders.items; nodes = a.nodes; crashed = a.crashed; events = a.events.items; sent = a.sent.items; ops = a.ops.items }) };
+    ghost invariant = { λ a. IsHistory (world_of a.nodes a.ledger.past) };
 }
 
 impl World {
@@ -64,16 +59,11 @@ impl World {
         ensures { Gives memory (started config founders.now) result }
     {
         let nodes = found_nodes(alloc, config, founders)?;
-        let founders = Vec::from_slice(alloc, founders)?;
+        let ledger = Ledger::new(alloc, config, founders)?;
         Ok(World {
             alloc,
-            config,
-            founders,
             nodes,
-            crashed: IdSet::new(alloc),
-            events: Vec::new(alloc),
-            sent: Vec::new(alloc),
-            ops: Vec::new(alloc),
+            ledger,
         })
     }
 
@@ -99,7 +89,7 @@ impl World {
         ensures regular { IsRegular self.now }
         ensures records { AreRecords self.now }
     {
-        &self.ops
+        self.ledger.ops()
     }
 
     /// The accepted events.
@@ -107,28 +97,28 @@ impl World {
         ensures events { result.now ≡ self.now.events }
         ensures history { IsHistory self.now }
     {
-        &self.events
+        self.ledger.events()
     }
 
     /// How many messages were sent: the number of the next one.
     pub fn sent(&self) -> usize
         ensures { result ≡ length self.now.sent }
     {
-        self.sent.len()
+        self.ledger.sent().len()
     }
 
     /// The message of that number, which counts from 0.
     pub fn message(&self, number: usize) -> Option<&Message>
         ensures { option_copied result ≡ slice_get self.now.sent number }
     {
-        self.sent.get(number)
+        self.ledger.sent().get(number)
     }
 
     /// The node of this id, where it is there: it has neither left nor crashed.
     pub fn live(&self, id: u64) -> Option<&Node>
         ensures { option_copied result ≡ live_at self.now id }
     {
-        if self.crashed.contains(id) {
+        if self.ledger.has_crashed(id) {
             return None;
         }
         let node = self.nodes.get(id)?;
@@ -151,13 +141,12 @@ impl World {
         if self.nodes.has(id) {
             return Err(WorldFault::IdUsed);
         }
-        self.events.reserve(1)?;
-        self.sent.reserve(2)?;
-        let (node, outs) = Node::entering(self.alloc, self.config, id)?;
-        let sent = numbers(&self.sent, outs.len());
+        self.ledger.reserve(id)?;
+        let (node, outs) = Node::entering(self.alloc, self.ledger.config(), id)?;
         self.nodes.insert(id, node)?;
-        outs.append_to(&mut self.sent);
-        self.events.push_reserved(Event::Enter(id));
+        let sent = self
+            .ledger
+            .record(Event::Enter(id), id, outs, None, None, None);
         Ok(Stepped {
             tag: None,
             ended: None,
@@ -169,74 +158,73 @@ impl World {
     fn crash(&mut self, id: u64) -> Result<Stepped, WorldFault>
         ensures { Steps memory (crashes self.old id (live_at self.old id)) self.old self.new result }
     {
-        if !self.nodes.is_live(self.crashed.contains(id), id) {
+        if !self.nodes.is_live(self.ledger.has_crashed(id), id) {
             return Err(WorldFault::NoSuchNode);
         }
-        self.events.reserve(1)?;
-        self.crashed.insert(id)?;
-        self.events.push_reserved(Event::Crash(id));
-        Ok(silent(&self.sent))
+        let sent = self.ledger.crash(id)?;
+        Ok(silent(sent))
     }
 
     /// Something beside the world happens.
     fn other(&mut self) -> Result<Stepped, WorldFault>
         ensures { Steps memory (stepped self.old event.Other) self.old self.new result }
     {
-        self.events.reserve(1)?;
-        self.events.push_reserved(Event::Other);
-        Ok(silent(&self.sent))
+        let sent = self.ledger.pass()?;
+        Ok(silent(sent))
     }
 
     /// A node that is there acts.
     fn act(&mut self, id: u64, act: &Act) -> Result<Stepped, WorldFault>
         ensures { Steps memory (stepped self.old (event_of id act.now)) self.old self.new result }
     {
-        let place = next_place(&self.events);
-        self.events.reserve(1)?;
-        self.sent.reserve(2)?;
-        self.ops.reserve(1)?;
-        let counting = make_ready(self.alloc, &self.ops, id, act, &self.sent)?;
-        let crashed = self.crashed.contains(id);
+        self.ledger.reserve(id)?;
+        let counting = find(&self.ledger, id, act)?;
+        let crashed = self.ledger.has_crashed(id);
         let Report {
             outs,
             progress,
             begun,
             ended,
-        } = self.nodes.act(crashed, id, act, &self.sent)?;
-        let sent = numbers(&self.sent, outs.len());
-        move_op(self.alloc, &mut self.ops, place, progress, counting);
-        let tag = record_begun(&mut self.ops, id, place, begun);
-        outs.append_to(&mut self.sent);
-        self.events.push_reserved(event_of(id, act));
+        } = self.nodes.act(crashed, id, act, self.ledger.sent())?;
+        let tag = tag_of(&begun);
+        let sent = self
+            .ledger
+            .record(event_of(id, act), id, outs, progress, begun, counting);
         Ok(Stepped { tag, ended, sent })
     }
 }
 
-/// The place of the next event.
-fn next_place(events: &[Event]) -> usize
-    ensures { result ≡ length events.now }
+/// What the record of an operation needs, should the act of this node move it.
+fn find(ledger: &Ledger, id: u64, act: &Act) -> Result<Option<Counting>, AllocError>
+    ensures { IfOk result (IsReady ledger.now.past.ops id (answered_at id ledger.now.past.sent act.now)) }
 {
-    events.len()
+    let Act::Deliver(number) = act else {
+        return Ok(None);
+    };
+    let Some(message) = ledger.sent().get(*number) else {
+        return Ok(None);
+    };
+    ledger.find(id, message)
 }
 
-/// The numbers of so many messages, sent after these.
-fn numbers(sent: &[Message], count: usize) -> Sent
-    ensures { result ≡ record { first = length sent.now; count = count } }
+/// The tag of the operation that began.
+fn tag_of(begun: &Option<Opened>) -> Option<u64>
+    ensures { result ≡ tag_of begun.now }
 {
-    Sent {
-        first: sent.len(),
-        count,
+    match begun {
+        Some(opened) => Some(opened.tag),
+        None => None,
     }
 }
 
 /// What an event tells that begins, ends and sends nothing.
-fn silent(sent: &[Message]) -> Stepped
-    ensures { result ≡ record { tag = None; ended = None; sent = record { first = length sent.now; count = 0 } } }
+fn silent(sent: Sent) -> Stepped
+    ensures { result ≡ record { tag = None; ended = None; sent = sent } }
 {
     Stepped {
         tag: None,
         ended: None,
-        sent: numbers(sent, 0),
+        sent,
     }
 }
 
@@ -256,21 +244,4 @@ fn event_of(id: u64, act: &Act) -> Event
             node: id,
         },
     }
-}
-
-/// Puts the record of an operation that began at this place, for which there is room, and answers its tag.
-fn record_begun(ops: &mut Vec<Op>, node: u64, place: usize, begun: Option<Opened>) -> Option<u64>
-    requires { vec_len ops.old < vec_capacity ops.old }
-    ensures tag { result ≡ tag_of begun }
-    ensures items { ops.new.items ≡ ops.old.items ++ op_begun node place begun }
-{
-    let Opened { tag, session } = begun?;
-    ops.push_reserved(Op {
-        node,
-        tag,
-        begin: place,
-        end: None,
-        session,
-    });
-    Some(tag)
 }

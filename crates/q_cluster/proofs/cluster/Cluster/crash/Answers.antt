@@ -1,14 +1,10 @@
-use Rattle.std.proofs.Common.{refl}
-use Rattle.sc_world.specs.declared.event.Event.TheVariants as world_event
-use Rattle.q_history.specs.declared.event.Event.TheVariants as event
+use Rattle.std.proofs.Common.{◌∙◌, ap, sym, is_some}
+use Rattle.sc_world.specs.Worlds.{live_at}
 use Rattle.q_history.specs.State.{ClusterState}
-use Rattle.q_history.specs.Clusters.{crashes}
-use Rattle.q_cluster.specs.contracts.cluster.Cluster as cluster
-use Rattle.q_cluster.proofs.Going.{taken_history}
+use Rattle.q_cluster.proofs.Going.{crash_goes}
 use Rattle.q_cluster.proofs.cluster.Cluster.crash.Goals as goal
 
 pub invariant_of-self-2 : goal.invariant_of-self-2
 invariant_of-self-2 c =
-    let v : ClusterState = cluster.the_view c.self.inside in
-    taken_history v (event.Crash c.args.id) (world_event.Crash c.args.id) (crashes v) (λ _. tt) (λ _. refl) c.self.invariant
-    c.in_ok-stepped.stepped c.step.new.self c.in_ok-stepped.ensures refl c.self.inside.desks refl
+    crash_goes c.self.inside.books c.self.inside.ledger.past c.self.inside.jobs.items c.args.id c.self.invariant c.crash.new.self.past c.in_ok-sent.sent c.in_ok-sent.ensures.ok.0 c.in_ok-sent.ensures.ok.1
+    (c.if-not-is_live.ensures ∙ ap (λ (x : ClusterState). is_some (live_at x.world c.args.id)) (sym c.self.view_is))

@@ -1,5 +1,4 @@
 use Rattle.std.proofs.Common.{◌≡◌, ◌∙◌, ◌≤◌, inl, inr, [], length, refl, sym, ap, arith, append-nil, string_bytes}
-use Rattle.sc_world.specs.State.{WorldState}
 use Rattle.q_sim.specs.Simulates.{DeliversAll}
 use Rattle.q_sim.specs.Seen.{seen}
 use Rattle.q_sim.proofs.Spreading.{all_made, nothing_awaited}
@@ -10,7 +9,7 @@ returns-else-message-sent c =
     let inv = c.loop-left.invariant in
     let old = seen c.args.self.now in
     let now = seen c.loop-left.self in
-    let count : c.sent.result ≡ length c.loop-left.self.cluster.world.sent = c.sent.ensures ∙ ap (λ (w : WorldState). length w.sent) c.world.ensures in
+    let count : c.sent.result ≡ length c.loop-left.self.cluster.world.sent = c.sent.ensures in
     let over : length c.loop-left.self.cluster.world.sent ≤ c.loop-left.message = omega (arith, count, c.if-message-sent.false) in
     let made : DeliversAll c.args.limit old now = elim inv.over [
       | inl none ↦ all_made c.args.limit old c.loop-left.left now inv.onward none

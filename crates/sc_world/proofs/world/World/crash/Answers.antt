@@ -1,6 +1,5 @@
-use Rattle.std.proofs.Common.{◌∙◌, ◌++◌, ◌∷◌, [], List, ap, is_some}
+use Rattle.std.proofs.Common.{◌∙◌, ap, is_some}
 use Rattle.std.specs.FinMap as fin
-use Rattle.sc_world.specs.declared.event.Event.{Event}
 use Rattle.sc_world.specs.declared.event.Event.TheVariants as event
 use Rattle.sc_world.specs.contracts.world.World as world
 use Rattle.sc_world.specs.Worlds.{live}
@@ -11,6 +10,6 @@ use Rattle.sc_world.proofs.world.World.crash.Goals as goal
 pub invariant_of-self-2 : goal.invariant_of-self-2
 invariant_of-self-2 c =
     history_next (world.the_view c.self.inside) (event.Crash c.args.id) _ _ c.self.invariant
-    (crash_step (world.the_view c.self.inside) c.args.id c.insert.new.self c.push_reserved.new.self.items
-    (c.if-not-is_live.ensures ∙ ap (λ b. is_some (live b (fin.get c.self.inside.nodes c.args.id))) c.contains.ensures) c.in_ok-insert.ensures.ok
-    (c.push_reserved.ensures.items ∙ ap (λ (es : List Event). es ++ event.Crash c.args.id ∷ []) c.in_ok-reserve.ensures.items))
+    (crash_step (world.the_view c.self.inside) c.args.id c.crash.new.self.past c.in_ok-sent.sent
+    (c.if-not-is_live.ensures ∙ ap (λ b. is_some (live b (fin.get c.self.inside.nodes c.args.id))) c.has_crashed.ensures)
+    c.in_ok-sent.ensures.ok.0 c.in_ok-sent.ensures.ok.1)

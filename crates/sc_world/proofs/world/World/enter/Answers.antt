@@ -1,33 +1,35 @@
-use Rattle.std.proofs.Common.{◌≡◌, ◌∙◌, ◌++◌, ◌∷◌, [], List, Ok, None, length, ap, sym}
+use Rattle.std.proofs.Common.{◌≡◌, ◌∙◌, List, Ok, Result, None, length, ap, sym}
 use Rattle.std.specs.FinMap as fin
+use Rattle.sc_members.specs.Members.{Config}
 use Rattle.sc_msg.specs.declared.message.Message.{Message}
-use Rattle.sc_world.specs.declared.event.Event.{Event}
+use Rattle.sc_node.specs.State.{NodeState}
+use Rattle.sc_node.specs.Nodes.{entered}
 use Rattle.sc_world.specs.declared.event.Event.TheVariants as event
 use Rattle.sc_world.specs.contracts.world.World as world
-use Rattle.sc_world.specs.State.{WorldState}
+use Rattle.sc_world.specs.State.{WorldState, Past, world_of, past_of}
+use Rattle.sc_world.specs.Ledgers.{recorded, numbered}
 use Rattle.sc_world.specs.Worlds.{enters}
 use Rattle.sc_world.proofs.Inverts.{same_answer}
 use Rattle.sc_world.proofs.Histories.{history_next}
+use Rattle.sc_world.proofs.Moving.{nothing_moves}
 use Rattle.sc_world.proofs.Acting.{enter_step}
 use Rattle.sc_world.proofs.world.World.enter.Goals as goal
 
-module _ (c : goal.After-push_reserved) where
+pub record-sent-requires-clause-ready : goal.record-sent-requires-clause-ready
+record-sent-requires-clause-ready c = nothing_moves c.reserve.new.self.past.ops c.args.id (length c.reserve.new.self.past.events)
+
+module _ (c : goal.After-record-sent) where
   abbrev w : WorldState
   w = world.the_view c.self.inside
 
-  pub step : enters w c.args.id (fin.get w.nodes c.args.id)
-      ≡ Ok (
-        record { tag = None; ended = None; sent = c.numbers-sent.result },
-        record { config = w.config; founders = w.founders; nodes = c.insert.new.self; crashed = w.crashed; events = c.push_reserved.new.self.items; sent = c.append_to.new.sent.items; ops = w.ops },
-      )
+  pub step : enters w c.args.id (fin.get w.nodes c.args.id) ≡ Ok (record { tag = None; ended = None; sent = c.record-sent.result }, world_of c.insert.new.self c.record-sent.new.self.past)
   step =
-      enter_step w c.args.id c.in_ok-node.node c.in_ok-node.outs c.insert.new.self c.push_reserved.new.self.items c.append_to.new.sent.items c.numbers-sent.result
+      enter_step w c.args.id c.in_ok-node.node c.in_ok-node.outs c.insert.new.self c.record-sent.new.self.past c.record-sent.result
       (sym c.has.ensures ∙ c.if-has.false)
-      (same_answer _ _ c.in_ok-node.ensures)
+      (ap (λ (k : Config). entered k c.args.id) (sym (c.config.ensures ∙ ap (λ (p : Past). p.config) c.in_ok-reserve.ensures.past)) ∙ same_answer (entered c.config.result c.args.id) (c.in_ok-node.node, c.in_ok-node.outs) c.in_ok-node.ensures)
       c.in_ok-insert.ensures.ok
-      (c.push_reserved.ensures.items ∙ ap (λ (es : List Event). es ++ event.Enter c.args.id ∷ []) c.in_ok-reserve.ensures.items)
-      (c.append_to.ensures ∙ ap (λ (ms : List Message). ms ++ c.in_ok-node.outs) c.in_ok-reserve-2.ensures.items)
-      (c.numbers-sent.ensures ∙ (λ i. record { first = length ((c.deref.ensures.value ∙ c.in_ok-reserve-2.ensures.items) i); count = c.len.ensures.value i }))
+      (c.record-sent.ensures.past ∙ ap (λ (p : Past). recorded p (event.Enter c.args.id) c.args.id c.in_ok-node.outs None None) c.in_ok-reserve.ensures.past)
+      (c.record-sent.ensures.sent ∙ ap (λ (p : Past). numbered p c.in_ok-node.outs) c.in_ok-reserve.ensures.past)
 
 pub invariant_of-self-2 : goal.invariant_of-self-2
 invariant_of-self-2 c = history_next (world.the_view c.self.inside) (event.Enter c.args.id) _ _ c.self.invariant (step c)

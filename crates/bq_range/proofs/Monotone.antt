@@ -1,0 +1,419 @@
+-- Smaller operands leave smaller results.
+use Rattle.std.proofs.Common.{◌≡◌, ℕ, ◌+◌, ◌-◌, ◌*◌, ◌/◌, ◌%◌, ◌^◌, ◌<◌, ◌≤◌, Bool, true, false, cond, eqb, ltb, leb, arith, ap, subst, sym, ◌∙◌, inl, inr, ◌⊎◌, refl, ◌&&◌, ◌||◌}
+use Rattle.std.specs.Prelude.{max, min}
+use Rattle.std.proofs.lemmas.Bool.{cond_both, true≢false, lt-ltb, le-leb, ltb-true, ltb-false, leb-true, leb-false, eqb-true, eqb-false, eq-eqb, or_cases, and_parts, cases_lt, cases_eq, cases_Bool}
+use Rattle.std.proofs.lemmas.Nat.{mul-le, pow_pos, shr_le}
+use Rattle.std.proofs.Math.Bool.{or-true}
+use Rattle.std.proofs.Math.Nat.{mod-eq_of_lt, div-le_self, mod-le, div-add-mod}
+use Rattle.bq_word.specs.Word.{operation, bits_of, low, extended, swapped, sign_bits, swap_bits}
+use Rattle.bq_word.specs.declared.SignBits.{SignBits}
+use Rattle.bq_word.specs.declared.SwapBits.{SwapBits}
+use Rattle.bq_word.specs.declared.SwapBits.TheVariants.{B16, B32, B64}
+use Rattle.bq_word.specs.declared.Width.TheVariants.{W32, W64}
+use Rattle.bq_word.specs.declared.Width.{Width}
+use Rattle.bq_word.specs.declared.AluOp.{AluOp}
+use Rattle.bq_word.specs.declared.AluOp.TheVariants.{Add, Sub, Mul, Div, SignedDiv, Or, And, ShiftLeft, ShiftRight, Mod, SignedMod, Xor, Mov, ArithmeticShiftRight}
+use Rattle.bq_word.proofs.Bounds.{low_bound, operation_bound, extended_bound, swapped_bound}
+use Rattle.bq_range.specs.Interval.{Interval, IsIn, Within, between, single, is_single, top, whole, cut}
+use Rattle.bq_range.specs.Table.{operated, row, sums, differences, products, quotients, remainders, ones, conjunctions, disjunctions, exclusive_disjunctions, shifted_left, left_shifts, right_shifts, arithmetic_right_shifts, negatives, negated, extensions, sign_extended, low_range, swapped_range}
+use Rattle.bq_range.proofs.Held.{div_mono, words}
+use Rattle.bq_range.proofs.Ones.{ones_above, ones_least, ones_power}
+use Rattle.bq_range.proofs.Rows.{shift_mono, sides, plain}
+use Rattle.bq_range.proofs.Covers.{cut_covers, cut_bound, operated_covers, negated_covers, sign_extended_covers, low_range_covers, swapped_range_covers}
+
+-- ---- choices
+
+small : (t : Bool) (u v r : Interval) → (t ≡ true → Within u r) → (t ≡ false → Within v r) → Within (cond t u v) r
+small t u v r = cond_both t u v (λ x. Within x r)
+
+large : (t : Bool) (u v r : Interval) → (t ≡ true → Within r u) → (t ≡ false → Within r v) → Within r (cond t u v)
+large t u v r = cond_both t u v (λ x. Within r x)
+
+small_le : (i j : ℕ) (u v r : Interval) → (i ≤ j → Within u r) → (j < i → Within v r) → Within (cond (leb i j) u v) r
+small_le i j u v r f g = small (leb i j) u v r (λ e. f (leb-true i j e)) (λ e. g (leb-false i j e))
+
+small_lt : (i j : ℕ) (u v r : Interval) → (i < j → Within u r) → (j ≤ i → Within v r) → Within (cond (ltb i j) u v) r
+small_lt i j u v r f g = small (ltb i j) u v r (λ e. f (ltb-true i j e)) (λ e. g (ltb-false i j e))
+
+large_le : (i j : ℕ) (u v r : Interval) → (i ≤ j → Within r u) → (j < i → Within r v) → Within r (cond (leb i j) u v)
+large_le i j u v r f g = large (leb i j) u v r (λ e. f (leb-true i j e)) (λ e. g (leb-false i j e))
+
+large_lt : (i j : ℕ) (u v r : Interval) → (i < j → Within r u) → (j ≤ i → Within r v) → Within r (cond (ltb i j) u v)
+large_lt i j u v r f g = large (ltb i j) u v r (λ e. f (ltb-true i j e)) (λ e. g (ltb-false i j e))
+
+in_whole : (w : ℕ) (r : Interval) → r.hi < 2 ^ w → Within r (whole w)
+in_whole w r h = record { low = omega arith; high = omega arith }
+
+itself : (a : Interval) → Within a a
+itself a = record { low = omega arith; high = omega arith }
+
+-- what is common to the rows: ranges that are not empty, of numbers of the width, each inside the other
+record Inside (w : ℕ) (a b c d : Interval) : Type 0 where
+  a_ordered : a.lo ≤ a.hi
+  b_ordered : b.lo ≤ b.hi
+  c_fits : c.hi < 2 ^ w
+  d_fits : d.hi < 2 ^ w
+  left : Within a c
+  right : Within b d
+
+sums_fit : (w : ℕ) (a b : Interval) → a.hi < 2 ^ w → b.hi < 2 ^ w → (sums w a b).hi < 2 ^ w
+sums_fit w a b h k =
+    cond_both (leb (a.hi + b.hi) (top w)) (between (a.lo + b.lo) (a.hi + b.hi)) _ (λ r. r.hi < 2 ^ w)
+    (λ e. let s = leb-true (a.hi + b.hi) (top w) e in omega (arith, s, pow_pos w))
+    (λ e. cond_both (ltb (top w) (a.lo + b.lo)) (between (a.lo + b.lo - 2 ^ w) (a.hi + b.hi - 2 ^ w)) (whole w) (λ r. r.hi < 2 ^ w) (λ t. omega arith) (λ t. omega (arith, pow_pos w)))
+
+sums_within : (w : ℕ) (a b c d : Interval) → Inside w a b c d → Within (sums w a b) (sums w c d)
+sums_within w a b c d h =
+    let l = h.left in
+    let r = h.right in
+    let ah : a.hi < 2 ^ w = omega (arith, l.high, h.c_fits) in
+    let bh : b.hi < 2 ^ w = omega (arith, r.high, h.d_fits) in
+    large_le (c.hi + d.hi) (top w) _ _ _
+    (λ s. small_le (a.hi + b.hi) (top w) _ _ _ (λ t. record { low = omega (arith, l.low, r.low); high = omega (arith, l.high, r.high) }) (λ t. absurd (omega (arith, l.high, r.high))))
+    (λ s. large_lt (top w) (c.lo + d.lo) _ _ _
+    (λ t. small_le (a.hi + b.hi) (top w) _ _ _ (λ u. absurd (omega (arith, l.low, r.low, h.a_ordered, h.b_ordered)))
+    (λ u. small_lt (top w) (a.lo + b.lo) _ _ _ (λ v. record { low = omega (arith, l.low, r.low); high = omega (arith, l.high, r.high) }) (λ v. absurd (omega (arith, l.low, r.low)))))
+    (λ t. in_whole w (sums w a b) (sums_fit w a b ah bh)))
+
+differences_fit : (w : ℕ) (a b : Interval) → a.hi < 2 ^ w → b.hi < 2 ^ w → (differences w a b).hi < 2 ^ w
+differences_fit w a b h k =
+    cond_both (leb b.hi a.lo) (between (a.lo - b.hi) (a.hi - b.lo)) _ (λ r. r.hi < 2 ^ w)
+    (λ e. omega arith)
+    (λ e. cond_both (ltb a.hi b.lo) (between (2 ^ w + a.lo - b.hi) (2 ^ w + a.hi - b.lo)) (whole w) (λ r. r.hi < 2 ^ w)
+    (λ t. let s = ltb-true a.hi b.lo t in omega (arith, s)) (λ t. omega (arith, pow_pos w)))
+
+differences_within : (w : ℕ) (a b c d : Interval) → Inside w a b c d → Within (differences w a b) (differences w c d)
+differences_within w a b c d h =
+    let l = h.left in
+    let r = h.right in
+    let ah : a.hi < 2 ^ w = omega (arith, l.high, h.c_fits) in
+    let bh : b.hi < 2 ^ w = omega (arith, r.high, h.d_fits) in
+    large_le d.hi c.lo _ _ _
+    (λ s. small_le b.hi a.lo _ _ _ (λ t. record { low = omega (arith, l.low, r.high); high = omega (arith, l.high, r.low, h.a_ordered, h.b_ordered) }) (λ t. absurd (omega (arith, l.low, r.high))))
+    (λ s. large_lt c.hi d.lo _ _ _
+    (λ t. small_le b.hi a.lo _ _ _ (λ u. absurd (omega (arith, l.high, r.low, h.a_ordered, h.b_ordered)))
+    (λ u. small_lt a.hi b.lo _ _ _ (λ v. record { low = omega (arith, l.low, r.high, h.d_fits); high = omega (arith, l.high, r.low, h.d_fits, bh, h.b_ordered) }) (λ v. absurd (omega (arith, l.high, r.low, h.b_ordered, h.a_ordered)))))
+    (λ t. in_whole w (differences w a b) (differences_fit w a b ah bh)))
+
+products_fit : (w : ℕ) (a b : Interval) → (products w a b).hi < 2 ^ w
+products_fit w a b =
+    cond_both (leb (a.hi * b.hi) (top w)) (between (a.lo * b.lo) (a.hi * b.hi)) (whole w) (λ r. r.hi < 2 ^ w)
+    (λ e. let s = leb-true (a.hi * b.hi) (top w) e in omega (arith, s, pow_pos w))
+    (λ e. omega (arith, pow_pos w))
+
+products_within : (w : ℕ) (a b c d : Interval) → Within a c → Within b d → Within (products w a b) (products w c d)
+products_within w a b c d l r =
+    let most : a.hi * b.hi ≤ c.hi * d.hi = mul-le a.hi b.hi c.hi d.hi l.high r.high in
+    large_le (c.hi * d.hi) (top w) _ _ _
+    (λ s. small_le (a.hi * b.hi) (top w) _ _ _ (λ t. record { low = mul-le c.lo d.lo a.lo b.lo l.low r.low; high = most }) (λ t. absurd (omega (arith, most))))
+    (λ s. in_whole w (products w a b) (products_fit w a b))
+
+quotients_within : (w : ℕ) (a b c d : Interval) → Inside w a b c d → Within (quotients a b) (quotients c d)
+quotients_within w a b c d h =
+    let l = h.left in
+    let r = h.right in
+    large_le 1 d.lo _ _ _
+    (λ s. small_le 1 b.lo _ _ _
+    (λ t. record { low = div_mono c.lo a.lo d.hi b.hi l.low r.high (omega (arith, h.b_ordered)); high = div_mono a.hi c.hi b.lo d.lo l.high r.low s })
+    (λ t. absurd (omega (arith, r.low))))
+    (λ s. small_le 1 b.lo _ _ _
+    (λ t. record { low = omega arith; high = omega (arith, div-le_self a.hi b.lo, l.high) })
+    (λ t. record { low = omega arith; high = l.high }))
+
+remainders_within : (w : ℕ) (a b c d : Interval) → Inside w a b c d → Within (remainders a b) (remainders c d)
+remainders_within w a b c d h =
+    let l = h.left in
+    let r = h.right in
+    large_le 1 d.lo _ _ _
+    (λ s. small_le 1 b.lo _ _ _
+    (λ t. large_lt c.hi d.lo _ _ _
+    (λ u. small_lt a.hi b.lo _ _ _ (λ v. l) (λ v. absurd (omega (arith, l.high, r.low))))
+    (λ u. small_lt a.hi b.lo _ _ _ (λ v. record { low = omega arith; high = omega (arith, l.high, r.high, h.b_ordered) }) (λ v. record { low = omega arith; high = omega (arith, l.high, r.high) })))
+    (λ t. absurd (omega (arith, r.low))))
+    (λ s. small_le 1 b.lo _ _ _
+    (λ t. small_lt a.hi b.lo _ _ _ (λ v. record { low = omega arith; high = l.high }) (λ v. record { low = omega arith; high = omega (arith, l.high) }))
+    (λ t. record { low = omega arith; high = l.high }))
+
+ones_mono : (x y : ℕ) → x ≤ y → y < 2 ^ 64 → ones x ≤ ones y
+ones_mono x y h k =
+    let (n, e) = ones_power y in
+    let above : y ≤ ones y = ones_above y k in
+    let below : ones x < 2 ^ n = ones_least x n (omega (arith, h, k)) (omega (arith, above, e, h, pow_pos n)) in
+    omega (arith, below, e)
+
+conjunctions_within : (a b c d : Interval) → Within a c → Within b d → Within (conjunctions a b) (conjunctions c d)
+conjunctions_within a b c d l r = record { low = omega arith; high = omega (arith, l.high, r.high) }
+
+disjunctions_within : (a b c d : Interval) → c.hi < 2 ^ 64 → d.hi < 2 ^ 64 → Within a c → Within b d → Within (disjunctions a b) (disjunctions c d)
+disjunctions_within a b c d p q l r = record { low = omega (arith, l.low, r.low); high = ones_mono (max a.hi b.hi) (max c.hi d.hi) (omega (arith, l.high, r.high)) (omega arith) }
+
+exclusive_within : (a b c d : Interval) → c.hi < 2 ^ 64 → d.hi < 2 ^ 64 → Within a c → Within b d → Within (exclusive_disjunctions a b) (exclusive_disjunctions c d)
+exclusive_within a b c d p q l r = record { low = omega arith; high = ones_mono (max a.hi b.hi) (max c.hi d.hi) (omega (arith, l.high, r.high)) (omega arith) }
+
+-- a single count is that of the smaller range too
+large_single : (b d : Interval) (u v r : Interval) → (d.lo ≡ d.hi → Within r u) → Within r v → Within r (cond (is_single d) u v)
+large_single b d u v r f g = large (is_single d) u v r (λ e. f (eqb-true d.lo d.hi e)) (λ _. g)
+
+is_also_single : (b d : Interval) → b.lo ≤ b.hi → Within b d → d.lo ≡ d.hi → (is_single b ≡ true) × (b.lo ≡ d.lo)
+is_also_single b d o r e = (eq-eqb b.lo b.hi (omega (arith, r.low, r.high)), omega (arith, r.low, r.high))
+
+shifted_left_fits : (w : ℕ) (a : Interval) (n : ℕ) → (shifted_left w a n).hi < 2 ^ w
+shifted_left_fits w a n = products_fit w a (single (2 ^ n))
+
+left_shifts_fit : (w : ℕ) (a b : Interval) → (left_shifts w a b).hi < 2 ^ w
+left_shifts_fit w a b = cond_both (is_single b) (shifted_left w a (b.lo % w)) (whole w) (λ r. r.hi < 2 ^ w) (λ _. shifted_left_fits w a (b.lo % w)) (λ _. omega (arith, pow_pos w))
+
+left_shifts_within : (w : ℕ) (a b c d : Interval) → b.lo ≤ b.hi → Within a c → Within b d → Within (left_shifts w a b) (left_shifts w c d)
+left_shifts_within w a b c d o l r =
+    large_single b d (shifted_left w c (d.lo % w)) (whole w) (left_shifts w a b)
+    (λ e. let s = is_also_single b d o r e in
+    let n : 2 ^ (b.lo % w) ≡ 2 ^ (d.lo % w) = ap (λ (x : ℕ). 2 ^ (x % w)) s.1 in
+    rw (s.0, n) (products_within w a (single (2 ^ (d.lo % w))) c (single (2 ^ (d.lo % w))) l (itself (single (2 ^ (d.lo % w))))))
+    (in_whole w (left_shifts w a b) (left_shifts_fit w a b))
+
+right_shifts_within : (w : ℕ) (a b c d : Interval) → b.lo ≤ b.hi → Within a c → Within b d → Within (right_shifts w a b) (right_shifts w c d)
+right_shifts_within w a b c d o l r =
+    large_single b d (between (c.lo / 2 ^ (d.lo % w)) (c.hi / 2 ^ (d.lo % w))) (between 0 c.hi) (right_shifts w a b)
+    (λ e. let s = is_also_single b d o r e in
+    let n : 2 ^ (b.lo % w) ≡ 2 ^ (d.lo % w) = ap (λ (x : ℕ). 2 ^ (x % w)) s.1 in
+    let p = pow_pos (d.lo % w) in
+    rw (s.0, n) (record { low = div_mono c.lo a.lo (2 ^ (d.lo % w)) (2 ^ (d.lo % w)) l.low (omega arith) p; high = div_mono a.hi c.hi (2 ^ (d.lo % w)) (2 ^ (d.lo % w)) l.high (omega arith) p }))
+    (small (is_single b) (between (a.lo / 2 ^ (b.lo % w)) (a.hi / 2 ^ (b.lo % w))) (between 0 a.hi) (between 0 c.hi)
+    (λ _. record { low = omega arith; high = omega (arith, shr_le a.hi (b.lo % w), l.high) })
+    (λ _. record { low = omega arith; high = l.high }))
+
+abbrev shifts : ℕ → Interval → ℕ → Interval
+shifts w a n = between (operation w ArithmeticShiftRight a.lo n) (operation w ArithmeticShiftRight a.hi n)
+
+fits_either : (w : ℕ) (t : Bool) (u v : Interval) → u.hi < 2 ^ w → v.hi < 2 ^ w → (cond t u v).hi < 2 ^ w
+fits_either w t u v h k = cond_both t u v (λ (r : Interval). r.hi < 2 ^ w) (λ _. h) (λ _. k)
+
+whole_fits : (w : ℕ) → (whole w).hi < 2 ^ w
+whole_fits w = omega (arith, pow_pos w)
+
+arithmetic_fit : (w : ℕ) (a b : Interval) → a.hi < 2 ^ w → (arithmetic_right_shifts w a b).hi < 2 ^ w
+arithmetic_fit w a b h =
+    fits_either w (is_single b) _ _
+    (fits_either w (ltb a.hi (2 ^ (w - 1)) || leb (2 ^ (w - 1)) a.lo) (shifts w a b.lo) (whole w) (operation_bound w ArithmeticShiftRight a.hi b.lo) (whole_fits w))
+    (fits_either w (ltb a.hi (2 ^ (w - 1))) (between 0 a.hi) (whole w) h (whole_fits w))
+
+-- on one side of the sign
+smaller_side : (w : ℕ) (a c : Interval) → a.lo ≤ a.hi → Within a c → (c.hi < 2 ^ (w - 1)) ⊎ (2 ^ (w - 1) ≤ c.lo) → (a.hi < 2 ^ (w - 1)) ⊎ (2 ^ (w - 1) ≤ a.lo)
+smaller_side w a c o l side = elim side [ inl h ↦ inl (omega (arith, l.high)) | inr h ↦ inr (omega (arith, l.low)) ]
+
+test_of : (w : ℕ) (a : Interval) → (a.hi < 2 ^ (w - 1)) ⊎ (2 ^ (w - 1) ≤ a.lo) → (ltb a.hi (2 ^ (w - 1)) || leb (2 ^ (w - 1)) a.lo) ≡ true
+test_of w a side = elim side [ inl h ↦ rw (lt-ltb a.hi (2 ^ (w - 1)) h) refl | inr h ↦ rw (le-leb (2 ^ (w - 1)) a.lo h) (or-true (ltb a.hi (2 ^ (w - 1)))) ]
+
+shifts_within : (w : ℕ) (a c : Interval) (n : ℕ) → c.hi < 2 ^ w → a.lo ≤ a.hi → Within a c → (c.hi < 2 ^ (w - 1)) ⊎ (2 ^ (w - 1) ≤ c.lo) → Within (shifts w a n) (shifts w c n)
+shifts_within w a c n fits o l side =
+    let low : (a.lo < 2 ^ (w - 1)) ⊎ (2 ^ (w - 1) ≤ c.lo) = elim side [ inl h ↦ inl (omega (arith, l.high, o)) | inr h ↦ inr h ] in
+    let high : (c.hi < 2 ^ (w - 1)) ⊎ (2 ^ (w - 1) ≤ a.hi) = elim side [ inl h ↦ inl h | inr h ↦ inr (omega (arith, l.low, o)) ] in
+    record { low = shift_mono w c.lo a.lo n l.low (omega (arith, l.high, o)) low; high = shift_mono w a.hi c.hi n l.high fits high }
+
+arithmetic_within : (w : ℕ) (a b c d : Interval) → Inside w a b c d → Within (arithmetic_right_shifts w a b) (arithmetic_right_shifts w c d)
+arithmetic_within w a b c d h =
+    let l = h.left in
+    let r = h.right in
+    let ah : a.hi < 2 ^ w = omega (arith, l.high, h.c_fits) in
+    large_single b d (cond (ltb c.hi (2 ^ (w - 1)) || leb (2 ^ (w - 1)) c.lo) (shifts w c d.lo) (whole w)) (cond (ltb c.hi (2 ^ (w - 1))) (between 0 c.hi) (whole w)) (arithmetic_right_shifts w a b)
+    (λ e. large (ltb c.hi (2 ^ (w - 1)) || leb (2 ^ (w - 1)) c.lo) (shifts w c d.lo) (whole w) (arithmetic_right_shifts w a b)
+    (λ t. let side = sides w c.lo c.hi t in
+    let s = is_also_single b d h.b_ordered r e in
+    rw (s.0, test_of w a (smaller_side w a c h.a_ordered l side), s.1) (shifts_within w a c d.lo h.c_fits h.a_ordered l side))
+    (λ t. in_whole w (arithmetic_right_shifts w a b) (arithmetic_fit w a b ah)))
+    (large_lt c.hi (2 ^ (w - 1)) (between 0 c.hi) (whole w) (arithmetic_right_shifts w a b)
+    (λ t. small (is_single b) _ _ (between 0 c.hi)
+    (λ _. small (ltb a.hi (2 ^ (w - 1)) || leb (2 ^ (w - 1)) a.lo) (shifts w a b.lo) (whole w) (between 0 c.hi)
+    (λ _. record { low = omega arith; high = omega (arith, plain w a.hi b.lo (omega (arith, t, l.high)), shr_le a.hi (b.lo % w), l.high) })
+    (λ f. absurd (true≢false (sym (test_of w a (inl (omega (arith, t, l.high)))) ∙ f))))
+    (λ _. small_lt a.hi (2 ^ (w - 1)) (between 0 a.hi) (whole w) (between 0 c.hi) (λ _. record { low = omega arith; high = l.high }) (λ u. absurd (omega (arith, l.high)))))
+    (λ t. in_whole w (arithmetic_right_shifts w a b) (arithmetic_fit w a b ah)))
+
+-- ---- all rows
+
+row_within : (width : Width) (op : AluOp) (a b c d : Interval) → Inside (bits_of width) a b c d → Within (row (bits_of width) op a b) (row (bits_of width) op c d)
+row_within width Add a b c d h = sums_within (bits_of width) a b c d h
+row_within width Sub a b c d h = differences_within (bits_of width) a b c d h
+row_within width Mul a b c d h = products_within (bits_of width) a b c d h.left h.right
+row_within width Div a b c d h = quotients_within (bits_of width) a b c d h
+row_within width SignedDiv a b c d h = itself (whole (bits_of width))
+row_within width Or a b c d h = disjunctions_within a b c d (omega (arith, words width, h.c_fits)) (omega (arith, words width, h.d_fits)) h.left h.right
+row_within width And a b c d h = conjunctions_within a b c d h.left h.right
+row_within width ShiftLeft a b c d h = left_shifts_within (bits_of width) a b c d h.b_ordered h.left h.right
+row_within width ShiftRight a b c d h = right_shifts_within (bits_of width) a b c d h.b_ordered h.left h.right
+row_within width Mod a b c d h = remainders_within (bits_of width) a b c d h
+row_within width SignedMod a b c d h = itself (whole (bits_of width))
+row_within width Xor a b c d h = exclusive_within a b c d (omega (arith, words width, h.c_fits)) (omega (arith, words width, h.d_fits)) h.left h.right
+row_within width Mov a b c d h = h.right
+row_within width ArithmeticShiftRight a b c d h = arithmetic_within (bits_of width) a b c d h
+
+-- ---- operands cut to their low bits
+
+cut_ordered : (w : ℕ) (a : Interval) → a.lo ≤ a.hi → (cut w a).lo ≤ (cut w a).hi
+cut_ordered w a o = let h = cut_covers w a a.lo (record { low = omega arith; high = o }) in omega (arith, h.low, h.high)
+
+cut_within : (w : ℕ) (a c : Interval) → a.lo ≤ a.hi → Within a c → Within (cut w a) (cut w c)
+cut_within w a c o l =
+    large (eqb (c.lo / 2 ^ w) (c.hi / 2 ^ w)) (between (low w c.lo) (low w c.hi)) (whole w) (cut w a)
+    (λ t. let e = eqb-true (c.lo / 2 ^ w) (c.hi / 2 ^ w) t in
+    let p : c.lo / 2 ^ w ≤ a.lo / 2 ^ w = div_mono c.lo a.lo (2 ^ w) (2 ^ w) l.low (omega arith) (pow_pos w) in
+    let q : a.lo / 2 ^ w ≤ a.hi / 2 ^ w = div_mono a.lo a.hi (2 ^ w) (2 ^ w) o (omega arith) (pow_pos w) in
+    let s : a.hi / 2 ^ w ≤ c.hi / 2 ^ w = div_mono a.hi c.hi (2 ^ w) (2 ^ w) l.high (omega arith) (pow_pos w) in
+    let u : 2 ^ w * (c.lo / 2 ^ w) ≡ 2 ^ w * (a.lo / 2 ^ w) = ap (λ (n : ℕ). 2 ^ w * n) (omega (arith, e, p, q, s)) in
+    let v : 2 ^ w * (c.lo / 2 ^ w) ≡ 2 ^ w * (a.hi / 2 ^ w) = ap (λ (n : ℕ). 2 ^ w * n) (omega (arith, e, p, q, s)) in
+    let x : 2 ^ w * (c.lo / 2 ^ w) ≡ 2 ^ w * (c.hi / 2 ^ w) = ap (λ (n : ℕ). 2 ^ w * n) e in
+    let same : a.lo / 2 ^ w ≡ a.hi / 2 ^ w = omega (arith, e, p, q, s) in
+    rw (eq-eqb (a.lo / 2 ^ w) (a.hi / 2 ^ w) same)
+    (record {
+      low = omega (arith, l.low, u, div-add-mod a.lo (2 ^ w), div-add-mod c.lo (2 ^ w));
+      high = omega (arith, l.high, v, x, div-add-mod a.hi (2 ^ w), div-add-mod c.hi (2 ^ w));
+    }))
+    (λ _. in_whole w (cut w a) (cut_bound w a))
+
+-- ---- two operands
+
+one_word : (x : ℕ) (r : Interval) → IsIn x r → Within (single x) r
+one_word x r h = record { low = h.low; high = h.high }
+
+-- smaller operands leave a smaller range
+pub operated_within : (width : Width) (op : AluOp) (a b c d : Interval) → a.lo ≤ a.hi → b.lo ≤ b.hi → Within a c → Within b d → Within (operated (bits_of width) op a b) (operated (bits_of width) op c d)
+operated_within width op a b c d o p l r =
+    let w = bits_of width in
+    small (is_single a && is_single b) (single (operation w op a.lo b.lo)) (row w op (cut w a) (cut w b)) (operated w op c d)
+    (λ _. one_word (operation w op a.lo b.lo) (operated w op c d) (operated_covers width op c d a.lo b.lo (record { low = l.low; high = omega (arith, o, l.high) }) (record { low = r.low; high = omega (arith, p, r.high) })))
+    (λ f. large (is_single c && is_single d) (single (operation w op c.lo d.lo)) (row w op (cut w c) (cut w d)) (row w op (cut w a) (cut w b))
+    (λ t. let (i, j) = and_parts (is_single c) (is_single d) t in
+    let s = is_also_single a c o l (eqb-true c.lo c.hi i) in
+    let u = is_also_single b d p r (eqb-true d.lo d.hi j) in
+    absurd (true≢false (sym (both_true (is_single a) (is_single b) s.0 u.0) ∙ f)))
+    (λ _. row_within width op (cut w a) (cut w b) (cut w c) (cut w d) (record {
+      a_ordered = cut_ordered w a o;
+      b_ordered = cut_ordered w b p;
+      c_fits = cut_bound w c;
+      d_fits = cut_bound w d;
+      left = cut_within w a c o l;
+      right = cut_within w b d p r;
+    })))
+  where
+    both_true : (x y : Bool) → x ≡ true → y ≡ true → (x && y) ≡ true
+    both_true x y e f = rw (e, f) refl
+
+-- ---- one operand
+
+-- of one word the exact result, which the larger range's result holds; else the row
+of_one : (f : ℕ → ℕ) (a c u v : Interval) → a.lo ≤ a.hi → Within a c → IsIn (f a.lo) (cond (is_single c) (single (f c.lo)) v) → Within u v → Within (cond (is_single a) (single (f a.lo)) u) (cond (is_single c) (single (f c.lo)) v)
+of_one f a c u v o l h k =
+    small (is_single a) (single (f a.lo)) u (cond (is_single c) (single (f c.lo)) v)
+    (λ _. one_word (f a.lo) (cond (is_single c) (single (f c.lo)) v) h)
+    (λ n. large (is_single c) (single (f c.lo)) v u
+    (λ t. let s = is_also_single a c o l (eqb-true c.lo c.hi t) in absurd (true≢false (sym s.0 ∙ n)))
+    (λ _. k))
+
+least_of : (a c : Interval) → a.lo ≤ a.hi → Within a c → IsIn a.lo c
+least_of a c o l = record { low = l.low; high = omega (arith, o, l.high) }
+
+negatives_within : (w : ℕ) (a c : Interval) → a.lo ≤ a.hi → c.hi < 2 ^ w → Within a c → Within (negatives w a) (negatives w c)
+negatives_within w a c o fits l =
+    large_le 1 c.lo _ _ _
+    (λ s. small_le 1 a.lo _ _ _ (λ t. record { low = omega (arith, l.high); high = omega (arith, l.low, o) }) (λ t. absurd (omega (arith, l.low))))
+    (λ s. in_whole w (negatives w a) (cond_both (leb 1 a.lo) (between (2 ^ w - a.hi) (2 ^ w - a.lo)) (whole w) (λ (r : Interval). r.hi < 2 ^ w) (λ t. let k = leb-true 1 a.lo t in omega (arith, k, pow_pos w)) (λ _. whole_fits w)))
+
+pub negated_within : (w : ℕ) (a c : Interval) → a.lo ≤ a.hi → Within a c → Within (negated w a) (negated w c)
+negated_within w a c o l =
+    of_one (λ n. operation w Sub 0 n) a c (negatives w (cut w a)) (negatives w (cut w c)) o l (negated_covers w c a.lo (least_of a c o l))
+    (negatives_within w (cut w a) (cut w c) (cut_ordered w a o) (cut_bound w c) (cut_within w a c o l))
+
+pub sign_extended_within : (from : SignBits) (to : Width) (a c : Interval) → a.lo ≤ a.hi → Within a c → Within (sign_extended (sign_bits from) (bits_of to) a) (sign_extended (sign_bits from) (bits_of to) c)
+sign_extended_within from to a c o l =
+    let w = bits_of to in
+    let k = cut_within w a c o l in
+    of_one (λ n. extended (sign_bits from) w n) a c (extensions (sign_bits from) w (cut w a)) (extensions (sign_bits from) w (cut w c)) o l (sign_extended_covers from to c a.lo (least_of a c o l))
+    (large_lt (cut w c).hi (2 ^ (sign_bits from - 1)) (cut w c) (whole w) (extensions (sign_bits from) w (cut w a))
+    (λ s. small_lt (cut w a).hi (2 ^ (sign_bits from - 1)) (cut w a) (whole w) (cut w c) (λ _. k) (λ t. absurd (omega (arith, k.high))))
+    (λ s. in_whole w (extensions (sign_bits from) w (cut w a)) (fits_either w (ltb (cut w a).hi (2 ^ (sign_bits from - 1))) (cut w a) (whole w) (cut_bound w a) (whole_fits w))))
+
+pub low_range_within : (n : ℕ) (a c : Interval) → a.lo ≤ a.hi → Within a c → Within (low_range n a) (low_range n c)
+low_range_within n a c o l =
+    of_one (low n) a c (cond (ltb a.hi (2 ^ n)) a (whole n)) (cond (ltb c.hi (2 ^ n)) c (whole n)) o l (low_range_covers n c a.lo (least_of a c o l))
+    (large_lt c.hi (2 ^ n) c (whole n) (cond (ltb a.hi (2 ^ n)) a (whole n))
+    (λ s. small_lt a.hi (2 ^ n) a (whole n) c (λ _. l) (λ t. absurd (omega (arith, l.high))))
+    (λ s. small_lt a.hi (2 ^ n) a (whole n) (whole n) (λ t. in_whole n a t) (λ _. itself (whole n))))
+
+pub swapped_range_within : (bits : SwapBits) (a c : Interval) → a.lo ≤ a.hi → Within a c → Within (swapped_range (swap_bits bits) a) (swapped_range (swap_bits bits) c)
+swapped_range_within bits a c o l =
+    of_one (swapped (swap_bits bits)) a c (whole (swap_bits bits)) (whole (swap_bits bits)) o l (swapped_range_covers bits c a.lo (least_of a c o l)) (itself (whole (swap_bits bits)))
+
+-- ---- ranges of words stay so
+
+abbrev pub IsFull : Interval → Type 0
+IsFull a = (a.lo ≤ a.hi) × (a.hi < 2 ^ 64)
+
+full_of : (a : Interval) (x : ℕ) → IsIn x a → a.hi < 2 ^ 64 → IsFull a
+full_of a x h k = (omega (arith, h.low, h.high), k)
+
+one_fits : (w n : ℕ) (t : Bool) (v : Interval) → n < 2 ^ w → v.hi < 2 ^ w → (cond t (single n) v).hi < 2 ^ w
+one_fits w n t v h k = fits_either w t (single n) v h k
+
+row_whole : (width : Width) (op : AluOp) → (row (bits_of width) op (whole (bits_of width)) (whole (bits_of width))).hi < 2 ^ bits_of width
+row_whole width Add = sums_fit (bits_of width) (whole (bits_of width)) (whole (bits_of width)) (whole_fits (bits_of width)) (whole_fits (bits_of width))
+row_whole width Sub = differences_fit (bits_of width) (whole (bits_of width)) (whole (bits_of width)) (whole_fits (bits_of width)) (whole_fits (bits_of width))
+row_whole width Mul = products_fit (bits_of width) (whole (bits_of width)) (whole (bits_of width))
+row_whole width Div = whole_fits (bits_of width)
+row_whole width SignedDiv = whole_fits (bits_of width)
+row_whole W32 Or = omega (arith, ones_least (max (2 ^ 32 - 1) (2 ^ 32 - 1)) 32 (omega arith) (omega arith))
+row_whole W64 Or = omega (arith, ones_least (max (2 ^ 64 - 1) (2 ^ 64 - 1)) 64 (omega arith) (omega arith))
+row_whole width And = omega (arith, pow_pos (bits_of width))
+row_whole width ShiftLeft = left_shifts_fit (bits_of width) (whole (bits_of width)) (whole (bits_of width))
+row_whole W32 ShiftRight = omega arith
+row_whole W64 ShiftRight = omega arith
+row_whole width Mod = whole_fits (bits_of width)
+row_whole width SignedMod = whole_fits (bits_of width)
+row_whole W32 Xor = omega (arith, ones_least (max (2 ^ 32 - 1) (2 ^ 32 - 1)) 32 (omega arith) (omega arith))
+row_whole W64 Xor = omega (arith, ones_least (max (2 ^ 64 - 1) (2 ^ 64 - 1)) 64 (omega arith) (omega arith))
+row_whole width Mov = whole_fits (bits_of width)
+row_whole width ArithmeticShiftRight = arithmetic_fit (bits_of width) (whole (bits_of width)) (whole (bits_of width)) (whole_fits (bits_of width))
+
+row_fits : (width : Width) (op : AluOp) (a b : Interval) → a.lo ≤ a.hi → b.lo ≤ b.hi → a.hi < 2 ^ bits_of width → b.hi < 2 ^ bits_of width → (row (bits_of width) op a b).hi < 2 ^ bits_of width
+row_fits width op a b o p h k =
+    let w = bits_of width in
+    let r = row_within width op a b (whole w) (whole w) (record { a_ordered = o; b_ordered = p; c_fits = whole_fits w; d_fits = whole_fits w; left = in_whole w a h; right = in_whole w b k }) in
+    omega (arith, r.high, row_whole width op)
+
+pub operated_full : (width : Width) (op : AluOp) (a b : Interval) → a.lo ≤ a.hi → b.lo ≤ b.hi → IsFull (operated (bits_of width) op a b)
+operated_full width op a b o p =
+    let w = bits_of width in
+    full_of (operated w op a b) (operation w op a.lo b.lo) (operated_covers width op a b a.lo b.lo (record { low = omega arith; high = o }) (record { low = omega arith; high = p }))
+    (omega (arith, words width, one_fits w (operation w op a.lo b.lo) (is_single a && is_single b) (row w op (cut w a) (cut w b)) (operation_bound w op a.lo b.lo)
+    (row_fits width op (cut w a) (cut w b) (cut_ordered w a o) (cut_ordered w b p) (cut_bound w a) (cut_bound w b))))
+
+pub negated_full : (width : Width) (a : Interval) → a.lo ≤ a.hi → IsFull (negated (bits_of width) a)
+negated_full width a o =
+    let w = bits_of width in
+    full_of (negated w a) (operation w Sub 0 a.lo) (negated_covers w a a.lo (record { low = omega arith; high = o }))
+    (omega (arith, words width, one_fits w (operation w Sub 0 a.lo) (is_single a) (negatives w (cut w a)) (operation_bound w Sub 0 a.lo)
+    (cond_both (leb 1 (cut w a).lo) (between (2 ^ w - (cut w a).hi) (2 ^ w - (cut w a).lo)) (whole w) (λ (r : Interval). r.hi < 2 ^ w) (λ t. let k = leb-true 1 (cut w a).lo t in omega (arith, k, pow_pos w)) (λ _. whole_fits w))))
+
+pub sign_extended_full : (from : SignBits) (to : Width) (a : Interval) → a.lo ≤ a.hi → IsFull (sign_extended (sign_bits from) (bits_of to) a)
+sign_extended_full from to a o =
+    let w = bits_of to in
+    full_of (sign_extended (sign_bits from) w a) (extended (sign_bits from) w a.lo) (sign_extended_covers from to a a.lo (record { low = omega arith; high = o }))
+    (omega (arith, words to, one_fits w (extended (sign_bits from) w a.lo) (is_single a) (extensions (sign_bits from) w (cut w a)) (extended_bound (sign_bits from) w a.lo)
+    (fits_either w (ltb (cut w a).hi (2 ^ (sign_bits from - 1))) (cut w a) (whole w) (cut_bound w a) (whole_fits w))))
+
+order_words : (bits : SwapBits) → 2 ^ swap_bits bits ≤ 2 ^ 64
+order_words B16 = omega arith
+order_words B32 = omega arith
+order_words B64 = omega arith
+
+pub low_range_full : (bits : SwapBits) (a : Interval) → a.lo ≤ a.hi → IsFull (low_range (swap_bits bits) a)
+low_range_full bits a o =
+    let n = swap_bits bits in
+    full_of (low_range n a) (low n a.lo) (low_range_covers n a a.lo (record { low = omega arith; high = o }))
+    (omega (arith, order_words bits, one_fits n (low n a.lo) (is_single a) (cond (ltb a.hi (2 ^ n)) a (whole n)) (low_bound n a.lo)
+    (cond_both (ltb a.hi (2 ^ n)) a (whole n) (λ (r : Interval). r.hi < 2 ^ n) (λ t. ltb-true a.hi (2 ^ n) t) (λ _. whole_fits n))))
+
+pub swapped_range_full : (bits : SwapBits) (a : Interval) → a.lo ≤ a.hi → IsFull (swapped_range (swap_bits bits) a)
+swapped_range_full bits a o =
+    let n = swap_bits bits in
+    full_of (swapped_range n a) (swapped n a.lo) (swapped_range_covers bits a a.lo (record { low = omega arith; high = o }))
+    (omega (arith, order_words bits, one_fits n (swapped n a.lo) (is_single a) (whole n) (swapped_bound bits a.lo) (whole_fits n)))

@@ -1,0 +1,718 @@
+-- A state that is covered leaves states that are covered, and breaks no rule where the other breaks none.
+use Rattle.std.proofs.Common.{◌≡◌, ℕ, zero, suc, ◌+◌, ◌*◌, ◌^◌, ◌<◌, ◌≤◌, List, [], ◌∷◌, ◌++◌, length, Option, Some, None, Bool, true, false, cond, ltb, eqb, arith, refl, sym, ap, subst, ◌∙◌, inl, inr}
+use Rattle.std.specs.Prelude.{◌⊎◌, ⊤, ℤ, pos, negsuc, ◌≤ℤ◌, ◌+ℤ◌, ◌-ℤ◌, int_le, Result, Ok, Err, slice_set, nat_lt, option_map, ◌&&◌}
+use Rattle.std.proofs.lemmas.Int.{ints}
+use Rattle.std.proofs.lemmas.Bool.{cond_both, cases_eq, cases_lt, cases_Bool, eq-eqb, ne_eqb, ltb-true, ltb-false, leb-true, leb-false, lt-ltb, le-ltb, le-leb, and_parts, true≢false}
+use Rattle.std.proofs.lemmas.List.{get_or-set_same, get_or-set_other, get_or_past, set_past, length-set}
+use Rattle.bq_word.specs.Word.{bits_of, low, modulo, swap_bits, sign_bits}
+use Rattle.bq_word.specs.declared.Width.{Width}
+use Rattle.bq_word.specs.declared.Width.TheVariants.{W32, W64}
+use Rattle.bq_word.specs.declared.AluOp.{AluOp}
+use Rattle.bq_word.specs.declared.AluOp.TheVariants as ops
+use Rattle.bq_word.specs.declared.Relation.{Relation}
+use Rattle.bq_insn.specs.Insn.{extension_bits, extension_width, IsInsn}
+use Rattle.bq_insn.specs.declared.insn.Size.{Size}
+use Rattle.bq_insn.specs.declared.insn.Size.TheVariants as sizes
+use Rattle.bq_word.proofs.Bounds.{modulo_bound, low_bound}
+use Rattle.bq_insn.specs.declared.insn.Insn.{Insn}
+use Rattle.bq_insn.specs.declared.insn.Insn.TheVariants as insns
+use Rattle.bq_insn.specs.declared.insn.Operand.{Operand}
+use Rattle.bq_insn.specs.declared.insn.Operand.TheVariants as operands
+use Rattle.bq_insn.specs.declared.insn.ByteOrder.{ByteOrder}
+use Rattle.bq_insn.specs.declared.insn.ByteOrder.TheVariants as orders
+use Rattle.bq_insn.specs.declared.insn.Extension.{Extension}
+use Rattle.bq_insn.specs.declared.insn.Extension.TheVariants as extensions
+use Rattle.bq_word.specs.declared.SwapBits.{SwapBits}
+use Rattle.bq_word.specs.declared.SignBits.{SignBits}
+use Rattle.bq_word.specs.declared.SignBits.TheVariants.{B8, B16, B32}
+use Rattle.bq_meaning.specs.Memory.{size_bytes, signed_bytes}
+use Rattle.bq_range.specs.Interval.{Interval, IsIn, Within, single, whole, all_words}
+use Rattle.bq_range.specs.Table.{operated, negated, sign_extended, low_range, swapped_range}
+use Rattle.bq_range.specs.Narrow.{branched}
+use Rattle.bq_range.proofs.Covers.{operated_covers, negated_covers, sign_extended_covers, low_range_covers, swapped_range_covers}
+use Rattle.bq_range.proofs.Monotone.{IsFull, operated_full, negated_full, sign_extended_full, low_range_full, swapped_range_full, operated_within, negated_within, sign_extended_within, low_range_within, swapped_range_within}
+use Rattle.bq_range.proofs.MonotoneEdges.{LeavesLess, branched_less, branched_inside}
+use Rattle.bq_state.specs.Offsets.{Span, SpanWithin, signed_of, limited, is_limited, moved_on, moved_back, fits}
+use Rattle.bq_state.specs.Kinds.{kind_of, KindCovers, StateCovers, join_kinds, join_states, entry_state}
+use Rattle.bq_state.proofs.Covering.{joined_count, joined_kind}
+use Rattle.bq_state.specs.Rules.{and_then, known, writable, number, allowed, readable, storable, sum_kind, difference_kind, pointer_kind, alu_kind, ordered_range, operand_kind, taken_kind, mapped, loaded_state, transfer}
+use Rattle.bq_state.specs.Edges.{with_number, with_numbers, refined_by_number, refined_by_register, refined, along, edges}
+use Rattle.bq_meaning.specs.Meaning.{target}
+use Rattle.bq_state.specs.declared.kind.Kind.{Kind}
+use Rattle.bq_state.specs.declared.kind.Kind.TheVariants.{Unset, Number, FramePointer, RecordPointer}
+use Rattle.bq_state.specs.declared.rule.Rule.{Rule}
+use Rattle.bq_state.specs.declared.rule.Rule.TheVariants.{WrongKind, AnswerKind, OutsideFrame, OutsideRecord}
+
+-- ---- offsets
+
+signed_within : (a c : Interval) → a.lo ≤ a.hi → a.hi < 2 ^ 64 → Within a c → SpanWithin (signed_of a) (signed_of c)
+signed_within a c o h l = elim (cases_lt c.hi (2 ^ 63)) [
+  | inl s ↦ rw (lt-ltb c.hi (2 ^ 63) s, lt-ltb a.hi (2 ^ 63) (omega (arith, l.high))) (record { low = omega (arith, ints, l.low); high = omega (arith, ints, l.high) })
+  | inr s ↦ elim (cases_lt c.lo (2 ^ 63)) [
+    | inl t ↦ grind (arith, ints, l.low, l.high)
+    | inr t ↦ grind (arith, ints, l.low, l.high)
+  ]
+]
+
+-- what may be done with more may be done with less
+abbrev SpansLess : Option Span → Option Span → Type 0
+SpansLess None o = ⊤
+SpansLess (Some s) None = ⊥
+SpansLess (Some s) (Some t) = SpanWithin t s
+
+limited_less : (s t : Span) → SpanWithin t s → SpansLess (limited s) (limited t)
+limited_less s t h =
+    cond_both (is_limited s) (Some s) None (λ o. SpansLess o (limited t))
+    (λ e. let (i, j) = and_parts (int_le (negsuc 65535) s.lo) (int_le s.hi (pos 65536)) e in
+    let x : int_le (negsuc 65535) t.lo ≡ true = grind (arith, ints, i, h.low) in
+    let y : int_le t.hi (pos 65536) ≡ true = grind (arith, ints, j, h.high) in
+    rw (x, y) h)
+    (λ _. tt)
+
+moved_on_less : (s t : Span) (a b : Interval) → SpanWithin t s → IsFull b → Within b a → SpansLess (moved_on s a) (moved_on t b)
+moved_on_less s t a b h full l =
+    let n = signed_within b a full.0 full.1 l in
+    limited_less (record { lo = s.lo +ℤ (signed_of a).lo; hi = s.hi +ℤ (signed_of a).hi }) (record { lo = t.lo +ℤ (signed_of b).lo; hi = t.hi +ℤ (signed_of b).hi })
+    (record { low = omega (arith, ints, h.low, n.low); high = omega (arith, ints, h.high, n.high) })
+
+moved_back_less : (s t : Span) (a b : Interval) → SpanWithin t s → IsFull b → Within b a → SpansLess (moved_back s a) (moved_back t b)
+moved_back_less s t a b h full l =
+    let n = signed_within b a full.0 full.1 l in
+    limited_less (record { lo = s.lo -ℤ (signed_of a).hi; hi = s.hi -ℤ (signed_of a).lo }) (record { lo = t.lo -ℤ (signed_of b).hi; hi = t.hi -ℤ (signed_of b).lo })
+    (record { low = omega (arith, ints, h.low, n.high); high = omega (arith, ints, h.high, n.low) })
+
+fits_less : (s t : Span) (offset : ℤ) (size len : ℕ) → SpanWithin t s → fits s offset size len ≡ true → fits t offset size len ≡ true
+fits_less s t offset size len h e =
+    let (i, j) = and_parts (int_le (pos 0) (s.lo +ℤ offset)) (int_le (s.hi +ℤ offset +ℤ pos size) (pos len)) e in
+    let x : int_le (pos 0) (t.lo +ℤ offset) ≡ true = grind (arith, ints, i, h.low) in
+    let y : int_le (t.hi +ℤ offset +ℤ pos size) (pos len) ≡ true = grind (arith, ints, j, h.high) in
+    rw (x, y) refl
+
+-- ---- kinds
+
+-- a range of words with a word in it
+abbrev pub IsFullKind : Kind → Type 0
+IsFullKind (Number a) = IsFull a
+IsFullKind k = ⊤
+
+-- the second kind is known where the first is, and is no more
+abbrev Both : Kind → Kind → Type 0
+Both (Number a) (Number b) = Within b a × IsFull b
+Both (FramePointer s) (FramePointer t) = SpanWithin t s
+Both (RecordPointer s) (RecordPointer t) = SpanWithin t s
+Both k l = ⊥
+
+both_cover : (k l : Kind) → Both k l → KindCovers k l × IsFullKind l
+both_cover Unset l h = absurd h
+both_cover (Number a) (Number b) h = h
+both_cover (FramePointer s) (FramePointer t) h = (h, tt)
+both_cover (RecordPointer s) (RecordPointer t) h = (h, tt)
+both_cover (Number a) Unset h = absurd h
+both_cover (Number a) (FramePointer t) h = absurd h
+both_cover (Number a) (RecordPointer t) h = absurd h
+both_cover (FramePointer s) Unset h = absurd h
+both_cover (FramePointer s) (Number b) h = absurd h
+both_cover (FramePointer s) (RecordPointer t) h = absurd h
+both_cover (RecordPointer s) Unset h = absurd h
+both_cover (RecordPointer s) (Number b) h = absurd h
+both_cover (RecordPointer s) (FramePointer t) h = absurd h
+
+-- ---- results: where the first is there so is the second, and they stand so
+
+abbrev Follows : {A : Type 0} → (A → A → Type 0) → Result A Rule → Result A Rule → Type 0
+Follows R (Err rule) y = ⊤
+Follows R (Ok a) (Err rule) = ⊥
+Follows R (Ok a) (Ok b) = R a b
+
+then_follows : {A B : Type 0} (R : A → A → Type 0) (S : B → B → Type 0) (x y : Result A Rule) (f g : A → Result B Rule) → Follows R x y → ((a b : A) → R a b → Follows S (f a) (g b)) → Follows S (and_then x f) (and_then y g)
+then_follows R S (Err rule) y f g h go = tt
+then_follows R S (Ok a) (Err rule) f g h go = absurd h
+then_follows R S (Ok a) (Ok b) f g h go = go a b h
+
+known_follows : (k l : Kind) → KindCovers k l → IsFullKind l → Follows Both (known k) (known l)
+known_follows Unset l h f = tt
+known_follows (Number a) (Number b) h f = (h, f)
+known_follows (FramePointer s) (FramePointer t) h f = h
+known_follows (RecordPointer s) (RecordPointer t) h f = h
+known_follows (Number a) Unset h f = absurd h
+known_follows (Number a) (FramePointer t) h f = absurd h
+known_follows (Number a) (RecordPointer t) h f = absurd h
+known_follows (FramePointer s) Unset h f = absurd h
+known_follows (FramePointer s) (Number b) h f = absurd h
+known_follows (FramePointer s) (RecordPointer t) h f = absurd h
+known_follows (RecordPointer s) Unset h f = absurd h
+known_follows (RecordPointer s) (Number b) h f = absurd h
+known_follows (RecordPointer s) (FramePointer t) h f = absurd h
+
+abbrev IsLow : ℕ → Unit {0} → Unit {0} → Type 0
+IsLow d a b = d < 10
+
+writable_follows : (d : ℕ) → Follows (IsLow d) (writable d) (writable d)
+writable_follows d = elim (cases_lt d 10) [
+  | inl l ↦ rw (lt-ltb d 10 l) l
+  | inr g ↦ rw (le-ltb d 10 g) tt
+]
+
+abbrev Ranges : Interval → Interval → Type 0
+Ranges a b = Within b a × IsFull b
+
+number_follows : (rule : Rule) (k l : Kind) → Both k l → Follows Ranges (number rule k) (number rule l)
+number_follows rule Unset l h = absurd h
+number_follows rule (Number a) (Number b) h = h
+number_follows rule (Number a) Unset h = absurd h
+number_follows rule (Number a) (FramePointer t) h = absurd h
+number_follows rule (Number a) (RecordPointer t) h = absurd h
+number_follows rule (FramePointer s) l h = tt
+number_follows rule (RecordPointer s) l h = tt
+
+abbrev Any : Unit {0} → Unit {0} → Type 0
+Any a b = ⊤
+
+fits_follows : (s t : Span) (offset : ℤ) (size len : ℕ) (rule : Rule) → SpanWithin t s → Follows Any (cond (fits s offset size len) (Ok tt) (Err rule)) (cond (fits t offset size len) (Ok tt) (Err rule))
+fits_follows s t offset size len rule h = elim (cases_Bool (fits s offset size len)) [
+  | inl e ↦ rw (e, fits_less s t offset size len h e) tt
+  | inr e ↦ rw e tt
+]
+
+readable_follows : (k l : Kind) (offset : ℤ) (size : ℕ) → Both k l → Follows Any (readable k offset size) (readable l offset size)
+readable_follows Unset l offset size h = tt
+readable_follows (Number a) l offset size h = tt
+readable_follows (FramePointer s) (FramePointer t) offset size h = fits_follows s t offset size 512 OutsideFrame h
+readable_follows (RecordPointer s) (RecordPointer t) offset size h = fits_follows s t offset size 64 OutsideRecord h
+readable_follows (FramePointer s) Unset offset size h = absurd h
+readable_follows (FramePointer s) (Number b) offset size h = absurd h
+readable_follows (FramePointer s) (RecordPointer t) offset size h = absurd h
+readable_follows (RecordPointer s) Unset offset size h = absurd h
+readable_follows (RecordPointer s) (Number b) offset size h = absurd h
+readable_follows (RecordPointer s) (FramePointer t) offset size h = absurd h
+
+storable_follows : (k l u v : Kind) (offset : ℤ) (size : ℕ) → Both k l → Both u v → Follows Any (storable k u offset size) (storable l v offset size)
+storable_follows (FramePointer s) (FramePointer t) (Number a) (Number b) offset size h i = fits_follows s t offset size 512 OutsideFrame h
+storable_follows (FramePointer s) (FramePointer t) (Number a) Unset offset size h i = absurd i
+storable_follows (FramePointer s) (FramePointer t) (Number a) (FramePointer x) offset size h i = absurd i
+storable_follows (FramePointer s) (FramePointer t) (Number a) (RecordPointer x) offset size h i = absurd i
+storable_follows (FramePointer s) Unset u v offset size h i = absurd h
+storable_follows (FramePointer s) (Number b) u v offset size h i = absurd h
+storable_follows (FramePointer s) (RecordPointer t) u v offset size h i = absurd h
+storable_follows (FramePointer s) (FramePointer t) Unset v offset size h i = tt
+storable_follows (FramePointer s) (FramePointer t) (FramePointer x) v offset size h i = tt
+storable_follows (FramePointer s) (FramePointer t) (RecordPointer x) v offset size h i = tt
+storable_follows (RecordPointer s) l (Number a) v offset size h i = tt
+storable_follows (RecordPointer s) l Unset v offset size h i = tt
+storable_follows (RecordPointer s) l (FramePointer x) v offset size h i = tt
+storable_follows (RecordPointer s) l (RecordPointer x) v offset size h i = tt
+storable_follows Unset l u v offset size h i = tt
+storable_follows (Number a) l u v offset size h i = tt
+
+-- ---- operations
+
+abbrev Results : Kind → Kind → Type 0
+Results k l = KindCovers k l × IsFullKind l
+
+abbrev MayFollow : Option Kind → Option Kind → Type 0
+MayFollow None o = ⊤
+MayFollow (Some k) None = ⊥
+MayFollow (Some k) (Some l) = Results k l
+
+allowed_follows : (o p : Option Kind) → MayFollow o p → Follows Results (allowed o) (allowed p)
+allowed_follows None p h = tt
+allowed_follows (Some k) None h = absurd h
+allowed_follows (Some k) (Some l) h = h
+
+frames : (o p : Option Span) → SpansLess o p → MayFollow (option_map FramePointer o) (option_map FramePointer p)
+frames None p h = tt
+frames (Some s) None h = absurd h
+frames (Some s) (Some t) h = (h, tt)
+
+records : (o p : Option Span) → SpansLess o p → MayFollow (option_map RecordPointer o) (option_map RecordPointer p)
+records None p h = tt
+records (Some s) None h = absurd h
+records (Some s) (Some t) h = (h, tt)
+
+sum_follows : (k l u v : Kind) → Both k l → Both u v → MayFollow (sum_kind k u) (sum_kind l v)
+sum_follows (FramePointer s) (FramePointer t) (Number a) (Number b) h i = frames (moved_on s a) (moved_on t b) (moved_on_less s t a b h i.1 i.0)
+sum_follows (RecordPointer s) (RecordPointer t) (Number a) (Number b) h i = records (moved_on s a) (moved_on t b) (moved_on_less s t a b h i.1 i.0)
+sum_follows (Number a) (Number b) (FramePointer s) (FramePointer t) h i = frames (moved_on s a) (moved_on t b) (moved_on_less s t a b i h.1 h.0)
+sum_follows (Number a) (Number b) (RecordPointer s) (RecordPointer t) h i = records (moved_on s a) (moved_on t b) (moved_on_less s t a b i h.1 h.0)
+sum_follows Unset l u v h i = tt
+sum_follows (Number a) l Unset v h i = tt
+sum_follows (Number a) l (Number c) v h i = tt
+sum_follows (Number a) Unset (FramePointer s) v h i = absurd h
+sum_follows (Number a) (FramePointer t) (FramePointer s) v h i = absurd h
+sum_follows (Number a) (RecordPointer t) (FramePointer s) v h i = absurd h
+sum_follows (Number a) Unset (RecordPointer s) v h i = absurd h
+sum_follows (Number a) (FramePointer t) (RecordPointer s) v h i = absurd h
+sum_follows (Number a) (RecordPointer t) (RecordPointer s) v h i = absurd h
+sum_follows (Number a) (Number b) (FramePointer s) Unset h i = absurd i
+sum_follows (Number a) (Number b) (FramePointer s) (Number t) h i = absurd i
+sum_follows (Number a) (Number b) (FramePointer s) (RecordPointer t) h i = absurd i
+sum_follows (Number a) (Number b) (RecordPointer s) Unset h i = absurd i
+sum_follows (Number a) (Number b) (RecordPointer s) (Number t) h i = absurd i
+sum_follows (Number a) (Number b) (RecordPointer s) (FramePointer t) h i = absurd i
+sum_follows (FramePointer s) l Unset v h i = tt
+sum_follows (FramePointer s) l (FramePointer c) v h i = tt
+sum_follows (FramePointer s) l (RecordPointer c) v h i = tt
+sum_follows (FramePointer s) Unset (Number a) v h i = absurd h
+sum_follows (FramePointer s) (Number t) (Number a) v h i = absurd h
+sum_follows (FramePointer s) (RecordPointer t) (Number a) v h i = absurd h
+sum_follows (FramePointer s) (FramePointer t) (Number a) Unset h i = absurd i
+sum_follows (FramePointer s) (FramePointer t) (Number a) (FramePointer b) h i = absurd i
+sum_follows (FramePointer s) (FramePointer t) (Number a) (RecordPointer b) h i = absurd i
+sum_follows (RecordPointer s) l Unset v h i = tt
+sum_follows (RecordPointer s) l (FramePointer c) v h i = tt
+sum_follows (RecordPointer s) l (RecordPointer c) v h i = tt
+sum_follows (RecordPointer s) Unset (Number a) v h i = absurd h
+sum_follows (RecordPointer s) (Number t) (Number a) v h i = absurd h
+sum_follows (RecordPointer s) (FramePointer t) (Number a) v h i = absurd h
+sum_follows (RecordPointer s) (RecordPointer t) (Number a) Unset h i = absurd i
+sum_follows (RecordPointer s) (RecordPointer t) (Number a) (FramePointer b) h i = absurd i
+sum_follows (RecordPointer s) (RecordPointer t) (Number a) (RecordPointer b) h i = absurd i
+
+difference_follows : (k l u v : Kind) → Both k l → Both u v → MayFollow (difference_kind k u) (difference_kind l v)
+difference_follows (FramePointer s) (FramePointer t) (Number a) (Number b) h i = frames (moved_back s a) (moved_back t b) (moved_back_less s t a b h i.1 i.0)
+difference_follows (RecordPointer s) (RecordPointer t) (Number a) (Number b) h i = records (moved_back s a) (moved_back t b) (moved_back_less s t a b h i.1 i.0)
+difference_follows Unset l u v h i = tt
+difference_follows (Number a) l u v h i = tt
+difference_follows (FramePointer s) l Unset v h i = tt
+difference_follows (FramePointer s) l (FramePointer c) v h i = tt
+difference_follows (FramePointer s) l (RecordPointer c) v h i = tt
+difference_follows (FramePointer s) Unset (Number a) v h i = absurd h
+difference_follows (FramePointer s) (Number t) (Number a) v h i = absurd h
+difference_follows (FramePointer s) (RecordPointer t) (Number a) v h i = absurd h
+difference_follows (FramePointer s) (FramePointer t) (Number a) Unset h i = absurd i
+difference_follows (FramePointer s) (FramePointer t) (Number a) (FramePointer b) h i = absurd i
+difference_follows (FramePointer s) (FramePointer t) (Number a) (RecordPointer b) h i = absurd i
+difference_follows (RecordPointer s) l Unset v h i = tt
+difference_follows (RecordPointer s) l (FramePointer c) v h i = tt
+difference_follows (RecordPointer s) l (RecordPointer c) v h i = tt
+difference_follows (RecordPointer s) Unset (Number a) v h i = absurd h
+difference_follows (RecordPointer s) (Number t) (Number a) v h i = absurd h
+difference_follows (RecordPointer s) (FramePointer t) (Number a) v h i = absurd h
+difference_follows (RecordPointer s) (RecordPointer t) (Number a) Unset h i = absurd i
+difference_follows (RecordPointer s) (RecordPointer t) (Number a) (FramePointer b) h i = absurd i
+difference_follows (RecordPointer s) (RecordPointer t) (Number a) (RecordPointer b) h i = absurd i
+
+pointer_follows : (w : Width) (op : AluOp) (k l u v : Kind) → Both k l → Both u v → MayFollow (pointer_kind w op k u) (pointer_kind w op l v)
+pointer_follows W32 op k l u v h i = tt
+pointer_follows W64 ops.Mov k l u v h i = both_cover u v i
+pointer_follows W64 ops.Add k l u v h i = sum_follows k l u v h i
+pointer_follows W64 ops.Sub k l u v h i = difference_follows k l u v h i
+pointer_follows W64 ops.Mul k l u v h i = tt
+pointer_follows W64 ops.Div k l u v h i = tt
+pointer_follows W64 ops.SignedDiv k l u v h i = tt
+pointer_follows W64 ops.Or k l u v h i = tt
+pointer_follows W64 ops.And k l u v h i = tt
+pointer_follows W64 ops.ShiftLeft k l u v h i = tt
+pointer_follows W64 ops.ShiftRight k l u v h i = tt
+pointer_follows W64 ops.Mod k l u v h i = tt
+pointer_follows W64 ops.SignedMod k l u v h i = tt
+pointer_follows W64 ops.Xor k l u v h i = tt
+pointer_follows W64 ops.ArithmeticShiftRight k l u v h i = tt
+
+alu_follows : (w : Width) (op : AluOp) (k l u v : Kind) → Both k l → Both u v → MayFollow (alu_kind w op k u) (alu_kind w op l v)
+alu_follows w op (Number a) (Number b) (Number c) (Number d) h i = (operated_within w op b d a c h.1.0 i.1.0 h.0 i.0, operated_full w op b d h.1.0 i.1.0)
+alu_follows w op (Number a) (Number b) (Number c) Unset h i = absurd i
+alu_follows w op (Number a) (Number b) (Number c) (FramePointer t) h i = absurd i
+alu_follows w op (Number a) (Number b) (Number c) (RecordPointer t) h i = absurd i
+alu_follows w op (Number a) (Number b) (FramePointer s) (FramePointer t) h i = pointer_follows w op (Number a) (Number b) (FramePointer s) (FramePointer t) h i
+alu_follows w op (Number a) (Number b) (FramePointer s) Unset h i = absurd i
+alu_follows w op (Number a) (Number b) (FramePointer s) (Number t) h i = absurd i
+alu_follows w op (Number a) (Number b) (FramePointer s) (RecordPointer t) h i = absurd i
+alu_follows w op (Number a) (Number b) (RecordPointer s) (RecordPointer t) h i = pointer_follows w op (Number a) (Number b) (RecordPointer s) (RecordPointer t) h i
+alu_follows w op (Number a) (Number b) (RecordPointer s) Unset h i = absurd i
+alu_follows w op (Number a) (Number b) (RecordPointer s) (Number t) h i = absurd i
+alu_follows w op (Number a) (Number b) (RecordPointer s) (FramePointer t) h i = absurd i
+alu_follows w op (Number a) (Number b) Unset v h i = absurd i
+alu_follows w op (Number a) Unset u v h i = absurd h
+alu_follows w op (Number a) (FramePointer t) u v h i = absurd h
+alu_follows w op (Number a) (RecordPointer t) u v h i = absurd h
+alu_follows w op Unset l u v h i = absurd h
+alu_follows w op (FramePointer s) (FramePointer t) u v h i = pointer_follows w op (FramePointer s) (FramePointer t) u v h i
+alu_follows w op (FramePointer s) Unset u v h i = absurd h
+alu_follows w op (FramePointer s) (Number t) u v h i = absurd h
+alu_follows w op (FramePointer s) (RecordPointer t) u v h i = absurd h
+alu_follows w op (RecordPointer s) (RecordPointer t) u v h i = pointer_follows w op (RecordPointer s) (RecordPointer t) u v h i
+alu_follows w op (RecordPointer s) Unset u v h i = absurd h
+alu_follows w op (RecordPointer s) (Number t) u v h i = absurd h
+alu_follows w op (RecordPointer s) (FramePointer t) u v h i = absurd h
+
+-- ---- states
+
+-- eleven kinds, of ranges with a word in them
+pub record IsFullState (s : List Kind) : Type 0 where
+  pub count : length s ≡ 11
+  pub kinds : (r : ℕ) → IsFullKind (kind_of s r)
+
+abbrev pub States : List Kind → List Kind → Type 0
+States n s = StateCovers n s × IsFullState s
+
+past : (s : List Kind) (r : ℕ) → length s ≤ r → kind_of s r ≡ Unset
+past s r h = get_or_past s r Unset h
+
+put : (n s : List Kind) (d : ℕ) (k l : Kind) → d < 11 → States n s → Results k l → States (slice_set n d k) (slice_set s d l)
+put n s d k l low h i = (record { each = covered }, record { count = length-set s d l ∙ h.1.count; kinds = full })
+  where
+    same : kind_of (slice_set s d l) d ≡ l
+    same = get_or-set_same s d l Unset (omega (arith, low, h.1.count))
+
+    wide : KindCovers (kind_of (slice_set n d k) d) l
+    wide = elim (cases_lt d (length n)) [
+      | inl t ↦ let e : kind_of (slice_set n d k) d ≡ k = get_or-set_same n d k Unset t in subst (λ x. KindCovers x l) (sym e) i.0
+      | inr g ↦
+          let e : slice_set n d k ≡ n = set_past n d k g in
+          let u : kind_of (slice_set n d k) d ≡ Unset = ap (λ x. kind_of x d) e ∙ past n d g in
+          subst (λ x. KindCovers x l) (sym u) tt
+    ]
+
+    covered : (r : ℕ) → KindCovers (kind_of (slice_set n d k) r) (kind_of (slice_set s d l) r)
+    covered r = elim (cases_eq r d) [
+      | inl e ↦ subst (λ x. KindCovers (kind_of (slice_set n d k) x) (kind_of (slice_set s d l) x)) (sym e) (subst (KindCovers (kind_of (slice_set n d k) d)) (sym same) wide)
+      | inr ne ↦
+          let a : kind_of (slice_set n d k) r ≡ kind_of n r = get_or-set_other n d r k Unset ne in
+          let b : kind_of (slice_set s d l) r ≡ kind_of s r = get_or-set_other s d r l Unset ne in
+          subst (λ x. KindCovers x (kind_of (slice_set s d l) r)) (sym a) (subst (KindCovers (kind_of n r)) (sym b) (h.0.each r))
+    ]
+
+    full : (r : ℕ) → IsFullKind (kind_of (slice_set s d l) r)
+    full r = elim (cases_eq r d) [
+      | inl e ↦ subst (λ x. IsFullKind (kind_of (slice_set s d l) x)) (sym e) (subst IsFullKind (sym same) i.1)
+      | inr ne ↦ subst IsFullKind (sym (get_or-set_other s d r l Unset ne)) (h.1.kinds r)
+    ]
+
+-- ---- instructions
+
+register_follows : (n s : List Kind) (r : ℕ) → States n s → Follows Both (known (kind_of n r)) (known (kind_of s r))
+register_follows n s r h = known_follows (kind_of n r) (kind_of s r) (h.0.each r) (h.1.kinds r)
+
+one_number : (x : ℕ) → x < 2 ^ 64 → Both (Number (single x)) (Number (single x))
+one_number x h = (record { low = omega arith; high = omega arith }, (omega arith, h))
+
+operand_follows : (n s : List Kind) (x : Operand) → States n s → Follows Both (known (operand_kind n x)) (known (operand_kind s x))
+operand_follows n s (operands.Register r) h = register_follows n s r h
+operand_follows n s (operands.Number z) h = one_number (modulo 64 z) (modulo_bound 64 z)
+
+taken_follows : (n s : List Kind) (op : AluOp) (d : ℕ) → States n s → Follows Both (known (taken_kind n op d)) (known (taken_kind s op d))
+taken_follows n s ops.Mov d h = one_number 0 (omega arith)
+taken_follows n s ops.Add d h = register_follows n s d h
+taken_follows n s ops.Sub d h = register_follows n s d h
+taken_follows n s ops.Mul d h = register_follows n s d h
+taken_follows n s ops.Div d h = register_follows n s d h
+taken_follows n s ops.SignedDiv d h = register_follows n s d h
+taken_follows n s ops.Or d h = register_follows n s d h
+taken_follows n s ops.And d h = register_follows n s d h
+taken_follows n s ops.ShiftLeft d h = register_follows n s d h
+taken_follows n s ops.ShiftRight d h = register_follows n s d h
+taken_follows n s ops.Mod d h = register_follows n s d h
+taken_follows n s ops.SignedMod d h = register_follows n s d h
+taken_follows n s ops.Xor d h = register_follows n s d h
+taken_follows n s ops.ArithmeticShiftRight d h = register_follows n s d h
+
+mapped_follows : (n s : List Kind) (d b : ℕ) (f : Interval → Interval) → ((a c : Interval) → IsFull a → Within a c → Within (f a) (f c) × IsFull (f a)) → States n s → Follows States (mapped n d b f) (mapped s d b f)
+mapped_follows n s d b f g h =
+    then_follows Both States (known (kind_of n b)) (known (kind_of s b)) _ _ (register_follows n s b h) (λ k l kl.
+    then_follows (IsLow d) States (writable d) (writable d) _ _ (writable_follows d) (λ _ _ low.
+    then_follows Ranges States (number WrongKind k) (number WrongKind l) _ _ (number_follows WrongKind k l kl) (λ c a r. put n s d (Number (f c)) (Number (f a)) (omega (arith, low)) h (g a c r.1 r.0))))
+
+loaded_follows : (n s : List Kind) (d base : ℕ) (offset : ℤ) (size : ℕ) (range : Interval) → IsFull range → States n s → Follows States (loaded_state n d base offset size range) (loaded_state s d base offset size range)
+loaded_follows n s d base offset size range f h =
+    then_follows Both States (known (kind_of n base)) (known (kind_of s base)) _ _ (register_follows n s base h) (λ k l kl.
+    then_follows (IsLow d) States (writable d) (writable d) _ _ (writable_follows d) (λ _ _ low.
+    then_follows Any States (readable k offset size) (readable l offset size) _ _ (readable_follows k l offset size kl) (λ _ _ _. put n s d (Number range) (Number range) (omega (arith, low)) h (record { low = omega arith; high = omega arith }, f))))
+
+order_follows : (o : ByteOrder) (bits : SwapBits) (a c : Interval) → IsFull a → Within a c → Within (ordered_range o (swap_bits bits) a) (ordered_range o (swap_bits bits) c) × IsFull (ordered_range o (swap_bits bits) a)
+order_follows orders.Little bits a c f l = (low_range_within (swap_bits bits) a c f.0 l, low_range_full bits a f.0)
+order_follows orders.Big bits a c f l = (swapped_range_within bits a c f.0 l, swapped_range_full bits a f.0)
+order_follows orders.Swapped bits a c f l = (swapped_range_within bits a c f.0 l, swapped_range_full bits a f.0)
+
+extend_follows : (e : Extension) (a c : Interval) → IsFull a → Within a c → Within (sign_extended (extension_bits e) (bits_of (extension_width e)) a) (sign_extended (extension_bits e) (bits_of (extension_width e)) c) × IsFull (sign_extended (extension_bits e) (bits_of (extension_width e)) a)
+extend_follows extensions.W32From8 a c f l = (sign_extended_within B8 W32 a c f.0 l, sign_extended_full B8 W32 a f.0)
+extend_follows extensions.W32From16 a c f l = (sign_extended_within B16 W32 a c f.0 l, sign_extended_full B16 W32 a f.0)
+extend_follows extensions.W64From8 a c f l = (sign_extended_within B8 W64 a c f.0 l, sign_extended_full B8 W64 a f.0)
+extend_follows extensions.W64From16 a c f l = (sign_extended_within B16 W64 a c f.0 l, sign_extended_full B16 W64 a f.0)
+extend_follows extensions.W64From32 a c f l = (sign_extended_within B32 W64 a c f.0 l, sign_extended_full B32 W64 a f.0)
+
+load_full : (size : Size) → IsFull (whole (8 * size_bytes size))
+load_full sizes.B1 = (omega arith, omega arith)
+load_full sizes.B2 = (omega arith, omega arith)
+load_full sizes.B4 = (omega arith, omega arith)
+load_full sizes.B8 = (omega arith, omega arith)
+
+transfer_follows : (i : Insn) (n s : List Kind) → IsInsn i → States n s → Follows States (transfer i n) (transfer i s)
+transfer_follows (insns.Alu w op d x) n s legal h =
+    then_follows Both States (known (taken_kind n op d)) (known (taken_kind s op d)) _ _ (taken_follows n s op d h) (λ a b ab.
+    then_follows Both States (known (operand_kind n x)) (known (operand_kind s x)) _ _ (operand_follows n s x h) (λ k l kl.
+    then_follows (IsLow d) States (writable d) (writable d) _ _ (writable_follows d) (λ _ _ low.
+    then_follows Results States (allowed (alu_kind w op a k)) (allowed (alu_kind w op b l)) _ _ (allowed_follows (alu_kind w op a k) (alu_kind w op b l) (alu_follows w op a b k l ab kl)) (λ y z yz. put n s d y z (omega (arith, low)) h yz))))
+transfer_follows (insns.Negate w d) n s legal h = mapped_follows n s d d (negated (bits_of w)) (λ a c f l. (negated_within (bits_of w) a c f.0 l, negated_full w a f.0)) h
+transfer_follows (insns.Extend e d b) n s legal h = mapped_follows n s d b (sign_extended (extension_bits e) (bits_of (extension_width e))) (extend_follows e) h
+transfer_follows (insns.Order o bits d) n s legal h = mapped_follows n s d d (ordered_range o (swap_bits bits)) (order_follows o bits) h
+transfer_follows (insns.Jump offset) n s legal h = h
+transfer_follows (insns.JumpFar distance) n s legal h = h
+transfer_follows (insns.Branch w r d x offset) n s legal h =
+    then_follows Both States (known (kind_of n d)) (known (kind_of s d)) _ _ (register_follows n s d h) (λ a b ab.
+    then_follows Both States (known (operand_kind n x)) (known (operand_kind s x)) _ _ (operand_follows n s x h) (λ k l kl.
+    then_follows Ranges States (number WrongKind a) (number WrongKind b) _ _ (number_follows WrongKind a b ab) (λ _ _ _.
+    then_follows Ranges States (number WrongKind k) (number WrongKind l) _ _ (number_follows WrongKind k l kl) (λ _ _ _. h))))
+transfer_follows insns.Exit n s legal h =
+    then_follows Both States (known (kind_of n 0)) (known (kind_of s 0)) _ _ (register_follows n s 0 h) (λ k l kl.
+    then_follows Ranges States (number AnswerKind k) (number AnswerKind l) _ _ (number_follows AnswerKind k l kl) (λ _ _ _. h))
+transfer_follows (insns.Load size d base offset) n s legal h = loaded_follows n s d base offset (size_bytes size) (whole (8 * size_bytes size)) (load_full size) h
+transfer_follows (insns.LoadSigned bits d base offset) n s legal h = loaded_follows n s d base offset (signed_bytes bits) all_words (omega arith, omega arith) h
+transfer_follows (insns.Store size base offset x) n s legal h =
+    then_follows Both States (known (kind_of n base)) (known (kind_of s base)) _ _ (register_follows n s base h) (λ k l kl.
+    then_follows Both States (known (operand_kind n x)) (known (operand_kind s x)) _ _ (operand_follows n s x h) (λ u v uv.
+    then_follows Any States (storable k u offset (size_bytes size)) (storable l v offset (size_bytes size)) _ _ (storable_follows k l u v offset (size_bytes size) kl uv) (λ _ _ _. h)))
+transfer_follows (insns.Wide d v) n s legal h =
+    then_follows (IsLow d) States (writable d) (writable d) _ _ (writable_follows d) (λ _ _ low.
+    put n s d (Number (single v)) (Number (single v)) (omega (arith, low)) h (record { low = omega arith; high = omega arith }, (omega arith, legal.1)))
+
+-- where the first is there so is the second
+follows_ok : (n s : List Kind) (x y : Result (List Kind) Rule) (after : List Kind) → Follows States x y → x ≡ Ok after → (left : List Kind) × (y ≡ Ok left) × StateCovers after left × IsFullState left
+follows_ok n s (Err rule) y after h e = let bad : Err rule ≡ Ok after = e in absurd cc
+follows_ok n s (Ok a) (Err rule) after h e = absurd h
+follows_ok n s (Ok a) (Ok b) after h e = let is : a ≡ after = cc in (b, refl, subst (λ x. StateCovers x b) is h.0, h.1)
+
+pub transfer_less : (i : Insn) (wider s after : List Kind) → IsInsn i → IsFullState s → StateCovers wider s → transfer i wider ≡ Ok after → (left : List Kind) × (transfer i s ≡ Ok left) × StateCovers after left × IsFullState left
+transfer_less i wider s after legal full covers e = follows_ok wider s (transfer i wider) (transfer i s) after (transfer_follows i wider s legal (covers, full)) e
+
+-- ---- edges: each of the smaller state's has one of the larger state's that covers it
+
+abbrev pub Among : (ℕ × List Kind) → List (ℕ × List Kind) → Type 0
+Among v [] = ⊥
+Among v (x ∷ xs) = (v ≡ x) ⊎ Among v xs
+
+abbrev pub Covered : List (ℕ × List Kind) → (ℕ × List Kind) → Type 0
+Covered es e = IsFullState e.1 × ((w : List Kind) × Among (e.0, w) es × StateCovers w e.1)
+
+abbrev pub MayLead : Option (List Kind) → Option (List Kind) → Type 0
+MayLead o None = ⊤
+MayLead None (Some s) = ⊥
+MayLead (Some n) (Some s) = States n s
+
+still_full : (p a : Interval) → IsFull a → Within p a → p.lo ≤ p.hi → IsFull p
+still_full p a f l o = (o, omega (arith, l.high, f.1))
+
+is_set : (s : List Kind) (d : ℕ) (a : Interval) → length s ≡ 11 → kind_of s d ≡ Number a → d < 11
+is_set s d a count e = elim (cases_lt d 11) [
+  | inl l ↦ l
+  | inr g ↦ let u : kind_of s d ≡ Unset = past s d (omega (arith, g, count)) in let bad : Unset ≡ Number a = sym u ∙ e in absurd cc
+]
+
+full_at : (s : List Kind) (d : ℕ) (a : Interval) → IsFullState s → kind_of s d ≡ Number a → IsFull a
+full_at s d a h e = subst IsFullKind e (h.kinds d)
+
+-- with less in a register of the smaller state
+less_put : (n s : List Kind) (d : ℕ) (a p : Interval) → States n s → kind_of s d ≡ Number a → Within p a → p.lo ≤ p.hi → States n (slice_set s d (Number p))
+less_put n s d a p h e l o = (record { each = covered }, record { count = length-set s d (Number p) ∙ h.1.count; kinds = full })
+  where
+    same : kind_of (slice_set s d (Number p)) d ≡ Number p
+    same = get_or-set_same s d (Number p) Unset (omega (arith, is_set s d a h.1.count e, h.1.count))
+
+    within : (k : Kind) → KindCovers k (Number a) → KindCovers k (Number p)
+    within Unset c = tt
+    within (Number x) c = record { low = omega (arith, c.low, l.low); high = omega (arith, c.high, l.high) }
+    within (FramePointer x) c = absurd c
+    within (RecordPointer x) c = absurd c
+
+    covered : (r : ℕ) → KindCovers (kind_of n r) (kind_of (slice_set s d (Number p)) r)
+    covered r = elim (cases_eq r d) [
+      | inl q ↦
+          let c : KindCovers (kind_of n d) (Number a) = subst (KindCovers (kind_of n d)) e (h.0.each d) in
+          subst (λ x. KindCovers (kind_of n x) (kind_of (slice_set s d (Number p)) x)) (sym q) (subst (KindCovers (kind_of n d)) (sym same) (within (kind_of n d) c))
+      | inr ne ↦ subst (KindCovers (kind_of n r)) (sym (get_or-set_other s d r (Number p) Unset ne)) (h.0.each r)
+    ]
+
+    full : (r : ℕ) → IsFullKind (kind_of (slice_set s d (Number p)) r)
+    full r = elim (cases_eq r d) [
+      | inl q ↦ subst (λ x. IsFullKind (kind_of (slice_set s d (Number p)) x)) (sym q) (subst IsFullKind (sym same) (still_full p a (full_at s d a h.1 e) l o))
+      | inr ne ↦ subst IsFullKind (sym (get_or-set_other s d r (Number p) Unset ne)) (h.1.kinds r)
+    ]
+
+one_leads : (n s : List Kind) (d : ℕ) (a b : Interval) (o p : Option (Interval × Interval)) → States n s → kind_of s d ≡ Number a → LeavesLess p (Some (a, b)) → LeavesLess p o → MayLead (with_number n d o) (with_number s d p)
+one_leads n s d a b o None h e i l = tt
+one_leads n s d a b None (Some p) h e i l = absurd l
+one_leads n s d a b (Some o) (Some p) h e i l = put n s d (Number o.0) (Number p.0) (is_set s d a h.1.count e) h (l.0, still_full p.0 a (full_at s d a h.1 e) i.0 l.2)
+
+one_stays : (n s : List Kind) (d : ℕ) (a b : Interval) (p : Option (Interval × Interval)) → States n s → kind_of s d ≡ Number a → LeavesLess p (Some (a, b)) → MayLead (Some n) (with_number s d p)
+one_stays n s d a b None h e i = tt
+one_stays n s d a b (Some p) h e i = less_put n s d a p.0 h e i.0 i.2
+
+abbrev with_one : List Kind → Width → Relation → Bool → ℕ → Interval → Kind → Option (List Kind)
+with_one state w r taken d one (Number a) = with_number state d (branched (bits_of w) r taken a one)
+with_one state w r taken d one k = Some state
+
+by_number : (n s : List Kind) (w : Width) (r : Relation) (taken : Bool) (d : ℕ) (one : Interval) (k l : Kind) → one.lo ≤ one.hi → States n s → kind_of s d ≡ l → KindCovers k l
+    → MayLead (with_one n w r taken d one k) (with_one s w r taken d one l)
+by_number n s w r taken d one (Number c) (Number a) o h j l =
+    let f = full_at s d a h.1 j in
+    one_leads n s d a one (branched (bits_of w) r taken c one) (branched (bits_of w) r taken a one) h j (branched_inside w r taken a one f.0 o) (branched_less w r taken a one c one f.0 o l (record { low = omega arith; high = omega arith }))
+by_number n s w r taken d one Unset (Number a) o h j l =
+    let f = full_at s d a h.1 j in
+    one_stays n s d a one (branched (bits_of w) r taken a one) h j (branched_inside w r taken a one f.0 o)
+by_number n s w r taken d one Unset Unset o h j l = h
+by_number n s w r taken d one Unset (FramePointer t) o h j l = h
+by_number n s w r taken d one Unset (RecordPointer t) o h j l = h
+by_number n s w r taken d one (Number c) Unset o h j l = absurd l
+by_number n s w r taken d one (Number c) (FramePointer t) o h j l = absurd l
+by_number n s w r taken d one (Number c) (RecordPointer t) o h j l = absurd l
+by_number n s w r taken d one (FramePointer c) Unset o h j l = absurd l
+by_number n s w r taken d one (FramePointer c) (Number t) o h j l = absurd l
+by_number n s w r taken d one (FramePointer c) (RecordPointer t) o h j l = absurd l
+by_number n s w r taken d one (FramePointer c) (FramePointer t) o h j l = h
+by_number n s w r taken d one (RecordPointer c) Unset o h j l = absurd l
+by_number n s w r taken d one (RecordPointer c) (Number t) o h j l = absurd l
+by_number n s w r taken d one (RecordPointer c) (FramePointer t) o h j l = absurd l
+by_number n s w r taken d one (RecordPointer c) (RecordPointer t) o h j l = h
+
+two_lead : (n s : List Kind) (d e : ℕ) (a b : Interval) (o p : Option (Interval × Interval)) → States n s → kind_of s d ≡ Number a → kind_of s e ≡ Number b → LeavesLess p (Some (a, b)) → LeavesLess p o → MayLead (with_numbers n d e o) (with_numbers s d e p)
+two_lead n s d e a b o None h i j k l = tt
+two_lead n s d e a b None (Some p) h i j k l = absurd l
+two_lead n s d e a b (Some o) (Some p) h i j k l =
+    put (slice_set n d (Number o.0)) (slice_set s d (Number p.0)) e (Number o.1) (Number p.1) (is_set s e b h.1.count j)
+    (put n s d (Number o.0) (Number p.0) (is_set s d a h.1.count i) h (l.0, still_full p.0 a (full_at s d a h.1 i) k.0 l.2))
+    (l.1, still_full p.1 b (full_at s e b h.1 j) k.1 l.3)
+
+two_stay : (n s : List Kind) (d e : ℕ) (a b : Interval) (p : Option (Interval × Interval)) → (d ≡ e → ⊥) → States n s → kind_of s d ≡ Number a → kind_of s e ≡ Number b → LeavesLess p (Some (a, b)) → MayLead (Some n) (with_numbers s d e p)
+two_stay n s d e a b None ne h i j k = tt
+two_stay n s d e a b (Some p) ne h i j k =
+    let other : kind_of (slice_set s d (Number p.0)) e ≡ Number b = get_or-set_other s d e (Number p.0) Unset (λ q. ne (sym q)) ∙ j in
+    less_put n (slice_set s d (Number p.0)) e b p.1 (less_put n s d a p.0 h i k.0 k.2) other k.1 k.3
+
+by_register : (n s : List Kind) (w : Width) (r : Relation) (taken : Bool) (d e : ℕ) (k l u v : Kind) → (d ≡ e → ⊥) → States n s → kind_of s d ≡ l → kind_of s e ≡ v → KindCovers k l → KindCovers u v
+    → MayLead (refined_by_register n w r taken d e k u) (refined_by_register s w r taken d e l v)
+by_register n s w r taken d e (Number c) (Number a) (Number m) (Number b) ne h i j x y =
+    let f = full_at s d a h.1 i in
+    let g = full_at s e b h.1 j in
+    two_lead n s d e a b (branched (bits_of w) r taken c m) (branched (bits_of w) r taken a b) h i j (branched_inside w r taken a b f.0 g.0) (branched_less w r taken a b c m f.0 g.0 x y)
+by_register n s w r taken d e Unset (Number a) u (Number b) ne h i j x y = two_stay n s d e a b (branched (bits_of w) r taken a b) ne h i j (branched_inside w r taken a b (full_at s d a h.1 i).0 (full_at s e b h.1 j).0)
+by_register n s w r taken d e (Number c) (Number a) Unset (Number b) ne h i j x y = two_stay n s d e a b (branched (bits_of w) r taken a b) ne h i j (branched_inside w r taken a b (full_at s d a h.1 i).0 (full_at s e b h.1 j).0)
+by_register n s w r taken d e (Number c) (Number a) (FramePointer m) (Number b) ne h i j x y = absurd y
+by_register n s w r taken d e (Number c) (Number a) (RecordPointer m) (Number b) ne h i j x y = absurd y
+by_register n s w r taken d e (Number c) (Number a) Unset Unset ne h i j x y = h
+by_register n s w r taken d e (Number c) (Number a) Unset (FramePointer t) ne h i j x y = h
+by_register n s w r taken d e (Number c) (Number a) Unset (RecordPointer t) ne h i j x y = h
+by_register n s w r taken d e (Number c) (Number a) (FramePointer m) (FramePointer t) ne h i j x y = h
+by_register n s w r taken d e (Number c) (Number a) (RecordPointer m) (RecordPointer t) ne h i j x y = h
+by_register n s w r taken d e (Number c) (Number a) (Number m) Unset ne h i j x y = absurd y
+by_register n s w r taken d e (Number c) (Number a) (Number m) (FramePointer t) ne h i j x y = absurd y
+by_register n s w r taken d e (Number c) (Number a) (Number m) (RecordPointer t) ne h i j x y = absurd y
+by_register n s w r taken d e (Number c) (Number a) (FramePointer m) Unset ne h i j x y = absurd y
+by_register n s w r taken d e (Number c) (Number a) (FramePointer m) (RecordPointer t) ne h i j x y = absurd y
+by_register n s w r taken d e (Number c) (Number a) (RecordPointer m) Unset ne h i j x y = absurd y
+by_register n s w r taken d e (Number c) (Number a) (RecordPointer m) (FramePointer t) ne h i j x y = absurd y
+by_register n s w r taken d e (Number c) Unset u v ne h i j x y = absurd x
+by_register n s w r taken d e (Number c) (FramePointer t) u v ne h i j x y = absurd x
+by_register n s w r taken d e (Number c) (RecordPointer t) u v ne h i j x y = absurd x
+by_register n s w r taken d e Unset (Number a) u Unset ne h i j x y = h
+by_register n s w r taken d e Unset (Number a) u (FramePointer t) ne h i j x y = h
+by_register n s w r taken d e Unset (Number a) u (RecordPointer t) ne h i j x y = h
+by_register n s w r taken d e Unset Unset u v ne h i j x y = h
+by_register n s w r taken d e Unset (FramePointer t) u v ne h i j x y = h
+by_register n s w r taken d e Unset (RecordPointer t) u v ne h i j x y = h
+by_register n s w r taken d e (FramePointer c) (FramePointer t) u v ne h i j x y = h
+by_register n s w r taken d e (FramePointer c) Unset u v ne h i j x y = absurd x
+by_register n s w r taken d e (FramePointer c) (Number t) u v ne h i j x y = absurd x
+by_register n s w r taken d e (FramePointer c) (RecordPointer t) u v ne h i j x y = absurd x
+by_register n s w r taken d e (RecordPointer c) (RecordPointer t) u v ne h i j x y = h
+by_register n s w r taken d e (RecordPointer c) Unset u v ne h i j x y = absurd x
+by_register n s w r taken d e (RecordPointer c) (Number t) u v ne h i j x y = absurd x
+by_register n s w r taken d e (RecordPointer c) (FramePointer t) u v ne h i j x y = absurd x
+
+number_is : (s : List Kind) (w : Width) (r : Relation) (taken : Bool) (d x : ℕ) (k : Kind) → with_one s w r taken d (single (low (bits_of w) x)) k ≡ refined_by_number s w r taken d x k
+number_is s w r taken d x Unset = refl
+number_is s w r taken d x (Number a) = refl
+number_is s w r taken d x (FramePointer t) = refl
+number_is s w r taken d x (RecordPointer t) = refl
+
+pub refined_less : (n s : List Kind) (w : Width) (r : Relation) (taken : Bool) (d : ℕ) (x : Operand) → States n s → MayLead (refined n w r taken d x) (refined s w r taken d x)
+refined_less n s w r taken d (operands.Number z) h = rw (← number_is n w r taken d (modulo 64 z) (kind_of n d), ← number_is s w r taken d (modulo 64 z) (kind_of s d)) (by_number n s w r taken d (single (low (bits_of w) (modulo 64 z))) (kind_of n d) (kind_of s d) (omega arith) h refl (h.0.each d))
+refined_less n s w r taken d (operands.Register e) h = elim (cases_eq d e) [
+  | inl q ↦ rw (eq-eqb d e q) h
+  | inr ne ↦ rw (ne_eqb d e ne) (by_register n s w r taken d e (kind_of n d) (kind_of s d) (kind_of n e) (kind_of s e) ne h refl refl (h.0.each d) (h.0.each e))
+]
+
+among_left : (x : ℕ × List Kind) (xs ys : List (ℕ × List Kind)) → Among x xs → Among x (xs ++ ys)
+among_left x [] ys a = absurd a
+among_left x (z ∷ xs) ys (inl e) = inl e
+among_left x (z ∷ xs) ys (inr a) = inr (among_left x xs ys a)
+
+among_right : (x : ℕ × List Kind) (xs ys : List (ℕ × List Kind)) → Among x ys → Among x (xs ++ ys)
+among_right x [] ys a = a
+among_right x (z ∷ xs) ys a = inr (among_right x xs ys a)
+
+among_either : (x : ℕ × List Kind) (xs ys : List (ℕ × List Kind)) → Among x (xs ++ ys) → Among x xs ⊎ Among x ys
+among_either x [] ys a = inr a
+among_either x (z ∷ xs) ys (inl e) = inl (inl e)
+among_either x (z ∷ xs) ys (inr a) = elim (among_either x xs ys a) [ inl l ↦ inl (inr l) | inr r ↦ inr r ]
+
+one_edge : (unit : ℕ) (n s : List Kind) (e : ℕ × List Kind) → States n s → Among e ((unit, s) ∷ []) → Covered ((unit, n) ∷ []) e
+one_edge unit n s e h (inl is) = subst (Covered ((unit, n) ∷ [])) (sym is) (h.1, (n, inl refl, h.0))
+one_edge unit n s e h (inr never) = absurd never
+
+along_edge : (unit : ℕ) (o p : Option (List Kind)) (e : ℕ × List Kind) → MayLead o p → Among e (along unit p) → Covered (along unit o) e
+along_edge unit o None e h a = absurd a
+along_edge unit None (Some s) e h a = absurd h
+along_edge unit (Some n) (Some s) e h a = one_edge unit n s e h a
+
+pub edges_less : (unit : ℕ) (i : Insn) (n s : List Kind) (e : ℕ × List Kind) → States n s → Among e (edges unit i s) → Covered (edges unit i n) e
+edges_less unit (insns.Jump offset) n s e h a = one_edge (target unit offset) n s e h a
+edges_less unit (insns.JumpFar offset) n s e h a = one_edge (target unit offset) n s e h a
+edges_less unit (insns.Branch w r d x offset) n s e h a =
+    let xs = along (unit + 1) (refined n w r false d x) in
+    let ys = along (target unit offset) (refined n w r true d x) in
+    elim (among_either e (along (unit + 1) (refined s w r false d x)) (along (target unit offset) (refined s w r true d x)) a) [
+      | inl b ↦ let c = along_edge (unit + 1) (refined n w r false d x) (refined s w r false d x) e (refined_less n s w r false d x h) b in (c.0, (c.1.0, among_left (e.0, c.1.0) xs ys c.1.1, c.1.2))
+      | inr b ↦ let c = along_edge (target unit offset) (refined n w r true d x) (refined s w r true d x) e (refined_less n s w r true d x h) b in (c.0, (c.1.0, among_right (e.0, c.1.0) xs ys c.1.1, c.1.2))
+    ]
+edges_less unit insns.Exit n s e h a = absurd a
+edges_less unit (insns.Wide d v) n s e h a = one_edge (unit + 2) n s e h a
+edges_less unit (insns.Alu w op d x) n s e h a = one_edge (unit + 1) n s e h a
+edges_less unit (insns.Negate w d) n s e h a = one_edge (unit + 1) n s e h a
+edges_less unit (insns.Extend x d b) n s e h a = one_edge (unit + 1) n s e h a
+edges_less unit (insns.Order o bits d) n s e h a = one_edge (unit + 1) n s e h a
+edges_less unit (insns.Load size d base offset) n s e h a = one_edge (unit + 1) n s e h a
+edges_less unit (insns.LoadSigned bits d base offset) n s e h a = one_edge (unit + 1) n s e h a
+edges_less unit (insns.Store size base offset x) n s e h a = one_edge (unit + 1) n s e h a
+
+-- ---- the entry, and joins
+
+pub entry_full : IsFullState entry_state
+entry_full = record { count = refl; kinds = at }
+  where
+    at : (r : ℕ) → IsFullKind (kind_of entry_state r)
+    at zero = tt
+    at (suc zero) = tt
+    at (suc (suc zero)) = (omega arith, omega arith)
+    at (suc (suc (suc zero))) = (omega arith, omega arith)
+    at (suc (suc (suc (suc zero)))) = tt
+    at (suc (suc (suc (suc (suc zero))))) = tt
+    at (suc (suc (suc (suc (suc (suc zero)))))) = tt
+    at (suc (suc (suc (suc (suc (suc (suc zero))))))) = tt
+    at (suc (suc (suc (suc (suc (suc (suc (suc zero)))))))) = tt
+    at (suc (suc (suc (suc (suc (suc (suc (suc (suc zero))))))))) = tt
+    at (suc (suc (suc (suc (suc (suc (suc (suc (suc (suc zero)))))))))) = tt
+    at (suc (suc (suc (suc (suc (suc (suc (suc (suc (suc (suc r))))))))))) = tt
+
+join_full : (k l : Kind) → IsFullKind k → IsFullKind l → IsFullKind (join_kinds k l)
+join_full (Number a) (Number b) h i = (omega (arith, h.0, i.0), omega (arith, h.1, i.1))
+join_full (FramePointer s) (FramePointer t) h i = tt
+join_full (RecordPointer s) (RecordPointer t) h i = tt
+join_full Unset l h i = tt
+join_full (Number a) Unset h i = tt
+join_full (Number a) (FramePointer t) h i = tt
+join_full (Number a) (RecordPointer t) h i = tt
+join_full (FramePointer s) Unset h i = tt
+join_full (FramePointer s) (Number t) h i = tt
+join_full (FramePointer s) (RecordPointer t) h i = tt
+join_full (RecordPointer s) Unset h i = tt
+join_full (RecordPointer s) (Number t) h i = tt
+join_full (RecordPointer s) (FramePointer t) h i = tt
+
+pub joined_full : (a b : List Kind) → IsFullState a → IsFullState b → IsFullState (join_states a b)
+joined_full a b h i = record { count = joined_count a b (h.count ∙ sym i.count) ∙ h.count; kinds = at }
+  where
+    at : (r : ℕ) → IsFullKind (kind_of (join_states a b) r)
+    at r = elim (cases_lt r 11) [
+      | inl l ↦ subst IsFullKind (sym (joined_kind a b r (omega (arith, l, h.count)) (omega (arith, l, i.count)))) (join_full (kind_of a r) (kind_of b r) (h.kinds r) (i.kinds r))
+      | inr g ↦ subst IsFullKind (sym (past (join_states a b) r (omega (arith, g, joined_count a b (h.count ∙ sym i.count), h.count)))) tt
+    ]

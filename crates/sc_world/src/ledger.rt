@@ -1,0 +1,202 @@
+//! What a world keeps beside its nodes: which of them crashed, the accepted events, every message that was ever sent and
+//! the record of each operation.
+
+ghost use Rattle.std.specs.Prelude.{◌≡◌, ◌++◌, length, true, IfOk, OnOk, OnErr, vec_len, vec_capacity, ◌<◌, slice_get, option_copied};
+ghost use Rattle.std.specs.FinSet as set;
+ghost use Rattle.sc_world.specs.Acts.{answered, IsReady};
+ghost use Rattle.sc_world.specs.Ledgers.{first, recorded, numbered, stopped, passed, IsRight};
+ghost use Rattle.sc_world.specs.Worlds.{op_begun};
+
+use crate::act::Opened;
+use crate::counting::{Counting, make_ready, move_op};
+use crate::event::{Event, Sent};
+use crate::op::Op;
+use crate::places::Places;
+use sc_members::config::Config;
+use sc_members::ids::IdSet;
+use sc_msg::message::Message;
+use sc_node::answer::Progress;
+use sc_node::outs::Outs;
+use std::alloc::{AllocError, Global};
+use std::marker::Model;
+
+/// What is kept of every event, beside the nodes.
+#[derive(Drop)]
+pub struct Ledger {
+    alloc: Global,
+    config: Config,
+    founders: Vec<u64>,
+    crashed: IdSet,
+    events: Vec<Event>,
+    sent: Vec<Message>,
+    ops: Vec<Op>,
+    places: Places,
+}
+
+impl Model for Ledger {
+    ghost use Rattle.std.specs.Prelude.{vec_len, vec_capacity};
+    ghost use Rattle.std.specs.Coded.{codes};
+    ghost use Rattle.sc_members.specs.Ids.{ids_code};
+    ghost use Rattle.sc_msg.specs.contracts.message.Message as message;
+    ghost use Rattle.sc_world.specs.State.{LedgerState};
+    ghost use Rattle.sc_world.specs.Ledgers.{has_room};
+    ghost use Rattle.sc_world.specs.contracts.event.Event as event;
+    ghost use Rattle.sc_world.specs.contracts.op.Op as op;
+
+    ghost Value = { LedgerState };
+
+    ghost coded = { Prim.hlevel (codes, ids_code, event.the_row.coded, message.the_row.coded, op.the_row.coded) };
+
+    ghost view = { λ a. record { past = record { config = a.config; founders = a.founders.items; crashed = a.crashed; events = a.events.items; sent = a.sent.items; ops = a.ops.items }; room = has_room (vec_len a.events) (vec_capacity a.events) (vec_len a.sent) (vec_capacity a.sent) (vec_len a.ops) (vec_capacity a.ops) } };
+}
+
+impl Ledger {
+    /// The ledger of these founders, before any event.
+    pub fn new(alloc: Global, config: Config, founders: &[u64]) -> Result<Ledger, AllocError>
+        ensures { IfOk result (λ ledger. ledger.past ≡ first config founders.now) }
+    {
+        let founders = Vec::from_slice(alloc, founders)?;
+        Ok(Ledger {
+            alloc,
+            config,
+            founders,
+            crashed: IdSet::new(alloc),
+            events: Vec::new(alloc),
+            sent: Vec::new(alloc),
+            ops: Vec::new(alloc),
+            places: Places::new(alloc),
+        })
+    }
+
+    /// Makes room to record what this node does.
+    pub fn reserve(&mut self, node: u64) -> Result<(), AllocError>
+        ensures past { self.new.past ≡ self.old.past }
+        ensures room { OnOk result (self.new.room ≡ true) }
+    {
+        self.events.reserve(1)?;
+        self.sent.reserve(2)?;
+        self.ops.reserve(1)?;
+        self.places.reserve(node)?;
+        Ok(())
+    }
+
+    /// Makes ready what the record of an operation needs, should this message move it as it reaches the node.
+    pub fn find(&self, node: u64, message: &Message) -> Result<Option<Counting>, AllocError>
+        ensures { IfOk result (IsReady self.now.past.ops node (answered node message.now.from message.now.body)) }
+    {
+        make_ready(self.alloc, &self.ops, &self.places, node, message)
+    }
+
+    /// Records an event at which this node sends, and may move or begin an operation, for which there is room. Takes no
+    /// memory.
+    pub fn record(
+        &mut self,
+        event: Event,
+        node: u64,
+        outs: Outs,
+        progress: Option<Progress>,
+        begun: Option<Opened>,
+        counting: Option<Counting>,
+    ) -> Sent
+        requires room { self.old.room ≡ true }
+        requires ready { IsRight self.old.past.ops node (length self.old.past.events) progress counting }
+        ensures past { self.new.past ≡ recorded self.old.past event node outs progress begun }
+        ensures sent { result ≡ numbered self.old.past outs }
+    {
+        let place = self.events.len();
+        let sent = Sent {
+            first: self.sent.len(),
+            count: outs.len(),
+        };
+        move_op(self.alloc, &mut self.ops, place, progress, counting);
+        if begun.is_some() {
+            self.places.push(node, self.ops.len());
+        }
+        record_begun(&mut self.ops, node, place, begun);
+        outs.append_to(&mut self.sent);
+        self.events.push_reserved(event);
+        sent
+    }
+
+    /// Records that a node stopped. At Err nothing is recorded.
+    pub fn crash(&mut self, id: u64) -> Result<Sent, AllocError>
+        ensures ok { IfOk result (λ sent. (self.new.past ≡ stopped self.old.past id) × (sent ≡ record { first = length self.old.past.sent; count = 0 })) }
+        ensures err { OnErr result (self.new.past ≡ self.old.past) }
+    {
+        self.events.reserve(1)?;
+        self.crashed.insert(id)?;
+        self.events.push_reserved(Event::Crash(id));
+        Ok(self.silent())
+    }
+
+    /// Records that something beside the world happened. At Err nothing is recorded.
+    pub fn pass(&mut self) -> Result<Sent, AllocError>
+        ensures ok { IfOk result (λ sent. (self.new.past ≡ passed self.old.past) × (sent ≡ record { first = length self.old.past.sent; count = 0 })) }
+        ensures err { OnErr result (self.new.past ≡ self.old.past) }
+    {
+        self.events.reserve(1)?;
+        self.events.push_reserved(Event::Other);
+        Ok(self.silent())
+    }
+
+    /// The numbers of no messages.
+    pub fn silent(&self) -> Sent
+        ensures { result ≡ record { first = length self.now.past.sent; count = 0 } }
+    {
+        Sent {
+            first: self.sent.len(),
+            count: 0,
+        }
+    }
+
+    /// The fractions that set the nodes' thresholds.
+    pub fn config(&self) -> Config
+        ensures { result ≡ self.now.past.config }
+    {
+        self.config
+    }
+
+    /// Whether the node of this id crashed.
+    pub fn has_crashed(&self, id: u64) -> bool
+        ensures { result ≡ set.contains self.now.past.crashed id }
+    {
+        self.crashed.contains(id)
+    }
+
+    /// The accepted events.
+    pub fn events(&self) -> &[Event]
+        ensures { result.now ≡ self.now.past.events }
+    {
+        &self.events
+    }
+
+    /// Every message that was ever sent, by its number.
+    pub fn sent(&self) -> &[Message]
+        ensures { result.now ≡ self.now.past.sent }
+    {
+        &self.sent
+    }
+
+    /// The record of each operation, in the order in which they began.
+    pub fn ops(&self) -> &[Op]
+        ensures { result.now ≡ self.now.past.ops }
+    {
+        &self.ops
+    }
+}
+
+/// Puts the record of an operation that began at this place, for which there is room.
+fn record_begun(ops: &mut Vec<Op>, node: u64, place: usize, begun: Option<Opened>)
+    requires { vec_len ops.old < vec_capacity ops.old }
+    ensures { ops.new.items ≡ ops.old.items ++ op_begun node place begun }
+{
+    if let Some(Opened { tag, session }) = begun {
+        ops.push_reserved(Op {
+            node,
+            tag,
+            begin: place,
+            end: None,
+            session,
+        });
+    }
+}
