@@ -32,17 +32,17 @@ use Rattle.bq_sound.proofs.Operands.{operand_tag, held_is, value_is, operand_hol
 
 -- ---- jumps
 
-jumps : (m : Common) (i : Insn) (unit : ℕ) (state after left : List Kind) → Stands m state → TagsHold left m.tags → Among (unit, left) (edges m.unit i after)
-    → ((p : Place) → perform p i (machine p m) ≡ Continues (at_unit (machine p m) unit)) → GoesOn m i after
+jumps : {len : ℕ} (m : Common) (i : Insn) (unit : ℕ) (state after left : List Kind) → Stands len m state → TagsHold left m.tags → Among (unit, left) (edges m.unit i after)
+    → ((p : Place) → perform p i (machine p m) ≡ Continues (at_unit (machine p m) unit)) → GoesOn len m i after
 jumps m i unit state after left s holds among does =
     goes_on m (record { unit = unit; tags = m.tags; frame = m.frame; «record» = m.record }) i after left
-    (record { words = s.whole.words; frame = s.whole.frame; «record» = s.whole.record }) holds among (λ p place. does p)
+    (record { words = s.whole.words; frame = s.whole.frame; «record» = s.whole.record; fits = s.whole.fits }) holds among (λ p place. does p)
 
-pub does_jump : (m : Common) (distance : ℤ) (state after : List Kind) → Stands m state → transfer (insns.Jump distance) state ≡ Ok after → GoesOn m (insns.Jump distance) after
+pub does_jump : {len : ℕ} (m : Common) (distance : ℤ) (state after : List Kind) → Stands len m state → transfer len (insns.Jump distance) state ≡ Ok after → GoesOn len m (insns.Jump distance) after
 does_jump m distance state after s rules =
     jumps m (insns.Jump distance) (target m.unit distance) state after after s (subst (λ q. TagsHold q m.tags) (same_state state after rules) s.holds) (inl refl) (λ p. refl)
 
-pub does_jump_far : (m : Common) (distance : ℤ) (state after : List Kind) → Stands m state → transfer (insns.JumpFar distance) state ≡ Ok after → GoesOn m (insns.JumpFar distance) after
+pub does_jump_far : {len : ℕ} (m : Common) (distance : ℤ) (state after : List Kind) → Stands len m state → transfer len (insns.JumpFar distance) state ≡ Ok after → GoesOn len m (insns.JumpFar distance) after
 does_jump_far m distance state after s rules =
     jumps m (insns.JumpFar distance) (target m.unit distance) state after after s (subst (λ q. TagsHold q m.tags) (same_state state after rules) s.holds) (inl refl) (λ p. refl)
 
@@ -138,8 +138,8 @@ branch_performs : (p : Place) (m : Common) (w : Width) (r : Relation) (d : ℕ) 
     → relates (bits_of w) r x y ≡ taken → perform p (insns.Branch w r d operand distance) (machine p m) ≡ Continues (at_unit (machine p m) (cond taken (target m.unit distance) (m.unit + 1)))
 branch_performs p m w r d operand distance x y taken ex ey e = rw (held_is p m.tags d (Num x) ex, value_is p m.tags operand (Num y) ey, e) refl
 
-pub does_branch : (m : Common) (w : Width) (r : Relation) (d : ℕ) (operand : Operand) (distance : ℤ) (state after : List Kind)
-    → Stands m state → transfer (insns.Branch w r d operand distance) state ≡ Ok after → GoesOn m (insns.Branch w r d operand distance) after
+pub does_branch : {len : ℕ} (m : Common) (w : Width) (r : Relation) (d : ℕ) (operand : Operand) (distance : ℤ) (state after : List Kind)
+    → Stands len m state → transfer len (insns.Branch w r d operand distance) state ≡ Ok after → GoesOn len m (insns.Branch w r d operand distance) after
 does_branch m w r d operand distance state after s rules =
     let i = insns.Branch w r d operand distance in
     let k = kind_of state d in

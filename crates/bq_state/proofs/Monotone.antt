@@ -174,17 +174,17 @@ fits_follows s t offset size len rule h = elim (cases_Bool (fits s offset size l
   | inr e ↦ rw e tt
 ]
 
-readable_follows : (k l : Kind) (offset : ℤ) (size : ℕ) → Both k l → Follows Any (readable k offset size) (readable l offset size)
-readable_follows Unset l offset size h = tt
-readable_follows (Number a) l offset size h = tt
-readable_follows (FramePointer s) (FramePointer t) offset size h = fits_follows s t offset size 512 OutsideFrame h
-readable_follows (RecordPointer s) (RecordPointer t) offset size h = fits_follows s t offset size 64 OutsideRecord h
-readable_follows (FramePointer s) Unset offset size h = absurd h
-readable_follows (FramePointer s) (Number b) offset size h = absurd h
-readable_follows (FramePointer s) (RecordPointer t) offset size h = absurd h
-readable_follows (RecordPointer s) Unset offset size h = absurd h
-readable_follows (RecordPointer s) (Number b) offset size h = absurd h
-readable_follows (RecordPointer s) (FramePointer t) offset size h = absurd h
+readable_follows : (len : ℕ) (k l : Kind) (offset : ℤ) (size : ℕ) → Both k l → Follows Any (readable len k offset size) (readable len l offset size)
+readable_follows len Unset l offset size h = tt
+readable_follows len (Number a) l offset size h = tt
+readable_follows len (FramePointer s) (FramePointer t) offset size h = fits_follows s t offset size 512 OutsideFrame h
+readable_follows len (RecordPointer s) (RecordPointer t) offset size h = fits_follows s t offset size len OutsideRecord h
+readable_follows len (FramePointer s) Unset offset size h = absurd h
+readable_follows len (FramePointer s) (Number b) offset size h = absurd h
+readable_follows len (FramePointer s) (RecordPointer t) offset size h = absurd h
+readable_follows len (RecordPointer s) Unset offset size h = absurd h
+readable_follows len (RecordPointer s) (Number b) offset size h = absurd h
+readable_follows len (RecordPointer s) (FramePointer t) offset size h = absurd h
 
 storable_follows : (k l u v : Kind) (offset : ℤ) (size : ℕ) → Both k l → Both u v → Follows Any (storable k u offset size) (storable l v offset size)
 storable_follows (FramePointer s) (FramePointer t) (Number a) (Number b) offset size h i = fits_follows s t offset size 512 OutsideFrame h
@@ -413,11 +413,11 @@ mapped_follows n s d b f g h =
     then_follows (IsLow d) States (writable d) (writable d) _ _ (writable_follows d) (λ _ _ low.
     then_follows Ranges States (number WrongKind k) (number WrongKind l) _ _ (number_follows WrongKind k l kl) (λ c a r. put n s d (Number (f c)) (Number (f a)) (omega (arith, low)) h (g a c r.1 r.0))))
 
-loaded_follows : (n s : List Kind) (d base : ℕ) (offset : ℤ) (size : ℕ) (range : Interval) → IsFull range → States n s → Follows States (loaded_state n d base offset size range) (loaded_state s d base offset size range)
-loaded_follows n s d base offset size range f h =
+loaded_follows : (len : ℕ) (n s : List Kind) (d base : ℕ) (offset : ℤ) (size : ℕ) (range : Interval) → IsFull range → States n s → Follows States (loaded_state len n d base offset size range) (loaded_state len s d base offset size range)
+loaded_follows len n s d base offset size range f h =
     then_follows Both States (known (kind_of n base)) (known (kind_of s base)) _ _ (register_follows n s base h) (λ k l kl.
     then_follows (IsLow d) States (writable d) (writable d) _ _ (writable_follows d) (λ _ _ low.
-    then_follows Any States (readable k offset size) (readable l offset size) _ _ (readable_follows k l offset size kl) (λ _ _ _. put n s d (Number range) (Number range) (omega (arith, low)) h (record { low = omega arith; high = omega arith }, f))))
+    then_follows Any States (readable len k offset size) (readable len l offset size) _ _ (readable_follows len k l offset size kl) (λ _ _ _. put n s d (Number range) (Number range) (omega (arith, low)) h (record { low = omega arith; high = omega arith }, f))))
 
 order_follows : (o : ByteOrder) (bits : SwapBits) (a c : Interval) → IsFull a → Within a c → Within (ordered_range o (swap_bits bits) a) (ordered_range o (swap_bits bits) c) × IsFull (ordered_range o (swap_bits bits) a)
 order_follows orders.Little bits a c f l = (low_range_within (swap_bits bits) a c f.0 l, low_range_full bits a f.0)
@@ -437,32 +437,32 @@ load_full sizes.B2 = (omega arith, omega arith)
 load_full sizes.B4 = (omega arith, omega arith)
 load_full sizes.B8 = (omega arith, omega arith)
 
-transfer_follows : (i : Insn) (n s : List Kind) → IsInsn i → States n s → Follows States (transfer i n) (transfer i s)
-transfer_follows (insns.Alu w op d x) n s legal h =
+transfer_follows : (len : ℕ) (i : Insn) (n s : List Kind) → IsInsn i → States n s → Follows States (transfer len i n) (transfer len i s)
+transfer_follows len (insns.Alu w op d x) n s legal h =
     then_follows Both States (known (taken_kind n op d)) (known (taken_kind s op d)) _ _ (taken_follows n s op d h) (λ a b ab.
     then_follows Both States (known (operand_kind n x)) (known (operand_kind s x)) _ _ (operand_follows n s x h) (λ k l kl.
     then_follows (IsLow d) States (writable d) (writable d) _ _ (writable_follows d) (λ _ _ low.
     then_follows Results States (allowed (alu_kind w op a k)) (allowed (alu_kind w op b l)) _ _ (allowed_follows (alu_kind w op a k) (alu_kind w op b l) (alu_follows w op a b k l ab kl)) (λ y z yz. put n s d y z (omega (arith, low)) h yz))))
-transfer_follows (insns.Negate w d) n s legal h = mapped_follows n s d d (negated (bits_of w)) (λ a c f l. (negated_within (bits_of w) a c f.0 l, negated_full w a f.0)) h
-transfer_follows (insns.Extend e d b) n s legal h = mapped_follows n s d b (sign_extended (extension_bits e) (bits_of (extension_width e))) (extend_follows e) h
-transfer_follows (insns.Order o bits d) n s legal h = mapped_follows n s d d (ordered_range o (swap_bits bits)) (order_follows o bits) h
-transfer_follows (insns.Jump offset) n s legal h = h
-transfer_follows (insns.JumpFar distance) n s legal h = h
-transfer_follows (insns.Branch w r d x offset) n s legal h =
+transfer_follows len (insns.Negate w d) n s legal h = mapped_follows n s d d (negated (bits_of w)) (λ a c f l. (negated_within (bits_of w) a c f.0 l, negated_full w a f.0)) h
+transfer_follows len (insns.Extend e d b) n s legal h = mapped_follows n s d b (sign_extended (extension_bits e) (bits_of (extension_width e))) (extend_follows e) h
+transfer_follows len (insns.Order o bits d) n s legal h = mapped_follows n s d d (ordered_range o (swap_bits bits)) (order_follows o bits) h
+transfer_follows len (insns.Jump offset) n s legal h = h
+transfer_follows len (insns.JumpFar distance) n s legal h = h
+transfer_follows len (insns.Branch w r d x offset) n s legal h =
     then_follows Both States (known (kind_of n d)) (known (kind_of s d)) _ _ (register_follows n s d h) (λ a b ab.
     then_follows Both States (known (operand_kind n x)) (known (operand_kind s x)) _ _ (operand_follows n s x h) (λ k l kl.
     then_follows Ranges States (number WrongKind a) (number WrongKind b) _ _ (number_follows WrongKind a b ab) (λ _ _ _.
     then_follows Ranges States (number WrongKind k) (number WrongKind l) _ _ (number_follows WrongKind k l kl) (λ _ _ _. h))))
-transfer_follows insns.Exit n s legal h =
+transfer_follows len insns.Exit n s legal h =
     then_follows Both States (known (kind_of n 0)) (known (kind_of s 0)) _ _ (register_follows n s 0 h) (λ k l kl.
     then_follows Ranges States (number AnswerKind k) (number AnswerKind l) _ _ (number_follows AnswerKind k l kl) (λ _ _ _. h))
-transfer_follows (insns.Load size d base offset) n s legal h = loaded_follows n s d base offset (size_bytes size) (whole (8 * size_bytes size)) (load_full size) h
-transfer_follows (insns.LoadSigned bits d base offset) n s legal h = loaded_follows n s d base offset (signed_bytes bits) all_words (omega arith, omega arith) h
-transfer_follows (insns.Store size base offset x) n s legal h =
+transfer_follows len (insns.Load size d base offset) n s legal h = loaded_follows len n s d base offset (size_bytes size) (whole (8 * size_bytes size)) (load_full size) h
+transfer_follows len (insns.LoadSigned bits d base offset) n s legal h = loaded_follows len n s d base offset (signed_bytes bits) all_words (omega arith, omega arith) h
+transfer_follows len (insns.Store size base offset x) n s legal h =
     then_follows Both States (known (kind_of n base)) (known (kind_of s base)) _ _ (register_follows n s base h) (λ k l kl.
     then_follows Both States (known (operand_kind n x)) (known (operand_kind s x)) _ _ (operand_follows n s x h) (λ u v uv.
     then_follows Any States (storable k u offset (size_bytes size)) (storable l v offset (size_bytes size)) _ _ (storable_follows k l u v offset (size_bytes size) kl uv) (λ _ _ _. h)))
-transfer_follows (insns.Wide d v) n s legal h =
+transfer_follows len (insns.Wide d v) n s legal h =
     then_follows (IsLow d) States (writable d) (writable d) _ _ (writable_follows d) (λ _ _ low.
     put n s d (Number (single v)) (Number (single v)) (omega (arith, low)) h (record { low = omega arith; high = omega arith }, (omega arith, legal.1)))
 
@@ -472,8 +472,8 @@ follows_ok n s (Err rule) y after h e = let bad : Err rule ≡ Ok after = e in a
 follows_ok n s (Ok a) (Err rule) after h e = absurd h
 follows_ok n s (Ok a) (Ok b) after h e = let is : a ≡ after = cc in (b, refl, subst (λ x. StateCovers x b) is h.0, h.1)
 
-pub transfer_less : (i : Insn) (wider s after : List Kind) → IsInsn i → IsFullState s → StateCovers wider s → transfer i wider ≡ Ok after → (left : List Kind) × (transfer i s ≡ Ok left) × StateCovers after left × IsFullState left
-transfer_less i wider s after legal full covers e = follows_ok wider s (transfer i wider) (transfer i s) after (transfer_follows i wider s legal (covers, full)) e
+pub transfer_less : (len : ℕ) (i : Insn) (wider s after : List Kind) → IsInsn i → IsFullState s → StateCovers wider s → transfer len i wider ≡ Ok after → (left : List Kind) × (transfer len i s ≡ Ok left) × StateCovers after left × IsFullState left
+transfer_less len i wider s after legal full covers e = follows_ok wider s (transfer len i wider) (transfer len i s) after (transfer_follows len i wider s legal (covers, full)) e
 
 -- ---- edges: each of the smaller state's has one of the larger state's that covers it
 
@@ -676,13 +676,13 @@ edges_less unit (insns.Store size base offset x) n s e h a = one_edge (unit + 1)
 
 -- ---- the entry, and joins
 
-pub entry_full : IsFullState entry_state
-entry_full = record { count = refl; kinds = at }
+pub entry_full : (len : ℕ) → len < 2 ^ 64 → IsFullState (entry_state len)
+entry_full len h = record { count = refl; kinds = at }
   where
-    at : (r : ℕ) → IsFullKind (kind_of entry_state r)
+    at : (r : ℕ) → IsFullKind (kind_of (entry_state len) r)
     at zero = tt
     at (suc zero) = tt
-    at (suc (suc zero)) = (omega arith, omega arith)
+    at (suc (suc zero)) = (omega arith, h)
     at (suc (suc (suc zero))) = (omega arith, omega arith)
     at (suc (suc (suc (suc zero)))) = tt
     at (suc (suc (suc (suc (suc zero))))) = tt
