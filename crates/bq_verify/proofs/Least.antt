@@ -1,4 +1,4 @@
--- The states of a text are the least that pass, and where a rule is broken in them no notes pass. By induction over the
+-- The states of a text are the least that pass; where a rule is broken in them no notes pass. By induction over the
 -- units: what arrives at a unit is below the note there of any notes that pass, since from less an instruction leaves less
 -- (bq_state/proofs/Monotone). That holds of states whose ranges have a word in them, and the entry's state is one.
 use Rattle.std.proofs.Common.{◌≡◌, ℕ, zero, suc, ◌<◌, List, [], ◌∷◌, length, Option, Some, None, ap, sym, subst, ◌∙◌, refl, arith, inl, inr}
@@ -21,6 +21,7 @@ use Rattle.bq_state.proofs.Monotone.{IsFullState, transfer_less, edges_less, ent
 use Rattle.bq_state.proofs.Covering.{state_covers_through, join_least}
 use Rattle.bq_sound.specs.Passes.{note_at, NoteCovers, AllCovered, Passes}
 use Rattle.bq_sound.proofs.Progress.{is_insn}
+use Rattle.bq_sound.proofs.Rules.{same_state}
 use Rattle.bq_check.specs.declared.fault.CheckFault.{CheckFault}
 use Rattle.bq_check.specs.declared.fault.CheckFault.TheVariants.{WrongCount, Flow, NoteForm, Entry, Rule as BrokenAt, NotCovered, OutOfMemory}
 use Rattle.bq_verify.specs.States.{joined, edges_after, edges_from, leading_to, arriving, AreStates}
@@ -53,6 +54,15 @@ edge_covered notes e (f ∷ es) h (inr a) = edge_covered notes e es h.1 a
 note_within : (notes : Notes) (unit : ℕ) (state : List Kind) → note_at notes unit ≡ Some state → unit < length notes
 note_within notes unit state e = elim (cases_lt unit (length notes)) [ inl l ↦ l | inr g ↦ let none : note_at notes unit ≡ None = get_or_past notes unit None g in cc ]
 
+same_note : (a b : List Kind) → Some a ≡ Some b → a ≡ b
+same_note a b e = cc
+
+no_note : (a : List Kind) → ◌≡◌ {A = Option (List Kind)} None (Some a) → ⊥
+no_note a e = cc
+
+no_rule : (a : List Kind) (rule : Rule) → Ok a ≡ Err rule → ⊥
+no_rule a rule e = cc
+
 module _ (text : List Insn) (others : Notes) (text_is : IsText text) (passes : Passes record_length text others) where
   -- a state that the note at a unit covers
   record Below (unit : ℕ) (state : List Kind) : Type 0 where
@@ -63,8 +73,7 @@ module _ (text : List Insn) (others : Notes) (text_is : IsText text) (passes : P
 
   join_below : (unit : ℕ) (a b : List Kind) → Below unit a → Below unit b → Below unit (join_states a b)
   join_below unit a b x y =
-      let same : Some x.note ≡ Some y.note = sym x.there ∙ y.there in
-      let is : y.note ≡ x.note = cc in
+      let is : y.note ≡ x.note = same_note y.note x.note (sym y.there ∙ x.there) in
       record {
         note = x.note;
         there = x.there;
@@ -77,18 +86,16 @@ module _ (text : List Insn) (others : Notes) (text_is : IsText text) (passes : P
   fold_below unit s (x ∷ xs) h all = fold_below unit (join_states s x) xs (join_below unit s x h (all x (inl refl))) (λ y a. all y (inr a))
 
   joined_below : (unit : ℕ) (s : List Kind) (xs : List (List Kind)) → joined xs ≡ Some s → ((x : List Kind) → Among x xs → Below unit x) → Below unit s
-  joined_below unit s [] e all = absurd (let bad : ◌≡◌ {A = Option (List Kind)} None (Some s) = e in cc)
+  joined_below unit s [] e all = absurd (no_note s e)
   joined_below unit s (x ∷ xs) e all =
-      let is : fold join_states x xs ≡ s = cc in
-      subst (Below unit) is (fold_below unit x xs (all x (inl refl)) (λ y a. all y (inr a)))
+      subst (Below unit) (same_note (fold join_states x xs) s e) (fold_below unit x xs (all x (inl refl)) (λ y a. all y (inr a)))
 
   -- what an instruction leaves of a state below a note is below the notes where it leads
   led_below : (n unit : ℕ) (i : Insn) (s after x : List Kind) → insn_at text n ≡ Some i → Below n s → transfer record_length i s ≡ Ok after → Among x (leading_to unit (edges n i after)) → Below unit x
   led_below n unit i s after x there h is a =
       let fine = passes.fine.each n h.note i (insn_within text n i there) h.there there in
       let less = transfer_less record_length i h.note s fine.after (is_insn text n i text_is there) h.full h.covers fine.rules in
-      let both : Ok less.0 ≡ Ok after = sym less.1 ∙ is in
-      let same : less.0 ≡ after = cc in
+      let same : less.0 ≡ after = same_state less.0 after (sym less.1 ∙ is) in
       let covers : StateCovers fine.after after = subst (StateCovers fine.after) same less.2 in
       let edge = edges_less n i fine.after after (unit, x) (covers, subst IsFullState same less.3) (by_which unit x (edges n i after) a) in
       let c = edge_covered others (unit, edge.1.0) (edges n i fine.after) fine.covered edge.1.1 in
@@ -140,8 +147,7 @@ module _ (text : List Insn) (others : Notes) (text_is : IsText text) (passes : P
       let b = states_below h.notes unit (suc unit) h.states unit h.state (omega arith) h.noted in
       let fine = passes.fine.each unit b.note h.insn (insn_within text unit h.insn h.there) b.there h.there in
       let less = transfer_less record_length h.insn b.note h.state fine.after (is_insn text unit h.insn text_is h.there) b.full b.covers fine.rules in
-      let bad : Ok less.0 ≡ Err rule = sym less.1 ∙ h.broken in
-      absurd (cc)
+      no_rule less.0 rule (sym less.1 ∙ h.broken)
 
   none_refused : (fault : CheckFault) → IsRefused text fault → fault ≢ OutOfMemory → ⊥
   none_refused (Flow unit rule) h other = not_legal text unit rule h passes.flow
