@@ -1,4 +1,4 @@
--- The first fault of notes that do not pass: 21, then the flow's, then 31, 22, and the units with a state in rising order.
+-- The first fault of notes that do not pass: 21, the flow's, 31, 22, and then the units with a state in rising order.
 use Rattle.std.specs.Prelude.{◌≡◌, ◌≢◌, ℕ, List, length, Option, Some, None, Ok, Err}
 use Rattle.bq_insn.specs.Slots.{units}
 use Rattle.bq_insn.specs.declared.insn.Insn.{Insn}

@@ -1,5 +1,5 @@
 -- Jumps: the state on the edge that is gone holds.
-use Rattle.std.proofs.Common.{◌≡◌, ℕ, ◌+◌, ◌^◌, refl, sym, ap, ◌∙◌, subst, inl, inr, arith, List, [], ◌∷◌, ◌++◌, Option, Some, None, Bool, true, false, cond, Ok}
+use Rattle.std.proofs.Common.{◌≡◌, ℕ, ◌+◌, ◌^◌, refl, sym, ap, ◌∙◌, subst, inl, inr, arith, List, ◌++◌, Option, Some, None, Bool, true, false, cond, Ok}
 use Rattle.std.specs.Prelude.{ℤ, slice_set}
 use Rattle.std.specs.Option.{IsSomeAnd}
 use Rattle.std.proofs.lemmas.Bool.{cases_eq, cases_Bool, eq-eqb, ne_eqb}
@@ -26,6 +26,7 @@ use Rattle.bq_state.specs.Kinds.{kind_of}
 use Rattle.bq_state.specs.Rules.{transfer, and_then, known, number, operand_kind}
 use Rattle.bq_state.specs.Edges.{with_number, with_numbers, refined_by_number, refined_by_register, refined, along, edges}
 use Rattle.bq_sound.proofs.Tags.{Tagged, Num, tag_at, HoldsNumber, TagHolds, TagsHold, narrowed_holds}
+use Rattle.bq_sound.proofs.Among.{among_left, among_right}
 use Rattle.bq_sound.proofs.Rules.{same_state, read, numbered}
 use Rattle.bq_sound.proofs.Machine.{Common, machine, GoesOn, Stands, goes_on}
 use Rattle.bq_sound.proofs.Operands.{operand_tag, held_is, value_is, operand_holds}
@@ -113,15 +114,6 @@ refined_leads state tags w r taken d (operands.Register s) a b x y h ka kb ex ey
 -- an edge that leads to a state is one of the edges
 along_edge : (unit : ℕ) (o : Option (List Kind)) (state : List Kind) → o ≡ Some state → Among (unit, state) (along unit o)
 along_edge unit o state e = subst (λ q. Among (unit, state) (along unit q)) (sym e) (inl refl)
-
-among_left : (x : ℕ × List Kind) (xs ys : List (ℕ × List Kind)) → Among x xs → Among x (xs ++ ys)
-among_left x [] ys h = absurd h
-among_left x (y ∷ xs) ys (inl e) = inl e
-among_left x (y ∷ xs) ys (inr h) = inr (among_left x xs ys h)
-
-among_right : (x : ℕ × List Kind) (xs ys : List (ℕ × List Kind)) → Among x ys → Among x (xs ++ ys)
-among_right x [] ys h = h
-among_right x (y ∷ xs) ys h = inr (among_right x xs ys h)
 
 abbrev sides : ℕ → ℕ → Width → Relation → ℕ → Operand → List Kind → List (ℕ × List Kind)
 sides stay go w r d operand state = along stay (refined state w r false d operand) ++ along go (refined state w r true d operand)

@@ -2,8 +2,6 @@
 use Rattle.std.proofs.Common.{◌≡◌, ◌∙◌, ap, ℕ, zero, suc, ◌+◌, ◌^◌, ◌<◌, ◌≤◌, refl, subst, inl, inr, arith, List, [], ◌∷◌, length, Option, Some, None}
 use Rattle.std.specs.Prelude.{pos, ⊤}
 use Rattle.std.proofs.lemmas.Int.{ints}
-use Rattle.std.proofs.lemmas.Bool.{cases_lt}
-use Rattle.std.proofs.lemmas.List.{get_or_past}
 use Rattle.bq_insn.specs.Slots.{units, IsText}
 use Rattle.bq_insn.specs.declared.insn.Insn.{Insn}
 use Rattle.bq_flow.specs.Paths.{insn_at, Path, IsLongest}
@@ -19,7 +17,7 @@ use Rattle.bq_sound.specs.Passes.{note_at, Passes}
 use Rattle.bq_sound.specs.Safe.{AreBytes, IsSafe}
 use Rattle.bq_sound.proofs.Tags.{InFrame, InRecord, Tagged, Num, Ptr, IsWord, tag_at, HoldsNumber, HoldsPointer, TagHolds, TagsHold, covered_tags}
 use Rattle.bq_sound.proofs.Machine.{Common, machine, IsWhole}
-use Rattle.bq_sound.proofs.Along.{among_covered, along_successors}
+use Rattle.bq_sound.proofs.Along.{note_within, among_covered, along_successors}
 use Rattle.bq_sound.proofs.Progress.{is_insn, progress}
 use Rattle.bq_state.specs.Edges.{edges}
 
@@ -36,9 +34,6 @@ record Ends (text : List Insn) (m : Common) : Type 0 where
   whole : AreBytes 512 after
   path : Path text m.unit count
   run : (p : Place) → IsPlacement p → RunsTo p text (machine p m) count answer after
-
-note_within : (notes : List (Option (List Kind))) (unit : ℕ) (state : List Kind) → note_at notes unit ≡ Some state → unit < length notes
-note_within notes unit state e = elim (cases_lt unit (length notes)) [ inl l ↦ l | inr g ↦ let none : note_at notes unit ≡ None = get_or_past notes unit None g in cc ]
 
 ends : (len fuel : ℕ) (text : List Insn) (notes : List (Option (List Kind))) (m : Common) (state : List Kind) → IsText text → Passes len text notes → IsWhole len m → note_at notes m.unit ≡ Some state → TagsHold state m.tags
     → units text ≤ m.unit + fuel → Ends text m

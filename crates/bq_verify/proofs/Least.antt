@@ -1,6 +1,6 @@
 -- The states of a text are the least that pass; where a rule is broken in them no notes pass. By induction over the
--- units: what arrives at a unit is below the note there of any notes that pass, since from less an instruction leaves less
--- (bq_state/proofs/Monotone). That holds of states whose ranges have a word in them, and the entry's state is one.
+-- units: what arrives at a unit is below the note there of any notes that pass, since from less an instruction leaves
+-- less (bq_state/proofs/Monotone). That holds of states whose ranges have a word in them, and the entry's is one.
 use Rattle.std.proofs.Common.{◌≡◌, ℕ, zero, suc, ◌<◌, List, [], ◌∷◌, length, Option, Some, None, ap, sym, subst, ◌∙◌, refl, arith, inl, inr}
 use Rattle.std.specs.Prelude.{◌≢◌, ◌==◌, Result, Ok, Err}
 use Rattle.std.specs.List.{fold}
@@ -20,6 +20,8 @@ use Rattle.bq_state.specs.Edges.{edges}
 use Rattle.bq_state.proofs.Monotone.{IsFullState, transfer_less, edges_less, entry_full, joined_full, Among as AmongEdges}
 use Rattle.bq_state.proofs.Covering.{state_covers_through, join_least}
 use Rattle.bq_sound.specs.Passes.{note_at, NoteCovers, AllCovered, Passes}
+use Rattle.bq_sound.proofs.Among.{among_either}
+use Rattle.bq_sound.proofs.Along.{note_within}
 use Rattle.bq_sound.proofs.Progress.{is_insn}
 use Rattle.bq_sound.proofs.Rules.{same_state}
 use Rattle.bq_check.specs.declared.fault.CheckFault.{CheckFault}
@@ -28,7 +30,7 @@ use Rattle.bq_verify.specs.States.{joined, edges_after, edges_from, leading_to, 
 use Rattle.bq_verify.specs.Refused.{IsFirstBroken, IsRefused}
 use Rattle.bq_verify.specs.Least.{AreLeast, NonePass}
 use Rattle.bq_verify.proofs.Forward.{edges_lead}
-use Rattle.bq_verify.proofs.Passing.{among_either, came}
+use Rattle.bq_verify.proofs.Passing.{came}
 
 abbrev Notes : Type 0
 Notes = List (Option (List Kind))
@@ -50,9 +52,6 @@ edge_covered : (notes : Notes) (e : ℕ × List Kind) (es : List (ℕ × List Ki
 edge_covered notes e [] h a = absurd a
 edge_covered notes e (f ∷ es) h (inl is) = subst (NoteCovers notes) (sym is) h.0
 edge_covered notes e (f ∷ es) h (inr a) = edge_covered notes e es h.1 a
-
-note_within : (notes : Notes) (unit : ℕ) (state : List Kind) → note_at notes unit ≡ Some state → unit < length notes
-note_within notes unit state e = elim (cases_lt unit (length notes)) [ inl l ↦ l | inr g ↦ let none : note_at notes unit ≡ None = get_or_past notes unit None g in cc ]
 
 same_note : (a b : List Kind) → Some a ≡ Some b → a ≡ b
 same_note a b e = cc

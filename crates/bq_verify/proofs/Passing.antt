@@ -14,28 +14,12 @@ use Rattle.bq_state.specs.Kinds.{StateCovers, join_states, entry_state}
 use Rattle.bq_state.specs.Rules.{transfer}
 use Rattle.bq_state.specs.Edges.{edges}
 use Rattle.bq_sound.specs.Passes.{note_at, NoteCovers, AllCovered, IsFine, Passes}
+use Rattle.bq_sound.proofs.Among.{among_left, among_right, among_either}
 use Rattle.bq_verify.specs.States.{joined, edges_after, edges_from, leading_to, arriving, AreStates, NoRuleBroken}
 use Rattle.bq_verify.proofs.Forward.{Leads, AllLead, edges_lead}
 use Rattle.bq_verify.proofs.Joins.{fold_covers_first, fold_covers}
 
 -- ---- what arrives
-
-among_left : {A : Type 0} (x : A) (xs ys : List A) → Among x xs → Among x (xs ++ ys)
-among_left x [] ys a = absurd a
-among_left x (z ∷ xs) ys (inl e) = inl e
-among_left x (z ∷ xs) ys (inr a) = inr (among_left x xs ys a)
-
-among_right : {A : Type 0} (x : A) (xs ys : List A) → Among x ys → Among x (xs ++ ys)
-among_right x [] ys a = a
-among_right x (z ∷ xs) ys a = inr (among_right x xs ys a)
-
-pub among_either : {A : Type 0} (x : A) (xs ys : List A) → Among x (xs ++ ys) → Among x xs ⊎ Among x ys
-among_either x [] ys a = inr a
-among_either x (z ∷ xs) ys (inl e) = inl (inl e)
-among_either x (z ∷ xs) ys (inr a) = elim (among_either x xs ys a) [
-  | inl l ↦ inl (inr l)
-  | inr r ↦ inr r
-]
 
 -- an edge to the unit brings its state there
 brought : (unit : ℕ) (edge : ℕ × List Kind) (es : List (ℕ × List Kind)) → edge.0 ≡ unit → Among edge es → Among edge.1 (leading_to unit es)

@@ -1,4 +1,4 @@
--- What is best about the states: they say the most that any notes may say, and no text is refused that has notes that pass.
+-- What is best about the states: no notes that pass say more, and no text is refused that has notes that pass.
 use Rattle.std.specs.Prelude.{◌≡◌, ℕ, List, Option, Some}
 use Rattle.bq_insn.specs.declared.insn.Insn.{Insn}
 use Rattle.bq_meaning.specs.Place.{record_length}

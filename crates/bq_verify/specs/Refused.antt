@@ -1,4 +1,4 @@
--- What the verifier refuses: the first fault of the flow, or the first rule that is broken, in rising order of the units.
+-- What the verifier refuses: the first fault of the flow, or the first rule that is broken, in rising order of units.
 use Rattle.std.specs.Prelude.{◌≡◌, ℕ, ◌<◌, List, Option, Some, Err}
 use Rattle.bq_insn.specs.declared.insn.Insn.{Insn}
 use Rattle.bq_flow.specs.Paths.{insn_at, IsLegalFlow}
