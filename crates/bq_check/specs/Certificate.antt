@@ -3,6 +3,7 @@ use Rattle.std.specs.Prelude.{ℕ, List, Option}
 use Rattle.bq_insn.specs.Slots.{IsText}
 use Rattle.bq_insn.specs.declared.insn.Insn.{Insn}
 use Rattle.bq_flow.specs.Paths.{IsLongest}
+use Rattle.bq_meaning.specs.Place.{record_length}
 use Rattle.bq_state.specs.declared.kind.Kind.{Kind}
 use Rattle.bq_sound.specs.Passes.{Passes}
 
@@ -15,5 +16,5 @@ pub record Certificate : Type 0 where
 -- a legal text, its notes pass, and that is the longest path
 pub record IsCertified (c : Certificate) : Type 0 where
   pub legal : IsText c.text
-  pub passes : Passes c.text c.notes
+  pub passes : Passes record_length c.text c.notes
   pub longest : IsLongest c.text c.longest

@@ -2,6 +2,7 @@
 
 ghost use Rattle.std.specs.Prelude.{◌≡◌, ◌≤◌};
 ghost use Rattle.bq_flow.specs.Paths.{IsLongest};
+ghost use Rattle.bq_meaning.specs.Place.{record_length};
 ghost use Rattle.bq_sound.specs.Passes.{Passes};
 ghost use Rattle.bq_sound.specs.Safe.{IsSafe};
 
@@ -40,7 +41,7 @@ impl Certified {
     /// The notes, which pass for the text.
     pub fn notes(&self) -> &Notes
         ensures value { result.now ≡ self.now.notes }
-        ensures passes { Passes self.now.text self.now.notes }
+        ensures passes { Passes record_length self.now.text self.now.notes }
     {
         &self.notes
     }
@@ -59,7 +60,7 @@ impl Certified {
     /// From every accumulator, record and frame a record run of the text ends within the longest path,
     /// with no fault, and with one answer and one frame that are the same at every placement.
     pub fn is_safe(&self)
-        ensures { IsSafe self.now.text self.now.longest }
+        ensures { IsSafe record_length self.now.text self.now.longest }
     {
         passing_is_safe();
         let _text = &self.text;

@@ -3,6 +3,7 @@
 
 ghost use Rattle.std.specs.Prelude.{◌≡◌, List, Option};
 ghost use Rattle.bq_insn.specs.declared.insn.Insn.{Insn};
+ghost use Rattle.bq_meaning.specs.Place.{record_length};
 ghost use Rattle.bq_state.specs.declared.kind.Kind.{Kind};
 ghost use Rattle.bq_sound.specs.Passes.{Passes};
 ghost use Rattle.bq_check.specs.declared.fault.CheckFault.{CheckFault};
@@ -12,7 +13,7 @@ ghost use Rattle.bq_check.specs.Spelling.{notes_bytes, IsNotes};
 
 /// Notes that pass have no fault but want of memory.
 pub fn passing_has_no_fault()
-    ensures { (text : List Insn) (notes : List (Option (List Kind))) (fault : CheckFault) → Passes text notes → IsFirstFault text notes fault → fault ≡ OutOfMemory }
+    ensures { (text : List Insn) (notes : List (Option (List Kind))) (fault : CheckFault) → Passes record_length text notes → IsFirstFault text notes fault → fault ≡ OutOfMemory }
 {}
 
 /// A text with notes has one first fault at most, want of memory aside.

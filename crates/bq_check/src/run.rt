@@ -5,7 +5,7 @@ ghost use Rattle.bq_meaning.specs.Place.{Place, IsPlacement};
 ghost use Rattle.bq_meaning.specs.Runs.{RecordRun};
 
 use crate::certified::Certified;
-use bq_meaning::placement::Placement;
+use bq_meaning::placement::{FRAME_LENGTH, Placement, RECORD_LENGTH};
 use bq_meaning::run::{Ended, run_checked};
 
 impl Certified {
@@ -14,8 +14,8 @@ impl Certified {
     pub fn run_certified(
         &self,
         placement: &Placement,
-        record: &[u8; 64],
-        frame: &mut [u8; 512],
+        record: &[u8; RECORD_LENGTH],
+        frame: &mut [u8; FRAME_LENGTH],
         acc: u64,
     ) -> Ended
         // It is the record run at this placement.

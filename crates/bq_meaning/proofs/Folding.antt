@@ -1,9 +1,9 @@
 -- Folds over records: one outcome, and one record more.
-use Rattle.std.proofs.Common.{◌≡◌, ℕ, ◌+◌, ◌<◌, ◌≤◌, arith, refl, sym, ap, ◌∙◌, subst, List, [], ◌∷◌, ◌++◌, inl, inr}
+use Rattle.std.proofs.Common.{◌≡◌, ℕ, ◌+◌, arith, refl, sym, ◌∙◌, subst, List, [], ◌∷◌, ◌++◌, inl}
 use Rattle.bq_insn.specs.declared.insn.Insn.{Insn}
 use Rattle.bq_meaning.specs.Place.{Place, IsPlacement}
 use Rattle.bq_meaning.specs.Runs.{RecordRun, entry_machine}
-use Rattle.bq_meaning.specs.Answers.{FoldsTo, Folds, IsAnswer, zero_frame}
+use Rattle.bq_meaning.specs.Answers.{FoldsTo, IsAnswer, zero_frame}
 use Rattle.bq_meaning.proofs.Once.{same_end}
 
 pub same_fold : (p : Place) (text : List Insn) (records : List (List ℕ)) (acc : ℕ) (frame : List ℕ) (answer steps other count : ℕ) (after left : List ℕ) → FoldsTo p text records acc frame answer steps after → FoldsTo p text records acc frame other count left → (answer ≡ other) × (steps ≡ count) × (after ≡ left)

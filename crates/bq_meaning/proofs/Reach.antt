@@ -1,5 +1,5 @@
 -- What holds after some steps, seen from the start.
-use Rattle.std.proofs.Common.{◌≡◌, ℕ, zero, suc, ◌+◌, ◌<◌, ◌≤◌, arith, refl, sym, subst, List, inl, inr, ap}
+use Rattle.std.proofs.Common.{◌≡◌, ℕ, zero, suc, ◌+◌, ◌<◌, arith, refl, sym, subst, List, inl, inr, ap}
 use Rattle.std.specs.Prelude.{Result, Ok, Err}
 use Rattle.bq_insn.specs.declared.insn.Insn.{Insn}
 use Rattle.bq_meaning.specs.declared.machine.Machine.{Machine}

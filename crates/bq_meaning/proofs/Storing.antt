@@ -1,5 +1,5 @@
 -- What a store leaves in the frame.
-use Rattle.std.proofs.Common.{◌≡◌, ℕ, zero, suc, ◌+◌, ◌-◌, ◌/◌, ◌%◌, ◌≤◌, arith, rules, refl, sym, ap, ◌∙◌, List, [], ◌∷◌, ◌++◌, Some, take, drop}
+use Rattle.std.proofs.Common.{◌≡◌, ℕ, zero, suc, ◌+◌, ◌-◌, ◌/◌, ◌%◌, ◌≤◌, arith, rules, refl, ap, ◌∙◌, List, [], ◌∷◌, ◌++◌, Some, take, drop}
 use Rattle.std.specs.Prelude.{Ok}
 use Rattle.std.specs.Int.{w64, to_le_bytes}
 use Rattle.std.specs.List.{splice}

@@ -5,7 +5,7 @@ ghost use Rattle.bq_meaning.specs.Meaning.{held, value, taken};
 ghost use Rattle.bq_meaning.specs.Runs.{entry_machine};
 
 use crate::fault::Fault;
-use crate::placement::Placement;
+use crate::placement::{FRAME_LENGTH, Placement, RECORD_LENGTH};
 use bq_insn::insn::Operand;
 use bq_insn::register::Register;
 use bq_word::AluOp;
@@ -18,9 +18,9 @@ pub struct Machine {
     /// r0 to r10: none until it is written.
     pub registers: [Option<u64>; 11],
     /// What r10 points to the end of: read and written.
-    pub frame: [u8; 512],
+    pub frame: [u8; FRAME_LENGTH],
     /// What r1 points to: only read.
-    pub record: [u8; 64],
+    pub record: [u8; RECORD_LENGTH],
 }
 
 /// Where an access lies: so many bytes behind the start of the frame, or of the record.
@@ -35,19 +35,19 @@ impl Machine {
     pub(crate) fn at_entry(
         placement: &Placement,
         acc: u64,
-        record: &[u8; 64],
-        frame: &[u8; 512],
+        record: &[u8; RECORD_LENGTH],
+        frame: &[u8; FRAME_LENGTH],
     ) -> Machine
         ensures { result ≡ entry_machine placement.now acc «record».now frame.now }
     {
         let record_start = placement.record();
-        let frame_end = placement.frame() + 512;
+        let frame_end = placement.frame() + FRAME_LENGTH as u64;
         Machine {
             unit: 0,
             registers: [
                 None,
                 Some(record_start),
-                Some(64),
+                Some(RECORD_LENGTH as u64),
                 Some(acc),
                 None,
                 None,

@@ -2,13 +2,14 @@
 
 ghost use Rattle.std.specs.Prelude.{◌≡◌, ◌≤◌, ◌<◌, ◌+◌, ◌^◌, Some, None, IfOk, IfErr, IfSome, length};
 ghost use Rattle.bq_word.specs.Word.{le_number};
+ghost use Rattle.bq_meaning.specs.Place.{record_length};
 ghost use Rattle.bq_meaning.specs.Memory.{is_inside, access, loaded, LiesWithin, size_bytes, signed_bytes};
 ghost use Rattle.bq_meaning.specs.Meaning.{reading, stored};
 ghost use Rattle.bq_meaning.specs.Runs.{StepAnswers};
 
 use crate::fault::Fault;
 use crate::machine::{Location, Machine};
-use crate::placement::Placement;
+use crate::placement::{FRAME_LENGTH, Placement, RECORD_LENGTH};
 use crate::step::Step;
 use bq_insn::insn::Size;
 use bq_word::SignBits;
@@ -62,14 +63,14 @@ impl Placement {
     /// Where so many bytes at an address lie, if they lie wholly in one region.
     fn access(&self, address: u64, size: usize) -> Option<Location>
         requires { size ≤ 8 }
-        ensures value { result ≡ access self.now 64 address size }
-        ensures within { IfSome result (λ l. LiesWithin 64 l size) }
+        ensures value { result ≡ access self.now record_length address size }
+        ensures within { IfSome result (λ l. LiesWithin record_length l size) }
     {
         let frame = self.frame();
         let record = self.record();
-        if is_inside(frame, 512, address, size as u64) {
+        if is_inside(frame, FRAME_LENGTH as u64, address, size as u64) {
             Some(Location::Frame((address - frame) as usize))
-        } else if is_inside(record, 64, address, size as u64) {
+        } else if is_inside(record, RECORD_LENGTH as u64, address, size as u64) {
             Some(Location::Record((address - record) as usize))
         } else {
             None
@@ -86,8 +87,8 @@ impl Machine {
         size: usize,
     ) -> Result<u64, Fault>
         requires { size ≤ 8 }
-        ensures ok { IfOk result (λ v. (l : Location) × (access placement.now 64 address size ≡ Some l) × (v ≡ le_number (loaded self.now l size))) }
-        ensures err { IfErr result (λ f. (f ≡ Fault.OutsideAccess) × (access placement.now 64 address size ≡ None)) }
+        ensures ok { IfOk result (λ v. (l : Location) × (access placement.now record_length address size ≡ Some l) × (v ≡ le_number (loaded self.now l size))) }
+        ensures err { IfErr result (λ f. (f ≡ Fault.OutsideAccess) × (access placement.now record_length address size ≡ None)) }
     {
         match placement.access(address, size) {
             Some(Location::Frame(at)) => Ok(le_number(&self.frame[at..at + size])),
@@ -106,7 +107,7 @@ impl Machine {
     ) -> Result<Step, Fault>
         requires small { size ≤ 8 }
         requires room { self.old.unit + 1 < 2 ^ 64 }
-        ensures { StepAnswers (reading Fault.OutsideAccess (access placement.now 64 address size) (λ l. stored self.old l size value)) self.old result self.new }
+        ensures { StepAnswers (reading Fault.OutsideAccess (access placement.now record_length address size) (λ l. stored self.old l size value)) self.old result self.new }
     {
         match placement.access(address, size) {
             Some(Location::Frame(at)) => {

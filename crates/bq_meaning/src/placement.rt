@@ -1,9 +1,15 @@
 //! Where the frame and the record lie.
 
 ghost use Rattle.std.specs.Prelude.{◌≡◌, ◌↔◌, ◌+◌, ◌^◌, ◌<◌, IsSome, IfSome};
-ghost use Rattle.bq_meaning.specs.Place.{Place, IsPlacement};
+ghost use Rattle.bq_meaning.specs.Place.{Place, IsPlacement, record_length};
 
 use std::marker::Model;
+
+/// How many bytes a frame has.
+pub const FRAME_LENGTH: usize = 512;
+
+/// How many bytes a record has: what the entry puts into r2.
+pub const RECORD_LENGTH: usize = 64;
 
 /// Where a machine's memory lies: the address of the frame's first byte and that of the record's, in a space of 2^64
 /// addresses. Both regions end below 2^64, and they lie apart.
@@ -32,8 +38,9 @@ impl Placement {
         ensures some { IsSome result ↔ IsPlacement (record { frame = frame; «record» = «record» }) }
         ensures value { IfSome result (λ p. p ≡ record { frame = frame; «record» = «record» }) }
     {
-        if frame < u64::MAX - 511 && record < u64::MAX - 63 {
-            if frame + 512 <= record || record + 64 <= frame {
+        let (frame_length, record_length) = (FRAME_LENGTH as u64, RECORD_LENGTH as u64);
+        if frame <= u64::MAX - frame_length && record <= u64::MAX - record_length {
+            if frame + frame_length <= record || record + record_length <= frame {
                 return Some(Placement { frame, record });
             }
         }
@@ -58,7 +65,7 @@ impl Placement {
     /// The address of the record's first byte.
     pub fn record(&self) -> u64
         ensures value { result ≡ self.now.record }
-        ensures fits { result + 64 < 2 ^ 64 }
+        ensures fits { result + record_length < 2 ^ 64 }
     {
         self.record
     }

@@ -5,7 +5,7 @@ ghost use Rattle.bq_meaning.specs.Runs.{RecordRun, RunFaults, entry_machine};
 
 use crate::fault::Fault;
 use crate::machine::Machine;
-use crate::placement::Placement;
+use crate::placement::{FRAME_LENGTH, Placement, RECORD_LENGTH};
 use crate::step::{Step, step_checked};
 use bq_insn::text::Text;
 
@@ -23,8 +23,8 @@ pub struct Ended {
 pub fn run_checked(
     text: &Text,
     placement: &Placement,
-    record: &[u8; 64],
-    frame: &mut [u8; 512],
+    record: &[u8; RECORD_LENGTH],
+    frame: &mut [u8; FRAME_LENGTH],
     acc: u64,
     limit: u64,
 ) -> Result<Ended, Fault>

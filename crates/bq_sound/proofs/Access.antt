@@ -18,36 +18,36 @@ use Rattle.bq_state.specs.Rules.{and_then, readable, storable}
 use Rattle.bq_sound.proofs.Words.{moved_on}
 use Rattle.bq_sound.proofs.Tags.{Region, InFrame, InRecord, Tagged, Num, Ptr, start, image, same_word, same_pointer, HoldsPointer, TagHolds}
 
-abbrev pub extent : Region → ℕ
-extent InFrame = 512
-extent InRecord = 64
+abbrev pub extent : ℕ → Region → ℕ
+extent len InFrame = 512
+extent len InRecord = len
 
 abbrev pub location : Region → ℕ → Location
 location InFrame at = Frame at
 location InRecord at = Record at
 
--- so many bytes at a distance from an offset lie in the region, at a place
-pub record Inside (region : Region) (z distance : ℤ) (size : ℕ) : Type 0 where
+-- so many bytes at a distance from an offset lie in the region, at a place; a record has len bytes
+pub record Inside (len : ℕ) (region : Region) (z distance : ℤ) (size : ℕ) : Type 0 where
   pub at : ℕ
   pub is : z +ℤ distance ≡ pos at
-  pub room : at + size ≤ extent region
+  pub room : at + size ≤ extent len region
 
 natural : (z : ℤ) → pos 0 ≤ℤ z → (n : ℕ) × (z ≡ pos n)
 natural (pos n) h = (n, refl)
 natural (negsuc n) h = absurd (omega (arith, ints))
 
-pub inside : (region : Region) (s : Span) (distance z : ℤ) (size : ℕ) → fits s distance size (extent region) ≡ true → IsOffset z s → Inside region z distance size
-inside region s distance z size e h =
-    let b = and_parts (int_le (pos 0) (s.lo +ℤ distance)) (int_le (s.hi +ℤ distance +ℤ pos size) (pos (extent region))) e in
+pub inside : (len : ℕ) (region : Region) (s : Span) (distance z : ℤ) (size : ℕ) → fits s distance size (extent len region) ≡ true → IsOffset z s → Inside len region z distance size
+inside len region s distance z size e h =
+    let b = and_parts (int_le (pos 0) (s.lo +ℤ distance)) (int_le (s.hi +ℤ distance +ℤ pos size) (pos (extent len region))) e in
     let n = natural (z +ℤ distance) (omega (arith, ints, b.0, h.low)) in
     record { at = n.0; is = n.1; room = omega (arith, ints, b.1, n.1, h.high) }
 
-region_fits : (p : Place) → IsPlacement p → (region : Region) → start p region + extent region < 2 ^ 64
-region_fits p place InFrame = place.frame_fits
-region_fits p place InRecord = place.record_fits
+region_fits : (p : Place) → IsPlacement p → (len : ℕ) → len ≤ record_room → (region : Region) → start p region + extent len region < 2 ^ 64
+region_fits p place len few InFrame = place.frame_fits
+region_fits p place len few InRecord = omega (arith, place.record_fits, few)
 
-address_is : (p : Place) → IsPlacement p → (region : Region) (z distance : ℤ) (size : ℕ) (h : Inside region z distance size) → moved (moved (start p region) z) distance ≡ start p region + h.at
-address_is p place region z distance size h = moved_on (start p region) z distance ∙ ap (moved (start p region)) h.is ∙ below (start p region) h.at (omega (arith, region_fits p place region, h.room))
+address_is : (p : Place) → IsPlacement p → (len : ℕ) → len ≤ record_room → (region : Region) (z distance : ℤ) (size : ℕ) (h : Inside len region z distance size) → moved (moved (start p region) z) distance ≡ start p region + h.at
+address_is p place len few region z distance size h = moved_on (start p region) z distance ∙ ap (moved (start p region)) h.is ∙ below (start p region) h.at (omega (arith, region_fits p place len few region, h.room))
   where
     below : (a n : ℕ) → a + n < 2 ^ 64 → moved a (pos n) ≡ a + n
     below a n h = omega arith
@@ -55,65 +55,65 @@ address_is p place region z distance size h = moved_on (start p region) z distan
 before : (p : Place) (at size : ℕ) → 1 ≤ size → p.frame + 512 ≤ p.record → is_inside p.frame 512 (p.record + at) size ≡ false
 before p at size some h = grind (arith, nat_tests)
 
-behind : (p : Place) (at size : ℕ) → 1 ≤ size → at + size ≤ 64 → p.record + 64 ≤ p.frame → is_inside p.frame 512 (p.record + at) size ≡ false
+behind : (p : Place) (at size : ℕ) → 1 ≤ size → at + size ≤ record_room → p.record + record_room ≤ p.frame → is_inside p.frame 512 (p.record + at) size ≡ false
 behind p at size some room h = grind (arith, nat_tests)
 
 within : (start len at size : ℕ) → at + size ≤ len → is_inside start len (start + at) size ≡ true
 within start len at size h = grind (arith, nat_tests)
 
--- an access to a record that fills its room goes to the same place of the same region
-pub accesses : (p : Place) → IsPlacement p → (region : Region) (z distance : ℤ) (size : ℕ) → 1 ≤ size → (h : Inside region z distance size)
-    → access p record_room (moved (image p (Ptr region z)) distance) size ≡ Some (location region h.at)
-accesses p place InFrame z distance size some h =
-    let e = address_is p place InFrame z distance size h in
+-- an access to a record within its room goes to the same place of the same region
+pub accesses : (p : Place) → IsPlacement p → (len : ℕ) → len ≤ record_room → (region : Region) (z distance : ℤ) (size : ℕ) → 1 ≤ size → (h : Inside len region z distance size)
+    → access p len (moved (image p (Ptr region z)) distance) size ≡ Some (location region h.at)
+accesses p place len few InFrame z distance size some h =
+    let e = address_is p place len few InFrame z distance size h in
     let t = within p.frame 512 h.at size h.room in
     let same : p.frame + h.at - p.frame ≡ h.at = omega arith in
     rw (e, t, same) refl
-accesses p place InRecord z distance size some h =
-    let e = address_is p place InRecord z distance size h in
-    let f : is_inside p.frame 512 (p.record + h.at) size ≡ false = elim place.apart [ inl a ↦ before p h.at size some a | inr b ↦ behind p h.at size some h.room b ] in
-    let t = within p.record 64 h.at size h.room in
+accesses p place len few InRecord z distance size some h =
+    let e = address_is p place len few InRecord z distance size h in
+    let f : is_inside p.frame 512 (p.record + h.at) size ≡ false = elim place.apart [ inl a ↦ before p h.at size some a | inr b ↦ behind p h.at size some (omega (arith, h.room, few)) b ] in
+    let t = within p.record len h.at size h.room in
     let same : p.record + h.at - p.record ≡ h.at = omega arith in
     rw (e, f, t, same) refl
 
 -- ---- the rules on accesses
 
 -- a pointer whose access is allowed
-pub record Reads (v : Tagged) (distance : ℤ) (size : ℕ) : Type 0 where
+pub record Reads (len : ℕ) (v : Tagged) (distance : ℤ) (size : ℕ) : Type 0 where
   pub region : Region
   pub z : ℤ
   pub is : v ≡ Ptr region z
-  pub inside : Inside region z distance size
+  pub inside : Inside len region z distance size
 
-reads_within : (region : Region) (s : Span) (distance : ℤ) (size : ℕ) (v : Tagged) → HoldsPointer region s (Some v) → fits s distance size (extent region) ≡ true → Reads v distance size
-reads_within region s distance size v h e = record { region = region; z = h.offset; is = cc; inside = inside region s distance h.offset size e h.within }
+reads_within : (len : ℕ) (region : Region) (s : Span) (distance : ℤ) (size : ℕ) (v : Tagged) → HoldsPointer region s (Some v) → fits s distance size (extent len region) ≡ true → Reads len v distance size
+reads_within len region s distance size v h e = record { region = region; z = h.offset; is = cc; inside = inside len region s distance h.offset size e h.within }
 
-pub allows : {B : Type 0} (k : Kind) (distance : ℤ) (size : ℕ) (go : Unit {0} → Result B Rule) (after : B) (v : Tagged) → TagHolds k (Some v) → and_then (readable k distance size) go ≡ Ok after
-    → Reads v distance size × (go tt ≡ Ok after)
-allows Unset distance size go after v h e = cc
-allows (Number a) distance size go after v h e = cc
-allows (FramePointer s) distance size go after v h e =
-    elim (cases_Bool (fits s distance size 512)) [ inl t ↦ (reads_within InFrame s distance size v h t, rw t at e) | inr f ↦ let no : Err OutsideFrame ≡ Ok after = rw f at e in cc ]
-allows (RecordPointer s) distance size go after v h e =
-    elim (cases_Bool (fits s distance size 64)) [ inl t ↦ (reads_within InRecord s distance size v h t, rw t at e) | inr f ↦ let no : Err OutsideRecord ≡ Ok after = rw f at e in cc ]
+pub allows : {B : Type 0} (len : ℕ) (k : Kind) (distance : ℤ) (size : ℕ) (go : Unit {0} → Result B Rule) (after : B) (v : Tagged) → TagHolds k (Some v) → and_then (readable len k distance size) go ≡ Ok after
+    → Reads len v distance size × (go tt ≡ Ok after)
+allows len Unset distance size go after v h e = cc
+allows len (Number a) distance size go after v h e = cc
+allows len (FramePointer s) distance size go after v h e =
+    elim (cases_Bool (fits s distance size 512)) [ inl t ↦ (reads_within len InFrame s distance size v h t, rw t at e) | inr f ↦ let no : Err OutsideFrame ≡ Ok after = rw f at e in cc ]
+allows len (RecordPointer s) distance size go after v h e =
+    elim (cases_Bool (fits s distance size len)) [ inl t ↦ (reads_within len InRecord s distance size v h t, rw t at e) | inr f ↦ let no : Err OutsideRecord ≡ Ok after = rw f at e in cc ]
 
 -- a pointer into the frame and a number that may be written there
-pub record Writes (u v : Tagged) (distance : ℤ) (size : ℕ) : Type 0 where
+pub record Writes (len : ℕ) (u v : Tagged) (distance : ℤ) (size : ℕ) : Type 0 where
   pub z : ℤ
   pub is : u ≡ Ptr InFrame z
-  pub inside : Inside InFrame z distance size
+  pub inside : Inside len InFrame z distance size
   pub word : ℕ
   pub number : v ≡ Num word
 
-pub stores : {B : Type 0} (k l : Kind) (distance : ℤ) (size : ℕ) (go : Unit {0} → Result B Rule) (after : B) (u v : Tagged) → TagHolds k (Some u) → TagHolds l (Some v)
-    → and_then (storable k l distance size) go ≡ Ok after → Writes u v distance size × (go tt ≡ Ok after)
-stores (FramePointer s) (Number a) distance size go after u v h i e =
+pub stores : {B : Type 0} (len : ℕ) (k l : Kind) (distance : ℤ) (size : ℕ) (go : Unit {0} → Result B Rule) (after : B) (u v : Tagged) → TagHolds k (Some u) → TagHolds l (Some v)
+    → and_then (storable k l distance size) go ≡ Ok after → Writes len u v distance size × (go tt ≡ Ok after)
+stores len (FramePointer s) (Number a) distance size go after u v h i e =
     elim (cases_Bool (fits s distance size 512)) [
-      | inl t ↦ (record { z = h.offset; is = same_pointer u InFrame h.offset h.is; inside = inside InFrame s distance h.offset size t h.within; word = i.word; number = same_word v i.word i.is }, rw t at e)
+      | inl t ↦ (record { z = h.offset; is = same_pointer u InFrame h.offset h.is; inside = inside len InFrame s distance h.offset size t h.within; word = i.word; number = same_word v i.word i.is }, rw t at e)
       | inr f ↦ let no : Err OutsideFrame ≡ Ok after = rw f at e in cc
     ]
-stores (RecordPointer s) Unset distance size go after u v h i e = cc
-stores (RecordPointer s) (Number a) distance size go after u v h i e = cc
-stores (RecordPointer s) (FramePointer t) distance size go after u v h i e = cc
-stores (RecordPointer s) (RecordPointer t) distance size go after u v h i e = cc
-stores k l distance size go after u v h i e = cc
+stores len (RecordPointer s) Unset distance size go after u v h i e = cc
+stores len (RecordPointer s) (Number a) distance size go after u v h i e = cc
+stores len (RecordPointer s) (FramePointer t) distance size go after u v h i e = cc
+stores len (RecordPointer s) (RecordPointer t) distance size go after u v h i e = cc
+stores len k l distance size go after u v h i e = cc

@@ -1,6 +1,8 @@
 -- An edge of an instruction leads to a successor, and to a note that covers its state.
-use Rattle.std.proofs.Common.{◌≡◌, ℕ, ◌+◌, ◌≤◌, refl, sym, ap, ◌∙◌, subst, inl, inr, arith, List, [], ◌∷◌, ◌++◌, Option, Some, None, true, false}
-use Rattle.std.specs.Prelude.{ℤ, pos, ◌⊎◌}
+use Rattle.std.proofs.Common.{◌≡◌, ℕ, ◌+◌, ◌<◌, ◌≤◌, length, refl, sym, ap, ◌∙◌, subst, inl, inr, arith, List, [], ◌∷◌, Option, Some, None, true, false}
+use Rattle.std.specs.Prelude.{ℤ, pos}
+use Rattle.std.proofs.lemmas.Bool.{cases_lt}
+use Rattle.std.proofs.lemmas.List.{get_or_past}
 use Rattle.bq_insn.specs.Slots.{units}
 use Rattle.bq_insn.specs.declared.insn.Insn.{Insn}
 use Rattle.bq_insn.specs.declared.insn.Insn.TheVariants as insns
@@ -11,7 +13,12 @@ use Rattle.bq_flow.proofs.Words.{in_words}
 use Rattle.bq_meaning.specs.Meaning.{target}
 use Rattle.bq_state.specs.declared.kind.Kind.{Kind}
 use Rattle.bq_state.specs.Edges.{refined, along, edges}
-use Rattle.bq_sound.specs.Passes.{NoteCovers, AllCovered}
+use Rattle.bq_sound.specs.Passes.{note_at, NoteCovers, AllCovered}
+use Rattle.bq_sound.proofs.Among.{among_either}
+
+-- a unit that has a state is one of the notes
+pub note_within : (notes : List (Option (List Kind))) (unit : ℕ) (state : List Kind) → note_at notes unit ≡ Some state → unit < length notes
+note_within notes unit state e = elim (cases_lt unit (length notes)) [ inl l ↦ l | inr g ↦ let none : note_at notes unit ≡ None = get_or_past notes unit None g in cc ]
 
 pub among_covered : (notes : List (Option (List Kind))) (es : List (ℕ × List Kind)) (e : ℕ × List Kind) → AllCovered notes es → Among e es → NoteCovers notes e
 among_covered notes [] e h a = absurd a
@@ -32,11 +39,6 @@ along_unit unit None e h = absurd h
 along_unit unit (Some state) e (inl is) = ap (λ (x : ℕ × List Kind). x.0) is
 along_unit unit (Some state) e (inr h) = absurd h
 
-among_both : (e : ℕ × List Kind) (xs ys : List (ℕ × List Kind)) → Among e (xs ++ ys) → Among e xs ⊎ Among e ys
-among_both e [] ys h = inr h
-among_both e (x ∷ xs) ys (inl is) = inl (inl is)
-among_both e (x ∷ xs) ys (inr h) = elim (among_both e xs ys h) [ inl l ↦ inl (inr l) | inr r ↦ inr r ]
-
 only : (unit : ℕ) (state : List Kind) (e : ℕ × List Kind) → Among e ((unit, state) ∷ []) → pos e.0 ≡ pos unit
 only unit state e (inl is) = ap (λ (x : ℕ × List Kind). pos x.0) is
 only unit state e (inr h) = absurd h
@@ -46,7 +48,7 @@ pub along_successors : (text : List Insn) (unit : ℕ) (i : Insn) (after : List 
 along_successors text unit (insns.Jump distance) after e few legal there h = inl (only (target unit distance) after e h ∙ lands text unit (insns.Jump distance) distance few legal there (inl refl))
 along_successors text unit (insns.JumpFar distance) after e few legal there h = inl (only (target unit distance) after e h ∙ lands text unit (insns.JumpFar distance) distance few legal there (inl refl))
 along_successors text unit (insns.Branch w r d x distance) after e few legal there h =
-    elim (among_both e (along (unit + 1) (refined after w r false d x)) (along (target unit distance) (refined after w r true d x)) h) [
+    elim (among_either e (along (unit + 1) (refined after w r false d x)) (along (target unit distance) (refined after w r true d x)) h) [
       | inl l ↦ inl (ap pos (along_unit (unit + 1) (refined after w r false d x) e l))
       | inr g ↦ inr (inl (ap pos (along_unit (target unit distance) (refined after w r true d x) e g) ∙ lands text unit (insns.Branch w r d x distance) distance few legal there (inr (inl refl))))
     ]

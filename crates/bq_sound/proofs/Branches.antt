@@ -1,5 +1,5 @@
 -- Jumps: the state on the edge that is gone holds.
-use Rattle.std.proofs.Common.{◌≡◌, ℕ, ◌+◌, ◌^◌, refl, sym, ap, ◌∙◌, subst, inl, inr, arith, List, [], ◌∷◌, ◌++◌, Option, Some, None, Bool, true, false, cond, Ok}
+use Rattle.std.proofs.Common.{◌≡◌, ℕ, ◌+◌, ◌^◌, refl, sym, ap, ◌∙◌, subst, inl, inr, arith, List, ◌++◌, Option, Some, None, Bool, true, false, cond, Ok}
 use Rattle.std.specs.Prelude.{ℤ, slice_set}
 use Rattle.std.specs.Option.{IsSomeAnd}
 use Rattle.std.proofs.lemmas.Bool.{cases_eq, cases_Bool, eq-eqb, ne_eqb}
@@ -26,23 +26,24 @@ use Rattle.bq_state.specs.Kinds.{kind_of}
 use Rattle.bq_state.specs.Rules.{transfer, and_then, known, number, operand_kind}
 use Rattle.bq_state.specs.Edges.{with_number, with_numbers, refined_by_number, refined_by_register, refined, along, edges}
 use Rattle.bq_sound.proofs.Tags.{Tagged, Num, tag_at, HoldsNumber, TagHolds, TagsHold, narrowed_holds}
+use Rattle.bq_sound.proofs.Among.{among_left, among_right}
 use Rattle.bq_sound.proofs.Rules.{same_state, read, numbered}
 use Rattle.bq_sound.proofs.Machine.{Common, machine, GoesOn, Stands, goes_on}
 use Rattle.bq_sound.proofs.Operands.{operand_tag, held_is, value_is, operand_holds}
 
 -- ---- jumps
 
-jumps : (m : Common) (i : Insn) (unit : ℕ) (state after left : List Kind) → Stands m state → TagsHold left m.tags → Among (unit, left) (edges m.unit i after)
-    → ((p : Place) → perform p i (machine p m) ≡ Continues (at_unit (machine p m) unit)) → GoesOn m i after
+jumps : {len : ℕ} (m : Common) (i : Insn) (unit : ℕ) (state after left : List Kind) → Stands len m state → TagsHold left m.tags → Among (unit, left) (edges m.unit i after)
+    → ((p : Place) → perform p i (machine p m) ≡ Continues (at_unit (machine p m) unit)) → GoesOn len m i after
 jumps m i unit state after left s holds among does =
     goes_on m (record { unit = unit; tags = m.tags; frame = m.frame; «record» = m.record }) i after left
-    (record { words = s.whole.words; frame = s.whole.frame; «record» = s.whole.record }) holds among (λ p place. does p)
+    (record { words = s.whole.words; frame = s.whole.frame; «record» = s.whole.record; fits = s.whole.fits }) holds among (λ p place. does p)
 
-pub does_jump : (m : Common) (distance : ℤ) (state after : List Kind) → Stands m state → transfer (insns.Jump distance) state ≡ Ok after → GoesOn m (insns.Jump distance) after
+pub does_jump : {len : ℕ} (m : Common) (distance : ℤ) (state after : List Kind) → Stands len m state → transfer len (insns.Jump distance) state ≡ Ok after → GoesOn len m (insns.Jump distance) after
 does_jump m distance state after s rules =
     jumps m (insns.Jump distance) (target m.unit distance) state after after s (subst (λ q. TagsHold q m.tags) (same_state state after rules) s.holds) (inl refl) (λ p. refl)
 
-pub does_jump_far : (m : Common) (distance : ℤ) (state after : List Kind) → Stands m state → transfer (insns.JumpFar distance) state ≡ Ok after → GoesOn m (insns.JumpFar distance) after
+pub does_jump_far : {len : ℕ} (m : Common) (distance : ℤ) (state after : List Kind) → Stands len m state → transfer len (insns.JumpFar distance) state ≡ Ok after → GoesOn len m (insns.JumpFar distance) after
 does_jump_far m distance state after s rules =
     jumps m (insns.JumpFar distance) (target m.unit distance) state after after s (subst (λ q. TagsHold q m.tags) (same_state state after rules) s.holds) (inl refl) (λ p. refl)
 
@@ -114,15 +115,6 @@ refined_leads state tags w r taken d (operands.Register s) a b x y h ka kb ex ey
 along_edge : (unit : ℕ) (o : Option (List Kind)) (state : List Kind) → o ≡ Some state → Among (unit, state) (along unit o)
 along_edge unit o state e = subst (λ q. Among (unit, state) (along unit q)) (sym e) (inl refl)
 
-among_left : (x : ℕ × List Kind) (xs ys : List (ℕ × List Kind)) → Among x xs → Among x (xs ++ ys)
-among_left x [] ys h = absurd h
-among_left x (y ∷ xs) ys (inl e) = inl e
-among_left x (y ∷ xs) ys (inr h) = inr (among_left x xs ys h)
-
-among_right : (x : ℕ × List Kind) (xs ys : List (ℕ × List Kind)) → Among x ys → Among x (xs ++ ys)
-among_right x [] ys h = h
-among_right x (y ∷ xs) ys h = inr (among_right x xs ys h)
-
 abbrev sides : ℕ → ℕ → Width → Relation → ℕ → Operand → List Kind → List (ℕ × List Kind)
 sides stay go w r d operand state = along stay (refined state w r false d operand) ++ along go (refined state w r true d operand)
 
@@ -138,8 +130,8 @@ branch_performs : (p : Place) (m : Common) (w : Width) (r : Relation) (d : ℕ) 
     → relates (bits_of w) r x y ≡ taken → perform p (insns.Branch w r d operand distance) (machine p m) ≡ Continues (at_unit (machine p m) (cond taken (target m.unit distance) (m.unit + 1)))
 branch_performs p m w r d operand distance x y taken ex ey e = rw (held_is p m.tags d (Num x) ex, value_is p m.tags operand (Num y) ey, e) refl
 
-pub does_branch : (m : Common) (w : Width) (r : Relation) (d : ℕ) (operand : Operand) (distance : ℤ) (state after : List Kind)
-    → Stands m state → transfer (insns.Branch w r d operand distance) state ≡ Ok after → GoesOn m (insns.Branch w r d operand distance) after
+pub does_branch : {len : ℕ} (m : Common) (w : Width) (r : Relation) (d : ℕ) (operand : Operand) (distance : ℤ) (state after : List Kind)
+    → Stands len m state → transfer len (insns.Branch w r d operand distance) state ≡ Ok after → GoesOn len m (insns.Branch w r d operand distance) after
 does_branch m w r d operand distance state after s rules =
     let i = insns.Branch w r d operand distance in
     let k = kind_of state d in

@@ -1,4 +1,5 @@
 pub mod Words
+pub mod Among
 pub mod Tags
 pub mod Rules
 pub mod Moves

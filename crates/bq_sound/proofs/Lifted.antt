@@ -1,10 +1,10 @@
 -- A machine that a state covers at a placement is the image of one for all placements.
-use Rattle.std.proofs.Common.{◌≡◌, ℕ, zero, suc, ◌^◌, ◌<◌, refl, sym, ap, ◌∙◌, subst, inl, inr, List, [], ◌∷◌, length, Option, Some, None, Ok}
+use Rattle.std.proofs.Common.{◌≡◌, ℕ, zero, suc, ◌^◌, ◌<◌, ◌≤◌, refl, sym, ap, ◌∙◌, subst, inl, inr, List, [], ◌∷◌, length, Option, Some, None, Ok}
 use Rattle.std.specs.Prelude.{option_map}
 use Rattle.std.proofs.lemmas.List.{length-map}
 use Rattle.bq_insn.specs.Insn.{IsInsn}
 use Rattle.bq_insn.specs.declared.insn.Insn.{Insn}
-use Rattle.bq_meaning.specs.Place.{Place, IsPlacement}
+use Rattle.bq_meaning.specs.Place.{Place, IsPlacement, record_room}
 use Rattle.bq_meaning.specs.Meaning.{held, perform}
 use Rattle.bq_meaning.specs.declared.machine.Machine.{Machine}
 use Rattle.bq_state.specs.Covers.{KindHolds, StateHolds}
@@ -86,19 +86,19 @@ many_tags p kinds (x ∷ xs) h w =
     words_each t ts a b zero v e = a v e
     words_each t ts a b (suc r) v e = b r v e
 
-record Lifted (p : Place) (state : List Kind) (m : Machine) : Type 0 where
+record Lifted (len : ℕ) (p : Place) (state : List Kind) (m : Machine) : Type 0 where
   common : Common
   is : machine p common ≡ m
-  stands : Stands common state
+  stands : Stands len common state
 
-lifted : (p : Place) (state : List Kind) (m : Machine) → IsMachine m → StateHolds p state m.registers → Lifted p state m
-lifted p state m whole holds =
+lifted : (len : ℕ) (p : Place) (state : List Kind) (m : Machine) → len ≤ record_room → IsMachine len m → StateHolds p state m.registers → Lifted len p state m
+lifted len p state m few whole holds =
     let t = many_tags p (kind_of state) m.registers holds.each whole.words in
     let count : length t.tags ≡ 11 = sym (length-map t.tags (option_map (image p))) ∙ ap length t.is ∙ whole.count in
     record {
       common = record { unit = m.unit; tags = t.tags; frame = m.frame; «record» = m.record };
       is = ap (λ (rs : List (Option ℕ)). record { unit = m.unit; registers = rs; frame = m.frame; «record» = m.record }) t.is;
-      stands = record { whole = record { words = record { count = count; each = t.words }; frame = whole.frame; «record» = whole.record }; holds = record { each = t.holds } };
+      stands = record { whole = record { words = record { count = count; each = t.words }; frame = whole.frame; «record» = whole.record; fits = few }; holds = record { each = t.holds } };
     }
 
 -- ---- back to it
@@ -116,8 +116,8 @@ small_image : (p : Place) (t : Option Tagged) (w : ℕ) → ((v : Tagged) → t 
 small_image p None w h e = cc
 small_image p (Some v) w h e = let is : image p v ≡ w = cc in subst (λ n. n < 2 ^ 64) is (image_small p v (h v refl))
 
-whole_machine : (p : Place) (m : Common) → IsWhole m → IsMachine (machine p m)
-whole_machine p m h = record {
+whole_machine : (len : ℕ) (p : Place) (m : Common) → IsWhole len m → IsMachine len (machine p m)
+whole_machine len p m h = record {
   count = length-map m.tags (option_map (image p)) ∙ h.words.count;
   words = λ r w e. small_image p (tag_at m.tags r) w (h.words.each r) (sym (held_image p m.tags r) ∙ e);
   frame = h.frame;
@@ -126,13 +126,13 @@ whole_machine p m h = record {
 
 -- ---- a step
 
-pub covered : (p : Place) (i : Insn) (state after : List Kind) (m : Machine) → IsPlacement p → IsInsn i → IsMachine m → StateHolds p state m.registers → transfer i state ≡ Ok after
-    → IsCovered p (edges m.unit i after) (perform p i m)
-covered p i state after m place legal whole holds rules =
-    let l = lifted p state m whole holds in
-    subst (λ x. IsCovered p (edges x.unit i after) (perform p i x)) l.is
+pub covered : (len : ℕ) (p : Place) (i : Insn) (state after : List Kind) (m : Machine) → len ≤ record_room → IsPlacement p → IsInsn i → IsMachine len m → StateHolds p state m.registers → transfer len i state ≡ Ok after
+    → IsCovered len p (edges m.unit i after) (perform p i m)
+covered len p i state after m few place legal whole holds rules =
+    let l = lifted len p state m few whole holds in
+    subst (λ x. IsCovered len p (edges x.unit i after) (perform p i x)) l.is
     (elim (progress l.common i state after legal l.stands rules) [
-      | inl on ↦ subst (IsCovered p (edges l.common.unit i after)) (sym (on.steps p place))
-          (record { state = on.left; edge = on.edge; covers = lowered p on.left on.next.tags on.stands.holds; whole = whole_machine p on.next on.stands.whole })
-      | inr stop ↦ subst (IsCovered p (edges l.common.unit i after)) (sym (stop.steps p place)) stop.word
+      | inl on ↦ subst (IsCovered len p (edges l.common.unit i after)) (sym (on.steps p place))
+          (record { state = on.left; edge = on.edge; covers = lowered p on.left on.next.tags on.stands.holds; whole = whole_machine len p on.next on.stands.whole })
+      | inr stop ↦ subst (IsCovered len p (edges l.common.unit i after)) (sym (stop.steps p place)) stop.word
     ])

@@ -1,12 +1,12 @@
 -- A machine for all placements, and what a step of it comes to.
-use Rattle.std.proofs.Common.{◌≡◌, ℕ, ◌^◌, ◌<◌, sym, ap, ◌∙◌, subst, inl, inr, arith, List, length, Option, Some}
+use Rattle.std.proofs.Common.{◌≡◌, ℕ, ◌^◌, ◌<◌, ◌≤◌, sym, ap, ◌∙◌, subst, inl, inr, arith, List, length, Option, Some}
 use Rattle.std.specs.Prelude.{slice_set}
 use Rattle.std.proofs.lemmas.Bool.{cases_eq}
 use Rattle.std.proofs.lemmas.List.{length-set}
 use Rattle.bq_insn.specs.declared.insn.Insn.{Insn}
 use Rattle.bq_insn.specs.declared.insn.Insn.TheVariants.{Exit}
 use Rattle.bq_flow.specs.Paths.{Among}
-use Rattle.bq_meaning.specs.Place.{Place, IsPlacement}
+use Rattle.bq_meaning.specs.Place.{Place, IsPlacement, record_room}
 use Rattle.bq_meaning.specs.Meaning.{Continues, Ends, at_unit, with_register, perform}
 use Rattle.bq_meaning.specs.declared.machine.Machine.{Machine}
 use Rattle.bq_state.specs.declared.kind.Kind.{Kind}
@@ -27,22 +27,23 @@ pub record AreWords (tags : List (Option Tagged)) : Type 0 where
   pub count : length tags ≡ 11
   pub each : (r : ℕ) (v : Tagged) → tag_at tags r ≡ Some v → IsWord v
 
-pub record IsWhole (m : Common) : Type 0 where
+pub record IsWhole (len : ℕ) (m : Common) : Type 0 where
   pub words : AreWords m.tags
   pub frame : AreBytes 512 m.frame
-  pub «record» : AreBytes 64 m.record
+  pub «record» : AreBytes len m.record
+  pub fits : len ≤ record_room
 
 -- what is known before an instruction: the state holds of the machine
-pub record Stands (m : Common) (state : List Kind) : Type 0 where
-  pub whole : IsWhole m
+pub record Stands (len : ℕ) (m : Common) (state : List Kind) : Type 0 where
+  pub whole : IsWhole len m
   pub holds : TagsHold state m.tags
 
 -- it goes on, alike at every placement, along an edge whose state holds
-pub record GoesOn (m : Common) (i : Insn) (after : List Kind) : Type 0 where
+pub record GoesOn (len : ℕ) (m : Common) (i : Insn) (after : List Kind) : Type 0 where
   pub next : Common
   pub left : List Kind
   pub edge : Among (next.unit, left) (edges m.unit i after)
-  pub stands : Stands next left
+  pub stands : Stands len next left
   pub steps : (p : Place) → IsPlacement p → perform p i (machine p m) ≡ Continues (machine p next)
 
 -- it ends, alike at every placement
@@ -52,8 +53,8 @@ pub record Stops (m : Common) (i : Insn) : Type 0 where
   pub exits : i ≡ Exit
   pub steps : (p : Place) → IsPlacement p → perform p i (machine p m) ≡ Ends answer
 
-pub goes_on : (m next : Common) (i : Insn) (after left : List Kind) → IsWhole next → TagsHold left next.tags → Among (next.unit, left) (edges m.unit i after)
-    → ((p : Place) → IsPlacement p → perform p i (machine p m) ≡ Continues (machine p next)) → GoesOn m i after
+pub goes_on : {len : ℕ} (m next : Common) (i : Insn) (after left : List Kind) → IsWhole len next → TagsHold left next.tags → Among (next.unit, left) (edges m.unit i after)
+    → ((p : Place) → IsPlacement p → perform p i (machine p m) ≡ Continues (machine p next)) → GoesOn len m i after
 goes_on m next i after left whole holds among does = record { next = next; left = left; edge = among; stands = record { whole = whole; holds = holds }; steps = does }
 
 -- ---- an instruction that writes a register
@@ -73,13 +74,13 @@ put_words tags d v h low small = record {
   ];
 }
 
-pub puts : (m : Common) (i : Insn) (unit d : ℕ) (state after : List Kind) (k : Kind) (v : Tagged) → Stands m state → d < 10
+pub puts : {len : ℕ} (m : Common) (i : Insn) (unit d : ℕ) (state after : List Kind) (k : Kind) (v : Tagged) → Stands len m state → d < 10
     → TagHolds k (Some v) → IsWord v → slice_set state d k ≡ after → Among (unit, after) (edges m.unit i after)
     → ((p : Place) → IsPlacement p → perform p i (machine p m) ≡ Continues (at_unit (with_register (machine p m) d (image p v)) unit))
-    → GoesOn m i after
+    → GoesOn len m i after
 puts m i unit d state after k v s low here small is among does =
     goes_on m (put m unit d v) i after after
-    (record { words = put_words m.tags d v s.whole.words low small; frame = s.whole.frame; «record» = s.whole.record })
+    (record { words = put_words m.tags d v s.whole.words low small; frame = s.whole.frame; «record» = s.whole.record; fits = s.whole.fits })
     (subst (λ q. TagsHold q (slice_set m.tags d (Some v))) is (written_holds state m.tags d k v s.holds (omega (arith, s.whole.words.count)) here))
     among
     (λ p place. does p place ∙ ap (λ (rs : List (Option ℕ)). Continues (record { unit = unit; registers = rs; frame = m.frame; «record» = m.record })) (images_set p m.tags d v))

@@ -45,34 +45,34 @@ abbrev region_bytes : Common → Region → List ℕ
 region_bytes m InFrame = m.frame
 region_bytes m InRecord = m.record
 
-region_whole : (m : Common) → IsWhole m → (region : Region) → AreBytes (extent region) (region_bytes m region)
-region_whole m h InFrame = h.frame
-region_whole m h InRecord = h.record
+region_whole : (len : ℕ) (m : Common) → IsWhole len m → (region : Region) → AreBytes (extent len region) (region_bytes m region)
+region_whole len m h InFrame = h.frame
+region_whole len m h InRecord = h.record
 
 loaded_is : (p : Place) (m : Common) (region : Region) (at size : ℕ) → loaded (machine p m) (location region at) size ≡ slice_range (region_bytes m region) at (at + size)
 loaded_is p m InFrame at size = refl
 loaded_is p m InRecord at size = refl
 
-load_performs : (p : Place) → IsPlacement p → (m : Common) → length m.record ≡ record_room → (d base : ℕ) (distance : ℤ) (size : ℕ) (f : ℕ → ℕ) (region : Region) (z : ℤ) → 1 ≤ size → (h : Inside region z distance size)
+load_performs : (p : Place) → IsPlacement p → (len : ℕ) → len ≤ record_room → (m : Common) → length m.record ≡ len → (d base : ℕ) (distance : ℤ) (size : ℕ) (f : ℕ → ℕ) (region : Region) (z : ℤ) → 1 ≤ size → (h : Inside len region z distance size)
     → tag_at m.tags base ≡ Some (Ptr region z) → d < 10 → (o : Outcome) → o ≡ loading p (machine p m) d base distance size f
     → o ≡ Continues (written (machine p m) d (f (le_number (slice_range (region_bytes m region) h.at (h.at + size)))))
-load_performs p place m full d base distance size f region z some h e low o is =
-    rw (is, held_is p m.tags base (Ptr region z) e, lt-ltb d 10 low, full, accesses p place region z distance size some h, loaded_is p m region h.at size) refl
+load_performs p place len few m full d base distance size f region z some h e low o is =
+    rw (is, held_is p m.tags base (Ptr region z) e, lt-ltb d 10 low, full, accesses p place len few region z distance size some h, loaded_is p m region h.at size) refl
 
-does_loading : (m : Common) (i : Insn) (d base : ℕ) (distance : ℤ) (size : ℕ) (f : ℕ → ℕ) (range : Interval) (state after : List Kind)
-    → Loads size f range → Stands m state → loaded_state state d base distance size range ≡ Ok after → Among (m.unit + 1, after) (edges m.unit i after)
-    → ((p : Place) → perform p i (machine p m) ≡ loading p (machine p m) d base distance size f) → GoesOn m i after
-does_loading m i d base distance size f range state after l s rules among does =
+does_loading : (len : ℕ) (m : Common) (i : Insn) (d base : ℕ) (distance : ℤ) (size : ℕ) (f : ℕ → ℕ) (range : Interval) (state after : List Kind)
+    → Loads size f range → Stands len m state → loaded_state len state d base distance size range ≡ Ok after → Among (m.unit + 1, after) (edges m.unit i after)
+    → ((p : Place) → perform p i (machine p m) ≡ loading p (machine p m) d base distance size f) → GoesOn len m i after
+does_loading len m i d base distance size f range state after l s rules among does =
     let k = kind_of state base in
-    let r = read k (tag_at m.tags base) (λ k'. and_then (writable d) (λ _. and_then (readable k' distance size) (λ _. Ok (slice_set state d (Number range))))) after (s.holds.each base) rules in
-    let low = wrote d (λ _. and_then (readable k distance size) (λ _. Ok (slice_set state d (Number range)))) after r.2 in
-    let from = allows k distance size (λ _. Ok (slice_set state d (Number range))) after r.0 (subst (TagHolds k) r.1 (s.holds.each base)) low.1 in
+    let r = read k (tag_at m.tags base) (λ k'. and_then (writable d) (λ _. and_then (readable len k' distance size) (λ _. Ok (slice_set state d (Number range))))) after (s.holds.each base) rules in
+    let low = wrote d (λ _. and_then (readable len k distance size) (λ _. Ok (slice_set state d (Number range)))) after r.2 in
+    let from = allows len k distance size (λ _. Ok (slice_set state d (Number range))) after r.0 (subst (TagHolds k) r.1 (s.holds.each base)) low.1 in
     let region = from.0.region in
     let at : tag_at m.tags base ≡ Some (Ptr region from.0.z) = known_pointer (tag_at m.tags base) r.0 (Ptr region from.0.z) r.1 from.0.is in
     let n = le_number (slice_range (region_bytes m region) from.0.inside.at (from.0.inside.at + size)) in
-    let below : n < 256 ^ size = read_below (extent region) (region_bytes m region) from.0.inside.at size (region_whole m s.whole region) from.0.inside.room in
+    let below : n < 256 ^ size = read_below (extent len region) (region_bytes m region) from.0.inside.at size (region_whole len m s.whole region) from.0.inside.room in
     puts m i (m.unit + 1) d state after (Number range) (Num (f n)) s low.0 (holds_word range (f n) (l.within n below)) (l.small n below) (same_state _ _ from.1) among
-    (λ p place. load_performs p place m s.whole.record.count d base distance size f region from.0.z l.some from.0.inside at low.0 (perform p i (machine p m)) (does p))
+    (λ p place. load_performs p place len s.whole.fits m s.whole.record.count d base distance size f region from.0.z l.some from.0.inside at low.0 (perform p i (machine p m)) (does p))
 
 plain_loads : (size : Size) → Loads (size_bytes size) (λ n. n) (whole (8 * size_bytes size))
 plain_loads B1 = record { some = omega arith; within = λ n h. record { low = omega arith; high = omega arith }; small = λ n h. omega arith }
@@ -95,15 +95,15 @@ signed_loads bits = record {
   small = λ n h. extended_bound (sign_bits bits) 64 n;
 }
 
-pub does_load : (m : Common) (size : Size) (d base : ℕ) (distance : ℤ) (state after : List Kind)
-    → Stands m state → transfer (insns.Load size d base distance) state ≡ Ok after → GoesOn m (insns.Load size d base distance) after
-does_load m size d base distance state after s rules =
-    does_loading m (insns.Load size d base distance) d base distance (size_bytes size) (λ n. n) (whole (8 * size_bytes size)) state after (plain_loads size) s rules (inl refl) (λ p. refl)
+pub does_load : {len : ℕ} (m : Common) (size : Size) (d base : ℕ) (distance : ℤ) (state after : List Kind)
+    → Stands len m state → transfer len (insns.Load size d base distance) state ≡ Ok after → GoesOn len m (insns.Load size d base distance) after
+does_load {len} m size d base distance state after s rules =
+    does_loading len m (insns.Load size d base distance) d base distance (size_bytes size) (λ n. n) (whole (8 * size_bytes size)) state after (plain_loads size) s rules (inl refl) (λ p. refl)
 
-pub does_load_signed : (m : Common) (bits : SignBits) (d base : ℕ) (distance : ℤ) (state after : List Kind)
-    → Stands m state → transfer (insns.LoadSigned bits d base distance) state ≡ Ok after → GoesOn m (insns.LoadSigned bits d base distance) after
-does_load_signed m bits d base distance state after s rules =
-    does_loading m (insns.LoadSigned bits d base distance) d base distance (signed_bytes bits) (extended (sign_bits bits) 64) all_words state after (signed_loads bits) s rules (inl refl) (λ p. refl)
+pub does_load_signed : {len : ℕ} (m : Common) (bits : SignBits) (d base : ℕ) (distance : ℤ) (state after : List Kind)
+    → Stands len m state → transfer len (insns.LoadSigned bits d base distance) state ≡ Ok after → GoesOn len m (insns.LoadSigned bits d base distance) after
+does_load_signed {len} m bits d base distance state after s rules =
+    does_loading len m (insns.LoadSigned bits d base distance) d base distance (signed_bytes bits) (extended (sign_bits bits) 64) all_words state after (signed_loads bits) s rules (inl refl) (λ p. refl)
 
 -- ---- stores
 
@@ -116,29 +116,29 @@ some_size B2 = omega arith
 some_size B4 = omega arith
 some_size B8 = omega arith
 
-store_performs : (p : Place) → IsPlacement p → (m : Common) → length m.record ≡ record_room → (size : Size) (base : ℕ) (distance : ℤ) (x : Operand) (z : ℤ) (w : ℕ) (h : Inside InFrame z distance (size_bytes size))
+store_performs : (p : Place) → IsPlacement p → (len : ℕ) → len ≤ record_room → (m : Common) → length m.record ≡ len → (size : Size) (base : ℕ) (distance : ℤ) (x : Operand) (z : ℤ) (w : ℕ) (h : Inside len InFrame z distance (size_bytes size))
     → tag_at m.tags base ≡ Some (Ptr InFrame z) → operand_tag m.tags x ≡ Some (Num w)
     → perform p (insns.Store size base distance x) (machine p m) ≡ Continues (machine p (with_bytes m h.at (size_bytes size) w))
-store_performs p place m full size base distance x z w h e f =
-    rw (held_is p m.tags base (Ptr InFrame z) e, value_is p m.tags x (Num w) f, full, accesses p place InFrame z distance (size_bytes size) (some_size size) h) refl
+store_performs p place len few m full size base distance x z w h e f =
+    rw (held_is p m.tags base (Ptr InFrame z) e, value_is p m.tags x (Num w) f, full, accesses p place len few InFrame z distance (size_bytes size) (some_size size) h) refl
 
-does_storing : (m : Common) (size : Size) (base : ℕ) (distance : ℤ) (x : Operand) (state after : List Kind) (z : ℤ) (w : ℕ) (h : Inside InFrame z distance (size_bytes size))
-    → tag_at m.tags base ≡ Some (Ptr InFrame z) → operand_tag m.tags x ≡ Some (Num w) → Stands m state → state ≡ after → GoesOn m (insns.Store size base distance x) after
-does_storing m size base distance x state after z w h e f s is =
+does_storing : (len : ℕ) (m : Common) (size : Size) (base : ℕ) (distance : ℤ) (x : Operand) (state after : List Kind) (z : ℤ) (w : ℕ) (h : Inside len InFrame z distance (size_bytes size))
+    → tag_at m.tags base ≡ Some (Ptr InFrame z) → operand_tag m.tags x ≡ Some (Num w) → Stands len m state → state ≡ after → GoesOn len m (insns.Store size base distance x) after
+does_storing len m size base distance x state after z w h e f s is =
     goes_on m (with_bytes m h.at (size_bytes size) w) (insns.Store size base distance x) after after
-    (record { words = s.whole.words; frame = written_bytes 512 m.frame h.at (size_bytes size) w s.whole.frame h.room; «record» = s.whole.record })
-    (subst (λ q. TagsHold q m.tags) is s.holds) (inl refl) (λ p place. store_performs p place m s.whole.record.count size base distance x z w h e f)
+    (record { words = s.whole.words; frame = written_bytes 512 m.frame h.at (size_bytes size) w s.whole.frame h.room; «record» = s.whole.record; fits = s.whole.fits })
+    (subst (λ q. TagsHold q m.tags) is s.holds) (inl refl) (λ p place. store_performs p place len s.whole.fits m s.whole.record.count size base distance x z w h e f)
 
-pub does_store : (m : Common) (size : Size) (base : ℕ) (distance : ℤ) (x : Operand) (state after : List Kind)
-    → Stands m state → transfer (insns.Store size base distance x) state ≡ Ok after → GoesOn m (insns.Store size base distance x) after
-does_store m size base distance x state after s rules =
+pub does_store : {len : ℕ} (m : Common) (size : Size) (base : ℕ) (distance : ℤ) (x : Operand) (state after : List Kind)
+    → Stands len m state → transfer len (insns.Store size base distance x) state ≡ Ok after → GoesOn len m (insns.Store size base distance x) after
+does_store {len} m size base distance x state after s rules =
     let k = kind_of state base in
     let l = operand_kind state x in
     let n = size_bytes size in
     let hv = operand_holds state m.tags x s.holds in
     let ru = read k (tag_at m.tags base) (λ k'. and_then (known l) (λ l'. and_then (storable k' l' distance n) (λ _. Ok state))) after (s.holds.each base) rules in
     let rv = read l (operand_tag m.tags x) (λ l'. and_then (storable k l' distance n) (λ _. Ok state)) after hv ru.2 in
-    let to = stores k l distance n (λ _. Ok state) after ru.0 rv.0 (subst (TagHolds k) ru.1 (s.holds.each base)) (subst (TagHolds l) rv.1 hv) rv.2 in
+    let to = stores len k l distance n (λ _. Ok state) after ru.0 rv.0 (subst (TagHolds k) ru.1 (s.holds.each base)) (subst (TagHolds l) rv.1 hv) rv.2 in
     let at_base : tag_at m.tags base ≡ Some (Ptr InFrame to.0.z) = known_pointer (tag_at m.tags base) ru.0 (Ptr InFrame to.0.z) ru.1 to.0.is in
     let at_value : operand_tag m.tags x ≡ Some (Num to.0.word) = known_pointer (operand_tag m.tags x) rv.0 (Num to.0.word) rv.1 to.0.number in
-    does_storing m size base distance x state after to.0.z to.0.word to.0.inside at_base at_value s (same_state state after to.1)
+    does_storing len m size base distance x state after to.0.z to.0.word to.0.inside at_base at_value s (same_state state after to.1)

@@ -2,8 +2,6 @@
 use Rattle.std.proofs.Common.{◌≡◌, ◌∙◌, ap, ℕ, zero, suc, ◌+◌, ◌^◌, ◌<◌, ◌≤◌, refl, subst, inl, inr, arith, List, [], ◌∷◌, length, Option, Some, None}
 use Rattle.std.specs.Prelude.{pos, ⊤}
 use Rattle.std.proofs.lemmas.Int.{ints}
-use Rattle.std.proofs.lemmas.Bool.{cases_lt}
-use Rattle.std.proofs.lemmas.List.{get_or_past}
 use Rattle.bq_insn.specs.Slots.{units, IsText}
 use Rattle.bq_insn.specs.declared.insn.Insn.{Insn}
 use Rattle.bq_flow.specs.Paths.{insn_at, Path, IsLongest}
@@ -19,7 +17,7 @@ use Rattle.bq_sound.specs.Passes.{note_at, Passes}
 use Rattle.bq_sound.specs.Safe.{AreBytes, IsSafe}
 use Rattle.bq_sound.proofs.Tags.{InFrame, InRecord, Tagged, Num, Ptr, IsWord, tag_at, HoldsNumber, HoldsPointer, TagHolds, TagsHold, covered_tags}
 use Rattle.bq_sound.proofs.Machine.{Common, machine, IsWhole}
-use Rattle.bq_sound.proofs.Along.{among_covered, along_successors}
+use Rattle.bq_sound.proofs.Along.{note_within, among_covered, along_successors}
 use Rattle.bq_sound.proofs.Progress.{is_insn, progress}
 use Rattle.bq_state.specs.Edges.{edges}
 
@@ -37,13 +35,10 @@ record Ends (text : List Insn) (m : Common) : Type 0 where
   path : Path text m.unit count
   run : (p : Place) → IsPlacement p → RunsTo p text (machine p m) count answer after
 
-note_within : (notes : List (Option (List Kind))) (unit : ℕ) (state : List Kind) → note_at notes unit ≡ Some state → unit < length notes
-note_within notes unit state e = elim (cases_lt unit (length notes)) [ inl l ↦ l | inr g ↦ let none : note_at notes unit ≡ None = get_or_past notes unit None g in cc ]
-
-ends : (fuel : ℕ) (text : List Insn) (notes : List (Option (List Kind))) (m : Common) (state : List Kind) → IsText text → Passes text notes → IsWhole m → note_at notes m.unit ≡ Some state → TagsHold state m.tags
+ends : (len fuel : ℕ) (text : List Insn) (notes : List (Option (List Kind))) (m : Common) (state : List Kind) → IsText text → Passes len text notes → IsWhole len m → note_at notes m.unit ≡ Some state → TagsHold state m.tags
     → units text ≤ m.unit + fuel → Ends text m
-ends zero text notes m state t passes whole noted holds room = absurd (omega (arith, note_within notes m.unit state noted, passes.count))
-ends (suc fuel) text notes m state t passes whole noted holds room =
+ends len zero text notes m state t passes whole noted holds room = absurd (omega (arith, note_within notes m.unit state noted, passes.count))
+ends len (suc fuel) text notes m state t passes whole noted holds room =
     let within : m.unit < units text = omega (arith, note_within notes m.unit state noted, passes.count) in
     let i = passes.halves.each m.unit state within noted in
     let fine = passes.fine.each m.unit state i.0 within noted i.1 in
@@ -53,7 +48,7 @@ ends (suc fuel) text notes m state t passes whole noted holds room =
           let along = along_successors text m.unit i.0 fine.after (on.next.unit, on.left) t.few passes.flow i.1 on.edge in
           let forward = passes.flow.each m.unit i.0 (pos on.next.unit) i.1 along in
           let holds' = covered_tags covered.note on.left on.next.tags covered.covers on.stands.holds in
-          let rest = ends fuel text notes on.next covered.note t passes on.stands.whole covered.there holds' (omega (arith, ints, forward.is, forward.forward)) in
+          let rest = ends len fuel text notes on.next covered.note t passes on.stands.whole covered.there holds' (omega (arith, ints, forward.is, forward.forward)) in
           record {
             count = suc rest.count;
             answer = rest.answer;
@@ -76,16 +71,16 @@ ends (suc fuel) text notes m state t passes whole noted holds room =
 
 -- ---- the entry
 
-abbrev entry_common : ℕ → List ℕ → List ℕ → Common
-entry_common acc bytes frame = record {
+abbrev entry_common : ℕ → ℕ → List ℕ → List ℕ → Common
+entry_common len acc bytes frame = record {
   unit = 0;
-  tags = None ∷ Some (Ptr InRecord (pos 0)) ∷ Some (Num 64) ∷ Some (Num acc) ∷ None ∷ None ∷ None ∷ None ∷ None ∷ None ∷ Some (Ptr InFrame (pos 512)) ∷ [];
+  tags = None ∷ Some (Ptr InRecord (pos 0)) ∷ Some (Num len) ∷ Some (Num acc) ∷ None ∷ None ∷ None ∷ None ∷ None ∷ None ∷ Some (Ptr InFrame (pos 512)) ∷ [];
   frame = frame;
   «record» = bytes;
 }
 
-entry_is : (p : Place) → IsPlacement p → (acc : ℕ) (bytes frame : List ℕ) → length bytes ≡ record_room → machine p (entry_common acc bytes frame) ≡ entry_machine p acc bytes frame
-entry_is p place acc bytes frame full =
+entry_is : (p : Place) → IsPlacement p → (len acc : ℕ) (bytes frame : List ℕ) → length bytes ≡ len → machine p (entry_common len acc bytes frame) ≡ entry_machine p acc bytes frame
+entry_is p place len acc bytes frame full =
     let a : moved p.record (pos 0) ≡ p.record = omega (arith, place.record_fits) in
     let b : moved p.frame (pos 512) ≡ p.frame + 512 = omega (arith, place.frame_fits) in
     rw (a, b, full) refl
@@ -125,32 +120,33 @@ offset_zero = record { low = omega (arith, ints); high = omega (arith, ints) }
 offset_end : IsOffset (pos 512) (at_offset (pos 512))
 offset_end = record { low = omega (arith, ints); high = omega (arith, ints) }
 
-entry_holds : (acc : ℕ) (bytes frame : List ℕ) → acc < 2 ^ 64 → TagsHold entry_state (entry_common acc bytes frame).tags
+entry_holds : (len acc : ℕ) (bytes frame : List ℕ) → acc < 2 ^ 64 → TagsHold (entry_state len) (entry_common len acc bytes frame).tags
 unfolding AllHold
-entry_holds acc bytes frame h =
+entry_holds len acc bytes frame h =
     let any : HoldsNumber all_words (Some (Num acc)) = record { word = acc; is = refl; within = record { low = omega arith; high = omega arith } } in
-    let len : HoldsNumber (single 64) (Some (Num 64)) = record { word = 64; is = refl; within = record { low = omega arith; high = omega arith } } in
+    let long : HoldsNumber (single len) (Some (Num len)) = record { word = len; is = refl; within = record { low = omega arith; high = omega arith } } in
     let here : HoldsPointer InRecord (at_offset (pos 0)) (Some (Ptr InRecord (pos 0))) = record { offset = pos 0; is = refl; within = offset_zero } in
     let end : HoldsPointer InFrame (at_offset (pos 512)) (Some (Ptr InFrame (pos 512))) = record { offset = pos 512; is = refl; within = offset_end } in
-    record { each = all_hold entry_state (entry_common acc bytes frame).tags (tt, (here, (len, (any, (tt, (tt, (tt, (tt, (tt, (tt, (end, tt))))))))))) }
+    record { each = all_hold (entry_state len) (entry_common len acc bytes frame).tags (tt, (here, (long, (any, (tt, (tt, (tt, (tt, (tt, (tt, (end, tt))))))))))) }
 
-entry_whole : (acc : ℕ) (bytes frame : List ℕ) → acc < 2 ^ 64 → AreBytes 64 bytes → AreBytes 512 frame → IsWhole (entry_common acc bytes frame)
+entry_whole : (len acc : ℕ) (bytes frame : List ℕ) → len ≤ record_room → acc < 2 ^ 64 → AreBytes len bytes → AreBytes 512 frame → IsWhole len (entry_common len acc bytes frame)
 unfolding AllWords OptionWord
-entry_whole acc bytes frame h b f = record {
-  words = record { count = refl; each = word_at (entry_common acc bytes frame).tags (tt, (tt, (omega arith, (h, (tt, (tt, (tt, (tt, (tt, (tt, (tt, tt))))))))))) };
+entry_whole len acc bytes frame few h b f = record {
+  words = record { count = refl; each = word_at (entry_common len acc bytes frame).tags (tt, (tt, (omega (arith, few), (h, (tt, (tt, (tt, (tt, (tt, (tt, (tt, tt))))))))))) };
   frame = f;
   «record» = b;
+  fits = few;
 }
 
 -- ---- notes that pass make a text safe
 
-pub safe : (text : List Insn) (notes : List (Option (List Kind))) (longest : ℕ) → IsText text → Passes text notes → IsLongest text longest → IsSafe text longest
-safe text notes longest t passes most = record {
+pub safe : (len : ℕ) (text : List Insn) (notes : List (Option (List Kind))) (longest : ℕ) → len ≤ record_room → IsText text → Passes len text notes → IsLongest text longest → IsSafe len text longest
+safe len text notes longest few t passes most = record {
   runs = λ acc bytes frame small b f.
-      let m = entry_common acc bytes frame in
+      let m = entry_common len acc bytes frame in
       let start = passes.entry in
-      let holds = covered_tags start.note entry_state m.tags start.covers (entry_holds acc bytes frame small) in
-      let r = ends (units text) text notes m start.note t passes (entry_whole acc bytes frame small b f) start.there holds (omega arith) in
+      let holds = covered_tags start.note (entry_state len) m.tags start.covers (entry_holds len acc bytes frame small) in
+      let r = ends len (units text) text notes m start.note t passes (entry_whole len acc bytes frame few small b f) start.there holds (omega arith) in
       record {
         steps = r.count;
         answer = r.answer;
@@ -158,6 +154,6 @@ safe text notes longest t passes most = record {
         within = most.bound r.count r.path;
         word = r.word;
         whole = r.whole;
-        run = λ p place. subst (λ n. RunsTo p text n r.count r.answer r.after) (entry_is p place acc bytes frame b.count) (r.run p place);
+        run = λ p place. subst (λ n. RunsTo p text n r.count r.answer r.after) (entry_is p place len acc bytes frame b.count) (r.run p place);
       };
 }

@@ -1,4 +1,4 @@
--- Which notes pass for a text.
+-- Which notes pass for a text, where records have len bytes.
 use Rattle.std.specs.Prelude.{◌≡◌, ℕ, ◌<◌, ⊤, List, [], ◌∷◌, length, Option, Some, None, Ok, slice_index_or}
 use Rattle.bq_insn.specs.Slots.{units}
 use Rattle.bq_insn.specs.declared.insn.Insn.{Insn}
@@ -27,19 +27,19 @@ pub record NoHalves (text : List Insn) (notes : List (Option (List Kind))) (n : 
   pub each : (unit : ℕ) (state : List Kind) → unit < n → note_at notes unit ≡ Some state → (i : Insn) × (insn_at text unit ≡ Some i)
 
 -- at a unit with a state the instruction breaks no rule, and each feasible successor's state covers what it leaves
-pub record IsFine (notes : List (Option (List Kind))) (unit : ℕ) (i : Insn) (state : List Kind) : Type 0 where
+pub record IsFine (len : ℕ) (notes : List (Option (List Kind))) (unit : ℕ) (i : Insn) (state : List Kind) : Type 0 where
   pub after : List Kind
-  pub rules : transfer i state ≡ Ok after
+  pub rules : transfer len i state ≡ Ok after
   pub covered : AllCovered notes (edges unit i after)
 
 -- all units below this one that have a state are fine
-pub record AllFine (text : List Insn) (notes : List (Option (List Kind))) (n : ℕ) : Type 0 where
-  pub each : (unit : ℕ) (state : List Kind) (i : Insn) → unit < n → note_at notes unit ≡ Some state → insn_at text unit ≡ Some i → IsFine notes unit i state
+pub record AllFine (len : ℕ) (text : List Insn) (notes : List (Option (List Kind))) (n : ℕ) : Type 0 where
+  pub each : (unit : ℕ) (state : List Kind) (i : Insn) → unit < n → note_at notes unit ≡ Some state → insn_at text unit ≡ Some i → IsFine len notes unit i state
 
 -- one note for each unit, none at a second half; the flow is legal; the note at 0 covers the entry; all units are fine
-pub record Passes (text : List Insn) (notes : List (Option (List Kind))) : Type 0 where
+pub record Passes (len : ℕ) (text : List Insn) (notes : List (Option (List Kind))) : Type 0 where
   pub count : length notes ≡ units text
   pub flow : IsLegalFlow text
   pub halves : NoHalves text notes (units text)
-  pub entry : NoteCovers notes (0, entry_state)
-  pub fine : AllFine text notes (units text)
+  pub entry : NoteCovers notes (0, entry_state len)
+  pub fine : AllFine len text notes (units text)

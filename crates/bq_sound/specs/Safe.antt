@@ -21,9 +21,9 @@ pub record RunsAlike (text : List Insn) (longest acc : ℕ) (bytes frame : List 
   pub whole : AreBytes 512 after
   pub run : (p : Place) → IsPlacement p → RecordRun p text acc bytes frame steps answer after
 
--- from every accumulator, record and frame
-pub record IsSafe (text : List Insn) (longest : ℕ) : Type 0 where
-  pub runs : (acc : ℕ) (bytes frame : List ℕ) → acc < 2 ^ 64 → AreBytes 64 bytes → AreBytes 512 frame → RunsAlike text longest acc bytes frame
+-- from every accumulator, record of len bytes and frame
+pub record IsSafe (len : ℕ) (text : List Insn) (longest : ℕ) : Type 0 where
+  pub runs : (acc : ℕ) (bytes frame : List ℕ) → acc < 2 ^ 64 → AreBytes len bytes → AreBytes 512 frame → RunsAlike text longest acc bytes frame
 
 -- An answer over records from a start value. It is a word, and takes at most the longest path for each record.
 pub record HasAnswer (text : List Insn) (longest : ℕ) (records : List (List ℕ)) (start : ℕ) : Type 0 where

@@ -1,12 +1,12 @@
 //! Laws of notes that pass, each the contract of a function that does nothing. Whoever needs one at a
-//! step calls it there.
+//! step calls it there. They hold for records of every length that a placement has room for.
 
-ghost use Rattle.std.specs.Prelude.{◌≡◌, ℕ, ◌^◌, ◌<◌, List, Option, Ok, All};
+ghost use Rattle.std.specs.Prelude.{◌≡◌, ℕ, ◌^◌, ◌<◌, ◌≤◌, List, Option, Ok, All};
 ghost use Rattle.bq_insn.specs.Insn.{IsInsn};
 ghost use Rattle.bq_insn.specs.Slots.{IsText};
 ghost use Rattle.bq_insn.specs.declared.insn.Insn.{Insn};
 ghost use Rattle.bq_flow.specs.Paths.{IsLongest};
-ghost use Rattle.bq_meaning.specs.Place.{Place, IsPlacement};
+ghost use Rattle.bq_meaning.specs.Place.{Place, IsPlacement, record_room};
 ghost use Rattle.bq_meaning.specs.Meaning.{perform};
 ghost use Rattle.bq_meaning.specs.declared.machine.Machine.{Machine};
 ghost use Rattle.bq_state.specs.declared.kind.Kind.{Kind};
@@ -20,17 +20,17 @@ ghost use Rattle.bq_sound.specs.Safe.{AreBytes, IsSafe, HasAnswer};
 /// An instruction that breaks no rule of a state does not fault in a machine that the state covers. It
 /// ends with a word, or goes on along a feasible edge, whose state covers the machine that it leaves.
 pub fn step_is_covered()
-    ensures { (p : Place) (i : Insn) (state after : List Kind) (m : Machine) → IsPlacement p → IsInsn i → IsMachine m → StateHolds p state m.registers → transfer i state ≡ Ok after → IsCovered p (edges m.unit i after) (perform p i m) }
+    ensures { (len : ℕ) (p : Place) (i : Insn) (state after : List Kind) (m : Machine) → len ≤ record_room → IsPlacement p → IsInsn i → IsMachine len m → StateHolds p state m.registers → transfer len i state ≡ Ok after → IsCovered len p (edges m.unit i after) (perform p i m) }
 {}
 
 /// A text whose notes pass never faults: from every accumulator, record and frame its record run ends
 /// within the longest path, with one answer and one frame that are the same at every placement.
 pub fn passing_is_safe()
-    ensures { (text : List Insn) (notes : List (Option (List Kind))) (longest : ℕ) → IsText text → Passes text notes → IsLongest text longest → IsSafe text longest }
+    ensures { (len : ℕ) (text : List Insn) (notes : List (Option (List Kind))) (longest : ℕ) → len ≤ record_room → IsText text → Passes len text notes → IsLongest text longest → IsSafe len text longest }
 {}
 
-/// A safe text has an answer over any records of 64 bytes from any start value. It is a word, and
-/// takes at most the longest path for each record.
+/// A text that is safe for records of so many bytes has an answer over any of them from any start value. It is a word,
+/// and takes at most the longest path for each record.
 pub fn safe_folds()
-    ensures { (text : List Insn) (longest : ℕ) (records : List (List ℕ)) (start : ℕ) → IsSafe text longest → All (AreBytes 64) records → start < 2 ^ 64 → HasAnswer text longest records start }
+    ensures { (len : ℕ) (text : List Insn) (longest : ℕ) (records : List (List ℕ)) (start : ℕ) → IsSafe len text longest → All (AreBytes len) records → start < 2 ^ 64 → HasAnswer text longest records start }
 {}

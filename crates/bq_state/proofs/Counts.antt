@@ -44,29 +44,29 @@ mapped_counts : (n : ℕ) (s : List Kind) (d b : ℕ) (f : Interval → Interval
 mapped_counts n s d b f e =
     after n (known (kind_of s b)) _ (λ k. after n (writable d) _ (λ _. after n (number WrongKind k) _ (λ a. changed n s d (Number (f a)) e)))
 
-loaded_counts : (n : ℕ) (s : List Kind) (d base : ℕ) (offset : ℤ) (size : ℕ) (range : Interval) → length s ≡ n → Counts n (loaded_state s d base offset size range)
-loaded_counts n s d base offset size range e =
-    after n (known (kind_of s base)) _ (λ k. after n (writable d) _ (λ _. after n (readable k offset size) _ (λ _. changed n s d (Number range) e)))
+loaded_counts : (len n : ℕ) (s : List Kind) (d base : ℕ) (offset : ℤ) (size : ℕ) (range : Interval) → length s ≡ n → Counts n (loaded_state len s d base offset size range)
+loaded_counts len n s d base offset size range e =
+    after n (known (kind_of s base)) _ (λ k. after n (writable d) _ (λ _. after n (readable len k offset size) _ (λ _. changed n s d (Number range) e)))
 
-transfer_counts : (n : ℕ) (i : Insn) (s : List Kind) → length s ≡ n → Counts n (transfer i s)
-transfer_counts n (insns.Alu w op d x) s e =
+transfer_counts : (len n : ℕ) (i : Insn) (s : List Kind) → length s ≡ n → Counts n (transfer len i s)
+transfer_counts len n (insns.Alu w op d x) s e =
     after n (known (taken_kind s op d)) _ (λ a. after n (known (operand_kind s x)) _ (λ b. after n (writable d) _ (λ _. after n (allowed (alu_kind w op a b)) _ (λ k. changed n s d k e))))
-transfer_counts n (insns.Negate w d) s e = mapped_counts n s d d (negated (bits_of w)) e
-transfer_counts n (insns.Extend x d b) s e = mapped_counts n s d b (sign_extended (extension_bits x) (bits_of (extension_width x))) e
-transfer_counts n (insns.Order o bits d) s e = mapped_counts n s d d (ordered_range o (swap_bits bits)) e
-transfer_counts n (insns.Jump offset) s e = done n s e
-transfer_counts n (insns.JumpFar distance) s e = done n s e
-transfer_counts n (insns.Branch w r d x offset) s e =
+transfer_counts len n (insns.Negate w d) s e = mapped_counts n s d d (negated (bits_of w)) e
+transfer_counts len n (insns.Extend x d b) s e = mapped_counts n s d b (sign_extended (extension_bits x) (bits_of (extension_width x))) e
+transfer_counts len n (insns.Order o bits d) s e = mapped_counts n s d d (ordered_range o (swap_bits bits)) e
+transfer_counts len n (insns.Jump offset) s e = done n s e
+transfer_counts len n (insns.JumpFar distance) s e = done n s e
+transfer_counts len n (insns.Branch w r d x offset) s e =
     after n (known (kind_of s d)) _ (λ a. after n (known (operand_kind s x)) _ (λ b. after n (number WrongKind a) _ (λ _. after n (number WrongKind b) _ (λ _. done n s e))))
-transfer_counts n insns.Exit s e = after n (known (kind_of s 0)) _ (λ k. after n (number AnswerKind k) _ (λ _. done n s e))
-transfer_counts n (insns.Load size d base offset) s e = loaded_counts n s d base offset (size_bytes size) (whole (8 * size_bytes size)) e
-transfer_counts n (insns.LoadSigned bits d base offset) s e = loaded_counts n s d base offset (signed_bytes bits) all_words e
-transfer_counts n (insns.Store size base offset x) s e =
+transfer_counts len n insns.Exit s e = after n (known (kind_of s 0)) _ (λ k. after n (number AnswerKind k) _ (λ _. done n s e))
+transfer_counts len n (insns.Load size d base offset) s e = loaded_counts len n s d base offset (size_bytes size) (whole (8 * size_bytes size)) e
+transfer_counts len n (insns.LoadSigned bits d base offset) s e = loaded_counts len n s d base offset (signed_bytes bits) all_words e
+transfer_counts len n (insns.Store size base offset x) s e =
     after n (known (kind_of s base)) _ (λ k. after n (known (operand_kind s x)) _ (λ v. after n (storable k v offset (size_bytes size)) _ (λ _. done n s e)))
-transfer_counts n (insns.Wide d v) s e = after n (writable d) _ (λ _. changed n s d (Number (single v)) e)
+transfer_counts len n (insns.Wide d v) s e = after n (writable d) _ (λ _. changed n s d (Number (single v)) e)
 
-pub transfer_count : (i : Insn) (a b : List Kind) → transfer i a ≡ Ok b → length b ≡ length a
-transfer_count i a b h = (transfer_counts (length a) i a refl).when_ok b h
+pub transfer_count : (len : ℕ) (i : Insn) (a b : List Kind) → transfer len i a ≡ Ok b → length b ≡ length a
+transfer_count len i a b h = (transfer_counts len (length a) i a refl).when_ok b h
 
 -- ---- branches
 

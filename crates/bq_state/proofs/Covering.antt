@@ -42,81 +42,35 @@ kind_covers_itself (RecordPointer a) = span_in_itself a
 
 pub kind_covers_through : (a b c : Kind) → KindCovers a b → KindCovers b c → KindCovers a c
 kind_covers_through Unset b c h k = tt
-kind_covers_through (Number x) Unset c h k = absurd h
-kind_covers_through (Number x) (Number y) Unset h k = absurd k
 kind_covers_through (Number x) (Number y) (Number z) h k = within_through x y z h k
-kind_covers_through (Number x) (Number y) (FramePointer z) h k = absurd k
-kind_covers_through (Number x) (Number y) (RecordPointer z) h k = absurd k
-kind_covers_through (Number x) (FramePointer y) c h k = absurd h
-kind_covers_through (Number x) (RecordPointer y) c h k = absurd h
-kind_covers_through (FramePointer x) Unset c h k = absurd h
-kind_covers_through (FramePointer x) (Number y) c h k = absurd h
-kind_covers_through (FramePointer x) (FramePointer y) Unset h k = absurd k
-kind_covers_through (FramePointer x) (FramePointer y) (Number z) h k = absurd k
 kind_covers_through (FramePointer x) (FramePointer y) (FramePointer z) h k = span_through x y z h k
-kind_covers_through (FramePointer x) (FramePointer y) (RecordPointer z) h k = absurd k
-kind_covers_through (FramePointer x) (RecordPointer y) c h k = absurd h
-kind_covers_through (RecordPointer x) Unset c h k = absurd h
-kind_covers_through (RecordPointer x) (Number y) c h k = absurd h
-kind_covers_through (RecordPointer x) (FramePointer y) c h k = absurd h
-kind_covers_through (RecordPointer x) (RecordPointer y) Unset h k = absurd k
-kind_covers_through (RecordPointer x) (RecordPointer y) (Number z) h k = absurd k
-kind_covers_through (RecordPointer x) (RecordPointer y) (FramePointer z) h k = absurd k
 kind_covers_through (RecordPointer x) (RecordPointer y) (RecordPointer z) h k = span_through x y z h k
+kind_covers_through (Number x) (Number y) c h k = absurd k
+kind_covers_through (FramePointer x) (FramePointer y) c h k = absurd k
+kind_covers_through (RecordPointer x) (RecordPointer y) c h k = absurd k
+kind_covers_through a b c h k = absurd h
 
 pub kind_join_left : (a b : Kind) → KindCovers (join_kinds a b) a
 kind_join_left (Number x) (Number y) = record { low = omega arith; high = omega arith }
 kind_join_left (FramePointer x) (FramePointer y) = span_left x y
 kind_join_left (RecordPointer x) (RecordPointer y) = span_left x y
-kind_join_left Unset b = tt
-kind_join_left (Number x) Unset = tt
-kind_join_left (Number x) (FramePointer y) = tt
-kind_join_left (Number x) (RecordPointer y) = tt
-kind_join_left (FramePointer x) Unset = tt
-kind_join_left (FramePointer x) (Number y) = tt
-kind_join_left (FramePointer x) (RecordPointer y) = tt
-kind_join_left (RecordPointer x) Unset = tt
-kind_join_left (RecordPointer x) (Number y) = tt
-kind_join_left (RecordPointer x) (FramePointer y) = tt
+kind_join_left a b = tt
 
 pub kind_join_right : (a b : Kind) → KindCovers (join_kinds a b) b
 kind_join_right (Number x) (Number y) = record { low = omega arith; high = omega arith }
 kind_join_right (FramePointer x) (FramePointer y) = span_right x y
 kind_join_right (RecordPointer x) (RecordPointer y) = span_right x y
-kind_join_right Unset b = tt
-kind_join_right (Number x) Unset = tt
-kind_join_right (Number x) (FramePointer y) = tt
-kind_join_right (Number x) (RecordPointer y) = tt
-kind_join_right (FramePointer x) Unset = tt
-kind_join_right (FramePointer x) (Number y) = tt
-kind_join_right (FramePointer x) (RecordPointer y) = tt
-kind_join_right (RecordPointer x) Unset = tt
-kind_join_right (RecordPointer x) (Number y) = tt
-kind_join_right (RecordPointer x) (FramePointer y) = tt
+kind_join_right a b = tt
 
 pub kind_join_least : (c a b : Kind) → KindCovers c a → KindCovers c b → KindCovers c (join_kinds a b)
 kind_join_least Unset a b h k = tt
-kind_join_least (Number z) Unset b h k = absurd h
-kind_join_least (Number z) (FramePointer x) b h k = absurd h
-kind_join_least (Number z) (RecordPointer x) b h k = absurd h
-kind_join_least (Number z) (Number x) Unset h k = absurd k
-kind_join_least (Number z) (Number x) (FramePointer y) h k = absurd k
-kind_join_least (Number z) (Number x) (RecordPointer y) h k = absurd k
 kind_join_least (Number z) (Number x) (Number y) h k = record { low = omega arith; high = omega arith }
-kind_join_least (FramePointer z) Unset b h k = absurd h
-kind_join_least (FramePointer z) (Number x) b h k = absurd h
-kind_join_least (FramePointer z) (RecordPointer x) b h k = absurd h
-kind_join_least (FramePointer z) (FramePointer x) Unset h k = absurd k
-kind_join_least (FramePointer z) (FramePointer x) (Number y) h k = absurd k
-kind_join_least (FramePointer z) (FramePointer x) (RecordPointer y) h k = absurd k
 kind_join_least (FramePointer z) (FramePointer x) (FramePointer y) h k = span_least z x y h k
-kind_join_least (RecordPointer z) Unset b h k = absurd h
-kind_join_least (RecordPointer z) (Number x) b h k = absurd h
-kind_join_least (RecordPointer z) (FramePointer x) b h k = absurd h
-kind_join_least (RecordPointer z) (RecordPointer x) Unset h k = absurd k
-kind_join_least (RecordPointer z) (RecordPointer x) (Number y) h k = absurd k
-kind_join_least (RecordPointer z) (RecordPointer x) (FramePointer y) h k = absurd k
 kind_join_least (RecordPointer z) (RecordPointer x) (RecordPointer y) h k = span_least z x y h k
+kind_join_least (Number z) (Number x) b h k = absurd k
+kind_join_least (FramePointer z) (FramePointer x) b h k = absurd k
+kind_join_least (RecordPointer z) (RecordPointer x) b h k = absurd k
+kind_join_least c a b h k = absurd h
 
 -- ---- states
 

@@ -1,10 +1,13 @@
--- A state that is covered leaves states that are covered, and breaks no rule where the other breaks none.
-use Rattle.std.proofs.Common.{◌≡◌, ℕ, zero, suc, ◌+◌, ◌*◌, ◌^◌, ◌<◌, ◌≤◌, List, [], ◌∷◌, ◌++◌, length, Option, Some, None, Bool, true, false, cond, ltb, eqb, arith, refl, sym, ap, subst, ◌∙◌, inl, inr}
-use Rattle.std.specs.Prelude.{◌⊎◌, ⊤, ℤ, pos, negsuc, ◌≤ℤ◌, ◌+ℤ◌, ◌-ℤ◌, int_le, Result, Ok, Err, slice_set, nat_lt, option_map, ◌&&◌}
+-- From less an instruction leaves less. Where a state breaks no rule, a state that it covers breaks none, and what that
+-- one leaves is covered too (`transfer_less`); each edge of the smaller state has one of the larger state's to the same
+-- unit that covers it (`edges_less`). Both are said of states of eleven kinds whose ranges have a word in them, as the
+-- entry's is (`entry_full`) and the joins of such states are (`joined_full`).
+use Rattle.std.proofs.Common.{◌≡◌, ℕ, zero, suc, ◌+◌, ◌*◌, ◌^◌, ◌<◌, ◌≤◌, List, [], ◌∷◌, ◌++◌, length, Option, Some, None, Bool, true, false, cond, arith, refl, sym, ap, subst, ◌∙◌, inl, inr}
+use Rattle.std.specs.Prelude.{◌⊎◌, ⊤, ℤ, pos, negsuc, ◌+ℤ◌, ◌-ℤ◌, int_le, Result, Ok, Err, slice_set, option_map}
 use Rattle.std.proofs.lemmas.Int.{ints}
-use Rattle.std.proofs.lemmas.Bool.{cond_both, cases_eq, cases_lt, cases_Bool, eq-eqb, ne_eqb, ltb-true, ltb-false, leb-true, leb-false, lt-ltb, le-ltb, le-leb, and_parts, true≢false}
+use Rattle.std.proofs.lemmas.Bool.{cond_both, cases_eq, cases_lt, cases_Bool, eq-eqb, ne_eqb, lt-ltb, le-ltb, and_parts}
 use Rattle.std.proofs.lemmas.List.{get_or-set_same, get_or-set_other, get_or_past, set_past, length-set}
-use Rattle.bq_word.specs.Word.{bits_of, low, modulo, swap_bits, sign_bits}
+use Rattle.bq_word.specs.Word.{bits_of, low, modulo, swap_bits}
 use Rattle.bq_word.specs.declared.Width.{Width}
 use Rattle.bq_word.specs.declared.Width.TheVariants.{W32, W64}
 use Rattle.bq_word.specs.declared.AluOp.{AluOp}
@@ -13,7 +16,7 @@ use Rattle.bq_word.specs.declared.Relation.{Relation}
 use Rattle.bq_insn.specs.Insn.{extension_bits, extension_width, IsInsn}
 use Rattle.bq_insn.specs.declared.insn.Size.{Size}
 use Rattle.bq_insn.specs.declared.insn.Size.TheVariants as sizes
-use Rattle.bq_word.proofs.Bounds.{modulo_bound, low_bound}
+use Rattle.bq_word.proofs.Bounds.{modulo_bound}
 use Rattle.bq_insn.specs.declared.insn.Insn.{Insn}
 use Rattle.bq_insn.specs.declared.insn.Insn.TheVariants as insns
 use Rattle.bq_insn.specs.declared.insn.Operand.{Operand}
@@ -23,18 +26,16 @@ use Rattle.bq_insn.specs.declared.insn.ByteOrder.TheVariants as orders
 use Rattle.bq_insn.specs.declared.insn.Extension.{Extension}
 use Rattle.bq_insn.specs.declared.insn.Extension.TheVariants as extensions
 use Rattle.bq_word.specs.declared.SwapBits.{SwapBits}
-use Rattle.bq_word.specs.declared.SignBits.{SignBits}
 use Rattle.bq_word.specs.declared.SignBits.TheVariants.{B8, B16, B32}
 use Rattle.bq_meaning.specs.Memory.{size_bytes, signed_bytes}
-use Rattle.bq_range.specs.Interval.{Interval, IsIn, Within, single, whole, all_words}
-use Rattle.bq_range.specs.Table.{operated, negated, sign_extended, low_range, swapped_range}
+use Rattle.bq_range.specs.Interval.{Interval, Within, single, whole, all_words}
+use Rattle.bq_range.specs.Table.{negated, sign_extended}
 use Rattle.bq_range.specs.Narrow.{branched}
-use Rattle.bq_range.proofs.Covers.{operated_covers, negated_covers, sign_extended_covers, low_range_covers, swapped_range_covers}
 use Rattle.bq_range.proofs.Monotone.{IsFull, operated_full, negated_full, sign_extended_full, low_range_full, swapped_range_full, operated_within, negated_within, sign_extended_within, low_range_within, swapped_range_within}
 use Rattle.bq_range.proofs.MonotoneEdges.{LeavesLess, branched_less, branched_inside}
 use Rattle.bq_state.specs.Offsets.{Span, SpanWithin, signed_of, limited, is_limited, moved_on, moved_back, fits}
 use Rattle.bq_state.specs.Kinds.{kind_of, KindCovers, StateCovers, join_kinds, join_states, entry_state}
-use Rattle.bq_state.proofs.Covering.{joined_count, joined_kind}
+use Rattle.bq_state.proofs.Covering.{kind_covers_through, joined_count, joined_kind}
 use Rattle.bq_state.specs.Rules.{and_then, known, writable, number, allowed, readable, storable, sum_kind, difference_kind, pointer_kind, alu_kind, ordered_range, operand_kind, taken_kind, mapped, loaded_state, transfer}
 use Rattle.bq_state.specs.Edges.{with_number, with_numbers, refined_by_number, refined_by_register, refined, along, edges}
 use Rattle.bq_meaning.specs.Meaning.{target}
@@ -95,27 +96,31 @@ abbrev pub IsFullKind : Kind → Type 0
 IsFullKind (Number a) = IsFull a
 IsFullKind k = ⊤
 
--- the second kind is known where the first is, and is no more
-abbrev Both : Kind → Kind → Type 0
-Both (Number a) (Number b) = Within b a × IsFull b
-Both (FramePointer s) (FramePointer t) = SpanWithin t s
-Both (RecordPointer s) (RecordPointer t) = SpanWithin t s
-Both k l = ⊥
+-- two kinds of known registers, the second no more than the first
+data Both : Kind → Kind → Type 0 where
+  numbers : {a b : Interval} → Within b a → IsFull b → Both (Number a) (Number b)
+  frames : {s t : Span} → SpanWithin t s → Both (FramePointer s) (FramePointer t)
+  records : {s t : Span} → SpanWithin t s → Both (RecordPointer s) (RecordPointer t)
 
-both_cover : (k l : Kind) → Both k l → KindCovers k l × IsFullKind l
-both_cover Unset l h = absurd h
-both_cover (Number a) (Number b) h = h
-both_cover (FramePointer s) (FramePointer t) h = (h, tt)
-both_cover (RecordPointer s) (RecordPointer t) h = (h, tt)
-both_cover (Number a) Unset h = absurd h
-both_cover (Number a) (FramePointer t) h = absurd h
-both_cover (Number a) (RecordPointer t) h = absurd h
-both_cover (FramePointer s) Unset h = absurd h
-both_cover (FramePointer s) (Number b) h = absurd h
-both_cover (FramePointer s) (RecordPointer t) h = absurd h
-both_cover (RecordPointer s) Unset h = absurd h
-both_cover (RecordPointer s) (Number b) h = absurd h
-both_cover (RecordPointer s) (FramePointer t) h = absurd h
+-- a kind and one that it covers
+data Less : Kind → Kind → Type 0 where
+  unset : {l : Kind} → Less Unset l
+  both : {k l : Kind} → Both k l → Less k l
+
+less_is : (k l : Kind) → KindCovers k l → IsFullKind l → Less k l
+less_is Unset l h f = unset
+less_is (Number a) (Number b) h f = both (numbers h f)
+less_is (FramePointer s) (FramePointer t) h f = both (frames h)
+less_is (RecordPointer s) (RecordPointer t) h f = both (records h)
+less_is k l h f = absurd h
+
+abbrev Results : Kind → Kind → Type 0
+Results k l = KindCovers k l × IsFullKind l
+
+both_cover : {k l : Kind} → Both k l → Results k l
+both_cover (numbers h f) = (h, f)
+both_cover (frames h) = (h, tt)
+both_cover (records h) = (h, tt)
 
 -- ---- results: where the first is there so is the second, and they stand so
 
@@ -129,20 +134,11 @@ then_follows R S (Err rule) y f g h go = tt
 then_follows R S (Ok a) (Err rule) f g h go = absurd h
 then_follows R S (Ok a) (Ok b) f g h go = go a b h
 
-known_follows : (k l : Kind) → KindCovers k l → IsFullKind l → Follows Both (known k) (known l)
-known_follows Unset l h f = tt
-known_follows (Number a) (Number b) h f = (h, f)
-known_follows (FramePointer s) (FramePointer t) h f = h
-known_follows (RecordPointer s) (RecordPointer t) h f = h
-known_follows (Number a) Unset h f = absurd h
-known_follows (Number a) (FramePointer t) h f = absurd h
-known_follows (Number a) (RecordPointer t) h f = absurd h
-known_follows (FramePointer s) Unset h f = absurd h
-known_follows (FramePointer s) (Number b) h f = absurd h
-known_follows (FramePointer s) (RecordPointer t) h f = absurd h
-known_follows (RecordPointer s) Unset h f = absurd h
-known_follows (RecordPointer s) (Number b) h f = absurd h
-known_follows (RecordPointer s) (FramePointer t) h f = absurd h
+known_follows : {k l : Kind} → Less k l → Follows Both (known k) (known l)
+known_follows unset = tt
+known_follows (both (numbers h f)) = numbers h f
+known_follows (both (frames h)) = frames h
+known_follows (both (records h)) = records h
 
 abbrev IsLow : ℕ → Unit {0} → Unit {0} → Type 0
 IsLow d a b = d < 10
@@ -156,14 +152,10 @@ writable_follows d = elim (cases_lt d 10) [
 abbrev Ranges : Interval → Interval → Type 0
 Ranges a b = Within b a × IsFull b
 
-number_follows : (rule : Rule) (k l : Kind) → Both k l → Follows Ranges (number rule k) (number rule l)
-number_follows rule Unset l h = absurd h
-number_follows rule (Number a) (Number b) h = h
-number_follows rule (Number a) Unset h = absurd h
-number_follows rule (Number a) (FramePointer t) h = absurd h
-number_follows rule (Number a) (RecordPointer t) h = absurd h
-number_follows rule (FramePointer s) l h = tt
-number_follows rule (RecordPointer s) l h = tt
+number_follows : (rule : Rule) {k l : Kind} → Both k l → Follows Ranges (number rule k) (number rule l)
+number_follows rule (numbers h f) = (h, f)
+number_follows rule (frames h) = tt
+number_follows rule (records h) = tt
 
 abbrev Any : Unit {0} → Unit {0} → Type 0
 Any a b = ⊤
@@ -174,40 +166,17 @@ fits_follows s t offset size len rule h = elim (cases_Bool (fits s offset size l
   | inr e ↦ rw e tt
 ]
 
-readable_follows : (k l : Kind) (offset : ℤ) (size : ℕ) → Both k l → Follows Any (readable k offset size) (readable l offset size)
-readable_follows Unset l offset size h = tt
-readable_follows (Number a) l offset size h = tt
-readable_follows (FramePointer s) (FramePointer t) offset size h = fits_follows s t offset size 512 OutsideFrame h
-readable_follows (RecordPointer s) (RecordPointer t) offset size h = fits_follows s t offset size 64 OutsideRecord h
-readable_follows (FramePointer s) Unset offset size h = absurd h
-readable_follows (FramePointer s) (Number b) offset size h = absurd h
-readable_follows (FramePointer s) (RecordPointer t) offset size h = absurd h
-readable_follows (RecordPointer s) Unset offset size h = absurd h
-readable_follows (RecordPointer s) (Number b) offset size h = absurd h
-readable_follows (RecordPointer s) (FramePointer t) offset size h = absurd h
+readable_follows : (len : ℕ) (offset : ℤ) (size : ℕ) {k l : Kind} → Both k l → Follows Any (readable len k offset size) (readable len l offset size)
+readable_follows len offset size (numbers h f) = tt
+readable_follows len offset size (frames {s = s} {t = t} h) = fits_follows s t offset size 512 OutsideFrame h
+readable_follows len offset size (records {s = s} {t = t} h) = fits_follows s t offset size len OutsideRecord h
 
-storable_follows : (k l u v : Kind) (offset : ℤ) (size : ℕ) → Both k l → Both u v → Follows Any (storable k u offset size) (storable l v offset size)
-storable_follows (FramePointer s) (FramePointer t) (Number a) (Number b) offset size h i = fits_follows s t offset size 512 OutsideFrame h
-storable_follows (FramePointer s) (FramePointer t) (Number a) Unset offset size h i = absurd i
-storable_follows (FramePointer s) (FramePointer t) (Number a) (FramePointer x) offset size h i = absurd i
-storable_follows (FramePointer s) (FramePointer t) (Number a) (RecordPointer x) offset size h i = absurd i
-storable_follows (FramePointer s) Unset u v offset size h i = absurd h
-storable_follows (FramePointer s) (Number b) u v offset size h i = absurd h
-storable_follows (FramePointer s) (RecordPointer t) u v offset size h i = absurd h
-storable_follows (FramePointer s) (FramePointer t) Unset v offset size h i = tt
-storable_follows (FramePointer s) (FramePointer t) (FramePointer x) v offset size h i = tt
-storable_follows (FramePointer s) (FramePointer t) (RecordPointer x) v offset size h i = tt
-storable_follows (RecordPointer s) l (Number a) v offset size h i = tt
-storable_follows (RecordPointer s) l Unset v offset size h i = tt
-storable_follows (RecordPointer s) l (FramePointer x) v offset size h i = tt
-storable_follows (RecordPointer s) l (RecordPointer x) v offset size h i = tt
-storable_follows Unset l u v offset size h i = tt
-storable_follows (Number a) l u v offset size h i = tt
+storable_follows : (offset : ℤ) (size : ℕ) {k l u v : Kind} → Both k l → Both u v → Follows Any (storable k u offset size) (storable l v offset size)
+storable_follows offset size (frames {s = s} {t = t} h) (numbers i f) = fits_follows s t offset size 512 OutsideFrame h
+storable_follows offset size (records h) (numbers i f) = tt
+storable_follows offset size h i = tt
 
 -- ---- operations
-
-abbrev Results : Kind → Kind → Type 0
-Results k l = KindCovers k l × IsFullKind l
 
 abbrev MayFollow : Option Kind → Option Kind → Type 0
 MayFollow None o = ⊤
@@ -216,125 +185,41 @@ MayFollow (Some k) (Some l) = Results k l
 
 allowed_follows : (o p : Option Kind) → MayFollow o p → Follows Results (allowed o) (allowed p)
 allowed_follows None p h = tt
-allowed_follows (Some k) None h = absurd h
 allowed_follows (Some k) (Some l) h = h
+allowed_follows (Some k) None h = absurd h
 
-frames : (o p : Option Span) → SpansLess o p → MayFollow (option_map FramePointer o) (option_map FramePointer p)
-frames None p h = tt
-frames (Some s) None h = absurd h
-frames (Some s) (Some t) h = (h, tt)
+moves : (kind : Span → Kind) → ((s t : Span) → SpanWithin t s → Results (kind s) (kind t)) → (o p : Option Span) → SpansLess o p → MayFollow (option_map kind o) (option_map kind p)
+moves kind covers None p h = tt
+moves kind covers (Some s) (Some t) h = covers s t h
+moves kind covers (Some s) None h = absurd h
 
-records : (o p : Option Span) → SpansLess o p → MayFollow (option_map RecordPointer o) (option_map RecordPointer p)
-records None p h = tt
-records (Some s) None h = absurd h
-records (Some s) (Some t) h = (h, tt)
+frame_moves : (o p : Option Span) → SpansLess o p → MayFollow (option_map FramePointer o) (option_map FramePointer p)
+frame_moves = moves FramePointer (λ s t h. (h, tt))
 
-sum_follows : (k l u v : Kind) → Both k l → Both u v → MayFollow (sum_kind k u) (sum_kind l v)
-sum_follows (FramePointer s) (FramePointer t) (Number a) (Number b) h i = frames (moved_on s a) (moved_on t b) (moved_on_less s t a b h i.1 i.0)
-sum_follows (RecordPointer s) (RecordPointer t) (Number a) (Number b) h i = records (moved_on s a) (moved_on t b) (moved_on_less s t a b h i.1 i.0)
-sum_follows (Number a) (Number b) (FramePointer s) (FramePointer t) h i = frames (moved_on s a) (moved_on t b) (moved_on_less s t a b i h.1 h.0)
-sum_follows (Number a) (Number b) (RecordPointer s) (RecordPointer t) h i = records (moved_on s a) (moved_on t b) (moved_on_less s t a b i h.1 h.0)
-sum_follows Unset l u v h i = tt
-sum_follows (Number a) l Unset v h i = tt
-sum_follows (Number a) l (Number c) v h i = tt
-sum_follows (Number a) Unset (FramePointer s) v h i = absurd h
-sum_follows (Number a) (FramePointer t) (FramePointer s) v h i = absurd h
-sum_follows (Number a) (RecordPointer t) (FramePointer s) v h i = absurd h
-sum_follows (Number a) Unset (RecordPointer s) v h i = absurd h
-sum_follows (Number a) (FramePointer t) (RecordPointer s) v h i = absurd h
-sum_follows (Number a) (RecordPointer t) (RecordPointer s) v h i = absurd h
-sum_follows (Number a) (Number b) (FramePointer s) Unset h i = absurd i
-sum_follows (Number a) (Number b) (FramePointer s) (Number t) h i = absurd i
-sum_follows (Number a) (Number b) (FramePointer s) (RecordPointer t) h i = absurd i
-sum_follows (Number a) (Number b) (RecordPointer s) Unset h i = absurd i
-sum_follows (Number a) (Number b) (RecordPointer s) (Number t) h i = absurd i
-sum_follows (Number a) (Number b) (RecordPointer s) (FramePointer t) h i = absurd i
-sum_follows (FramePointer s) l Unset v h i = tt
-sum_follows (FramePointer s) l (FramePointer c) v h i = tt
-sum_follows (FramePointer s) l (RecordPointer c) v h i = tt
-sum_follows (FramePointer s) Unset (Number a) v h i = absurd h
-sum_follows (FramePointer s) (Number t) (Number a) v h i = absurd h
-sum_follows (FramePointer s) (RecordPointer t) (Number a) v h i = absurd h
-sum_follows (FramePointer s) (FramePointer t) (Number a) Unset h i = absurd i
-sum_follows (FramePointer s) (FramePointer t) (Number a) (FramePointer b) h i = absurd i
-sum_follows (FramePointer s) (FramePointer t) (Number a) (RecordPointer b) h i = absurd i
-sum_follows (RecordPointer s) l Unset v h i = tt
-sum_follows (RecordPointer s) l (FramePointer c) v h i = tt
-sum_follows (RecordPointer s) l (RecordPointer c) v h i = tt
-sum_follows (RecordPointer s) Unset (Number a) v h i = absurd h
-sum_follows (RecordPointer s) (Number t) (Number a) v h i = absurd h
-sum_follows (RecordPointer s) (FramePointer t) (Number a) v h i = absurd h
-sum_follows (RecordPointer s) (RecordPointer t) (Number a) Unset h i = absurd i
-sum_follows (RecordPointer s) (RecordPointer t) (Number a) (FramePointer b) h i = absurd i
-sum_follows (RecordPointer s) (RecordPointer t) (Number a) (RecordPointer b) h i = absurd i
+record_moves : (o p : Option Span) → SpansLess o p → MayFollow (option_map RecordPointer o) (option_map RecordPointer p)
+record_moves = moves RecordPointer (λ s t h. (h, tt))
 
-difference_follows : (k l u v : Kind) → Both k l → Both u v → MayFollow (difference_kind k u) (difference_kind l v)
-difference_follows (FramePointer s) (FramePointer t) (Number a) (Number b) h i = frames (moved_back s a) (moved_back t b) (moved_back_less s t a b h i.1 i.0)
-difference_follows (RecordPointer s) (RecordPointer t) (Number a) (Number b) h i = records (moved_back s a) (moved_back t b) (moved_back_less s t a b h i.1 i.0)
-difference_follows Unset l u v h i = tt
-difference_follows (Number a) l u v h i = tt
-difference_follows (FramePointer s) l Unset v h i = tt
-difference_follows (FramePointer s) l (FramePointer c) v h i = tt
-difference_follows (FramePointer s) l (RecordPointer c) v h i = tt
-difference_follows (FramePointer s) Unset (Number a) v h i = absurd h
-difference_follows (FramePointer s) (Number t) (Number a) v h i = absurd h
-difference_follows (FramePointer s) (RecordPointer t) (Number a) v h i = absurd h
-difference_follows (FramePointer s) (FramePointer t) (Number a) Unset h i = absurd i
-difference_follows (FramePointer s) (FramePointer t) (Number a) (FramePointer b) h i = absurd i
-difference_follows (FramePointer s) (FramePointer t) (Number a) (RecordPointer b) h i = absurd i
-difference_follows (RecordPointer s) l Unset v h i = tt
-difference_follows (RecordPointer s) l (FramePointer c) v h i = tt
-difference_follows (RecordPointer s) l (RecordPointer c) v h i = tt
-difference_follows (RecordPointer s) Unset (Number a) v h i = absurd h
-difference_follows (RecordPointer s) (Number t) (Number a) v h i = absurd h
-difference_follows (RecordPointer s) (FramePointer t) (Number a) v h i = absurd h
-difference_follows (RecordPointer s) (RecordPointer t) (Number a) Unset h i = absurd i
-difference_follows (RecordPointer s) (RecordPointer t) (Number a) (FramePointer b) h i = absurd i
-difference_follows (RecordPointer s) (RecordPointer t) (Number a) (RecordPointer b) h i = absurd i
+sum_follows : {k l u v : Kind} → Both k l → Both u v → MayFollow (sum_kind k u) (sum_kind l v)
+sum_follows (frames {s = s} {t = t} h) (numbers {a = a} {b = b} i f) = frame_moves (moved_on s a) (moved_on t b) (moved_on_less s t a b h f i)
+sum_follows (records {s = s} {t = t} h) (numbers {a = a} {b = b} i f) = record_moves (moved_on s a) (moved_on t b) (moved_on_less s t a b h f i)
+sum_follows (numbers {a = a} {b = b} i f) (frames {s = s} {t = t} h) = frame_moves (moved_on s a) (moved_on t b) (moved_on_less s t a b h f i)
+sum_follows (numbers {a = a} {b = b} i f) (records {s = s} {t = t} h) = record_moves (moved_on s a) (moved_on t b) (moved_on_less s t a b h f i)
+sum_follows h i = tt
 
-pointer_follows : (w : Width) (op : AluOp) (k l u v : Kind) → Both k l → Both u v → MayFollow (pointer_kind w op k u) (pointer_kind w op l v)
-pointer_follows W32 op k l u v h i = tt
-pointer_follows W64 ops.Mov k l u v h i = both_cover u v i
-pointer_follows W64 ops.Add k l u v h i = sum_follows k l u v h i
-pointer_follows W64 ops.Sub k l u v h i = difference_follows k l u v h i
-pointer_follows W64 ops.Mul k l u v h i = tt
-pointer_follows W64 ops.Div k l u v h i = tt
-pointer_follows W64 ops.SignedDiv k l u v h i = tt
-pointer_follows W64 ops.Or k l u v h i = tt
-pointer_follows W64 ops.And k l u v h i = tt
-pointer_follows W64 ops.ShiftLeft k l u v h i = tt
-pointer_follows W64 ops.ShiftRight k l u v h i = tt
-pointer_follows W64 ops.Mod k l u v h i = tt
-pointer_follows W64 ops.SignedMod k l u v h i = tt
-pointer_follows W64 ops.Xor k l u v h i = tt
-pointer_follows W64 ops.ArithmeticShiftRight k l u v h i = tt
+difference_follows : {k l u v : Kind} → Both k l → Both u v → MayFollow (difference_kind k u) (difference_kind l v)
+difference_follows (frames {s = s} {t = t} h) (numbers {a = a} {b = b} i f) = frame_moves (moved_back s a) (moved_back t b) (moved_back_less s t a b h f i)
+difference_follows (records {s = s} {t = t} h) (numbers {a = a} {b = b} i f) = record_moves (moved_back s a) (moved_back t b) (moved_back_less s t a b h f i)
+difference_follows h i = tt
 
-alu_follows : (w : Width) (op : AluOp) (k l u v : Kind) → Both k l → Both u v → MayFollow (alu_kind w op k u) (alu_kind w op l v)
-alu_follows w op (Number a) (Number b) (Number c) (Number d) h i = (operated_within w op b d a c h.1.0 i.1.0 h.0 i.0, operated_full w op b d h.1.0 i.1.0)
-alu_follows w op (Number a) (Number b) (Number c) Unset h i = absurd i
-alu_follows w op (Number a) (Number b) (Number c) (FramePointer t) h i = absurd i
-alu_follows w op (Number a) (Number b) (Number c) (RecordPointer t) h i = absurd i
-alu_follows w op (Number a) (Number b) (FramePointer s) (FramePointer t) h i = pointer_follows w op (Number a) (Number b) (FramePointer s) (FramePointer t) h i
-alu_follows w op (Number a) (Number b) (FramePointer s) Unset h i = absurd i
-alu_follows w op (Number a) (Number b) (FramePointer s) (Number t) h i = absurd i
-alu_follows w op (Number a) (Number b) (FramePointer s) (RecordPointer t) h i = absurd i
-alu_follows w op (Number a) (Number b) (RecordPointer s) (RecordPointer t) h i = pointer_follows w op (Number a) (Number b) (RecordPointer s) (RecordPointer t) h i
-alu_follows w op (Number a) (Number b) (RecordPointer s) Unset h i = absurd i
-alu_follows w op (Number a) (Number b) (RecordPointer s) (Number t) h i = absurd i
-alu_follows w op (Number a) (Number b) (RecordPointer s) (FramePointer t) h i = absurd i
-alu_follows w op (Number a) (Number b) Unset v h i = absurd i
-alu_follows w op (Number a) Unset u v h i = absurd h
-alu_follows w op (Number a) (FramePointer t) u v h i = absurd h
-alu_follows w op (Number a) (RecordPointer t) u v h i = absurd h
-alu_follows w op Unset l u v h i = absurd h
-alu_follows w op (FramePointer s) (FramePointer t) u v h i = pointer_follows w op (FramePointer s) (FramePointer t) u v h i
-alu_follows w op (FramePointer s) Unset u v h i = absurd h
-alu_follows w op (FramePointer s) (Number t) u v h i = absurd h
-alu_follows w op (FramePointer s) (RecordPointer t) u v h i = absurd h
-alu_follows w op (RecordPointer s) (RecordPointer t) u v h i = pointer_follows w op (RecordPointer s) (RecordPointer t) u v h i
-alu_follows w op (RecordPointer s) Unset u v h i = absurd h
-alu_follows w op (RecordPointer s) (Number t) u v h i = absurd h
-alu_follows w op (RecordPointer s) (FramePointer t) u v h i = absurd h
+pointer_follows : (w : Width) (op : AluOp) {k l u v : Kind} → Both k l → Both u v → MayFollow (pointer_kind w op k u) (pointer_kind w op l v)
+pointer_follows W64 ops.Mov h i = both_cover i
+pointer_follows W64 ops.Add h i = sum_follows h i
+pointer_follows W64 ops.Sub h i = difference_follows h i
+pointer_follows w op h i = tt
+
+alu_follows : (w : Width) (op : AluOp) {k l u v : Kind} → Both k l → Both u v → MayFollow (alu_kind w op k u) (alu_kind w op l v)
+alu_follows w op (numbers {a = a} {b = b} h f) (numbers {a = c} {b = d} i g) = (operated_within w op b d a c f.0 g.0 h i, operated_full w op b d f.0 g.0)
+alu_follows w op h i = pointer_follows w op h i
 
 -- ---- states
 
@@ -349,43 +234,43 @@ States n s = StateCovers n s × IsFullState s
 past : (s : List Kind) (r : ℕ) → length s ≤ r → kind_of s r ≡ Unset
 past s r h = get_or_past s r Unset h
 
-put : (n s : List Kind) (d : ℕ) (k l : Kind) → d < 11 → States n s → Results k l → States (slice_set n d k) (slice_set s d l)
-put n s d k l low h i = (record { each = covered }, record { count = length-set s d l ∙ h.1.count; kinds = full })
-  where
-    same : kind_of (slice_set s d l) d ≡ l
-    same = get_or-set_same s d l Unset (omega (arith, low, h.1.count))
+-- what holds of a kind that is set and of the others holds of all
+set_each : (P : ℕ → Kind → Type 0) (s : List Kind) (d : ℕ) (l : Kind) → d < length s → P d l → ((r : ℕ) → (r ≡ d → ⊥) → P r (kind_of s r)) → (r : ℕ) → P r (kind_of (slice_set s d l) r)
+set_each P s d l low here others r = elim (cases_eq r d) [
+  | inl e ↦ subst (λ x. P x (kind_of (slice_set s d l) x)) (sym e) (subst (P d) (sym (get_or-set_same s d l Unset low)) here)
+  | inr ne ↦ subst (P r) (sym (get_or-set_other s d r l Unset ne)) (others r ne)
+]
 
-    wide : KindCovers (kind_of (slice_set n d k) d) l
-    wide = elim (cases_lt d (length n)) [
-      | inl t ↦ let e : kind_of (slice_set n d k) d ≡ k = get_or-set_same n d k Unset t in subst (λ x. KindCovers x l) (sym e) i.0
+full_put : (s : List Kind) (d : ℕ) (l : Kind) → d < 11 → IsFullState s → IsFullKind l → IsFullState (slice_set s d l)
+full_put s d l low h f = record {
+  count = length-set s d l ∙ h.count;
+  kinds = set_each (λ r. IsFullKind) s d l (omega (arith, low, h.count)) f (λ r ne. h.kinds r);
+}
+
+put : (n s : List Kind) (d : ℕ) (k l : Kind) → d < 11 → States n s → Results k l → States (slice_set n d k) (slice_set s d l)
+put n s d k l low h i = (record { each = set_each (λ r. KindCovers (kind_of (slice_set n d k) r)) s d l (omega (arith, low, h.1.count)) here others }, full_put s d l low h.1 i.1)
+  where
+    here : KindCovers (kind_of (slice_set n d k) d) l
+    here = elim (cases_lt d (length n)) [
+      | inl t ↦ subst (λ x. KindCovers x l) (sym (get_or-set_same n d k Unset t)) i.0
       | inr g ↦
-          let e : slice_set n d k ≡ n = set_past n d k g in
-          let u : kind_of (slice_set n d k) d ≡ Unset = ap (λ x. kind_of x d) e ∙ past n d g in
+          let u : kind_of (slice_set n d k) d ≡ Unset = ap (λ x. kind_of x d) (set_past n d k g) ∙ past n d g in
           subst (λ x. KindCovers x l) (sym u) tt
     ]
 
-    covered : (r : ℕ) → KindCovers (kind_of (slice_set n d k) r) (kind_of (slice_set s d l) r)
-    covered r = elim (cases_eq r d) [
-      | inl e ↦ subst (λ x. KindCovers (kind_of (slice_set n d k) x) (kind_of (slice_set s d l) x)) (sym e) (subst (KindCovers (kind_of (slice_set n d k) d)) (sym same) wide)
-      | inr ne ↦
-          let a : kind_of (slice_set n d k) r ≡ kind_of n r = get_or-set_other n d r k Unset ne in
-          let b : kind_of (slice_set s d l) r ≡ kind_of s r = get_or-set_other s d r l Unset ne in
-          subst (λ x. KindCovers x (kind_of (slice_set s d l) r)) (sym a) (subst (KindCovers (kind_of n r)) (sym b) (h.0.each r))
-    ]
-
-    full : (r : ℕ) → IsFullKind (kind_of (slice_set s d l) r)
-    full r = elim (cases_eq r d) [
-      | inl e ↦ subst (λ x. IsFullKind (kind_of (slice_set s d l) x)) (sym e) (subst IsFullKind (sym same) i.1)
-      | inr ne ↦ subst IsFullKind (sym (get_or-set_other s d r l Unset ne)) (h.1.kinds r)
-    ]
+    others : (r : ℕ) → (r ≡ d → ⊥) → KindCovers (kind_of (slice_set n d k) r) (kind_of s r)
+    others r ne = subst (λ x. KindCovers x (kind_of s r)) (sym (get_or-set_other n d r k Unset ne)) (h.0.each r)
 
 -- ---- instructions
 
+less_at : (n s : List Kind) (r : ℕ) → States n s → Less (kind_of n r) (kind_of s r)
+less_at n s r h = less_is (kind_of n r) (kind_of s r) (h.0.each r) (h.1.kinds r)
+
 register_follows : (n s : List Kind) (r : ℕ) → States n s → Follows Both (known (kind_of n r)) (known (kind_of s r))
-register_follows n s r h = known_follows (kind_of n r) (kind_of s r) (h.0.each r) (h.1.kinds r)
+register_follows n s r h = known_follows (less_at n s r h)
 
 one_number : (x : ℕ) → x < 2 ^ 64 → Both (Number (single x)) (Number (single x))
-one_number x h = (record { low = omega arith; high = omega arith }, (omega arith, h))
+one_number x h = numbers (record { low = omega arith; high = omega arith }) (omega arith, h)
 
 operand_follows : (n s : List Kind) (x : Operand) → States n s → Follows Both (known (operand_kind n x)) (known (operand_kind s x))
 operand_follows n s (operands.Register r) h = register_follows n s r h
@@ -393,31 +278,19 @@ operand_follows n s (operands.Number z) h = one_number (modulo 64 z) (modulo_bou
 
 taken_follows : (n s : List Kind) (op : AluOp) (d : ℕ) → States n s → Follows Both (known (taken_kind n op d)) (known (taken_kind s op d))
 taken_follows n s ops.Mov d h = one_number 0 (omega arith)
-taken_follows n s ops.Add d h = register_follows n s d h
-taken_follows n s ops.Sub d h = register_follows n s d h
-taken_follows n s ops.Mul d h = register_follows n s d h
-taken_follows n s ops.Div d h = register_follows n s d h
-taken_follows n s ops.SignedDiv d h = register_follows n s d h
-taken_follows n s ops.Or d h = register_follows n s d h
-taken_follows n s ops.And d h = register_follows n s d h
-taken_follows n s ops.ShiftLeft d h = register_follows n s d h
-taken_follows n s ops.ShiftRight d h = register_follows n s d h
-taken_follows n s ops.Mod d h = register_follows n s d h
-taken_follows n s ops.SignedMod d h = register_follows n s d h
-taken_follows n s ops.Xor d h = register_follows n s d h
-taken_follows n s ops.ArithmeticShiftRight d h = register_follows n s d h
+taken_follows n s op d h = register_follows n s d h
 
 mapped_follows : (n s : List Kind) (d b : ℕ) (f : Interval → Interval) → ((a c : Interval) → IsFull a → Within a c → Within (f a) (f c) × IsFull (f a)) → States n s → Follows States (mapped n d b f) (mapped s d b f)
 mapped_follows n s d b f g h =
     then_follows Both States (known (kind_of n b)) (known (kind_of s b)) _ _ (register_follows n s b h) (λ k l kl.
     then_follows (IsLow d) States (writable d) (writable d) _ _ (writable_follows d) (λ _ _ low.
-    then_follows Ranges States (number WrongKind k) (number WrongKind l) _ _ (number_follows WrongKind k l kl) (λ c a r. put n s d (Number (f c)) (Number (f a)) (omega (arith, low)) h (g a c r.1 r.0))))
+    then_follows Ranges States (number WrongKind k) (number WrongKind l) _ _ (number_follows WrongKind kl) (λ c a r. put n s d (Number (f c)) (Number (f a)) (omega (arith, low)) h (g a c r.1 r.0))))
 
-loaded_follows : (n s : List Kind) (d base : ℕ) (offset : ℤ) (size : ℕ) (range : Interval) → IsFull range → States n s → Follows States (loaded_state n d base offset size range) (loaded_state s d base offset size range)
-loaded_follows n s d base offset size range f h =
+loaded_follows : (len : ℕ) (n s : List Kind) (d base : ℕ) (offset : ℤ) (size : ℕ) (range : Interval) → IsFull range → States n s → Follows States (loaded_state len n d base offset size range) (loaded_state len s d base offset size range)
+loaded_follows len n s d base offset size range f h =
     then_follows Both States (known (kind_of n base)) (known (kind_of s base)) _ _ (register_follows n s base h) (λ k l kl.
     then_follows (IsLow d) States (writable d) (writable d) _ _ (writable_follows d) (λ _ _ low.
-    then_follows Any States (readable k offset size) (readable l offset size) _ _ (readable_follows k l offset size kl) (λ _ _ _. put n s d (Number range) (Number range) (omega (arith, low)) h (record { low = omega arith; high = omega arith }, f))))
+    then_follows Any States (readable len k offset size) (readable len l offset size) _ _ (readable_follows len offset size kl) (λ _ _ _. put n s d (Number range) (Number range) (omega (arith, low)) h (record { low = omega arith; high = omega arith }, f))))
 
 order_follows : (o : ByteOrder) (bits : SwapBits) (a c : Interval) → IsFull a → Within a c → Within (ordered_range o (swap_bits bits) a) (ordered_range o (swap_bits bits) c) × IsFull (ordered_range o (swap_bits bits) a)
 order_follows orders.Little bits a c f l = (low_range_within (swap_bits bits) a c f.0 l, low_range_full bits a f.0)
@@ -437,32 +310,32 @@ load_full sizes.B2 = (omega arith, omega arith)
 load_full sizes.B4 = (omega arith, omega arith)
 load_full sizes.B8 = (omega arith, omega arith)
 
-transfer_follows : (i : Insn) (n s : List Kind) → IsInsn i → States n s → Follows States (transfer i n) (transfer i s)
-transfer_follows (insns.Alu w op d x) n s legal h =
+transfer_follows : (len : ℕ) (i : Insn) (n s : List Kind) → IsInsn i → States n s → Follows States (transfer len i n) (transfer len i s)
+transfer_follows len (insns.Alu w op d x) n s legal h =
     then_follows Both States (known (taken_kind n op d)) (known (taken_kind s op d)) _ _ (taken_follows n s op d h) (λ a b ab.
     then_follows Both States (known (operand_kind n x)) (known (operand_kind s x)) _ _ (operand_follows n s x h) (λ k l kl.
     then_follows (IsLow d) States (writable d) (writable d) _ _ (writable_follows d) (λ _ _ low.
-    then_follows Results States (allowed (alu_kind w op a k)) (allowed (alu_kind w op b l)) _ _ (allowed_follows (alu_kind w op a k) (alu_kind w op b l) (alu_follows w op a b k l ab kl)) (λ y z yz. put n s d y z (omega (arith, low)) h yz))))
-transfer_follows (insns.Negate w d) n s legal h = mapped_follows n s d d (negated (bits_of w)) (λ a c f l. (negated_within (bits_of w) a c f.0 l, negated_full w a f.0)) h
-transfer_follows (insns.Extend e d b) n s legal h = mapped_follows n s d b (sign_extended (extension_bits e) (bits_of (extension_width e))) (extend_follows e) h
-transfer_follows (insns.Order o bits d) n s legal h = mapped_follows n s d d (ordered_range o (swap_bits bits)) (order_follows o bits) h
-transfer_follows (insns.Jump offset) n s legal h = h
-transfer_follows (insns.JumpFar distance) n s legal h = h
-transfer_follows (insns.Branch w r d x offset) n s legal h =
+    then_follows Results States (allowed (alu_kind w op a k)) (allowed (alu_kind w op b l)) _ _ (allowed_follows (alu_kind w op a k) (alu_kind w op b l) (alu_follows w op ab kl)) (λ y z yz. put n s d y z (omega (arith, low)) h yz))))
+transfer_follows len (insns.Negate w d) n s legal h = mapped_follows n s d d (negated (bits_of w)) (λ a c f l. (negated_within (bits_of w) a c f.0 l, negated_full w a f.0)) h
+transfer_follows len (insns.Extend e d b) n s legal h = mapped_follows n s d b (sign_extended (extension_bits e) (bits_of (extension_width e))) (extend_follows e) h
+transfer_follows len (insns.Order o bits d) n s legal h = mapped_follows n s d d (ordered_range o (swap_bits bits)) (order_follows o bits) h
+transfer_follows len (insns.Jump offset) n s legal h = h
+transfer_follows len (insns.JumpFar distance) n s legal h = h
+transfer_follows len (insns.Branch w r d x offset) n s legal h =
     then_follows Both States (known (kind_of n d)) (known (kind_of s d)) _ _ (register_follows n s d h) (λ a b ab.
     then_follows Both States (known (operand_kind n x)) (known (operand_kind s x)) _ _ (operand_follows n s x h) (λ k l kl.
-    then_follows Ranges States (number WrongKind a) (number WrongKind b) _ _ (number_follows WrongKind a b ab) (λ _ _ _.
-    then_follows Ranges States (number WrongKind k) (number WrongKind l) _ _ (number_follows WrongKind k l kl) (λ _ _ _. h))))
-transfer_follows insns.Exit n s legal h =
+    then_follows Ranges States (number WrongKind a) (number WrongKind b) _ _ (number_follows WrongKind ab) (λ _ _ _.
+    then_follows Ranges States (number WrongKind k) (number WrongKind l) _ _ (number_follows WrongKind kl) (λ _ _ _. h))))
+transfer_follows len insns.Exit n s legal h =
     then_follows Both States (known (kind_of n 0)) (known (kind_of s 0)) _ _ (register_follows n s 0 h) (λ k l kl.
-    then_follows Ranges States (number AnswerKind k) (number AnswerKind l) _ _ (number_follows AnswerKind k l kl) (λ _ _ _. h))
-transfer_follows (insns.Load size d base offset) n s legal h = loaded_follows n s d base offset (size_bytes size) (whole (8 * size_bytes size)) (load_full size) h
-transfer_follows (insns.LoadSigned bits d base offset) n s legal h = loaded_follows n s d base offset (signed_bytes bits) all_words (omega arith, omega arith) h
-transfer_follows (insns.Store size base offset x) n s legal h =
+    then_follows Ranges States (number AnswerKind k) (number AnswerKind l) _ _ (number_follows AnswerKind kl) (λ _ _ _. h))
+transfer_follows len (insns.Load size d base offset) n s legal h = loaded_follows len n s d base offset (size_bytes size) (whole (8 * size_bytes size)) (load_full size) h
+transfer_follows len (insns.LoadSigned bits d base offset) n s legal h = loaded_follows len n s d base offset (signed_bytes bits) all_words (omega arith, omega arith) h
+transfer_follows len (insns.Store size base offset x) n s legal h =
     then_follows Both States (known (kind_of n base)) (known (kind_of s base)) _ _ (register_follows n s base h) (λ k l kl.
     then_follows Both States (known (operand_kind n x)) (known (operand_kind s x)) _ _ (operand_follows n s x h) (λ u v uv.
-    then_follows Any States (storable k u offset (size_bytes size)) (storable l v offset (size_bytes size)) _ _ (storable_follows k l u v offset (size_bytes size) kl uv) (λ _ _ _. h)))
-transfer_follows (insns.Wide d v) n s legal h =
+    then_follows Any States (storable k u offset (size_bytes size)) (storable l v offset (size_bytes size)) _ _ (storable_follows offset (size_bytes size) kl uv) (λ _ _ _. h)))
+transfer_follows len (insns.Wide d v) n s legal h =
     then_follows (IsLow d) States (writable d) (writable d) _ _ (writable_follows d) (λ _ _ low.
     put n s d (Number (single v)) (Number (single v)) (omega (arith, low)) h (record { low = omega arith; high = omega arith }, (omega arith, legal.1)))
 
@@ -472,8 +345,8 @@ follows_ok n s (Err rule) y after h e = let bad : Err rule ≡ Ok after = e in a
 follows_ok n s (Ok a) (Err rule) after h e = absurd h
 follows_ok n s (Ok a) (Ok b) after h e = let is : a ≡ after = cc in (b, refl, subst (λ x. StateCovers x b) is h.0, h.1)
 
-pub transfer_less : (i : Insn) (wider s after : List Kind) → IsInsn i → IsFullState s → StateCovers wider s → transfer i wider ≡ Ok after → (left : List Kind) × (transfer i s ≡ Ok left) × StateCovers after left × IsFullState left
-transfer_less i wider s after legal full covers e = follows_ok wider s (transfer i wider) (transfer i s) after (transfer_follows i wider s legal (covers, full)) e
+pub transfer_less : (len : ℕ) (i : Insn) (wider s after : List Kind) → IsInsn i → IsFullState s → StateCovers wider s → transfer len i wider ≡ Ok after → (left : List Kind) × (transfer len i s ≡ Ok left) × StateCovers after left × IsFullState left
+transfer_less len i wider s after legal full covers e = follows_ok wider s (transfer len i wider) (transfer len i s) after (transfer_follows len i wider s legal (covers, full)) e
 
 -- ---- edges: each of the smaller state's has one of the larger state's that covers it
 
@@ -503,30 +376,10 @@ full_at s d a h e = subst IsFullKind e (h.kinds d)
 
 -- with less in a register of the smaller state
 less_put : (n s : List Kind) (d : ℕ) (a p : Interval) → States n s → kind_of s d ≡ Number a → Within p a → p.lo ≤ p.hi → States n (slice_set s d (Number p))
-less_put n s d a p h e l o = (record { each = covered }, record { count = length-set s d (Number p) ∙ h.1.count; kinds = full })
-  where
-    same : kind_of (slice_set s d (Number p)) d ≡ Number p
-    same = get_or-set_same s d (Number p) Unset (omega (arith, is_set s d a h.1.count e, h.1.count))
-
-    within : (k : Kind) → KindCovers k (Number a) → KindCovers k (Number p)
-    within Unset c = tt
-    within (Number x) c = record { low = omega (arith, c.low, l.low); high = omega (arith, c.high, l.high) }
-    within (FramePointer x) c = absurd c
-    within (RecordPointer x) c = absurd c
-
-    covered : (r : ℕ) → KindCovers (kind_of n r) (kind_of (slice_set s d (Number p)) r)
-    covered r = elim (cases_eq r d) [
-      | inl q ↦
-          let c : KindCovers (kind_of n d) (Number a) = subst (KindCovers (kind_of n d)) e (h.0.each d) in
-          subst (λ x. KindCovers (kind_of n x) (kind_of (slice_set s d (Number p)) x)) (sym q) (subst (KindCovers (kind_of n d)) (sym same) (within (kind_of n d) c))
-      | inr ne ↦ subst (KindCovers (kind_of n r)) (sym (get_or-set_other s d r (Number p) Unset ne)) (h.0.each r)
-    ]
-
-    full : (r : ℕ) → IsFullKind (kind_of (slice_set s d (Number p)) r)
-    full r = elim (cases_eq r d) [
-      | inl q ↦ subst (λ x. IsFullKind (kind_of (slice_set s d (Number p)) x)) (sym q) (subst IsFullKind (sym same) (still_full p a (full_at s d a h.1 e) l o))
-      | inr ne ↦ subst IsFullKind (sym (get_or-set_other s d r (Number p) Unset ne)) (h.1.kinds r)
-    ]
+less_put n s d a p h e l o =
+    let low = is_set s d a h.1.count e in
+    let here : KindCovers (kind_of n d) (Number p) = kind_covers_through (kind_of n d) (Number a) (Number p) (subst (KindCovers (kind_of n d)) e (h.0.each d)) l in
+    (record { each = set_each (λ r. KindCovers (kind_of n r)) s d (Number p) (omega (arith, low, h.1.count)) here (λ r ne. h.0.each r) }, full_put s d (Number p) low h.1 (still_full p a (full_at s d a h.1 e) l o))
 
 one_leads : (n s : List Kind) (d : ℕ) (a b : Interval) (o p : Option (Interval × Interval)) → States n s → kind_of s d ≡ Number a → LeavesLess p (Some (a, b)) → LeavesLess p o → MayLead (with_number n d o) (with_number s d p)
 one_leads n s d a b o None h e i l = tt
@@ -537,32 +390,14 @@ one_stays : (n s : List Kind) (d : ℕ) (a b : Interval) (p : Option (Interval �
 one_stays n s d a b None h e i = tt
 one_stays n s d a b (Some p) h e i = less_put n s d a p.0 h e i.0 i.2
 
-abbrev with_one : List Kind → Width → Relation → Bool → ℕ → Interval → Kind → Option (List Kind)
-with_one state w r taken d one (Number a) = with_number state d (branched (bits_of w) r taken a one)
-with_one state w r taken d one k = Some state
-
-by_number : (n s : List Kind) (w : Width) (r : Relation) (taken : Bool) (d : ℕ) (one : Interval) (k l : Kind) → one.lo ≤ one.hi → States n s → kind_of s d ≡ l → KindCovers k l
-    → MayLead (with_one n w r taken d one k) (with_one s w r taken d one l)
-by_number n s w r taken d one (Number c) (Number a) o h j l =
-    let f = full_at s d a h.1 j in
-    one_leads n s d a one (branched (bits_of w) r taken c one) (branched (bits_of w) r taken a one) h j (branched_inside w r taken a one f.0 o) (branched_less w r taken a one c one f.0 o l (record { low = omega arith; high = omega arith }))
-by_number n s w r taken d one Unset (Number a) o h j l =
-    let f = full_at s d a h.1 j in
-    one_stays n s d a one (branched (bits_of w) r taken a one) h j (branched_inside w r taken a one f.0 o)
-by_number n s w r taken d one Unset Unset o h j l = h
-by_number n s w r taken d one Unset (FramePointer t) o h j l = h
-by_number n s w r taken d one Unset (RecordPointer t) o h j l = h
-by_number n s w r taken d one (Number c) Unset o h j l = absurd l
-by_number n s w r taken d one (Number c) (FramePointer t) o h j l = absurd l
-by_number n s w r taken d one (Number c) (RecordPointer t) o h j l = absurd l
-by_number n s w r taken d one (FramePointer c) Unset o h j l = absurd l
-by_number n s w r taken d one (FramePointer c) (Number t) o h j l = absurd l
-by_number n s w r taken d one (FramePointer c) (RecordPointer t) o h j l = absurd l
-by_number n s w r taken d one (FramePointer c) (FramePointer t) o h j l = h
-by_number n s w r taken d one (RecordPointer c) Unset o h j l = absurd l
-by_number n s w r taken d one (RecordPointer c) (Number t) o h j l = absurd l
-by_number n s w r taken d one (RecordPointer c) (FramePointer t) o h j l = absurd l
-by_number n s w r taken d one (RecordPointer c) (RecordPointer t) o h j l = h
+by_number : (n s : List Kind) (w : Width) (r : Relation) (taken : Bool) (d x : ℕ) {k l : Kind} → States n s → kind_of s d ≡ l → Less k l → MayLead (refined_by_number n w r taken d x k) (refined_by_number s w r taken d x l)
+by_number n s w r taken d x h j (both (numbers {a = c} {b = a} i f)) =
+    let one = single (low (bits_of w) x) in
+    one_leads n s d a one (branched (bits_of w) r taken c one) (branched (bits_of w) r taken a one) h j (branched_inside w r taken a one f.0 (omega arith)) (branched_less w r taken a one c one f.0 (omega arith) i (record { low = omega arith; high = omega arith }))
+by_number n s w r taken d x h j (unset {l = Number a}) =
+    let one = single (low (bits_of w) x) in
+    one_stays n s d a one (branched (bits_of w) r taken a one) h j (branched_inside w r taken a one (full_at s d a h.1 j).0 (omega arith))
+by_number n s w r taken d x h j less = h
 
 two_lead : (n s : List Kind) (d e : ℕ) (a b : Interval) (o p : Option (Interval × Interval)) → States n s → kind_of s d ≡ Number a → kind_of s e ≡ Number b → LeavesLess p (Some (a, b)) → LeavesLess p o → MayLead (with_numbers n d e o) (with_numbers s d e p)
 two_lead n s d e a b o None h i j k l = tt
@@ -578,57 +413,24 @@ two_stay n s d e a b (Some p) ne h i j k =
     let other : kind_of (slice_set s d (Number p.0)) e ≡ Number b = get_or-set_other s d e (Number p.0) Unset (λ q. ne (sym q)) ∙ j in
     less_put n (slice_set s d (Number p.0)) e b p.1 (less_put n s d a p.0 h i k.0 k.2) other k.1 k.3
 
-by_register : (n s : List Kind) (w : Width) (r : Relation) (taken : Bool) (d e : ℕ) (k l u v : Kind) → (d ≡ e → ⊥) → States n s → kind_of s d ≡ l → kind_of s e ≡ v → KindCovers k l → KindCovers u v
-    → MayLead (refined_by_register n w r taken d e k u) (refined_by_register s w r taken d e l v)
-by_register n s w r taken d e (Number c) (Number a) (Number m) (Number b) ne h i j x y =
-    let f = full_at s d a h.1 i in
-    let g = full_at s e b h.1 j in
-    two_lead n s d e a b (branched (bits_of w) r taken c m) (branched (bits_of w) r taken a b) h i j (branched_inside w r taken a b f.0 g.0) (branched_less w r taken a b c m f.0 g.0 x y)
-by_register n s w r taken d e Unset (Number a) u (Number b) ne h i j x y = two_stay n s d e a b (branched (bits_of w) r taken a b) ne h i j (branched_inside w r taken a b (full_at s d a h.1 i).0 (full_at s e b h.1 j).0)
-by_register n s w r taken d e (Number c) (Number a) Unset (Number b) ne h i j x y = two_stay n s d e a b (branched (bits_of w) r taken a b) ne h i j (branched_inside w r taken a b (full_at s d a h.1 i).0 (full_at s e b h.1 j).0)
-by_register n s w r taken d e (Number c) (Number a) (FramePointer m) (Number b) ne h i j x y = absurd y
-by_register n s w r taken d e (Number c) (Number a) (RecordPointer m) (Number b) ne h i j x y = absurd y
-by_register n s w r taken d e (Number c) (Number a) Unset Unset ne h i j x y = h
-by_register n s w r taken d e (Number c) (Number a) Unset (FramePointer t) ne h i j x y = h
-by_register n s w r taken d e (Number c) (Number a) Unset (RecordPointer t) ne h i j x y = h
-by_register n s w r taken d e (Number c) (Number a) (FramePointer m) (FramePointer t) ne h i j x y = h
-by_register n s w r taken d e (Number c) (Number a) (RecordPointer m) (RecordPointer t) ne h i j x y = h
-by_register n s w r taken d e (Number c) (Number a) (Number m) Unset ne h i j x y = absurd y
-by_register n s w r taken d e (Number c) (Number a) (Number m) (FramePointer t) ne h i j x y = absurd y
-by_register n s w r taken d e (Number c) (Number a) (Number m) (RecordPointer t) ne h i j x y = absurd y
-by_register n s w r taken d e (Number c) (Number a) (FramePointer m) Unset ne h i j x y = absurd y
-by_register n s w r taken d e (Number c) (Number a) (FramePointer m) (RecordPointer t) ne h i j x y = absurd y
-by_register n s w r taken d e (Number c) (Number a) (RecordPointer m) Unset ne h i j x y = absurd y
-by_register n s w r taken d e (Number c) (Number a) (RecordPointer m) (FramePointer t) ne h i j x y = absurd y
-by_register n s w r taken d e (Number c) Unset u v ne h i j x y = absurd x
-by_register n s w r taken d e (Number c) (FramePointer t) u v ne h i j x y = absurd x
-by_register n s w r taken d e (Number c) (RecordPointer t) u v ne h i j x y = absurd x
-by_register n s w r taken d e Unset (Number a) u Unset ne h i j x y = h
-by_register n s w r taken d e Unset (Number a) u (FramePointer t) ne h i j x y = h
-by_register n s w r taken d e Unset (Number a) u (RecordPointer t) ne h i j x y = h
-by_register n s w r taken d e Unset Unset u v ne h i j x y = h
-by_register n s w r taken d e Unset (FramePointer t) u v ne h i j x y = h
-by_register n s w r taken d e Unset (RecordPointer t) u v ne h i j x y = h
-by_register n s w r taken d e (FramePointer c) (FramePointer t) u v ne h i j x y = h
-by_register n s w r taken d e (FramePointer c) Unset u v ne h i j x y = absurd x
-by_register n s w r taken d e (FramePointer c) (Number t) u v ne h i j x y = absurd x
-by_register n s w r taken d e (FramePointer c) (RecordPointer t) u v ne h i j x y = absurd x
-by_register n s w r taken d e (RecordPointer c) (RecordPointer t) u v ne h i j x y = h
-by_register n s w r taken d e (RecordPointer c) Unset u v ne h i j x y = absurd x
-by_register n s w r taken d e (RecordPointer c) (Number t) u v ne h i j x y = absurd x
-by_register n s w r taken d e (RecordPointer c) (FramePointer t) u v ne h i j x y = absurd x
+-- where one of the larger state's kinds is no number
+two_less : (n s : List Kind) (w : Width) (r : Relation) (taken : Bool) (d e : ℕ) (a b : Interval) → (d ≡ e → ⊥) → States n s → kind_of s d ≡ Number a → kind_of s e ≡ Number b → MayLead (Some n) (with_numbers s d e (branched (bits_of w) r taken a b))
+two_less n s w r taken d e a b ne h i j = two_stay n s d e a b (branched (bits_of w) r taken a b) ne h i j (branched_inside w r taken a b (full_at s d a h.1 i).0 (full_at s e b h.1 j).0)
 
-number_is : (s : List Kind) (w : Width) (r : Relation) (taken : Bool) (d x : ℕ) (k : Kind) → with_one s w r taken d (single (low (bits_of w) x)) k ≡ refined_by_number s w r taken d x k
-number_is s w r taken d x Unset = refl
-number_is s w r taken d x (Number a) = refl
-number_is s w r taken d x (FramePointer t) = refl
-number_is s w r taken d x (RecordPointer t) = refl
+by_register : (n s : List Kind) (w : Width) (r : Relation) (taken : Bool) (d e : ℕ) {k l u v : Kind} → (d ≡ e → ⊥) → States n s → kind_of s d ≡ l → kind_of s e ≡ v → Less k l → Less u v
+    → MayLead (refined_by_register n w r taken d e k u) (refined_by_register s w r taken d e l v)
+by_register n s w r taken d e ne h i j (both (numbers {a = c} {b = a} x f)) (both (numbers {a = m} {b = b} y g)) =
+    two_lead n s d e a b (branched (bits_of w) r taken c m) (branched (bits_of w) r taken a b) h i j (branched_inside w r taken a b f.0 g.0) (branched_less w r taken a b c m f.0 g.0 x y)
+by_register n s w r taken d e ne h i j (unset {l = Number a}) (both (numbers {b = b} y g)) = two_less n s w r taken d e a b ne h i j
+by_register n s w r taken d e ne h i j (unset {l = Number a}) (unset {l = Number b}) = two_less n s w r taken d e a b ne h i j
+by_register n s w r taken d e ne h i j (both (numbers {b = a} x f)) (unset {l = Number b}) = two_less n s w r taken d e a b ne h i j
+by_register n s w r taken d e ne h i j less other = h
 
 pub refined_less : (n s : List Kind) (w : Width) (r : Relation) (taken : Bool) (d : ℕ) (x : Operand) → States n s → MayLead (refined n w r taken d x) (refined s w r taken d x)
-refined_less n s w r taken d (operands.Number z) h = rw (← number_is n w r taken d (modulo 64 z) (kind_of n d), ← number_is s w r taken d (modulo 64 z) (kind_of s d)) (by_number n s w r taken d (single (low (bits_of w) (modulo 64 z))) (kind_of n d) (kind_of s d) (omega arith) h refl (h.0.each d))
+refined_less n s w r taken d (operands.Number z) h = by_number n s w r taken d (modulo 64 z) h refl (less_at n s d h)
 refined_less n s w r taken d (operands.Register e) h = elim (cases_eq d e) [
   | inl q ↦ rw (eq-eqb d e q) h
-  | inr ne ↦ rw (ne_eqb d e ne) (by_register n s w r taken d e (kind_of n d) (kind_of s d) (kind_of n e) (kind_of s e) ne h refl refl (h.0.each d) (h.0.each e))
+  | inr ne ↦ rw (ne_eqb d e ne) (by_register n s w r taken d e ne h refl refl (less_at n s d h) (less_at n s e h))
 ]
 
 among_left : (x : ℕ × List Kind) (xs ys : List (ℕ × List Kind)) → Among x xs → Among x (xs ++ ys)
@@ -666,23 +468,17 @@ edges_less unit (insns.Branch w r d x offset) n s e h a =
     ]
 edges_less unit insns.Exit n s e h a = absurd a
 edges_less unit (insns.Wide d v) n s e h a = one_edge (unit + 2) n s e h a
-edges_less unit (insns.Alu w op d x) n s e h a = one_edge (unit + 1) n s e h a
-edges_less unit (insns.Negate w d) n s e h a = one_edge (unit + 1) n s e h a
-edges_less unit (insns.Extend x d b) n s e h a = one_edge (unit + 1) n s e h a
-edges_less unit (insns.Order o bits d) n s e h a = one_edge (unit + 1) n s e h a
-edges_less unit (insns.Load size d base offset) n s e h a = one_edge (unit + 1) n s e h a
-edges_less unit (insns.LoadSigned bits d base offset) n s e h a = one_edge (unit + 1) n s e h a
-edges_less unit (insns.Store size base offset x) n s e h a = one_edge (unit + 1) n s e h a
+edges_less unit i n s e h a = one_edge (unit + 1) n s e h a
 
 -- ---- the entry, and joins
 
-pub entry_full : IsFullState entry_state
-entry_full = record { count = refl; kinds = at }
+pub entry_full : (len : ℕ) → len < 2 ^ 64 → IsFullState (entry_state len)
+entry_full len h = record { count = refl; kinds = at }
   where
-    at : (r : ℕ) → IsFullKind (kind_of entry_state r)
+    at : (r : ℕ) → IsFullKind (kind_of (entry_state len) r)
     at zero = tt
     at (suc zero) = tt
-    at (suc (suc zero)) = (omega arith, omega arith)
+    at (suc (suc zero)) = (omega arith, h)
     at (suc (suc (suc zero))) = (omega arith, omega arith)
     at (suc (suc (suc (suc zero)))) = tt
     at (suc (suc (suc (suc (suc zero))))) = tt
@@ -697,16 +493,7 @@ join_full : (k l : Kind) → IsFullKind k → IsFullKind l → IsFullKind (join_
 join_full (Number a) (Number b) h i = (omega (arith, h.0, i.0), omega (arith, h.1, i.1))
 join_full (FramePointer s) (FramePointer t) h i = tt
 join_full (RecordPointer s) (RecordPointer t) h i = tt
-join_full Unset l h i = tt
-join_full (Number a) Unset h i = tt
-join_full (Number a) (FramePointer t) h i = tt
-join_full (Number a) (RecordPointer t) h i = tt
-join_full (FramePointer s) Unset h i = tt
-join_full (FramePointer s) (Number t) h i = tt
-join_full (FramePointer s) (RecordPointer t) h i = tt
-join_full (RecordPointer s) Unset h i = tt
-join_full (RecordPointer s) (Number t) h i = tt
-join_full (RecordPointer s) (FramePointer t) h i = tt
+join_full k l h i = tt
 
 pub joined_full : (a b : List Kind) → IsFullState a → IsFullState b → IsFullState (join_states a b)
 joined_full a b h i = record { count = joined_count a b (h.count ∙ sym i.count) ∙ h.count; kinds = at }

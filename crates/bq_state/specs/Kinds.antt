@@ -32,8 +32,9 @@ join_states [] ys = []
 join_states (a ∷ xs) [] = []
 join_states (a ∷ xs) (b ∷ ys) = join_kinds a b ∷ join_states xs ys
 
--- the entry of a record run: r1 points to the record, r2 is its length, r3 any accumulator, r10 points to the frame's end
-abbrev pub entry_state : List Kind
-entry_state =
-    Unset ∷ RecordPointer (at_offset (pos 0)) ∷ Number (single 64) ∷ Number all_words ∷ Unset ∷ Unset ∷ Unset ∷ Unset ∷ Unset ∷ Unset
+-- the entry of a run over a record of len bytes: r1 points to the record, r2 is its length, r3 any accumulator, and
+-- r10 points to the frame's end
+abbrev pub entry_state : ℕ → List Kind
+entry_state len =
+    Unset ∷ RecordPointer (at_offset (pos 0)) ∷ Number (single len) ∷ Number all_words ∷ Unset ∷ Unset ∷ Unset ∷ Unset ∷ Unset ∷ Unset
     ∷ FramePointer (at_offset (pos 512)) ∷ []

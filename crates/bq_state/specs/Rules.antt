@@ -1,4 +1,4 @@
--- The rules at one unit, in their order, and what an instruction makes of a state.
+-- The rules at one unit, in their order, and what an instruction makes of a state, where records have len bytes.
 use Rattle.std.specs.Prelude.{ℕ, ◌*◌, ℤ, List, Option, Some, None, Result, Ok, Err, if◌then◌else◌, nat_lt, slice_set, option_map}
 use Rattle.bq_word.specs.Word.{bits_of, modulo, swap_bits}
 use Rattle.bq_word.specs.declared.Width.{Width}
@@ -48,10 +48,10 @@ allowed None = Err WrongKind
 allowed (Some k) = Ok k
 
 -- size bytes may be read at a distance from there
-abbrev pub readable : Kind → ℤ → ℕ → Result (Unit {0}) Rule
-readable (FramePointer s) offset size = if fits s offset size 512 then Ok tt else Err OutsideFrame
-readable (RecordPointer s) offset size = if fits s offset size 64 then Ok tt else Err OutsideRecord
-readable k offset size = Err WrongKind
+abbrev pub readable : ℕ → Kind → ℤ → ℕ → Result (Unit {0}) Rule
+readable len (FramePointer s) offset size = if fits s offset size 512 then Ok tt else Err OutsideFrame
+readable len (RecordPointer s) offset size = if fits s offset size len then Ok tt else Err OutsideRecord
+readable len k offset size = Err WrongKind
 
 -- a number may be written there: the value's kind comes before the region, and the region before the bounds
 abbrev pub storable : Kind → Kind → ℤ → ℕ → Result (Unit {0}) Rule
@@ -110,34 +110,34 @@ mapped state d s f =
     and_then (number WrongKind k) (λ a. Ok (slice_set state d (Number (f a))))))
 
 -- the state with a number that was loaded from size bytes
-abbrev pub loaded_state : List Kind → ℕ → ℕ → ℤ → ℕ → Interval → Result (List Kind) Rule
-loaded_state state d base offset size range =
+abbrev pub loaded_state : ℕ → List Kind → ℕ → ℕ → ℤ → ℕ → Interval → Result (List Kind) Rule
+loaded_state len state d base offset size range =
     and_then (known (kind_of state base)) (λ k.
     and_then (writable d) (λ _.
-    and_then (readable k offset size) (λ _. Ok (slice_set state d (Number range)))))
+    and_then (readable len k offset size) (λ _. Ok (slice_set state d (Number range)))))
 
 -- the state after an instruction, or the first rule that it breaks
-abbrev pub transfer : Insn → List Kind → Result (List Kind) Rule
-transfer (insns.Alu w op d x) state =
+abbrev pub transfer : ℕ → Insn → List Kind → Result (List Kind) Rule
+transfer len (insns.Alu w op d x) state =
     and_then (known (taken_kind state op d)) (λ a.
     and_then (known (operand_kind state x)) (λ b.
     and_then (writable d) (λ _.
     and_then (allowed (alu_kind w op a b)) (λ k. Ok (slice_set state d k)))))
-transfer (insns.Negate w d) state = mapped state d d (negated (bits_of w))
-transfer (insns.Extend e d s) state = mapped state d s (sign_extended (extension_bits e) (bits_of (extension_width e)))
-transfer (insns.Order o bits d) state = mapped state d d (ordered_range o (swap_bits bits))
-transfer (insns.Jump offset) state = Ok state
-transfer (insns.JumpFar distance) state = Ok state
-transfer (insns.Branch w r d x offset) state =
+transfer len (insns.Negate w d) state = mapped state d d (negated (bits_of w))
+transfer len (insns.Extend e d s) state = mapped state d s (sign_extended (extension_bits e) (bits_of (extension_width e)))
+transfer len (insns.Order o bits d) state = mapped state d d (ordered_range o (swap_bits bits))
+transfer len (insns.Jump offset) state = Ok state
+transfer len (insns.JumpFar distance) state = Ok state
+transfer len (insns.Branch w r d x offset) state =
     and_then (known (kind_of state d)) (λ a.
     and_then (known (operand_kind state x)) (λ b.
     and_then (number WrongKind a) (λ _.
     and_then (number WrongKind b) (λ _. Ok state))))
-transfer insns.Exit state = and_then (known (kind_of state 0)) (λ k. and_then (number AnswerKind k) (λ _. Ok state))
-transfer (insns.Load size d base offset) state = loaded_state state d base offset (size_bytes size) (whole (8 * size_bytes size))
-transfer (insns.LoadSigned bits d base offset) state = loaded_state state d base offset (signed_bytes bits) all_words
-transfer (insns.Store size base offset x) state =
+transfer len insns.Exit state = and_then (known (kind_of state 0)) (λ k. and_then (number AnswerKind k) (λ _. Ok state))
+transfer len (insns.Load size d base offset) state = loaded_state len state d base offset (size_bytes size) (whole (8 * size_bytes size))
+transfer len (insns.LoadSigned bits d base offset) state = loaded_state len state d base offset (signed_bytes bits) all_words
+transfer len (insns.Store size base offset x) state =
     and_then (known (kind_of state base)) (λ k.
     and_then (known (operand_kind state x)) (λ v.
     and_then (storable k v offset (size_bytes size)) (λ _. Ok state)))
-transfer (insns.Wide d v) state = and_then (writable d) (λ _. Ok (slice_set state d (Number (single v))))
+transfer len (insns.Wide d v) state = and_then (writable d) (λ _. Ok (slice_set state d (Number (single v))))

@@ -1,6 +1,7 @@
 //! Kinds: what is known of one register.
 
 ghost use Rattle.std.specs.Prelude.{◌≡◌, ◌↔◌, IsTrue, Ok, Err, if◌then◌else◌};
+ghost use Rattle.bq_meaning.specs.Place.{record_length};
 ghost use Rattle.bq_state.specs.Offsets.{fits};
 ghost use Rattle.bq_state.specs.Kinds.{KindCovers, join_kinds};
 ghost use Rattle.bq_state.specs.Rules.{known, number, readable, storable, sum_kind, difference_kind, pointer_kind, alu_kind};
@@ -8,6 +9,7 @@ ghost use Rattle.bq_range.specs.Interval.{Interval};
 
 use crate::offsets::Offsets;
 use crate::rule::Rule;
+use bq_meaning::placement::{FRAME_LENGTH, RECORD_LENGTH};
 use bq_range::range::Range;
 use bq_word::{AluOp, Width};
 
@@ -28,7 +30,7 @@ pub enum Kind {
 fn in_frame(at: Offsets, offset: i16, size: u32) -> Result<(), Rule>
     ensures { result ≡ (if fits at offset size 512 then Ok tt else Err Rule.OutsideFrame) }
 {
-    if at.fits(offset, size, 512) {
+    if at.fits(offset, size, FRAME_LENGTH as u32) {
         Ok(())
     } else {
         Err(Rule::OutsideFrame)
@@ -37,9 +39,9 @@ fn in_frame(at: Offsets, offset: i16, size: u32) -> Result<(), Rule>
 
 // Whether so many bytes at a distance from there lie in the record.
 fn in_record(at: Offsets, offset: i16, size: u32) -> Result<(), Rule>
-    ensures { result ≡ (if fits at offset size 64 then Ok tt else Err Rule.OutsideRecord) }
+    ensures { result ≡ (if fits at offset size record_length then Ok tt else Err Rule.OutsideRecord) }
 {
-    if at.fits(offset, size, 64) {
+    if at.fits(offset, size, RECORD_LENGTH as u32) {
         Ok(())
     } else {
         Err(Rule::OutsideRecord)
@@ -111,7 +113,7 @@ impl Kind {
 
     // Whether so many bytes may be read at a distance from there.
     pub(crate) fn readable(self, offset: i16, size: u32) -> Result<(), Rule>
-        ensures { result ≡ readable self offset size }
+        ensures { result ≡ readable record_length self offset size }
     {
         match self {
             Kind::FramePointer(at) => in_frame(at, offset, size),

@@ -34,7 +34,7 @@ pub fn join_is_least()
 
 /// The state at the entry has eleven kinds.
 pub fn entry_has_eleven()
-    ensures { length entry_state ≡ 11 }
+    ensures { (len : ℕ) → length (entry_state len) ≡ 11 }
 {}
 
 /// The join of two states of as many registers has as many.
@@ -44,7 +44,7 @@ pub fn join_keeps_count()
 
 /// An instruction leaves a state of as many registers.
 pub fn transfer_keeps_count()
-    ensures { (i : Insn) (a b : List Kind) → transfer i a ≡ Ok b → length b ≡ length a }
+    ensures { (len : ℕ) (i : Insn) (a b : List Kind) → transfer len i a ≡ Ok b → length b ≡ length a }
 {}
 
 /// So does each edge of a branch.

@@ -1,11 +1,13 @@
 //! States: what is known of the eleven registers.
 
 ghost use Rattle.std.specs.Prelude.{◌≡◌, ◌↔◌, ◌<◌, ℕ, IsTrue, List, length, slice_set};
+ghost use Rattle.bq_meaning.specs.Place.{record_length};
 ghost use Rattle.bq_state.specs.Kinds.{StateCovers, kind_of, join_states, entry_state};
 
 use crate::kind::Kind;
 use crate::offsets::Offsets;
 use bq_insn::register::Register;
+use bq_meaning::placement::{FRAME_LENGTH, RECORD_LENGTH};
 use bq_range::range::Range;
 use std::marker::Model;
 
@@ -47,13 +49,13 @@ impl State {
     /// What is known at the entry of a run over a record: r1 points to the record and r2 is its
     /// length, r3 is any number, and r10 points to the end of the frame.
     pub fn entry() -> State
-        ensures { result ≡ entry_state }
+        ensures { result ≡ entry_state record_length }
     {
         State {
             kinds: [
                 Kind::Unset,
                 Kind::RecordPointer(Offsets::at(0)),
-                Kind::Number(Range::single(64)),
+                Kind::Number(Range::single(RECORD_LENGTH as u64)),
                 Kind::Number(Range::full()),
                 Kind::Unset,
                 Kind::Unset,
@@ -61,7 +63,7 @@ impl State {
                 Kind::Unset,
                 Kind::Unset,
                 Kind::Unset,
-                Kind::FramePointer(Offsets::at(512)),
+                Kind::FramePointer(Offsets::at(FRAME_LENGTH as i32)),
             ],
         }
     }

@@ -5,6 +5,7 @@ ghost use Rattle.bq_word.specs.Word.{bits_of, swap_bits, modulo};
 ghost use Rattle.bq_insn.specs.Insn.{extension_bits, extension_width};
 ghost use Rattle.bq_range.specs.Interval.{Interval, whole, all_words};
 ghost use Rattle.bq_range.specs.Table.{sign_extended};
+ghost use Rattle.bq_meaning.specs.Place.{record_length};
 ghost use Rattle.bq_meaning.specs.Memory.{size_bytes, signed_bytes};
 ghost use Rattle.bq_state.specs.Kinds.{kind_of};
 ghost use Rattle.bq_state.specs.Rules.{and_then, known, number, writable, allowed, ordered_range, operand_kind, taken_kind, loaded_state, transfer};
@@ -114,7 +115,7 @@ impl State {
         dst: Register,
         operand: Operand,
     ) -> Result<State, Rule>
-        ensures { result ≡ transfer (Insn.Alu width op dst operand) self.now }
+        ensures { result ≡ transfer record_length (Insn.Alu width op dst operand) self.now }
     {
         let a = self.taken(op, dst).known()?;
         let b = self.operand(operand).known()?;
@@ -133,28 +134,28 @@ impl State {
     }
 
     fn negate(&self, width: Width, dst: Register) -> Result<State, Rule>
-        ensures { result ≡ transfer (Insn.Negate width dst) self.now }
+        ensures { result ≡ transfer record_length (Insn.Negate width dst) self.now }
     {
         let range = self.source(dst, dst)?;
         Ok(self.with(dst, Kind::Number(Range::negate(width, range))))
     }
 
     fn extend(&self, extension: Extension, dst: Register, src: Register) -> Result<State, Rule>
-        ensures { result ≡ transfer (Insn.Extend extension dst src) self.now }
+        ensures { result ≡ transfer record_length (Insn.Extend extension dst src) self.now }
     {
         let range = self.source(dst, src)?;
         Ok(self.with(dst, Kind::Number(extended(extension, range))))
     }
 
     fn order(&self, order: ByteOrder, bits: SwapBits, dst: Register) -> Result<State, Rule>
-        ensures { result ≡ transfer (Insn.Order order bits dst) self.now }
+        ensures { result ≡ transfer record_length (Insn.Order order bits dst) self.now }
     {
         let range = self.source(dst, dst)?;
         Ok(self.with(dst, Kind::Number(ordered(order, bits, range))))
     }
 
     fn branch(&self, dst: Register, operand: Operand) -> Result<State, Rule>
-        ensures { (w : Width) (r : Relation) (z : ℤ) → result ≡ transfer (Insn.Branch w r dst operand z) self.now }
+        ensures { (w : Width) (r : Relation) (z : ℤ) → result ≡ transfer record_length (Insn.Branch w r dst operand z) self.now }
     {
         let a = self.kind(dst.number()).known()?;
         let b = self.operand(operand).known()?;
@@ -164,7 +165,7 @@ impl State {
     }
 
     fn exit(&self) -> Result<State, Rule>
-        ensures { result ≡ transfer Insn.Exit self.now }
+        ensures { result ≡ transfer record_length Insn.Exit self.now }
     {
         self.kind(0).known()?.number(Rule::AnswerKind)?;
         Ok(*self)
@@ -179,7 +180,7 @@ impl State {
         size: u32,
         range: Range,
     ) -> Result<State, Rule>
-        ensures { result ≡ loaded_state self.now dst base offset size range }
+        ensures { result ≡ loaded_state record_length self.now dst base offset size range }
     {
         let from = self.kind(base.number()).known()?;
         writable(dst)?;
@@ -188,7 +189,7 @@ impl State {
     }
 
     fn store(&self, size: Size, base: Register, offset: i16, value: Operand) -> Result<State, Rule>
-        ensures { result ≡ transfer (Insn.Store size base offset value) self.now }
+        ensures { result ≡ transfer record_length (Insn.Store size base offset value) self.now }
     {
         let to = self.kind(base.number()).known()?;
         let value = self.operand(value).known()?;
@@ -197,7 +198,7 @@ impl State {
     }
 
     fn wide(&self, dst: Register, value: u64) -> Result<State, Rule>
-        ensures { result ≡ transfer (Insn.Wide dst value) self.now }
+        ensures { result ≡ transfer record_length (Insn.Wide dst value) self.now }
     {
         writable(dst)?;
         Ok(self.with(dst, Kind::Number(Range::single(value))))
@@ -205,7 +206,7 @@ impl State {
 
     /// The state after an instruction, or the first rule that it breaks.
     pub fn transfer(&self, insn: &Insn) -> Result<State, Rule>
-        ensures { result ≡ transfer insn.now self.now }
+        ensures { result ≡ transfer record_length insn.now self.now }
     {
         match *insn {
             Insn::Alu {

@@ -1,4 +1,5 @@
--- The states that the verifier finds, and what it refuses.
+-- The states that the verifier finds, what it refuses, and why both are the best.
 pub mod States
 pub mod Refused
+pub mod Least
 pub mod Table

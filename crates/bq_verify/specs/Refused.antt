@@ -1,8 +1,9 @@
--- What the verifier refuses: the first fault of the flow, or the first rule that is broken, in rising order of the units.
+-- What the verifier refuses: the first fault of the flow, or the first rule that is broken, in rising order of units.
 use Rattle.std.specs.Prelude.{◌≡◌, ℕ, ◌<◌, List, Option, Some, Err}
 use Rattle.bq_insn.specs.declared.insn.Insn.{Insn}
 use Rattle.bq_flow.specs.Paths.{insn_at, IsLegalFlow}
 use Rattle.bq_flow.specs.Faults.{IsFirstFlowFault}
+use Rattle.bq_meaning.specs.Place.{record_length}
 use Rattle.bq_state.specs.declared.kind.Kind.{Kind}
 use Rattle.bq_state.specs.declared.rule.Rule.{Rule as BrokenRule}
 use Rattle.bq_state.specs.Rules.{transfer}
@@ -20,7 +21,7 @@ pub record IsFirstBroken (text : List Insn) (unit : ℕ) (rule : BrokenRule) : T
   pub there : insn_at text unit ≡ Some insn
   pub state : List Kind
   pub noted : note_at notes unit ≡ Some state
-  pub broken : transfer insn state ≡ Err rule
+  pub broken : transfer record_length insn state ≡ Err rule
 
 abbrev pub IsRefused : List Insn → CheckFault → Type 0
 IsRefused text (Flow unit rule) = IsFirstFlowFault text unit rule

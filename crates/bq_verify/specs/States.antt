@@ -4,6 +4,7 @@ use Rattle.std.specs.List.{fold}
 use Rattle.bq_insn.specs.Slots.{units}
 use Rattle.bq_insn.specs.declared.insn.Insn.{Insn}
 use Rattle.bq_flow.specs.Paths.{insn_at}
+use Rattle.bq_meaning.specs.Place.{record_length}
 use Rattle.bq_state.specs.declared.kind.Kind.{Kind}
 use Rattle.bq_state.specs.declared.rule.Rule.{Rule}
 use Rattle.bq_state.specs.Kinds.{join_states, entry_state}
@@ -25,7 +26,7 @@ edges_after unit i (Err rule) = []
 abbrev pub edges_from : ℕ → Option Insn → Option (List Kind) → List (ℕ × List Kind)
 edges_from unit None _ = []
 edges_from unit (Some i) None = []
-edges_from unit (Some i) (Some state) = edges_after unit i (transfer i state)
+edges_from unit (Some i) (Some state) = edges_after unit i (transfer record_length i state)
 
 -- the states on those edges that lead to a unit
 abbrev pub leading_to : ℕ → List (ℕ × List Kind) → List (List Kind)
@@ -34,7 +35,7 @@ leading_to unit (edge ∷ others) = (if edge.0 == unit then edge.1 ∷ [] else [
 
 -- the states that arrive at a unit from the units below n in rising order; at the first unit the entry's comes before
 abbrev pub arriving : List Insn → List (Option (List Kind)) → ℕ → ℕ → List (List Kind)
-arriving text notes unit zero = if unit == 0 then entry_state ∷ [] else []
+arriving text notes unit zero = if unit == 0 then entry_state record_length ∷ [] else []
 arriving text notes unit (suc n) = arriving text notes unit n ++ leading_to unit (edges_from n (insn_at text n) (note_at notes n))
 
 -- each unit's state is the join of what arrives at it from the units below n
@@ -45,4 +46,4 @@ pub record AreStates (text : List Insn) (notes : List (Option (List Kind))) (n :
 -- no instruction below n breaks a rule where it has a state
 pub record NoRuleBroken (text : List Insn) (notes : List (Option (List Kind))) (n : ℕ) : Type 0 where
   pub each : (unit : ℕ) (i : Insn) (state : List Kind) → unit < n → insn_at text unit ≡ Some i → note_at notes unit ≡ Some state
-      → (after : List Kind) × (transfer i state ≡ Ok after)
+      → (after : List Kind) × (transfer record_length i state ≡ Ok after)

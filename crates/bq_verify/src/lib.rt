@@ -6,13 +6,18 @@
 //! so that `bq_check::check` certifies the text with them. Else it names the first fault of the flow,
 //! or the first rule that an instruction breaks in its state.
 //!
+//! The notes are the best that there are: each state is covered by the state there of all notes that
+//! pass, and for a text that is refused, want of memory aside, no notes pass.
+//!
 //! [`state_at`] gives what is known where one instruction begins, from the units below it alone, so that it
 //! can be asked of the instruction that breaks a rule.
 //!
-//! The definitions are in `specs/`: `States` has the states of a text and `Refused` what is refused.
+//! The definitions are in `specs/`: `States` has the states of a text, `Refused` what is refused and
+//! `Least` what makes the states the best. `laws` has that they are, for all texts.
 //!
 //! [`verify`]: verify::verify
 //! [`state_at`]: verify::state_at
 #![tactic(auto)]
 
+pub mod laws;
 pub mod verify;

@@ -1,21 +1,22 @@
 //! The pass over the units.
 
-ghost use Rattle.std.specs.Prelude.{◌≡◌, ℕ, ◌<◌, ◌≤◌, ◌+◌, IfOk, IfErr, List, Option, Some, None, Ok, Err, [], ◌∷◌, length};
+ghost use Rattle.std.specs.Prelude.{◌≡◌, ◌≢◌, ℕ, ◌<◌, ◌≤◌, ◌+◌, IfOk, IfErr, List, Option, Some, None, Ok, Err, [], ◌∷◌, length};
 ghost use Rattle.bq_insn.specs.Slots.{units, IsText};
 ghost use Rattle.bq_flow.specs.Paths.{insn_at, IsLegalFlow};
+ghost use Rattle.bq_meaning.specs.Place.{record_length};
 ghost use Rattle.bq_state.specs.declared.kind.Kind.{Kind};
 ghost use Rattle.bq_state.specs.declared.rule.Rule.{Rule};
 ghost use Rattle.bq_state.specs.Kinds.{entry_state};
 ghost use Rattle.bq_state.specs.Rules.{transfer};
 ghost use Rattle.bq_state.specs.Edges.{edges};
 ghost use Rattle.bq_state.specs.Listed.{edge_list};
-ghost use Rattle.bq_sound.specs.Passes.{Passes, note_at, NoteCovers};
+ghost use Rattle.bq_sound.specs.Passes.{Passes, note_at};
 ghost use Rattle.bq_verify.specs.States.{AreStates, edges_from};
-ghost use Rattle.bq_insn.specs.declared.insn.Insn.{Insn};
-ghost use Rattle.bq_check.specs.declared.fault.CheckFault.{CheckFault};
 ghost use Rattle.bq_verify.specs.Refused.{IsRefused, IsBelow};
+ghost use Rattle.bq_verify.specs.Least.{AreLeast, NonePass};
 ghost use Rattle.bq_verify.specs.Table.{with_arrivals, IsFilled, AllWithin};
 
+use crate::laws::{refused_has_no_notes, states_are_least};
 use bq_check::fault::CheckFault;
 use bq_check::notes::Notes;
 use bq_flow::flow::Flow;
@@ -29,7 +30,7 @@ use std::alloc::{AllocError, Global};
 fn entered(alloc: Global, units: usize) -> Result<Vec<Option<State>>, AllocError>
     requires { 0 < units }
     ensures count { IfOk result (λ states. length states.items ≡ units) }
-    ensures first { IfOk result (λ states. note_at states.items 0 ≡ Some entry_state) }
+    ensures first { IfOk result (λ states. note_at states.items 0 ≡ Some (entry_state record_length)) }
     ensures others { IfOk result (λ states. (unit : ℕ) → 0 < unit → note_at states.items unit ≡ None) }
 {
     let mut states = vec![in alloc; None; units]?;
@@ -61,9 +62,9 @@ fn lead_on(
     state: State,
 ) -> Result<(), CheckFault>
     requires within { unit < 4096 }
-    requires edges { (after : List Kind) → transfer insn.now state ≡ Ok after → AllWithin states.old.items (edges unit insn.now after) }
-    ensures ok { IfOk result (λ _. (after : List Kind) × (transfer insn.now state ≡ Ok after) × (states.new.items ≡ with_arrivals states.old.items (edges unit insn.now after))) }
-    ensures err { IfErr result (λ fault. (rule : Rule) × (fault ≡ CheckFault.Rule unit rule) × (transfer insn.now state ≡ Err rule)) }
+    requires edges { (after : List Kind) → transfer record_length insn.now state ≡ Ok after → AllWithin states.old.items (edges unit insn.now after) }
+    ensures ok { IfOk result (λ _. (after : List Kind) × (transfer record_length insn.now state ≡ Ok after) × (states.new.items ≡ with_arrivals states.old.items (edges unit insn.now after))) }
+    ensures err { IfErr result (λ fault. (rule : Rule) × (fault ≡ CheckFault.Rule unit rule) × (transfer record_length insn.now state ≡ Err rule)) }
 {
     let after = match state.transfer(insn) {
         Ok(after) => after,
@@ -94,32 +95,26 @@ fn fill(alloc: Global, text: &Text, end: usize) -> Result<Vec<Option<State>>, Ch
     Ok(states)
 }
 
-/// The states of a text are covered by all notes that pass.
-pub fn least_of_all()
-    ensures { (text : List Insn) (notes more : List (Option (List Kind))) (unit : ℕ) (state : List Kind) → IsText text → AreStates text notes (units text) → Passes text more → note_at notes unit ≡ Some state → NoteCovers more (unit, state) }
-{}
-
-/// No notes of a text pass that is refused.
-pub fn none_of_all()
-    ensures { (text : List Insn) (more : List (Option (List Kind))) (fault : CheckFault) → IsText text → IsRefused text fault → (fault ≡ CheckFault.OutOfMemory → ⊥) → Passes text more → ⊥ }
-{}
-
 /// The notes of a text: in rising order of the units the state of each is the join of what its feasible
 /// predecessors leave, that of unit 0 of the entry too, and a unit that none of them reaches has none.
-/// They pass the checker.
+/// They pass the checker, and each is covered by the state there of all notes that pass: none say more.
 ///
 /// Refused with the first fault of the flow (11 Backward, 12 OutsideText, 13 IntoWide, 14 FallsOff), or
 /// with the first rule, in rising order of the units, that an instruction breaks in its state (23 to 28
-/// and 30); else with 99 OutOfMemory. One pass: its time is linear in the number of units.
+/// and 30): for such a text no notes pass. Else with 99 OutOfMemory. One pass: its time is linear in the number of
+/// units.
 pub fn verify(alloc: Global, text: &Text) -> Result<Notes, CheckFault>
+    // The states of the text. They pass, and say the most of all notes that pass.
     ensures states { IfOk result (λ notes. AreStates text.now notes (units text.now)) }
-    ensures passes { IfOk result (Passes text.now) }
-    ensures least { IfOk result (λ notes. (more : List (Option (List Kind))) (unit : ℕ) (state : List Kind) → Passes text.now more → note_at notes unit ≡ Some state → NoteCovers more (unit, state)) }
+    ensures passes { IfOk result (Passes record_length text.now) }
+    ensures least { IfOk result (AreLeast text.now) }
+
+    // What is refused, and no notes pass for it, unless memory ran out.
     ensures refused { IfErr result (IsRefused text.now) }
-    ensures none { IfErr result (λ fault. (fault ≡ CheckFault.OutOfMemory → ⊥) → (more : List (Option (List Kind))) → Passes text.now more → ⊥) }
+    ensures none { IfErr result (λ fault. fault ≢ CheckFault.OutOfMemory → NonePass text.now) }
 {
-    least_of_all();
-    none_of_all();
+    states_are_least();
+    refused_has_no_notes();
     let states = fill(alloc, text, text.units())?;
     Ok(Notes::new(states))
 }

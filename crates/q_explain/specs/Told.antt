@@ -2,6 +2,7 @@
 use Rattle.std.specs.Prelude.{◌⊎◌, ℕ, List, Option, Some, None}
 use Rattle.bq_insn.specs.declared.insn.Insn.{Insn}
 use Rattle.bq_flow.specs.declared.fault.FlowRule.{FlowRule}
+use Rattle.bq_meaning.specs.Place.{record_length}
 use Rattle.bq_state.specs.declared.kind.Kind.{Kind}
 use Rattle.bq_state.specs.declared.rule.Rule.{Rule as BrokenRule}
 use Rattle.bq_sound.specs.Passes.{Passes}
@@ -14,7 +15,7 @@ IsBroken text = (unit : ℕ) × (((rule : FlowRule) × IsRefused text (Flow unit
 
 -- the text has notes that pass
 abbrev pub HasNotes : List Insn → Type 0
-HasNotes text = (notes : List (Option (List Kind))) × Passes text notes
+HasNotes text = (notes : List (Option (List Kind))) × Passes record_length text notes
 
 -- something is told exactly of a text that is refused
 abbrev pub IsTold : {X : Type 0} → List Insn → Option X → Type 0

@@ -1,8 +1,6 @@
-use Rattle.std.proofs.Common.{◌≡◌, ◌∙◌, ◌+◌, ◌<◌, ◌≤◌, ℕ, List, arith, ap, sym, subst, refl}
-use Rattle.std.specs.Prelude.{Ok, Err, Result}
-use Rattle.bq_meaning.specs.declared.fault.Fault.{Fault}
+use Rattle.std.proofs.Common.{◌≡◌, ◌+◌, ℕ, arith, ap, subst}
+use Rattle.std.specs.Prelude.{Ok, Err}
 use Rattle.bq_meaning.specs.declared.fault.Fault.TheVariants.{StepsOut}
-use Rattle.bq_meaning.specs.declared.step.Step.{Step}
 use Rattle.bq_meaning.specs.declared.step.Step.TheVariants.{Ends}
 use Rattle.bq_meaning.specs.declared.run.Ended.{Ended}
 use Rattle.bq_meaning.specs.Runs.{RunFaults, entry_machine}

@@ -1,5 +1,6 @@
 use Rattle.std.proofs.Common.{ℕ, List, subst}
 use Rattle.std.specs.Prelude.{IfErr}
+use Rattle.bq_meaning.specs.Place.{record_length}
 use Rattle.bq_check.specs.Certificate.{Certificate}
 use Rattle.bq_sound.specs.Passes.{Passes}
 use Rattle.q_command.specs.Perform.{IsAccepted, IsProgram, IsUnlisted}
@@ -15,7 +16,7 @@ returns-in_ok-listed-in-Run-clause-refused g c =
       text = certificate.text;
       notes = certificate.notes;
       program = subst (λ (s : List ℕ). IsProgram s certificate.text) c.as_slice-in-Run.ensures.value c.in_ok-certified-in-Run.ensures.spelled;
-      passes = subst (λ (k : Certificate). Passes k.text k.notes) c.certified-in-Run.view_is c.certified-in-Run.invariant.passes;
+      passes = subst (λ (k : Certificate). Passes record_length k.text k.notes) c.certified-in-Run.view_is c.certified-in-Run.invariant.passes;
     } in
     let refused = subst (λ (s : List ℕ). IfErr c.computed.result (IsUnlisted s)) c.as_slice-in-Run-2.ensures.value c.computed.ensures.refused in
     run_refused g.F.Files.read_gives c.args.line.now c.in-Run.file c.in-Run.start c.in-Run.records source listed c.args.files.now c.read-in-Run.new.self

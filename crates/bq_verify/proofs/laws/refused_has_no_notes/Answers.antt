@@ -1,5 +1,5 @@
 use Rattle.bq_verify.proofs.Least.{none_pass}
-use Rattle.bq_verify.proofs.verify.none_of_all.Goals as goal
+use Rattle.bq_verify.proofs.laws.refused_has_no_notes.Goals as goal
 
 pub returns : goal.returns
 returns c = none_pass

@@ -1,0 +1,5 @@
+use Rattle.bq_verify.proofs.Least.{are_least}
+use Rattle.bq_verify.proofs.laws.states_are_least.Goals as goal
+
+pub returns : goal.returns
+returns c = are_least
