@@ -383,22 +383,34 @@ pub operated_full : (width : Width) (op : AluOp) (a b : Interval) → a.lo ≤ a
 operated_full width op a b o p =
     let w = bits_of width in
     full_of (operated w op a b) (operation w op a.lo b.lo) (operated_covers width op a b a.lo b.lo (record { low = omega arith; high = o }) (record { low = omega arith; high = p }))
-    (omega (arith, words width, one_fits w (operation w op a.lo b.lo) (is_single a && is_single b) (row w op (cut w a) (cut w b)) (operation_bound w op a.lo b.lo)
-    (row_fits width op (cut w a) (cut w b) (cut_ordered w a o) (cut_ordered w b p) (cut_bound w a) (cut_bound w b))))
+    (omega (
+      arith,
+      words width,
+      one_fits w (operation w op a.lo b.lo) (is_single a && is_single b) (row w op (cut w a) (cut w b)) (operation_bound w op a.lo b.lo)
+          (row_fits width op (cut w a) (cut w b) (cut_ordered w a o) (cut_ordered w b p) (cut_bound w a) (cut_bound w b)),
+    ))
 
 pub negated_full : (width : Width) (a : Interval) → a.lo ≤ a.hi → IsFull (negated (bits_of width) a)
 negated_full width a o =
     let w = bits_of width in
     full_of (negated w a) (operation w Sub 0 a.lo) (negated_covers w a a.lo (record { low = omega arith; high = o }))
-    (omega (arith, words width, one_fits w (operation w Sub 0 a.lo) (is_single a) (negatives w (cut w a)) (operation_bound w Sub 0 a.lo)
-    (cond_both (leb 1 (cut w a).lo) (between (2 ^ w - (cut w a).hi) (2 ^ w - (cut w a).lo)) (whole w) (λ (r : Interval). r.hi < 2 ^ w) (λ t. let k = leb-true 1 (cut w a).lo t in omega (arith, k, pow_pos w)) (λ _. whole_fits w))))
+    (omega (
+      arith,
+      words width,
+      one_fits w (operation w Sub 0 a.lo) (is_single a) (negatives w (cut w a)) (operation_bound w Sub 0 a.lo)
+          (cond_both (leb 1 (cut w a).lo) (between (2 ^ w - (cut w a).hi) (2 ^ w - (cut w a).lo)) (whole w) (λ (r : Interval). r.hi < 2 ^ w) (λ t. let k = leb-true 1 (cut w a).lo t in omega (arith, k, pow_pos w)) (λ _. whole_fits w)),
+    ))
 
 pub sign_extended_full : (from : SignBits) (to : Width) (a : Interval) → a.lo ≤ a.hi → IsFull (sign_extended (sign_bits from) (bits_of to) a)
 sign_extended_full from to a o =
     let w = bits_of to in
     full_of (sign_extended (sign_bits from) w a) (extended (sign_bits from) w a.lo) (sign_extended_covers from to a a.lo (record { low = omega arith; high = o }))
-    (omega (arith, words to, one_fits w (extended (sign_bits from) w a.lo) (is_single a) (extensions (sign_bits from) w (cut w a)) (extended_bound (sign_bits from) w a.lo)
-    (fits_either w (ltb (cut w a).hi (2 ^ (sign_bits from - 1))) (cut w a) (whole w) (cut_bound w a) (whole_fits w))))
+    (omega (
+      arith,
+      words to,
+      one_fits w (extended (sign_bits from) w a.lo) (is_single a) (extensions (sign_bits from) w (cut w a)) (extended_bound (sign_bits from) w a.lo)
+          (fits_either w (ltb (cut w a).hi (2 ^ (sign_bits from - 1))) (cut w a) (whole w) (cut_bound w a) (whole_fits w)),
+    ))
 
 order_words : (bits : SwapBits) → 2 ^ swap_bits bits ≤ 2 ^ 64
 order_words B16 = omega arith
@@ -409,8 +421,12 @@ pub low_range_full : (bits : SwapBits) (a : Interval) → a.lo ≤ a.hi → IsFu
 low_range_full bits a o =
     let n = swap_bits bits in
     full_of (low_range n a) (low n a.lo) (low_range_covers n a a.lo (record { low = omega arith; high = o }))
-    (omega (arith, order_words bits, one_fits n (low n a.lo) (is_single a) (cond (ltb a.hi (2 ^ n)) a (whole n)) (low_bound n a.lo)
-    (cond_both (ltb a.hi (2 ^ n)) a (whole n) (λ (r : Interval). r.hi < 2 ^ n) (λ t. ltb-true a.hi (2 ^ n) t) (λ _. whole_fits n))))
+    (omega (
+      arith,
+      order_words bits,
+      one_fits n (low n a.lo) (is_single a) (cond (ltb a.hi (2 ^ n)) a (whole n)) (low_bound n a.lo)
+          (cond_both (ltb a.hi (2 ^ n)) a (whole n) (λ (r : Interval). r.hi < 2 ^ n) (λ t. ltb-true a.hi (2 ^ n) t) (λ _. whole_fits n)),
+    ))
 
 pub swapped_range_full : (bits : SwapBits) (a : Interval) → a.lo ≤ a.hi → IsFull (swapped_range (swap_bits bits) a)
 swapped_range_full bits a o =
