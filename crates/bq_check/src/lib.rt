@@ -36,4 +36,5 @@ pub mod laws;
 pub mod notes;
 mod reading;
 mod run;
+pub mod worked;
 mod writing;

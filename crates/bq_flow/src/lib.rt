@@ -31,3 +31,4 @@ pub mod flow;
 pub mod laws;
 mod longest;
 pub mod successors;
+pub mod worked;

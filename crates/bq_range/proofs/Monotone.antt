@@ -1,10 +1,10 @@
--- Smaller operands leave smaller results.
-use Rattle.std.proofs.Common.{◌≡◌, ℕ, ◌+◌, ◌-◌, ◌*◌, ◌/◌, ◌%◌, ◌^◌, ◌<◌, ◌≤◌, Bool, true, false, cond, eqb, ltb, leb, arith, ap, subst, sym, ◌∙◌, inl, inr, ◌⊎◌, refl, ◌&&◌, ◌||◌}
-use Rattle.std.specs.Prelude.{max, min}
-use Rattle.std.proofs.lemmas.Bool.{cond_both, true≢false, lt-ltb, le-leb, ltb-true, ltb-false, leb-true, leb-false, eqb-true, eqb-false, eq-eqb, or_cases, and_parts, cases_lt, cases_eq, cases_Bool}
+-- Smaller operands leave smaller results, row by row, and ranges of words leave ranges of words.
+use Rattle.std.proofs.Common.{◌≡◌, ℕ, ◌+◌, ◌-◌, ◌*◌, ◌/◌, ◌%◌, ◌^◌, ◌<◌, ◌≤◌, Bool, true, false, cond, eqb, ltb, leb, arith, ap, sym, ◌∙◌, inl, inr, ◌⊎◌, refl, ◌&&◌, ◌||◌}
+use Rattle.std.specs.Prelude.{max}
+use Rattle.std.proofs.lemmas.Bool.{cond_both, true≢false, lt-ltb, le-leb, eqb-true, eqb-false, eq-eqb, and_parts}
 use Rattle.std.proofs.lemmas.Nat.{mul-le, pow_pos, shr_le}
 use Rattle.std.proofs.Math.Bool.{or-true}
-use Rattle.std.proofs.Math.Nat.{mod-eq_of_lt, div-le_self, mod-le, div-add-mod}
+use Rattle.std.proofs.Math.Nat.{div-le_self}
 use Rattle.bq_word.specs.Word.{operation, bits_of, low, extended, swapped, sign_bits, swap_bits}
 use Rattle.bq_word.specs.declared.SignBits.{SignBits}
 use Rattle.bq_word.specs.declared.SwapBits.{SwapBits}
@@ -16,9 +16,9 @@ use Rattle.bq_word.specs.declared.AluOp.TheVariants.{Add, Sub, Mul, Div, SignedD
 use Rattle.bq_word.proofs.Bounds.{low_bound, operation_bound, extended_bound, swapped_bound}
 use Rattle.bq_range.specs.Interval.{Interval, IsIn, Within, between, single, is_single, top, whole, cut}
 use Rattle.bq_range.specs.Table.{operated, row, sums, differences, products, quotients, remainders, ones, conjunctions, disjunctions, exclusive_disjunctions, shifted_left, left_shifts, right_shifts, arithmetic_right_shifts, negatives, negated, extensions, sign_extended, low_range, swapped_range}
-use Rattle.bq_range.proofs.Held.{div_mono, words}
+use Rattle.bq_range.proofs.Held.{choose_le, choose_lt, itself, div_mono, words}
 use Rattle.bq_range.proofs.Ones.{ones_above, ones_least, ones_power}
-use Rattle.bq_range.proofs.Rows.{shift_mono, sides, plain}
+use Rattle.bq_range.proofs.Rows.{shifts_by, sides, plain}
 use Rattle.bq_range.proofs.Covers.{cut_covers, cut_bound, operated_covers, negated_covers, sign_extended_covers, low_range_covers, swapped_range_covers}
 
 -- ---- choices
@@ -30,22 +30,36 @@ large : (t : Bool) (u v r : Interval) → (t ≡ true → Within r u) → (t ≡
 large t u v r = cond_both t u v (λ x. Within r x)
 
 small_le : (i j : ℕ) (u v r : Interval) → (i ≤ j → Within u r) → (j < i → Within v r) → Within (cond (leb i j) u v) r
-small_le i j u v r f g = small (leb i j) u v r (λ e. f (leb-true i j e)) (λ e. g (leb-false i j e))
+small_le i j u v r = choose_le (λ x. Within x r) i j u v
 
 small_lt : (i j : ℕ) (u v r : Interval) → (i < j → Within u r) → (j ≤ i → Within v r) → Within (cond (ltb i j) u v) r
-small_lt i j u v r f g = small (ltb i j) u v r (λ e. f (ltb-true i j e)) (λ e. g (ltb-false i j e))
+small_lt i j u v r = choose_lt (λ x. Within x r) i j u v
 
 large_le : (i j : ℕ) (u v r : Interval) → (i ≤ j → Within r u) → (j < i → Within r v) → Within r (cond (leb i j) u v)
-large_le i j u v r f g = large (leb i j) u v r (λ e. f (leb-true i j e)) (λ e. g (leb-false i j e))
+large_le i j u v r = choose_le (Within r) i j u v
 
 large_lt : (i j : ℕ) (u v r : Interval) → (i < j → Within r u) → (j ≤ i → Within r v) → Within r (cond (ltb i j) u v)
-large_lt i j u v r f g = large (ltb i j) u v r (λ e. f (ltb-true i j e)) (λ e. g (ltb-false i j e))
+large_lt i j u v r = choose_lt (Within r) i j u v
+
+-- a range of numbers of w bits
+abbrev Fits : ℕ → Interval → Type 0
+Fits w r = r.hi < 2 ^ w
+
+whole_fits : (w : ℕ) → Fits w (whole w)
+whole_fits w = omega (arith, pow_pos w)
+
+fits_either : (w : ℕ) (t : Bool) (u v : Interval) → Fits w u → Fits w v → Fits w (cond t u v)
+fits_either w t u v h k = cond_both t u v (Fits w) (λ _. h) (λ _. k)
 
 in_whole : (w : ℕ) (r : Interval) → r.hi < 2 ^ w → Within r (whole w)
 in_whole w r h = record { low = omega arith; high = omega arith }
 
-itself : (a : Interval) → Within a a
-itself a = record { low = omega arith; high = omega arith }
+-- the ends of a range lie in a larger one
+least_of : (a c : Interval) → a.lo ≤ a.hi → Within a c → IsIn a.lo c
+least_of a c o l = record { low = l.low; high = omega (arith, o, l.high) }
+
+greatest_of : (a c : Interval) → a.lo ≤ a.hi → Within a c → IsIn a.hi c
+greatest_of a c o l = record { low = omega (arith, o, l.low); high = l.high }
 
 -- what is common to the rows: ranges that are not empty, of numbers of the width, each inside the other
 record Inside (w : ℕ) (a b c d : Interval) : Type 0 where
@@ -56,11 +70,10 @@ record Inside (w : ℕ) (a b c d : Interval) : Type 0 where
   left : Within a c
   right : Within b d
 
-sums_fit : (w : ℕ) (a b : Interval) → a.hi < 2 ^ w → b.hi < 2 ^ w → (sums w a b).hi < 2 ^ w
+sums_fit : (w : ℕ) (a b : Interval) → Fits w a → Fits w b → Fits w (sums w a b)
 sums_fit w a b h k =
-    cond_both (leb (a.hi + b.hi) (top w)) (between (a.lo + b.lo) (a.hi + b.hi)) _ (λ r. r.hi < 2 ^ w)
-    (λ e. let s = leb-true (a.hi + b.hi) (top w) e in omega (arith, s, pow_pos w))
-    (λ e. cond_both (ltb (top w) (a.lo + b.lo)) (between (a.lo + b.lo - 2 ^ w) (a.hi + b.hi - 2 ^ w)) (whole w) (λ r. r.hi < 2 ^ w) (λ t. omega arith) (λ t. omega (arith, pow_pos w)))
+    choose_le (Fits w) (a.hi + b.hi) (top w) _ _ (λ s. omega (arith, s, pow_pos w))
+    (λ _. choose_lt (Fits w) (top w) (a.lo + b.lo) _ (whole w) (λ _. omega arith) (λ _. whole_fits w))
 
 sums_within : (w : ℕ) (a b c d : Interval) → Inside w a b c d → Within (sums w a b) (sums w c d)
 sums_within w a b c d h =
@@ -75,12 +88,10 @@ sums_within w a b c d h =
     (λ u. small_lt (top w) (a.lo + b.lo) _ _ _ (λ v. record { low = omega (arith, l.low, r.low); high = omega (arith, l.high, r.high) }) (λ v. absurd (omega (arith, l.low, r.low)))))
     (λ t. in_whole w (sums w a b) (sums_fit w a b ah bh)))
 
-differences_fit : (w : ℕ) (a b : Interval) → a.hi < 2 ^ w → b.hi < 2 ^ w → (differences w a b).hi < 2 ^ w
+differences_fit : (w : ℕ) (a b : Interval) → Fits w a → Fits w b → Fits w (differences w a b)
 differences_fit w a b h k =
-    cond_both (leb b.hi a.lo) (between (a.lo - b.hi) (a.hi - b.lo)) _ (λ r. r.hi < 2 ^ w)
-    (λ e. omega arith)
-    (λ e. cond_both (ltb a.hi b.lo) (between (2 ^ w + a.lo - b.hi) (2 ^ w + a.hi - b.lo)) (whole w) (λ r. r.hi < 2 ^ w)
-    (λ t. let s = ltb-true a.hi b.lo t in omega (arith, s)) (λ t. omega (arith, pow_pos w)))
+    choose_le (Fits w) b.hi a.lo _ _ (λ _. omega arith)
+    (λ _. choose_lt (Fits w) a.hi b.lo _ (whole w) (λ s. omega (arith, s)) (λ _. whole_fits w))
 
 differences_within : (w : ℕ) (a b c d : Interval) → Inside w a b c d → Within (differences w a b) (differences w c d)
 differences_within w a b c d h =
@@ -95,11 +106,8 @@ differences_within w a b c d h =
     (λ u. small_lt a.hi b.lo _ _ _ (λ v. record { low = omega (arith, l.low, r.high, h.d_fits); high = omega (arith, l.high, r.low, h.d_fits, bh, h.b_ordered) }) (λ v. absurd (omega (arith, l.high, r.low, h.b_ordered, h.a_ordered)))))
     (λ t. in_whole w (differences w a b) (differences_fit w a b ah bh)))
 
-products_fit : (w : ℕ) (a b : Interval) → (products w a b).hi < 2 ^ w
-products_fit w a b =
-    cond_both (leb (a.hi * b.hi) (top w)) (between (a.lo * b.lo) (a.hi * b.hi)) (whole w) (λ r. r.hi < 2 ^ w)
-    (λ e. let s = leb-true (a.hi * b.hi) (top w) e in omega (arith, s, pow_pos w))
-    (λ e. omega (arith, pow_pos w))
+products_fit : (w : ℕ) (a b : Interval) → Fits w (products w a b)
+products_fit w a b = choose_le (Fits w) (a.hi * b.hi) (top w) _ (whole w) (λ s. omega (arith, s, pow_pos w)) (λ _. whole_fits w)
 
 products_within : (w : ℕ) (a b c d : Interval) → Within a c → Within b d → Within (products w a b) (products w c d)
 products_within w a b c d l r =
@@ -157,11 +165,11 @@ large_single b d u v r f g = large (is_single d) u v r (λ e. f (eqb-true d.lo d
 is_also_single : (b d : Interval) → b.lo ≤ b.hi → Within b d → d.lo ≡ d.hi → (is_single b ≡ true) × (b.lo ≡ d.lo)
 is_also_single b d o r e = (eq-eqb b.lo b.hi (omega (arith, r.low, r.high)), omega (arith, r.low, r.high))
 
-shifted_left_fits : (w : ℕ) (a : Interval) (n : ℕ) → (shifted_left w a n).hi < 2 ^ w
+shifted_left_fits : (w : ℕ) (a : Interval) (n : ℕ) → Fits w (shifted_left w a n)
 shifted_left_fits w a n = products_fit w a (single (2 ^ n))
 
-left_shifts_fit : (w : ℕ) (a b : Interval) → (left_shifts w a b).hi < 2 ^ w
-left_shifts_fit w a b = cond_both (is_single b) (shifted_left w a (b.lo % w)) (whole w) (λ r. r.hi < 2 ^ w) (λ _. shifted_left_fits w a (b.lo % w)) (λ _. omega (arith, pow_pos w))
+left_shifts_fit : (w : ℕ) (a b : Interval) → Fits w (left_shifts w a b)
+left_shifts_fit w a b = fits_either w (is_single b) (shifted_left w a (b.lo % w)) (whole w) (shifted_left_fits w a (b.lo % w)) (whole_fits w)
 
 left_shifts_within : (w : ℕ) (a b c d : Interval) → b.lo ≤ b.hi → Within a c → Within b d → Within (left_shifts w a b) (left_shifts w c d)
 left_shifts_within w a b c d o l r =
@@ -185,13 +193,7 @@ right_shifts_within w a b c d o l r =
 abbrev shifts : ℕ → Interval → ℕ → Interval
 shifts w a n = between (operation w ArithmeticShiftRight a.lo n) (operation w ArithmeticShiftRight a.hi n)
 
-fits_either : (w : ℕ) (t : Bool) (u v : Interval) → u.hi < 2 ^ w → v.hi < 2 ^ w → (cond t u v).hi < 2 ^ w
-fits_either w t u v h k = cond_both t u v (λ (r : Interval). r.hi < 2 ^ w) (λ _. h) (λ _. k)
-
-whole_fits : (w : ℕ) → (whole w).hi < 2 ^ w
-whole_fits w = omega (arith, pow_pos w)
-
-arithmetic_fit : (w : ℕ) (a b : Interval) → a.hi < 2 ^ w → (arithmetic_right_shifts w a b).hi < 2 ^ w
+arithmetic_fit : (w : ℕ) (a b : Interval) → Fits w a → Fits w (arithmetic_right_shifts w a b)
 arithmetic_fit w a b h =
     fits_either w (is_single b) _ _
     (fits_either w (ltb a.hi (2 ^ (w - 1)) || leb (2 ^ (w - 1)) a.lo) (shifts w a b.lo) (whole w) (operation_bound w ArithmeticShiftRight a.hi b.lo) (whole_fits w))
@@ -206,9 +208,9 @@ test_of w a side = elim side [ inl h ↦ rw (lt-ltb a.hi (2 ^ (w - 1)) h) refl |
 
 shifts_within : (w : ℕ) (a c : Interval) (n : ℕ) → c.hi < 2 ^ w → a.lo ≤ a.hi → Within a c → (c.hi < 2 ^ (w - 1)) ⊎ (2 ^ (w - 1) ≤ c.lo) → Within (shifts w a n) (shifts w c n)
 shifts_within w a c n fits o l side =
-    let low : (a.lo < 2 ^ (w - 1)) ⊎ (2 ^ (w - 1) ≤ c.lo) = elim side [ inl h ↦ inl (omega (arith, l.high, o)) | inr h ↦ inr h ] in
-    let high : (c.hi < 2 ^ (w - 1)) ⊎ (2 ^ (w - 1) ≤ a.hi) = elim side [ inl h ↦ inl h | inr h ↦ inr (omega (arith, l.low, o)) ] in
-    record { low = shift_mono w c.lo a.lo n l.low (omega (arith, l.high, o)) low; high = shift_mono w a.hi c.hi n l.high fits high }
+    let low = shifts_by w c a.lo n fits (least_of a c o l) side in
+    let high = shifts_by w c a.hi n fits (greatest_of a c o l) side in
+    record { low = low.low; high = high.high }
 
 arithmetic_within : (w : ℕ) (a b c d : Interval) → Inside w a b c d → Within (arithmetic_right_shifts w a b) (arithmetic_right_shifts w c d)
 arithmetic_within w a b c d h =
@@ -254,21 +256,17 @@ cut_ordered w a o = let h = cut_covers w a a.lo (record { low = omega arith; hig
 
 cut_within : (w : ℕ) (a c : Interval) → a.lo ≤ a.hi → Within a c → Within (cut w a) (cut w c)
 cut_within w a c o l =
-    large (eqb (c.lo / 2 ^ w) (c.hi / 2 ^ w)) (between (low w c.lo) (low w c.hi)) (whole w) (cut w a)
+    small (eqb (a.lo / 2 ^ w) (a.hi / 2 ^ w)) (between (low w a.lo) (low w a.hi)) (whole w) (cut w c)
+    (λ _. let least = cut_covers w c a.lo (least_of a c o l) in
+    let greatest = cut_covers w c a.hi (greatest_of a c o l) in
+    record { low = least.low; high = greatest.high })
+    (λ f. large (eqb (c.lo / 2 ^ w) (c.hi / 2 ^ w)) (between (low w c.lo) (low w c.hi)) (whole w) (whole w)
     (λ t. let e = eqb-true (c.lo / 2 ^ w) (c.hi / 2 ^ w) t in
-    let p : c.lo / 2 ^ w ≤ a.lo / 2 ^ w = div_mono c.lo a.lo (2 ^ w) (2 ^ w) l.low (omega arith) (pow_pos w) in
-    let q : a.lo / 2 ^ w ≤ a.hi / 2 ^ w = div_mono a.lo a.hi (2 ^ w) (2 ^ w) o (omega arith) (pow_pos w) in
-    let s : a.hi / 2 ^ w ≤ c.hi / 2 ^ w = div_mono a.hi c.hi (2 ^ w) (2 ^ w) l.high (omega arith) (pow_pos w) in
-    let u : 2 ^ w * (c.lo / 2 ^ w) ≡ 2 ^ w * (a.lo / 2 ^ w) = ap (λ (n : ℕ). 2 ^ w * n) (omega (arith, e, p, q, s)) in
-    let v : 2 ^ w * (c.lo / 2 ^ w) ≡ 2 ^ w * (a.hi / 2 ^ w) = ap (λ (n : ℕ). 2 ^ w * n) (omega (arith, e, p, q, s)) in
-    let x : 2 ^ w * (c.lo / 2 ^ w) ≡ 2 ^ w * (c.hi / 2 ^ w) = ap (λ (n : ℕ). 2 ^ w * n) e in
-    let same : a.lo / 2 ^ w ≡ a.hi / 2 ^ w = omega (arith, e, p, q, s) in
-    rw (eq-eqb (a.lo / 2 ^ w) (a.hi / 2 ^ w) same)
-    (record {
-      low = omega (arith, l.low, u, div-add-mod a.lo (2 ^ w), div-add-mod c.lo (2 ^ w));
-      high = omega (arith, l.high, v, x, div-add-mod a.hi (2 ^ w), div-add-mod c.hi (2 ^ w));
-    }))
-    (λ _. in_whole w (cut w a) (cut_bound w a))
+    let p = div_mono c.lo a.lo (2 ^ w) (2 ^ w) l.low (omega arith) (pow_pos w) in
+    let q = div_mono a.lo a.hi (2 ^ w) (2 ^ w) o (omega arith) (pow_pos w) in
+    let s = div_mono a.hi c.hi (2 ^ w) (2 ^ w) l.high (omega arith) (pow_pos w) in
+    absurd (eqb-false (a.lo / 2 ^ w) (a.hi / 2 ^ w) f (omega (arith, e, p, q, s))))
+    (λ _. itself (whole w)))
 
 -- ---- two operands
 
@@ -280,7 +278,7 @@ pub operated_within : (width : Width) (op : AluOp) (a b c d : Interval) → a.lo
 operated_within width op a b c d o p l r =
     let w = bits_of width in
     small (is_single a && is_single b) (single (operation w op a.lo b.lo)) (row w op (cut w a) (cut w b)) (operated w op c d)
-    (λ _. one_word (operation w op a.lo b.lo) (operated w op c d) (operated_covers width op c d a.lo b.lo (record { low = l.low; high = omega (arith, o, l.high) }) (record { low = r.low; high = omega (arith, p, r.high) })))
+    (λ _. one_word (operation w op a.lo b.lo) (operated w op c d) (operated_covers width op c d a.lo b.lo (least_of a c o l) (least_of b d p r)))
     (λ f. large (is_single c && is_single d) (single (operation w op c.lo d.lo)) (row w op (cut w c) (cut w d)) (row w op (cut w a) (cut w b))
     (λ t. let (i, j) = and_parts (is_single c) (is_single d) t in
     let s = is_also_single a c o l (eqb-true c.lo c.hi i) in
@@ -309,14 +307,17 @@ of_one f a c u v o l h k =
     (λ t. let s = is_also_single a c o l (eqb-true c.lo c.hi t) in absurd (true≢false (sym s.0 ∙ n)))
     (λ _. k))
 
-least_of : (a c : Interval) → a.lo ≤ a.hi → Within a c → IsIn a.lo c
-least_of a c o l = record { low = l.low; high = omega (arith, o, l.high) }
+negatives_fit : (w : ℕ) (a : Interval) → Fits w (negatives w a)
+negatives_fit w a = choose_le (Fits w) 1 a.lo _ (whole w) (λ s. omega (arith, s, pow_pos w)) (λ _. whole_fits w)
 
-negatives_within : (w : ℕ) (a c : Interval) → a.lo ≤ a.hi → c.hi < 2 ^ w → Within a c → Within (negatives w a) (negatives w c)
+negatives_within : (w : ℕ) (a c : Interval) → a.lo ≤ a.hi → Fits w c → Within a c → Within (negatives w a) (negatives w c)
 negatives_within w a c o fits l =
     large_le 1 c.lo _ _ _
     (λ s. small_le 1 a.lo _ _ _ (λ t. record { low = omega (arith, l.high); high = omega (arith, l.low, o) }) (λ t. absurd (omega (arith, l.low))))
-    (λ s. in_whole w (negatives w a) (cond_both (leb 1 a.lo) (between (2 ^ w - a.hi) (2 ^ w - a.lo)) (whole w) (λ (r : Interval). r.hi < 2 ^ w) (λ t. let k = leb-true 1 a.lo t in omega (arith, k, pow_pos w)) (λ _. whole_fits w)))
+    (λ s. in_whole w (negatives w a) (negatives_fit w a))
+
+extensions_fit : (n w : ℕ) (a : Interval) → Fits w (extensions n w (cut w a))
+extensions_fit n w a = fits_either w (ltb (cut w a).hi (2 ^ (n - 1))) (cut w a) (whole w) (cut_bound w a) (whole_fits w)
 
 pub negated_within : (w : ℕ) (a c : Interval) → a.lo ≤ a.hi → Within a c → Within (negated w a) (negated w c)
 negated_within w a c o l =
@@ -330,7 +331,7 @@ sign_extended_within from to a c o l =
     of_one (λ n. extended (sign_bits from) w n) a c (extensions (sign_bits from) w (cut w a)) (extensions (sign_bits from) w (cut w c)) o l (sign_extended_covers from to c a.lo (least_of a c o l))
     (large_lt (cut w c).hi (2 ^ (sign_bits from - 1)) (cut w c) (whole w) (extensions (sign_bits from) w (cut w a))
     (λ s. small_lt (cut w a).hi (2 ^ (sign_bits from - 1)) (cut w a) (whole w) (cut w c) (λ _. k) (λ t. absurd (omega (arith, k.high))))
-    (λ s. in_whole w (extensions (sign_bits from) w (cut w a)) (fits_either w (ltb (cut w a).hi (2 ^ (sign_bits from - 1))) (cut w a) (whole w) (cut_bound w a) (whole_fits w))))
+    (λ s. in_whole w (extensions (sign_bits from) w (cut w a)) (extensions_fit (sign_bits from) w a)))
 
 pub low_range_within : (n : ℕ) (a c : Interval) → a.lo ≤ a.hi → Within a c → Within (low_range n a) (low_range n c)
 low_range_within n a c o l =
@@ -348,13 +349,11 @@ swapped_range_within bits a c o l =
 abbrev pub IsFull : Interval → Type 0
 IsFull a = (a.lo ≤ a.hi) × (a.hi < 2 ^ 64)
 
-full_of : (a : Interval) (x : ℕ) → IsIn x a → a.hi < 2 ^ 64 → IsFull a
-full_of a x h k = (omega (arith, h.low, h.high), k)
+-- of one word a number, or else a range of numbers of the width
+full_of_one : (w n : ℕ) (t : Bool) (v : Interval) → 2 ^ w ≤ 2 ^ 64 → n < 2 ^ w → Fits w v → IsIn n (cond t (single n) v) → IsFull (cond t (single n) v)
+full_of_one w n t v p h k l = (omega (arith, l.low, l.high), omega (arith, p, fits_either w t (single n) v h k))
 
-one_fits : (w n : ℕ) (t : Bool) (v : Interval) → n < 2 ^ w → v.hi < 2 ^ w → (cond t (single n) v).hi < 2 ^ w
-one_fits w n t v h k = fits_either w t (single n) v h k
-
-row_whole : (width : Width) (op : AluOp) → (row (bits_of width) op (whole (bits_of width)) (whole (bits_of width))).hi < 2 ^ bits_of width
+row_whole : (width : Width) (op : AluOp) → Fits (bits_of width) (row (bits_of width) op (whole (bits_of width)) (whole (bits_of width)))
 row_whole width Add = sums_fit (bits_of width) (whole (bits_of width)) (whole (bits_of width)) (whole_fits (bits_of width)) (whole_fits (bits_of width))
 row_whole width Sub = differences_fit (bits_of width) (whole (bits_of width)) (whole (bits_of width)) (whole_fits (bits_of width)) (whole_fits (bits_of width))
 row_whole width Mul = products_fit (bits_of width) (whole (bits_of width)) (whole (bits_of width))
@@ -382,23 +381,20 @@ row_fits width op a b o p h k =
 pub operated_full : (width : Width) (op : AluOp) (a b : Interval) → a.lo ≤ a.hi → b.lo ≤ b.hi → IsFull (operated (bits_of width) op a b)
 operated_full width op a b o p =
     let w = bits_of width in
-    full_of (operated w op a b) (operation w op a.lo b.lo) (operated_covers width op a b a.lo b.lo (record { low = omega arith; high = o }) (record { low = omega arith; high = p }))
-    (omega (arith, words width, one_fits w (operation w op a.lo b.lo) (is_single a && is_single b) (row w op (cut w a) (cut w b)) (operation_bound w op a.lo b.lo)
-    (row_fits width op (cut w a) (cut w b) (cut_ordered w a o) (cut_ordered w b p) (cut_bound w a) (cut_bound w b))))
+    full_of_one w (operation w op a.lo b.lo) (is_single a && is_single b) (row w op (cut w a) (cut w b)) (words width) (operation_bound w op a.lo b.lo)
+    (row_fits width op (cut w a) (cut w b) (cut_ordered w a o) (cut_ordered w b p) (cut_bound w a) (cut_bound w b))
+    (operated_covers width op a b a.lo b.lo (least_of a a o (itself a)) (least_of b b p (itself b)))
 
 pub negated_full : (width : Width) (a : Interval) → a.lo ≤ a.hi → IsFull (negated (bits_of width) a)
 negated_full width a o =
     let w = bits_of width in
-    full_of (negated w a) (operation w Sub 0 a.lo) (negated_covers w a a.lo (record { low = omega arith; high = o }))
-    (omega (arith, words width, one_fits w (operation w Sub 0 a.lo) (is_single a) (negatives w (cut w a)) (operation_bound w Sub 0 a.lo)
-    (cond_both (leb 1 (cut w a).lo) (between (2 ^ w - (cut w a).hi) (2 ^ w - (cut w a).lo)) (whole w) (λ (r : Interval). r.hi < 2 ^ w) (λ t. let k = leb-true 1 (cut w a).lo t in omega (arith, k, pow_pos w)) (λ _. whole_fits w))))
+    full_of_one w (operation w Sub 0 a.lo) (is_single a) (negatives w (cut w a)) (words width) (operation_bound w Sub 0 a.lo) (negatives_fit w (cut w a)) (negated_covers w a a.lo (least_of a a o (itself a)))
 
 pub sign_extended_full : (from : SignBits) (to : Width) (a : Interval) → a.lo ≤ a.hi → IsFull (sign_extended (sign_bits from) (bits_of to) a)
 sign_extended_full from to a o =
     let w = bits_of to in
-    full_of (sign_extended (sign_bits from) w a) (extended (sign_bits from) w a.lo) (sign_extended_covers from to a a.lo (record { low = omega arith; high = o }))
-    (omega (arith, words to, one_fits w (extended (sign_bits from) w a.lo) (is_single a) (extensions (sign_bits from) w (cut w a)) (extended_bound (sign_bits from) w a.lo)
-    (fits_either w (ltb (cut w a).hi (2 ^ (sign_bits from - 1))) (cut w a) (whole w) (cut_bound w a) (whole_fits w))))
+    let n = sign_bits from in
+    full_of_one w (extended n w a.lo) (is_single a) (extensions n w (cut w a)) (words to) (extended_bound n w a.lo) (extensions_fit n w a) (sign_extended_covers from to a a.lo (least_of a a o (itself a)))
 
 order_words : (bits : SwapBits) → 2 ^ swap_bits bits ≤ 2 ^ 64
 order_words B16 = omega arith
@@ -408,12 +404,11 @@ order_words B64 = omega arith
 pub low_range_full : (bits : SwapBits) (a : Interval) → a.lo ≤ a.hi → IsFull (low_range (swap_bits bits) a)
 low_range_full bits a o =
     let n = swap_bits bits in
-    full_of (low_range n a) (low n a.lo) (low_range_covers n a a.lo (record { low = omega arith; high = o }))
-    (omega (arith, order_words bits, one_fits n (low n a.lo) (is_single a) (cond (ltb a.hi (2 ^ n)) a (whole n)) (low_bound n a.lo)
-    (cond_both (ltb a.hi (2 ^ n)) a (whole n) (λ (r : Interval). r.hi < 2 ^ n) (λ t. ltb-true a.hi (2 ^ n) t) (λ _. whole_fits n))))
+    full_of_one n (low n a.lo) (is_single a) (cond (ltb a.hi (2 ^ n)) a (whole n)) (order_words bits) (low_bound n a.lo)
+    (choose_lt (Fits n) a.hi (2 ^ n) a (whole n) (λ s. s) (λ _. whole_fits n))
+    (low_range_covers n a a.lo (least_of a a o (itself a)))
 
 pub swapped_range_full : (bits : SwapBits) (a : Interval) → a.lo ≤ a.hi → IsFull (swapped_range (swap_bits bits) a)
 swapped_range_full bits a o =
     let n = swap_bits bits in
-    full_of (swapped_range n a) (swapped n a.lo) (swapped_range_covers bits a a.lo (record { low = omega arith; high = o }))
-    (omega (arith, order_words bits, one_fits n (swapped n a.lo) (is_single a) (whole n) (swapped_bound bits a.lo) (whole_fits n)))
+    full_of_one n (swapped n a.lo) (is_single a) (whole n) (order_words bits) (swapped_bound bits a.lo) (whole_fits n) (swapped_range_covers bits a a.lo (least_of a a o (itself a)))

@@ -1,7 +1,8 @@
 -- Smaller operands leave less on each edge of a branch.
-use Rattle.std.proofs.Common.{◌≡◌, ℕ, ◌+◌, ◌^◌, ◌<◌, ◌≤◌, Bool, true, false, cond, ltb, Option, Some, None, arith, sym, ◌∙◌, subst, inl, inr, ◌&&◌, refl}
+use Rattle.std.proofs.Common.{◌≡◌, ℕ, ◌^◌, ◌<◌, ◌≤◌, Bool, true, ltb, Option, Some, None, arith, sym, subst, inl, inr, ◌&&◌}
 use Rattle.std.specs.Prelude.{not, ⊤}
-use Rattle.std.proofs.lemmas.Bool.{cond_both, true≢false, ltb-true, lt-ltb, and_parts, eqb-true, eq-eqb}
+use Rattle.std.specs.Option.{IfSome}
+use Rattle.std.proofs.lemmas.Bool.{cond_both, ltb-true, lt-ltb, and_parts, eqb-true, eq-eqb}
 use Rattle.bq_word.specs.Word.{bits_of}
 use Rattle.bq_word.specs.Relations.{relates}
 use Rattle.bq_word.specs.declared.Width.{Width}
@@ -10,7 +11,8 @@ use Rattle.bq_word.specs.declared.Relation.TheVariants.{CommonBit}
 use Rattle.bq_range.specs.Interval.{Interval, IsIn, Within, is_single}
 use Rattle.bq_range.specs.Narrow.{opposite, is_same, by_common_bit, by_opposite, branched, IsLeft, IsRight, IsLeastRange, IsNarrowing}
 use Rattle.bq_range.proofs.Edges.{AreRanges}
-use Rattle.bq_range.proofs.Both.{edge_narrows, is_common}
+use Rattle.bq_range.proofs.Held.{itself}
+use Rattle.bq_range.proofs.Both.{edge_narrows, edge_inside, is_common}
 
 abbrev Pair : Type 0
 Pair = Interval × Interval
@@ -45,9 +47,6 @@ narrowing_less S a b c d (Some p) (Some q) l r h k = (
   least_ordered (IsLeft S a b) p.0 h.0,
   least_ordered (IsRight S a b) p.1 h.1,
 )
-
-itself : (a : Interval) → Within a a
-itself a = record { low = omega arith; high = omega arith }
 
 -- ---- common bits
 
@@ -88,21 +87,13 @@ less_than_all a b c d (Some p) l r h =
     let y = h.1 in
     (record { low = omega (arith, x.low, l.low); high = omega (arith, x.high, l.high) }, record { low = omega (arith, y.low, r.low); high = omega (arith, y.high, r.high) }, h.2, h.3)
 
+-- what lies inside a pair leaves less than the pair, where it leaves less than itself: it is not empty
+less_than_pair : (a b : Interval) (o : Option Pair) → IfSome o (λ p. Within p.0 a × Within p.1 b) → LeavesLess o o → LeavesLess o (Some (a, b))
+less_than_pair a b None h k = tt
+less_than_pair a b (Some p) h k = (h.0, h.1, k.2, k.3)
+
 inside_itself : (width : Width) (relation : Relation) (taken : Bool) (a b : Interval) → AreRanges (bits_of width) a b → LeavesLess (by_opposite (bits_of width) relation (opposite relation) taken a b) (Some (a, b))
-inside_itself width relation taken a b h = elim (is_common relation) [
-  | inl e ↦ subst (λ q. LeavesLess (by_opposite (bits_of width) q (opposite q) taken a b) (Some (a, b))) (sym e)
-      (cond_both (is_single a && is_single b && not (is_same taken (relates (bits_of width) CommonBit a.lo b.lo))) None (Some (a, b)) (λ m. LeavesLess m (Some (a, b))) (λ _. tt) (λ _. (itself a, itself b, h.a_ordered, h.b_ordered)))
-  | inr n ↦ narrowed_inside (λ x y. relates (bits_of width) relation x y ≡ taken) a b _ (edge_narrows width relation taken a b n h)
-]
-  where
-    narrowed_inside : (S : ℕ → ℕ → Type 0) (a b : Interval) (o : Option Pair) → IsNarrowing S a b o → LeavesLess o (Some (a, b))
-    narrowed_inside S a b None n = tt
-    narrowed_inside S a b (Some p) n =
-        let l = n.0.lo.0 in
-        let u = n.0.hi.0 in
-        let m = n.1.lo.0 in
-        let v = n.1.hi.0 in
-        (record { low = l.low; high = u.high }, record { low = m.low; high = v.high }, least_ordered (IsLeft S a b) p.0 n.0, least_ordered (IsRight S a b) p.1 n.1)
+inside_itself width relation taken a b h = less_than_pair a b _ (edge_inside width relation taken a b h) (opposite_less width relation taken a b a b h h (itself a) (itself b))
 
 abbrev both : ℕ → Interval → Interval → Bool
 both w a b = ltb a.hi (2 ^ w) && ltb b.hi (2 ^ w)

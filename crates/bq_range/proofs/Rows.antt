@@ -129,7 +129,7 @@ sides w lo hi e =
     ]
 
 -- shifted by one count
-shifts_by : (w : ℕ) (a : Interval) (x n : ℕ) → a.hi < 2 ^ w → IsIn x a → (a.hi < 2 ^ (w - 1)) ⊎ (2 ^ (w - 1) ≤ a.lo) → IsIn (operation w ArithmeticShiftRight x n) (between (operation w ArithmeticShiftRight a.lo n) (operation w ArithmeticShiftRight a.hi n))
+pub shifts_by : (w : ℕ) (a : Interval) (x n : ℕ) → a.hi < 2 ^ w → IsIn x a → (a.hi < 2 ^ (w - 1)) ⊎ (2 ^ (w - 1) ≤ a.lo) → IsIn (operation w ArithmeticShiftRight x n) (between (operation w ArithmeticShiftRight a.lo n) (operation w ArithmeticShiftRight a.hi n))
 shifts_by w a x n p h side =
     elim side [
       | inl below ↦ record { low = shift_mono w a.lo x n h.low (omega arith) (inl (omega arith)); high = shift_mono w x a.hi n h.high p (inl below) }

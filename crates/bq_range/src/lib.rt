@@ -24,3 +24,4 @@
 #![tactic(auto)]
 
 pub mod range;
+pub mod worked;

@@ -43,3 +43,4 @@ pub mod offsets;
 pub mod rule;
 pub mod state;
 mod transfer;
+pub mod worked;

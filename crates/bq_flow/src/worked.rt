@@ -1,0 +1,44 @@
+//! Worked values of the definitions of flow.
+
+ghost use Rattle.std.specs.Prelude.{◌≡◌, [], ◌∷◌, pos, negsuc, Some, None};
+ghost use Rattle.bq_word.specs.declared.Width.TheVariants.{W64};
+ghost use Rattle.bq_word.specs.declared.Relation.TheVariants as relation;
+ghost use Rattle.bq_insn.specs.declared.insn.Insn.TheVariants as insn;
+ghost use Rattle.bq_insn.specs.declared.insn.Operand.TheVariants as operand;
+ghost use Rattle.bq_flow.specs.declared.fault.FlowRule.TheVariants as rule;
+ghost use Rattle.bq_flow.specs.declared.fault.FlowFault.TheVariants as fault;
+ghost use Rattle.bq_flow.specs.Successors.{successors};
+ghost use Rattle.bq_flow.specs.Paths.{insn_at};
+ghost use Rattle.bq_flow.specs.Faults.{flow_fault, rule_number, fault_number};
+
+/// What the definitions say at telling operands.
+pub fn worked()
+    // Where control may go from unit 3.
+    ensures behind { successors 3 (insn.Negate W64 1) ≡ pos 4 ∷ [] }
+    ensures behind_wide { successors 3 (insn.Wide 1 7) ≡ pos 5 ∷ [] }
+    ensures jumped { successors 3 (insn.Jump (pos 2)) ≡ pos 6 ∷ [] }
+    ensures jumped_far { successors 3 (insn.JumpFar (pos 40000)) ≡ pos 40004 ∷ [] }
+    ensures jumped_back { successors 3 (insn.Jump (negsuc 5)) ≡ negsuc 1 ∷ [] }
+    ensures branched { successors 3 (insn.Branch W64 relation.Equal 1 (operand.Number (pos 7)) (pos 2)) ≡ pos 4 ∷ pos 6 ∷ [] }
+    ensures ended { successors 3 insn.Exit ≡ [] }
+
+    // Which instruction begins at a unit.
+    ensures second_half { insn_at (insn.Wide 1 7 ∷ insn.Exit ∷ []) 1 ≡ None }
+    ensures after_wide { insn_at (insn.Wide 1 7 ∷ insn.Exit ∷ []) 2 ≡ Some insn.Exit }
+
+    // What is first wrong with the flow of an instruction.
+    ensures own_unit { flow_fault (insn.Jump (negsuc 0) ∷ insn.Exit ∷ []) 0 (insn.Jump (negsuc 0)) ≡ Some rule.Backward }
+    ensures before_the_text { flow_fault (insn.Jump (negsuc 5) ∷ insn.Exit ∷ []) 0 (insn.Jump (negsuc 5)) ≡ Some rule.Backward }
+    ensures past_the_end { flow_fault (insn.Jump (pos 1) ∷ insn.Exit ∷ []) 0 (insn.Jump (pos 1)) ≡ Some rule.OutsideText }
+    ensures far_past_the_end { flow_fault (insn.JumpFar (pos 1) ∷ insn.Exit ∷ []) 0 (insn.JumpFar (pos 1)) ≡ Some rule.OutsideText }
+    ensures into_wide { flow_fault (insn.Jump (pos 1) ∷ insn.Wide 1 7 ∷ insn.Exit ∷ []) 0 (insn.Jump (pos 1)) ≡ Some rule.IntoWide }
+    ensures to_the_end { flow_fault (insn.Jump (pos 2) ∷ insn.Wide 1 7 ∷ insn.Exit ∷ []) 0 (insn.Jump (pos 2)) ≡ None }
+    ensures falls_off { flow_fault (insn.Wide 1 7 ∷ []) 0 (insn.Wide 1 7) ≡ Some rule.FallsOff }
+
+    // The numbers of the faults.
+    ensures backward { rule_number rule.Backward ≡ 11 }
+    ensures outside_text { rule_number rule.OutsideText ≡ 12 }
+    ensures wide_number { rule_number rule.IntoWide ≡ 13 }
+    ensures at_a_unit { fault_number (fault.At 3 rule.FallsOff) ≡ 14 }
+    ensures out_of_memory { fault_number fault.OutOfMemory ≡ 99 }
+{}
