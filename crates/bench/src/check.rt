@@ -1,21 +1,15 @@
 //! How long the verifier and the checker take.
 //!
-//! `bq_check_bench UNITS RUNS` makes a text of UNITS units, 2 to 4,096, of which every second one is a branch. It finds
-//! the notes of the text and checks them, RUNS times, one behind the other.
-//!
-//! The counts go to the standard output and are the same at each run; the times go to the standard error. With no
-//! words it does one small run. To give the checker work is all that its functions do, so they promise nothing more
-//! than that they end and are safe.
-#![tactic(auto)]
+//! Of a text of so many units, 2 to 4,096, of which every second one is a branch, the notes are found and checked, so
+//! many times, one behind the other.
 
-use anyhow::{Context, Result, anyhow};
+use anyhow::{Result, anyhow};
 use bq_check::check::check;
 use bq_check::fault::CheckFault;
 use bq_insn::decode::decode;
 use bq_insn::fault::DecodeFault;
 use bq_verify::verify::verify;
 use std::alloc::{AllocError, Global};
-use std::env;
 use std::time::{Clock, Duration, Instant};
 
 /// `mov64 r0, 0`
@@ -29,16 +23,6 @@ const COUNT: [u8; 8] = [7, 0, 0, 0, 1, 0, 0, 0];
 
 /// `exit`
 const LAST: [u8; 8] = [0x95, 0, 0, 0, 0, 0, 0, 0];
-
-/// A number of the command line, or another where it is not given.
-fn size(words: &[String], index: usize, usual: u64) -> Result<u64> {
-    match words.get(index) {
-        Some(word) => word
-            .parse::<u64>()
-            .context(format_args!("reading {word:?}")),
-        None => Ok(usual),
-    }
-}
 
 /// The bytes of a text of so many units, in which branches and counts take turns.
 fn bytes_of(alloc: Global, units: u64) -> Result<Vec<u8>, AllocError> {
@@ -86,13 +70,15 @@ fn time_once(rt: &(impl Clock + Alloc<A = Global>), bytes: &[u8]) -> Result<Time
     })
 }
 
-fn main(rt: HostRuntime) -> Result<()> {
+/// Times these units so many times.
+pub(crate) fn run(
+    rt: &(impl Clock + Print + Eprint + Alloc<A = Global>),
+    units: u64,
+    runs: u64,
+) -> Result<()> {
     let alloc = rt.alloc();
-    let words: Vec<String> = env::args(&rt)?.collect(alloc)?;
-    let units = size(&words, 1, 64)?;
-    let runs = size(&words, 2, 1)?;
     let bytes = bytes_of(alloc, units)?;
-    let first = time_once(&rt, &bytes)?;
+    let first = time_once(rt, &bytes)?;
     println!(rt;
         "units {} longest {} runs {runs}",
         bytes.len() / 8,
@@ -101,7 +87,7 @@ fn main(rt: HostRuntime) -> Result<()> {
     let mut verifying = first.verifying;
     let mut checking = first.checking;
     for _ in 1..runs {
-        let times = time_once(&rt, &bytes)?;
+        let times = time_once(rt, &bytes)?;
         verifying = verifying.min(times.verifying);
         checking = checking.min(times.checking);
     }

@@ -1,31 +1,15 @@
 //! How long assembling and disassembling take.
 //!
-//! `bq_bench UNITS RUNS` makes a source of UNITS units, 1 to 4,096, with a label and a jump for each four of them. It
-//! assembles the source RUNS times, one behind the other, and then disassembles its text as often.
-//!
-//! The counts go to the standard output and are the same at each run; the times go to the standard error. With no
-//! words it does one small run. To give the assembler work is all that its functions do, so they promise nothing more
-//! than that they end and are safe.
-#![tactic(auto)]
+//! A source of so many units, 1 to 4,096, with a label and a jump for each four of them, is assembled so many times, one
+//! behind the other, and then its text is disassembled as often.
 
-use anyhow::{Context, Result, anyhow};
+use anyhow::{Result, anyhow};
 use bq_asm::assemble::assemble;
 use bq_asm::disassemble::disassemble;
 use bq_asm::fault::AsmFault;
 use bq_insn::text::Text;
 use std::alloc::{AllocError, Global};
-use std::env;
 use std::time::{Clock, Duration, Instant};
-
-/// A number of the command line, or another where it is not given.
-fn size(words: &[String], index: usize, usual: u64) -> Result<u64> {
-    match words.get(index) {
-        Some(word) => word
-            .parse::<u64>()
-            .context(format_args!("reading {word:?}")),
-        None => Ok(usual),
-    }
-}
 
 /// A source of so many units.
 fn source_of(alloc: Global, units: u64) -> Result<String, AllocError> {
@@ -73,11 +57,13 @@ fn time_disassembling(
     Ok(start.elapsed(rt)?)
 }
 
-fn main(rt: HostRuntime) -> Result<()> {
+/// Times these units so many times.
+pub(crate) fn run(
+    rt: &(impl Clock + Print + Eprint + Alloc<A = Global>),
+    units: u64,
+    runs: u64,
+) -> Result<()> {
     let alloc = rt.alloc();
-    let words: Vec<String> = env::args(&rt)?.collect(alloc)?;
-    let units = size(&words, 1, 64)?;
-    let runs = size(&words, 2, 1)?;
     let source = source_of(alloc, units)?;
     let text = assemble(alloc, source.as_str()).map_err(refused)?;
     println!(rt;
@@ -85,8 +71,8 @@ fn main(rt: HostRuntime) -> Result<()> {
         text.units(),
         source.len()
     )?;
-    let assembling = time_assembling(&rt, source.as_str(), runs)?;
-    let disassembling = time_disassembling(&rt, &text, runs)?;
+    let assembling = time_assembling(rt, source.as_str(), runs)?;
+    let disassembling = time_disassembling(rt, &text, runs)?;
     eprintln!(rt; "assembling {assembling:?}, disassembling {disassembling:?}")?;
     Ok(())
 }
