@@ -1,7 +1,7 @@
 //! How long assembling and disassembling take.
 //!
-//! A source of so many units, 1 to 4,096, with a label and a jump for each four of them, is assembled so many times, one
-//! behind the other, and then its text is disassembled as often.
+//! A source of so many units, 1 to 4,096, with a label and a jump for each four of them, is assembled so many times,
+//! one behind the other, and then its text is disassembled as often.
 
 use anyhow::{Result, anyhow};
 use bq_asm::assemble::assemble;

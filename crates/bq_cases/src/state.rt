@@ -1,7 +1,7 @@
 //! What is known of registers.
 //!
 //! - `after R INSN`: what is known of register R after an instruction at the entry, or the rule that it breaks.
-//! - `after R KIND = INSN`: the same where this is known of r0, and nothing else: `unset`, `number A B`, `record A B` or
+//! - `after R KIND = INSN`: the same where of r0 this is known and nothing else: `unset`, `number A B`, `record A B` or
 //!   `frame A B`.
 //! - `edges UNIT INSN`: where an instruction at a unit leads in the state of the entry.
 //! - `offsets A B`: the offsets from A to B.
