@@ -56,14 +56,23 @@ fn mapped(insn: &Insn, a: Range) -> Option<Range> {
             let (from, to) = parts(*extension);
             Some(Range::extend(from, to, a))
         }
-        Insn::Order { order: ByteOrder::Little, bits, .. } => Some(Range::low_bits(*bits, a)),
+        Insn::Order {
+            order: ByteOrder::Little,
+            bits,
+            ..
+        } => Some(Range::low_bits(*bits, a)),
         Insn::Order { bits, .. } => Some(Range::swap(*bits, a)),
         _ => None,
     }
 }
 
 fn print_edge(rt: &impl Print, insn: &Insn, taken: bool, a: Range, b: Range) -> io::Result<()> {
-    let Insn::Branch { width, relation, .. } = insn else {
+    let Insn::Branch {
+        width,
+        relation,
+        ..
+    } = insn
+    else {
         return println!(rt; " ?");
     };
     match Range::narrow(*width, *relation, taken, a, b) {
@@ -93,7 +102,12 @@ fn edge(rt: &impl Print, alloc: Global, source: &str, words: &str) -> io::Result
     }
 }
 
-fn of_two(alloc: Global, verb: &str, source: &str, words: &str) -> Result<Option<Range>, AllocError> {
+fn of_two(
+    alloc: Global,
+    verb: &str,
+    source: &str,
+    words: &str,
+) -> Result<Option<Range>, AllocError> {
     let Some((a, b)) = two(alloc, words)? else {
         return Ok(None);
     };

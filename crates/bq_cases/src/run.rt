@@ -46,7 +46,10 @@ fn fold(
     start: u64,
     values: &[u8],
 ) -> Result<Ended, Fault> {
-    let mut all = Ended { acc: start, steps: 0 };
+    let mut all = Ended {
+        acc: start,
+        steps: 0,
+    };
     for value in values {
         let ended = run_checked(text, place, &record_of(*value), frame, all.acc, limit)?;
         all = Ended {

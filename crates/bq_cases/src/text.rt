@@ -104,7 +104,11 @@ fn print_size(rt: &impl Print, alloc: Global, text: &Text) -> io::Result<()> {
     let bytes = encode(alloc, text)?;
     let exits = bytes.chunks(8).filter(|unit| is_exit(unit)).count();
     let first = hex::encode(alloc, bytes.get(..8).unwrap_or(&[]))?;
-    println!(rt; " units {} bytes {} exits {exits} first {first}", text.units(), bytes.len())
+    println!(rt;
+        " units {} bytes {} exits {exits} first {first}",
+        text.units(),
+        bytes.len()
+    )
 }
 
 fn over(rt: &impl Print, alloc: Global, count: u64, line: &str) -> io::Result<()> {

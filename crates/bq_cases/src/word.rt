@@ -22,9 +22,14 @@ pub(crate) fn parts(extension: Extension) -> (SignBits, Width) {
 fn operation(insn: &Insn, words: &[u64]) -> Option<u64> {
     match (insn, words) {
         (Insn::Alu { width, op, .. }, [a, b]) => Some(alu(*width, *op, *a, *b)),
-        (Insn::Branch { width, relation, .. }, [a, b]) => {
-            Some(u64::from(relates(*width, *relation, *a, *b)))
-        }
+        (
+            Insn::Branch {
+                width,
+                relation,
+                ..
+            },
+            [a, b],
+        ) => { Some(u64::from(relates(*width, *relation, *a, *b))) }
         (Insn::Order { bits, .. }, [a]) => Some(swap(*bits, *a)),
         (Insn::Extend { extension, .. }, [a]) => {
             let (from, to) = parts(*extension);
