@@ -6,7 +6,7 @@ use bq_insn::register::Register;
 use bq_word::{Relation, Width};
 
 /// A jump without its distance.
-#[derive(Clone, Copy, Debug, PartialEq, Eq)]
+#[derive(Clone, Copy)]
 pub enum Jump {
     /// `ja`, whose distance has 16 bits.
     Always,

@@ -40,3 +40,4 @@ mod mnemonic;
 mod number;
 mod operand;
 mod text;
+pub mod worked;

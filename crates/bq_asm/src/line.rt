@@ -13,14 +13,14 @@ use bq_insn::insn::{Extension, Insn, Size};
 use bq_word::{AluOp, Relation, SignBits, Width};
 
 /// An instruction, or a jump to a label.
-#[derive(Clone, Copy, Debug)]
+#[derive(Clone, Copy)]
 pub enum Statement<'a> {
     Complete(Insn),
     JumpTo { jump: Jump, label: &'a str },
 }
 
 /// What a line says.
-#[derive(Clone, Copy, Debug)]
+#[derive(Clone, Copy)]
 pub enum Line<'a> {
     Blank,
     Label(&'a str),

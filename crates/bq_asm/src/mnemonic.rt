@@ -6,7 +6,7 @@ use bq_insn::insn::{ByteOrder, Extension, Size};
 use bq_word::{AluOp, Relation, SignBits, SwapBits, Width};
 
 /// What the first word of an instruction says.
-#[derive(Clone, Copy, Debug, PartialEq, Eq)]
+#[derive(Clone, Copy)]
 pub enum Mnemonic {
     /// Arithmetic of two operands, as `add64`.
     Alu(Width, AluOp),

@@ -1,0 +1,78 @@
+//! How long assembling and disassembling take.
+//!
+//! A source of so many units, 1 to 4,096, with a label and a jump for each four of them, is assembled so many times,
+//! one behind the other, and then its text is disassembled as often.
+
+use anyhow::{Result, anyhow};
+use bq_asm::assemble::assemble;
+use bq_asm::disassemble::disassemble;
+use bq_asm::fault::AsmFault;
+use bq_insn::text::Text;
+use std::alloc::{AllocError, Global};
+use std::time::{Clock, Duration, Instant};
+
+/// A source of so many units.
+fn source_of(alloc: Global, units: u64) -> Result<String, AllocError> {
+    let mut source = String::new(alloc);
+    for unit in 0..units {
+        let group = unit / 4;
+        match unit % 4 {
+            0 => write!(source, "next_{group}:\nadd64 r0, 1 # one more\n")?,
+            1 => source.push_str("load8 r4, [r1+16]\n")?,
+            2 => write!(source, "jlt64 r4, 10, next_{}\n", group + 1)?,
+            _ => source.push_str("mov64 r0, r4\n")?,
+        }
+    }
+    write!(source, "next_{}:\n", units.div_ceil(4))?;
+    Ok(source)
+}
+
+fn refused(fault: AsmFault) -> anyhow::Error {
+    anyhow!("refused {} {}", fault.number(), fault.name())
+}
+
+/// How long it takes to assemble a source so many times.
+fn time_assembling(
+    rt: &(impl Clock + Alloc<A = Global>),
+    source: &str,
+    runs: u64,
+) -> Result<Duration> {
+    let start = Instant::now(rt)?;
+    for _ in 0..runs {
+        let _text = assemble(rt.alloc(), source).map_err(refused)?;
+    }
+    Ok(start.elapsed(rt)?)
+}
+
+/// How long it takes to disassemble a text so many times.
+fn time_disassembling(
+    rt: &(impl Clock + Alloc<A = Global>),
+    text: &Text,
+    runs: u64,
+) -> Result<Duration> {
+    let start = Instant::now(rt)?;
+    for _ in 0..runs {
+        let _source = disassemble(rt.alloc(), text)?;
+    }
+    Ok(start.elapsed(rt)?)
+}
+
+/// Times these units so many times.
+pub(crate) fn run(
+    rt: &(impl Clock + Print + Eprint + Alloc<A = Global>),
+    units: u64,
+    runs: u64,
+) -> Result<()> {
+    let alloc = rt.alloc();
+    let source = source_of(alloc, units)?;
+    let text = assemble(alloc, source.as_str()).map_err(refused)?;
+    println!(rt;
+        "units {} characters {} runs {runs}",
+        text.units(),
+        source.len()
+    )?;
+    let assembling = time_assembling(rt, source.as_str(), runs)?;
+    let disassembling = time_disassembling(rt, &text, runs)?;
+    eprintln!(rt; "assembling {assembling:?}, disassembling {disassembling:?}")?;
+    Ok(())
+}

@@ -1,0 +1,96 @@
+//! How long the verifier and the checker take.
+//!
+//! Of a text of so many units, 2 to 4,096, of which every second one is a branch, the notes are found and checked, so
+//! many times, one behind the other.
+
+use anyhow::{Result, anyhow};
+use bq_check::check::check;
+use bq_check::fault::CheckFault;
+use bq_insn::decode::decode;
+use bq_insn::fault::DecodeFault;
+use bq_verify::verify::verify;
+use std::alloc::{AllocError, Global};
+use std::time::{Clock, Duration, Instant};
+
+/// `mov64 r0, 0`
+const FIRST: [u8; 8] = [0xb7, 0, 0, 0, 0, 0, 0, 0];
+
+/// `jlt64 r3, 10, +1`
+const BRANCH: [u8; 8] = [0xa5, 3, 1, 0, 10, 0, 0, 0];
+
+/// `add64 r0, 1`
+const COUNT: [u8; 8] = [7, 0, 0, 0, 1, 0, 0, 0];
+
+/// `exit`
+const LAST: [u8; 8] = [0x95, 0, 0, 0, 0, 0, 0, 0];
+
+/// The bytes of a text of so many units, in which branches and counts take turns.
+fn bytes_of(alloc: Global, units: u64) -> Result<Vec<u8>, AllocError> {
+    let mut bytes = Vec::new(alloc);
+    bytes.extend_from_slice(&FIRST)?;
+    for pair in 0..units.saturating_sub(2) / 2 {
+        let _pair = pair;
+        bytes.extend_from_slice(&BRANCH)?;
+        bytes.extend_from_slice(&COUNT)?;
+    }
+    bytes.extend_from_slice(&LAST)?;
+    Ok(bytes)
+}
+
+fn undecoded(fault: DecodeFault) -> anyhow::Error {
+    anyhow!("refused {} {}", fault.number(), fault.name())
+}
+
+fn refused(fault: CheckFault) -> anyhow::Error {
+    anyhow!("refused {} {}", fault.number(), fault.name())
+}
+
+/// How long verifying and checking take, and the longest path.
+#[derive(Clone, Copy)]
+struct Times {
+    verifying: Duration,
+    checking: Duration,
+    longest: u32,
+}
+
+/// One run over the text of these bytes.
+fn time_once(rt: &(impl Clock + Alloc<A = Global>), bytes: &[u8]) -> Result<Times> {
+    let alloc = rt.alloc();
+    let text = decode(alloc, bytes).map_err(undecoded)?;
+    let start = Instant::now(rt)?;
+    let notes = verify(alloc, &text).map_err(refused)?;
+    let verifying = start.elapsed(rt)?;
+    let start = Instant::now(rt)?;
+    let certified = check(alloc, text, notes).map_err(refused)?;
+    let checking = start.elapsed(rt)?;
+    Ok(Times {
+        verifying,
+        checking,
+        longest: certified.longest(),
+    })
+}
+
+/// Times these units so many times.
+pub(crate) fn run(
+    rt: &(impl Clock + Print + Eprint + Alloc<A = Global>),
+    units: u64,
+    runs: u64,
+) -> Result<()> {
+    let alloc = rt.alloc();
+    let bytes = bytes_of(alloc, units)?;
+    let first = time_once(rt, &bytes)?;
+    println!(rt;
+        "units {} longest {} runs {runs}",
+        bytes.len() / 8,
+        first.longest
+    )?;
+    let mut verifying = first.verifying;
+    let mut checking = first.checking;
+    for _ in 1..runs {
+        let times = time_once(rt, &bytes)?;
+        verifying = verifying.min(times.verifying);
+        checking = checking.min(times.checking);
+    }
+    eprintln!(rt; "the least: verifying {verifying:?}, checking {checking:?}")?;
+    Ok(())
+}

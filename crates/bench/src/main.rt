@@ -1,0 +1,45 @@
+//! How long the parts of this repository take.
+//!
+//! | Words | What is timed |
+//! |---|---|
+//! | `asm UNITS RUNS` | assembling and disassembling, see [`asm`] |
+//! | `check UNITS RUNS` | the verifier and the checker, see [`check`] |
+//! | `store IDS ROUNDS` | a store-collect object with churn, see [`store`] |
+//!
+//! The counts go to the standard output and are the same at each run; the times go to the standard error. With no
+//! words it does a small run of each. To give the parts work is all that its functions do, so they promise nothing
+//! more than that they end and are safe.
+#![tactic(auto)]
+
+mod asm;
+mod check;
+mod cluster;
+mod store;
+
+use anyhow::{Context, Result, bail};
+use std::env;
+
+/// A number of the command line, or another where it is not given.
+fn size(words: &[String], index: usize, usual: u64) -> Result<u64> {
+    match words.get(index) {
+        Some(word) => word
+            .parse::<u64>()
+            .context(format_args!("reading {word:?}")),
+        None => Ok(usual),
+    }
+}
+
+fn main(rt: HostRuntime) -> Result<()> {
+    let words: Vec<String> = env::args(&rt)?.collect(rt.alloc())?;
+    match words.get(1).map(|word| word.as_str()) {
+        Some("asm") => asm::run(&rt, size(&words, 2, 64)?, size(&words, 3, 1)?),
+        Some("check") => check::run(&rt, size(&words, 2, 64)?, size(&words, 3, 1)?),
+        Some("store") => store::run(&rt, size(&words, 2, 32)?, size(&words, 3, 4)?),
+        Some(word) => bail!("{word:?} is none of asm, check and store"),
+        None => {
+            asm::run(&rt, 64, 1)?;
+            check::run(&rt, 64, 1)?;
+            store::run(&rt, 32, 4)
+        }
+    }
+}

@@ -1,0 +1,68 @@
+//! Cases of the crates of programs as text. Each line is printed, and behind it what came of it, on lines that begin
+//! with a space.
+//!
+//! A line's first word says what is asked:
+//!
+//! | Word | Module |
+//! |---|---|
+//! | `alu`, `swap`, `extend`, `relates` | [`word`]: words |
+//! | `asm`, `decode`, `opcodes`, `over`, `exits`, `register` | [`text`]: texts, their bytes and their listing |
+//! | `place`, `run` | [`run`]: what texts answer |
+//! | `operation`, `edge`, `mapped`, `load`, `join`, `meet` | [`range`]: ranges of words |
+//! | `after`, `edges`, `offsets` | [`state`]: what is known of registers |
+//! | `flow`, `verify`, `check`, `certify`, `known` | [`check`]: flow, notes and certificates |
+//!
+//! In a source `/` stands for a line feed and `~` for a carriage return. Numbers are words in decimal digits, with `-`
+//! for what they are below 2^64. A line that asks for nothing of these is a comment.
+#![tactic(auto)]
+
+mod check;
+mod range;
+mod run;
+mod state;
+mod text;
+mod word;
+mod words;
+
+use bq_meaning::placement::Placement;
+use std::alloc::Global;
+use std::io;
+
+/// Prints what comes of a line, whose first word is `verb`.
+fn answer(
+    rt: &impl Print,
+    alloc: Global,
+    place: &mut Option<Placement>,
+    verb: &str,
+    rest: &str,
+) -> io::Result<()> {
+    match verb {
+        "alu" | "swap" | "extend" | "relates" => word::answer(rt, alloc, rest),
+        "asm" | "decode" | "opcodes" | "over" | "exits" | "register" => {
+            text::answer(rt, alloc, verb, rest)
+        }
+        "place" => run::place(rt, alloc, place, rest),
+        "run" => run::run(rt, alloc, place, rest),
+        "operation" | "edge" | "mapped" | "load" | "join" | "meet" => {
+            range::answer(rt, alloc, verb, rest)
+        }
+        "after" | "edges" | "offsets" => state::answer(rt, alloc, verb, rest),
+        "flow" | "verify" | "check" | "certify" | "known" => {
+            check::answer(rt, alloc, verb, rest)
+        }
+        _ => Ok(()),
+    }
+}
+
+fn main(rt: HostRuntime) -> io::Result<()> {
+    let alloc = rt.alloc();
+    let mut place = None;
+    for line in rt.lines(alloc) {
+        let line = line?;
+        println!(rt; "{line}")?;
+        if let Some((verb, rest)) = line.as_str().split_once(' ') {
+            answer(&rt, alloc, &mut place, verb, rest)?;
+        }
+    }
+    Ok(())
+}

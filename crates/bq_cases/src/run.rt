@@ -1,0 +1,114 @@
+//! What texts answer.
+//!
+//! - `place A B`: from here on the frame lies at A and the record at B; `placed`, or `none` where they can't.
+//! - `run LIMIT FILL ACC VALUES = SOURCE`: what the text answers, and in how many steps, over records in turn, of which
+//!   each has one of the values (bytes with commas between them) as its byte 16 and is 0 elsewhere. The frame is filled
+//!   with the byte FILL before the first of them.
+
+use crate::words::{number, numbers, text};
+use bq_insn::text::Text;
+use bq_meaning::fault::Fault;
+use bq_meaning::placement::Placement;
+use bq_meaning::run::{Ended, run_checked};
+use std::alloc::Global;
+use std::io;
+
+/// Sets where the frame and the record lie.
+pub(crate) fn place(
+    rt: &impl Print,
+    alloc: Global,
+    place: &mut Option<Placement>,
+    rest: &str,
+) -> io::Result<()> {
+    *place = match numbers(alloc, rest)?.as_deref() {
+        Some([frame, record]) => Placement::new(*frame, *record),
+        _ => None,
+    };
+    match place {
+        Some(_) => println!(rt; " placed"),
+        None => println!(rt; " none"),
+    }
+}
+
+/// The record with this value.
+fn record_of(value: u8) -> [u8; 64] {
+    let mut record = [0; 64];
+    record[16] = value;
+    record
+}
+
+/// What a text answers over records with these values.
+fn fold(
+    text: &Text,
+    place: &Placement,
+    limit: u64,
+    frame: &mut [u8; 512],
+    start: u64,
+    values: &[u8],
+) -> Result<Ended, Fault> {
+    let mut all = Ended {
+        acc: start,
+        steps: 0,
+    };
+    for value in values {
+        let ended = run_checked(text, place, &record_of(*value), frame, all.acc, limit)?;
+        all = Ended {
+            acc: ended.acc,
+            steps: all.steps.wrapping_add(ended.steps),
+        };
+    }
+    Ok(all)
+}
+
+/// How a run begins.
+#[derive(Drop)]
+struct Start {
+    limit: u64,
+    fill: u8,
+    acc: u64,
+    values: Vec<u8>,
+}
+
+fn values_of(alloc: Global, words: &str) -> Option<Vec<u8>> {
+    let mut values = Vec::new(alloc);
+    for word in words.split(',') {
+        values.push(word.parse::<u8>().ok()?).ok()?;
+    }
+    Some(values)
+}
+
+fn start_of(alloc: Global, words: &str) -> Option<Start> {
+    let (limit, words) = words.split_once(' ')?;
+    let (fill, words) = words.split_once(' ')?;
+    let (acc, values) = words.split_once(' ')?;
+    Some(Start {
+        limit: number(limit)?,
+        fill: fill.parse::<u8>().ok()?,
+        acc: number(acc)?,
+        values: values_of(alloc, values)?,
+    })
+}
+
+fn print_run(rt: &impl Print, text: &Text, place: &Placement, start: &Start) -> io::Result<()> {
+    let mut frame = [start.fill; 512];
+    let values = start.values.as_slice();
+    match fold(text, place, start.limit, &mut frame, start.acc, values) {
+        Ok(ended) => println!(rt; " {} in {}", ended.acc, ended.steps),
+        Err(fault) => println!(rt; " {fault:?}"),
+    }
+}
+
+/// Prints what a text answers at the placement.
+pub(crate) fn run(
+    rt: &impl Print,
+    alloc: Global,
+    place: &Option<Placement>,
+    rest: &str,
+) -> io::Result<()> {
+    if let (Some(place), Some((start, source))) = (place, rest.split_once(" = ")) {
+        if let (Some(start), Some(text)) = (start_of(alloc, start), text(alloc, source)?) {
+            return print_run(rt, &text, place, &start);
+        }
+    }
+    println!(rt; " ?")
+}

@@ -1,0 +1,107 @@
+//! What is known of registers.
+//!
+//! - `after R INSN`: what is known of register R after an instruction at the entry, or the rule that it breaks.
+//! - `after R KIND = INSN`: the same where of r0 this is known and nothing else: `unset`, `number A B`, `record A B` or
+//!   `frame A B`.
+//! - `edges UNIT INSN`: where an instruction at a unit leads in the state of the entry.
+//! - `offsets A B`: the offsets from A to B.
+
+use crate::words::{insn, number, numbers};
+use bq_insn::insn::Insn;
+use bq_range::range::Range;
+use bq_state::edges::Edge;
+use bq_state::kind::Kind;
+use bq_state::offsets::Offsets;
+use bq_state::state::State;
+use std::alloc::Global;
+use std::io;
+
+pub(crate) fn print_kind(rt: &impl Print, kind: Kind) -> io::Result<()> {
+    match kind {
+        Kind::Unset => println!(rt; " unset"),
+        Kind::Number(range) => println!(rt; " number {} {}", range.lo(), range.hi()),
+        Kind::RecordPointer(at) => println!(rt; " record {} {}", at.lo(), at.hi()),
+        Kind::FramePointer(at) => println!(rt; " frame {} {}", at.lo(), at.hi()),
+    }
+}
+
+fn offsets(first: u64, last: u64) -> Option<Offsets> {
+    let first = i32::try_from(first.cast_signed()).ok()?;
+    let last = i32::try_from(last.cast_signed()).ok()?;
+    Offsets::new(first, last)
+}
+
+fn kind_of(alloc: Global, words: &str) -> Option<Kind> {
+    let (name, ends) = words.split_once(' ')?;
+    let ends = numbers(alloc, ends).ok()??;
+    match (name, ends.as_slice()) {
+        ("number", [a, b]) => Range::new(*a, *b).map(Kind::Number),
+        ("record", [a, b]) => offsets(*a, *b).map(Kind::RecordPointer),
+        ("frame", [a, b]) => offsets(*a, *b).map(Kind::FramePointer),
+        _ => None,
+    }
+}
+
+/// The state in which this is known of r0 and nothing else.
+fn nothing_but(kind: Kind) -> State {
+    let mut kinds = [Kind::Unset; 11];
+    kinds[0] = kind;
+    State::new(kinds)
+}
+
+fn print_after(rt: &impl Print, state: &State, insn: &Insn, register: u64) -> io::Result<()> {
+    match state.transfer(insn) {
+        Ok(state) => print_kind(rt, state.kind(u8::try_from(register).unwrap_or(11))),
+        Err(rule) => println!(rt; " refused {} {}", rule.number(), rule.name()),
+    }
+}
+
+fn after(rt: &impl Print, alloc: Global, register: u64, rest: &str) -> io::Result<()> {
+    let (state, source) = match rest.split_once(" = ") {
+        Some((words, source)) => match kind_of(alloc, words) {
+            Some(kind) => (nothing_but(kind), source),
+            None => (nothing_but(Kind::Unset), source),
+        },
+        None => (State::entry(), rest),
+    };
+    match insn(alloc, source)? {
+        Some(insn) => print_after(rt, &state, &insn, register),
+        None => println!(rt; " ?"),
+    }
+}
+
+fn print_edge(rt: &impl Print, way: &str, edge: Option<Edge>) -> io::Result<()> {
+    match edge {
+        Some(edge) => println!(rt; " {way} {}", edge.unit),
+        None => println!(rt; " {way} none"),
+    }
+}
+
+fn edges(rt: &impl Print, alloc: Global, unit: u64, source: &str) -> io::Result<()> {
+    let Some(insn) = insn(alloc, source)? else {
+        return println!(rt; " ?");
+    };
+    let edges = State::entry().edges(unit, &insn);
+    print_edge(rt, "behind", edges.behind)?;
+    print_edge(rt, "jump", edges.jump)
+}
+
+fn print_offsets(rt: &impl Print, offsets: Option<Offsets>) -> io::Result<()> {
+    match offsets {
+        Some(at) => println!(rt; " {} {}", at.lo(), at.hi()),
+        None => println!(rt; " none"),
+    }
+}
+
+/// Prints what comes of a line about what is known.
+pub(crate) fn answer(rt: &impl Print, alloc: Global, verb: &str, rest: &str) -> io::Result<()> {
+    let Some((word, rest)) = rest.split_once(' ') else {
+        return println!(rt; " ?");
+    };
+    match (verb, number(word), number(rest)) {
+        ("after", Some(register), _) => after(rt, alloc, register, rest),
+        ("edges", Some(unit), _) => edges(rt, alloc, unit, rest),
+        ("offsets", Some(first), Some(last)) => print_offsets(rt, offsets(first, last)),
+        _ => println!(rt; " ?"),
+    }
+}

@@ -1,0 +1,167 @@
+//! Texts: their bytes in hexadecimal digits, and their listing.
+//!
+//! - `asm SOURCE`: the bytes that a source is assembled to, and what is written of these bytes.
+//! - `decode HEX`: what is written of the text that these bytes spell.
+//! - `opcodes FIELDS HEX`: for each opcode of the digits the fault of a unit with these seven bytes behind it, or 0.
+//! - `over N LINE`: a source of a line, N lines `exit` and the label `end`: its units, its bytes, how many of the units
+//!   are `exit`, and its first unit.
+//! - `exits N`: the same of the bytes of N units `exit`.
+//! - `register N`: the register of this number.
+
+use crate::words::{bytes, number, source};
+use bq_asm::assemble::assemble;
+use bq_asm::disassemble::disassemble;
+use bq_asm::fault::AsmFault;
+use bq_insn::decode::decode;
+use bq_insn::encode::encode;
+use bq_insn::fault::DecodeFault;
+use bq_insn::register::Register;
+use bq_insn::text::Text;
+use std::alloc::{AllocError, Global};
+use std::io;
+
+const EXIT: [u8; 8] = [0x95, 0, 0, 0, 0, 0, 0, 0];
+
+fn print_fault(rt: &impl Print, fault: AsmFault) -> io::Result<()> {
+    print!(rt; " refused {} {}", fault.number(), fault.name())?;
+    match fault {
+        AsmFault::Syntax { line } | AsmFault::Label { line } => println!(rt; " at line {line}"),
+        _ => println!(rt; ""),
+    }
+}
+
+pub(crate) fn print_decode_fault(rt: &impl Print, fault: DecodeFault) -> io::Result<()> {
+    print!(rt; " refused {} {}", fault.number(), fault.name())?;
+    match fault {
+        DecodeFault::At { unit, .. } => println!(rt; " at {unit}"),
+        _ => println!(rt; ""),
+    }
+}
+
+/// Prints what is written of a text.
+fn print_listing(rt: &impl Print, alloc: Global, text: &Text) -> io::Result<()> {
+    let listing = disassemble(alloc, text)?;
+    for line in listing.as_str().lines() {
+        println!(rt; " {line}")?;
+    }
+    Ok(())
+}
+
+/// Prints what is written of the text that bytes spell.
+fn print_text(rt: &impl Print, alloc: Global, bytes: &[u8]) -> io::Result<()> {
+    match decode(alloc, bytes) {
+        Ok(text) => print_listing(rt, alloc, &text),
+        Err(fault) => print_decode_fault(rt, fault),
+    }
+}
+
+fn asm(rt: &impl Print, alloc: Global, rest: &str) -> io::Result<()> {
+    let source = source(alloc, rest)?;
+    match assemble(alloc, source.as_str()) {
+        Ok(text) => {
+            let bytes = encode(alloc, &text)?;
+            let digits = hex::encode(alloc, bytes.as_slice())?;
+            println!(rt; " {digits}")?;
+            print_text(rt, alloc, bytes.as_slice())
+        }
+        Err(fault) => print_fault(rt, fault),
+    }
+}
+
+/// The fault of a unit with these fields, or 0.
+fn unit_fault(alloc: Global, opcode: u8, fields: &[u8]) -> Result<u8, AllocError> {
+    let mut unit = Vec::new(alloc);
+    unit.push(opcode)?;
+    unit.extend_from_slice(fields)?;
+    Ok(match decode(alloc, unit.as_slice()) {
+        Ok(_) => 0,
+        Err(fault) => fault.number(),
+    })
+}
+
+/// The seven bytes of some fields, and opcodes.
+fn fields_and_opcodes(alloc: Global, rest: &str) -> Option<(Vec<u8>, Vec<u8>)> {
+    let (fields, opcodes) = rest.split_once(' ')?;
+    bytes(alloc, fields).zip(bytes(alloc, opcodes))
+}
+
+fn opcodes(rt: &impl Print, alloc: Global, rest: &str) -> io::Result<()> {
+    let Some((fields, opcodes)) = fields_and_opcodes(alloc, rest) else {
+        return println!(rt; " ?");
+    };
+    for opcode in &opcodes {
+        print!(rt; " {}", unit_fault(alloc, *opcode, fields.as_slice())?)?;
+    }
+    println!(rt; "")
+}
+
+fn is_exit(unit: &[u8]) -> bool {
+    unit == EXIT.as_slice()
+}
+
+/// Prints the size of a text, and its units as far as they are alike.
+fn print_size(rt: &impl Print, alloc: Global, text: &Text) -> io::Result<()> {
+    let bytes = encode(alloc, text)?;
+    let exits = bytes.chunks(8).filter(|unit| is_exit(unit)).count();
+    let first = hex::encode(alloc, bytes.get(..8).unwrap_or(&[]))?;
+    println!(rt;
+        " units {} bytes {} exits {exits} first {first}",
+        text.units(),
+        bytes.len()
+    )
+}
+
+fn over(rt: &impl Print, alloc: Global, count: u64, line: &str) -> io::Result<()> {
+    let mut source = String::from_str(alloc, line)?;
+    source.push('\n')?;
+    for _ in 0..count {
+        source.push_str("exit\n")?;
+    }
+    source.push_str("end:\n")?;
+    match assemble(alloc, source.as_str()) {
+        Ok(text) => print_size(rt, alloc, &text),
+        Err(fault) => print_fault(rt, fault),
+    }
+}
+
+fn exits(rt: &impl Print, alloc: Global, count: u64) -> io::Result<()> {
+    let mut bytes = Vec::new(alloc);
+    for _ in 0..count {
+        bytes.extend_from_slice(&EXIT)?;
+    }
+    match decode(alloc, bytes.as_slice()) {
+        Ok(text) => print_size(rt, alloc, &text),
+        Err(fault) => print_decode_fault(rt, fault),
+    }
+}
+
+fn print_register(rt: &impl Print, number: u64) -> io::Result<()> {
+    match u8::try_from(number).ok().and_then(Register::new) {
+        Some(register) => println!(rt; " r{}", register.number()),
+        None => println!(rt; " none"),
+    }
+}
+
+/// Prints what comes of a line that begins with a number.
+fn numbered(rt: &impl Print, alloc: Global, verb: &str, rest: &str) -> io::Result<()> {
+    let (word, line) = rest.split_once(' ').unwrap_or((rest, ""));
+    match (verb, number(word)) {
+        ("over", Some(count)) => over(rt, alloc, count, line),
+        ("exits", Some(count)) => exits(rt, alloc, count),
+        ("register", Some(number)) => print_register(rt, number),
+        _ => println!(rt; " ?"),
+    }
+}
+
+/// Prints what comes of a line about texts.
+pub(crate) fn answer(rt: &impl Print, alloc: Global, verb: &str, rest: &str) -> io::Result<()> {
+    match verb {
+        "asm" => asm(rt, alloc, rest),
+        "decode" => match bytes(alloc, rest) {
+            Some(bytes) => print_text(rt, alloc, bytes.as_slice()),
+            None => println!(rt; " ?"),
+        },
+        "opcodes" => opcodes(rt, alloc, rest),
+        _ => numbered(rt, alloc, verb, rest),
+    }
+}

@@ -1,0 +1,52 @@
+//! Words: `alu INSN = A B`, `swap INSN = A`, `extend INSN = A` and `relates INSN = A B` give what the operation of an
+//! instruction makes of words, or whether the relation of a branch holds between them.
+
+use crate::words::{insn, numbers};
+use bq_insn::insn::{Extension, Insn};
+use bq_word::{SignBits, Width, alu, extend, relates, swap};
+use std::alloc::Global;
+use std::io;
+
+/// How many bits an extension reads, and how wide its result is.
+pub(crate) fn parts(extension: Extension) -> (SignBits, Width) {
+    match extension {
+        Extension::W32From8 => (SignBits::B8, Width::W32),
+        Extension::W32From16 => (SignBits::B16, Width::W32),
+        Extension::W64From8 => (SignBits::B8, Width::W64),
+        Extension::W64From16 => (SignBits::B16, Width::W64),
+        Extension::W64From32 => (SignBits::B32, Width::W64),
+    }
+}
+
+/// What the operation of an instruction makes of these words.
+fn operation(insn: &Insn, words: &[u64]) -> Option<u64> {
+    match (insn, words) {
+        (Insn::Alu { width, op, .. }, [a, b]) => Some(alu(*width, *op, *a, *b)),
+        (
+            Insn::Branch {
+                width,
+                relation,
+                ..
+            },
+            [a, b],
+        ) => { Some(u64::from(relates(*width, *relation, *a, *b))) }
+        (Insn::Order { bits, .. }, [a]) => Some(swap(*bits, *a)),
+        (Insn::Extend { extension, .. }, [a]) => {
+            let (from, to) = parts(*extension);
+            Some(extend(from, to, *a))
+        }
+        _ => None,
+    }
+}
+
+/// Prints the word that the operation leaves, and 1 or 0 for a relation.
+pub(crate) fn answer(rt: &impl Print, alloc: Global, rest: &str) -> io::Result<()> {
+    if let Some((source, words)) = rest.split_once('=') {
+        if let (Some(insn), Some(words)) = (insn(alloc, source)?, numbers(alloc, words)?) {
+            if let Some(word) = operation(&insn, words.as_slice()) {
+                return println!(rt; " {word}");
+            }
+        }
+    }
+    println!(rt; " ?")
+}

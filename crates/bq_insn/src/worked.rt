@@ -1,0 +1,59 @@
+//! What the definitions say at telling instructions and bytes, worked by hand from RFC 9669's tables.
+
+ghost use Rattle.std.specs.Prelude.{◌≡◌, Some, None, [], ◌∷◌, codes, pos, negsuc, true, false};
+ghost use Rattle.bq_insn.specs.Fault.{fault_name, fault_number, front_fault, unit_fault_name, unit_fault_number};
+ghost use Rattle.bq_insn.specs.Fields.{unit_bytes};
+ghost use Rattle.bq_insn.specs.Insn.{insn_bytes};
+ghost use Rattle.bq_insn.specs.Opcode.{opcode_at};
+ghost use Rattle.bq_insn.specs.Rows.{is_left_out, is_listed, unit_fault};
+ghost use Rattle.bq_insn.specs.declared.fault.DecodeFault.TheVariants as fault;
+ghost use Rattle.bq_insn.specs.declared.fault.UnitFault.TheVariants as wrong;
+ghost use Rattle.bq_insn.specs.declared.insn.Insn.TheVariants as insn;
+ghost use Rattle.bq_insn.specs.declared.insn.Operand.TheVariants as operand;
+ghost use Rattle.bq_insn.specs.declared.opcode.AluCode.TheVariants as code;
+ghost use Rattle.bq_insn.specs.declared.opcode.Opcode.TheVariants as opcode;
+ghost use Rattle.bq_insn.specs.declared.opcode.Source.TheVariants as source;
+ghost use Rattle.bq_insn.specs.declared.rows.FieldUse.TheVariants as uses;
+ghost use Rattle.bq_word.specs.declared.AluOp.TheVariants as op;
+ghost use Rattle.bq_word.specs.declared.Width.TheVariants as width;
+
+/// What first bytes say: `add64` with a number, EXIT, a CALL that is left out, and an atomic operation that is.
+#[tactic(auto, unfolding(crate::specs::Opcode::opcode_at))]
+pub fn worked_opcodes()
+    ensures add { opcode_at 7 ≡ Some (opcode.Alu width.W64 code.Add source.Number) }
+    ensures exit { opcode_at 149 ≡ Some opcode.Exit }
+    ensures call { opcode_at 133 ≡ None }
+    ensures atomic { is_left_out 219 ≡ true }
+    ensures unknown { is_left_out 255 ≡ false }
+{}
+
+/// How fields lie in a unit, and units in an instruction: `mov32s8 r10, r1`, `smod64 r0, r4` and
+/// `wide r0, 1099511627785`.
+#[tactic(auto, unfolding(crate::specs::Fields::unit_bytes))]
+pub fn worked_bytes()
+    ensures fields { unit_bytes (record { opcode = 188; dst = 10; src = 1; offset = 8; imm = 0 }) ≡ 188 ∷ 26 ∷ 8 ∷ 0 ∷ 0 ∷ 0 ∷ 0 ∷ 0 ∷ [] }
+    ensures signed { insn_bytes (insn.Alu width.W64 op.SignedMod 0 (operand.Register 4)) ≡ 159 ∷ 64 ∷ 1 ∷ 0 ∷ 0 ∷ 0 ∷ 0 ∷ 0 ∷ [] }
+    ensures wide { insn_bytes (insn.Wide 0 1099511627785) ≡ 24 ∷ 0 ∷ 0 ∷ 0 ∷ 9 ∷ 0 ∷ 0 ∷ 0 ∷ 0 ∷ 0 ∷ 0 ∷ 0 ∷ 0 ∷ 1 ∷ 0 ∷ 0 ∷ [] }
+{}
+
+/// Which fault stands first: a register above 10 before a field that is not used, 0x18 with a source before them, a
+/// byte order of 17 bits, and a second unit of a wide instruction with something beside its `imm`.
+#[tactic(auto, unfolding(crate::specs::Opcode::opcode_at))]
+pub fn worked_faults()
+    ensures register { unit_fault (record { opcode = 183; dst = 11; src = 0; offset = 8; imm = 0 }) ≡ Some wrong.BadRegister }
+    ensures source { unit_fault (record { opcode = 24; dst = 0; src = 1; offset = 0; imm = 0 }) ≡ Some wrong.LeftOut }
+    ensures unused { unit_fault (record { opcode = 149; dst = 0; src = 0; offset = 0; imm = 1 }) ≡ Some wrong.UnusedField }
+    ensures bits { unit_fault (record { opcode = 220; dst = 0; src = 0; offset = 0; imm = 17 }) ≡ Some wrong.BadField }
+    ensures listed { is_listed uses.SwapBits 32 ≡ true }
+    ensures second { front_fault 3 (record { opcode = 24; dst = 0; src = 0; offset = 0; imm = 9 }) (1 ∷ 0 ∷ 0 ∷ 0 ∷ 0 ∷ 0 ∷ 0 ∷ 0 ∷ []) ≡ Some (fault.At 4 wrong.UnusedField) }
+    ensures cut { front_fault 3 (record { opcode = 24; dst = 0; src = 0; offset = 0; imm = 9 }) [] ≡ Some (fault.At 3 wrong.CutWide) }
+{}
+
+/// How faults are reported.
+pub fn worked_reports()
+    ensures long { fault_number fault.TooLong ≡ 2 }
+    ensures memory { fault_number fault.OutOfMemory ≡ 99 }
+    ensures out { unit_fault_number wrong.LeftOut ≡ 8 }
+    ensures name { fault_name fault.TooLong ≡ codes "TooLong" }
+    ensures field { unit_fault_name wrong.BadField ≡ codes "BadField" }
+{}

@@ -1,0 +1,70 @@
+//! Each of these is run with any one allocation refused: each call gives its answer or names the want of memory.
+
+use bq_asm::assemble::assemble;
+use bq_asm::disassemble::disassemble;
+use bq_asm::fault::AsmFault;
+use bq_check::fault::{CheckFault, NotesFault};
+use bq_check::notes::Notes;
+use bq_flow::fault::FlowFault;
+use bq_flow::flow::Flow;
+use bq_insn::decode::decode;
+use bq_insn::encode::encode;
+use bq_insn::fault::DecodeFault;
+use bq_verify::verify::verify;
+
+#[test]
+fn sources_are_assembled(rt: HostRuntime) {
+    match assemble(rt.alloc(), "ja over\nexit\nover:\nexit\n") {
+        Ok(text) => match disassemble(rt.alloc(), &text) {
+            Ok(written) => assert_eq!(rt; written.as_str(), "ja +1\nexit\nexit\n"),
+            Err(_) => (),
+        },
+        Err(fault) => assert_eq!(rt; fault, AsmFault::OutOfMemory),
+    }
+}
+
+#[test]
+fn texts_are_read(rt: HostRuntime) {
+    let mut exits = [0; 512];
+    for unit in 0..64 {
+        exits[8 * unit] = 0x95;
+    }
+    match decode(rt.alloc(), &exits) {
+        Ok(text) => match encode(rt.alloc(), &text) {
+            Ok(bytes) => assert!(rt; bytes.as_slice() == exits.as_slice()),
+            Err(_) => (),
+        },
+        Err(fault) => assert!(rt; fault == DecodeFault::OutOfMemory),
+    }
+}
+
+#[test]
+fn flows_are_found(rt: HostRuntime) {
+    let Ok(text) = decode(rt.alloc(), b"\x95\0\0\0\0\0\0\0") else {
+        return;
+    };
+    match Flow::of(rt.alloc(), &text) {
+        Ok(flow) => assert!(rt; flow.longest() == 1),
+        Err(fault) => assert!(rt; fault == FlowFault::OutOfMemory),
+    }
+}
+
+#[test]
+fn notes_are_read(rt: HostRuntime) {
+    match Notes::read(rt.alloc(), &[1, 0, 0, 0, 0]) {
+        Ok(notes) => assert_eq!(rt; notes.len(), 1),
+        Err(fault) => assert_eq!(rt; fault, NotesFault::OutOfMemory),
+    }
+}
+
+/// `mov64 r0, 0 / exit`
+#[test]
+fn notes_are_found(rt: HostRuntime) {
+    let Ok(text) = decode(rt.alloc(), b"\xb7\0\0\0\0\0\0\0\x95\0\0\0\0\0\0\0") else {
+        return;
+    };
+    match verify(rt.alloc(), &text) {
+        Ok(notes) => assert_eq!(rt; notes.len(), 2),
+        Err(fault) => assert_eq!(rt; fault, CheckFault::OutOfMemory),
+    }
+}
