@@ -1,6 +1,6 @@
 //! Lists of records.
 
-ghost use Rattle.std.specs.Prelude.{◌≡◌, ℕ, ◌≤◌, ◌++◌, IfOk, IfErr, MatchResult, replicate};
+ghost use Rattle.std.specs.Prelude.{◌≡◌, ℕ, ◌≤◌, ◌∷◌, ◌++◌, codes, IfOk, IfErr, MatchResult, replicate};
 ghost use Rattle.q_script.specs.Words.{Reads};
 ghost use Rattle.q_script.specs.Records.{IsRecord, IsAbove, HasFault, IsView, IsRefusal, value_bytes, stored_of, fault_number, fault_name};
 
@@ -154,4 +154,14 @@ pub fn read_records(alloc: Global, source: &str) -> Result<View, RecordsFault>
         }
     }
     Ok(view)
+}
+
+/// What the definitions say of telling records.
+pub fn worked()
+    ensures little_endian { value_bytes 258 ≡ 2 ∷ 1 ∷ replicate 46 0 }
+    ensures unsorted { fault_number RecordFault.Unsorted ≡ 75 }
+    ensures bad_field { fault_number RecordFault.BadField ≡ 77 }
+    ensures full { fault_number RecordFault.Full ≡ 46 }
+    ensures full_name { fault_name RecordFault.Full ≡ codes "ViewFull" }
+{
 }

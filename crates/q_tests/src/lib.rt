@@ -1,7 +1,8 @@
-//! Tests of the crates of the query service: its scripts, programs, jobs, desks, books, clusters and simulations.
+//! Tests of the crates of the query service that no text can say: calls that no command and no script makes, a writer
+//! that fails, and want of memory.
 //!
-//! They are worked rows and vectors from outside, each public call once with ample memory, and want of memory. A crate
-//! with tests is proved twice, so the tests of these crates stand together here, and each module has the name of its crate.
+//! What commands and scripts can say stands as cases in the crate `q_cases`. A crate with tests is proved twice, so the
+//! tests of these crates stand together here, and each module has the name of its crate.
 #![tactic(auto)]
 
 #[cfg(test)]
@@ -12,12 +13,6 @@ mod cluster;
 mod command;
 #[cfg(test)]
 mod desk;
-#[cfg(test)]
-mod explain;
-#[cfg(test)]
-mod script;
-#[cfg(test)]
-mod session;
 #[cfg(test)]
 mod sim;
 #[cfg(test)]

@@ -6,7 +6,7 @@ use Rattle.clap.specs.Words.{App, fault_of, subcommand_of, Row, Shape, Text, fou
 use Rattle.clap.specs.Simple.{argument_words, built, entered, label_of, names_of, rows_at}
 use Rattle.clap.specs.Walk.{answers_to, stop_after}
 use Rattle.clap.specs.Words.{app_of, with_subcommand}
-use Rattle.clap.specs.Built.{AddsArg}
+use Rattle.clap.specs.Built.{AddsArg, AddsSubcommand}
 use Rattle.clap.specs.declared.builder.arg.Arg.{Arg}
 use Rattle.clap.specs.declared.builder.command.Command.{Command}
 use Rattle.clap.specs.declared.builder.command.Command.TheViews.{out-Command}
@@ -100,6 +100,15 @@ or_false false c e = e
 pub local_kept : {E : Type 0} (old : Command) (a : Arg) (r : Result Command E) → IfOk r (AddsArg old a) → a.global ≡ false → IfOk r (λ c. (out-Command c).has_globals ≡ (out-Command old).has_globals)
 local_kept old a (Ok c) h e = h.globals ∙ or_false (out-Command old).has_globals a.global e
 local_kept old a (Err e) h f = tt
+
+-- what a command has with one more command below it
+pub one_below : {E : Type 0} (old below : Command) (r : Result Command E) → IfOk r (AddsSubcommand old below) → (out-Command below).has_globals ≡ false → IfOk r (λ c. app_of c ≡ with_subcommand (app_of old) (app_of below).top)
+one_below old below (Ok c) h e = h.shape e
+one_below old below (Err e) h f = tt
+
+pub local_above : {E : Type 0} (old below : Command) (r : Result Command E) → IfOk r (AddsSubcommand old below) → (out-Command below).has_globals ≡ false → IfOk r (λ c. (out-Command c).has_globals ≡ (out-Command old).has_globals)
+local_above old below (Ok c) h e = h.globals ∙ or_false (out-Command old).has_globals (out-Command below).has_globals e
+local_above old below (Err e) h f = tt
 
 pub below_one_more : (a b s t : App) → a ≡ b → s ≡ t → with_subcommand a s.top ≡ with_subcommand b t.top
 below_one_more a b s t e f = ap₂ (λ (x y : App). with_subcommand x y.top) e f

@@ -1,0 +1,116 @@
+//! The files of cases, and what their commands print.
+
+use crate::line::CaseLine;
+use q_command::advice::advice;
+use q_command::files::Files;
+use q_command::memory::MemoryFiles;
+use q_command::perform::perform;
+use q_words::words::read_words;
+use std::alloc::{AllocError, Global};
+use std::io;
+use std::io::Write;
+
+/// Files in memory, and the one whose lines are being read.
+#[derive(Drop)]
+pub struct Cases {
+    alloc: Global,
+    files: MemoryFiles,
+    name: String,
+    bytes: Vec<u8>,
+    /// How many reads of the next command go through before one fails.
+    passing: Option<u64>,
+}
+
+impl Cases {
+    /// No files.
+    pub fn new(alloc: Global) -> Cases {
+        Cases {
+            alloc,
+            files: MemoryFiles::new(alloc),
+            name: String::new(alloc),
+            bytes: Vec::new(alloc),
+            passing: None,
+        }
+    }
+
+    /// Takes a line, and writes what comes of it.
+    pub fn take<W: Write>(&mut self, line: CaseLine<'_>, out: &mut W) -> io::Result<()> {
+        match line {
+            CaseLine::Title(text) => writeln!(out, "{text}"),
+            CaseLine::File(name) => Ok(self.begin_file(name)?),
+            CaseLine::Bytes(digits) => self.add_bytes(digits),
+            CaseLine::Repeated { count, text } => Ok(self.add_lines(count, text)?),
+            CaseLine::Failing(passing) => {
+                self.passing = Some(passing);
+                Ok(())
+            }
+            CaseLine::Command(words) => self.command(words, out),
+            CaseLine::Advice(words) => self.explain(words, out),
+            CaseLine::Text(text) => Ok(self.add_lines(1, text)?),
+        }
+    }
+
+    /// Makes the file whose lines were read, and begins another, which is empty yet.
+    fn begin_file(&mut self, name: &str) -> Result<(), AllocError> {
+        self.end_file();
+        self.bytes.clear();
+        self.name.clear();
+        self.name.push_str(name)
+    }
+
+    fn add_lines(&mut self, count: u64, text: &str) -> Result<(), AllocError> {
+        for _ in 0..count {
+            self.bytes.extend_from_slice(text.as_bytes())?;
+            self.bytes.push(b'\n')?;
+        }
+        Ok(())
+    }
+
+    fn add_bytes(&mut self, digits: &str) -> io::Result<()> {
+        match hex::decode(self.alloc, digits) {
+            Ok(bytes) => Ok(self.bytes.extend_from_slice(bytes.as_slice())?),
+            Err(_) => Err(io::Error::from(io::ErrorKind::InvalidInput)),
+        }
+    }
+
+    /// Makes the file whose lines were read.
+    fn end_file(&mut self) -> bool {
+        self.files.passing = None;
+        self.files
+            .write(self.name.as_str(), self.bytes.as_slice())
+            .is_ok()
+    }
+
+    /// Runs the command of these words.
+    fn command<W: Write>(&mut self, words: &str, out: &mut W) -> io::Result<()> {
+        writeln!(out, "$ {words}")?;
+        self.end_file();
+        self.files.failures = 0;
+        self.files.passing = self.passing.take();
+        let words: Vec<&str> = words.split(' ').collect(self.alloc)?;
+        let status = match read_words(self.alloc, words.as_slice()) {
+            Ok(line) => perform(self.alloc, &line, &mut self.files, out),
+            Err(fault) => {
+                writeln!(out, "{fault}")?;
+                fault.status()
+            }
+        };
+        let failures = self.files.failures();
+        writeln!(out, "status {status} failures {failures}")
+    }
+
+    /// Writes what explains the refusal of the program of these words' command.
+    fn explain<W: Write>(&mut self, words: &str, out: &mut W) -> io::Result<()> {
+        writeln!(out, "? {words}")?;
+        self.end_file();
+        let words: Vec<&str> = words.split(' ').collect(self.alloc)?;
+        let Ok(line) = read_words(self.alloc, words.as_slice()) else {
+            return writeln!(out, "no command");
+        };
+        match advice(self.alloc, &line, &mut self.files) {
+            Ok(Some(text)) => write!(out, "{text}"),
+            Ok(None) => writeln!(out, "nothing to explain"),
+            Err(refusal) => writeln!(out, "{refusal}"),
+        }
+    }
+}

@@ -1,0 +1,33 @@
+//! Cases of the program's commands as text, over files in memory.
+//!
+//! | Line | What it does |
+//! |---|---|
+//! | `-- TEXT` | is printed as it stands |
+//! | `= NAME` | begins a file of this name |
+//! | `+ HEX` | adds these bytes to the file |
+//! | `* COUNT TEXT` | adds the line TEXT to the file so many times |
+//! | `! COUNT` | makes the next command's reads fail once so many of them went through |
+//! | `$ WORDS` | is printed, with what the command of these words prints, its status, and how many reads failed |
+//! | `? WORDS` | is printed, with what explains the refusal of the command's program |
+//! | any other | is added to the file as a line |
+//!
+//! Words have one space between, so that two spaces have an empty word between them. Where words name no command, what
+//! is wrong with them is printed.
+#![tactic(auto)]
+
+mod cases;
+mod line;
+
+use crate::cases::Cases;
+use crate::line::CaseLine;
+use std::io;
+
+fn main(rt: HostRuntime) -> io::Result<()> {
+    let alloc = rt.alloc();
+    let mut cases = Cases::new(alloc);
+    for line in rt.lines(alloc) {
+        let line = line?;
+        cases.take(CaseLine::read(line.as_str()), &mut io::writer(&rt))?;
+    }
+    Ok(())
+}
