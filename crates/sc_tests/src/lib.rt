@@ -1,11 +1,8 @@
-//! Tests of the crates of the store-collect object: its views, facts, messages, nodes and worlds.
+//! Tests of the crates of the store-collect object that no text can say: want of memory, and calls that go both ways.
 //!
-//! They are worked rows and vectors from outside, each public call once with ample memory, and want of memory. A crate
-//! with tests is proved twice, so the tests of these crates stand together here, and each module has the name of its crate.
+//! Each module has the name of its crate. Worked rows and vectors from outside are cases of the program `sc_cases`.
 #![tactic(auto)]
 
-#[cfg(test)]
-mod members;
 #[cfg(test)]
 mod msg;
 #[cfg(test)]

@@ -21,14 +21,16 @@ impl Node {
         ensures { Steps NodeFault.OutOfMemory (delivered self.old (message_from from Enter)) self.old self.new result }
     {
         let facts = self.facts.with_entered(from)?;
-        let echo = Body::EnterEcho {
+        let told = facts.clone()?;
+        let view = self.view.clone()?;
+        self.facts = facts;
+        let echo = self.says(Body::EnterEcho {
             to: from,
             joined: self.joined,
-            facts: facts.clone()?,
-            view: self.view.clone()?,
-        };
-        self.facts = facts;
-        Ok(Delivered::sending(Outs::one(self.alloc, self.says(echo))))
+            facts: told,
+            view,
+        });
+        Ok(Delivered::sending(Outs::one(self.alloc, echo)))
     }
 
     pub(super) fn on_join(&mut self, from: u64) -> Result<Delivered, NodeFault>

@@ -1,0 +1,93 @@
+//! Lines about messages as bytes.
+
+use sc_members::facts::Facts;
+use sc_msg::decode::decode;
+use sc_msg::encode::encode;
+use sc_msg::fault::MessageFault;
+use sc_msg::message::{Body, Message};
+use sc_view::view::View;
+use std::alloc::Global;
+use std::io;
+
+fn tell_view(rt: &impl Print, view: &View) -> io::Result<()> {
+    for (id, stored) in view.records() {
+        print!(rt; " value {id} {} {}", stored.number, stored.value[0])?;
+    }
+    Ok(())
+}
+
+fn tell_facts(rt: &impl Print, facts: &Facts) -> io::Result<()> {
+    print!(rt;
+        " entered {} joined {} left {}",
+        facts.entered().len(),
+        facts.joined().len(),
+        facts.left().len()
+    )
+}
+
+fn tell_body(rt: &impl Print, body: &Body) -> io::Result<()> {
+    match body {
+        Body::Enter | Body::Join | Body::Leave => Ok(()),
+        Body::EnterEcho {
+            to,
+            joined,
+            facts,
+            view,
+        } => {
+            print!(rt; " to {to}{}", if *joined { " joined" } else { "" })?;
+            tell_facts(rt, facts)?;
+            tell_view(rt, view)
+        }
+        Body::JoinEcho { about } | Body::LeaveEcho { about } => print!(rt; " about {about}"),
+        Body::Store { tag, view } => {
+            print!(rt; " tag {tag}")?;
+            tell_view(rt, view)
+        }
+        Body::StoreAck { to, tag } => print!(rt; " to {to} tag {tag}"),
+        Body::StoreEcho { view } => tell_view(rt, view),
+        Body::CollectQuery { tag } => print!(rt; " tag {tag}"),
+        Body::CollectReply { to, tag, view } => {
+            print!(rt; " to {to} tag {tag}")?;
+            tell_view(rt, view)
+        }
+    }
+}
+
+/// Whether a copy of the message is written as these bytes.
+fn is_written(alloc: Global, message: &Message, bytes: &[u8]) -> bool {
+    let Ok(copy) = message.clone() else {
+        return false;
+    };
+    match encode(alloc, &copy) {
+        Ok(written) => written.as_slice() == bytes,
+        Err(_) => false,
+    }
+}
+
+fn tell_message(rt: &impl Print, alloc: Global, message: &Message, bytes: &[u8]) -> io::Result<()> {
+    print!(rt; " {} from {}", message.kind().name(), message.from)?;
+    tell_body(rt, &message.body)?;
+    println!(rt;
+        "{}",
+        if is_written(alloc, message, bytes) {
+            ""
+        } else {
+            " written otherwise"
+        }
+    )
+}
+
+fn refuse(rt: &impl Print, fault: MessageFault) -> io::Result<()> {
+    println!(rt; " refused {} {}", fault.number(), fault.name())
+}
+
+/// What the message of these hexadecimal digits says, or why they are none.
+pub(crate) fn tell(rt: &impl Print, alloc: Global, digits: &str) -> io::Result<()> {
+    let Ok(bytes) = hex::decode(alloc, digits) else {
+        return println!(rt; " no digits");
+    };
+    match decode(alloc, bytes.as_slice()) {
+        Ok(message) => tell_message(rt, alloc, &message, bytes.as_slice()),
+        Err(fault) => refuse(rt, fault),
+    }
+}

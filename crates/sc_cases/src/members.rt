@@ -1,0 +1,100 @@
+//! Lines about fractions, thresholds, sets of ids and facts.
+
+use crate::words::{Fraction, MembersLine, number};
+use sc_members::config::{Config, threshold};
+use sc_members::facts::{Facts, FactsFault};
+use sc_members::ids::IdSet;
+use std::alloc::{AllocError, Global};
+use std::io;
+
+/// The ids that words spell; another word is left out.
+fn ids_of(alloc: Global, words: &[&str]) -> Result<IdSet, AllocError> {
+    let mut ids = IdSet::new(alloc);
+    for word in words {
+        if let Some(id) = number(word) {
+            ids.insert(id)?;
+        }
+    }
+    Ok(ids)
+}
+
+fn tell_sets(rt: &impl Print, first: &IdSet, second: &IdSet) -> io::Result<()> {
+    for id in first.union(second)?.iter() {
+        print!(rt; " {id}")?;
+    }
+    print!(rt; " size {}", first.len())?;
+    if let Some(id) = first.least_common(second) {
+        print!(rt; " common {id}")?;
+    }
+    println!(rt;
+        " union {} difference {}",
+        first.union_len(second),
+        first.difference_len(second)
+    )
+}
+
+/// One more fact, of which a word says what it is.
+fn add(facts: &mut Facts, what: &str, id: u64) -> Result<(), FactsFault> {
+    match what {
+        "entered" => facts.add_entered(id),
+        "joined" => facts.add_joined(id),
+        "left" => facts.add_left(id),
+        _ => Ok(()),
+    }
+}
+
+/// The facts that words say: what they are, and then of whom.
+fn said(alloc: Global, words: &[&str]) -> Result<Facts, FactsFault> {
+    let mut facts = Facts::new(alloc);
+    let mut what = "";
+    for word in words {
+        match number(word) {
+            Some(id) => add(&mut facts, what, id)?,
+            None => what = word,
+        }
+    }
+    Ok(facts)
+}
+
+/// The facts of these founders, united with those that the words say.
+fn facts_of(alloc: Global, founders: &[&str], more: &[&str]) -> Result<Facts, FactsFault> {
+    let ids = ids_of(alloc, founders)?;
+    let facts = Facts::from_sets(ids.clone()?, ids, IdSet::new(alloc));
+    facts.united(&said(alloc, more)?)
+}
+
+fn tell_facts(rt: &impl Print, facts: Result<Facts, FactsFault>) -> io::Result<()> {
+    match facts {
+        Ok(facts) => println!(rt; " present {} members {}", facts.present(), facts.members()),
+        Err(fault) => println!(rt; " refused {} {}", fault.number(), fault.name()),
+    }
+}
+
+fn tell_fraction(rt: &impl Print, fraction: Fraction) -> io::Result<()> {
+    let Fraction { num, den } = fraction;
+    match (Config::new(num, den, 1, 1), Config::new(1, 1, num, den)) {
+        (Ok(beta), Ok(gamma)) => println!(rt;
+            " of four {} {}",
+            beta.beta_threshold(4),
+            gamma.gamma_threshold(4)
+        ),
+        (Err(fault), _) => println!(rt; " refused {} {}", fault.number(), fault.name()),
+        (_, Err(fault)) => println!(rt; " joins refused {} {}", fault.number(), fault.name()),
+    }
+}
+
+pub(crate) fn tell(rt: &impl Print, alloc: Global, line: &MembersLine) -> io::Result<()> {
+    match line {
+        MembersLine::Threshold(Fraction { num, den }, count) => println!(rt;
+            " {}",
+            threshold(*num, *den, *count)
+        ),
+        MembersLine::Fraction(fraction) => tell_fraction(rt, *fraction),
+        MembersLine::Sets(first, second) => tell_sets(
+            rt,
+            &ids_of(alloc, first)?,
+            &ids_of(alloc, second)?,
+        ),
+        MembersLine::Facts(founders, more) => tell_facts(rt, facts_of(alloc, founders, more)),
+    }
+}

@@ -1,0 +1,170 @@
+//! Lines about a world.
+
+use crate::words::{Fraction, WorldLine};
+use sc_members::config::Config;
+use sc_node::answer::{Completion, Ended};
+use sc_node::session::Phase;
+use sc_world::event::{Event, Stepped};
+use sc_world::fault::WorldFault;
+use sc_world::op::meets;
+use sc_world::world::World;
+use std::alloc::Global;
+use std::io;
+
+/// The world that the lines speak of, once one was founded.
+#[derive(Drop)]
+pub(crate) struct Worlds {
+    alloc: Global,
+    world: Option<World>,
+}
+
+fn tell_end(rt: &impl Print, ended: &Ended) -> io::Result<()> {
+    match &ended.what {
+        Completion::Returned(view) => print!(rt; " returned {} values {}", ended.tag, view.len()),
+        Completion::Stored => print!(rt; " stored {}", ended.tag),
+    }
+}
+
+/// What an event told: its operation, its end, and its messages.
+fn tell(rt: &impl Print, world: &World, stepped: &Stepped) -> io::Result<()> {
+    if let Some(tag) = stepped.tag {
+        print!(rt; " tag {tag}")?;
+    }
+    if let Some(ended) = &stepped.ended {
+        tell_end(rt, ended)?;
+    }
+    for i in 0..stepped.sent.count {
+        let number = stepped.sent.first.wrapping_add(i);
+        if let Some(message) = world.message(number) {
+            print!(rt; " {number} {}", message.kind().name())?;
+        }
+    }
+    println!(rt; "")
+}
+
+fn refuse(rt: &impl Print, fault: WorldFault) -> io::Result<()> {
+    println!(rt; " refused {} {}", fault.number(), fault.name())
+}
+
+fn step(rt: &impl Print, world: &mut World, event: Event) -> io::Result<()> {
+    match world.step(event) {
+        Ok(stepped) => tell(rt, world, &stepped),
+        Err(fault) => refuse(rt, fault),
+    }
+}
+
+fn deliver_all(world: &mut World, messages: usize, nodes: u64) -> Result<(), WorldFault> {
+    for message in 0..messages {
+        for node in 0..nodes {
+            world.step(Event::Deliver {
+                message,
+                node: node.wrapping_add(1),
+            })?;
+        }
+    }
+    Ok(())
+}
+
+fn tell_phase(rt: &impl Print, phase: Option<&Phase>) -> io::Result<()> {
+    match phase {
+        Some(phase) => print!(rt; " {} of {}", phase.counted.len(), phase.threshold),
+        None => print!(rt; " none"),
+    }
+}
+
+fn tell_op(rt: &impl Print, world: &World, place: usize) -> io::Result<()> {
+    if let Some(op) = world.ops().get(place) {
+        tell_phase(rt, op.session.query.as_ref())?;
+        tell_phase(rt, op.session.back.as_ref().map(|back| &back.phase))?;
+    }
+    println!(rt; "")
+}
+
+fn tell_common(rt: &impl Print, world: &World, first: usize, second: usize) -> io::Result<()> {
+    let (Some(first), Some(second)) = (world.ops().get(first), world.ops().get(second)) else {
+        return println!(rt; " no such operation");
+    };
+    match meets(first, second) {
+        Some(id) => println!(rt; " {id}"),
+        None => println!(rt; " none"),
+    }
+}
+
+fn tell_known(rt: &impl Print, world: &World, id: u64) -> io::Result<()> {
+    if let Some(node) = world.node(id) {
+        let facts = node.facts();
+        print!(rt;
+            " values {} present {} members {}",
+            node.view().len(),
+            facts.present(),
+            facts.members()
+        )?;
+    }
+    println!(rt;
+        "{}",
+        if world.live(id).is_some() {
+            ""
+        } else {
+            " not there"
+        }
+    )
+}
+
+fn founded(
+    alloc: Global,
+    beta: Fraction,
+    gamma: Fraction,
+    first: u64,
+    count: u64,
+) -> Result<World, WorldFault> {
+    let config = Config::new(beta.num, beta.den, gamma.num, gamma.den).unwrap_or_default();
+    let founders: Vec<u64> = (first..first.saturating_add(count)).collect(alloc)?;
+    World::new(alloc, config, founders.as_slice())
+}
+
+impl Worlds {
+    pub(crate) fn new(alloc: Global) -> Worlds {
+        Worlds { alloc, world: None }
+    }
+
+    pub(crate) fn answer(&mut self, rt: &impl Print, line: WorldLine) -> io::Result<()> {
+        if let WorldLine::World {
+            beta,
+            gamma,
+            first,
+            count,
+        } = line
+        {
+            return match founded(self.alloc, beta, gamma, first, count) {
+                Ok(world) => {
+                    self.world = Some(world);
+                    Ok(())
+                }
+                Err(fault) => refuse(rt, fault),
+            };
+        }
+        match &mut self.world {
+            Some(world) => answer_in(rt, world, line),
+            None => Ok(()),
+        }
+    }
+}
+
+fn answer_in(rt: &impl Print, world: &mut World, line: WorldLine) -> io::Result<()> {
+    match line {
+        WorldLine::Event(event) => step(rt, world, event),
+        WorldLine::All { messages, nodes } => match deliver_all(world, messages, nodes) {
+            Ok(()) => Ok(()),
+            Err(fault) => refuse(rt, fault),
+        },
+        WorldLine::Op(place) => tell_op(rt, world, place),
+        WorldLine::Common(first, second) => tell_common(rt, world, first, second),
+        WorldLine::Known(id) => tell_known(rt, world, id),
+        WorldLine::Counts => println!(rt;
+            " events {} messages {}",
+            world.events().len(),
+            world.sent()
+        ),
+        WorldLine::World { .. } => Ok(()),
+    }
+}
