@@ -1,11 +1,10 @@
 -- The states of a text are the least that pass; where a rule is broken in them no notes pass. By induction over the
 -- units: what arrives at a unit is below the note there of any notes that pass, since from less an instruction leaves
 -- less (bq_state/proofs/Monotone). That holds of states whose ranges have a word in them, and the entry's is one.
-use Rattle.std.proofs.Common.{◌≡◌, ℕ, zero, suc, ◌<◌, List, [], ◌∷◌, length, Option, Some, None, ap, sym, subst, ◌∙◌, refl, arith, inl, inr}
+use Rattle.std.proofs.Common.{◌≡◌, ℕ, zero, suc, ◌<◌, List, [], ◌∷◌, Option, Some, None, ap, sym, subst, ◌∙◌, refl, arith, inl, inr}
 use Rattle.std.specs.Prelude.{◌≢◌, ◌==◌, Result, Ok, Err}
 use Rattle.std.specs.List.{fold}
-use Rattle.std.proofs.lemmas.Bool.{cases_Bool, cases_lt, eqb-true}
-use Rattle.std.proofs.lemmas.List.{get_or_past}
+use Rattle.std.proofs.lemmas.Bool.{cases_Bool, eqb-true}
 use Rattle.bq_insn.specs.Slots.{units, IsText}
 use Rattle.bq_insn.specs.declared.insn.Insn.{Insn}
 use Rattle.bq_flow.specs.Paths.{insn_at, Among}
