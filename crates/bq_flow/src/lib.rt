@@ -16,7 +16,8 @@
 //! jumps go forward is this project's own rule.
 //!
 //! The definitions are in `specs/`: `Successors` has the successors of an instruction, `Paths` legal
-//! flow, paths and the longest one, and `Faults` which fault stands first.
+//! flow, paths and the longest one, and `Faults` which fault stands first. What they say of small texts,
+//! worked by hand, is the contract of [`worked`](worked::worked).
 //!
 //! The checker and the verifier stand on this crate.
 //!

@@ -17,7 +17,8 @@
 //! of the words that can be there.
 //!
 //! The same facts stand as lemmas over the tables in `proofs/Covers.antt`, for proofs of crates
-//! above that speak of no call.
+//! above that speak of no call. What the tables say at telling operands, worked by hand, is the
+//! contract of [`worked`](worked::worked).
 //!
 //! No call refuses an input, and none takes memory. States of registers and the checker of
 //! programs stand on this crate.
