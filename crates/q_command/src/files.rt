@@ -8,7 +8,7 @@ use q_sim::refusal::Refusal;
 use std::alloc::{AllocError, Global};
 
 /// Why a file was not read or written.
-#[derive(Clone, Copy, Debug, PartialEq, Eq)]
+#[derive(Clone, Copy)]
 pub enum FileFault {
     /// 87: the file could not be opened, read or written.
     Failed,

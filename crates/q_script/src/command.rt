@@ -3,7 +3,7 @@ ghost use Rattle.std.specs.Str.{bytes_eq};
 ghost use Rattle.q_script.specs.Command.{name, command_at};
 
 /// What the first word of a line tells to do.
-#[derive(Clone, Copy, Debug, PartialEq, Eq)]
+#[derive(Clone, Copy)]
 pub enum Command {
     Program,
     Store,

@@ -8,7 +8,7 @@ use crate::number::{leading, pair};
 use crate::text::cut;
 
 /// A fraction as it is written, in lowest terms or not.
-#[derive(Clone, Copy, Debug, PartialEq, Eq)]
+#[derive(Clone, Copy)]
 pub struct Fraction {
     /// What stands before the slash.
     pub numerator: u64,
@@ -30,7 +30,7 @@ impl Fraction {
 }
 
 /// How a cluster is founded.
-#[derive(Clone, Copy, Debug, PartialEq, Eq)]
+#[derive(Clone, Copy)]
 pub struct Founding {
     /// The founders are 1 to this number.
     pub count: u64,

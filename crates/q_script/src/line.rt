@@ -9,7 +9,7 @@ use crate::text::cut;
 use std::alloc::Global;
 
 /// An event of a script.
-#[derive(Debug, PartialEq, Eq, Drop)]
+#[derive(Drop)]
 pub enum ScriptLine {
     /// `program NODE HEX`: register at a node the program whose bytes are spelled in hexadecimal digits.
     Program {
@@ -59,7 +59,7 @@ pub enum ScriptLine {
 }
 
 /// Why a line is not read.
-#[derive(Clone, Copy, Debug, PartialEq, Eq)]
+#[derive(Clone, Copy)]
 pub enum LineFault {
     /// The line is of another form.
     Form,

@@ -10,7 +10,7 @@ use sc_view::view::{Stored, View, ViewFault};
 use std::alloc::Global;
 
 /// The line of a record, `ID SEQ VALUE`.
-#[derive(Clone, Copy, Debug, PartialEq, Eq)]
+#[derive(Clone, Copy)]
 pub struct Record {
     /// The id of the node.
     pub id: u64,
@@ -163,5 +163,4 @@ pub fn worked()
     ensures bad_field { fault_number RecordFault.BadField ≡ 77 }
     ensures full { fault_number RecordFault.Full ≡ 46 }
     ensures full_name { fault_name RecordFault.Full ≡ codes "ViewFull" }
-{
-}
+{}

@@ -10,7 +10,7 @@ use crate::text::{cut, without_last_feed};
 use std::alloc::Global;
 
 /// A script: how its cluster is founded, and its events in turn.
-#[derive(Debug, PartialEq, Eq, Drop)]
+#[derive(Drop)]
 pub struct Script {
     /// How the cluster is founded.
     pub founding: Founding,

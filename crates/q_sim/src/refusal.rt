@@ -38,7 +38,7 @@ pub enum Refusal {
 }
 
 /// Where a refusal arose, as its line tells it.
-#[derive(Clone, Copy, Debug, PartialEq, Eq)]
+#[derive(Clone, Copy)]
 pub enum Place {
     /// The line does not tell it.
     Untold,

@@ -33,7 +33,7 @@ impl Write for Short {
 /// A file `a` of one instruction.
 fn one_file(alloc: Global) -> Result<MemoryFiles, Fail> {
     let mut files = MemoryFiles::new(alloc);
-    files.write("a", b"exit")?;
+    files.write("a", b"exit").map_err(|_| "no file")?;
     Ok(files)
 }
 

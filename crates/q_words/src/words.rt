@@ -11,7 +11,7 @@ use q_script::number::number;
 use std::alloc::{AllocError, Global};
 
 /// A command with its operands.
-#[derive(Clone, Copy, Debug, PartialEq, Eq)]
+#[derive(Clone, Copy)]
 pub enum Line<'a> {
     /// `asm FILE`: list the units of the program that a file of assembler text spells.
     Asm {
