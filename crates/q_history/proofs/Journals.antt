@@ -25,10 +25,6 @@ use Rattle.q_history.proofs.Lists.{passed}
 abbrev pub GoesOn : DeskState → Entry → DeskState → Type 0
 GoesOn d e later = later.journal ≡ d.journal ++ e ∷ []
 
-pub noted-ok : (d : DeskState) (e : Entry) → desk.has_room d ≡ true → desk.noted d e ≡ Ok (tt, desk.with_entry d e)
-noted-ok d e room =
-    ap (λ (b : Bool). let r : Result (Unit {0} × DeskState) DeskFault = cond b (Ok (tt, desk.with_entry d e)) (Err fault.BookFull) in r) room
-
 registered_by-goes : (d : DeskState) (program : Certificate) (r : Result (ℕ × List Certificate) TableFault) (y : ℕ × DeskState) → desk.registered_by d program r ≡ Ok y → GoesOn d (entry.Register program) y.1
 registered_by-goes d program (Err e) y h = absurd (no_refusal _ y h)
 registered_by-goes d program (Ok z) y h =

@@ -6,6 +6,7 @@ pub mod Ops
 pub mod Accepted
 pub mod Returns
 pub mod Kept
+pub mod Called
 pub mod Events
 pub mod Delivering
 pub mod Finishing
