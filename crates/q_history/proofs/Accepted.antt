@@ -1,19 +1,16 @@
 -- What an event of a world that its node accepted is, and that nothing is lost at it.
-use Rattle.std.proofs.Common.{◌≡◌, ℕ, Option, Some, None, refl, sym, ap, ◌∙◌, subst, Result, Ok}
+use Rattle.std.proofs.Common.{◌≡◌, ℕ, Option, Some, None, sym, ap, ◌∙◌, subst, Result, Ok}
 use Rattle.std.specs.FinMap as fin
 use Rattle.std.specs.FinSet as set
 use Rattle.sc_node.specs.declared.answer.Begun.{Begun}
 use Rattle.sc_node.specs.State.{NodeState}
 use Rattle.sc_node.specs.Nodes.{collect_begun}
 use Rattle.sc_world.specs.declared.event.Event.{Event}
-use Rattle.sc_world.specs.declared.event.Event.TheVariants as event
-use Rattle.sc_world.specs.declared.event.Stepped.{Stepped}
 use Rattle.sc_world.specs.declared.fault.WorldFault.{WorldFault}
 use Rattle.sc_world.specs.declared.op.Op.{Op}
 use Rattle.sc_world.specs.State.{WorldState}
 use Rattle.sc_world.specs.Worlds.{Outcome, of_begun, told, after, took, acts, by_node, by_live, live_at}
 use Rattle.sc_world.specs.Records.{Among}
-use Rattle.sc_world.proofs.Handlers.{collect_outcome}
 use Rattle.sc_world.proofs.Inverts.{live_is, collects-ok}
 use Rattle.q_history.proofs.Lists.{no_some}
 use Rattle.q_history.proofs.Ops.{IsOnward, after_onward, collect_among}

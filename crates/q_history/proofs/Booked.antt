@@ -30,7 +30,7 @@ use Rattle.q_book.specs.Replays.{Follows, IsFirst, IsReplay}
 use Rattle.q_history.specs.declared.event.Stepped.{Stepped}
 use Rattle.q_history.specs.State.{ClusterState}
 use Rattle.q_history.specs.Heads.{book_of}
-use Rattle.q_history.specs.Clusters.{put, at as at_node, registers, registered, opened, asks, asked, stores, stored, delivers, delivered_as, delivered, with_job, hands, handed_out, posts, posted, finished, entered, leaves, left, crashed}
+use Rattle.q_history.specs.Clusters.{put, at as at_node, registers, registered, opened, asks, asked, stores, stored, delivers, delivered_as, delivered, with_job, hands, handed_out, posts, finished, entered, leaves, left, crashed}
 use Rattle.q_history.specs.Calls.{Answers}
 use Rattle.q_history.specs.Books.{BooksAreReplays}
 use Rattle.q_history.proofs.Lists.{same_some, no_some}

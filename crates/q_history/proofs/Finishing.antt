@@ -19,7 +19,7 @@ use Rattle.q_book.specs.Books as book
 use Rattle.q_history.specs.declared.event.Stepped.{Stepped}
 use Rattle.q_history.specs.State.{ClusterState}
 use Rattle.q_history.specs.Heads.{book_of}
-use Rattle.q_history.specs.Clusters.{at as at_node, with_job, hands, handed_out, posts, posted, finished}
+use Rattle.q_history.specs.Clusters.{at as at_node, with_job, hands, handed_out, posts, finished}
 use Rattle.q_history.specs.Calls.{Answers}
 use Rattle.q_history.proofs.Lists.{same_some, get_snoc}
 use Rattle.q_history.proofs.Moves.{Keeps, keeps_itself, Moves, Nothing, IsRephased}
