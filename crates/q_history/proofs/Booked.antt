@@ -37,7 +37,8 @@ use Rattle.q_history.proofs.Lists.{same_some, no_some}
 use Rattle.q_history.proofs.Ops.{insert_has}
 use Rattle.q_history.proofs.Accepted.{at_live}
 use Rattle.q_history.proofs.Called.{at-ok, call-ok, led, left-parts, stored-parts, asked-parts, delivered-parts, registered-parts, handed_out-parts, posted-parts}
-use Rattle.q_history.proofs.Journals.{GoesHanded, registered_goes, asked_goes, ends_stays, handed_goes, posted_goes}
+use Rattle.q_history.proofs.Moves.{registered_moves, asked_moves, ends_stays}
+use Rattle.q_history.proofs.Jobs.{IsHanded, handed_out-ok, posted-ok}
 use Rattle.q_history.proofs.Replays.{IsOn, replay_next}
 
 -- each node's book is a replay, and each founder is there
@@ -119,7 +120,7 @@ module _ (c : ClusterState) (books : AreBooks c) where
       let begun = k.answer.0.begun in
       subst AreBooks k.is
       (put_next (recorded (past_of c.world) (world_event.Collect id) id begun.outs None (opened begun)) c.jobs id k.node k.desk k.answer.1 (entry.Ask program start) k.live k.at (k.answer.0, k.called)
-      (subst (λ (z : Asked × BookState). IsOn b (entry.Ask program start) z.1) a.4 (record { same = refl; goes = asked_goes k.desk k.node.operations program start a.0 a.1 })))
+      (subst (λ (z : Asked × BookState). IsOn b (entry.Ask program start) z.1) a.4 (record { same = refl; goes = (asked_moves k.desk k.node.operations program start a.0 a.1).1 })))
 
   deliver_by : (number id : ℕ) (o : Option Message) (y : Stepped × ClusterState) → at_node c id (λ b. delivered_as c number id b o) ≡ Ok y → AreBooks y.1
   deliver_by number id None y h = let a = at-ok c id (λ b. delivered_as c number id b None) y h in absurd (no_refusal _ y a.gives)
@@ -144,15 +145,15 @@ module _ (c : ClusterState) (books : AreBooks c) where
       let a = registered-parts b program k.answer k.called in
       subst AreBooks k.is
       (put_next (past_of c.world) c.jobs id k.node k.desk k.answer.1 (entry.Register program) k.live k.at (k.answer.0, k.called)
-      (subst (λ (z : ℕ × BookState). IsOn b (entry.Register program) z.1) a.2 (record { same = refl; goes = registered_goes k.desk program a.0 a.1 })))
+      (subst (λ (z : ℕ × BookState). IsOn b (entry.Register program) z.1) a.2 (record { same = refl; goes = (registered_moves k.desk program a.0 a.1).1 })))
 
   -- where no query is ready, nothing changes
   hand_out_by : (id : ℕ) (n : NodeState) (d : DeskState) (o : Option Job) (e : DeskState) → world.live_at c.world id ≡ Some n → fin.get c.desks id ≡ Some d
-      → book.handed_out (book_of c id n d) ≡ Ok (o, book_of c id n e) → GoesHanded d e o → AreBooks (With (past_of c.world) (with_job c.jobs o) id (book_of c id n e))
+      → book.handed_out (book_of c id n d) ≡ Ok (o, book_of c id n e) → IsHanded d id e o → AreBooks (With (past_of c.world) (with_job c.jobs o) id (book_of c id n e))
   hand_out_by id n d None e live at is same =
       put_book (past_of c.world) c.jobs id (book_of c id n e) (subst (λ (x : DeskState). IsReplay (book_of c id n x)) same (books.replays id n d (at_live c.world id n live) at))
-  hand_out_by id n d (Some j) e live at is goes =
-      put_next (past_of c.world) (c.jobs ++ j ∷ []) id n d (book_of c id n e) entry.HandOut live at (j, is) (record { same = refl; goes = goes })
+  hand_out_by id n d (Some j) e live at is h =
+      put_next (past_of c.world) (c.jobs ++ j ∷ []) id n d (book_of c id n e) entry.HandOut live at (j, is) (record { same = refl; goes = h.2 })
 
   pub hand_out_books : (id : ℕ) (y : Stepped × ClusterState) → at_node c id (handed_out c id) ≡ Ok y → AreBooks y.1
   hand_out_books id y h =
@@ -161,7 +162,7 @@ module _ (c : ClusterState) (books : AreBooks c) where
       subst AreBooks (led (hands c id) y.1 a.2 k.is)
       (hand_out_by id k.node k.desk a.0.0 a.0.1 k.live k.at
       (k.called ∙ ap (λ (z : Option Job × BookState). let r : Result (Option Job × BookState) BookFault = Ok z in r) (sym a.2))
-      (handed_goes k.desk id a.0 a.1))
+      (handed_out-ok k.desk id a.0 a.1))
 
   pub finish_books : (ran : Ran) (o : Option Job) (y : Stepped × ClusterState) → IfSome o (λ j. Answers j ran) → finished c ran o ≡ Ok y → AreBooks y.1
   finish_books ran None y right h = absurd (no_refusal _ y h)
@@ -171,4 +172,4 @@ module _ (c : ClusterState) (books : AreBooks c) where
       let a = posted-parts b j ran k.answer k.called in
       subst AreBooks k.is
       (put_next (past_of c.world) c.jobs j.node k.node k.desk k.answer.1 (entry.Post j.query ran) k.live k.at (j, refl, right, k.called)
-      (subst (λ (z : Unit {0} × BookState). IsOn b (entry.Post j.query ran) z.1) a.2 (record { same = refl; goes = posted_goes k.desk j ran a.0 j.node a.1 })))
+      (subst (λ (z : Unit {0} × BookState). IsOn b (entry.Post j.query ran) z.1) a.2 (record { same = refl; goes = (posted-ok k.desk j ran a.0 j.node a.1).goes })))

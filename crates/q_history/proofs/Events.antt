@@ -119,7 +119,7 @@ module _ (c : ClusterState) (kept : IsKept c) where
       let k = call-ok c id (registers c id) (λ b. book.registered b program) y h in
       let a = registered-parts (book_of c id k.node k.desk) program k.answer k.called in
       subst (IsStep c) (led (registers c id) y.1 a.2 k.is)
-      (put_same id k.node a.0.1 c.jobs k.live (quiet c.world id k.desk a.0.1 kept.world (onward_itself c.world) k.at (registered_moves k.desk program a.0 a.1)))
+      (put_same id k.node a.0.1 c.jobs k.live (quiet c.world id k.desk a.0.1 kept.world (onward_itself c.world) k.at (registered_moves k.desk program a.0 a.1).0))
 
   asked_open : (tag program start : ℕ) (e : DeskState) (q : Query) → desk.begun tag program start ≡ q → (view : ViewMap) (ran : Ran) → q.phase ≡ Answered view ran → IsAnswered e q view ran
   asked_open tag program start e q new view ran is = let h : Collecting ≡ Answered view ran = ap (λ (x : Query). x.phase) new ∙ is in absurd (cc)
@@ -134,7 +134,7 @@ module _ (c : ClusterState) (kept : IsKept c) where
       let w' : WorldState = world.after c.world e id r in
       let o = collect_began c.world e id k.node a.2 a.3 in
       let tag : ℕ = k.node.operations in
-      let m = asked_moves k.desk tag program start a.0 a.1 in
+      let m = (asked_moves k.desk tag program start a.0 a.1).0 in
       let onward : IsOnward c.world w' = still_onward c.world e id r refl in
       subst (IsStep c) (led (asks c id) y.1 a.4 k.is)
       (put_desk c kept w' id a.0.1 (lawful_next e id r (acts-ok c.world e id world.collects k.node r k.live (ap (world.by_node world.of_begun) a.3))) onward

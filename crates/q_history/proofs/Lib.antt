@@ -12,7 +12,6 @@ pub mod Delivering
 pub mod Finishing
 pub mod EveryHistory
 pub mod Histories
-pub mod Journals
 pub mod Replays
 pub mod Booked
 pub mod EveryBook

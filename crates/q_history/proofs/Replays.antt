@@ -4,7 +4,7 @@ use Rattle.q_desk.specs.declared.journal.Entry.{Entry}
 use Rattle.q_book.specs.State.{BookState}
 use Rattle.q_book.specs.Books.{new_book}
 use Rattle.q_book.specs.Replays.{Follows, Replays, IsReplay}
-use Rattle.q_history.proofs.Journals.{GoesOn}
+use Rattle.q_history.proofs.Moves.{GoesOn}
 
 -- a later book of the same node, with one entry more
 pub record IsOn (b : BookState) (e : Entry) (later : BookState) : Type 0 where
