@@ -1,12 +1,12 @@
 -- A delivery keeps what is true of every cluster.
 use Rattle.std.proofs.Common.{◌≡◌, ℕ, ◌==◌, Option, Some, None, refl, sym, ap, ◌∙◌, subst, slice_get, Ok}
 use Rattle.std.proofs.lemmas.Bool.{eqb-true}
-use Rattle.std.specs.FinMap as fin
 use Rattle.sc_view.specs.Views.{ViewMap}
 use Rattle.sc_msg.specs.declared.message.Message.{Message}
 use Rattle.sc_node.specs.declared.answer.Completion.{Completion}
 use Rattle.sc_node.specs.declared.answer.Completion.TheVariants as completion
 use Rattle.sc_node.specs.declared.answer.Ended.{Ended}
+use Rattle.sc_world.specs.declared.event.Event.{Event as WorldEvent}
 use Rattle.sc_world.specs.declared.event.Event.TheVariants as world_event
 use Rattle.sc_world.specs.declared.op.Op.{Op}
 use Rattle.sc_world.specs.State.{WorldState}
@@ -14,7 +14,6 @@ use Rattle.sc_world.specs.Records.{Among}
 use Rattle.sc_world.specs.Worlds as world
 use Rattle.sc_world.proofs.Steps.{and_left}
 use Rattle.sc_world.proofs.Inverts.{no_refusal}
-use Rattle.sc_world.proofs.EveryHistory.{step_lawful}
 use Rattle.q_session.specs.declared.ran.Ran.{Ran}
 use Rattle.q_session.specs.declared.query.Phase.TheVariants.{Ready, Answered}
 use Rattle.q_session.specs.declared.query.Query.{Query}
@@ -23,17 +22,18 @@ use Rattle.q_desk.specs.Answers.{IsAnswered}
 use Rattle.q_desk.specs.Desks as desk
 use Rattle.q_desk.specs.declared.journal.Entry.{Entry}
 use Rattle.q_desk.specs.declared.journal.Entry.TheVariants as entry
-use Rattle.q_desk.specs.declared.fault.DeskFault.TheVariants as desk_fault
+use Rattle.q_book.specs.Books as book
 use Rattle.q_history.specs.declared.event.Stepped.{Stepped}
-use Rattle.q_history.specs.declared.fault.ClusterFault.TheVariants as fault
 use Rattle.q_history.specs.State.{ClusterState}
+use Rattle.q_history.specs.Heads.{book_of}
 use Rattle.q_history.specs.Clusters.{at as at_node, delivers, delivered_as, delivered}
-use Rattle.q_history.proofs.Lists.{passed}
 use Rattle.q_history.proofs.Moves.{Keeps, Nothing, IsReadied, noted_moves, returned_moves}
 use Rattle.q_history.proofs.Ops.{IsOnward}
-use Rattle.q_history.proofs.Returns.{HasReturned, delivered-ok}
+use Rattle.q_history.proofs.Returns.{HasReturned, delivery-ok}
 use Rattle.q_history.proofs.Kept.{IsTied, IsDeskOf, IsKept, IsStep, desk_moved, put_desk}
-use Rattle.q_history.proofs.Events.{taken-ok, at-ok, keeps_here}
+use Rattle.q_history.proofs.Accepted.{at_live, acts-ok}
+use Rattle.q_history.proofs.Called.{at-ok, call-ok, led, delivered-parts}
+use Rattle.q_history.proofs.Events.{keeps_here, lawful_next}
 
 -- each record of this operation says that it returned the view
 abbrev Returns : WorldState → WorldState → ℕ → ℕ → ViewMap → Type 0
@@ -82,18 +82,22 @@ module _ (w w' : WorldState) (id : ℕ) (d : DeskState) (made : Entry) (onward :
   delivered_later (Some y) returns = ended_later y.tag y.what (λ view is. returns y view refl is)
 
 module _ (c : ClusterState) (kept : IsKept c) where
-  delivered_as-step : (number id : ℕ) (d : DeskState) (o : Option Message) (y : Stepped × ClusterState) → fin.get c.desks id ≡ Some d → delivered_as c number id d o ≡ Ok y → IsStep c y.1
-  delivered_as-step number id d None y at h = absurd (no_refusal _ y h)
-  delivered_as-step number id d (Some m) y at h =
-      let r = passed (desk.has_room d) (fault.Desk desk_fault.BookFull) _ y h in
-      let k = taken-ok (delivers c id m d) (world.stepped c.world (world_event.Deliver number id)) y r.1 in
-      let v = delivered-ok c.world kept.world.invariant.linked number id k.0 k.1 in
-      let later = delivered_later c.world k.0.1 id d (entry.Deliver m) v.onward (kept.desks id d at) k.0.0.ended v.returns in
-      let e : DeskState = (desk.ends k.0.0.ended (desk.with_entry d (entry.Deliver m))).1 in
-      subst (IsStep c) k.2
-      (put_desk c kept k.0.1 id e (step_lawful c.world (world_event.Deliver number id) k.0.0 k.0.1 kept.world k.1) v.onward later.is (keeps_here c kept id d e at later.keeps))
+  deliver_by : (number id : ℕ) (o : Option Message) (y : Stepped × ClusterState) → slice_get c.world.sent number ≡ o → at_node c id (λ b. delivered_as c number id b o) ≡ Ok y → IsStep c y.1
+  deliver_by number id None y is h = let a = at-ok c id (λ b. delivered_as c number id b None) y h in absurd (no_refusal _ y a.gives)
+  deliver_by number id (Some m) y is h =
+      let k = call-ok c id (delivers c number id) (λ b. book.delivered b m) y h in
+      let a = delivered-parts (book_of c id k.node k.desk) m k.answer k.called in
+      let e : WorldEvent = world_event.Deliver number id in
+      let r : world.Outcome = world.of_delivered a.0 in
+      let gives : world.delivers (Some m) k.node ≡ Ok r = ap (world.by_node world.of_delivered) a.1 in
+      let v = delivery-ok c.world kept.world.invariant.linked e id k.node m r (at_live c.world id k.node k.live) gives in
+      let later = delivered_later c.world (world.after c.world e id r) id k.desk (entry.Deliver m) v.onward (kept.desks id k.desk k.at) r.ended v.returns in
+      let d : DeskState = (desk.ends r.ended (desk.with_entry k.desk (entry.Deliver m))).1 in
+      subst (IsStep c) (led (delivers c number id) y.1 a.2 k.is)
+      (put_desk c kept (world.after c.world e id r) id d
+      (lawful_next c kept e id r
+      (acts-ok c.world e id (world.delivers (slice_get c.world.sent number)) k.node r k.live (ap (λ (x : Option Message). world.delivers x k.node) is ∙ gives)))
+      v.onward later.is (keeps_here c kept id k.desk d k.at later.keeps))
 
   pub deliver_step : (number id : ℕ) (y : Stepped × ClusterState) → at_node c id (delivered c number id) ≡ Ok y → IsStep c y.1
-  deliver_step number id y h =
-      let a = at-ok c id (delivered c number id) y h in
-      delivered_as-step number id a.desk (slice_get c.world.sent number) y a.at a.gives
+  deliver_step number id y h = deliver_by number id (slice_get c.world.sent number) y refl h

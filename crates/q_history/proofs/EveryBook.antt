@@ -22,15 +22,16 @@ use Rattle.q_history.specs.declared.event.Stepped.{Stepped}
 use Rattle.q_history.specs.State.{ClusterState}
 use Rattle.q_history.specs.Clusters.{Desks, desks_with, start, founded, started}
 use Rattle.q_history.specs.Calls.{Follows, Reaches, IsHistory}
-use Rattle.q_history.specs.Books.{founders_for, book_of, BooksAreReplays}
+use Rattle.q_history.specs.Heads.{founders_for, book_of}
+use Rattle.q_history.specs.Books.{BooksAreReplays}
 use Rattle.q_history.proofs.Lists.{same_some, no_some}
 use Rattle.q_history.proofs.Ops.{insert_has}
 use Rattle.q_history.proofs.Booked.{AreBooks, enter_books, crash_books, leave_books, register_books, store_books, ask_books, deliver_books, hand_out_books, finish_books}
 
 step_books : (c d : ClusterState) (e : Event) (told : Stepped) → AreBooks c → Follows c e told d → AreBooks d
-step_books c d (event.Enter id) told books f = enter_books c books id (told, d) f.stepped
+step_books c d (event.Enter id) told books f = enter_books c books id (fin.get c.world.nodes id) (told, d) refl f.stepped
 step_books c d (event.Leave id) told books f = leave_books c books id (told, d) f.stepped
-step_books c d (event.Crash id) told books f = crash_books c books id (told, d) f.stepped
+step_books c d (event.Crash id) told books f = crash_books c books id (world.live_at c.world id) (told, d) f.stepped
 step_books c d (event.Register id program) told books f = register_books c books id program (told, d) f.stepped
 step_books c d (event.Ask id program start) told books f = ask_books c books id program start (told, d) f.stepped
 step_books c d (event.Store id value) told books f = store_books c books id value (told, d) f.stepped

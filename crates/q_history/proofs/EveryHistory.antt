@@ -9,7 +9,7 @@ use Rattle.sc_node.specs.declared.session.Kind.TheVariants as kind
 use Rattle.sc_node.specs.Sessions.{stored}
 use Rattle.sc_node.specs.State.{NodeState}
 use Rattle.sc_node.specs.Nodes.{founder}
-use Rattle.sc_world.specs.Worlds.{nodes_with}
+use Rattle.sc_world.specs.Worlds.{live_at, nodes_with}
 use Rattle.sc_world.specs.Regular.{returned, returned_by}
 use Rattle.sc_world.proofs.Finite.{get-insert}
 use Rattle.sc_world.proofs.EveryHistory.{every_lawful, lawful_regular}
@@ -28,9 +28,9 @@ use Rattle.q_history.proofs.Delivering.{deliver_step}
 use Rattle.q_history.proofs.Finishing.{hand_out_step, finish_step}
 
 pub step_kept : (c d : ClusterState) (e : Event) (told : Stepped) → IsKept c → Follows c e told d → IsStep c d
-step_kept c d (event.Enter id) told kept f = enter_step c kept id (told, d) f.stepped
+step_kept c d (event.Enter id) told kept f = enter_step c kept id (fin.get c.world.nodes id) (told, d) refl f.stepped
 step_kept c d (event.Leave id) told kept f = leave_step c kept id (told, d) f.stepped
-step_kept c d (event.Crash id) told kept f = crash_step c kept id (told, d) f.stepped
+step_kept c d (event.Crash id) told kept f = crash_step c kept id (live_at c.world id) (told, d) refl f.stepped
 step_kept c d (event.Register id program) told kept f = register_step c kept id program (told, d) f.stepped
 step_kept c d (event.Ask id program start) told kept f = ask_step c kept id program start (told, d) f.stepped
 step_kept c d (event.Store id value) told kept f = store_step c kept id value (told, d) f.stepped

@@ -15,16 +15,19 @@ use Rattle.q_session.specs.declared.job.Job.{Job}
 use Rattle.q_desk.specs.State.{DeskState}
 use Rattle.q_desk.specs.Answers.{IsAnswered}
 use Rattle.q_desk.specs.Desks as desk
+use Rattle.q_book.specs.Books as book
 use Rattle.q_history.specs.declared.event.Stepped.{Stepped}
 use Rattle.q_history.specs.State.{ClusterState}
-use Rattle.q_history.specs.Clusters.{at as at_node, hands, handed_out, finishes, posted, finished}
+use Rattle.q_history.specs.Heads.{book_of}
+use Rattle.q_history.specs.Clusters.{at as at_node, with_job, hands, handed_out, posts, finished}
 use Rattle.q_history.specs.Calls.{Answers}
 use Rattle.q_history.proofs.Lists.{same_some, get_snoc}
 use Rattle.q_history.proofs.Moves.{Keeps, keeps_itself, Moves, Nothing, IsRephased}
 use Rattle.q_history.proofs.Jobs.{IsReadyJob, IsHanded, IsPosted, handed_out-ok, posted-ok, right_of_job}
 use Rattle.q_history.proofs.Ops.{onward_itself}
 use Rattle.q_history.proofs.Kept.{HasView, IsTied, IsDeskOf, IsKnown, IsKept, IsStep, known_on, desk_moved, put_stays, put, put_desk}
-use Rattle.q_history.proofs.Events.{with_part, done-ok, at-ok, keeps_here, quiet}
+use Rattle.q_history.proofs.Called.{call-ok, led, handed_out-parts, posted-parts}
+use Rattle.q_history.proofs.Events.{keeps_here, quiet, put_same}
 
 -- a query of the desk that had this view, and still has it
 rephased_tied : (w : WorldState) (id : ℕ) (d : DeskState) (k : ℕ) (p : Phase) (view : ViewMap) → IsDeskOf w id d → ((o : Op) → returned o ≡ Some view → HasView o p)
@@ -41,7 +44,7 @@ module _ (c : ClusterState) (kept : IsKept c) where
     certified = keeps.programs j.program j.certified r.certified;
   }
 
-  handed-kept : (id : ℕ) (d : DeskState) (o : Option Job) (e : DeskState) → fin.get c.desks id ≡ Some d → IsHanded d id e o → IsStep c (with_part c.world (hands c id o e))
+  handed-kept : (id : ℕ) (d : DeskState) (o : Option Job) (e : DeskState) → fin.get c.desks id ≡ Some d → IsHanded d id e o → IsStep c (record { world = c.world; desks = fin.insert c.desks id e; jobs = with_job c.jobs o })
   handed-kept id d None e at same =
       quiet c kept c.world id d e kept.world (onward_itself c.world) at
       (subst (λ (x : DeskState). Moves d x Nothing) same (record { keeps = keeps_itself d; queries = λ k q h. inl h }))
@@ -62,9 +65,10 @@ module _ (c : ClusterState) (kept : IsKept c) where
 
   pub hand_out_step : (id : ℕ) (y : Stepped × ClusterState) → at_node c id (handed_out c id) ≡ Ok y → IsStep c y.1
   hand_out_step id y h =
-      let a = at-ok c id (handed_out c id) y h in
-      let k = done-ok c.world (hands c id) (desk.handed_out a.desk id) y a.gives in
-      subst (IsStep c) k.2 (handed-kept id a.desk k.0.0 k.0.1 a.at (handed_out-ok a.desk id k.0 k.1))
+      let k = call-ok c id (hands c id) book.handed_out y h in
+      let a = handed_out-parts (book_of c id k.node k.desk) k.answer k.called in
+      subst (IsStep c) (led (hands c id) y.1 a.2 k.is)
+      (put_same c kept id k.node a.0.1 (with_job c.jobs a.0.0) k.live (handed-kept id k.desk a.0.0 a.0.1 k.at (handed_out-ok k.desk id a.0 a.1)))
 
   same_answered : (v w : ViewMap) (a b : Ran) → Answered v a ≡ Answered w b → (v ≡ w) × (a ≡ b)
   same_answered v w a b h = (cc, cc)
@@ -93,6 +97,7 @@ module _ (c : ClusterState) (kept : IsKept c) where
   pub finish_step : (number : ℕ) (ran : Ran) (o : Option Job) (y : Stepped × ClusterState) → slice_get c.jobs number ≡ o → IfSome o (λ j. Answers j ran) → finished c ran o ≡ Ok y → IsStep c y.1
   finish_step number ran None y is right h = absurd (no_refusal _ y h)
   finish_step number ran (Some j) y is right h =
-      let a = at-ok c j.node (posted c j ran) y h in
-      let k = done-ok c.world (finishes c j ran) (desk.posted a.desk j.node j ran) y a.gives in
-      subst (IsStep c) k.2 (finished-kept j a.desk k.0.1 ran (kept.jobs number j is) a.at (posted-ok a.desk j ran k.0 j.node k.1) right)
+      let k = call-ok c j.node (posts c j ran) (λ b. book.posted b j ran) y h in
+      let a = posted-parts (book_of c j.node k.node k.desk) j ran k.answer k.called in
+      subst (IsStep c) (led (posts c j ran) y.1 a.2 k.is)
+      (put_same c kept j.node k.node a.0.1 c.jobs k.live (finished-kept j k.desk a.0.1 ran (kept.jobs number j is) k.at (posted-ok k.desk j ran a.0 j.node a.1) right))

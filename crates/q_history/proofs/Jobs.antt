@@ -21,7 +21,7 @@ use Rattle.q_desk.specs.Desks as desk
 use Rattle.q_desk.specs.declared.journal.Entry.TheVariants as entry
 use Rattle.q_desk.specs.declared.fault.DeskFault.TheVariants as fault
 use Rattle.q_history.proofs.Lists.{same_some, no_some, passed}
-use Rattle.q_history.proofs.Moves.{HasNone, Moves, IsRephased, phase_moves}
+use Rattle.q_history.proofs.Moves.{HasNone, Moves, GoesOn, IsRephased, phase_moves}
 
 -- the job of a ready query of this node
 pub record IsReadyJob (d : DeskState) (node : ℕ) (j : Job) : Type 0 where
@@ -33,7 +33,7 @@ pub record IsReadyJob (d : DeskState) (node : ℕ) (j : Job) : Type 0 where
 
 abbrev pub IsHanded : DeskState → ℕ → DeskState → Option Job → Type 0
 IsHanded d node e None = d ≡ e
-IsHanded d node e (Some j) = IsReadyJob d node j × Moves d e (IsRephased d j.query (Running j.view))
+IsHanded d node e (Some j) = IsReadyJob d node j × Moves d e (IsRephased d j.query (Running j.view)) × GoesOn d entry.HandOut e
 
 ready_has_none : (p : Phase) (v : ViewMap) → p ≡ Ready v → HasNone p
 ready_has_none p v is view ran answered = let h : Ready v ≡ Answered view ran = sym is ∙ answered in absurd (cc)
@@ -63,7 +63,7 @@ module _ (d : DeskState) (node : ℕ) where
       let k = passed (desk.has_room d) fault.BookFull _ y h in
       let r = ready j refl in
       subst (λ (z : Option Job × DeskState). IsHanded d node z.1 z.0) (same_answer _ y k.1)
-      (r, phase_moves d j.query (Running j.view) (d.journal ++ entry.HandOut ∷ []) (λ q at. ready_has_none q.phase j.view (ap (λ (x : Query). x.phase) (same_some q r.query (sym at ∙ r.at)) ∙ r.phase)))
+      (r, phase_moves d j.query (Running j.view) (d.journal ++ entry.HandOut ∷ []) (λ q at. ready_has_none q.phase j.view (ap (λ (x : Query). x.phase) (same_some q r.query (sym at ∙ r.at)) ∙ r.phase)), refl)
 
   pub handed_out-ok : (y : Option Job × DeskState) → desk.handed_out d node ≡ Ok y → IsHanded d node y.1 y.0
   handed_out-ok y h = hands-ok (desk.next_job d node) y (λ j is. job_from-is (position (λ (q : Query). desk.is_ready q.phase) d.queries) j is) h
@@ -76,6 +76,7 @@ pub record IsPosted (d : DeskState) (j : Job) (ran : Ran) (e : DeskState) : Type
   pub phase : query.phase ≡ Running view
   pub fits : desk.is_job_of d.programs j query view ≡ true
   pub moves : Moves d e (IsRephased d j.query (Answered view ran))
+  pub goes : GoesOn d (entry.Post j.query ran) e
 
 module _ (d : DeskState) (j : Job) (ran : Ran) (y : Unit {0} × DeskState) where
   posted_to-ok : (q : Query) (p : Phase) → slice_get d.queries j.query ≡ Some q → q.phase ≡ p → desk.posted_to d j ran q p ≡ Ok y → IsPosted d j ran y.1
@@ -94,6 +95,7 @@ module _ (d : DeskState) (j : Job) (ran : Ran) (y : Unit {0} × DeskState) where
         moves =
             subst (λ (z : Unit {0} × DeskState). Moves d z.1 (IsRephased d j.query (Answered view ran))) (same_answer _ y b.1)
             (phase_moves d j.query (Answered view ran) (d.journal ++ entry.Post j.query ran ∷ []) (λ x here. running_has_none x.phase view (ap (λ (z : Query). z.phase) (same_some x q (sym here ∙ at)) ∙ is)));
+        goes = ap (λ (z : Unit {0} × DeskState). z.1.journal) (sym (same_answer _ y b.1));
       }
 
   posted_at-ok : (o : Option Query) → slice_get d.queries j.query ≡ o → desk.posted_at d j ran o ≡ Ok y → IsPosted d j ran y.1

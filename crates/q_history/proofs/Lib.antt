@@ -6,12 +6,12 @@ pub mod Ops
 pub mod Accepted
 pub mod Returns
 pub mod Kept
+pub mod Called
 pub mod Events
 pub mod Delivering
 pub mod Finishing
 pub mod EveryHistory
 pub mod Histories
-pub mod Journals
 pub mod Replays
 pub mod Booked
 pub mod EveryBook

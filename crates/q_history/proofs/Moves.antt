@@ -1,6 +1,9 @@
--- What each call of a desk makes of its programs and its queries.
-use Rattle.std.proofs.Common.{◌≡◌, ℕ, ◌==◌, true, nat_lt, List, [], ◌∷◌, length, Option, Some, None, refl, sym, ap, ◌∙◌, subst, ◌⊎◌, inl, inr, slice_get, position, Result, Ok, Err}
+-- What each call of a desk makes of its programs, its queries and its journal.
+use Rattle.std.proofs.Common.{◌≡◌, ℕ, ◌==◌, true, nat_lt, List, [], ◌∷◌, ◌++◌, length, Option, Some, None, refl, sym, ap, ◌∙◌, subst, ◌⊎◌, inl, inr, slice_get, position, Result, Ok, Err}
 use Rattle.sc_view.specs.Views.{ViewMap}
+use Rattle.sc_node.specs.declared.answer.Completion.{Completion}
+use Rattle.sc_node.specs.declared.answer.Completion.TheVariants as completion
+use Rattle.sc_node.specs.declared.answer.Ended.{Ended}
 use Rattle.sc_world.proofs.Histories.{slice_get_front}
 use Rattle.sc_world.proofs.Steps.{and_right}
 use Rattle.sc_world.proofs.Inverts.{same_answer, no_refusal}
@@ -15,6 +18,7 @@ use Rattle.q_session.specs.declared.query.Query.{Query}
 use Rattle.q_desk.specs.State.{DeskState}
 use Rattle.q_desk.specs.Desks as desk
 use Rattle.q_desk.specs.declared.journal.Entry.{Entry}
+use Rattle.q_desk.specs.declared.journal.Entry.TheVariants as entry
 use Rattle.q_desk.specs.declared.fault.DeskFault.TheVariants as fault
 use Rattle.q_history.proofs.Lists.{passed, get_snoc, get_written, get_elsewhere, found}
 
@@ -31,6 +35,10 @@ pub record Keeps (d e : DeskState) : Type 0 where
 pub record Moves (d e : DeskState) (New : Query → Type 0) : Type 0 where
   pub keeps : Keeps d e
   pub queries : (k : ℕ) (q : Query) → slice_get e.queries k ≡ Some q → (slice_get d.queries k ≡ Some q) ⊎ New q
+
+-- the journal goes on with one entry
+abbrev pub GoesOn : DeskState → Entry → DeskState → Type 0
+GoesOn d e later = later.journal ≡ d.journal ++ e ∷ []
 
 abbrev pub Nothing : Query → Type 0
 Nothing q = ⊥
@@ -70,29 +78,32 @@ more_programs ps c None r h i p at =
 
 registered_by-moves : (d : DeskState) (program : Certificate) (r : Result (ℕ × List Certificate) TableFault) (y : ℕ × DeskState)
     → ((z : ℕ × List Certificate) → r ≡ Ok z → (i : ℕ) (p : Certificate) → slice_get d.programs i ≡ Some p → slice_get z.1 i ≡ Some p)
-    → desk.registered_by d program r ≡ Ok y → Moves d y.1 Nothing
+    → desk.registered_by d program r ≡ Ok y → Moves d y.1 Nothing × GoesOn d (entry.Register program) y.1
 registered_by-moves d program (Err e) y more h = absurd (no_refusal _ y h)
 registered_by-moves d program (Ok z) y more h =
     let k = passed (desk.has_room d) fault.BookFull _ y h in
-    subst (λ (x : ℕ × DeskState). Moves d x.1 Nothing) (same_answer _ y k.1)
-    (record { keeps = record { programs = more z refl; answers = λ k q view ran h a. h }; queries = λ k q h. inl h })
+    subst (λ (x : ℕ × DeskState). Moves d x.1 Nothing × GoesOn d (entry.Register program) x.1) (same_answer _ y k.1)
+    (record { keeps = record { programs = more z refl; answers = λ k q view ran h a. h }; queries = λ k q h. inl h }, refl)
 
-pub registered_moves : (d : DeskState) (program : Certificate) (y : ℕ × DeskState) → desk.registered d program ≡ Ok y → Moves d y.1 Nothing
+pub registered_moves : (d : DeskState) (program : Certificate) (y : ℕ × DeskState) → desk.registered d program ≡ Ok y → Moves d y.1 Nothing × GoesOn d (entry.Register program) y.1
 registered_moves d program y h =
     registered_by-moves d program (table.registered d.programs program) y (λ z is. more_programs d.programs program (table.id_of d.programs program.text) z is) h
 
 -- ---- queries
 
-pub asked_moves : (d : DeskState) (tag program start : ℕ) (y : ℕ × DeskState) → desk.asked d tag program start ≡ Ok y → Moves d y.1 (λ q. desk.begun tag program start ≡ q)
+pub asked_moves : (d : DeskState) (tag program start : ℕ) (y : ℕ × DeskState) → desk.asked d tag program start ≡ Ok y
+    → Moves d y.1 (λ q. desk.begun tag program start ≡ q) × GoesOn d (entry.Ask program start) y.1
 asked_moves d tag program start y h =
     let a = passed (desk.knows d program) fault.UnknownProgram _ y h in
     let b = passed (nat_lt (length d.queries) desk.most_queries) fault.BookFull _ y a.1 in
     let c = passed (desk.has_room d) fault.BookFull _ y b.1 in
-    subst (λ (x : ℕ × DeskState). Moves d x.1 (λ q. desk.begun tag program start ≡ q)) (same_answer _ y c.1)
-    (record {
-      keeps = record { programs = λ i p h. h; answers = λ k q view ran h a. slice_get_front d.queries (desk.begun tag program start ∷ []) k q h };
-      queries = λ k q h. get_snoc d.queries (desk.begun tag program start) k q h;
-    })
+    subst (λ (x : ℕ × DeskState). Moves d x.1 (λ q. desk.begun tag program start ≡ q) × GoesOn d (entry.Ask program start) x.1) (same_answer _ y c.1) (
+      record {
+        keeps = record { programs = λ i p h. h; answers = λ k q view ran h a. slice_get_front d.queries (desk.begun tag program start ∷ []) k q h };
+        queries = λ k q h. get_snoc d.queries (desk.begun tag program start) k q h;
+      },
+      refl,
+    )
 
 module _ (d : DeskState) (k : ℕ) (p : Phase) (m : List Entry) where
   phase_by : (o : Option Query) → slice_get d.queries k ≡ o → ((q : Query) → o ≡ Some q → HasNone q.phase) → Moves d (record d { queries = desk.in_phase d.queries k p o; journal = m }) (IsRephased d k p)
@@ -135,3 +146,17 @@ module _ (d : DeskState) (tag : ℕ) (view : ViewMap) where
 
   pub returned_moves : Moves d (desk.returned d tag view).1 (IsReadied d tag view)
   returned_moves = returned_by (position (desk.waits tag) d.queries) refl
+
+-- an operation that ends puts no entry in
+
+returned_stays : (d : DeskState) (view : ViewMap) (o : Option ℕ) → (desk.returned_to d view o).1.journal ≡ d.journal
+returned_stays d view None = refl
+returned_stays d view (Some k) = refl
+
+returns_stays : (d : DeskState) (tag : ℕ) (what : Completion) → (desk.returns tag what d).1.journal ≡ d.journal
+returns_stays d tag completion.Stored = refl
+returns_stays d tag (completion.Returned view) = returned_stays d view (position (desk.waits tag) d.queries)
+
+pub ends_stays : (d : DeskState) (x : Option Ended) → (desk.ends x d).1.journal ≡ d.journal
+ends_stays d None = refl
+ends_stays d (Some e) = returns_stays d e.tag e.what

@@ -1,6 +1,8 @@
 -- What an event of a world keeps of its operations and its nodes, and what it adds.
 use Rattle.std.proofs.Common.{◌≡◌, ℕ, Bool, true, false, cond, ◌==◌, [], ◌∷◌, map, Option, Some, None, refl, sym, ap, ◌∙◌, inl}
+use Rattle.std.proofs.lemmas.Bool.{eqb-true}
 use Rattle.std.specs.Ordering.{nat_cmp}
+use Rattle.std.specs.Cmp.{nat_cmp_total}
 use Rattle.std.specs.FinMap as fin
 use Rattle.sc_view.specs.Views.{ViewMap}
 use Rattle.sc_node.specs.declared.session.Kind.{Kind}
@@ -51,6 +53,14 @@ open_returns o v running h =
 pub insert_has : (m : fin.FinMap nat_cmp NodeState) (k : ℕ) (v : NodeState) (q : ℕ) (x : NodeState) (b : Bool) → (q == k) ≡ b → fin.get m q ≡ Some x → (y : NodeState) × (fin.get (fin.insert m k v) q ≡ Some y)
 insert_has m k v q x true is at = (v, get-insert m k v q ∙ ap (λ (b : Bool). cond b (Some v) (fin.get m q)) is)
 insert_has m k v q x false is at = (x, get-insert m k v q ∙ ap (λ (b : Bool). cond b (Some v) (fin.get m q)) is ∙ at)
+
+there : (m : fin.FinMap nat_cmp NodeState) (k q : ℕ) (o : Option NodeState) (b : Bool) → (q == k) ≡ b → fin.get m k ≡ o → cond b o (fin.get m q) ≡ fin.get m q
+there m k q o false is at = refl
+there m k q o true is at = sym at ∙ ap (fin.get m) (sym (eqb-true q k is))
+
+-- what is put in where it stands changes nothing
+pub insert_same : (m : fin.FinMap nat_cmp NodeState) (k : ℕ) (v : NodeState) → fin.get m k ≡ Some v → fin.insert m k v ≡ m
+insert_same m k v at = fin.same_map nat_cmp_total fin.nat_cmp-IsAntisymmetric _ m (λ q. get-insert m k v q ∙ there m k q (Some v) (q == k) refl at)
 
 module _ (w : WorldState) (e : Event) (q : ℕ) (r : Outcome) where
   kept_view : (p : Option Progress) (o : Op) → ((k : Progress) → p ≡ Some k → o.node ≡ q → o.tag ≡ k.tag → o.end ≡ None) → (v : ViewMap) → returned o ≡ Some v → returned (advanced q (clock w) p o) ≡ Some v

@@ -1,5 +1,5 @@
 -- The view of a collect that ends is in the record of that collect.
-use Rattle.std.proofs.Common.{◌≡◌, ℕ, [], map, Option, Some, None, refl, sym, ap, ◌∙◌, subst, inl, inr, slice_get, Ok}
+use Rattle.std.proofs.Common.{◌≡◌, ℕ, [], map, Option, Some, None, refl, sym, ap, ◌∙◌, subst, inl, inr, Ok}
 use Rattle.std.specs.Ordering.{nat_cmp}
 use Rattle.std.specs.FinMap as fin
 use Rattle.sc_view.specs.Views.{ViewMap}
@@ -18,21 +18,18 @@ use Rattle.sc_node.specs.Sessions.{stored, view_in, session_with, completed, end
 use Rattle.sc_node.specs.State.{NodeState}
 use Rattle.sc_node.specs.Nodes.{progress_of, ended_session}
 use Rattle.sc_world.specs.declared.event.Event.{Event}
-use Rattle.sc_world.specs.declared.event.Event.TheVariants as event
-use Rattle.sc_world.specs.declared.event.Stepped.{Stepped}
 use Rattle.sc_world.specs.declared.op.Op.{Op}
 use Rattle.sc_world.specs.State.{WorldState}
-use Rattle.sc_world.specs.Worlds.{clock, Outcome, told, after, delivers, stepped, moved, advanced}
+use Rattle.sc_world.specs.Worlds.{clock, Outcome, after, delivers, moved, advanced}
 use Rattle.sc_world.specs.Records.{Among}
 use Rattle.sc_world.specs.Regular.{returned_by, returned}
 use Rattle.sc_world.proofs.Links.{IsLinked, IsMove}
 use Rattle.sc_world.proofs.Steps.{among-left, among-image, advance_op, is_open}
 use Rattle.sc_world.proofs.Handlers.{heard, heard_moves, moves}
 use Rattle.sc_world.proofs.Telling.{kind_kept}
-use Rattle.sc_world.proofs.Inverts.{no_refusal, delivers-ok}
+use Rattle.sc_world.proofs.Inverts.{delivers-ok}
 use Rattle.q_history.proofs.Lists.{same_some, no_some}
 use Rattle.q_history.proofs.Ops.{IsOnward, after_onward}
-use Rattle.q_history.proofs.Accepted.{acted-ok, at_live}
 
 -- the collect with this tag ended, and this is what it returned
 pub record HasReturned (w : WorldState) (id tag : ℕ) (view : ViewMap) : Type 0 where
@@ -128,25 +125,11 @@ module _ (w : WorldState) (e : Event) (q : ℕ) (n : NodeState) (at : fin.get w.
   heard_returns x view h what o in' by tagged = heard_ends x.tag view (ends-by n.sessions (progress_of n from b) view x what h) o in' by tagged
 
 -- what a delivery does to the operations
-pub record IsDelivery (w : WorldState) (id : ℕ) (y : Stepped × WorldState) : Type 0 where
-  pub onward : IsOnward w y.1
-  pub returns : (x : Ended) (view : ViewMap) → y.0.ended ≡ Some x → x.what ≡ completion.Returned view → (o : Op) → Among o w.ops → o.node ≡ id → o.tag ≡ x.tag → HasReturned y.1 id x.tag view
+pub record IsDelivery (w : WorldState) (e : Event) (id : ℕ) (r : Outcome) : Type 0 where
+  pub onward : IsOnward w (after w e id r)
+  pub returns : (x : Ended) (view : ViewMap) → r.ended ≡ Some x → x.what ≡ completion.Returned view → (o : Op) → Among o w.ops → o.node ≡ id → o.tag ≡ x.tag → HasReturned (after w e id r) id x.tag view
 
-module _ (w : WorldState) (linked : IsLinked w) (number q : ℕ) (y : Stepped × WorldState) where
-  delivery_by : (n : NodeState) (m : Option Message) (x : Outcome) → fin.get w.nodes q ≡ Some n → delivers m n ≡ Ok x → told w x ≡ y.0 → after w (event.Deliver number q) q x ≡ y.1 → IsDelivery w q y
-  delivery_by n None x at gives told is = absurd (no_refusal _ x gives)
-  delivery_by n (Some m) x at gives tells is =
-      let same = delivers-ok m n x gives in
-      let e : Event = event.Deliver number q in
-      let whole : after w e q (heard n m.from m.body) ≡ y.1 = ap (after w e q) same ∙ is in
-      record {
-        onward = subst (IsOnward w) whole (heard_onward w e q n at linked m.from m.body);
-        returns = λ x view ended what o in' by tagged.
-            subst (λ (z : WorldState). HasReturned z q x.tag view) whole
-            (heard_returns w e q n at linked m.from m.body x view (ap (λ (z : Outcome). z.ended) same ∙ ap (λ (z : Stepped). z.ended) tells ∙ ended) what o in' by tagged);
-      }
-
-  pub delivered-ok : stepped w (event.Deliver number q) ≡ Ok y → IsDelivery w q y
-  delivered-ok h =
-      let k = acted-ok w (event.Deliver number q) q (delivers (slice_get w.sent number)) y h in
-      delivery_by k.node (slice_get w.sent number) k.outcome (at_live w q k.node k.at) k.gives k.told k.is
+pub delivery-ok : (w : WorldState) (linked : IsLinked w) (e : Event) (q : ℕ) (n : NodeState) (m : Message) (r : Outcome) → fin.get w.nodes q ≡ Some n → delivers (Some m) n ≡ Ok r → IsDelivery w e q r
+delivery-ok w linked e q n m r at gives =
+    subst (IsDelivery w e q) (delivers-ok m n r gives)
+    (record { onward = heard_onward w e q n at linked m.from m.body; returns = heard_returns w e q n at linked m.from m.body })

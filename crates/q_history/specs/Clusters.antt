@@ -1,29 +1,30 @@
--- What each event makes of a cluster: the world's part is said by the world's definitions, the desk's by the desk's.
--- Refusals stand in this order: no such job, no such node, never sent; not joined, unknown program, the table is full,
--- already answered, a stranger, too many operations open, the book is full; then the world's own.
-use Rattle.std.specs.Prelude.{ℕ, nat_le, List, [], ◌∷◌, ◌++◌, length, slice_get, Option, Some, None, Result, Ok, Err, if◌then◌else◌}
+-- What each event makes of a cluster: the book of the node does what its call says, and the ledger records what the
+-- node told. Refusals stand in this order: no such job, no such node, never sent; then the book's own.
+use Rattle.std.specs.Prelude.{ℕ, List, [], ◌∷◌, ◌++◌, length, slice_get, Option, Some, None, Result, Ok, Err}
 use Rattle.std.specs.Ordering.{nat_cmp}
 use Rattle.std.specs.FinMap as fin
 use Rattle.sc_members.specs.Members.{Config}
 use Rattle.sc_msg.specs.declared.message.Message.{Message}
-use Rattle.sc_node.specs.declared.fault.NodeFault.TheVariants as node_fault
 use Rattle.sc_node.specs.State.{NodeState}
-use Rattle.sc_node.specs.Nodes.{most_open}
+use Rattle.sc_node.specs.declared.answer.Begun.{Begun}
+use Rattle.sc_node.specs.declared.answer.Progress.{Progress}
+use Rattle.sc_world.specs.declared.act.Opened.{Opened}
+use Rattle.sc_world.specs.declared.event.Event.{Event as WorldEvent}
 use Rattle.sc_world.specs.declared.event.Event.TheVariants as world_event
-use Rattle.sc_world.specs.declared.event.Stepped.{Stepped as WorldStepped}
 use Rattle.sc_world.specs.declared.fault.WorldFault.{WorldFault}
 use Rattle.sc_world.specs.declared.fault.WorldFault.TheVariants as world_fault
-use Rattle.sc_world.specs.State.{WorldState}
+use Rattle.sc_world.specs.State.{WorldState, Past, world_of, past_of}
+use Rattle.sc_world.specs.Ledgers.{recorded, numbered, stopped}
 use Rattle.sc_world.specs.Worlds as world
 use Rattle.bq_check.specs.Certificate.{Certificate}
-use Rattle.q_desk.specs.State.{DeskState, new_desk}
-use Rattle.q_desk.specs.Desks as desk
-use Rattle.q_desk.specs.Desks.{ends, completed_by}
-use Rattle.q_desk.specs.declared.journal.Entry.TheVariants as entry
 use Rattle.q_session.specs.declared.ran.Ran.{Ran}
 use Rattle.q_session.specs.declared.job.Job.{Job}
-use Rattle.q_desk.specs.declared.fault.DeskFault.{DeskFault}
-use Rattle.q_desk.specs.declared.fault.DeskFault.TheVariants as desk_fault
+use Rattle.q_desk.specs.State.{DeskState, new_desk}
+use Rattle.q_book.specs.State.{BookState}
+use Rattle.q_book.specs.Books as book
+use Rattle.q_book.specs.declared.answer.Asked.{Asked}
+use Rattle.q_book.specs.declared.answer.Taken.{Taken}
+use Rattle.q_book.specs.declared.fault.BookFault.{BookFault}
 use Rattle.q_history.specs.declared.event.Event.{Event}
 use Rattle.q_history.specs.declared.event.Event.TheVariants as event
 use Rattle.q_history.specs.declared.event.Handed.{Handed}
@@ -32,103 +33,83 @@ use Rattle.q_history.specs.declared.event.Told.TheVariants as told
 use Rattle.q_history.specs.declared.event.Stepped.{Stepped}
 use Rattle.q_history.specs.declared.fault.ClusterFault.{ClusterFault}
 use Rattle.q_history.specs.declared.fault.ClusterFault.TheVariants as fault
-use Rattle.q_history.specs.Faults.{of_desk}
+use Rattle.q_history.specs.Faults.{of_book}
 use Rattle.q_history.specs.State.{ClusterState}
+use Rattle.q_history.specs.Heads.{book_of}
 
--- what an event makes of a cluster beside its world
 abbrev pub Desks : Type 0
 Desks = fin.FinMap nat_cmp DeskState
 
-pub record Part : Type 0 where
-  pub told : Told
-  pub desks : Desks
-  pub jobs : List Job
+-- what an event answers and makes of a cluster, or why it is refused
+abbrev pub Said : Type 0
+Said = Result (Stepped × ClusterState) ClusterFault
 
 -- ---- how the parts are put together
 
--- the world takes its event, and the rest follows from what the world tells
-abbrev pub taken : (WorldStepped → Part) → Result (WorldStepped × WorldState) WorldFault → Result (Stepped × ClusterState) ClusterFault
-taken part (Err e) = Err (fault.World e)
-taken part (Ok w) = Ok (
-  record { told = (part w.0).told; sent = w.0.sent },
-  record { world = w.1; desks = (part w.0).desks; jobs = (part w.0).jobs },
+-- the cluster with another book of a node, another past and other jobs
+abbrev pub put : ClusterState → Past → List Job → ℕ → BookState → ClusterState
+put c past jobs id b = record { world = world_of (fin.insert c.world.nodes id b.node) past; desks = fin.insert c.desks id b.desk; jobs = jobs }
+
+-- an event that the ledger does not record
+abbrev pub quiet : ClusterState → Told → List Job → ℕ → BookState → Stepped × ClusterState
+quiet c t jobs id b = (record { told = t; sent = record { first = length c.world.sent; count = 0 } }, put c (past_of c.world) jobs id b)
+
+-- an event that the ledger records
+abbrev pub noted : ClusterState → Told → WorldEvent → ℕ → List Message → Option Progress → Option Opened → BookState → Stepped × ClusterState
+noted c t e id outs progress begun b = (
+  record { told = t; sent = numbered (past_of c.world) outs },
+  put c (recorded (past_of c.world) e id outs progress begun) c.jobs id b,
 )
 
--- a desk does its part, and the world is as it was
-abbrev pub done : {A : Type 0} → WorldState → (A → DeskState → Part) → Result (A × DeskState) DeskFault → Result (Stepped × ClusterState) ClusterFault
-done w part (Err e) = Err (of_desk e)
-done w part (Ok d) = Ok (
-  record { told = (part d.0 d.1).told; sent = record { first = length w.sent; count = 0 } },
-  record { world = w; desks = (part d.0 d.1).desks; jobs = (part d.0 d.1).jobs },
-)
+-- what a book answers, as its cluster tells it
+abbrev pub lift : {A : Type 0} → (A → BookState → Stepped × ClusterState) → Result (A × BookState) BookFault → Said
+lift next (Ok a) = Ok (next a.0 a.1)
+lift next (Err e) = Err (of_book e)
 
--- a node that is there, with its desk
-abbrev pub by_node : {A : Type 0} → Option NodeState → Option DeskState → (NodeState → DeskState → Result A ClusterFault) → Result A ClusterFault
-by_node (Some n) (Some d) f = f n d
-by_node n d f = Err (fault.World world_fault.NoSuchNode)
+-- a node that is there, with its desk, as its book
+abbrev pub by_book : ClusterState → ℕ → Option NodeState → Option DeskState → (BookState → Said) → Said
+by_book c id (Some n) (Some d) f = f (book_of c id n d)
+by_book c id n d f = Err (fault.World world_fault.NoSuchNode)
 
-abbrev pub at : {A : Type 0} → ClusterState → ℕ → (NodeState → DeskState → Result A ClusterFault) → Result A ClusterFault
-at c id f = by_node (world.live_at c.world id) (fin.get c.desks id) f
-
-abbrev pub with_desk : ClusterState → ℕ → DeskState → Desks
-with_desk c id d = fin.insert c.desks id d
-
-abbrev pub joined : {A : Type 0} → NodeState → Result A ClusterFault → Result A ClusterFault
-joined n rest = if n.joined then rest else Err (fault.World (world_fault.Node node_fault.NotJoined))
-
-abbrev pub free : {A : Type 0} → NodeState → Result A ClusterFault → Result A ClusterFault
-free n rest = if nat_le most_open (fin.len n.sessions) then Err (fault.World (world_fault.Node node_fault.SessionsFull)) else rest
-
-abbrev pub room : {A : Type 0} → DeskState → Result A ClusterFault → Result A ClusterFault
-room d rest = if desk.has_room d then rest else Err (fault.Desk desk_fault.BookFull)
+abbrev pub at : ClusterState → ℕ → (BookState → Said) → Said
+at c id f = by_book c id (world.live_at c.world id) (fin.get c.desks id) f
 
 -- ---- programs
 
-abbrev pub registers : ClusterState → ℕ → ℕ → DeskState → Part
-registers c id program d = record { told = told.Registered program; desks = with_desk c id d; jobs = c.jobs }
+abbrev pub registers : ClusterState → ℕ → ℕ → BookState → Stepped × ClusterState
+registers c id program b = quiet c (told.Registered program) c.jobs id b
 
-abbrev pub registered : ClusterState → ℕ → Certificate → NodeState → DeskState → Result (Stepped × ClusterState) ClusterFault
-registered c id program n d = done c.world (registers c id) (desk.registered d program)
+abbrev pub registered : ClusterState → ℕ → Certificate → BookState → Said
+registered c id program b = lift (registers c id) (book.registered b program)
 
 -- ---- queries and stores
 
-abbrev pub asks : ClusterState → ℕ → ℕ × DeskState → WorldStepped → Part
-asks c id a w = record { told = told.Asked a.0; desks = with_desk c id a.1; jobs = c.jobs }
+abbrev pub opened : Begun → Option Opened
+opened begun = Some (record { tag = begun.tag; session = begun.session })
 
-abbrev pub asked_by : ClusterState → ℕ → Result (ℕ × DeskState) DeskFault → Result (Stepped × ClusterState) ClusterFault
-asked_by c id (Err e) = Err (of_desk e)
-asked_by c id (Ok a) = taken (asks c id a) (world.stepped c.world (world_event.Collect id))
+abbrev pub asks : ClusterState → ℕ → Asked → BookState → Stepped × ClusterState
+asks c id a b = noted c (told.Asked a.query) (world_event.Collect id) id a.begun.outs None (opened a.begun) b
 
--- the node begins to collect, and the query waits for that collect, by its tag
-abbrev pub asked : ClusterState → ℕ → ℕ → ℕ → NodeState → DeskState → Result (Stepped × ClusterState) ClusterFault
-asked c id program start n d =
-    joined n (if desk.knows d program
-    then free n (asked_by c id (desk.asked d n.operations program start))
-    else Err (fault.Desk desk_fault.UnknownProgram))
+abbrev pub asked : ClusterState → ℕ → ℕ → ℕ → BookState → Said
+asked c id program start b = lift (asks c id) (book.asked b program start)
 
-abbrev pub stores : ClusterState → ℕ → List ℕ → NodeState → DeskState → WorldStepped → Part
-stores c id value n d w = record { told = told.Stored n.operations; desks = with_desk c id (desk.with_entry d (entry.Store value)); jobs = c.jobs }
+abbrev pub stores : ClusterState → ℕ → List ℕ → Begun → BookState → Stepped × ClusterState
+stores c id value a b = noted c (told.Stored a.tag) (world_event.Store id value) id a.outs None (opened a) b
 
-abbrev pub stored : ClusterState → ℕ → List ℕ → NodeState → DeskState → Result (Stepped × ClusterState) ClusterFault
-stored c id value n d = joined n (free n (room d (taken (stores c id value n d) (world.stepped c.world (world_event.Store id value)))))
+abbrev pub stored : ClusterState → ℕ → List ℕ → BookState → Said
+stored c id value b = lift (stores c id value) (book.stored b value)
 
 -- ---- messages
 
--- the view of a collect that ended goes to the query that waits for it
-abbrev pub delivers : ClusterState → ℕ → Message → DeskState → WorldStepped → Part
-delivers c id m d w =
-    record {
-      told = told.Delivered (completed_by w.ended (ends w.ended (desk.with_entry d (entry.Deliver m))).0);
-      desks = with_desk c id (ends w.ended (desk.with_entry d (entry.Deliver m))).1;
-      jobs = c.jobs;
-    }
+abbrev pub delivers : ClusterState → ℕ → ℕ → Taken → BookState → Stepped × ClusterState
+delivers c number id a b = noted c (told.Delivered a.completed) (world_event.Deliver number id) id a.outs a.progress None b
 
-abbrev pub delivered_as : ClusterState → ℕ → ℕ → DeskState → Option Message → Result (Stepped × ClusterState) ClusterFault
-delivered_as c number id d None = Err (fault.World world_fault.NeverSent)
-delivered_as c number id d (Some m) = room d (taken (delivers c id m d) (world.stepped c.world (world_event.Deliver number id)))
+abbrev pub delivered_as : ClusterState → ℕ → ℕ → BookState → Option Message → Said
+delivered_as c number id b None = Err (fault.World world_fault.NeverSent)
+delivered_as c number id b (Some m) = lift (delivers c number id) (book.delivered b m)
 
-abbrev pub delivered : ClusterState → ℕ → ℕ → NodeState → DeskState → Result (Stepped × ClusterState) ClusterFault
-delivered c number id n d = delivered_as c number id d (slice_get c.world.sent number)
+abbrev pub delivered : ClusterState → ℕ → ℕ → BookState → Said
+delivered c number id b = delivered_as c number id b (slice_get c.world.sent number)
 
 -- ---- jobs
 
@@ -140,45 +121,52 @@ abbrev pub with_job : List Job → Option Job → List Job
 with_job jobs None = jobs
 with_job jobs (Some j) = jobs ++ j ∷ []
 
-abbrev pub hands : ClusterState → ℕ → Option Job → DeskState → Part
-hands c id j d = record { told = told.HandedOut (handed c.jobs j); desks = with_desk c id d; jobs = with_job c.jobs j }
+abbrev pub hands : ClusterState → ℕ → Option Job → BookState → Stepped × ClusterState
+hands c id j b = quiet c (told.HandedOut (handed c.jobs j)) (with_job c.jobs j) id b
 
-abbrev pub handed_out : ClusterState → ℕ → NodeState → DeskState → Result (Stepped × ClusterState) ClusterFault
-handed_out c id n d = done c.world (hands c id) (desk.handed_out d id)
+abbrev pub handed_out : ClusterState → ℕ → BookState → Said
+handed_out c id b = lift (hands c id) (book.handed_out b)
 
-abbrev pub finishes : ClusterState → Job → Ran → Unit {0} → DeskState → Part
-finishes c j ran u d =
-    record { told = told.Finished (record { node = j.node; query = j.query; ran = ran }); desks = with_desk c j.node d; jobs = c.jobs }
+abbrev pub posts : ClusterState → Job → Ran → Unit {0} → BookState → Stepped × ClusterState
+posts c j ran u b = quiet c (told.Finished (record { node = j.node; query = j.query; ran = ran })) c.jobs j.node b
 
-abbrev pub posted : ClusterState → Job → Ran → NodeState → DeskState → Result (Stepped × ClusterState) ClusterFault
-posted c j ran n d = done c.world (finishes c j ran) (desk.posted d j.node j ran)
+abbrev pub posted : ClusterState → Job → Ran → BookState → Said
+posted c j ran b = lift (posts c j ran) (book.posted b j ran)
 
 -- a job comes to this, and its node records it
-abbrev pub finished : ClusterState → Ran → Option Job → Result (Stepped × ClusterState) ClusterFault
+abbrev pub finished : ClusterState → Ran → Option Job → Said
 finished c ran None = Err fault.NoSuchJob
 finished c ran (Some j) = at c j.node (posted c j ran)
 
 -- ---- nodes that come and go
 
-abbrev pub enters : ClusterState → ℕ → WorldStepped → Part
-enters c id w = record { told = told.Entered; desks = with_desk c id new_desk; jobs = c.jobs }
+abbrev pub enters : ClusterState → ℕ → BookState × List Message → Stepped × ClusterState
+enters c id e = noted c told.Entered (world_event.Enter id) id e.1 None None e.0
 
-abbrev pub leaves : ClusterState → ℕ → DeskState → WorldStepped → Part
-leaves c id d w = record { told = told.Left; desks = with_desk c id (desk.with_entry d entry.Leave); jobs = c.jobs }
+abbrev pub entered : ClusterState → ℕ → Option NodeState → Said
+entered c id None = Ok (enters c id (book.entered c.world.config id))
+entered c id (Some n) = Err (fault.World world_fault.IdUsed)
 
-abbrev pub left : ClusterState → ℕ → NodeState → DeskState → Result (Stepped × ClusterState) ClusterFault
-left c id n d = room d (taken (leaves c id d) (world.stepped c.world (world_event.Leave id)))
+abbrev pub leaves : ClusterState → ℕ → List Message → BookState → Stepped × ClusterState
+leaves c id outs b = noted c told.Left (world_event.Leave id) id outs None None b
 
-abbrev pub crashes : ClusterState → WorldStepped → Part
-crashes c w = record { told = told.Crashed; desks = c.desks; jobs = c.jobs }
+abbrev pub left : ClusterState → ℕ → BookState → Said
+left c id b = lift (leaves c id) (book.left b)
+
+abbrev pub crashed : ClusterState → ℕ → Option NodeState → Said
+crashed c id None = Err (fault.World world_fault.NoSuchNode)
+crashed c id (Some n) = Ok (
+  record { told = told.Crashed; sent = record { first = length c.world.sent; count = 0 } },
+  record { world = world_of c.world.nodes (stopped (past_of c.world) id); desks = c.desks; jobs = c.jobs },
+)
 
 -- ---- events
 
 -- What an event answers and makes of a cluster, or why it is refused. A job that it finishes comes to ran.
-abbrev pub stepped : Ran → ClusterState → Event → Result (Stepped × ClusterState) ClusterFault
-stepped ran c (event.Enter id) = taken (enters c id) (world.stepped c.world (world_event.Enter id))
+abbrev pub stepped : Ran → ClusterState → Event → Said
+stepped ran c (event.Enter id) = entered c id (fin.get c.world.nodes id)
 stepped ran c (event.Leave id) = at c id (left c id)
-stepped ran c (event.Crash id) = taken (crashes c) (world.stepped c.world (world_event.Crash id))
+stepped ran c (event.Crash id) = crashed c id (world.live_at c.world id)
 stepped ran c (event.Register id program) = at c id (registered c id program)
 stepped ran c (event.Ask id program start) = at c id (asked c id program start)
 stepped ran c (event.Store id value) = at c id (stored c id value)
