@@ -11,7 +11,8 @@ use std::io;
 
 fn tell_view(rt: &impl Print, view: &View) -> io::Result<()> {
     for (id, stored) in view.records() {
-        print!(rt; " value {id} {} {}", stored.number, stored.value[0])?;
+        let byte = stored.value[0];
+        print!(rt; " value {id} {} {byte}", stored.number)?;
     }
     Ok(())
 }

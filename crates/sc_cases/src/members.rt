@@ -1,7 +1,7 @@
 //! Lines about fractions, thresholds, sets of ids and facts.
 
 use crate::words::{Fraction, MembersLine, number};
-use sc_members::config::{Config, threshold};
+use sc_members::config::Config;
 use sc_members::facts::{Facts, FactsFault};
 use sc_members::ids::IdSet;
 use std::alloc::{AllocError, Global};
@@ -43,10 +43,10 @@ fn add(facts: &mut Facts, what: &str, id: u64) -> Result<(), FactsFault> {
     }
 }
 
-/// The facts that words say: what they are, and then of whom.
-fn said(alloc: Global, words: &[&str]) -> Result<Facts, FactsFault> {
+/// The facts that words say: of whom, each behind the word that says what it is, at first this one.
+fn said(alloc: Global, first: &str, words: &[&str]) -> Result<Facts, FactsFault> {
     let mut facts = Facts::new(alloc);
-    let mut what = "";
+    let mut what = first;
     for word in words {
         match number(word) {
             Some(id) => add(&mut facts, what, id)?,
@@ -58,9 +58,7 @@ fn said(alloc: Global, words: &[&str]) -> Result<Facts, FactsFault> {
 
 /// The facts of these founders, united with those that the words say.
 fn facts_of(alloc: Global, founders: &[&str], more: &[&str]) -> Result<Facts, FactsFault> {
-    let ids = ids_of(alloc, founders)?;
-    let facts = Facts::from_sets(ids.clone()?, ids, IdSet::new(alloc));
-    facts.united(&said(alloc, more)?)
+    said(alloc, "joined", founders)?.united(&said(alloc, "", more)?)
 }
 
 fn tell_facts(rt: &impl Print, facts: Result<Facts, FactsFault>) -> io::Result<()> {
@@ -83,18 +81,21 @@ fn tell_fraction(rt: &impl Print, fraction: Fraction) -> io::Result<()> {
     }
 }
 
+fn tell_threshold(rt: &impl Print, fraction: Fraction, count: usize) -> io::Result<()> {
+    let Fraction { num, den } = fraction;
+    match Config::new(num, den, num, den) {
+        Ok(config) => println!(rt; " {}", config.beta_threshold(count)),
+        Err(fault) => println!(rt; " refused {} {}", fault.number(), fault.name()),
+    }
+}
+
 pub(crate) fn tell(rt: &impl Print, alloc: Global, line: &MembersLine) -> io::Result<()> {
     match line {
-        MembersLine::Threshold(Fraction { num, den }, count) => println!(rt;
-            " {}",
-            threshold(*num, *den, *count)
-        ),
+        MembersLine::Threshold(fraction, count) => tell_threshold(rt, *fraction, *count),
         MembersLine::Fraction(fraction) => tell_fraction(rt, *fraction),
-        MembersLine::Sets(first, second) => tell_sets(
-            rt,
-            &ids_of(alloc, first)?,
-            &ids_of(alloc, second)?,
-        ),
+        MembersLine::Sets(first, second) => {
+            tell_sets(rt, &ids_of(alloc, first)?, &ids_of(alloc, second)?)
+        }
         MembersLine::Facts(founders, more) => tell_facts(rt, facts_of(alloc, founders, more)),
     }
 }

@@ -39,6 +39,18 @@ fn merged(alloc: Global, first: &[&str], second: &[&str]) -> Result<View, ViewFa
     view_of(alloc, first)?.merged(&view_of(alloc, second)?)
 }
 
+fn tell_value(rt: &impl Print, id: u64, stored: Stored) -> io::Result<()> {
+    let byte = stored.value[0];
+    print!(rt; " {id} {} {byte}", stored.number)
+}
+
+fn tell_values(rt: &impl Print, view: &View) -> io::Result<()> {
+    for (id, stored) in view.records() {
+        tell_value(rt, id, stored)?;
+    }
+    println!(rt; "")
+}
+
 /// The first view, merged with the second.
 pub(crate) fn tell(
     rt: &impl Print,
@@ -46,12 +58,8 @@ pub(crate) fn tell(
     first: &[&str],
     second: &[&str],
 ) -> io::Result<()> {
-    let view = match merged(alloc, first, second) {
-        Ok(view) => view,
-        Err(fault) => return println!(rt; " refused {} {}", fault.number(), fault.name()),
-    };
-    for (id, stored) in view.records() {
-        print!(rt; " {id} {} {}", stored.number, stored.value[0])?;
+    match merged(alloc, first, second) {
+        Ok(view) => tell_values(rt, &view),
+        Err(fault) => println!(rt; " refused {} {}", fault.number(), fault.name()),
     }
-    println!(rt; "")
 }
