@@ -36,7 +36,7 @@ use Rattle.q_history.specs.Books.{BooksAreReplays}
 use Rattle.q_history.proofs.Lists.{same_some, no_some}
 use Rattle.q_history.proofs.Ops.{insert_has}
 use Rattle.q_history.proofs.Accepted.{at_live}
-use Rattle.q_history.proofs.Called.{at-ok, call-ok, led, left-parts, stored-parts, asked-parts, delivered-parts, registered-parts, handed_out-parts, posted-parts}
+use Rattle.q_history.proofs.Called.{at-ok, call-ok, led, left-parts, stored-parts, asked-parts, delivered-parts, desk-parts}
 use Rattle.q_history.proofs.Moves.{registered_moves, asked_moves, ends_stays}
 use Rattle.q_history.proofs.Jobs.{IsHanded, handed_out-ok, posted-ok}
 use Rattle.q_history.proofs.Replays.{IsOn, replay_next}
@@ -142,7 +142,7 @@ module _ (c : ClusterState) (books : AreBooks c) where
   register_books id program y h =
       let k = call-ok c id (registers c id) (λ b. book.registered b program) y h in
       let b = book_of c id k.node k.desk in
-      let a = registered-parts b program k.answer k.called in
+      let a = desk-parts b (desk.registered k.desk program) k.answer k.called in
       subst AreBooks k.is
       (put_next (past_of c.world) c.jobs id k.node k.desk k.answer.1 (entry.Register program) k.live k.at (k.answer.0, k.called)
       (subst (λ (z : ℕ × BookState). IsOn b (entry.Register program) z.1) a.2 (record { same = refl; goes = (registered_moves k.desk program a.0 a.1).1 })))
@@ -158,7 +158,7 @@ module _ (c : ClusterState) (books : AreBooks c) where
   pub hand_out_books : (id : ℕ) (y : Stepped × ClusterState) → at_node c id (handed_out c id) ≡ Ok y → AreBooks y.1
   hand_out_books id y h =
       let k = call-ok c id (hands c id) book.handed_out y h in
-      let a = handed_out-parts (book_of c id k.node k.desk) k.answer k.called in
+      let a = desk-parts (book_of c id k.node k.desk) (desk.handed_out k.desk id) k.answer k.called in
       subst AreBooks (led (hands c id) y.1 a.2 k.is)
       (hand_out_by id k.node k.desk a.0.0 a.0.1 k.live k.at
       (k.called ∙ ap (λ (z : Option Job × BookState). let r : Result (Option Job × BookState) BookFault = Ok z in r) (sym a.2))
@@ -169,7 +169,7 @@ module _ (c : ClusterState) (books : AreBooks c) where
   finish_books ran (Some j) y right h =
       let k = call-ok c j.node (posts c j ran) (λ b. book.posted b j ran) y h in
       let b = book_of c j.node k.node k.desk in
-      let a = posted-parts b j ran k.answer k.called in
+      let a = desk-parts b (desk.posted k.desk j.node j ran) k.answer k.called in
       subst AreBooks k.is
       (put_next (past_of c.world) c.jobs j.node k.node k.desk k.answer.1 (entry.Post j.query ran) k.live k.at (j, refl, right, k.called)
       (subst (λ (z : Unit {0} × BookState). IsOn b (entry.Post j.query ran) z.1) a.2 (record { same = refl; goes = (posted-ok k.desk j ran a.0 j.node a.1).goes })))

@@ -10,9 +10,6 @@ use Rattle.sc_node.specs.declared.fault.NodeFault.{NodeFault}
 use Rattle.sc_node.specs.declared.fault.NodeFault.TheVariants as node_fault
 use Rattle.sc_world.specs.Worlds as world
 use Rattle.sc_world.proofs.Inverts.{same_answer, no_refusal, if_passed}
-use Rattle.bq_check.specs.Certificate.{Certificate}
-use Rattle.q_session.specs.declared.ran.Ran.{Ran}
-use Rattle.q_session.specs.declared.job.Job.{Job}
 use Rattle.q_desk.specs.State.{DeskState}
 use Rattle.q_desk.specs.Desks as desk
 use Rattle.q_desk.specs.declared.journal.Entry.{Entry}
@@ -132,20 +129,8 @@ module _ (b : BookState) where
       (d.0, d.1, a.0, a.1, a.2)
 
   -- a call of the desk alone
-  desk-ok : {A : Type 0} (r : Result (A × DeskState) DeskFault) (z : A × BookState) → book.here b (book.by_desk (book.with_desk b) r) ≡ Ok z
+  pub desk-parts : {A : Type 0} (r : Result (A × DeskState) DeskFault) (z : A × BookState) → book.here b (book.by_desk (book.with_desk b) r) ≡ Ok z
       → (d : A × DeskState) × (r ≡ Ok d) × ((d.0, record b { desk = d.1 }) ≡ z)
-  desk-ok r z h =
+  desk-parts r z h =
       let d = by_desk-ok (book.with_desk b) r z (here-ok _ z h) in
       (d.0, d.1, same_answer _ z d.2)
-
-  pub registered-parts : (program : Certificate) (z : ℕ × BookState) → book.registered b program ≡ Ok z
-      → (d : ℕ × DeskState) × (desk.registered b.desk program ≡ Ok d) × ((d.0, record b { desk = d.1 }) ≡ z)
-  registered-parts program z h = desk-ok (desk.registered b.desk program) z h
-
-  pub handed_out-parts : (z : Option Job × BookState) → book.handed_out b ≡ Ok z
-      → (d : Option Job × DeskState) × (desk.handed_out b.desk b.id ≡ Ok d) × ((d.0, record b { desk = d.1 }) ≡ z)
-  handed_out-parts z h = desk-ok (desk.handed_out b.desk b.id) z h
-
-  pub posted-parts : (j : Job) (ran : Ran) (z : Unit {0} × BookState) → book.posted b j ran ≡ Ok z
-      → (d : Unit {0} × DeskState) × (desk.posted b.desk b.id j ran ≡ Ok d) × ((d.0, record b { desk = d.1 }) ≡ z)
-  posted-parts j ran z h = desk-ok (desk.posted b.desk b.id j ran) z h

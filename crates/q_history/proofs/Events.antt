@@ -33,7 +33,7 @@ use Rattle.q_history.proofs.Moves.{Keeps, Moves, Nothing, noted_moves, registere
 use Rattle.q_history.proofs.Ops.{IsOnward, onward_itself, insert_same}
 use Rattle.q_history.proofs.Accepted.{at_live, acts-ok, still_onward, collect_began}
 use Rattle.q_history.proofs.Kept.{IsTied, IsKept, IsStep, stays_itself, desk_on, desk_moved, put_desk}
-use Rattle.q_history.proofs.Called.{call-ok, led, left-parts, stored-parts, registered-parts, asked-parts}
+use Rattle.q_history.proofs.Called.{call-ok, led, left-parts, stored-parts, desk-parts, asked-parts}
 
 module _ (c : ClusterState) (kept : IsKept c) where
   -- the desk that is there keeps what another keeps
@@ -117,7 +117,7 @@ module _ (c : ClusterState) (kept : IsKept c) where
   pub register_step : (id : ℕ) (program : Certificate) (y : Stepped × ClusterState) → at_node c id (registered c id program) ≡ Ok y → IsStep c y.1
   register_step id program y h =
       let k = call-ok c id (registers c id) (λ b. book.registered b program) y h in
-      let a = registered-parts (book_of c id k.node k.desk) program k.answer k.called in
+      let a = desk-parts (book_of c id k.node k.desk) (desk.registered k.desk program) k.answer k.called in
       subst (IsStep c) (led (registers c id) y.1 a.2 k.is)
       (put_same id k.node a.0.1 c.jobs k.live (quiet c.world id k.desk a.0.1 kept.world (onward_itself c.world) k.at (registered_moves k.desk program a.0 a.1).0))
 

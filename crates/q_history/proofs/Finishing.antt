@@ -26,7 +26,7 @@ use Rattle.q_history.proofs.Moves.{Keeps, keeps_itself, Moves, Nothing, IsRephas
 use Rattle.q_history.proofs.Jobs.{IsReadyJob, IsHanded, IsPosted, handed_out-ok, posted-ok, right_of_job}
 use Rattle.q_history.proofs.Ops.{onward_itself}
 use Rattle.q_history.proofs.Kept.{HasView, IsTied, IsDeskOf, IsKnown, IsKept, IsStep, known_on, desk_moved, put_stays, put, put_desk}
-use Rattle.q_history.proofs.Called.{call-ok, led, handed_out-parts, posted-parts}
+use Rattle.q_history.proofs.Called.{call-ok, led, desk-parts}
 use Rattle.q_history.proofs.Events.{keeps_here, quiet, put_same}
 
 -- a query of the desk that had this view, and still has it
@@ -66,7 +66,7 @@ module _ (c : ClusterState) (kept : IsKept c) where
   pub hand_out_step : (id : ℕ) (y : Stepped × ClusterState) → at_node c id (handed_out c id) ≡ Ok y → IsStep c y.1
   hand_out_step id y h =
       let k = call-ok c id (hands c id) book.handed_out y h in
-      let a = handed_out-parts (book_of c id k.node k.desk) k.answer k.called in
+      let a = desk-parts (book_of c id k.node k.desk) (desk.handed_out k.desk id) k.answer k.called in
       subst (IsStep c) (led (hands c id) y.1 a.2 k.is)
       (put_same c kept id k.node a.0.1 (with_job c.jobs a.0.0) k.live (handed-kept id k.desk a.0.0 a.0.1 k.at (handed_out-ok k.desk id a.0 a.1)))
 
@@ -98,6 +98,6 @@ module _ (c : ClusterState) (kept : IsKept c) where
   finish_step number ran None y is right h = absurd (no_refusal _ y h)
   finish_step number ran (Some j) y is right h =
       let k = call-ok c j.node (posts c j ran) (λ b. book.posted b j ran) y h in
-      let a = posted-parts (book_of c j.node k.node k.desk) j ran k.answer k.called in
+      let a = desk-parts (book_of c j.node k.node k.desk) (desk.posted k.desk j.node j ran) k.answer k.called in
       subst (IsStep c) (led (posts c j ran) y.1 a.2 k.is)
       (put_same c kept j.node k.node a.0.1 c.jobs k.live (finished-kept j k.desk a.0.1 ran (kept.jobs number j is) k.at (posted-ok k.desk j ran a.0 j.node a.1) right))

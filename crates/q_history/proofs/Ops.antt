@@ -54,12 +54,12 @@ pub insert_has : (m : fin.FinMap nat_cmp NodeState) (k : ℕ) (v : NodeState) (q
 insert_has m k v q x true is at = (v, get-insert m k v q ∙ ap (λ (b : Bool). cond b (Some v) (fin.get m q)) is)
 insert_has m k v q x false is at = (x, get-insert m k v q ∙ ap (λ (b : Bool). cond b (Some v) (fin.get m q)) is ∙ at)
 
-there : (m : fin.FinMap nat_cmp NodeState) (k q : ℕ) (o : Option NodeState) (b : Bool) → (q == k) ≡ b → fin.get m k ≡ o → cond b o (fin.get m q) ≡ fin.get m q
+there : {X : Type 0} (m : fin.FinMap nat_cmp X) (k q : ℕ) (o : Option X) (b : Bool) → (q == k) ≡ b → fin.get m k ≡ o → cond b o (fin.get m q) ≡ fin.get m q
 there m k q o false is at = refl
 there m k q o true is at = sym at ∙ ap (fin.get m) (sym (eqb-true q k is))
 
 -- what is put in where it stands changes nothing
-pub insert_same : (m : fin.FinMap nat_cmp NodeState) (k : ℕ) (v : NodeState) → fin.get m k ≡ Some v → fin.insert m k v ≡ m
+pub insert_same : {X : Type 0} (m : fin.FinMap nat_cmp X) (k : ℕ) (v : X) → fin.get m k ≡ Some v → fin.insert m k v ≡ m
 insert_same m k v at = fin.same_map nat_cmp_total fin.nat_cmp-IsAntisymmetric _ m (λ q. get-insert m k v q ∙ there m k q (Some v) (q == k) refl at)
 
 module _ (w : WorldState) (e : Event) (q : ℕ) (r : Outcome) where
