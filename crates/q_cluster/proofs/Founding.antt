@@ -1,19 +1,17 @@
 -- The books of the founders.
-use Rattle.std.proofs.Common.{◌≡◌, ◌≢◌, ◌<◌, ℕ, Bool, true, false, cond, ◌==◌, ◌&&◌, List, [], ◌∷◌, Some, None, refl, sym, ap, subst, ◌∙◌, Result, Ok, Err}
+use Rattle.std.proofs.Common.{◌≡◌, ◌≢◌, ℕ, Bool, true, false, cond, ◌==◌, ◌&&◌, List, [], ◌∷◌, Some, None, refl, sym, ap, subst, ◌∙◌, Result, Ok, Err}
 use Rattle.std.specs.Ordering.{nat_cmp}
 use Rattle.std.specs.FinMap as fin
 use Rattle.std.specs.FinSet as set
 use Rattle.sc_members.specs.Members.{Config}
 use Rattle.sc_node.specs.State.{NodeState}
-use Rattle.sc_node.specs.Nodes as node
 use Rattle.sc_node.specs.Nodes.{founder, are_founders}
 use Rattle.sc_node.specs.declared.fault.NodeFault.{NodeFault}
 use Rattle.sc_node.specs.declared.fault.NodeFault.TheVariants as node_fault
 use Rattle.sc_world.specs.State.{Past, world_of}
 use Rattle.sc_world.specs.Ledgers.{first}
 use Rattle.sc_world.specs.Worlds as world
-use Rattle.sc_world.specs.Worlds.{nodes_with, founder_nodes}
-use Rattle.sc_world.specs.declared.fault.WorldFault.{WorldFault}
+use Rattle.sc_world.specs.Worlds.{nodes_with}
 use Rattle.sc_world.specs.declared.fault.WorldFault.TheVariants as world_fault
 use Rattle.sc_world.proofs.Finite.{get-insert}
 use Rattle.q_session.specs.declared.job.Job.{Job}
@@ -23,12 +21,8 @@ use Rattle.q_book.specs.Books.{new_book}
 use Rattle.q_book.specs.Faults as book_faults
 use Rattle.q_book.specs.declared.fault.BookFault.{BookFault}
 use Rattle.q_book.specs.declared.fault.BookFault.TheVariants as fault
-use Rattle.q_history.specs.declared.fault.ClusterFault.{ClusterFault}
-use Rattle.q_history.specs.declared.fault.ClusterFault.TheVariants as cluster_fault
-use Rattle.q_history.specs.Faults.{memory, of_book}
-use Rattle.q_history.specs.State.{ClusterState}
+use Rattle.q_history.specs.Faults.{memory}
 use Rattle.q_history.specs.Clusters.{desks_with, start, founded, started}
-use Rattle.q_history.specs.Books.{founders_for}
 use Rattle.q_history.proofs.EveryBook.{IsAmong, among_first, among_rest}
 use Rattle.std.proofs.lemmas.Bool.{eqb-true}
 use Rattle.q_cluster.specs.Tables.{BookMap, each}

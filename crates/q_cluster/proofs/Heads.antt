@@ -1,12 +1,11 @@
 -- No call of a book changes its head.
-use Rattle.std.proofs.Common.{◌≡◌, ℕ, Bool, true, false, cond, List, Option, Some, None, refl, sym, ap, ◌∙◌, Result, Ok, Err}
+use Rattle.std.proofs.Common.{◌≡◌, ℕ, Bool, true, false, cond, List, refl, sym, ap, ◌∙◌, Result, Ok, Err}
 use Rattle.std.specs.Prelude.{nat_le}
 use Rattle.std.specs.FinMap as fin
 use Rattle.sc_msg.specs.declared.message.Message.{Message}
 use Rattle.sc_node.specs.State.{NodeState}
 use Rattle.sc_node.specs.Nodes as node
 use Rattle.sc_node.specs.declared.fault.NodeFault.{NodeFault}
-use Rattle.sc_node.specs.declared.fault.NodeFault.TheVariants as node_fault
 use Rattle.sc_world.proofs.Inverts.{no_refusal}
 use Rattle.bq_check.specs.Certificate.{Certificate}
 use Rattle.q_session.specs.declared.ran.Ran.{Ran}
@@ -14,11 +13,9 @@ use Rattle.q_session.specs.declared.job.Job.{Job}
 use Rattle.q_desk.specs.State.{DeskState}
 use Rattle.q_desk.specs.Desks as desk
 use Rattle.q_desk.specs.declared.fault.DeskFault.{DeskFault}
-use Rattle.q_desk.specs.declared.fault.DeskFault.TheVariants as desk_fault
 use Rattle.q_desk.specs.declared.journal.Entry.TheVariants as entry
 use Rattle.q_book.specs.State.{BookState}
 use Rattle.q_book.specs.declared.fault.BookFault.{BookFault}
-use Rattle.q_book.specs.declared.fault.BookFault.TheVariants as fault
 use Rattle.q_book.specs.Books as book
 
 abbrev IsSame : BookState → BookState → Type 0

@@ -10,7 +10,7 @@ use Rattle.q_history.specs.State.{ClusterState}
 use Rattle.q_history.specs.Clusters.{stepped}
 use Rattle.q_history.specs.Calls.{AnswersTo, Follows, Takes, Reaches, Runs}
 
-nothing : Ran
+abbrev pub nothing : Ran
 nothing = record { acc = 0; steps = 0 }
 
 -- an event that finishes no job does what is said

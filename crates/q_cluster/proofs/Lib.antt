@@ -5,4 +5,6 @@ pub mod Heads
 pub mod Calls
 pub mod Posting
 pub mod Going
+pub mod Coming
+pub mod Finishing
 pub mod Founding

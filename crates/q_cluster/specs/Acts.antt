@@ -14,12 +14,10 @@ use Rattle.q_book.specs.declared.fault.BookFault.{BookFault}
 use Rattle.q_book.specs.declared.fault.BookFault.TheVariants as fault
 use Rattle.q_book.specs.Faults.{memory}
 use Rattle.q_session.specs.declared.job.Job.{Job}
-use Rattle.q_history.specs.declared.event.Stepped.{Stepped}
-use Rattle.q_history.specs.declared.fault.ClusterFault.{ClusterFault}
 use Rattle.q_history.specs.State.{ClusterState}
-use Rattle.q_history.specs.Clusters.{at}
+use Rattle.q_history.specs.Clusters.{Said}
 use Rattle.q_history.specs.Calls.{IsHistory}
-use Rattle.q_history.specs.Books.{founders_for, book_of}
+use Rattle.q_history.specs.Heads.{founders_for, book_of}
 use Rattle.q_cluster.specs.Tables.{BookMap, each}
 
 -- a cluster by its parts
@@ -47,9 +45,9 @@ abbrev pub StepsAt : {A : Type 0} → Result (A × BookState) BookFault → Book
 StepsAt said old new id (Ok a) = (b : BookState) × (said ≡ Ok (a, b)) × (new ≡ fin.insert old id b)
 StepsAt said old new id (Err e) = (new ≡ old) × (e ≢ memory → said ≡ Err e)
 
--- what a node and its desk make of an event
+-- what a book makes of an event
 abbrev pub Doing : Type 0
-Doing = NodeState → DeskState → Result (Stepped × ClusterState) ClusterFault
+Doing = BookState → Said
 
 -- a node that is there, with its desk
 pub record IsThere (c : ClusterState) (id : ℕ) : Type 0 where

@@ -1,12 +1,12 @@
 //! A cluster: what each event makes of it, and what its answers are.
 
 ghost use Rattle.std.specs.Prelude.{◌≡◌, ◌≢◌, ◌<◌, ℕ, List, Ok, Err, IfOk, IfErr, is_some, option_copied, slice_get, length, vec_len, vec_capacity};
+ghost use Rattle.std.specs.FinMap as fin;
 ghost use Rattle.sc_world.specs.Worlds as world;
-ghost use Rattle.sc_world.specs.declared.event.Event.TheVariants as world_event;
 ghost use Rattle.q_table.specs.Calls.{Steps, Gives};
 ghost use Rattle.q_session.specs.declared.ran.Ran.{Ran};
 ghost use Rattle.q_history.specs.Faults.{memory};
-ghost use Rattle.q_history.specs.Clusters.{at, taken, registered, asked, stored, delivered, handed_out, handed, with_job, finished, left, enters, crashes, started};
+ghost use Rattle.q_history.specs.Clusters.{at, registered, asked, stored, delivered, handed_out, handed, with_job, finished, entered, left, crashed, started};
 ghost use Rattle.q_history.specs.Calls.{Takes, Runs, IsHistory};
 ghost use Rattle.q_history.specs.Headline.{AnswersAreTrue, AnswersStay};
 ghost use Rattle.q_history.specs.Books.{BooksAreReplays};
@@ -207,7 +207,7 @@ impl Cluster {
 
 impl Cluster {
     fn enter(&mut self, id: u64) -> Result<Stepped, ClusterFault>
-        ensures { Steps memory (taken (enters self.old id) (world.stepped self.old.world (world_event.Enter id))) self.old self.new result }
+        ensures { Steps memory (entered self.old id (fin.get self.old.world.nodes id)) self.old self.new result }
     {
         if self.books.get(id).is_some() {
             return Err(ClusterFault::World(WorldFault::IdUsed));
@@ -234,7 +234,7 @@ impl Cluster {
     }
 
     fn crash(&mut self, id: u64) -> Result<Stepped, ClusterFault>
-        ensures { Steps memory (taken (crashes self.old) (world.stepped self.old.world (world_event.Crash id))) self.old self.new result }
+        ensures { Steps memory (crashed self.old id (world.live_at self.old.world id)) self.old self.new result }
     {
         if !self.is_live(id) {
             return Err(ClusterFault::World(WorldFault::NoSuchNode));

@@ -2,7 +2,7 @@ use Rattle.std.proofs.Common.{◌∙◌, ap, sym, subst, is_some}
 use Rattle.sc_world.specs.Worlds.{live_at}
 use Rattle.q_history.specs.State.{ClusterState}
 use Rattle.q_cluster.specs.Acts.{IsThere}
-use Rattle.q_cluster.proofs.Going.{there_is}
+use Rattle.q_cluster.proofs.Coming.{there_is}
 use Rattle.q_cluster.proofs.cluster.Cluster.check_live.Goals as goal
 
 pub returns-then-is_live-clause-there : goal.returns-then-is_live-clause-there

@@ -1,10 +1,7 @@
-use Rattle.std.proofs.Common.{◌≡◌, ◌∙◌, refl, sym, ap, subst, Option, Some, None, is_some, List, Ok, Err, Result, length}
-use Rattle.std.specs.Prelude.{option_map}
+use Rattle.std.proofs.Common.{◌≡◌, ◌∙◌, refl, sym, ap, Option, None, is_some, length}
 use Rattle.std.specs.FinMap as fin
 use Rattle.sc_members.specs.Members.{Config}
-use Rattle.sc_msg.specs.declared.message.Message.{Message}
 use Rattle.sc_world.specs.declared.event.Event.TheVariants as world_event
-use Rattle.sc_world.specs.declared.event.Sent.{Sent}
 use Rattle.sc_world.specs.State.{Past}
 use Rattle.sc_world.specs.Ledgers.{recorded, numbered}
 use Rattle.sc_world.proofs.Tables.{is_some-copied}
@@ -12,16 +9,13 @@ use Rattle.sc_world.proofs.Inverts.{same_answer}
 use Rattle.sc_world.proofs.Moving.{nothing_moves}
 use Rattle.q_book.specs.State.{BookState}
 use Rattle.q_book.specs.Books as book
-use Rattle.q_history.specs.declared.event.Stepped.{Stepped}
 use Rattle.q_history.specs.declared.event.Told.TheVariants as told
-use Rattle.q_history.specs.State.{ClusterState}
-use Rattle.q_cluster.specs.contracts.cluster.Cluster as cluster
-use Rattle.q_cluster.proofs.Going.{none_of, enter_used, enter_says, enter_goes}
+use Rattle.q_cluster.proofs.Coming.{none_of, enter_used, enter_says, enter_goes}
 use Rattle.q_cluster.proofs.cluster.Cluster.enter.Goals as goal
 
 pub returns-then-is_some : goal.returns-then-is_some
 returns-then-is_some c =
-    (refl, λ loud. enter_used c.self.inside.books c.self.inside.ledger.past c.self.inside.jobs.items c.args.self.now c.self.view_is c.args.id
+    (refl, λ loud. enter_used c.self.inside.books c.self.inside.ledger.past c.self.inside.jobs.items c.args.id c.args.self.now c.self.view_is
     (sym c.if-is_some.true ∙ c.is_some.ensures ∙ is_some-copied c.get.result ∙ ap (λ (o : Option BookState). is_some o) c.get.ensures))
 
 pub record-sent-requires-clause-ready : goal.record-sent-requires-clause-ready

@@ -1,9 +1,8 @@
-use Rattle.std.proofs.Common.{◌∙◌, sym, ap, Option, is_some, not}
+use Rattle.std.proofs.Common.{◌∙◌, sym, ap, is_some, not}
 use Rattle.std.specs.Prelude.{option_map}
 use Rattle.std.specs.FinMap as fin
 use Rattle.sc_world.specs.Worlds.{live_at}
 use Rattle.sc_world.proofs.Tables.{live_some, live_none}
-use Rattle.q_book.specs.State.{BookState}
 use Rattle.q_history.specs.State.{ClusterState}
 use Rattle.q_cluster.specs.contracts.cluster.Cluster as cluster
 use Rattle.q_cluster.proofs.Tables.{get-each}
