@@ -62,8 +62,7 @@ module _ {books : BookMap} {past : Past} {jobs : List Job} {x : ClusterState} {n
   finish_turns y posts' e why t tells =
       let steps = posts_at (Err y) posts' s.book s.has in
       subst (λ (z : ClusterState). Takes z (event.Finish number) (cluster_of books' past jobs) t) is
-      (subst (λ (z : Result Stepped ClusterFault). Takes c (event.Finish number) (cluster_of books' past jobs) z) (sym tells)
-      (
+      (subst (λ (z : Result Stepped ClusterFault). Takes c (event.Finish number) (cluster_of books' past jobs) z) (sym tells) (
         ap (λ (m : BookMap). cluster_of m past jobs) steps.0,
         λ loud r.
             turns r ∙ ap (lift (posts c f.job r)) (refused_so s.book f.job f.ran r y (steps.1 (λ same. loud (why ∙ ap of_book same))))

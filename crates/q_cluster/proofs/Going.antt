@@ -145,8 +145,7 @@ module _ {A : Type 0} {books : BookMap} {past : Past} {jobs : List Job} {x : Clu
     pub refuses : (r : Result Stepped ClusterFault) → IsRefused r y → Steps memory (stepped ran x k.event) x (cluster_of books' past' jobs') r
     refuses r h =
         subst (λ (z : ClusterState). Steps memory (stepped ran z k.event) z (cluster_of books' past' jobs') r) s.is
-        (subst (λ (z : Result Stepped ClusterFault). Steps memory (stepped ran c k.event) c (cluster_of books' past' jobs') z) (sym h.1)
-        (
+        (subst (λ (z : Result Stepped ClusterFault). Steps memory (stepped ran c k.event) c (cluster_of books' past' jobs') z) (sym h.1) (
           (λ i. cluster_of (same_books i) (same_past i) (same_jobs i)),
           λ loud.
               turns ∙ ap (lift (k.next c)) ((calls s.book s.has).1 (λ same. loud (h.2 ∙ ap of_book same)))

@@ -38,7 +38,6 @@ module _ (s : DeskState) (j : Job) (r r' : Ran) (x : DeskFault) where
   posted_err : (node : ℕ) → desk.posted s node j r ≡ Err x → desk.posted s node j r' ≡ Err x
   posted_err node h = by_test (j.node == node) _ _ desk_fault.Stranger x (λ k. at_err (slice_get s.queries j.query) k) h
 
-
 abbrev Posted : Type 0
 Posted = Result (Unit {0} × BookState) BookFault
 

@@ -13,9 +13,11 @@ use Rattle.q_cluster.proofs.Coming.{none_of, enter_used, enter_says, enter_goes}
 use Rattle.q_cluster.proofs.cluster.Cluster.enter.Goals as goal
 
 pub returns-then-is_some : goal.returns-then-is_some
-returns-then-is_some c =
-    (refl, λ loud. enter_used c.self.inside.books c.self.inside.ledger.past c.self.inside.jobs.items c.args.id c.args.self.now c.self.view_is
-    (sym c.if-is_some.true ∙ c.is_some.ensures ∙ is_some-copied c.get.result ∙ ap (λ (o : Option BookState). is_some o) c.get.ensures))
+returns-then-is_some c = (
+  refl,
+  λ loud. enter_used c.self.inside.books c.self.inside.ledger.past c.self.inside.jobs.items c.args.id c.args.self.now c.self.view_is
+      (sym c.if-is_some.true ∙ c.is_some.ensures ∙ is_some-copied c.get.result ∙ ap (λ (o : Option BookState). is_some o) c.get.ensures),
+)
 
 pub record-sent-requires-clause-ready : goal.record-sent-requires-clause-ready
 record-sent-requires-clause-ready c = nothing_moves c.reserve.new.self.past.ops c.args.id (length c.reserve.new.self.past.events)
