@@ -21,7 +21,6 @@ use Rattle.q_book.specs.Books.{new_book}
 use Rattle.q_book.specs.Faults as book_faults
 use Rattle.q_book.specs.declared.fault.BookFault.{BookFault}
 use Rattle.q_book.specs.declared.fault.BookFault.TheVariants as fault
-use Rattle.q_history.specs.Faults.{memory}
 use Rattle.q_history.specs.Clusters.{desks_with, start, founded, started}
 use Rattle.q_history.proofs.EveryBook.{IsAmong, among_first, among_rest}
 use Rattle.std.proofs.lemmas.Bool.{eqb-true}

@@ -9,7 +9,6 @@ use Rattle.sc_world.proofs.Inverts.{same_answer}
 use Rattle.sc_world.proofs.Moving.{nothing_moves}
 use Rattle.q_book.specs.State.{BookState}
 use Rattle.q_book.specs.Books as book
-use Rattle.q_history.specs.declared.event.Told.TheVariants as told
 use Rattle.q_cluster.proofs.Coming.{none_of, enter_used, enter_says, enter_goes}
 use Rattle.q_cluster.proofs.cluster.Cluster.enter.Goals as goal
 
