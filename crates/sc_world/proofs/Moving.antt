@@ -27,7 +27,7 @@ use Rattle.sc_world.specs.declared.counting.Counting.{Counting}
 use Rattle.sc_world.specs.declared.event.Event.TheVariants as event
 use Rattle.sc_world.specs.declared.op.Op.{Op}
 use Rattle.sc_world.specs.State.{WorldState}
-use Rattle.sc_world.specs.Worlds.{clock, Outcome, of_delivered, by_node, moved, advanced, live, by_live, live_at, acted, delivers, IsHistory}
+use Rattle.sc_world.specs.Worlds.{clock, Outcome, of_delivered, by_node, moved, live, by_live, live_at, acted, delivers, IsHistory}
 use Rattle.sc_world.specs.Records.{Among, AreDistinct}
 use Rattle.sc_world.specs.Acts.{outcome, answered, answered_at, answered_by, is_op, IsReady, put_moved}
 use Rattle.sc_world.specs.Ledgers.{IsRight}

@@ -1,7 +1,7 @@
 //! What a world keeps beside its nodes: which of them crashed, the accepted events, every message that was ever sent and
 //! the record of each operation.
 
-ghost use Rattle.std.specs.Prelude.{◌≡◌, ◌++◌, length, true, IfOk, OnOk, OnErr, vec_len, vec_capacity, ◌<◌, slice_get, option_copied};
+ghost use Rattle.std.specs.Prelude.{◌≡◌, ◌++◌, length, true, IfOk, OnOk, OnErr, vec_len, vec_capacity, ◌<◌};
 ghost use Rattle.std.specs.FinSet as set;
 ghost use Rattle.sc_world.specs.Acts.{answered, IsReady};
 ghost use Rattle.sc_world.specs.Ledgers.{first, recorded, numbered, stopped, passed, IsRight};

@@ -1,6 +1,6 @@
 //! The nodes of a world, by their ids.
 
-ghost use Rattle.std.specs.Prelude.{◌≡◌, IfOk, OnOk, OnErr, is_some, option_copied};
+ghost use Rattle.std.specs.Prelude.{◌≡◌, OnOk, OnErr, is_some, option_copied};
 ghost use Rattle.std.specs.FinMap as fin;
 ghost use Rattle.sc_node.specs.Calls.{Gives};
 ghost use Rattle.sc_world.specs.Acts.{ActsAt, memory};

@@ -1,9 +1,7 @@
 use Rattle.std.proofs.Common.{◌≡◌, ◌∙◌, Ok, length, ap, sym, subst}
 use Rattle.std.specs.FinSet as set
-use Rattle.sc_msg.specs.declared.message.Message.{Message}
 use Rattle.sc_world.specs.contracts.world.World as world
 use Rattle.sc_world.specs.State.{WorldState, Past, world_of, past_of}
-use Rattle.sc_world.specs.Acts.{IsReady, answered_at}
 use Rattle.sc_world.specs.Ledgers.{IsRight, recorded, numbered}
 use Rattle.sc_world.specs.Worlds.{event_of, stepped}
 use Rattle.sc_world.proofs.Histories.{history_next}

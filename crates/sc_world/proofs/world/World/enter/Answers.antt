@@ -1,12 +1,10 @@
-use Rattle.std.proofs.Common.{◌≡◌, ◌∙◌, List, Ok, Result, None, length, ap, sym}
+use Rattle.std.proofs.Common.{◌≡◌, ◌∙◌, Ok, None, length, ap, sym}
 use Rattle.std.specs.FinMap as fin
 use Rattle.sc_members.specs.Members.{Config}
-use Rattle.sc_msg.specs.declared.message.Message.{Message}
-use Rattle.sc_node.specs.State.{NodeState}
 use Rattle.sc_node.specs.Nodes.{entered}
 use Rattle.sc_world.specs.declared.event.Event.TheVariants as event
 use Rattle.sc_world.specs.contracts.world.World as world
-use Rattle.sc_world.specs.State.{WorldState, Past, world_of, past_of}
+use Rattle.sc_world.specs.State.{WorldState, Past, world_of}
 use Rattle.sc_world.specs.Ledgers.{recorded, numbered}
 use Rattle.sc_world.specs.Worlds.{enters}
 use Rattle.sc_world.proofs.Inverts.{same_answer}
