@@ -102,27 +102,35 @@ fn edge(rt: &impl Print, alloc: Global, source: &str, words: &str) -> io::Result
     }
 }
 
-fn of_two(
+fn print_operated(
+    rt: &impl Print,
     alloc: Global,
-    verb: &str,
     source: &str,
-    words: &str,
-) -> Result<Option<Range>, AllocError> {
-    let Some((a, b)) = two(alloc, words)? else {
-        return Ok(None);
-    };
-    Ok(match verb {
-        "join" => Some(a.join(b)),
-        "meet" => a.meet(b),
-        _ => insn(alloc, source)?.and_then(|insn| operation(&insn, a, b)),
-    })
+    a: Range,
+    b: Range,
+) -> io::Result<()> {
+    match insn(alloc, source)? {
+        Some(insn) => print_range(rt, operation(&insn, a, b)),
+        None => print_range(rt, None),
+    }
 }
 
-fn of_one(alloc: Global, source: &str, words: &str) -> Result<Option<Range>, AllocError> {
-    let Some(a) = one(alloc, words)? else {
-        return Ok(None);
+fn of_two(rt: &impl Print, alloc: Global, verb: &str, source: &str, words: &str) -> io::Result<()> {
+    let Some((a, b)) = two(alloc, words)? else {
+        return print_range(rt, None);
     };
-    Ok(insn(alloc, source)?.and_then(|insn| mapped(&insn, a)))
+    match verb {
+        "join" => print_range(rt, Some(a.join(b))),
+        "meet" => print_range(rt, a.meet(b)),
+        _ => print_operated(rt, alloc, source, a, b),
+    }
+}
+
+fn of_one(rt: &impl Print, alloc: Global, source: &str, words: &str) -> io::Result<()> {
+    match (insn(alloc, source)?, one(alloc, words)?) {
+        (Some(insn), Some(a)) => print_range(rt, mapped(&insn, a)),
+        _ => print_range(rt, None),
+    }
 }
 
 /// Prints what comes of a line about ranges.
@@ -130,8 +138,8 @@ pub(crate) fn answer(rt: &impl Print, alloc: Global, verb: &str, rest: &str) -> 
     match (verb, rest.split_once('=')) {
         ("load", _) => print_range(rt, load(rest)),
         ("edge", Some((source, words))) => edge(rt, alloc, source, words),
-        ("mapped", Some((source, words))) => print_range(rt, of_one(alloc, source, words)?),
-        (_, Some((source, words))) => print_range(rt, of_two(alloc, verb, source, words)?),
+        ("mapped", Some((source, words))) => of_one(rt, alloc, source, words),
+        (_, Some((source, words))) => of_two(rt, alloc, verb, source, words),
         _ => println!(rt; " ?"),
     }
 }

@@ -16,6 +16,9 @@ use bq_state::state::State;
 use std::alloc::Global;
 use std::io;
 
+/// The most units of a text.
+const MOST_UNITS: u64 = 4096;
+
 pub(crate) fn print_kind(rt: &impl Print, kind: Kind) -> io::Result<()> {
     match kind {
         Kind::Unset => println!(rt; " unset"),
@@ -81,6 +84,9 @@ fn edges(rt: &impl Print, alloc: Global, unit: u64, source: &str) -> io::Result<
     let Some(insn) = insn(alloc, source)? else {
         return println!(rt; " ?");
     };
+    if MOST_UNITS <= unit {
+        return println!(rt; " ?");
+    }
     let edges = State::entry().edges(unit, &insn);
     print_edge(rt, "behind", edges.behind)?;
     print_edge(rt, "jump", edges.jump)
