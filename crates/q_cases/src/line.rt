@@ -36,7 +36,10 @@ impl CaseLine<'_> {
             Some(("=", name)) => CaseLine::File(name),
             Some(("+", digits)) => CaseLine::Bytes(digits),
             Some(("*", rest)) => repeated(rest).unwrap_or(CaseLine::Text(text)),
-            Some(("!", count)) => number(count).map_or(CaseLine::Text(text), CaseLine::Failing),
+            Some(("!", count)) => match number(count) {
+                Some(count) => CaseLine::Failing(count),
+                None => CaseLine::Text(text),
+            },
             Some(("$", words)) => CaseLine::Command(words),
             Some(("?", words)) => CaseLine::Advice(words),
             _ => CaseLine::Text(text),
