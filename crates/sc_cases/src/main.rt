@@ -1,20 +1,24 @@
 //! Cases of the store-collect object as text: each line is an event, a question or a value, and prints itself and then
 //! what came. The gate compares what is printed with the file `stdout`, whose values come from outside.
 //!
-//! | Line | Prints |
-//! |---|---|
-//! | `world N/D J/K FIRST COUNT` | the refusal, if any: a world of so many founders from this id on, whose operations wait for the fraction N/D and whose joins for J/K |
-//! | `enter ID`, `leave ID`, `crash ID`, `store ID BYTE`, `collect ID`, `deliver M ID`, `other` | the tag, the end and the messages of the event, or its refusal |
-//! | `all M N` | the refusal, if any: delivers each of M messages to each of the nodes 1 to N |
-//! | `op I` | the thresholds and the counted senders of the phases of an operation |
-//! | `common I J` | the least id that two operations have in common |
-//! | `known ID` | how many values a node knows, how many nodes it takes for present and for members; whether it is there |
-//! | `counts` | how many events and messages there are |
-//! | `message HEX` | what the message says, and whether it is written as it was read; or the refusal |
-//! | `threshold N/D COUNT`, `fraction N/D` | the threshold; whether a cluster may have this fraction |
-//! | `sets ID .. / ID ..` | the union in rising order; the size of the first set; the least common id; the sizes of union and difference |
-//! | `facts ID .. / WHAT ID ..` | how many are present and members by these founders united with these facts, or the refusal |
-//! | `view ID NUMBER BYTE .. / ID NUMBER BYTE ..` | the first view merged with the second: id, number and byte of each value |
+//! - `world N/D J/K FIRST COUNT` founds a world of so many founders from this id on, whose operations wait for the
+//!   fraction N/D and whose joins for J/K; it prints the refusal, if any.
+//! - `enter ID`, `leave ID`, `crash ID`, `store ID BYTE`, `collect ID`, `deliver M ID`, `other`: the tag, the end and
+//!   the messages of the event, or its refusal.
+//! - `all M N` delivers each of M messages to each of the nodes 1 to N; it prints the refusal, if any.
+//! - `op I`: the thresholds and the counted senders of the phases of an operation.
+//! - `common I J`: the least id that two operations have in common.
+//! - `known ID`: how many values a node knows, how many nodes it takes for present and for members, and whether it is
+//!   there.
+//! - `counts`: how many events and messages there are.
+//! - `message HEX`: what the message says, and whether it is written as it was read; or the refusal.
+//! - `threshold N/D COUNT`, `fraction N/D`: the threshold; whether a cluster may have this fraction.
+//! - `sets ID .. / ID ..`: the union in rising order, the size of the first set, the least common id, and the sizes of
+//!   union and difference.
+//! - `facts ID .. / WHAT ID ..`: how many are present and members by these founders united with these facts, or the
+//!   refusal.
+//! - `view ID NUMBER BYTE .. / ID NUMBER BYTE ..`: the first view merged with the second: id, number and byte of each
+//!   value.
 //!
 //! Another line is printed as it stands.
 #![tactic(auto)]
