@@ -13,3 +13,4 @@
 pub mod config;
 pub mod facts;
 pub mod ids;
+pub mod worked;

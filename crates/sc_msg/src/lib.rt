@@ -27,3 +27,4 @@ pub mod kind;
 pub mod laws;
 pub mod message;
 mod reader;
+pub mod worked;

@@ -1,0 +1,25 @@
+//! Worked values of messages and their bytes.
+
+ghost use Rattle.std.specs.Prelude.{◌≡◌, [], ◌∷◌, Some, None, codes};
+ghost use Rattle.sc_msg.specs.Fault.{head_fault};
+ghost use Rattle.sc_msg.specs.Kinds.{code, kind_at, kind_of, name_of};
+ghost use Rattle.sc_msg.specs.Messages.{message_bytes};
+ghost use Rattle.sc_msg.specs.declared.fault.MessageFault.TheVariants as fault;
+ghost use Rattle.sc_msg.specs.declared.kind.Kind.TheVariants as kind;
+ghost use Rattle.sc_msg.specs.declared.message.Body.TheVariants as body;
+
+/// What the definitions say of kinds, of the message by which node 3 enters, and of bytes that are none.
+#[tactic(auto, unfolding(crate::specs::Numbers::number_bytes))]
+pub fn worked()
+    ensures kind_of_join_echo { kind_of (body.JoinEcho 7) ≡ kind.JoinEcho }
+    ensures kind_of_leave_echo { kind_of (body.LeaveEcho 7) ≡ kind.LeaveEcho }
+    ensures kind_of_ack { kind_of (body.StoreAck 1 0) ≡ kind.StoreAck }
+    ensures fourth_byte { kind_at 9 ≡ Some kind.StoreEcho }
+    ensures no_kind { kind_at 12 ≡ None }
+    ensures last_kind { code kind.CollectReply ≡ 11 }
+    ensures word { name_of kind.CollectQuery ≡ codes "collect-query" }
+    ensures enter { message_bytes (record { from = 3; body = body.Enter }) ≡ 66 ∷ 81 ∷ 1 ∷ 1 ∷ 3 ∷ 0 ∷ 0 ∷ 0 ∷ 0 ∷ 0 ∷ 0 ∷ 0 ∷ [] }
+    ensures cut { head_fault (66 ∷ 81 ∷ 1 ∷ 1 ∷ 3 ∷ 0 ∷ 0 ∷ 0 ∷ 0 ∷ 0 ∷ 0 ∷ []) ≡ Some fault.Short }
+    ensures other_version { head_fault (66 ∷ 81 ∷ 2 ∷ 1 ∷ 3 ∷ 0 ∷ 0 ∷ 0 ∷ 0 ∷ 0 ∷ 0 ∷ 0 ∷ []) ≡ Some fault.BadHead }
+    ensures other_kind { head_fault (66 ∷ 81 ∷ 1 ∷ 12 ∷ 3 ∷ 0 ∷ 0 ∷ 0 ∷ 0 ∷ 0 ∷ 0 ∷ 0 ∷ []) ≡ Some fault.BadKind }
+{}
