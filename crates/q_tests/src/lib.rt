@@ -8,6 +8,8 @@
 #[cfg(test)]
 mod book;
 #[cfg(test)]
+mod cluster;
+#[cfg(test)]
 mod command;
 #[cfg(test)]
 mod desk;
