@@ -50,7 +50,6 @@ module _ (w : WorldState) where
   step_next (event.Store q value) a w' h = taken_next _ _ _ w' (acts-ok w (event.Store q value) q (stores value) a w' h)
   step_next (event.Collect q) a w' h = taken_next _ _ _ w' (acts-ok w (event.Collect q) q collects a w' h)
   step_next (event.Deliver number q) a w' h = taken_next _ _ _ w' (acts-ok w (event.Deliver number q) q (delivers (slice_get w.sent number)) a w' h)
-  step_next event.Other a w' h = subst (IsNext w event.Other) (ap (λ (z : Stepped × WorldState). z.1) (same_answer _ (a, w') h)) (record { config = refl; founders = refl; events = refl; outs = []; sent = sym (append-nil w.sent) })
 
 pub reaches_next : (es : List Event) (w u : WorldState) (e : Event) (a : Stepped) (w' : WorldState) → Reaches w es u → stepped u e ≡ Ok (a, w') → Reaches w (es ++ e ∷ []) w'
 reaches_next [] w u e a w' h s = (a, w', subst (λ (x : WorldState). stepped x e ≡ Ok (a, w')) h s, refl)

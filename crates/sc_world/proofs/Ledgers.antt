@@ -211,7 +211,6 @@ module _ (w : WorldState) (history : IsHistory w) (linked : IsLinked w) (sound :
   step_by (event.Deliver number q) a w' h k =
       let t = acts-ok w (event.Deliver number q) q (delivers (slice_get w.sent number)) a w' h in
       delivered_any number q t.node (slice_get w.sent number) t.outcome w' (at_live q t.node t.at) refl t.gives t.is k
-  step_by event.Other a w' h k = quiet_records event.Other w' k (ap (λ (z : Stepped × WorldState). z.1.ops) (sym (same_answer _ (a, w') h)))
 
   pub step_records : (e : Event) (a : Stepped) (w' : WorldState) → stepped w e ≡ Ok (a, w') → AreRecords w'
   step_records e a w' h = step_by e a w' h (step_next w e a w' h)

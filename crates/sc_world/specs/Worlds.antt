@@ -163,7 +163,6 @@ stepped w (event.Crash id) = crashes w id (live_at w id)
 stepped w (event.Store id value) = acts w (event.Store id value) id (acted w.sent (act.Store value))
 stepped w (event.Collect id) = acts w (event.Collect id) id (acted w.sent act.Collect)
 stepped w (event.Deliver number id) = acts w (event.Deliver number id) id (acted w.sent (act.Deliver number))
-stepped w event.Other = Ok (silent w, record w { events = w.events ++ event.Other ∷ [] })
 
 -- one world leads to another by accepted events
 abbrev pub Reaches : WorldState → List Event → WorldState → Type 0
