@@ -80,8 +80,8 @@ impl World {
         }
     }
 
-    /// The record of each operation, in the order in which they began. The views are regular, and what the records
-    /// say is true.
+    /// The record of each operation, in the order in which they began: one for each accepted event that began one. The
+    /// views are regular, and what the records say is true.
     pub fn ops(&self) -> &[Op]
         ensures ops { result.now ≡ self.now.ops }
         ensures regular { IsRegular self.now }
