@@ -1,5 +1,5 @@
 -- A node has begun as many operations and stores as its events say, and each of its open operations has a record.
-use Rattle.std.proofs.Common.{◌≡◌, ℕ, ◌+◌, Bool, true, false, cond, ◌==◌, List, [], ◌∷◌, ◌++◌, map, Option, Some, None, refl, sym, ap, ◌∙◌, subst, arith, inl, inr, slice_get, Ok}
+use Rattle.std.proofs.Common.{◌≡◌, ℕ, ◌+◌, Bool, true, false, cond, ◌==◌, List, [], ◌∷◌, ◌++◌, map, Option, Some, None, add-zero, refl, sym, ap, ◌∙◌, subst, arith, inl, inr, slice_get, Ok}
 use Rattle.std.proofs.lemmas.Bool.{eqb-true, eq-eqb}
 use Rattle.std.proofs.lemmas.List.Sums.{sum_by_push}
 use Rattle.std.specs.List.{count_by}
@@ -68,11 +68,14 @@ begins_store_own id (event.Store q value) h = eqb-true q id h
 begins_store_own id e h = absurd (cc)
 
 never : (b : Bool) → (b ≡ true → ⊥) → b ≡ false
-never true no = absurd (no refl)
-never false no = refl
+never true not_so = absurd (not_so refl)
+never false not_so = refl
 
-counted_itself : (q : ℕ) → cond (q == q) 1 0 ≡ 1
-counted_itself q = ap (λ (b : Bool). cond b 1 0) (eq-eqb q q refl)
+one_more : (b : Bool) (count : ℕ) → b ≡ true → count + cond b 1 0 ≡ count + 1
+one_more b count is = ap (λ (x : Bool). count + cond x 1 0) is
+
+no_more : (b : Bool) (count : ℕ) → b ≡ false → count + cond b 1 0 ≡ count
+no_more b count is = ap (λ (x : Bool). count + cond x 1 0) is ∙ add-zero count
 
 -- ---- one event of a node
 
@@ -91,8 +94,7 @@ module _ (w : WorldState) (e : Event) (q : ℕ) (r : Outcome) (own : node_of e �
     count_by_case id false is =
         let other : mark id e ≡ false =
         never (mark id e) (λ h. let k : (id == q) ≡ true = eq-eqb id q (sym (marked id h) ∙ own) in absurd (cc))
-        in let none : cond (mark id e) 1 0 ≡ 0 = ap (λ (b : Bool). cond b 1 0) other in
-        omega (arith, was id, none)
+        in was id ∙ sym (no_more (mark id e) (count_by (mark id) w.events) other)
 
     count_next : (id : ℕ) → held (fin.get next.nodes id) ≡ count_by (mark id) next.events
     count_next id = ap held (get-insert w.nodes q r.node id) ∙ count_by_case id (id == q) refl ∙ sym (count_more (mark id) w.events e)
@@ -159,6 +161,12 @@ module _ (w : WorldState) (t : IsTallied w) where
     stores_are : stored_at (fin.get w.nodes q) ≡ n.stores
     stores_are = ap stored_at at
 
+    operations_more : begun_at (fin.get w.nodes q) + cond (q == q) 1 0 ≡ n.operations + 1
+    operations_more = one_more (q == q) (begun_at (fin.get w.nodes q)) (eq-eqb q q refl) ∙ ap (λ (count : ℕ). count + 1) operations
+
+    stores_more : stored_at (fin.get w.nodes q) + cond (q == q) 1 0 ≡ n.stores + 1
+    stores_more = one_more (q == q) (stored_at (fin.get w.nodes q)) (eq-eqb q q refl) ∙ ap (λ (count : ℕ). count + 1) stores_are
+
     -- the operations that were open have their records in the next world too
     before : (e : Event) (r : Outcome) → node_of e ≡ q → AreKept (after w e q r) q n
     before e r own tag s h = record_on w e q r own q tag (t.kept q n at tag s h)
@@ -173,14 +181,14 @@ module _ (w : WorldState) (t : IsTallied w) where
         let e : Event = event.Store q value in
         let r : Outcome = store_outcome n value in
         tallied_next w e q r refl t (begun_kept w e q r refl n (store_session n value) (before e r refl) refl refl)
-        (omega (arith, operations, counted_itself q)) (omega (arith, stores_are, counted_itself q))
+        (sym operations_more) (sym stores_more)
 
     collect_tallied : IsTallied (after w (event.Collect q) q (collect_outcome n))
     collect_tallied =
         let e : Event = event.Collect q in
         let r : Outcome = collect_outcome n in
         tallied_next w e q r refl t (begun_kept w e q r refl n (collect_session n) (before e r refl) refl refl)
-        (omega (arith, operations, counted_itself q)) (omega (arith, stores_are))
+        (sym operations_more) (omega (arith, stores_are))
 
     heard_tallied : (number : ℕ) (m : Message) → IsTallied (after w (event.Deliver number q) q (heard n m.from m.body))
     heard_tallied number m =
