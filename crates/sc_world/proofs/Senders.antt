@@ -1,5 +1,5 @@
 -- Each message was sent by an event of its sender.
-use Rattle.std.proofs.Common.{◌≡◌, ℕ, ◌+◌, ◌≤◌, List, [], ◌∷◌, ◌++◌, map, length, Option, Some, None, refl, sym, ap, ◌∙◌, subst, arith, inl, inr, slice_get, Result, Ok}
+use Rattle.std.proofs.Common.{◌≡◌, ℕ, ◌+◌, List, [], ◌∷◌, ◌++◌, map, length, Option, Some, None, refl, sym, ap, ◌∙◌, subst, arith, inl, inr, slice_get, Result, Ok}
 use Rattle.std.proofs.lemmas.List.{append-nil}
 use Rattle.std.proofs.lemmas.Option.{slice_get_within}
 use Rattle.std.specs.FinMap as fin
@@ -11,7 +11,6 @@ use Rattle.sc_node.specs.State.{NodeState}
 use Rattle.sc_node.specs.Nodes.{message_from, answers, stored_view}
 use Rattle.sc_world.specs.declared.event.Event.{Event}
 use Rattle.sc_world.specs.declared.event.Event.TheVariants as event
-use Rattle.sc_world.specs.declared.event.Sent.{Sent}
 use Rattle.sc_world.specs.declared.event.Stepped.{Stepped}
 use Rattle.sc_world.specs.declared.fault.WorldFault.{WorldFault}
 use Rattle.sc_world.specs.State.{WorldState}
@@ -19,7 +18,7 @@ use Rattle.sc_world.specs.Worlds.{clock, Outcome, node_of, told, after, live_at,
 use Rattle.sc_world.specs.Records.{Among, IsOneOf, WasSent, AreSent}
 use Rattle.sc_world.proofs.Links.{IsLinked}
 use Rattle.sc_world.proofs.Steps.{among-map}
-use Rattle.sc_world.proofs.Handlers.{heard, store_outcome, collect_outcome, left_outcome, entered_outcome}
+use Rattle.sc_world.proofs.Handlers.{store_outcome, collect_outcome, left_outcome, entered_outcome}
 use Rattle.sc_world.proofs.Inverts.{same_answer, no_refusal, IsTaken, live_is, acts-ok, stores-ok, collects-ok, leaves-ok, delivers-ok}
 use Rattle.sc_world.proofs.Runs.{among_get}
 use Rattle.sc_world.proofs.Histories.{IsNext, step_next, before_next, was_now}

@@ -1,5 +1,5 @@
 -- A node has begun as many operations and stores as its events say, and each of its open operations has a record.
-use Rattle.std.proofs.Common.{◌≡◌, ℕ, ◌+◌, Bool, true, false, cond, ◌==◌, List, [], ◌∷◌, ◌++◌, map, Option, Some, None, add-zero, refl, sym, ap, ◌∙◌, subst, arith, inl, inr, slice_get, Ok}
+use Rattle.std.proofs.Common.{◌≡◌, ℕ, ◌+◌, Bool, true, false, cond, ◌==◌, List, [], ◌∷◌, ◌++◌, map, Option, Some, None, add-zero, refl, sym, ap, ◌∙◌, subst, arith, inl, slice_get, Ok}
 use Rattle.std.proofs.lemmas.Bool.{eqb-true, eq-eqb}
 use Rattle.std.proofs.lemmas.List.Sums.{sum_by_push}
 use Rattle.std.specs.List.{count_by}
