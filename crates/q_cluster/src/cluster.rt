@@ -2,6 +2,8 @@
 
 ghost use Rattle.std.specs.Prelude.{◌≡◌, ◌≢◌, ◌<◌, ℕ, List, Ok, Err, IfOk, IfErr, is_some, option_copied, slice_get, length, vec_len, vec_capacity};
 ghost use Rattle.std.specs.FinMap as fin;
+ghost use Rattle.sc_world.specs.Records.{AreRecords};
+ghost use Rattle.sc_world.specs.Regular.{IsRegular};
 ghost use Rattle.sc_world.specs.Worlds as world;
 ghost use Rattle.q_table.specs.Calls.{Steps, Gives};
 ghost use Rattle.q_session.specs.declared.ran.Ran.{Ran};
@@ -176,9 +178,12 @@ impl Cluster {
         }
     }
 
-    /// The record of each operation, in the order in which they began.
+    /// The record of each operation, in the order in which they began. The views are regular, and what the records say
+    /// is true. Whether two of them meet is told by `sc_world::op::meets`.
     pub fn ops(&self) -> &[Op]
-        ensures { result.now ≡ self.now.world.ops }
+        ensures ops { result.now ≡ self.now.world.ops }
+        ensures regular { IsRegular self.now.world }
+        ensures records { AreRecords self.now.world }
     {
         self.ledger.ops()
     }

@@ -2,6 +2,7 @@
 use Rattle.std.proofs.Common.{◌≡◌, ℕ, Option, Some, None, sym, ap, ◌∙◌, subst, Result, Ok}
 use Rattle.std.specs.FinMap as fin
 use Rattle.std.specs.FinSet as set
+use Rattle.sc_msg.specs.declared.message.Message.{Message}
 use Rattle.sc_node.specs.declared.answer.Begun.{Begun}
 use Rattle.sc_node.specs.State.{NodeState}
 use Rattle.sc_node.specs.Nodes.{collect_begun}
@@ -9,9 +10,12 @@ use Rattle.sc_world.specs.declared.event.Event.{Event}
 use Rattle.sc_world.specs.declared.fault.WorldFault.{WorldFault}
 use Rattle.sc_world.specs.declared.op.Op.{Op}
 use Rattle.sc_world.specs.State.{WorldState}
-use Rattle.sc_world.specs.Worlds.{Outcome, of_begun, told, after, took, acts, by_node, by_live, live_at}
+use Rattle.sc_world.specs.Worlds.{Outcome, of_begun, told, after, took, acts, by_node, by_live, live_at, delivers}
 use Rattle.sc_world.specs.Records.{Among}
-use Rattle.sc_world.proofs.Inverts.{live_is, collects-ok}
+use Rattle.sc_world.proofs.Inverts.{live_is, collects-ok, delivers-ok}
+use Rattle.sc_world.proofs.Links.{IsLinked}
+use Rattle.sc_world.proofs.Handlers.{heard}
+use Rattle.sc_world.proofs.Ends.{moved_open}
 use Rattle.q_history.proofs.Lists.{no_some}
 use Rattle.q_history.proofs.Ops.{IsOnward, after_onward, collect_among}
 
@@ -27,6 +31,12 @@ acts-ok w e q f n r live gives =
 -- an event that moves no operation
 pub still_onward : (w : WorldState) (e : Event) (q : ℕ) (r : Outcome) → r.progress ≡ None → IsOnward w (after w e q r)
 still_onward w e q r still = after_onward w e q r (λ o in' k some by tagged. absurd (no_some k (sym still ∙ some)))
+
+-- a message that is delivered
+pub delivery_onward : (w : WorldState) → IsLinked w → (e : Event) (q : ℕ) (n : NodeState) (m : Message) (r : Outcome) → fin.get w.nodes q ≡ Some n → delivers (Some m) n ≡ Ok r → IsOnward w (after w e q r)
+delivery_onward w linked e q n m r at gives =
+    subst (λ (x : Outcome). IsOnward w (after w e q x)) (delivers-ok m n r gives)
+    (after_onward w e q (heard n m.from m.body) (moved_open w e q n at linked m.from m.body))
 
 -- the node began to collect, with its next tag
 pub collect_began : (w : WorldState) (e : Event) (q : ℕ) (n : NodeState) (a : Begun × NodeState) → collect_begun n ≡ Ok a

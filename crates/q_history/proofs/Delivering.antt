@@ -8,12 +8,12 @@ use Rattle.sc_node.specs.declared.answer.Completion.TheVariants as completion
 use Rattle.sc_node.specs.declared.answer.Ended.{Ended}
 use Rattle.sc_world.specs.declared.event.Event.{Event as WorldEvent}
 use Rattle.sc_world.specs.declared.event.Event.TheVariants as world_event
-use Rattle.sc_world.specs.declared.op.Op.{Op}
 use Rattle.sc_world.specs.State.{WorldState}
-use Rattle.sc_world.specs.Records.{Among}
+use Rattle.sc_world.specs.Regular.{HasReturned}
 use Rattle.sc_world.specs.Worlds as world
 use Rattle.sc_world.proofs.Steps.{and_left}
 use Rattle.sc_world.proofs.Inverts.{no_refusal}
+use Rattle.sc_world.proofs.EveryHistory.{lawful_ends}
 use Rattle.q_session.specs.declared.ran.Ran.{Ran}
 use Rattle.q_session.specs.declared.query.Phase.TheVariants.{Ready, Answered}
 use Rattle.q_session.specs.declared.query.Query.{Query}
@@ -29,17 +29,12 @@ use Rattle.q_history.specs.Heads.{book_of}
 use Rattle.q_history.specs.Clusters.{at as at_node, delivers, delivered_as, delivered}
 use Rattle.q_history.proofs.Moves.{Keeps, Nothing, IsReadied, noted_moves, returned_moves}
 use Rattle.q_history.proofs.Ops.{IsOnward}
-use Rattle.q_history.proofs.Returns.{HasReturned, delivery-ok}
 use Rattle.q_history.proofs.Kept.{IsTied, IsDeskOf, IsKept, IsStep, desk_moved, put_desk}
-use Rattle.q_history.proofs.Accepted.{at_live, acts-ok}
+use Rattle.q_history.proofs.Accepted.{at_live, acts-ok, delivery_onward}
 use Rattle.q_history.proofs.Called.{at-ok, call-ok, led, delivered-parts}
 use Rattle.q_history.proofs.Events.{keeps_here, lawful_next}
 
--- each record of this operation says that it returned the view
-abbrev Returns : WorldState → WorldState → ℕ → ℕ → ViewMap → Type 0
-Returns w w' id tag view = (o : Op) → Among o w.ops → o.node ≡ id → o.tag ≡ tag → HasReturned w' id tag view
-
-module _ (w w' : WorldState) (id : ℕ) (d : DeskState) (made : Entry) (onward : IsOnward w w') (k : IsDeskOf w id d) where
+module _ (w w' : WorldState) (place id : ℕ) (d : DeskState) (made : Entry) (onward : IsOnward w w') (k : IsDeskOf w id d) where
   -- the desk after some calls
   record IsLaterDesk (e : DeskState) : Type 0 where
     is : IsDeskOf w' id e
@@ -52,18 +47,16 @@ module _ (w w' : WorldState) (id : ℕ) (d : DeskState) (made : Entry) (onward :
   }
 
   -- the query that waited for this collect has its view
-  readied_tied : (tag : ℕ) (view : ViewMap) → Returns w w' id tag view → (q : Query) → IsReadied (desk.with_entry d made) tag view q → IsTied w' id q
-  readied_tied tag view returns q r =
+  readied_tied : (tag : ℕ) (view : ViewMap) → HasReturned w' place id tag view → (q : Query) → IsReadied (desk.with_entry d made) tag view q → IsTied w' id q
+  readied_tied tag view h q r =
       let old : Query = r.rephased.old in
-      let t = k.tied r.number old r.rephased.at in
       let same : old.tag ≡ tag = eqb-true old.tag tag (and_left (old.tag == tag) (desk.is_collecting old.phase) r.waits) in
-      let h = returns t.op t.among t.by (t.tagged ∙ same) in
       subst (IsTied w' id) r.rephased.is (record { op = h.op; among = h.among; by = h.by; tagged = h.tagged ∙ sym same; has = h.returned })
 
   readied_none : (tag : ℕ) (view : ViewMap) (e : DeskState) (q : Query) → IsReadied (desk.with_entry d made) tag view q → (v : ViewMap) (ran : Ran) → q.phase ≡ Answered v ran → IsAnswered e q v ran
   readied_none tag view e q r v ran is = let h : Ready view ≡ Answered v ran = ap (λ (x : Query). x.phase) r.rephased.is ∙ is in absurd (cc)
 
-  returned_later : (tag : ℕ) (view : ViewMap) → Returns w w' id tag view → IsLaterDesk (desk.returned (desk.with_entry d made) tag view).1
+  returned_later : (tag : ℕ) (view : ViewMap) → HasReturned w' place id tag view → IsLaterDesk (desk.returned (desk.with_entry d made) tag view).1
   returned_later tag view returns =
       let e : DeskState = (desk.returned (desk.with_entry d made) tag view).1 in
       let m = returned_moves (desk.with_entry d made) tag view in
@@ -73,11 +66,11 @@ module _ (w w' : WorldState) (id : ℕ) (d : DeskState) (made : Entry) (onward :
         keeps = keeps;
       }
 
-  ended_later : (tag : ℕ) (what : Completion) → ((view : ViewMap) → what ≡ completion.Returned view → Returns w w' id tag view) → IsLaterDesk (desk.ends (Some (record { tag = tag; what = what })) (desk.with_entry d made)).1
+  ended_later : (tag : ℕ) (what : Completion) → ((view : ViewMap) → what ≡ completion.Returned view → HasReturned w' place id tag view) → IsLaterDesk (desk.ends (Some (record { tag = tag; what = what })) (desk.with_entry d made)).1
   ended_later tag completion.Stored returns = noted_later
   ended_later tag (completion.Returned view) returns = returned_later tag view (returns view refl)
 
-  delivered_later : (x : Option Ended) → ((y : Ended) (view : ViewMap) → x ≡ Some y → y.what ≡ completion.Returned view → Returns w w' id y.tag view) → IsLaterDesk (desk.ends x (desk.with_entry d made)).1
+  delivered_later : (x : Option Ended) → ((y : Ended) (view : ViewMap) → x ≡ Some y → y.what ≡ completion.Returned view → HasReturned w' place id y.tag view) → IsLaterDesk (desk.ends x (desk.with_entry d made)).1
   delivered_later None returns = noted_later
   delivered_later (Some y) returns = ended_later y.tag y.what (λ view is. returns y view refl is)
 
@@ -90,14 +83,15 @@ module _ (c : ClusterState) (kept : IsKept c) where
       let e : WorldEvent = world_event.Deliver number id in
       let r : world.Outcome = world.of_delivered a.0 in
       let gives : world.delivers (Some m) k.node ≡ Ok r = ap (world.by_node world.of_delivered) a.1 in
-      let v = delivery-ok c.world kept.world.invariant.linked e id k.node m r (at_live c.world id k.node k.live) gives in
-      let later = delivered_later c.world (world.after c.world e id r) id k.desk (entry.Deliver m) v.onward (kept.desks id k.desk k.at) r.ended v.returns in
+      let w' : WorldState = world.after c.world e id r in
+      let taken : world.stepped c.world e ≡ Ok (world.told c.world r, w') =
+      acts-ok c.world e id (world.delivers (slice_get c.world.sent number)) k.node r k.live (ap (λ (x : Option Message). world.delivers x k.node) is ∙ gives) in
+      let onward = delivery_onward c.world kept.world.invariant.linked e id k.node m r (at_live c.world id k.node k.live) gives in
+      let ends = lawful_ends c.world kept.world e (world.told c.world r) w' taken in
+      let later = delivered_later c.world w' (world.clock c.world) id k.desk (entry.Deliver m) onward (kept.desks id k.desk k.at) r.ended ends.returned in
       let d : DeskState = (desk.ends r.ended (desk.with_entry k.desk (entry.Deliver m))).1 in
       subst (IsStep c) (led (delivers c number id) y.1 a.2 k.is)
-      (put_desk c kept (world.after c.world e id r) id d
-      (lawful_next c kept e id r
-      (acts-ok c.world e id (world.delivers (slice_get c.world.sent number)) k.node r k.live (ap (λ (x : Option Message). world.delivers x k.node) is ∙ gives)))
-      v.onward later.is (keeps_here c kept id k.desk d k.at later.keeps))
+      (put_desk c kept w' id d (lawful_next c kept e id r taken) onward later.is (keeps_here c kept id k.desk d k.at later.keeps))
 
   pub deliver_step : (number id : ℕ) (y : Stepped × ClusterState) → at_node c id (delivered c number id) ≡ Ok y → IsStep c y.1
   deliver_step number id y h = deliver_by number id (slice_get c.world.sent number) y refl h

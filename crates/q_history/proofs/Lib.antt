@@ -4,7 +4,6 @@ pub mod Moves
 pub mod Jobs
 pub mod Ops
 pub mod Accepted
-pub mod Returns
 pub mod Kept
 pub mod Called
 pub mod Events

@@ -3,8 +3,8 @@
 //!
 //! - `world N/D J/K FIRST COUNT` founds a world of so many founders from this id on, whose operations wait for the
 //!   fraction N/D and whose joins for J/K; it prints the refusal, if any.
-//! - `enter ID`, `leave ID`, `crash ID`, `store ID BYTE`, `collect ID`, `deliver M ID`, `other`: the tag, the end and
-//!   the messages of the event, or its refusal.
+//! - `enter ID`, `leave ID`, `crash ID`, `store ID BYTE`, `collect ID`, `deliver M ID`: the tag, the end and the messages of
+//!   the event, or its refusal.
 //! - `all M N` delivers each of M messages to each of the nodes 1 to N; it prints the refusal, if any.
 //! - `op I`: the thresholds and the counted senders of the phases of an operation.
 //! - `common I J`: the least id that two operations have in common.

@@ -121,7 +121,6 @@ fn two(verb: &str, a: &str, b: &str) -> Option<WorldLine> {
 
 fn world_line(words: &[&str]) -> Option<WorldLine> {
     match words {
-        ["other"] => Some(WorldLine::Event(Event::Other)),
         ["counts"] => Some(WorldLine::Counts),
         [verb, a] => one(verb, a),
         [verb, a, b] => two(verb, a, b),

@@ -21,7 +21,7 @@ use Rattle.sc_node.specs.declared.answer.Begun.{Begun}
 use Rattle.sc_node.specs.declared.answer.Delivered.{Delivered}
 use Rattle.sc_node.specs.declared.fault.NodeFault.{NodeFault}
 use Rattle.sc_node.specs.declared.fault.NodeFault.TheVariants as fault
-use Rattle.sc_node.specs.Sessions.{new_phase, count_sender, is_reached, querying, storing, apply, ends, ended_by, ended_view}
+use Rattle.sc_node.specs.Sessions.{new_phase, count_sender, is_reached, querying, storing, apply, ends, ended_by}
 use Rattle.sc_node.specs.State.{NodeState}
 
 -- so many operations may be open, and so many may ever begin
@@ -210,10 +210,6 @@ query_ended n from tag view = (
   record { outs = message_from n.id (Store tag view) ∷ []; progress = Some (turned n from tag view); ended = None },
   record n { view = view; sessions = sessions_after n.sessions (Some (turned n from tag view)) },
 )
-
--- the view that a collect returns where this message ends it
-abbrev pub returning : NodeState → Message → Option ViewMap
-returning n m = ended_view (delivery n m.from m.body).ended
 
 -- the node with a new operation
 abbrev pub opened : NodeState → ViewMap → ℕ → Session → NodeState

@@ -130,12 +130,3 @@ ended_at tag a s = None
 abbrev pub ended_by : Option Progress → Option Session → Option Ended
 ended_by None s = None
 ended_by (Some p) s = ended_at p.tag p.advance s
-
-abbrev pub view_returned : Completion → Option ViewMap
-view_returned completion.Stored = None
-view_returned (completion.Returned view) = Some view
-
--- the view that an ended collect returns
-abbrev pub ended_view : Option Ended → Option ViewMap
-ended_view None = None
-ended_view (Some e) = view_returned e.what

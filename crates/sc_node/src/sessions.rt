@@ -1,12 +1,11 @@
 ghost use Rattle.std.specs.Prelude.{◌≡◌, ℕ, Some, false, OnOk, OnErr, option_copied};
 ghost use Rattle.std.specs.FinMap as fin;
-ghost use Rattle.sc_node.specs.Sessions.{querying, storing, ends, ended_with, ended_at, ended_by, ended_view};
-ghost use Rattle.sc_node.specs.Nodes.{sessions_after, ack_progress, ended_session};
+ghost use Rattle.sc_node.specs.Sessions.{querying, storing, ends, ended_with, ended_at};
+ghost use Rattle.sc_node.specs.Nodes.{sessions_after};
 ghost use Rattle.sc_node.specs.declared.answer.Advance.TheVariants as Advance;
 
 use crate::answer::{Advance, Completion, Ended};
 use crate::session::{Kind, Phase, Session, StoreBack};
-use sc_view::view::View;
 use std::alloc::{AllocError, Global};
 use std::collections::BTreeMap;
 use std::marker::Model;
@@ -74,20 +73,6 @@ impl Sessions {
             Some(back) => Some(&back.phase),
             None => None,
         }
-    }
-
-    /// The view that a collect returns, if it ends once this sender is counted.
-    pub fn returning(&self, tag: u64, sender: u64) -> Option<&View>
-        ensures { option_copied result ≡ (let moved = ack_progress sender tag (storing (fin.get self.now tag)) in ended_view (ended_by moved (ended_session self.now moved))) }
-    {
-        let session = self.get(tag)?;
-        let Some(back) = &session.back else {
-            return None;
-        };
-        if session.kind != Kind::Collect || !back.phase.is_reached_with(sender) {
-            return None;
-        }
-        Some(&back.view)
     }
 
     /// Opens an operation. At Err the operations are as they were.

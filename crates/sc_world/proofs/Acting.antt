@@ -21,7 +21,7 @@ use Rattle.sc_world.specs.declared.event.Sent.{Sent}
 use Rattle.sc_world.specs.declared.fault.WorldFault.{WorldFault}
 use Rattle.sc_world.specs.declared.fault.WorldFault.TheVariants as fault
 use Rattle.sc_world.specs.State.{WorldState, Past, world_of, past_of}
-use Rattle.sc_world.specs.Ledgers.{recorded, numbered, stopped, passed}
+use Rattle.sc_world.specs.Ledgers.{recorded, numbered, stopped}
 use Rattle.sc_world.specs.Worlds.{live_at, by_live, took, acts, acted, of_entered, tag_of, crashes, enters, event_of, stepped, founder_nodes, founded_nodes}
 use Rattle.sc_world.specs.Acts.{memory, outcome}
 
@@ -64,10 +64,6 @@ pub crash_step : (w : WorldState) (id : ℕ) (past : Past) (numbers : Sent) → 
 crash_step w id past numbers lives hp hf =
     by_live_node w id (live_at w id) (live_node (live_at w id) lives) lives
     ∙ (λ i. Ok (record { tag = None; ended = None; sent = sym hf i }, world_of w.nodes (sym hp i)))
-
-pub other_step : (w : WorldState) (past : Past) (numbers : Sent) → past ≡ passed (past_of w) → numbers ≡ record { first = length w.sent; count = 0 }
-    → stepped w event.Other ≡ Ok (record { tag = None; ended = None; sent = numbers }, world_of w.nodes past)
-other_step w past numbers hp hf = λ i. Ok (record { tag = None; ended = None; sent = sym hf i }, world_of w.nodes (sym hp i))
 
 -- a founder is among the founders
 or_right : (a b : Bool) → b ≡ true → (a || b) ≡ true

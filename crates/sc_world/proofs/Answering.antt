@@ -88,13 +88,19 @@ module _ (w : WorldState) (number q : ℕ) (w' : WorldState) (k : IsNext w (even
   answer_is : (p : Progress) (f : ℕ → ℕ → Body) → o.tag ≡ p.tag → m.body ≡ f n.id p.tag → m ≡ message_from m.from (f o.node o.tag)
   answer_is p f tq body = ap (message_from m.from) (body ∙ ap (λ (i : ℕ). f i p.tag) name ∙ ap (f o.node) (sym tq))
 
+  -- the record before it moves
+  old : IsRecord w' o
+  old = record_kept w (event.Deliver number q) w' k o lt r
+
   ack_record : (p : Progress) → o.tag ≡ p.tag → o.end ≡ None → (a : IsAckMove n m.from m.body p) → o.session ≡ a.session → IsRecord w' (moved place p o)
   ack_record p tq running a same =
       let c : Bool = is_reached (count_sender a.back.phase m.from) in
       let back : o.session.back ≡ Some a.back = ap (λ (x : Session). x.back) same ∙ a.stores in
       subst (IsRecord w') (sym (moved_ack c place p o a.back m.from a.advance a.sender back))
       (record {
-        began = (record_kept w (event.Deliver number q) w' k o lt r).began;
+        began = old.began;
+        tagged = old.tagged;
+        numbered = old.numbered;
         runs = acked_running w (event.Deliver number q) w' k o lt running c a.back m.from back refl (delivered_now (IsAck o) (answer_is p StoreAck tq a.body)) r.runs;
       })
 
@@ -105,7 +111,9 @@ module _ (w : WorldState) (number q : ℕ) (w' : WorldState) (k : IsNext w (even
       let query : o.session.query ≡ Some a.phase = ap (λ (x : Session). x.query) same ∙ a.query in
       subst (IsRecord w') (sym (moved_reply c place p o a.phase m.from (beta_threshold n) _ a.advance a.sender none query))
       (record {
-        began = (record_kept w (event.Deliver number q) w' k o lt r).began;
+        began = old.began;
+        tagged = old.tagged;
+        numbered = old.numbered;
         runs =
             replied_running w (event.Deliver number q) w' k o lt running n (was_now w history) at_node c a.phase m.from _ none query refl
             (delivered_now (IsReply o) (a.view, answer_is p (λ i t. CollectReply i t a.view) tq a.body)) r.runs;

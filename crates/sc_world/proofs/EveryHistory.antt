@@ -9,27 +9,34 @@ use Rattle.sc_world.specs.declared.event.Stepped.{Stepped}
 use Rattle.sc_world.specs.declared.op.Op.{Op}
 use Rattle.sc_world.specs.State.{WorldState}
 use Rattle.sc_world.specs.Worlds.{clock, stepped, Reaches, start, IsHistory}
-use Rattle.sc_world.specs.Records.{beginning_of, AreRecords}
-use Rattle.sc_world.specs.Regular.{IsRegular, IsGenuine, IsBefore}
+use Rattle.sc_world.specs.Records.{beginning_of, AreRecords, AreSent}
+use Rattle.sc_world.specs.Regular.{IsRegular, IsGenuine, IsBefore, EndsAreRecorded}
 use Rattle.sc_world.proofs.Changes.{EndedBefore}
 use Rattle.sc_world.proofs.Soundness as sound
 use Rattle.sc_world.proofs.Truths.{IsTrue, limit_by}
 use Rattle.sc_world.proofs.Numbering.{covered}
 use Rattle.sc_world.proofs.Runs.{IsInvariant, step_keeps, start_invariant}
 use Rattle.sc_world.proofs.Histories.{history_next, start_history}
+use Rattle.sc_world.proofs.Tallies.{IsTallied, step_tallied, start_tallied}
 use Rattle.sc_world.proofs.Ledgers.{step_records}
+use Rattle.sc_world.proofs.Ends.{step_recorded}
+use Rattle.sc_world.proofs.Senders.{sent_next}
 
 -- what is true of every history
 pub record IsLawful (w : WorldState) : Type 0 where
   pub history : IsHistory w
   pub invariant : IsInvariant w
+  pub tallied : IsTallied w
   pub records : AreRecords w
+  pub sent : AreSent w
 
 pub step_lawful : (w : WorldState) (e : Event) (a : Stepped) (w' : WorldState) → IsLawful w → stepped w e ≡ Ok (a, w') → IsLawful w'
 step_lawful w e a w' i h = record {
   history = history_next w e a w' i.history h;
   invariant = step_keeps w w' e a i.invariant h;
-  records = step_records w i.history i.invariant.linked i.invariant.sound i.records e a w' h;
+  tallied = step_tallied w i.tallied e a w' h;
+  records = step_records w i.history i.invariant.linked i.invariant.sound i.tallied i.records e a w' h;
+  sent = sent_next w i.invariant.linked i.history i.sent e a w' h;
 }
 
 run_lawful : (es : List Event) (w w' : WorldState) → IsLawful w → Reaches w es w' → IsLawful w'
@@ -37,10 +44,19 @@ run_lawful [] w w' i h = subst IsLawful (sym h) i
 run_lawful (e ∷ es) w w' i h = run_lawful es h.1 w' (step_lawful w e h.0 h.1 i h.2) h.3
 
 start_lawful : (c : Config) (ids : List ℕ) → IsLawful (start c ids)
-start_lawful c ids = record { history = start_history c ids; invariant = start_invariant c ids; records = record { distinct = λ i k a b h. absurd (cc); each = λ o h. absurd h } }
+start_lawful c ids = record {
+  history = start_history c ids;
+  invariant = start_invariant c ids;
+  tallied = start_tallied c ids;
+  records = record { distinct = λ i k a b h. absurd (cc); each = λ o h. absurd h; all = λ place node k h. absurd (cc) };
+  sent = λ number m h. absurd (cc);
+}
 
 pub every_lawful : (c : Config) (ids : List ℕ) (es : List Event) (w : WorldState) → Reaches (start c ids) es w → IsLawful w
 every_lawful c ids es w h = run_lawful es (start c ids) w (start_lawful c ids) h
+
+pub lawful_ends : (w : WorldState) → IsLawful w → EndsAreRecorded w
+lawful_ends w l e a w' h = step_recorded w l.invariant.linked l.tallied e a w' h
 
 module _ (w : WorldState) (l : IsLawful w) where
   ended : (a b : Op) → IsBefore a b → EndedBefore a b

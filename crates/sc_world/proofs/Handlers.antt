@@ -83,7 +83,7 @@ sessions_of : (m : fin.FinMap nat_cmp Session) (p : Progress) (t : ℕ) (o : Opt
 sessions_of m p t None is = none_moved m p t (t == p.tag) refl is
 sessions_of m p t (Some s) is = table_moved m p s t (ends p.advance) ∙ some_moved m p t s (t == p.tag) refl is
 
-get-sessions_after : (m : fin.FinMap nat_cmp Session) (p : Option Progress) (t : ℕ) → fin.get (sessions_after m p) t ≡ session_after p t (fin.get m t)
+pub get-sessions_after : (m : fin.FinMap nat_cmp Session) (p : Option Progress) (t : ℕ) → fin.get (sessions_after m p) t ≡ session_after p t (fin.get m t)
 get-sessions_after m None t = refl
 get-sessions_after m (Some p) t = sessions_of m p t (fin.get m p.tag) refl
 

@@ -32,8 +32,8 @@ pub record IsNext (w : WorldState) (e : Event) (w' : WorldState) : Type 0 where
   pub sent : w'.sent ≡ w.sent ++ outs
 
 module _ (w : WorldState) where
-  taken_next : (e : Event) (id : ℕ) (f : NodeState → Result Outcome WorldFault) (w' : WorldState) → IsTaken w e id f w' → IsNext w e w'
-  taken_next e id f w' k = subst (IsNext w e) k.is (record { config = refl; founders = refl; events = refl; outs = k.outcome.outs; sent = refl })
+  taken_next : (e : Event) (id : ℕ) (f : NodeState → Result Outcome WorldFault) (a : Stepped) (w' : WorldState) → IsTaken w e id f a w' → IsNext w e w'
+  taken_next e id f a w' k = subst (IsNext w e) k.is (record { config = refl; founders = refl; events = refl; outs = k.outcome.outs; sent = refl })
 
   crash_next : (q : ℕ) (o : Option NodeState) (a : Stepped) (w' : WorldState) → crashes w q o ≡ Ok (a, w') → IsNext w (event.Crash q) w'
   crash_next q None a w' h = absurd (no_refusal _ (a, w') h)
@@ -45,12 +45,11 @@ module _ (w : WorldState) where
 
   pub step_next : (e : Event) (a : Stepped) (w' : WorldState) → stepped w e ≡ Ok (a, w') → IsNext w e w'
   step_next (event.Enter q) a w' h = enter_next q (fin.get w.nodes q) a w' h
-  step_next (event.Leave q) a w' h = taken_next _ _ _ w' (acts-ok w (event.Leave q) q leaves a w' h)
+  step_next (event.Leave q) a w' h = taken_next _ _ _ a w' (acts-ok w (event.Leave q) q leaves a w' h)
   step_next (event.Crash q) a w' h = crash_next q (live_at w q) a w' h
-  step_next (event.Store q value) a w' h = taken_next _ _ _ w' (acts-ok w (event.Store q value) q (stores value) a w' h)
-  step_next (event.Collect q) a w' h = taken_next _ _ _ w' (acts-ok w (event.Collect q) q collects a w' h)
-  step_next (event.Deliver number q) a w' h = taken_next _ _ _ w' (acts-ok w (event.Deliver number q) q (delivers (slice_get w.sent number)) a w' h)
-  step_next event.Other a w' h = subst (IsNext w event.Other) (ap (λ (z : Stepped × WorldState). z.1) (same_answer _ (a, w') h)) (record { config = refl; founders = refl; events = refl; outs = []; sent = sym (append-nil w.sent) })
+  step_next (event.Store q value) a w' h = taken_next _ _ _ a w' (acts-ok w (event.Store q value) q (stores value) a w' h)
+  step_next (event.Collect q) a w' h = taken_next _ _ _ a w' (acts-ok w (event.Collect q) q collects a w' h)
+  step_next (event.Deliver number q) a w' h = taken_next _ _ _ a w' (acts-ok w (event.Deliver number q) q (delivers (slice_get w.sent number)) a w' h)
 
 pub reaches_next : (es : List Event) (w u : WorldState) (e : Event) (a : Stepped) (w' : WorldState) → Reaches w es u → stepped u e ≡ Ok (a, w') → Reaches w (es ++ e ∷ []) w'
 reaches_next [] w u e a w' h s = (a, w', subst (λ (x : WorldState). stepped x e ≡ Ok (a, w')) h s, refl)

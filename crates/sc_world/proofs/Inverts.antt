@@ -14,7 +14,7 @@ use Rattle.sc_world.specs.declared.event.Event.{Event}
 use Rattle.sc_world.specs.declared.event.Stepped.{Stepped}
 use Rattle.sc_world.specs.declared.fault.WorldFault.{WorldFault}
 use Rattle.sc_world.specs.State.{WorldState}
-use Rattle.sc_world.specs.Worlds.{Outcome, of_begun, of_left, of_delivered, by_node, live, live_at, by_live, took, acts, after, stores, collects, leaves, delivers}
+use Rattle.sc_world.specs.Worlds.{Outcome, of_begun, of_left, of_delivered, by_node, live, live_at, by_live, told, took, acts, after, stores, collects, leaves, delivers}
 use Rattle.sc_world.proofs.Handlers.{heard, store_outcome, collect_outcome, left_outcome}
 
 pub same_answer : {A E : Type 0} (x y : A) → (let r : Result A E = Ok x in r) ≡ Ok y → x ≡ y
@@ -71,23 +71,26 @@ live_is false (Some m) n h = go m.gone refl
     go false is = ap (λ (x : Bool). let o : Option NodeState = cond x None (Some m) in o) (sym is) ∙ h
 
 -- an event of a node that was accepted
-pub record IsTaken (w : WorldState) (e : Event) (id : ℕ) (f : NodeState → Result Outcome WorldFault) (w' : WorldState) : Type 0 where
+pub record IsTaken (w : WorldState) (e : Event) (id : ℕ) (f : NodeState → Result Outcome WorldFault) (a : Stepped) (w' : WorldState) : Type 0 where
   pub node : NodeState
   pub at : live_at w id ≡ Some node
   pub outcome : Outcome
   pub gives : f node ≡ Ok outcome
+  pub says : told w outcome ≡ a
   pub is : after w e id outcome ≡ w'
 
-took-ok : (w : WorldState) (e : Event) (id : ℕ) (r : Result Outcome WorldFault) (a : Stepped) (w' : WorldState) → took w e id r ≡ Ok (a, w') → (x : Outcome) × (r ≡ Ok x) × (after w e id x ≡ w')
-took-ok w e id (Ok x) a w' h = (x, refl, ap (λ (z : Stepped × WorldState). z.1) (same_answer _ (a, w') h))
+took-ok : (w : WorldState) (e : Event) (id : ℕ) (r : Result Outcome WorldFault) (a : Stepped) (w' : WorldState) → took w e id r ≡ Ok (a, w') → (x : Outcome) × (r ≡ Ok x) × (told w x ≡ a) × (after w e id x ≡ w')
+took-ok w e id (Ok x) a w' h =
+    let same = same_answer _ (a, w') h in
+    (x, refl, ap (λ (z : Stepped × WorldState). z.0) same, ap (λ (z : Stepped × WorldState). z.1) same)
 took-ok w e id (Err f) a w' h = absurd (no_refusal f (a, w') h)
 
 pub by_live-ok : (o : Option NodeState) (f : NodeState → Result Outcome WorldFault) (x : Outcome) → by_live o f ≡ Ok x → (n : NodeState) × (o ≡ Some n) × (f n ≡ Ok x)
 by_live-ok None f x h = absurd (no_refusal _ x h)
 by_live-ok (Some n) f x h = (n, refl, h)
 
-pub acts-ok : (w : WorldState) (e : Event) (id : ℕ) (f : NodeState → Result Outcome WorldFault) (a : Stepped) (w' : WorldState) → acts w e id f ≡ Ok (a, w') → IsTaken w e id f w'
+pub acts-ok : (w : WorldState) (e : Event) (id : ℕ) (f : NodeState → Result Outcome WorldFault) (a : Stepped) (w' : WorldState) → acts w e id f ≡ Ok (a, w') → IsTaken w e id f a w'
 acts-ok w e id f a w' h =
     let k = took-ok w e id (by_live (live_at w id) f) a w' h in
     let n = by_live-ok (live_at w id) f k.0 k.1 in
-    record { node = n.0; at = n.1; outcome = k.0; gives = n.2; is = k.2 }
+    record { node = n.0; at = n.1; outcome = k.0; gives = n.2; says = k.2; is = k.3 }

@@ -1,9 +1,14 @@
 -- Every event keeps the records true, and one for each operation.
-use Rattle.std.proofs.Common.{◌≡◌, ℕ, zero, suc, ◌+◌, ◌<◌, List, [], ◌∷◌, ◌++◌, length, map, Option, Some, None, refl, sym, ap, ◌∙◌, subst, arith, ◌⊎◌, inl, inr, slice_get, Ok}
+use Rattle.std.proofs.Common.{◌≡◌, ℕ, zero, suc, ◌+◌, ◌<◌, true, false, List, [], ◌∷◌, ◌++◌, length, map, take, Option, Some, None, refl, sym, ap, ◌∙◌, subst, arith, ◌⊎◌, inl, inr, slice_get, Ok}
+use Rattle.std.proofs.lemmas.Bool.{eq-eqb}
+use Rattle.std.proofs.Math.Seq.{take-append_seam}
 use Rattle.std.specs.FinMap as fin
 use Rattle.std.specs.FinSet as set
 use Rattle.sc_msg.specs.declared.message.Message.{Message}
+use Rattle.sc_view.specs.declared.view.Stored.{Stored}
 use Rattle.sc_node.specs.declared.answer.Progress.{Progress}
+use Rattle.sc_node.specs.declared.session.Kind.{Kind}
+use Rattle.sc_node.specs.declared.session.Kind.TheVariants as kind
 use Rattle.sc_world.specs.declared.act.Opened.{Opened}
 use Rattle.sc_node.specs.Sessions.{new_phase}
 use Rattle.sc_node.specs.State.{NodeState}
@@ -14,19 +19,21 @@ use Rattle.sc_world.specs.declared.event.Stepped.{Stepped}
 use Rattle.sc_world.specs.declared.op.Op.{Op}
 use Rattle.sc_world.specs.State.{WorldState}
 use Rattle.sc_world.specs.Worlds.{clock, Outcome, advanced, op_begun, after, live_at, crashes, enters, leaves, stores, collects, delivers, stepped, IsHistory}
-use Rattle.sc_world.specs.Records.{Among, IsAck, IsReply, Stores, Queries, IsRecord, AreDistinct, AreRecords}
+use Rattle.sc_world.specs.Records.{Among, beginning_of, begins, operations_of, stores_of, IsAck, IsReply, Stores, Queries, IsRecord, AreDistinct, HasBegun, AreRecords}
 use Rattle.sc_world.proofs.Changes.{IsSound}
 use Rattle.sc_world.proofs.Links.{IsLinked, IsMove}
-use Rattle.sc_world.proofs.Steps.{among-append, among-map, advance_op}
+use Rattle.sc_world.proofs.Steps.{among-append, among-right, among-map, advance_op}
 use Rattle.sc_world.proofs.Handlers.{heard, store_outcome, collect_outcome, left_outcome, entered_outcome, heard_moves, moves}
-use Rattle.sc_world.proofs.Telling.{same_start}
+use Rattle.sc_world.proofs.Telling.{same_start, persists}
+use Rattle.sc_world.proofs.Truths.{IsThere}
+use Rattle.sc_world.proofs.Tallies.{begun_at, stored_at, IsTallied}
 use Rattle.sc_world.proofs.Inverts.{same_answer, no_refusal, live_is, acts-ok, stores-ok, collects-ok, leaves-ok, delivers-ok}
 use Rattle.sc_world.proofs.Runs.{among_get}
 use Rattle.sc_world.proofs.Histories.{IsNext, step_next, was_now}
 use Rattle.sc_world.proofs.Recording.{record_kept, new_measured, new_open, event_new}
 use Rattle.sc_world.proofs.Answering.{moved_record}
 
-get_append : {X : Type 0} (xs ys : List X) (i : ℕ) (a : X) → slice_get (xs ++ ys) i ≡ Some a → (slice_get xs i ≡ Some a) ⊎ ((j : ℕ) × (i ≡ length xs + j) × (slice_get ys j ≡ Some a))
+pub get_append : {X : Type 0} (xs ys : List X) (i : ℕ) (a : X) → slice_get (xs ++ ys) i ≡ Some a → (slice_get xs i ≡ Some a) ⊎ ((j : ℕ) × (i ≡ length xs + j) × (slice_get ys j ≡ Some a))
 get_append [] ys i a h = inr (i, omega arith, h)
 get_append (x ∷ xs) ys zero a h = inl h
 get_append (x ∷ xs) ys (suc i) a h = elim (get_append xs ys i a h) [ inl k ↦ inl k | inr k ↦ inr (k.0, omega (arith, k.1), k.2) ]
@@ -70,35 +77,69 @@ module _ (q place : ℕ) (p : Option Progress) (ops : List Op) (b : Option Opene
   pub distinct_next : AreDistinct (map (advanced q place p) ops ++ op_begun q place b)
   distinct_next i k a c ha hc node tag = one_place i k a c (from i a ha) (from k c hc) node tag
 
-module _ (w : WorldState) (history : IsHistory w) (linked : IsLinked w) (sound : IsSound w) (records : AreRecords w) where
+-- the node of an operation begins it
+begins_it : (node : ℕ) (d : Kind) → begins node (beginning_of node d) ≡ true
+begins_it node (kind.Store e) = eq-eqb node node refl
+begins_it node kind.Collect = eq-eqb node node refl
+
+none_begins : (e : Event) → ((node : ℕ) → begins node e ≡ false) → (node : ℕ) (d : Kind) → e ≡ beginning_of node d → ⊥
+none_begins e quiet node d is = let no : false ≡ true = sym (quiet node) ∙ ap (begins node) is ∙ begins_it node d in absurd (cc)
+
+module _ (w : WorldState) (history : IsHistory w) (linked : IsLinked w) (sound : IsSound w) (tallied : IsTallied w) (records : AreRecords w) where
   module _ (e : Event) (w' : WorldState) (k : IsNext w e w') where
     kept : (o : Op) → Among o w.ops → IsRecord w' o
     kept o in' = record_kept w e w' k o (sound.began o in') (records.each o in')
 
-    -- an event that begins nothing, and moves nothing
-    pub quiet_records : w'.ops ≡ w.ops → AreRecords w'
-    quiet_records same = record { distinct = subst AreDistinct (sym same) records.distinct; each = λ o in'. kept o (subst (Among o) same in') }
+    begun_now : (place j node : ℕ) (d : Kind) → (e ≡ beginning_of node d → HasBegun w' (clock w)) → place ≡ clock w + j → slice_get (e ∷ []) j ≡ Some (beginning_of node d) → HasBegun w' place
+    begun_now place zero node d new at h =
+        let same : e ≡ beginning_of node d = cc in
+        let now : clock w ≡ place = omega (arith, at) in
+        subst (HasBegun w') now (new same)
+    begun_now place (suc j) node d new at h = absurd (cc)
 
-  module _ (e : Event) (q : ℕ) (r : Outcome) (k : IsNext w e (after w e q r)) (moves_none : r.progress ≡ None) where
+    -- what began before began, and what begins now has its record
+    all_begun : ((o : Op) → Among o w.ops → IsThere w' o) → ((node : ℕ) (d : Kind) → e ≡ beginning_of node d → HasBegun w' (clock w))
+        → (place node : ℕ) (d : Kind) → slice_get w'.events place ≡ Some (beginning_of node d) → HasBegun w' place
+    all_begun there new place node d h =
+        elim (get_append w.events (e ∷ []) place (beginning_of node d) (ap (λ (es : List Event). slice_get es place) (sym k.events) ∙ h)) [
+          | inl old ↦ let b = records.all place node d old in let t = there b.op b.among in record { op = t.op; among = t.among; at = t.begin ∙ b.at }
+          | inr more ↦ begun_now place more.0 node d (new node d) more.1 more.2
+        ]
+
+    -- an event that begins nothing, and moves nothing
+    pub quiet_records : w'.ops ≡ w.ops → ((node : ℕ) → begins node e ≡ false) → AreRecords w'
+    quiet_records same quiet = record {
+      distinct = subst AreDistinct (sym same) records.distinct;
+      each = λ o in'. kept o (subst (Among o) same in');
+      all = all_begun (λ o in'. record { op = o; among = subst (Among o) (sym same) in'; node = refl; kind = refl; begin = refl }) (λ node d is. absurd (none_begins e quiet node d is));
+    }
+
+  module _ (e : Event) (q : ℕ) (r : Outcome) (k : IsNext w e (after w e q r)) where
     abbrev next : WorldState
     next = after w e q r
 
-    old_records : (o : Op) → Among o (map (advanced q (clock w) r.progress) w.ops) → IsRecord next o
-    old_records o in' =
-        let h = among-map (advanced q (clock w) r.progress) o w.ops in' in
-        let same : advanced q (clock w) r.progress h.0 ≡ h.0 = ap (λ (p : Option Progress). advanced q (clock w) p h.0) moves_none in
-        subst (IsRecord next) (sym (h.2 ∙ same)) (kept e next k h.0 h.1)
+    -- each event that begins an operation has its record in the next world
+    all_next : ((node : ℕ) (d : Kind) → e ≡ beginning_of node d → HasBegun next (clock w)) → (place node : ℕ) (d : Kind) → slice_get next.events place ≡ Some (beginning_of node d) → HasBegun next place
+    all_next new = all_begun e next k (persists w e q r) new
 
-    -- an operation may begin
-    pub begun_records : ((y : Opened) → r.begun ≡ Some y → (o : Op) → Among o w.ops → o.node ≡ q → o.tag ≡ y.tag → ⊥)
-        → ((o : Op) → Among o (op_begun q (clock w) r.begun) → IsRecord next o) → AreRecords next
-    begun_records fresh new = record {
-      distinct = distinct_next q (clock w) r.progress w.ops r.begun records.distinct fresh;
-      each = λ o in'. elim (among-append o (map (advanced q (clock w) r.progress) w.ops) (op_begun q (clock w) r.begun) in') [
-        | inl old ↦ old_records o old
-        | inr new_op ↦ new o new_op
-      ];
-    }
+    module _ (moves_none : r.progress ≡ None) where
+      old_records : (o : Op) → Among o (map (advanced q (clock w) r.progress) w.ops) → IsRecord next o
+      old_records o in' =
+          let h = among-map (advanced q (clock w) r.progress) o w.ops in' in
+          let same : advanced q (clock w) r.progress h.0 ≡ h.0 = ap (λ (p : Option Progress). advanced q (clock w) p h.0) moves_none in
+          subst (IsRecord next) (sym (h.2 ∙ same)) (kept e next k h.0 h.1)
+
+      -- an operation may begin
+      pub begun_records : ((y : Opened) → r.begun ≡ Some y → (o : Op) → Among o w.ops → o.node ≡ q → o.tag ≡ y.tag → ⊥)
+          → ((o : Op) → Among o (op_begun q (clock w) r.begun) → IsRecord next o) → ((node : ℕ) (d : Kind) → e ≡ beginning_of node d → HasBegun next (clock w)) → AreRecords next
+      begun_records fresh new begins_now = record {
+        distinct = distinct_next q (clock w) r.progress w.ops r.begun records.distinct fresh;
+        each = λ o in'. elim (among-append o (map (advanced q (clock w) r.progress) w.ops) (op_begun q (clock w) r.begun) in') [
+          | inl old ↦ old_records o old
+          | inr new_op ↦ new o new_op
+        ];
+        all = all_next begins_now;
+      }
 
   -- tags of a node's operations are below its count
   tag_below : (q : ℕ) (n : NodeState) → fin.get w.nodes q ≡ Some n → (o : Op) → Among o w.ops → o.node ≡ q → o.tag < n.operations
@@ -107,11 +148,31 @@ module _ (w : WorldState) (history : IsHistory w) (linked : IsLinked w) (sound :
       let same : h.node ≡ n = (let e : Some h.node ≡ Some n = sym h.at ∙ ap (fin.get w.nodes) nq ∙ at in cc) in
       omega (arith, h.tag, ap (λ (y : NodeState). y.operations) same)
 
+  -- how many operations and stores a node has begun, by the events before this one
+  module _ (q : ℕ) (n : NodeState) (at : fin.get w.nodes q ≡ Some n) (e : Event) where
+    operations_now : n.operations ≡ operations_of q (take (clock w) (w.events ++ e ∷ []))
+    operations_now = sym (ap begun_at at) ∙ tallied.operations q ∙ ap (operations_of q) (sym (take-append_seam w.events (e ∷ [])))
+
+    stores_now : n.stores ≡ stores_of q (take (clock w) (w.events ++ e ∷ []))
+    stores_now = sym (ap stored_at at) ∙ tallied.stores q ∙ ap (stores_of q) (sym (take-append_seam w.events (e ∷ [])))
+
+  -- the record of the operation that begins is there
+  begun_here : (e : Event) (q : ℕ) (r : Outcome) (b : Opened) → r.begun ≡ Some b → HasBegun (after w e q r) (clock w)
+  begun_here e q r b is =
+      let o : Op = record { node = q; tag = b.tag; begin = clock w; end = None; session = b.session } in
+      record {
+        op = o;
+        among =
+            among-right o (map (advanced q (clock w) r.progress) w.ops) (op_begun q (clock w) r.begun)
+            (subst (λ (x : Option Opened). Among o (op_begun q (clock w) x)) (sym is) (inl refl));
+        at = refl;
+      }
+
   pub store_records : (q : ℕ) (value : List ℕ) (n : NodeState) → fin.get w.nodes q ≡ Some n → IsNext w (event.Store q value) (after w (event.Store q value) q (store_outcome n value)) → AreRecords (after w (event.Store q value) q (store_outcome n value))
   store_records q value n at k =
       begun_records (event.Store q value) q (store_outcome n value) k refl
       (λ y is o in' nq tq. let tag : n.operations ≡ y.tag = begun_tag _ y is in absurd (omega (arith, tag_below q n at o in' nq, tq, tag)))
-      new_store
+      new_store (λ node d is. begun_here (event.Store q value) q (store_outcome n value) (record { tag = n.operations; session = store_session n value }) refl)
     where
       new_store : (o : Op) → Among o (op_begun q (clock w) (store_outcome n value).begun) → IsRecord (after w (event.Store q value) q (store_outcome n value)) o
       new_store o (inr none) = absurd none
@@ -120,6 +181,11 @@ module _ (w : WorldState) (history : IsHistory w) (linked : IsLinked w) (sound :
           let made : Op = record { node = q; tag = n.operations; begin = clock w; end = None; session = store_session n value } in
           subst (IsRecord w') (sym is) (record {
             began = event_new w (event.Store q value) w' k;
+            tagged = operations_now q n at (event.Store q value);
+            numbered = λ x is.
+                let stores_it : kind.Store (next_stored n value) ≡ kind.Store x = is in
+                let same : next_stored n value ≡ x = cc in
+                ap (λ (y : Stored). y.number) (sym same) ∙ ap (λ (count : ℕ). count + 1) (stores_now q n at (event.Store q value));
             runs =
                 Stores (next_stored n value) (record { view = stored_view n value; phase = new_phase (beta_threshold n) }) refl refl refl
                 (record { measured = new_measured w (event.Store q value) w' k q n (was_now w history) at; until = new_open w' (IsAck made) q (clock w) n });
@@ -129,7 +195,7 @@ module _ (w : WorldState) (history : IsHistory w) (linked : IsLinked w) (sound :
   collect_records q n at k =
       begun_records (event.Collect q) q (collect_outcome n) k refl
       (λ y is o in' nq tq. let tag : n.operations ≡ y.tag = begun_tag _ y is in absurd (omega (arith, tag_below q n at o in' nq, tq, tag)))
-      new_collect
+      new_collect (λ node d is. begun_here (event.Collect q) q (collect_outcome n) (record { tag = n.operations; session = collect_session n }) refl)
     where
       new_collect : (o : Op) → Among o (op_begun q (clock w) (collect_outcome n).begun) → IsRecord (after w (event.Collect q) q (collect_outcome n)) o
       new_collect o (inr none) = absurd none
@@ -138,6 +204,8 @@ module _ (w : WorldState) (history : IsHistory w) (linked : IsLinked w) (sound :
           let made : Op = record { node = q; tag = n.operations; begin = clock w; end = None; session = collect_session n } in
           subst (IsRecord w') (sym is) (record {
             began = event_new w (event.Collect q) w' k;
+            tagged = operations_now q n at (event.Collect q);
+            numbered = λ x is. let collects_it : kind.Collect ≡ kind.Store x = is in absurd (cc);
             runs =
                 Queries (new_phase (beta_threshold n)) refl refl refl refl
                 (record { measured = new_measured w (event.Collect q) w' k q n (was_now w history) at; until = new_open w' (IsReply made) q (clock w) n });
@@ -164,13 +232,14 @@ module _ (w : WorldState) (history : IsHistory w) (linked : IsLinked w) (sound :
             subst (IsRecord heard_world) (sym h.2) (advanced_record (progress_of n m.from m.body) (moves n m.from m.body) h.0 h.1)
         | inr none ↦ absurd none
       ];
+      all = all_next (event.Deliver number q) q (heard n m.from m.body) k (λ node d is. absurd (none_begins (event.Deliver number q) (λ _. refl) node d is));
     }
 
   left_records : (q : ℕ) (n : NodeState) → IsNext w (event.Leave q) (after w (event.Leave q) q (left_outcome n)) → AreRecords (after w (event.Leave q) q (left_outcome n))
-  left_records q n k = begun_records (event.Leave q) q (left_outcome n) k refl (λ y is. absurd (cc)) (λ o in'. absurd in')
+  left_records q n k = begun_records (event.Leave q) q (left_outcome n) k refl (λ y is. absurd (cc)) (λ o in'. absurd in') (λ node d is. absurd (none_begins (event.Leave q) (λ _. refl) node d is))
 
   entered_records : (q : ℕ) → IsNext w (event.Enter q) (after w (event.Enter q) q (entered_outcome w.config q)) → AreRecords (after w (event.Enter q) q (entered_outcome w.config q))
-  entered_records q k = begun_records (event.Enter q) q (entered_outcome w.config q) k refl (λ y is. absurd (cc)) (λ o in'. absurd in')
+  entered_records q k = begun_records (event.Enter q) q (entered_outcome w.config q) k refl (λ y is. absurd (cc)) (λ o in'. absurd in') (λ node d is. absurd (none_begins (event.Enter q) (λ _. refl) node d is))
 
   at_live : (q : ℕ) (n : NodeState) → live_at w q ≡ Some n → fin.get w.nodes q ≡ Some n
   at_live q n h = live_is (set.contains w.crashed q) (fin.get w.nodes q) n h
@@ -189,7 +258,7 @@ module _ (w : WorldState) (history : IsHistory w) (linked : IsLinked w) (sound :
 
   crashed_any : (q : ℕ) (o : Option NodeState) (a : Stepped) (w' : WorldState) → crashes w q o ≡ Ok (a, w') → IsNext w (event.Crash q) w' → AreRecords w'
   crashed_any q None a w' h k = absurd (no_refusal _ (a, w') h)
-  crashed_any q (Some n) a w' h k = quiet_records (event.Crash q) w' k (ap (λ (z : Stepped × WorldState). z.1.ops) (sym (same_answer _ (a, w') h)))
+  crashed_any q (Some n) a w' h k = quiet_records (event.Crash q) w' k (ap (λ (z : Stepped × WorldState). z.1.ops) (sym (same_answer _ (a, w') h))) (λ _. refl)
 
   entered_any : (q : ℕ) (o : Option NodeState) (a : Stepped) (w' : WorldState) → enters w q o ≡ Ok (a, w') → IsNext w (event.Enter q) w' → AreRecords w'
   entered_any q (Some n) a w' h k = absurd (no_refusal _ (a, w') h)
@@ -211,7 +280,6 @@ module _ (w : WorldState) (history : IsHistory w) (linked : IsLinked w) (sound :
   step_by (event.Deliver number q) a w' h k =
       let t = acts-ok w (event.Deliver number q) q (delivers (slice_get w.sent number)) a w' h in
       delivered_any number q t.node (slice_get w.sent number) t.outcome w' (at_live q t.node t.at) refl t.gives t.is k
-  step_by event.Other a w' h k = quiet_records event.Other w' k (ap (λ (z : Stepped × WorldState). z.1.ops) (sym (same_answer _ (a, w') h)))
 
   pub step_records : (e : Event) (a : Stepped) (w' : WorldState) → stepped w e ≡ Ok (a, w') → AreRecords w'
   step_records e a w' h = step_by e a w' h (step_next w e a w' h)

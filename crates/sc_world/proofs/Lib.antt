@@ -15,7 +15,10 @@ pub mod Runs
 pub mod Histories
 pub mod Recording
 pub mod Answering
+pub mod Tallies
 pub mod Ledgers
+pub mod Ends
+pub mod Senders
 pub mod EveryHistory
 pub mod Tables
 pub mod Moving

@@ -131,7 +131,7 @@ module _ (w : WorldState) (linked : IsLinked w) (distinct : AreDistinct w.ops) (
   phase_of : (p : Progress) → IsMove n from b (Some p) → (o : Op) → Among o w.ops → o.node ≡ id → o.tag ≡ p.tag → counting_phase p.advance o.session ≡ open_phase o.session.back o.session.query
   phase_of p (inl k) o in' nq tq = ack_phase p.advance (is_reached (count_sender k.back.phase from)) o.session k.advance
   phase_of p (inr k) o in' nq tq =
-      let h = is_open w event.Other id n (heard n from b) at linked (heard_moves n from b) o k.session p.tag in' nq tq k.was in
+      let h = is_open w (event.Leave id) id n (heard n from b) at linked (heard_moves n from b) o k.session p.tag in' nq tq k.was in
       reply_phase p.advance o.session (ap (λ (s : Session). s.back) h.1 ∙ k.none)
 
   for_it : (p : Progress) → IsMove n from b (Some p) → answered id from b ≡ Some (p.tag, p.sender)

@@ -1,6 +1,7 @@
 -- The records of operations stay true as events come.
-use Rattle.std.proofs.Common.{◌≡◌, ℕ, ◌+◌, ◌≤◌, ◌<◌, Bool, true, false, cond, nat_le, [], ◌∷◌, length, Option, Some, None, refl, sym, ap, ◌∙◌, subst, arith, inl, inr, slice_get}
+use Rattle.std.proofs.Common.{◌≡◌, ℕ, ◌+◌, ◌≤◌, ◌<◌, Bool, true, false, cond, nat_le, List, [], ◌∷◌, length, take, Option, Some, None, refl, sym, ap, ◌∙◌, subst, arith, inl, inr, slice_get}
 use Rattle.std.proofs.lemmas.Bool.Decides.{nat_tests}
+use Rattle.std.proofs.lemmas.List.{take-append-le}
 use Rattle.std.proofs.lemmas.Option.{slice_get_within}
 use Rattle.std.specs.Ordering.{nat_cmp}
 use Rattle.std.specs.Cmp.{nat_cmp_total}
@@ -21,7 +22,7 @@ use Rattle.sc_world.specs.declared.event.Event.{Event}
 use Rattle.sc_world.specs.declared.op.Op.{Op}
 use Rattle.sc_world.specs.State.{WorldState}
 use Rattle.sc_world.specs.Worlds.{moved, clock, end_at, WasBefore}
-use Rattle.sc_world.specs.Records.{Answers, IsAck, IsReply, IsDelivered, IsAnswered, IsOpen, IsMeasured, IsUntil, IsPhase, IsRunning, Stores, Queries, StoresBack, IsRecord}
+use Rattle.sc_world.specs.Records.{Answers, IsAck, IsReply, IsDelivered, IsAnswered, IsOpen, IsMeasured, IsUntil, IsPhase, operations_of, stores_of, IsRunning, Stores, Queries, StoresBack, IsRecord}
 use Rattle.sc_world.proofs.Soundness.{counted}
 use Rattle.sc_world.proofs.Steps.{length-more}
 use Rattle.sc_world.proofs.Histories.{IsNext, slice_get_front, slice_get_last, before_next}
@@ -44,7 +45,7 @@ module _ (w : WorldState) (e : Event) (w' : WorldState) (k : IsNext w e w') wher
   pub clock_is : clock w' ≡ clock w + 1
   clock_is = ap length k.events ∙ length-more w.events e
 
-  event_kept : (place : ℕ) (x : Event) → slice_get w.events place ≡ Some x → slice_get w'.events place ≡ Some x
+  pub event_kept : (place : ℕ) (x : Event) → slice_get w.events place ≡ Some x → slice_get w'.events place ≡ Some x
   event_kept place x h = ap (λ es. slice_get es place) k.events ∙ slice_get_front w.events (e ∷ []) place x h
 
   pub event_new : slice_get w'.events (clock w) ≡ Some e
@@ -52,6 +53,10 @@ module _ (w : WorldState) (e : Event) (w' : WorldState) (k : IsNext w e w') wher
 
   pub sent_kept : (number : ℕ) (m : Message) → slice_get w.sent number ≡ Some m → slice_get w'.sent number ≡ Some m
   sent_kept number m h = ap (λ ms. slice_get ms number) k.sent ∙ slice_get_front w.sent k.outs number m h
+
+  -- the events before a place that was reached
+  events_before : (place : ℕ) → place ≤ clock w → take place w.events ≡ take place w'.events
+  events_before place le = sym (ap (take place) k.events ∙ take-append-le place w.events (e ∷ []) le)
 
   delivered_kept : (P : Answers) (node place from : ℕ) → IsDelivered w P node place from → IsDelivered w' P node place from
   delivered_kept P node place from d = record { number = d.number; message = d.message; event = event_kept place _ d.event; sent = sent_kept d.number d.message d.sent; answer = d.answer }
@@ -89,7 +94,14 @@ module _ (w : WorldState) (e : Event) (w' : WorldState) (k : IsNext w e w') wher
       (phase_kept (IsAck o) o.node turn b.phase o.end (omega (arith, turn_before (IsReply o) o.node o.begin turn p first)) second)
 
   pub record_kept : (o : Op) → o.begin < clock w → IsRecord w o → IsRecord w' o
-  record_kept o lt r = record { began = event_kept o.begin _ r.began; runs = running_kept o lt r.runs }
+  record_kept o lt r =
+      let same : take o.begin w.events ≡ take o.begin w'.events = events_before o.begin (omega (arith, lt)) in
+      record {
+        began = event_kept o.begin _ r.began;
+        tagged = r.tagged ∙ ap (operations_of o.node) same;
+        numbered = λ x is. r.numbered x is ∙ ap (λ (es : List Event). stores_of o.node es + 1) same;
+        runs = running_kept o lt r.runs;
+      }
 
   -- a phase in which one more answer is counted
   module _ (P : Answers) (node since : ℕ) (p : Phase) (from : ℕ) (lt : since < clock w) (h : IsPhase w P node since p None) (d : IsDelivered w' P node (clock w) from) where

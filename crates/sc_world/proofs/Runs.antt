@@ -177,7 +177,6 @@ module _ (w : WorldState) (linked : IsLinked w) where
   step_good (event.Deliver number q) a w' h =
       let k = acts-ok w (event.Deliver number q) q (delivers (slice_get w.sent number)) a w' h in
       subst (IsGood w) k.is (deliver_any q number k.node (slice_get w.sent number) k.outcome (among_get w.sent number) k.at k.gives)
-  step_good event.Other a w' h = subst (IsGood w) (ap (λ (z : Stepped × WorldState). z.1) (same_answer _ (a, w') h)) (quiet_good w event.Other linked w.crashed)
 
 -- one step keeps the invariant
 pub step_keeps : (w w' : WorldState) (e : Event) (a : Stepped) → IsInvariant w → stepped w e ≡ Ok (a, w') → IsInvariant w'

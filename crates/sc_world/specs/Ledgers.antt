@@ -46,10 +46,6 @@ stopped p id =
       ops = p.ops;
     }
 
--- after something beside the world
-abbrev pub passed : Past → Past
-passed p = record { config = p.config; founders = p.founders; crashed = p.crashed; events = p.events ++ event.Other ∷ []; sent = p.sent; ops = p.ops }
-
 -- there is room for one event, two messages and one operation
 abbrev pub has_room : ℕ → ℕ → ℕ → ℕ → ℕ → ℕ → Bool
 has_room events events_cap sent sent_cap ops ops_cap = nat_lt events events_cap && (nat_le (sent + 2) sent_cap && nat_lt ops ops_cap)

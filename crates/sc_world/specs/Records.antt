@@ -1,5 +1,6 @@
 -- What the record of an operation says of its world.
-use Rattle.std.specs.Prelude.{◌≡◌, ℕ, ◌<◌, List, [], ◌∷◌, Option, Some, None, ◌⊎◌, slice_get}
+use Rattle.std.specs.Prelude.{◌≡◌, ℕ, ◌+◌, ◌≤◌, ◌<◌, Bool, false, ◌==◌, List, [], ◌∷◌, Option, Some, None, ◌⊎◌, Ok, take, slice_get}
+use Rattle.std.specs.List.{count_by}
 use Rattle.std.specs.FinMap as fin
 use Rattle.std.specs.FinSet as set
 use Rattle.sc_view.specs.declared.view.Stored.{Stored}
@@ -15,9 +16,11 @@ use Rattle.sc_node.specs.State.{NodeState}
 use Rattle.sc_node.specs.Nodes.{beta_threshold, message_from}
 use Rattle.sc_world.specs.declared.event.Event.{Event}
 use Rattle.sc_world.specs.declared.event.Event.TheVariants as event
+use Rattle.sc_world.specs.declared.event.Sent.{Sent}
+use Rattle.sc_world.specs.declared.event.Stepped.{Stepped}
 use Rattle.sc_world.specs.declared.op.Op.{Op}
 use Rattle.sc_world.specs.State.{WorldState}
-use Rattle.sc_world.specs.Worlds.{clock, WasBefore}
+use Rattle.sc_world.specs.Worlds.{clock, node_of, stepped, WasBefore}
 
 -- x is an element
 abbrev pub Among : {X : Type 0} → X → List X → Type 0
@@ -28,6 +31,25 @@ Among x (y ∷ ys) = (x ≡ y) ⊎ Among x ys
 abbrev pub beginning_of : ℕ → Kind → Event
 beginning_of node (kind.Store e) = event.Store node e.value
 beginning_of node kind.Collect = event.Collect node
+
+-- the node begins an operation at this event
+abbrev pub begins : ℕ → Event → Bool
+begins node (event.Store id value) = id == node
+begins node (event.Collect id) = id == node
+begins node e = false
+
+-- the node begins a store at this event
+abbrev pub begins_store : ℕ → Event → Bool
+begins_store node (event.Store id value) = id == node
+begins_store node e = false
+
+-- how many operations the node begins in these events
+abbrev pub operations_of : ℕ → List Event → ℕ
+operations_of node events = count_by (begins node) events
+
+-- how many stores the node begins in these events
+abbrev pub stores_of : ℕ → List Event → ℕ
+stores_of node events = count_by (begins_store node) events
 
 -- what answers a phase of an operation
 abbrev pub Answers : Type 1
@@ -106,12 +128,45 @@ pub data IsRunning (w : WorldState) (o : Op) : Type 0 where
 -- the record of an operation is true of its world
 pub record IsRecord (w : WorldState) (o : Op) : Type 0 where
   pub began : slice_get w.events o.begin ≡ Some (beginning_of o.node o.session.kind)
+  -- its tag is how many operations its node began before it
+  pub tagged : o.tag ≡ operations_of o.node (take o.begin w.events)
+  -- the number of what it stores is one more than how many stores its node began before it
+  pub numbered : (e : Stored) → o.session.kind ≡ kind.Store e → e.number ≡ stores_of o.node (take o.begin w.events) + 1
   pub runs : IsRunning w o
 
 -- each operation has one record
 abbrev pub AreDistinct : List Op → Type 0
 AreDistinct ops = (i k : ℕ) (a b : Op) → slice_get ops i ≡ Some a → slice_get ops k ≡ Some b → a.node ≡ b.node → a.tag ≡ b.tag → i ≡ k
 
+-- the record of the operation that began at this place
+pub record HasBegun (w : WorldState) (place : ℕ) : Type 0 where
+  pub op : Op
+  pub among : Among op w.ops
+  pub at : op.begin ≡ place
+
 pub record AreRecords (w : WorldState) : Type 0 where
   pub distinct : AreDistinct w.ops
   pub each : (o : Op) → Among o w.ops → IsRecord w o
+  -- each event that begins an operation has the record of that operation
+  pub all : (place node : ℕ) (k : Kind) → slice_get w.events place ≡ Some (beginning_of node k) → HasBegun w place
+
+-- the message of this number is one of these
+abbrev pub IsOneOf : ℕ → Sent → Type 0
+IsOneOf number s = (s.first ≤ number) × (number < s.first + s.count)
+
+-- the message of this number was sent by an event of its sender
+pub record WasSent (w : WorldState) (number : ℕ) (m : Message) : Type 0 where
+  pub place : ℕ
+  pub cause : Event
+  pub at : slice_get w.events place ≡ Some cause
+  pub by : node_of cause ≡ m.from
+  pub before : WorldState
+  pub was : WasBefore w place before
+  pub told : Stepped
+  pub after : WorldState
+  pub steps : stepped before cause ≡ Ok (told, after)
+  pub sends : IsOneOf number told.sent
+
+-- each message was sent by an event of its sender
+abbrev pub AreSent : WorldState → Type 0
+AreSent w = (number : ℕ) (m : Message) → slice_get w.sent number ≡ Some m → WasSent w number m

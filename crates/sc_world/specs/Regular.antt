@@ -1,15 +1,20 @@
 -- Regularity.
-use Rattle.std.specs.Prelude.{◌≡◌, ℕ, ◌≤◌, ◌<◌, Option, Some, None, slice_get}
+use Rattle.std.specs.Prelude.{◌≡◌, ℕ, ◌≤◌, ◌<◌, Option, Some, None, Ok, slice_get}
 use Rattle.std.specs.FinMap as fin
 use Rattle.sc_view.specs.declared.view.Stored.{Stored}
 use Rattle.sc_view.specs.Views.{ViewMap, number_at, IsCoveredBy}
 use Rattle.sc_members.specs.Ids.{Has, IsLeastCommon}
+use Rattle.sc_node.specs.declared.answer.Completion.TheVariants as completion
+use Rattle.sc_node.specs.declared.answer.Ended.{Ended}
 use Rattle.sc_node.specs.declared.session.Kind.{Kind}
 use Rattle.sc_node.specs.declared.session.Kind.TheVariants as kind
 use Rattle.sc_node.specs.Sessions.{stored, repliers, ackers}
+use Rattle.sc_world.specs.declared.event.Event.{Event}
 use Rattle.sc_world.specs.declared.event.Event.TheVariants as event
+use Rattle.sc_world.specs.declared.event.Stepped.{Stepped}
 use Rattle.sc_world.specs.declared.op.Op.{Op}
 use Rattle.sc_world.specs.State.{WorldState}
+use Rattle.sc_world.specs.Worlds.{clock, node_of, stepped}
 use Rattle.sc_world.specs.Records.{Among}
 
 -- the first operation ended before the second began
@@ -39,6 +44,34 @@ returned_by k end view = None
 -- the view that an ended collect returned
 abbrev pub returned : Op → Option ViewMap
 returned o = returned_by o.session.kind o.end (stored o.session)
+
+-- the node's collect of this tag ended at this place, and returned this view
+pub record HasReturned (w : WorldState) (place node tag : ℕ) (view : ViewMap) : Type 0 where
+  pub op : Op
+  pub among : Among op w.ops
+  pub by : op.node ≡ node
+  pub tagged : op.tag ≡ tag
+  pub ended : op.end ≡ Some place
+  pub returned : returned op ≡ Some view
+
+-- the node's store of this tag ended at this place
+pub record HasStored (w : WorldState) (place node tag : ℕ) : Type 0 where
+  pub op : Op
+  pub among : Among op w.ops
+  pub by : op.node ≡ node
+  pub tagged : op.tag ≡ tag
+  pub ended : op.end ≡ Some place
+  pub entry : Stored
+  pub kind : op.session.kind ≡ kind.Store entry
+
+-- what an event tells of an operation that ended is what the operation's record says in the next world
+pub record EndIsRecorded (w : WorldState) (e : Event) (told : Stepped) (next : WorldState) : Type 0 where
+  pub returned : (x : Ended) (view : ViewMap) → told.ended ≡ Some x → x.what ≡ completion.Returned view → HasReturned next (clock w) (node_of e) x.tag view
+  pub stored : (x : Ended) → told.ended ≡ Some x → x.what ≡ completion.Stored → HasStored next (clock w) (node_of e) x.tag
+
+-- so it is at each event that may come next
+abbrev pub EndsAreRecorded : WorldState → Type 0
+EndsAreRecorded w = (e : Event) (told : Stepped) (next : WorldState) → stepped w e ≡ Ok (told, next) → EndIsRecorded w e told next
 
 -- the view has at least this number of the node
 abbrev pub Holds : ViewMap → ℕ → ℕ → Type 0

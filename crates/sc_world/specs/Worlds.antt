@@ -155,6 +155,15 @@ event_of id (act.Store value) = event.Store id value
 event_of id act.Collect = event.Collect id
 event_of id (act.Deliver number) = event.Deliver number id
 
+-- the node of an event
+abbrev pub node_of : Event → ℕ
+node_of (event.Enter id) = id
+node_of (event.Leave id) = id
+node_of (event.Crash id) = id
+node_of (event.Store id value) = id
+node_of (event.Collect id) = id
+node_of (event.Deliver number id) = id
+
 -- what an event answers and makes of a world, or why it is refused
 abbrev pub stepped : WorldState → Event → Result (Stepped × WorldState) WorldFault
 stepped w (event.Enter id) = enters w id (fin.get w.nodes id)
@@ -163,7 +172,6 @@ stepped w (event.Crash id) = crashes w id (live_at w id)
 stepped w (event.Store id value) = acts w (event.Store id value) id (acted w.sent (act.Store value))
 stepped w (event.Collect id) = acts w (event.Collect id) id (acted w.sent act.Collect)
 stepped w (event.Deliver number id) = acts w (event.Deliver number id) id (acted w.sent (act.Deliver number))
-stepped w event.Other = Ok (silent w, record w { events = w.events ++ event.Other ∷ [] })
 
 -- one world leads to another by accepted events
 abbrev pub Reaches : WorldState → List Event → WorldState → Type 0

@@ -17,8 +17,6 @@ pub enum Event {
     Collect(u64),
     /// A message that was sent, by its number, reaches a node.
     Deliver { message: usize, node: u64 },
-    /// Something beside the world takes a place in the list of events.
-    Other,
 }
 
 /// The numbers of the messages that an event sent: so many, in turn from the first.

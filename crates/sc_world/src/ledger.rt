@@ -4,7 +4,7 @@
 ghost use Rattle.std.specs.Prelude.{◌≡◌, ◌++◌, length, true, IfOk, OnOk, OnErr, vec_len, vec_capacity, ◌<◌};
 ghost use Rattle.std.specs.FinSet as set;
 ghost use Rattle.sc_world.specs.Acts.{answered, IsReady};
-ghost use Rattle.sc_world.specs.Ledgers.{first, recorded, numbered, stopped, passed, IsRight};
+ghost use Rattle.sc_world.specs.Ledgers.{first, recorded, numbered, stopped, IsRight};
 ghost use Rattle.sc_world.specs.Worlds.{op_begun};
 
 use crate::act::Opened;
@@ -126,16 +126,6 @@ impl Ledger {
         self.events.reserve(1)?;
         self.crashed.insert(id)?;
         self.events.push_reserved(Event::Crash(id));
-        Ok(self.silent())
-    }
-
-    /// Records that something beside the world happened. At Err nothing is recorded.
-    pub fn pass(&mut self) -> Result<Sent, AllocError>
-        ensures ok { IfOk result (λ sent. (self.new.past ≡ passed self.old.past) × (sent ≡ record { first = length self.old.past.sent; count = 0 })) }
-        ensures err { OnErr result (self.new.past ≡ self.old.past) }
-    {
-        self.events.reserve(1)?;
-        self.events.push_reserved(Event::Other);
         Ok(self.silent())
     }
 

@@ -3,7 +3,6 @@
 ghost use Rattle.std.specs.Prelude.{◌≡◌, length, None, IfOk, slice_get, option_copied};
 ghost use Rattle.std.specs.FinMap as fin;
 ghost use Rattle.sc_node.specs.Calls.{Steps, Gives};
-ghost use Rattle.sc_world.specs.declared.event.Event.TheVariants as event;
 ghost use Rattle.sc_world.specs.Acts.{memory, answered_at, IsReady};
 ghost use Rattle.sc_world.specs.Worlds.{enters, crashes, live_at, event_of, stepped, started, tag_of, IsHistory};
 ghost use Rattle.sc_world.specs.Records.{AreRecords};
@@ -78,12 +77,11 @@ impl World {
             Event::Store { node, value } => self.act(node, &Act::Store(value)),
             Event::Collect(id) => self.act(id, &Act::Collect),
             Event::Deliver { message, node } => self.act(node, &Act::Deliver(message)),
-            Event::Other => self.other(),
         }
     }
 
-    /// The record of each operation, in the order in which they began. The views are regular, and what the records
-    /// say is true.
+    /// The record of each operation, in the order in which they began: one for each accepted event that began one. The
+    /// views are regular, and what the records say is true.
     pub fn ops(&self) -> &[Op]
         ensures ops { result.now ≡ self.now.ops }
         ensures regular { IsRegular self.now }
@@ -162,14 +160,6 @@ impl World {
             return Err(WorldFault::NoSuchNode);
         }
         let sent = self.ledger.crash(id)?;
-        Ok(silent(sent))
-    }
-
-    /// Something beside the world happens.
-    fn other(&mut self) -> Result<Stepped, WorldFault>
-        ensures { Steps memory (stepped self.old event.Other) self.old self.new result }
-    {
-        let sent = self.ledger.pass()?;
         Ok(silent(sent))
     }
 

@@ -1,0 +1,225 @@
+-- What an event tells of an operation that ends is in the operation's record.
+use Rattle.std.proofs.Common.{◌≡◌, ℕ, [], map, Option, Some, None, refl, sym, ap, ◌∙◌, subst, inl, inr, slice_get, Result, Ok}
+use Rattle.std.specs.Ordering.{nat_cmp}
+use Rattle.std.specs.FinMap as fin
+use Rattle.std.specs.FinSet as set
+use Rattle.sc_view.specs.declared.view.Stored.{Stored}
+use Rattle.sc_view.specs.Views.{ViewMap}
+use Rattle.sc_msg.specs.declared.message.Message.{Message}
+use Rattle.sc_msg.specs.declared.message.Body.{Body}
+use Rattle.sc_node.specs.declared.session.Kind.{Kind}
+use Rattle.sc_node.specs.declared.session.Kind.TheVariants as kind
+use Rattle.sc_node.specs.declared.session.StoreBack.{StoreBack}
+use Rattle.sc_node.specs.declared.session.Session.{Session}
+use Rattle.sc_node.specs.declared.answer.Advance.{Advance}
+use Rattle.sc_node.specs.declared.answer.Advance.TheVariants as advance
+use Rattle.sc_node.specs.declared.answer.Progress.{Progress}
+use Rattle.sc_node.specs.declared.answer.Completion.TheVariants as completion
+use Rattle.sc_node.specs.declared.answer.Ended.{Ended}
+use Rattle.sc_node.specs.Sessions.{stored, view_in, session_with, advanced_by, completed, ended_with, ended_at, ended_by}
+use Rattle.sc_node.specs.State.{NodeState}
+use Rattle.sc_node.specs.Nodes.{progress_of, ended_session}
+use Rattle.sc_world.specs.declared.event.Event.{Event}
+use Rattle.sc_world.specs.declared.event.Event.TheVariants as event
+use Rattle.sc_world.specs.declared.event.Stepped.{Stepped}
+use Rattle.sc_world.specs.declared.fault.WorldFault.{WorldFault}
+use Rattle.sc_world.specs.declared.op.Op.{Op}
+use Rattle.sc_world.specs.State.{WorldState}
+use Rattle.sc_world.specs.Worlds.{clock, Outcome, told, after, end_at, moved, advanced, live_at, crashes, enters, stores, collects, leaves, delivers, stepped}
+use Rattle.sc_world.specs.Records.{Among}
+use Rattle.sc_world.specs.Regular.{returned_by, HasReturned, HasStored, EndIsRecorded}
+use Rattle.sc_world.proofs.Links.{IsLinked, IsMove}
+use Rattle.sc_world.proofs.Steps.{among-left, among-image, advance_op, is_open}
+use Rattle.sc_world.proofs.Handlers.{heard, store_outcome, collect_outcome, left_outcome, heard_moves, moves}
+use Rattle.sc_world.proofs.Telling.{kind_kept}
+use Rattle.sc_world.proofs.Tallies.{IsTallied}
+use Rattle.sc_world.proofs.Inverts.{same_answer, no_refusal, IsTaken, live_is, acts-ok, stores-ok, collects-ok, leaves-ok, delivers-ok}
+
+-- at this delivery an operation ends, and this is told of it
+record IsEnding (sessions : fin.FinMap nat_cmp Session) (p : Option Progress) (x : Ended) : Type 0 where
+  progress : Progress
+  is : p ≡ Some progress
+  tagged : progress.tag ≡ x.tag
+  ends : progress.advance ≡ advance.Ended
+  session : Session
+  was : fin.get sessions progress.tag ≡ Some session
+  back : StoreBack
+  held : session.back ≡ Some back
+  what : completed session.kind back.view ≡ x.what
+
+module _ (sessions : fin.FinMap nat_cmp Session) (p : Progress) (x : Ended) where
+  ends-with : (s : Session) (b : Option StoreBack) → fin.get sessions p.tag ≡ Some s → p.advance ≡ advance.Ended → s.back ≡ b → ended_with p.tag s.kind b ≡ Some x → IsEnding sessions (Some p) x
+  ends-with s None was ends held h = absurd (cc)
+  ends-with s (Some b) was ends held h =
+      let same : (let y : Ended = record { tag = p.tag; what = completed s.kind b.view } in y) ≡ x = cc in
+      record {
+        progress = p;
+        is = refl;
+        tagged = ap (λ (y : Ended). y.tag) same;
+        ends = ends;
+        session = s;
+        was = was;
+        back = b;
+        held = held;
+        what = ap (λ (y : Ended). y.what) same;
+      }
+
+  ends-at : (a : Advance) (o : Option Session) → p.advance ≡ a → fin.get sessions p.tag ≡ o → ended_at p.tag a o ≡ Some x → IsEnding sessions (Some p) x
+  ends-at advance.Ended (Some s) ends was h = ends-with s s.back was ends refl h
+  ends-at advance.Ended None ends was h = absurd (cc)
+  ends-at advance.Counted o ends was h = absurd (cc)
+  ends-at (advance.Turned t v) o ends was h = absurd (cc)
+
+ends-by : (sessions : fin.FinMap nat_cmp Session) (p : Option Progress) (x : Ended) → ended_by p (ended_session sessions p) ≡ Some x → IsEnding sessions p x
+ends-by sessions None x h = absurd (cc)
+ends-by sessions (Some p) x h = ends-at sessions p x p.advance (fin.get sessions p.tag) refl refl h
+
+stored_with : (s : Session) (b : Option StoreBack) (from : ℕ) → s.back ≡ b → stored (session_with s b from) ≡ stored s
+stored_with s None from is = sym (ap view_in is)
+stored_with s (Some b) from is = sym (ap view_in is)
+
+-- the record of an operation that ended, as what it was and with what it held
+record HasEnded (w : WorldState) (place q tag : ℕ) (k : Kind) (view : ViewMap) : Type 0 where
+  op : Op
+  among : Among op w.ops
+  by : op.node ≡ q
+  tagged : op.tag ≡ tag
+  ended : op.end ≡ Some place
+  kind : op.session.kind ≡ k
+  held : stored op.session ≡ Some view
+
+completes-collect : (k : Kind) (v view : ViewMap) → completed k v ≡ completion.Returned view → (k ≡ kind.Collect) × (v ≡ view)
+completes-collect (kind.Store e) v view h = absurd (cc)
+completes-collect kind.Collect v view h = (refl, (let e : v ≡ view = cc in e))
+
+completes-store : (k : Kind) (v : ViewMap) → completed k v ≡ completion.Stored → (e : Stored) × (k ≡ kind.Store e)
+completes-store (kind.Store e) v h = (e, refl)
+completes-store kind.Collect v h = absurd (cc)
+
+module _ (w : WorldState) (place q tag : ℕ) (k : Kind) (v : ViewMap) (h : HasEnded w place q tag k v) where
+  has_returned : (view : ViewMap) → completed k v ≡ completion.Returned view → HasReturned w place q tag view
+  has_returned view what =
+      let c = completes-collect k v view what in
+      record {
+        op = h.op;
+        among = h.among;
+        by = h.by;
+        tagged = h.tagged;
+        ended = h.ended;
+        returned =
+            ap (λ (x : Kind). returned_by x h.op.end (stored h.op.session)) (h.kind ∙ c.0)
+            ∙ ap (λ (x : Option ℕ). returned_by kind.Collect x (stored h.op.session)) h.ended
+            ∙ h.held ∙ ap (λ (x : ViewMap). let o : Option ViewMap = Some x in o) c.1;
+      }
+
+  has_stored : completed k v ≡ completion.Stored → HasStored w place q tag
+  has_stored what =
+      let c = completes-store k v what in
+      record { op = h.op; among = h.among; by = h.by; tagged = h.tagged; ended = h.ended; entry = c.0; kind = h.kind ∙ c.1 }
+
+module _ (w : WorldState) (e : Event) (q : ℕ) (n : NodeState) (at : fin.get w.nodes q ≡ Some n) (linked : IsLinked w) (from : ℕ) (b : Body) where
+  open_by : (p : Option Progress) → IsMove n from b p → (o : Op) → Among o w.ops → (k : Progress) → p ≡ Some k → o.node ≡ q → o.tag ≡ k.tag → o.end ≡ None
+  open_by None m o in' k is by tagged = absurd (cc)
+  open_by (Some p) (inl m) o in' k is by tagged =
+      let same : k ≡ p = cc in
+      (is_open w e q n (heard n from b) at linked (heard_moves n from b) o m.session p.tag in' by (tagged ∙ ap (λ (x : Progress). x.tag) same) m.was).0
+  open_by (Some p) (inr m) o in' k is by tagged =
+      let same : k ≡ p = cc in
+      (is_open w e q n (heard n from b) at linked (heard_moves n from b) o m.session p.tag in' by (tagged ∙ ap (λ (x : Progress). x.tag) same) m.was).0
+
+  -- a message moves only operations that have not ended
+  pub moved_open : (o : Op) → Among o w.ops → (k : Progress) → progress_of n from b ≡ Some k → o.node ≡ q → o.tag ≡ k.tag → o.end ≡ None
+  moved_open o in' k is by tagged = open_by (progress_of n from b) (moves n from b) o in' k is by tagged
+
+  -- the record of the operation that a message ends
+  heard_ended : (x : Ended) (k : IsEnding n.sessions (progress_of n from b) x) (o : Op) → Among o w.ops → o.node ≡ q → o.tag ≡ x.tag → HasEnded (after w e q (heard n from b)) (clock w) q x.tag k.session.kind k.back.view
+  heard_ended x k o in' by tagged =
+      let p = k.progress in
+      let o' : Op = advanced q (clock w) (progress_of n from b) o in
+      let mine : o.tag ≡ p.tag = tagged ∙ sym k.tagged in
+      let f = is_open w e q n (heard n from b) at linked (heard_moves n from b) o k.session p.tag in' by mine k.was in
+      let turns : moved (clock w) p o ≡ o' =
+      advance_op q (clock w) p o (λ (y : Op). moved (clock w) p o ≡ y) (λ _ _. refl) (λ other. absurd (other by mine))
+      ∙ ap (λ (y : Option Progress). advanced q (clock w) y o) (sym k.is) in
+      record {
+        op = o';
+        among = among-left o' (map (advanced q (clock w) (progress_of n from b)) w.ops) [] (among-image (advanced q (clock w) (progress_of n from b)) o w.ops in');
+        by = ap (λ (y : Op). y.node) (sym turns) ∙ by;
+        tagged = ap (λ (y : Op). y.tag) (sym turns) ∙ tagged;
+        ended = ap (λ (y : Op). y.end) (sym turns) ∙ ap (end_at (clock w)) k.ends;
+        kind = ap (λ (y : Op). y.session.kind) (sym turns) ∙ kind_kept o.session p.sender p.advance ∙ ap (λ (s : Session). s.kind) f.1;
+        held =
+            ap (λ (y : Op). stored y.session) (sym turns)
+            ∙ ap (λ (a : Advance). stored (advanced_by p.sender a o.session)) k.ends
+            ∙ stored_with o.session o.session.back p.sender refl
+            ∙ ap (λ (s : Session). stored s) f.1 ∙ ap view_in k.held;
+      }
+
+-- where an event tells of no end
+no_end : (w : WorldState) (e : Event) (a : Stepped) (w' : WorldState) → a.ended ≡ None → EndIsRecorded w e a w'
+no_end w e a w' none = record {
+  returned = λ x view is what. let k : None ≡ Some x = sym none ∙ is in absurd (cc);
+  stored = λ x is what. let k : None ≡ Some x = sym none ∙ is in absurd (cc);
+}
+
+module _ (w : WorldState) (linked : IsLinked w) (t : IsTallied w) where
+  module _ (number q : ℕ) (n : NodeState) (at : fin.get w.nodes q ≡ Some n) (m : Message) where
+    abbrev e : Event
+    e = event.Deliver number q
+
+    abbrev r : Outcome
+    r = heard n m.from m.body
+
+    ended_of : (x : Ended) (k : IsEnding n.sessions (progress_of n m.from m.body) x) → HasEnded (after w e q r) (clock w) q x.tag k.session.kind k.back.view
+    ended_of x k =
+        let o = t.kept q n at k.progress.tag k.session k.was in
+        heard_ended w e q n at linked m.from m.body x k o.op o.among o.by (o.tagged ∙ k.tagged)
+
+    heard_recorded : EndIsRecorded w e (told w r) (after w e q r)
+    heard_recorded = record {
+      returned = λ x view is what.
+          let k = ends-by n.sessions (progress_of n m.from m.body) x is in
+          has_returned (after w e q r) (clock w) q x.tag k.session.kind k.back.view (ended_of x k) view (k.what ∙ what);
+      stored = λ x is what.
+          let k = ends-by n.sessions (progress_of n m.from m.body) x is in
+          has_stored (after w e q r) (clock w) q x.tag k.session.kind k.back.view (ended_of x k) (k.what ∙ what);
+    }
+
+  -- after an outcome that is known
+  taken_recorded : (e : Event) (q : ℕ) (f : NodeState → Result Outcome WorldFault) (a : Stepped) (w' : WorldState) (k : IsTaken w e q f a w') → EndIsRecorded w e (told w k.outcome) (after w e q k.outcome) → EndIsRecorded w e a w'
+  taken_recorded e q f a w' k h = subst (λ (s : Stepped). EndIsRecorded w e s w') k.says (subst (EndIsRecorded w e (told w k.outcome)) k.is h)
+
+  -- a node that begins an operation or leaves tells of no end
+  quiet_recorded : (e : Event) (q : ℕ) (f : NodeState → Result Outcome WorldFault) (a : Stepped) (w' : WorldState) (k : IsTaken w e q f a w') (x : Outcome) → x ≡ k.outcome → x.ended ≡ None → EndIsRecorded w e a w'
+  quiet_recorded e q f a w' k x same none =
+      taken_recorded e q f a w' k (no_end w e (told w k.outcome) (after w e q k.outcome) (ap (λ (y : Outcome). y.ended) (sym same) ∙ none))
+
+  delivered_recorded : (number q : ℕ) (n : NodeState) (m : Option Message) (x : Outcome) → fin.get w.nodes q ≡ Some n → delivers m n ≡ Ok x → EndIsRecorded w (event.Deliver number q) (told w x) (after w (event.Deliver number q) q x)
+  delivered_recorded number q n None x at h = absurd (no_refusal _ x h)
+  delivered_recorded number q n (Some m) x at h =
+      subst (λ (y : Outcome). EndIsRecorded w (event.Deliver number q) (told w y) (after w (event.Deliver number q) q y)) (delivers-ok m n x h) (heard_recorded number q n at m)
+
+  crashed_recorded : (q : ℕ) (o : Option NodeState) (a : Stepped) (w' : WorldState) → crashes w q o ≡ Ok (a, w') → EndIsRecorded w (event.Crash q) a w'
+  crashed_recorded q None a w' h = absurd (no_refusal _ (a, w') h)
+  crashed_recorded q (Some n) a w' h = no_end w (event.Crash q) a w' (ap (λ (z : Stepped × WorldState). z.0.ended) (sym (same_answer _ (a, w') h)))
+
+  entered_recorded : (q : ℕ) (o : Option NodeState) (a : Stepped) (w' : WorldState) → enters w q o ≡ Ok (a, w') → EndIsRecorded w (event.Enter q) a w'
+  entered_recorded q (Some n) a w' h = absurd (no_refusal _ (a, w') h)
+  entered_recorded q None a w' h = no_end w (event.Enter q) a w' (ap (λ (z : Stepped × WorldState). z.0.ended) (sym (same_answer _ (a, w') h)))
+
+  pub step_recorded : (e : Event) (a : Stepped) (w' : WorldState) → stepped w e ≡ Ok (a, w') → EndIsRecorded w e a w'
+  step_recorded (event.Enter q) a w' h = entered_recorded q (fin.get w.nodes q) a w' h
+  step_recorded (event.Crash q) a w' h = crashed_recorded q (live_at w q) a w' h
+  step_recorded (event.Leave q) a w' h =
+      let k = acts-ok w (event.Leave q) q leaves a w' h in
+      quiet_recorded (event.Leave q) q leaves a w' k (left_outcome k.node) (leaves-ok k.node k.outcome k.gives) refl
+  step_recorded (event.Store q value) a w' h =
+      let k = acts-ok w (event.Store q value) q (stores value) a w' h in
+      quiet_recorded (event.Store q value) q (stores value) a w' k (store_outcome k.node value) (stores-ok value k.node k.outcome k.gives) refl
+  step_recorded (event.Collect q) a w' h =
+      let k = acts-ok w (event.Collect q) q collects a w' h in
+      quiet_recorded (event.Collect q) q collects a w' k (collect_outcome k.node) (collects-ok k.node k.outcome k.gives) refl
+  step_recorded (event.Deliver number q) a w' h =
+      let k = acts-ok w (event.Deliver number q) q (delivers (slice_get w.sent number)) a w' h in
+      taken_recorded (event.Deliver number q) q (delivers (slice_get w.sent number)) a w' k
+      (delivered_recorded number q k.node (slice_get w.sent number) k.outcome (live_is (set.contains w.crashed q) (fin.get w.nodes q) k.node k.at) k.gives)
