@@ -1,5 +1,6 @@
 -- Bodies that are those of no event of their kind.
 use Rattle.std.proofs.Common.{◌≡◌, ℕ, ◌+◌, ◌^◌, ◌<◌, ◌≤◌, List, [], ◌∷◌, ◌++◌, length, Option, refl, sym, ap, ◌∙◌, arith, append_assoc, length-append}
+use Rattle.std.proofs.lemmas.List.{append-nil}
 use Rattle.bq_insn.specs.declared.insn.Insn.{Insn}
 use Rattle.bq_insn.specs.Slots.{spelling, IsText}
 use Rattle.bq_insn.specs.declared.fault.DecodeFault.{DecodeFault}
@@ -76,6 +77,16 @@ no_kind kind body leave register ask store deliver hand_out post = record { none
 pub number_then : (width n : ℕ) (bytes rest : List ℕ) → bytes ≡ number_bytes width n ++ rest → length bytes ≡ width + length rest
 number_then width n bytes rest parts = omega (arith, ap length parts, length-append (number_bytes width n) rest, length-number_bytes width n)
 
+-- ---- numbers one behind another, and nothing more
+
+pub asked : (body r1 r2 : List ℕ) (program start : ℕ) → body ≡ number_bytes 4 program ++ r1 → r1 ≡ number_bytes 8 start ++ r2 → r2 ≡ [] → body ≡ number_bytes 4 program ++ number_bytes 8 start
+asked body r1 r2 program start first second end =
+    first ∙ ap (λ (l : List ℕ). number_bytes 4 program ++ l) (second ∙ ap (λ (l : List ℕ). number_bytes 8 start ++ l) end ∙ append-nil (number_bytes 8 start))
+
+pub posted : (body r1 r2 r3 : List ℕ) (query acc steps : ℕ) → body ≡ number_bytes 8 query ++ r1 → r1 ≡ number_bytes 8 acc ++ r2 → r2 ≡ number_bytes 8 steps ++ r3 → r3 ≡ [] → body ≡ number_bytes 8 query ++ (number_bytes 8 acc ++ number_bytes 8 steps)
+posted body r1 r2 r3 query acc steps first second third end =
+    first ∙ ap (λ (l : List ℕ). number_bytes 8 query ++ l) (second ∙ ap (λ (l : List ℕ). number_bytes 8 acc ++ l) (third ∙ ap (λ (l : List ℕ). number_bytes 8 steps ++ l) end ∙ append-nil (number_bytes 8 steps)))
+
 -- ---- messages
 
 pub no_deliver : (body : List ℕ) → ((m : Message) → IsMessage m → body ≡ message_bytes m → ⊥) → IsNoBody 5 body
@@ -139,11 +150,11 @@ registered body rest front behind n t ns read text is others =
 form_is_not_memory : OutOfMemory ≡ Form → ⊥
 form_is_not_memory e = cc
 
-pub text_fault : {P : Type 0} (d : DecodeFault) (e : ReadFault) → e ≡ of_text d → (P → d ≡ texts.OutOfMemory) → e ≡ Form → P → ⊥
-text_fault d e is memory form p = form_is_not_memory (sym (is ∙ ap of_text (memory p)) ∙ form)
+pub text_fault : (d : DecodeFault) (e : ReadFault) → e ≡ of_text d → e ≡ Form → d ≡ texts.OutOfMemory → ⊥
+text_fault d e is form memory = form_is_not_memory (sym (is ∙ ap of_text memory) ∙ form)
 
-pub notes_fault : {P : Type 0} (d : NotesFault) (e : ReadFault) → e ≡ of_notes d → (P → d ≡ notes.OutOfMemory) → e ≡ Form → P → ⊥
-notes_fault d e is memory form p = form_is_not_memory (sym (is ∙ ap of_notes (memory p)) ∙ form)
+pub notes_fault : (d : NotesFault) (e : ReadFault) → e ≡ of_notes d → e ≡ Form → d ≡ notes.OutOfMemory → ⊥
+notes_fault d e is form memory = form_is_not_memory (sym (is ∙ ap of_notes memory) ∙ form)
 
-pub message_fault : {P : Type 0} (d : MessageFault) (e : ReadFault) → e ≡ of_message d → (P → d ≡ messages.OutOfMemory) → e ≡ Form → P → ⊥
-message_fault d e is memory form p = form_is_not_memory (sym (is ∙ ap of_message (memory p)) ∙ form)
+pub message_fault : (d : MessageFault) (e : ReadFault) → e ≡ of_message d → e ≡ Form → d ≡ messages.OutOfMemory → ⊥
+message_fault d e is form memory = form_is_not_memory (sym (is ∙ ap of_message memory) ∙ form)

@@ -1,24 +1,15 @@
 -- Events that were read, and bytes that begin with none.
-use Rattle.std.proofs.Common.{◌≡◌, ℕ, ◌^◌, ◌<◌, List, [], ◌∷◌, ◌++◌, length, Result, Err, refl, sym, ap, subst, ◌∙◌, arith, append_assoc, length-append}
-use Rattle.std.specs.Prelude.{IfErr}
+use Rattle.std.proofs.Common.{◌≡◌, ℕ, ◌^◌, ◌<◌, List, [], ◌∷◌, ◌++◌, length, refl, sym, ap, ◌∙◌, arith, append_assoc, length-append}
 use Rattle.bq_check.specs.Spelling.{BeginsNone}
 use Rattle.bq_check.proofs.Fields.{one_byte}
 use Rattle.sc_msg.specs.Numbers.{number_bytes}
 use Rattle.sc_msg.proofs.Numbers.{length-number_bytes}
 use Rattle.sc_msg.proofs.Entries.{same_front, number_front}
 use Rattle.q_journal.specs.declared.written.Written.{Written}
-use Rattle.q_journal.specs.declared.read.ReadFault.{ReadFault}
-use Rattle.q_journal.specs.declared.read.ReadFault.TheVariants.{Form}
 use Rattle.q_journal.specs.Spelling.{code, body_bytes, event_bytes, IsWritten}
 use Rattle.q_journal.specs.Reading.{IsBody, IsNoBody}
 use Rattle.q_journal.proofs.Sizes.{body_small}
 use Rattle.q_journal.proofs.Fronts.{event_on}
-
--- what the exit of a `?` says of a fault of form
-pub passed : {A P : Type 0} (r : Result A ReadFault) (e : ReadFault) → r ≡ Err e → (e ≡ Form → P) → IfErr r (λ d. d ≡ Form → P)
-passed {A = A} {P = P} r e is says =
-    let Q : Result A ReadFault → Type 0 = λ s. IfErr s (λ d. d ≡ Form → P) in
-    subst Q (sym is) says
 
 -- ---- the parts in turn
 

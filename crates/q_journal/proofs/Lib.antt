@@ -1,5 +1,6 @@
 pub mod Sizes
 pub mod Fronts
+pub mod Exits
 pub mod Heads
 pub mod Bodies
 pub mod Events
