@@ -1,5 +1,5 @@
 -- Bodies that are those of no event of their kind.
-use Rattle.std.proofs.Common.{◌≡◌, ℕ, ◌+◌, ◌^◌, ◌<◌, ◌≤◌, List, [], ◌∷◌, ◌++◌, length, Option, refl, sym, ap, ◌∙◌, arith, append_assoc, length-append}
+use Rattle.std.proofs.Common.{◌≡◌, ℕ, ◌+◌, ◌^◌, ◌<◌, List, [], ◌++◌, length, Option, sym, ap, ◌∙◌, arith, length-append}
 use Rattle.std.proofs.lemmas.List.{append-nil}
 use Rattle.bq_insn.specs.declared.insn.Insn.{Insn}
 use Rattle.bq_insn.specs.Slots.{spelling, IsText}
@@ -17,21 +17,14 @@ use Rattle.sc_msg.specs.Messages.{message_bytes, IsMessage}
 use Rattle.sc_msg.proofs.Numbers.{length-number_bytes}
 use Rattle.sc_msg.proofs.Entries.{same_front, number_front}
 use Rattle.q_journal.specs.declared.written.Written.{Written}
-use Rattle.q_journal.specs.declared.written.Written.TheVariants.{Leave, Register, Ask, Store, Deliver, HandOut, Post}
+use Rattle.q_journal.specs.declared.written.Written.TheVariants.{Register, Ask, Deliver, Post}
 use Rattle.q_journal.specs.declared.read.ReadFault.{ReadFault}
 use Rattle.q_journal.specs.declared.read.ReadFault.TheVariants.{Form, OutOfMemory}
-use Rattle.q_journal.specs.Spelling.{code, body_bytes}
+use Rattle.q_journal.specs.Spelling.{body_bytes}
 use Rattle.q_journal.specs.Reading.{IsBody, IsNoBody, of_text, of_notes, of_message}
 use Rattle.q_journal.proofs.Sizes.{text_small, length-registered, length-asked, length-posted}
 
 -- ---- by how long they are
-
-pub no_leave : (body : List ℕ) → 0 < length body → IsNoBody 1 body
-no_leave body some = record { none = λ w h. none w h }
-  where
-    none : (w : Written) → IsBody 1 body w → ⊥
-    none Leave h = omega (arith, some, ap length h.spelled)
-    none w h = omega (arith, h.is)
 
 pub no_ask : (body : List ℕ) → (length body ≡ 12 → ⊥) → IsNoBody 3 body
 no_ask body other = record { none = λ w h. none w h }
@@ -40,38 +33,12 @@ no_ask body other = record { none = λ w h. none w h }
     none (Ask program start) h = other (ap length h.spelled ∙ length-asked program start)
     none w h = omega (arith, h.is)
 
-pub no_store : (body : List ℕ) → (length body ≡ 48 → ⊥) → IsNoBody 4 body
-no_store body other = record { none = λ w h. none w h }
-  where
-    none : (w : Written) → IsBody 4 body w → ⊥
-    none (Store value) h = other (ap length h.spelled ∙ h.legal.0)
-    none w h = omega (arith, h.is)
-
-pub no_hand_out : (body : List ℕ) → 0 < length body → IsNoBody 6 body
-no_hand_out body some = record { none = λ w h. none w h }
-  where
-    none : (w : Written) → IsBody 6 body w → ⊥
-    none HandOut h = omega (arith, some, ap length h.spelled)
-    none w h = omega (arith, h.is)
-
 pub no_post : (body : List ℕ) → (length body ≡ 24 → ⊥) → IsNoBody 7 body
 no_post body other = record { none = λ w h. none w h }
   where
     none : (w : Written) → IsBody 7 body w → ⊥
     none (Post query acc steps) h = other (ap length h.spelled ∙ length-posted query acc steps)
     none w h = omega (arith, h.is)
-
-pub no_kind : (kind : ℕ) (body : List ℕ) → (kind ≡ 1 → ⊥) → (kind ≡ 2 → ⊥) → (kind ≡ 3 → ⊥) → (kind ≡ 4 → ⊥) → (kind ≡ 5 → ⊥) → (kind ≡ 6 → ⊥) → (kind ≡ 7 → ⊥) → IsNoBody kind body
-no_kind kind body leave register ask store deliver hand_out post = record { none = λ w h. none w h }
-  where
-    none : (w : Written) → IsBody kind body w → ⊥
-    none Leave h = leave (sym h.is)
-    none (Register text notes) h = register (sym h.is)
-    none (Ask program start) h = ask (sym h.is)
-    none (Store value) h = store (sym h.is)
-    none (Deliver m) h = deliver (sym h.is)
-    none HandOut h = hand_out (sym h.is)
-    none (Post query acc steps) h = post (sym h.is)
 
 -- so many bytes are left behind those that were read
 pub number_then : (width n : ℕ) (bytes rest : List ℕ) → bytes ≡ number_bytes width n ++ rest → length bytes ≡ width + length rest

@@ -1,5 +1,5 @@
 -- Events that were read, and bytes that begin with none.
-use Rattle.std.proofs.Common.{◌≡◌, ℕ, ◌^◌, ◌<◌, List, [], ◌∷◌, ◌++◌, length, refl, sym, ap, ◌∙◌, arith, append_assoc, length-append}
+use Rattle.std.proofs.Common.{◌≡◌, ℕ, ◌^◌, ◌<◌, List, [], ◌∷◌, ◌++◌, length, sym, ap, ◌∙◌, arith, length-append}
 use Rattle.bq_check.specs.Spelling.{BeginsNone}
 use Rattle.bq_check.proofs.Fields.{one_byte}
 use Rattle.sc_msg.specs.Numbers.{number_bytes}

@@ -1,9 +1,8 @@
 -- Heads that were read, and bytes that begin with none.
-use Rattle.std.proofs.Common.{◌≡◌, ℕ, ◌+◌, ◌^◌, ◌<◌, ◌≤◌, List, [], ◌∷◌, ◌++◌, length, Option, Some, None, refl, sym, ap, ◌∙◌, arith, append_assoc, length-append}
+use Rattle.std.proofs.Common.{◌≡◌, ℕ, ◌^◌, ◌<◌, List, ◌∷◌, ◌++◌, length, sym, ap, ◌∙◌, arith, length-append}
 use Rattle.std.specs.List.{flat_map, AllByRecursion}
 use Rattle.bq_check.specs.Spelling.{BeginsNone}
-use Rattle.bq_check.proofs.Codes.{flat_map_push, all_push, stops}
-use Rattle.bq_check.proofs.Fields.{one_byte}
+use Rattle.bq_check.proofs.Codes.{stops}
 use Rattle.sc_members.specs.Members.{Config}
 use Rattle.sc_msg.specs.Numbers.{number_bytes}
 use Rattle.sc_msg.proofs.Numbers.{length-number_bytes}
@@ -29,18 +28,6 @@ pub record ReadIds (bytes : List ℕ) (count : ℕ) (ids rest : List ℕ) : Type
   pub legal : AllByRecursion (λ id. id < 2 ^ 64) ids
   pub parts : bytes ≡ number_bytes 2 count ++ (flat_map (number_bytes 8) ids ++ rest)
 
-pub ids_none : (bytes : List ℕ) (count : ℕ) (rest : List ℕ) → bytes ≡ number_bytes 2 count ++ rest → ReadIds bytes count [] rest
-ids_none bytes count rest parts = record { legal = tt; parts = parts }
-
-pub ids_more : (bytes : List ℕ) (count : ℕ) (ids rest after : List ℕ) (id : ℕ) → ReadIds bytes count ids rest → id < 2 ^ 64 → rest ≡ number_bytes 8 id ++ after → ReadIds bytes count (ids ++ id ∷ []) after
-ids_more bytes count ids rest after id read fits parts = record {
-  legal = all_push (λ n. n < 2 ^ 64) ids id read.legal fits;
-  parts = read.parts ∙ ap (λ (l : List ℕ). number_bytes 2 count ++ l) (ap (λ (l : List ℕ). flat_map (number_bytes 8) ids ++ l) parts ∙ sym (append_assoc (flat_map (number_bytes 8) ids) (number_bytes 8 id) after) ∙ ap (λ (l : List ℕ). l ++ after) (sym (flat_map_push (number_bytes 8) ids id)));
-}
-
-pub ids_all : (bytes : List ℕ) (count : ℕ) (ids rest : List ℕ) → ReadIds bytes count ids rest → length ids ≡ count → bytes ≡ ids_bytes ids ++ rest
-ids_all bytes count ids rest read all = read.parts ∙ ap (λ n. number_bytes 2 n ++ (flat_map (number_bytes 8) ids ++ rest)) (sym all) ∙ sym (ids_on ids rest)
-
 pub no_ids : (bytes : List ℕ) (count : ℕ) (ids rest : List ℕ) → count < 2 ^ 16 → ReadIds bytes count ids rest → length ids < count → length rest < 8 → BeginsNone ids_bytes AreIds bytes
 no_ids bytes count ids rest fits read fewer short = record { none = λ all more p e. none all more p e }
   where
@@ -48,24 +35,6 @@ no_ids bytes count ids rest fits read fewer short = record { none = λ all more 
     none all more p e =
         let n = number_front 2 count (length all) (flat_map (number_bytes 8) ids ++ rest) (flat_map (number_bytes 8) all ++ more) fits p.0 (sym read.parts ∙ e ∙ ids_on all more) in
         stops (number_bytes 8) (λ id. id < 2 ^ 64) numbers_are_code ids all rest more (no_number rest short) read.legal p.1 (omega (arith, fewer, n.0)) n.1
-
--- ---- how the node began
-
-pub no_start_left : (bytes : List ℕ) → bytes ≡ [] → BeginsNone start_bytes AreFounders bytes
-no_start_left bytes empty = record { none = λ o more p e. none o more (sym empty ∙ e) }
-  where
-    none : (o : Option (List ℕ)) (more : List ℕ) → [] ≡ start_bytes o ++ more → ⊥
-    none None more e = cc
-    none (Some ids) more e = cc
-
-pub no_start : (bytes rest : List ℕ) (b : ℕ) → bytes ≡ b ∷ rest → (b ≡ 1 → ⊥) → (b ≡ 0 → BeginsNone ids_bytes AreIds rest) → BeginsNone start_bytes AreFounders bytes
-no_start bytes rest b parts entered founders = record { none = λ o more p e. none o more p (sym parts ∙ e) }
-  where
-    none : (o : Option (List ℕ)) (more : List ℕ) → AreFounders o → b ∷ rest ≡ start_bytes o ++ more → ⊥
-    none None more p e = entered (one_byte b 1 rest more e).0
-    none (Some ids) more p e =
-        let s = one_byte b 0 rest (ids_bytes ids ++ more) e in
-        (founders s.0).none ids more p s.1
 
 -- ---- fractions
 
@@ -75,13 +44,6 @@ fraction_cut bytes rest n parts short = omega (arith, short, ap length parts, le
 pub fractions_cut : (bytes rest : List ℕ) (m n : ℕ) → bytes ≡ (number_bytes 2 m ++ number_bytes 2 n) ++ rest → length rest < 4 → length bytes < 8
 fractions_cut bytes rest m n parts short =
     omega (arith, short, ap length parts, length-append (number_bytes 2 m ++ number_bytes 2 n) rest, length-append (number_bytes 2 m) (number_bytes 2 n), length-number_bytes 2 m, length-number_bytes 2 n)
-
-pub fractions_on : (bytes middle rest : List ℕ) (c : Config) → bytes ≡ (number_bytes 2 c.beta_num ++ number_bytes 2 c.beta_den) ++ middle → middle ≡ (number_bytes 2 c.gamma_num ++ number_bytes 2 c.gamma_den) ++ rest → bytes ≡ config_bytes c ++ rest
-fractions_on bytes middle rest c front back =
-    let a = number_bytes 2 c.beta_num in
-    let b = number_bytes 2 c.beta_den in
-    let g = number_bytes 2 c.gamma_num ++ number_bytes 2 c.gamma_den in
-    front ∙ ap (λ (l : List ℕ). (a ++ b) ++ l) back ∙ sym (append_assoc (a ++ b) g rest) ∙ ap (λ (l : List ℕ). l ++ rest) (append_assoc a b g)
 
 -- ---- heads
 

@@ -12,7 +12,6 @@ use Rattle.bq_check.specs.Spelling.{short_bytes, long_bytes, offset_bytes, kind_
 use Rattle.bq_check.proofs.Fields.{length-short, length-long}
 use Rattle.sc_members.specs.Members.{Config}
 use Rattle.sc_msg.specs.Numbers.{number_bytes}
-use Rattle.sc_msg.specs.Messages.{message_bytes}
 use Rattle.sc_msg.proofs.Numbers.{length-number_bytes}
 use Rattle.sc_msg.proofs.Unique.{message_small}
 use Rattle.q_journal.specs.declared.written.Written.{Written}

@@ -1,4 +1,4 @@
-use Rattle.std.proofs.Common.{refl, sym, ◌∙◌}
+use Rattle.std.proofs.Common.{refl}
 use Rattle.std.proofs.lemmas.Result.{err_from_is_err_and}
 use Rattle.q_journal.specs.Reading.{IsNoBody}
 use Rattle.q_journal.proofs.Exits.{no_form, passed}
