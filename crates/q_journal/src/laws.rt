@@ -1,5 +1,5 @@
-//! Laws of journals and their bytes, each the contract of a function that does nothing. Whoever needs one at a step calls
-//! it there.
+//! Laws of journals and their bytes, each the contract of a function that does nothing. Whoever needs one at a step
+//! calls it there.
 
 ghost use Rattle.std.specs.Prelude.{◌≡◌, ◌++◌, ℕ, List};
 ghost use Rattle.q_journal.specs.Head.{Head};

@@ -2,8 +2,8 @@
 //!
 //! A journal begins with a head: 42 51 4a 01, the node's id in eight bytes, the numerators and the denominators of beta
 //! and gamma in two bytes each, and then a byte 0, the number of founders in two bytes and their ids, or a byte 1 where
-//! the node entered. Behind it stand the events in turn: the byte of the kind, the length of the body in four bytes, and
-//! the body. Numbers have their lowest byte first.
+//! the node entered. Behind it stand the events in turn: the byte of the kind, the length of the body in four bytes,
+//! and the body. Numbers have their lowest byte first.
 //!
 //! | Kind | Body |
 //! |---|---|
