@@ -21,6 +21,7 @@ use Rattle.q_session.specs.declared.query.Phase.{Phase}
 use Rattle.q_session.specs.declared.query.Phase.TheVariants.{Collecting, Ready, Running, Answered}
 use Rattle.q_session.specs.declared.query.Query.{Query}
 use Rattle.q_session.specs.declared.job.Job.{Job}
+use Rattle.q_session.specs.Jobs.{job_over}
 use Rattle.q_desk.specs.declared.fault.DeskFault.{DeskFault}
 use Rattle.q_desk.specs.declared.fault.DeskFault.TheVariants as fault
 
@@ -142,7 +143,7 @@ completed_by (Some e) query = completes e.tag e.what query
 -- the job of a ready query of this node
 abbrev pub job_of : ℕ → ℕ → Query → Phase → Option Certificate → Option Job
 job_of node k q (Ready view) (Some program) =
-    Some (record { node = node; query = k; program = q.program; start = q.start; certified = program; view = view })
+    Some (job_over node k q program view)
 job_of node k q p program = None
 
 abbrev pub job_at : DeskState → ℕ → ℕ → Option Query → Option Job

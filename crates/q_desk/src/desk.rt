@@ -1,13 +1,13 @@
 //! A desk: the programs and queries of one node.
 
-ghost use Rattle.std.specs.Prelude.{◌≡◌, ℕ, Ok, Some, IfOk, slice_get, position, option_copied, IsTrue};
+ghost use Rattle.std.specs.Prelude.{◌≡◌, ℕ, Ok, Some, IfOk, slice_get, position, option_map, IsTrue};
 ghost use Rattle.sc_view.specs.Views.{ViewMap};
 ghost use Rattle.q_table.specs.Calls.{Steps};
 ghost use Rattle.q_session.specs.declared.query.Query.{Query as QueryValue};
 ghost use Rattle.q_desk.specs.State.{DeskState, new_desk};
 ghost use Rattle.q_desk.specs.Desks as desk;
 ghost use Rattle.q_desk.specs.declared.journal.Entry.{Entry as EntryValue};
-ghost use Rattle.q_desk.specs.Answers.{IsDesk, AnswersAreRight};
+ghost use Rattle.q_desk.specs.Answers.{IsDesk, AnswersAreRight, ProgramsAreKnown};
 
 use crate::completed::Completed;
 use crate::fault::DeskFault;
@@ -121,9 +121,9 @@ impl Desk {
         (program.number() as usize) < self.programs.len()
     }
 
-    /// The program with this id.
-    pub fn program(&self, id: ProgramId) -> Option<&Program>
-        ensures { option_copied result ≡ slice_get self.now.programs id }
+    /// The certificate of the program with this id, to share.
+    pub fn program(&self, id: ProgramId) -> Option<&Arc<Certified>>
+        ensures { option_map (λ p. p.now.value) result ≡ slice_get self.now.programs id }
     {
         self.programs.get(id)
     }
@@ -207,7 +207,7 @@ impl Desk {
             return Err(DeskFault::BookFull);
         }
         self.journal.reserve(1)?;
-        run(&mut self.queries, job.query);
+        run(&mut self.queries, job.query());
         self.journal.push_reserved(Entry::HandOut);
         Ok(Some(job))
     }
@@ -217,10 +217,12 @@ impl Desk {
         ensures { Steps DeskFault.OutOfMemory (desk.posted self.old node done.now.job done.now.ran) self.old self.new result }
     {
         let job = done.job();
-        if job.node != node {
+        let owner = job.node();
+        if owner != node {
             return Err(DeskFault::Stranger);
         }
-        let Some(query) = self.queries.get(job.query) else {
+        let number = job.query();
+        let Some(query) = self.queries.get(number) else {
             return Err(DeskFault::Stranger);
         };
         if answer_in(&query.phase).is_some() {
@@ -236,11 +238,9 @@ impl Desk {
             return Err(DeskFault::BookFull);
         }
         self.journal.reserve(1)?;
-        record_answer(&mut self.queries, job.query, done.ran());
-        self.journal.push_reserved(Entry::Post {
-            query: job.query,
-            ran: done.ran(),
-        });
+        let ran = done.ran();
+        record_answer(&mut self.queries, number, ran);
+        self.journal.push_reserved(Entry::Post { query: number, ran });
         Ok(())
     }
 
@@ -254,9 +254,10 @@ impl Desk {
         }
     }
 
-    /// The queries, by their numbers. Each recorded answer is right.
+    /// The queries, by their numbers. Each names a program of the desk, and each recorded answer is right.
     pub fn queries(&self) -> &[Query]
         ensures queries { result.now ≡ self.now.queries }
+        ensures known { ProgramsAreKnown self.now }
         ensures right { AnswersAreRight self.now }
     {
         self.queries.as_slice()
@@ -321,20 +322,11 @@ fn next_job(programs: &Programs, queries: &[Query], node: u64) -> Result<Option<
     let Some(query) = queries.get(number) else {
         return Ok(None);
     };
-    let Phase::Ready(view) = &query.phase else {
-        return Ok(None);
-    };
     let Some(program) = programs.get(query.program) else {
         return Ok(None);
     };
-    Ok(Some(Job {
-        node,
-        query: number,
-        program: query.program,
-        start: query.start,
-        certified: program.clone()?,
-        view: view.clone()?,
-    }))
+    let program = Program::share(program)?;
+    Job::of(node, number, query, &program)
 }
 
 // A ready query runs over its view.
