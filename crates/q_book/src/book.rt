@@ -1,10 +1,11 @@
 //! A book: a node with its desk.
 
-ghost use Rattle.std.specs.Prelude.{◌≡◌, length, Ok};
+ghost use Rattle.std.specs.Prelude.{◌≡◌, length, is_some, Ok};
+ghost use Rattle.std.specs.FinMap as fin;
 ghost use Rattle.q_table.specs.Calls.{Steps, Gives};
 ghost use Rattle.q_desk.specs.Desks as desk;
 ghost use Rattle.q_desk.specs.Desks.{ends, completed_by};
-ghost use Rattle.q_desk.specs.Answers.{AnswersAreRight};
+ghost use Rattle.q_desk.specs.Answers.{AnswersAreRight, ProgramsAreKnown};
 ghost use Rattle.q_book.specs.Faults.{memory};
 ghost use Rattle.q_book.specs.Books.{here, joined, known, free, registered, asked, stored, delivered, left, handed_out, posted, founded, entered};
 ghost use Rattle.q_book.specs.Replays.{IsReplay};
@@ -196,9 +197,17 @@ impl Book {
         &self.node
     }
 
-    /// The desk: its programs and queries. Each recorded answer is right.
+    /// Whether the node has the operation with this tag open. Takes no memory.
+    pub fn is_open(&self, tag: u64) -> bool
+        ensures { result ≡ is_some (fin.get self.now.node.sessions tag) }
+    {
+        self.node.session(tag).is_some()
+    }
+
+    /// The desk: its programs and queries. Each query names a program of the desk, and each recorded answer is right.
     pub fn desk(&self) -> &Desk
         ensures desk { result.now ≡ self.now.desk }
+        ensures known { ProgramsAreKnown self.now.desk }
         ensures right { AnswersAreRight self.now.desk }
     {
         let _queries = self.desk.queries();
