@@ -33,29 +33,31 @@ pub const MOST_QUERIES: usize = 4096;
 /// The most entries of a journal.
 pub const MOST_ENTRIES: usize = 65_536;
 
-/// The programs and queries of one node, and its journal: each call that was accepted and changed something, in turn.
-/// Contracts see it as the record of these.
+/// The programs and queries of one node, its journal, and what its last accepted call ended. The journal has each call
+/// that was accepted and changed something, in turn. Contracts see a desk as the record of these.
 #[derive(Drop)]
 pub struct Desk {
     programs: Programs,
     queries: Vec<Query>,
     journal: Vec<Entry>,
+    ended: Option<Completed>,
 }
 
 impl Model for Desk {
     ghost use Rattle.std.specs.Coded.{codes};
     ghost use Rattle.sc_view.specs.Views.{view_code};
+    ghost use Rattle.q_desk.specs.contracts.completed.Completed as completed;
     ghost use Rattle.q_desk.specs.contracts.journal.Entry as entry;
     ghost use Rattle.q_desk.specs.State.{DeskState};
     ghost use Rattle.q_desk.specs.Answers.{IsDesk};
 
     ghost Value = { DeskState };
 
-    ghost coded = { Prim.hlevel (codes, view_code, entry.the_row.coded) };
+    ghost coded = { Prim.hlevel (codes, view_code, completed.the_row.coded, entry.the_row.coded) };
 
-    ghost view = { λ d. record { programs = d.programs; queries = d.queries.items; journal = d.journal.items } };
+    ghost view = { λ d. record { programs = d.programs; queries = d.queries.items; journal = d.journal.items; ended = d.ended } };
 
-    ghost invariant = { λ d. IsDesk (record { programs = d.programs; queries = d.queries.items; journal = d.journal.items }) };
+    ghost invariant = { λ d. IsDesk (record { programs = d.programs; queries = d.queries.items; journal = d.journal.items; ended = d.ended }) };
 }
 
 impl Desk {
@@ -67,6 +69,7 @@ impl Desk {
             programs: Programs::new(alloc),
             queries: Vec::new(alloc),
             journal: Vec::new(alloc),
+            ended: None,
         }
     }
 
@@ -75,6 +78,17 @@ impl Desk {
         ensures { result ≡ desk.has_room self.now }
     {
         self.journal.len() < MOST_ENTRIES
+    }
+
+    /// Whether the journal has room for a post. Refused with 53. Takes no memory.
+    pub fn room_for_post(&self) -> Result<(), DeskFault>
+        ensures { result ≡ desk.room self.now (Ok tt) }
+    {
+        if self.has_room() {
+            Ok(())
+        } else {
+            Err(DeskFault::BookFull)
+        }
     }
 
     /// Puts an entry into the journal, and changes nothing else. Refused with 53, 99.
@@ -111,6 +125,7 @@ impl Desk {
         let id = self.programs.register(certified)?;
         let _count = self.programs.len();
         self.journal.push_reserved(Entry::Register(program));
+        self.ended = None;
         Ok(id)
     }
 
@@ -180,11 +195,21 @@ impl Desk {
         Some(number)
     }
 
-    /// An operation of the node ended: the view of a collect goes to the query that waits for it. What ended is
-    /// answered. Takes no memory.
+    /// The node accepted a call at which this operation ended, or none: the view of a collect goes to the query that
+    /// waits for it. What ended is answered, and kept until the next accepted call. Takes no memory.
     pub fn end(&mut self, ended: Option<Ended>) -> Option<Completed>
         ensures told { result ≡ desk.completed_by ended (desk.ends ended self.old).0 }
         ensures new { self.new ≡ (desk.ends ended self.old).1 }
+    {
+        let completed = self.give(ended);
+        self.ended = completed;
+        completed
+    }
+
+    // The view of a collect that ended goes to the query that waits for it. What ended is answered.
+    fn give(&mut self, ended: Option<Ended>) -> Option<Completed>
+        ensures told { result ≡ desk.completed_by ended (desk.gives ended self.old).0 }
+        ensures new { self.new ≡ (desk.gives ended self.old).1 }
     {
         let Ended { tag, what } = ended?;
         match what {
@@ -208,6 +233,7 @@ impl Desk {
         }
         self.journal.reserve(1)?;
         run(&mut self.queries, job.query());
+        self.ended = None;
         self.journal.push_reserved(Entry::HandOut);
         Ok(Some(job))
     }
@@ -240,7 +266,9 @@ impl Desk {
         self.journal.reserve(1)?;
         let ran = done.ran();
         record_answer(&mut self.queries, number, ran);
-        self.journal.push_reserved(Entry::Post { query: number, ran });
+        self.ended = None;
+        self.journal
+            .push_reserved(Entry::Post { query: number, ran });
         Ok(())
     }
 
@@ -261,6 +289,14 @@ impl Desk {
         ensures right { AnswersAreRight self.now }
     {
         self.queries.as_slice()
+    }
+
+    /// What the last accepted call ended: none after a call that was no delivery. A refused call, and a hand-out that
+    /// found no ready query, leave it as it was.
+    pub fn ended(&self) -> Option<Completed>
+        ensures { result ≡ self.now.ended }
+    {
+        self.ended
     }
 
     /// The journal: each call that was accepted and changed something, in turn.
