@@ -7,11 +7,12 @@ ghost use Rattle.q_desk.specs.Desks as desk;
 ghost use Rattle.q_desk.specs.Desks.{ends, completed_by};
 ghost use Rattle.q_desk.specs.Answers.{AnswersAreRight, ProgramsAreKnown};
 ghost use Rattle.q_book.specs.Faults.{memory};
-ghost use Rattle.q_book.specs.Books.{here, joined, known, free, registered, asked, stored, delivered, left, handed_out, posted, founded, entered};
+ghost use Rattle.q_book.specs.Books.{here, joined, known, free, registered, asked, stored, delivered, left, handed_out, posted, room_for_post, founded, entered};
 ghost use Rattle.q_book.specs.Replays.{IsReplay};
 
 use crate::answer::{Asked, Taken};
 use crate::fault::BookFault;
+use q_desk::completed::Completed;
 use q_desk::desk::Desk;
 use q_desk::fault::DeskFault;
 use q_desk::journal::Entry;
@@ -108,7 +109,10 @@ impl Book {
         self.check_asking(program)?;
         let query = self.desk.ask(self.node.operations(), program, start)?;
         match self.node.begin_collect() {
-            Ok(begun) => Ok(Asked { query, begun }),
+            Ok(begun) => {
+                self.desk.end(None);
+                Ok(Asked { query, begun })
+            }
             Err(fault) => {
                 self.desk.withdraw();
                 Err(BookFault::Node(fault))
@@ -123,7 +127,10 @@ impl Book {
         self.check_storing()?;
         self.desk.note(Entry::Store(*value))?;
         match self.node.begin_store(value) {
-            Ok(begun) => Ok(begun),
+            Ok(begun) => {
+                self.desk.end(None);
+                Ok(begun)
+            }
             Err(fault) => {
                 self.desk.forget();
                 Err(BookFault::Node(fault))
@@ -154,7 +161,10 @@ impl Book {
         self.check_here()?;
         self.desk.note(Entry::Leave)?;
         match self.node.leave() {
-            Ok(outs) => Ok(outs),
+            Ok(outs) => {
+                self.desk.end(None);
+                Ok(outs)
+            }
             Err(fault) => {
                 self.desk.forget();
                 Err(BookFault::Node(fault))
@@ -179,6 +189,16 @@ impl Book {
         self.check_here()?;
         let _job = done.job();
         self.desk.post(self.id, done)?;
+        Ok(())
+    }
+
+    /// Whether a post is refused for the node or for the journal's room, before its result is looked at. Refused with
+    /// 42, 53. Takes no memory.
+    pub fn room_for_post(&self) -> Result<(), BookFault>
+        ensures { result ≡ room_for_post self.now }
+    {
+        self.check_here()?;
+        self.desk.room_for_post()?;
         Ok(())
     }
 
@@ -220,6 +240,14 @@ impl Book {
         ensures replay { IsReplay self.now }
     {
         self.desk.journal()
+    }
+
+    /// What the last accepted call ended: none after a call that was no delivery. A refused call, and a hand-out that
+    /// found no ready query, leave it as it was.
+    pub fn ended(&self) -> Option<Completed>
+        ensures { result ≡ self.now.desk.ended }
+    {
+        self.desk.ended()
     }
 
     /// How many entries the journal has.
