@@ -95,28 +95,31 @@ posted_replay b j ran u d passed h right r =
 
 -- ---- calls of both
 
-pub asked_replay : (b : BookState) (program start tag k : ℕ) (u : Unit {0}) (begun : Begun) (n : NodeState) (d : DeskState) → (let t : Test = Ok u in t) ≡ here b (joined b (known b program (free b (Ok tt))))
-    → tag ≡ b.node.operations → desk.asked b.desk tag program start ≡ Ok (k, d) → node.collect_begun b.node ≡ Ok (begun, n) → IsReplay b → IsReplay (with b n d)
-asked_replay b program start tag k u begun n d passed next h g r =
+pub asked_replay : (b : BookState) (program start tag k : ℕ) (u : Unit {0}) (begun : Begun) (n : NodeState) (d after : DeskState) → (let t : Test = Ok u in t) ≡ here b (joined b (known b program (free b (Ok tt))))
+    → tag ≡ b.node.operations → desk.asked b.desk tag program start ≡ Ok (k, d) → node.collect_begun b.node ≡ Ok (begun, n) → after ≡ desk.with_ended d None → IsReplay b → IsReplay (with b n after)
+asked_replay b program start tag k u begun n d after passed next h g ends r =
     let now : desk.asked b.desk b.node.operations program start ≡ Ok (k, d) = ap (λ (t : ℕ). desk.asked b.desk t program start) (sym next) ∙ h in
-    replay_next b (entry.Ask program start) n d r (asked-adds b.desk tag program start k d h) (
+    subst (λ (x : DeskState). IsReplay (with b n x)) (sym ends)
+    (replay_next b (entry.Ask program start) n (desk.with_ended d None) r (asked-adds b.desk tag program start k d h) (
       record { query = k; begun = begun },
       passes-asking b program u (by_desk (asks_node b) (desk.asked b.desk b.node.operations program start)) passed ∙ ap (by_desk (asks_node b)) now ∙ ap (by_node (asks b k d)) g,
-    )
+    ))
 
-pub stored_replay : (b : BookState) (value : List ℕ) (u w : Unit {0}) (begun : Begun) (n : NodeState) (d : DeskState) → (let t : Test = Ok u in t) ≡ here b (joined b (free b (Ok tt)))
-    → desk.noted b.desk (entry.Store value) ≡ Ok (w, d) → node.store_begun b.node value ≡ Ok (begun, n) → IsReplay b → IsReplay (with b n d)
-stored_replay b value u w begun n d passed h g r =
-    replay_next b (entry.Store value) n d r (noted-adds b.desk (entry.Store value) d h) (
+pub stored_replay : (b : BookState) (value : List ℕ) (u w : Unit {0}) (begun : Begun) (n : NodeState) (d after : DeskState) → (let t : Test = Ok u in t) ≡ here b (joined b (free b (Ok tt)))
+    → desk.noted b.desk (entry.Store value) ≡ Ok (w, d) → node.store_begun b.node value ≡ Ok (begun, n) → after ≡ desk.with_ended d None → IsReplay b → IsReplay (with b n after)
+stored_replay b value u w begun n d after passed h g ends r =
+    subst (λ (x : DeskState). IsReplay (with b n x)) (sym ends)
+    (replay_next b (entry.Store value) n (desk.with_ended d None) r (noted-adds b.desk (entry.Store value) d h) (
       begun,
       passes-storing b u (by_desk (stores_node b value) (desk.noted b.desk (entry.Store value))) passed ∙ ap (by_desk (stores_node b value)) h ∙ ap (by_node (stores b d)) g,
-    )
+    ))
 
-pub left_replay : (b : BookState) (u w : Unit {0}) (outs : List Message) (n : NodeState) (d : DeskState) → (let t : Test = Ok u in t) ≡ here b (Ok tt)
-    → desk.noted b.desk entry.Leave ≡ Ok (w, d) → node.left b.node ≡ Ok (outs, n) → IsReplay b → IsReplay (with b n d)
-left_replay b u w outs n d passed h g r =
-    replay_next b entry.Leave n d r (noted-adds b.desk entry.Leave d h)
-    (outs, passes-here b u (by_desk (leaves_node b) (desk.noted b.desk entry.Leave)) passed ∙ ap (by_desk (leaves_node b)) h ∙ ap (by_node (leaves b d)) g)
+pub left_replay : (b : BookState) (u w : Unit {0}) (outs : List Message) (n : NodeState) (d after : DeskState) → (let t : Test = Ok u in t) ≡ here b (Ok tt)
+    → desk.noted b.desk entry.Leave ≡ Ok (w, d) → node.left b.node ≡ Ok (outs, n) → after ≡ desk.with_ended d None → IsReplay b → IsReplay (with b n after)
+left_replay b u w outs n d after passed h g ends r =
+    subst (λ (x : DeskState). IsReplay (with b n x)) (sym ends)
+    (replay_next b entry.Leave n (desk.with_ended d None) r (noted-adds b.desk entry.Leave d h)
+    (outs, passes-here b u (by_desk (leaves_node b) (desk.noted b.desk entry.Leave)) passed ∙ ap (by_desk (leaves_node b)) h ∙ ap (by_node (leaves b d)) g))
 
 -- an operation that ends puts nothing into the journal
 returned-quiet : (d : DeskState) (view : ViewMap) (o : Option ℕ) → (desk.returned_to d view o).1.journal ≡ d.journal

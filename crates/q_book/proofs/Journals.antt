@@ -38,7 +38,7 @@ pub noted-adds : (s : DeskState) (e : Entry) (d : DeskState) → noted s e ≡ O
 noted-adds s e d h = sym (room-adds (has_room s) tt tt (with_entry s e) d h)
 
 registered_by-adds : (s : DeskState) (program : Certificate) (r : Result (ℕ × List Certificate) TableFault) (id : ℕ) (d : DeskState) → registered_by s program r ≡ Ok (id, d) → Adds s (entry.Register program) d
-registered_by-adds s program (Ok r) id d h = sym (room-adds (has_room s) r.0 id (with_entry (record s { programs = r.1 }) (entry.Register program)) d h)
+registered_by-adds s program (Ok r) id d h = sym (room-adds (has_room s) r.0 id (with_entry (record s { programs = r.1; ended = None }) (entry.Register program)) d h)
 registered_by-adds s program (Err e) id d h = absurd (no-answer _ (id, d) h)
 
 pub registered-adds : (s : DeskState) (program : Certificate) (id : ℕ) (d : DeskState) → registered s program ≡ Ok (id, d) → Adds s (entry.Register program) d

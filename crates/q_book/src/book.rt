@@ -1,16 +1,18 @@
 //! A book: a node with its desk.
 
-ghost use Rattle.std.specs.Prelude.{◌≡◌, length, Ok};
+ghost use Rattle.std.specs.Prelude.{◌≡◌, length, is_some, Ok};
+ghost use Rattle.std.specs.FinMap as fin;
 ghost use Rattle.q_table.specs.Calls.{Steps, Gives};
 ghost use Rattle.q_desk.specs.Desks as desk;
 ghost use Rattle.q_desk.specs.Desks.{ends, completed_by};
-ghost use Rattle.q_desk.specs.Answers.{AnswersAreRight};
+ghost use Rattle.q_desk.specs.Answers.{AnswersAreRight, ProgramsAreKnown};
 ghost use Rattle.q_book.specs.Faults.{memory};
-ghost use Rattle.q_book.specs.Books.{here, joined, known, free, registered, asked, stored, delivered, left, handed_out, posted, founded, entered};
+ghost use Rattle.q_book.specs.Books.{here, joined, known, free, registered, asked, stored, delivered, left, handed_out, posted, room_for_post, founded, entered};
 ghost use Rattle.q_book.specs.Replays.{IsReplay};
 
 use crate::answer::{Asked, Taken};
 use crate::fault::BookFault;
+use q_desk::completed::Completed;
 use q_desk::desk::Desk;
 use q_desk::fault::DeskFault;
 use q_desk::journal::Entry;
@@ -107,7 +109,10 @@ impl Book {
         self.check_asking(program)?;
         let query = self.desk.ask(self.node.operations(), program, start)?;
         match self.node.begin_collect() {
-            Ok(begun) => Ok(Asked { query, begun }),
+            Ok(begun) => {
+                self.desk.end(None);
+                Ok(Asked { query, begun })
+            }
             Err(fault) => {
                 self.desk.withdraw();
                 Err(BookFault::Node(fault))
@@ -122,7 +127,10 @@ impl Book {
         self.check_storing()?;
         self.desk.note(Entry::Store(*value))?;
         match self.node.begin_store(value) {
-            Ok(begun) => Ok(begun),
+            Ok(begun) => {
+                self.desk.end(None);
+                Ok(begun)
+            }
             Err(fault) => {
                 self.desk.forget();
                 Err(BookFault::Node(fault))
@@ -153,7 +161,10 @@ impl Book {
         self.check_here()?;
         self.desk.note(Entry::Leave)?;
         match self.node.leave() {
-            Ok(outs) => Ok(outs),
+            Ok(outs) => {
+                self.desk.end(None);
+                Ok(outs)
+            }
             Err(fault) => {
                 self.desk.forget();
                 Err(BookFault::Node(fault))
@@ -181,6 +192,16 @@ impl Book {
         Ok(())
     }
 
+    /// Whether a post is refused for the node or for the journal's room, before its result is looked at. Refused with
+    /// 42, 53. Takes no memory.
+    pub fn room_for_post(&self) -> Result<(), BookFault>
+        ensures { result ≡ room_for_post self.now }
+    {
+        self.check_here()?;
+        self.desk.room_for_post()?;
+        Ok(())
+    }
+
     /// The recorded answer of a query, if there is one yet; also where the node has left. Refused with 54. Takes no
     /// memory.
     pub fn answer(&self, query: usize) -> Result<Option<Ran>, DeskFault>
@@ -196,9 +217,17 @@ impl Book {
         &self.node
     }
 
-    /// The desk: its programs and queries. Each recorded answer is right.
+    /// Whether the node has the operation with this tag open. Takes no memory.
+    pub fn is_open(&self, tag: u64) -> bool
+        ensures { result ≡ is_some (fin.get self.now.node.sessions tag) }
+    {
+        self.node.session(tag).is_some()
+    }
+
+    /// The desk: its programs and queries. Each query names a program of the desk, and each recorded answer is right.
     pub fn desk(&self) -> &Desk
         ensures desk { result.now ≡ self.now.desk }
+        ensures known { ProgramsAreKnown self.now.desk }
         ensures right { AnswersAreRight self.now.desk }
     {
         let _queries = self.desk.queries();
@@ -211,6 +240,14 @@ impl Book {
         ensures replay { IsReplay self.now }
     {
         self.desk.journal()
+    }
+
+    /// What the last accepted call ended: none after a call that was no delivery. A refused call, and a hand-out that
+    /// found no ready query, leave it as it was.
+    pub fn ended(&self) -> Option<Completed>
+        ensures { result ≡ self.now.desk.ended }
+    {
+        self.desk.ended()
     }
 
     /// How many entries the journal has.

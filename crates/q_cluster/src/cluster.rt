@@ -31,7 +31,7 @@ use sc_world::event::{Event as WorldEvent, Sent};
 use sc_world::fault::WorldFault;
 use sc_world::ledger::Ledger;
 use sc_world::op::Op;
-use std::alloc::{AllocError, Global};
+use std::alloc::Global;
 use std::marker::Model;
 
 /// The book of each node, what is kept of every event, and the jobs that were handed out. Contracts see it as a world with
@@ -321,10 +321,12 @@ impl Cluster {
     {
         let done = Done::run(self.job_to_run(number)?);
         let job = done.job();
-        self.books.post(job.node, &done)?;
+        let node = job.node();
+        let query = job.query();
+        self.books.post(node, &done)?;
         let answer = Answer {
-            node: job.node,
-            query: job.query,
+            node,
+            query,
             ran: done.ran(),
         };
         Ok(told(Told::Finished(answer), self.ledger.silent()))
@@ -353,22 +355,9 @@ impl Cluster {
         let Some(job) = self.jobs.get(number) else {
             return Err(ClusterFault::NoSuchJob);
         };
-        self.check_live(job.node)?;
-        Ok(copy_of(job)?)
+        self.check_live(job.node())?;
+        Ok(job.clone()?)
     }
-}
-
-fn copy_of(job: &Job) -> Result<Job, AllocError>
-    ensures { IfOk result (λ copy. copy ≡ job.now) }
-{
-    Ok(Job {
-        node: job.node,
-        query: job.query,
-        program: job.program,
-        start: job.start,
-        certified: job.certified.clone()?,
-        view: job.view.clone()?,
-    })
 }
 
 // Puts a job, for which there is room, at the end.
@@ -380,7 +369,7 @@ fn put_job(jobs: &mut Vec<Job>, job: Option<Job>) -> Option<Handed>
     let job = job?;
     let handed = Handed {
         job: jobs.len(),
-        query: job.query,
+        query: job.query(),
     };
     jobs.push_reserved(job);
     Some(handed)

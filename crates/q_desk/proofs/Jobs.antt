@@ -1,6 +1,9 @@
 -- What a job that is handed out or posted makes of a desk.
-use Rattle.std.proofs.Common.{◌≡◌, ℕ, true, List, length, Option, Some, None, Ok, refl, sym, ap, subst, ◌∙◌, rules, eq-eqb}
-use Rattle.std.specs.Prelude.{slice_get, position, nat_lt, ◌==◌}
+use Rattle.std.proofs.Common.{◌≡◌, ℕ, true, List, length, get_or, Option, Some, None, Ok, refl, sym, ap, subst, ◌∙◌, rules, eq-eqb}
+use Rattle.std.proofs.lemmas.Bool.{false≢true}
+use Rattle.std.proofs.lemmas.List.Quantifiers.{position-Some}
+use Rattle.std.proofs.lemmas.Option.{get_or_from_slice_get}
+use Rattle.std.specs.Prelude.{slice_get, position, nat_lt, option_map, ◌==◌}
 use Rattle.std.specs.Cmp.{first_so, second_so, unsigned_Decides}
 use Rattle.sc_view.specs.Views.{ViewMap}
 use Rattle.bq_check.specs.Certificate.{Certificate}
@@ -14,9 +17,39 @@ use Rattle.q_desk.specs.State.{DeskState}
 use Rattle.q_desk.specs.declared.journal.Entry.{Entry}
 use Rattle.q_desk.specs.declared.journal.Entry.TheVariants as entry
 use Rattle.q_desk.specs.Desks.{most_entries, with_phase, is_ready, is_same_view, is_job_of, job_of, job_at, job_from, next_job, handed_out, posted}
+use Rattle.q_session.specs.Jobs.{view_in, job_over}
 use Rattle.q_desk.specs.Answers.{IsDesk, IsAnswered}
 use Rattle.q_desk.proofs.Views.{same-view, right-of_same}
-use Rattle.q_desk.proofs.Keeps.{IsAppended, desk-appended, desk-running, desk-with_phase}
+use Rattle.q_desk.proofs.Keeps.{IsAppended, desk-appended, desk-ended, desk-running, desk-with_phase}
+
+-- a ready query has its job
+job-ready : (node k : ℕ) (q : Query) (p : Phase) (c : Certificate) → is_ready p ≡ true → option_map (job_over node k q c) (view_in p) ≡ job_of node k q p (Some c)
+job-ready node k q (Ready view) c r = refl
+job-ready node k q Collecting c r = absurd (false≢true r)
+job-ready node k q (Running view) c r = absurd (false≢true r)
+job-ready node k q (Answered view ran) c r = absurd (false≢true r)
+
+no-job : (node k : ℕ) (q : Query) (p : Phase) → job_of node k q p None ≡ None
+no-job node k q (Ready view) = refl
+no-job node k q Collecting = refl
+no-job node k q (Running view) = refl
+no-job node k q (Answered view ran) = refl
+
+-- what comes next, where this query is the first that is ready
+next-at : (s : DeskState) (node k : ℕ) (q : Query) (o : Option Certificate) → position (λ (x : Query). is_ready x.phase) s.queries ≡ Some k → slice_get s.queries k ≡ Some q → slice_get s.programs q.program ≡ o → job_of node k q q.phase o ≡ next_job s node
+next-at s node k q o first there named =
+    ap (job_of node k q q.phase) (sym named) ∙ ap (job_at s node k) (sym there) ∙ ap (job_from s node) (sym first)
+
+pub next-none : (s : DeskState) (node k : ℕ) (q : Query) → position (λ (x : Query). is_ready x.phase) s.queries ≡ Some k → slice_get s.queries k ≡ Some q → slice_get s.programs q.program ≡ None → None ≡ next_job s node
+next-none s node k q first there named =
+    sym (no-job node k q q.phase) ∙ next-at s node k q None first there named
+
+pub next-some : (s : DeskState) (node k : ℕ) (q : Query) (c : Certificate) → position (λ (x : Query). is_ready x.phase) s.queries ≡ Some k → slice_get s.queries k ≡ Some q → slice_get s.programs q.program ≡ Some c → option_map (job_over node k q c) (view_in q.phase) ≡ next_job s node
+next-some s node k q c first there named =
+    let passes = position-Some (λ (x : Query). is_ready x.phase) s.queries k q first in
+    let same : get_or s.queries k q ≡ q = get_or_from_slice_get s.queries k q q there in
+    let ready : is_ready q.phase ≡ true = ap (λ (x : Query). is_ready x.phase) (sym same) ∙ passes.1 in
+    job-ready node k q q.phase c ready ∙ next-at s node k q (Some c) first there named
 
 -- a ready query of the desk whose view the job has
 record IsFound (s : DeskState) (j : Job) : Type 0 where
@@ -49,20 +82,21 @@ found s node j e = found-from s node (position (λ q. is_ready q.phase) s.querie
 abbrev pub Moves : List Query → List Query → ℕ → Phase → Phase → Type 0
 Moves queries after k from to = (q : Query) → slice_get queries k ≡ Some q → q.phase ≡ from → after ≡ with_phase queries k to
 
-pub desk-handed : (s : DeskState) (node : ℕ) (j : Job) (queries : List Query) (journal : List Entry) → IsDesk s → Some j ≡ next_job s node → IsAppended s entry.HandOut journal → ((view : ViewMap) → Moves s.queries queries j.query (Ready view) (Running view)) → IsDesk (record s { queries = queries; journal = journal })
+pub desk-handed : (s : DeskState) (node : ℕ) (j : Job) (queries : List Query) (journal : List Entry) → IsDesk s → Some j ≡ next_job s node → IsAppended s entry.HandOut journal → ((view : ViewMap) → Moves s.queries queries j.query (Ready view) (Running view)) → IsDesk (record s { queries = queries; journal = journal; ended = None })
 desk-handed s node j queries journal d next a moves =
     let f = found s node j next in
-    subst (λ (x : List Query). IsDesk (record s { queries = x; journal = journal })) (sym (moves j.view f.query f.there f.ready))
-    (desk-appended (record s { queries = with_phase s.queries j.query (Running j.view) }) entry.HandOut journal (record { room = a.room; is = a.is }) (desk-running s j.query j.view d))
+    subst (λ (x : List Query). IsDesk (record s { queries = x; journal = journal; ended = None })) (sym (moves j.view f.query f.there f.ready))
+    (desk-ended (record s { queries = with_phase s.queries j.query (Running j.view); journal = journal }) None
+    (desk-appended (record s { queries = with_phase s.queries j.query (Running j.view) }) entry.HandOut journal (record { room = a.room; is = a.is }) (desk-running s j.query j.view d)))
 
-pub handed : (s : DeskState) (node : ℕ) (j : Job) (queries : List Query) (journal : List Entry) → Some j ≡ next_job s node → IsAppended s entry.HandOut journal → ((view : ViewMap) → Moves s.queries queries j.query (Ready view) (Running view)) → handed_out s node ≡ Ok (Some j, record s { queries = queries; journal = journal })
+pub handed : (s : DeskState) (node : ℕ) (j : Job) (queries : List Query) (journal : List Entry) → Some j ≡ next_job s node → IsAppended s entry.HandOut journal → ((view : ViewMap) → Moves s.queries queries j.query (Ready view) (Running view)) → handed_out s node ≡ Ok (Some j, record s { queries = queries; journal = journal; ended = None })
 handed s node j queries journal next a moves =
     let f = found s node j next in
     let room = a.room in
     let small : nat_lt (length s.journal) most_entries ≡ true = search rules in
     rw (← next, small, moves j.view f.query f.there f.ready, a.is) refl
 
-pub desk-posted : (s : DeskState) (j : Job) (ran : Ran) (q : Query) (view : ViewMap) (queries : List Query) (journal : List Entry) → IsDesk s → slice_get s.queries j.query ≡ Some q → IsAnswered s q view ran → IsAppended s (entry.Post j.query ran) journal → queries ≡ with_phase s.queries j.query (Answered view ran) → IsDesk (record s { queries = queries; journal = journal })
+pub desk-posted : (s : DeskState) (j : Job) (ran : Ran) (q : Query) (view : ViewMap) (queries : List Query) (journal : List Entry) → IsDesk s → slice_get s.queries j.query ≡ Some q → IsAnswered s q view ran → IsAppended s (entry.Post j.query ran) journal → queries ≡ with_phase s.queries j.query (Answered view ran) → IsDesk (record s { queries = queries; journal = journal; ended = None })
 desk-posted s j ran q view queries journal d there right a after =
     let kept = desk-with_phase s j.query (Answered view ran) d (λ p here v r e.
     let same : q ≡ p = cc in
@@ -72,10 +106,11 @@ desk-posted s j ran q view queries journal d there right a after =
     let v-same : view ≡ v = cc in
     let r-same : ran ≡ r = cc in
     record { program = program; named = named; right = subst (λ (x : ViewMap). IsRight program x p.start r) v-same (subst (λ (x : Ran). IsRight program view p.start x) r-same sound) }) in
-    subst (λ (x : List Query). IsDesk (record s { queries = x; journal = journal })) (sym after)
-    (desk-appended (record s { queries = with_phase s.queries j.query (Answered view ran) }) (entry.Post j.query ran) journal (record { room = a.room; is = a.is }) kept)
+    subst (λ (x : List Query). IsDesk (record s { queries = x; journal = journal; ended = None })) (sym after)
+    (desk-ended (record s { queries = with_phase s.queries j.query (Answered view ran); journal = journal }) None
+    (desk-appended (record s { queries = with_phase s.queries j.query (Answered view ran) }) (entry.Post j.query ran) journal (record { room = a.room; is = a.is }) kept))
 
-pub posts : (s : DeskState) (node : ℕ) (j : Job) (ran : Ran) (q : Query) (view : ViewMap) (queries : List Query) (journal : List Entry) → j.node ≡ node → slice_get s.queries j.query ≡ Some q → q.phase ≡ Running view → true ≡ is_job_of s.programs j q view → IsAppended s (entry.Post j.query ran) journal → queries ≡ with_phase s.queries j.query (Answered view ran) → posted s node j ran ≡ Ok (tt, record s { queries = queries; journal = journal })
+pub posts : (s : DeskState) (node : ℕ) (j : Job) (ran : Ran) (q : Query) (view : ViewMap) (queries : List Query) (journal : List Entry) → j.node ≡ node → slice_get s.queries j.query ≡ Some q → q.phase ≡ Running view → true ≡ is_job_of s.programs j q view → IsAppended s (entry.Post j.query ran) journal → queries ≡ with_phase s.queries j.query (Answered view ran) → posted s node j ran ≡ Ok (tt, record s { queries = queries; journal = journal; ended = None })
 posts s node j ran q view queries journal own there phase fits a after =
     let same : (j.node == node) ≡ true = eq-eqb j.node node own in
     let room = a.room in

@@ -13,6 +13,7 @@ use Rattle.q_session.specs.declared.query.Phase.TheVariants.{Collecting, Ready, 
 use Rattle.q_session.specs.declared.query.Query.{Query}
 use Rattle.q_desk.specs.State.{DeskState}
 use Rattle.q_desk.specs.Desks.{most_queries, most_entries, in_phase, with_phase}
+use Rattle.q_desk.specs.declared.completed.Completed.{Completed}
 use Rattle.q_desk.specs.declared.journal.Entry.{Entry}
 use Rattle.q_desk.specs.Answers.{IsDesk, IsAnswered}
 use Rattle.q_desk.proofs.Lists.{get-front, get-snoc, get-written, get-taken}
@@ -29,6 +30,16 @@ desk-journal s journal d few = record {
   brief = few;
   known = d.known;
   right = λ k q view ran e f. kept s (record s { journal = journal }) q view ran (λ c h. h) (d.right k q view ran e f);
+}
+
+-- nothing else of a desk speaks of what ended
+pub desk-ended : (s : DeskState) (e : Option Completed) → IsDesk s → IsDesk (record s { ended = e })
+desk-ended s e d = record {
+  table = d.table;
+  few = d.few;
+  brief = d.brief;
+  known = d.known;
+  right = λ k q view ran h f. kept s (record s { ended = e }) q view ran (λ c h. h) (d.right k q view ran h f);
 }
 
 -- the journal goes on with an entry, for which there was room

@@ -21,6 +21,7 @@ use Rattle.q_session.specs.declared.query.Phase.{Phase}
 use Rattle.q_session.specs.declared.query.Phase.TheVariants.{Collecting, Ready, Running, Answered}
 use Rattle.q_session.specs.declared.query.Query.{Query}
 use Rattle.q_session.specs.declared.job.Job.{Job}
+use Rattle.q_session.specs.Jobs.{job_over}
 use Rattle.q_desk.specs.declared.fault.DeskFault.{DeskFault}
 use Rattle.q_desk.specs.declared.fault.DeskFault.TheVariants as fault
 
@@ -52,10 +53,14 @@ noted s e = room s (Ok (tt, with_entry s e))
 abbrev pub forgotten : DeskState → DeskState
 forgotten s = record s { journal = take (length s.journal - 1) s.journal }
 
+-- the last accepted call ended this
+abbrev pub with_ended : DeskState → Option Completed → DeskState
+with_ended s e = record s { ended = e }
+
 -- ---- programs
 
 abbrev pub registered_by : DeskState → Certificate → Result (ℕ × List Certificate) TableFault → Result (ℕ × DeskState) DeskFault
-registered_by s program (Ok r) = room s (Ok (r.0, with_entry (record s { programs = r.1 }) (entry.Register program)))
+registered_by s program (Ok r) = room s (Ok (r.0, with_entry (record s { programs = r.1; ended = None }) (entry.Register program)))
 registered_by s program (Err e) = Err (of_table e)
 
 abbrev pub registered : DeskState → Certificate → Result (ℕ × DeskState) DeskFault
@@ -124,9 +129,9 @@ returns tag completion.Stored s = (None, s)
 returns tag (completion.Returned view) s = returned s tag view
 
 -- the view of a collect that ended goes to the query that waits for it
-abbrev pub ends : Option Ended → DeskState → Option ℕ × DeskState
-ends None s = (None, s)
-ends (Some e) s = returns e.tag e.what s
+abbrev pub gives : Option Ended → DeskState → Option ℕ × DeskState
+gives None s = (None, s)
+gives (Some e) s = returns e.tag e.what s
 
 abbrev pub completes : ℕ → Completion → Option ℕ → Option Completed
 completes tag completion.Stored query = Some (completed.Stored tag)
@@ -137,12 +142,16 @@ abbrev pub completed_by : Option Ended → Option ℕ → Option Completed
 completed_by None query = None
 completed_by (Some e) query = completes e.tag e.what query
 
+-- an accepted call ended this: the view goes to its query, and the desk keeps what ended
+abbrev pub ends : Option Ended → DeskState → Option ℕ × DeskState
+ends e s = ((gives e s).0, with_ended (gives e s).1 (completed_by e (gives e s).0))
+
 -- ---- jobs
 
 -- the job of a ready query of this node
 abbrev pub job_of : ℕ → ℕ → Query → Phase → Option Certificate → Option Job
 job_of node k q (Ready view) (Some program) =
-    Some (record { node = node; query = k; program = q.program; start = q.start; certified = program; view = view })
+    Some (job_over node k q program view)
 job_of node k q p program = None
 
 abbrev pub job_at : DeskState → ℕ → ℕ → Option Query → Option Job
@@ -159,7 +168,7 @@ next_job s node = job_from s node (position (λ q. is_ready q.phase) s.queries)
 
 abbrev pub hands : DeskState → Option Job → Result (Option Job × DeskState) DeskFault
 hands s None = Ok (None, s)
-hands s (Some j) = room s (Ok (Some j, with_entry (record s { queries = with_phase s.queries j.query (Running j.view) }) entry.HandOut))
+hands s (Some j) = room s (Ok (Some j, with_entry (record s { queries = with_phase s.queries j.query (Running j.view); ended = None }) entry.HandOut))
 
 -- it is handed out; where there is none, nothing changes
 abbrev pub handed_out : DeskState → ℕ → Result (Option Job × DeskState) DeskFault
@@ -187,7 +196,7 @@ abbrev pub posted_to : DeskState → Job → Ran → Query → Phase → Result 
 posted_to s j ran q (Answered view old) = Err fault.AlreadyAnswered
 posted_to s j ran q (Running view) =
     if is_job_of s.programs j q view
-    then room s (Ok (tt, with_entry (record s { queries = with_phase s.queries j.query (Answered view ran) }) (entry.Post j.query ran)))
+    then room s (Ok (tt, with_entry (record s { queries = with_phase s.queries j.query (Answered view ran); ended = None }) (entry.Post j.query ran)))
     else Err fault.Stranger
 posted_to s j ran q p = Err fault.Stranger
 

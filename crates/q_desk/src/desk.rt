@@ -1,13 +1,13 @@
 //! A desk: the programs and queries of one node.
 
-ghost use Rattle.std.specs.Prelude.{◌≡◌, ℕ, Ok, Some, IfOk, slice_get, position, option_copied, IsTrue};
+ghost use Rattle.std.specs.Prelude.{◌≡◌, ℕ, Ok, Some, IfOk, slice_get, position, option_map, IsTrue};
 ghost use Rattle.sc_view.specs.Views.{ViewMap};
 ghost use Rattle.q_table.specs.Calls.{Steps};
 ghost use Rattle.q_session.specs.declared.query.Query.{Query as QueryValue};
 ghost use Rattle.q_desk.specs.State.{DeskState, new_desk};
 ghost use Rattle.q_desk.specs.Desks as desk;
 ghost use Rattle.q_desk.specs.declared.journal.Entry.{Entry as EntryValue};
-ghost use Rattle.q_desk.specs.Answers.{IsDesk, AnswersAreRight};
+ghost use Rattle.q_desk.specs.Answers.{IsDesk, AnswersAreRight, ProgramsAreKnown};
 
 use crate::completed::Completed;
 use crate::fault::DeskFault;
@@ -33,29 +33,31 @@ pub const MOST_QUERIES: usize = 4096;
 /// The most entries of a journal.
 pub const MOST_ENTRIES: usize = 65_536;
 
-/// The programs and queries of one node, and its journal: each call that was accepted and changed something, in turn.
-/// Contracts see it as the record of these.
+/// The programs and queries of one node, its journal, and what its last accepted call ended. The journal has each call
+/// that was accepted and changed something, in turn. Contracts see a desk as the record of these.
 #[derive(Drop)]
 pub struct Desk {
     programs: Programs,
     queries: Vec<Query>,
     journal: Vec<Entry>,
+    ended: Option<Completed>,
 }
 
 impl Model for Desk {
     ghost use Rattle.std.specs.Coded.{codes};
     ghost use Rattle.sc_view.specs.Views.{view_code};
+    ghost use Rattle.q_desk.specs.contracts.completed.Completed as completed;
     ghost use Rattle.q_desk.specs.contracts.journal.Entry as entry;
     ghost use Rattle.q_desk.specs.State.{DeskState};
     ghost use Rattle.q_desk.specs.Answers.{IsDesk};
 
     ghost Value = { DeskState };
 
-    ghost coded = { Prim.hlevel (codes, view_code, entry.the_row.coded) };
+    ghost coded = { Prim.hlevel (codes, view_code, completed.the_row.coded, entry.the_row.coded) };
 
-    ghost view = { λ d. record { programs = d.programs; queries = d.queries.items; journal = d.journal.items } };
+    ghost view = { λ d. record { programs = d.programs; queries = d.queries.items; journal = d.journal.items; ended = d.ended } };
 
-    ghost invariant = { λ d. IsDesk (record { programs = d.programs; queries = d.queries.items; journal = d.journal.items }) };
+    ghost invariant = { λ d. IsDesk (record { programs = d.programs; queries = d.queries.items; journal = d.journal.items; ended = d.ended }) };
 }
 
 impl Desk {
@@ -67,6 +69,7 @@ impl Desk {
             programs: Programs::new(alloc),
             queries: Vec::new(alloc),
             journal: Vec::new(alloc),
+            ended: None,
         }
     }
 
@@ -75,6 +78,17 @@ impl Desk {
         ensures { result ≡ desk.has_room self.now }
     {
         self.journal.len() < MOST_ENTRIES
+    }
+
+    /// Whether the journal has room for a post. Refused with 53. Takes no memory.
+    pub fn room_for_post(&self) -> Result<(), DeskFault>
+        ensures { result ≡ desk.room self.now (Ok tt) }
+    {
+        if self.has_room() {
+            Ok(())
+        } else {
+            Err(DeskFault::BookFull)
+        }
     }
 
     /// Puts an entry into the journal, and changes nothing else. Refused with 53, 99.
@@ -111,6 +125,7 @@ impl Desk {
         let id = self.programs.register(certified)?;
         let _count = self.programs.len();
         self.journal.push_reserved(Entry::Register(program));
+        self.ended = None;
         Ok(id)
     }
 
@@ -121,9 +136,9 @@ impl Desk {
         (program.number() as usize) < self.programs.len()
     }
 
-    /// The program with this id.
-    pub fn program(&self, id: ProgramId) -> Option<&Program>
-        ensures { option_copied result ≡ slice_get self.now.programs id }
+    /// The certificate of the program with this id, to share.
+    pub fn program(&self, id: ProgramId) -> Option<&Arc<Certified>>
+        ensures { option_map (λ p. p.now.value) result ≡ slice_get self.now.programs id }
     {
         self.programs.get(id)
     }
@@ -180,11 +195,21 @@ impl Desk {
         Some(number)
     }
 
-    /// An operation of the node ended: the view of a collect goes to the query that waits for it. What ended is
-    /// answered. Takes no memory.
+    /// The node accepted a call at which this operation ended, or none: the view of a collect goes to the query that
+    /// waits for it. What ended is answered, and kept until the next accepted call. Takes no memory.
     pub fn end(&mut self, ended: Option<Ended>) -> Option<Completed>
         ensures told { result ≡ desk.completed_by ended (desk.ends ended self.old).0 }
         ensures new { self.new ≡ (desk.ends ended self.old).1 }
+    {
+        let completed = self.give(ended);
+        self.ended = completed;
+        completed
+    }
+
+    // The view of a collect that ended goes to the query that waits for it. What ended is answered.
+    fn give(&mut self, ended: Option<Ended>) -> Option<Completed>
+        ensures told { result ≡ desk.completed_by ended (desk.gives ended self.old).0 }
+        ensures new { self.new ≡ (desk.gives ended self.old).1 }
     {
         let Ended { tag, what } = ended?;
         match what {
@@ -207,7 +232,8 @@ impl Desk {
             return Err(DeskFault::BookFull);
         }
         self.journal.reserve(1)?;
-        run(&mut self.queries, job.query);
+        run(&mut self.queries, job.query());
+        self.ended = None;
         self.journal.push_reserved(Entry::HandOut);
         Ok(Some(job))
     }
@@ -217,10 +243,12 @@ impl Desk {
         ensures { Steps DeskFault.OutOfMemory (desk.posted self.old node done.now.job done.now.ran) self.old self.new result }
     {
         let job = done.job();
-        if job.node != node {
+        let owner = job.node();
+        if owner != node {
             return Err(DeskFault::Stranger);
         }
-        let Some(query) = self.queries.get(job.query) else {
+        let number = job.query();
+        let Some(query) = self.queries.get(number) else {
             return Err(DeskFault::Stranger);
         };
         if answer_in(&query.phase).is_some() {
@@ -236,11 +264,11 @@ impl Desk {
             return Err(DeskFault::BookFull);
         }
         self.journal.reserve(1)?;
-        record_answer(&mut self.queries, job.query, done.ran());
-        self.journal.push_reserved(Entry::Post {
-            query: job.query,
-            ran: done.ran(),
-        });
+        let ran = done.ran();
+        record_answer(&mut self.queries, number, ran);
+        self.ended = None;
+        self.journal
+            .push_reserved(Entry::Post { query: number, ran });
         Ok(())
     }
 
@@ -254,12 +282,21 @@ impl Desk {
         }
     }
 
-    /// The queries, by their numbers. Each recorded answer is right.
+    /// The queries, by their numbers. Each names a program of the desk, and each recorded answer is right.
     pub fn queries(&self) -> &[Query]
         ensures queries { result.now ≡ self.now.queries }
+        ensures known { ProgramsAreKnown self.now }
         ensures right { AnswersAreRight self.now }
     {
         self.queries.as_slice()
+    }
+
+    /// What the last accepted call ended: none after a call that was no delivery. A refused call, and a hand-out that
+    /// found no ready query, leave it as it was.
+    pub fn ended(&self) -> Option<Completed>
+        ensures { result ≡ self.now.ended }
+    {
+        self.ended
     }
 
     /// The journal: each call that was accepted and changed something, in turn.
@@ -321,20 +358,11 @@ fn next_job(programs: &Programs, queries: &[Query], node: u64) -> Result<Option<
     let Some(query) = queries.get(number) else {
         return Ok(None);
     };
-    let Phase::Ready(view) = &query.phase else {
-        return Ok(None);
-    };
     let Some(program) = programs.get(query.program) else {
         return Ok(None);
     };
-    Ok(Some(Job {
-        node,
-        query: number,
-        program: query.program,
-        start: query.start,
-        certified: program.clone()?,
-        view: view.clone()?,
-    }))
+    let program = Program::share(program)?;
+    Job::of(node, number, query, &program)
 }
 
 // A ready query runs over its view.

@@ -25,10 +25,10 @@ pub(crate) fn is_job_of(programs: &Programs, job: &Job, query: &Query, view: &Vi
     let Some(program) = programs.get(query.program) else {
         return false;
     };
-    job.program == query.program
-        && job.start == query.start
-        && is_same_view(&job.view, view)
-        && is_same_program(job.certified.certified(), program.certified())
+    job.program() == query.program
+        && job.start() == query.start
+        && is_same_view(job.view(), view)
+        && is_same_program(job.certified().certified(), program)
 }
 
 fn is_same_program(program: &Certified, other: &Certified) -> bool

@@ -63,7 +63,7 @@ module _ (d : DeskState) (node : ℕ) where
       let k = passed (desk.has_room d) fault.BookFull _ y h in
       let r = ready j refl in
       subst (λ (z : Option Job × DeskState). IsHanded d node z.1 z.0) (same_answer _ y k.1)
-      (r, phase_moves d j.query (Running j.view) (d.journal ++ entry.HandOut ∷ []) (λ q at. ready_has_none q.phase j.view (ap (λ (x : Query). x.phase) (same_some q r.query (sym at ∙ r.at)) ∙ r.phase)), refl)
+      (r, phase_moves d j.query (Running j.view) (d.journal ++ entry.HandOut ∷ []) None (λ q at. ready_has_none q.phase j.view (ap (λ (x : Query). x.phase) (same_some q r.query (sym at ∙ r.at)) ∙ r.phase)), refl)
 
   pub handed_out-ok : (y : Option Job × DeskState) → desk.handed_out d node ≡ Ok y → IsHanded d node y.1 y.0
   handed_out-ok y h = hands-ok (desk.next_job d node) y (λ j is. job_from-is (position (λ (q : Query). desk.is_ready q.phase) d.queries) j is) h
@@ -94,7 +94,7 @@ module _ (d : DeskState) (j : Job) (ran : Ran) (y : Unit {0} × DeskState) where
         fits = a.0;
         moves =
             subst (λ (z : Unit {0} × DeskState). Moves d z.1 (IsRephased d j.query (Answered view ran))) (same_answer _ y b.1)
-            (phase_moves d j.query (Answered view ran) (d.journal ++ entry.Post j.query ran ∷ []) (λ x here. running_has_none x.phase view (ap (λ (z : Query). z.phase) (same_some x q (sym here ∙ at)) ∙ is)));
+            (phase_moves d j.query (Answered view ran) (d.journal ++ entry.Post j.query ran ∷ []) None (λ x here. running_has_none x.phase view (ap (λ (z : Query). z.phase) (same_some x q (sym here ∙ at)) ∙ is)));
         goes = ap (λ (z : Unit {0} × DeskState). z.1.journal) (sym (same_answer _ y b.1));
       }
 

@@ -17,6 +17,7 @@ use Rattle.q_session.specs.declared.query.Phase.TheVariants.{Collecting, Ready, 
 use Rattle.q_session.specs.declared.query.Query.{Query}
 use Rattle.q_desk.specs.State.{DeskState}
 use Rattle.q_desk.specs.Desks as desk
+use Rattle.q_desk.specs.declared.completed.Completed.{Completed}
 use Rattle.q_desk.specs.declared.journal.Entry.{Entry}
 use Rattle.q_desk.specs.declared.journal.Entry.TheVariants as entry
 use Rattle.q_desk.specs.declared.fault.DeskFault.TheVariants as fault
@@ -64,8 +65,12 @@ keeps_on d e f a b = record {
   answers = λ k q view ran h is. b.answers k q view ran (a.answers k q view ran h is) is;
 }
 
-pub noted_moves : (d : DeskState) (e : Entry) → Moves d (desk.with_entry d e) Nothing
-noted_moves d e = record { keeps = record { programs = λ i p h. h; answers = λ k q view ran h a. h }; queries = λ k q h. inl h }
+pub noted_moves : (d : DeskState) (e : Entry) (x : Option Completed) → Moves d (desk.with_ended (desk.with_entry d e) x) Nothing
+noted_moves d e x = record { keeps = record { programs = λ i p h. h; answers = λ k q view ran h a. h }; queries = λ k q h. inl h }
+
+-- whatever ended
+pub ended_moves : (d e : DeskState) (New : Query → Type 0) (x : Option Completed) → Moves d e New → Moves d (desk.with_ended e x) New
+ended_moves d e New x m = record { keeps = record { programs = m.keeps.programs; answers = m.keeps.answers }; queries = m.queries }
 
 -- ---- programs
 
@@ -105,8 +110,8 @@ asked_moves d tag program start y h =
       refl,
     )
 
-module _ (d : DeskState) (k : ℕ) (p : Phase) (m : List Entry) where
-  phase_by : (o : Option Query) → slice_get d.queries k ≡ o → ((q : Query) → o ≡ Some q → HasNone q.phase) → Moves d (record d { queries = desk.in_phase d.queries k p o; journal = m }) (IsRephased d k p)
+module _ (d : DeskState) (k : ℕ) (p : Phase) (m : List Entry) (x : Option Completed) where
+  phase_by : (o : Option Query) → slice_get d.queries k ≡ o → ((q : Query) → o ≡ Some q → HasNone q.phase) → Moves d (record d { queries = desk.in_phase d.queries k p o; journal = m; ended = x }) (IsRephased d k p)
   phase_by None is none = record { keeps = record { programs = λ i p h. h; answers = λ k q view ran h a. h }; queries = λ k q h. inl h }
   phase_by (Some old) is none = record {
     keeps = record {
@@ -121,7 +126,7 @@ module _ (d : DeskState) (k : ℕ) (p : Phase) (m : List Entry) where
   }
 
   -- a query that has no answer is put into another phase
-  pub phase_moves : ((q : Query) → slice_get d.queries k ≡ Some q → HasNone q.phase) → Moves d (record d { queries = desk.with_phase d.queries k p; journal = m }) (IsRephased d k p)
+  pub phase_moves : ((q : Query) → slice_get d.queries k ≡ Some q → HasNone q.phase) → Moves d (record d { queries = desk.with_phase d.queries k p; journal = m; ended = x }) (IsRephased d k p)
   phase_moves none = phase_by (slice_get d.queries k) refl none
 
 collecting_has_none : (p : Phase) → desk.is_collecting p ≡ true → HasNone p
@@ -135,7 +140,7 @@ module _ (d : DeskState) (tag : ℕ) (view : ViewMap) where
   returned_by None is = record { keeps = keeps_itself d; queries = λ k q h. inl h }
   returned_by (Some k) is =
       let waiting : (q : Query) → slice_get d.queries k ≡ Some q → desk.waits tag q ≡ true = λ q at. found (desk.waits tag) d.queries k q is at in
-      let moves = phase_moves d k (Ready view) d.journal (λ q at. collecting_has_none q.phase (and_right (q.tag == tag) (desk.is_collecting q.phase) (waiting q at))) in
+      let moves = phase_moves d k (Ready view) d.journal d.ended (λ q at. collecting_has_none q.phase (and_right (q.tag == tag) (desk.is_collecting q.phase) (waiting q at))) in
       record {
         keeps = moves.keeps;
         queries = λ i q h. elim (moves.queries i q h) [

@@ -2,6 +2,7 @@
 
 ghost use Rattle.std.specs.Prelude.{◌≡◌};
 ghost use Rattle.q_session.specs.Done.{IsFinished};
+ghost use Rattle.q_session.specs.Right.{IsRight};
 
 use crate::fold::fold_checked;
 use crate::job::Job;
@@ -32,7 +33,16 @@ impl Done {
     pub fn run(job: Job) -> Done
         ensures { result.job ≡ job }
     {
-        let ran = fold_checked(job.certified.certified(), &job.view, job.start);
+        let ran = fold_checked(job.certified().certified(), job.view(), job.start());
+        Done::of(job, ran)
+    }
+
+    /// A job that was run elsewhere, with its right answer. Takes no memory.
+    pub fn of(job: Job, ran: Ran) -> Done
+        requires { IsRight job.certified job.view job.start ran }
+        ensures job { result.job ≡ job }
+        ensures ran { result.ran ≡ ran }
+    {
         Done { job, ran }
     }
 

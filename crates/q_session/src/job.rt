@@ -1,21 +1,115 @@
 //! Jobs.
 
+ghost use Rattle.std.specs.Prelude.{◌≡◌, IfOk, option_copied};
+ghost use Rattle.q_session.specs.Jobs.{job_of, view_in};
+
+use crate::query::{Phase, Query};
 use q_table::program::{Program, ProgramId};
 use sc_view::view::View;
+use std::alloc::AllocError;
 
-/// A query that was handed out to be run.
+/// What is run to answer a query: its program over the view that its collect returned, from its start value. Contracts
+/// see it as the record of these. [`Job::of`] alone makes one, so it is that of a query with a returned view.
 #[derive(Drop)]
 pub struct Job {
+    node: u64,
+    query: usize,
+    program: ProgramId,
+    start: u64,
+    certified: Program,
+    view: View,
+}
+
+impl Job {
+    /// The job of the query of this number at this node, which names this program: there is one where the query is
+    /// ready or runs. The one error is that memory ran out (99 OutOfMemory).
+    pub fn of(
+        node: u64,
+        number: usize,
+        query: &Query,
+        program: &Program,
+    ) -> Result<Option<Job>, AllocError>
+        ensures { IfOk result (λ job. job ≡ job_of node number query.now program.now) }
+    {
+        let Some(view) = view_in(&query.phase) else {
+            return Ok(None);
+        };
+        Ok(Some(Job {
+            node,
+            query: number,
+            program: query.program,
+            start: query.start,
+            certified: program.clone()?,
+            view: view.clone()?,
+        }))
+    }
+
     /// The id of the node that asked.
-    pub node: u64,
+    pub fn node(&self) -> u64
+        ensures { result ≡ self.now.node }
+    {
+        self.node
+    }
+
     /// The query's number, from 0.
-    pub query: usize,
+    pub fn query(&self) -> usize
+        ensures { result ≡ self.now.query }
+    {
+        self.query
+    }
+
     /// The program's number at that node.
-    pub program: ProgramId,
+    pub fn program(&self) -> ProgramId
+        ensures { result ≡ self.now.program }
+    {
+        self.program
+    }
+
     /// The accumulator before the first record.
-    pub start: u64,
+    pub fn start(&self) -> u64
+        ensures { result ≡ self.now.start }
+    {
+        self.start
+    }
+
     /// The program itself.
-    pub certified: Program,
+    pub fn certified(&self) -> &Program
+        ensures { result.now ≡ self.now.certified }
+    {
+        &self.certified
+    }
+
     /// The view that the query's collect returned.
-    pub view: View,
+    pub fn view(&self) -> &View
+        ensures { result.now ≡ self.now.view }
+    {
+        &self.view
+    }
+}
+
+impl Clone for Job {
+    ghost use Rattle.std.specs.Prelude.{◌≡◌};
+
+    ghost is_clone = { λ job copy. copy ≡ job };
+
+    fn clone(&self) -> Result<Job, AllocError> {
+        Ok(Job {
+            node: self.node,
+            query: self.query,
+            program: self.program,
+            start: self.start,
+            certified: self.certified.clone()?,
+            view: self.view.clone()?,
+        })
+    }
+}
+
+// The view over which a query is to run.
+fn view_in(phase: &Phase) -> Option<&View>
+    ensures { option_copied result ≡ view_in phase.now }
+{
+    match phase {
+        Phase::Ready(view) | Phase::Running(view) => Some(view),
+        Phase::Collecting | Phase::Answered(..) => None,
+    }
 }

@@ -1,6 +1,6 @@
 //! Programs by their ids.
 
-ghost use Rattle.std.specs.Prelude.{◌≡◌, [], length, option_map, option_copied, slice_get, position, Ok};
+ghost use Rattle.std.specs.Prelude.{◌≡◌, [], length, option_map, slice_get, position, Ok};
 ghost use Rattle.q_table.specs.Calls.{Steps, Gives};
 ghost use Rattle.q_table.specs.declared.fault.TableFault.TheVariants as fault;
 ghost use Rattle.q_table.specs.Programs.{registered, checked, IsTable};
@@ -78,12 +78,12 @@ impl Programs {
         Ok(())
     }
 
-    /// The program with this id. Takes no memory.
-    pub fn get(&self, id: ProgramId) -> Option<&Program>
-        ensures { option_copied result ≡ slice_get self.now id }
+    /// The certificate of the program with this id, to share. Takes no memory.
+    pub fn get(&self, id: ProgramId) -> Option<&Arc<Certified>>
+        ensures { option_map (λ p. p.now.value) result ≡ slice_get self.now id }
     {
         let (_, program) = self.by_text.get_index(id.number() as usize)?;
-        Some(program)
+        Some(program.shared())
     }
 
     /// How many programs there are.

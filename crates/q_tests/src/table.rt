@@ -41,7 +41,7 @@ fn programs_are_found_by_id(rt: HostRuntime) -> Result<(), Fail> {
     let mut programs = Programs::new(rt.alloc());
     let id = programs.register(&answering(&rt, 5, Range::full())?)?;
     let program = programs.get(id).ok_or("none")?;
-    let again = Program::share(program.shared())?.clone()?;
+    let again = Program::share(program)?.clone()?;
     assert_eq!(rt; again.certified().longest(), 2);
     assert_eq!(rt; programs.get(ProgramId::new(1)).is_none(), true);
     Ok(())

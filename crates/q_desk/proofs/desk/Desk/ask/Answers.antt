@@ -11,5 +11,5 @@ invariant_of-self-2 c =
     let s = c.self.inside in
     let q = begun c.args.tag c.args.program c.args.start in
     let pushed : s.queries.items ++ q ∷ [] ≡ c.push_reserved.new.self.items = search rules in
-    subst (λ (queries : List Query). IsDesk (record { programs = s.programs; queries = queries; journal = c.push_reserved-2.new.self.items })) pushed
+    subst (λ (queries : List Query). IsDesk (record { programs = s.programs; queries = queries; journal = c.push_reserved-2.new.self.items; ended = s.ended })) pushed
     (desk-appended _ (entry.Ask c.args.program c.args.start) _ (record { room = search rules; is = search rules }) (desk-begun _ q c.self.invariant (search rules) (search rules) refl))

@@ -7,5 +7,5 @@ use Rattle.q_desk.proofs.desk.Desk.forget.Goals as goal
 pub invariant_of-self : goal.invariant_of-self
 invariant_of-self c =
     let s = c.self.inside in
-    subst (λ (journal : List Entry). IsDesk (record { programs = s.programs; queries = s.queries.items; journal = journal })) (sym c.truncate.ensures.items)
+    subst (λ (journal : List Entry). IsDesk (record { programs = s.programs; queries = s.queries.items; journal = journal; ended = s.ended })) (sym c.truncate.ensures.items)
     (desk-cut _ c.saturating_sub-last.result c.self.invariant)

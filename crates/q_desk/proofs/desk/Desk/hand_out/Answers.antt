@@ -1,25 +1,34 @@
-use Rattle.std.proofs.Common.{◌≡◌, Some, rules, refl, sym, ap, ◌∙◌}
+use Rattle.std.proofs.Common.{◌≡◌, ℕ, Some, rules, refl, sym, ap, ◌∙◌}
+use Rattle.std.specs.Prelude.{slice_get}
+use Rattle.sc_view.specs.Views.{ViewMap}
+use Rattle.q_session.specs.declared.query.Phase.TheVariants.{Ready, Running}
 use Rattle.q_desk.specs.declared.journal.Entry.TheVariants as entry
 use Rattle.q_desk.specs.State.{DeskState}
-use Rattle.q_desk.specs.Desks.{next_job, handed_out}
+use Rattle.q_desk.specs.Desks.{with_phase, next_job, handed_out}
 use Rattle.q_desk.proofs.Keeps.{IsAppended}
-use Rattle.q_desk.proofs.Jobs.{desk-handed, handed}
+use Rattle.q_desk.proofs.Jobs.{Moves, desk-handed, handed}
 use Rattle.q_desk.proofs.desk.Desk.hand_out.Goals as goal
 
 abbrev inside : goal.After-push_reserved → DeskState
-inside c = record { programs = c.self.inside.programs; queries = c.self.inside.queries.items; journal = c.self.inside.journal.items }
+inside c = record { programs = c.self.inside.programs; queries = c.self.inside.queries.items; journal = c.self.inside.journal.items; ended = c.self.inside.ended }
 
 next : (c : goal.After-push_reserved) → Some c.in-Some.job ≡ next_job (inside c) c.args.node
 next c = sym c.in-Some.is ∙ c.in_ok-job.ensures (inside c) refl (sym c.deref.ensures.value)
+
+-- the job's query runs, where it was ready
+moves : (c : goal.After-push_reserved) (view : ViewMap) → Moves (inside c).queries c.run.new.queries.items c.in-Some.job.query (Ready view) (Running view)
+moves c view q there ready =
+    c.run.ensures q view (ap (λ (k : ℕ). slice_get (inside c).queries k) c.query.ensures ∙ there) ready
+    ∙ ap (λ (k : ℕ). with_phase (inside c).queries k (Running view)) c.query.ensures
 
 appended : (c : goal.After-push_reserved) → IsAppended (inside c) entry.HandOut c.push_reserved.new.self.items
 appended c = record { room = search rules; is = search rules }
 
 pub invariant_of-self-2 : goal.invariant_of-self-2
 invariant_of-self-2 c =
-    desk-handed (inside c) c.args.node c.in-Some.job c.run.new.queries.items c.push_reserved.new.self.items c.self.invariant (next c) (appended c) (λ view q. c.run.ensures q view)
+    desk-handed (inside c) c.args.node c.in-Some.job c.run.new.queries.items c.push_reserved.new.self.items c.self.invariant (next c) (appended c) (moves c)
 
 pub returns : goal.returns
 returns c =
     ap (λ (s : DeskState). handed_out s c.args.node) (sym c.self.view_is)
-    ∙ handed (inside c) c.args.node c.in-Some.job c.run.new.queries.items c.push_reserved.new.self.items (next c) (appended c) (λ view q. c.run.ensures q view)
+    ∙ handed (inside c) c.args.node c.in-Some.job c.run.new.queries.items c.push_reserved.new.self.items (next c) (appended c) (moves c)

@@ -1,4 +1,4 @@
-use Rattle.std.proofs.Common.{◌≡◌, List, Some, true, rules, refl, sym, ap, subst, ◌∙◌}
+use Rattle.std.proofs.Common.{◌≡◌, ℕ, List, [], ◌∷◌, ◌++◌, Some, true, rules, refl, sym, ap, subst, ◌∙◌}
 use Rattle.std.proofs.lemmas.Option.{slice_get_read}
 use Rattle.std.specs.Prelude.{slice_get}
 use Rattle.q_session.specs.Right.{IsRight}
@@ -14,35 +14,45 @@ use Rattle.q_desk.proofs.Jobs.{desk-posted, posts}
 use Rattle.q_desk.proofs.desk.Desk.post.Goals as goal
 
 abbrev inside : goal.After-push_reserved → DeskState
-inside c = record { programs = c.self.inside.programs; queries = c.self.inside.queries.items; journal = c.self.inside.journal.items }
+inside c = record { programs = c.self.inside.programs; queries = c.self.inside.queries.items; journal = c.self.inside.journal.items; ended = c.self.inside.ended }
+
+numbered : (c : goal.After-push_reserved) → slice_get c.self.inside.queries.items c.query-number.result ≡ Some c.in-Some.query.now
+numbered c =
+    let at = c.in-Some.ensures.lookup in
+    ap (λ (xs : List Query). slice_get xs c.query-number.result) (sym c.deref.ensures.value)
+    ∙ slice_get_read c.deref.result.now _ c.query-number.result c.in-Some.query.now refl at.3.0 at.1
 
 there : (c : goal.After-push_reserved) → slice_get c.self.inside.queries.items c.job-job.result.now.query ≡ Some c.in-Some.query.now
-there c =
-    let at = c.in-Some.ensures.lookup in
-    ap (λ (xs : List Query). slice_get xs c.job-job.result.now.query) (sym c.deref.ensures.value)
-    ∙ slice_get_read c.deref.result.now _ c.job-job.result.now.query c.in-Some.query.now refl at.3.0 at.1
+there c = ap (λ (k : ℕ). slice_get c.self.inside.queries.items k) (sym c.query-number.ensures) ∙ numbered c
 
-sound : (c : goal.After-push_reserved) → IsRight c.job-job.result.now.certified c.job-job.result.now.view c.job-job.result.now.start c.ran.result
+sound : (c : goal.After-push_reserved) → IsRight c.job-job.result.now.certified c.job-job.result.now.view c.job-job.result.now.start c.ran-ran.result
 sound c =
     let job = c.args.done.now.job in
-    subst (λ (j : Job). IsRight j.certified j.view j.start c.ran.result) (sym c.job-job.ensures.job)
-    (subst (λ (r : Ran). IsRight job.certified job.view job.start r) (sym c.ran.ensures) c.job-job.ensures.right)
+    subst (λ (j : Job). IsRight j.certified j.view j.start c.ran-ran.result) (sym c.job-job.ensures.job)
+    (subst (λ (r : Ran). IsRight job.certified job.view job.start r) (sym c.ran-ran.ensures) c.job-job.ensures.right)
 
-after : (c : goal.After-push_reserved) → c.record_answer.new.queries.items ≡ with_phase c.self.inside.queries.items c.job-job.result.now.query (Answered c.in-Running.view c.ran.result)
-after c = c.record_answer.ensures c.in-Some.query.now c.in-Running.view (there c) c.in-Running.is
+after : (c : goal.After-push_reserved) → c.record_answer.new.queries.items ≡ with_phase c.self.inside.queries.items c.job-job.result.now.query (Answered c.in-Running.view c.ran-ran.result)
+after c =
+    c.record_answer.ensures c.in-Some.query.now c.in-Running.view (numbered c) c.in-Running.is
+    ∙ ap (λ (k : ℕ). with_phase c.self.inside.queries.items k (Answered c.in-Running.view c.ran-ran.result)) c.query-number.ensures
 
-appended : (c : goal.After-push_reserved) → IsAppended (inside c) (entry.Post c.job-job.result.now.query c.ran.result) c.push_reserved.new.self.items
-appended c = record { room = search rules; is = search rules }
+appended : (c : goal.After-push_reserved) → IsAppended (inside c) (entry.Post c.job-job.result.now.query c.ran-ran.result) c.push_reserved.new.self.items
+appended c =
+    let is : c.push_reserved.new.self.items ≡ c.self.inside.journal.items ++ entry.Post c.query-number.result c.ran-ran.result ∷ [] = search rules in
+    record {
+      room = search rules;
+      is = is ∙ ap (λ (k : ℕ). c.self.inside.journal.items ++ entry.Post k c.ran-ran.result ∷ []) c.query-number.ensures;
+    }
 
 pub invariant_of-self-2 : goal.invariant_of-self-2
 invariant_of-self-2 c =
-    let right = c.is_job_of.ensures.right (inside c) c.ran.result c.if-not-is_job_of.false refl (sound c) in
-    desk-posted (inside c) c.job-job.result.now c.ran.result c.in-Some.query.now c.in-Running.view c.record_answer.new.queries.items c.push_reserved.new.self.items c.self.invariant (there c) right (appended c) (after c)
+    let right = c.is_job_of.ensures.right (inside c) c.ran-ran.result c.if-not-is_job_of.false refl (sound c) in
+    desk-posted (inside c) c.job-job.result.now c.ran-ran.result c.in-Some.query.now c.in-Running.view c.record_answer.new.queries.items c.push_reserved.new.self.items c.self.invariant (there c) right (appended c) (after c)
 
 pub returns : goal.returns
 returns c =
     let fits : true ≡ is_job_of c.self.inside.programs c.job-job.result.now c.in-Some.query.now c.in-Running.view = sym c.if-not-is_job_of.false ∙ c.is_job_of.ensures.told in
     ap (λ (s : DeskState). posted s c.args.node c.args.done.now.job c.args.done.now.ran) (sym c.self.view_is)
     ∙ ap (λ (j : Job). posted (inside c) c.args.node j c.args.done.now.ran) (sym c.job-job.ensures.job)
-    ∙ ap (λ (r : Ran). posted (inside c) c.args.node c.job-job.result.now r) (sym c.ran.ensures)
-    ∙ posts (inside c) c.args.node c.job-job.result.now c.ran.result c.in-Some.query.now c.in-Running.view c.record_answer.new.queries.items c.push_reserved.new.self.items c.if-job-node.false (there c) c.in-Running.is fits (appended c) (after c)
+    ∙ ap (λ (r : Ran). posted (inside c) c.args.node c.job-job.result.now r) (sym c.ran-ran.ensures)
+    ∙ posts (inside c) c.args.node c.job-job.result.now c.ran-ran.result c.in-Some.query.now c.in-Running.view c.record_answer.new.queries.items c.push_reserved.new.self.items (sym c.node-owner.ensures ∙ c.if-owner-node.false) (there c) c.in-Running.is fits (appended c) (after c)

@@ -1,12 +1,12 @@
-use Rattle.std.proofs.Common.{rules}
+use Rattle.std.proofs.Common.{None, rules}
 use Rattle.q_table.specs.Programs.{id_of}
 use Rattle.q_desk.specs.declared.journal.Entry.TheVariants as entry
-use Rattle.q_desk.proofs.Keeps.{desk-appended, desk-registered}
+use Rattle.q_desk.proofs.Keeps.{desk-appended, desk-ended, desk-registered}
 use Rattle.q_desk.proofs.desk.Desk.register.Goals as goal
 
 pub invariant_of-self-2 : goal.invariant_of-self-2
 invariant_of-self-2 c =
     let s = c.self.inside in
     let program = c.args.certified.now.value in
-    desk-appended _ (entry.Register program) _ (record { room = search rules; is = search rules })
-    (desk-registered _ _ program c.in_ok-id.id (id_of s.programs program.text) c.in_ok-id.ensures c.self.invariant c.len-count.ensures.table)
+    desk-ended _ None (desk-appended _ (entry.Register program) _ (record { room = search rules; is = search rules })
+    (desk-registered _ _ program c.in_ok-id.id (id_of s.programs program.text) c.in_ok-id.ensures c.self.invariant c.len-count.ensures.table))

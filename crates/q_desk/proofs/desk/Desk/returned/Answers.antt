@@ -7,5 +7,5 @@ use Rattle.q_desk.proofs.desk.Desk.returned.Goals as goal
 pub invariant_of-self : goal.invariant_of-self
 invariant_of-self c =
     let s = c.self.inside in
-    subst (λ (queries : List Query). IsDesk (record { programs = s.programs; queries = queries; journal = s.journal.items })) (sym c.set_phase.ensures)
+    subst (λ (queries : List Query). IsDesk (record { programs = s.programs; queries = queries; journal = s.journal.items; ended = s.ended })) (sym c.set_phase.ensures)
     (desk-ready _ c.in_ok-number.number c.args.view c.self.invariant)

@@ -9,6 +9,6 @@ pub invariant_of-self : goal.invariant_of-self
 invariant_of-self c =
     let s = c.self.inside in
     let taken = desk-taken _ c.saturating_sub-last.result c.self.invariant in
-    let kept = subst (λ (queries : List Query). IsDesk (record { programs = s.programs; queries = queries; journal = s.journal.items })) (sym c.truncate.ensures.items) taken in
-    subst (λ (journal : List Entry). IsDesk (record { programs = s.programs; queries = c.truncate.new.self.items; journal = journal })) (sym c.truncate-2.ensures.items)
+    let kept = subst (λ (queries : List Query). IsDesk (record { programs = s.programs; queries = queries; journal = s.journal.items; ended = s.ended })) (sym c.truncate.ensures.items) taken in
+    subst (λ (journal : List Entry). IsDesk (record { programs = s.programs; queries = c.truncate.new.self.items; journal = journal; ended = s.ended })) (sym c.truncate-2.ensures.items)
     (desk-cut _ c.saturating_sub.result kept)
