@@ -1,5 +1,5 @@
 -- Ids that rise, and one more among them.
-use Rattle.std.proofs.Common.{◌≡◌, inl, inr, ℕ, zero, suc, ◌<◌, ◌≤◌, List, [], ◌∷◌, length, refl, ap, arith}
+use Rattle.std.proofs.Common.{◌≡◌, inl, inr, ℕ, zero, suc, ◌<◌, ◌≤◌, List, [], ◌∷◌, length, refl, sym, ap, ◌∙◌, subst, arith}
 use Rattle.std.specs.Prelude.{slice_index, Ok, Err, Result}
 use Rattle.std.specs.List.{insert}
 use Rattle.std.specs.Ordering.{nat_cmp}
@@ -28,13 +28,23 @@ rise_cons n ns a r zero (suc j) less low = a j (omega arith)
 rise_cons n ns a r (suc i) zero less low = absurd (omega arith)
 rise_cons n ns a r (suc i) (suc j) less low = r i j (omega arith) (omega arith)
 
+-- where one more id is put
+same_id : (id n : ℕ) (ns : List ℕ) → id ≡ n → with_id id (n ∷ ns) ≡ n ∷ ns
+same_id id n ns same = rw (le-ltb id n (omega arith), le-ltb n id (omega arith))
+
+before : (id n : ℕ) (ns : List ℕ) → id < n → with_id id (n ∷ ns) ≡ id ∷ n ∷ ns
+before id n ns less = rw (lt-ltb id n less)
+
+behind : (id n : ℕ) (ns : List ℕ) → n < id → with_id id (n ∷ ns) ≡ n ∷ with_id id ns
+behind id n ns more = rw (le-ltb id n (omega arith), lt-ltb n id more)
+
 above_more : (low id : ℕ) (ids : List ℕ) → low < id → AreAbove low ids → AreAbove low (with_id id ids)
 above_more low id [] h a = cons_above low id [] h a
 above_more low id (n ∷ ns) h a =
     elim (cases_order id n) [
-      | inl same ↦ rw (le-ltb id n (omega arith), le-ltb n id (omega arith)) a
-      | inr (inl less) ↦ rw (lt-ltb id n less) (cons_above low id (n ∷ ns) h a)
-      | inr (inr more) ↦ rw (le-ltb id n (omega arith), lt-ltb n id more) (cons_above low n (with_id id ns) (a 0 (omega arith)) (above_more low id ns h (λ k l. a (suc k) (omega arith))))
+      | inl same ↦ subst (AreAbove low) (sym (same_id id n ns same)) a
+      | inr (inl less) ↦ subst (AreAbove low) (sym (before id n ns less)) (cons_above low id (n ∷ ns) h a)
+      | inr (inr more) ↦ subst (AreAbove low) (sym (behind id n ns more)) (cons_above low n (with_id id ns) (a 0 (omega arith)) (above_more low id ns h (λ k l. a (suc k) (omega arith))))
     ]
 
 -- with one more they rise
@@ -42,27 +52,26 @@ pub still_rise : (id : ℕ) (ids : List ℕ) → Rises ids → Rises (with_id id
 still_rise id [] r = rise_cons id [] (λ k l. absurd (omega arith)) r
 still_rise id (n ∷ ns) r =
     elim (cases_order id n) [
-      | inl same ↦ rw (le-ltb id n (omega arith), le-ltb n id (omega arith)) r
-      | inr (inl less) ↦ rw (lt-ltb id n less) (rise_cons id (n ∷ ns) (cons_above id n ns less (λ k l. let x = first_above n ns r k l in omega (arith, x, less))) r)
-      | inr (inr more) ↦ rw (le-ltb id n (omega arith), lt-ltb n id more) (rise_cons n (with_id id ns) (above_more n id ns more (first_above n ns r)) (still_rise id ns (later n ns r)))
+      | inl same ↦ subst Rises (sym (same_id id n ns same)) r
+      | inr (inl less) ↦ subst Rises (sym (before id n ns less)) (rise_cons id (n ∷ ns) (cons_above id n ns less (λ k l. let x = first_above n ns r k l in omega (arith, x, less))) r)
+      | inr (inr more) ↦ subst Rises (sym (behind id n ns more)) (rise_cons n (with_id id ns) (above_more n id ns more (first_above n ns r)) (still_rise id ns (later n ns r)))
     ]
 
 between : (ids : List ℕ) (place id : ℕ) → place ≤ length ids → ((k : ℕ) → k < place → slice_index ids k < id) → ((k : ℕ) → place ≤ k → k < length ids → id < slice_index ids k)
     → insert ids place id ≡ with_id id ids
 between [] zero id h below above = refl
 between [] (suc p) id h below above = absurd (omega arith)
-between (n ∷ ns) zero id h below above = let less : id < n = above 0 (omega arith) (omega arith) in rw (lt-ltb id n less)
+between (n ∷ ns) zero id h below above = sym (before id n ns (above 0 (omega arith) (omega arith)))
 between (n ∷ ns) (suc p) id h below above =
-    let less : n < id = below 0 (omega arith) in
-    rw (le-ltb id n (omega arith), lt-ltb n id less)
-    (ap (λ z. n ∷ z) (between ns p id (omega arith) (λ k b. below (suc k) (omega arith)) (λ k a l. above (suc k) (omega arith) (omega arith))))
+    ap (λ z. n ∷ z) (between ns p id (omega arith) (λ k b. below (suc k) (omega arith)) (λ k a l. above (suc k) (omega arith) (omega arith)))
+    ∙ sym (behind id n ns (below 0 (omega arith)))
 
 again : (ids : List ℕ) (k id : ℕ) → Rises ids → k < length ids → slice_index ids k ≡ id → ids ≡ with_id id ids
 again [] k id r l e = absurd (omega arith)
-again (n ∷ ns) zero id r l e = rw (le-ltb id n (omega arith), le-ltb n id (omega arith))
+again (n ∷ ns) zero id r l e = sym (same_id id n ns (sym e))
 again (n ∷ ns) (suc k) id r l e =
     let less : n < id = let first : n < slice_index ns k = r 0 (suc k) (omega arith) l in omega (arith, first, e) in
-    rw (le-ltb id n (omega arith), lt-ltb n id less) (ap (λ z. n ∷ z) (again ns k id (later n ns r) (omega arith) e))
+    ap (λ z. n ∷ z) (again ns k id (later n ns r) (omega arith) e) ∙ sym (behind id n ns less)
 
 weakly : (ids : List ℕ) → Rises ids → (i j : ℕ) → i ≤ j → j < length ids → slice_index ids i ≤ slice_index ids j
 weakly ids r i j h l = elim (cases_lt i j) [
@@ -71,8 +80,12 @@ weakly ids r i j h l = elim (cases_lt i j) [
 ]
 
 -- what a binary search finds is there, and where it finds nothing the id is put
-pub found : (ids : List ℕ) (id place : ℕ) → Rises ids → IsBinarySearchResult (λ y. nat_cmp y id) ids (Ok place) → ids ≡ with_id id ids
-found ids id place r h = let s = searched ids id (Ok place) h (weakly ids r) in again ids place id r s.0 s.1
+module _ (ids seen : List ℕ) (id place : ℕ) (r : Rises ids) (is : seen ≡ ids) where
+  searches : (o : Result ℕ ℕ) → IsBinarySearchResult (λ y. nat_cmp y id) seen o → IsBinarySearchResult (λ y. nat_cmp y id) ids o
+  searches o h = subst (λ (xs : List ℕ). IsBinarySearchResult (λ y. nat_cmp y id) xs o) is h
 
-pub put_there : (ids : List ℕ) (id place : ℕ) → Rises ids → IsBinarySearchResult (λ y. nat_cmp y id) ids (Err place) → insert ids place id ≡ with_id id ids
-put_there ids id place r h = let s = searched ids id (Err place) h (weakly ids r) in between ids place id s.0 s.1 s.2
+  pub found : IsBinarySearchResult (λ y. nat_cmp y id) seen (Ok place) → ids ≡ with_id id ids
+  found h = let s = searched ids id (Ok place) (searches (Ok place) h) (weakly ids r) in again ids place id r s.0 s.1
+
+  pub put_there : IsBinarySearchResult (λ y. nat_cmp y id) seen (Err place) → insert ids place id ≡ with_id id ids
+  put_there h = let s = searched ids id (Err place) (searches (Err place) h) (weakly ids r) in between ids place id s.0 s.1 s.2

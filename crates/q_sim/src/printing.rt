@@ -2,7 +2,7 @@
 
 ghost use Rattle.std.specs.Prelude.{◌≡◌, [], ◌∷◌, ◌++◌, OnOk, string_bytes};
 ghost use Rattle.q_sim.specs.Printing as pair;
-ghost use Rattle.q_sim.specs.Printing.{AddsPairs, told_lines, message_line, message_lines, pairs_with, pairs_of};
+ghost use Rattle.q_sim.specs.Printing.{AddsPairs, told_lines, message_line, message_lines, pair_line, pairs_with, pairs_of};
 
 use q_cluster::cluster::Cluster;
 use q_desk::completed::Completed;
@@ -89,18 +89,30 @@ fn is_pair(store: &Op, collect: &Op) -> bool
         && is_over(store.end, collect.begin)
 }
 
-/// Prints the least node where a store and a collect meet, or that there is none.
-fn print_pair(lines: &mut String, store: &Op, collect: &Op) -> Result<(), AllocError>
-    ensures { OnOk result (AddsPairs ((store.now, collect.now) ∷ []) (string_bytes lines.old) (string_bytes lines.new)) }
+/// Prints that a store and a collect meet at this node, or that they do not meet.
+fn print_meeting(
+    lines: &mut String,
+    store: &Op,
+    collect: &Op,
+    least: Option<u64>,
+) -> Result<(), AllocError>
+    ensures { OnOk result (string_bytes lines.new ≡ string_bytes lines.old ++ pair_line store.now collect.now least) }
 {
     let node = store.node;
     let tag = store.tag;
     let asking = collect.node;
     let asked = collect.tag;
-    match meets(store, collect) {
+    match least {
         Some(id) => writeln!(lines, "store {node} {tag} collect {asking} {asked} meet {id}"),
         None => writeln!(lines, "store {node} {tag} collect {asking} {asked} apart"),
     }
+}
+
+/// Prints the least node where a store and a collect meet, or that there is none.
+fn print_pair(lines: &mut String, store: &Op, collect: &Op) -> Result<(), AllocError>
+    ensures { OnOk result (AddsPairs ((store.now, collect.now) ∷ []) (string_bytes lines.old) (string_bytes lines.new)) }
+{
+    print_meeting(lines, store, collect, meets(store, collect))
 }
 
 /// Prints the pairs of a store.

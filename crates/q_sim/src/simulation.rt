@@ -81,7 +81,7 @@ impl Simulation {
     ghost use Rattle.std.specs.Option.{IsSome};
     ghost use Rattle.std.specs.FinSet as set;
     ghost use Rattle.sc_world.specs.Worlds.{live_at};
-    ghost use Rattle.q_sim.specs.Simulates.{Acts, Ahead, Begins, Does, IsSpread, Journals, Registers, SimState, Spreads, Tells, Tries, joined, noted};
+    ghost use Rattle.q_sim.specs.Simulates.{Acts, Ahead, Begins, Does, IsSpread, Journals, Registers, Spreads, Tells, Tries, joined, noted};
     ghost use Rattle.q_sim.specs.Printing.{printed};
     ghost use Rattle.q_sim.specs.Refusal.{refusal_line};
     ghost use Rattle.q_sim.specs.Seen.{Prints, seen};

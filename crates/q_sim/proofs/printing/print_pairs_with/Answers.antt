@@ -1,5 +1,4 @@
 use Rattle.std.proofs.Common.{rules, ◌≡◌, ◌+◌, ◌++◌, [], ◌∷◌, take, string_bytes, List, ℕ, subst, sym, ap}
-use Rattle.std.specs.Prelude.{String}
 use Rattle.std.proofs.lemmas.List.{take_more}
 use Rattle.q_sim.specs.Printing.{AddsPairs, pairs_with}
 use Rattle.q_sim.proofs.Told.{no_pairs, paired, unpaired}
