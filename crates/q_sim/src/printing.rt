@@ -103,7 +103,10 @@ fn print_meeting(
     let asking = collect.node;
     let asked = collect.tag;
     match least {
-        Some(id) => writeln!(lines, "store {node} {tag} collect {asking} {asked} meet {id}"),
+        Some(id) => writeln!(
+            lines,
+            "store {node} {tag} collect {asking} {asked} meet {id}"
+        ),
         None => writeln!(lines, "store {node} {tag} collect {asking} {asked} apart"),
     }
 }

@@ -14,6 +14,6 @@ returns-in_ok-insert-in-Err-clause-put c =
 pub returns-in_ok-insert-in-Err-clause-rises : goal.returns-in_ok-insert-in-Err-clause-rises
 returns-in_ok-insert-in-Err-clause-rises c =
     let put : c.insert.new.self.items ≡ with_id c.args.id c.args.ids.now.items =
-        c.in_ok-insert-in-Err.ensures.items
-        ∙ put_there c.args.ids.now.items c.as_slice.result.now c.args.id c.in-Err.place c.requires c.as_slice.ensures.value c.in-Err.ensures.position in
+    c.in_ok-insert-in-Err.ensures.items
+    ∙ put_there c.args.ids.now.items c.as_slice.result.now c.args.id c.in-Err.place c.requires c.as_slice.ensures.value c.in-Err.ensures.position in
     subst Rises (sym put) (still_rise c.args.id c.args.ids.now.items c.requires)
