@@ -2,9 +2,9 @@
 
 use crate::line::CaseLine;
 use q_command::advice::advice;
-use q_command::files::Files;
-use q_command::memory::MemoryFiles;
 use q_command::perform::perform;
+use q_files::files::Files;
+use q_files::memory::MemoryFiles;
 use q_words::words::read_words;
 use std::alloc::{AllocError, Global};
 use std::io;

@@ -1,3 +1,2 @@
 mod Lines
 mod Refused
-mod Written

@@ -7,7 +7,7 @@ use Rattle.q_sim.specs.Simulates.{IsSimulationFault}
 use Rattle.q_sim.specs.declared.refusal.Refusal.{Refusal}
 use Rattle.q_sim.specs.declared.refusal.Refusal.TheVariants.{FileFailed, Script}
 use Rattle.q_command.specs.Perform.{IsAccepted, IsUnlisted, IsUnsimulated, Refuses}
-use Rattle.q_command.specs.declared.files.FileFault.{FileFault}
+use Rattle.q_files.specs.declared.files.FileFault.{FileFault}
 use Rattle.q_words.specs.declared.words.Line.{Line}
 use Rattle.q_words.specs.declared.words.Line.TheVariants.{Run}
 

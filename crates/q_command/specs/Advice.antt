@@ -4,7 +4,7 @@ use Rattle.bq_insn.specs.declared.insn.Insn.{Insn}
 use Rattle.q_explain.specs.Told.{IsTold}
 use Rattle.q_sim.specs.declared.refusal.Refusal.{Refusal}
 use Rattle.q_command.specs.Perform.{IsProgram, IsUnassembled, RefusesFile}
-use Rattle.q_command.specs.declared.files.FileFault.{FileFault}
+use Rattle.q_files.specs.declared.files.FileFault.{FileFault}
 use Rattle.q_words.specs.declared.words.Line.{Line}
 use Rattle.q_words.specs.declared.words.Line.TheVariants.{Asm, Check, Run, Sim}
 

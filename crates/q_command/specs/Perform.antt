@@ -21,11 +21,10 @@ use Rattle.q_script.specs.declared.script.Script.{Script}
 use Rattle.q_sim.specs.declared.refusal.Refusal.{Refusal}
 use Rattle.q_sim.specs.declared.refusal.Refusal.TheVariants as refusal
 use Rattle.q_sim.specs.Programs.{IsUncertified}
-use Rattle.q_sim.specs.Refusal.{refusal_line}
+use Rattle.q_sim.specs.Refusal.{refusal_line, refusal_of}
 use Rattle.q_sim.specs.Simulates.{IsSimulationFault, Simulates}
-use Rattle.q_command.specs.Files.{refusal_of}
 use Rattle.q_command.specs.Listing.{listing_of}
-use Rattle.q_command.specs.declared.files.FileFault.{FileFault}
+use Rattle.q_files.specs.declared.files.FileFault.{FileFault}
 use Rattle.q_command.specs.declared.perform.Ended.{Ended}
 use Rattle.q_command.specs.declared.perform.Ended.TheVariants.{Answered, Refused, Unwritten}
 use Rattle.q_words.specs.declared.words.Line.{Line}

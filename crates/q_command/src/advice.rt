@@ -3,9 +3,9 @@
 ghost use Rattle.std.specs.Prelude.{IfOk, IfErr};
 ghost use Rattle.q_command.specs.Advice.{Advises, IsUnadvised};
 
-use crate::files::Files;
 use crate::program::program;
 use q_explain::explain::explain;
+use q_files::files::Files;
 use q_sim::refusal::Refusal;
 use q_words::words::Line;
 use std::alloc::Global;

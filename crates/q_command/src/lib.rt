@@ -9,8 +9,6 @@
 //! - [`program`] has programs from assembler text, with their certificates.
 //! - [`listing`] is the text that `asm` prints.
 //! - [`advice`] explains a refusal of the verifier in words, of exactly the programs that it refuses.
-//! - [`Folder`] is the machine's files, of which no contract says what they hold, and [`MemoryFiles`] files in memory, of
-//!   which each call's contract does.
 //!
 //! Scripts are run by [`simulate`], of the crate below: it takes each event of a script as one step of a cluster, whose type
 //! keeps that every recorded answer is true, and answers the lines of what the steps tell.
@@ -18,18 +16,13 @@
 //! [`carry_out`]: perform::carry_out
 //! [`perform`]: perform::perform
 //! [`program`]: program::certified
-//! [`Files`]: files::Files
-//! [`Folder`]: folder::Folder
-//! [`MemoryFiles`]: memory::MemoryFiles
+//! [`Files`]: q_files::files::Files
 //! [`simulate`]: q_sim::simulation::simulate
 //! [`listing`]: listing::listing
 //! [`advice`]: advice::advice
 #![tactic(auto)]
 
 pub mod advice;
-pub mod files;
-pub mod folder;
 pub mod listing;
-pub mod memory;
 pub mod perform;
 pub mod program;

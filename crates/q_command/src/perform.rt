@@ -5,10 +5,10 @@ ghost use Rattle.std.specs.Io.KnownBytes.{Appends};
 ghost use Rattle.q_command.specs.Perform.{Accepts, Answers, Computes, Ends, IsProgram, IsSimulated, IsUnaccepted, IsUnassembled, IsUnlisted, IsUnsimulated, Lists, Refuses, status_of};
 ghost use Rattle.q_command.specs.declared.perform.Ended.{Ended};
 
-use crate::files::Files;
 use crate::listing::listing;
 use crate::program::{certified, program, utf8};
 use bq_check::certified::Certified;
+use q_files::files::Files;
 use q_script::records::read_records;
 use q_script::script::Script;
 use q_session::fold::fold_checked;

@@ -7,7 +7,7 @@ use Rattle.std.proofs.lemmas.Bool.{and_parts, eq-eqb, not-true}
 use Rattle.std.proofs.lemmas.Slice.Eq.{bytes_eq-Decides}
 use Rattle.q_script.specs.declared.command.TheConstants as consts
 use Rattle.q_script.specs.declared.command.Command.{Command}
-use Rattle.q_script.specs.declared.command.Command.TheVariants.{Program, Store, Ask, Deliver, All, Hand, Run}
+use Rattle.q_script.specs.declared.command.Command.TheVariants.{Program, Store, Ask, Deliver, All, Hand, Run, Enter, Leave, Crash, Pairs, Journal}
 use Rattle.q_script.specs.Words.{Lacks}
 use Rattle.q_script.specs.Command.{name, all_commands, command_at}
 
@@ -45,6 +45,11 @@ command_again Deliver = refl
 command_again All = refl
 command_again Hand = refl
 command_again Run = refl
+command_again Enter = refl
+command_again Leave = refl
+command_again Crash = refl
+command_again Pairs = refl
+command_again Journal = refl
 
 true_false : (b : Bool) → b ≡ true → b ≡ false → ⊥
 true_false b h k = absurd cc
@@ -65,6 +70,11 @@ name_test Deliver = refl
 name_test All = refl
 name_test Hand = refl
 name_test Run = refl
+name_test Enter = refl
+name_test Leave = refl
+name_test Crash = refl
+name_test Pairs = refl
+name_test Journal = refl
 
 pub name_lacks_space : (c : Command) → Lacks 32 (name c)
 name_lacks_space c = lacks_by_test 32 (name c) (name_test c)

@@ -1,15 +1,16 @@
 -- The events of lines: what is no line spells none.
-use Rattle.std.proofs.Common.{◌≡◌, ℕ, List, ◌∷◌, ◌++◌, Some, None, Result, Ok, Err, ap, sym, ◌∙◌, subst, lit<}
-use Rattle.std.specs.Prelude.{Vec}
+use Rattle.std.proofs.Common.{◌≡◌, ℕ, List, ◌∷◌, ◌++◌, Some, None, Result, Ok, Err, Bool, true, false, inl, inr, ap, sym, ◌∙◌, subst, lit<, string_bytes}
+use Rattle.std.specs.Prelude.{Vec, IsTrue, ◌↔◌}
 use Rattle.std.specs.declared.alloc.Global.{Global}
 use Rattle.q_script.specs.declared.command.Command.{Command}
+use Rattle.q_script.specs.declared.command.Command.TheVariants as command
 use Rattle.q_script.specs.declared.line.ScriptLine.{ScriptLine}
-use Rattle.q_script.specs.declared.line.ScriptLine.TheVariants.{Program, Store, Ask, Deliver, All, Hand, Run}
+use Rattle.q_script.specs.declared.line.ScriptLine.TheVariants.{Program, Store, Ask, Deliver, All, Hand, Run, Enter, Leave, Crash, Pairs, Journal}
 use Rattle.q_script.specs.declared.line.LineFault.{LineFault}
 use Rattle.q_script.specs.declared.line.LineFault.TheVariants.{Form, OutOfMemory}
 use Rattle.q_script.specs.Words.{Lacks, IsNumeral, IsFollowed, IsPair}
 use Rattle.q_script.specs.Command.{name, command_at}
-use Rattle.q_script.specs.Line.{IsCode, IsProgram, IsStore, IsAsk, IsDeliver, IsAll, IsHand, IsRun, HasOperands, Spells, Judges}
+use Rattle.q_script.specs.Line.{IsCode, IsWord, IsProgram, IsStore, IsAsk, IsDeliver, IsAll, IsHand, IsRun, IsEnter, IsLeave, IsCrash, IsJournal, HasOperands, HasCommand, IsAlone, Spells, Judges}
 use Rattle.q_script.proofs.Parts.{IsCut, cut_once, never_cut}
 use Rattle.q_script.proofs.Pairs.{followed_once}
 use Rattle.q_script.proofs.Commands.{command_sound, command_again, name_lacks_space}
@@ -60,12 +61,55 @@ pub code_fault : (s : List ℕ) (p : ℕ × List ℕ) (fault : LineFault) → Is
 code_fault s p Form f h = not_code s p f h
 code_fault s p OutOfMemory f h = tt
 
+pub not_enter : (s : List ℕ) → ((n : ℕ) → IsNumeral s n → ⊥) → (line : ScriptLine) → IsEnter s line → ⊥
+not_enter s n (Enter node) h = n node h
+not_enter s n _ h = h
+
+pub not_leave : (s : List ℕ) → ((n : ℕ) → IsNumeral s n → ⊥) → (line : ScriptLine) → IsLeave s line → ⊥
+not_leave s n (Leave node) h = n node h
+not_leave s n _ h = h
+
+pub not_crash : (s : List ℕ) → ((n : ℕ) → IsNumeral s n → ⊥) → (line : ScriptLine) → IsCrash s line → ⊥
+not_crash s n (Crash node) h = n node h
+not_crash s n _ h = h
+
+pub not_journal : (s : List ℕ) → ((p : ℕ × List ℕ) → IsFollowed 32 s p → ⊥) → (line : ScriptLine) → IsJournal s line → ⊥
+not_journal s n (Journal node file) h = n (node, string_bytes file) h.0
+not_journal s n _ h = h
+
+not_file : (s : List ℕ) (p : ℕ × List ℕ) → IsFollowed 32 s p → (IsWord p.1 → ⊥) → (line : ScriptLine) → IsJournal s line → ⊥
+not_file s p f n (Journal node file) h =
+    let same = followed_once 32 s p (node, string_bytes file) (lit< tt) f h.0 in
+    n (subst IsWord (sym same) h.1)
+not_file s p f n _ h = h
+
+-- a space is in no word
+pub no_word : (s a b : List ℕ) → IsCut 32 s a b → IsTrue false ↔ IsWord s
+no_word s a b e = ((λ h. absurd (cc)), λ h. absurd (never_cut 32 s a b h.1 e))
+
+pub no_file : (s : List ℕ) (p : ℕ × List ℕ) (b : Bool) → IsFollowed 32 s p → IsTrue b ↔ IsWord p.1 → b ≡ false → (line : ScriptLine) → IsJournal s line → ⊥
+no_file s p b f test h = not_file s p f (λ w. let t : true ≡ false = sym (test.1 w) ∙ h in cc)
+
 -- ---- lines
 
-pub no_space : (s : List ℕ) → Lacks 32 s → (line : ScriptLine) → Spells s line → ⊥
-no_space s e line h = never_cut 32 s (name h.command) h.rest e (name_lacks_space h.command, h.parts)
+pub not_alone : (s : List ℕ) → (s ≡ name command.Pairs → ⊥) → (line : ScriptLine) → IsAlone s line → ⊥
+not_alone s n Pairs h = n h
+not_alone s n _ h = h
 
-same_word : (s a b : List ℕ) (line : ScriptLine) (h : Spells s line) → IsCut 32 s a b → (a ≡ name h.command) × (b ≡ h.rest)
+alone_lacks : (s : List ℕ) (line : ScriptLine) → IsAlone s line → Lacks 32 s
+alone_lacks s Pairs h = subst (Lacks 32) (sym h) (name_lacks_space command.Pairs)
+alone_lacks s _ h = absurd h
+
+no_command_there : (s : List ℕ) → Lacks 32 s → (line : ScriptLine) → HasCommand s line → ⊥
+no_command_there s l line h = never_cut 32 s (name h.command) h.rest l (name_lacks_space h.command, h.parts)
+
+-- a line without a space
+pub alone_judged : (s : List ℕ) (r : Result ScriptLine LineFault) → Lacks 32 s → Judges IsAlone s r → Judges Spells s r
+alone_judged s (Ok line) l h = inl h
+alone_judged s (Err Form) l h = λ line p. elim p [ inl a ↦ h line a | inr b ↦ no_command_there s l line b ]
+alone_judged s (Err OutOfMemory) l h = tt
+
+same_word : (s a b : List ℕ) (line : ScriptLine) (h : HasCommand s line) → IsCut 32 s a b → (a ≡ name h.command) × (b ≡ h.rest)
 same_word s a b line h e = cut_once 32 s a b (name h.command) h.rest e (name_lacks_space h.command, h.parts)
 
 no_some : (c : Command) → None ≡ Some c → ⊥
@@ -74,12 +118,18 @@ no_some c e = absurd cc
 same_some : (c d : Command) → Some c ≡ Some d → c ≡ d
 same_some c d e = cc
 
+-- a line with a space has a command with operands
+spaced : (s a b : List ℕ) (line : ScriptLine) → IsCut 32 s a b → Spells s line → HasCommand s line
+spaced s a b line e (inl h) = absurd (never_cut 32 s a b (alone_lacks s line h) e)
+spaced s a b line e (inr h) = h
+
 pub no_command : (s a b : List ℕ) → IsCut 32 s a b → None ≡ command_at a → (line : ScriptLine) → Spells s line → ⊥
-no_command s a b e n line h = no_some h.command (n ∙ ap command_at (same_word s a b line h e).0 ∙ command_again h.command)
+no_command s a b e n line p = let h = spaced s a b line e p in no_some h.command (n ∙ ap command_at (same_word s a b line h e).0 ∙ command_again h.command)
 
 pub line_judged : (s a b : List ℕ) (c : Command) (r : Result ScriptLine LineFault) → IsCut 32 s a b → Some c ≡ command_at a → Judges (HasOperands c) b r → Judges Spells s r
-line_judged s a b c (Ok line) e k h = record { command = c; rest = b; parts = e.1 ∙ ap (λ w. w ++ (32 ∷ b)) (command_sound a c (sym k)); operands = h }
-line_judged s a b c (Err Form) e k h = λ line p.
+line_judged s a b c (Ok line) e k h = inr (record { command = c; rest = b; parts = e.1 ∙ ap (λ w. w ++ (32 ∷ b)) (command_sound a c (sym k)); operands = h })
+line_judged s a b c (Err Form) e k h = λ line q.
+    let p = spaced s a b line e q in
     let same = same_word s a b line p e in
     let d = same_some c p.command (k ∙ ap command_at same.0 ∙ command_again p.command) in
     h line (subst (λ (d : Command). HasOperands d b line) (sym d) (subst (λ x. HasOperands p.command x line) (sym same.1) p.operands))

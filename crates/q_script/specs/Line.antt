@@ -1,18 +1,22 @@
 -- The lines of a script behind its first: which event each spells.
-use Rattle.std.specs.Prelude.{◌≡◌, ℕ, ◌≤◌, List, ◌∷◌, ◌++◌, length, Result, Ok, Err}
+use Rattle.std.specs.Prelude.{◌≡◌, ◌⊎◌, ℕ, ◌≤◌, List, ◌∷◌, ◌++◌, length, string_bytes, Result, Ok, Err}
 use Rattle.hex.specs.Hex.{decode_of}
 use Rattle.q_script.specs.declared.command.Command.{Command}
 use Rattle.q_script.specs.declared.command.Command.TheVariants as command
 use Rattle.q_script.specs.declared.line.ScriptLine.{ScriptLine}
-use Rattle.q_script.specs.declared.line.ScriptLine.TheVariants.{Program, Store, Ask, Deliver, All, Hand, Run}
+use Rattle.q_script.specs.declared.line.ScriptLine.TheVariants.{Program, Store, Ask, Deliver, All, Hand, Run, Enter, Leave, Crash, Pairs, Journal}
 use Rattle.q_script.specs.declared.line.LineFault.{LineFault}
 use Rattle.q_script.specs.declared.line.LineFault.TheVariants.{Form, OutOfMemory}
-use Rattle.q_script.specs.Words.{IsNumeral, IsPair, IsFollowed}
+use Rattle.q_script.specs.Words.{Lacks, IsNumeral, IsPair, IsFollowed}
 use Rattle.q_script.specs.Command.{name}
 
 -- one byte at least, each as two hexadecimal digits, small or capital
 abbrev pub IsCode : List ℕ → List ℕ → Type 0
 IsCode digits code = (decode_of digits ≡ Ok code) × (1 ≤ length digits)
+
+-- one byte at least, and no space
+abbrev pub IsWord : List ℕ → Type 0
+IsWord text = (1 ≤ length text) × Lacks 32 text
 
 -- ---- the operands of each command
 
@@ -51,6 +55,30 @@ abbrev pub IsRun : List ℕ → ScriptLine → Type 0
 IsRun text (Run job) = IsNumeral text job
 IsRun text _ = ⊥
 
+-- `ID`
+abbrev pub IsEnter : List ℕ → ScriptLine → Type 0
+IsEnter text (Enter node) = IsNumeral text node
+IsEnter text _ = ⊥
+
+-- `ID`
+abbrev pub IsLeave : List ℕ → ScriptLine → Type 0
+IsLeave text (Leave node) = IsNumeral text node
+IsLeave text _ = ⊥
+
+-- `ID`
+abbrev pub IsCrash : List ℕ → ScriptLine → Type 0
+IsCrash text (Crash node) = IsNumeral text node
+IsCrash text _ = ⊥
+
+-- `NODE FILE`
+abbrev pub IsJournal : List ℕ → ScriptLine → Type 0
+IsJournal text (Journal node file) = IsFollowed 32 text (node, string_bytes file) × IsWord (string_bytes file)
+IsJournal text _ = ⊥
+
+-- no operands
+abbrev pub HasNone : List ℕ → ScriptLine → Type 0
+HasNone text line = ⊥
+
 -- the event has this command, and the text spells its operands
 abbrev pub HasOperands : Command → List ℕ → ScriptLine → Type 0
 HasOperands command.Program = IsProgram
@@ -60,15 +88,29 @@ HasOperands command.Deliver = IsDeliver
 HasOperands command.All = IsAll
 HasOperands command.Hand = IsHand
 HasOperands command.Run = IsRun
+HasOperands command.Enter = IsEnter
+HasOperands command.Leave = IsLeave
+HasOperands command.Crash = IsCrash
+HasOperands command.Pairs = HasNone
+HasOperands command.Journal = IsJournal
 
 -- ---- lines
 
--- the line spells the event: a command's word, a space, and the operands
-pub record Spells (text : List ℕ) (line : ScriptLine) : Type 0 where
+-- a command's word, a space, and the operands
+pub record HasCommand (text : List ℕ) (line : ScriptLine) : Type 0 where
   pub command : Command
   pub rest : List ℕ
   pub parts : text ≡ name command ++ (32 ∷ rest)
   pub operands : HasOperands command rest line
+
+-- the word of a command that has no operands
+abbrev pub IsAlone : List ℕ → ScriptLine → Type 0
+IsAlone text Pairs = text ≡ name command.Pairs
+IsAlone text _ = ⊥
+
+-- the line spells the event
+abbrev pub Spells : List ℕ → ScriptLine → Type 0
+Spells text line = IsAlone text line ⊎ HasCommand text line
 
 -- What is read is what the text spells, and a fault of form comes only where the text spells nothing.
 abbrev pub Judges : {X : Type 0} → (List ℕ → X → Type 0) → List ℕ → Result X LineFault → Type 0

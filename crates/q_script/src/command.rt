@@ -12,10 +12,15 @@ pub enum Command {
     All,
     Hand,
     Run,
+    Enter,
+    Leave,
+    Crash,
+    Pairs,
+    Journal,
 }
 
 /// Every command.
-static COMMANDS: [Command; 7] = [
+static COMMANDS: [Command; 12] = [
     Command::Program,
     Command::Store,
     Command::Ask,
@@ -23,6 +28,11 @@ static COMMANDS: [Command; 7] = [
     Command::All,
     Command::Hand,
     Command::Run,
+    Command::Enter,
+    Command::Leave,
+    Command::Crash,
+    Command::Pairs,
+    Command::Journal,
 ];
 
 impl Command {
@@ -38,6 +48,11 @@ impl Command {
             Command::All => "all",
             Command::Hand => "hand",
             Command::Run => "run",
+            Command::Enter => "enter",
+            Command::Leave => "leave",
+            Command::Crash => "crash",
+            Command::Pairs => "pairs",
+            Command::Journal => "journal",
         }
     }
 

@@ -1,7 +1,7 @@
 //! The lines of a script behind its first.
 
 ghost use Rattle.std.specs.Prelude.{◌≡◌};
-ghost use Rattle.q_script.specs.Line.{Spells, Judges};
+ghost use Rattle.q_script.specs.Line.{IsAlone, Spells, Judges};
 
 use crate::command::Command;
 use crate::operands::operands;
@@ -56,6 +56,30 @@ pub enum ScriptLine {
         /// The job's number.
         job: u64,
     },
+    /// `enter ID`: a node comes.
+    Enter {
+        /// The node.
+        node: u64,
+    },
+    /// `leave ID`: a node leaves.
+    Leave {
+        /// The node.
+        node: u64,
+    },
+    /// `crash ID`: a node crashes.
+    Crash {
+        /// The node.
+        node: u64,
+    },
+    /// `pairs`: tell of each collect whether it met the stores that ended before it.
+    Pairs,
+    /// `journal NODE FILE`: write the journal of a node into a file.
+    Journal {
+        /// The node.
+        node: u64,
+        /// The file's name, a word without spaces.
+        file: String,
+    },
 }
 
 /// Why a line is not read.
@@ -73,11 +97,22 @@ impl ScriptLine {
         ensures { Judges Spells text.now result }
     {
         let Some((word, rest)) = cut(text, ' ') else {
-            return Err(LineFault::Form);
+            return alone(text);
         };
         let Some(command) = Command::read(word) else {
             return Err(LineFault::Form);
         };
         operands(alloc, command, rest)
+    }
+}
+
+/// The event of a command that is its word alone.
+fn alone(text: &str) -> Result<ScriptLine, LineFault>
+    ensures { Judges IsAlone text.now result }
+{
+    if text == Command::Pairs.name() {
+        Ok(ScriptLine::Pairs)
+    } else {
+        Err(LineFault::Form)
     }
 }

@@ -1,9 +1,10 @@
-ghost use Rattle.std.specs.Prelude.{◌≡◌};
-ghost use Rattle.q_script.specs.Line.{IsCode, IsProgram, IsStore, IsAsk, IsDeliver, IsAll, IsHand, IsRun, HasOperands, Judges};
+ghost use Rattle.std.specs.Prelude.{◌≡◌, ◌↔◌, IsTrue};
+ghost use Rattle.q_script.specs.Line.{IsCode, IsWord, IsProgram, IsStore, IsAsk, IsDeliver, IsAll, IsHand, IsRun, IsEnter, IsLeave, IsCrash, IsJournal, HasOperands, Judges};
 
 use crate::command::Command;
 use crate::line::{LineFault, ScriptLine};
 use crate::number::{leading, number, pair};
+use crate::text::cut;
 use hex::FromHexError;
 use std::alloc::Global;
 
@@ -94,6 +95,58 @@ fn run(text: &str) -> Result<ScriptLine, LineFault>
     }
 }
 
+fn enter(text: &str) -> Result<ScriptLine, LineFault>
+    ensures { Judges IsEnter text.now result }
+{
+    match number(text) {
+        Some(node) => Ok(ScriptLine::Enter { node }),
+        None => Err(LineFault::Form),
+    }
+}
+
+fn leave(text: &str) -> Result<ScriptLine, LineFault>
+    ensures { Judges IsLeave text.now result }
+{
+    match number(text) {
+        Some(node) => Ok(ScriptLine::Leave { node }),
+        None => Err(LineFault::Form),
+    }
+}
+
+fn crash(text: &str) -> Result<ScriptLine, LineFault>
+    ensures { Judges IsCrash text.now result }
+{
+    match number(text) {
+        Some(node) => Ok(ScriptLine::Crash { node }),
+        None => Err(LineFault::Form),
+    }
+}
+
+/// One byte at least, and no space.
+fn is_word(text: &str) -> bool
+    ensures { IsTrue result ↔ IsWord text.now }
+{
+    match cut(text, ' ') {
+        Some(_) => false,
+        None => !text.is_empty(),
+    }
+}
+
+fn journal(alloc: Global, text: &str) -> Result<ScriptLine, LineFault>
+    ensures { Judges IsJournal text.now result }
+{
+    let Some((node, file)) = leading(text, ' ') else {
+        return Err(LineFault::Form);
+    };
+    if !is_word(file) {
+        return Err(LineFault::Form);
+    }
+    match String::from_str(alloc, file) {
+        Ok(file) => Ok(ScriptLine::Journal { node, file }),
+        Err(_) => Err(LineFault::OutOfMemory),
+    }
+}
+
 /// The event of this command with the operands that a text spells.
 pub fn operands(alloc: Global, command: Command, text: &str) -> Result<ScriptLine, LineFault>
     ensures { Judges (HasOperands command) text.now result }
@@ -106,5 +159,10 @@ pub fn operands(alloc: Global, command: Command, text: &str) -> Result<ScriptLin
         Command::All => all(text),
         Command::Hand => hand(text),
         Command::Run => run(text),
+        Command::Enter => enter(text),
+        Command::Leave => leave(text),
+        Command::Crash => crash(text),
+        Command::Pairs => Err(LineFault::Form),
+        Command::Journal => journal(alloc, text),
     }
 }

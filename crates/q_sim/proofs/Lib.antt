@@ -6,5 +6,7 @@ mod Playing
 mod Lines
 mod Uncertified
 mod Founders
+mod Ids
+mod Told
 mod Steps
 mod Performing

@@ -12,16 +12,16 @@ use Rattle.q_sim.specs.declared.refusal.Refusal.{Refusal}
 use Rattle.q_sim.specs.Programs.{IsProgram, IsRefusal}
 use Rattle.q_sim.specs.Printing.{printed}
 use Rattle.q_sim.specs.Refusal.{refusal_line}
-use Rattle.q_sim.specs.Simulates.{SimState, Acts, Registers, noted}
+use Rattle.q_sim.specs.Simulates.{SimState, Acts, Registers, joined, noted}
 
 -- an event that was taken or refused, and noted, and printed
 pub acted : {X E : Type 0} (r : Result X E) (old mid new : SimState) (before between after : List ℕ) (e : Event) (c : ClusterState) (answer : Result Stepped ClusterFault)
-    → Takes old.cluster e c answer → mid ≡ record { cluster = c; nodes = old.nodes; delivered = noted e answer old.delivered } → between ≡ before
+    → Takes old.cluster e c answer → mid ≡ record { cluster = c; nodes = joined e answer old.nodes; delivered = noted e answer old.delivered } → between ≡ before
     → OnOk r (new ≡ mid) → OnOk r (after ≡ between ++ printed mid.cluster answer)
     → OnOk r ((text : List ℕ) × Acts e old text new × (after ≡ before ++ text))
 acted (Err x) old mid new before between after e c answer takes is silent same lines = tt
 acted (Ok x) old mid new before between after e c answer takes is silent same lines =
-    let n : new ≡ record { cluster = c; nodes = old.nodes; delivered = noted e answer old.delivered } = same ∙ is in (
+    let n : new ≡ record { cluster = c; nodes = joined e answer old.nodes; delivered = noted e answer old.delivered } = same ∙ is in (
       printed mid.cluster answer,
       record {
         result = answer;

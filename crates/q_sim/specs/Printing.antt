@@ -1,8 +1,12 @@
 -- What is printed of each event.
-use Rattle.std.specs.Prelude.{ℕ, zero, suc, List, [], ◌∷◌, ◌++◌, codes, slice_get, Option, Some, None, Result, Ok, Err}
+use Rattle.std.specs.Prelude.{◌≡◌, ℕ, zero, suc, ◌&&◌, Bool, true, false, not, nat_lt, is_some, List, [], ◌∷◌, ◌++◌, map, filter, flat_map, codes, slice_get, Option, Some, None, Result, Ok, Err}
 use Rattle.std.specs.Fmt.{decimal}
 use Rattle.sc_msg.specs.Kinds.{kind_of, name_of}
 use Rattle.sc_msg.specs.declared.message.Message.{Message}
+use Rattle.sc_node.specs.declared.session.Kind.{Kind}
+use Rattle.sc_node.specs.declared.session.Kind.TheVariants as kind
+use Rattle.sc_world.specs.declared.op.Op.{Op}
+use Rattle.sc_world.specs.Regular.{IsMeeting}
 use Rattle.q_desk.specs.declared.completed.Completed.{Completed}
 use Rattle.q_desk.specs.declared.completed.Completed.TheVariants as completed
 use Rattle.q_history.specs.declared.event.Handed.{Handed}
@@ -57,3 +61,49 @@ message_lines sent first (suc count) = message_line sent first ++ message_lines 
 abbrev pub printed : ClusterState → Result Stepped ClusterFault → List ℕ
 printed c (Ok stepped) = told_lines stepped.told ++ message_lines c.world.sent stepped.sent.first stepped.sent.count
 printed c (Err f) = refusal_line (Cluster f)
+
+-- ---- pairs of operations
+
+abbrev pub is_store : Kind → Bool
+is_store (kind.Store e) = true
+is_store kind.Collect = false
+
+-- there is an end, and it is before this place
+abbrev pub is_over : Option ℕ → ℕ → Bool
+is_over None place = false
+is_over (Some end) place = nat_lt end place
+
+-- an ended store, and an ended collect that began after the store's end
+abbrev pub is_pair : Op → Op → Bool
+is_pair s c = is_store s.session.kind && (not (is_store c.session.kind) && (is_some c.end && is_over s.end c.begin))
+
+-- the pairs of a store, in the order of the operations
+abbrev pub pairs_with : Op → List Op → List (Op × Op)
+pairs_with s ops = map (λ c. (s, c)) (filter (is_pair s) ops)
+
+-- the pairs of each operation in turn
+abbrev pub pairs_of : List Op → List (Op × Op)
+pairs_of ops = flat_map (λ s. pairs_with s ops) ops
+
+abbrev pub meeting_text : Option ℕ → List ℕ
+meeting_text (Some id) = codes " meet " ++ ending id
+meeting_text None = codes " apart\n"
+
+abbrev pub pair_line : Op → Op → Option ℕ → List ℕ
+pair_line s c least =
+    codes "store " ++ (decimal s.node ++ (32 ∷ (decimal s.tag ++ (codes " collect " ++ (decimal c.node ++ (32 ∷ (decimal c.tag ++ meeting_text least)))))))
+
+-- the line of a pair tells the least node where the two meet, if there is one
+pub record TellsPair (p : Op × Op) (line : List ℕ) : Type 0 where
+  pub least : Option ℕ
+  pub meeting : IsMeeting p.0 p.1 least
+  pub says : line ≡ pair_line p.0 p.1 least
+
+-- the lines of these pairs in turn
+abbrev pub TellsPairs : List (Op × Op) → List ℕ → Type 0
+TellsPairs [] text = text ≡ []
+TellsPairs (p ∷ ps) text = (line rest : List ℕ) × TellsPair p line × TellsPairs ps rest × (text ≡ line ++ rest)
+
+-- the lines of these pairs stand behind the text before
+abbrev pub AddsPairs : List (Op × Op) → List ℕ → List ℕ → Type 0
+AddsPairs ps before after = (text : List ℕ) × TellsPairs ps text × (after ≡ before ++ text)

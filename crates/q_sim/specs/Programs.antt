@@ -3,7 +3,8 @@ use Rattle.std.specs.Prelude.{◌≡◌, ℕ, List}
 use Rattle.bq_insn.specs.declared.insn.Insn.{Insn}
 use Rattle.bq_insn.specs.Slots.{IsText, spelling}
 use Rattle.bq_insn.specs.Fault as bytes
-use Rattle.bq_check.specs.Certificate.{Certificate}
+use Rattle.bq_check.specs.Certificate.{Certificate, IsCertified}
+use Rattle.bq_verify.specs.Least.{AreLeast}
 use Rattle.bq_verify.specs.Refused as verify
 use Rattle.q_sim.specs.declared.refusal.Refusal.{Refusal}
 use Rattle.q_sim.specs.declared.refusal.Refusal.TheVariants.{Bytes, Program, OutOfMemory}
@@ -14,9 +15,11 @@ IsUncertified text (Program f) = verify.IsRefused text f
 IsUncertified text OutOfMemory = Unit {0}
 IsUncertified text r = ⊥
 
--- the certificate is of the text that the bytes spell
-abbrev pub IsProgram : List ℕ → Certificate → Type 0
-IsProgram code certificate = IsText certificate.text × (code ≡ spelling certificate.text)
+-- the certificate is of the text that the bytes spell, with the verifier's notes: no notes that pass say more
+pub record IsProgram (code : List ℕ) (certificate : Certificate) : Type 0 where
+  pub spelled : code ≡ spelling certificate.text
+  pub certified : IsCertified certificate
+  pub least : AreLeast certificate.text certificate.notes
 
 -- why bytes give no program: they spell no text, or the text that they spell gets no certificate
 abbrev pub IsRefusal : List ℕ → Refusal → Type 0

@@ -11,6 +11,8 @@ use Rattle.q_script.specs.declared.records.RecordsFault.TheVariants as records_f
 use Rattle.q_script.specs.Script as script
 use Rattle.q_script.specs.declared.script.ScriptFault.TheVariants as script_fault
 use Rattle.q_history.specs.Faults as cluster
+use Rattle.q_files.specs.declared.files.FileFault.{FileFault}
+use Rattle.q_files.specs.declared.files.FileFault.TheVariants as file_fault
 use Rattle.q_sim.specs.declared.refusal.Refusal.{Refusal}
 use Rattle.q_sim.specs.declared.refusal.Refusal.TheVariants.{FileFailed, Assembler, Bytes, Program, Records, Script, Fraction, Cluster, OutOfMemory}
 use Rattle.q_sim.specs.declared.refusal.Place.{Place}
@@ -65,3 +67,8 @@ text r = codes "refused " ++ (decimal (number r) ++ (32 ∷ (name r ++ place_tex
 -- the line that is printed
 abbrev pub refusal_line : Refusal → List ℕ
 refusal_line r = text r ++ 10 ∷ []
+
+-- the refusal of what needs a file that fails
+abbrev pub refusal_of : FileFault → Refusal
+refusal_of file_fault.Failed = FileFailed
+refusal_of file_fault.OutOfMemory = OutOfMemory

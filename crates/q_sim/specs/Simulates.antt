@@ -1,5 +1,5 @@
 -- What a script does to a cluster, and what it prints.
-use Rattle.std.specs.Prelude.{◌≡◌, ◌≢◌, ◌⊎◌, ℕ, ◌<◌, ◌≤◌, ◌-◌, ◌^◌, zero, suc, min, List, [], ◌∷◌, ◌++◌, length, slice_index, Result, Ok, Err, IsFalse}
+use Rattle.std.specs.Prelude.{◌≡◌, ◌≢◌, ◌⊎◌, ℕ, ◌<◌, ◌≤◌, ◌-◌, ◌^◌, zero, suc, min, nat_lt, if◌then◌else◌, List, [], ◌∷◌, ◌++◌, length, slice_index, Result, Ok, Err, IsFalse}
 use Rattle.std.specs.List.{Contains}
 use Rattle.std.specs.Option.{IsSome}
 use Rattle.std.specs.FinSet as set
@@ -9,7 +9,7 @@ use Rattle.sc_world.specs.Worlds.{live_at}
 use Rattle.q_script.specs.Records.{value_bytes}
 use Rattle.q_script.specs.declared.founding.Founding.{Founding}
 use Rattle.q_script.specs.declared.line.ScriptLine.{ScriptLine}
-use Rattle.q_script.specs.declared.line.ScriptLine.TheVariants.{Program, Store, Ask, Deliver, All, Hand, Run}
+use Rattle.q_script.specs.declared.line.ScriptLine.TheVariants.{Program, Store, Ask, Deliver, All, Hand, Run, Enter, Leave, Crash, Pairs, Journal}
 use Rattle.q_script.specs.declared.script.Script.{Script}
 use Rattle.q_history.specs.declared.event.Event.{Event}
 use Rattle.q_history.specs.declared.event.Event.TheVariants as event
@@ -25,7 +25,7 @@ use Rattle.q_sim.specs.declared.refusal.Refusal.{Refusal}
 use Rattle.q_sim.specs.declared.refusal.Refusal.TheVariants as refusal
 use Rattle.q_sim.specs.Delivered.{Deliveries}
 use Rattle.q_sim.specs.Programs.{IsProgram, IsRefusal}
-use Rattle.q_sim.specs.Printing.{printed}
+use Rattle.q_sim.specs.Printing.{printed, pairs_of, TellsPairs}
 use Rattle.q_sim.specs.Refusal.{refusal_line}
 
 -- a cluster that a script runs
@@ -38,7 +38,17 @@ pub record SimState : Type 0 where
 abbrev pub Rises : List ℕ → Type 0
 Rises ids = (i j : ℕ) → i < j → j < length ids → slice_index ids i < slice_index ids j
 
+-- the ids with one more in its place, unless it is there
+abbrev pub with_id : ℕ → List ℕ → List ℕ
+with_id id [] = id ∷ []
+with_id id (n ∷ ns) = if nat_lt id n then id ∷ n ∷ ns else n ∷ (if nat_lt n id then with_id id ns else ns)
+
 -- ---- one event
+
+-- the id of a node that came is put among the others
+abbrev pub joined : Event → Result Stepped ClusterFault → List ℕ → List ℕ
+joined (event.Enter id) (Ok told) ids = with_id id ids
+joined e r ids = ids
 
 -- an accepted delivery is noted
 abbrev pub noted : Event → Result Stepped ClusterFault → Deliveries → Deliveries
@@ -49,7 +59,7 @@ noted e r d = d
 pub record Acts (e : Event) (s : SimState) (text : List ℕ) (t : SimState) : Type 0 where
   pub result : Result Stepped ClusterFault
   pub takes : Takes s.cluster e t.cluster result
-  pub nodes : t.nodes ≡ s.nodes
+  pub nodes : t.nodes ≡ joined e result s.nodes
   pub delivered : t.delivered ≡ noted e result s.delivered
   pub says : text ≡ printed t.cluster result
 
@@ -110,6 +120,16 @@ pub record IsSpread (message limit : ℕ) (s : SimState) (left : ℕ) (t : SimSt
   pub onward : IsOnward limit s left t
   pub over : (left ≡ 0) ⊎ Ahead t (suc message) 0
 
+-- ---- what is asked of the cluster
+
+-- each pair of a store and a later collect is told, and nothing is done
+abbrev pub Tells : SimState → List ℕ → SimState → Type 0
+Tells s text t = TellsPairs (pairs_of s.cluster.world.ops) text × (t ≡ s)
+
+-- no journal is written yet: that is refused, and nothing is done
+abbrev pub Journals : SimState → List ℕ → SimState → Type 0
+Journals s text t = (text ≡ refusal_line refusal.FileFailed) × (t ≡ s)
+
 -- ---- lines
 
 abbrev pub Does : ScriptLine → SimState → List ℕ → SimState → Type 0
@@ -120,6 +140,11 @@ Does (Deliver message node) = Acts (event.Deliver message node)
 Does (All limit) = Spreads limit
 Does (Hand node) = Acts (event.HandOut node)
 Does (Run job) = Acts (event.Finish job)
+Does (Enter id) = Acts (event.Enter id)
+Does (Leave id) = Acts (event.Leave id)
+Does (Crash id) = Acts (event.Crash id)
+Does Pairs = Tells
+Does (Journal node file) = Journals
 
 -- the lines in turn, and all that they print
 abbrev pub Plays : List ScriptLine → SimState → List ℕ → SimState → Type 0

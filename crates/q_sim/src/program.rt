@@ -1,6 +1,7 @@
 //! Programs with their certificates.
 
 ghost use Rattle.std.specs.Prelude.{◌≡◌, IfOk, IfErr};
+ghost use Rattle.bq_verify.specs.Least.{AreLeast};
 ghost use Rattle.q_sim.specs.Programs.{IsProgram, IsRefusal, IsUncertified};
 
 use crate::refusal::Refusal;
@@ -13,9 +14,10 @@ use q_table::program::Program;
 use std::alloc::{AllocError, Global};
 use std::sync::Arc;
 
-/// The certificate of a text. Refused is what the verifier refuses, or 99.
+/// The certificate of a text, with the notes that the verifier finds. Refused is what the verifier refuses, or 99.
 pub fn certified_text(alloc: Global, text: Text) -> Result<Certified, Refusal>
     ensures same { IfOk result (λ certified. certified.text ≡ text) }
+    ensures least { IfOk result (λ certified. AreLeast text certified.notes) }
     ensures refused { IfErr result (IsUncertified text) }
 {
     let notes = verify(alloc, &text)?;

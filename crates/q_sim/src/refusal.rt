@@ -6,6 +6,7 @@ ghost use Rattle.q_sim.specs.Refusal as refusal;
 use bq_asm::fault::AsmFault;
 use bq_check::fault::CheckFault;
 use bq_insn::fault::DecodeFault;
+use q_files::files::FileFault;
 use q_history::fault::ClusterFault;
 use q_script::records::RecordsFault;
 use q_script::script::ScriptFault;
@@ -219,5 +220,19 @@ impl From<AllocError> for Refusal {
 
     fn from(_error: AllocError) -> Self {
         Refusal::OutOfMemory
+    }
+}
+
+impl From<FileFault> for Refusal {
+    ghost use Rattle.std.specs.Prelude.{◌≡◌};
+    ghost use Rattle.q_sim.specs.Refusal.{refusal_of};
+
+    ghost from_gives = { λ fault refusal. refusal ≡ refusal_of fault };
+
+    fn from(fault: FileFault) -> Self {
+        match fault {
+            FileFault::Failed => Refusal::FileFailed,
+            FileFault::OutOfMemory => Refusal::OutOfMemory,
+        }
     }
 }

@@ -1,10 +1,10 @@
 //! Scripts, run over a cluster in memory.
 
-ghost use Rattle.std.specs.Prelude.{◌≡◌, ◌<◌, ◌↔◌, ◌++◌, ◌-◌, ◌^◌, [], length, min, IfOk, IfErr, OnOk, IsTrue, IsFalse, string_bytes};
-ghost use Rattle.q_sim.specs.Simulates.{IsSimulationFault, Rises, Simulates, first_ids};
+ghost use Rattle.std.specs.Prelude.{◌≡◌, ◌<◌, ◌↔◌, ◌++◌, ◌-◌, ◌^◌, [], length, min, IfOk, IfErr, OnOk, OnErr, IsTrue, IsFalse, string_bytes};
+ghost use Rattle.q_sim.specs.Simulates.{IsSimulationFault, Rises, Simulates, first_ids, with_id};
 
 use crate::delivered::Delivered;
-use crate::printing::{print_messages, print_told};
+use crate::printing::{print_messages, print_pairs, print_told};
 use crate::program::certified_code;
 use crate::refusal::Refusal;
 use q_cluster::cluster::Cluster;
@@ -61,11 +61,27 @@ fn founders(alloc: Global, count: u64) -> Result<Vec<u64>, AllocError>
     Ok(ids)
 }
 
+/// Puts an id among ids that rise. At Err they are as they were.
+fn put_id(ids: &mut Vec<u64>, id: u64) -> Result<(), AllocError>
+    requires { Rises ids.old.items }
+    ensures put { OnOk result (ids.new.items ≡ with_id id ids.old.items) }
+    ensures same { OnErr result (ids.new.items ≡ ids.old.items) }
+    ensures rises { Rises ids.new.items }
+{
+    match ids.as_slice().binary_search(&id) {
+        Ok(_) => Ok(()),
+        Err(place) => {
+            ids.insert(place, id)?;
+            Ok(())
+        }
+    }
+}
+
 impl Simulation {
     ghost use Rattle.std.specs.Option.{IsSome};
     ghost use Rattle.std.specs.FinSet as set;
     ghost use Rattle.sc_world.specs.Worlds.{live_at};
-    ghost use Rattle.q_sim.specs.Simulates.{Acts, Ahead, Begins, Does, IsSpread, Registers, Spreads, Tries, noted};
+    ghost use Rattle.q_sim.specs.Simulates.{Acts, Ahead, Begins, Does, IsSpread, Journals, Registers, Spreads, Tells, Tries, joined, noted};
     ghost use Rattle.q_sim.specs.Printing.{printed};
     ghost use Rattle.q_sim.specs.Refusal.{refusal_line};
     ghost use Rattle.q_sim.specs.Seen.{Prints, seen};
@@ -123,6 +139,11 @@ impl Simulation {
             ScriptLine::All { limit } => self.deliver_all(limit),
             ScriptLine::Hand { node } => self.step(&Event::HandOut(node)),
             ScriptLine::Run { job } => self.step(&Event::Finish(job as usize)),
+            ScriptLine::Enter { node } => self.step(&Event::Enter(node)),
+            ScriptLine::Leave { node } => self.step(&Event::Leave(node)),
+            ScriptLine::Crash { node } => self.step(&Event::Crash(node)),
+            ScriptLine::Pairs => self.tell_pairs(),
+            ScriptLine::Journal { .. } => self.journal(),
         }
     }
 
@@ -136,7 +157,8 @@ impl Simulation {
         }
     }
 
-    /// Takes one event, and prints what it tells or its refusal. A delivery that is accepted is noted.
+    /// Takes one event, and prints what it tells or its refusal. A node that came and a delivery that is accepted are
+    /// noted.
     fn step(&mut self, event: &Event) -> Result<(), AllocError>
         ensures { OnOk result (Prints (Acts event.now) self.old self.new) }
     {
@@ -145,18 +167,26 @@ impl Simulation {
         self.print(&answer)
     }
 
-    /// Notes a delivery that was accepted.
+    /// Notes a node that came, and a delivery that was accepted.
     fn note(
         &mut self,
         event: &Event,
         answer: &Result<Stepped, ClusterFault>,
     ) -> Result<(), AllocError>
-        ensures { OnOk result (self.new ≡ record self.old { delivered = noted event.now answer.now self.old.delivered }) }
+        ensures noted { OnOk result (seen self.new ≡ record (seen self.old) { nodes = joined event.now answer.now self.old.nodes.items; delivered = noted event.now answer.now self.old.delivered }) }
+        ensures silent { OnOk result (self.new.lines ≡ self.old.lines) }
     {
-        if let (Ok(_), Event::Deliver { message, node }) = (answer, event) {
-            self.delivered.insert(*message, *node)?;
+        match (answer, event) {
+            (Ok(_), Event::Deliver { message, node }) => {
+                self.delivered.insert(*message, *node)?;
+                Ok(())
+            }
+            (Ok(_), Event::Enter(node)) => {
+                put_id(&mut self.nodes, *node)?;
+                Ok(())
+            }
+            _ => Ok(()),
         }
-        Ok(())
     }
 
     /// Delivers what was not delivered, the least message first and each to the least node first, so many times at most.
@@ -209,6 +239,20 @@ impl Simulation {
         ensures { IsTrue result ↔ (IsSome (live_at self.now.cluster.world node) × IsFalse (set.contains self.now.delivered (message, node))) }
     {
         self.cluster.is_live(node) && !self.delivered.contains(message, node)
+    }
+
+    /// Tells of each pair of a store and a later collect.
+    fn tell_pairs(&mut self) -> Result<(), AllocError>
+        ensures { OnOk result (Prints Tells self.old self.new) }
+    {
+        print_pairs(&mut self.lines, self.cluster.ops())
+    }
+
+    /// Refuses to write a journal.
+    fn journal(&mut self) -> Result<(), AllocError>
+        ensures { OnOk result (Prints Journals self.old self.new) }
+    {
+        self.refuse(&Refusal::FileFailed)
     }
 
     /// Prints a refusal.

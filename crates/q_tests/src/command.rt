@@ -1,8 +1,8 @@
 //! Commands whose writer fails.
 
-use q_command::files::Files;
-use q_command::memory::MemoryFiles;
 use q_command::perform::{Ended, carry_out, perform};
+use q_files::files::Files;
+use q_files::memory::MemoryFiles;
 use q_words::words::Line;
 use std::alloc::Global;
 use std::io;

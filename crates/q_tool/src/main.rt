@@ -23,10 +23,16 @@
 //! | `all LIMIT` | nothing: delivers each message to each live node that it was not delivered to, the least message first, then the least node, LIMIT times at most |
 //! | `hand NODE` | `job J query Q`, or `no job` where no query is ready |
 //! | `run J` | `answer NODE Q ACC STEPS`: the job is run, and its node records the answer |
+//! | `enter ID` | `ok`, messages: a node with a new id comes |
+//! | `leave ID` | `ok`, messages: the node leaves for good, and tells it |
+//! | `crash ID` | `ok`: the node stops for good, and tells nobody |
+//! | `pairs` | `store NODE TAG collect NODE TAG meet ID`, or `apart` in place of `meet ID`, for each ended store and each ended collect that began after the store's end: the least node that acknowledged the store and replied to the collect |
 //!
 //! Messages are printed as `message I KIND`, one a line. A delivery that is refused counts as one for `all`, and `all`
-//! passes over what it tried and what `deliver` delivered. A refused event prints its refusal, and the script goes on; the
-//! exit status stays 0. Refused `nodes` end the script: 45 before 49. A line of another form is 9 before anything runs.
+//! passes over what it tried and what `deliver` delivered; it delivers to nodes that came, too. `pairs` goes by the
+//! beginnings of the stores, and then of the collects; operations of nodes that left or crashed count. A refused event
+//! prints its refusal, and the script goes on; the exit status stays 0. Refused `nodes` end the script: 45 before 49. A
+//! line of another form is 9 before anything runs.
 //!
 //! A refusal prints `refused N Name`, then ` at U` where it carries a unit, or ` line L` where a line ([`Refusal`]).
 //! `run` finds faults in this order: FILE, its text, the verifier and the checker, RECORDS, its lines. `sim` finds them in
@@ -45,8 +51,8 @@
 #![tactic(auto)]
 
 use q_command::advice::advice;
-use q_command::folder::Folder;
 use q_command::perform::perform;
+use q_files::folder::Folder;
 use q_words::words::{WordsFault, read_words};
 use std::process::ExitCode;
 use std::{env, io};

@@ -23,3 +23,12 @@ returns-in-Hand c = performed c.step-in-Hand.result c.args.self.now c.step-in-Ha
 
 pub returns-in-Run : goal.returns-in-Run
 returns-in-Run c = performed c.step-in-Run.result c.args.self.now c.step-in-Run.new.self c.args.line _ c.in-Run.is c.step-in-Run.ensures
+
+pub returns-in-Enter : goal.returns-in-Enter
+returns-in-Enter c = performed c.step-in-Enter.result c.args.self.now c.step-in-Enter.new.self c.args.line _ c.in-Enter.is c.step-in-Enter.ensures
+
+pub returns-in-Leave : goal.returns-in-Leave
+returns-in-Leave c = performed c.step-in-Leave.result c.args.self.now c.step-in-Leave.new.self c.args.line _ c.in-Leave.is c.step-in-Leave.ensures
+
+pub returns-in-Crash : goal.returns-in-Crash
+returns-in-Crash c = performed c.step-in-Crash.result c.args.self.now c.step-in-Crash.new.self c.args.line _ c.in-Crash.is c.step-in-Crash.ensures

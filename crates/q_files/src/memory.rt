@@ -2,8 +2,8 @@
 
 ghost use Rattle.std.specs.Prelude.{◌≡◌, Some, None, OnErr, OnOk};
 ghost use Rattle.std.specs.BTreeMap.{IsEmpty, IsUnchanged};
-ghost use Rattle.q_command.specs.Files.{count_after};
-ghost use Rattle.q_command.specs.Memory.{IsWritten, after_call, fails_next};
+ghost use Rattle.q_files.specs.Files.{count_after};
+ghost use Rattle.q_files.specs.Memory.{IsWritten, after_call, fails_next};
 
 use crate::files::{FileFault, Files};
 use std::alloc::{AllocError, Global};
@@ -75,7 +75,7 @@ impl MemoryFiles {
 }
 
 impl Files for MemoryFiles {
-    ghost use Rattle.q_command.specs.Memory.{Reads, Writes};
+    ghost use Rattle.q_files.specs.Memory.{Reads, Writes};
 
     ghost failed = { λ memory. memory.failures };
 

@@ -1,6 +1,6 @@
 use Rattle.std.proofs.Common.{rules}
-use Rattle.q_command.proofs.Written.{missing}
-use Rattle.q_command.proofs.memory.MemoryFilesFiles.read.Goals as goal
+use Rattle.q_files.proofs.Written.{missing}
+use Rattle.q_files.proofs.memory.MemoryFilesFiles.read.Goals as goal
 
 pub returns-in-None-clause-bytes : goal.returns-in-None-clause-bytes
 returns-in-None-clause-bytes c =

@@ -1,10 +1,9 @@
 //! Files by name: what a command asks of the folder that it runs in.
 
 ghost use Rattle.std.specs.Prelude.{◌≡◌, ℕ, List, Result};
-ghost use Rattle.q_command.specs.Files.{failures_after, seen_as};
-ghost use Rattle.q_command.specs.declared.files.FileFault.{FileFault};
+ghost use Rattle.q_files.specs.Files.{failures_after, seen_as};
+ghost use Rattle.q_files.specs.declared.files.FileFault.{FileFault};
 
-use q_sim::refusal::Refusal;
 use std::alloc::{AllocError, Global};
 
 /// Why a file was not read or written.
@@ -18,26 +17,12 @@ pub enum FileFault {
 
 impl From<AllocError> for FileFault {
     ghost use Rattle.std.specs.Prelude.{◌≡◌};
-    ghost use Rattle.q_command.specs.declared.files.FileFault.TheVariants.{OutOfMemory};
+    ghost use Rattle.q_files.specs.declared.files.FileFault.TheVariants.{OutOfMemory};
 
     ghost from_gives = { λ _ e. e ≡ OutOfMemory };
 
     fn from(_error: AllocError) -> Self {
         FileFault::OutOfMemory
-    }
-}
-
-impl From<FileFault> for Refusal {
-    ghost use Rattle.std.specs.Prelude.{◌≡◌};
-    ghost use Rattle.q_command.specs.Files.{refusal_of};
-
-    ghost from_gives = { λ fault refusal. refusal ≡ refusal_of fault };
-
-    fn from(fault: FileFault) -> Self {
-        match fault {
-            FileFault::Failed => Refusal::FileFailed,
-            FileFault::OutOfMemory => Refusal::OutOfMemory,
-        }
     }
 }
 

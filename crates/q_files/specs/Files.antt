@@ -1,9 +1,7 @@
 -- What files keep and answer.
 use Rattle.std.specs.Prelude.{ℕ, ◌+◌, ◌-◌, ◌^◌, min, Result, Ok, Err}
-use Rattle.q_command.specs.declared.files.FileFault.{FileFault}
-use Rattle.q_sim.specs.declared.refusal.Refusal.{Refusal}
-use Rattle.q_sim.specs.declared.refusal.Refusal.TheVariants as refusal
-use Rattle.q_command.specs.declared.files.FileFault.TheVariants.{Failed, OutOfMemory}
+use Rattle.q_files.specs.declared.files.FileFault.{FileFault}
+use Rattle.q_files.specs.declared.files.FileFault.TheVariants.{Failed, OutOfMemory}
 
 -- the count of failures after a fault: one more where a file failed, up to the greatest value
 abbrev pub count_after : FileFault → ℕ → ℕ
@@ -19,8 +17,3 @@ failures_after (Ok x) n = n
 abbrev pub seen_as : {X Y : Type 0} → (X → Y) → Result X FileFault → Result Y FileFault
 seen_as f (Ok x) = Ok (f x)
 seen_as f (Err e) = Err e
-
--- the refusal of a command whose file fails
-abbrev pub refusal_of : FileFault → Refusal
-refusal_of Failed = refusal.FileFailed
-refusal_of OutOfMemory = refusal.OutOfMemory

@@ -5,10 +5,10 @@ use Rattle.std.specs.BTreeMap.{BTreeMap, Updates, get_by_text}
 use Rattle.std.specs.String.{string_cmp}
 use Rattle.std.specs.Str.{bytes_eq}
 use Rattle.std.proofs.lemmas.Map.Text.{btree_map_updates_text}
-use Rattle.q_command.specs.Memory.{bytes_of, Finds, IsWritten}
-use Rattle.q_command.specs.declared.files.FileFault.{FileFault}
-use Rattle.q_command.specs.declared.files.FileFault.TheVariants.{Failed}
-use Rattle.q_command.specs.declared.memory.MemoryFiles.{MemoryFiles}
+use Rattle.q_files.specs.Memory.{bytes_of, Finds, IsWritten}
+use Rattle.q_files.specs.declared.files.FileFault.{FileFault}
+use Rattle.q_files.specs.declared.files.FileFault.TheVariants.{Failed}
+use Rattle.q_files.specs.declared.memory.MemoryFiles.{MemoryFiles}
 
 mapped : {X Y : Type 0} (f : X → Y) (b : Bool) (v : X) (rest : Option X) → option_map f (cond b (Some v) rest) ≡ cond b (Some (f v)) (option_map f rest)
 mapped f true v rest = refl

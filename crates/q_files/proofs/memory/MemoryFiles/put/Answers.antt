@@ -1,6 +1,6 @@
 use Rattle.std.proofs.Common.{rules}
-use Rattle.q_command.proofs.Written.{written}
-use Rattle.q_command.proofs.memory.MemoryFiles.put.Goals as goal
+use Rattle.q_files.proofs.Written.{written}
+use Rattle.q_files.proofs.memory.MemoryFiles.put.Goals as goal
 
 pub returns-clause-written : goal.returns-clause-written
 returns-clause-written c = written c.in_ok-name.name c.in_ok-bytes.bytes c.args.self.now.files c.insert.new.self c.in_ok-insert.ensures.updates c.args.name.now c.args.bytes.now (search rules) (search rules)

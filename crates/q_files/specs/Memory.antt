@@ -3,9 +3,9 @@ use Rattle.std.specs.Prelude.{◌≡◌, ◌⊎◌, ◌==◌, ℕ, zero, suc, Li
 use Rattle.std.specs.BTreeMap.{BTreeMap, get_by_text, IsUnchanged}
 use Rattle.std.specs.Map.{update}
 use Rattle.std.specs.Str.{bytes_eq}
-use Rattle.q_command.specs.declared.files.FileFault.{FileFault}
-use Rattle.q_command.specs.declared.files.FileFault.TheVariants.{Failed, OutOfMemory}
-use Rattle.q_command.specs.declared.memory.MemoryFiles.{MemoryFiles}
+use Rattle.q_files.specs.declared.files.FileFault.{FileFault}
+use Rattle.q_files.specs.declared.files.FileFault.TheVariants.{Failed, OutOfMemory}
+use Rattle.q_files.specs.declared.memory.MemoryFiles.{MemoryFiles}
 
 module _ {Y Z : Type 0} where
   -- the bytes of the file with this name

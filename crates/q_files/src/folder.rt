@@ -1,7 +1,7 @@
 //! The folder that the program runs in.
 
 ghost use Rattle.std.specs.Prelude.{◌≡◌};
-ghost use Rattle.q_command.specs.Files.{count_after};
+ghost use Rattle.q_files.specs.Files.{count_after};
 
 use crate::files::{FileFault, Files};
 use std::alloc::Global;

@@ -1,0 +1,15 @@
+//! Files by name, read and written whole.
+//!
+//! - [`Files`] is what a command asks of the folder that it runs in. Its contracts say what a read and a write may answer
+//!   by two relations of the implementing type, and count the calls that failed.
+//! - [`Folder`] is the machine's files, of which no contract says what they hold.
+//! - [`MemoryFiles`] is files in memory, of which each call's contract does.
+//!
+//! [`Files`]: files::Files
+//! [`Folder`]: folder::Folder
+//! [`MemoryFiles`]: memory::MemoryFiles
+#![tactic(auto)]
+
+pub mod files;
+pub mod folder;
+pub mod memory;
