@@ -291,8 +291,8 @@ impl Desk {
         self.queries.as_slice()
     }
 
-    /// What the last accepted call ended: none after a call that was no delivery. A refused call, and a hand-out that
-    /// found no ready query, leave it as it was.
+    /// What the last accepted call ended, as `end` was told of it; none after a program, a hand-out or a post. `note` and
+    /// `ask`, which can be taken back, leave it as it was, and so do refused calls and a hand-out that finds nothing.
     pub fn ended(&self) -> Option<Completed>
         ensures { result ≡ self.now.ended }
     {
