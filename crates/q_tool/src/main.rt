@@ -27,6 +27,7 @@
 //! | `leave ID` | `ok`, messages: the node leaves for good, and tells it |
 //! | `crash ID` | `ok`: the node stops for good, and tells nobody |
 //! | `pairs` | `store NODE TAG collect NODE TAG meet ID`, or `apart` in place of `meet ID`, for each ended store and each ended collect that began after the store's end: the least node that acknowledged the store and replied to the collect |
+//! | `journal NODE FILE` | `refused 87 FileFailed`: journals are not saved yet; FILE is one word |
 //!
 //! Messages are printed as `message I KIND`, one a line. A delivery that is refused counts as one for `all`, and `all`
 //! passes over what it tried and what `deliver` delivered; it delivers to nodes that came, too. `pairs` goes by the
