@@ -157,6 +157,20 @@ job_from s node (Some k) = job_at s node k (slice_get s.queries k)
 abbrev pub next_job : DeskState → ℕ → Option Job
 next_job s node = job_from s node (position (λ q. is_ready q.phase) s.queries)
 
+-- the job of a query of this node that runs
+abbrev pub running_job_of : ℕ → ℕ → Query → Phase → Option Certificate → Option Job
+running_job_of node k q (Running view) (Some program) =
+    Some (record { node = node; query = k; program = q.program; start = q.start; certified = program; view = view })
+running_job_of node k q p program = None
+
+abbrev pub running_job_at : DeskState → ℕ → ℕ → Option Query → Option Job
+running_job_at s node k None = None
+running_job_at s node k (Some q) = running_job_of node k q q.phase (slice_get s.programs q.program)
+
+-- the job of the query with this number, where it runs
+abbrev pub running_job : DeskState → ℕ → ℕ → Option Job
+running_job s node k = running_job_at s node k (slice_get s.queries k)
+
 abbrev pub hands : DeskState → Option Job → Result (Option Job × DeskState) DeskFault
 hands s None = Ok (None, s)
 hands s (Some j) = room s (Ok (Some j, with_entry (record s { queries = with_phase s.queries j.query (Running j.view) }) entry.HandOut))

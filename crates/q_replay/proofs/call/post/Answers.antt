@@ -1,0 +1,31 @@
+use Rattle.std.proofs.Common.{◌≡◌, ap, sym, ◌∙◌}
+use Rattle.q_session.specs.declared.ran.Ran.{Ran}
+use Rattle.q_replay.proofs.Calling.{refused, finished_right, answer_same, no_post, posts}
+use Rattle.q_replay.proofs.call.post.Goals as goal
+use Rattle.q_replay.proofs.call.post.Goals.{then-ran-acc-via-then-ran-acc, then-ran-acc-via-else-ran-acc+then-ran-steps}
+
+pub returns-then-ran-acc : goal.returns-then-ran-acc
+returns-then-ran-acc c =
+    λ d f a.
+    let runs = sym c.in_ok-job.ensures ∙ c.in-Some.is in
+    let right = finished_right c.run-done.result c.in-Some.job c.ran-ran.result c.job-job.ensures.right c.run-done.ensures c.ran-ran.ensures in
+    let same = answer_same c.one_answer.ensures c.args.book.now c.args.query c.in-Some.job c.ran-ran.result _ runs right a in
+    elim c.then-ran-acc.branch [
+      | then-ran-acc-via-then-ran-acc w ↦ w.if-ran-acc.true (ap (λ (r : Ran). r.acc) same)
+      | then-ran-acc-via-else-ran-acc+then-ran-steps w ↦ w.if-ran-steps.true (ap (λ (r : Ran). r.steps) same)
+    ]
+
+pub returns-in_err-post : goal.returns-in_err-post
+returns-in_err-post c =
+    let runs = sym c.in_ok-job.ensures ∙ c.in-Some.is in
+    let h = c.from_residual-in_err-post.ensures in
+    let k = c.in_err-post.ensures in
+    let a = c.if-ran-acc.false in
+    ?
+
+pub returns : goal.returns
+returns c =
+    let runs = sym c.in_ok-job.ensures ∙ c.in-Some.is in
+    let right = finished_right c.run-done.result c.in-Some.job c.ran-ran.result c.job-job.ensures.right c.run-done.ensures c.ran-ran.ensures in
+    posts c.args.book.now c.post.new.self c.args.query c.run-done.result.job c.in-Some.job c.run-done.result.ran (record { acc = c.args.acc; steps = c.args.steps }) c.in_ok-post.field-0
+    runs c.run-done.ensures (sym c.ran-ran.ensures ∙ λ i. record { acc = c.if-ran-acc.false i; steps = c.if-ran-steps.false i }) ? c.in_ok-post.ensures

@@ -1,0 +1,15 @@
+use Rattle.std.proofs.Common.{refl}
+use Rattle.q_replay.proofs.Calling.{next_leads, next_form, next_mismatch}
+use Rattle.q_replay.proofs.replay.take_next.Goals as goal
+
+pub returns-in-Err-Form-clause-fault : goal.returns-in-Err-Form-clause-fault
+returns-in-Err-Form-clause-fault c =
+    λ bytes l. next_form bytes c.args.count c.args.book.now c.args.rest.now l c.requires.more (c.in-Err-Form.ensures.none refl)
+
+pub returns-in-Ok-take-clause-leads : goal.returns-in-Ok-take-clause-leads
+returns-in-Ok-take-clause-leads c =
+    λ bytes l. next_leads bytes c.args.count c.args.book.now c.take.new.book c.in-Ok.read.0 c.args.rest.now c.in-Ok.read.1.now l c.in-Ok.ensures.legal c.in-Ok.ensures.parts c.in-Ok-take.ensures
+
+pub returns-in-Err-Mismatch-clause-fault : goal.returns-in-Err-Mismatch-clause-fault
+returns-in-Err-Mismatch-clause-fault c =
+    λ bytes l. next_mismatch bytes c.args.count c.args.book.now c.in-Ok.read.0 c.args.rest.now c.in-Ok.read.1.now l c.in-Ok.ensures.legal c.in-Ok.ensures.parts c.in-Err-Mismatch.ensures
