@@ -1,5 +1,5 @@
 -- What taking an event comes to.
-use Rattle.std.proofs.Common.{◌≡◌, ◌≢◌, ℕ, ◌+◌, ◌≤◌, suc, Bool, true, false, cond, List, [], ◌∷◌, ◌++◌, length, length-append, add-one, Option, Some, None, refl, sym, ap, ◌∙◌, subst, flat_map, Result, Ok, Err, arith}
+use Rattle.std.proofs.Common.{◌≡◌, ◌≢◌, ℕ, ◌+◌, ◌≤◌, suc, Bool, true, false, cond, List, [], ◌∷◌, ◌++◌, length, length-append, add-one, Option, Some, None, refl, sym, ap, ◌∙◌, subst, flat_map, Result, Ok, Err, IsErrAnd, IfErr, arith}
 use Rattle.bq_check.specs.Spelling.{BeginsNone}
 use Rattle.sc_node.specs.declared.fault.NodeFault.TheVariants as node_fault
 use Rattle.q_session.specs.Right.{IsRight}
@@ -38,12 +38,13 @@ no_memory : (f : BookFault) → of_book f ≡ Mismatch → f ≢ memory
 no_memory f h q = let x : OutOfMemory ≡ Mismatch = sym (ap of_book q) ∙ h in absurd (cc)
 
 refused_by : (old new : BookState) (e : Entry) (f : BookFault) (x : Refusal) → of_book f ≡ x → (f ≢ memory → (c : BookState) → Follows old e c → IsAnswering old e → ⊥) → Calling old e new (Err x)
-refused_by old new e f Mismatch h no = no (no_memory f h)
-refused_by old new e f OutOfMemory h no = tt
+refused_by old new e f Mismatch h nowhere = nowhere (no_memory f h)
+refused_by old new e f OutOfMemory h nowhere = tt
 
 -- a call that the book refuses leads nowhere
-pub refused : (old new : BookState) (e : Entry) (f : BookFault) (r : Result (Unit {0}) Refusal) → r ≡ Err (of_book f) → (f ≢ memory → (c : BookState) → Follows old e c → IsAnswering old e → ⊥) → Calling old e new r
-refused old new e f r is no = subst (Calling old e new) (sym is) (refused_by old new e f (of_book f) refl no)
+pub refused : (old new : BookState) (e : Entry) (f : BookFault) (r : Result (Unit {0}) Refusal) → IsErrAnd r (λ x. x ≡ of_book f) → (f ≢ memory → (c : BookState) → Follows old e c → IsAnswering old e → ⊥) → Calling old e new r
+refused old new e f (Ok u) is nowhere = absurd is
+refused old new e f (Err x) is nowhere = refused_by old new e f x (sym is) nowhere
 
 -- ---- the event of an entry
 
@@ -80,10 +81,10 @@ own_post b c k j r runs f =
     )
 
 -- an answer that the book refuses is recorded for no job
-pub no_post : (b : BookState) (k : ℕ) (j : Job) (r s : Ran) (f : BookFault) → running_job b.desk b.id k ≡ Some j → r ≡ s → book.posted b j r ≡ Err f → (c : BookState) → Follows b (entry.Post k s) c → ⊥
-no_post b k j r s f runs same err c follows =
+pub no_post : (b : BookState) (k : ℕ) (i j : Job) (r s : Ran) (f : BookFault) → running_job b.desk b.id k ≡ Some j → i ≡ j → r ≡ s → book.posted b i r ≡ Err f → (c : BookState) → Follows b (entry.Post k s) c → ⊥
+no_post b k i j r s f runs job ran err c follows =
     let o = own_post b c k j s runs follows in
-    no_refusal f (tt, o.0) (sym err ∙ ap (book.posted b j) same ∙ o.1)
+    no_refusal f (tt, o.0) (sym err ∙ (λ t. book.posted b (job t) (ran t)) ∙ o.1)
 
 -- the book that records the right answer of the query's own job
 pub posts : (b c : BookState) (k : ℕ) (i j : Job) (r s : Ran) (u : Unit {0}) → running_job b.desk b.id k ≡ Some j → i ≡ j → r ≡ s → IsRight j.certified j.view j.start r → book.posted b i r ≡ Ok (u, c) → Follows b (entry.Post k s) c × IsAnswering b (entry.Post k s)
@@ -104,8 +105,8 @@ next_form bytes n b rest l more none =
     subst (λ (k : ℕ). IsFault bytes (fault.Form k)) (sym (add-one n)) (record { book = b; rest = rest; leads = l; more = more; none = none })
 
 pub next_mismatch : (bytes : List ℕ) (n : ℕ) (b : BookState) (w : Written) (rest more : List ℕ) → Leads bytes n b rest → IsWritten w → rest ≡ event_bytes w ++ more → ((c : BookState) → Takes b w c → ⊥) → IsFault bytes (fault.Mismatch (n + 1))
-next_mismatch bytes n b w rest more l legal parts no =
-    subst (λ (k : ℕ). IsFault bytes (fault.Mismatch k)) (sym (add-one n)) (record { book = b; rest = rest; leads = l; event = w; legal = legal; more = more; parts = parts; refused = no })
+next_mismatch bytes n b w rest more l legal parts refused =
+    subst (λ (k : ℕ). IsFault bytes (fault.Mismatch k)) (sym (add-one n)) (record { book = b; rest = rest; leads = l; event = w; legal = legal; more = more; parts = parts; refused = refused })
 
 -- each event takes a byte and more
 events_long : (ws : List Written) → length ws ≤ length (flat_map event_bytes ws)
@@ -123,3 +124,8 @@ leads_room bytes n b rest l =
     let first : length (head_bytes l.head ++ (flat_map event_bytes l.events ++ rest)) ≡ length (head_bytes l.head) + length (flat_map event_bytes l.events ++ rest) = length-append (head_bytes l.head) (flat_map event_bytes l.events ++ rest) in
     let second : length (flat_map event_bytes l.events ++ rest) ≡ length (flat_map event_bytes l.events) + length rest = length-append (flat_map event_bytes l.events) rest in
     omega arith
+
+-- a fault that is passed on
+pub passed_on : {A B : Type 0} (P : B → Type 0) (f : B) (r : Result A B) → IsErrAnd r (λ x. x ≡ f) → P f → IfErr r P
+passed_on P f (Ok a) is h = absurd is
+passed_on P f (Err x) is h = subst P (sym is) h

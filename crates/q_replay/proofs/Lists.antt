@@ -1,5 +1,5 @@
 -- Reads of lists that were appended to or written, and answers that were accepted.
-use Rattle.std.proofs.Common.{◌≡◌, ℕ, zero, suc, Bool, true, false, cond, ◌&&◌, List, [], ◌∷◌, ◌++◌, Some, None, refl, sym, ap, ◌∙◌, slice_get, slice_set, position, Result, Ok, Err}
+use Rattle.std.proofs.Common.{◌≡◌, ◌≢◌, ◌≤◌, ℕ, zero, suc, length, arith, Bool, true, false, cond, ◌&&◌, List, [], ◌∷◌, ◌++◌, Some, None, refl, sym, ap, ◌∙◌, slice_get, slice_set, position, Result, Ok, Err}
 use Rattle.std.proofs.lemmas.List.Quantifiers.{position-Some}
 use Rattle.std.proofs.lemmas.Option.{get_or_from_slice_get}
 use Rattle.std.specs.List.{AllByRecursion}
@@ -62,3 +62,11 @@ found test xs k x is at = sym (ap test (get_or_from_slice_get xs k x x at)) ∙ 
 pub all_push : {X : Type 0} (P : X → Type 0) (xs : List X) (x : X) → AllByRecursion P xs → P x → AllByRecursion P (xs ++ x ∷ [])
 all_push P [] x a h = (h, tt)
 all_push P (y ∷ xs) x a h = (a.0, all_push P xs x a.1 h)
+
+pub some_long : (xs : List ℕ) → xs ≢ [] → 1 ≤ length xs
+some_long [] h = absurd (h refl)
+some_long (x ∷ xs) h = omega arith
+
+pub none_long : (xs : List ℕ) → length xs ≡ 0 → xs ≡ []
+none_long [] h = refl
+none_long (x ∷ xs) h = absurd (omega arith)

@@ -1,6 +1,5 @@
 //! Events of a journal, each as the call that it names.
 
-ghost use Rattle.std.specs.Prelude.{◌<◌, ◌^◌};
 ghost use Rattle.q_desk.specs.declared.journal.Entry.TheVariants as entry;
 ghost use Rattle.q_journal.specs.Spelling.{IsWritten};
 ghost use Rattle.q_journal.specs.declared.written.Written.TheVariants as written;

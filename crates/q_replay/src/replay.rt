@@ -17,7 +17,8 @@ use q_journal::read::{ReadFault, read_event, read_head};
 use sc_members::config::Config;
 use std::alloc::Global;
 
-/// The book of which the bytes are the journal, or what is first wrong with them.
+/// The book of which the bytes are the journal, or what is first wrong with them: 57 or 58 at the least faulty event,
+/// where the head is event 0. 99 OutOfMemory may stand in place of any of these answers.
 pub fn replay(alloc: Global, bytes: &[u8]) -> Result<Book, ReplayFault>
     // A book is answered for its own journal alone.
     ensures spelled { IfOk result (λ b. bytes.now ≡ journal_of b) }
@@ -41,6 +42,8 @@ fn book_of(alloc: Global, bytes: &[u8]) -> Result<Book, ReplayFault>
     ensures journalled { IfOk result IsJournalled }
     ensures fault { IfErr result (IsFault bytes.now) }
 {
+    // Each event takes a byte and more.
+    let _most = bytes.len();
     let (mut book, mut rest) = open(alloc, bytes)?;
     let mut count = 0;
     while !rest.is_empty() {

@@ -1,10 +1,12 @@
-use Rattle.std.proofs.Common.{refl}
+use Rattle.std.proofs.Common.{Result, Err, subst}
+use Rattle.q_replay.specs.Taking.{Taking}
+use Rattle.q_replay.specs.declared.refusal.Refusal.{Refusal}
 use Rattle.q_replay.proofs.Calling.{next_leads, next_form, next_mismatch}
 use Rattle.q_replay.proofs.replay.take_next.Goals as goal
 
 pub returns-in-Err-Form-clause-fault : goal.returns-in-Err-Form-clause-fault
 returns-in-Err-Form-clause-fault c =
-    λ bytes l. next_form bytes c.args.count c.args.book.now c.args.rest.now l c.requires.more (c.in-Err-Form.ensures.none refl)
+    λ bytes l. next_form bytes c.args.count c.args.book.now c.args.rest.now l c.requires.more (c.in-Err-Form.ensures.none c.in-Err-Form.field-0-is)
 
 pub returns-in-Ok-take-clause-leads : goal.returns-in-Ok-take-clause-leads
 returns-in-Ok-take-clause-leads c =
@@ -12,4 +14,5 @@ returns-in-Ok-take-clause-leads c =
 
 pub returns-in-Err-Mismatch-clause-fault : goal.returns-in-Err-Mismatch-clause-fault
 returns-in-Err-Mismatch-clause-fault c =
-    λ bytes l. next_mismatch bytes c.args.count c.args.book.now c.in-Ok.read.0 c.args.rest.now c.in-Ok.read.1.now l c.in-Ok.ensures.legal c.in-Ok.ensures.parts c.in-Err-Mismatch.ensures
+    λ bytes l. next_mismatch bytes c.args.count c.args.book.now c.in-Ok.read.0 c.args.rest.now c.in-Ok.read.1.now l c.in-Ok.ensures.legal c.in-Ok.ensures.parts
+    (subst (λ (x : Refusal). let r : Result (Unit {0}) Refusal = Err x in Taking c.args.book.now c.in-Ok.read.0 c.take.new.book r) c.in-Err-Mismatch.field-0-is c.in-Err-Mismatch.ensures)
