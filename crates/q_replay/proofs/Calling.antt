@@ -1,16 +1,14 @@
 -- What taking an event comes to.
-use Rattle.std.proofs.Common.{◌≡◌, ◌≢◌, ℕ, ◌+◌, ◌≤◌, suc, Bool, true, false, cond, List, [], ◌∷◌, ◌++◌, length, length-append, add-one, Option, Some, None, refl, sym, ap, ◌∙◌, subst, flat_map, Result, Ok, Err, IsErrAnd, IfErr, arith}
+use Rattle.std.proofs.Common.{◌≡◌, ◌≢◌, ℕ, ◌+◌, ◌≤◌, Bool, cond, List, [], ◌∷◌, ◌++◌, length, length-append, add-one, Some, sym, ap, ◌∙◌, subst, flat_map, Result, Ok, Err, IsErrAnd, IfErr, arith}
 use Rattle.bq_check.specs.Spelling.{BeginsNone}
 use Rattle.sc_node.specs.declared.fault.NodeFault.TheVariants as node_fault
 use Rattle.q_session.specs.Right.{IsRight}
 use Rattle.q_session.specs.Done.{Finished, IsFinished}
 use Rattle.q_session.specs.declared.ran.Ran.{Ran}
 use Rattle.q_session.specs.declared.job.Job.{Job}
-use Rattle.q_desk.specs.State.{DeskState}
 use Rattle.q_desk.specs.Desks as desk
 use Rattle.q_desk.specs.declared.journal.Entry.{Entry}
 use Rattle.q_desk.specs.declared.journal.Entry.TheVariants as entry
-use Rattle.q_desk.specs.declared.fault.DeskFault.{DeskFault}
 use Rattle.q_book.specs.State.{BookState}
 use Rattle.q_book.specs.Books as book
 use Rattle.q_book.specs.Faults.{memory}
@@ -27,7 +25,7 @@ use Rattle.q_replay.specs.declared.fault.ReplayFault.TheVariants as fault
 use Rattle.q_replay.specs.declared.refusal.Refusal.{Refusal}
 use Rattle.q_replay.specs.declared.refusal.Refusal.TheVariants.{Mismatch, OutOfMemory}
 use Rattle.q_replay.proofs.Lists.{same_some, no_refusal}
-use Rattle.q_replay.proofs.Posting.{Runs, job_runs, own_posts}
+use Rattle.q_replay.proofs.Posting.{job_runs, own_posts}
 use Rattle.q_replay.proofs.Following.{posted-post}
 use Rattle.q_replay.proofs.Entries.{OneLongest, OneAnswer, right_one, takes_as}
 use Rattle.q_replay.proofs.Leading.{leads_next}
@@ -73,11 +71,10 @@ pub own_post : (b c : BookState) (k : ℕ) (j : Job) (r : Ran) → running_job b
 own_post b c k j r runs f =
     let p = posted-post b f.0 r c f.3 in
     let o = own_posts b.desk b.id k j r (job_runs b.desk b.id k j runs) p.posted.room in
-    let d : BookState = record b { desk = o.0 } in
-    (
+    let d : BookState = record b { desk = o.0 } in (
       d,
       ap (λ (g : Bool). let x : Result (Unit {0} × BookState) BookFault = cond g (Err (book_fault.Node node_fault.Gone)) (book.by_desk (book.with_desk b) (desk.posted b.desk b.id j r)) in x) p.there
-      ∙ ap (book.by_desk (book.with_desk b)) o.1,
+          ∙ ap (book.by_desk (book.with_desk b)) o.1,
     )
 
 -- an answer that the book refuses is recorded for no job

@@ -1,5 +1,5 @@
 -- Which entry an event is, and what it makes of a book.
-use Rattle.std.proofs.Common.{◌≡◌, ℕ, List, Option, Some, None, refl, sym, ap, ◌∙◌, subst, slice_get, Result, Ok}
+use Rattle.std.proofs.Common.{◌≡◌, ℕ, List, Some, refl, sym, ap, ◌∙◌, subst, slice_get}
 use Rattle.bq_insn.specs.declared.insn.Insn.{Insn}
 use Rattle.bq_flow.specs.Paths.{IsLongest}
 use Rattle.bq_meaning.specs.Answers.{IsAnswer}
@@ -10,7 +10,6 @@ use Rattle.q_session.specs.declared.ran.Ran.{Ran}
 use Rattle.q_session.specs.declared.query.Phase.TheVariants.{Answered}
 use Rattle.q_session.specs.declared.query.Query.{Query}
 use Rattle.q_session.specs.declared.job.Job.{Job}
-use Rattle.q_desk.specs.State.{DeskState}
 use Rattle.q_desk.specs.Answers.{AnswersAreRight}
 use Rattle.q_desk.specs.declared.journal.Entry.{Entry}
 use Rattle.q_desk.specs.declared.journal.Entry.TheVariants as entry
@@ -90,11 +89,11 @@ answering s t b (entry.Post query ran) f later right =
     let q : Query = record p.posted.query { phase = Answered p.posted.view ran } in
     let run = posted_runs s.desk s.id j ran p.desk p.posted in
     let known : slice_get t.desk.queries j.query ≡ Some q =
-        subst (λ (x : BookState). slice_get x.desk.queries j.query ≡ Some q) p.is (posted_at_query s.desk j ran p.desk p.posted) in
+    subst (λ (x : BookState). slice_get x.desk.queries j.query ≡ Some q) p.is (posted_at_query s.desk j ran p.desk p.posted) in
     let a = right j.query q p.posted.view ran (later.answers j.query q p.posted.view ran known refl) refl in
     let keeps = (follows-next s (entry.Post query ran) t f).goes.keeps in
     let named : slice_get b.desk.programs p.posted.query.program ≡ Some run.program =
-        later.programs p.posted.query.program run.program (keeps.programs p.posted.query.program run.program run.named) in
+    later.programs p.posted.query.program run.program (keeps.programs p.posted.query.program run.program run.named) in
     let same : a.program ≡ run.program = same_some a.program run.program (sym a.named ∙ named) in
     let own : IsRight run.program p.posted.view p.posted.query.start ran = subst (λ (c : Certificate). IsRight c p.posted.view p.posted.query.start ran) same a.right in
     subst (Answers s ran) f.1 (job_by s.id j.query p.posted.query p.posted.view run.program, run.is, own)

@@ -1,5 +1,5 @@
 -- Bytes have one fault at most, and a journal is that of one book.
-use Rattle.std.proofs.Common.{◌≡◌, ℕ, zero, suc, List, [], ◌∷◌, ◌++◌, length, refl, sym, ap, ◌∙◌, subst, flat_map, Result, Ok, Err, IfOk, IfErr, MatchResult}
+use Rattle.std.proofs.Common.{◌≡◌, ℕ, zero, suc, List, [], ◌++◌, length, refl, sym, ap, ◌∙◌, subst, flat_map, Result, Ok, Err, IfOk, IfErr, MatchResult}
 use Rattle.bq_check.specs.Spelling.{BeginsNone}
 use Rattle.q_book.specs.State.{BookState}
 use Rattle.q_journal.specs.Head.{Head}
@@ -10,7 +10,7 @@ use Rattle.q_replay.specs.Replayed.{Begins, Takes, Leads, IsUnspelled, IsUntaken
 use Rattle.q_replay.specs.declared.fault.ReplayFault.{ReplayFault}
 use Rattle.q_replay.specs.declared.fault.ReplayFault.TheVariants.{Form, Mismatch, OutOfMemory}
 use Rattle.q_replay.proofs.Entries.{OneLongest}
-use Rattle.q_replay.proofs.Leading.{OneHead, OneEvent, Stops, IsOne, leads_one, no_event, end_stops, journalled_leads}
+use Rattle.q_replay.proofs.Leading.{OneHead, OneEvent, Stops, leads_one, no_event, end_stops, journalled_leads}
 
 headless : (bytes : List ℕ) (n : ℕ) (b : BookState) (rest : List ℕ) → BeginsNone head_bytes IsHead bytes → Leads bytes n b rest → ⊥
 headless bytes n b rest f l = f.none l.head (flat_map event_bytes l.events ++ rest) l.legal l.parts
@@ -42,7 +42,7 @@ module _ (one_longest : OneLongest) (one_head : OneHead) (one_event : OneEvent) 
   no_both : (bytes : List ℕ) (n m : ℕ) → IsUnspelled bytes n → IsUntaken bytes m → ⊥
   no_both bytes n m f g =
       let one = leads_one one_longest one_head one_event bytes n m f.book g.book f.rest g.rest f.leads g.leads
-          (unspelled_stops f.book f.rest f.none) (untaken_stops bytes m g) in
+      (unspelled_stops f.book f.rest f.none) (untaken_stops bytes m g) in
       f.none.none g.event g.more g.legal (one.left ∙ g.parts)
 
   pub fault_one : (bytes : List ℕ) (d e : ReplayFault) → IsFault bytes d → IsFault bytes e → (d ≡ OutOfMemory → ⊥) → (e ≡ OutOfMemory → ⊥) → d ≡ e

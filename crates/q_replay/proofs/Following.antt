@@ -1,12 +1,11 @@
 -- What the call of an entry makes of a book.
-use Rattle.std.proofs.Common.{◌≡◌, ℕ, Bool, true, false, cond, nat_le, List, [], ◌∷◌, ◌++◌, Option, Some, None, refl, sym, ap, ◌∙◌, subst, Result, Ok, Err}
+use Rattle.std.proofs.Common.{◌≡◌, ℕ, Bool, true, false, cond, nat_le, List, [], ◌∷◌, ◌++◌, Option, Some, refl, sym, ap, ◌∙◌, subst, Result, Ok, Err}
 use Rattle.std.proofs.lemmas.List.{append_assoc}
 use Rattle.std.specs.FinMap as fin
 use Rattle.sc_msg.specs.declared.message.Message.{Message}
 use Rattle.sc_node.specs.State.{NodeState}
 use Rattle.sc_node.specs.Nodes as node
 use Rattle.sc_node.specs.declared.answer.Begun.{Begun}
-use Rattle.sc_node.specs.declared.answer.Delivered.{Delivered}
 use Rattle.sc_node.specs.declared.fault.NodeFault.{NodeFault}
 use Rattle.sc_node.specs.declared.fault.NodeFault.TheVariants as node_fault
 use Rattle.bq_check.specs.Certificate.{Certificate}
@@ -108,7 +107,7 @@ module _ (b : BookState) where
       let a = desk-parts (desk.handed_out b.desk b.id) (Some j, c) h in
       let first : a.0.0 ≡ Some j = ap (λ (x : Option Job × BookState). x.0) a.2 in
       let was : desk.handed_out b.desk b.id ≡ Ok (Some j, a.0.1) =
-          a.1 ∙ ap (λ (o : Option Job). let r : Result Handed DeskFault = Ok (o, a.0.1) in r) first in
+      a.1 ∙ ap (λ (o : Option Job). let r : Result Handed DeskFault = Ok (o, a.0.1) in r) first in
       subst (λ (x : Option Job × BookState). IsNext b entry.HandOut x.1) a.2 (record { same = refl; goes = handed_out_goes b.desk b.id j a.0.1 was })
 
   -- what was recorded, and the book that has it

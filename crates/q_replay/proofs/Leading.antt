@@ -1,5 +1,5 @@
 -- Where events lead, one after the other.
-use Rattle.std.proofs.Common.{◌≡◌, ℕ, zero, suc, ◌⊎◌, inl, inr, List, [], ◌∷◌, ◌++◌, length, map, Option, Some, None, refl, sym, ap, ◌∙◌, subst, append_assoc, append-nil, flat_map, Result, Ok, Err, arith}
+use Rattle.std.proofs.Common.{◌≡◌, ℕ, suc, ◌⊎◌, inl, inr, List, [], ◌∷◌, ◌++◌, length, map, Option, Some, None, refl, sym, ap, ◌∙◌, subst, append_assoc, append-nil, flat_map, Result, Ok, Err, arith}
 use Rattle.std.proofs.lemmas.List.{flat_map_more, length_push}
 use Rattle.std.proofs.lemmas.List.Folds.{flat_map-map}
 use Rattle.std.specs.List.{AllByRecursion}
@@ -11,7 +11,7 @@ use Rattle.q_desk.specs.Answers.{AnswersAreRight}
 use Rattle.q_desk.specs.declared.journal.Entry.{Entry}
 use Rattle.q_book.specs.State.{BookState}
 use Rattle.q_book.specs.Books.{new_book, founds}
-use Rattle.q_book.specs.Replays.{Replays, IsFirst, IsReplay}
+use Rattle.q_book.specs.Replays.{Replays, IsFirst}
 use Rattle.q_book.specs.declared.fault.BookFault.{BookFault}
 use Rattle.q_journal.specs.Head.{Head}
 use Rattle.q_journal.specs.Spelling.{head_bytes, event_bytes, IsHead, IsWritten}
@@ -42,9 +42,9 @@ takes_push (v ∷ ws) a b c w t s = (t.0, t.1, takes_push ws t.0 b c w t.2 s)
 pub leads_next : (bytes : List ℕ) (n : ℕ) (b c : BookState) (w : Written) (rest more : List ℕ) → Leads bytes n b rest → IsWritten w → rest ≡ event_bytes w ++ more → Takes b w c → Leads bytes (suc n) c more
 leads_next bytes n b c w rest more l legal parts t =
     let on : flat_map event_bytes l.events ++ rest ≡ flat_map event_bytes (l.events ++ w ∷ []) ++ more =
-        ap (λ (x : List ℕ). flat_map event_bytes l.events ++ x) parts
-        ∙ sym (append_assoc (flat_map event_bytes l.events) (event_bytes w) more)
-        ∙ ap (λ (x : List ℕ). x ++ more) (flat_map_more event_bytes [] l.events w) in
+    ap (λ (x : List ℕ). flat_map event_bytes l.events ++ x) parts
+    ∙ sym (append_assoc (flat_map event_bytes l.events) (event_bytes w) more)
+    ∙ ap (λ (x : List ℕ). x ++ more) (flat_map_more event_bytes [] l.events w) in
     record {
       head = l.head;
       legal = l.legal;
@@ -122,7 +122,7 @@ module _ (one_longest : OneLongest) (one_head : OneHead) (one_event : OneEvent) 
       }))
   walk (u ∷ us) (v ∷ vs) first b c rest more p q s t h =
       let e = one_event u v (flat_map event_bytes us ++ rest) (flat_map event_bytes vs ++ more) p.0 q.0
-          (sym (append_assoc (event_bytes u) (flat_map event_bytes us) rest) ∙ h ∙ append_assoc (event_bytes v) (flat_map event_bytes vs) more) in
+      (sym (append_assoc (event_bytes u) (flat_map event_bytes us) rest) ∙ h ∙ append_assoc (event_bytes v) (flat_map event_bytes vs) more) in
       let same : s.0 ≡ t.0 = takes_one one_longest first v s.0 t.0 (subst (λ (x : Written). Takes first x s.0) e.0 s.1) t.1 in
       longer u v us vs b c rest more
       (walk us vs s.0 b c rest more p.1 q.1 s.2 (subst (λ (x : BookState). TakesAll x vs c) (sym same) t.2) e.1)
@@ -132,7 +132,7 @@ module _ (one_longest : OneLongest) (one_head : OneHead) (one_event : OneEvent) 
       let heads = one_head l.head k.head (flat_map event_bytes l.events ++ rest) (flat_map event_bytes k.events ++ more) l.legal k.legal (sym l.parts ∙ k.parts) in
       let firsts : l.first ≡ k.first = begins_one l.head l.first k.first l.begins (subst (λ (h : Head). Begins h k.first) (sym heads.0) k.begins) in
       let s = settle l.events k.events b c rest more
-          (walk l.events k.events l.first b c rest more l.written k.written l.takes (subst (λ (x : BookState). TakesAll x k.events c) (sym firsts) k.takes) heads.1) stop halt in
+      (walk l.events k.events l.first b c rest more l.written k.written l.takes (subst (λ (x : BookState). TakesAll x k.events c) (sym firsts) k.takes) heads.1) stop halt in
       record { count = l.many ∙ s.many ∙ sym k.many; book = s.book; left = s.left }
 
 no_cons : (x : ℕ) (xs : List ℕ) → [] ≡ x ∷ xs → ⊥
@@ -230,12 +230,11 @@ leads_journalled bytes n b l right =
     let journal : b.desk.journal ≡ t.entries = later.adds in
     let head : l.head ≡ head_of b = ap head_of later.same in
     let spelled : flat_map event_bytes l.events ++ [] ≡ entries_bytes b.desk.journal =
-        ap (λ (ws : List Written). flat_map event_bytes ws ++ []) (sym t.written) ∙ sym (written_bytes t.entries) ∙ ap entries_bytes (sym journal) in
+    ap (λ (ws : List Written). flat_map event_bytes ws ++ []) (sym t.written) ∙ sym (written_bytes t.entries) ∙ ap entries_bytes (sym journal) in
     let begins : IsFirst b f.node l.head.founders =
-        first_for first b l.head.founders f.node (ap (λ (x : BookState). x.config) later.same) (ap (λ (x : BookState). x.id) later.same) f.first in
+    first_for first b l.head.founders f.node (ap (λ (x : BookState). x.config) later.same) (ap (λ (x : BookState). x.id) later.same) f.first in
     let replayed : Replays (new_book b.id b.config b.founders f.node) t.entries b =
-        subst (λ (h : Head). Replays (new_book h.id h.config h.founders f.node) t.entries b) head t.replays in
-    (
+    subst (λ (h : Head). Replays (new_book h.id h.config h.founders f.node) t.entries b) head t.replays in (
       l.parts ∙ ap (λ (x : List ℕ). head_bytes l.head ++ x) spelled ∙ ap (λ (h : Head). head_bytes h ++ entries_bytes b.desk.journal) head,
       record {
         head = subst IsHead head l.legal;

@@ -1,5 +1,5 @@
 -- Jobs of queries that run, and what it takes to record their answers.
-use Rattle.std.proofs.Common.{◌≡◌, ℕ, ◌==◌, ◌&&◌, Bool, true, false, cond, List, [], ◌∷◌, ◌++◌, Option, Some, None, refl, sym, ap, ◌∙◌, subst, slice_get, Result, Ok, Err}
+use Rattle.std.proofs.Common.{◌≡◌, ℕ, ◌==◌, Bool, true, cond, List, [], ◌∷◌, ◌++◌, Option, Some, None, refl, sym, ap, ◌∙◌, subst, slice_get, Result, Ok, Err}
 use Rattle.std.proofs.lemmas.Bool.{eq-eqb}
 use Rattle.std.proofs.lemmas.Slice.Eq.{bytes_eq-Decides}
 use Rattle.std.specs.Prelude.{bytes_eq}
@@ -18,7 +18,6 @@ use Rattle.q_session.specs.declared.job.Job.{Job}
 use Rattle.q_desk.specs.State.{DeskState}
 use Rattle.q_desk.specs.Desks as desk
 use Rattle.q_desk.specs.Desks.{running_job_of, running_job_at, running_job}
-use Rattle.q_desk.specs.declared.journal.Entry.{Entry}
 use Rattle.q_desk.specs.declared.journal.Entry.TheVariants as entry
 use Rattle.q_desk.specs.declared.fault.DeskFault.{DeskFault}
 use Rattle.q_desk.specs.declared.fault.DeskFault.TheVariants as fault
@@ -165,11 +164,11 @@ own_posts d node k j ran r room =
     let made : Job = job_by node k r.query r.view r.program in
     let after : DeskState = answered d k r.view ran in
     let own : desk.posted d node made ran ≡ Ok (tt, after) =
-        ap (λ (b : Bool). let x : Outcome = cond b (desk.posted_at d made ran (slice_get d.queries k)) (Err fault.Stranger) in x) (same_number node)
-        ∙ ap (desk.posted_at d made ran) r.at
-        ∙ ap (desk.posted_to d made ran r.query) r.phase
-        ∙ ap (λ (b : Bool). let x : Outcome = cond b (desk.room d (Ok (tt, after))) (Err fault.Stranger) in x) (own_fits d node k r.query r.view r.program r.named)
-        ∙ ap (λ (b : Bool). let x : Outcome = cond b (Ok (tt, after)) (Err fault.BookFull) in x) room in
+    ap (λ (b : Bool). let x : Outcome = cond b (desk.posted_at d made ran (slice_get d.queries k)) (Err fault.Stranger) in x) (same_number node)
+    ∙ ap (desk.posted_at d made ran) r.at
+    ∙ ap (desk.posted_to d made ran r.query) r.phase
+    ∙ ap (λ (b : Bool). let x : Outcome = cond b (desk.room d (Ok (tt, after))) (Err fault.Stranger) in x) (own_fits d node k r.query r.view r.program r.named)
+    ∙ ap (λ (b : Bool). let x : Outcome = cond b (Ok (tt, after)) (Err fault.BookFull) in x) room in
     (after, subst (λ (i : Job). desk.posted d node i ran ≡ Ok (tt, after)) r.is own)
 
 -- the query's answer, once it is recorded

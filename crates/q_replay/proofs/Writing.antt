@@ -44,8 +44,7 @@ written_more b es k e old new within at w legal is =
 pub written_all : (b : BookState) (es : List Entry) (k : ℕ) (bytes : List ℕ) → IsWrittenTo b es k bytes → es ≡ b.desk.journal → length es ≤ k → IsConfig b.config → IsReplay b → AnswersAreRight b.desk
     → (bytes ≡ journal_of b) × IsJournalled b
 written_all b es k bytes w journal long config replay right =
-    let all : take k es ≡ b.desk.journal = take_all k es long ∙ journal in
-    (
+    let all : take k es ≡ b.desk.journal = take_all k es long ∙ journal in (
       w.spelled ∙ ap (λ (x : List Entry). head_bytes (head_of b) ++ entries_bytes x) all,
       record { head = w.head; config = config; entries = subst (AllByRecursion IsEntry) all w.legal; replay = replay; right = right },
     )

@@ -1,5 +1,5 @@
 -- The journal of a book as bytes.
-use Rattle.std.specs.Prelude.{ℕ, ◌<◌, ◌^◌, List, ◌++◌}
+use Rattle.std.specs.Prelude.{ℕ, List, ◌++◌}
 use Rattle.std.specs.List.{flat_map, AllByRecursion}
 use Rattle.bq_check.specs.Certificate.{IsCertified}
 use Rattle.sc_members.specs.Members.{IsConfig}

@@ -1,4 +1,5 @@
-//! Laws of journals and replays. The first two are the contracts of functions that do nothing; the last writes and reads.
+//! Laws of journals and replays. The first two are the contracts of functions that do nothing; the last writes and
+//! reads.
 
 ghost use Rattle.std.specs.Prelude.{◌≡◌, List, ℕ, IfOk, IfErr};
 ghost use Rattle.q_book.specs.State.{BookState};

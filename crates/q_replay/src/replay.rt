@@ -94,7 +94,12 @@ fn begin(alloc: Global, head: &Head) -> Result<Book, Refusal>
 }
 
 /// Takes the event that stands first, behind so many others. What stands behind it is answered.
-fn take_next<'a>(alloc: Global, book: &mut Book, rest: &'a [u8], count: usize) -> Result<&'a [u8], ReplayFault>
+fn take_next<'a>(
+    alloc: Global,
+    book: &mut Book,
+    rest: &'a [u8],
+    count: usize,
+) -> Result<&'a [u8], ReplayFault>
     requires room { count + 1 < 2 ^ 64 }
     requires more { rest.now ≢ [] }
     ensures leads { (bytes : List ℕ) → Leads bytes count book.old rest.now → IfOk result (λ more. Leads bytes (count + 1) book.new more.now) }

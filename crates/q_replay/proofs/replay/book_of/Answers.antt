@@ -1,6 +1,5 @@
 use Rattle.std.proofs.Common.{◌≡◌, ◌≤◌, true, length, rules, arith, sym, ◌∙◌, subst, eqb-true}
 use Rattle.q_replay.specs.Replayed.{Leads, IsFault}
-use Rattle.q_replay.specs.declared.fault.ReplayFault.{ReplayFault}
 use Rattle.q_replay.proofs.Calling.{leads_room, passed_on}
 use Rattle.q_replay.proofs.Leading.{leads_journalled}
 use Rattle.q_replay.proofs.Lists.{some_long, none_long}

@@ -1,4 +1,3 @@
-use Rattle.std.proofs.Common.{◌≡◌, sym, ◌∙◌}
 use Rattle.q_replay.proofs.Firsts.{replay_all}
 use Rattle.q_replay.proofs.replay.replay.Goals as goal
 
