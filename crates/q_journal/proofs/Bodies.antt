@@ -1,0 +1,127 @@
+-- Bodies that are those of no event of their kind.
+use Rattle.std.proofs.Common.{◌≡◌, ℕ, ◌+◌, ◌^◌, ◌<◌, List, [], ◌++◌, length, Option, sym, ap, ◌∙◌, arith, length-append}
+use Rattle.std.proofs.lemmas.List.{append-nil}
+use Rattle.bq_insn.specs.declared.insn.Insn.{Insn}
+use Rattle.bq_insn.specs.Slots.{spelling, IsText}
+use Rattle.bq_insn.specs.declared.fault.DecodeFault.{DecodeFault}
+use Rattle.bq_insn.specs.declared.fault.DecodeFault.TheVariants as texts
+use Rattle.bq_state.specs.declared.kind.Kind.{Kind}
+use Rattle.bq_check.specs.Spelling.{notes_bytes, IsNotes}
+use Rattle.bq_check.specs.declared.fault.NotesFault.{NotesFault}
+use Rattle.bq_check.specs.declared.fault.NotesFault.TheVariants as notes
+use Rattle.sc_msg.specs.Numbers.{number_bytes}
+use Rattle.sc_msg.specs.declared.message.Message.{Message}
+use Rattle.sc_msg.specs.declared.fault.MessageFault.{MessageFault}
+use Rattle.sc_msg.specs.declared.fault.MessageFault.TheVariants as messages
+use Rattle.sc_msg.specs.Messages.{message_bytes, IsMessage}
+use Rattle.sc_msg.proofs.Numbers.{length-number_bytes}
+use Rattle.sc_msg.proofs.Entries.{same_front, number_front}
+use Rattle.q_journal.specs.declared.written.Written.{Written}
+use Rattle.q_journal.specs.declared.written.Written.TheVariants.{Register, Ask, Deliver, Post}
+use Rattle.q_journal.specs.declared.read.ReadFault.{ReadFault}
+use Rattle.q_journal.specs.declared.read.ReadFault.TheVariants.{Form, OutOfMemory}
+use Rattle.q_journal.specs.Spelling.{body_bytes}
+use Rattle.q_journal.specs.Reading.{IsBody, IsNoBody, of_text, of_notes, of_message}
+use Rattle.q_journal.proofs.Sizes.{text_small, length-registered, length-asked, length-posted}
+
+-- ---- by how long they are
+
+pub no_ask : (body : List ℕ) → (length body ≡ 12 → ⊥) → IsNoBody 3 body
+no_ask body other = record { none = λ w h. none w h }
+  where
+    none : (w : Written) → IsBody 3 body w → ⊥
+    none (Ask program start) h = other (ap length h.spelled ∙ length-asked program start)
+    none w h = omega (arith, h.is)
+
+pub no_post : (body : List ℕ) → (length body ≡ 24 → ⊥) → IsNoBody 7 body
+no_post body other = record { none = λ w h. none w h }
+  where
+    none : (w : Written) → IsBody 7 body w → ⊥
+    none (Post query acc steps) h = other (ap length h.spelled ∙ length-posted query acc steps)
+    none w h = omega (arith, h.is)
+
+-- so many bytes are left behind those that were read
+pub number_then : (width n : ℕ) (bytes rest : List ℕ) → bytes ≡ number_bytes width n ++ rest → length bytes ≡ width + length rest
+number_then width n bytes rest parts = omega (arith, ap length parts, length-append (number_bytes width n) rest, length-number_bytes width n)
+
+-- ---- numbers one behind another, and nothing more
+
+pub asked : (body r1 r2 : List ℕ) (program start : ℕ) → body ≡ number_bytes 4 program ++ r1 → r1 ≡ number_bytes 8 start ++ r2 → r2 ≡ [] → body ≡ number_bytes 4 program ++ number_bytes 8 start
+asked body r1 r2 program start first second end =
+    first ∙ ap (λ (l : List ℕ). number_bytes 4 program ++ l) (second ∙ ap (λ (l : List ℕ). number_bytes 8 start ++ l) end ∙ append-nil (number_bytes 8 start))
+
+pub posted : (body r1 r2 r3 : List ℕ) (query acc steps : ℕ) → body ≡ number_bytes 8 query ++ r1 → r1 ≡ number_bytes 8 acc ++ r2 → r2 ≡ number_bytes 8 steps ++ r3 → r3 ≡ [] → body ≡ number_bytes 8 query ++ (number_bytes 8 acc ++ number_bytes 8 steps)
+posted body r1 r2 r3 query acc steps first second third end =
+    first ∙ ap (λ (l : List ℕ). number_bytes 8 query ++ l) (second ∙ ap (λ (l : List ℕ). number_bytes 8 acc ++ l) (third ∙ ap (λ (l : List ℕ). number_bytes 8 steps ++ l) end ∙ append-nil (number_bytes 8 steps)))
+
+-- ---- messages
+
+pub no_deliver : (body : List ℕ) → ((m : Message) → IsMessage m → body ≡ message_bytes m → ⊥) → IsNoBody 5 body
+no_deliver body other = record { none = λ w h. none w h }
+  where
+    none : (w : Written) → IsBody 5 body w → ⊥
+    none (Deliver m) h = other m h.legal h.spelled
+    none w h = omega (arith, h.is)
+
+-- ---- a text and its notes
+
+no_register : (body : List ℕ) → ((t : List Insn) (ns : List (Option (List Kind))) → IsText t → IsNotes ns → body ≡ number_bytes 4 (length (spelling t)) ++ (spelling t ++ notes_bytes ns) → ⊥) → IsNoBody 2 body
+no_register body other = record { none = λ w h. none w h }
+  where
+    none : (w : Written) → IsBody 2 body w → ⊥
+    none (Register t ns) h = other t ns h.legal.0 h.legal.1 h.spelled
+    none w h = omega (arith, h.is)
+
+pub no_length : (body : List ℕ) → length body < 4 → IsNoBody 2 body
+no_length body short = no_register body (λ t ns p q e. omega (arith, short, ap length e, length-registered t ns))
+
+-- the length of the text was read
+pub record ReadLength (body rest : List ℕ) (n : ℕ) : Type 0 where
+  pub fits : n < 2 ^ 32
+  pub parts : body ≡ number_bytes 4 n ++ rest
+
+text_follows : (body rest : List ℕ) (n : ℕ) (t : List Insn) (ns : List (Option (List Kind))) → ReadLength body rest n → IsText t → body ≡ number_bytes 4 (length (spelling t)) ++ (spelling t ++ notes_bytes ns) → (n ≡ length (spelling t)) × (rest ≡ spelling t ++ notes_bytes ns)
+text_follows body rest n t ns read p e = number_front 4 n (length (spelling t)) rest (spelling t ++ notes_bytes ns) read.fits (omega (arith, text_small t p)) (sym read.parts ∙ e)
+
+pub text_cut : (body rest : List ℕ) (n : ℕ) → ReadLength body rest n → length rest < n → IsNoBody 2 body
+text_cut body rest n read short =
+    no_register body
+    (λ t ns p q e. let f = text_follows body rest n t ns read p e in
+    omega (arith, short, f.0, ap length f.1, length-append (spelling t) (notes_bytes ns)))
+
+-- so many bytes stand behind the length, and others behind these
+pub record ReadText (rest front behind : List ℕ) (n : ℕ) : Type 0 where
+  pub long : length front ≡ n
+  pub parts : rest ≡ front ++ behind
+
+notes_follow : (body rest front behind : List ℕ) (n : ℕ) (t : List Insn) (ns : List (Option (List Kind))) → ReadLength body rest n → ReadText rest front behind n → IsText t → body ≡ number_bytes 4 (length (spelling t)) ++ (spelling t ++ notes_bytes ns) → (front ≡ spelling t) × (behind ≡ notes_bytes ns)
+notes_follow body rest front behind n t ns read text p e =
+    let f = text_follows body rest n t ns read p e in
+    same_front front (spelling t) behind (notes_bytes ns) n text.long (sym f.0) (sym text.parts ∙ f.1)
+
+pub no_text : (body rest front behind : List ℕ) (n : ℕ) → ReadLength body rest n → ReadText rest front behind n → ((t : List Insn) → IsText t → front ≡ spelling t → ⊥) → IsNoBody 2 body
+no_text body rest front behind n read text none =
+    no_register body (λ t ns p q e. none t p (notes_follow body rest front behind n t ns read text p e).0)
+
+pub no_notes : (body rest front behind : List ℕ) (n : ℕ) → ReadLength body rest n → ReadText rest front behind n → ((ns : List (Option (List Kind))) → IsNotes ns → behind ≡ notes_bytes ns → ⊥) → IsNoBody 2 body
+no_notes body rest front behind n read text none =
+    no_register body (λ t ns p q e. none ns q (notes_follow body rest front behind n t ns read text p e).1)
+
+pub registered : (body rest front behind : List ℕ) (n : ℕ) (t : List Insn) (ns : List (Option (List Kind))) → ReadLength body rest n → ReadText rest front behind n → front ≡ spelling t → behind ≡ notes_bytes ns → body ≡ body_bytes (Register t ns)
+registered body rest front behind n t ns read text is others =
+    read.parts ∙ ap (λ (k : ℕ). number_bytes 4 k ++ rest) (sym text.long ∙ ap length is)
+    ∙ ap (λ (l : List ℕ). number_bytes 4 (length (spelling t)) ++ l) (text.parts ∙ ap (λ (l : List ℕ). l ++ behind) is ∙ ap (λ (l : List ℕ). spelling t ++ l) others)
+
+-- ---- faults of parts
+
+form_is_not_memory : OutOfMemory ≡ Form → ⊥
+form_is_not_memory e = cc
+
+pub text_fault : (d : DecodeFault) (e : ReadFault) → e ≡ of_text d → e ≡ Form → d ≡ texts.OutOfMemory → ⊥
+text_fault d e is form memory = form_is_not_memory (sym (is ∙ ap of_text memory) ∙ form)
+
+pub notes_fault : (d : NotesFault) (e : ReadFault) → e ≡ of_notes d → e ≡ Form → d ≡ notes.OutOfMemory → ⊥
+notes_fault d e is form memory = form_is_not_memory (sym (is ∙ ap of_notes memory) ∙ form)
+
+pub message_fault : (d : MessageFault) (e : ReadFault) → e ≡ of_message d → e ≡ Form → d ≡ messages.OutOfMemory → ⊥
+message_fault d e is form memory = form_is_not_memory (sym (is ∙ ap of_message memory) ∙ form)

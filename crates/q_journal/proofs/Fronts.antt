@@ -1,0 +1,126 @@
+-- Heads and events can be told apart by the bytes in front.
+use Rattle.std.proofs.Common.{◌≡◌, ℕ, ◌^◌, ◌<◌, List, [], ◌∷◌, ◌++◌, length, Option, Some, None, refl, sym, ap, ◌∙◌, arith, append_assoc}
+use Rattle.std.specs.List.{flat_map}
+use Rattle.bq_insn.proofs.Unique.{one_text}
+use Rattle.bq_insn.specs.Slots.{spelling}
+use Rattle.bq_check.specs.Spelling.{notes_bytes}
+use Rattle.bq_check.proofs.Codes.{IsCode, once}
+use Rattle.bq_check.proofs.Fields.{one_byte}
+use Rattle.bq_check.proofs.Read.{one_notes}
+use Rattle.sc_members.specs.Members.{Config}
+use Rattle.sc_msg.specs.Numbers.{number_bytes}
+use Rattle.sc_msg.proofs.Entries.{same_front, number_front}
+use Rattle.sc_msg.proofs.Unique.{one_spelling}
+use Rattle.q_journal.specs.declared.written.Written.{Written}
+use Rattle.q_journal.specs.declared.written.Written.TheVariants.{Leave, Register, Ask, Store, Deliver, HandOut, Post}
+use Rattle.q_journal.specs.Head.{Head}
+use Rattle.q_journal.specs.Spelling.{config_bytes, start_bytes, head_bytes, AreShort, AreFounders, IsHead, code, body_bytes, event_bytes, IsWritten}
+use Rattle.q_journal.specs.Reading.{ids_bytes, AreIds}
+use Rattle.q_journal.proofs.Sizes.{text_small, body_small}
+
+-- ---- several parts, regrouped
+
+pub three_on : (a b c x : List ℕ) → (a ++ (b ++ c)) ++ x ≡ a ++ (b ++ (c ++ x))
+three_on a b c x = append_assoc a (b ++ c) x ∙ ap (λ (l : List ℕ). a ++ l) (append_assoc b c x)
+
+pub four_on : (a b c d x : List ℕ) → (a ++ (b ++ (c ++ d))) ++ x ≡ a ++ (b ++ (c ++ (d ++ x)))
+four_on a b c d x = append_assoc a (b ++ (c ++ d)) x ∙ ap (λ (l : List ℕ). a ++ l) (three_on b c d x)
+
+apart : (a b : ℕ) (x y : List ℕ) → (a ≡ b → ⊥) → a ∷ x ≡ b ∷ y → ⊥
+apart a b x y other e = other (one_byte a b x y e).0
+
+number_once : (width m n : ℕ) → m < 256 ^ width → n < 256 ^ width → number_bytes width m ≡ number_bytes width n → m ≡ n
+number_once width m n p q e = (number_front width m n [] [] p q (ap (λ (l : List ℕ). l ++ []) e)).0
+
+-- ---- founders
+
+pub numbers_are_code : IsCode (number_bytes 8) (λ id. id < 2 ^ 64)
+numbers_are_code = record { one = λ m n x y p q e. number_front 8 m n x y p q e }
+
+pub ids_on : (ids x : List ℕ) → ids_bytes ids ++ x ≡ number_bytes 2 (length ids) ++ (flat_map (number_bytes 8) ids ++ x)
+ids_on ids x = append_assoc (number_bytes 2 (length ids)) (flat_map (number_bytes 8) ids) x
+
+ids_front : (a b x y : List ℕ) → AreIds a → AreIds b → ids_bytes a ++ x ≡ ids_bytes b ++ y → (a ≡ b) × (x ≡ y)
+ids_front a b x y p q e =
+    let n = number_front 2 (length a) (length b) (flat_map (number_bytes 8) a ++ x) (flat_map (number_bytes 8) b ++ y) p.0 q.0 (sym (ids_on a x) ∙ e ∙ ids_on b y) in
+    once (number_bytes 8) (λ id. id < 2 ^ 64) numbers_are_code a b x y p.1 q.1 n.0 n.1
+
+start_front : (a b : Option (List ℕ)) (x y : List ℕ) → AreFounders a → AreFounders b → start_bytes a ++ x ≡ start_bytes b ++ y → (a ≡ b) × (x ≡ y)
+start_front None None x y p q e = (refl, (one_byte 1 1 x y e).1)
+start_front None (Some b) x y p q e = absurd (apart 1 0 x (ids_bytes b ++ y) (λ h. omega (arith, h)) e)
+start_front (Some a) None x y p q e = absurd (apart 0 1 (ids_bytes a ++ x) y (λ h. omega (arith, h)) e)
+start_front (Some a) (Some b) x y p q e =
+    let s = ids_front a b x y p q (one_byte 0 0 (ids_bytes a ++ x) (ids_bytes b ++ y) e).1 in
+    (ap (λ (l : List ℕ). Some l) s.0, s.1)
+
+-- ---- fractions
+
+config_on : (c : Config) (x : List ℕ) → config_bytes c ++ x ≡ number_bytes 2 c.beta_num ++ (number_bytes 2 c.beta_den ++ (number_bytes 2 c.gamma_num ++ (number_bytes 2 c.gamma_den ++ x)))
+config_on c x = four_on (number_bytes 2 c.beta_num) (number_bytes 2 c.beta_den) (number_bytes 2 c.gamma_num) (number_bytes 2 c.gamma_den) x
+
+config_is : (c d : Config) → c.beta_num ≡ d.beta_num → c.beta_den ≡ d.beta_den → c.gamma_num ≡ d.gamma_num → c.gamma_den ≡ d.gamma_den → c ≡ d
+config_is c d p q r s = λ i. record { beta_num = p i; beta_den = q i; gamma_num = r i; gamma_den = s i }
+
+pub config_front : (c d : Config) (x y : List ℕ) → AreShort c → AreShort d → config_bytes c ++ x ≡ config_bytes d ++ y → (c ≡ d) × (x ≡ y)
+config_front c d x y p q e =
+    let e0 = sym (config_on c x) ∙ e ∙ config_on d y in
+    let n0 = number_front 2 c.beta_num d.beta_num (number_bytes 2 c.beta_den ++ (number_bytes 2 c.gamma_num ++ (number_bytes 2 c.gamma_den ++ x))) (number_bytes 2 d.beta_den ++ (number_bytes 2 d.gamma_num ++ (number_bytes 2 d.gamma_den ++ y))) p.0 q.0 e0 in
+    let n1 = number_front 2 c.beta_den d.beta_den (number_bytes 2 c.gamma_num ++ (number_bytes 2 c.gamma_den ++ x)) (number_bytes 2 d.gamma_num ++ (number_bytes 2 d.gamma_den ++ y)) p.1 q.1 n0.1 in
+    let n2 = number_front 2 c.gamma_num d.gamma_num (number_bytes 2 c.gamma_den ++ x) (number_bytes 2 d.gamma_den ++ y) p.2 q.2 n1.1 in
+    let n3 = number_front 2 c.gamma_den d.gamma_den x y p.3 q.3 n2.1 in
+    (config_is c d n0.0 n1.0 n2.0 n3.0, n3.1)
+
+-- ---- heads
+
+pub head_on : (h : Head) (x : List ℕ) → head_bytes h ++ x ≡ 0x42 ∷ 0x51 ∷ 0x4a ∷ 0x01 ∷ (number_bytes 8 h.id ++ (config_bytes h.config ++ (start_bytes h.founders ++ x)))
+head_on h x = ap (λ (l : List ℕ). 0x42 ∷ 0x51 ∷ 0x4a ∷ 0x01 ∷ l) (three_on (number_bytes 8 h.id) (config_bytes h.config) (start_bytes h.founders) x)
+
+pub behind_format : (x y : List ℕ) → 0x42 ∷ 0x51 ∷ 0x4a ∷ 0x01 ∷ x ≡ 0x42 ∷ 0x51 ∷ 0x4a ∷ 0x01 ∷ y → x ≡ y
+behind_format x y e = cc
+
+head_is : (h g : Head) → h.id ≡ g.id → h.config ≡ g.config → h.founders ≡ g.founders → h ≡ g
+head_is h g p q r = λ i. record { id = p i; config = q i; founders = r i }
+
+pub head_front : (h g : Head) (x y : List ℕ) → IsHead h → IsHead g → head_bytes h ++ x ≡ head_bytes g ++ y → (h ≡ g) × (x ≡ y)
+head_front h g x y p q e =
+    let behind_h = config_bytes h.config ++ (start_bytes h.founders ++ x) in
+    let behind_g = config_bytes g.config ++ (start_bytes g.founders ++ y) in
+    let f = behind_format (number_bytes 8 h.id ++ behind_h) (number_bytes 8 g.id ++ behind_g) (sym (head_on h x) ∙ e ∙ head_on g y) in
+    let n = number_front 8 h.id g.id behind_h behind_g p.id q.id f in
+    let c = config_front h.config g.config (start_bytes h.founders ++ x) (start_bytes g.founders ++ y) p.config q.config n.1 in
+    let s = start_front h.founders g.founders x y p.founders q.founders c.1 in
+    (head_is h g n.0 c.0 s.0, s.1)
+
+-- ---- events
+
+pub event_on : (w : Written) (x : List ℕ) → event_bytes w ++ x ≡ code w ∷ (number_bytes 4 (length (body_bytes w)) ++ (body_bytes w ++ x))
+event_on w x = ap (λ (l : List ℕ). code w ∷ l) (append_assoc (number_bytes 4 (length (body_bytes w))) (body_bytes w) x)
+
+same_event : (w v : Written) → IsWritten w → IsWritten v → code w ≡ code v → body_bytes w ≡ body_bytes v → w ≡ v
+same_event Leave Leave p q c b = refl
+same_event (Register t ns) (Register u ms) p q c b =
+    let n = number_front 4 (length (spelling t)) (length (spelling u)) (spelling t ++ notes_bytes ns) (spelling u ++ notes_bytes ms) (omega (arith, text_small t p.0)) (omega (arith, text_small u q.0)) b in
+    let s = same_front (spelling t) (spelling u) (notes_bytes ns) (notes_bytes ms) (length (spelling t)) refl (sym n.0) n.1 in
+    let text = one_text t u p.0.insns q.0.insns s.0 in
+    let notes = one_notes ns ms p.1 q.1 s.1 in
+    λ i. Register (text i) (notes i)
+same_event (Ask g s) (Ask h t) p q c b =
+    let n = number_front 4 g h (number_bytes 8 s) (number_bytes 8 t) p.0 q.0 b in
+    let start = number_once 8 s t p.1 q.1 n.1 in
+    λ i. Ask (n.0 i) (start i)
+same_event (Store v) (Store u) p q c b = ap Store b
+same_event (Deliver m) (Deliver n) p q c b = ap Deliver (one_spelling m n p q b)
+same_event HandOut HandOut p q c b = refl
+same_event (Post g a s) (Post h d t) p q c b =
+    let n = number_front 8 g h (number_bytes 8 a ++ number_bytes 8 s) (number_bytes 8 d ++ number_bytes 8 t) p.0 q.0 b in
+    let k = number_front 8 a d (number_bytes 8 s) (number_bytes 8 t) p.1 q.1 n.1 in
+    let steps = number_once 8 s t p.2 q.2 k.1 in
+    λ i. Post (n.0 i) (k.0 i) (steps i)
+same_event w v p q c b = absurd (omega (arith, c))
+
+pub event_front : (w v : Written) (x y : List ℕ) → IsWritten w → IsWritten v → event_bytes w ++ x ≡ event_bytes v ++ y → (w ≡ v) × (x ≡ y)
+event_front w v x y p q e =
+    let k = one_byte (code w) (code v) (number_bytes 4 (length (body_bytes w)) ++ (body_bytes w ++ x)) (number_bytes 4 (length (body_bytes v)) ++ (body_bytes v ++ y)) (sym (event_on w x) ∙ e ∙ event_on v y) in
+    let n = number_front 4 (length (body_bytes w)) (length (body_bytes v)) (body_bytes w ++ x) (body_bytes v ++ y) (body_small w p) (body_small v q) k.1 in
+    let b = same_front (body_bytes w) (body_bytes v) x y (length (body_bytes w)) refl (sym n.0) n.1 in
+    (same_event w v p q k.0 b.0, b.1)

@@ -1,0 +1,86 @@
+-- How long the parts of heads and events are.
+use Rattle.std.proofs.Common.{◌≡◌, ℕ, ◌+◌, ◌*◌, ◌^◌, ◌<◌, ◌≤◌, List, [], ◌∷◌, ◌++◌, length, Option, Some, None, refl, arith, length-append}
+use Rattle.std.specs.List.{flat_map, AllByRecursion}
+use Rattle.std.specs.Int.{w32, cast_unsigned}
+use Rattle.bq_insn.specs.declared.insn.Insn.{Insn}
+use Rattle.bq_insn.specs.Insn.{insn_bytes}
+use Rattle.bq_insn.specs.Slots.{slots_of, slots, units, spelling, IsText}
+use Rattle.bq_insn.proofs.Reading.{length-insn_bytes}
+use Rattle.bq_state.specs.declared.kind.Kind.{Kind}
+use Rattle.bq_state.specs.declared.kind.Kind.TheVariants.{Unset, Number, FramePointer, RecordPointer}
+use Rattle.bq_check.specs.Spelling.{short_bytes, long_bytes, offset_bytes, kind_bytes, state_bytes, note_bytes, notes_bytes, IsNote, IsNotes}
+use Rattle.bq_check.proofs.Fields.{length-short, length-long}
+use Rattle.sc_members.specs.Members.{Config}
+use Rattle.sc_msg.specs.Numbers.{number_bytes}
+use Rattle.sc_msg.proofs.Numbers.{length-number_bytes}
+use Rattle.sc_msg.proofs.Unique.{message_small}
+use Rattle.q_journal.specs.declared.written.Written.{Written}
+use Rattle.q_journal.specs.declared.written.Written.TheVariants.{Leave, Register, Ask, Store, Deliver, HandOut, Post}
+use Rattle.q_journal.specs.Spelling.{config_bytes, body_bytes, IsWritten}
+
+-- ---- two and more parts
+
+pub length-pair : (a b : List ℕ) (m n : ℕ) → length a ≡ m → length b ≡ n → length (a ++ b) ≡ m + n
+length-pair a b m n p q = omega (arith, length-append a b, p, q)
+
+pub length-config : (c : Config) → length (config_bytes c) ≡ 8
+length-config c =
+    length-pair (number_bytes 2 c.beta_num) (number_bytes 2 c.beta_den ++ (number_bytes 2 c.gamma_num ++ number_bytes 2 c.gamma_den)) 2 6 (length-number_bytes 2 c.beta_num)
+    (length-pair (number_bytes 2 c.beta_den) (number_bytes 2 c.gamma_num ++ number_bytes 2 c.gamma_den) 2 4 (length-number_bytes 2 c.beta_den)
+    (length-pair (number_bytes 2 c.gamma_num) (number_bytes 2 c.gamma_den) 2 2 (length-number_bytes 2 c.gamma_num) (length-number_bytes 2 c.gamma_den)))
+
+pub length-asked : (program start : ℕ) → length (number_bytes 4 program ++ number_bytes 8 start) ≡ 12
+length-asked program start = length-pair (number_bytes 4 program) (number_bytes 8 start) 4 8 (length-number_bytes 4 program) (length-number_bytes 8 start)
+
+pub length-posted : (query acc steps : ℕ) → length (number_bytes 8 query ++ (number_bytes 8 acc ++ number_bytes 8 steps)) ≡ 24
+length-posted query acc steps =
+    length-pair (number_bytes 8 query) (number_bytes 8 acc ++ number_bytes 8 steps) 8 16 (length-number_bytes 8 query)
+    (length-pair (number_bytes 8 acc) (number_bytes 8 steps) 8 8 (length-number_bytes 8 acc) (length-number_bytes 8 steps))
+
+-- ---- texts
+
+length-spelling : (t : List Insn) → length (spelling t) ≡ 8 * units t
+length-spelling [] = refl
+length-spelling (i ∷ t) = omega (arith, length-append (insn_bytes i) (spelling t), length-append (slots_of i) (slots t), length-insn_bytes i, length-spelling t)
+
+pub text_small : (t : List Insn) → IsText t → length (spelling t) ≤ 32768
+text_small t p = omega (arith, length-spelling t, p.few)
+
+-- ---- notes
+
+kind_small : (k : Kind) → length (kind_bytes k) ≤ 17
+kind_small Unset = omega arith
+kind_small (Number a) = omega (arith, length-append (long_bytes a.lo) (long_bytes a.hi), length-long a.lo, length-long a.hi)
+kind_small (FramePointer s) = omega (arith, length-append (offset_bytes s.lo) (offset_bytes s.hi), length-short (cast_unsigned w32 s.lo), length-short (cast_unsigned w32 s.hi))
+kind_small (RecordPointer s) = omega (arith, length-append (offset_bytes s.lo) (offset_bytes s.hi), length-short (cast_unsigned w32 s.lo), length-short (cast_unsigned w32 s.hi))
+
+state_small : (ks : List Kind) → length (state_bytes ks) ≤ 17 * length ks
+state_small [] = omega arith
+state_small (k ∷ ks) = omega (arith, length-append (kind_bytes k) (state_bytes ks), kind_small k, state_small ks)
+
+note_small : (o : Option (List Kind)) → IsNote o → length (note_bytes o) ≤ 188
+note_small None p = omega arith
+note_small (Some s) p = omega (arith, state_small s, p.count)
+
+all_small : (ns : List (Option (List Kind))) → AllByRecursion IsNote ns → length (flat_map note_bytes ns) ≤ 188 * length ns
+all_small [] p = omega arith
+all_small (o ∷ ns) p = omega (arith, length-append (note_bytes o) (flat_map note_bytes ns), note_small o p.0, all_small ns p.1)
+
+pub notes_small : (ns : List (Option (List Kind))) → IsNotes ns → length (notes_bytes ns) ≤ 770052
+notes_small ns p = omega (arith, length-append (short_bytes (length ns)) (flat_map note_bytes ns), length-short (length ns), all_small ns p.each, p.few)
+
+-- ---- bodies
+
+pub length-registered : (t : List Insn) (ns : List (Option (List Kind))) → length (body_bytes (Register t ns)) ≡ 4 + length (spelling t) + length (notes_bytes ns)
+length-registered t ns =
+    omega (arith, length-append (number_bytes 4 (length (spelling t))) (spelling t ++ notes_bytes ns), length-append (spelling t) (notes_bytes ns), length-number_bytes 4 (length (spelling t)))
+
+-- each length fits four bytes
+pub body_small : (w : Written) → IsWritten w → length (body_bytes w) < 2 ^ 32
+body_small Leave p = omega arith
+body_small (Register t ns) p = omega (arith, length-registered t ns, text_small t p.0, notes_small ns p.1)
+body_small (Ask program start) p = omega (arith, length-asked program start)
+body_small (Store value) p = omega (arith, p.0)
+body_small (Deliver m) p = omega (arith, message_small m p)
+body_small HandOut p = omega arith
+body_small (Post query acc steps) p = omega (arith, length-posted query acc steps)

@@ -1,0 +1,29 @@
+-- Events, written part by part.
+use Rattle.std.proofs.Common.{◌≡◌, ℕ, ◌+◌, List, ◌∷◌, ◌++◌, length, Option, ap, ◌∙◌, arith, append_assoc}
+use Rattle.bq_insn.specs.declared.insn.Insn.{Insn}
+use Rattle.bq_insn.specs.Slots.{spelling}
+use Rattle.bq_state.specs.declared.kind.Kind.{Kind}
+use Rattle.bq_check.specs.Spelling.{notes_bytes}
+use Rattle.sc_msg.specs.Numbers.{number_bytes}
+use Rattle.q_journal.specs.declared.written.Written.{Written}
+use Rattle.q_journal.specs.declared.written.Written.TheVariants.{Register}
+use Rattle.q_journal.specs.Spelling.{code, body_bytes, event_bytes}
+use Rattle.q_journal.proofs.Sizes.{length-registered}
+
+pub two : (front a new x y : List ℕ) → a ≡ front ++ x → new ≡ a ++ y → new ≡ front ++ (x ++ y)
+two front a new x y first second = second ∙ ap (λ (l : List ℕ). l ++ y) first ∙ append_assoc front x y
+
+pub three : (front a b new x y z : List ℕ) → a ≡ front ++ x → b ≡ a ++ y → new ≡ b ++ z → new ≡ front ++ (x ++ (y ++ z))
+three front a b new x y z first second third = two front a new x (y ++ z) first (two a b new y z second third)
+
+pub event_written : (w : Written) (old front new : List ℕ) (n : ℕ) → n ≡ length (body_bytes w) → front ≡ old ++ (code w ∷ number_bytes 4 n) → new ≡ front ++ body_bytes w → new ≡ old ++ event_bytes w
+event_written w old front new n is first second =
+    two old front new (code w ∷ number_bytes 4 (length (body_bytes w))) (body_bytes w) (first ∙ ap (λ (k : ℕ). old ++ (code w ∷ number_bytes 4 k)) is) second
+
+-- s is how the text is spelled and m the notes, and k and n are what is said of lengths
+pub registered_written : (old front a b new s m : List ℕ) (t : List Insn) (ns : List (Option (List Kind))) (n k : ℕ) → s ≡ spelling t → m ≡ notes_bytes ns → n ≡ 4 + length s + length m → k ≡ length s → front ≡ old ++ (2 ∷ number_bytes 4 n) → a ≡ front ++ number_bytes 4 k → b ≡ a ++ s → new ≡ b ++ m → new ≡ old ++ event_bytes (Register t ns)
+registered_written old front a b new s m t ns n k text notes total long first second third fourth =
+    event_written (Register t ns) old front new n (omega (arith, total, ap length text, ap length notes, length-registered t ns)) first
+    (three front a b new (number_bytes 4 k) s m second third fourth ∙ ap (λ (j : ℕ). front ++ (number_bytes 4 j ++ (s ++ m))) (long ∙ ap length text)
+    ∙ ap (λ (l : List ℕ). front ++ (number_bytes 4 (length (spelling t)) ++ (l ++ m))) text
+    ∙ ap (λ (l : List ℕ). front ++ (number_bytes 4 (length (spelling t)) ++ (spelling t ++ l))) notes)

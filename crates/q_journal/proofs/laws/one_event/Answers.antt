@@ -1,0 +1,5 @@
+use Rattle.q_journal.proofs.Fronts.{event_front}
+use Rattle.q_journal.proofs.laws.one_event.Goals as goal
+
+pub returns : goal.returns
+returns c = event_front

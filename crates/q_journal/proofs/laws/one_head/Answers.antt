@@ -1,0 +1,5 @@
+use Rattle.q_journal.proofs.Fronts.{head_front}
+use Rattle.q_journal.proofs.laws.one_head.Goals as goal
+
+pub returns : goal.returns
+returns c = head_front

@@ -1,0 +1,4 @@
+-- What a journal holds, and its bytes.
+pub mod Head
+pub mod Spelling
+pub mod Reading

@@ -1,0 +1,36 @@
+//! The bytes of journals.
+//!
+//! A journal begins with a head: 42 51 4a 01, the node's id in eight bytes, the numerators and the denominators of beta
+//! and gamma in two bytes each, and then a byte 0, the number of founders in two bytes and their ids, or a byte 1 where
+//! the node entered. Behind it stand the events in turn: the byte of the kind, the length of the body in four bytes,
+//! and the body. Numbers have their lowest byte first.
+//!
+//! | Kind | Body |
+//! |---|---|
+//! | 1 leave, 6 hand-out | none |
+//! | 2 register | the length of the program's text in four bytes, the text, its notes |
+//! | 3 ask | the program's number in four bytes, the start in eight |
+//! | 4 store | 48 bytes |
+//! | 5 deliver | a message |
+//! | 7 post | the query's number, the accumulator, the steps, eight bytes each |
+//!
+//! Promised, for all bytes: [`read_head`] and [`read_event`] answer what stands first in the bytes, with what stands
+//! behind it; and they find nothing only where nothing of the form stands there. What a [`Writer`] writes is just the
+//! spelling. Bytes begin with one head at most and with one event at most (`laws`), so a journal has one spelling.
+//!
+//! Whether a program passes the checker, whether founders are taken and what the events do is not looked at: replays
+//! stand on these bytes.
+//!
+//! [`read_head`]: read::read_head
+//! [`read_event`]: read::read_event
+//! [`Writer`]: write::Writer
+#![tactic(auto)]
+
+mod body;
+pub mod head;
+pub mod laws;
+pub mod read;
+mod reader;
+pub mod worked;
+pub mod write;
+pub mod written;

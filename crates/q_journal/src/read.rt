@@ -1,0 +1,110 @@
+//! Bytes to heads and events.
+
+ghost use Rattle.std.specs.Prelude.{◌≡◌, ◌++◌, IfOk, IfErr};
+ghost use Rattle.bq_check.specs.Spelling.{BeginsNone};
+ghost use Rattle.q_journal.specs.Spelling.{head_bytes, event_bytes, IsHead, IsWritten};
+
+use crate::body::body_of;
+use crate::head::Head;
+use crate::reader::Reader;
+use crate::written::Written;
+use bq_check::fault::NotesFault;
+use bq_insn::fault::DecodeFault;
+use sc_msg::fault::MessageFault;
+use std::alloc::{AllocError, AllocFailed, Global};
+
+/// Why nothing is read.
+#[derive(Clone, Copy, Debug, PartialEq, Eq)]
+pub enum ReadFault {
+    /// The bytes do not begin with what is to be read.
+    Form,
+    /// 99: memory ran out. It may stand in place of any answer.
+    OutOfMemory,
+}
+
+impl From<DecodeFault> for ReadFault {
+    ghost use Rattle.std.specs.Prelude.{◌≡◌};
+    ghost use Rattle.q_journal.specs.Reading.{of_text};
+
+    ghost from_gives = { λ fault e. e ≡ of_text fault };
+
+    fn from(fault: DecodeFault) -> Self {
+        match fault {
+            DecodeFault::OutOfMemory => ReadFault::OutOfMemory,
+            _ => ReadFault::Form,
+        }
+    }
+}
+
+impl From<NotesFault> for ReadFault {
+    ghost use Rattle.std.specs.Prelude.{◌≡◌};
+    ghost use Rattle.q_journal.specs.Reading.{of_notes};
+
+    ghost from_gives = { λ fault e. e ≡ of_notes fault };
+
+    fn from(fault: NotesFault) -> Self {
+        match fault {
+            NotesFault::OutOfMemory => ReadFault::OutOfMemory,
+            NotesFault::NoteForm => ReadFault::Form,
+        }
+    }
+}
+
+impl From<MessageFault> for ReadFault {
+    ghost use Rattle.std.specs.Prelude.{◌≡◌};
+    ghost use Rattle.q_journal.specs.Reading.{of_message};
+
+    ghost from_gives = { λ fault e. e ≡ of_message fault };
+
+    fn from(fault: MessageFault) -> Self {
+        match fault {
+            MessageFault::OutOfMemory => ReadFault::OutOfMemory,
+            _ => ReadFault::Form,
+        }
+    }
+}
+
+impl<T: Drop> From<AllocFailed<T>> for ReadFault {
+    ghost use Rattle.std.specs.Prelude.{◌≡◌};
+    ghost use Rattle.q_journal.specs.declared.read.ReadFault.TheVariants.{OutOfMemory};
+
+    ghost from_gives = { λ _ e. e ≡ OutOfMemory };
+
+    fn from(_error: AllocFailed<T>) -> Self {
+        ReadFault::OutOfMemory
+    }
+}
+
+/// The head with which the bytes begin, and what stands behind it.
+pub fn read_head<'a>(alloc: Global, bytes: &'a [u8]) -> Result<(Head, &'a [u8]), ReadFault>
+    ensures legal { IfOk result (λ r. IsHead r.0) }
+    ensures parts { IfOk result (λ r. bytes.now ≡ head_bytes r.0 ++ r.1.now) }
+    ensures none { IfErr result (λ e. e ≡ ReadFault.Form → BeginsNone head_bytes IsHead bytes.now) }
+{
+    let mut reader = Reader { rest: bytes };
+    reader.format()?;
+    let id = reader.number()?;
+    let (beta, gamma) = reader.fractions()?;
+    let founders = reader.start(alloc)?;
+    let head = Head {
+        id,
+        beta,
+        gamma,
+        founders,
+    };
+    Ok((head, reader.rest))
+}
+
+/// The event with which the bytes begin, and what stands behind it.
+pub fn read_event<'a>(alloc: Global, bytes: &'a [u8]) -> Result<(Written, &'a [u8]), ReadFault>
+    ensures legal { IfOk result (λ r. IsWritten r.0) }
+    ensures parts { IfOk result (λ r. bytes.now ≡ event_bytes r.0 ++ r.1.now) }
+    ensures none { IfErr result (λ e. e ≡ ReadFault.Form → BeginsNone event_bytes IsWritten bytes.now) }
+{
+    let mut reader = Reader { rest: bytes };
+    let kind = reader.byte()?;
+    let length = reader.word()?;
+    let body = reader.take(length as usize)?;
+    let event = body_of(alloc, kind, body)?;
+    Ok((event, reader.rest))
+}

@@ -1,0 +1,24 @@
+//! Events as a journal holds them.
+
+use bq_check::notes::Notes;
+use bq_insn::text::Text;
+use sc_msg::message::Message;
+
+/// An event of a node as a journal holds it.
+#[derive(Drop)]
+pub enum Written {
+    /// The node left for good.
+    Leave,
+    /// A program was registered, with these notes.
+    Register { text: Text, notes: Notes },
+    /// A query of this program began.
+    Ask { program: u32, start: u64 },
+    /// A store of this value began.
+    Store([u8; 48]),
+    /// A message was delivered.
+    Deliver(Message),
+    /// A job was handed out.
+    HandOut,
+    /// The answer of a query was recorded.
+    Post { query: u64, acc: u64, steps: u64 },
+}
