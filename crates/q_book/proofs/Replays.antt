@@ -1,11 +1,16 @@
 -- What a call adds to the replay of a book.
-use Rattle.std.proofs.Common.{◌≡◌, List, [], ◌∷◌, ◌++◌, refl, sym, subst}
+use Rattle.std.proofs.Common.{◌≡◌, ℕ, ◌≤◌, ◌&&◌, Bool, true, false, nat_le, leb-true, List, [], ◌∷◌, ◌++◌, length, Option, Some, None, IfSome, Result, Ok, Err, cond, refl, sym, subst}
+use Rattle.std.specs.Ordering.{nat_cmp}
+use Rattle.std.specs.FinSet as set
+use Rattle.sc_node.specs.Nodes as node
+use Rattle.sc_node.specs.declared.fault.NodeFault.{NodeFault}
+use Rattle.sc_node.specs.declared.fault.NodeFault.TheVariants as node_fault
 use Rattle.sc_node.specs.State.{NodeState}
 use Rattle.q_desk.specs.State.{DeskState}
 use Rattle.q_desk.specs.declared.journal.Entry.{Entry}
 use Rattle.q_book.specs.State.{BookState}
 use Rattle.q_book.specs.Books.{new_book}
-use Rattle.q_book.specs.Replays.{Follows, Replays, IsReplay}
+use Rattle.q_book.specs.Replays.{Follows, Replays, IsFirst, IsReplay}
 
 replays_next : (es : List Entry) (b c d : BookState) (e : Entry) → Replays b es c → Follows c e d → Replays b (es ++ e ∷ []) d
 replays_next [] b c d e h s = (d, subst (λ (x : BookState). Follows x e d) h s, refl)
@@ -22,3 +27,16 @@ replay_next b e n d r journal follows = record {
   begun = r.begun;
   replayed = subst (λ (es : List Entry). Replays (new_book b.id b.config b.founders r.first) es (with b n d)) (sym journal) (replays_next b.desk.journal (new_book b.id b.config b.founders r.first) b (with b n d) e r.replayed follows);
 }
+
+-- ---- how many founders there are
+
+few-so : (most some rising holds : Bool) (n m : NodeState) → (let r : Result NodeState NodeFault = cond ((some && (most && rising)) && holds) (Ok n) (Err node_fault.BadFounders) in r) ≡ Ok m → most ≡ true
+few-so true some rising holds n m h = refl
+few-so false true rising holds n m h = absurd (cc)
+few-so false false rising holds n m h = absurd (cc)
+
+pub founders_few : (b : BookState) (n : NodeState) (o : Option (List ℕ)) → IsFirst b n o → IfSome o (λ ids. length ids ≤ node.most_founders)
+founders_few b n None f = tt
+founders_few b n (Some ids) f =
+    leb-true (length ids) node.most_founders
+    (few-so (nat_le (length ids) node.most_founders) (nat_le 1 (length ids)) (node.rises ids) (set.contains (set.from_list {R = nat_cmp} ids) b.id) (node.founder b.config ids b.id) n f)

@@ -1,7 +1,9 @@
 //! A book: a node with its desk.
 
-ghost use Rattle.std.specs.Prelude.{◌≡◌, length, is_some, Ok};
+ghost use Rattle.std.specs.Prelude.{◌≡◌, ◌≤◌, length, is_some, option_map, Ok, IfOk, IfSome};
 ghost use Rattle.std.specs.FinMap as fin;
+ghost use Rattle.sc_members.specs.Members.{IsConfig};
+ghost use Rattle.sc_node.specs.Nodes.{most_founders};
 ghost use Rattle.q_table.specs.Calls.{Steps, Gives};
 ghost use Rattle.q_desk.specs.Desks as desk;
 ghost use Rattle.q_desk.specs.Desks.{ends, completed_by};
@@ -26,7 +28,7 @@ use sc_node::answer::{Begun, Delivered};
 use sc_node::fault::NodeFault;
 use sc_node::node::{MOST_OPEN, Node};
 use sc_node::outs::Outs;
-use std::alloc::Global;
+use std::alloc::{AllocError, Global};
 use std::marker::Model;
 
 /// A node with its desk. Contracts see it as the record of its fields. It is the replay of its journal.
@@ -208,6 +210,41 @@ impl Book {
         ensures { result ≡ desk.answer_of self.now.desk query }
     {
         self.desk.answer(query)
+    }
+
+    /// The job of a query that runs; none where no such query runs. The one error is that memory ran out (99
+    /// OutOfMemory).
+    pub fn running_job(&self, query: usize) -> Result<Option<Job>, AllocError>
+        ensures { IfOk result (λ job. job ≡ desk.running_job self.now.desk self.now.id query) }
+    {
+        self.desk.running_job(self.id, query)
+    }
+
+    /// The id of the node.
+    pub fn id(&self) -> u64
+        ensures { result ≡ self.now.id }
+    {
+        self.id
+    }
+
+    /// The fractions of the cluster.
+    pub fn config(&self) -> Config
+        ensures config { result ≡ self.now.config }
+        ensures valid { IsConfig self.now.config }
+    {
+        let _numerator = self.config.beta_num();
+        self.config
+    }
+
+    /// All founders, where the node is one: at most 256, in strictly rising order; none where it entered.
+    pub fn founders(&self) -> Option<&[u64]>
+        ensures founders { option_map (λ ids. ids.now) result ≡ self.now.founders }
+        ensures few { IfSome result (λ ids. length ids.now ≤ most_founders) }
+    {
+        match &self.founders {
+            Some(ids) => Some(ids.as_slice()),
+            None => None,
+        }
     }
 
     /// The node.

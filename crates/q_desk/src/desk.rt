@@ -238,6 +238,24 @@ impl Desk {
         Ok(Some(job))
     }
 
+    /// The job of a query that runs, as desk of this node; none where no such query runs. The one error is that memory
+    /// ran out (99 OutOfMemory).
+    pub fn running_job(&self, node: u64, query: usize) -> Result<Option<Job>, AllocError>
+        ensures { IfOk result (λ job. job ≡ desk.running_job self.now node query) }
+    {
+        let Some(asked) = self.queries.get(query) else {
+            return Ok(None);
+        };
+        let Phase::Running(_) = &asked.phase else {
+            return Ok(None);
+        };
+        let Some(program) = self.programs.get(asked.program) else {
+            return Ok(None);
+        };
+        let program = Program::share(program)?;
+        Job::of(node, query, asked, &program)
+    }
+
     /// Records the result of a job as its query's answer, as desk of this node. Refused with 56, 55, 53, 99.
     pub fn post(&mut self, node: u64, done: &Done) -> Result<(), DeskFault>
         ensures { Steps DeskFault.OutOfMemory (desk.posted self.old node done.now.job done.now.ran) self.old self.new result }

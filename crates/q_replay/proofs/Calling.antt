@@ -1,0 +1,128 @@
+-- What taking an event comes to.
+use Rattle.std.proofs.Common.{◌≡◌, ◌≢◌, ℕ, ◌+◌, ◌≤◌, Bool, cond, List, [], ◌∷◌, ◌++◌, length, length-append, add-one, Some, sym, ap, ◌∙◌, subst, flat_map, Result, Ok, Err, IsErrAnd, IfErr, arith}
+use Rattle.bq_check.specs.Spelling.{BeginsNone}
+use Rattle.sc_node.specs.declared.fault.NodeFault.TheVariants as node_fault
+use Rattle.q_session.specs.Right.{IsRight}
+use Rattle.q_session.specs.Done.{Finished, IsFinished}
+use Rattle.q_session.specs.declared.ran.Ran.{Ran}
+use Rattle.q_session.specs.declared.job.Job.{Job}
+use Rattle.q_desk.specs.Desks as desk
+use Rattle.q_desk.specs.declared.journal.Entry.{Entry}
+use Rattle.q_desk.specs.declared.journal.Entry.TheVariants as entry
+use Rattle.q_book.specs.State.{BookState}
+use Rattle.q_book.specs.Books as book
+use Rattle.q_book.specs.Faults.{memory}
+use Rattle.q_book.specs.Replays.{Follows}
+use Rattle.q_book.specs.declared.fault.BookFault.{BookFault}
+use Rattle.q_book.specs.declared.fault.BookFault.TheVariants as book_fault
+use Rattle.q_journal.specs.Spelling.{head_bytes, event_bytes, IsWritten}
+use Rattle.q_journal.specs.declared.written.Written.{Written}
+use Rattle.q_desk.specs.Desks.{running_job}
+use Rattle.q_replay.specs.Journal.{written_of, IsCertifiedEntry}
+use Rattle.q_replay.specs.Replayed.{IsAnswering, Takes, Leads, IsFault}
+use Rattle.q_replay.specs.Taking.{of_book, Taking, Calling}
+use Rattle.q_replay.specs.declared.fault.ReplayFault.TheVariants as fault
+use Rattle.q_replay.specs.declared.refusal.Refusal.{Refusal}
+use Rattle.q_replay.specs.declared.refusal.Refusal.TheVariants.{Mismatch, OutOfMemory}
+use Rattle.q_replay.proofs.Lists.{same_some, no_refusal}
+use Rattle.q_replay.proofs.Posting.{job_runs, own_posts}
+use Rattle.q_replay.proofs.Following.{posted-post}
+use Rattle.q_replay.proofs.Entries.{OneLongest, OneAnswer, right_one, takes_as}
+use Rattle.q_replay.proofs.Leading.{leads_next}
+
+-- ---- calls that are refused
+
+no_memory : (f : BookFault) → of_book f ≡ Mismatch → f ≢ memory
+no_memory f h q = let x : OutOfMemory ≡ Mismatch = sym (ap of_book q) ∙ h in absurd (cc)
+
+refused_by : (old new : BookState) (e : Entry) (f : BookFault) (x : Refusal) → of_book f ≡ x → (f ≢ memory → (c : BookState) → Follows old e c → IsAnswering old e → ⊥) → Calling old e new (Err x)
+refused_by old new e f Mismatch h nowhere = nowhere (no_memory f h)
+refused_by old new e f OutOfMemory h nowhere = tt
+
+-- a call that the book refuses leads nowhere
+pub refused : (old new : BookState) (e : Entry) (f : BookFault) (r : Result (Unit {0}) Refusal) → IsErrAnd r (λ x. x ≡ of_book f) → (f ≢ memory → (c : BookState) → Follows old e c → IsAnswering old e → ⊥) → Calling old e new r
+refused old new e f (Ok u) is nowhere = absurd is
+refused old new e f (Err x) is nowhere = refused_by old new e f x (sym is) nowhere
+
+-- ---- the event of an entry
+
+pub taking : OneLongest → (old new : BookState) (e : Entry) (w : Written) (r : Result (Unit {0}) Refusal) → IsWritten w → IsCertifiedEntry e → written_of e ≡ w → Calling old e new r → Taking old w new r
+taking one old new e w (Ok u) legal certified is h =
+    record { called = e; legal = (subst IsWritten (sym is) legal, certified); is = is; answers = h.1; follows = h.0 }
+taking one old new e w (Err Mismatch) legal certified is h =
+    λ c t. let p = takes_as one old w c e (subst IsWritten (sym is) legal, certified) is t in h c p.0 p.1
+taking one old new e w (Err OutOfMemory) legal certified is h = tt
+
+-- ---- answers
+
+-- what a job that was run comes to is right of it
+pub finished_right : (f : Finished) (j : Job) (r : Ran) → IsFinished f → f.job ≡ j → r ≡ f.ran → IsRight j.certified j.view j.start r
+finished_right f j r h job ran =
+    subst (λ (x : Ran). IsRight j.certified j.view j.start x) (sym ran) (subst (λ (x : Job). IsRight x.certified x.view x.start f.ran) job h)
+
+-- a right answer of the query that runs is what its job comes to
+pub answer_same : OneAnswer → (b : BookState) (k : ℕ) (j : Job) (r other : Ran) → running_job b.desk b.id k ≡ Some j → IsRight j.certified j.view j.start r → IsAnswering b (entry.Post k other) → r ≡ other
+answer_same one b k j r other runs right a =
+    let same : a.0 ≡ j = same_some a.0 j (sym a.1 ∙ runs) in
+    right_one one j r other right (subst (λ (x : Job). IsRight x.certified x.view x.start other) same a.2)
+
+-- where some job's answer is recorded, so is that of the query's own job
+pub own_post : (b c : BookState) (k : ℕ) (j : Job) (r : Ran) → running_job b.desk b.id k ≡ Some j → Follows b (entry.Post k r) c → (d : BookState) × (book.posted b j r ≡ Ok (tt, d))
+own_post b c k j r runs f =
+    let p = posted-post b f.0 r c f.3 in
+    let o = own_posts b.desk b.id k j r (job_runs b.desk b.id k j runs) p.posted.room in
+    let d : BookState = record b { desk = o.0 } in (
+      d,
+      ap (λ (g : Bool). let x : Result (Unit {0} × BookState) BookFault = cond g (Err (book_fault.Node node_fault.Gone)) (book.by_desk (book.with_desk b) (desk.posted b.desk b.id j r)) in x) p.there
+          ∙ ap (book.by_desk (book.with_desk b)) o.1,
+    )
+
+-- an answer that the book refuses is recorded for no job
+pub no_post : (b : BookState) (k : ℕ) (i j : Job) (r s : Ran) (f : BookFault) → running_job b.desk b.id k ≡ Some j → i ≡ j → r ≡ s → book.posted b i r ≡ Err f → (c : BookState) → Follows b (entry.Post k s) c → ⊥
+no_post b k i j r s f runs job ran err c follows =
+    let o = own_post b c k j s runs follows in
+    no_refusal f (tt, o.0) (sym err ∙ (λ t. book.posted b (job t) (ran t)) ∙ o.1)
+
+-- the book that records the right answer of the query's own job
+pub posts : (b c : BookState) (k : ℕ) (i j : Job) (r s : Ran) (u : Unit {0}) → running_job b.desk b.id k ≡ Some j → i ≡ j → r ≡ s → IsRight j.certified j.view j.start r → book.posted b i r ≡ Ok (u, c) → Follows b (entry.Post k s) c × IsAnswering b (entry.Post k s)
+posts b c k i j r s u runs job ran right h =
+    let own : IsRight j.certified j.view j.start s = subst (λ (x : Ran). IsRight j.certified j.view j.start x) ran right in
+    let number : j.query ≡ k = ap (λ (x : Job). x.query) (sym (job_runs b.desk b.id k j runs).is) in
+    let done : book.posted b j s ≡ Ok (tt, c) = sym (λ t. book.posted b (job t) (ran t)) ∙ h in
+    ((j, number, own, done), (j, runs, own))
+
+-- ---- the next event of the bytes
+
+pub next_leads : (bytes : List ℕ) (n : ℕ) (b c : BookState) (w : Written) (rest more : List ℕ) → Leads bytes n b rest → IsWritten w → rest ≡ event_bytes w ++ more → Takes b w c → Leads bytes (n + 1) c more
+next_leads bytes n b c w rest more l legal parts t =
+    subst (λ (k : ℕ). Leads bytes k c more) (sym (add-one n)) (leads_next bytes n b c w rest more l legal parts t)
+
+pub next_form : (bytes : List ℕ) (n : ℕ) (b : BookState) (rest : List ℕ) → Leads bytes n b rest → rest ≢ [] → BeginsNone event_bytes IsWritten rest → IsFault bytes (fault.Form (n + 1))
+next_form bytes n b rest l more none =
+    subst (λ (k : ℕ). IsFault bytes (fault.Form k)) (sym (add-one n)) (record { book = b; rest = rest; leads = l; more = more; none = none })
+
+pub next_mismatch : (bytes : List ℕ) (n : ℕ) (b : BookState) (w : Written) (rest more : List ℕ) → Leads bytes n b rest → IsWritten w → rest ≡ event_bytes w ++ more → ((c : BookState) → Takes b w c → ⊥) → IsFault bytes (fault.Mismatch (n + 1))
+next_mismatch bytes n b w rest more l legal parts refused =
+    subst (λ (k : ℕ). IsFault bytes (fault.Mismatch k)) (sym (add-one n)) (record { book = b; rest = rest; leads = l; event = w; legal = legal; more = more; parts = parts; refused = refused })
+
+-- each event takes a byte and more
+events_long : (ws : List Written) → length ws ≤ length (flat_map event_bytes ws)
+events_long [] = omega arith
+events_long (w ∷ ws) =
+    let rest = events_long ws in
+    let some : length (event_bytes w ++ flat_map event_bytes ws) ≡ length (event_bytes w) + length (flat_map event_bytes ws) = length-append (event_bytes w) (flat_map event_bytes ws) in
+    omega arith
+
+pub leads_room : (bytes : List ℕ) (n : ℕ) (b : BookState) (rest : List ℕ) → Leads bytes n b rest → n + length rest ≤ length bytes
+leads_room bytes n b rest l =
+    let events = events_long l.events in
+    let many = l.many in
+    let all : length bytes ≡ length (head_bytes l.head ++ (flat_map event_bytes l.events ++ rest)) = ap length l.parts in
+    let first : length (head_bytes l.head ++ (flat_map event_bytes l.events ++ rest)) ≡ length (head_bytes l.head) + length (flat_map event_bytes l.events ++ rest) = length-append (head_bytes l.head) (flat_map event_bytes l.events ++ rest) in
+    let second : length (flat_map event_bytes l.events ++ rest) ≡ length (flat_map event_bytes l.events) + length rest = length-append (flat_map event_bytes l.events) rest in
+    omega arith
+
+-- a fault that is passed on
+pub passed_on : {A B : Type 0} (P : B → Type 0) (f : B) (r : Result A B) → IsErrAnd r (λ x. x ≡ f) → P f → IfErr r P
+passed_on P f (Ok a) is h = absurd is
+passed_on P f (Err x) is h = subst P (sym is) h

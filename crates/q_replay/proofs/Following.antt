@@ -1,0 +1,193 @@
+-- What the call of an entry makes of a book.
+use Rattle.std.proofs.Common.{◌≡◌, ℕ, Bool, true, false, cond, nat_le, List, [], ◌∷◌, ◌++◌, Option, Some, refl, sym, ap, ◌∙◌, subst, Result, Ok, Err}
+use Rattle.std.proofs.lemmas.List.{append_assoc}
+use Rattle.std.specs.FinMap as fin
+use Rattle.sc_msg.specs.declared.message.Message.{Message}
+use Rattle.sc_node.specs.State.{NodeState}
+use Rattle.sc_node.specs.Nodes as node
+use Rattle.sc_node.specs.declared.answer.Begun.{Begun}
+use Rattle.sc_node.specs.declared.fault.NodeFault.{NodeFault}
+use Rattle.sc_node.specs.declared.fault.NodeFault.TheVariants as node_fault
+use Rattle.bq_check.specs.Certificate.{Certificate}
+use Rattle.q_session.specs.declared.ran.Ran.{Ran}
+use Rattle.q_session.specs.declared.job.Job.{Job}
+use Rattle.q_desk.specs.State.{DeskState}
+use Rattle.q_desk.specs.Desks as desk
+use Rattle.q_desk.specs.declared.journal.Entry.{Entry}
+use Rattle.q_desk.specs.declared.journal.Entry.TheVariants as entry
+use Rattle.q_desk.specs.declared.fault.DeskFault.{DeskFault}
+use Rattle.q_desk.specs.declared.fault.DeskFault.TheVariants as desk_fault
+use Rattle.q_book.specs.State.{BookState}
+use Rattle.q_book.specs.Books as book
+use Rattle.q_book.specs.Replays.{Follows, Replays}
+use Rattle.q_book.specs.declared.answer.Asked.{Asked}
+use Rattle.q_book.specs.declared.answer.Taken.{Taken}
+use Rattle.q_book.specs.declared.fault.BookFault.{BookFault}
+use Rattle.q_book.specs.declared.fault.BookFault.TheVariants as fault
+use Rattle.q_replay.proofs.Lists.{same_answer, no_refusal, passed, spared}
+use Rattle.q_replay.proofs.Keeps.{Keeps, Goes, keeps_itself, keeps_on, noted_goes, registered_goes, asked_goes, ended_goes, handed_out_goes}
+use Rattle.q_replay.proofs.Posting.{IsPosted, posted_is, posted_goes, posted_one}
+
+-- ---- what the parts of a book did
+
+by_node-ok : {A B : Type 0} (f : A → NodeState → B) (r : Result (A × NodeState) NodeFault) (z : B) → book.by_node f r ≡ Ok z → (a : A × NodeState) × (r ≡ Ok a) × (f a.0 a.1 ≡ z)
+by_node-ok f (Ok a) z h = (a, refl, same_answer _ z h)
+by_node-ok f (Err e) z h = absurd (no_refusal _ z h)
+
+by_desk-ok : {A B : Type 0} (f : A → DeskState → Result B BookFault) (r : Result (A × DeskState) DeskFault) (z : B) → book.by_desk f r ≡ Ok z → (a : A × DeskState) × (r ≡ Ok a) × (f a.0 a.1 ≡ Ok z)
+by_desk-ok f (Ok a) z h = (a, refl, h)
+by_desk-ok f (Err e) z h = absurd (no_refusal _ z h)
+
+-- the desk had room for the entry
+noted-ok : {B : Type 0} (f : Unit {0} → DeskState → Result B BookFault) (d : DeskState) (e : Entry) (z : B) → book.by_desk f (desk.noted d e) ≡ Ok z → f tt (desk.with_entry d e) ≡ Ok z
+noted-ok {B} f d e z h = go (desk.has_room d) h
+  where
+    go : (b : Bool) → (let r : Result (Unit {0} × DeskState) DeskFault = cond b (Ok (tt, desk.with_entry d e)) (Err desk_fault.BookFull) in book.by_desk f r) ≡ Ok z → f tt (desk.with_entry d e) ≡ Ok z
+    go true k = k
+    go false k = absurd (no_refusal _ z k)
+
+-- a later book of the same node, whose journal goes on with an entry
+pub record IsNext (b : BookState) (e : Entry) (c : BookState) : Type 0 where
+  pub same : record b { node = c.node; desk = c.desk } ≡ c
+  pub goes : Goes b.desk e c.desk
+
+module _ (b : BookState) where
+  pub here-ok : {B : Type 0} (r : Result B BookFault) (z : B) → book.here b r ≡ Ok z → (b.node.gone ≡ false) × (r ≡ Ok z)
+  here-ok r z h = spared b.node.gone (fault.Node node_fault.Gone) r z h
+
+  joined-ok : {B : Type 0} (r : Result B BookFault) (z : B) → book.joined b r ≡ Ok z → r ≡ Ok z
+  joined-ok r z h = (passed b.node.joined (fault.Node node_fault.NotJoined) r z h).1
+
+  free-ok : {B : Type 0} (r : Result B BookFault) (z : B) → book.free b r ≡ Ok z → r ≡ Ok z
+  free-ok r z h = (spared (nat_le node.most_open (fin.len b.node.sessions)) (fault.Node node_fault.SessionsFull) r z h).1
+
+  known-ok : {B : Type 0} (program : ℕ) (r : Result B BookFault) (z : B) → book.known b program r ≡ Ok z → r ≡ Ok z
+  known-ok program r z h = (passed (desk.knows b.desk program) (fault.Desk desk_fault.UnknownProgram) r z h).1
+
+  -- a call of the desk alone
+  pub desk-parts : {A : Type 0} (r : Result (A × DeskState) DeskFault) (z : A × BookState) → book.here b (book.by_desk (book.with_desk b) r) ≡ Ok z
+      → (d : A × DeskState) × (r ≡ Ok d) × ((d.0, record b { desk = d.1 }) ≡ z)
+  desk-parts r z h =
+      let d = by_desk-ok (book.with_desk b) r z (here-ok _ z h).1 in
+      (d.0, d.1, same_answer _ z d.2)
+
+  left-next : (z : List Message × BookState) → book.left b ≡ Ok z → IsNext b entry.Leave z.1
+  left-next z h =
+      let a = by_node-ok (book.leaves b (desk.with_entry b.desk entry.Leave)) (node.left b.node) z (noted-ok (book.leaves_node b) b.desk entry.Leave z (here-ok _ z h).1) in
+      subst (λ (x : List Message × BookState). IsNext b entry.Leave x.1) a.2 (record { same = refl; goes = noted_goes b.desk entry.Leave })
+
+  stored-next : (value : List ℕ) (z : Begun × BookState) → book.stored b value ≡ Ok z → IsNext b (entry.Store value) z.1
+  stored-next value z h =
+      let a = by_node-ok (book.stores b (desk.with_entry b.desk (entry.Store value))) (node.store_begun b.node value) z
+      (noted-ok (book.stores_node b value) b.desk (entry.Store value) z (free-ok _ z (joined-ok _ z (here-ok _ z h).1))) in
+      subst (λ (x : Begun × BookState). IsNext b (entry.Store value) x.1) a.2 (record { same = refl; goes = noted_goes b.desk (entry.Store value) })
+
+  delivered-next : (m : Message) (z : Taken × BookState) → book.delivered b m ≡ Ok z → IsNext b (entry.Deliver m) z.1
+  delivered-next m z h =
+      let a = by_node-ok (book.delivers b (desk.with_entry b.desk (entry.Deliver m))) (node.delivered b.node m) z
+      (noted-ok (book.delivers_node b m) b.desk (entry.Deliver m) z (here-ok _ z h).1) in
+      subst (λ (x : Taken × BookState). IsNext b (entry.Deliver m) x.1) a.2 (record { same = refl; goes = ended_goes b.desk (entry.Deliver m) a.0.0.ended })
+
+  asked-next : (program start : ℕ) (z : Asked × BookState) → book.asked b program start ≡ Ok z → IsNext b (entry.Ask program start) z.1
+  asked-next program start z h =
+      let d = by_desk-ok (book.asks_node b) (desk.asked b.desk b.node.operations program start) z (free-ok _ z (known-ok program _ z (joined-ok _ z (here-ok _ z h).1))) in
+      let a = by_node-ok (book.asks b d.0.0 d.0.1) (node.collect_begun b.node) z d.2 in
+      subst (λ (x : Asked × BookState). IsNext b (entry.Ask program start) x.1) a.2 (record { same = refl; goes = asked_goes b.desk b.node.operations program start d.0 d.1 })
+
+  registered-next : (program : Certificate) (z : ℕ × BookState) → book.registered b program ≡ Ok z → IsNext b (entry.Register program) z.1
+  registered-next program z h =
+      let a = desk-parts (desk.registered b.desk program) z h in
+      subst (λ (x : ℕ × BookState). IsNext b (entry.Register program) x.1) a.2 (record { same = refl; goes = registered_goes b.desk program a.0 a.1 })
+
+  abbrev Handed : Type 0
+  Handed = Option Job × DeskState
+
+  handed-next : (j : Job) (c : BookState) → book.handed_out b ≡ Ok (Some j, c) → IsNext b entry.HandOut c
+  handed-next j c h =
+      let a = desk-parts (desk.handed_out b.desk b.id) (Some j, c) h in
+      let first : a.0.0 ≡ Some j = ap (λ (x : Option Job × BookState). x.0) a.2 in
+      let was : desk.handed_out b.desk b.id ≡ Ok (Some j, a.0.1) =
+      a.1 ∙ ap (λ (o : Option Job). let r : Result Handed DeskFault = Ok (o, a.0.1) in r) first in
+      subst (λ (x : Option Job × BookState). IsNext b entry.HandOut x.1) a.2 (record { same = refl; goes = handed_out_goes b.desk b.id j a.0.1 was })
+
+  -- what was recorded, and the book that has it
+  pub record IsPost (j : Job) (ran : Ran) (c : BookState) : Type 0 where
+    pub desk : DeskState
+    pub there : b.node.gone ≡ false
+    pub posted : IsPosted b.desk j ran desk
+    pub is : record b { desk = desk } ≡ c
+
+  pub posted-post : (j : Job) (ran : Ran) (c : BookState) → book.posted b j ran ≡ Ok (tt, c) → IsPost j ran c
+  posted-post j ran c h =
+      let a = desk-parts (desk.posted b.desk b.id j ran) (tt, c) h in
+      record {
+        desk = a.0.1;
+        there = (here-ok _ (tt, c) h).0;
+        posted = posted_is b.desk j ran a.0 b.id a.1;
+        is = ap (λ (x : Unit {0} × BookState). x.1) a.2;
+      }
+
+  posted-next : (j : Job) (ran : Ran) (c : BookState) → book.posted b j ran ≡ Ok (tt, c) → IsNext b (entry.Post j.query ran) c
+  posted-next j ran c h =
+      let p = posted-post j ran c h in
+      subst (IsNext b (entry.Post j.query ran)) p.is (record { same = refl; goes = posted_goes b.desk j ran p.desk p.posted })
+
+  -- the call of an entry is one more of the journal
+  pub follows-next : (e : Entry) (c : BookState) → Follows b e c → IsNext b e c
+  follows-next entry.Leave c f = left-next (f.0, c) f.1
+  follows-next (entry.Register program) c f = registered-next program (f.0, c) f.1
+  follows-next (entry.Ask program start) c f = asked-next program start (f.0, c) f.1
+  follows-next (entry.Store value) c f = stored-next value (f.0, c) f.1
+  follows-next (entry.Deliver m) c f = delivered-next m (f.0, c) f.1
+  follows-next entry.HandOut c f = handed-next f.0 c f.1
+  follows-next (entry.Post query ran) c f = subst (λ (k : ℕ). IsNext b (entry.Post k ran) c) f.1 (posted-next f.0 ran c f.3)
+
+  -- ---- one book at most
+
+  same-next : {A : Type 0} (r : Result (A × BookState) BookFault) (x y : A) (c d : BookState) → r ≡ Ok (x, c) → r ≡ Ok (y, d) → c ≡ d
+  same-next {A} r x y c d f g = ap (λ (p : A × BookState). p.1) (same_answer {A = A × BookState} (x, c) (y, d) (sym f ∙ g))
+
+  same-post : (i j : Job) (ran : Ran) (c d : BookState) → i.query ≡ j.query → IsPost i ran c → IsPost j ran d → c ≡ d
+  same-post i j ran c d same p q =
+      sym p.is ∙ ap (λ (x : DeskState). let y : BookState = record b { desk = x } in y) (posted_one b.desk i j ran p.desk q.desk same p.posted q.posted) ∙ q.is
+
+  pub follows-one : (e : Entry) (c d : BookState) → Follows b e c → Follows b e d → c ≡ d
+  follows-one entry.Leave c d f g = same-next (book.left b) f.0 g.0 c d f.1 g.1
+  follows-one (entry.Register program) c d f g = same-next (book.registered b program) f.0 g.0 c d f.1 g.1
+  follows-one (entry.Ask program start) c d f g = same-next (book.asked b program start) f.0 g.0 c d f.1 g.1
+  follows-one (entry.Store value) c d f g = same-next (book.stored b value) f.0 g.0 c d f.1 g.1
+  follows-one (entry.Deliver m) c d f g = same-next (book.delivered b m) f.0 g.0 c d f.1 g.1
+  follows-one entry.HandOut c d f g = same-next (book.handed_out b) (Some f.0) (Some g.0) c d f.1 g.1
+  follows-one (entry.Post query ran) c d f g = same-post f.0 g.0 ran c d (f.1 ∙ sym g.1) (posted-post f.0 ran c f.3) (posted-post g.0 ran d g.3)
+
+-- ---- all entries
+
+-- entries lead to one book at most
+pub replays-one : (es : List Entry) (b c d : BookState) → Replays b es c → Replays b es d → c ≡ d
+replays-one [] b c d r s = r ∙ sym s
+replays-one (e ∷ es) b c d r s =
+    replays-one es r.0 c d r.2 (subst (λ (x : BookState). Replays x es d) (follows-one b e s.0 r.0 s.1 r.1) s.2)
+
+-- a later book of the same node, whose journal goes on with these entries
+pub record IsLater (b : BookState) (es : List Entry) (c : BookState) : Type 0 where
+  pub same : record b { node = c.node; desk = c.desk } ≡ c
+  pub keeps : Keeps b.desk c.desk
+  pub adds : c.desk.journal ≡ b.desk.journal ++ es
+
+append-none : {X : Type 0} (xs : List X) → xs ≡ xs ++ []
+append-none [] = refl
+append-none (x ∷ xs) = ap (λ (ys : List _). x ∷ ys) (append-none xs)
+
+later-itself : (b : BookState) → IsLater b [] b
+later-itself b = record { same = refl; keeps = keeps_itself b.desk; adds = append-none b.desk.journal }
+
+later-next : (b c d : BookState) (e : Entry) (es : List Entry) → IsNext b e c → IsLater c es d → IsLater b (e ∷ es) d
+later-next b c d e es n l = record {
+  same = ap (λ (x : BookState). let y : BookState = record x { node = d.node; desk = d.desk } in y) n.same ∙ l.same;
+  keeps = keeps_on b.desk c.desk d.desk n.goes.keeps l.keeps;
+  adds = l.adds ∙ ap (λ (xs : List Entry). xs ++ es) n.goes.adds ∙ append_assoc b.desk.journal (e ∷ []) es;
+}
+
+pub replays-later : (es : List Entry) (b c : BookState) → Replays b es c → IsLater b es c
+replays-later [] b c r = subst (IsLater b []) (sym r) (later-itself b)
+replays-later (e ∷ es) b c r = later-next b r.0 c e es (follows-next b e r.0 r.1) (replays-later es r.0 c r.2)

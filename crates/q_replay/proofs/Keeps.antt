@@ -1,0 +1,181 @@
+-- What each accepted call of a desk keeps, and what it puts into the journal.
+use Rattle.std.proofs.Common.{◌≡◌, ℕ, ◌==◌, true, nat_lt, List, [], ◌∷◌, ◌++◌, length, Option, Some, None, refl, sym, ap, ◌∙◌, subst, slice_get, position, Result, Ok, Err}
+use Rattle.sc_view.specs.Views.{ViewMap}
+use Rattle.sc_node.specs.declared.answer.Completion.{Completion}
+use Rattle.sc_node.specs.declared.answer.Completion.TheVariants as completion
+use Rattle.sc_node.specs.declared.answer.Ended.{Ended}
+use Rattle.bq_check.specs.Certificate.{Certificate}
+use Rattle.q_table.specs.declared.fault.TableFault.{TableFault}
+use Rattle.q_table.specs.declared.fault.TableFault.TheVariants as table_fault
+use Rattle.q_table.specs.Programs as table
+use Rattle.q_session.specs.declared.ran.Ran.{Ran}
+use Rattle.q_session.specs.declared.query.Phase.{Phase}
+use Rattle.q_session.specs.declared.query.Phase.TheVariants.{Collecting, Ready, Running, Answered}
+use Rattle.q_session.specs.declared.query.Query.{Query}
+use Rattle.q_session.specs.declared.job.Job.{Job}
+use Rattle.q_desk.specs.State.{DeskState}
+use Rattle.q_desk.specs.Desks as desk
+use Rattle.q_desk.specs.declared.journal.Entry.{Entry}
+use Rattle.q_desk.specs.declared.journal.Entry.TheVariants as entry
+use Rattle.q_desk.specs.declared.fault.DeskFault.TheVariants as fault
+use Rattle.q_replay.proofs.Lists.{same_some, no_some, same_answer, no_refusal, passed, and_right, get_front, get_elsewhere, found}
+
+-- a phase with no answer
+abbrev pub HasNone : Phase → Type 0
+HasNone p = (view : ViewMap) (ran : Ran) → p ≡ Answered view ran → ⊥
+
+-- the desk keeps its programs, and the answers that it recorded
+pub record Keeps (d e : DeskState) : Type 0 where
+  pub programs : (i : ℕ) (p : Certificate) → slice_get d.programs i ≡ Some p → slice_get e.programs i ≡ Some p
+  pub answers : (k : ℕ) (q : Query) (view : ViewMap) (ran : Ran) → slice_get d.queries k ≡ Some q → q.phase ≡ Answered view ran → slice_get e.queries k ≡ Some q
+
+-- the desk keeps these, and its journal goes on with one entry
+pub record Goes (d : DeskState) (x : Entry) (e : DeskState) : Type 0 where
+  pub keeps : Keeps d e
+  pub adds : e.journal ≡ d.journal ++ x ∷ []
+
+pub keeps_itself : (d : DeskState) → Keeps d d
+keeps_itself d = record { programs = λ i p h. h; answers = λ k q view ran h a. h }
+
+pub keeps_on : (d e f : DeskState) → Keeps d e → Keeps e f → Keeps d f
+keeps_on d e f a b = record {
+  programs = λ i p h. b.programs i p (a.programs i p h);
+  answers = λ k q view ran h is. b.answers k q view ran (a.answers k q view ran h is) is;
+}
+
+pub noted_goes : (d : DeskState) (x : Entry) → Goes d x (desk.with_entry d x)
+noted_goes d x = record { keeps = record { programs = λ i p h. h; answers = λ k q view ran h a. h }; adds = refl }
+
+-- ---- programs
+
+more_programs : (ps : List Certificate) (c : Certificate) (o : Option ℕ) (r : ℕ × List Certificate) → table.registered_at ps c o ≡ Ok r → (i : ℕ) (p : Certificate) → slice_get ps i ≡ Some p → slice_get r.1 i ≡ Some p
+more_programs ps c (Some id) r h i p at = subst (λ (z : ℕ × List Certificate). slice_get z.1 i ≡ Some p) (same_answer _ r h) at
+more_programs ps c None r h i p at =
+    let k = passed (nat_lt (length ps) table.most_programs) table_fault.Full _ r h in
+    subst (λ (z : ℕ × List Certificate). slice_get z.1 i ≡ Some p) (same_answer _ r k.1) (get_front ps (c ∷ []) i p at)
+
+registered_by-goes : (d : DeskState) (program : Certificate) (r : Result (ℕ × List Certificate) TableFault) (y : ℕ × DeskState)
+    → ((z : ℕ × List Certificate) → r ≡ Ok z → (i : ℕ) (p : Certificate) → slice_get d.programs i ≡ Some p → slice_get z.1 i ≡ Some p)
+    → desk.registered_by d program r ≡ Ok y → Goes d (entry.Register program) y.1
+registered_by-goes d program (Err e) y more h = absurd (no_refusal _ y h)
+registered_by-goes d program (Ok z) y more h =
+    let k = passed (desk.has_room d) fault.BookFull _ y h in
+    subst (λ (x : ℕ × DeskState). Goes d (entry.Register program) x.1) (same_answer _ y k.1)
+    (record { keeps = record { programs = more z refl; answers = λ k q view ran h a. h }; adds = refl })
+
+pub registered_goes : (d : DeskState) (program : Certificate) (y : ℕ × DeskState) → desk.registered d program ≡ Ok y → Goes d (entry.Register program) y.1
+registered_goes d program y h =
+    registered_by-goes d program (table.registered d.programs program) y (λ z is. more_programs d.programs program (table.id_of d.programs program.text) z is) h
+
+-- ---- queries
+
+pub asked_goes : (d : DeskState) (tag program start : ℕ) (y : ℕ × DeskState) → desk.asked d tag program start ≡ Ok y → Goes d (entry.Ask program start) y.1
+asked_goes d tag program start y h =
+    let a = passed (desk.knows d program) fault.UnknownProgram _ y h in
+    let b = passed (nat_lt (length d.queries) desk.most_queries) fault.BookFull _ y a.1 in
+    let c = passed (desk.has_room d) fault.BookFull _ y b.1 in
+    subst (λ (x : ℕ × DeskState). Goes d (entry.Ask program start) x.1) (same_answer _ y c.1)
+    (record { keeps = record { programs = λ i p h. h; answers = λ k q view ran h a. get_front d.queries (desk.begun tag program start ∷ []) k q h }; adds = refl })
+
+module _ (d : DeskState) (k : ℕ) (p : Phase) (m : List Entry) where
+  phase_by : (o : Option Query) → slice_get d.queries k ≡ o → ((q : Query) → o ≡ Some q → HasNone q.phase) → Keeps d (record d { queries = desk.in_phase d.queries k p o; journal = m })
+  phase_by None is none = record { programs = λ i p h. h; answers = λ k q view ran h a. h }
+  phase_by (Some old) is none = record {
+    programs = λ i p h. h;
+    answers = λ i q view ran h a. get_elsewhere d.queries k (record old { phase = p }) i q
+        (λ here. none q (sym is ∙ ap (slice_get d.queries) (sym here) ∙ h) view ran a) h;
+  }
+
+  -- a query that has no answer is put into another phase
+  pub phase_keeps : ((q : Query) → slice_get d.queries k ≡ Some q → HasNone q.phase) → Keeps d (record d { queries = desk.with_phase d.queries k p; journal = m })
+  phase_keeps none = phase_by (slice_get d.queries k) refl none
+
+collecting_has_none : (p : Phase) → desk.is_collecting p ≡ true → HasNone p
+collecting_has_none Collecting h view ran is = absurd (cc)
+collecting_has_none (Ready v) h view ran is = absurd (cc)
+collecting_has_none (Running v) h view ran is = absurd (cc)
+collecting_has_none (Answered v a) h view ran is = absurd (cc)
+
+ready_has_none : (p : Phase) (v : ViewMap) → p ≡ Ready v → HasNone p
+ready_has_none p v is view ran answered = let h : Ready v ≡ Answered view ran = sym is ∙ answered in absurd (cc)
+
+pub running_has_none : (p : Phase) (v : ViewMap) → p ≡ Running v → HasNone p
+running_has_none p v is view ran answered = let h : Running v ≡ Answered view ran = sym is ∙ answered in absurd (cc)
+
+-- ---- operations that end
+
+module _ (d : DeskState) (tag : ℕ) (view : ViewMap) where
+  returned_by : (o : Option ℕ) → position (desk.waits tag) d.queries ≡ o → Keeps d (desk.returned_to d view o).1
+  returned_by None is = keeps_itself d
+  returned_by (Some k) is =
+      phase_keeps d k (Ready view) d.journal (λ q at.
+      collecting_has_none q.phase (and_right (q.tag == tag) (desk.is_collecting q.phase) (found (desk.waits tag) d.queries k q is at)))
+
+  returned_adds : (o : Option ℕ) → (desk.returned_to d view o).1.journal ≡ d.journal
+  returned_adds None = refl
+  returned_adds (Some k) = refl
+
+returns_keeps : (d : DeskState) (tag : ℕ) (what : Completion) → Keeps d (desk.returns tag what d).1
+returns_keeps d tag completion.Stored = keeps_itself d
+returns_keeps d tag (completion.Returned view) = returned_by d tag view (position (desk.waits tag) d.queries) refl
+
+ends_keeps : (d : DeskState) (o : Option Ended) → Keeps d (desk.ends o d).1
+ends_keeps d None = keeps_itself d
+ends_keeps d (Some e) = returns_keeps d e.tag e.what
+
+returns_adds : (d : DeskState) (tag : ℕ) (what : Completion) → (desk.returns tag what d).1.journal ≡ d.journal
+returns_adds d tag completion.Stored = refl
+returns_adds d tag (completion.Returned view) = returned_adds d tag view (position (desk.waits tag) d.queries)
+
+ends_adds : (d : DeskState) (o : Option Ended) → (desk.ends o d).1.journal ≡ d.journal
+ends_adds d None = refl
+ends_adds d (Some e) = returns_adds d e.tag e.what
+
+-- an entry, and then an operation that ends
+pub ended_goes : (d : DeskState) (x : Entry) (o : Option Ended) → Goes d x (desk.ends o (desk.with_entry d x)).1
+ended_goes d x o =
+    let n : DeskState = desk.with_entry d x in
+    record { keeps = keeps_on d n (desk.ends o n).1 (noted_goes d x).keeps (ends_keeps n o); adds = ends_adds n o }
+
+-- ---- jobs
+
+-- a ready query of the desk whose job this is
+record IsReady (d : DeskState) (j : Job) : Type 0 where
+  query : Query
+  at : slice_get d.queries j.query ≡ Some query
+  phase : query.phase ≡ Ready j.view
+
+module _ (d : DeskState) (node : ℕ) where
+  job_of-ready : (k : ℕ) (q : Query) (p : Phase) (c : Option Certificate) (j : Job) → slice_get d.queries k ≡ Some q → q.phase ≡ p → desk.job_of node k q p c ≡ Some j → IsReady d j
+  job_of-ready k q (Ready view) (Some c) j at is h = subst (IsReady d) (same_some _ j h) (record { query = q; at = at; phase = is })
+  job_of-ready k q (Ready view) None j at is h = absurd (no_some j h)
+  job_of-ready k q Collecting c j at is h = absurd (no_some j h)
+  job_of-ready k q (Running view) c j at is h = absurd (no_some j h)
+  job_of-ready k q (Answered view ran) c j at is h = absurd (no_some j h)
+
+  job_at-ready : (k : ℕ) (o : Option Query) (j : Job) → slice_get d.queries k ≡ o → desk.job_at d node k o ≡ Some j → IsReady d j
+  job_at-ready k None j at h = absurd (no_some j h)
+  job_at-ready k (Some q) j at h = job_of-ready k q q.phase (slice_get d.programs q.program) j at refl h
+
+  job_from-ready : (o : Option ℕ) (j : Job) → desk.job_from d node o ≡ Some j → IsReady d j
+  job_from-ready None j h = absurd (no_some j h)
+  job_from-ready (Some k) j h = job_at-ready k (slice_get d.queries k) j refl h
+
+  -- what a job that is handed out makes of the desk
+  abbrev HandsOut : Option Job → DeskState → Type 0
+  HandsOut None e = Unit {0}
+  HandsOut (Some j) e = Goes d entry.HandOut e
+
+  hands_goes : (o : Option Job) (y : Option Job × DeskState) → ((j : Job) → o ≡ Some j → IsReady d j) → desk.hands d o ≡ Ok y → HandsOut y.0 y.1
+  hands_goes None y ready h = subst (λ (z : Option Job × DeskState). HandsOut z.0 z.1) (same_answer _ y h) tt
+  hands_goes (Some j) y ready h =
+      let k = passed (desk.has_room d) fault.BookFull _ y h in
+      let r = ready j refl in
+      subst (λ (z : Option Job × DeskState). HandsOut z.0 z.1) (same_answer _ y k.1) (record {
+        keeps = phase_keeps d j.query (Running j.view) (d.journal ++ entry.HandOut ∷ [])
+            (λ q at. ready_has_none q.phase j.view (ap (λ (x : Query). x.phase) (same_some q r.query (sym at ∙ r.at)) ∙ r.phase));
+        adds = refl;
+      })
+
+  pub handed_out_goes : (j : Job) (e : DeskState) → desk.handed_out d node ≡ Ok (Some j, e) → Goes d entry.HandOut e
+  handed_out_goes j e h = hands_goes (desk.next_job d node) (Some j, e) (λ i is. job_from-ready (position (λ (q : Query). desk.is_ready q.phase) d.queries) i is) h

@@ -1,0 +1,250 @@
+-- Where events lead, one after the other.
+use Rattle.std.proofs.Common.{◌≡◌, ℕ, suc, ◌⊎◌, inl, inr, List, [], ◌∷◌, ◌++◌, length, map, Option, Some, None, refl, sym, ap, ◌∙◌, subst, append_assoc, append-nil, flat_map, Result, Ok, Err, arith}
+use Rattle.std.proofs.lemmas.List.{flat_map_more, length_push}
+use Rattle.std.proofs.lemmas.List.Folds.{flat_map-map}
+use Rattle.std.specs.List.{AllByRecursion}
+use Rattle.sc_members.specs.Members.{Config, IsConfig}
+use Rattle.sc_node.specs.State.{NodeState}
+use Rattle.sc_node.specs.Nodes as node
+use Rattle.sc_node.specs.declared.fault.NodeFault.{NodeFault}
+use Rattle.q_desk.specs.Answers.{AnswersAreRight}
+use Rattle.q_desk.specs.declared.journal.Entry.{Entry}
+use Rattle.q_book.specs.State.{BookState}
+use Rattle.q_book.specs.Books.{new_book, founds}
+use Rattle.q_book.specs.Replays.{Replays, IsFirst}
+use Rattle.q_book.specs.declared.fault.BookFault.{BookFault}
+use Rattle.q_journal.specs.Head.{Head}
+use Rattle.q_journal.specs.Spelling.{head_bytes, event_bytes, IsHead, IsWritten}
+use Rattle.q_journal.specs.declared.written.Written.{Written}
+use Rattle.q_replay.specs.Journal.{written_of, head_of, entries_bytes, journal_of, IsEntry, IsJournalled}
+use Rattle.q_replay.specs.Replayed.{begun, Begins, Takes, TakesAll, Leads}
+use Rattle.q_replay.proofs.Lists.{same_answer, no_refusal, all_push}
+use Rattle.q_replay.proofs.Following.{replays-later}
+use Rattle.q_replay.proofs.Entries.{OneLongest, takes_one, answering}
+
+-- laws of crates below
+abbrev pub OneHead : Type 0
+OneHead = (h g : Head) (rest more : List ℕ) → IsHead h → IsHead g → head_bytes h ++ rest ≡ head_bytes g ++ more → (h ≡ g) × (rest ≡ more)
+
+abbrev pub OneEvent : Type 0
+OneEvent = (w v : Written) (rest more : List ℕ) → IsWritten w → IsWritten v → event_bytes w ++ rest ≡ event_bytes v ++ more → (w ≡ v) × (rest ≡ more)
+
+-- ---- one more event
+
+pub leads_start : (bytes : List ℕ) (h : Head) (b : BookState) (rest : List ℕ) → IsHead h → Begins h b → bytes ≡ head_bytes h ++ rest → Leads bytes 0 b rest
+leads_start bytes h b rest legal begins parts =
+    record { head = h; legal = legal; first = b; begins = begins; events = []; written = tt; takes = refl; parts = parts; many = refl }
+
+takes_push : (ws : List Written) (a b c : BookState) (w : Written) → TakesAll a ws b → Takes b w c → TakesAll a (ws ++ w ∷ []) c
+takes_push [] a b c w t s = (c, subst (λ (x : BookState). Takes x w c) t s, refl)
+takes_push (v ∷ ws) a b c w t s = (t.0, t.1, takes_push ws t.0 b c w t.2 s)
+
+pub leads_next : (bytes : List ℕ) (n : ℕ) (b c : BookState) (w : Written) (rest more : List ℕ) → Leads bytes n b rest → IsWritten w → rest ≡ event_bytes w ++ more → Takes b w c → Leads bytes (suc n) c more
+leads_next bytes n b c w rest more l legal parts t =
+    let on : flat_map event_bytes l.events ++ rest ≡ flat_map event_bytes (l.events ++ w ∷ []) ++ more =
+    ap (λ (x : List ℕ). flat_map event_bytes l.events ++ x) parts
+    ∙ sym (append_assoc (flat_map event_bytes l.events) (event_bytes w) more)
+    ∙ ap (λ (x : List ℕ). x ++ more) (flat_map_more event_bytes [] l.events w) in
+    record {
+      head = l.head;
+      legal = l.legal;
+      first = l.first;
+      begins = l.begins;
+      events = l.events ++ w ∷ [];
+      written = all_push IsWritten l.events w l.written legal;
+      takes = takes_push l.events l.first b c w l.takes t;
+      parts = l.parts ∙ ap (λ (x : List ℕ). head_bytes l.head ++ x) on;
+      many = omega (arith, l.many, length_push l.events w);
+    }
+
+-- ---- no two ways
+
+-- an event stands first in the bytes, and it is taken
+pub record IsOngoing (b : BookState) (rest : List ℕ) : Type 0 where
+  pub event : Written
+  pub legal : IsWritten event
+  pub more : List ℕ
+  pub parts : rest ≡ event_bytes event ++ more
+  pub next : BookState
+  pub takes : Takes b event next
+
+record IsSame (us vs : List Written) (b c : BookState) (rest more : List ℕ) : Type 0 where
+  book : b ≡ c
+  left : rest ≡ more
+  many : length us ≡ length vs
+
+abbrev Compared : List Written → List Written → BookState → BookState → List ℕ → List ℕ → Type 0
+Compared us vs b c rest more = IsSame us vs b c rest more ⊎ (IsOngoing b rest ⊎ IsOngoing c more)
+
+longer : (u v : Written) (us vs : List Written) (b c : BookState) (rest more : List ℕ) → Compared us vs b c rest more → Compared (u ∷ us) (v ∷ vs) b c rest more
+longer u v us vs b c rest more (inl s) = inl (record { book = s.book; left = s.left; many = ap suc s.many })
+longer u v us vs b c rest more (inr o) = inr o
+
+begins_one : (h : Head) (b c : BookState) → Begins h b → Begins h c → b ≡ c
+begins_one h b c p q = same_answer {A = BookState} b c (sym p.book ∙ q.book)
+
+-- where no event goes on
+abbrev pub Stops : BookState → List ℕ → Type 0
+Stops b rest = IsOngoing b rest → ⊥
+
+-- two ways that are one
+pub record IsOne (n m : ℕ) (b c : BookState) (rest more : List ℕ) : Type 0 where
+  pub count : n ≡ m
+  pub book : b ≡ c
+  pub left : rest ≡ more
+
+settle : (us vs : List Written) (b c : BookState) (rest more : List ℕ) → Compared us vs b c rest more → Stops b rest → Stops c more → IsSame us vs b c rest more
+settle us vs b c rest more (inl s) stop halt = s
+settle us vs b c rest more (inr (inl o)) stop halt = absurd (stop o)
+settle us vs b c rest more (inr (inr o)) stop halt = absurd (halt o)
+
+module _ (one_longest : OneLongest) (one_head : OneHead) (one_event : OneEvent) where
+  walk : (us vs : List Written) (first b c : BookState) (rest more : List ℕ) → AllByRecursion IsWritten us → AllByRecursion IsWritten vs → TakesAll first us b → TakesAll first vs c
+      → flat_map event_bytes us ++ rest ≡ flat_map event_bytes vs ++ more → Compared us vs b c rest more
+  walk [] [] first b c rest more p q s t h = inl (record { book = s ∙ sym t; left = h; many = refl })
+  walk [] (v ∷ vs) first b c rest more p q s t h =
+      inr (inl (record {
+        event = v;
+        legal = q.0;
+        more = flat_map event_bytes vs ++ more;
+        parts = h ∙ append_assoc (event_bytes v) (flat_map event_bytes vs) more;
+        next = t.0;
+        takes = subst (λ (x : BookState). Takes x v t.0) (sym s) t.1;
+      }))
+  walk (u ∷ us) [] first b c rest more p q s t h =
+      inr (inr (record {
+        event = u;
+        legal = p.0;
+        more = flat_map event_bytes us ++ rest;
+        parts = sym h ∙ append_assoc (event_bytes u) (flat_map event_bytes us) rest;
+        next = s.0;
+        takes = subst (λ (x : BookState). Takes x u s.0) (sym t) s.1;
+      }))
+  walk (u ∷ us) (v ∷ vs) first b c rest more p q s t h =
+      let e = one_event u v (flat_map event_bytes us ++ rest) (flat_map event_bytes vs ++ more) p.0 q.0
+      (sym (append_assoc (event_bytes u) (flat_map event_bytes us) rest) ∙ h ∙ append_assoc (event_bytes v) (flat_map event_bytes vs) more) in
+      let same : s.0 ≡ t.0 = takes_one one_longest first v s.0 t.0 (subst (λ (x : Written). Takes first x s.0) e.0 s.1) t.1 in
+      longer u v us vs b c rest more
+      (walk us vs s.0 b c rest more p.1 q.1 s.2 (subst (λ (x : BookState). TakesAll x vs c) (sym same) t.2) e.1)
+
+  pub leads_one : (bytes : List ℕ) (n m : ℕ) (b c : BookState) (rest more : List ℕ) → Leads bytes n b rest → Leads bytes m c more → Stops b rest → Stops c more → IsOne n m b c rest more
+  leads_one bytes n m b c rest more l k stop halt =
+      let heads = one_head l.head k.head (flat_map event_bytes l.events ++ rest) (flat_map event_bytes k.events ++ more) l.legal k.legal (sym l.parts ∙ k.parts) in
+      let firsts : l.first ≡ k.first = begins_one l.head l.first k.first l.begins (subst (λ (h : Head). Begins h k.first) (sym heads.0) k.begins) in
+      let s = settle l.events k.events b c rest more
+      (walk l.events k.events l.first b c rest more l.written k.written l.takes (subst (λ (x : BookState). TakesAll x k.events c) (sym firsts) k.takes) heads.1) stop halt in
+      record { count = l.many ∙ s.many ∙ sym k.many; book = s.book; left = s.left }
+
+no_cons : (x : ℕ) (xs : List ℕ) → [] ≡ x ∷ xs → ⊥
+no_cons x xs h = absurd (cc)
+
+pub no_event : (w : Written) (more : List ℕ) → [] ≡ event_bytes w ++ more → ⊥
+no_event w more h = no_cons _ _ h
+
+pub end_stops : (b : BookState) → Stops b []
+end_stops b o = no_event o.event o.more o.parts
+
+-- ---- from the journal of a book
+
+begun_by : (b : BookState) (o : Option (List ℕ)) (n : NodeState) → IsFirst b n o → begun (head_of b) o ≡ Ok (new_book b.id b.config o n)
+begun_by b (Some ids) n f = ap (founds b.id b.config ids) f
+begun_by b None n f = ap (λ (m : NodeState). let r : Result BookState BookFault = Ok (new_book b.id b.config None m) in r) (sym f)
+
+takes_all : (es : List Entry) (s b : BookState) → Replays s es b → AnswersAreRight b.desk → AllByRecursion IsEntry es → TakesAll s (map written_of es) b
+takes_all [] s b r right a = r
+takes_all (e ∷ es) s b r right a = (
+  r.0,
+  record { called = e; legal = a.0; is = refl; answers = answering s r.0 b e r.1 (replays-later es r.0 b r.2).keeps right; follows = r.1 },
+  takes_all es r.0 b r.2 right a.1,
+)
+
+all_written : (es : List Entry) → AllByRecursion IsEntry es → AllByRecursion IsWritten (map written_of es)
+all_written [] a = tt
+all_written (e ∷ es) a = (a.0.0, all_written es a.1)
+
+map_many : (es : List Entry) → length es ≡ length (map written_of es)
+map_many [] = refl
+map_many (e ∷ es) = ap suc (map_many es)
+
+written_bytes : (es : List Entry) → entries_bytes es ≡ flat_map event_bytes (map written_of es) ++ []
+written_bytes es = sym (append-nil (flat_map event_bytes (map written_of es)) ∙ flat_map-map event_bytes written_of es)
+
+pub journalled_leads : (b : BookState) → IsJournalled b → Leads (journal_of b) (length b.desk.journal) b []
+journalled_leads b j = record {
+  head = head_of b;
+  legal = j.head;
+  first = new_book b.id b.config b.founders j.replay.first;
+  begins = record { config = j.config; book = begun_by b b.founders j.replay.first j.replay.begun };
+  events = map written_of b.desk.journal;
+  written = all_written b.desk.journal j.entries;
+  takes = takes_all b.desk.journal (new_book b.id b.config b.founders j.replay.first) b j.replay.replayed j.right j.entries;
+  parts = ap (λ (x : List ℕ). head_bytes (head_of b) ++ x) (written_bytes b.desk.journal);
+  many = map_many b.desk.journal;
+}
+
+-- ---- to the journal of a book
+
+-- the node before the first event
+record IsBegun (h : Head) (o : Option (List ℕ)) (b : BookState) : Type 0 where
+  node : NodeState
+  is : new_book h.id h.config o node ≡ b
+  first : IsFirst (new_book h.id h.config o node) node o
+
+founds_is : (id : ℕ) (config : Config) (ids : List ℕ) (r : Result NodeState NodeFault) (b : BookState) → founds id config ids r ≡ Ok b → (n : NodeState) × (r ≡ Ok n) × (new_book id config (Some ids) n ≡ b)
+founds_is id config ids (Ok n) b h = (n, refl, same_answer {A = BookState} _ b h)
+founds_is id config ids (Err e) b h = absurd (no_refusal _ b h)
+
+begun_is : (h : Head) (o : Option (List ℕ)) (b : BookState) → begun h o ≡ Ok b → IsBegun h o b
+begun_is h (Some ids) b e = let f = founds_is h.id h.config ids (node.founded h.config h.id ids) b e in record { node = f.0; is = f.2; first = f.1 }
+begun_is h None b e = record { node = (node.entered h.config h.id).0; is = same_answer {A = BookState} _ b e; first = refl }
+
+first_for : (x y : BookState) (o : Option (List ℕ)) (n : NodeState) → x.config ≡ y.config → x.id ≡ y.id → IsFirst x n o → IsFirst y n o
+first_for x y (Some ids) n config id f = sym (λ i. node.founded (config i) (id i) ids) ∙ f
+first_for x y None n config id f = f ∙ (λ i. (node.entered (config i) (id i)).0)
+
+-- the entries of events that are taken
+record IsTaken (s : BookState) (ws : List Written) (b : BookState) : Type 0 where
+  entries : List Entry
+  written : map written_of entries ≡ ws
+  legal : AllByRecursion IsEntry entries
+  replays : Replays s entries b
+
+taken : (ws : List Written) (s b : BookState) → TakesAll s ws b → IsTaken s ws b
+taken [] s b t = record { entries = []; written = refl; legal = tt; replays = t }
+taken (w ∷ ws) s b t =
+    let first = t.1 in
+    let rest = taken ws t.0 b t.2 in
+    record {
+      entries = first.called ∷ rest.entries;
+      written = λ i. first.is i ∷ rest.written i;
+      legal = (first.legal, rest.legal);
+      replays = (t.0, first.follows, rest.replays);
+    }
+
+pub leads_journalled : (bytes : List ℕ) (n : ℕ) (b : BookState) → Leads bytes n b [] → AnswersAreRight b.desk → (bytes ≡ journal_of b) × IsJournalled b
+leads_journalled bytes n b l right =
+    let f = begun_is l.head l.head.founders l.first l.begins.book in
+    let first : BookState = new_book l.head.id l.head.config l.head.founders f.node in
+    let t = taken l.events first b (subst (λ (x : BookState). TakesAll x l.events b) (sym f.is) l.takes) in
+    let later = replays-later t.entries first b t.replays in
+    let journal : b.desk.journal ≡ t.entries = later.adds in
+    let head : l.head ≡ head_of b = ap head_of later.same in
+    let spelled : flat_map event_bytes l.events ++ [] ≡ entries_bytes b.desk.journal =
+    ap (λ (ws : List Written). flat_map event_bytes ws ++ []) (sym t.written) ∙ sym (written_bytes t.entries) ∙ ap entries_bytes (sym journal) in
+    let begins : IsFirst b f.node l.head.founders =
+    first_for first b l.head.founders f.node (ap (λ (x : BookState). x.config) later.same) (ap (λ (x : BookState). x.id) later.same) f.first in
+    let replayed : Replays (new_book b.id b.config b.founders f.node) t.entries b =
+    subst (λ (h : Head). Replays (new_book h.id h.config h.founders f.node) t.entries b) head t.replays in (
+      l.parts ∙ ap (λ (x : List ℕ). head_bytes l.head ++ x) spelled ∙ ap (λ (h : Head). head_bytes h ++ entries_bytes b.desk.journal) head,
+      record {
+        head = subst IsHead head l.legal;
+        config = subst (λ (h : Head). IsConfig h.config) head l.begins.config;
+        entries = subst (AllByRecursion IsEntry) (sym journal) t.legal;
+        replay = record {
+          first = f.node;
+          begun = subst (IsFirst b f.node) (ap (λ (h : Head). h.founders) head) begins;
+          replayed = subst (λ (es : List Entry). Replays (new_book b.id b.config b.founders f.node) es b) (sym journal) replayed;
+        };
+        right = right;
+      },
+    )

@@ -1,0 +1,10 @@
+-- Why a journal is that of one book, and bytes have one fault.
+mod Lists
+mod Keeps
+mod Posting
+mod Following
+mod Entries
+mod Leading
+mod Firsts
+mod Calling
+mod Writing

@@ -1,0 +1,50 @@
+-- The journal of a book as bytes.
+use Rattle.std.specs.Prelude.{ℕ, List, ◌++◌}
+use Rattle.std.specs.List.{flat_map, AllByRecursion}
+use Rattle.bq_check.specs.Certificate.{IsCertified}
+use Rattle.sc_members.specs.Members.{IsConfig}
+use Rattle.q_desk.specs.Answers.{AnswersAreRight}
+use Rattle.q_desk.specs.declared.journal.Entry.{Entry}
+use Rattle.q_desk.specs.declared.journal.Entry.TheVariants as entry
+use Rattle.q_book.specs.State.{BookState}
+use Rattle.q_book.specs.Replays.{IsReplay}
+use Rattle.q_journal.specs.Head.{Head}
+use Rattle.q_journal.specs.Spelling.{head_bytes, event_bytes, IsHead, IsWritten}
+use Rattle.q_journal.specs.declared.written.Written.{Written}
+use Rattle.q_journal.specs.declared.written.Written.TheVariants as written
+
+-- an entry as the bytes hold it
+abbrev pub written_of : Entry → Written
+written_of entry.Leave = written.Leave
+written_of (entry.Register program) = written.Register program.text program.notes
+written_of (entry.Ask program start) = written.Ask program start
+written_of (entry.Store value) = written.Store value
+written_of (entry.Deliver m) = written.Deliver m
+written_of entry.HandOut = written.HandOut
+written_of (entry.Post query ran) = written.Post query ran.acc ran.steps
+
+abbrev pub head_of : BookState → Head
+head_of b = record { id = b.id; config = b.config; founders = b.founders }
+
+abbrev pub entries_bytes : List Entry → List ℕ
+entries_bytes es = flat_map (λ e. event_bytes (written_of e)) es
+
+-- the head, and the entries in turn
+abbrev pub journal_of : BookState → List ℕ
+journal_of b = head_bytes (head_of b) ++ entries_bytes b.desk.journal
+
+-- an entry that a book may hold: it has a spelling, and the notes of a program pass
+abbrev pub IsCertifiedEntry : Entry → Type 0
+IsCertifiedEntry (entry.Register program) = IsCertified program
+IsCertifiedEntry e = Unit {0}
+
+abbrev pub IsEntry : Entry → Type 0
+IsEntry e = IsWritten (written_of e) × IsCertifiedEntry e
+
+-- a book that has a journal
+pub record IsJournalled (b : BookState) : Type 0 where
+  pub head : IsHead (head_of b)
+  pub config : IsConfig b.config
+  pub entries : AllByRecursion IsEntry b.desk.journal
+  pub replay : IsReplay b
+  pub right : AnswersAreRight b.desk

@@ -1,0 +1,5 @@
+-- The journal of a book, and which bytes are one.
+pub mod Journal
+pub mod Replayed
+pub mod Taking
+pub mod Faults

@@ -1,0 +1,41 @@
+-- What taking an event answers, or beginning as a head says.
+use Rattle.std.specs.Prelude.{Result, Ok, Err}
+use Rattle.bq_check.specs.declared.fault.CheckFault.{CheckFault}
+use Rattle.bq_check.specs.declared.fault.CheckFault.TheVariants as check_fault
+use Rattle.sc_node.specs.declared.fault.NodeFault.TheVariants as node_fault
+use Rattle.q_desk.specs.declared.journal.Entry.{Entry}
+use Rattle.q_book.specs.State.{BookState}
+use Rattle.q_book.specs.Replays.{Follows}
+use Rattle.q_book.specs.declared.fault.BookFault.{BookFault}
+use Rattle.q_book.specs.declared.fault.BookFault.TheVariants as book_fault
+use Rattle.q_journal.specs.Head.{Head}
+use Rattle.q_journal.specs.declared.written.Written.{Written}
+use Rattle.q_replay.specs.Replayed.{IsAnswering, Begins, Takes}
+use Rattle.q_replay.specs.declared.refusal.Refusal.{Refusal}
+use Rattle.q_replay.specs.declared.refusal.Refusal.TheVariants.{Mismatch, OutOfMemory}
+
+abbrev pub of_book : BookFault → Refusal
+of_book (book_fault.Node node_fault.OutOfMemory) = OutOfMemory
+of_book f = Mismatch
+
+abbrev pub of_check : CheckFault → Refusal
+of_check check_fault.OutOfMemory = OutOfMemory
+of_check f = Mismatch
+
+-- a book begins as the head says, or none does
+abbrev pub Beginning : Head → Result BookState Refusal → Type 0
+Beginning h (Ok b) = Begins h b
+Beginning h (Err Mismatch) = (b : BookState) → Begins h b → ⊥
+Beginning h (Err OutOfMemory) = Unit {0}
+
+-- the event leads to this book, or to none
+abbrev pub Taking : BookState → Written → BookState → Result (Unit {0}) Refusal → Type 0
+Taking old w new (Ok u) = Takes old w new
+Taking old w new (Err Mismatch) = (c : BookState) → Takes old w c → ⊥
+Taking old w new (Err OutOfMemory) = Unit {0}
+
+-- the same of an entry
+abbrev pub Calling : BookState → Entry → BookState → Result (Unit {0}) Refusal → Type 0
+Calling old e new (Ok u) = Follows old e new × IsAnswering old e
+Calling old e new (Err Mismatch) = (c : BookState) → Follows old e c → IsAnswering old e → ⊥
+Calling old e new (Err OutOfMemory) = Unit {0}

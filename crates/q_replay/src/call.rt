@@ -1,0 +1,106 @@
+//! Events of a journal, each as the call that it names.
+
+ghost use Rattle.q_desk.specs.declared.journal.Entry.TheVariants as entry;
+ghost use Rattle.q_journal.specs.Spelling.{IsWritten};
+ghost use Rattle.q_journal.specs.declared.written.Written.TheVariants as written;
+ghost use Rattle.q_replay.specs.Taking.{Taking, Calling};
+
+use crate::refusal::Refusal;
+use bq_check::check::check;
+use bq_check::notes::Notes;
+use bq_flow::laws::one_longest;
+use bq_insn::text::Text;
+use bq_meaning::laws::one_answer;
+use q_book::book::Book;
+use q_journal::written::Written;
+use q_session::done::Done;
+use q_table::program::{Program, ProgramId};
+use sc_msg::message::Message;
+use std::alloc::Global;
+use std::sync::Arc;
+
+fn leave(book: &mut Book) -> Result<(), Refusal>
+    ensures { Calling book.old entry.Leave book.new result }
+{
+    let _outs = book.leave()?;
+    Ok(())
+}
+
+/// The notes are checked anew.
+fn register(alloc: Global, book: &mut Book, text: Text, notes: Notes) -> Result<(), Refusal>
+    requires { IsWritten (written.Register text notes) }
+    ensures { Taking book.old (written.Register text notes) book.new result }
+{
+    one_longest();
+    let certified = check(alloc, text, notes)?;
+    let shared = Arc::new(alloc, certified)?;
+    let program = Program::share(&shared)?;
+    let _id = book.register(&program)?;
+    Ok(())
+}
+
+fn ask(book: &mut Book, program: u32, start: u64) -> Result<(), Refusal>
+    ensures { Calling book.old (entry.Ask program start) book.new result }
+{
+    let _asked = book.ask(ProgramId::new(program), start)?;
+    Ok(())
+}
+
+fn store(book: &mut Book, value: &[u8; 48]) -> Result<(), Refusal>
+    ensures { Calling book.old (entry.Store value.now) book.new result }
+{
+    let _begun = book.store(value)?;
+    Ok(())
+}
+
+fn deliver(book: &mut Book, message: &Message) -> Result<(), Refusal>
+    ensures { Calling book.old (entry.Deliver message.now) book.new result }
+{
+    let _taken = book.deliver(message)?;
+    Ok(())
+}
+
+/// Where no query is ready, nothing is handed out, and no entry says so.
+fn hand_out(book: &mut Book) -> Result<(), Refusal>
+    ensures { Calling book.old entry.HandOut book.new result }
+{
+    let Some(_job) = book.hand_out()? else {
+        return Err(Refusal::Mismatch);
+    };
+    Ok(())
+}
+
+/// The job of the query is run anew, and its answer compared.
+fn post(book: &mut Book, query: u64, acc: u64, steps: u64) -> Result<(), Refusal>
+    ensures { Calling book.old (entry.Post query (record { acc = acc; steps = steps })) book.new result }
+{
+    one_answer();
+    let Some(job) = book.running_job(query as usize)? else {
+        return Err(Refusal::Mismatch);
+    };
+    let done = Done::run(job);
+    let _job = done.job();
+    let ran = done.ran();
+    if ran.acc != acc || ran.steps != steps {
+        return Err(Refusal::Mismatch);
+    }
+    book.post(&done)?;
+    Ok(())
+}
+
+/// Makes the call that an event names.
+pub(crate) fn take(alloc: Global, book: &mut Book, event: Written) -> Result<(), Refusal>
+    requires { IsWritten event }
+    ensures { Taking book.old event book.new result }
+{
+    one_longest();
+    match event {
+        Written::Leave => leave(book),
+        Written::Register { text, notes } => register(alloc, book, text, notes),
+        Written::Ask { program, start } => ask(book, program, start),
+        Written::Store(value) => store(book, &value),
+        Written::Deliver(message) => deliver(book, &message),
+        Written::HandOut => hand_out(book),
+        Written::Post { query, acc, steps } => post(book, query, acc, steps),
+    }
+}

@@ -1,0 +1,77 @@
+//! Why an event is not taken.
+
+use bq_check::fault::CheckFault;
+use q_book::fault::BookFault;
+use sc_members::config::BadFraction;
+use sc_node::fault::NodeFault;
+use std::alloc::{AllocError, AllocFailed};
+
+/// Why an event is not taken, or no book begins with a head.
+#[derive(Clone, Copy, Debug, PartialEq, Eq)]
+pub(crate) enum Refusal {
+    /// The call is refused, or an answer is not the right one.
+    Mismatch,
+    /// Memory ran out.
+    OutOfMemory,
+}
+
+impl From<BookFault> for Refusal {
+    ghost use Rattle.std.specs.Prelude.{◌≡◌};
+    ghost use Rattle.q_replay.specs.Taking.{of_book};
+
+    ghost from_gives = { λ fault e. e ≡ of_book fault };
+
+    fn from(fault: BookFault) -> Refusal {
+        match fault {
+            BookFault::Node(NodeFault::OutOfMemory) => Refusal::OutOfMemory,
+            _ => Refusal::Mismatch,
+        }
+    }
+}
+
+impl From<CheckFault> for Refusal {
+    ghost use Rattle.std.specs.Prelude.{◌≡◌};
+    ghost use Rattle.q_replay.specs.Taking.{of_check};
+
+    ghost from_gives = { λ fault e. e ≡ of_check fault };
+
+    fn from(fault: CheckFault) -> Refusal {
+        match fault {
+            CheckFault::OutOfMemory => Refusal::OutOfMemory,
+            _ => Refusal::Mismatch,
+        }
+    }
+}
+
+impl From<BadFraction> for Refusal {
+    ghost use Rattle.std.specs.Prelude.{◌≡◌};
+    ghost use Rattle.q_replay.specs.declared.refusal.Refusal.TheVariants.{Mismatch};
+
+    ghost from_gives = { λ _ e. e ≡ Mismatch };
+
+    fn from(_: BadFraction) -> Refusal {
+        Refusal::Mismatch
+    }
+}
+
+impl From<AllocError> for Refusal {
+    ghost use Rattle.std.specs.Prelude.{◌≡◌};
+    ghost use Rattle.q_replay.specs.declared.refusal.Refusal.TheVariants.{OutOfMemory};
+
+    ghost from_gives = { λ _ e. e ≡ OutOfMemory };
+
+    fn from(_: AllocError) -> Refusal {
+        Refusal::OutOfMemory
+    }
+}
+
+impl<T: Drop> From<AllocFailed<T>> for Refusal {
+    ghost use Rattle.std.specs.Prelude.{◌≡◌};
+    ghost use Rattle.q_replay.specs.declared.refusal.Refusal.TheVariants.{OutOfMemory};
+
+    ghost from_gives = { λ _ e. e ≡ OutOfMemory };
+
+    fn from(_: AllocFailed<T>) -> Refusal {
+        Refusal::OutOfMemory
+    }
+}

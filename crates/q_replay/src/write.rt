@@ -1,0 +1,44 @@
+//! Books to journals.
+
+ghost use Rattle.std.specs.Prelude.{◌≡◌, ◌++◌, IfOk, OnOk};
+ghost use Rattle.q_journal.specs.Spelling.{event_bytes};
+ghost use Rattle.q_replay.specs.Journal.{written_of, journal_of, IsEntry, IsJournalled};
+
+use q_book::book::Book;
+use q_desk::journal::Entry;
+use q_journal::write::Writer;
+use std::alloc::{AllocError, Global};
+
+/// The journal of a book as bytes: the only bytes of which [`replay`](crate::replay::replay) makes this book. The one
+/// error is that memory ran out (99 OutOfMemory).
+pub fn journal_bytes(alloc: Global, book: &Book) -> Result<Vec<u8>, AllocError>
+    ensures spelled { IfOk result (λ bytes. bytes.items ≡ journal_of book.now) }
+    ensures journalled { IfOk result (λ _. IsJournalled book.now) }
+{
+    let _desk = book.desk();
+    let mut writer = Writer::new(alloc);
+    writer.head(book.id(), book.config(), book.founders())?;
+    for entry in book.journal() {
+        write_entry(&mut writer, entry)?;
+    }
+    Ok(writer.bytes())
+}
+
+fn write_entry(writer: &mut Writer, entry: &Entry) -> Result<(), AllocError>
+    ensures legal { OnOk result (IsEntry entry.now) }
+    ensures spelled { OnOk result (writer.new ≡ writer.old ++ event_bytes (written_of entry.now)) }
+{
+    match entry {
+        Entry::Leave => writer.leave(),
+        Entry::Register(program) => {
+            let certified = program.certified();
+            let _longest = certified.longest();
+            writer.register(certified.text(), certified.notes())
+        }
+        Entry::Ask { program, start } => writer.ask(program.number(), *start),
+        Entry::Store(value) => writer.store(value),
+        Entry::Deliver(message) => writer.deliver(message),
+        Entry::HandOut => writer.hand_out(),
+        Entry::Post { query, ran } => writer.post(*query as u64, ran.acc, ran.steps),
+    }
+}
