@@ -1,5 +1,5 @@
 -- What the call of an entry makes of a book.
-use Rattle.std.proofs.Common.{◌≡◌, ℕ, Bool, true, false, cond, nat_le, List, [], ◌∷◌, ◌++◌, Option, Some, refl, sym, ap, ◌∙◌, subst, Result, Ok, Err}
+use Rattle.std.proofs.Common.{None, ◌≡◌, ℕ, Bool, true, false, cond, nat_le, List, [], ◌∷◌, ◌++◌, Option, Some, refl, sym, ap, ◌∙◌, subst, Result, Ok, Err}
 use Rattle.std.proofs.lemmas.List.{append_assoc}
 use Rattle.std.specs.FinMap as fin
 use Rattle.sc_msg.specs.declared.message.Message.{Message}
@@ -25,7 +25,7 @@ use Rattle.q_book.specs.declared.answer.Taken.{Taken}
 use Rattle.q_book.specs.declared.fault.BookFault.{BookFault}
 use Rattle.q_book.specs.declared.fault.BookFault.TheVariants as fault
 use Rattle.q_replay.proofs.Lists.{same_answer, no_refusal, passed, spared}
-use Rattle.q_replay.proofs.Keeps.{Keeps, Goes, keeps_itself, keeps_on, noted_goes, registered_goes, asked_goes, ended_goes, handed_out_goes}
+use Rattle.q_replay.proofs.Keeps.{Keeps, Goes, keeps_itself, keeps_on, silent_goes, ended_on, registered_goes, asked_goes, ended_goes, handed_out_goes}
 use Rattle.q_replay.proofs.Posting.{IsPosted, posted_is, posted_goes, posted_one}
 
 -- ---- what the parts of a book did
@@ -74,13 +74,13 @@ module _ (b : BookState) where
   left-next : (z : List Message × BookState) → book.left b ≡ Ok z → IsNext b entry.Leave z.1
   left-next z h =
       let a = by_node-ok (book.leaves b (desk.with_entry b.desk entry.Leave)) (node.left b.node) z (noted-ok (book.leaves_node b) b.desk entry.Leave z (here-ok _ z h).1) in
-      subst (λ (x : List Message × BookState). IsNext b entry.Leave x.1) a.2 (record { same = refl; goes = noted_goes b.desk entry.Leave })
+      subst (λ (x : List Message × BookState). IsNext b entry.Leave x.1) a.2 (record { same = refl; goes = silent_goes b.desk entry.Leave })
 
   stored-next : (value : List ℕ) (z : Begun × BookState) → book.stored b value ≡ Ok z → IsNext b (entry.Store value) z.1
   stored-next value z h =
       let a = by_node-ok (book.stores b (desk.with_entry b.desk (entry.Store value))) (node.store_begun b.node value) z
       (noted-ok (book.stores_node b value) b.desk (entry.Store value) z (free-ok _ z (joined-ok _ z (here-ok _ z h).1))) in
-      subst (λ (x : Begun × BookState). IsNext b (entry.Store value) x.1) a.2 (record { same = refl; goes = noted_goes b.desk (entry.Store value) })
+      subst (λ (x : Begun × BookState). IsNext b (entry.Store value) x.1) a.2 (record { same = refl; goes = silent_goes b.desk (entry.Store value) })
 
   delivered-next : (m : Message) (z : Taken × BookState) → book.delivered b m ≡ Ok z → IsNext b (entry.Deliver m) z.1
   delivered-next m z h =
@@ -92,7 +92,7 @@ module _ (b : BookState) where
   asked-next program start z h =
       let d = by_desk-ok (book.asks_node b) (desk.asked b.desk b.node.operations program start) z (free-ok _ z (known-ok program _ z (joined-ok _ z (here-ok _ z h).1))) in
       let a = by_node-ok (book.asks b d.0.0 d.0.1) (node.collect_begun b.node) z d.2 in
-      subst (λ (x : Asked × BookState). IsNext b (entry.Ask program start) x.1) a.2 (record { same = refl; goes = asked_goes b.desk b.node.operations program start d.0 d.1 })
+      subst (λ (x : Asked × BookState). IsNext b (entry.Ask program start) x.1) a.2 (record { same = refl; goes = ended_on b.desk d.0.1 (entry.Ask program start) None (asked_goes b.desk b.node.operations program start d.0 d.1) })
 
   registered-next : (program : Certificate) (z : ℕ × BookState) → book.registered b program ≡ Ok z → IsNext b (entry.Register program) z.1
   registered-next program z h =

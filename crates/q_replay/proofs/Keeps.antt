@@ -15,6 +15,7 @@ use Rattle.q_session.specs.declared.query.Query.{Query}
 use Rattle.q_session.specs.declared.job.Job.{Job}
 use Rattle.q_desk.specs.State.{DeskState}
 use Rattle.q_desk.specs.Desks as desk
+use Rattle.q_desk.specs.declared.completed.Completed.{Completed}
 use Rattle.q_desk.specs.declared.journal.Entry.{Entry}
 use Rattle.q_desk.specs.declared.journal.Entry.TheVariants as entry
 use Rattle.q_desk.specs.declared.fault.DeskFault.TheVariants as fault
@@ -43,8 +44,19 @@ keeps_on d e f a b = record {
   answers = λ k q view ran h is. b.answers k q view ran (a.answers k q view ran h is) is;
 }
 
-pub noted_goes : (d : DeskState) (x : Entry) → Goes d x (desk.with_entry d x)
+-- also where it then keeps what ended
+pub ended_keeps : (d e : DeskState) (x : Option Completed) → Keeps d e → Keeps d (desk.with_ended e x)
+ended_keeps d e x k = record { programs = k.programs; answers = k.answers }
+
+pub ended_on : (d e : DeskState) (x : Entry) (y : Option Completed) → Goes d x e → Goes d x (desk.with_ended e y)
+ended_on d e x y g = record { keeps = ended_keeps d e y g.keeps; adds = g.adds }
+
+noted_goes : (d : DeskState) (x : Entry) → Goes d x (desk.with_entry d x)
 noted_goes d x = record { keeps = record { programs = λ i p h. h; answers = λ k q view ran h a. h }; adds = refl }
+
+-- an entry of a call that ended nothing
+pub silent_goes : (d : DeskState) (x : Entry) → Goes d x (desk.with_ended (desk.with_entry d x) None)
+silent_goes d x = ended_on d (desk.with_entry d x) x None (noted_goes d x)
 
 -- ---- programs
 
@@ -77,8 +89,8 @@ asked_goes d tag program start y h =
     subst (λ (x : ℕ × DeskState). Goes d (entry.Ask program start) x.1) (same_answer _ y c.1)
     (record { keeps = record { programs = λ i p h. h; answers = λ k q view ran h a. get_front d.queries (desk.begun tag program start ∷ []) k q h }; adds = refl })
 
-module _ (d : DeskState) (k : ℕ) (p : Phase) (m : List Entry) where
-  phase_by : (o : Option Query) → slice_get d.queries k ≡ o → ((q : Query) → o ≡ Some q → HasNone q.phase) → Keeps d (record d { queries = desk.in_phase d.queries k p o; journal = m })
+module _ (d : DeskState) (k : ℕ) (p : Phase) (m : List Entry) (x : Option Completed) where
+  phase_by : (o : Option Query) → slice_get d.queries k ≡ o → ((q : Query) → o ≡ Some q → HasNone q.phase) → Keeps d (record d { queries = desk.in_phase d.queries k p o; journal = m; ended = x })
   phase_by None is none = record { programs = λ i p h. h; answers = λ k q view ran h a. h }
   phase_by (Some old) is none = record {
     programs = λ i p h. h;
@@ -87,7 +99,7 @@ module _ (d : DeskState) (k : ℕ) (p : Phase) (m : List Entry) where
   }
 
   -- a query that has no answer is put into another phase
-  pub phase_keeps : ((q : Query) → slice_get d.queries k ≡ Some q → HasNone q.phase) → Keeps d (record d { queries = desk.with_phase d.queries k p; journal = m })
+  pub phase_keeps : ((q : Query) → slice_get d.queries k ≡ Some q → HasNone q.phase) → Keeps d (record d { queries = desk.with_phase d.queries k p; journal = m; ended = x })
   phase_keeps none = phase_by (slice_get d.queries k) refl none
 
 collecting_has_none : (p : Phase) → desk.is_collecting p ≡ true → HasNone p
@@ -108,7 +120,7 @@ module _ (d : DeskState) (tag : ℕ) (view : ViewMap) where
   returned_by : (o : Option ℕ) → position (desk.waits tag) d.queries ≡ o → Keeps d (desk.returned_to d view o).1
   returned_by None is = keeps_itself d
   returned_by (Some k) is =
-      phase_keeps d k (Ready view) d.journal (λ q at.
+      phase_keeps d k (Ready view) d.journal d.ended (λ q at.
       collecting_has_none q.phase (and_right (q.tag == tag) (desk.is_collecting q.phase) (found (desk.waits tag) d.queries k q is at)))
 
   returned_adds : (o : Option ℕ) → (desk.returned_to d view o).1.journal ≡ d.journal
@@ -119,23 +131,24 @@ returns_keeps : (d : DeskState) (tag : ℕ) (what : Completion) → Keeps d (des
 returns_keeps d tag completion.Stored = keeps_itself d
 returns_keeps d tag (completion.Returned view) = returned_by d tag view (position (desk.waits tag) d.queries) refl
 
-ends_keeps : (d : DeskState) (o : Option Ended) → Keeps d (desk.ends o d).1
-ends_keeps d None = keeps_itself d
-ends_keeps d (Some e) = returns_keeps d e.tag e.what
+gives_keeps : (d : DeskState) (o : Option Ended) → Keeps d (desk.gives o d).1
+gives_keeps d None = keeps_itself d
+gives_keeps d (Some e) = returns_keeps d e.tag e.what
 
 returns_adds : (d : DeskState) (tag : ℕ) (what : Completion) → (desk.returns tag what d).1.journal ≡ d.journal
 returns_adds d tag completion.Stored = refl
 returns_adds d tag (completion.Returned view) = returned_adds d tag view (position (desk.waits tag) d.queries)
 
-ends_adds : (d : DeskState) (o : Option Ended) → (desk.ends o d).1.journal ≡ d.journal
-ends_adds d None = refl
-ends_adds d (Some e) = returns_adds d e.tag e.what
+gives_adds : (d : DeskState) (o : Option Ended) → (desk.gives o d).1.journal ≡ d.journal
+gives_adds d None = refl
+gives_adds d (Some e) = returns_adds d e.tag e.what
 
 -- an entry, and then an operation that ends
 pub ended_goes : (d : DeskState) (x : Entry) (o : Option Ended) → Goes d x (desk.ends o (desk.with_entry d x)).1
 ended_goes d x o =
     let n : DeskState = desk.with_entry d x in
-    record { keeps = keeps_on d n (desk.ends o n).1 (noted_goes d x).keeps (ends_keeps n o); adds = ends_adds n o }
+    let g = desk.gives o n in
+    ended_on d g.1 x (desk.completed_by o g.0) (record { keeps = keeps_on d n g.1 (noted_goes d x).keeps (gives_keeps n o); adds = gives_adds n o })
 
 -- ---- jobs
 
@@ -172,7 +185,7 @@ module _ (d : DeskState) (node : ℕ) where
       let k = passed (desk.has_room d) fault.BookFull _ y h in
       let r = ready j refl in
       subst (λ (z : Option Job × DeskState). HandsOut z.0 z.1) (same_answer _ y k.1) (record {
-        keeps = phase_keeps d j.query (Running j.view) (d.journal ++ entry.HandOut ∷ [])
+        keeps = phase_keeps d j.query (Running j.view) (d.journal ++ entry.HandOut ∷ []) None
             (λ q at. ready_has_none q.phase j.view (ap (λ (x : Query). x.phase) (same_some q r.query (sym at ∙ r.at)) ∙ r.phase));
         adds = refl;
       })

@@ -28,7 +28,7 @@ use Rattle.q_replay.proofs.Keeps.{Goes, phase_keeps, running_has_none}
 
 -- the desk with this answer recorded
 abbrev pub answered : DeskState → ℕ → ViewMap → Ran → DeskState
-answered d k view ran = desk.with_entry (record d { queries = desk.with_phase d.queries k (Answered view ran) }) (entry.Post k ran)
+answered d k view ran = desk.with_entry (record d { queries = desk.with_phase d.queries k (Answered view ran); ended = None }) (entry.Post k ran)
 
 -- the query runs over this view, the job is its, and there was room
 pub record IsPosted (d : DeskState) (j : Job) (ran : Ran) (e : DeskState) : Type 0 where
@@ -60,7 +60,7 @@ module _ (d : DeskState) (j : Job) (ran : Ran) (y : Unit {0} × DeskState) where
 pub posted_goes : (d : DeskState) (j : Job) (ran : Ran) (e : DeskState) → IsPosted d j ran e → Goes d (entry.Post j.query ran) e
 posted_goes d j ran e p =
     subst (Goes d (entry.Post j.query ran)) p.is (record {
-      keeps = phase_keeps d j.query (Answered p.view ran) (d.journal ++ entry.Post j.query ran ∷ [])
+      keeps = phase_keeps d j.query (Answered p.view ran) (d.journal ++ entry.Post j.query ran ∷ []) None
           (λ q at. running_has_none q.phase p.view (ap (λ (x : Query). x.phase) (same_some q p.query (sym at ∙ p.at)) ∙ p.phase));
       adds = refl;
     })
