@@ -1,0 +1,3 @@
+-- That merging is free, and that an entry of a journal is an event of a cluster.
+pub mod Merging
+

@@ -1,0 +1,3 @@
+-- Journals of nodes that ran apart, gathered into a cluster.
+pub mod Merging
+pub mod Traces
