@@ -1,3 +1,7 @@
 -- That merging is free, and that an entry of a journal is an event of a cluster.
+pub mod Lists
 pub mod Merging
-
+pub mod Turning
+pub mod Jobs
+pub mod EveryJob
+pub mod Entries

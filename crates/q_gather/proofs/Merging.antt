@@ -1,5 +1,5 @@
 -- Which step goes first makes no difference to whether lists merge.
-use Rattle.std.proofs.Common.{◌≡◌, ℕ, ◌==◌, zero, suc, Bool, true, false, List, [], ◌∷◌, ◌++◌, get_or, Option, Some, None, refl, sym, ap, ◌∙◌, subst, ⊎_elim}
+use Rattle.std.proofs.Common.{◌≡◌, ℕ, ◌==◌, Bool, true, false, List, [], ◌∷◌, ◌++◌, get_or, Option, Some, None, refl, sym, ap, ◌∙◌, subst, ⊎_elim}
 use Rattle.std.specs.Prelude.{Contains, slice_get, slice_set, IfSome}
 use Rattle.std.proofs.lemmas.Bool.{eqb-true, eqb-false}
 use Rattle.std.proofs.lemmas.List.{set_comm}
@@ -46,11 +46,6 @@ not_over lists k s rest over at =
     let none : get_or lists k [] ≡ [] = over k [] (slice_get_within lists k (s ∷ rest) at) in
     let some : get_or lists k [] ≡ s ∷ rest = get_or_from_slice_get lists k (s ∷ rest) [] at in
     absurd (cc)
-
-pub get_written : {X : Type 0} (xs : List X) (k : ℕ) (x y : X) → slice_get xs k ≡ Some x → slice_get (slice_set xs k y) k ≡ Some y
-get_written [] k x y h = absurd (cc)
-get_written (z ∷ xs) zero x y h = refl
-get_written (z ∷ xs) (suc k) x y h = get_written xs k x y h
 
 same_first : {X : Type 0} (x y : X) (xs ys : List X) → x ∷ xs ≡ y ∷ ys → (x ≡ y) × (xs ≡ ys)
 same_first x y xs ys h = (cc, cc)

@@ -1,12 +1,31 @@
 //! Laws of journals that are gathered. Each is the contract of a function that does nothing.
 
-ghost use Rattle.std.specs.Prelude.{◌≡◌, ◌++◌, ◌∷◌, ℕ, List, slice_get, slice_set, Some};
+ghost use Rattle.std.specs.Prelude.{◌≡◌, ◌++◌, ◌∷◌, ℕ, List, slice_get, slice_set, Some, None};
 ghost use Rattle.sc_msg.specs.declared.message.Message.{Message};
+ghost use Rattle.q_desk.specs.Answers.{AnswersAreRight};
+ghost use Rattle.q_desk.specs.declared.journal.Entry.{Entry};
+ghost use Rattle.q_book.specs.State.{BookState};
+ghost use Rattle.q_book.specs.Books.{entered};
+ghost use Rattle.q_history.specs.declared.event.Event.{Event};
+ghost use Rattle.q_history.specs.State.{ClusterState};
+ghost use Rattle.q_history.specs.Calls.{IsHistory};
+ghost use Rattle.q_cluster.specs.Acts.{book_at};
 ghost use Rattle.q_gather.specs.Merging.{Step, CanGo, AreOver, Merges};
+ghost use Rattle.q_gather.specs.Traces.{gives, step_of};
+ghost use Rattle.q_gather.specs.Turns.{IsEventOf, IsNext, Makes};
 
 /// A law: whether lists of steps merge does not depend on which step goes first. A first step that can go may go at once;
 /// and where none can go, the lists merge only if all are over.
 pub fn order_is_free()
     ensures next { (given : List Message) (lists : List (List (Step Message))) (k : ℕ) (s : Step Message) (rest : List (Step Message)) → slice_get lists k ≡ Some (s ∷ rest) → CanGo given s → Merges Message given lists → Merges Message (given ++ s.gives) (slice_set lists k rest) }
     ensures stuck { (given : List Message) (lists : List (List (Step Message))) → ((k : ℕ) (s : Step Message) (rest : List (Step Message)) → slice_get lists k ≡ Some (s ∷ rest) → CanGo given s → ⊥) → Merges Message given lists → AreOver lists }
+{}
+
+/// A law of every history: an entry that the book of a node can take next, where what it wants was sent, is an event of
+/// the cluster. The event is accepted; then the node's book is the one that the entry leads to, the others are as they
+/// were, and what the entry gives was sent. So is it where a node enters that was never there.
+pub fn entries_are_events()
+    ensures event { (c : ClusterState) (id : ℕ) (b d : BookState) (e : Entry) → IsHistory c → IsNext c id b e d → CanGo c.world.sent (step_of b e) → (ev : Event) × IsEventOf c id e ev }
+    ensures makes { (c : ClusterState) (id : ℕ) (b d : BookState) (e : Entry) (ev : Event) → IsHistory c → IsNext c id b e d → AnswersAreRight d.desk → IsEventOf c id e ev → Makes c ev id d (gives b e) }
+    ensures enters { (c : ClusterState) (id : ℕ) → IsHistory c → book_at c id ≡ None → Makes c (Event.Enter id) id (entered c.world.config id).0 (entered c.world.config id).1 }
 {}
