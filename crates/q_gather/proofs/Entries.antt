@@ -47,6 +47,7 @@ use Rattle.q_history.specs.Heads.{book_of}
 use Rattle.q_history.specs.Clusters.{at as at_node, enters, entered, registers, opened, asks, stores, delivers, delivered_as, hands, posts, posted, finished, leaves}
 use Rattle.q_history.specs.Calls.{Answers, IsHistory}
 use Rattle.q_history.proofs.Lists.{same_some, no_some}
+use Rattle.q_history.proofs.Moves.{Keeps, keeps_itself}
 use Rattle.q_history.proofs.Called.{desk-parts}
 use Rattle.q_history.proofs.EveryBook.{history_are}
 use Rattle.q_cluster.specs.Acts.{booked, book_at}
@@ -145,7 +146,7 @@ module _ (programs : List Certificate) (queries : List Query) (j : Job) (o : IsO
       both_true (j.program == q.program) _ (eq-eqb j.program q.program (sym its_program))
       (both_true (j.start == q.start) _ (eq-eqb j.start q.start (sym its_start)) (both_true (desk.is_same_view j.view view) _ same_view same_program))
 
-abbrev Posted : Type 0
+abbrev pub Posted : Type 0
 Posted = Result (Unit {0} × DeskState) DeskFault
 
 -- what is posted for a query that runs
@@ -160,13 +161,19 @@ module _ (d : DeskState) (node : ℕ) (i j : Job) (ran : Ran) (q : Query) (view 
       ap (λ (b : Bool). let r : Posted = cond b (desk.posted_at d x ran (slice_get d.queries x.query)) (Err desk_fault.Stranger) in r) own
       ∙ ap (desk.posted_at d x ran) here ∙ ap (desk.posted_to d x ran q) phase ∙ ap (answers d view ran x.query) fits
 
-  same_post : (i.node == node) ≡ true → (j.node == node) ≡ true → desk.is_job_of d.programs i q view ≡ true → desk.is_job_of d.programs j q view ≡ true → desk.posted d node j ran ≡ desk.posted d node i ran
+  pub same_post : (i.node == node) ≡ true → (j.node == node) ≡ true → desk.is_job_of d.programs i q view ≡ true → desk.is_job_of d.programs j q view ≡ true → desk.posted d node j ran ≡ desk.posted d node i ran
   same_post mine yours one two =
       posted_as j yours (ap (slice_get d.queries) same ∙ at) two ∙ ap (λ (k : ℕ). answers d view ran k true) same ∙ sym (posted_as i mine at one)
 
+-- the answers of a desk that comes of this one are right
+pub record IsRightLater (d : DeskState) : Type 0 where
+  pub later : DeskState
+  pub keeps : Keeps d later
+  pub right : AnswersAreRight later
+
 -- the answer that a book recorded is right of the job that the cluster has for its query
 module _ (c : ClusterState) (b d : BookState) (ran : Ran) (i j : Job) (up : IsUp c j.node b) (own : b.id ≡ j.node) (same : j.query ≡ i.query) (h : book.posted b i ran ≡ Ok (tt, d)) (o : IsOut b.desk.programs b.desk.queries j)
-    (right : AnswersAreRight d.desk) where
+    (right : IsRightLater d.desk) where
   parts : (e : Unit {0} × DeskState) × (desk.posted b.desk b.id i ran ≡ Ok e) × ◌≡◌ {A = Unit {0} × BookState} (e.0, record b { desk = e.1 }) (tt, d)
   parts = desk-parts b (desk.posted b.desk b.id i ran) (tt, d) h
 
@@ -185,8 +192,10 @@ module _ (c : ClusterState) (b d : BookState) (ran : Ran) (i j : Job) (up : IsUp
       ∙ ap (λ (x : Option Query). slice_get (desk.in_phase b.desk.queries i.query (Answered by.view ran) x) i.query) by.at
       ∙ get_written b.desk.queries i.query by.query (record by.query { phase = Answered by.view ran }) by.at
 
-  answered : IsAnswered d.desk (record by.query { phase = Answered by.view ran }) by.view ran
-  answered = right i.query (record by.query { phase = Answered by.view ran }) by.view ran recorded_there refl
+  answered : IsAnswered right.later (record by.query { phase = Answered by.view ran }) by.view ran
+  answered =
+      let q : Query = record by.query { phase = Answered by.view ran } in
+      right.right i.query q by.view ran (right.keeps.answers i.query q by.view ran recorded_there refl) refl
 
   programs : d.desk.programs ≡ b.desk.programs
   programs = ap (λ (x : DeskState). x.programs) (sym desk_is) ∙ by.programs
@@ -194,7 +203,9 @@ module _ (c : ClusterState) (b d : BookState) (ran : Ran) (i j : Job) (up : IsUp
   certificate : answered.program ≡ j.certified
   certificate =
       same_some answered.program j.certified
-      (sym answered.named ∙ ap (λ (x : List Certificate). slice_get x by.query.program) programs ∙ its_certificate b.desk.programs b.desk.queries j o by.query by.view here by.phase)
+      (sym answered.named
+      ∙ right.keeps.programs by.query.program j.certified
+      (ap (λ (x : List Certificate). slice_get x by.query.program) programs ∙ its_certificate b.desk.programs b.desk.queries j o by.query by.view here by.phase))
 
   right_of_it : Answers j ran
   right_of_it =
@@ -232,14 +243,14 @@ job_is_out c id b are up number j at by =
     let same : k.0 ≡ b.desk = same_some k.0 up.desk (sym k.1 ∙ ap (fin.get c.desks) by ∙ up.here) ∙ ap (λ (x : BookState). x.desk) up.is in
     subst (λ (x : DeskState). IsOut x.programs x.queries j) same k.2
 
-post_makes : (c : ClusterState) (id : ℕ) (b d : BookState) (query : ℕ) (ran : Ran) (i : Job) (number : ℕ) → JobsOf c → IsUp c id b → AnswersAreRight d.desk → i.query ≡ query → book.posted b i ran ≡ Ok (tt, d)
+post_makes : (c : ClusterState) (id : ℕ) (b d : BookState) (query : ℕ) (ran : Ran) (i : Job) (number : ℕ) → JobsOf c → IsUp c id b → IsRightLater d.desk → i.query ≡ query → book.posted b i ran ≡ Ok (tt, d)
     → IsJobFor c.jobs id query number → Makes c (event.Finish number) id d []
 post_makes c id b d query ran i number are up right of h it =
     let j = it.job in
     subst (λ (x : ℕ). Makes c (event.Finish number) x d []) it.by
     (finish_makes c b d ran i j (subst (λ (x : ℕ). IsUp c x b) (sym it.by) up) (ap (λ (x : BookState). x.id) (sym up.is) ∙ sym it.by) (it.of ∙ sym of) h (job_is_out c id b are up number j it.at it.by) right number it.at)
 
-pub entry_makes : (c : ClusterState) (id : ℕ) (b d : BookState) (e : Entry) (ev : Event) → JobsOf c → IsUp c id b → AnswersAreRight d.desk → Follows b e d → IsEventOf c id e ev → Makes c ev id d (gives b e)
+pub entry_makes : (c : ClusterState) (id : ℕ) (b d : BookState) (e : Entry) (ev : Event) → JobsOf c → IsUp c id b → IsRightLater d.desk → Follows b e d → IsEventOf c id e ev → Makes c ev id d (gives b e)
 entry_makes c id b d entry.Leave ev are up right f is = subst (λ (x : Event). Makes c x id d (gives b entry.Leave)) (sym is) (leave_makes c id b d up f.0 f.1)
 entry_makes c id b d (entry.Register program) ev are up right f is = subst (λ (x : Event). Makes c x id d []) (sym is) (register_makes c id b d up program f.0 f.1)
 entry_makes c id b d (entry.Ask program start) ev are up right f is = subst (λ (x : Event). Makes c x id d (gives b (entry.Ask program start))) (sym is) (ask_makes c id b d up program start f.0 f.1)
@@ -292,14 +303,15 @@ follows_open b d (entry.Deliver m) f = is_open b _ (f.0, d) f.1
 follows_open b d entry.HandOut f = is_open b _ (Some f.0, d) f.1
 follows_open b d (entry.Post query ran) f = is_open b _ (tt, d) f.3
 
-next_up : (c : ClusterState) (id : ℕ) (b d : BookState) (e : Entry) → IsNext c id b e d → IsUp c id b
+pub next_up : (c : ClusterState) (id : ℕ) (b d : BookState) (e : Entry) → IsNext c id b e d → IsUp c id b
 next_up c id b d e n = is_up c id b n.book n.stays (follows_open b d e n.takes)
 
 pub next_event : (c : ClusterState) (id : ℕ) (b d : BookState) (e : Entry) → IsHistory c → IsNext c id b e d → CanGo c.world.sent (step_of b e) → (ev : Event) × IsEventOf c id e ev
 next_event c id b d e h n can = entry_event c id b d e (history_jobs c h) (next_up c id b d e n) n.takes can
 
 pub next_makes : (c : ClusterState) (id : ℕ) (b d : BookState) (e : Entry) (ev : Event) → IsHistory c → IsNext c id b e d → AnswersAreRight d.desk → IsEventOf c id e ev → Makes c ev id d (gives b e)
-next_makes c id b d e ev h n right is = entry_makes c id b d e ev (history_jobs c h) (next_up c id b d e n) right n.takes is
+next_makes c id b d e ev h n right is =
+    entry_makes c id b d e ev (history_jobs c h) (next_up c id b d e n) (record { later = d.desk; keeps = keeps_itself d.desk; right = right }) n.takes is
 
 -- a node that was never there enters
 pub enter_makes : (c : ClusterState) (id : ℕ) → IsHistory c → book_at c id ≡ None → Makes c (event.Enter id) id (book.entered c.world.config id).0 (book.entered c.world.config id).1

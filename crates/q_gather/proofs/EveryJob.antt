@@ -148,6 +148,10 @@ all_new [] desks old id d at = old id d at
 all_new (p ∷ ids) desks old id d at =
     all_new ids (fin.insert desks p new_desk) (λ i x here. new_by desks p i x (i == p) (old i x) (sym (get-insert desks p new_desk i) ∙ here)) id d at
 
+-- the desks of founders are new
+pub start_new : (config : Config) (ids : List ℕ) (id : ℕ) (d : DeskState) → fin.get (start config ids).desks id ≡ Some d → new_desk ≡ d
+start_new config ids id d at = all_new ids fin.empty (λ i x none. absurd (no_some x (sym (fin.get-empty nat_cmp i) ∙ none))) id d at
+
 all_there : (config : Config) (ids qs : List ℕ) (nodes : fin.FinMap nat_cmp NodeState) (desks : Desks) → HasDesks nodes desks → HasDesks (world.nodes_with config ids nodes qs) (desks_with desks qs)
 all_there config ids [] nodes desks has = has
 all_there config ids (p ∷ qs) nodes desks has =
@@ -158,7 +162,7 @@ start_jobs config ids = record {
   jobs = record {
     each = λ number j at. absurd (no_some j at);
     all = λ id d k q v at here runs.
-        let new = all_new ids fin.empty (λ i x none. absurd (no_some x (sym (fin.get-empty nat_cmp i) ∙ none))) id d at in
+        let new = start_new config ids id d at in
         absurd (no_some q (ap (λ (x : DeskState). slice_get x.queries k) new ∙ here));
   };
   desks = all_there config ids ids fin.empty fin.empty (λ i n none. absurd (no_some n (sym (fin.get-empty nat_cmp i) ∙ none)));

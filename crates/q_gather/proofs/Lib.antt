@@ -5,3 +5,7 @@ pub mod Turning
 pub mod Jobs
 pub mod EveryJob
 pub mod Entries
+pub mod Keeping
+pub mod Gathering
+pub mod Beginning
+pub mod Tracing

@@ -47,7 +47,7 @@ not_over lists k s rest over at =
     let some : get_or lists k [] ≡ s ∷ rest = get_or_from_slice_get lists k (s ∷ rest) [] at in
     absurd (cc)
 
-same_first : {X : Type 0} (x y : X) (xs ys : List X) → x ∷ xs ≡ y ∷ ys → (x ≡ y) × (xs ≡ ys)
+pub same_first : {X : Type 0} (x y : X) (xs ys : List X) → x ∷ xs ≡ y ∷ ys → (x ≡ y) × (xs ≡ ys)
 same_first x y xs ys h = (cc, cc)
 
 -- two lists whose first steps can go

@@ -100,7 +100,7 @@ module _ (c : ClusterState) (p : Past) (jobs : List Job) (id : ℕ) (d : BookSta
       ∙ (λ i. Some (record { id = sym k.0 i; config = sym k.1 i; founders = sym k.2 i; node = d.node; desk = d.desk }))
 
   pub put_turn : (outs : List Message) → IsHeadedAs c id d → p.sent ≡ c.world.sent ++ outs → IsTurn c id d outs (With c p jobs id d)
-  put_turn outs k sent = record { book = book_here k; others = λ q away. book_elsewhere q away; sent = sent; crashed = refl }
+  put_turn outs k sent = record { book = book_here k; others = λ q away. book_elsewhere q away; sent = sent; crashed = refl; config = refl; founders = refl }
 
 -- ---- an event that is accepted, whatever a job comes to
 

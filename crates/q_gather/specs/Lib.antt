@@ -2,3 +2,4 @@
 pub mod Merging
 pub mod Traces
 pub mod Turns
+pub mod Gathered

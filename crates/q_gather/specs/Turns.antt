@@ -38,12 +38,14 @@ pub record IsNext (c : ClusterState) (id : ℕ) (b : BookState) (e : Entry) (d :
   pub stays : set.contains c.world.crashed id ≡ false
   pub takes : replays.Follows b e d
 
--- the node's book is this later, the others are as they were, and these messages were sent
+-- the node's book is this later, the others are as they were, and these messages were sent; nobody crashed
 pub record IsTurn (c : ClusterState) (id : ℕ) (b : BookState) (outs : List Message) (later : ClusterState) : Type 0 where
   pub book : book_at later id ≡ Some b
   pub others : (p : ℕ) → (p ≡ id → ⊥) → book_at later p ≡ book_at c p
   pub sent : later.world.sent ≡ c.world.sent ++ outs
   pub crashed : later.world.crashed ≡ c.world.crashed
+  pub config : later.world.config ≡ c.world.config
+  pub founders : later.world.founders ≡ c.world.founders
 
 -- the event is accepted, and makes this turn
 pub record Makes (c : ClusterState) (ev : Event) (id : ℕ) (b : BookState) (outs : List Message) : Type 0 where
