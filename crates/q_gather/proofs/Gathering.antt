@@ -102,41 +102,41 @@ abbrev pub IsPlaced : ClusterState → List (List (Step Message)) → ℕ → Bo
 IsPlaced c lists k b = (steps : List (Step Message)) × (slice_get lists k ≡ Some steps) × (left : List Entry) × IsAt c b left steps
 
 module _ (books : List BookState) (c : ClusterState) (lists : List (List (Step Message))) (u : IsUnderWay books c lists) (k : ℕ) (s : Step Message) (rest : List (Step Message)) (at : slice_get lists k ≡ Some (s ∷ rest)) where
-  whole : BookState
-  whole = (u.few k (s ∷ rest) at).0
+  chosen : BookState
+  chosen = (u.few k (s ∷ rest) at).0
 
-  mine : slice_get books k ≡ Some whole
-  unfolding whole
+  mine : slice_get books k ≡ Some chosen
+  unfolding chosen
   mine = (u.few k (s ∷ rest) at).1
 
-  placed : IsPlaced c lists k whole
-  placed = u.at k whole mine
+  placed : IsPlaced c lists k chosen
+  placed = u.at k chosen mine
 
-  now : CanGo c.world.sent s → NodeGoes c whole s rest
+  now : CanGo c.world.sent s → NodeGoes c chosen s rest
   now can =
-      node_goes c whole s rest u.history u.nobody (u.right k whole mine) can placed.2 (u.same k whole mine)
-      (subst (IsAt c whole placed.2) (same_some placed.0 (s ∷ rest) (sym placed.1 ∙ at)) placed.3)
+      node_goes c chosen s rest u.history u.nobody (u.right k chosen mine) can placed.2 (u.same k chosen mine)
+      (subst (IsAt c chosen placed.2) (same_some placed.0 (s ∷ rest) (sym placed.1 ∙ at)) placed.3)
 
-  module _ (g : NodeGoes c whole s rest) (later : ClusterState) (turn : IsTurn c whole.id g.book s.gives later) where
+  module _ (g : NodeGoes c chosen s rest) (later : ClusterState) (turn : IsTurn c chosen.id g.book s.gives later) where
     placed_by : (i : ℕ) (b : BookState) (same : Bool) → (i == k) ≡ same → slice_get books i ≡ Some b → IsPlaced later (slice_set lists k rest) i b
     placed_by i b true is here =
         let place : i ≡ k = eqb-true i k is in
-        let one : whole ≡ b = same_some whole b (sym mine ∙ ap (slice_get books) (sym place) ∙ here) in
+        let one : chosen ≡ b = same_some chosen b (sym mine ∙ ap (slice_get books) (sym place) ∙ here) in
         subst (IsPlaced later (slice_set lists k rest) i) one
         (rest, ap (slice_get (slice_set lists k rest)) place ∙ get_written lists k (s ∷ rest) rest at, g.left, There g.book turn.book g.trace)
     placed_by i b false is here =
         let away : i ≡ k → ⊥ = eqb-false i k is in
         let p = u.at i b here in
-        (p.0, get_elsewhere lists k rest i p.0 away p.1, p.2, at_stays c later whole.id g.book s.gives turn b p.2 p.0 (λ same. away (u.distinct i k b whole here mine same)) p.3)
+        (p.0, get_elsewhere lists k rest i p.0 away p.1, p.2, at_stays c later chosen.id g.book s.gives turn b p.2 p.0 (λ same. away (u.distinct i k b chosen here mine same)) p.3)
 
-    all_by : (id : ℕ) (b : BookState) (same : Bool) → (id == whole.id) ≡ same → book_at later id ≡ Some b → HasBook books id
-    all_by id b true is here = record { place = k; book = whole; at = mine; of = sym (eqb-true id whole.id is) }
-    all_by id b false is here = u.all id b (sym (turn.others id (eqb-false id whole.id is)) ∙ here)
+    all_by : (id : ℕ) (b : BookState) (same : Bool) → (id == chosen.id) ≡ same → book_at later id ≡ Some b → HasBook books id
+    all_by id b true is here = record { place = k; book = chosen; at = mine; of = sym (eqb-true id chosen.id is) }
+    all_by id b false is here = u.all id b (sym (turn.others id (eqb-false id chosen.id is)) ∙ here)
 
     few_by : (i : ℕ) (steps : List (Step Message)) → slice_get (slice_set lists k rest) i ≡ Some steps → (b : BookState) × (slice_get books i ≡ Some b)
     few_by i steps here = elim (get_after lists k rest i steps here) [
       | inl old ↦ u.few i steps old
-      | inr new ↦ (whole, ap (slice_get books) new.0 ∙ mine)
+      | inr new ↦ (chosen, ap (slice_get books) new.0 ∙ mine)
     ]
 
     under_way : IsHistory later → IsUnderWay books later (slice_set lists k rest)
@@ -146,7 +146,7 @@ module _ (books : List BookState) (c : ClusterState) (lists : List (List (Step M
       right = u.right;
       same = λ i b here. u.same i b here ∙ sym turn.config;
       at = λ i b here. placed_by i b (i == k) refl here;
-      all = λ id b here. all_by id b (id == whole.id) refl here;
+      all = λ id b here. all_by id b (id == chosen.id) refl here;
       nobody = turn.crashed ∙ u.nobody;
       few = few_by;
     }

@@ -9,3 +9,4 @@ pub mod Keeping
 pub mod Gathering
 pub mod Beginning
 pub mod Tracing
+pub mod Finding

@@ -3,3 +3,4 @@ pub mod Merging
 pub mod Traces
 pub mod Turns
 pub mod Gathered
+pub mod Numbers
