@@ -54,8 +54,8 @@ pub record IsGathered (books : List BookState) (c : ClusterState) : Type 0 where
 
 -- ---- while they are gathered
 
--- How far the node of a book has come in a cluster, where these entries and these steps are left: it has not entered, or
--- its book there is one from which the entries lead to the whole book.
+-- How far the node of a book has come in a cluster, where these entries and these steps are left: it has not entered,
+-- or its book there is one from which the entries lead to the whole book.
 pub data IsAt (c : ClusterState) (whole : BookState) (left : List Entry) (steps : List (Step Message)) : Type 0 where
   Away : book_at c whole.id ≡ None → whole.founders ≡ None → left ≡ whole.desk.journal → IsTrace whole steps → IsAt c whole left steps
   There : (b : BookState) → book_at c whole.id ≡ Some b → IsTraceFrom b left steps whole → IsAt c whole left steps

@@ -21,8 +21,8 @@ pub record IsJobFor (jobs : List Job) (id query number : ℕ) : Type 0 where
   pub by : job.node ≡ id
   pub of : job.query ≡ query
 
--- The entry as an event of the node. A message goes by a number at which it was sent, and an answer by the number of the
--- job that was handed out for its query.
+-- The entry as an event of the node. A message goes by a number at which it was sent, and an answer by the number of
+-- the job that was handed out for its query.
 abbrev pub IsEventOf : ClusterState → ℕ → Entry → Event → Type 0
 IsEventOf c id entry.Leave ev = ev ≡ event.Leave id
 IsEventOf c id (entry.Register program) ev = ev ≡ event.Register id program
