@@ -152,7 +152,7 @@ Posted = Result (Unit {0} × DeskState) DeskFault
 -- what is posted for a query that runs
 abbrev answers : DeskState → ViewMap → Ran → ℕ → Bool → Posted
 answers d view ran k fits =
-    cond fits (desk.room d (Ok (tt, desk.with_entry (record d { queries = desk.with_phase d.queries k (Answered view ran) }) (entry.Post k ran)))) (Err desk_fault.Stranger)
+    cond fits (desk.room d (Ok (tt, desk.with_entry (record d { queries = desk.with_phase d.queries k (Answered view ran); ended = None }) (entry.Post k ran)))) (Err desk_fault.Stranger)
 
 -- two jobs of one query
 module _ (d : DeskState) (node : ℕ) (i j : Job) (ran : Ran) (q : Query) (view : ViewMap) (same : j.query ≡ i.query) (at : slice_get d.queries i.query ≡ Some q) (phase : q.phase ≡ Running view) where
