@@ -1,0 +1,14 @@
+use Rattle.std.proofs.Common.{refl}
+use Rattle.q_history.specs.Clusters.{start}
+use Rattle.q_gather.proofs.Gathering.{step_goes, gathered}
+use Rattle.q_gather.proofs.Beginning.{begins, gathers}
+use Rattle.q_gather.proofs.laws.books_gather.Goals as goal
+
+pub returns : goal.returns
+returns c = record {
+  begins = λ books config founders lists distinct right agree traces. begins config founders books lists distinct right agree traces;
+  goes = λ books d lists k s rest u at can. step_goes books d lists u k s rest at can;
+  over = λ books d lists u over. gathered books d lists u over;
+  gathers = λ books config founders lists distinct right agree traces merges.
+      gathers merges books (start config founders) refl (begins config founders books lists distinct right agree traces);
+}

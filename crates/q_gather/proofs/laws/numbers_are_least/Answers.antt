@@ -1,0 +1,8 @@
+use Rattle.q_gather.proofs.Finding.{no_numbers, numbers_on}
+use Rattle.q_gather.proofs.laws.numbers_are_least.Goals as goal
+
+pub returns : goal.returns
+returns c = record {
+  none = no_numbers;
+  next = λ sent numbers m are legal. numbers_on c.one_spelling.ensures sent numbers are m legal;
+}

@@ -1,0 +1,8 @@
+-- The bytes are looked up.
+use Rattle.std.proofs.Common.{◌∙◌}
+use Rattle.q_gather.proofs.Finding.{found_number}
+use Rattle.q_gather.proofs.numbers.Numbers.find.Goals as goal
+
+pub returns-clause-number : goal.returns-clause-number
+returns-clause-number c =
+    c.copied.ensures ∙ found_number c.in_ok-bytes.bytes.items _ c.self.inside.by_bytes.entries c.args.self.now _ c.in_ok-bytes.ensures.spelled c.self.view_is c.get.ensures.value

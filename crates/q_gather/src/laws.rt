@@ -1,0 +1,64 @@
+//! Laws of journals that are gathered. Each is the contract of a function that does nothing.
+
+ghost use Rattle.std.specs.Prelude.{◌≡◌, ◌++◌, ◌∷◌, [], ℕ, List, length, slice_get, slice_set, Some, None};
+ghost use Rattle.sc_members.specs.Members.{Config};
+ghost use Rattle.sc_msg.specs.declared.message.Message.{Message};
+ghost use Rattle.sc_msg.specs.Messages.{message_bytes, IsMessage};
+ghost use Rattle.q_desk.specs.Answers.{AnswersAreRight};
+ghost use Rattle.q_desk.specs.declared.journal.Entry.{Entry};
+ghost use Rattle.q_book.specs.State.{BookState};
+ghost use Rattle.q_book.specs.Books.{entered};
+ghost use Rattle.q_book.specs.Replays.{IsReplay};
+ghost use Rattle.q_history.specs.declared.event.Event.{Event};
+ghost use Rattle.q_history.specs.State.{ClusterState};
+ghost use Rattle.q_history.specs.Clusters.{start};
+ghost use Rattle.q_history.specs.Calls.{IsHistory};
+ghost use Rattle.q_cluster.specs.Acts.{book_at};
+ghost use Rattle.q_gather.specs.Merging.{Step, CanGo, AreOver, Merges};
+ghost use Rattle.q_gather.specs.Traces.{gives, step_of, IsTrace};
+ghost use Rattle.q_gather.specs.Turns.{IsEventOf, IsNext, Makes};
+ghost use Rattle.q_gather.specs.Numbers.{NumberList, added, AreNumbers};
+ghost use Rattle.q_gather.specs.Gathered.{AreDistinct, AreRight, AgreeOn, AreTraces, IsGathered, IsUnderWay, Goes};
+
+use sc_msg::laws::one_spelling;
+
+/// A law: whether lists of steps merge does not depend on which step goes first. A first step that can go may go at
+/// once; and where none can go, the lists merge only if all are over.
+pub fn order_is_free()
+    ensures next { (given : List Message) (lists : List (List (Step Message))) (k : ℕ) (s : Step Message) (rest : List (Step Message)) → slice_get lists k ≡ Some (s ∷ rest) → CanGo given s → Merges Message given lists → Merges Message (given ++ s.gives) (slice_set lists k rest) }
+    ensures stuck { (given : List Message) (lists : List (List (Step Message))) → ((k : ℕ) (s : Step Message) (rest : List (Step Message)) → slice_get lists k ≡ Some (s ∷ rest) → CanGo given s → ⊥) → Merges Message given lists → AreOver lists }
+{}
+
+/// A law of every history: an entry that the book of a node can take next, where what it wants was sent, is an event of
+/// the cluster. The event is accepted; then the node's book is the one that the entry leads to, the others are as they
+/// were, and what the entry gives was sent. So is it where a node enters that was never there.
+pub fn entries_are_events()
+    ensures event { (c : ClusterState) (id : ℕ) (b d : BookState) (e : Entry) → IsHistory c → IsNext c id b e d → CanGo c.world.sent (step_of b e) → (ev : Event) × IsEventOf c id e ev }
+    ensures makes { (c : ClusterState) (id : ℕ) (b d : BookState) (e : Entry) (ev : Event) → IsHistory c → IsNext c id b e d → AnswersAreRight d.desk → IsEventOf c id e ev → Makes c ev id d (gives b e) }
+    ensures enters { (c : ClusterState) (id : ℕ) → IsHistory c → book_at c id ≡ None → Makes c (Event.Enter id) id (entered c.world.config id).0 (entered c.world.config id).1 }
+{}
+
+/// A law: each book that is the replay of its journal has one trace.
+pub fn one_trace()
+    ensures some { (b : BookState) → IsReplay b → (steps : List (Step Message)) × IsTrace b steps }
+    ensures one { (b : BookState) (steps others : List (Step Message)) → IsTrace b steps → IsTrace b others → steps ≡ others }
+    ensures all { (books : List BookState) (lists others : List (List (Step Message))) → AreTraces books lists → AreTraces books others → lists ≡ others }
+{}
+
+/// A law: books of different nodes, whose answers are right and which agree on their founders, are gathered in one
+/// cluster where their steps merge. They begin with the founders, before any event; each first step that can go is an
+/// event of the cluster, after which one step less is left; and where none is left, the books of the cluster are these.
+pub fn books_gather()
+    ensures begins { (books : List BookState) (config : Config) (founders : List ℕ) (lists : List (List (Step Message))) → AreDistinct books → AreRight books → AgreeOn books config founders → AreTraces books lists → IsUnderWay books (start config founders) lists }
+    ensures goes { (books : List BookState) (c : ClusterState) (lists : List (List (Step Message))) (k : ℕ) (s : Step Message) (rest : List (Step Message)) → IsUnderWay books c lists → slice_get lists k ≡ Some (s ∷ rest) → CanGo c.world.sent s → Goes books c lists k s rest }
+    ensures over { (books : List BookState) (c : ClusterState) (lists : List (List (Step Message))) → IsUnderWay books c lists → AreOver lists → IsGathered books c }
+    ensures gathers { (books : List BookState) (config : Config) (founders : List ℕ) (lists : List (List (Step Message))) → AreDistinct books → AreRight books → AgreeOn books config founders → AreTraces books lists → Merges Message [] lists → (c : ClusterState) × IsGathered books c }
+{}
+
+/// A law: where each message that is sent gets its number as it is sent, if it has none, each has its least number.
+pub fn numbers_are_least()
+    ensures none { AreNumbers [] [] }
+    ensures next { (sent : List Message) (numbers : NumberList) (m : Message) → AreNumbers sent numbers → IsMessage m → AreNumbers (sent ++ m ∷ []) (added (message_bytes m) (length sent) numbers) }
+{
+    one_spelling();
+}
