@@ -4,7 +4,7 @@ ghost use Rattle.std.specs.Prelude.{◌≡◌, ◌≤◌, length, is_some, optio
 ghost use Rattle.std.specs.FinMap as fin;
 ghost use Rattle.sc_members.specs.Members.{IsConfig};
 ghost use Rattle.sc_node.specs.Nodes.{most_founders};
-ghost use Rattle.q_table.specs.Calls.{Steps, Gives};
+ghost use Rattle.q_table.specs.Calls.{Steps, Gives, Does};
 ghost use Rattle.q_desk.specs.Desks as desk;
 ghost use Rattle.q_desk.specs.Desks.{ends, completed_by};
 ghost use Rattle.q_desk.specs.Answers.{AnswersAreRight, ProgramsAreKnown};
@@ -184,9 +184,9 @@ impl Book {
         Ok(job)
     }
 
-    /// Records the result of a job as its query's answer. Refused with 42, 56, 55, 53, 99.
+    /// Records the result of a job as its query's answer. Refused with 42, 56, 55, 53. Takes no memory.
     pub fn post(&mut self, done: &Done) -> Result<(), BookFault>
-        ensures { Steps memory (posted self.old done.now.job done.now.ran) self.old self.new result }
+        ensures { Does (posted self.old done.now.job done.now.ran) self.old self.new result }
     {
         self.check_here()?;
         let _job = done.job();
@@ -194,8 +194,8 @@ impl Book {
         Ok(())
     }
 
-    /// Whether a post is refused for the node or for the journal's room, before its result is looked at. Refused with
-    /// 42, 53. Takes no memory.
+    /// Whether a post is refused for the node or for the journal's room, before its result is looked at: after Ok a post
+    /// that is the next call is refused with none but 55 and 56. Refused with 42, 53. Takes no memory.
     pub fn room_for_post(&self) -> Result<(), BookFault>
         ensures { result ≡ room_for_post self.now }
     {

@@ -6,3 +6,4 @@ mod Texts
 mod Views
 mod Jobs
 mod Phases
+mod Running

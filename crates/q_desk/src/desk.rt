@@ -1,11 +1,13 @@
 //! A desk: the programs and queries of one node.
 
-ghost use Rattle.std.specs.Prelude.{◌≡◌, ℕ, Ok, Some, IfOk, slice_get, position, option_map, IsTrue};
+ghost use Rattle.std.specs.Prelude.{◌≡◌, ◌+◌, ◌≤◌, ℕ, Ok, Some, IfOk, slice_get, position, option_map, IsTrue};
+ghost use Rattle.std.specs.Vec.{vec_len, vec_capacity};
 ghost use Rattle.sc_view.specs.Views.{ViewMap};
-ghost use Rattle.q_table.specs.Calls.{Steps};
+ghost use Rattle.q_table.specs.Calls.{Steps, Does};
 ghost use Rattle.q_session.specs.declared.query.Query.{Query as QueryValue};
 ghost use Rattle.q_desk.specs.State.{DeskState, new_desk};
 ghost use Rattle.q_desk.specs.Desks as desk;
+ghost use Rattle.q_desk.specs.Desks.{how_many_run};
 ghost use Rattle.q_desk.specs.declared.journal.Entry.{Entry as EntryValue};
 ghost use Rattle.q_desk.specs.Answers.{IsDesk, AnswersAreRight, ProgramsAreKnown};
 
@@ -40,7 +42,11 @@ pub struct Desk {
     programs: Programs,
     queries: Vec<Query>,
     journal: Vec<Entry>,
+    /// How many queries run. The journal has room for the answer of each, so that no post wants memory.
+    running: usize,
     ended: Option<Completed>,
+    ghost counted: { running ≡ how_many_run queries.items },
+    ghost roomy: { vec_len journal + running ≤ vec_capacity journal },
 }
 
 impl Model for Desk {
@@ -69,6 +75,7 @@ impl Desk {
             programs: Programs::new(alloc),
             queries: Vec::new(alloc),
             journal: Vec::new(alloc),
+            running: 0,
             ended: None,
         }
     }
@@ -80,7 +87,8 @@ impl Desk {
         self.journal.len() < MOST_ENTRIES
     }
 
-    /// Whether the journal has room for a post. Refused with 53. Takes no memory.
+    /// Whether the journal has room for a post: after Ok a post that is the next call is not refused with 53. Takes no
+    /// memory.
     pub fn room_for_post(&self) -> Result<(), DeskFault>
         ensures { result ≡ desk.room self.now (Ok tt) }
     {
@@ -98,7 +106,7 @@ impl Desk {
         if !self.has_room() {
             return Err(DeskFault::BookFull);
         }
-        self.journal.reserve(1)?;
+        self.journal.reserve(self.running + 1)?;
         self.journal.push_reserved(entry);
         Ok(())
     }
@@ -120,7 +128,7 @@ impl Desk {
         if !self.has_room() {
             return Err(DeskFault::BookFull);
         }
-        self.journal.reserve(1)?;
+        self.journal.reserve(self.running + 1)?;
         let program = Program::share(certified)?;
         let id = self.programs.register(certified)?;
         let _count = self.programs.len();
@@ -158,7 +166,7 @@ impl Desk {
             return Err(DeskFault::BookFull);
         }
         self.queries.reserve(1)?;
-        self.journal.reserve(1)?;
+        self.journal.reserve(self.running + 1)?;
         self.queries.push_reserved(Query {
             tag,
             program,
@@ -231,8 +239,9 @@ impl Desk {
         if !self.has_room() {
             return Err(DeskFault::BookFull);
         }
-        self.journal.reserve(1)?;
+        self.journal.reserve(self.running + 2)?;
         run(&mut self.queries, job.query());
+        self.running += 1;
         self.ended = None;
         self.journal.push_reserved(Entry::HandOut);
         Ok(Some(job))
@@ -256,9 +265,9 @@ impl Desk {
         Job::of(node, query, asked, &program)
     }
 
-    /// Records the result of a job as its query's answer, as desk of this node. Refused with 56, 55, 53, 99.
+    /// Records the result of a job as its query's answer, as desk of this node. Refused with 56, 55, 53. Takes no memory.
     pub fn post(&mut self, node: u64, done: &Done) -> Result<(), DeskFault>
-        ensures { Steps DeskFault.OutOfMemory (desk.posted self.old node done.now.job done.now.ran) self.old self.new result }
+        ensures { Does (desk.posted self.old node done.now.job done.now.ran) self.old self.new result }
     {
         let job = done.job();
         let owner = job.node();
@@ -281,9 +290,9 @@ impl Desk {
         if !self.has_room() {
             return Err(DeskFault::BookFull);
         }
-        self.journal.reserve(1)?;
         let ran = done.ran();
         record_answer(&mut self.queries, number, ran);
+        self.running -= 1;
         self.ended = None;
         self.journal
             .push_reserved(Entry::Post { query: number, ran });
