@@ -9,7 +9,7 @@ use Rattle.std.specs.FinMap.Entries.{find}
 use Rattle.std.specs.BTreeMap.{is_at}
 use Rattle.sc_view.proofs.Maps.{found, get_found, one_written}
 use Rattle.sc_world.proofs.Finite.{get-insert}
-use Rattle.q_table.specs.Calls.{Steps}
+use Rattle.q_table.specs.Calls.{Steps, Does}
 use Rattle.q_book.specs.State.{BookState}
 use Rattle.q_book.specs.declared.fault.BookFault.{BookFault}
 use Rattle.q_book.specs.Faults.{memory}
@@ -57,6 +57,11 @@ module _ {X : Type 0} where
 -- what an entry list is after a write at an id
 abbrev pub Writes : List (ℕ × BookState) → List (ℕ × BookState) → ℕ → BookState → Type 0
 Writes es fs id n = (q : ℕ) → found fs q ≡ cond (is_at (nat_cmp id) q) (Some n) (found es q)
+
+-- a call that wants no memory is one that may
+pub steps_of : {S A E : Type 0} (memory : E) (said : Result (A × S) E) (n n' : S) (r : Result A E) → Does said n n' r → Steps memory said n n' r
+steps_of memory said n n' (Ok a) h = h
+steps_of memory said n n' (Err e) h = (h.0, λ no. h.1)
 
 -- a book of the table takes a call
 module _ (es fs : List (ℕ × BookState)) (old : BookMap) (id : ℕ) (n : BookState) (is : fin.from_entries es ≡ old) (at : Some n ≡ found es id) where

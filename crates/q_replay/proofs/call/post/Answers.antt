@@ -22,7 +22,7 @@ returns-in_err-post c =
     let same : c.run-done.result.ran ≡ answer = sym c.ran-ran.ensures ∙ λ i. record { acc = c.if-ran-acc.false i; steps = c.if-ran-steps.false i } in
     refused c.args.book.now c.post.new.self (entry.Post c.args.query answer) c.in_err-post.field-0.0 c.from_residual-in_err-post.result c.from_residual-in_err-post.ensures.1
     (λ cause d f a. no_post c.args.book.now c.args.query c.run-done.result.job c.in-Some.job c.run-done.result.ran answer c.in_err-post.field-0.0
-    (sym c.in_ok-job.ensures ∙ c.in-Some.is) c.run-done.ensures same (c.in_err-post.ensures.1 cause) d f)
+    (sym c.in_ok-job.ensures ∙ c.in-Some.is) c.run-done.ensures same c.in_err-post.ensures.1 d f)
 
 pub returns : goal.returns
 returns c =
