@@ -1,5 +1,5 @@
 -- What a job that is handed out or posted makes of a desk.
-use Rattle.std.proofs.Common.{◌≡◌, ℕ, true, List, length, get_or, Option, Some, None, Ok, refl, sym, ap, subst, ◌∙◌, rules, eq-eqb}
+use Rattle.std.proofs.Common.{◌≡◌, ◌+◌, ℕ, true, List, length, get_or, Option, Some, None, Ok, refl, sym, ap, subst, ◌∙◌, rules, eq-eqb}
 use Rattle.std.proofs.lemmas.Bool.{false≢true}
 use Rattle.std.proofs.lemmas.List.Quantifiers.{position-Some}
 use Rattle.std.proofs.lemmas.Option.{get_or_from_slice_get}
@@ -16,9 +16,10 @@ use Rattle.q_session.specs.declared.job.Job.{Job}
 use Rattle.q_desk.specs.State.{DeskState}
 use Rattle.q_desk.specs.declared.journal.Entry.{Entry}
 use Rattle.q_desk.specs.declared.journal.Entry.TheVariants as entry
-use Rattle.q_desk.specs.Desks.{most_entries, with_phase, is_ready, is_same_view, is_job_of, job_of, job_at, job_from, next_job, handed_out, posted}
+use Rattle.q_desk.specs.Desks.{most_entries, how_many_run, with_phase, is_ready, is_same_view, is_job_of, job_of, job_at, job_from, next_job, handed_out, posted}
 use Rattle.q_session.specs.Jobs.{view_in, job_over}
 use Rattle.q_desk.specs.Answers.{IsDesk, IsAnswered}
+use Rattle.q_desk.proofs.Running.{run-handed}
 use Rattle.q_desk.proofs.Views.{same-view, right-of_same}
 use Rattle.q_desk.proofs.Keeps.{IsAppended, desk-appended, desk-ended, desk-running, desk-with_phase}
 
@@ -95,6 +96,11 @@ handed s node j queries journal next a moves =
     let room = a.room in
     let small : nat_lt (length s.journal) most_entries ≡ true = search rules in
     rw (← next, small, moves j.view f.query f.there f.ready, a.is) refl
+
+pub jobs-handed : (s : DeskState) (node : ℕ) (j : Job) (queries : List Query) → Some j ≡ next_job s node → ((view : ViewMap) → Moves s.queries queries j.query (Ready view) (Running view)) → how_many_run queries ≡ how_many_run s.queries + 1
+jobs-handed s node j queries next moves =
+    let f = found s node j next in
+    run-handed s.queries queries j.query f.query j.view f.there f.ready (moves j.view f.query f.there f.ready)
 
 pub desk-posted : (s : DeskState) (j : Job) (ran : Ran) (q : Query) (view : ViewMap) (queries : List Query) (journal : List Entry) → IsDesk s → slice_get s.queries j.query ≡ Some q → IsAnswered s q view ran → IsAppended s (entry.Post j.query ran) journal → queries ≡ with_phase s.queries j.query (Answered view ran) → IsDesk (record s { queries = queries; journal = journal; ended = None })
 desk-posted s j ran q view queries journal d there right a after =

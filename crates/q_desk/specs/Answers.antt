@@ -1,11 +1,11 @@
 -- What each desk keeps.
-use Rattle.std.specs.Prelude.{◌≡◌, ℕ, ◌≤◌, ◌<◌, length, slice_get, Some}
+use Rattle.std.specs.Prelude.{◌≡◌, ℕ, ◌+◌, ◌≤◌, ◌<◌, List, length, slice_get, Some}
 use Rattle.sc_view.specs.Views.{ViewMap}
 use Rattle.bq_check.specs.Certificate.{Certificate}
 use Rattle.q_table.specs.Programs.{IsTable}
 use Rattle.q_session.specs.Right.{IsRight}
 use Rattle.q_desk.specs.State.{DeskState}
-use Rattle.q_desk.specs.Desks.{most_queries, most_entries}
+use Rattle.q_desk.specs.Desks.{most_queries, most_entries, how_many_run}
 use Rattle.q_session.specs.declared.ran.Ran.{Ran}
 use Rattle.q_session.specs.declared.query.Phase.TheVariants.{Answered}
 use Rattle.q_session.specs.declared.query.Query.{Query}
@@ -30,3 +30,8 @@ pub record IsDesk (s : DeskState) : Type 0 where
   pub brief : length s.journal ≤ most_entries
   pub known : ProgramsAreKnown s
   pub right : AnswersAreRight s
+
+-- so many queries run, and there is room for the answer of each behind so many entries
+pub record KeepsRoom (queries : List Query) (entries running capacity : ℕ) : Type 0 where
+  pub counted : running ≡ how_many_run queries
+  pub fits : entries + running ≤ capacity

@@ -1,5 +1,5 @@
 -- What each call of a desk answers and does, or why it refuses.
-use Rattle.std.specs.Prelude.{ℕ, ◌-◌, ◌==◌, ◌&&◌, Bool, true, false, bytes_eq, nat_lt, List, [], ◌∷◌, ◌++◌, length, take, sum_by, cond, position, slice_get, slice_set, Option, Some, None, option_map, Result, Ok, Err, if◌then◌else◌}
+use Rattle.std.specs.Prelude.{ℕ, ◌+◌, ◌-◌, ◌==◌, ◌&&◌, Bool, true, false, bytes_eq, nat_lt, List, [], ◌∷◌, ◌++◌, length, take, position, slice_get, slice_set, Option, Some, None, option_map, Result, Ok, Err, if◌then◌else◌}
 use Rattle.std.specs.Cmp.Lexicographic.{pointwise}
 use Rattle.std.specs.FinMap as fin
 use Rattle.sc_view.specs.declared.view.Stored.{Stored}
@@ -85,7 +85,8 @@ is_running p = false
 
 -- how many queries run
 abbrev pub how_many_run : List Query → ℕ
-how_many_run queries = sum_by (λ q. cond (is_running q.phase) 1 0) queries
+how_many_run [] = 0
+how_many_run (q ∷ qs) = (if is_running q.phase then 1 else 0) + how_many_run qs
 
 abbrev pub in_phase : List Query → ℕ → Phase → Option Query → List Query
 in_phase queries k p None = queries

@@ -1,13 +1,11 @@
 //! A desk: the programs and queries of one node.
 
-ghost use Rattle.std.specs.Prelude.{◌≡◌, ◌+◌, ◌≤◌, ℕ, Ok, Some, IfOk, slice_get, position, option_map, IsTrue};
-ghost use Rattle.std.specs.Vec.{vec_len, vec_capacity};
+ghost use Rattle.std.specs.Prelude.{◌≡◌, ℕ, Ok, Some, IfOk, slice_get, position, option_map, IsTrue};
 ghost use Rattle.sc_view.specs.Views.{ViewMap};
 ghost use Rattle.q_table.specs.Calls.{Steps, Does};
 ghost use Rattle.q_session.specs.declared.query.Query.{Query as QueryValue};
 ghost use Rattle.q_desk.specs.State.{DeskState, new_desk};
 ghost use Rattle.q_desk.specs.Desks as desk;
-ghost use Rattle.q_desk.specs.Desks.{how_many_run};
 ghost use Rattle.q_desk.specs.declared.journal.Entry.{Entry as EntryValue};
 ghost use Rattle.q_desk.specs.Answers.{IsDesk, AnswersAreRight, ProgramsAreKnown};
 
@@ -45,17 +43,16 @@ pub struct Desk {
     /// How many queries run. The journal has room for the answer of each, so that no post wants memory.
     running: usize,
     ended: Option<Completed>,
-    ghost counted: { running ≡ how_many_run queries.items },
-    ghost roomy: { vec_len journal + running ≤ vec_capacity journal },
 }
 
 impl Model for Desk {
     ghost use Rattle.std.specs.Coded.{codes};
+    ghost use Rattle.std.specs.Vec.{vec_len, vec_capacity};
     ghost use Rattle.sc_view.specs.Views.{view_code};
     ghost use Rattle.q_desk.specs.contracts.completed.Completed as completed;
     ghost use Rattle.q_desk.specs.contracts.journal.Entry as entry;
     ghost use Rattle.q_desk.specs.State.{DeskState};
-    ghost use Rattle.q_desk.specs.Answers.{IsDesk};
+    ghost use Rattle.q_desk.specs.Answers.{IsDesk, KeepsRoom};
 
     ghost Value = { DeskState };
 
@@ -63,7 +60,7 @@ impl Model for Desk {
 
     ghost view = { λ d. record { programs = d.programs; queries = d.queries.items; journal = d.journal.items; ended = d.ended } };
 
-    ghost invariant = { λ d. IsDesk (record { programs = d.programs; queries = d.queries.items; journal = d.journal.items; ended = d.ended }) };
+    ghost invariant = { λ d. IsDesk (record { programs = d.programs; queries = d.queries.items; journal = d.journal.items; ended = d.ended }) × KeepsRoom d.queries.items (vec_len d.journal) d.running (vec_capacity d.journal) };
 }
 
 impl Desk {

@@ -1,15 +1,18 @@
-use Rattle.std.proofs.Common.{◌≡◌, ◌++◌, ◌∷◌, [], List, rules, subst, refl}
+use Rattle.std.proofs.Common.{◌≡◌, ◌++◌, ◌∷◌, [], List, rules, subst, refl, sym, ap, ◌∙◌}
 use Rattle.q_session.specs.declared.query.Query.{Query}
 use Rattle.q_desk.specs.declared.journal.Entry.TheVariants as entry
 use Rattle.q_desk.specs.Answers.{IsDesk}
-use Rattle.q_desk.specs.Desks.{begun}
+use Rattle.q_desk.specs.Desks.{begun, how_many_run}
 use Rattle.q_desk.proofs.Keeps.{desk-appended, desk-begun}
+use Rattle.q_desk.proofs.Running.{run-begun}
 use Rattle.q_desk.proofs.desk.Desk.ask.Goals as goal
 
 pub invariant_of-self-2 : goal.invariant_of-self-2
 invariant_of-self-2 c =
     let s = c.self.inside in
     let q = begun c.args.tag c.args.program c.args.start in
-    let pushed : s.queries.items ++ q ∷ [] ≡ c.push_reserved.new.self.items = search rules in
-    subst (λ (queries : List Query). IsDesk (record { programs = s.programs; queries = queries; journal = c.push_reserved-2.new.self.items; ended = s.ended })) pushed
-    (desk-appended _ (entry.Ask c.args.program c.args.start) _ (record { room = search rules; is = search rules }) (desk-begun _ q c.self.invariant (search rules) (search rules) refl))
+    let pushed : s.queries.items ++ q ∷ [] ≡ c.push_reserved.new.self.items = search rules in (
+      subst (λ (queries : List Query). IsDesk (record { programs = s.programs; queries = queries; journal = c.push_reserved-2.new.self.items; ended = s.ended })) pushed
+          (desk-appended _ (entry.Ask c.args.program c.args.start) _ (record { room = search rules; is = search rules }) (desk-begun _ q c.self.invariant.0 (search rules) (search rules) refl)),
+      record { counted = c.self.invariant.1.counted ∙ sym (run-begun s.queries.items q refl) ∙ ap how_many_run pushed; fits = search rules },
+    )

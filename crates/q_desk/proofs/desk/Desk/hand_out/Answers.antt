@@ -1,4 +1,4 @@
-use Rattle.std.proofs.Common.{◌≡◌, ℕ, Some, rules, refl, sym, ap, ◌∙◌}
+use Rattle.std.proofs.Common.{◌≡◌, ℕ, Some, rules, refl, sym, ap, ◌∙◌, arith}
 use Rattle.std.specs.Prelude.{slice_get}
 use Rattle.sc_view.specs.Views.{ViewMap}
 use Rattle.q_session.specs.declared.query.Phase.TheVariants.{Ready, Running}
@@ -6,7 +6,7 @@ use Rattle.q_desk.specs.declared.journal.Entry.TheVariants as entry
 use Rattle.q_desk.specs.State.{DeskState}
 use Rattle.q_desk.specs.Desks.{with_phase, next_job, handed_out}
 use Rattle.q_desk.proofs.Keeps.{IsAppended}
-use Rattle.q_desk.proofs.Jobs.{Moves, desk-handed, handed}
+use Rattle.q_desk.proofs.Jobs.{Moves, desk-handed, jobs-handed, handed}
 use Rattle.q_desk.proofs.desk.Desk.hand_out.Goals as goal
 
 abbrev inside : goal.After-push_reserved → DeskState
@@ -25,8 +25,10 @@ appended : (c : goal.After-push_reserved) → IsAppended (inside c) entry.HandOu
 appended c = record { room = search rules; is = search rules }
 
 pub invariant_of-self-2 : goal.invariant_of-self-2
-invariant_of-self-2 c =
-    desk-handed (inside c) c.args.node c.in-Some.job c.run.new.queries.items c.push_reserved.new.self.items c.self.invariant (next c) (appended c) (moves c)
+invariant_of-self-2 c = (
+  desk-handed (inside c) c.args.node c.in-Some.job c.run.new.queries.items c.push_reserved.new.self.items c.self.invariant.0 (next c) (appended c) (moves c),
+  record { counted = omega (arith, c.self.invariant.1.counted, jobs-handed (inside c) c.args.node c.in-Some.job c.run.new.queries.items (next c) (moves c)); fits = search rules },
+)
 
 pub returns : goal.returns
 returns c =

@@ -4,4 +4,4 @@ use Rattle.q_desk.proofs.desk.Desk.note.Goals as goal
 
 pub invariant_of-self-2 : goal.invariant_of-self-2
 invariant_of-self-2 c =
-    desk-appended _ c.args.entry _ (record { room = search rules; is = search rules }) c.self.invariant
+    (desk-appended _ c.args.entry _ (record { room = search rules; is = search rules }) c.self.invariant.0, record { counted = c.self.invariant.1.counted; fits = search rules })

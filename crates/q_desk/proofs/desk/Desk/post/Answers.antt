@@ -1,4 +1,4 @@
-use Rattle.std.proofs.Common.{◌≡◌, ℕ, List, [], ◌∷◌, ◌++◌, Some, true, rules, refl, sym, ap, subst, ◌∙◌}
+use Rattle.std.proofs.Common.{◌≡◌, ℕ, List, [], ◌∷◌, ◌++◌, Some, true, rules, refl, sym, ap, subst, ◌∙◌, arith}
 use Rattle.std.proofs.lemmas.Option.{slice_get_read}
 use Rattle.std.specs.Prelude.{slice_get}
 use Rattle.q_session.specs.Right.{IsRight}
@@ -8,9 +8,10 @@ use Rattle.q_session.specs.declared.query.Query.{Query}
 use Rattle.q_session.specs.declared.job.Job.{Job}
 use Rattle.q_desk.specs.declared.journal.Entry.TheVariants as entry
 use Rattle.q_desk.specs.State.{DeskState}
-use Rattle.q_desk.specs.Desks.{posted, with_phase, is_job_of}
+use Rattle.q_desk.specs.Desks.{posted, with_phase, is_job_of, is_running}
 use Rattle.q_desk.proofs.Keeps.{IsAppended}
 use Rattle.q_desk.proofs.Jobs.{desk-posted, posts}
+use Rattle.q_desk.proofs.Running.{run-answered, run-some}
 use Rattle.q_desk.proofs.desk.Desk.post.Goals as goal
 
 abbrev inside : goal.After-push_reserved → DeskState
@@ -44,10 +45,26 @@ appended c =
       is = is ∙ ap (λ (k : ℕ). c.self.inside.journal.items ++ entry.Post k c.ran-ran.result ∷ []) c.query-number.ensures;
     }
 
-pub invariant_of-self-2 : goal.invariant_of-self-2
-invariant_of-self-2 c =
-    let right = c.is_job_of.ensures.right (inside c) c.ran-ran.result c.if-not-is_job_of.false refl (sound c) in
-    desk-posted (inside c) c.job-job.result.now c.ran-ran.result c.in-Some.query.now c.in-Running.view c.record_answer.new.queries.items c.push_reserved.new.self.items c.self.invariant (there c) right (appended c) (after c)
+pub overflow_sub-self : goal.overflow_sub-self
+overflow_sub-self c =
+    let xs = c.self.inside.queries.items in
+    let at = c.in-Some.ensures.lookup in
+    let here = ap (λ (ys : List Query). slice_get ys c.query-number.result) (sym c.deref.ensures.value) ∙ slice_get_read c.deref.result.now _ c.query-number.result c.in-Some.query.now refl at.3.0 at.1 in
+    omega (arith, c.self.invariant.1.counted, run-some xs c.query-number.result c.in-Some.query.now here (ap is_running c.in-Running.is))
+
+pub push_reserved-requires : goal.push_reserved-requires
+push_reserved-requires c =
+    let xs = c.self.inside.queries.items in
+    let at = c.in-Some.ensures.lookup in
+    let here = ap (λ (ys : List Query). slice_get ys c.query-number.result) (sym c.deref.ensures.value) ∙ slice_get_read c.deref.result.now _ c.query-number.result c.in-Some.query.now refl at.3.0 at.1 in
+    omega (arith, c.self.invariant.1.counted, c.self.invariant.1.fits, run-some xs c.query-number.result c.in-Some.query.now here (ap is_running c.in-Running.is))
+
+pub invariant_of-self : goal.invariant_of-self
+invariant_of-self c =
+    let right = c.is_job_of.ensures.right (inside c) c.ran-ran.result c.if-not-is_job_of.false refl (sound c) in (
+      desk-posted (inside c) c.job-job.result.now c.ran-ran.result c.in-Some.query.now c.in-Running.view c.record_answer.new.queries.items c.push_reserved.new.self.items c.self.invariant.0 (there c) right (appended c) (after c),
+      record { counted = omega (arith, c.self.invariant.1.counted, run-answered (inside c).queries c.record_answer.new.queries.items c.job-job.result.now.query c.in-Some.query.now c.in-Running.view c.ran-ran.result (there c) c.in-Running.is (after c)); fits = search rules },
+    )
 
 pub returns : goal.returns
 returns c =

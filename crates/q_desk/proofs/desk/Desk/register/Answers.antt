@@ -7,6 +7,8 @@ use Rattle.q_desk.proofs.desk.Desk.register.Goals as goal
 pub invariant_of-self-2 : goal.invariant_of-self-2
 invariant_of-self-2 c =
     let s = c.self.inside in
-    let program = c.args.certified.now.value in
-    desk-ended _ None (desk-appended _ (entry.Register program) _ (record { room = search rules; is = search rules })
-    (desk-registered _ _ program c.in_ok-id.id (id_of s.programs program.text) c.in_ok-id.ensures c.self.invariant c.len-count.ensures.table))
+    let program = c.args.certified.now.value in (
+      desk-ended _ None (desk-appended _ (entry.Register program) _ (record { room = search rules; is = search rules })
+          (desk-registered _ _ program c.in_ok-id.id (id_of s.programs program.text) c.in_ok-id.ensures c.self.invariant.0 c.len-count.ensures.table)),
+      record { counted = c.self.invariant.1.counted; fits = search rules },
+    )

@@ -1,11 +1,14 @@
-use Rattle.std.proofs.Common.{List, sym, subst}
+use Rattle.std.proofs.Common.{List, sym, subst, ◌∙◌, rules}
 use Rattle.q_session.specs.declared.query.Query.{Query}
 use Rattle.q_desk.specs.Answers.{IsDesk}
 use Rattle.q_desk.proofs.Keeps.{desk-ready}
+use Rattle.q_desk.proofs.Running.{run-returned}
 use Rattle.q_desk.proofs.desk.Desk.returned.Goals as goal
 
 pub invariant_of-self : goal.invariant_of-self
 invariant_of-self c =
-    let s = c.self.inside in
-    subst (λ (queries : List Query). IsDesk (record { programs = s.programs; queries = queries; journal = s.journal.items; ended = s.ended })) (sym c.set_phase.ensures)
-    (desk-ready _ c.in_ok-number.number c.args.view c.self.invariant)
+    let s = c.self.inside in (
+      subst (λ (queries : List Query). IsDesk (record { programs = s.programs; queries = queries; journal = s.journal.items; ended = s.ended })) (sym c.set_phase.ensures)
+          (desk-ready _ c.in_ok-number.number c.args.view c.self.invariant.0),
+      record { counted = c.self.invariant.1.counted ∙ sym (run-returned s.queries.items c.set_phase.new.queries.items c.args.tag c.in_ok-number.number c.args.view (search rules) c.set_phase.ensures); fits = c.self.invariant.1.fits },
+    )
