@@ -1,7 +1,6 @@
 -- What a desk's calls put into its journal.
-use Rattle.std.proofs.Common.{◌≡◌, ◌<◌, ℕ, Bool, true, false, List, [], ◌∷◌, ◌++◌, length, Option, Some, None, Result, Ok, Err, refl, sym, ap, ◌∙◌, if◌then◌else◌}
+use Rattle.std.proofs.Common.{◌≡◌, ℕ, Bool, true, false, List, [], ◌∷◌, ◌++◌, length, Option, Some, None, Result, Ok, Err, sym, ap, if◌then◌else◌}
 use Rattle.std.specs.Prelude.{slice_get, nat_lt, ◌==◌}
-use Rattle.sc_node.specs.declared.answer.Ended.{Ended}
 use Rattle.bq_check.specs.Certificate.{Certificate}
 use Rattle.q_table.specs.declared.fault.TableFault.{TableFault}
 use Rattle.q_table.specs.Programs as table
@@ -11,7 +10,7 @@ use Rattle.q_session.specs.declared.query.Phase.{Phase}
 use Rattle.q_session.specs.declared.query.Phase.TheVariants.{Collecting, Ready, Running, Answered}
 use Rattle.q_session.specs.declared.query.Query.{Query}
 use Rattle.q_desk.specs.State.{DeskState}
-use Rattle.q_desk.specs.Desks.{has_room, room, with_entry, noted, registered_by, registered, knows, most_queries, asked, hands, next_job, handed_out, is_job_of, posted_to, posted_at, posted}
+use Rattle.q_desk.specs.Desks.{has_room, with_entry, noted, registered_by, registered, knows, most_queries, asked, hands, next_job, handed_out, is_job_of, posted_to, posted_at, posted}
 use Rattle.q_desk.specs.declared.journal.Entry.{Entry}
 use Rattle.q_desk.specs.declared.journal.Entry.TheVariants as entry
 use Rattle.q_desk.specs.declared.fault.DeskFault.{DeskFault}

@@ -12,8 +12,4 @@ mod cluster;
 #[cfg(test)]
 mod command;
 #[cfg(test)]
-mod desk;
-#[cfg(test)]
 mod sim;
-#[cfg(test)]
-mod table;
