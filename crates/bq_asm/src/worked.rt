@@ -3,8 +3,9 @@
 
 ghost use Rattle.std.specs.Prelude.{◌≡◌, ◌++◌, Some, None, [], ◌∷◌, codes, pos, negsuc};
 ghost use Rattle.bq_asm.specs.Mnemonic.{mnemonic_at, name};
-ghost use Rattle.bq_asm.specs.Reading.{jump_by, natural_at, operand_at, place_at, statement_at};
-ghost use Rattle.bq_asm.specs.Source.{fault_name, fault_number, insn_line};
+ghost use Rattle.bq_asm.specs.Reading.{jump_by, line_at, natural_at, operand_at, place_at, statement_at};
+ghost use Rattle.bq_asm.specs.Source.{disassembly, fault_name, fault_number, insn_line};
+ghost use Rattle.bq_asm.specs.Line.{Label};
 ghost use Rattle.bq_asm.specs.declared.fault.AsmFault.TheVariants as fault;
 ghost use Rattle.bq_asm.specs.declared.jump.Jump.TheVariants as jump;
 ghost use Rattle.bq_asm.specs.declared.mnemonic.Mnemonic.TheVariants as mnemonic;
@@ -30,12 +31,13 @@ pub fn worked_lines()
     ensures load { insn_line (insn.Load size.B8 4 1 (pos 256)) ≡ codes "load8 r4, [r1+256]" ++ 10 ∷ [] }
     ensures store { insn_line (insn.Store size.B8 10 (negsuc 255) (operand.Register 4)) ≡ codes "store8 [r10-256], r4" ++ 10 ∷ [] }
     ensures far { insn_line (insn.JumpFar (pos 256)) ≡ codes "ja32 +256" ++ 10 ∷ [] }
+    ensures two { disassembly (insn.JumpFar (pos 256) ∷ insn.Exit ∷ []) ≡ codes "ja32 +256" ++ 10 ∷ (codes "exit" ++ 10 ∷ []) }
     ensures extended { insn_line (insn.Extend extension.W32From8 0 4) ≡ codes "mov32s8 r0, r4" ++ 10 ∷ [] }
 {}
 
 /// Operands as they are read: no zero stands in front, a number has 32 bits, an offset 16 and its sign, the number of
 /// `wide` 64, and `exit` has no operand.
-#[tactic(auto, unfolding(crate::specs::Reading::natural_at, crate::specs::Reading::is_decimal, crate::specs::Reading::operand_at, crate::specs::Reading::signed_at, crate::specs::Reading::negative_at, crate::specs::Reading::positive_at, crate::specs::Reading::register_at, crate::specs::Reading::place_at, crate::specs::Reading::statement_at))]
+#[tactic(auto, unfolding(crate::specs::Reading::natural_at, crate::specs::Reading::is_decimal, crate::specs::Reading::operand_at, crate::specs::Reading::signed_at, crate::specs::Reading::negative_at, crate::specs::Reading::positive_at, crate::specs::Reading::register_at, crate::specs::Reading::place_at, crate::specs::Reading::statement_at, crate::specs::Reading::line_at, crate::specs::Reading::trimmed))]
 pub fn worked_operands()
     ensures zero { natural_at (codes "01") ≡ None }
     ensures most { natural_at (codes "18446744073709551615") ≡ Some 18446744073709551615 }
@@ -44,6 +46,8 @@ pub fn worked_operands()
     ensures wide { operand_at (codes "2147483648") ≡ None }
     ensures below { place_at (codes "r10-8") ≡ Some (10, negsuc 7) }
     ensures exit { statement_at mnemonic.Exit (codes "0") ≡ None }
+    ensures label { line_at (codes "a:") ≡ Some (Label (codes "a")) }
+    ensures behind_a_label { line_at (codes "a: exit") ≡ None }
     ensures reach { jump_by jump.Always (pos 32767) ≡ Some (insn.Jump (pos 32767)) }
     ensures far { jump_by jump.Always (pos 32768) ≡ None }
 {}

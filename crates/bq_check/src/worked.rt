@@ -4,6 +4,7 @@ ghost use Rattle.std.specs.Prelude.{◌≡◌, [], ◌∷◌, pos, negsuc, Some,
 ghost use Rattle.bq_range.specs.Interval.{between};
 ghost use Rattle.bq_flow.specs.declared.fault.FlowRule.TheVariants.{FallsOff};
 ghost use Rattle.bq_flow.specs.declared.fault.FlowFault.TheVariants as flow;
+ghost use Rattle.bq_sound.specs.Passes.{note_at};
 ghost use Rattle.bq_state.specs.declared.kind.Kind.TheVariants as kind;
 ghost use Rattle.bq_state.specs.declared.rule.Rule.TheVariants.{AnswerKind};
 ghost use Rattle.bq_check.specs.declared.fault.CheckFault.TheVariants as fault;
@@ -27,6 +28,11 @@ pub fn worked()
     ensures told_of_a_rule { fault_unit (fault.Rule 7 AnswerKind) ≡ Some 7 }
     ensures not_told { fault_unit fault.Entry ≡ None }
     ensures refused { flow_refusal (flow.At 7 FallsOff) ≡ fault.Flow 7 FallsOff }
+
+    // The state at a unit.
+    ensures at_a_unit { note_at (None ∷ Some (kind.Unset ∷ []) ∷ []) 1 ≡ Some (kind.Unset ∷ []) }
+    ensures none { note_at (None ∷ Some (kind.Unset ∷ []) ∷ []) 0 ≡ None }
+    ensures behind_the_end { note_at (Some (kind.Unset ∷ []) ∷ []) 1 ≡ None }
 
     // The bytes of notes, those of a number from the lowest.
     ensures short { short_bytes 258 ≡ 2 ∷ 1 ∷ 0 ∷ 0 ∷ [] }

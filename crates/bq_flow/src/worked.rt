@@ -8,8 +8,9 @@ ghost use Rattle.bq_insn.specs.declared.insn.Operand.TheVariants as operand;
 ghost use Rattle.bq_flow.specs.declared.fault.FlowRule.TheVariants as rule;
 ghost use Rattle.bq_flow.specs.declared.fault.FlowFault.TheVariants as fault;
 ghost use Rattle.bq_flow.specs.Successors.{successors};
-ghost use Rattle.bq_flow.specs.Paths.{insn_at};
-ghost use Rattle.bq_flow.specs.Faults.{flow_fault, rule_number, fault_number};
+ghost use Rattle.bq_flow.specs.Paths.{insn_at, IsLegalFlow};
+ghost use Rattle.bq_flow.specs.Flow.{successors_at};
+ghost use Rattle.bq_flow.specs.Faults.{flow_fault, rule_number, fault_number, IsFlowFault};
 
 /// What the definitions say at telling operands.
 pub fn worked()
@@ -24,6 +25,8 @@ pub fn worked()
 
     // Which instruction begins at a unit.
     ensures second_half { insn_at (insn.Wide 1 7 ∷ insn.Exit ∷ []) 1 ≡ None }
+    ensures of_the_second_half { successors_at (insn.Wide 1 7 ∷ insn.Exit ∷ []) 1 ≡ [] }
+    ensures of_the_second_unit { successors_at (insn.Exit ∷ insn.Jump (pos 0) ∷ []) 1 ≡ pos 2 ∷ [] }
     ensures after_wide { insn_at (insn.Wide 1 7 ∷ insn.Exit ∷ []) 2 ≡ Some insn.Exit }
 
     // What is first wrong with the flow of an instruction.
@@ -34,6 +37,12 @@ pub fn worked()
     ensures into_wide { flow_fault (insn.Jump (pos 1) ∷ insn.Wide 1 7 ∷ insn.Exit ∷ []) 0 (insn.Jump (pos 1)) ≡ Some rule.IntoWide }
     ensures to_the_end { flow_fault (insn.Jump (pos 2) ∷ insn.Wide 1 7 ∷ insn.Exit ∷ []) 0 (insn.Jump (pos 2)) ≡ None }
     ensures falls_off { flow_fault (insn.Wide 1 7 ∷ []) 0 (insn.Wide 1 7) ≡ Some rule.FallsOff }
+
+    // What is first wrong with a text.
+    ensures faulty { IsFlowFault (insn.Jump (negsuc 0) ∷ insn.Exit ∷ []) (fault.At 0 rule.Backward) }
+    ensures faulty_elsewhere { IsFlowFault (insn.Jump (negsuc 0) ∷ insn.Exit ∷ []) (fault.At 1 rule.Backward) → ⊥ }
+    ensures not_first { IsFlowFault (insn.Jump (negsuc 0) ∷ insn.Negate W64 0 ∷ []) (fault.At 1 rule.FallsOff) → ⊥ }
+    ensures not_legal { IsLegalFlow (insn.Jump (negsuc 0) ∷ insn.Exit ∷ []) → ⊥ }
 
     // The numbers of the faults.
     ensures backward { rule_number rule.Backward ≡ 11 }

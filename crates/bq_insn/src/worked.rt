@@ -1,13 +1,15 @@
 //! What the definitions say at telling instructions and bytes, worked by hand from RFC 9669's tables.
 
-ghost use Rattle.std.specs.Prelude.{◌≡◌, Some, None, [], ◌∷◌, codes, pos, negsuc, true, false};
-ghost use Rattle.bq_insn.specs.Fault.{fault_name, fault_number, front_fault, unit_fault_name, unit_fault_number};
+ghost use Rattle.std.specs.Prelude.{◌≡◌, ◌≤◌, ℕ, List, length, slice_index_or, IfNone, Some, None, [], ◌∷◌, codes, pos, negsuc, true, false};
+ghost use Rattle.bq_insn.specs.Fault.{fault_name, fault_number, front_fault, unit_fault_name, unit_fault_number, IsFault, IsLengthFault};
 ghost use Rattle.bq_insn.specs.Fields.{unit_bytes};
 ghost use Rattle.bq_insn.specs.Insn.{insn_bytes};
 ghost use Rattle.bq_insn.specs.Opcode.{opcode_at};
 ghost use Rattle.bq_insn.specs.Rows.{is_left_out, is_listed, unit_fault};
+ghost use Rattle.bq_insn.specs.Slots.{slots, units, IsText};
 ghost use Rattle.bq_insn.specs.declared.fault.DecodeFault.TheVariants as fault;
 ghost use Rattle.bq_insn.specs.declared.fault.UnitFault.TheVariants as wrong;
+ghost use Rattle.bq_insn.specs.declared.insn.Insn.{Insn};
 ghost use Rattle.bq_insn.specs.declared.insn.Insn.TheVariants as insn;
 ghost use Rattle.bq_insn.specs.declared.insn.Operand.TheVariants as operand;
 ghost use Rattle.bq_insn.specs.declared.opcode.AluCode.TheVariants as code;
@@ -34,6 +36,21 @@ pub fn worked_bytes()
     ensures fields { unit_bytes (record { opcode = 188; dst = 10; src = 1; offset = 8; imm = 0 }) ≡ 188 ∷ 26 ∷ 8 ∷ 0 ∷ 0 ∷ 0 ∷ 0 ∷ 0 ∷ [] }
     ensures signed { insn_bytes (insn.Alu width.W64 op.SignedMod 0 (operand.Register 4)) ≡ 159 ∷ 64 ∷ 1 ∷ 0 ∷ 0 ∷ 0 ∷ 0 ∷ 0 ∷ [] }
     ensures wide { insn_bytes (insn.Wide 0 1099511627785) ≡ 24 ∷ 0 ∷ 0 ∷ 0 ∷ 9 ∷ 0 ∷ 0 ∷ 0 ∷ 0 ∷ 0 ∷ 0 ∷ 0 ∷ 0 ∷ 1 ∷ 0 ∷ 0 ∷ [] }
+{}
+
+/// What lies at each unit, how many units a text may have, and which numbers name a register.
+pub fn worked_texts()
+    ensures begins { slice_index_or (slots (insn.Wide 0 7 ∷ insn.Exit ∷ [])) 0 None ≡ Some (insn.Wide 0 7) }
+    ensures second_half { slice_index_or (slots (insn.Wide 0 7 ∷ insn.Exit ∷ [])) 1 None ≡ None }
+    ensures behind_wide { slice_index_or (slots (insn.Wide 0 7 ∷ insn.Exit ∷ [])) 2 None ≡ Some insn.Exit }
+    ensures behind_the_end { slice_index_or (slots (insn.Exit ∷ [])) 1 None ≡ None }
+    ensures empty { IsText [] → ⊥ }
+    ensures exit { IsText (insn.Exit ∷ []) }
+    ensures most { (text : List Insn) → units text ≡ 4096 → IsLengthFault text fault.TooLong → ⊥ }
+    ensures too_many { (text : List Insn) → units text ≡ 4097 → IsText text → ⊥ }
+    ensures most_bytes { (bytes : List ℕ) → length bytes ≡ 32768 → IsFault bytes fault.TooLong → ⊥ }
+    ensures too_many_bytes { (bytes : List ℕ) → length bytes ≡ 32776 → IsFault bytes fault.TooLong }
+    ensures ten { IfNone {T = ℕ} None (11 ≤ 10) → ⊥ }
 {}
 
 /// Which fault stands first: a register above 10 before a field that is not used, 0x18 with a source before them, a

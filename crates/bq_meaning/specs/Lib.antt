@@ -3,3 +3,4 @@ pub mod Memory
 pub mod Meaning
 pub mod Runs
 pub mod Answers
+pub mod Sample

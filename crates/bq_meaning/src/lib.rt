@@ -17,7 +17,8 @@
 //! The definitions stand in `specs/`, apart from the code: `Place` has what a placement is, `Memory`
 //! where an access lies, `Meaning` what each form of instruction does, `Runs` what a record run is and
 //! how it fails, and `Answers` what a text answers over a list of records, the same at every placement.
-//! `laws` has what follows for all texts: one run, one answer, and an answer over no records.
+//! `laws` has what follows for all texts: one run, one answer, and an answer over no records. What they say at telling
+//! machines, worked by hand, stands in [`worked`].
 //!
 //! The checker, the loop that runs checked programs without tests, and all that speaks of an answer
 //! stand on these definitions.
@@ -37,3 +38,4 @@ mod perform;
 pub mod placement;
 pub mod run;
 pub mod step;
+pub mod worked;

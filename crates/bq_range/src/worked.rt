@@ -1,19 +1,25 @@
 //! Worked values of the tables.
 
-ghost use Rattle.std.specs.Prelude.{◌≡◌, true, false, Some, None};
+ghost use Rattle.std.specs.Prelude.{◌≡◌, ◌*◌, true, false, Some, None};
 ghost use Rattle.bq_word.specs.declared.AluOp.TheVariants as op;
 ghost use Rattle.bq_word.specs.declared.Relation.TheVariants as relation;
-ghost use Rattle.bq_range.specs.Interval.{between, single, is_single, whole, all_words, join, meet, cut};
+ghost use Rattle.bq_range.specs.Interval.{Within, between, single, is_single, whole, all_words, join, meet, cut};
 ghost use Rattle.bq_range.specs.Table.{operated, negated, sign_extended, low_range, swapped_range};
 ghost use Rattle.bq_range.specs.Narrow.{branched};
 
 /// What the definitions say at telling operands.
 pub fn worked()
     // Ranges.
+    ensures least { (between 3 9).lo ≡ 3 }
+    ensures greatest { (between 3 9).hi ≡ 9 }
     ensures one { single 7 ≡ between 7 7 }
     ensures not_one { is_single (between 3 4) ≡ false }
-    ensures of_bytes { whole 8 ≡ between 0 255 }
+    ensures of_byte { whole (8 * 1) ≡ between 0 255 }
+    ensures of_bytes { whole (8 * 4) ≡ between 0 4294967295 }
     ensures all { all_words ≡ between 0 18446744073709551615 }
+    ensures inside { Within (between 3 9) (between 0 9) }
+    ensures below_the_least { Within (between 0 4) (between 3 9) → ⊥ }
+    ensures above_the_greatest { Within (between 3 9) (between 3 8) → ⊥ }
     ensures joined { join (between 3 9) (between 0 4) ≡ between 0 9 }
     ensures met { meet (between 3 9) (between 0 4) ≡ Some (between 3 4) }
     ensures apart { meet (between 1 3) (between 5 9) ≡ None }

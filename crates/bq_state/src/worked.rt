@@ -7,12 +7,14 @@ ghost use Rattle.bq_word.specs.declared.Relation.TheVariants as relation;
 ghost use Rattle.bq_insn.specs.declared.insn.Insn.TheVariants as insn;
 ghost use Rattle.bq_insn.specs.declared.insn.Operand.TheVariants as operand;
 ghost use Rattle.bq_insn.specs.declared.insn.ByteOrder.TheVariants as order;
+ghost use Rattle.bq_insn.specs.declared.insn.Extension.TheVariants as extension;
+ghost use Rattle.bq_insn.specs.declared.insn.Size.TheVariants as size;
 ghost use Rattle.bq_range.specs.Interval.{between, single, all_words};
 ghost use Rattle.bq_state.specs.declared.kind.Kind.TheVariants as kind;
 ghost use Rattle.bq_state.specs.declared.rule.Rule.TheVariants as rule;
-ghost use Rattle.bq_state.specs.Offsets.{Span, at_offset, join_spans, moved_on, moved_back, fits};
-ghost use Rattle.bq_state.specs.Kinds.{join_kinds};
-ghost use Rattle.bq_state.specs.Rules.{known, writable, number, storable, alu_kind, ordered_range, operand_kind, taken_kind};
+ghost use Rattle.bq_state.specs.Offsets.{Span, IsSpan, at_offset, join_spans, moved_on, moved_back, fits};
+ghost use Rattle.bq_state.specs.Kinds.{KindCovers, StateCovers, entry_state, join_kinds, join_states, kind_of};
+ghost use Rattle.bq_state.specs.Rules.{known, writable, number, storable, alu_kind, ordered_range, operand_kind, taken_kind, transfer};
 ghost use Rattle.bq_state.specs.Edges.{refined, edges};
 ghost use Rattle.bq_state.specs.Numbers.{rule_number};
 
@@ -20,6 +22,12 @@ ghost use Rattle.bq_state.specs.Numbers.{rule_number};
 pub fn worked()
     // Offsets.
     ensures one { at_offset (negsuc 7) ≡ record { lo = negsuc 7; hi = negsuc 7 } }
+    ensures widest { IsSpan (record { lo = negsuc 65535; hi = pos 65536 }) }
+    ensures too_low { IsSpan (record { lo = negsuc 65536; hi = pos 0 }) → ⊥ }
+    ensures too_high { IsSpan (record { lo = pos 0; hi = pos 65537 }) → ⊥ }
+    ensures falling { IsSpan (record { lo = pos 3; hi = pos 1 }) → ⊥ }
+    ensures least { (join_spans (at_offset (pos 3)) (at_offset (pos 9))).lo ≡ pos 3 }
+    ensures greatest { (join_spans (at_offset (pos 3)) (at_offset (pos 9))).hi ≡ pos 9 }
     ensures joined { join_spans (record { lo = pos 3; hi = pos 4 }) (record { lo = negsuc 0; hi = pos 9 }) ≡ record { lo = negsuc 0; hi = pos 9 } }
     ensures on { moved_on (record { lo = pos 1; hi = pos 2 }) (between 3 5) ≡ Some (record { lo = pos 4; hi = pos 7 }) }
     ensures on_by_less { moved_on (at_offset (pos 512)) (single 18446744073709551608) ≡ Some (at_offset (pos 504)) }
@@ -32,6 +40,9 @@ pub fn worked()
     ensures before_the_start { fits (at_offset (pos 4)) (negsuc 4) 1 512 ≡ false }
 
     // Kinds.
+    ensures covered { KindCovers (kind.FramePointer (record { lo = pos 1; hi = pos 3 })) (kind.FramePointer (at_offset (pos 3))) }
+    ensures not_covered { KindCovers (kind.FramePointer (at_offset (pos 1))) (kind.FramePointer (at_offset (pos 3))) → ⊥ }
+    ensures not_of_that_region { KindCovers (kind.FramePointer (at_offset (pos 1))) (kind.RecordPointer (at_offset (pos 1))) → ⊥ }
     ensures joined_pointers { join_kinds (kind.FramePointer (at_offset (pos 1))) (kind.FramePointer (at_offset (pos 3))) ≡ kind.FramePointer (record { lo = pos 1; hi = pos 3 }) }
     ensures joined_others { join_kinds (kind.FramePointer (at_offset (pos 1))) (kind.RecordPointer (at_offset (pos 1))) ≡ kind.Unset }
     ensures numbers { alu_kind W64 op.Sub (kind.Number (single 7)) (kind.Number (single 2)) ≡ Some (kind.Number (single 5)) }
@@ -41,6 +52,16 @@ pub fn worked()
     ensures pointer_of_32_bits { alu_kind W32 op.Add (kind.FramePointer (at_offset (pos 512))) (kind.Number (single 8)) ≡ None }
     ensures little { ordered_range order.Little 16 (single 4660) ≡ single 4660 }
     ensures big { ordered_range order.Big 16 (single 4660) ≡ single 13330 }
+
+    // States.
+    ensures of_a_register { kind_of (kind.Unset ∷ kind.Number (single 5) ∷ []) 1 ≡ kind.Number (single 5) }
+    ensures of_the_record { kind_of (entry_state 64) 1 ≡ kind.RecordPointer (at_offset (pos 0)) }
+    ensures of_the_length { kind_of (entry_state 64) 2 ≡ kind.Number (single 64) }
+    ensures of_the_accumulator { kind_of (entry_state 64) 3 ≡ kind.Number all_words }
+    ensures of_the_frame { kind_of (entry_state 64) 10 ≡ kind.FramePointer (at_offset (pos 512)) }
+    ensures of_the_others { kind_of (entry_state 64) 0 ≡ kind.Unset }
+    ensures joined_states { join_states (kind.Number (single 3) ∷ kind.Unset ∷ []) (kind.Number (single 5) ∷ kind.Number (single 7) ∷ []) ≡ kind.Number (between 3 5) ∷ kind.Unset ∷ [] }
+    ensures second_not_covered { StateCovers (kind.Unset ∷ kind.Number (single 5) ∷ []) (kind.Unset ∷ kind.Unset ∷ []) → ⊥ }
 
     // Rules.
     ensures unset { known kind.Unset ≡ Err rule.UnsetRegister }
@@ -52,6 +73,14 @@ pub fn worked()
     ensures stored_into_the_record { storable (kind.RecordPointer (at_offset (pos 0))) (kind.Number all_words) (pos 0) 1 ≡ Err rule.RecordWritten }
     ensures answer { rule_number rule.AnswerKind ≡ 30 }
     ensures frame_pointer { rule_number rule.FramePointerWritten ≡ 28 }
+
+    // What an instruction makes of a state, or the rule that it breaks.
+    ensures low_halves { transfer 64 (insn.Alu W32 op.Add 0 (operand.Number (pos 1))) (kind.Number (single 4294967295) ∷ []) ≡ Ok (kind.Number (single 0) ∷ []) }
+    ensures of_its_source { transfer 64 (insn.Extend extension.W64From8 1 0) (kind.Number (single 128) ∷ kind.Unset ∷ []) ≡ Ok (kind.Number (single 128) ∷ kind.Number (single 18446744073709551488) ∷ []) }
+    ensures loaded { transfer 64 (insn.Load size.B4 0 0 (pos 60)) (kind.RecordPointer (at_offset (pos 0)) ∷ []) ≡ Ok (kind.Number (between 0 4294967295) ∷ []) }
+    ensures loaded_behind { transfer 64 (insn.Load size.B4 0 0 (pos 61)) (kind.RecordPointer (at_offset (pos 0)) ∷ []) ≡ Err rule.OutsideRecord }
+    ensures compared { transfer 64 (insn.Branch W64 relation.Equal 0 (operand.Register 1) (pos 2)) (kind.Number (single 1) ∷ kind.FramePointer (at_offset (pos 0)) ∷ []) ≡ Err rule.WrongKind }
+    ensures answered { transfer 64 insn.Exit (kind.FramePointer (at_offset (pos 0)) ∷ []) ≡ Err rule.AnswerKind }
 
     // What an instruction reads: a move has no use for what its destination held.
     ensures extended { operand_kind [] (operand.Number (negsuc 0)) ≡ kind.Number (single 18446744073709551615) }

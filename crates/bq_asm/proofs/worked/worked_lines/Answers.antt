@@ -18,3 +18,7 @@ returns-clause-far c = refl
 pub returns-clause-extended : goal.returns-clause-extended
 unfolding digits
 returns-clause-extended c = refl
+
+pub returns-clause-two : goal.returns-clause-two
+unfolding digits
+returns-clause-two c = refl
