@@ -204,6 +204,10 @@ delivered n m =
     else (if tells_facts m.body && is_overfull (facts_after n m.from m.body) then Err fault.FactsFull
     else Ok (delivery n m.from m.body, node_after n m.from m.body)))
 
+-- the node of this id says this alone
+abbrev pub saying : ℕ → Body → Delivered
+saying id body = record { outs = message_from id body ∷ []; progress = None; ended = None }
+
 -- the node learns facts and a view
 abbrev pub learned : NodeState → Facts → ViewMap → Result (Unit {0} × NodeState) NodeFault
 learned n f v =
@@ -220,7 +224,7 @@ abbrev pub joining : NodeState → ℕ → Option ℕ → Facts → ViewMap → 
 joining n from threshold f v =
     if is_overfull (with_joined f n.id) then Err fault.FactsFull
     else Ok (
-      record { outs = message_from n.id Join ∷ []; progress = None; ended = None },
+      saying n.id Join,
       record (echo_counted n from threshold (with_joined f n.id) v) { joined = true },
     )
 

@@ -1,10 +1,10 @@
 //! What a node does at each kind of message, where it has not left.
 
-ghost use Rattle.std.specs.Prelude.{◌≡◌, false, ◌&&◌, is_none, [], ◌∷◌, Some, None, Ok, IfOk, OnOk, OnErr, if◌then◌else◌};
+ghost use Rattle.std.specs.Prelude.{◌≡◌, false, ◌&&◌, is_none, [], Some, None, Ok, IfOk, OnOk, OnErr, if◌then◌else◌};
 ghost use Rattle.std.specs.FinSet as set;
 ghost use Rattle.sc_node.specs.Calls.{Steps};
 ghost use Rattle.sc_node.specs.declared.fault.NodeFault.TheVariants as NodeFault;
-ghost use Rattle.sc_node.specs.Nodes.{message_from, delivered, learned, joining, echo_counted, sessions_moved, gamma_threshold, is_met, query_ended};
+ghost use Rattle.sc_node.specs.Nodes.{message_from, delivered, learned, joining, echo_counted, sessions_moved, saying, gamma_threshold, is_met, query_ended};
 ghost use Rattle.sc_node.specs.declared.answer.Advance.TheVariants.{Turned};
 ghost use Rattle.sc_msg.specs.declared.message.Body.TheVariants.{Enter, EnterEcho, Join, JoinEcho, Leave, LeaveEcho, Store, StoreAck, StoreEcho, CollectQuery, CollectReply};
 
@@ -25,21 +25,21 @@ impl Node {
         let facts = self.facts.with_entered(from)?;
         let echo = self.enter_echo(from, &facts)?;
         self.facts = facts;
-        Ok(self.sends(echo))
+        Ok(echo)
     }
 
-    // What a node that enters is told, where these are the facts.
-    fn enter_echo(&self, to: u64, facts: &Facts) -> Result<Body, AllocError>
-        ensures { IfOk result (λ body. body ≡ EnterEcho to self.now.joined facts.now self.now.view) }
+    // Tells a node that enters what this one knows, where these are the facts.
+    fn enter_echo(&self, to: u64, facts: &Facts) -> Result<Delivered, AllocError>
+        ensures { IfOk result (λ told. told ≡ saying self.now.id (EnterEcho to self.now.joined facts.now self.now.view)) }
     {
         let facts = facts.clone()?;
         let view = self.view.clone()?;
-        Ok(Body::EnterEcho {
+        Ok(self.sends(Body::EnterEcho {
             to,
             joined: self.joined,
             facts,
             view,
-        })
+        }))
     }
 
     pub(super) fn on_join(&mut self, from: u64) -> Result<Delivered, NodeFault>
@@ -226,7 +226,7 @@ impl Node {
 
     // The node sends this alone.
     fn sends(&self, body: Body) -> Delivered
-        ensures { result ≡ record { outs = message_from self.now.id body ∷ []; progress = None; ended = None } }
+        ensures { result ≡ saying self.now.id body }
     {
         Delivered::sending(Outs::one(self.alloc, self.says(body)))
     }
