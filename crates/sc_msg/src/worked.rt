@@ -1,6 +1,7 @@
 //! Worked values of messages and their bytes.
 
-ghost use Rattle.std.specs.Prelude.{◌≡◌, [], ◌∷◌, Some, None, codes};
+ghost use Rattle.std.specs.Prelude.{◌≡◌, ℕ, List, length, [], ◌∷◌, Some, None, codes};
+ghost use Rattle.sc_msg.specs.Entries.{count_fault, id_fault};
 ghost use Rattle.sc_msg.specs.Fault.{head_fault};
 ghost use Rattle.sc_msg.specs.Kinds.{code, kind_at, kind_of, name_of};
 ghost use Rattle.sc_msg.specs.Messages.{message_bytes};
@@ -8,8 +9,9 @@ ghost use Rattle.sc_msg.specs.declared.fault.MessageFault.TheVariants as fault;
 ghost use Rattle.sc_msg.specs.declared.kind.Kind.TheVariants as kind;
 ghost use Rattle.sc_msg.specs.declared.message.Body.TheVariants as body;
 
-/// What the definitions say of kinds, of the message by which node 3 enters, and of bytes that are none.
-#[tactic(auto, unfolding(crate::specs::Numbers::number_bytes))]
+/// What the definitions say of kinds, of the messages by which node 3 enters and tells that node 7 joined, and of bytes
+/// that are none.
+#[tactic(auto, unfolding(crate::specs::Numbers::number_bytes, crate::specs::Numbers::first_number))]
 pub fn worked()
     ensures kind_of_join_echo { kind_of (body.JoinEcho 7) ≡ kind.JoinEcho }
     ensures kind_of_leave_echo { kind_of (body.LeaveEcho 7) ≡ kind.LeaveEcho }
@@ -19,7 +21,13 @@ pub fn worked()
     ensures last_kind { code kind.CollectReply ≡ 11 }
     ensures word { name_of kind.CollectQuery ≡ codes "collect-query" }
     ensures enter { message_bytes (record { from = 3; body = body.Enter }) ≡ 66 ∷ 81 ∷ 1 ∷ 1 ∷ 3 ∷ 0 ∷ 0 ∷ 0 ∷ 0 ∷ 0 ∷ 0 ∷ 0 ∷ [] }
+    ensures join_echo { message_bytes (record { from = 3; body = body.JoinEcho 7 }) ≡ 66 ∷ 81 ∷ 1 ∷ 4 ∷ 3 ∷ 0 ∷ 0 ∷ 0 ∷ 0 ∷ 0 ∷ 0 ∷ 0 ∷ 7 ∷ 0 ∷ 0 ∷ 0 ∷ 0 ∷ 0 ∷ 0 ∷ 0 ∷ [] }
+    ensures long { (bytes : List ℕ) → length bytes ≡ 60001 → head_fault bytes ≡ Some fault.TooLong }
     ensures cut { head_fault (66 ∷ 81 ∷ 1 ∷ 1 ∷ 3 ∷ 0 ∷ 0 ∷ 0 ∷ 0 ∷ 0 ∷ 0 ∷ []) ≡ Some fault.Short }
     ensures other_version { head_fault (66 ∷ 81 ∷ 2 ∷ 1 ∷ 3 ∷ 0 ∷ 0 ∷ 0 ∷ 0 ∷ 0 ∷ 0 ∷ 0 ∷ []) ≡ Some fault.BadHead }
     ensures other_kind { head_fault (66 ∷ 81 ∷ 1 ∷ 12 ∷ 3 ∷ 0 ∷ 0 ∷ 0 ∷ 0 ∷ 0 ∷ 0 ∷ 0 ∷ []) ≡ Some fault.BadKind }
+    ensures full { count_fault 256 (0 ∷ 1 ∷ []) ≡ None }
+    ensures over_full { count_fault 256 (1 ∷ 1 ∷ []) ≡ Some fault.BadField }
+    ensures id_twice { id_fault (Some 3) (3 ∷ 0 ∷ 0 ∷ 0 ∷ 0 ∷ 0 ∷ 0 ∷ 0 ∷ []) ≡ Some fault.Unsorted }
+    ensures id_above { id_fault (Some 3) (4 ∷ 0 ∷ 0 ∷ 0 ∷ 0 ∷ 0 ∷ 0 ∷ 0 ∷ []) ≡ None }
 {}

@@ -204,6 +204,34 @@ delivered n m =
     else (if tells_facts m.body && is_overfull (facts_after n m.from m.body) then Err fault.FactsFull
     else Ok (delivery n m.from m.body, node_after n m.from m.body)))
 
+-- the node of this id says this alone
+abbrev pub saying : ℕ → Body → Delivered
+saying id body = record { outs = message_from id body ∷ []; progress = None; ended = None }
+
+-- the node learns facts and a view
+abbrev pub learned : NodeState → Facts → ViewMap → Result (Unit {0} × NodeState) NodeFault
+learned n f v =
+    if is_view_full (merge n.view v) then Err fault.ViewFull
+    else (if is_overfull (union_facts n.facts f) then Err fault.FactsFull
+    else Ok (tt, record n { facts = union_facts n.facts f; view = merge n.view v }))
+
+-- an echo for a node that waits to join is counted, and what it told is known
+abbrev pub echo_counted : NodeState → ℕ → Option ℕ → Facts → ViewMap → NodeState
+echo_counted n from threshold f v = record n { facts = f; view = v; join_threshold = threshold; echoes = set.insert n.echoes from }
+
+-- the node joins at the last echo that it waited for
+abbrev pub joining : NodeState → ℕ → Option ℕ → Facts → ViewMap → Result (Delivered × NodeState) NodeFault
+joining n from threshold f v =
+    if is_overfull (with_joined f n.id) then Err fault.FactsFull
+    else Ok (
+      saying n.id Join,
+      record (echo_counted n from threshold (with_joined f n.id) v) { joined = true },
+    )
+
+-- an operation of the node is moved
+abbrev pub sessions_moved : NodeState → Progress → NodeState
+sessions_moved n p = record n { sessions = sessions_after n.sessions (Some p) }
+
 -- the node stores back what a collect learned, and has that view from then on
 abbrev pub query_ended : NodeState → ℕ → ℕ → ViewMap → Delivered × NodeState
 query_ended n from tag view = (
@@ -237,6 +265,17 @@ stored_view n value = put n.view n.id (next_stored n value)
 abbrev pub store_session : NodeState → List ℕ → Session
 store_session n value =
     record { kind = kind.Store (next_stored n value); query = None; back = Some (record { view = stored_view n value; phase = new_phase (beta_threshold n) }) }
+
+-- the node's view with a value of its own
+abbrev pub with_value : NodeState → Stored → Result ViewMap NodeFault
+with_value n e = if is_view_full (put n.view n.id e) then Err fault.ViewFull else Ok (put n.view n.id e)
+
+abbrev pub session_of : NodeState → Stored → ViewMap → Session
+session_of n e view = record { kind = kind.Store e; query = None; back = Some (record { view = view; phase = new_phase (beta_threshold n) }) }
+
+-- the store of a value is opened, with which the node's view is this
+abbrev pub store_opened : NodeState → Stored → ViewMap → Begun × NodeState
+store_opened n e view = (begun n (session_of n e view) (Store n.operations view), opened n view (n.stores + 1) (session_of n e view))
 
 -- the node begins to store a value
 abbrev pub store_begun : NodeState → List ℕ → Result (Begun × NodeState) NodeFault

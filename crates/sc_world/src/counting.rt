@@ -29,9 +29,23 @@ pub(crate) fn make_ready(
 ) -> Result<Option<Counting>, AllocError>
     ensures { IfOk result (IsReady ops.now node (answered node message.now.from message.now.body)) }
 {
-    let Some((tag, sender)) = answered(node, message) else {
-        return Ok(None);
-    };
+    match answered(node, message) {
+        Some((tag, sender)) => ready_for(alloc, ops, places, node, tag, sender),
+        None => Ok(None),
+    }
+}
+
+/// The same for an answer of this sender to the operation of that tag.
+fn ready_for(
+    alloc: Global,
+    ops: &[Op],
+    places: &Places,
+    node: u64,
+    tag: u64,
+    sender: u64,
+) -> Result<Option<Counting>, AllocError>
+    ensures { IfOk result (IsReady ops.now node (Some (tag, sender))) }
+{
     let Some(at) = place_of(ops, places, node, tag) else {
         return Ok(None);
     };
@@ -102,7 +116,10 @@ pub(crate) fn move_op(
     ensures items { ops.new.items ≡ moved_at ops.old.items place progress counting }
     ensures capacity { vec_capacity ops.new ≡ vec_capacity ops.old }
 {
-    if let (Some(progress), Some(counting)) = (progress, counting) {
+    let Some(progress) = progress else {
+        return;
+    };
+    if let Some(counting) = counting {
         ops[counting.at].advance(alloc, place, progress, counting.counted);
     }
 }

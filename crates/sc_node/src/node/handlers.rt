@@ -1,10 +1,11 @@
 //! What a node does at each kind of message, where it has not left.
 
-ghost use Rattle.std.specs.Prelude.{◌≡◌, false, ◌&&◌, is_none, [], Some, None, Ok, if◌then◌else◌};
+ghost use Rattle.std.specs.Prelude.{◌≡◌, false, ◌&&◌, is_none, [], Some, None, Ok, IfOk, OnOk, OnErr, if◌then◌else◌};
 ghost use Rattle.std.specs.FinSet as set;
 ghost use Rattle.sc_node.specs.Calls.{Steps};
 ghost use Rattle.sc_node.specs.declared.fault.NodeFault.TheVariants as NodeFault;
-ghost use Rattle.sc_node.specs.Nodes.{message_from, delivered, gamma_threshold, is_met, query_ended};
+ghost use Rattle.sc_node.specs.Nodes.{message_from, delivered, learned, joining, echo_counted, sessions_moved, saying, gamma_threshold, is_met, query_ended};
+ghost use Rattle.sc_node.specs.declared.answer.Advance.TheVariants.{Turned};
 ghost use Rattle.sc_msg.specs.declared.message.Body.TheVariants.{Enter, EnterEcho, Join, JoinEcho, Leave, LeaveEcho, Store, StoreAck, StoreEcho, CollectQuery, CollectReply};
 
 use super::Node;
@@ -14,6 +15,7 @@ use crate::outs::Outs;
 use sc_members::facts::Facts;
 use sc_msg::message::Body;
 use sc_view::view::View;
+use std::alloc::AllocError;
 
 impl Node {
     pub(super) fn on_enter(&mut self, from: u64) -> Result<Delivered, NodeFault>
@@ -21,16 +23,23 @@ impl Node {
         ensures { Steps NodeFault.OutOfMemory (delivered self.old (message_from from Enter)) self.old self.new result }
     {
         let facts = self.facts.with_entered(from)?;
-        let told = facts.clone()?;
-        let view = self.view.clone()?;
+        let echo = self.enter_echo(from, &facts)?;
         self.facts = facts;
-        let echo = self.says(Body::EnterEcho {
-            to: from,
+        Ok(echo)
+    }
+
+    // Tells a node that enters what this one knows, where these are the facts.
+    fn enter_echo(&self, to: u64, facts: &Facts) -> Result<Delivered, AllocError>
+        ensures { IfOk result (λ told. told ≡ saying self.now.id (EnterEcho to self.now.joined facts.now self.now.view)) }
+    {
+        let facts = facts.clone()?;
+        let view = self.view.clone()?;
+        Ok(self.sends(Body::EnterEcho {
+            to,
             joined: self.joined,
-            facts: told,
+            facts,
             view,
-        });
-        Ok(Delivered::sending(Outs::one(self.alloc, echo)))
+        }))
     }
 
     pub(super) fn on_join(&mut self, from: u64) -> Result<Delivered, NodeFault>
@@ -38,8 +47,7 @@ impl Node {
         ensures { Steps NodeFault.OutOfMemory (delivered self.old (message_from from Join)) self.old self.new result }
     {
         self.facts = self.facts.with_joined(from)?;
-        let echo = self.says(Body::JoinEcho { about: from });
-        Ok(Delivered::sending(Outs::one(self.alloc, echo)))
+        Ok(self.sends(Body::JoinEcho { about: from }))
     }
 
     pub(super) fn on_join_echo(&mut self, from: u64, about: u64) -> Result<Delivered, NodeFault>
@@ -55,8 +63,7 @@ impl Node {
         ensures { Steps NodeFault.OutOfMemory (delivered self.old (message_from from Leave)) self.old self.new result }
     {
         self.facts = self.facts.with_left(from)?;
-        let echo = self.says(Body::LeaveEcho { about: from });
-        Ok(Delivered::sending(Outs::one(self.alloc, echo)))
+        Ok(self.sends(Body::LeaveEcho { about: from }))
     }
 
     pub(super) fn on_leave_echo(&mut self, from: u64, about: u64) -> Result<Delivered, NodeFault>
@@ -82,11 +89,10 @@ impl Node {
             self.view = learned;
             return Ok(self.silent());
         }
-        let ack = self.says(Body::StoreAck { to: from, tag });
-        let echo = self.says(Body::StoreEcho {
-            view: learned.clone()?,
-        });
+        let told = learned.clone()?;
         self.view = learned;
+        let ack = self.says(Body::StoreAck { to: from, tag });
+        let echo = self.says(Body::StoreEcho { view: told });
         Ok(Delivered::sending(Outs::two(self.alloc, ack, echo)))
     }
 
@@ -104,12 +110,12 @@ impl Node {
         ensures { Steps NodeFault.OutOfMemory (delivered self.old (message_from from (CollectQuery tag))) self.old self.new result }
     {
         if self.joined {
-            let reply = self.says(Body::CollectReply {
+            let view = self.view.clone()?;
+            return Ok(self.sends(Body::CollectReply {
                 to: from,
                 tag,
-                view: self.view.clone()?,
-            });
-            return Ok(Delivered::sending(Outs::one(self.alloc, reply)));
+                view,
+            }));
         }
         Ok(self.silent())
     }
@@ -128,10 +134,18 @@ impl Node {
         if to == self.id && !self.joined {
             return self.on_own_enter_echo(from, joined, facts, view);
         }
-        let learned = self.view.merged(view)?;
-        self.facts = self.facts.united(facts)?;
-        self.view = learned;
+        self.learn(facts, view)?;
         Ok(self.silent())
+    }
+
+    // Learns facts and a view.
+    fn learn(&mut self, facts: &Facts, view: &View) -> Result<(), NodeFault>
+        ensures { Steps NodeFault.OutOfMemory (learned self.old facts.now view.now) self.old self.new result }
+    {
+        let both = self.view.merged(view)?;
+        self.facts = self.facts.united(facts)?;
+        self.view = both;
+        Ok(())
     }
 
     // The echo is for this node, which has not joined. At enough echoes it joins.
@@ -149,20 +163,45 @@ impl Node {
         let learned = self.view.merged(view)?;
         let heard = self.facts.united(facts)?;
         let threshold = self.join_threshold_with(joined, &heard);
-        if !self.is_met_with(threshold, from) {
-            self.echoes.insert(from)?;
-            self.facts = heard;
-            self.view = learned;
-            self.join_threshold = threshold;
-            return Ok(self.silent());
+        if self.is_met_with(threshold, from) {
+            return self.join(from, threshold, &heard, learned);
         }
+        self.count_echo(from, threshold, heard, learned)?;
+        Ok(self.silent())
+    }
+
+    // This sender's echo is the last that the node waited for: it joins, and tells it.
+    fn join(
+        &mut self,
+        from: u64,
+        threshold: Option<u64>,
+        heard: &Facts,
+        view: View,
+    ) -> Result<Delivered, NodeFault>
+        ensures { Steps NodeFault.OutOfMemory (joining self.old from threshold heard.now view) self.old self.new result }
+    {
         let known = heard.with_joined(self.id)?;
-        self.echoes.insert(from)?;
-        self.facts = known;
-        self.view = learned;
-        self.join_threshold = threshold;
+        self.count_echo(from, threshold, known, view)?;
         self.joined = true;
-        Ok(Delivered::sending(Outs::one(self.alloc, self.says(Body::Join))))
+        Ok(self.sends(Body::Join))
+    }
+
+    // This sender's echo is counted, and the node knows what is said. At Err it is as it was.
+    fn count_echo(
+        &mut self,
+        from: u64,
+        threshold: Option<u64>,
+        facts: Facts,
+        view: View,
+    ) -> Result<(), AllocError>
+        ensures ok { OnOk result (self.new ≡ echo_counted self.old from threshold facts view) }
+        ensures err { OnErr result (self.new ≡ self.old) }
+    {
+        self.echoes.insert(from)?;
+        self.facts = facts;
+        self.view = view;
+        self.join_threshold = threshold;
+        Ok(())
     }
 
     // How many echoes the node waits for once it has this one: the first of a joined node sets it.
@@ -183,6 +222,13 @@ impl Node {
             Some(threshold) => threshold <= self.echoes.len_with(sender) as u64,
             None => false,
         }
+    }
+
+    // The node sends this alone.
+    fn sends(&self, body: Body) -> Delivered
+        ensures { result ≡ saying self.now.id body }
+    {
+        Delivered::sending(Outs::one(self.alloc, self.says(body)))
     }
 
     // The node sends nothing.
@@ -257,20 +303,25 @@ impl Node {
         ensures { Steps NodeFault.OutOfMemory (Ok (query_ended self.old from tag view)) self.old self.new result }
     {
         let threshold = self.beta_threshold();
-        let store = self.says(Body::Store {
-            tag,
-            view: view.clone()?,
-        });
+        let told = view.clone()?;
+        let shown = view.clone()?;
+        let kept = view.clone()?;
+        self.turn(from, tag, threshold, kept)?;
+        self.view = view;
+        let store = self.says(Body::Store { tag, view: told });
         let turned = Advance::Turned {
             threshold,
-            view: view.clone()?,
+            view: shown,
         };
-        let kept = Advance::Turned {
-            threshold,
-            view: view.clone()?,
-        };
-        self.sessions.advance(self.alloc, tag, from, kept)?;
-        self.view = view;
         Ok(Delivered::moving(Outs::one(self.alloc, store), tag, from, turned))
+    }
+
+    // The operation stores back the view, once this sender's reply is counted. At Err the node is as it was.
+    fn turn(&mut self, from: u64, tag: u64, threshold: u64, view: View) -> Result<(), AllocError>
+        ensures ok { OnOk result (self.new ≡ sessions_moved self.old (record { tag = tag; sender = from; advance = Turned threshold view })) }
+        ensures err { OnErr result (self.new ≡ self.old) }
+    {
+        let turned = Advance::Turned { threshold, view };
+        self.sessions.advance(self.alloc, tag, from, turned)
     }
 }
