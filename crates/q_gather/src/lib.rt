@@ -1,17 +1,4 @@
-//! Journals of nodes that ran apart, gathered into a cluster.
-//!
-//! A journal says in turn what its node did. Each entry wants at most one message, which it delivers, and gives those
-//! that its call sends: the steps of a journal are its trace, of which there is one. The journals of several nodes
-//! merge where all their steps can be taken in some order that keeps the order of each, so that each message was sent
-//! before it is delivered.
-//!
-//! That order is free: a step that can go may go at once. And in every history of a cluster an entry that its book can
-//! take next is an event that the cluster accepts. So books of different nodes, which agree on their fractions and
-//! founders, are the books of one cluster where their traces merge; and whoever takes the steps one by one, as they can
-//! go, takes all of them just there. All of this is said by [`laws`].
-//!
-//! A message is known by its bytes, and delivered by the least number at which it was sent: [`numbers`].
+//! The least number at which each message was sent, by the message's bytes: [`numbers`].
 #![tactic(auto)]
 
-pub mod laws;
 pub mod numbers;

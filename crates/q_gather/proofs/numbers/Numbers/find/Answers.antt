@@ -1,6 +1,6 @@
 -- The bytes are looked up.
 use Rattle.std.proofs.Common.{◌∙◌}
-use Rattle.q_gather.proofs.Finding.{found_number}
+use Rattle.q_gather.proofs.Table.{found_number}
 use Rattle.q_gather.proofs.numbers.Numbers.find.Goals as goal
 
 pub returns-clause-number : goal.returns-clause-number

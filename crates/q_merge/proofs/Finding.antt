@@ -1,15 +1,13 @@
 -- The numbers of messages after one more is sent.
-use Rattle.std.proofs.Common.{◌≡◌, ◌<◌, ℕ, zero, suc, Bool, true, false, cond, List, [], ◌∷◌, ◌++◌, length, map, Option, Some, None, is_some, refl, sym, ap, ◌∙◌, subst, ◌⊎◌, inl, inr, slice_get, arith, Vec, Global}
+use Rattle.std.proofs.Common.{◌≡◌, ◌<◌, ℕ, zero, suc, Bool, true, false, cond, List, [], ◌∷◌, ◌++◌, length, Option, Some, None, is_some, refl, sym, ap, ◌∙◌, subst, ◌⊎◌, inl, inr, slice_get, arith}
 use Rattle.std.specs.Prelude.{bytes_eq}
-use Rattle.std.specs.Map.{lookup}
-use Rattle.std.proofs.lemmas.List.{map-append}
 use Rattle.std.proofs.lemmas.Option.{slice_get_within}
 use Rattle.std.proofs.lemmas.Slice.Eq.{bytes_eq-Decides}
 use Rattle.sc_msg.specs.declared.message.Message.{Message}
 use Rattle.sc_msg.specs.Messages.{message_bytes, IsMessage}
 use Rattle.sc_world.proofs.Histories.{slice_get_front, slice_get_last}
 use Rattle.q_history.proofs.Lists.{same_some, no_some, get_snoc}
-use Rattle.q_gather.specs.Numbers.{NumberList, number_of, added, IsLeastNumber, AreNumbers}
+use Rattle.q_merge.specs.Numbers.{NumberList, number_of, added, IsLeastNumber, AreNumbers}
 
 -- a message has one spelling
 abbrev pub OneSpelling : Type 0
@@ -101,39 +99,3 @@ module _ (one : OneSpelling) (sent : List Message) (es : NumberList) (are : AreN
 
 pub no_numbers : AreNumbers [] []
 no_numbers m legal k at = absurd (no_some m at)
-
--- ---- the table
-
-abbrev pub Entries : Type 0
-Entries = List (Vec ℕ Global × ℕ)
-
-abbrev pub listed : Entries → NumberList
-listed es = map (λ e. (e.0.items, e.1)) es
-
-pub lookup_is : (bytes : List ℕ) (es : Entries) → lookup (λ (k : Vec ℕ Global). bytes_eq bytes k.items) es ≡ number_of bytes (listed es)
-lookup_is bytes [] = refl
-lookup_is bytes (e ∷ es) = ap (λ (o : Option ℕ). cond (bytes_eq bytes e.0.items) (Some e.1) o) (lookup_is bytes es)
-
-pub listed_snoc : (es : Entries) (k : Vec ℕ Global) (n : ℕ) → listed (es ++ (k, n) ∷ []) ≡ listed es ++ (k.items, n) ∷ []
-listed_snoc es k n = map-append (λ e. (e.0.items, e.1)) es ((k, n) ∷ [])
-
--- what a look-up finds
-pub found_number : (bytes m : List ℕ) (es : Entries) (now : NumberList) (r : Option ℕ) → bytes ≡ m → listed es ≡ now → r ≡ lookup (λ (k : Vec ℕ Global). bytes_eq bytes k.items) es → r ≡ number_of m now
-found_number bytes m es now r spelled is at = at ∙ lookup_is bytes es ∙ (λ i. number_of (spelled i) (is i))
-
-some_number : (bytes m : List ℕ) (es : Entries) (now : NumberList) (b : Bool) → bytes ≡ m → listed es ≡ now → is_some (lookup (λ (k : Vec ℕ Global). bytes_eq bytes k.items) es) ≡ b → is_some (number_of m now) ≡ b
-some_number bytes m es now b spelled is some = ap (λ (o : Option ℕ). is_some o) (sym (lookup_is bytes es ∙ (λ i. number_of (spelled i) (is i)))) ∙ some
-
--- bytes that have a number
-pub added_there : (bytes m : List ℕ) (es : Entries) (now : NumberList) (n : ℕ) → bytes ≡ m → listed es ≡ now → is_some (lookup (λ (k : Vec ℕ Global). bytes_eq bytes k.items) es) ≡ true → now ≡ added m n now
-added_there bytes m es now n spelled is some = sym (ap (λ (b : Bool). cond b now (now ++ (m, n) ∷ [])) (some_number bytes m es now true spelled is some))
-
--- and bytes that have none yet
-pub added_new : (k : Vec ℕ Global) (m : List ℕ) (es new : Entries) (now : NumberList) (n : ℕ) → k.items ≡ m → listed es ≡ now → is_some (lookup (λ (x : Vec ℕ Global). bytes_eq k.items x.items) es) ≡ false
-    → new ≡ es ++ (k, n) ∷ [] → listed new ≡ added m n now
-added_new k m es new now n spelled is none grows =
-    ap listed grows ∙ listed_snoc es k n ∙ (λ i. is i ++ (spelled i, n) ∷ [])
-    ∙ sym (ap (λ (b : Bool). cond b now (now ++ (m, n) ∷ [])) (some_number k.items m es now false spelled is none))
-
-pub none_there : (o : Option ℕ) → is_some o ≡ false → o ≡ None
-none_there o h = none_of o h

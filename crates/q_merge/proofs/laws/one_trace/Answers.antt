@@ -1,5 +1,5 @@
-use Rattle.q_gather.proofs.Tracing.{trace_some, trace_one, traces_one}
-use Rattle.q_gather.proofs.laws.one_trace.Goals as goal
+use Rattle.q_merge.proofs.Tracing.{trace_some, trace_one, traces_one}
+use Rattle.q_merge.proofs.laws.one_trace.Goals as goal
 
 pub returns : goal.returns
 returns c = record {

@@ -1,8 +1,8 @@
 use Rattle.std.proofs.Common.{refl}
 use Rattle.q_history.specs.Clusters.{start}
-use Rattle.q_gather.proofs.Gathering.{step_goes, gathered}
-use Rattle.q_gather.proofs.Beginning.{begins, gathers}
-use Rattle.q_gather.proofs.laws.books_gather.Goals as goal
+use Rattle.q_merge.proofs.Gathering.{step_goes, gathered}
+use Rattle.q_merge.proofs.Beginning.{begins, gathers}
+use Rattle.q_merge.proofs.laws.books_gather.Goals as goal
 
 pub returns : goal.returns
 returns c = record {

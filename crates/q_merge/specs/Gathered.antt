@@ -14,8 +14,8 @@ use Rattle.q_history.specs.Heads.{founders_for}
 use Rattle.q_history.specs.Clusters.{start, started}
 use Rattle.q_history.specs.Calls.{Follows, IsHistory}
 use Rattle.q_cluster.specs.Acts.{book_at}
-use Rattle.q_gather.specs.Merging.{Step}
-use Rattle.q_gather.specs.Traces.{IsTrace, IsTraceFrom}
+use Rattle.q_merge.specs.Merging.{Step}
+use Rattle.q_merge.specs.Traces.{IsTrace, IsTraceFrom}
 
 -- ---- the books
 
@@ -71,9 +71,8 @@ pub record IsUnderWay (books : List BookState) (c : ClusterState) (lists : List 
   pub nobody : c.world.crashed ≡ set.empty
   pub few : (k : ℕ) (steps : List (Step Message)) → slice_get lists k ≡ Some steps → (b : BookState) × (slice_get books k ≡ Some b)
 
--- an event takes the first step of this list
-pub record Goes (books : List BookState) (c : ClusterState) (lists : List (List (Step Message))) (k : ℕ) (s : Step Message) (rest : List (Step Message)) : Type 0 where
-  pub event : Event
+-- the event takes the first step of this list
+pub record Goes (books : List BookState) (c : ClusterState) (lists : List (List (Step Message))) (k : ℕ) (s : Step Message) (rest : List (Step Message)) (event : Event) : Type 0 where
   pub told : Stepped
   pub later : ClusterState
   pub accepted : Follows c event told later

@@ -25,8 +25,8 @@ use Rattle.q_desk.specs.declared.fault.DeskFault.TheVariants as fault
 use Rattle.q_history.specs.Clusters.{Desks}
 use Rattle.q_history.proofs.Lists.{same_some, no_some, passed, get_snoc, get_elsewhere, found}
 use Rattle.q_history.proofs.Moves.{registered_moves}
-use Rattle.q_gather.specs.Turns.{IsJobFor}
-use Rattle.q_gather.proofs.Lists.{get_written, get_after}
+use Rattle.q_merge.specs.Turns.{IsJobFor}
+use Rattle.q_merge.proofs.Lists.{get_written, get_after}
 
 -- ---- what is said of jobs
 

@@ -11,7 +11,7 @@ use Rattle.q_book.specs.declared.fault.BookFault.{BookFault}
 use Rattle.q_book.specs.State.{BookState}
 use Rattle.q_book.specs.Books.{asked, stored, delivered, left, new_book, entered}
 use Rattle.q_book.specs.Replays.{Follows, IsFirst}
-use Rattle.q_gather.specs.Merging.{Step}
+use Rattle.q_merge.specs.Merging.{Step}
 
 -- ---- one entry
 

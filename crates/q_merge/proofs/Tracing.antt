@@ -18,11 +18,11 @@ use Rattle.q_book.specs.Replays.{Follows, Replays, IsFirst, IsReplay}
 use Rattle.q_book.specs.declared.fault.BookFault.{BookFault}
 use Rattle.q_history.proofs.Lists.{same_some, no_some}
 use Rattle.q_history.proofs.Called.{desk-parts}
-use Rattle.q_gather.specs.Merging.{Step}
-use Rattle.q_gather.specs.Traces.{step_of, IsTraceFrom, entering, IsTrace}
-use Rattle.q_gather.specs.Gathered.{AreTraces}
-use Rattle.q_gather.proofs.Jobs.{IsAnsweredBy, posted_is}
-use Rattle.q_gather.proofs.Entries.{Posted, same_post}
+use Rattle.q_merge.specs.Merging.{Step}
+use Rattle.q_merge.specs.Traces.{step_of, IsTraceFrom, entering, IsTrace}
+use Rattle.q_merge.specs.Gathered.{AreTraces}
+use Rattle.q_merge.proofs.Jobs.{IsAnsweredBy, posted_is}
+use Rattle.q_merge.proofs.Entries.{Posted, same_post}
 
 -- ---- an entry leads to one book
 

@@ -1,5 +1,5 @@
-use Rattle.q_gather.proofs.Entries.{next_event, next_makes, enter_makes}
-use Rattle.q_gather.proofs.laws.entries_are_events.Goals as goal
+use Rattle.q_merge.proofs.Entries.{next_event, next_makes, enter_makes}
+use Rattle.q_merge.proofs.laws.entries_are_events.Goals as goal
 
 pub returns : goal.returns
 returns c = record {

@@ -1,5 +1,5 @@
-use Rattle.q_gather.proofs.Finding.{no_numbers, numbers_on}
-use Rattle.q_gather.proofs.laws.numbers_are_least.Goals as goal
+use Rattle.q_merge.proofs.Finding.{no_numbers, numbers_on}
+use Rattle.q_merge.proofs.laws.numbers_are_least.Goals as goal
 
 pub returns : goal.returns
 returns c = record {

@@ -6,8 +6,8 @@ use Rattle.std.proofs.lemmas.List.{set_comm}
 use Rattle.std.proofs.lemmas.List.Elements.{Contains-append_left, Contains-append_right, Contains-append_cases}
 use Rattle.std.proofs.lemmas.Option.{get_or_from_slice_get, slice_get_within}
 use Rattle.q_history.proofs.Lists.{same_some, get_elsewhere}
-use Rattle.q_gather.specs.Merging.{Step, CanGo, AreOver, Merges}
-use Rattle.q_gather.specs.Merging.Merges.{Over, Takes}
+use Rattle.q_merge.specs.Merging.{Step, CanGo, AreOver, Merges}
+use Rattle.q_merge.specs.Merging.Merges.{Over, Takes}
 
 -- what was given is given there too
 abbrev pub IsWithin : {M : Type 0} → List M → List M → Type 0

@@ -25,7 +25,7 @@ use Rattle.q_history.specs.Clusters.{Said, put, lift, by_book, at as at_node, st
 use Rattle.q_history.specs.Calls.{AnswersTo}
 use Rattle.q_history.proofs.Lists.{same_some, no_some}
 use Rattle.q_cluster.specs.Acts.{booked, book_at}
-use Rattle.q_gather.specs.Turns.{IsTurn, Makes}
+use Rattle.q_merge.specs.Turns.{IsTurn, Makes}
 
 -- ---- the book of a node that is there
 

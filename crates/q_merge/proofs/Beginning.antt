@@ -24,13 +24,13 @@ use Rattle.q_history.specs.Calls.{IsHistory}
 use Rattle.q_history.proofs.Lists.{no_some}
 use Rattle.q_history.proofs.EveryBook.{IsAmong, among_first, among_rest, history_are, history_books}
 use Rattle.q_cluster.specs.Acts.{booked}
-use Rattle.q_gather.specs.Merging.{Step, CanGo, Merges}
-use Rattle.q_gather.specs.Merging.Merges.{Over, Takes}
-use Rattle.q_gather.specs.Traces.{IsTraceFrom, entering, IsTrace}
-use Rattle.q_gather.specs.Gathered.{AreDistinct, AreRight, AgreeOn, AreTraces, IsGathered, IsAt, IsUnderWay}
-use Rattle.q_gather.specs.Gathered.IsAt.{Away, There}
-use Rattle.q_gather.proofs.EveryJob.{history_jobs, start_new}
-use Rattle.q_gather.proofs.Gathering.{step_goes, gathered}
+use Rattle.q_merge.specs.Merging.{Step, CanGo, Merges}
+use Rattle.q_merge.specs.Merging.Merges.{Over, Takes}
+use Rattle.q_merge.specs.Traces.{IsTraceFrom, entering, IsTrace}
+use Rattle.q_merge.specs.Gathered.{AreDistinct, AreRight, AgreeOn, AreTraces, IsGathered, IsAt, IsUnderWay}
+use Rattle.q_merge.specs.Gathered.IsAt.{Away, There}
+use Rattle.q_merge.proofs.EveryJob.{history_jobs, start_new}
+use Rattle.q_merge.proofs.Gathering.{step_goes, gathered}
 
 module _ (config : Config) (ids : List ℕ) where
   listed_by : (nodes : fin.FinMap nat_cmp NodeState) (p i : ℕ) (n : NodeState) (b : Bool) → (i == p) ≡ b → IsAmong ids p → (fin.get nodes i ≡ Some n → IsAmong ids i) → cond b (Some (founder config ids p)) (fin.get nodes i) ≡ Some n
@@ -118,4 +118,5 @@ pub gathers : {given : List Message} {lists : List (List (Step Message))} → Me
 gathers (Over {lists = lists} over) books c same u = (c, gathered books c lists u over)
 gathers (Takes {given = given} {lists = lists} k s rest at can then) books c same u =
     let g = step_goes books c lists u k s rest at (subst (λ (x : List Message). CanGo x s) (sym same) can) in
-    gathers then books g.later (g.sent g.told g.later g.accepted ∙ ap (λ (x : List Message). x ++ s.gives) same) (g.goes g.told g.later g.accepted)
+    let later = g.1.later in
+    gathers then books later (g.1.sent g.1.told later g.1.accepted ∙ ap (λ (x : List Message). x ++ s.gives) same) (g.1.goes g.1.told later g.1.accepted)

@@ -14,11 +14,11 @@ ghost use Rattle.q_history.specs.State.{ClusterState};
 ghost use Rattle.q_history.specs.Clusters.{start};
 ghost use Rattle.q_history.specs.Calls.{IsHistory};
 ghost use Rattle.q_cluster.specs.Acts.{book_at};
-ghost use Rattle.q_gather.specs.Merging.{Step, CanGo, AreOver, Merges};
-ghost use Rattle.q_gather.specs.Traces.{gives, step_of, IsTrace};
-ghost use Rattle.q_gather.specs.Turns.{IsEventOf, IsNext, Makes};
-ghost use Rattle.q_gather.specs.Numbers.{NumberList, added, AreNumbers};
-ghost use Rattle.q_gather.specs.Gathered.{AreDistinct, AreRight, AgreeOn, AreTraces, IsGathered, IsUnderWay, Goes};
+ghost use Rattle.q_merge.specs.Merging.{Step, CanGo, AreOver, Merges};
+ghost use Rattle.q_merge.specs.Traces.{gives, step_of, IsTrace};
+ghost use Rattle.q_merge.specs.Turns.{IsEventOf, IsNext, Makes};
+ghost use Rattle.q_merge.specs.Numbers.{NumberList, added, AreNumbers};
+ghost use Rattle.q_merge.specs.Gathered.{AreDistinct, AreRight, AgreeOn, AreTraces, IsGathered, IsUnderWay, Goes};
 
 use sc_msg::laws::one_spelling;
 
@@ -50,7 +50,7 @@ pub fn one_trace()
 /// event of the cluster, after which one step less is left; and where none is left, the books of the cluster are these.
 pub fn books_gather()
     ensures begins { (books : List BookState) (config : Config) (founders : List ℕ) (lists : List (List (Step Message))) → AreDistinct books → AreRight books → AgreeOn books config founders → AreTraces books lists → IsUnderWay books (start config founders) lists }
-    ensures goes { (books : List BookState) (c : ClusterState) (lists : List (List (Step Message))) (k : ℕ) (s : Step Message) (rest : List (Step Message)) → IsUnderWay books c lists → slice_get lists k ≡ Some (s ∷ rest) → CanGo c.world.sent s → Goes books c lists k s rest }
+    ensures goes { (books : List BookState) (c : ClusterState) (lists : List (List (Step Message))) (k : ℕ) (s : Step Message) (rest : List (Step Message)) → IsUnderWay books c lists → slice_get lists k ≡ Some (s ∷ rest) → CanGo c.world.sent s → (event : Event) × Goes books c lists k s rest event }
     ensures over { (books : List BookState) (c : ClusterState) (lists : List (List (Step Message))) → IsUnderWay books c lists → AreOver lists → IsGathered books c }
     ensures gathers { (books : List BookState) (config : Config) (founders : List ℕ) (lists : List (List (Step Message))) → AreDistinct books → AreRight books → AgreeOn books config founders → AreTraces books lists → Merges Message [] lists → (c : ClusterState) × IsGathered books c }
 {}

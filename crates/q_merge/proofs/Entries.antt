@@ -52,13 +52,13 @@ use Rattle.q_history.proofs.Called.{desk-parts}
 use Rattle.q_history.proofs.EveryBook.{history_are}
 use Rattle.q_cluster.specs.Acts.{booked, book_at}
 use Rattle.q_cluster.proofs.Heads.{registered_keeps, handed_keeps, posted_keeps, asked_keeps, stored_keeps, delivered_keeps, left_keeps}
-use Rattle.q_gather.specs.Merging.{CanGo}
-use Rattle.q_gather.specs.Traces.{sent_by, gives, step_of}
-use Rattle.q_gather.specs.Turns.{IsJobFor, IsEventOf, IsNext, Makes}
-use Rattle.q_gather.proofs.Lists.{get_written}
-use Rattle.q_gather.proofs.Turning.{IsUp, is_up, is_open, call_says, put_turn, makes, head_of}
-use Rattle.q_gather.proofs.Jobs.{RunsOver, IsOut, IsAnsweredBy, posted_is}
-use Rattle.q_gather.proofs.EveryJob.{JobsOf, history_jobs}
+use Rattle.q_merge.specs.Merging.{CanGo}
+use Rattle.q_merge.specs.Traces.{sent_by, gives, step_of}
+use Rattle.q_merge.specs.Turns.{IsJobFor, IsEventOf, IsNext, Makes}
+use Rattle.q_merge.proofs.Lists.{get_written}
+use Rattle.q_merge.proofs.Turning.{IsUp, is_up, is_open, call_says, put_turn, makes, head_of}
+use Rattle.q_merge.proofs.Jobs.{RunsOver, IsOut, IsAnsweredBy, posted_is}
+use Rattle.q_merge.proofs.EveryJob.{JobsOf, history_jobs}
 
 -- an answer that nobody asks for
 nothing : Ran

@@ -1,5 +1,5 @@
-use Rattle.q_gather.proofs.Merging.{merges_next, merges_stuck}
-use Rattle.q_gather.proofs.laws.order_is_free.Goals as goal
+use Rattle.q_merge.proofs.Merging.{merges_next, merges_stuck}
+use Rattle.q_merge.proofs.laws.order_is_free.Goals as goal
 
 pub returns : goal.returns
 returns c = record {
