@@ -1,0 +1,3 @@
+-- Why two quorums of one membership share a member.
+mod Counting
+mod Meeting

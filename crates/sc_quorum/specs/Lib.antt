@@ -1,0 +1,2 @@
+-- Quorums of one membership.
+pub mod Quorums
