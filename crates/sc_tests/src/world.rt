@@ -128,11 +128,15 @@ fn seen(world: &World) -> Outcome {
 }
 
 // All events, each of them once more where memory is refused.
+fn run_all(rt: &impl Abort, world: &mut World) -> Result<Outcome, WorldFault> {
+    run_again(rt, world, &meeting())?;
+    run_again(rt, world, &churn())?;
+    Ok(seen(world))
+}
+
 fn seen_at_the_end(rt: &impl Abort, alloc: Global, config: Config) -> Result<Outcome, WorldFault> {
     let mut world = founded_again(alloc, config)?;
-    run_again(rt, &mut world, &meeting())?;
-    run_again(rt, &mut world, &churn())?;
-    Ok(seen(&world))
+    run_all(rt, &mut world)
 }
 
 /// Run with any one allocation refused, the event at which it is refused changes nothing, and then succeeds.
