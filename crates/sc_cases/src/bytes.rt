@@ -54,13 +54,18 @@ fn tell_body(rt: &impl Print, body: &Body) -> io::Result<()> {
     }
 }
 
-/// Whether a copy of the message is written as these bytes.
+/// Whether the message is written as these bytes.
 fn is_written(alloc: Global, message: &Message, bytes: &[u8]) -> bool {
-    let Ok(copy) = message.clone() else {
-        return false;
-    };
-    match encode(alloc, &copy) {
+    match encode(alloc, message) {
         Ok(written) => written.as_slice() == bytes,
+        Err(_) => false,
+    }
+}
+
+/// Whether a copy of the message is written as these bytes.
+fn is_kept(alloc: Global, message: &Message, bytes: &[u8]) -> bool {
+    match message.clone() {
+        Ok(copy) => is_written(alloc, &copy, bytes),
         Err(_) => false,
     }
 }
@@ -68,14 +73,8 @@ fn is_written(alloc: Global, message: &Message, bytes: &[u8]) -> bool {
 fn tell_message(rt: &impl Print, alloc: Global, message: &Message, bytes: &[u8]) -> io::Result<()> {
     print!(rt; " {} from {}", message.kind().name(), message.from)?;
     tell_body(rt, &message.body)?;
-    println!(rt;
-        "{}",
-        if is_written(alloc, message, bytes) {
-            ""
-        } else {
-            " written otherwise"
-        }
-    )
+    let is_kept = is_kept(alloc, message, bytes);
+    println!(rt; "{}", if is_kept { "" } else { " written otherwise" })
 }
 
 fn refuse(rt: &impl Print, fault: MessageFault) -> io::Result<()> {

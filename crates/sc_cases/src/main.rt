@@ -44,14 +44,18 @@ fn answer(rt: &impl Print, alloc: Global, worlds: &mut Worlds, words: &[&str]) -
     }
 }
 
+/// The line, and what came.
+fn tell(rt: &impl Print, alloc: Global, worlds: &mut Worlds, line: &str) -> io::Result<()> {
+    println!(rt; "{line}")?;
+    let words: Vec<&str> = line.split_whitespace().collect(alloc)?;
+    answer(rt, alloc, worlds, words.as_slice())
+}
+
 fn main(rt: HostRuntime) -> io::Result<()> {
     let alloc = rt.alloc();
     let mut worlds = Worlds::new(alloc);
     for line in rt.lines(alloc) {
-        let line = line?;
-        println!(rt; "{line}")?;
-        let words: Vec<&str> = line.split_whitespace().collect(alloc)?;
-        answer(&rt, alloc, &mut worlds, words.as_slice())?;
+        tell(&rt, alloc, &mut worlds, &line?)?;
     }
     Ok(())
 }

@@ -18,10 +18,15 @@ fn ids_of(alloc: Global, words: &[&str]) -> Result<IdSet, AllocError> {
     Ok(ids)
 }
 
-fn tell_sets(rt: &impl Print, first: &IdSet, second: &IdSet) -> io::Result<()> {
-    for id in first.union(second)?.iter() {
+fn tell_ids(rt: &impl Print, ids: &IdSet) -> io::Result<()> {
+    for id in ids.iter() {
         print!(rt; " {id}")?;
     }
+    Ok(())
+}
+
+fn tell_sets(rt: &impl Print, first: &IdSet, second: &IdSet) -> io::Result<()> {
+    tell_ids(rt, &first.union(second)?)?;
     print!(rt; " size {}", first.len())?;
     if let Some(id) = first.least_common(second) {
         print!(rt; " common {id}")?;
@@ -56,15 +61,30 @@ fn said(alloc: Global, first: &str, words: &[&str]) -> Result<Facts, FactsFault>
     Ok(facts)
 }
 
+/// These facts, united with those that the words say.
+fn united(alloc: Global, facts: &Facts, more: &[&str]) -> Result<Facts, FactsFault> {
+    let more = said(alloc, "", more)?;
+    facts.united(&more)
+}
+
 /// The facts of these founders, united with those that the words say.
 fn facts_of(alloc: Global, founders: &[&str], more: &[&str]) -> Result<Facts, FactsFault> {
-    said(alloc, "joined", founders)?.united(&said(alloc, "", more)?)
+    let founding = said(alloc, "joined", founders)?;
+    united(alloc, &founding, more)
+}
+
+fn tell_counts(rt: &impl Print, facts: &Facts) -> io::Result<()> {
+    println!(rt; " present {} members {}", facts.present(), facts.members())
+}
+
+fn refuse(rt: &impl Print, fault: FactsFault) -> io::Result<()> {
+    println!(rt; " refused {} {}", fault.number(), fault.name())
 }
 
 fn tell_facts(rt: &impl Print, facts: Result<Facts, FactsFault>) -> io::Result<()> {
     match facts {
-        Ok(facts) => println!(rt; " present {} members {}", facts.present(), facts.members()),
-        Err(fault) => println!(rt; " refused {} {}", fault.number(), fault.name()),
+        Ok(facts) => tell_counts(rt, &facts),
+        Err(fault) => refuse(rt, fault),
     }
 }
 

@@ -10,11 +10,18 @@ fn value_of(words: &[&str]) -> Option<(u64, Stored)> {
     let [id, count, byte] = words else {
         return None;
     };
-    let stored = Stored {
-        number: number(count)?,
-        value: [u8::try_from(number(byte)?).ok()?; 48],
-    };
-    Some((number(id)?, stored))
+    let id = number(id)?;
+    let stored = stored_of(count, byte)?;
+    Some((id, stored))
+}
+
+fn stored_of(count: &str, byte: &str) -> Option<Stored> {
+    let number = number(count)?;
+    let byte = byte.parse::<u8>().ok()?;
+    Some(Stored {
+        number,
+        value: [byte; 48],
+    })
 }
 
 fn put(view: &mut View, id: u64, stored: Stored) -> Result<(), ViewFault> {
@@ -25,18 +32,31 @@ fn put(view: &mut View, id: u64, stored: Stored) -> Result<(), ViewFault> {
     }
 }
 
+/// Learns the value that these words spell, if they do.
+fn learn(view: &mut View, words: &[&str]) -> Result<(), ViewFault> {
+    match value_of(words) {
+        Some((id, stored)) => put(view, id, stored),
+        None => Ok(()),
+    }
+}
+
 fn view_of(alloc: Global, words: &[&str]) -> Result<View, ViewFault> {
     let mut view = View::new(alloc);
     for value in words.chunks(3) {
-        if let Some((id, stored)) = value_of(value) {
-            put(&mut view, id, stored)?;
-        }
+        learn(&mut view, value)?;
     }
     Ok(view)
 }
 
+/// This view, merged with the one that the words spell.
+fn with_view(alloc: Global, view: &View, words: &[&str]) -> Result<View, ViewFault> {
+    let other = view_of(alloc, words)?;
+    view.merged(&other)
+}
+
 fn merged(alloc: Global, first: &[&str], second: &[&str]) -> Result<View, ViewFault> {
-    view_of(alloc, first)?.merged(&view_of(alloc, second)?)
+    let first = view_of(alloc, first)?;
+    with_view(alloc, &first, second)
 }
 
 fn tell_value(rt: &impl Print, id: u64, stored: Stored) -> io::Result<()> {
@@ -51,6 +71,10 @@ fn tell_values(rt: &impl Print, view: &View) -> io::Result<()> {
     println!(rt; "")
 }
 
+fn refuse(rt: &impl Print, fault: ViewFault) -> io::Result<()> {
+    println!(rt; " refused {} {}", fault.number(), fault.name())
+}
+
 /// The first view, merged with the second.
 pub(crate) fn tell(
     rt: &impl Print,
@@ -60,6 +84,6 @@ pub(crate) fn tell(
 ) -> io::Result<()> {
     match merged(alloc, first, second) {
         Ok(view) => tell_values(rt, &view),
-        Err(fault) => println!(rt; " refused {} {}", fault.number(), fault.name()),
+        Err(fault) => refuse(rt, fault),
     }
 }

@@ -10,7 +10,7 @@ pub(crate) struct Fraction {
 }
 
 /// A line about a world.
-#[derive(Drop)]
+#[derive(Clone, Copy)]
 pub(crate) enum WorldLine {
     World {
         beta: Fraction,
@@ -30,7 +30,7 @@ pub(crate) enum WorldLine {
 }
 
 /// A line about fractions, sets of ids and facts.
-#[derive(Drop)]
+#[derive(Clone, Copy)]
 pub(crate) enum MembersLine<'a> {
     Threshold(Fraction, usize),
     Fraction(Fraction),
@@ -39,7 +39,7 @@ pub(crate) enum MembersLine<'a> {
 }
 
 /// What a line asks for.
-#[derive(Drop)]
+#[derive(Clone, Copy)]
 pub(crate) enum Case<'a> {
     World(WorldLine),
     Message(&'a str),
@@ -85,38 +85,62 @@ fn event_of(verb: &str, node: u64) -> Option<Event> {
     }
 }
 
-/// An event of two numbers.
-fn event_with(verb: &str, a: u64, b: u64) -> Option<Event> {
-    match verb {
-        "store" => Some(Event::Store {
-            node: a,
-            value: [u8::try_from(b).ok()?; 48],
-        }),
-        "deliver" => Some(Event::Deliver {
-            message: usize::try_from(a).ok()?,
-            node: b,
-        }),
-        _ => None,
-    }
+fn store(node: &str, byte: &str) -> Option<Event> {
+    let node = number(node)?;
+    let byte = byte.parse::<u8>().ok()?;
+    Some(Event::Store {
+        node,
+        value: [byte; 48],
+    })
+}
+
+fn deliver(message: &str, node: &str) -> Option<Event> {
+    let message = place(message)?;
+    let node = number(node)?;
+    Some(Event::Deliver { message, node })
+}
+
+fn all(messages: &str, nodes: &str) -> Option<WorldLine> {
+    let messages = place(messages)?;
+    let nodes = number(nodes)?;
+    Some(WorldLine::All { messages, nodes })
+}
+
+fn common(first: &str, second: &str) -> Option<WorldLine> {
+    let first = place(first)?;
+    let second = place(second)?;
+    Some(WorldLine::Common(first, second))
 }
 
 fn one(verb: &str, a: &str) -> Option<WorldLine> {
     match verb {
-        "op" => Some(WorldLine::Op(place(a)?)),
-        "known" => Some(WorldLine::Known(number(a)?)),
-        _ => Some(WorldLine::Event(event_of(verb, number(a)?)?)),
+        "op" => place(a).map(WorldLine::Op),
+        "known" => number(a).map(WorldLine::Known),
+        _ => event_of(verb, number(a)?).map(WorldLine::Event),
     }
 }
 
 fn two(verb: &str, a: &str, b: &str) -> Option<WorldLine> {
     match verb {
-        "all" => Some(WorldLine::All {
-            messages: place(a)?,
-            nodes: number(b)?,
-        }),
-        "common" => Some(WorldLine::Common(place(a)?, place(b)?)),
-        _ => Some(WorldLine::Event(event_with(verb, number(a)?, number(b)?)?)),
+        "all" => all(a, b),
+        "common" => common(a, b),
+        "store" => store(a, b).map(WorldLine::Event),
+        "deliver" => deliver(a, b).map(WorldLine::Event),
+        _ => None,
     }
+}
+
+fn world(beta: &str, gamma: &str, first: &str, count: &str) -> Option<WorldLine> {
+    let beta = fraction_of(beta)?;
+    let gamma = fraction_of(gamma)?;
+    let first = number(first)?;
+    let count = number(count)?;
+    Some(WorldLine::World {
+        beta,
+        gamma,
+        first,
+        count,
+    })
 }
 
 fn world_line(words: &[&str]) -> Option<WorldLine> {
@@ -124,12 +148,30 @@ fn world_line(words: &[&str]) -> Option<WorldLine> {
         ["counts"] => Some(WorldLine::Counts),
         [verb, a] => one(verb, a),
         [verb, a, b] => two(verb, a, b),
-        ["world", beta, gamma, first, count] => Some(WorldLine::World {
-            beta: fraction_of(beta)?,
-            gamma: fraction_of(gamma)?,
-            first: number(first)?,
-            count: number(count)?,
-        }),
+        ["world", beta, gamma, first, count] => world(beta, gamma, first, count),
+        _ => None,
+    }
+}
+
+fn threshold<'a>(fraction: &str, count: &str) -> Option<MembersLine<'a>> {
+    let fraction = fraction_of(fraction)?;
+    let count = place(count)?;
+    Some(MembersLine::Threshold(fraction, count))
+}
+
+/// A line about fractions, sets of ids and facts.
+fn members_line<'a>(words: &'a [&'a str]) -> Option<MembersLine<'a>> {
+    match words {
+        ["threshold", fraction, count] => threshold(fraction, count),
+        ["fraction", fraction] => Some(MembersLine::Fraction(fraction_of(fraction)?)),
+        ["sets", ids @ ..] => {
+            let (first, second) = halves(ids);
+            Some(MembersLine::Sets(first, second))
+        }
+        ["facts", ids @ ..] => {
+            let (first, second) = halves(ids);
+            Some(MembersLine::Facts(first, second))
+        }
         _ => None,
     }
 }
@@ -137,26 +179,16 @@ fn world_line(words: &[&str]) -> Option<WorldLine> {
 impl Case<'_> {
     /// What a line asks for, by its words.
     pub(crate) fn read<'a>(words: &'a [&'a str]) -> Option<Case<'a>> {
-        match words {
-            ["message", digits] => Some(Case::Message(digits)),
-            ["threshold", f, count] => Some(Case::Members(MembersLine::Threshold(
-                fraction_of(f)?,
-                place(count)?,
-            ))),
-            ["fraction", f] => Some(Case::Members(MembersLine::Fraction(fraction_of(f)?))),
-            ["sets", ids @ ..] => {
-                let (first, second) = halves(ids);
-                Some(Case::Members(MembersLine::Sets(first, second)))
-            }
-            ["facts", ids @ ..] => {
-                let (first, second) = halves(ids);
-                Some(Case::Members(MembersLine::Facts(first, second)))
-            }
-            ["view", values @ ..] => {
-                let (first, second) = halves(values);
-                Some(Case::View(first, second))
-            }
-            _ => Some(Case::World(world_line(words)?)),
+        if let ["message", digits] = words {
+            return Some(Case::Message(digits));
+        }
+        if let ["view", values @ ..] = words {
+            let (first, second) = halves(values);
+            return Some(Case::View(first, second));
+        }
+        match members_line(words) {
+            Some(line) => Some(Case::Members(line)),
+            None => Some(Case::World(world_line(words)?)),
         }
     }
 }

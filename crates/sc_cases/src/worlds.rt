@@ -3,8 +3,9 @@
 use crate::words::{Fraction, WorldLine};
 use sc_members::config::Config;
 use sc_node::answer::{Completion, Ended};
+use sc_node::node::Node;
 use sc_node::session::Phase;
-use sc_world::event::{Event, Stepped};
+use sc_world::event::{Event, Sent, Stepped};
 use sc_world::fault::WorldFault;
 use sc_world::op::meets;
 use sc_world::world::World;
@@ -33,13 +34,19 @@ fn tell(rt: &impl Print, world: &World, stepped: &Stepped) -> io::Result<()> {
     if let Some(ended) = &stepped.ended {
         tell_end(rt, ended)?;
     }
-    for i in 0..stepped.sent.count {
-        let number = stepped.sent.first.wrapping_add(i);
+    tell_sent(rt, world, stepped.sent)?;
+    println!(rt; "")
+}
+
+/// The messages that an event sent, with their numbers.
+fn tell_sent(rt: &impl Print, world: &World, sent: Sent) -> io::Result<()> {
+    for i in 0..sent.count {
+        let number = sent.first.wrapping_add(i);
         if let Some(message) = world.message(number) {
             print!(rt; " {number} {}", message.kind().name())?;
         }
     }
-    println!(rt; "")
+    Ok(())
 }
 
 fn refuse(rt: &impl Print, fault: WorldFault) -> io::Result<()> {
@@ -90,24 +97,22 @@ fn tell_common(rt: &impl Print, world: &World, first: usize, second: usize) -> i
     }
 }
 
+fn tell_node(rt: &impl Print, node: &Node) -> io::Result<()> {
+    let facts = node.facts();
+    print!(rt;
+        " values {} present {} members {}",
+        node.view().len(),
+        facts.present(),
+        facts.members()
+    )
+}
+
 fn tell_known(rt: &impl Print, world: &World, id: u64) -> io::Result<()> {
     if let Some(node) = world.node(id) {
-        let facts = node.facts();
-        print!(rt;
-            " values {} present {} members {}",
-            node.view().len(),
-            facts.present(),
-            facts.members()
-        )?;
+        tell_node(rt, node)?;
     }
-    println!(rt;
-        "{}",
-        if world.live(id).is_some() {
-            ""
-        } else {
-            " not there"
-        }
-    )
+    let is_there = world.live(id).is_some();
+    println!(rt; "{}", if is_there { "" } else { " not there" })
 }
 
 fn founded(
@@ -135,36 +140,48 @@ impl Worlds {
             count,
         } = line
         {
-            return match founded(self.alloc, beta, gamma, first, count) {
-                Ok(world) => {
-                    self.world = Some(world);
-                    Ok(())
-                }
-                Err(fault) => refuse(rt, fault),
-            };
+            return self.found(rt, founded(self.alloc, beta, gamma, first, count));
         }
         match &mut self.world {
             Some(world) => answer_in(rt, world, line),
             None => Ok(()),
         }
     }
+
+    fn found(&mut self, rt: &impl Print, world: Result<World, WorldFault>) -> io::Result<()> {
+        match world {
+            Ok(world) => {
+                self.world = Some(world);
+                Ok(())
+            }
+            Err(fault) => refuse(rt, fault),
+        }
+    }
+}
+
+fn tell_all(rt: &impl Print, world: &mut World, messages: usize, nodes: u64) -> io::Result<()> {
+    match deliver_all(world, messages, nodes) {
+        Ok(()) => Ok(()),
+        Err(fault) => refuse(rt, fault),
+    }
+}
+
+fn tell_counts(rt: &impl Print, world: &World) -> io::Result<()> {
+    println!(rt;
+        " events {} messages {}",
+        world.events().len(),
+        world.sent()
+    )
 }
 
 fn answer_in(rt: &impl Print, world: &mut World, line: WorldLine) -> io::Result<()> {
     match line {
         WorldLine::Event(event) => step(rt, world, event),
-        WorldLine::All { messages, nodes } => match deliver_all(world, messages, nodes) {
-            Ok(()) => Ok(()),
-            Err(fault) => refuse(rt, fault),
-        },
+        WorldLine::All { messages, nodes } => tell_all(rt, world, messages, nodes),
         WorldLine::Op(place) => tell_op(rt, world, place),
         WorldLine::Common(first, second) => tell_common(rt, world, first, second),
         WorldLine::Known(id) => tell_known(rt, world, id),
-        WorldLine::Counts => println!(rt;
-            " events {} messages {}",
-            world.events().len(),
-            world.sent()
-        ),
+        WorldLine::Counts => tell_counts(rt, world),
         WorldLine::World { .. } => Ok(()),
     }
 }

@@ -39,9 +39,14 @@ fn first_store(alloc: Global) -> Result<Message, ViewFault> {
     })
 }
 
+fn sender_after(alloc: Global, message: &Message) -> Result<u64, MessageFault> {
+    let again = written_and_read(alloc, message)?;
+    Ok(again.from)
+}
+
 fn sender_after_both(alloc: Global) -> Result<u64, Fail> {
     let store = first_store(alloc)?;
-    Ok(written_and_read(alloc, &store)?.from)
+    Ok(sender_after(alloc, &store)?)
 }
 
 #[test]

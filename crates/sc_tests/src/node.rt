@@ -3,10 +3,16 @@ use sc_node::fault::NodeFault;
 use sc_node::node::Node;
 use std::alloc::Global;
 
+// The tag under which the node begins its next store.
+fn next_store(node: &mut Node) -> Result<u64, NodeFault> {
+    let begun = node.begin_store(&[7; 48])?;
+    Ok(begun.tag)
+}
+
 // The tag under which node 1 of three founders begins its first store.
 fn first_store(alloc: Global) -> Result<u64, NodeFault> {
     let mut node = Node::founder(alloc, Config::default(), 1, &[1, 2, 3])?;
-    Ok(node.begin_store(&[7; 48])?.tag)
+    next_store(&mut node)
 }
 
 /// Run with any one allocation refused, the first store has its tag, or is refused for want of memory.

@@ -102,19 +102,50 @@ fn founded_again(alloc: Global, config: Config) -> Result<World, WorldFault> {
     }
 }
 
+fn run_again(rt: &impl Abort, world: &mut World, events: &[Event]) -> Result<(), WorldFault> {
+    for event in events {
+        step_again(rt, world, *event)?;
+    }
+    Ok(())
+}
+
+// What is seen of a world at its end.
+#[derive(Clone, Copy)]
+struct Outcome {
+    events: usize,
+    common: Option<u64>,
+    kind: &'static str,
+    next_kind: &'static str,
+}
+
+fn seen(world: &World) -> Outcome {
+    Outcome {
+        events: world.events().len(),
+        common: common(world),
+        kind: kind(world, 16),
+        next_kind: kind(world, 17),
+    }
+}
+
+// All events, each of them once more where memory is refused.
+fn run_all(rt: &impl Abort, world: &mut World) -> Result<Outcome, WorldFault> {
+    run_again(rt, world, &meeting())?;
+    run_again(rt, world, &churn())?;
+    Ok(seen(world))
+}
+
+fn seen_at_the_end(rt: &impl Abort, alloc: Global, config: Config) -> Result<Outcome, WorldFault> {
+    let mut world = founded_again(alloc, config)?;
+    run_all(rt, &mut world)
+}
+
 /// Run with any one allocation refused, the event at which it is refused changes nothing, and then succeeds.
 #[test]
 fn want_of_memory_changes_nothing(rt: HostRuntime) -> Result<(), Fail> {
-    let mut world = founded_again(rt.alloc(), Config::new(2, 3, 4, 5)?)?;
-    for event in meeting() {
-        step_again(&rt, &mut world, event)?;
-    }
-    for event in churn() {
-        step_again(&rt, &mut world, event)?;
-    }
+    let seen = seen_at_the_end(&rt, rt.alloc(), Config::new(2, 3, 4, 5)?)?;
     regular();
-    assert_eq!(rt; world.events().len(), 20);
-    assert_eq!(rt; common(&world), Some(2));
-    assert_eq!(rt; (kind(&world, 16), kind(&world, 17)), ("leave-echo", ""));
+    assert_eq!(rt; seen.events, 20);
+    assert_eq!(rt; seen.common, Some(2));
+    assert_eq!(rt; (seen.kind, seen.next_kind), ("leave-echo", ""));
     Ok(())
 }
