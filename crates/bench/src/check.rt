@@ -6,8 +6,10 @@
 use anyhow::{Result, anyhow};
 use bq_check::check::check;
 use bq_check::fault::CheckFault;
+use bq_check::notes::Notes;
 use bq_insn::decode::decode;
 use bq_insn::fault::DecodeFault;
+use bq_insn::text::Text;
 use bq_verify::verify::verify;
 use std::alloc::{AllocError, Global};
 use std::time::{Clock, Duration, Instant};
@@ -53,20 +55,35 @@ struct Times {
     longest: u32,
 }
 
+/// The notes of a text, and how long it takes to find them.
+fn time_verifying(rt: &(impl Clock + Alloc<A = Global>), text: &Text) -> Result<(Notes, Duration)> {
+    let start = Instant::now(rt)?;
+    let notes = verify(rt.alloc(), text).map_err(refused)?;
+    let took = start.elapsed(rt)?;
+    Ok((notes, took))
+}
+
+/// The longest path of a text with these notes, and how long it takes to check them.
+fn time_checking(
+    rt: &(impl Clock + Alloc<A = Global>),
+    text: Text,
+    notes: Notes,
+) -> Result<(u32, Duration)> {
+    let start = Instant::now(rt)?;
+    let certified = check(rt.alloc(), text, notes).map_err(refused)?;
+    let took = start.elapsed(rt)?;
+    Ok((certified.longest(), took))
+}
+
 /// One run over the text of these bytes.
 fn time_once(rt: &(impl Clock + Alloc<A = Global>), bytes: &[u8]) -> Result<Times> {
-    let alloc = rt.alloc();
-    let text = decode(alloc, bytes).map_err(undecoded)?;
-    let start = Instant::now(rt)?;
-    let notes = verify(alloc, &text).map_err(refused)?;
-    let verifying = start.elapsed(rt)?;
-    let start = Instant::now(rt)?;
-    let certified = check(alloc, text, notes).map_err(refused)?;
-    let checking = start.elapsed(rt)?;
+    let text = decode(rt.alloc(), bytes).map_err(undecoded)?;
+    let (notes, verifying) = time_verifying(rt, &text)?;
+    let (longest, checking) = time_checking(rt, text, notes)?;
     Ok(Times {
         verifying,
         checking,
-        longest: certified.longest(),
+        longest,
     })
 }
 

@@ -1,7 +1,7 @@
 //! A world under load.
 
 use sc_members::config::Config;
-use sc_world::event::{Event, Stepped};
+use sc_world::event::Event;
 use sc_world::fault::WorldFault;
 use sc_world::world::World;
 use std::alloc::Global;
@@ -29,12 +29,18 @@ fn value(number: u64) -> [u8; 48] {
     value
 }
 
-/// The number of the first message that an event sent.
-fn first_sent(stepped: Stepped) -> Option<usize> {
-    match stepped.sent.count {
-        0 => None,
-        _ => Some(stepped.sent.first),
+/// An event. Gives the number of the first message that it sent.
+fn step(world: &mut World, event: Event) -> Result<Option<usize>, WorldFault> {
+    let sent = world.step(event)?.sent;
+    match sent.count {
+        0 => Ok(None),
+        _ => Ok(Some(sent.first)),
     }
+}
+
+/// A message reaches a node. Gives the number of the first message that the node sends then.
+fn deliver(world: &mut World, message: usize, node: u64) -> Result<Option<usize>, WorldFault> {
+    step(world, Event::Deliver { message, node })
 }
 
 impl Cluster {
@@ -42,38 +48,51 @@ impl Cluster {
     pub(crate) fn new(alloc: Global, ids: u64) -> Result<Cluster, WorldFault> {
         let founders: Vec<u64> = (0..ids).collect(alloc)?;
         let (leaving, staying) = founders.split_at(founders.len().saturating_sub(NODES));
+        let nodes = Vec::from_slice(alloc, staying)?;
         let mut cluster = Cluster {
             world: World::new(alloc, Config::default(), &founders)?,
-            nodes: Vec::from_slice(alloc, staying)?,
+            nodes,
             next: ids,
         };
+        cluster.begin(leaving, staying)?;
+        Ok(cluster)
+    }
+
+    /// Of the founders these store and leave, and then the others store.
+    fn begin(&mut self, leaving: &[u64], staying: &[u64]) -> Result<(), WorldFault> {
         for node in leaving {
-            cluster.tell(Event::Store {
+            self.tell(Event::Store {
                 node: *node,
                 value: value(*node),
             })?;
-            cluster.tell(Event::Leave(*node))?;
+            self.tell(Event::Leave(*node))?;
         }
         for node in staying {
-            cluster.store(*node)?;
+            self.store(*node)?;
         }
-        Ok(cluster)
+        Ok(())
     }
 
     /// So many rounds of load.
     pub(crate) fn rounds(&mut self, rounds: u64) -> Result<(), WorldFault> {
         for round in 0..rounds {
-            let storer = (round % STAYING as u64) as usize;
-            let collector = (storer + NODES / 2) % STAYING;
-            if let Some(node) = self.nodes.get(storer).copied() {
-                self.store(node)?;
-            }
-            if let Some(node) = self.nodes.get(collector).copied() {
-                self.collect(node)?;
-            }
+            self.load(round)?;
             if round % 4 == 3 {
                 self.turn_over()?;
             }
+        }
+        Ok(())
+    }
+
+    /// In a round one node stores and one collects.
+    fn load(&mut self, round: u64) -> Result<(), WorldFault> {
+        let storer = (round % STAYING as u64) as usize;
+        let collector = (storer + NODES / 2) % STAYING;
+        if let Some(node) = self.nodes.get(storer).copied() {
+            self.store(node)?;
+        }
+        if let Some(node) = self.nodes.get(collector).copied() {
+            self.collect(node)?;
         }
         Ok(())
     }
@@ -84,7 +103,7 @@ impl Cluster {
             node,
             value: value(node),
         };
-        if let Some(store) = first_sent(self.world.step(event)?) {
+        if let Some(store) = step(&mut self.world, event)? {
             self.ask(node, store)?;
         }
         Ok(())
@@ -92,7 +111,7 @@ impl Cluster {
 
     /// A node collects, until the collect ends.
     fn collect(&mut self, node: u64) -> Result<(), WorldFault> {
-        let Some(query) = first_sent(self.world.step(Event::Collect(node))?) else {
+        let Some(query) = step(&mut self.world, Event::Collect(node))? else {
             return Ok(());
         };
         if let Some(store) = self.ask(node, query)? {
@@ -105,12 +124,7 @@ impl Cluster {
     fn turn_over(&mut self) -> Result<(), WorldFault> {
         let node = self.next;
         self.next = node.wrapping_add(1);
-        let entered = first_sent(self.world.step(Event::Enter(node))?);
-        if let Some(enter) = entered {
-            if let Some(join) = self.ask(node, enter)? {
-                self.spread(join)?;
-            }
-        }
+        self.enter(node)?;
         let Some(newest) = self.nodes.last_mut() else {
             return Ok(());
         };
@@ -118,9 +132,19 @@ impl Cluster {
         self.tell(Event::Leave(left))
     }
 
+    /// A node enters and joins.
+    fn enter(&mut self, node: u64) -> Result<(), WorldFault> {
+        if let Some(enter) = step(&mut self.world, Event::Enter(node))? {
+            if let Some(join) = self.ask(node, enter)? {
+                self.spread(join)?;
+            }
+        }
+        Ok(())
+    }
+
     /// An event, of which all nodes are told.
     fn tell(&mut self, event: Event) -> Result<(), WorldFault> {
-        match first_sent(self.world.step(event)?) {
+        match step(&mut self.world, event)? {
             Some(message) => self.spread(message),
             None => Ok(()),
         }
@@ -145,11 +169,6 @@ impl Cluster {
         }
         Ok(turn)
     }
-}
-
-/// A message reaches a node. Gives the number of the first message that the node sends then.
-fn deliver(world: &mut World, message: usize, node: u64) -> Result<Option<usize>, WorldFault> {
-    Ok(first_sent(world.step(Event::Deliver { message, node })?))
 }
 
 // What there is to count.

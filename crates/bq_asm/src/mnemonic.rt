@@ -119,38 +119,45 @@ static MNEMONICS: [Mnemonic; 81] = [
     Mnemonic::Store(Size::B8),
 ];
 
-fn alu_name(width: Width, op: AluOp) -> &'static str
-    ensures { result.now ≡ op_name op ++ width_name width }
+fn alu64_name(op: AluOp) -> &'static str
+    ensures { result.now ≡ op_name op ++ width_name Width.W64 }
 {
-    match (width, op) {
-        (Width::W64, AluOp::Add) => "add64",
-        (Width::W64, AluOp::Sub) => "sub64",
-        (Width::W64, AluOp::Mul) => "mul64",
-        (Width::W64, AluOp::Div) => "div64",
-        (Width::W64, AluOp::SignedDiv) => "sdiv64",
-        (Width::W64, AluOp::Or) => "or64",
-        (Width::W64, AluOp::And) => "and64",
-        (Width::W64, AluOp::ShiftLeft) => "lsh64",
-        (Width::W64, AluOp::ShiftRight) => "rsh64",
-        (Width::W64, AluOp::Mod) => "mod64",
-        (Width::W64, AluOp::SignedMod) => "smod64",
-        (Width::W64, AluOp::Xor) => "xor64",
-        (Width::W64, AluOp::Mov) => "mov64",
-        (Width::W64, AluOp::ArithmeticShiftRight) => "arsh64",
-        (Width::W32, AluOp::Add) => "add32",
-        (Width::W32, AluOp::Sub) => "sub32",
-        (Width::W32, AluOp::Mul) => "mul32",
-        (Width::W32, AluOp::Div) => "div32",
-        (Width::W32, AluOp::SignedDiv) => "sdiv32",
-        (Width::W32, AluOp::Or) => "or32",
-        (Width::W32, AluOp::And) => "and32",
-        (Width::W32, AluOp::ShiftLeft) => "lsh32",
-        (Width::W32, AluOp::ShiftRight) => "rsh32",
-        (Width::W32, AluOp::Mod) => "mod32",
-        (Width::W32, AluOp::SignedMod) => "smod32",
-        (Width::W32, AluOp::Xor) => "xor32",
-        (Width::W32, AluOp::Mov) => "mov32",
-        (Width::W32, AluOp::ArithmeticShiftRight) => "arsh32",
+    match op {
+        AluOp::Add => "add64",
+        AluOp::Sub => "sub64",
+        AluOp::Mul => "mul64",
+        AluOp::Div => "div64",
+        AluOp::SignedDiv => "sdiv64",
+        AluOp::Or => "or64",
+        AluOp::And => "and64",
+        AluOp::ShiftLeft => "lsh64",
+        AluOp::ShiftRight => "rsh64",
+        AluOp::Mod => "mod64",
+        AluOp::SignedMod => "smod64",
+        AluOp::Xor => "xor64",
+        AluOp::Mov => "mov64",
+        AluOp::ArithmeticShiftRight => "arsh64",
+    }
+}
+
+fn alu32_name(op: AluOp) -> &'static str
+    ensures { result.now ≡ op_name op ++ width_name Width.W32 }
+{
+    match op {
+        AluOp::Add => "add32",
+        AluOp::Sub => "sub32",
+        AluOp::Mul => "mul32",
+        AluOp::Div => "div32",
+        AluOp::SignedDiv => "sdiv32",
+        AluOp::Or => "or32",
+        AluOp::And => "and32",
+        AluOp::ShiftLeft => "lsh32",
+        AluOp::ShiftRight => "rsh32",
+        AluOp::Mod => "mod32",
+        AluOp::SignedMod => "smod32",
+        AluOp::Xor => "xor32",
+        AluOp::Mov => "mov32",
+        AluOp::ArithmeticShiftRight => "arsh32",
     }
 }
 
@@ -217,7 +224,8 @@ impl Mnemonic {
         ensures { result.now ≡ name self }
     {
         match self {
-            Mnemonic::Alu(width, op) => alu_name(width, op),
+            Mnemonic::Alu(Width::W64, op) => alu64_name(op),
+            Mnemonic::Alu(Width::W32, op) => alu32_name(op),
             Mnemonic::Negate(Width::W64) => "neg64",
             Mnemonic::Negate(Width::W32) => "neg32",
             Mnemonic::Extend(extension) => extension_name(extension),

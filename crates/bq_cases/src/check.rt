@@ -7,6 +7,7 @@
 //!   steps.
 //! - `known UNIT R = SOURCE`: what is known of register R where the instruction at a unit begins.
 
+use crate::refusal::print_refusal;
 use crate::state::print_kind;
 use crate::words::{bytes, number, text};
 use bq_check::certified::Certified;
@@ -23,19 +24,15 @@ use std::alloc::Global;
 use std::io;
 
 fn print_flow_fault(rt: &impl Print, fault: FlowFault) -> io::Result<()> {
-    print!(rt; " refused {} {}", fault.number(), fault.name())?;
-    match fault {
-        FlowFault::At { unit, .. } => println!(rt; " at {unit}"),
-        FlowFault::OutOfMemory => println!(rt; ""),
-    }
+    let unit = match fault {
+        FlowFault::At { unit, .. } => Some(unit),
+        FlowFault::OutOfMemory => None,
+    };
+    print_refusal(rt, fault.number(), fault.name(), unit)
 }
 
 fn print_fault(rt: &impl Print, fault: CheckFault) -> io::Result<()> {
-    print!(rt; " refused {} {}", fault.number(), fault.name())?;
-    match fault.unit() {
-        Some(unit) => println!(rt; " at {unit}"),
-        None => println!(rt; ""),
-    }
+    print_refusal(rt, fault.number(), fault.name(), fault.unit())
 }
 
 fn print_successors(rt: &impl Print, unit: usize, successors: Successors) -> io::Result<()> {
@@ -81,24 +78,37 @@ fn check_with(rt: &impl Print, alloc: Global, digits: &str, text: Text) -> io::R
     };
     match Notes::read(alloc, bytes.as_slice()) {
         Ok(notes) => print_longest(rt, check(alloc, text, notes)),
-        Err(fault) => println!(rt; " refused {} {}", fault.number(), fault.name()),
+        Err(fault) => print_refusal(rt, fault.number(), fault.name(), None),
     }
 }
 
-/// The certificate of a text with the notes that the verifier finds.
-fn certified(alloc: Global, text: Text) -> Result<Certified, CheckFault> {
-    let notes = verify(alloc, &text)?;
-    check(alloc, text, notes)
+/// Prints what a certified text answers from an accumulator.
+fn print_run(rt: &impl Print, certified: &Certified, acc: u64) -> io::Result<()> {
+    let Some(place) = Placement::new(4096, 8192) else {
+        return println!(rt; " ?");
+    };
+    let ended = certified.run_certified(&place, &[0; 64], &mut [0; 512], acc);
+    println!(rt; " {} in {}", ended.acc, ended.steps)
+}
+
+/// Prints what a text answers with these notes.
+fn run_checked(
+    rt: &impl Print,
+    alloc: Global,
+    acc: u64,
+    text: Text,
+    notes: Notes,
+) -> io::Result<()> {
+    match check(alloc, text, notes) {
+        Ok(certified) => print_run(rt, &certified, acc),
+        Err(fault) => print_fault(rt, fault),
+    }
 }
 
 fn certify(rt: &impl Print, alloc: Global, acc: u64, text: Text) -> io::Result<()> {
-    match (certified(alloc, text), Placement::new(4096, 8192)) {
-        (Ok(certified), Some(place)) => {
-            let ended = certified.run_certified(&place, &[0; 64], &mut [0; 512], acc);
-            println!(rt; " {} in {}", ended.acc, ended.steps)
-        }
-        (Err(fault), _) => print_fault(rt, fault),
-        (Ok(_), None) => println!(rt; " ?"),
+    match verify(alloc, &text) {
+        Ok(notes) => run_checked(rt, alloc, acc, text, notes),
+        Err(fault) => print_fault(rt, fault),
     }
 }
 

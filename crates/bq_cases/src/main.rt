@@ -18,6 +18,7 @@
 
 mod check;
 mod range;
+mod refusal;
 mod run;
 mod state;
 mod text;

@@ -15,22 +15,16 @@ use std::io;
 
 /// The ranges of four ends.
 fn two(alloc: Global, words: &str) -> Result<Option<(Range, Range)>, AllocError> {
-    let Some(ends) = numbers(alloc, words)? else {
-        return Ok(None);
-    };
-    Ok(match ends.as_slice() {
-        [a, b, c, d] => Range::new(*a, *b).zip(Range::new(*c, *d)),
+    Ok(match numbers(alloc, words)?.as_deref() {
+        Some([a, b, c, d]) => Range::new(*a, *b).zip(Range::new(*c, *d)),
         _ => None,
     })
 }
 
 /// The range of two ends.
 fn one(alloc: Global, words: &str) -> Result<Option<Range>, AllocError> {
-    let Some(ends) = numbers(alloc, words)? else {
-        return Ok(None);
-    };
-    Ok(match ends.as_slice() {
-        [a, b] => Range::new(*a, *b),
+    Ok(match numbers(alloc, words)?.as_deref() {
+        Some([a, b]) => Range::new(*a, *b),
         _ => None,
     })
 }
@@ -83,10 +77,7 @@ fn print_edge(rt: &impl Print, insn: &Insn, taken: bool, a: Range, b: Range) -> 
 
 fn load(word: &str) -> Option<Range> {
     match number(word) {
-        Some(1) => Some(Range::of_load(1)),
-        Some(2) => Some(Range::of_load(2)),
-        Some(4) => Some(Range::of_load(4)),
-        Some(8) => Some(Range::of_load(8)),
+        Some(bytes @ (1 | 2 | 4 | 8)) => Some(Range::of_load(bytes as u32)),
         Some(_) => None,
         None => Some(Range::of_signed_load()),
     }

@@ -10,7 +10,7 @@ use bq_insn::text::Text;
 use bq_meaning::fault::Fault;
 use bq_meaning::placement::Placement;
 use bq_meaning::run::{Ended, run_checked};
-use std::alloc::Global;
+use std::alloc::{AllocError, Global};
 use std::io;
 
 /// Sets where the frame and the record lie.
@@ -61,23 +61,27 @@ fn fold(
 }
 
 /// How a run begins.
-#[derive(Drop)]
-struct Start {
+#[derive(Clone, Copy)]
+struct Start<'a> {
     limit: u64,
     fill: u8,
     acc: u64,
-    values: Vec<u8>,
+    values: &'a str,
 }
 
-fn values_of(alloc: Global, words: &str) -> Option<Vec<u8>> {
+/// The bytes of these words; none where one is no byte.
+fn values_of(alloc: Global, words: &str) -> Result<Option<Vec<u8>>, AllocError> {
     let mut values = Vec::new(alloc);
     for word in words.split(',') {
-        values.push(word.parse::<u8>().ok()?).ok()?;
+        match word.parse::<u8>() {
+            Ok(value) => values.push(value)?,
+            Err(_) => return Ok(None),
+        }
     }
-    Some(values)
+    Ok(Some(values))
 }
 
-fn start_of(alloc: Global, words: &str) -> Option<Start> {
+fn start_of(words: &str) -> Option<Start<'_>> {
     let (limit, words) = words.split_once(' ')?;
     let (fill, words) = words.split_once(' ')?;
     let (acc, values) = words.split_once(' ')?;
@@ -85,13 +89,18 @@ fn start_of(alloc: Global, words: &str) -> Option<Start> {
         limit: number(limit)?,
         fill: fill.parse::<u8>().ok()?,
         acc: number(acc)?,
-        values: values_of(alloc, values)?,
+        values,
     })
 }
 
-fn print_run(rt: &impl Print, text: &Text, place: &Placement, start: &Start) -> io::Result<()> {
+fn print_run(
+    rt: &impl Print,
+    text: &Text,
+    place: &Placement,
+    start: Start<'_>,
+    values: &[u8],
+) -> io::Result<()> {
     let mut frame = [start.fill; 512];
-    let values = start.values.as_slice();
     match fold(text, place, start.limit, &mut frame, start.acc, values) {
         Ok(ended) => println!(rt; " {} in {}", ended.acc, ended.steps),
         Err(fault) => println!(rt; " {fault:?}"),
@@ -106,8 +115,10 @@ pub(crate) fn run(
     rest: &str,
 ) -> io::Result<()> {
     if let (Some(place), Some((start, source))) = (place, rest.split_once(" = ")) {
-        if let (Some(start), Some(text)) = (start_of(alloc, start), text(alloc, source)?) {
-            return print_run(rt, &text, place, &start);
+        if let (Some(start), Some(text)) = (start_of(start), text(alloc, source)?) {
+            if let Some(values) = values_of(alloc, start.values)? {
+                return print_run(rt, &text, place, start, values.as_slice());
+            }
         }
     }
     println!(rt; " ?")

@@ -6,6 +6,7 @@
 //! - `edges UNIT INSN`: where an instruction at a unit leads in the state of the entry.
 //! - `offsets A B`: the offsets from A to B.
 
+use crate::refusal::print_refusal;
 use crate::words::{insn, number, numbers};
 use bq_insn::insn::Insn;
 use bq_range::range::Range;
@@ -19,19 +20,28 @@ use std::io;
 /// The most units of a text.
 const MOST_UNITS: u64 = 4096;
 
+fn print_pointer(rt: &impl Print, region: &str, at: Offsets) -> io::Result<()> {
+    println!(rt; " {region} {} {}", at.lo(), at.hi())
+}
+
 pub(crate) fn print_kind(rt: &impl Print, kind: Kind) -> io::Result<()> {
     match kind {
         Kind::Unset => println!(rt; " unset"),
         Kind::Number(range) => println!(rt; " number {} {}", range.lo(), range.hi()),
-        Kind::RecordPointer(at) => println!(rt; " record {} {}", at.lo(), at.hi()),
-        Kind::FramePointer(at) => println!(rt; " frame {} {}", at.lo(), at.hi()),
+        Kind::RecordPointer(at) => print_pointer(rt, "record", at),
+        Kind::FramePointer(at) => print_pointer(rt, "frame", at),
     }
 }
 
+fn offset(word: u64) -> Option<i32> {
+    i32::try_from(word.cast_signed()).ok()
+}
+
 fn offsets(first: u64, last: u64) -> Option<Offsets> {
-    let first = i32::try_from(first.cast_signed()).ok()?;
-    let last = i32::try_from(last.cast_signed()).ok()?;
-    Offsets::new(first, last)
+    match (offset(first), offset(last)) {
+        (Some(first), Some(last)) => Offsets::new(first, last),
+        _ => None,
+    }
 }
 
 fn kind_of(alloc: Global, words: &str) -> Option<Kind> {
@@ -55,7 +65,7 @@ fn nothing_but(kind: Kind) -> State {
 fn print_after(rt: &impl Print, state: &State, insn: &Insn, register: u64) -> io::Result<()> {
     match state.transfer(insn) {
         Ok(state) => print_kind(rt, state.kind(u8::try_from(register).unwrap_or(11))),
-        Err(rule) => println!(rt; " refused {} {}", rule.number(), rule.name()),
+        Err(rule) => print_refusal(rt, rule.number(), rule.name(), None),
     }
 }
 
@@ -73,9 +83,17 @@ fn after(rt: &impl Print, alloc: Global, register: u64, rest: &str) -> io::Resul
     }
 }
 
-fn print_edge(rt: &impl Print, way: &str, edge: Option<Edge>) -> io::Result<()> {
+/// Where an edge leads.
+fn unit_of(edge: &Option<Edge>) -> Option<u64> {
     match edge {
-        Some(edge) => println!(rt; " {way} {}", edge.unit),
+        Some(edge) => Some(edge.unit),
+        None => None,
+    }
+}
+
+fn print_edge(rt: &impl Print, way: &str, unit: Option<u64>) -> io::Result<()> {
+    match unit {
+        Some(unit) => println!(rt; " {way} {unit}"),
         None => println!(rt; " {way} none"),
     }
 }
@@ -88,8 +106,8 @@ fn edges(rt: &impl Print, alloc: Global, unit: u64, source: &str) -> io::Result<
         return println!(rt; " ?");
     }
     let edges = State::entry().edges(unit, &insn);
-    print_edge(rt, "behind", edges.behind)?;
-    print_edge(rt, "jump", edges.jump)
+    print_edge(rt, "behind", unit_of(&edges.behind))?;
+    print_edge(rt, "jump", unit_of(&edges.jump))
 }
 
 fn print_offsets(rt: &impl Print, offsets: Option<Offsets>) -> io::Result<()> {

@@ -8,6 +8,7 @@
 //! - `exits N`: the same of the bytes of N units `exit`.
 //! - `register N`: the register of this number.
 
+use crate::refusal::print_refusal;
 use crate::words::{bytes, number, source};
 use bq_asm::assemble::assemble;
 use bq_asm::disassemble::disassemble;
@@ -23,25 +24,27 @@ use std::io;
 const EXIT: [u8; 8] = [0x95, 0, 0, 0, 0, 0, 0, 0];
 
 fn print_fault(rt: &impl Print, fault: AsmFault) -> io::Result<()> {
-    print!(rt; " refused {} {}", fault.number(), fault.name())?;
+    let (number, name) = (fault.number(), fault.name());
     match fault {
-        AsmFault::Syntax { line } | AsmFault::Label { line } => println!(rt; " at line {line}"),
-        _ => println!(rt; ""),
+        AsmFault::Syntax { line } | AsmFault::Label { line } => {
+            println!(rt; " refused {number} {name} at line {line}")
+        }
+        _ => print_refusal(rt, number, name, None),
     }
 }
 
 pub(crate) fn print_decode_fault(rt: &impl Print, fault: DecodeFault) -> io::Result<()> {
-    print!(rt; " refused {} {}", fault.number(), fault.name())?;
-    match fault {
-        DecodeFault::At { unit, .. } => println!(rt; " at {unit}"),
-        _ => println!(rt; ""),
-    }
+    let unit = match fault {
+        DecodeFault::At { unit, .. } => Some(unit),
+        _ => None,
+    };
+    print_refusal(rt, fault.number(), fault.name(), unit)
 }
 
 /// Prints what is written of a text.
 fn print_listing(rt: &impl Print, alloc: Global, text: &Text) -> io::Result<()> {
     let listing = disassemble(alloc, text)?;
-    for line in listing.as_str().lines() {
+    for line in listing.as_str().split_terminator('\n') {
         println!(rt; " {line}")?;
     }
     Ok(())
@@ -79,24 +82,26 @@ fn unit_fault(alloc: Global, opcode: u8, fields: &[u8]) -> Result<u8, AllocError
     })
 }
 
-/// The seven bytes of some fields, and opcodes.
-fn fields_and_opcodes(alloc: Global, rest: &str) -> Option<(Vec<u8>, Vec<u8>)> {
-    let (fields, opcodes) = rest.split_once(' ')?;
-    bytes(alloc, fields).zip(bytes(alloc, opcodes))
-}
-
-fn opcodes(rt: &impl Print, alloc: Global, rest: &str) -> io::Result<()> {
-    let Some((fields, opcodes)) = fields_and_opcodes(alloc, rest) else {
-        return println!(rt; " ?");
-    };
-    for opcode in &opcodes {
-        print!(rt; " {}", unit_fault(alloc, *opcode, fields.as_slice())?)?;
+/// Prints for each opcode the fault of a unit with these fields, or 0.
+fn print_faults(rt: &impl Print, alloc: Global, fields: &[u8], opcodes: &[u8]) -> io::Result<()> {
+    for opcode in opcodes {
+        print!(rt; " {}", unit_fault(alloc, *opcode, fields)?)?;
     }
     println!(rt; "")
 }
 
+fn opcodes(rt: &impl Print, alloc: Global, rest: &str) -> io::Result<()> {
+    let (fields, opcodes) = rest.split_once(' ').unwrap_or((rest, ""));
+    match (bytes(alloc, fields), bytes(alloc, opcodes)) {
+        (Some(fields), Some(opcodes)) => {
+            print_faults(rt, alloc, fields.as_slice(), opcodes.as_slice())
+        }
+        _ => println!(rt; " ?"),
+    }
+}
+
 fn is_exit(unit: &[u8]) -> bool {
-    unit == EXIT.as_slice()
+    matches!(unit, [0x95, 0, 0, 0, 0, 0, 0, 0])
 }
 
 /// Prints the size of a text, and its units as far as they are alike.

@@ -18,23 +18,36 @@ pub(crate) fn parts(extension: Extension) -> (SignBits, Width) {
     }
 }
 
+/// What the operation of an instruction makes of two words.
+fn of_two(insn: &Insn, a: u64, b: u64) -> Option<u64> {
+    match insn {
+        Insn::Alu { width, op, .. } => Some(alu(*width, *op, a, b)),
+        Insn::Branch {
+            width,
+            relation,
+            ..
+        } => Some(u64::from(relates(*width, *relation, a, b))),
+        _ => None,
+    }
+}
+
+/// What the operation of an instruction makes of a word.
+fn of_one(insn: &Insn, a: u64) -> Option<u64> {
+    match insn {
+        Insn::Order { bits, .. } => Some(swap(*bits, a)),
+        Insn::Extend { extension, .. } => {
+            let (from, to) = parts(*extension);
+            Some(extend(from, to, a))
+        }
+        _ => None,
+    }
+}
+
 /// What the operation of an instruction makes of these words.
 fn operation(insn: &Insn, words: &[u64]) -> Option<u64> {
-    match (insn, words) {
-        (Insn::Alu { width, op, .. }, [a, b]) => Some(alu(*width, *op, *a, *b)),
-        (
-            Insn::Branch {
-                width,
-                relation,
-                ..
-            },
-            [a, b],
-        ) => { Some(u64::from(relates(*width, *relation, *a, *b))) }
-        (Insn::Order { bits, .. }, [a]) => Some(swap(*bits, *a)),
-        (Insn::Extend { extension, .. }, [a]) => {
-            let (from, to) = parts(*extension);
-            Some(extend(from, to, *a))
-        }
+    match words {
+        [a, b] => of_two(insn, *a, *b),
+        [a] => of_one(insn, *a),
         _ => None,
     }
 }
