@@ -16,3 +16,4 @@ pub mod node;
 pub mod outs;
 pub mod session;
 mod sessions;
+pub mod worked;
