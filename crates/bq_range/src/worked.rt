@@ -1,6 +1,7 @@
 //! Worked values of the tables.
 
-ghost use Rattle.std.specs.Prelude.{◌≡◌, ◌*◌, true, false, Some, None};
+ghost use Rattle.std.specs.Prelude.{◌≡◌, ◌≤◌, ◌*◌, true, false, Some, None};
+ghost use Rattle.std.specs.Option.{SomeIff};
 ghost use Rattle.bq_word.specs.declared.AluOp.TheVariants as op;
 ghost use Rattle.bq_word.specs.declared.Relation.TheVariants as relation;
 ghost use Rattle.bq_range.specs.Interval.{Within, between, single, is_single, whole, all_words, join, meet, cut};
@@ -12,6 +13,8 @@ pub fn worked()
     // Ranges.
     ensures least { (between 3 9).lo ≡ 3 }
     ensures greatest { (between 3 9).hi ≡ 9 }
+    ensures not_none { SomeIff None (7 ≤ 7) (between 7 7) → ⊥ }
+    ensures not_some { SomeIff (Some (between 9 3)) (9 ≤ 3) (between 9 3) → ⊥ }
     ensures one { single 7 ≡ between 7 7 }
     ensures not_one { is_single (between 3 4) ≡ false }
     ensures of_byte { whole (8 * 1) ≡ between 0 255 }
