@@ -17,7 +17,7 @@ pub struct Cases {
     files: MemoryFiles,
     name: String,
     bytes: Vec<u8>,
-    /// How many reads of the next command go through before one fails.
+    /// How many reads and writes of the next command go through before one fails.
     passing: Option<u64>,
 }
 
@@ -40,6 +40,12 @@ impl Cases {
             CaseLine::File(name) => Ok(self.begin_file(name)?),
             CaseLine::Bytes(digits) => self.add_bytes(digits),
             CaseLine::Repeated { count, text } => Ok(self.add_lines(count, text)?),
+            CaseLine::Cut(name) => self.cut(name),
+            CaseLine::Set {
+                place,
+                digits,
+                name,
+            } => self.set(place, digits, name),
             CaseLine::Failing(passing) => {
                 self.passing = Some(passing);
                 Ok(())
@@ -70,6 +76,38 @@ impl Cases {
         match hex::decode(self.alloc, digits) {
             Ok(bytes) => Ok(self.bytes.extend_from_slice(bytes.as_slice())?),
             Err(_) => Err(io::Error::from(io::ErrorKind::InvalidInput)),
+        }
+    }
+
+    /// Goes on with a file that is there.
+    fn take_up(&mut self, name: &str) -> io::Result<()> {
+        self.end_file();
+        match self.files.read(self.alloc, name) {
+            Ok(bytes) => self.bytes = bytes,
+            Err(_) => return Err(io::Error::from(io::ErrorKind::NotFound)),
+        }
+        self.name.clear();
+        Ok(self.name.push_str(name)?)
+    }
+
+    /// Cuts the last byte of a file.
+    fn cut(&mut self, name: &str) -> io::Result<()> {
+        self.take_up(name)?;
+        self.bytes.pop();
+        Ok(())
+    }
+
+    /// Sets a byte of a file, whose place is counted from 1 at the end.
+    fn set(&mut self, place: u64, digits: &str, name: &str) -> io::Result<()> {
+        self.take_up(name)?;
+        let byte = hex::decode(self.alloc, digits);
+        let place = self.bytes.len().checked_sub(place as usize);
+        match (byte, place) {
+            (Ok(byte), Some(place)) if place + byte.len() <= self.bytes.len() => {
+                self.bytes[place..place + byte.len()].copy_from_slice(byte.as_slice());
+                Ok(())
+            }
+            _ => Err(io::Error::from(io::ErrorKind::InvalidInput)),
         }
     }
 

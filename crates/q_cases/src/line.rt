@@ -18,6 +18,17 @@ pub enum CaseLine<'a> {
         /// The line.
         text: &'a str,
     },
+    /// `- NAME`
+    Cut(&'a str),
+    /// `@ PLACE BYTE NAME`
+    Set {
+        /// The byte's place, counted from 1 at the end.
+        place: u64,
+        /// The byte as digits.
+        digits: &'a str,
+        /// The name of the file.
+        name: &'a str,
+    },
     /// `! COUNT`
     Failing(u64),
     /// `$ WORDS`
@@ -36,6 +47,8 @@ impl CaseLine<'_> {
             Some(("=", name)) => CaseLine::File(name),
             Some(("+", digits)) => CaseLine::Bytes(digits),
             Some(("*", rest)) => repeated(rest).unwrap_or(CaseLine::Text(text)),
+            Some(("-", name)) => CaseLine::Cut(name),
+            Some(("@", rest)) => set(rest).unwrap_or(CaseLine::Text(text)),
             Some(("!", count)) => match number(count) {
                 Some(count) => CaseLine::Failing(count),
                 None => CaseLine::Text(text),
@@ -52,4 +65,16 @@ fn repeated(text: &str) -> Option<CaseLine<'_>> {
     let (count, text) = text.split_once(' ')?;
     let count = number(count)?;
     Some(CaseLine::Repeated { count, text })
+}
+
+/// `PLACE BYTE NAME`
+fn set(text: &str) -> Option<CaseLine<'_>> {
+    let (place, rest) = text.split_once(' ')?;
+    let place = number(place)?;
+    let (digits, name) = rest.split_once(' ')?;
+    Some(CaseLine::Set {
+        place,
+        digits,
+        name,
+    })
 }

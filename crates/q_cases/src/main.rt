@@ -6,8 +6,10 @@
 //! | `= NAME` | begins a file of this name |
 //! | `+ HEX` | adds these bytes to the file |
 //! | `* COUNT TEXT` | adds the line TEXT to the file so many times |
-//! | `! COUNT` | makes the next command's reads fail once so many of them went through |
-//! | `$ WORDS` | is printed, with what the command of these words prints, its status, and how many reads failed |
+//! | `- NAME` | goes on with the file of this name, without its last byte |
+//! | `@ PLACE HEX NAME` | goes on with the file of this name, with this byte at PLACE, counted from 1 at its end |
+//! | `! COUNT` | makes a read or a write of the next command fail once so many of them went through |
+//! | `$ WORDS` | is printed, with what the command of these words prints, its status, and how many files failed |
 //! | `? WORDS` | is printed, with what explains the refusal of the command's program |
 //! | any other | is added to the file as a line |
 //!

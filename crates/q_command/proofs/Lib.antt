@@ -1,2 +1,3 @@
+mod Auditing
 mod Lines
 mod Refused

@@ -6,7 +6,7 @@ use Rattle.q_sim.specs.declared.refusal.Refusal.{Refusal}
 use Rattle.q_command.specs.Perform.{IsProgram, IsUnassembled, RefusesFile}
 use Rattle.q_files.specs.declared.files.FileFault.{FileFault}
 use Rattle.q_words.specs.declared.words.Line.{Line}
-use Rattle.q_words.specs.declared.words.Line.TheVariants.{Asm, Check, Run, Sim}
+use Rattle.q_words.specs.declared.words.Line.TheVariants.{Asm, Check, Run, Sim, Audit}
 
 -- something is told exactly where the verifier refuses the program of this file
 pub record Explains {F X : Type 0} (reads : F → List ℕ → Result (List ℕ) FileFault → F → Type 0) (name : List ℕ) (old : F) (told : Option X) (new : F) : Type 0 where
@@ -22,6 +22,7 @@ Advises reads (Asm file) old told new = told ≡ None
 Advises reads (Check file) old told new = Explains reads file.now old told new
 Advises reads (Run file start records) old told new = Explains reads file.now old told new
 Advises reads (Sim script) old told new = told ≡ None
+Advises reads (Audit journal) old told new = told ≡ None
 
 -- why nothing can be told of a command
 abbrev pub IsUnadvised : {F : Type 0} → (F → List ℕ → Result (List ℕ) FileFault → F → Type 0) → Line → F → Refusal → F → Type 0

@@ -1,3 +1,4 @@
 pub mod Advice
+pub mod Audit
 pub mod Listing
 pub mod Perform

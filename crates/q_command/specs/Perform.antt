@@ -1,5 +1,5 @@
 -- What the commands answer, and why they are refused.
-use Rattle.std.specs.Prelude.{◌≡◌, ◌⊎◌, ℕ, List, [], ◌∷◌, ◌++◌, codes, IsUtf8, Option, Result, Ok, Err}
+use Rattle.std.specs.Prelude.{◌≡◌, ◌≢◌, ◌⊎◌, ℕ, Bool, true, false, List, [], ◌∷◌, ◌++◌, codes, IsUtf8, Option, Result, Ok, Err}
 use Rattle.std.specs.Fmt.{decimal}
 use Rattle.std.specs.Io.KnownBytes.{Appends}
 use Rattle.bq_insn.specs.declared.insn.Insn.{Insn}
@@ -22,13 +22,14 @@ use Rattle.q_sim.specs.declared.refusal.Refusal.{Refusal}
 use Rattle.q_sim.specs.declared.refusal.Refusal.TheVariants as refusal
 use Rattle.q_sim.specs.Programs.{IsUncertified}
 use Rattle.q_sim.specs.Refusal.{refusal_line, refusal_of}
-use Rattle.q_sim.specs.Simulates.{IsSimulationFault, Simulates}
+use Rattle.q_sim.specs.Simulates.{IsSimulationFault, Simulates, Writing}
+use Rattle.q_command.specs.Audit.{Audits, IsUnaudited}
 use Rattle.q_command.specs.Listing.{listing_of}
 use Rattle.q_files.specs.declared.files.FileFault.{FileFault}
 use Rattle.q_command.specs.declared.perform.Ended.{Ended}
-use Rattle.q_command.specs.declared.perform.Ended.TheVariants.{Answered, Refused, Unwritten}
+use Rattle.q_command.specs.declared.perform.Ended.TheVariants.{Answered, Unsaved, Refused, Unwritten}
 use Rattle.q_words.specs.declared.words.Line.{Line}
-use Rattle.q_words.specs.declared.words.Line.TheVariants.{Asm, Check, Run, Sim}
+use Rattle.q_words.specs.declared.words.Line.TheVariants.{Asm, Check, Run, Sim, Audit}
 
 -- ---- programs
 
@@ -87,21 +88,24 @@ pub record Computes (source : List ℕ) (start : ℕ) (listed lines : List ℕ) 
   pub right : IsAnswer text (view_records view) start acc steps
   pub told : lines ≡ codes "acc " ++ (decimal acc ++ (codes " steps " ++ (decimal steps ++ 10 ∷ [])))
 
--- the lines are what the script prints that the text spells
-pub record IsSimulated (source lines : List ℕ) : Type 0 where
+-- the lines are what the script prints that the text spells, over files that stand thus before and after
+pub record IsSimulated {F : Type 0} (writes : Writing F) (source : List ℕ) (old : F) (lines : List ℕ) (unwritten : Bool) (new : F) : Type 0 where
   pub script : Script
   pub utf8 : IsUtf8 source
   pub spelled : IsScript source script
-  pub simulates : Simulates script lines
+  pub simulates : Simulates writes script old lines unwritten new
 
--- the command answers these lines, over files that stand thus before and after
-abbrev pub Answers : {F : Type 0} → (F → List ℕ → Result (List ℕ) FileFault → F → Type 0) → Line → F → List ℕ → F → Type 0
-Answers reads (Asm file) old lines new = (source : List ℕ) × reads old file.now (Ok source) new × Lists source lines
-Answers reads (Check file) old lines new = (source : List ℕ) × reads old file.now (Ok source) new × Accepts source lines
-Answers {F} reads (Run file start records) old lines new =
+-- The command answers these lines, over files that stand thus before and after. It is told whether a journal was not
+-- written.
+abbrev pub Answers : {F : Type 0} → (F → List ℕ → Result (List ℕ) FileFault → F → Type 0) → Writing F → Line → F → List ℕ → Bool → F → Type 0
+Answers reads writes (Asm file) old lines unwritten new = (source : List ℕ) × reads old file.now (Ok source) new × Lists source lines × (unwritten ≡ false)
+Answers reads writes (Check file) old lines unwritten new = (source : List ℕ) × reads old file.now (Ok source) new × Accepts source lines × (unwritten ≡ false)
+Answers {F} reads writes (Run file start records) old lines unwritten new =
     (source : List ℕ) × (listed : List ℕ) × (between : F) × reads old file.now (Ok source) between × reads between records.now (Ok listed) new
-    × Computes source start listed lines
-Answers reads (Sim script) old lines new = (source : List ℕ) × reads old script.now (Ok source) new × IsSimulated source lines
+    × Computes source start listed lines × (unwritten ≡ false)
+Answers {F} reads writes (Sim script) old lines unwritten new =
+    (source : List ℕ) × (between : F) × reads old script.now (Ok source) between × IsSimulated writes source between lines unwritten new
+Answers reads writes (Audit journal) old lines unwritten new = (bytes : List ℕ) × reads old journal.now (Ok bytes) new × Audits bytes lines × (unwritten ≡ false)
 
 -- ---- refusals
 
@@ -124,6 +128,12 @@ RefusesFile reads refuses name old r new =
     ((fault : FileFault) × reads old name (Err fault) new × (r ≡ refusal_of fault))
     ⊎ ((bytes : List ℕ) × reads old name (Ok bytes) new × refuses bytes r)
 
+-- The script's file is not read, or its script is not run. Unless memory ran out, nothing is written.
+abbrev pub RefusesScript : {F : Type 0} → (F → List ℕ → Result (List ℕ) FileFault → F → Type 0) → List ℕ → F → Refusal → F → Type 0
+RefusesScript {F} reads name old r new =
+    ((fault : FileFault) × reads old name (Err fault) new × (r ≡ refusal_of fault))
+    ⊎ ((source : List ℕ) × (between : F) × reads old name (Ok source) between × IsUnsimulated source r × (r ≢ refusal.OutOfMemory → new ≡ between))
+
 -- the command is refused for this reason, over files that stand thus before and after
 abbrev pub Refuses : {F : Type 0} → (F → List ℕ → Result (List ℕ) FileFault → F → Type 0) → Line → F → Refusal → F → Type 0
 Refuses reads (Asm file) old r new = RefusesFile reads IsUnassembled file.now old r new
@@ -131,19 +141,23 @@ Refuses reads (Check file) old r new = RefusesFile reads IsUnaccepted file.now o
 Refuses {F} reads (Run file start records) old r new =
     RefusesFile reads IsUnaccepted file.now old r new
     ⊎ ((source : List ℕ) × (between : F) × reads old file.now (Ok source) between × IsAccepted source × RefusesFile reads IsUnlisted records.now between r new)
-Refuses reads (Sim script) old r new = RefusesFile reads IsUnsimulated script.now old r new
+Refuses reads (Sim script) old r new = RefusesScript reads script.now old r new
+Refuses reads (Audit journal) old r new = RefusesFile reads IsUnaudited journal.now old r new
 
 -- ---- ends
 
 -- The command ends so, over files and a writer that stand thus before and after: the writer took exactly the lines of the
 -- answer, or exactly the line of the refusal. Where the writer failed, it was given one of the two, and may have taken a part.
-abbrev pub Ends : {F : Type 0} → (F → List ℕ → Result (List ℕ) FileFault → F → Type 0) → Line → F → Option (List ℕ) → Ended → F → Option (List ℕ) → Type 0
-Ends reads line old written Answered new writes = (lines : List ℕ) × Answers reads line old lines new × Appends written writes lines
-Ends reads line old written (Refused r) new writes = Refuses reads line old r new × Appends written writes (refusal_line r)
-Ends reads line old written Unwritten new writes = ((lines : List ℕ) × Answers reads line old lines new) ⊎ ((r : Refusal) × Refuses reads line old r new)
+abbrev pub Ends : {F : Type 0} → (F → List ℕ → Result (List ℕ) FileFault → F → Type 0) → Writing F → Line → F → Option (List ℕ) → Ended → F → Option (List ℕ) → Type 0
+Ends reads writes line old before Answered new after = (lines : List ℕ) × Answers reads writes line old lines false new × Appends before after lines
+Ends reads writes line old before Unsaved new after = (lines : List ℕ) × Answers reads writes line old lines true new × Appends before after lines
+Ends reads writes line old before (Refused r) new after = Refuses reads line old r new × Appends before after (refusal_line r)
+Ends reads writes line old before Unwritten new after =
+    ((lines : List ℕ) × (unwritten : Bool) × Answers reads writes line old lines unwritten new) ⊎ ((r : Refusal) × Refuses reads line old r new)
 
 -- the exit status
 abbrev pub status_of : Ended → ℕ
 status_of Answered = 0
+status_of Unsaved = 1
 status_of (Refused r) = 1
 status_of Unwritten = 1

@@ -25,7 +25,7 @@ pub fn advice<F: Files>(
     let file = match line {
         Line::Check { file } => file,
         Line::Run { file, .. } => file,
-        Line::Asm { .. } | Line::Sim { .. } => return Ok(None),
+        Line::Asm { .. } | Line::Sim { .. } | Line::Audit { .. } => return Ok(None),
     };
     let source = files.read(alloc, file)?;
     let text = program(alloc, source.as_slice())?;

@@ -3,11 +3,12 @@
 //! - [`carry_out`] runs a command over any [`Files`] and any writer, and says how it ended. Where it answered, the writer
 //!   took exactly the text that the command answers: the listing of the program that FILE spells; the longest path of
 //!   that program, whose notes pass; what that program means over the records that RECORDS lists, from START; what the
-//!   script prints that SCRIPT spells. Where it was refused, the writer took exactly the line of the refusal, whose
+//!   script prints that SCRIPT spells; the answers that the journal JOURNAL recorded. Where it was refused, the writer took exactly the line of the refusal, whose
 //!   reason holds of the files.
 //! - [`perform`] does that and gives the exit status.
 //! - [`program`] has programs from assembler text, with their certificates.
 //! - [`listing`] is the text that `asm` prints.
+//! - [`audit`] is the text that `audit` prints: the answers of a journal that is replayed.
 //! - [`advice`] explains a refusal of the verifier in words, of exactly the programs that it refuses.
 //!
 //! Scripts are run by [`simulate`], of the crate below: it takes each event of a script as one step of a cluster, whose type
@@ -20,9 +21,11 @@
 //! [`simulate`]: q_sim::simulation::simulate
 //! [`listing`]: listing::listing
 //! [`advice`]: advice::advice
+//! [`audit`]: audit::audit
 #![tactic(auto)]
 
 pub mod advice;
+pub mod audit;
 pub mod listing;
 pub mod perform;
 pub mod program;

@@ -1,10 +1,11 @@
 //! Commands, run over files and a writer.
 
-ghost use Rattle.std.specs.Prelude.{◌≡◌, ℕ, List, IfOk, IfErr, string_bytes};
+ghost use Rattle.std.specs.Prelude.{◌≡◌, ◌≢◌, ℕ, List, false, IfOk, IfErr, string_bytes};
 ghost use Rattle.std.specs.Io.KnownBytes.{Appends};
 ghost use Rattle.q_command.specs.Perform.{Accepts, Answers, Computes, Ends, IsProgram, IsSimulated, IsUnaccepted, IsUnassembled, IsUnlisted, IsUnsimulated, Lists, Refuses, status_of};
 ghost use Rattle.q_command.specs.declared.perform.Ended.{Ended};
 
+use crate::audit::audit;
 use crate::listing::listing;
 use crate::program::{certified, program, utf8};
 use bq_check::certified::Certified;
@@ -13,7 +14,7 @@ use q_script::records::read_records;
 use q_script::script::Script;
 use q_session::fold::fold_checked;
 use q_sim::refusal::Refusal;
-use q_sim::simulation::simulate;
+use q_sim::simulation::{Printed, simulate};
 use q_words::words::Line;
 use std::alloc::Global;
 use std::io::Write;
@@ -21,8 +22,10 @@ use std::io::Write;
 /// How a command ended.
 #[derive(Clone, Copy, Debug, PartialEq, Eq)]
 pub enum Ended {
-    /// It wrote its answer.
+    /// It wrote its answer, and each journal that it was to write.
     Answered,
+    /// It wrote its answer, but a journal was not written.
+    Unsaved,
     /// It wrote its refusal.
     Refused(Refusal),
     /// The writer failed.
@@ -67,30 +70,41 @@ fn computed(
     Ok(format!(in alloc; "acc {acc} steps {steps}\n")?)
 }
 
-/// What `sim` prints of a script. Refused are 87 FileFailed, where the bytes are not UTF-8, 9 Syntax with the least line
-/// of another form, and what [`simulate`] refuses, in this order.
-fn simulated(alloc: Global, source: &[u8]) -> Result<String, Refusal>
-    ensures simulated { IfOk result (λ lines. IsSimulated source.now (string_bytes lines)) }
+/// What `sim` prints of a script, whose journals are written. Refused are 87 FileFailed, where the bytes are not UTF-8, 9
+/// Syntax with the least line of another form, and what [`simulate`] refuses, in this order.
+fn simulated<F: Files>(alloc: Global, source: &[u8], files: &mut F) -> Result<Printed, Refusal>
+    ensures simulated { IfOk result (λ p. IsSimulated F.write_gives source.now files.old (string_bytes p.lines) p.unwritten files.new) }
     ensures refused { IfErr result (IsUnsimulated source.now) }
+    ensures unbegun { IfErr result (λ r. r ≢ Refusal.OutOfMemory → files.new ≡ files.old) }
 {
     let source = utf8(source)?;
     let script = Script::read(alloc, source)?;
-    simulate(alloc, script)
+    simulate(alloc, script, files)
+}
+
+/// What a command prints that writes no journal.
+fn told(lines: String) -> Printed
+    ensures { (result.lines ≡ lines) × (result.unwritten ≡ false) }
+{
+    Printed {
+        lines,
+        unwritten: false,
+    }
 }
 
 /// What a command prints, or why it is refused.
-fn answer<F: Files>(alloc: Global, line: &Line<'_>, files: &mut F) -> Result<String, Refusal>
-    ensures answered { IfOk result (λ lines. Answers F.read_gives line.now files.old (string_bytes lines) files.new) }
+fn answer<F: Files>(alloc: Global, line: &Line<'_>, files: &mut F) -> Result<Printed, Refusal>
+    ensures answered { IfOk result (λ p. Answers F.read_gives F.write_gives line.now files.old (string_bytes p.lines) p.unwritten files.new) }
     ensures refused { IfErr result (λ r. Refuses F.read_gives line.now files.old r files.new) }
 {
     match line {
         Line::Asm { file } => {
             let source = files.read(alloc, file)?;
-            assembled(alloc, source.as_slice())
+            Ok(told(assembled(alloc, source.as_slice())?))
         }
         Line::Check { file } => {
             let source = files.read(alloc, file)?;
-            accepted(alloc, source.as_slice())
+            Ok(told(accepted(alloc, source.as_slice())?))
         }
         Line::Run {
             file,
@@ -100,11 +114,16 @@ fn answer<F: Files>(alloc: Global, line: &Line<'_>, files: &mut F) -> Result<Str
             let source = files.read(alloc, file)?;
             let certified = certified(alloc, source.as_slice())?;
             let listed = files.read(alloc, records)?;
-            computed(alloc, &certified, *start, listed.as_slice())
+            let lines = computed(alloc, &certified, *start, listed.as_slice())?;
+            Ok(told(lines))
         }
         Line::Sim { script } => {
             let source = files.read(alloc, script)?;
-            simulated(alloc, source.as_slice())
+            simulated(alloc, source.as_slice(), files)
+        }
+        Line::Audit { journal } => {
+            let bytes = files.read(alloc, journal)?;
+            Ok(told(audit(alloc, bytes.as_slice())?))
         }
     }
 }
@@ -116,10 +135,11 @@ pub fn carry_out<F: Files, W: Write>(
     files: &mut F,
     out: &mut W,
 ) -> Ended
-    ensures { Ends F.read_gives line.now files.old (W.contents out.old) result files.new (W.contents out.new) }
+    ensures { Ends F.read_gives F.write_gives line.now files.old (W.contents out.old) result files.new (W.contents out.new) }
 {
     match answer(alloc, line, files) {
-        Ok(lines) => match out.write_all(lines.as_bytes()) {
+        Ok(Printed { lines, unwritten }) => match out.write_all(lines.as_bytes()) {
+            Ok(()) if unwritten => Ended::Unsaved,
             Ok(()) => Ended::Answered,
             Err(_) => Ended::Unwritten,
         },
@@ -130,14 +150,14 @@ pub fn carry_out<F: Files, W: Write>(
     }
 }
 
-/// Runs a command, writes its answer or its refusal, and gives the exit status: 0, or 1 after a
-/// refusal or where the writer fails.
+/// Runs a command, writes its answer or its refusal, and gives the exit status: 0, or 1 after a refusal, where a journal
+/// was not written, or where the writer fails.
 pub fn perform<F: Files, W: Write>(alloc: Global, line: &Line<'_>, files: &mut F, out: &mut W) -> u8
-    ensures ended { (ended : Ended) × Ends F.read_gives line.now files.old (W.contents out.old) ended files.new (W.contents out.new) × (result ≡ status_of ended) }
-    ensures told { result ≡ 0 → (lines : List ℕ) × Answers F.read_gives line.now files.old lines files.new × Appends (W.contents out.old) (W.contents out.new) lines }
+    ensures ended { (ended : Ended) × Ends F.read_gives F.write_gives line.now files.old (W.contents out.old) ended files.new (W.contents out.new) × (result ≡ status_of ended) }
+    ensures told { result ≡ 0 → (lines : List ℕ) × Answers F.read_gives F.write_gives line.now files.old lines false files.new × Appends (W.contents out.old) (W.contents out.new) lines }
 {
     match carry_out(alloc, line, files, out) {
         Ended::Answered => 0,
-        Ended::Refused(_) | Ended::Unwritten => 1,
+        Ended::Unsaved | Ended::Refused(_) | Ended::Unwritten => 1,
     }
 }

@@ -10,3 +10,4 @@ mod Ids
 mod Told
 mod Steps
 mod Performing
+mod Saving

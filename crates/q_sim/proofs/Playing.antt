@@ -1,24 +1,26 @@
 -- Lines in turn.
 use Rattle.std.proofs.Common.{ℕ, List, [], ◌∷◌, ◌++◌, refl, sym, ap, ◌∙◌, subst, append_assoc, append-nil}
 use Rattle.q_script.specs.declared.line.ScriptLine.{ScriptLine}
-use Rattle.q_sim.specs.Simulates.{SimState, Does, Plays}
+use Rattle.q_sim.specs.Simulates.{SimState, Writing, Does, Plays}
 
 -- one more line
-pub one_more : (ls : List ScriptLine) (s : SimState) (text : List ℕ) (t : SimState) (line : ScriptLine) (more : List ℕ) (u : SimState)
-    → Plays ls s text t → Does line t more u → Plays (ls ++ line ∷ []) s (text ++ more) u
-one_more [] s text t line more u p d = (
+pub one_more : {F : Type 0} (writes : Writing F) (ls : List ScriptLine) (s : SimState) (before : F) (text : List ℕ) (t : SimState) (files : F) (line : ScriptLine) (more : List ℕ) (u : SimState) (after : F)
+    → Plays writes ls s before text t files → Does writes line t files more u after → Plays writes (ls ++ line ∷ []) s before (text ++ more) u after
+one_more {F} writes [] s before text t files line more u after p d = (
   u,
+  after,
   more,
   [],
-  subst (λ (x : SimState). Does line x more u) p.0 d,
-  (refl, refl),
-  ap (λ x. x ++ more) p.1 ∙ sym (append-nil more),
+  subst (λ (f : F). Does writes line s f more u after) p.1 (subst (λ (x : SimState). Does writes line x files more u after) p.0 d),
+  (refl, refl, refl),
+  ap (λ x. x ++ more) p.2 ∙ sym (append-nil more),
 )
-one_more (l ∷ ls) s text t line more u p d = (
+one_more writes (l ∷ ls) s before text t files line more u after p d = (
   p.0,
   p.1,
-  p.2 ++ more,
-  p.3,
-  one_more ls p.0 p.2 t line more u p.4 d,
-  ap (λ x. x ++ more) p.5 ∙ append_assoc p.1 p.2 more,
+  p.2,
+  p.3 ++ more,
+  p.4,
+  one_more writes ls p.0 p.1 p.3 t files line more u after p.5 d,
+  ap (λ x. x ++ more) p.6 ∙ append_assoc p.2 p.3 more,
 )

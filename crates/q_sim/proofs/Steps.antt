@@ -16,18 +16,19 @@ use Rattle.q_sim.specs.Simulates.{SimState, Acts, Registers, joined, noted}
 
 -- an event that was taken or refused, and noted, and printed
 pub acted : {X E : Type 0} (r : Result X E) (old mid new : SimState) (before between after : List ℕ) (e : Event) (c : ClusterState) (answer : Result Stepped ClusterFault)
-    → Takes old.cluster e c answer → mid ≡ record { cluster = c; nodes = joined e answer old.nodes; delivered = noted e answer old.delivered } → between ≡ before
+    → Takes old.cluster e c answer → mid ≡ record { cluster = c; nodes = joined e answer old.nodes; delivered = noted e answer old.delivered; unwritten = old.unwritten } → between ≡ before
     → OnOk r (new ≡ mid) → OnOk r (after ≡ between ++ printed mid.cluster answer)
     → OnOk r ((text : List ℕ) × Acts e old text new × (after ≡ before ++ text))
 acted (Err x) old mid new before between after e c answer takes is silent same lines = tt
 acted (Ok x) old mid new before between after e c answer takes is silent same lines =
-    let n : new ≡ record { cluster = c; nodes = joined e answer old.nodes; delivered = noted e answer old.delivered } = same ∙ is in (
+    let n : new ≡ record { cluster = c; nodes = joined e answer old.nodes; delivered = noted e answer old.delivered; unwritten = old.unwritten } = same ∙ is in (
       printed mid.cluster answer,
       record {
         result = answer;
         takes = subst (λ (x : SimState). Takes old.cluster e x.cluster answer) (sym n) takes;
         nodes = ap (λ (x : SimState). x.nodes) n;
         delivered = ap (λ (x : SimState). x.delivered) n;
+        unwritten = ap (λ (x : SimState). x.unwritten) n;
         says = ap (λ (x : SimState). printed x.cluster answer) (sym same);
       },
       lines ∙ ap (λ x. x ++ printed mid.cluster answer) silent,

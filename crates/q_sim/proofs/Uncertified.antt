@@ -3,7 +3,7 @@ use Rattle.std.proofs.Common.{◌≡◌, ℕ, List}
 use Rattle.bq_insn.specs.declared.insn.Insn.{Insn}
 use Rattle.bq_insn.specs.Slots.{IsText, spelling}
 use Rattle.q_sim.specs.declared.refusal.Refusal.{Refusal}
-use Rattle.q_sim.specs.declared.refusal.Refusal.TheVariants.{FileFailed, Assembler, Bytes, Program, Records, Script, Fraction, Cluster, OutOfMemory}
+use Rattle.q_sim.specs.declared.refusal.Refusal.TheVariants.{FileFailed, Assembler, Bytes, Program, Records, Script, Fraction, Cluster, Journal, OutOfMemory}
 use Rattle.q_sim.specs.Programs.{IsUncertified, IsRefusal}
 
 pub of_bytes : (code : List ℕ) (text : List Insn) (r : Refusal) → IsText text → code ≡ spelling text → IsUncertified text r → IsRefusal code r
@@ -15,4 +15,5 @@ of_bytes code text (Records f) legal is h = absurd h
 of_bytes code text (Script f) legal is h = absurd h
 of_bytes code text (Fraction f) legal is h = absurd h
 of_bytes code text (Cluster f) legal is h = absurd h
+of_bytes code text (Journal f) legal is h = absurd h
 of_bytes code text OutOfMemory legal is h = tt

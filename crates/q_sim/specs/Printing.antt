@@ -62,6 +62,10 @@ abbrev pub printed : ClusterState → Result Stepped ClusterFault → List ℕ
 printed c (Ok stepped) = told_lines stepped.told ++ message_lines c.world.sent stepped.sent.first stepped.sent.count
 printed c (Err f) = refusal_line (Cluster f)
 
+-- a journal of so many events was written
+abbrev pub journal_line : ℕ → List ℕ
+journal_line events = codes "journal " ++ (decimal events ++ codes " events\n")
+
 -- ---- pairs of operations
 
 abbrev pub is_store : Kind → Bool

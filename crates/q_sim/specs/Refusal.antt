@@ -11,12 +11,13 @@ use Rattle.q_script.specs.declared.records.RecordsFault.TheVariants as records_f
 use Rattle.q_script.specs.Script as script
 use Rattle.q_script.specs.declared.script.ScriptFault.TheVariants as script_fault
 use Rattle.q_history.specs.Faults as cluster
+use Rattle.q_replay.specs.Faults as journal
 use Rattle.q_files.specs.declared.files.FileFault.{FileFault}
 use Rattle.q_files.specs.declared.files.FileFault.TheVariants as file_fault
 use Rattle.q_sim.specs.declared.refusal.Refusal.{Refusal}
-use Rattle.q_sim.specs.declared.refusal.Refusal.TheVariants.{FileFailed, Assembler, Bytes, Program, Records, Script, Fraction, Cluster, OutOfMemory}
+use Rattle.q_sim.specs.declared.refusal.Refusal.TheVariants.{FileFailed, Assembler, Bytes, Program, Records, Script, Fraction, Cluster, Journal, OutOfMemory}
 use Rattle.q_sim.specs.declared.refusal.Place.{Place}
-use Rattle.q_sim.specs.declared.refusal.Place.TheVariants.{Untold, Unit, Line}
+use Rattle.q_sim.specs.declared.refusal.Place.TheVariants.{Untold, Unit, Event, Line}
 
 abbrev pub number : Refusal → ℕ
 number FileFailed = 87
@@ -28,6 +29,7 @@ number (Records records_fault.OutOfMemory) = 99
 number (Script f) = script.fault_number f
 number (Fraction f) = 45
 number (Cluster f) = cluster.fault_number f
+number (Journal f) = journal.fault_number f
 number OutOfMemory = 99
 
 abbrev pub name : Refusal → List ℕ
@@ -40,11 +42,16 @@ name (Records records_fault.OutOfMemory) = codes "OutOfMemory"
 name (Script f) = script.fault_name f
 name (Fraction f) = codes "BadFraction"
 name (Cluster f) = cluster.fault_name f
+name (Journal f) = journal.fault_name f
 name OutOfMemory = codes "OutOfMemory"
 
 abbrev pub at_unit : Option ℕ → Place
 at_unit None = Untold
 at_unit (Some u) = Unit u
+
+abbrev pub at_event : Option ℕ → Place
+at_event None = Untold
+at_event (Some e) = Event e
 
 abbrev pub place : Refusal → Place
 place (Assembler (asm_fault.Syntax line)) = Line line
@@ -53,11 +60,13 @@ place (Bytes (bytes_fault.At unit fault)) = Unit unit
 place (Program f) = at_unit (program.fault_unit f)
 place (Records (records_fault.Line line f)) = Line line
 place (Script (script_fault.Syntax line)) = Line line
+place (Journal f) = at_event (journal.fault_event f)
 place r = Untold
 
 abbrev pub place_text : Place → List ℕ
 place_text Untold = []
 place_text (Unit u) = codes " at " ++ decimal u
+place_text (Event e) = codes " at " ++ decimal e
 place_text (Line l) = codes " line " ++ decimal l
 
 -- `refused N Name`, and then ` at U` or ` line L`

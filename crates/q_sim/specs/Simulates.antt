@@ -1,11 +1,13 @@
--- What a script does to a cluster, and what it prints.
-use Rattle.std.specs.Prelude.{◌≡◌, ◌≢◌, ◌⊎◌, ℕ, ◌<◌, ◌≤◌, ◌-◌, ◌^◌, zero, suc, min, nat_lt, if◌then◌else◌, List, [], ◌∷◌, ◌++◌, length, slice_index, Result, Ok, Err, IsFalse}
+-- What a script does to a cluster and to files, and what it prints.
+use Rattle.std.specs.Prelude.{◌≡◌, ◌≢◌, ◌⊎◌, ℕ, ◌<◌, ◌≤◌, ◌-◌, ◌^◌, zero, suc, min, nat_lt, if◌then◌else◌, Bool, true, false, List, [], ◌∷◌, ◌++◌, length, slice_index, string_bytes, Option, Some, None, Result, Ok, Err, IsFalse}
 use Rattle.std.specs.List.{Contains}
 use Rattle.std.specs.Option.{IsSome}
 use Rattle.std.specs.FinSet as set
 use Rattle.bq_check.specs.Certificate.{Certificate}
 use Rattle.sc_members.specs.Members.{Config, IsFraction}
 use Rattle.sc_world.specs.Worlds.{live_at}
+use Rattle.sc_world.specs.declared.fault.WorldFault.TheVariants as world_fault
+use Rattle.q_book.specs.State.{BookState}
 use Rattle.q_script.specs.Records.{value_bytes}
 use Rattle.q_script.specs.declared.founding.Founding.{Founding}
 use Rattle.q_script.specs.declared.line.ScriptLine.{ScriptLine}
@@ -15,17 +17,22 @@ use Rattle.q_history.specs.declared.event.Event.{Event}
 use Rattle.q_history.specs.declared.event.Event.TheVariants as event
 use Rattle.q_history.specs.declared.event.Stepped.{Stepped}
 use Rattle.q_history.specs.declared.fault.ClusterFault.{ClusterFault}
+use Rattle.q_history.specs.declared.fault.ClusterFault.TheVariants as cluster_fault
 use Rattle.q_history.specs.Faults.{memory}
 use Rattle.q_history.specs.State.{ClusterState}
 use Rattle.q_history.specs.Clusters.{started}
 use Rattle.q_history.specs.Calls.{Takes}
 use Rattle.q_history.specs.Headline.{AnswersAreTrue}
 use Rattle.q_history.specs.Books.{BooksAreReplays}
+use Rattle.q_cluster.specs.Acts.{book_at}
+use Rattle.q_replay.specs.Journal.{journal_of}
+use Rattle.q_files.specs.declared.files.FileFault.{FileFault}
+use Rattle.q_files.specs.declared.files.FileFault.TheVariants.{Failed}
 use Rattle.q_sim.specs.declared.refusal.Refusal.{Refusal}
 use Rattle.q_sim.specs.declared.refusal.Refusal.TheVariants as refusal
 use Rattle.q_sim.specs.Delivered.{Deliveries}
 use Rattle.q_sim.specs.Programs.{IsProgram, IsRefusal}
-use Rattle.q_sim.specs.Printing.{printed, pairs_of, TellsPairs}
+use Rattle.q_sim.specs.Printing.{printed, journal_line, pairs_of, TellsPairs}
 use Rattle.q_sim.specs.Refusal.{refusal_line}
 
 -- a cluster that a script runs
@@ -33,6 +40,7 @@ pub record SimState : Type 0 where
   pub cluster : ClusterState
   pub nodes : List ℕ  -- the ids that entered, in rising order
   pub delivered : Deliveries  -- what was delivered, or tried by `all`
+  pub unwritten : Bool  -- whether a journal was not written
 
 -- each id is greater than those before it
 abbrev pub Rises : List ℕ → Type 0
@@ -61,6 +69,7 @@ pub record Acts (e : Event) (s : SimState) (text : List ℕ) (t : SimState) : Ty
   pub takes : Takes s.cluster e t.cluster result
   pub nodes : t.nodes ≡ joined e result s.nodes
   pub delivered : t.delivered ≡ noted e result s.delivered
+  pub unwritten : t.unwritten ≡ s.unwritten
   pub says : text ≡ printed t.cluster result
 
 -- The bytes spell a program that the verifier accepts, and it is registered; or what refuses them is printed, and
@@ -90,6 +99,7 @@ pub record Tries (s : SimState) (message node : ℕ) (t : SimState) : Type 0 whe
   pub takes : Takes s.cluster (event.Deliver message node) t.cluster result
   pub nodes : t.nodes ≡ s.nodes
   pub delivered : t.delivered ≡ set.insert s.delivered (message, node)
+  pub unwritten : t.unwritten ≡ s.unwritten
 
 -- so many deliveries, each of what is next then, or fewer where nothing is left
 abbrev pub DeliversAll : ℕ → SimState → SimState → Type 0
@@ -126,31 +136,55 @@ pub record IsSpread (message limit : ℕ) (s : SimState) (left : ℕ) (t : SimSt
 abbrev pub Tells : SimState → List ℕ → SimState → Type 0
 Tells s text t = TellsPairs (pairs_of s.cluster.world.ops) text × (t ≡ s)
 
--- no journal is written yet: that is refused, and nothing is done
-abbrev pub Journals : SimState → List ℕ → SimState → Type 0
-Journals s text t = (text ≡ refusal_line refusal.FileFailed) × (t ≡ s)
+-- ---- journals
+
+-- what a write of bytes under a name may answer, over files that stand thus before and after
+abbrev pub Writing : Type 0 → Type 1
+Writing F = F → List ℕ → List ℕ → Result (Unit {0}) FileFault → F → Type 0
+
+module _ {F : Type 0} (writes : Writing F) where
+  -- The journal of this book is written under this name, and the number of its events is printed; or the file fails, and
+  -- that is printed and kept.
+  abbrev pub SavesBook : BookState → List ℕ → SimState → F → List ℕ → SimState → F → Type 0
+  SavesBook b name s before text t after =
+      (writes before name (journal_of b) (Ok tt) after × (t ≡ s) × (text ≡ journal_line (length b.desk.journal)))
+      ⊎ (writes before name (journal_of b) (Err Failed) after × (t ≡ record s { unwritten = true }) × (text ≡ refusal_line refusal.FileFailed))
+
+  -- the same of a book that may be none: then that is printed, and nothing is done
+  abbrev pub SavesAny : Option BookState → List ℕ → SimState → F → List ℕ → SimState → F → Type 0
+  SavesAny None name s before text t after = (t ≡ s) × (after ≡ before) × (text ≡ refusal_line (refusal.Cluster (cluster_fault.World world_fault.NoSuchNode)))
+  SavesAny (Some b) name s before text t after = SavesBook b name s before text t after
+
+  -- the book of a node that was ever there, also where it has left or crashed
+  abbrev pub Saves : ℕ → List ℕ → SimState → F → List ℕ → SimState → F → Type 0
+  Saves node name s = SavesAny (book_at s.cluster node) name s
 
 -- ---- lines
 
-abbrev pub Does : ScriptLine → SimState → List ℕ → SimState → Type 0
-Does (Program node code) = Registers node code.items
-Does (Store node value) = Acts (event.Store node (value_bytes value))
-Does (Ask node program start) = Acts (event.Ask node (min program (2 ^ 32 - 1)) start)
-Does (Deliver message node) = Acts (event.Deliver message node)
-Does (All limit) = Spreads limit
-Does (Hand node) = Acts (event.HandOut node)
-Does (Run job) = Acts (event.Finish job)
-Does (Enter id) = Acts (event.Enter id)
-Does (Leave id) = Acts (event.Leave id)
-Does (Crash id) = Acts (event.Crash id)
-Does Pairs = Tells
-Does (Journal node file) = Journals
+-- the files are as they were
+abbrev pub LeavesFiles : {F : Type 0} → (SimState → List ℕ → SimState → Type 0) → SimState → F → List ℕ → SimState → F → Type 0
+LeavesFiles does s before text t after = does s text t × (after ≡ before)
 
--- the lines in turn, and all that they print
-abbrev pub Plays : List ScriptLine → SimState → List ℕ → SimState → Type 0
-Plays [] s text t = (t ≡ s) × (text ≡ [])
-Plays (l ∷ ls) s text t =
-    (between : SimState) × (first rest : List ℕ) × Does l s first between × Plays ls between rest t × (text ≡ first ++ rest)
+module _ {F : Type 0} (writes : Writing F) where
+  abbrev pub Does : ScriptLine → SimState → F → List ℕ → SimState → F → Type 0
+  Does (Program node code) = LeavesFiles (Registers node code.items)
+  Does (Store node value) = LeavesFiles (Acts (event.Store node (value_bytes value)))
+  Does (Ask node program start) = LeavesFiles (Acts (event.Ask node (min program (2 ^ 32 - 1)) start))
+  Does (Deliver message node) = LeavesFiles (Acts (event.Deliver message node))
+  Does (All limit) = LeavesFiles (Spreads limit)
+  Does (Hand node) = LeavesFiles (Acts (event.HandOut node))
+  Does (Run job) = LeavesFiles (Acts (event.Finish job))
+  Does (Enter id) = LeavesFiles (Acts (event.Enter id))
+  Does (Leave id) = LeavesFiles (Acts (event.Leave id))
+  Does (Crash id) = LeavesFiles (Acts (event.Crash id))
+  Does Pairs = LeavesFiles Tells
+  Does (Journal node file) = Saves writes node (string_bytes file)
+
+  -- the lines in turn, and all that they print
+  abbrev pub Plays : List ScriptLine → SimState → F → List ℕ → SimState → F → Type 0
+  Plays [] s before text t after = (t ≡ s) × (after ≡ before) × (text ≡ [])
+  Plays (l ∷ ls) s before text t after =
+      (between : SimState) × (files : F) × (first rest : List ℕ) × Does l s before first between files × Plays ls between files rest t after × (text ≡ first ++ rest)
 
 -- ---- scripts
 
@@ -180,6 +214,7 @@ pub record Begins (f : Founding) (s : SimState) : Type 0 where
   pub started : started (config_of f) (founders_of f) ≡ Ok s.cluster
   pub nodes : s.nodes ≡ founders_of f
   pub delivered : s.delivered ≡ set.empty
+  pub unwritten : s.unwritten ≡ false
 
 -- why a script ends before any event
 abbrev pub IsSimulationFault : Founding → Refusal → Type 0
@@ -188,12 +223,14 @@ IsSimulationFault f (refusal.Cluster e) = HasFractions f × (e ≢ memory → st
 IsSimulationFault f refusal.OutOfMemory = Unit {0}
 IsSimulationFault f r = ⊥
 
--- The script's lines in turn make this cluster of its founders, and print this text; and each answer that the cluster
--- recorded is right, and each node with its desk is the replay of its journal.
-pub record Simulates (script : Script) (text : List ℕ) : Type 0 where
+-- The script's lines in turn make this cluster of its founders, over files that stand thus before and after, and print
+-- this text; and each answer that the cluster recorded is right, and each node with its desk is the replay of its
+-- journal. It is told whether a journal was not written.
+pub record Simulates {F : Type 0} (writes : Writing F) (script : Script) (before : F) (text : List ℕ) (unwritten : Bool) (after : F) : Type 0 where
   pub first : SimState
   pub last : SimState
   pub begins : Begins script.founding first
-  pub plays : Plays script.lines.items first text last
+  pub plays : Plays writes script.lines.items first before text last after
+  pub told : unwritten ≡ last.unwritten
   pub answers : AnswersAreTrue last.cluster
   pub books : BooksAreReplays last.cluster

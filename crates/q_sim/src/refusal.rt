@@ -8,6 +8,7 @@ use bq_check::fault::CheckFault;
 use bq_insn::fault::DecodeFault;
 use q_files::files::FileFault;
 use q_history::fault::ClusterFault;
+use q_replay::fault::ReplayFault;
 use q_script::records::RecordsFault;
 use q_script::script::ScriptFault;
 use sc_members::config::BadFraction;
@@ -34,6 +35,8 @@ pub enum Refusal {
     Fraction(BadFraction),
     /// A cluster refuses its founders, or an event.
     Cluster(ClusterFault),
+    /// Bytes are no journal of a node.
+    Journal(ReplayFault),
     /// 99: memory ran out.
     OutOfMemory,
 }
@@ -45,6 +48,8 @@ pub enum Place {
     Untold,
     /// At this unit of a program, counted from 0.
     Unit(usize),
+    /// At this event of a journal, counted from 1, whose head is event 0.
+    Event(usize),
     /// On this line of a file, counted from 1.
     Line(usize),
 }
@@ -59,6 +64,7 @@ impl fmt::Display for Place {
         match self {
             Place::Untold => Ok(()),
             Place::Unit(unit) => write!(f, " at {unit}"),
+            Place::Event(event) => write!(f, " at {event}"),
             Place::Line(line) => write!(f, " line {line}"),
         }
     }
@@ -78,6 +84,7 @@ impl Refusal {
             Refusal::Script(fault) => fault.number(),
             Refusal::Fraction(fault) => fault.number(),
             Refusal::Cluster(fault) => fault.number(),
+            Refusal::Journal(fault) => fault.number(),
             Refusal::Records(RecordsFault::OutOfMemory) | Refusal::OutOfMemory => 99,
         }
     }
@@ -95,11 +102,13 @@ impl Refusal {
             Refusal::Script(fault) => fault.name(),
             Refusal::Fraction(fault) => fault.name(),
             Refusal::Cluster(fault) => fault.name(),
+            Refusal::Journal(fault) => fault.name(),
             Refusal::Records(RecordsFault::OutOfMemory) | Refusal::OutOfMemory => "OutOfMemory",
         }
     }
 
-    /// The unit of a program or the line of a file at which the refusal arose, where it carries one.
+    /// The unit of a program, the event of a journal or the line of a file at which the refusal arose, where it carries
+    /// one.
     pub fn place(&self) -> Place
         ensures { result ≡ refusal.place self.now }
     {
@@ -114,6 +123,10 @@ impl Refusal {
             },
             Refusal::Records(RecordsFault::Line { line, .. }) => Place::Line(*line),
             Refusal::Script(ScriptFault::Syntax { line }) => Place::Line(*line),
+            Refusal::Journal(fault) => match fault.event() {
+                Some(event) => Place::Event(event),
+                None => Place::Untold,
+            },
             _ => Place::Untold,
         }
     }
@@ -209,6 +222,17 @@ impl From<ClusterFault> for Refusal {
 
     fn from(fault: ClusterFault) -> Self {
         Refusal::Cluster(fault)
+    }
+}
+
+impl From<ReplayFault> for Refusal {
+    ghost use Rattle.std.specs.Prelude.{◌≡◌};
+    ghost use Rattle.q_sim.specs.declared.refusal.Refusal.TheVariants.{Journal};
+
+    ghost from_gives = { λ fault refusal. refusal ≡ Journal fault };
+
+    fn from(fault: ReplayFault) -> Self {
+        Refusal::Journal(fault)
     }
 }
 

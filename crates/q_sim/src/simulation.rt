@@ -1,6 +1,6 @@
 //! Scripts, run over a cluster in memory.
 
-ghost use Rattle.std.specs.Prelude.{◌≡◌, ◌<◌, ◌↔◌, ◌++◌, ◌-◌, ◌^◌, [], length, min, IfOk, IfErr, OnOk, OnErr, IsTrue, IsFalse, string_bytes};
+ghost use Rattle.std.specs.Prelude.{◌≡◌, ◌≢◌, ◌<◌, ◌↔◌, ◌++◌, ◌-◌, ◌^◌, [], length, min, IfOk, IfErr, OnOk, OnErr, IsTrue, IsFalse, string_bytes};
 ghost use Rattle.q_sim.specs.Simulates.{IsSimulationFault, Rises, Simulates, first_ids, with_id};
 
 use crate::delivered::Delivered;
@@ -8,14 +8,17 @@ use crate::printing::{print_messages, print_pairs, print_told};
 use crate::program::certified_code;
 use crate::refusal::Refusal;
 use q_cluster::cluster::Cluster;
+use q_files::files::{FileFault, Files};
 use q_history::event::{Event, Stepped};
 use q_history::fault::ClusterFault;
+use q_replay::write::journal_bytes;
 use q_script::founding::Founding;
 use q_script::line::ScriptLine;
 use q_script::records::value_bytes;
 use q_script::script::Script;
 use q_table::program::ProgramId;
 use sc_members::config::Config;
+use sc_world::fault::WorldFault;
 use std::alloc::{AllocError, Global};
 
 /// A cluster that a script runs, and what the script printed.
@@ -27,27 +30,44 @@ struct Simulation {
     nodes: Vec<u64>,
     /// The deliveries that were accepted, or tried by `all`.
     delivered: Delivered,
+    /// Whether a journal was not written.
+    unwritten: bool,
     lines: String,
     ghost rising: { Rises nodes.items },
 }
 
-/// What a script prints.
+/// What a script printed.
+#[derive(Drop)]
+pub struct Printed {
+    /// The lines.
+    pub lines: String,
+    /// Whether a journal was not written, since its file failed.
+    pub unwritten: bool,
+}
+
+/// Runs a script, and answers what it prints.
 ///
 /// Refused are 45 BadFraction and then 49 BadFounders, by which the script ends before any event, and 99 OutOfMemory.
-/// Each event is one step of the cluster; a refused one prints its refusal, and the script goes on.
-pub fn simulate(alloc: Global, script: Script) -> Result<String, Refusal>
-    ensures printed { IfOk result (λ lines. Simulates script (string_bytes lines)) }
+/// Each event is one step of the cluster; a refused one prints its refusal, and the script goes on. So does a script with
+/// a journal whose file fails.
+pub fn simulate<F: Files>(alloc: Global, script: Script, files: &mut F) -> Result<Printed, Refusal>
+    ensures printed { IfOk result (λ p. Simulates F.write_gives script files.old (string_bytes p.lines) p.unwritten files.new) }
     ensures refused { IfErr result (IsSimulationFault script.founding) }
+    ensures unbegun { IfErr result (λ r. r ≢ Refusal.OutOfMemory → files.new ≡ files.old) }
 {
     let Script { founding, lines } = script;
     let mut simulation = Simulation::new(alloc, &founding)?;
     for line in lines {
-        simulation.perform(line)?;
+        simulation.perform(line, files)?;
     }
     simulation.cluster.answers_are_true();
     simulation.cluster.books_are_replays();
-    let Simulation { lines, .. } = simulation;
-    Ok(lines)
+    let Simulation {
+        unwritten,
+        lines,
+        ..
+    } = simulation;
+    Ok(Printed { lines, unwritten })
 }
 
 /// The ids of so many founders, counted from 1: 257 of them at most, which is one more than a cluster takes.
@@ -81,10 +101,10 @@ impl Simulation {
     ghost use Rattle.std.specs.Option.{IsSome};
     ghost use Rattle.std.specs.FinSet as set;
     ghost use Rattle.sc_world.specs.Worlds.{live_at};
-    ghost use Rattle.q_sim.specs.Simulates.{Acts, Ahead, Begins, Does, IsSpread, Journals, Registers, Spreads, Tells, Tries, joined, noted};
+    ghost use Rattle.q_sim.specs.Simulates.{Acts, Ahead, Begins, Does, IsSpread, Registers, Saves, Spreads, Tells, Tries, joined, noted};
     ghost use Rattle.q_sim.specs.Printing.{printed};
     ghost use Rattle.q_sim.specs.Refusal.{refusal_line};
-    ghost use Rattle.q_sim.specs.Seen.{Prints, seen};
+    ghost use Rattle.q_sim.specs.Seen.{Prints, PrintsOver, seen};
 
     /// The cluster of the founders; nothing is delivered or printed.
     fn new(alloc: Global, founding: &Founding) -> Result<Simulation, Refusal>
@@ -106,13 +126,14 @@ impl Simulation {
             cluster,
             nodes,
             delivered: Delivered::new(alloc),
+            unwritten: false,
             lines: String::new(alloc),
         })
     }
 
     /// Runs a line.
-    fn perform(&mut self, line: ScriptLine) -> Result<(), AllocError>
-        ensures { OnOk result (Prints (Does line) self.old self.new) }
+    fn perform<F: Files>(&mut self, line: ScriptLine, files: &mut F) -> Result<(), AllocError>
+        ensures { OnOk result (PrintsOver (Does F.write_gives line) self.old files.old self.new files.new) }
     {
         match line {
             ScriptLine::Program { node, code } => self.register(node, code.as_slice()),
@@ -143,7 +164,7 @@ impl Simulation {
             ScriptLine::Leave { node } => self.step(&Event::Leave(node)),
             ScriptLine::Crash { node } => self.step(&Event::Crash(node)),
             ScriptLine::Pairs => self.tell_pairs(),
-            ScriptLine::Journal { .. } => self.journal(),
+            ScriptLine::Journal { node, file } => self.save(node, file.as_str(), files),
         }
     }
 
@@ -248,11 +269,25 @@ impl Simulation {
         print_pairs(&mut self.lines, self.cluster.ops())
     }
 
-    /// Refuses to write a journal.
-    fn journal(&mut self) -> Result<(), AllocError>
-        ensures { OnOk result (Prints Journals self.old self.new) }
+    /// Writes the journal of a node's book under this name, and prints how many events it has. A node that never was, or
+    /// that the file fails, is printed as a refusal.
+    fn save<F: Files>(&mut self, node: u64, name: &str, files: &mut F) -> Result<(), AllocError>
+        ensures { OnOk result (PrintsOver (Saves F.write_gives node name.now) self.old files.old self.new files.new) }
     {
-        self.refuse(&Refusal::FileFailed)
+        let Some(book) = self.cluster.book(node) else {
+            let unknown = ClusterFault::World(WorldFault::NoSuchNode);
+            return self.refuse(&Refusal::Cluster(unknown));
+        };
+        let events = book.events();
+        let bytes = journal_bytes(self.alloc, book)?;
+        match files.write(name, bytes.as_slice()) {
+            Ok(()) => writeln!(self.lines, "journal {events} events"),
+            Err(FileFault::Failed) => {
+                self.unwritten = true;
+                self.refuse(&Refusal::FileFailed)
+            }
+            Err(FileFault::OutOfMemory) => Err(AllocError),
+        }
     }
 
     /// Prints a refusal.

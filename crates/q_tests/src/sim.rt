@@ -1,5 +1,6 @@
 //! Want of memory in a script.
 
+use q_files::memory::MemoryFiles;
 use q_script::script::Script;
 use q_sim::simulation::simulate;
 use std::test::Fail;
@@ -9,10 +10,10 @@ use std::test::Fail;
 fn want_of_memory_is_named(rt: HostRuntime) -> Result<(), Fail> {
     let alloc = rt.alloc();
     let script = Script::read(alloc, "nodes 1 4/5 4/5\nstore 1 5\nall 1\n")?;
-    match simulate(alloc, script) {
-        Ok(text) => assert!(rt;
-            text.as_str() == "store 0\nmessage 0 store\n"
-                || text.as_str() == "refused 99 OutOfMemory\n"
+    match simulate(alloc, script, &mut MemoryFiles::new(alloc)) {
+        Ok(printed) => assert!(rt;
+            printed.lines.as_str() == "store 0\nmessage 0 store\n"
+                || printed.lines.as_str() == "refused 99 OutOfMemory\n"
         ),
         Err(refusal) => assert_eq!(rt; refusal.number(), 99),
     }

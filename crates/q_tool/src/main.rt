@@ -6,6 +6,7 @@
 //! | `check FILE` | `accepted longest L`: the program never faults, and does L steps for a record at most |
 //! | `run FILE START RECORDS` | `acc A steps S`: the last accumulator, and all steps |
 //! | `sim SCRIPT` | what each event of a script tells, over a cluster in memory |
+//! | `audit JOURNAL` | `answer Q ACC STEPS` for each answer that a node recorded, by the numbers of its queries; then `journal ok` |
 //!
 //! FILE holds assembler text. START is a number in decimal. RECORDS holds a line `ID SEQ VALUE` for each record, by
 //! rising ids: the node, the sequence number of its store, and the number that it stored, whose eight bytes are the first
@@ -27,19 +28,21 @@
 //! | `leave ID` | `ok`, messages: the node leaves for good, and tells it |
 //! | `crash ID` | `ok`: the node stops for good, and tells nobody |
 //! | `pairs` | `store NODE TAG collect NODE TAG meet ID`, or `apart` in place of `meet ID`, for each ended store and each ended collect that began after the store's end: the least node that acknowledged the store and replied to the collect |
-//! | `journal NODE FILE` | `refused 87 FileFailed`: journals are not saved yet; FILE is one word |
+//! | `journal NODE FILE` | `journal N events`: the journal of the node, which has N events, is written to FILE, one word |
 //!
 //! Messages are printed as `message I KIND`, one a line. A delivery that is refused counts as one for `all`, and `all`
 //! passes over what it tried and what `deliver` delivered; it delivers to nodes that came, too. `pairs` goes by the
-//! beginnings of the stores, and then of the collects; operations of nodes that left or crashed count. A refused event
-//! prints its refusal, and the script goes on; the exit status stays 0. Refused `nodes` end the script: 45 before 49. A
+//! beginnings of the stores, and then of the collects; operations of nodes that left or crashed count, and `journal`
+//! writes the journals of such nodes too. A refused event prints its refusal, and the script goes on; the exit status
+//! stays 0, but for a journal whose file fails (87): it is 1 at the end. Refused `nodes` end the script: 45 before 49. A
 //! line of another form is 9 before anything runs.
 //!
-//! A refusal prints `refused N Name`, then ` at U` where it carries a unit, or ` line L` where a line ([`Refusal`]).
-//! `run` finds faults in this order: FILE, its text, the verifier and the checker, RECORDS, its lines. `sim` finds them in
-//! this: SCRIPT, its text, its founders. Want of memory, 99, may stand in place of any answer and of any other refusal.
-//! The exit status is 0, or 1 after a refusal or where the standard output failed, or 2 for a wrong command line, which
-//! is explained on the standard error.
+//! A refusal prints `refused N Name`, then ` at U` where it carries a unit or a journal's event, or ` line L` where a
+//! line ([`Refusal`]). `run` finds faults in this order: FILE, its text, the verifier and the checker, RECORDS, its
+//! lines. `sim` finds them in this: SCRIPT, its text, its founders. `audit` finds a fault of JOURNAL, and then of its
+//! least faulty event. Want of memory, 99, may stand in place of any answer and of any other refusal. The exit status
+//! is 0; or 1 after a refusal, or where a journal was not written or the standard output failed; or 2 for a wrong
+//! command line, which is explained on the standard error.
 //!
 //! [`read_words`] reads the words of the command line, [`perform`] runs the command, and [`advice`] explains a refusal of
 //! the verifier on the standard error: their contracts say what the program does. `main` alone reaches the machine: its

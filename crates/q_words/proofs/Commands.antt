@@ -77,19 +77,25 @@ entered_in : (a : App) (stop : Option (Text × List Text)) (p : Text × List Row
 entered_in a None p e = absurd (not_some p e)
 entered_in a (Some q) p e = find_in (λ s. answers_to q.0 (label_of s)) a.subs q.1 p e
 
-all_names : names (built bqview).subs ≡ codes "asm" ∷ codes "check" ∷ codes "run" ∷ codes "sim" ∷ []
+all_names : names (built bqview).subs ≡ codes "asm" ∷ codes "check" ∷ codes "run" ∷ codes "sim" ∷ codes "audit" ∷ []
 all_names = refl
 
-one_of_four : (n : Text) → In n (codes "asm" ∷ codes "check" ∷ codes "run" ∷ codes "sim" ∷ []) → (n ≡ codes "asm" → ⊥) → (n ≡ codes "check" → ⊥) → (n ≡ codes "run" → ⊥) → (n ≡ codes "sim" → ⊥) → ⊥
-one_of_four n h a b c d = elim h [ inl e ↦ a e | inr h ↦ elim h [ inl e ↦ b e | inr h ↦ elim h [ inl e ↦ c e | inr h ↦ elim h [ inl e ↦ d e | inr h ↦ h ] ] ] ]
+one_of_five : (n : Text) → In n (codes "asm" ∷ codes "check" ∷ codes "run" ∷ codes "sim" ∷ codes "audit" ∷ []) → (n ≡ codes "asm" → ⊥) → (n ≡ codes "check" → ⊥) → (n ≡ codes "run" → ⊥) → (n ≡ codes "sim" → ⊥)
+    → (n ≡ codes "audit" → ⊥) → ⊥
+one_of_five n h a b c d k = elim h [
+  | inl e ↦ a e
+  | inr h ↦ elim h [ inl e ↦ b e | inr h ↦ elim h [ inl e ↦ c e | inr h ↦ elim h [ inl e ↦ d e | inr h ↦ elim h [ inl e ↦ k e | inr h ↦ h ] ] ] ]
+]
 
 pub other_command : {Z : Type 0} (o : Option (Box SubCommand Z)) (words : List Text) → is_some o ≡ true → subcommand_rows o ≡ subcommand_of bqview words
-    → let name = option_map (λ b. (out-SubCommand (box_value b)).name.now) o in (name ≡ Some (codes "asm") → ⊥) → (name ≡ Some (codes "check") → ⊥) → (name ≡ Some (codes "run") → ⊥) → (name ≡ Some (codes "sim") → ⊥) → ⊥
-other_command None words s e a b c d = true≢false (sym s)
-other_command (Some x) words s e a b c d =
+    → let name = option_map (λ b. (out-SubCommand (box_value b)).name.now) o in (name ≡ Some (codes "asm") → ⊥) → (name ≡ Some (codes "check") → ⊥) → (name ≡ Some (codes "run") → ⊥) → (name ≡ Some (codes "sim") → ⊥)
+    → (name ≡ Some (codes "audit") → ⊥) → ⊥
+other_command None words s e a b c d k = true≢false (sym s)
+other_command (Some x) words s e a b c d k =
     let n : Text = (out-SubCommand (box_value x)).name.now in
     let known = entered_in (built bqview) (stop_after (built bqview).top.rules (names_of (built bqview)) (argument_words bqview words)) (n, rows_of (found_of (out-SubCommand (box_value x)).matches)) (sym e) in
-    one_of_four n (subst (In n) all_names known) (λ k. a (ap (λ t. Some t) k)) (λ k. b (ap (λ t. Some t) k)) (λ k. c (ap (λ t. Some t) k)) (λ k. d (ap (λ t. Some t) k))
+    one_of_five n (subst (In n) all_names known) (λ h. a (ap (λ t. Some t) h)) (λ h. b (ap (λ t. Some t) h)) (λ h. c (ap (λ t. Some t) h)) (λ h. d (ap (λ t. Some t) h))
+    (λ h. k (ap (λ t. Some t) h))
 
 -- ---- how commands are put together
 

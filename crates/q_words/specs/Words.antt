@@ -6,7 +6,7 @@ use Rattle.clap.specs.declared.error.kind.ErrorKind.TheVariants.{DisplayHelp}
 use Rattle.clap.specs.declared.error.kind.ErrorKind.TheVariants as kind
 use Rattle.clap.specs.declared.builder.action.ArgAction.TheVariants.{Set}
 use Rattle.q_words.specs.declared.words.Line.{Line}
-use Rattle.q_words.specs.declared.words.Line.TheVariants.{Asm, Check, Run, Sim}
+use Rattle.q_words.specs.declared.words.Line.TheVariants.{Asm, Check, Run, Sim, Audit}
 use Rattle.q_words.specs.declared.words.WordsFault.{WordsFault}
 use Rattle.q_words.specs.declared.words.WordsFault.TheVariants.{Help, Wrong, BadStart, OutOfMemory}
 use Rattle.q_script.specs.Words.{IsNumeral}
@@ -33,12 +33,16 @@ run_app = with_rule (with_rule (with_rule (new_app (codes "run")) (operand (code
 abbrev pub sim_app : App
 sim_app = with_rule (new_app (codes "sim")) (operand (codes "SCRIPT"))
 
+-- `audit JOURNAL`
+abbrev pub audit_app : App
+audit_app = with_rule (new_app (codes "audit")) (operand (codes "JOURNAL"))
+
 -- the program, of which one command is wanted
 abbrev pub bqview : App
 bqview =
     let plain = new_app (codes "bqview") in
     let one = record plain { top = record plain.top { subcommand_required = true; disable_help_subcommand = true } } in
-    with_subcommand (with_subcommand (with_subcommand (with_subcommand one asm_app.top) check_app.top) run_app.top) sim_app.top
+    with_subcommand (with_subcommand (with_subcommand (with_subcommand (with_subcommand one asm_app.top) check_app.top) run_app.top) sim_app.top) audit_app.top
 
 -- ---- what the words say
 
@@ -54,6 +58,7 @@ HasCommand (Run file start records) met =
     (met.0 ≡ codes "run") × (file.now ≡ operand_of (codes "FILE") met.1) × IsNumeral (operand_of (codes "START") met.1) start
     × (records.now ≡ operand_of (codes "RECORDS") met.1)
 HasCommand (Sim script) met = (met.0 ≡ codes "sim") × (script.now ≡ operand_of (codes "SCRIPT") met.1)
+HasCommand (Audit journal) met = (met.0 ≡ codes "audit") × (journal.now ≡ operand_of (codes "JOURNAL") met.1)
 
 -- the command `run` was met, and its START is no number
 abbrev pub HasBadStart : Text × List Row → Type 0

@@ -3,7 +3,7 @@
 ghost use Rattle.std.specs.Prelude.{◌≡◌, codes, IfOk, MatchResult, map, false, true};
 ghost use Rattle.clap.specs.Words.{app_of, found_of, rows_of, with_rule, with_subcommand};
 ghost use Rattle.clap.specs.declared.builder.command.Command.TheViews.{out-Command};
-ghost use Rattle.q_words.specs.Words.{asm_app, check_app, run_app, sim_app, bqview, operand, operand_of, HasCommand, HasBadStart, Reads, exit_status};
+ghost use Rattle.q_words.specs.Words.{asm_app, check_app, run_app, sim_app, audit_app, bqview, operand, operand_of, HasCommand, HasBadStart, Reads, exit_status};
 
 use clap::error::ErrorKind;
 use clap::{Arg, ArgAction, ArgMatches, Command, Error};
@@ -36,6 +36,11 @@ pub enum Line<'a> {
     Sim {
         /// The name of the file.
         script: &'a str,
+    },
+    /// `audit JOURNAL`: replay the journal of a node.
+    Audit {
+        /// The name of the file.
+        journal: &'a str,
     },
 }
 
@@ -175,6 +180,21 @@ fn sim_command<'a>(alloc: Global) -> Result<Command<'a>, AllocError>
     )
 }
 
+/// The command `audit`.
+fn audit_command<'a>(alloc: Global) -> Result<Command<'a>, AllocError>
+    ensures { IfOk result (λ c. (app_of c ≡ audit_app) × ((out-Command c).has_globals ≡ false)) }
+{
+    let command = Command::new(alloc, "audit")
+        .about("Replays the journal of a node, and prints the answers that it recorded")
+        .after_help("Example: bqview audit node.journal");
+    with_operand(
+        alloc,
+        command,
+        "JOURNAL",
+        "A file that the line `journal NODE FILE` of a script wrote",
+    )
+}
+
 /// The command with one more command below it.
 fn with_command<'a>(command: Command<'a>, below: Command<'a>) -> Result<Command<'a>, AllocError>
     requires { (out-Command below).has_globals ≡ false }
@@ -196,7 +216,8 @@ fn program<'a>(alloc: Global) -> Result<Command<'a>, AllocError>
     let command = with_command(command, asm_command(alloc)?)?;
     let command = with_command(command, check_command(alloc)?)?;
     let command = with_command(command, run_command(alloc)?)?;
-    with_command(command, sim_command(alloc)?)
+    let command = with_command(command, sim_command(alloc)?)?;
+    with_command(command, audit_command(alloc)?)
 }
 
 /// The text of an operand.
@@ -236,9 +257,13 @@ pub fn read_words<'a>(alloc: Global, words: &'a [&'a str]) -> Result<Line<'a>, W
     if let Some(found) = matches.subcommand_matches("run") {
         return run_line(found);
     }
-    match matches.subcommand_matches("sim") {
-        Some(found) => Ok(Line::Sim {
-            script: operand_text(found, "SCRIPT"),
+    if let Some(found) = matches.subcommand_matches("sim") {
+        let script = operand_text(found, "SCRIPT");
+        return Ok(Line::Sim { script });
+    }
+    match matches.subcommand_matches("audit") {
+        Some(found) => Ok(Line::Audit {
+            journal: operand_text(found, "JOURNAL"),
         }),
         None => unreachable!(),
     }

@@ -1,5 +1,4 @@
-use Rattle.std.proofs.Common.{ℕ, List, subst}
-use Rattle.std.specs.Prelude.{IfErr}
+use Rattle.std.proofs.Common.{rules, ℕ, List, subst}
 use Rattle.bq_meaning.specs.Place.{record_length}
 use Rattle.bq_check.specs.Certificate.{Certificate}
 use Rattle.bq_sound.specs.Passes.{Passes}
@@ -7,8 +6,8 @@ use Rattle.q_command.specs.Perform.{IsAccepted, IsProgram, IsUnlisted}
 use Rattle.q_command.proofs.Refused.{run_refused}
 use Rattle.q_command.proofs.perform.answer.Goals as goal
 
-pub returns-in_ok-listed-in-Run-clause-refused : goal.returns-in_ok-listed-in-Run-clause-refused
-returns-in_ok-listed-in-Run-clause-refused g c =
+pub returns-in_err-lines-in-Run-clause-refused : goal.returns-in_err-lines-in-Run-clause-refused
+returns-in_err-lines-in-Run-clause-refused g c =
     let source = c.in_ok-source-in-Run.source.items in
     let listed = c.in_ok-listed-in-Run.listed.items in
     let certificate = c.in_ok-certified-in-Run.certified in
@@ -18,6 +17,8 @@ returns-in_ok-listed-in-Run-clause-refused g c =
       program = subst (λ (s : List ℕ). IsProgram s certificate.text) c.as_slice-in-Run.ensures.value c.in_ok-certified-in-Run.ensures.spelled;
       passes = subst (λ (k : Certificate). Passes record_length k.text k.notes) c.certified-in-Run.view_is c.certified-in-Run.invariant.passes;
     } in
-    let refused = subst (λ (s : List ℕ). IfErr c.computed.result (IsUnlisted s)) c.as_slice-in-Run-2.ensures.value c.computed.ensures.refused in
-    run_refused g.F.Files.read_gives c.args.line.now c.in-Run.file c.in-Run.start c.in-Run.records source listed c.args.files.now c.read-in-Run.new.self
-    c.read-in-Run-2.new.self c.computed.result c.in-Run.is c.in_ok-source-in-Run.ensures.bytes accepted c.in_ok-listed-in-Run.ensures.bytes refused
+    let e = c.in_err-lines-in-Run.field-0.0 in
+    let refused = subst (λ (s : List ℕ). IsUnlisted s e) c.as_slice-in-Run-2.ensures.value c.in_err-lines-in-Run.ensures.refused in
+    let fact = run_refused g.F.Files.read_gives c.args.line.now c.in-Run.file c.in-Run.start c.in-Run.records source listed c.args.files.now c.read-in-Run.new.self
+    c.read-in-Run-2.new.self e c.in-Run.is c.in_ok-source-in-Run.ensures.bytes accepted c.in_ok-listed-in-Run.ensures.bytes refused in
+    search (rules, fact)

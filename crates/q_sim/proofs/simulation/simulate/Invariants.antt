@@ -5,4 +5,4 @@ use Rattle.q_sim.proofs.simulation.simulate.Given as goal
 
 -- the lines so far were played
 abbrev pub invariant-loop-line : goal.invariant-loop-line
-invariant-loop-line l = Plays l.yielded (seen l.initial.simulation) (string_bytes l.simulation.lines) (seen l.simulation)
+invariant-loop-line g l = Plays g.F.Files.write_gives l.yielded (seen l.initial.simulation) l.initial.files (string_bytes l.simulation.lines) (seen l.simulation) l.files

@@ -4,7 +4,7 @@ use Rattle.clap.specs.Matches.{has_subcommand}
 use Rattle.clap.specs.declared.parser.matches.ArgMatches.TheViews.{out-ArgMatches}
 use Rattle.clap.proofs.CallerLemmas.{subcommand_required}
 use Rattle.q_words.specs.Words.{bqview, HasCommand}
-use Rattle.q_words.specs.declared.words.Line.TheVariants.{Asm, Check, Sim}
+use Rattle.q_words.specs.declared.words.Line.TheVariants.{Asm, Audit, Check, Sim}
 use Rattle.q_words.proofs.Commands.{was_met, run_read, other_command, free, met_rows, simple}
 use Rattle.q_words.proofs.words.read_words.Goals as goal
 
@@ -41,8 +41,8 @@ returns-in-Some-subcommand_matches-2 c =
     let met = met_rows _ (codes "run") rows name c.in-Some-subcommand_matches-2.ensures.rows in
     run_read words c.run_line.result rows none (sym said ∙ met) c.run_line.ensures
 
-pub returns : goal.returns
-returns c =
+pub returns-in-Some-subcommand_matches-3 : goal.returns-in-Some-subcommand_matches-3
+returns-in-Some-subcommand_matches-3 c =
     let words = map (λ (word : Bor (List ℕ)). word.now) c.args.words.now in
     let is_app : app_of c.in_ok-program.field-0 ≡ bqview = c.in_ok-program.ensures.0 in
     let none : fault_of bqview words ≡ [] = subst (λ (a : App). fault_of a words ≡ []) is_app (c.in_ok-matches.ensures.kinds (ap is_simple_and_free is_app ∙ free)) in
@@ -50,7 +50,18 @@ returns c =
     let name : subcommand_name_of c.in_ok-matches.matches ≡ Some (codes "sim") = search rules in
     let rows = rows_of (found_of c.in-Some-subcommand_matches-3.found.now) in
     let met = met_rows _ (codes "sim") rows name c.in-Some-subcommand_matches-3.ensures.rows in
-    (none, was_met (HasCommand (Sim c.operand_text.result)) _ (codes "sim", rows) (sym said ∙ met) (refl, c.operand_text.ensures))
+    (none, was_met (HasCommand (Sim c.operand_text-script.result)) _ (codes "sim", rows) (sym said ∙ met) (refl, c.operand_text-script.ensures))
+
+pub returns : goal.returns
+returns c =
+    let words = map (λ (word : Bor (List ℕ)). word.now) c.args.words.now in
+    let is_app : app_of c.in_ok-program.field-0 ≡ bqview = c.in_ok-program.ensures.0 in
+    let none : fault_of bqview words ≡ [] = subst (λ (a : App). fault_of a words ≡ []) is_app (c.in_ok-matches.ensures.kinds (ap is_simple_and_free is_app ∙ free)) in
+    let said = (c.in_ok-matches.ensures.matches (ap is_simple is_app ∙ simple)).1 ∙ ap (λ (a : App). subcommand_of a words) is_app in
+    let name : subcommand_name_of c.in_ok-matches.matches ≡ Some (codes "audit") = search rules in
+    let rows = rows_of (found_of c.in-Some-subcommand_matches-4.found.now) in
+    let met = met_rows _ (codes "audit") rows name c.in-Some-subcommand_matches-4.ensures.rows in
+    (none, was_met (HasCommand (Audit c.operand_text.result)) _ (codes "audit", rows) (sym said ∙ met) (refl, c.operand_text.ensures))
 
 pub unreachable-requires : goal.unreachable-requires
 unreachable-requires c =
@@ -61,4 +72,5 @@ unreachable-requires c =
     let needs : has_subcommand c.in_ok-matches.matches ≡ true = subcommand_required c.in_ok-program.field-0 c.in_ok-matches.matches c.in_ok-matches.ensures.parsed c.in_ok-program.ensures.1 (ap (λ (a : App). a.top.subcommand_required) is_app) in
     other_command (out-ArgMatches c.in_ok-matches.matches).subcommand words needs said
     (λ h. true≢false (sym (c.in_default.ensures.found.1 h))) (λ h. true≢false (sym (c.in_default-subcommand_matches.ensures.found.1 h)))
-    (λ h. true≢false (sym (c.in_default-subcommand_matches-2.ensures.found.1 h))) (λ h. true≢false (sym (c.in-None.ensures.found.1 h)))
+    (λ h. true≢false (sym (c.in_default-subcommand_matches-2.ensures.found.1 h))) (λ h. true≢false (sym (c.in_default-subcommand_matches-3.ensures.found.1 h)))
+    (λ h. true≢false (sym (c.in-None.ensures.found.1 h)))
