@@ -1,11 +1,11 @@
 -- Whether books are of different nodes, and agree on their heads.
-use Rattle.std.proofs.Common.{◌≡◌, ◌<◌, ◌≤◌, ◌+◌, ℕ, zero, suc, ◌==◌, Bool, true, false, cond, List, [], ◌∷◌, length, take, get_or, Option, Some, None, Result, Ok, Err, refl, sym, ap, ◌∙◌, subst, slice_get, arith}
+use Rattle.std.proofs.Common.{◌≡◌, ◌<◌, ◌≤◌, ◌+◌, ℕ, ◌==◌, Bool, true, false, cond, List, [], ◌∷◌, length, take, Option, Some, None, Result, Ok, Err, refl, sym, ap, ◌∙◌, subst, slice_get, arith}
 use Rattle.std.specs.Prelude.{MatchBool, nat_eq, ◌&&◌}
 use Rattle.std.specs.List.{list_any}
 use Rattle.std.specs.Ordering.{nat_cmp}
 use Rattle.std.specs.FinSet as set
 use Rattle.std.proofs.lemmas.Bool.{eqb-true, eqb-false, eq-eqb}
-use Rattle.std.proofs.lemmas.Option.{slice_get_within, get_or_from_slice_get}
+use Rattle.std.proofs.lemmas.Option.{slice_get_within}
 use Rattle.sc_members.specs.Members.{Config}
 use Rattle.sc_world.specs.State.{WorldState}
 use Rattle.sc_world.specs.Worlds as world
@@ -100,7 +100,7 @@ nobody_agrees books none (config, founders, a) = by_first founders a
         let has = agree.there x listed in
         let mine : set.contains (set.from_list {R = nat_cmp} (x ∷ xs)) has.book.id ≡ true = ap (set.contains (set.from_list {R = nat_cmp} (x ∷ xs))) has.of ∙ listed in
         let founders : has.book.founders ≡ Some (x ∷ xs) =
-            (agree.heads has.place has.book has.at).1 ∙ ap (λ (k : Bool). let o : Option (List ℕ) = cond k (Some (x ∷ xs)) None in o) mine in
+        (agree.heads has.place has.book has.at).1 ∙ ap (λ (k : Bool). let o : Option (List ℕ) = cond k (Some (x ∷ xs)) None in o) mine in
         no_some (x ∷ xs) (sym (none has.place has.book has.at) ∙ founders)
 
 -- ---- the start

@@ -1,7 +1,6 @@
 -- The books are gathered by the events that are found, until none is.
-use Rattle.std.proofs.Common.{◌≡◌, ◌<◌, ℕ, List, [], ◌∷◌, ◌++◌, length, Option, Some, None, refl, sym, ap, ◌∙◌, subst, slice_get, slice_set, get_or, arith, ◌+◌}
+use Rattle.std.proofs.Common.{◌≡◌, ◌<◌, ℕ, List, [], ◌∷◌, ◌++◌, length, Some, refl, sym, ap, ◌∙◌, subst, slice_get, slice_set, get_or, arith, ◌+◌}
 use Rattle.std.proofs.lemmas.Option.{slice_get-get_or}
-use Rattle.sc_members.specs.Members.{Config}
 use Rattle.sc_msg.specs.declared.message.Message.{Message}
 use Rattle.q_desk.specs.declared.journal.Entry.{Entry}
 use Rattle.q_book.specs.State.{BookState}
@@ -11,19 +10,19 @@ use Rattle.q_history.specs.State.{ClusterState}
 use Rattle.q_history.specs.Calls.{Follows}
 use Rattle.q_history.proofs.Lists.{same_some, no_some}
 use Rattle.q_cluster.specs.Acts.{book_at}
-use Rattle.q_merge.specs.Merging.{Step, CanGo, AreOver, Merges}
+use Rattle.q_merge.specs.Merging.{Step, AreOver, Merges}
 use Rattle.q_merge.specs.Merging.Merges.{Over, Takes}
-use Rattle.q_merge.specs.Traces.{IsTraceFrom, entering, IsTrace}
+use Rattle.q_merge.specs.Traces.{IsTraceFrom}
 use Rattle.q_merge.specs.Turns.{IsTurn}
 use Rattle.q_merge.specs.Numbers.{NumberList, AreNumbers}
-use Rattle.q_merge.specs.Gathered.{AreTraces, IsGathered, IsAt, IsUnderWay, Goes}
+use Rattle.q_merge.specs.Gathered.{IsAt, Goes}
 use Rattle.q_merge.specs.Gathered.IsAt.{Away, There}
 use Rattle.q_merge.proofs.Merging.{merges_next, merges_stuck}
 use Rattle.q_merge.proofs.Gathering.{goes_by, gathered, done_at, over_at}
 use Rattle.q_merge.proofs.Tracing.{traces_one}
 use Rattle.q_gather.specs.Gather.{Merge}
-use Rattle.q_gather.specs.Gathering.{IsNextOf, IsNextAmong, HasTaken, HaveTaken, IsGathering, IsMerged}
-use Rattle.q_gather.proofs.Turns.{Turn, left_by, left_of, all_left, turn_of, next_is, left_later, less_left, trace_length}
+use Rattle.q_gather.specs.Gathering.{IsNextAmong, HasTaken, HaveTaken, IsGathering, IsMerged}
+use Rattle.q_gather.proofs.Turns.{Turn, left_by, all_left, turn_of, next_is, left_later, less_left, trace_length}
 
 -- ---- one event
 
@@ -73,7 +72,7 @@ taken_over c whole left steps (Away absent none is t) taken = absurd (no_some ta
 taken_over c whole left steps (There b here t) taken =
     let same : taken.book ≡ b = same_book c whole taken.book b taken.at here in
     let long : length b.desk.journal ≡ length b.desk.journal + length left =
-        ap (λ (x : BookState). length x.desk.journal) (sym same) ∙ taken.all ∙ trace_length left b steps whole t in
+    ap (λ (x : BookState). length x.desk.journal) (sym same) ∙ taken.all ∙ trace_length left b steps whole t in
     over_by left (no_more left (length b.desk.journal) long) t
   where
     over_by : (xs : List Entry) → xs ≡ [] → IsTraceFrom b xs steps whole → steps ≡ []

@@ -1,6 +1,6 @@
 -- Messages get their numbers one after another, and what is next is looked for book after book.
-use Rattle.std.proofs.Common.{◌≡◌, ◌<◌, ◌≤◌, ◌+◌, ℕ, Bool, true, false, List, [], ◌∷◌, ◌++◌, length, take, get_or, Option, Some, None, refl, sym, ap, ◌∙◌, subst, slice_get, arith, inl, inr, ◌⊎◌}
-use Rattle.std.specs.Prelude.{MatchBool, MatchOption, nat_eq}
+use Rattle.std.proofs.Common.{◌≡◌, ◌<◌, ◌≤◌, ◌+◌, ℕ, Bool, true, false, List, [], ◌∷◌, ◌++◌, length, take, Option, Some, None, refl, sym, ap, ◌∙◌, subst, slice_get, arith, inl, inr}
+use Rattle.std.specs.Prelude.{MatchBool, nat_eq}
 use Rattle.std.proofs.lemmas.Bool.{eqb-true, eqb-false}
 use Rattle.std.proofs.lemmas.List.{take_more, take-append-le, take_all, length-take-le}
 use Rattle.std.proofs.lemmas.Option.{slice_get_within, get_or_from_slice_get}
@@ -28,7 +28,7 @@ numbered_next more sent numbers after m n at legal is are =
     let within : n < length sent = slice_get_within sent n m (sym at) in
     let long : length (take n sent) ≡ n = took sent n (omega (arith, within)) in
     let list : take (n + 1) sent ≡ take n sent ++ m ∷ [] =
-        take_more sent n m within ∙ ap (λ (x : Message). take n sent ++ x ∷ []) (get_or_from_slice_get sent n m m (sym at)) in
+    take_more sent n m within ∙ ap (λ (x : Message). take n sent ++ x ∷ []) (get_or_from_slice_get sent n m m (sym at)) in
     let next : AreNumbers (take n sent ++ m ∷ []) (added (message_bytes m) (length (take n sent)) numbers) = more (take n sent) numbers m are legal in
     let so : AreNumbers (take n sent ++ m ∷ []) (added (message_bytes m) n numbers) = subst (λ (k : ℕ). AreNumbers (take n sent ++ m ∷ []) (added (message_bytes m) k numbers)) long next in
     subst (λ (x : List Message). AreNumbers x after) (sym list) (subst (λ (x : NumberList). AreNumbers (take n sent ++ m ∷ []) x) (sym is) so)
@@ -38,7 +38,7 @@ pub sent_before : (old new outs : List Message) (n : ℕ) (numbers : NumberList)
 sent_before old new outs n numbers long is are =
     let le : length old ≤ length old = omega arith in
     let whole : take n new ≡ old =
-        (λ i. take (long i) (is i)) ∙ take-append-le (length old) old outs le ∙ take_all (length old) old le in
+    (λ i. take (long i) (is i)) ∙ take-append-le (length old) old outs le ∙ take_all (length old) old le in
     subst (λ (x : List Message). AreNumbers x numbers) (sym whole) are
 
 -- ---- what is next

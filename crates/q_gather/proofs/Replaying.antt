@@ -1,5 +1,5 @@
 -- Journals and their books, and that refusals exclude each other.
-use Rattle.std.proofs.Common.{◌≡◌, ◌≢◌, ◌<◌, ◌+◌, ℕ, zero, suc, List, [], ◌∷◌, ◌++◌, length, map, take, get_or, Option, Some, Result, Ok, Err, refl, sym, ap, ◌∙◌, subst, slice_get, arith, Bor}
+use Rattle.std.proofs.Common.{◌≡◌, ◌<◌, ◌+◌, ℕ, zero, suc, List, [], ◌∷◌, ◌++◌, length, map, take, get_or, Some, Result, Ok, Err, refl, sym, ap, ◌∙◌, subst, slice_get, arith, Bor}
 use Rattle.std.specs.Prelude.{IfOk, IfErr, IsErrAnd, MatchResult}
 use Rattle.std.specs.List.{AllByRecursion}
 use Rattle.std.proofs.lemmas.List.{map-append, take_more}
@@ -170,7 +170,7 @@ pub begins_gathering : (items x y z : List BookState) → x ≡ items → y ≡ 
     → ((config : Config) × (founders : List ℕ) × AgreeOn y config founders × (c ≡ start config founders)) → d ≡ c → (numbers : NumberList) → numbers ≡ [] → IsGathering z d numbers
 begins_gathering items x y z first second third all distinct c d agree same numbers none =
     let begun : IsGathering items (start agree.0 agree.1) [] =
-        gathering_starts items all (subst AreDistinct first distinct) agree.0 agree.1 (subst (λ (b : List BookState). AgreeOn b agree.0 agree.1) second agree.2) in
+    gathering_starts items all (subst AreDistinct first distinct) agree.0 agree.1 (subst (λ (b : List BookState). AgreeOn b agree.0 agree.1) second agree.2) in
     subst (λ (b : List BookState). IsGathering b d numbers) (sym third)
     (subst (λ (s : ClusterState). IsGathering items s numbers) (sym (same ∙ agree.3)) (subst (λ (n : NumberList). IsGathering items (start agree.0 agree.1) n) (sym none) begun))
 

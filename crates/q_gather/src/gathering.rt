@@ -40,7 +40,10 @@ impl Gathering {
     pub(crate) fn into_cluster(self) -> Cluster
         ensures { result ≡ self.cluster }
     {
-        let Gathering { cluster, numbers: _ } = self;
+        let Gathering {
+            cluster,
+            numbers: _,
+        } = self;
         cluster
     }
 

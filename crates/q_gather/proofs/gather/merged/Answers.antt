@@ -1,4 +1,4 @@
-use Rattle.std.proofs.Common.{List, ℕ, map, Bor, refl}
+use Rattle.std.proofs.Common.{List, ℕ, map, Bor}
 use Rattle.q_gather.specs.Gather.{IsRefused}
 use Rattle.q_gather.proofs.Replaying.{begins_gathering, stuck_on, gathers_so, passed}
 use Rattle.q_gather.proofs.gather.merged.Goals as goal

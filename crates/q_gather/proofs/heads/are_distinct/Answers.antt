@@ -1,4 +1,4 @@
-use Rattle.std.proofs.Common.{◌≡◌, ℕ, take, refl, sym, subst}
+use Rattle.std.proofs.Common.{ℕ, take, refl, sym, subst}
 use Rattle.std.proofs.lemmas.Option.{slice_get_read}
 use Rattle.q_merge.specs.Gathered.{HasBook}
 use Rattle.q_gather.proofs.Agreeing.{distinct_next, distinct_all}

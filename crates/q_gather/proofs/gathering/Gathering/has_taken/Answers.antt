@@ -1,6 +1,5 @@
 use Rattle.q_gather.proofs.Numbering.{taken_test}
-use Rattle.std.proofs.Common.{◌≡◌, ◌∙◌, ap, Some, Option}
-use Rattle.q_book.specs.State.{BookState}
+use Rattle.std.proofs.Common.{◌∙◌, ap}
 use Rattle.q_cluster.specs.Acts.{book_at}
 use Rattle.q_gather.proofs.gathering.Gathering.has_taken.Goals as goal
 

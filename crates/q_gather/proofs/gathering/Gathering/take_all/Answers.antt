@@ -7,7 +7,7 @@ use Rattle.q_gather.proofs.gathering.Gathering.take_all.Goals as goal
 pub returns-then-not-have_taken-clause-err : goal.returns-then-not-have_taken-clause-err
 returns-then-not-have_taken-clause-err c =
     let none : Finds (IsNextAmong c.loop-event.self.cluster c.args.books.now) None =
-        subst (λ (o : Option Event). Finds (IsNextAmong c.loop-event.self.cluster c.args.books.now) o) c.in_default.is (c.in_ok-event.ensures {u = tt} c.loop-event.invariant.numbered) in
+    subst (λ (o : Option Event). Finds (IsNextAmong c.loop-event.self.cluster c.args.books.now) o) c.in_default.is (c.in_ok-event.ensures {u = tt} c.loop-event.invariant.numbered) in
     stuck c.args.books.now c.loop-event.self.cluster c.loop-event.self.numbers c.loop-event.invariant none c.if-not-have_taken.ensures
 
 pub returns-clause-ok : goal.returns-clause-ok
