@@ -1,7 +1,8 @@
 -- Journals and their books, and that refusals exclude each other.
-use Rattle.std.proofs.Common.{◌≡◌, ◌<◌, ◌+◌, ℕ, zero, suc, List, [], ◌∷◌, ◌++◌, length, map, take, get_or, Some, Result, Ok, Err, refl, sym, ap, ◌∙◌, subst, slice_get, arith, Bor}
+use Rattle.std.proofs.Common.{◌≡◌, ◌<◌, ◌≤◌, ◌+◌, ℕ, zero, suc, Bool, true, false, nat_lt, List, [], ◌∷◌, ◌++◌, length, map, take, get_or, Some, Result, Ok, Err, refl, sym, ap, ◌∙◌, subst, slice_get, arith, Bor}
 use Rattle.std.specs.Prelude.{IfOk, IfErr, IsErrAnd, MatchResult}
 use Rattle.std.specs.List.{AllByRecursion}
+use Rattle.std.proofs.lemmas.Bool.{ltb-true, ltb-false}
 use Rattle.std.proofs.lemmas.List.{map-append, take_more}
 use Rattle.std.proofs.lemmas.Option.{slice_get_within, get_or_from_slice_get}
 use Rattle.sc_members.specs.Members.{Config}
@@ -28,6 +29,7 @@ use Rattle.q_gather.specs.Heads.{IsUnfounded}
 use Rattle.q_gather.specs.Gathering.{IsGathering, IsMerged, IsStuck}
 use Rattle.q_gather.specs.declared.fault.GatherFault.{GatherFault}
 use Rattle.q_gather.specs.declared.fault.GatherFault.TheVariants.{Journal, IdUsed, BadFounders, NeverSent, OutOfMemory}
+use Rattle.q_gather.proofs.Finding.{get_take}
 
 -- ---- one journal after another
 
@@ -147,6 +149,57 @@ module _ (one : OneBook) (none : NoFault) (journals : List (List ℕ)) (books : 
       → MatchResult result (IsGathered books) (λ e. e ≡ OutOfMemory)
   gathers_all (Ok c) is refused distinct agree merge = subst (λ (x : List BookState). IsGathered x c) (replayed_one one journals is.books books is.replayed r) is.gathered
   gathers_all (Err e) is refused distinct agree merge = refused_memory distinct agree merge e refused
+
+-- ---- one refusal
+
+abbrev pub OneFault : Type 0
+OneFault = (bytes : List ℕ) (d e : ReplayFault) → IsFault bytes d → IsFault bytes e → (d ≡ replay_fault.OutOfMemory → ⊥) → (e ≡ replay_fault.OutOfMemory → ⊥) → d ≡ e
+
+module _ (one : OneBook) (none : NoFault) (first : OneFault) (journals : List (List ℕ)) where
+  -- what stands before the first faulty bytes is a journal
+  not_before : (p q : ℕ) (f g : ReplayFault) → p < q → IsFaulty journals p f → IsFaulty journals q g → ⊥
+  not_before p q f g less x y =
+      let at : slice_get (take q journals) p ≡ Some x.bytes = get_take journals q p less ∙ x.at in
+      let b = journal_at y.before y.replayed.each p x.bytes (ap (λ (js : List (List ℕ)). slice_get js p) (sym y.replayed.are) ∙ at) in
+      x.known (none b.0 f b.1 (subst (λ (bytes : List ℕ). IsFault bytes f) (sym b.2) x.is))
+
+  one_place : (p q : ℕ) (f g : ReplayFault) → IsFaulty journals p f → IsFaulty journals q g → (a b : Bool) → nat_lt p q ≡ a → nat_lt q p ≡ b → p ≡ q
+  one_place p q f g x y true b is also = absurd (not_before p q f g (ltb-true p q is) x y)
+  one_place p q f g x y false true is also = absurd (not_before q p g f (ltb-true q p also) y x)
+  one_place p q f g x y false false is also =
+      let le : q ≤ p = ltb-false p q is in
+      let ge : p ≤ q = ltb-false q p also in
+      omega (arith, le, ge)
+
+  one_faulty : (p q : ℕ) (f g : ReplayFault) → IsFaulty journals p f → IsFaulty journals q g → Journal p f ≡ Journal q g
+  one_faulty p q f g x y =
+      let place : p ≡ q = one_place p q f g x y (nat_lt p q) (nat_lt q p) refl refl in
+      let bytes : x.bytes ≡ y.bytes = same_some x.bytes y.bytes (sym x.at ∙ ap (slice_get journals) place ∙ y.at) in
+      let fault : f ≡ g = first y.bytes f g (subst (λ (b : List ℕ). IsFault b f) bytes x.is) y.is x.known y.known in
+      λ i. Journal (place i) (fault i)
+
+  same_books : (books others : List BookState) → AreReplayed journals books → AreReplayed journals others → books ≡ others
+  same_books books others r s = replayed_one one journals books others r s
+
+  pub refused_one : (d e : GatherFault) → IsRefused journals d → IsRefused journals e → (d ≡ OutOfMemory → ⊥) → (e ≡ OutOfMemory → ⊥) → d ≡ e
+  refused_one OutOfMemory e x y loud known = absurd (loud refl)
+  refused_one d OutOfMemory x y loud known = absurd (known refl)
+  refused_one (Journal p f) (Journal q g) x y loud known = one_faulty p q f g x y
+  refused_one (Journal p f) IdUsed x y loud known = absurd (not_faulty one none journals y.0 y.1 p f x)
+  refused_one (Journal p f) BadFounders x y loud known = absurd (not_faulty one none journals y.0 y.1 p f x)
+  refused_one (Journal p f) NeverSent x y loud known = absurd (not_faulty one none journals y.0 y.1 p f x)
+  refused_one IdUsed (Journal q g) x y loud known = absurd (not_faulty one none journals x.0 x.1 q g y)
+  refused_one BadFounders (Journal q g) x y loud known = absurd (not_faulty one none journals x.0 x.1 q g y)
+  refused_one NeverSent (Journal q g) x y loud known = absurd (not_faulty one none journals x.0 x.1 q g y)
+  refused_one IdUsed IdUsed x y loud known = refl
+  refused_one IdUsed BadFounders x y loud known = absurd (x.2 (subst AreDistinct (same_books y.0 x.0 y.1 x.1) y.2))
+  refused_one IdUsed NeverSent x y loud known = absurd (x.2 (subst AreDistinct (same_books y.0 x.0 y.1 x.1) y.2))
+  refused_one BadFounders IdUsed x y loud known = absurd (y.2 (subst AreDistinct (same_books x.0 y.0 x.1 y.1) x.2))
+  refused_one NeverSent IdUsed x y loud known = absurd (y.2 (subst AreDistinct (same_books x.0 y.0 x.1 y.1) x.2))
+  refused_one BadFounders BadFounders x y loud known = refl
+  refused_one BadFounders NeverSent x y loud known = absurd (x.3 (subst Agree (same_books y.0 x.0 y.1 x.1) y.3))
+  refused_one NeverSent BadFounders x y loud known = absurd (y.3 (subst Agree (same_books x.0 y.0 x.1 y.1) x.3))
+  refused_one NeverSent NeverSent x y loud known = refl
 
 -- ---- refusals on the way
 

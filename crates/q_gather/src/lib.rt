@@ -16,4 +16,5 @@ pub mod fault;
 pub mod gather;
 mod gathering;
 mod heads;
+pub mod laws;
 pub mod numbers;
