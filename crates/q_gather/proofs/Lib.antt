@@ -1,2 +1,9 @@
--- What the table of numbers holds.
+-- That the events which are found gather the books.
 pub mod Table
+pub mod Finding
+pub mod Adding
+pub mod Turns
+pub mod Numbering
+pub mod Going
+pub mod Agreeing
+pub mod Replaying

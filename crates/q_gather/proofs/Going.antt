@@ -1,0 +1,113 @@
+-- The books are gathered by the events that are found, until none is.
+use Rattle.std.proofs.Common.{◌≡◌, ◌<◌, ℕ, List, [], ◌∷◌, ◌++◌, length, Some, refl, sym, ap, ◌∙◌, subst, slice_get, slice_set, get_or, arith, ◌+◌}
+use Rattle.std.proofs.lemmas.Option.{slice_get-get_or}
+use Rattle.sc_msg.specs.declared.message.Message.{Message}
+use Rattle.q_desk.specs.declared.journal.Entry.{Entry}
+use Rattle.q_book.specs.State.{BookState}
+use Rattle.q_history.specs.declared.event.Event.{Event}
+use Rattle.q_history.specs.declared.event.Stepped.{Stepped}
+use Rattle.q_history.specs.State.{ClusterState}
+use Rattle.q_history.specs.Calls.{Follows}
+use Rattle.q_history.proofs.Lists.{same_some, no_some}
+use Rattle.q_cluster.specs.Acts.{book_at}
+use Rattle.q_merge.specs.Merging.{Step, AreOver, Merges}
+use Rattle.q_merge.specs.Merging.Merges.{Over, Takes}
+use Rattle.q_merge.specs.Traces.{IsTraceFrom}
+use Rattle.q_merge.specs.Turns.{IsTurn}
+use Rattle.q_merge.specs.Numbers.{NumberList, AreNumbers}
+use Rattle.q_merge.specs.Gathered.{IsAt, Goes}
+use Rattle.q_merge.specs.Gathered.IsAt.{Away, There}
+use Rattle.q_merge.proofs.Merging.{merges_next, merges_stuck}
+use Rattle.q_merge.proofs.Gathering.{goes_by, gathered, done_at, over_at}
+use Rattle.q_merge.proofs.Tracing.{traces_one}
+use Rattle.q_gather.specs.Gather.{Merge}
+use Rattle.q_gather.specs.Gathering.{IsNextAmong, HasTaken, HaveTaken, IsGathering, IsMerged}
+use Rattle.q_gather.proofs.Turns.{Turn, left_by, all_left, turn_of, next_is, left_later, less_left, trace_length}
+
+-- ---- one event
+
+module _ (books : List BookState) (c later : ClusterState) (numbers after : NumberList) (g : IsGathering books c numbers) (ev : Event) (n : IsNextAmong c books ev) (told : Stepped) (f : Follows c ev told later) where
+  abbrev turn : Turn c g.left n.place n.book ev
+  turn = turn_of books c g.left g.under_way n.place n.book n.at ev n.next
+
+  goes : Goes books c g.left n.place turn.step turn.rest ev
+  goes = goes_by books c g.left g.under_way n.place n.book n.at turn.step turn.rest turn.at ev turn.left turn.goes
+
+  pub goes_on : ((outs : List Message) → AreNumbers c.world.sent numbers → later.world.sent ≡ c.world.sent ++ outs → AreNumbers later.world.sent after) → IsGathering books later after
+  goes_on numbered =
+      let rests : List (List (Step Message)) = slice_set g.left n.place turn.rest in
+      let sent : later.world.sent ≡ c.world.sent ++ turn.step.gives = goes.sent told later f in
+      record {
+        lists = g.lists;
+        traces = g.traces;
+        left = rests;
+        under_way = goes.goes told later f;
+        on = λ m. subst (λ (x : List Message). Merges Message x rests) (sym sent) (merges_next (g.on m) n.place turn.step turn.rest turn.at turn.can);
+        back = λ m. g.back (Takes n.place turn.step turn.rest turn.at turn.can (subst (λ (x : List Message). Merges Message x rests) sent m));
+        numbered = numbered turn.step.gives g.numbered sent;
+      }
+
+  pub goes_less : all_left later books < all_left c books
+  goes_less =
+      let now : IsTurn c n.book.id turn.goes.book turn.step.gives later = turn.goes.makes.turns told later f in
+      less_left c later books n.place n.book n.at
+      (λ i b at away. ap (left_by b) (now.others b.id (λ same. away (g.under_way.distinct i n.place b n.book at n.at same))))
+      (left_later c later g.left n.place n.book ev turn now)
+
+-- ---- no event
+
+all_over : (lists : List (List (Step Message))) → ((k : ℕ) (steps : List (Step Message)) → slice_get lists k ≡ Some steps → steps ≡ []) → AreOver lists
+all_over lists over k d within = over k (get_or lists k d) (slice_get-get_or lists k d within)
+
+same_book : (c : ClusterState) (whole a b : BookState) → book_at c whole.id ≡ Some a → book_at c whole.id ≡ Some b → a ≡ b
+same_book c whole a b at here = same_some a b (sym at ∙ here)
+
+no_more : (left : List Entry) (n : ℕ) → n ≡ n + length left → left ≡ []
+no_more [] n h = refl
+no_more (e ∷ es) n h = absurd (omega (arith, h))
+
+-- the node of a book that has taken all entries has no step left
+taken_over : (c : ClusterState) (whole : BookState) (left : List Entry) (steps : List (Step Message)) → IsAt c whole left steps → HasTaken c whole → steps ≡ []
+taken_over c whole left steps (Away absent none is t) taken = absurd (no_some taken.book (sym absent ∙ taken.at))
+taken_over c whole left steps (There b here t) taken =
+    let same : taken.book ≡ b = same_book c whole taken.book b taken.at here in
+    let long : length b.desk.journal ≡ length b.desk.journal + length left =
+    ap (λ (x : BookState). length x.desk.journal) (sym same) ∙ taken.all ∙ trace_length left b steps whole t in
+    over_by left (no_more left (length b.desk.journal) long) t
+  where
+    over_by : (xs : List Entry) → xs ≡ [] → IsTraceFrom b xs steps whole → steps ≡ []
+    over_by [] none t = t.0
+    over_by (x ∷ xs) none t = absurd (cc)
+
+module _ (books : List BookState) (c : ClusterState) (numbers : NumberList) (g : IsGathering books c numbers) where
+  taken_all : HaveTaken c books → AreOver g.left
+  taken_all taken =
+      all_over g.left (λ k steps at.
+      let b = g.under_way.few k steps at in
+      let p = g.under_way.at k b.0 b.1 in
+      same_some steps p.0 (sym at ∙ p.1) ∙ taken_over c b.0 p.2 p.0 p.3 (taken k b.0 b.1))
+
+  -- where all entries are taken, the books are merged
+  pub merged : HaveTaken c books → IsMerged books c
+  merged taken =
+      let over = taken_all taken in
+      (record { lists = g.lists; traces = g.traces; merges = g.back (Over over) }, gathered books c g.left g.under_way over)
+
+  taken_by : AreOver g.left → HaveTaken c books
+  taken_by over k b here =
+      let p = g.under_way.at k b here in
+      record {
+        book = b;
+        at = done_at c b p.2 (subst (IsAt c b p.2) (over_at g.left k p.0 over p.1) p.3);
+        all = refl;
+      }
+
+  -- where no event is next and some entries are left, they do not merge
+  pub stuck : ((ev : Event) → IsNextAmong c books ev → ⊥) → (HaveTaken c books → ⊥) → Merge books → ⊥
+  stuck none some m =
+      let same : m.lists ≡ g.lists = traces_one books m.lists g.lists m.traces g.traces in
+      let on : Merges Message c.world.sent g.left = g.on (subst (Merges Message []) same m.merges) in
+      some (taken_by (merges_stuck on (λ k s rest at can.
+      let b = g.under_way.few k (s ∷ rest) at in
+      let ev = next_is books c g.left g.under_way k b.0 b.1 s rest can at in
+      none ev.0 (record { place = k; book = b.0; at = b.1; next = ev.1 }))))

@@ -1,0 +1,70 @@
+-- Messages get their numbers one after another, and what is next is looked for book after book.
+use Rattle.std.proofs.Common.{◌≡◌, ◌<◌, ◌≤◌, ◌+◌, ℕ, Bool, true, false, List, [], ◌∷◌, ◌++◌, length, take, Option, Some, None, refl, sym, ap, ◌∙◌, subst, slice_get, arith, inl, inr}
+use Rattle.std.specs.Prelude.{MatchBool, nat_eq}
+use Rattle.std.proofs.lemmas.Bool.{eqb-true, eqb-false}
+use Rattle.std.proofs.lemmas.List.{take_more, take-append-le, take_all, length-take-le}
+use Rattle.std.proofs.lemmas.Option.{slice_get_within, get_or_from_slice_get}
+use Rattle.sc_msg.specs.declared.message.Message.{Message}
+use Rattle.sc_msg.specs.Messages.{message_bytes, IsMessage}
+use Rattle.q_book.specs.State.{BookState}
+use Rattle.q_history.specs.declared.event.Event.{Event}
+use Rattle.q_history.specs.State.{ClusterState}
+use Rattle.q_history.proofs.Lists.{same_some}
+use Rattle.q_cluster.specs.Acts.{book_at}
+use Rattle.q_merge.specs.Numbers.{NumberList, added, AreNumbers}
+use Rattle.q_gather.specs.Gathering.{IsNextOf, IsNextAmong, IsLesser, HasTaken}
+use Rattle.q_gather.specs.declared.gathering.Next.{Next}
+use Rattle.q_gather.proofs.Finding.{Below, below_next}
+
+abbrev pub OneMore : Type 0
+OneMore = (sent : List Message) (numbers : NumberList) (m : Message) → AreNumbers sent numbers → IsMessage m → AreNumbers (sent ++ m ∷ []) (added (message_bytes m) (length sent) numbers)
+
+took : (xs : List Message) (n : ℕ) → n ≤ length xs → length (take n xs) ≡ n
+took xs n le = length-take-le n xs le
+
+pub numbered_next : OneMore → (sent : List Message) (numbers after : NumberList) (m : Message) (n : ℕ) → Some m ≡ slice_get sent n → IsMessage m → after ≡ added (message_bytes m) n numbers → AreNumbers (take n sent) numbers
+    → AreNumbers (take (n + 1) sent) after
+numbered_next more sent numbers after m n at legal is are =
+    let within : n < length sent = slice_get_within sent n m (sym at) in
+    let long : length (take n sent) ≡ n = took sent n (omega (arith, within)) in
+    let list : take (n + 1) sent ≡ take n sent ++ m ∷ [] =
+    take_more sent n m within ∙ ap (λ (x : Message). take n sent ++ x ∷ []) (get_or_from_slice_get sent n m m (sym at)) in
+    let next : AreNumbers (take n sent ++ m ∷ []) (added (message_bytes m) (length (take n sent)) numbers) = more (take n sent) numbers m are legal in
+    let so : AreNumbers (take n sent ++ m ∷ []) (added (message_bytes m) n numbers) = subst (λ (k : ℕ). AreNumbers (take n sent ++ m ∷ []) (added (message_bytes m) k numbers)) long next in
+    subst (λ (x : List Message). AreNumbers x after) (sym list) (subst (λ (x : NumberList). AreNumbers (take n sent ++ m ∷ []) x) (sym is) so)
+
+-- the messages that were sent before the event are the first
+pub sent_before : (old new outs : List Message) (n : ℕ) (numbers : NumberList) → n ≡ length old → new ≡ old ++ outs → AreNumbers old numbers → AreNumbers (take n new) numbers
+sent_before old new outs n numbers long is are =
+    let le : length old ≤ length old = omega arith in
+    let whole : take n new ≡ old =
+    (λ i. take (long i) (is i)) ∙ take-append-le (length old) old outs le ∙ take_all (length old) old le in
+    subst (λ (x : List Message). AreNumbers x numbers) (sym whole) are
+
+-- ---- what is next
+
+pub taken_test : (c : ClusterState) (whole b : BookState) (n m : ℕ) → Some b ≡ book_at c whole.id → n ≡ length b.desk.journal → m ≡ length whole.desk.journal → MatchBool (nat_eq n m) (HasTaken c whole) (HasTaken c whole → ⊥)
+taken_test c whole b n m at is are = go (nat_eq n m) refl
+  where
+    go : (t : Bool) → nat_eq n m ≡ t → MatchBool t (HasTaken c whole) (HasTaken c whole → ⊥)
+    go true same = record { book = b; at = sym at; all = sym is ∙ eqb-true n m same ∙ are }
+    go false other =
+        λ h.
+        let one : h.book ≡ b = same_some h.book b (sym h.at ∙ sym at) in
+        eqb-false n m other (is ∙ ap (λ (x : BookState). length x.desk.journal) (sym one) ∙ h.all ∙ sym are)
+
+abbrev pub IsLeastOf : ClusterState → List BookState → ℕ → Option Next → Type 0
+IsLeastOf c books i None = Below (λ (b : BookState). (ev : Event) → IsNextOf c b ev → ⊥) books i
+IsLeastOf c books i (Some next) = IsNextAmong c books next.event
+
+pub least_next : (c : ClusterState) (books : List BookState) (i : ℕ) (b : BookState) (least next : Option Next) → slice_get books i ≡ Some b → IsLeastOf c books i least → IsLesser c b least next → IsLeastOf c books (i + 1) next
+least_next c books i b least None here so is =
+    below_next (λ (x : BookState). (ev : Event) → IsNextOf c x ev → ⊥) books i b (subst (IsLeastOf c books i) is.0 so) here is.1
+least_next c books i b least (Some next) here so is = elim is [
+  | inl old ↦ subst (IsLeastOf c books i) old so
+  | inr new ↦ record { place = i; book = b; at = here; next = new }
+]
+
+pub lesser_same : (c : ClusterState) (whole : BookState) (least : Option Next) → ((ev : Event) → IsNextOf c whole ev → ⊥) → IsLesser c whole least least
+lesser_same c whole None none = (refl, none)
+lesser_same c whole (Some next) none = inl refl

@@ -1,0 +1,266 @@
+-- Journals and their books, and that refusals exclude each other.
+use Rattle.std.proofs.Common.{◌≡◌, ◌<◌, ◌≤◌, ◌+◌, ℕ, zero, suc, Bool, true, false, nat_lt, List, [], ◌∷◌, ◌++◌, length, map, take, get_or, Some, Result, Ok, Err, refl, sym, ap, ◌∙◌, subst, slice_get, arith, Bor}
+use Rattle.std.specs.Prelude.{IfOk, IfErr, IsErrAnd, MatchResult}
+use Rattle.std.specs.List.{AllByRecursion}
+use Rattle.std.proofs.lemmas.Bool.{ltb-true, ltb-false}
+use Rattle.std.proofs.lemmas.List.{map-append, take_more}
+use Rattle.std.proofs.lemmas.Option.{slice_get_within, get_or_from_slice_get}
+use Rattle.sc_members.specs.Members.{Config}
+use Rattle.sc_msg.specs.declared.message.Message.{Message}
+use Rattle.q_book.specs.State.{BookState}
+use Rattle.q_history.specs.State.{ClusterState}
+use Rattle.q_history.specs.Clusters.{start}
+use Rattle.q_history.proofs.Lists.{same_some, no_some}
+use Rattle.q_replay.specs.Journal.{journal_of, IsJournalled}
+use Rattle.q_replay.specs.Replayed.{IsFault}
+use Rattle.q_replay.specs.declared.fault.ReplayFault.{ReplayFault}
+use Rattle.q_replay.specs.declared.fault.ReplayFault.TheVariants as replay_fault
+use Rattle.q_merge.specs.Merging.{Step}
+use Rattle.q_merge.specs.Traces.{IsTrace}
+use Rattle.q_merge.specs.Gathered.{AreDistinct, AreRight, AgreeOn, AreTraces, IsGathered}
+use Rattle.q_merge.proofs.Merging.{same_first}
+use Rattle.q_merge.proofs.Tracing.{trace_some}
+use Rattle.q_merge.proofs.Beginning.{begins}
+use Rattle.q_merge.proofs.Finding.{no_numbers}
+use Rattle.q_gather.specs.Gather.{AreReplayed, Agree, Merge, Gathers, IsFaulty, IsRefused}
+use Rattle.q_merge.specs.Numbers.{NumberList}
+use Rattle.q_gather.specs.Faults.{of_replay}
+use Rattle.q_gather.specs.Heads.{IsUnfounded}
+use Rattle.q_gather.specs.Gathering.{IsGathering, IsMerged, IsStuck}
+use Rattle.q_gather.specs.declared.fault.GatherFault.{GatherFault}
+use Rattle.q_gather.specs.declared.fault.GatherFault.TheVariants.{Journal, IdUsed, BadFounders, NeverSent, OutOfMemory}
+use Rattle.q_gather.proofs.Finding.{get_take}
+
+-- ---- one journal after another
+
+all_snoc : (books : List BookState) (b : BookState) → AllByRecursion IsJournalled books → IsJournalled b → AllByRecursion IsJournalled (books ++ b ∷ [])
+all_snoc [] b all is = (is, tt)
+all_snoc (x ∷ xs) b all is = (all.0, all_snoc xs b all.1 is)
+
+pub replayed_next : (journals : List (List ℕ)) (books : List BookState) (place : ℕ) (b : BookState) → place < length journals → AreReplayed (take place journals) books → get_or journals place [] ≡ journal_of b → IsJournalled b
+    → AreReplayed (take (place + 1) journals) (books ++ b ∷ [])
+replayed_next journals books place b within before spelled is = record {
+  are =
+      take_more journals place [] within ∙ (λ i. before.are i ++ spelled i ∷ []) ∙ sym (map-append journal_of books (b ∷ []));
+  each = all_snoc books b before.each is;
+}
+
+-- the bytes at a place
+pub text_at : (js : List (Bor (List ℕ))) (k : ℕ) (d : Bor (List ℕ)) → k < length js → slice_get (map (λ (bytes : Bor (List ℕ)). bytes.now) js) k ≡ Some (get_or js k d).now
+text_at [] k d less = absurd (omega (arith, less))
+text_at (x ∷ xs) zero d less = refl
+text_at (x ∷ xs) (suc k) d less = text_at xs k d (omega (arith, less))
+
+pub replayed_text : (js : List (Bor (List ℕ))) (books more : List BookState) (place : ℕ) (d : Bor (List ℕ)) (b : BookState) → place < length js → AreReplayed (take place (map (λ (bytes : Bor (List ℕ)). bytes.now) js)) books
+    → (get_or js place d).now ≡ journal_of b → IsJournalled b → more ≡ books ++ b ∷ [] → AreReplayed (take (place + 1) (map (λ (bytes : Bor (List ℕ)). bytes.now) js)) more
+replayed_text js books more place d b less before spelled is grows =
+    let journals : List (List ℕ) = map (λ (bytes : Bor (List ℕ)). bytes.now) js in
+    let at = text_at js place d less in
+    subst (AreReplayed (take (place + 1) journals)) (sym grows)
+    (replayed_next journals books place b (slice_get_within journals place (get_or js place d).now at) before (get_or_from_slice_get journals place (get_or js place d).now [] at ∙ spelled) is)
+
+pub all_at : (books : List BookState) → AllByRecursion IsJournalled books → (k : ℕ) (b : BookState) → slice_get books k ≡ Some b → IsJournalled b
+all_at [] all k b at = absurd (no_some b at)
+all_at (x ∷ xs) all zero b at = subst IsJournalled (same_some x b at) all.0
+all_at (x ∷ xs) all (suc k) b at = all_at xs all.1 k b at
+
+-- ---- the start
+
+module _ (x : BookState) (xs : List BookState) (steps : List (Step Message)) (own : IsTrace x steps) (lists : List (List (Step Message))) (t : AreTraces xs lists) where
+  each_with : (k : ℕ) (b : BookState) → slice_get (x ∷ xs) k ≡ Some b → (s : List (Step Message)) × (slice_get (steps ∷ lists) k ≡ Some s) × IsTrace b s
+  each_with zero b at = (steps, refl, subst (λ (y : BookState). IsTrace y steps) (same_some x b at) own)
+  each_with (suc k) b at = t.each k b at
+
+  few_with : (k : ℕ) (s : List (Step Message)) → slice_get (steps ∷ lists) k ≡ Some s → (b : BookState) × (slice_get (x ∷ xs) k ≡ Some b)
+  few_with zero s at = (x, refl)
+  few_with (suc k) s at = t.few k s at
+
+  traces_with : AreTraces (x ∷ xs) (steps ∷ lists)
+  traces_with = record { each = each_with; few = few_with }
+
+traces_some : (books : List BookState) → AllByRecursion IsJournalled books → (lists : List (List (Step Message))) × AreTraces books lists
+traces_some [] all = ([], record { each = λ k b at. absurd (no_some b at); few = λ k s at. absurd (no_some s at) })
+traces_some (x ∷ xs) all =
+    let own = trace_some x all.0.replay in
+    let rest = traces_some xs all.1 in
+    (own.0 ∷ rest.0, traces_with x xs own.0 own.1 rest.0 rest.1)
+
+-- before any event
+pub gathering_starts : (books : List BookState) → AllByRecursion IsJournalled books → AreDistinct books → (config : Config) (founders : List ℕ) → AgreeOn books config founders → IsGathering books (start config founders) []
+gathering_starts books all distinct config founders agree =
+    let t = traces_some books all in
+    let right : AreRight books = λ k b at. (all_at books all k b at).right in
+    record {
+      lists = t.0;
+      traces = t.1;
+      left = t.0;
+      under_way = begins config founders books t.0 distinct right agree t.1;
+      on = λ m. m;
+      back = λ m. m;
+      numbered = no_numbers;
+    }
+
+-- ---- one answer
+
+abbrev pub OneBook : Type 0
+OneBook = (b c : BookState) → IsJournalled b → IsJournalled c → journal_of b ≡ journal_of c → b ≡ c
+
+abbrev pub NoFault : Type 0
+NoFault = (b : BookState) (e : ReplayFault) → IsJournalled b → IsFault (journal_of b) e → e ≡ replay_fault.OutOfMemory
+
+no_journals : (x : List ℕ) (xs : List (List ℕ)) → [] ≡ x ∷ xs → ⊥
+no_journals x xs h = absurd (cc)
+
+-- journals have one list of books
+books_one : OneBook → (books others : List BookState) → AllByRecursion IsJournalled books → AllByRecursion IsJournalled others → map journal_of books ≡ map journal_of others → books ≡ others
+books_one one [] [] all more same = refl
+books_one one [] (y ∷ ys) all more same = absurd (no_journals (journal_of y) (map journal_of ys) same)
+books_one one (x ∷ xs) [] all more same = absurd (no_journals (journal_of x) (map journal_of xs) (sym same))
+books_one one (x ∷ xs) (y ∷ ys) all more same =
+    let parts = same_first (journal_of x) (journal_of y) (map journal_of xs) (map journal_of ys) same in
+    let head = one x y all.0 more.0 parts.0 in
+    let rest = books_one one xs ys all.1 more.1 parts.1 in
+    λ i. head i ∷ rest i
+
+replayed_one : OneBook → (journals : List (List ℕ)) (books others : List BookState) → AreReplayed journals books → AreReplayed journals others → books ≡ others
+replayed_one one journals books others r s = books_one one books others r.each s.each (sym r.are ∙ s.are)
+
+-- each of the journals is that of a book
+journal_at : (books : List BookState) → AllByRecursion IsJournalled books → (k : ℕ) (bytes : List ℕ) → slice_get (map journal_of books) k ≡ Some bytes → (b : BookState) × IsJournalled b × (journal_of b ≡ bytes)
+journal_at [] all k bytes at = absurd (no_some bytes at)
+journal_at (x ∷ xs) all zero bytes at = (x, all.0, same_some (journal_of x) bytes at)
+journal_at (x ∷ xs) all (suc k) bytes at = journal_at xs all.1 k bytes at
+
+module _ (one : OneBook) (none : NoFault) (journals : List (List ℕ)) (books : List BookState) (r : AreReplayed journals books) where
+  not_faulty : (place : ℕ) (fault : ReplayFault) → IsFaulty journals place fault → ⊥
+  not_faulty place fault f =
+      let b = journal_at books r.each place f.bytes (ap (λ (x : List (List ℕ)). slice_get x place) (sym r.are) ∙ f.at) in
+      f.known (none b.0 fault b.1 (subst (λ (x : List ℕ). IsFault x fault) (sym b.2) f.is))
+
+  -- journals that merge are refused for want of memory alone
+  refused_memory : AreDistinct books → Agree books → Merge books → (e : GatherFault) → IsRefused journals e → e ≡ OutOfMemory
+  refused_memory distinct agree merge (Journal place fault) f = absurd (not_faulty place fault f)
+  refused_memory distinct agree merge IdUsed f = absurd (f.2 (subst AreDistinct (replayed_one one journals books f.0 r f.1) distinct))
+  refused_memory distinct agree merge BadFounders f = absurd (f.3 (subst Agree (replayed_one one journals books f.0 r f.1) agree))
+  refused_memory distinct agree merge NeverSent f = absurd (f.4 (subst Merge (replayed_one one journals books f.0 r f.1) merge))
+  refused_memory distinct agree merge OutOfMemory f = refl
+
+  pub gathers_all : (result : Result ClusterState GatherFault) → IfOk result (Gathers journals) → IfErr result (IsRefused journals) → AreDistinct books → Agree books → Merge books
+      → MatchResult result (IsGathered books) (λ e. e ≡ OutOfMemory)
+  gathers_all (Ok c) is refused distinct agree merge = subst (λ (x : List BookState). IsGathered x c) (replayed_one one journals is.books books is.replayed r) is.gathered
+  gathers_all (Err e) is refused distinct agree merge = refused_memory distinct agree merge e refused
+
+-- ---- one refusal
+
+abbrev pub OneFault : Type 0
+OneFault = (bytes : List ℕ) (d e : ReplayFault) → IsFault bytes d → IsFault bytes e → (d ≡ replay_fault.OutOfMemory → ⊥) → (e ≡ replay_fault.OutOfMemory → ⊥) → d ≡ e
+
+module _ (one : OneBook) (none : NoFault) (first : OneFault) (journals : List (List ℕ)) where
+  -- what stands before the first faulty bytes is a journal
+  not_before : (p q : ℕ) (f g : ReplayFault) → p < q → IsFaulty journals p f → IsFaulty journals q g → ⊥
+  not_before p q f g less x y =
+      let at : slice_get (take q journals) p ≡ Some x.bytes = get_take journals q p less ∙ x.at in
+      let b = journal_at y.before y.replayed.each p x.bytes (ap (λ (js : List (List ℕ)). slice_get js p) (sym y.replayed.are) ∙ at) in
+      x.known (none b.0 f b.1 (subst (λ (bytes : List ℕ). IsFault bytes f) (sym b.2) x.is))
+
+  one_place : (p q : ℕ) (f g : ReplayFault) → IsFaulty journals p f → IsFaulty journals q g → (a b : Bool) → nat_lt p q ≡ a → nat_lt q p ≡ b → p ≡ q
+  one_place p q f g x y true b is also = absurd (not_before p q f g (ltb-true p q is) x y)
+  one_place p q f g x y false true is also = absurd (not_before q p g f (ltb-true q p also) y x)
+  one_place p q f g x y false false is also =
+      let le : q ≤ p = ltb-false p q is in
+      let ge : p ≤ q = ltb-false q p also in
+      omega (arith, le, ge)
+
+  one_faulty : (p q : ℕ) (f g : ReplayFault) → IsFaulty journals p f → IsFaulty journals q g → Journal p f ≡ Journal q g
+  one_faulty p q f g x y =
+      let place : p ≡ q = one_place p q f g x y (nat_lt p q) (nat_lt q p) refl refl in
+      let bytes : x.bytes ≡ y.bytes = same_some x.bytes y.bytes (sym x.at ∙ ap (slice_get journals) place ∙ y.at) in
+      let fault : f ≡ g = first y.bytes f g (subst (λ (b : List ℕ). IsFault b f) bytes x.is) y.is x.known y.known in
+      λ i. Journal (place i) (fault i)
+
+  same_books : (books others : List BookState) → AreReplayed journals books → AreReplayed journals others → books ≡ others
+  same_books books others r s = replayed_one one journals books others r s
+
+  pub refused_one : (d e : GatherFault) → IsRefused journals d → IsRefused journals e → (d ≡ OutOfMemory → ⊥) → (e ≡ OutOfMemory → ⊥) → d ≡ e
+  refused_one OutOfMemory e x y loud known = absurd (loud refl)
+  refused_one d OutOfMemory x y loud known = absurd (known refl)
+  refused_one (Journal p f) (Journal q g) x y loud known = one_faulty p q f g x y
+  refused_one (Journal p f) IdUsed x y loud known = absurd (not_faulty one none journals y.0 y.1 p f x)
+  refused_one (Journal p f) BadFounders x y loud known = absurd (not_faulty one none journals y.0 y.1 p f x)
+  refused_one (Journal p f) NeverSent x y loud known = absurd (not_faulty one none journals y.0 y.1 p f x)
+  refused_one IdUsed (Journal q g) x y loud known = absurd (not_faulty one none journals x.0 x.1 q g y)
+  refused_one BadFounders (Journal q g) x y loud known = absurd (not_faulty one none journals x.0 x.1 q g y)
+  refused_one NeverSent (Journal q g) x y loud known = absurd (not_faulty one none journals x.0 x.1 q g y)
+  refused_one IdUsed IdUsed x y loud known = refl
+  refused_one IdUsed BadFounders x y loud known = absurd (x.2 (subst AreDistinct (same_books y.0 x.0 y.1 x.1) y.2))
+  refused_one IdUsed NeverSent x y loud known = absurd (x.2 (subst AreDistinct (same_books y.0 x.0 y.1 x.1) y.2))
+  refused_one BadFounders IdUsed x y loud known = absurd (y.2 (subst AreDistinct (same_books x.0 y.0 x.1 y.1) x.2))
+  refused_one NeverSent IdUsed x y loud known = absurd (y.2 (subst AreDistinct (same_books x.0 y.0 x.1 y.1) x.2))
+  refused_one BadFounders BadFounders x y loud known = refl
+  refused_one BadFounders NeverSent x y loud known = absurd (x.3 (subst Agree (same_books y.0 x.0 y.1 x.1) y.3))
+  refused_one NeverSent BadFounders x y loud known = absurd (y.3 (subst Agree (same_books x.0 y.0 x.1 y.1) x.3))
+  refused_one NeverSent NeverSent x y loud known = refl
+
+-- ---- refusals on the way
+
+-- the first that is no journal
+pub faulty : (journals : List (List ℕ)) (place : ℕ) (before : List BookState) (bytes : List ℕ) (fault : ReplayFault) → AreReplayed (take place journals) before → slice_get journals place ≡ Some bytes → IsFault bytes fault
+    → IsRefused journals (of_replay place fault)
+faulty journals place before bytes replay_fault.OutOfMemory r at is = tt
+faulty journals place before bytes (replay_fault.Form event) r at is =
+    record { before = before; replayed = r; bytes = bytes; at = at; is = is; known = λ e. no_memory e }
+  where
+    no_memory : (let f : ReplayFault = replay_fault.Form event in f) ≡ replay_fault.OutOfMemory → ⊥
+    no_memory e = cc
+faulty journals place before bytes (replay_fault.Mismatch event) r at is =
+    record { before = before; replayed = r; bytes = bytes; at = at; is = is; known = λ e. no_memory e }
+  where
+    no_memory : (let f : ReplayFault = replay_fault.Mismatch event in f) ≡ replay_fault.OutOfMemory → ⊥
+    no_memory e = cc
+
+-- the books before any event
+pub begins_gathering : (items x y z : List BookState) → x ≡ items → y ≡ items → z ≡ items → AllByRecursion IsJournalled items → AreDistinct x → (c d : ClusterState)
+    → ((config : Config) × (founders : List ℕ) × AgreeOn y config founders × (c ≡ start config founders)) → d ≡ c → (numbers : NumberList) → numbers ≡ [] → IsGathering z d numbers
+begins_gathering items x y z first second third all distinct c d agree same numbers none =
+    let begun : IsGathering items (start agree.0 agree.1) [] =
+    gathering_starts items all (subst AreDistinct first distinct) agree.0 agree.1 (subst (λ (b : List BookState). AgreeOn b agree.0 agree.1) second agree.2) in
+    subst (λ (b : List BookState). IsGathering b d numbers) (sym third)
+    (subst (λ (s : ClusterState). IsGathering items s numbers) (sym (same ∙ agree.3)) (subst (λ (n : NumberList). IsGathering items (start agree.0 agree.1) n) (sym none) begun))
+
+module _ (journals : List (List ℕ)) (items x y z : List BookState) (first : x ≡ items) (second : y ≡ items) (third : z ≡ items) (r : AreReplayed journals items) where
+  pub id_used : (AreDistinct x → ⊥) → IsRefused journals IdUsed
+  id_used none = (items, r, λ d. none (subst AreDistinct (sym first) d))
+
+  -- why no cluster was founded is why journals are not gathered
+  pub unfounded : AreDistinct x → (e : GatherFault) → IsUnfounded y e → IsRefused journals e
+  unfounded distinct BadFounders none = (items, r, subst AreDistinct first distinct, λ a. none (subst Agree (sym second) a))
+  unfounded distinct OutOfMemory none = tt
+  unfounded distinct (Journal place fault) none = absurd none
+  unfounded distinct IdUsed none = absurd none
+  unfounded distinct NeverSent none = absurd none
+
+  module _ (distinct : AreDistinct x) (config : Config) (founders : List ℕ) (agree : AgreeOn y config founders) where
+    agreed : Agree items
+    agreed = (config, founders, subst (λ (b : List BookState). AgreeOn b config founders) second agree)
+
+    pub stuck_on : (e : GatherFault) → IsStuck z e → IsRefused journals e
+    stuck_on NeverSent none = (items, r, subst AreDistinct first distinct, agreed, λ m. none (subst Merge (sym third) m))
+    stuck_on OutOfMemory none = tt
+    stuck_on (Journal place fault) none = absurd none
+    stuck_on IdUsed none = absurd none
+    stuck_on BadFounders none = absurd none
+
+    pub gathers_so : (c d : ClusterState) → IsMerged z c → d ≡ c → Gathers journals d
+    gathers_so c d m same = record {
+      books = items;
+      replayed = r;
+      distinct = subst AreDistinct first distinct;
+      agree = agreed;
+      merge = subst Merge third m.0;
+      gathered = subst (λ (s : ClusterState). IsGathered items s) (sym same) (subst (λ (b : List BookState). IsGathered b c) third m.1);
+    }
+
+-- a refusal that a call passes on
+pub passed : {A : Type 0} (P : GatherFault → Type 0) (e : GatherFault) (r : Result A GatherFault) → IsErrAnd r (λ x. x ≡ e) → P e → IfErr r P
+passed P e (Ok a) is holds = tt
+passed P e (Err x) is holds = subst P (sym is) holds

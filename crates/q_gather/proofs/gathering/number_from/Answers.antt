@@ -1,0 +1,7 @@
+use Rattle.q_gather.proofs.Numbering.{numbered_next}
+use Rattle.q_gather.proofs.gathering.number_from.Goals as goal
+
+pub loop-number-preserved : goal.loop-number-preserved
+loop-number-preserved c =
+    λ start. numbered_next c.numbers_are_least.ensures.next c.args.cluster.now.world.sent c.loop-number.numbers c.add.new.self c.in-Some.message.now c.loop-number.number c.in-Some.ensures
+    c.in_ok-add.ensures.legal c.in_ok-add.ensures.added (c.loop-number.invariant start)

@@ -1,0 +1,79 @@
+-- How far books are gathered, and what is next.
+use Rattle.std.specs.Prelude.{◌≡◌, ℕ, List, [], length, Option, Some, None, slice_get, ◌⊎◌}
+use Rattle.sc_msg.specs.declared.message.Message.{Message}
+use Rattle.q_desk.specs.declared.journal.Entry.{Entry}
+use Rattle.q_book.specs.State.{BookState}
+use Rattle.q_history.specs.declared.event.Event.{Event}
+use Rattle.q_history.specs.declared.event.Event.TheVariants as event
+use Rattle.q_history.specs.State.{ClusterState}
+use Rattle.q_cluster.specs.Acts.{book_at}
+use Rattle.q_merge.specs.Merging.{Step, Merges}
+use Rattle.q_merge.specs.Turns.{IsEventOf}
+use Rattle.q_merge.specs.Numbers.{NumberList, AreNumbers}
+use Rattle.q_merge.specs.Gathered.{AreTraces, IsGathered, IsUnderWay}
+use Rattle.q_gather.specs.Gather.{Merge}
+use Rattle.q_gather.specs.declared.gathering.Next.{Next}
+use Rattle.q_gather.specs.declared.fault.GatherFault.{GatherFault}
+use Rattle.q_gather.specs.declared.fault.GatherFault.TheVariants.{NeverSent, OutOfMemory}
+
+-- one of which this holds is found, or there is none
+abbrev pub Finds : {A : Type 0} → (A → Type 0) → Option A → Type 0
+Finds P None = (a : _) → P a → ⊥
+Finds P (Some a) = P a
+
+-- ---- what is next
+
+abbrev pub IsNextEntry : ClusterState → ℕ → Option Entry → Event → Type 0
+IsNextEntry c id None ev = ⊥
+IsNextEntry c id (Some e) ev = IsEventOf c id e ev
+
+abbrev pub IsNextAfter : ClusterState → BookState → Option BookState → Event → Type 0
+IsNextAfter c whole None ev = ev ≡ event.Enter whole.id
+IsNextAfter c whole (Some b) ev = IsNextEntry c whole.id (slice_get whole.desk.journal (length b.desk.journal)) ev
+
+-- by this event the node of the book goes on: it enters, or takes the entry behind those that it has taken
+abbrev pub IsNextOf : ClusterState → BookState → Event → Type 0
+IsNextOf c whole ev = IsNextAfter c whole (book_at c whole.id) ev
+
+-- the node of one of the books goes on by this event
+pub record IsNextAmong (c : ClusterState) (books : List BookState) (ev : Event) : Type 0 where
+  pub place : ℕ
+  pub book : BookState
+  pub at : slice_get books place ≡ Some book
+  pub next : IsNextOf c book ev
+
+-- what is next after one more book was looked at: what was, or the event of this book
+abbrev pub IsLesser : ClusterState → BookState → Option Next → Option Next → Type 0
+IsLesser c whole least None = (least ≡ None) × ((ev : Event) → IsNextOf c whole ev → ⊥)
+IsLesser c whole least (Some next) = (least ≡ Some next) ⊎ IsNextOf c whole next.event
+
+-- the node has taken all entries of its book
+pub record HasTaken (c : ClusterState) (whole : BookState) : Type 0 where
+  pub book : BookState
+  pub at : book_at c whole.id ≡ Some book
+  pub all : length book.desk.journal ≡ length whole.desk.journal
+
+abbrev pub HaveTaken : ClusterState → List BookState → Type 0
+HaveTaken c books = (k : ℕ) (b : BookState) → slice_get books k ≡ Some b → HasTaken c b
+
+-- ---- how far it came
+
+-- the books are gathered this far: their steps merge just where those that are left do
+pub record IsGathering (books : List BookState) (c : ClusterState) (numbers : NumberList) : Type 0 where
+  pub lists : List (List (Step Message))
+  pub traces : AreTraces books lists
+  pub left : List (List (Step Message))
+  pub under_way : IsUnderWay books c left
+  pub on : Merges Message [] lists → Merges Message c.world.sent left
+  pub back : Merges Message c.world.sent left → Merges Message [] lists
+  pub numbered : AreNumbers c.world.sent numbers
+
+-- all are gathered
+abbrev pub IsMerged : List BookState → ClusterState → Type 0
+IsMerged books c = Merge books × IsGathered books c
+
+-- why not all are
+abbrev pub IsStuck : List BookState → GatherFault → Type 0
+IsStuck books NeverSent = Merge books → ⊥
+IsStuck books OutOfMemory = Unit {0}
+IsStuck books f = ⊥

@@ -1,0 +1,215 @@
+//! Books on their way into a cluster.
+
+ghost use Rattle.std.specs.Prelude.{◌≡◌, ◌++◌, ℕ, List, [], take, IfOk, OnOk, IfErr, MatchBool};
+ghost use Rattle.sc_msg.specs.declared.message.Message.{Message};
+ghost use Rattle.q_book.specs.State.{BookState};
+ghost use Rattle.q_history.specs.declared.event.Stepped.{Stepped};
+ghost use Rattle.q_history.specs.Calls.{Follows};
+ghost use Rattle.q_merge.specs.Numbers.{AreNumbers};
+ghost use Rattle.q_merge.specs.Turns.{IsEventOf, IsJobFor};
+ghost use Rattle.q_gather.specs.Gathering.{Finds, IsNextOf, IsNextAmong, IsLesser, HasTaken, HaveTaken, IsGathering, IsMerged, IsStuck};
+
+use crate::fault::GatherFault;
+use crate::numbers::Numbers;
+use q_book::book::Book;
+use q_cluster::cluster::Cluster;
+use q_desk::journal::Entry;
+use q_history::event::Event;
+use q_merge::laws::numbers_are_least;
+use std::alloc::{AllocError, Global};
+
+/// The cluster of what was gathered so far, and the number of each message that was sent in it.
+#[derive(Drop)]
+pub(crate) struct Gathering {
+    cluster: Cluster,
+    numbers: Numbers,
+}
+
+impl Gathering {
+    /// Nothing is gathered yet into this cluster.
+    pub(crate) fn new(alloc: Global, cluster: Cluster) -> Gathering
+        ensures cluster { result.cluster ≡ cluster }
+        ensures numbers { result.numbers ≡ [] }
+    {
+        Gathering {
+            cluster,
+            numbers: Numbers::new(alloc),
+        }
+    }
+
+    pub(crate) fn into_cluster(self) -> Cluster
+        ensures { result ≡ self.cluster }
+    {
+        let Gathering {
+            cluster,
+            numbers: _,
+        } = self;
+        cluster
+    }
+
+    /// Takes events of the books, each of the least node that can go on, until none can. Refused with 82 where some are
+    /// left.
+    pub(crate) fn take_all(&mut self, books: &[Book]) -> Result<(), GatherFault>
+        requires { IsGathering books.now self.old.cluster self.old.numbers }
+        ensures ok { OnOk result (IsMerged books.now self.new.cluster) }
+        ensures err { IfErr result (IsStuck books.now) }
+    {
+        while let Some(event) = self.next(books)? {
+            self.take(&event)?;
+        }
+        if !self.have_taken(books) {
+            return Err(GatherFault::NeverSent);
+        }
+        Ok(())
+    }
+
+    /// Takes an event, and gives the messages that it sends their numbers.
+    fn take(&mut self, event: &Event) -> Result<(), AllocError>
+        ensures event { OnOk result ((told : Stepped) × Follows self.old.cluster event.now told self.new.cluster) }
+        ensures numbers { (outs : List Message) → AreNumbers self.old.cluster.world.sent self.old.numbers → self.new.cluster.world.sent ≡ self.old.cluster.world.sent ++ outs → OnOk result (AreNumbers self.new.cluster.world.sent self.new.numbers) }
+    {
+        let before = self.cluster.sent();
+        // An event that can go is refused for want of memory alone.
+        let Ok(_stepped) = self.cluster.step(event) else {
+            return Err(AllocError);
+        };
+        number_from(&self.cluster, &mut self.numbers, before)
+    }
+
+    /// The event of the least node that can go on.
+    fn next(&self, books: &[Book]) -> Result<Option<Event>, AllocError>
+        ensures { AreNumbers self.now.cluster.world.sent self.now.numbers → IfOk result (Finds (IsNextAmong self.now.cluster books.now)) }
+    {
+        let mut least = None;
+        for book in books {
+            least = self.lesser(least, book)?;
+        }
+        match least {
+            Some(Next { id: _, event }) => Ok(Some(event)),
+            None => Ok(None),
+        }
+    }
+
+    /// What is next, this or that of a book: that of the lesser node which can go on.
+    fn lesser(&self, least: Option<Next>, book: &Book) -> Result<Option<Next>, AllocError>
+        ensures { AreNumbers self.now.cluster.world.sent self.now.numbers → IfOk result (IsLesser self.now.cluster book.now least) }
+    {
+        let id = book.id();
+        if let Some(next) = &least {
+            if next.id < id {
+                return Ok(least);
+            }
+        }
+        match self.next_of(book)? {
+            Some(event) => Ok(Some(Next { id, event })),
+            None => Ok(least),
+        }
+    }
+
+    /// The event by which the node of a book goes on, where it can: it enters, or takes its next entry.
+    fn next_of(&self, book: &Book) -> Result<Option<Event>, AllocError>
+        ensures { AreNumbers self.now.cluster.world.sent self.now.numbers → IfOk result (Finds (IsNextOf self.now.cluster book.now)) }
+    {
+        let id = book.id();
+        let Some(now) = self.cluster.book(id) else {
+            return Ok(Some(Event::Enter(id)));
+        };
+        match book.journal().get(now.events()) {
+            Some(entry) => self.event_of(id, entry),
+            None => Ok(None),
+        }
+    }
+
+    /// The entry as an event of this node, where the message that it delivers was sent.
+    fn event_of(&self, node: u64, entry: &Entry) -> Result<Option<Event>, AllocError>
+        ensures { AreNumbers self.now.cluster.world.sent self.now.numbers → IfOk result (Finds (IsEventOf self.now.cluster node entry.now)) }
+    {
+        let event = match entry {
+            Entry::Leave => Event::Leave(node),
+            Entry::Register(program) => Event::Register {
+                node,
+                program: program.clone()?,
+            },
+            Entry::Ask { program, start } => Event::Ask {
+                node,
+                program: *program,
+                start: *start,
+            },
+            Entry::Store(value) => Event::Store {
+                node,
+                value: *value,
+            },
+            Entry::Deliver(message) => {
+                let Some(message) = self.numbers.find(message)? else {
+                    return Ok(None);
+                };
+                Event::Deliver { message, node }
+            }
+            Entry::HandOut => Event::HandOut(node),
+            Entry::Post { query, .. } => {
+                let Some(job) = self.job_for(node, *query)? else {
+                    return Ok(None);
+                };
+                Event::Finish(job)
+            }
+        };
+        Ok(Some(event))
+    }
+
+    /// The number of the job that this node handed out for this query.
+    fn job_for(&self, node: u64, query: usize) -> Result<Option<usize>, AllocError>
+        ensures { IfOk result (Finds (IsJobFor self.now.cluster.jobs node query)) }
+    {
+        for number in 0..usize::MAX {
+            let Some(job) = self.cluster.job(number) else {
+                return Ok(None);
+            };
+            if job.node() == node && job.query() == query {
+                return Ok(Some(number));
+            }
+        }
+        Err(AllocError)
+    }
+
+    /// Whether the nodes have taken all entries of their books.
+    fn have_taken(&self, books: &[Book]) -> bool
+        ensures { MatchBool result (HaveTaken self.now.cluster books.now) (HaveTaken self.now.cluster books.now → ⊥) }
+    {
+        for book in books {
+            if !self.has_taken(book) {
+                return false;
+            }
+        }
+        true
+    }
+
+    fn has_taken(&self, book: &Book) -> bool
+        ensures { MatchBool result (HasTaken self.now.cluster book.now) (HasTaken self.now.cluster book.now → ⊥) }
+    {
+        match self.cluster.book(book.id()) {
+            Some(now) => now.events() == book.events(),
+            None => false,
+        }
+    }
+}
+
+/// The event by which a node goes on.
+#[derive(Drop)]
+struct Next {
+    id: u64,
+    event: Event,
+}
+
+/// Gives the messages from this number on their numbers.
+fn number_from(cluster: &Cluster, numbers: &mut Numbers, first: usize) -> Result<(), AllocError>
+    ensures { AreNumbers (take first cluster.now.world.sent) numbers.old → OnOk result (AreNumbers cluster.now.world.sent numbers.new) }
+{
+    numbers_are_least();
+    for number in first..cluster.sent() {
+        let Some(message) = cluster.message(number) else {
+            return Err(AllocError);
+        };
+        numbers.add(message, number)?;
+    }
+    Ok(())
+}
