@@ -8,3 +8,4 @@
 #![tactic(auto)]
 
 pub mod words;
+pub mod worked;
