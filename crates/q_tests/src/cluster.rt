@@ -69,8 +69,18 @@ fn founded(rt: &HostRuntime) -> Result<Cluster, Fail> {
     }
 }
 
+/// The cluster after all of it.
+pub fn ran(rt: &HostRuntime) -> Result<Cluster, Fail> {
+    let mut cluster = founded(rt)?;
+    let events: Vec<Event> = STEPS.iter().map(|step| event(*step)).collect(rt.alloc())?;
+    match cluster.run(&events) {
+        Ok(()) => Ok(cluster),
+        Err((_, fault)) => Err(fault.into()),
+    }
+}
+
 /// The answer to node 2's only query.
-fn answer(cluster: &Cluster) -> Option<Ran> {
+pub fn answer(cluster: &Cluster) -> Option<Ran> {
     match cluster.book(2)?.answer(0) {
         Ok(answer) => answer,
         Err(_) => None,
@@ -87,9 +97,7 @@ fn refused(ran: Result<(), (usize, ClusterFault)>) -> Option<(usize, u8)> {
 
 #[test]
 fn a_list_of_events_is_run(rt: HostRuntime) -> Result<(), Fail> {
-    let mut cluster = founded(&rt)?;
-    let events: Vec<Event> = STEPS.iter().map(|step| event(*step)).collect(rt.alloc())?;
-    assert_eq!(rt; refused(cluster.run(&events)), None);
+    let cluster = ran(&rt)?;
     assert_eq!(rt; answer(&cluster), Some(Ran { acc: 1, steps: 3 }));
     Ok(())
 }

@@ -12,4 +12,6 @@ mod cluster;
 #[cfg(test)]
 mod command;
 #[cfg(test)]
+mod gather;
+#[cfg(test)]
 mod sim;
