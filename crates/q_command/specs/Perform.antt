@@ -26,8 +26,8 @@ use Rattle.q_sim.specs.Simulates.{IsSimulationFault, Simulates, Writing}
 use Rattle.q_command.specs.Audit.{Audits, IsUnaudited}
 use Rattle.q_command.specs.Listing.{listing_of}
 use Rattle.q_files.specs.declared.files.FileFault.{FileFault}
-use Rattle.q_command.specs.declared.perform.Ended.{Ended}
-use Rattle.q_command.specs.declared.perform.Ended.TheVariants.{Answered, Unsaved, Refused, Unwritten}
+use Rattle.q_command.specs.declared.perform.Outcome.{Outcome}
+use Rattle.q_command.specs.declared.perform.Outcome.TheVariants.{Answered, Unsaved, Refused, Unwritten}
 use Rattle.q_words.specs.declared.words.Line.{Line}
 use Rattle.q_words.specs.declared.words.Line.TheVariants.{Asm, Check, Run, Sim, Audit}
 
@@ -148,7 +148,7 @@ Refuses reads (Audit journal) old r new = RefusesFile reads IsUnaudited journal.
 
 -- The command ends so, over files and a writer that stand thus before and after: the writer took exactly the lines of the
 -- answer, or exactly the line of the refusal. Where the writer failed, it was given one of the two, and may have taken a part.
-abbrev pub Ends : {F : Type 0} → (F → List ℕ → Result (List ℕ) FileFault → F → Type 0) → Writing F → Line → F → Option (List ℕ) → Ended → F → Option (List ℕ) → Type 0
+abbrev pub Ends : {F : Type 0} → (F → List ℕ → Result (List ℕ) FileFault → F → Type 0) → Writing F → Line → F → Option (List ℕ) → Outcome → F → Option (List ℕ) → Type 0
 Ends reads writes line old before Answered new after = (lines : List ℕ) × Answers reads writes line old lines false new × Appends before after lines
 Ends reads writes line old before Unsaved new after = (lines : List ℕ) × Answers reads writes line old lines true new × Appends before after lines
 Ends reads writes line old before (Refused r) new after = Refuses reads line old r new × Appends before after (refusal_line r)
@@ -156,7 +156,7 @@ Ends reads writes line old before Unwritten new after =
     ((lines : List ℕ) × (unwritten : Bool) × Answers reads writes line old lines unwritten new) ⊎ ((r : Refusal) × Refuses reads line old r new)
 
 -- the exit status
-abbrev pub status_of : Ended → ℕ
+abbrev pub status_of : Outcome → ℕ
 status_of Answered = 0
 status_of Unsaved = 1
 status_of (Refused r) = 1

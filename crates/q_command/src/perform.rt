@@ -3,7 +3,7 @@
 ghost use Rattle.std.specs.Prelude.{◌≡◌, ◌≢◌, ℕ, List, false, IfOk, IfErr, string_bytes};
 ghost use Rattle.std.specs.Io.KnownBytes.{Appends};
 ghost use Rattle.q_command.specs.Perform.{Accepts, Answers, Computes, Ends, IsProgram, IsSimulated, IsUnaccepted, IsUnassembled, IsUnlisted, IsUnsimulated, Lists, Refuses, status_of};
-ghost use Rattle.q_command.specs.declared.perform.Ended.{Ended};
+ghost use Rattle.q_command.specs.declared.perform.Outcome.{Outcome};
 
 use crate::audit::audit;
 use crate::listing::listing;
@@ -21,7 +21,7 @@ use std::io::Write;
 
 /// How a command ended.
 #[derive(Clone, Copy, Debug, PartialEq, Eq)]
-pub enum Ended {
+pub enum Outcome {
     /// It wrote its answer, and each journal that it was to write.
     Answered,
     /// It wrote its answer, but a journal was not written.
@@ -134,18 +134,18 @@ pub fn carry_out<F: Files, W: Write>(
     line: &Line<'_>,
     files: &mut F,
     out: &mut W,
-) -> Ended
+) -> Outcome
     ensures { Ends F.read_gives F.write_gives line.now files.old (W.contents out.old) result files.new (W.contents out.new) }
 {
     match answer(alloc, line, files) {
         Ok(Printed { lines, unwritten }) => match out.write_all(lines.as_bytes()) {
-            Ok(()) if unwritten => Ended::Unsaved,
-            Ok(()) => Ended::Answered,
-            Err(_) => Ended::Unwritten,
+            Ok(()) if unwritten => Outcome::Unsaved,
+            Ok(()) => Outcome::Answered,
+            Err(_) => Outcome::Unwritten,
         },
         Err(refusal) => match writeln!(out, "{refusal}") {
-            Ok(()) => Ended::Refused(refusal),
-            Err(_) => Ended::Unwritten,
+            Ok(()) => Outcome::Refused(refusal),
+            Err(_) => Outcome::Unwritten,
         },
     }
 }
@@ -153,11 +153,11 @@ pub fn carry_out<F: Files, W: Write>(
 /// Runs a command, writes its answer or its refusal, and gives the exit status: 0, or 1 after a refusal, where a journal
 /// was not written, or where the writer fails.
 pub fn perform<F: Files, W: Write>(alloc: Global, line: &Line<'_>, files: &mut F, out: &mut W) -> u8
-    ensures ended { (ended : Ended) × Ends F.read_gives F.write_gives line.now files.old (W.contents out.old) ended files.new (W.contents out.new) × (result ≡ status_of ended) }
+    ensures ended { (outcome : Outcome) × Ends F.read_gives F.write_gives line.now files.old (W.contents out.old) outcome files.new (W.contents out.new) × (result ≡ status_of outcome) }
     ensures told { result ≡ 0 → (lines : List ℕ) × Answers F.read_gives F.write_gives line.now files.old lines false files.new × Appends (W.contents out.old) (W.contents out.new) lines }
 {
     match carry_out(alloc, line, files, out) {
-        Ended::Answered => 0,
-        Ended::Unsaved | Ended::Refused(_) | Ended::Unwritten => 1,
+        Outcome::Answered => 0,
+        Outcome::Unsaved | Outcome::Refused(_) | Outcome::Unwritten => 1,
     }
 }

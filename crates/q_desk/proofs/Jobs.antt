@@ -16,7 +16,7 @@ use Rattle.q_session.specs.declared.job.Job.{Job}
 use Rattle.q_desk.specs.State.{DeskState}
 use Rattle.q_desk.specs.declared.journal.Entry.{Entry}
 use Rattle.q_desk.specs.declared.journal.Entry.TheVariants as entry
-use Rattle.q_desk.specs.Desks.{most_entries, how_many_run, with_phase, is_ready, is_same_view, is_job_of, job_of, job_at, job_from, next_job, handed_out, posted}
+use Rattle.q_desk.specs.Desks.{most_events, how_many_run, with_phase, is_ready, is_same_view, is_job_of, job_of, job_at, job_from, next_job, handed_out, posted}
 use Rattle.q_session.specs.Jobs.{view_in, job_over}
 use Rattle.q_desk.specs.Answers.{IsDesk, IsAnswered}
 use Rattle.q_desk.proofs.Running.{run-handed}
@@ -94,7 +94,7 @@ pub handed : (s : DeskState) (node : ℕ) (j : Job) (queries : List Query) (jour
 handed s node j queries journal next a moves =
     let f = found s node j next in
     let room = a.room in
-    let small : nat_lt (length s.journal) most_entries ≡ true = search rules in
+    let small : nat_lt (length s.journal) most_events ≡ true = search rules in
     rw (← next, small, moves j.view f.query f.there f.ready, a.is) refl
 
 pub jobs-handed : (s : DeskState) (node : ℕ) (j : Job) (queries : List Query) → Some j ≡ next_job s node → ((view : ViewMap) → Moves s.queries queries j.query (Ready view) (Running view)) → how_many_run queries ≡ how_many_run s.queries + 1
@@ -120,7 +120,7 @@ pub posts : (s : DeskState) (node : ℕ) (j : Job) (ran : Ran) (q : Query) (view
 posts s node j ran q view queries journal own there phase fits a after =
     let same : (j.node == node) ≡ true = eq-eqb j.node node own in
     let room = a.room in
-    let small : nat_lt (length s.journal) most_entries ≡ true = search rules in
+    let small : nat_lt (length s.journal) most_events ≡ true = search rules in
     rw (same, there, phase, ← fits, small, after, a.is) refl
 
 -- ---- what passes the tests of a posted job

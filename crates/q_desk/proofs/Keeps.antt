@@ -12,7 +12,7 @@ use Rattle.q_session.specs.declared.query.Phase.{Phase}
 use Rattle.q_session.specs.declared.query.Phase.TheVariants.{Collecting, Ready, Running, Answered}
 use Rattle.q_session.specs.declared.query.Query.{Query}
 use Rattle.q_desk.specs.State.{DeskState}
-use Rattle.q_desk.specs.Desks.{most_queries, most_entries, in_phase, with_phase}
+use Rattle.q_desk.specs.Desks.{most_queries, most_events, in_phase, with_phase}
 use Rattle.q_desk.specs.declared.completed.Completed.{Completed}
 use Rattle.q_desk.specs.declared.journal.Entry.{Entry}
 use Rattle.q_desk.specs.Answers.{IsDesk, IsAnswered}
@@ -23,7 +23,7 @@ kept : (s t : DeskState) (q : Query) (view : ViewMap) (ran : Ran) → ((c : Cert
 kept s t q view ran front a = record { program = a.program; named = front a.program a.named; right = a.right }
 
 -- nothing else of a desk speaks of its journal
-pub desk-journal : (s : DeskState) (journal : List Entry) → IsDesk s → length journal ≤ most_entries → IsDesk (record s { journal = journal })
+pub desk-journal : (s : DeskState) (journal : List Entry) → IsDesk s → length journal ≤ most_events → IsDesk (record s { journal = journal })
 desk-journal s journal d few = record {
   table = d.table;
   few = d.few;
@@ -44,7 +44,7 @@ desk-ended s e d = record {
 
 -- the journal goes on with an entry, for which there was room
 pub record IsAppended (s : DeskState) (e : Entry) (journal : List Entry) : Type 0 where
-  pub room : length s.journal < most_entries
+  pub room : length s.journal < most_events
   pub is : journal ≡ s.journal ++ e ∷ []
 
 pub desk-appended : (s : DeskState) (e : Entry) (journal : List Entry) → IsAppended s e journal → IsDesk s → IsDesk (record s { journal = journal })

@@ -5,7 +5,7 @@ use Rattle.bq_check.specs.Certificate.{Certificate}
 use Rattle.q_table.specs.Programs.{IsTable}
 use Rattle.q_session.specs.Right.{IsRight}
 use Rattle.q_desk.specs.State.{DeskState}
-use Rattle.q_desk.specs.Desks.{most_queries, most_entries, how_many_run}
+use Rattle.q_desk.specs.Desks.{most_queries, most_events, how_many_run}
 use Rattle.q_session.specs.declared.ran.Ran.{Ran}
 use Rattle.q_session.specs.declared.query.Phase.TheVariants.{Answered}
 use Rattle.q_session.specs.declared.query.Query.{Query}
@@ -27,7 +27,7 @@ ProgramsAreKnown s = (k : ℕ) (q : Query) → slice_get s.queries k ≡ Some q 
 pub record IsDesk (s : DeskState) : Type 0 where
   pub table : IsTable s.programs
   pub few : length s.queries ≤ most_queries
-  pub brief : length s.journal ≤ most_entries
+  pub brief : length s.journal ≤ most_events
   pub known : ProgramsAreKnown s
   pub right : AnswersAreRight s
 

@@ -29,13 +29,13 @@ use Rattle.q_desk.specs.declared.fault.DeskFault.TheVariants as fault
 abbrev pub most_queries : ℕ
 most_queries = 4096
 
-abbrev pub most_entries : ℕ
-most_entries = 65536
+abbrev pub most_events : ℕ
+most_events = 65536
 
 -- ---- the journal
 
 abbrev pub has_room : DeskState → Bool
-has_room s = nat_lt (length s.journal) most_entries
+has_room s = nat_lt (length s.journal) most_events
 
 -- one more entry, if there is room
 abbrev pub room : {A : Type 0} → DeskState → Result A DeskFault → Result A DeskFault

@@ -30,8 +30,8 @@ use std::sync::Arc;
 /// The most queries of a desk.
 pub const MOST_QUERIES: usize = 4096;
 
-/// The most entries of a journal.
-pub const MOST_ENTRIES: usize = 65_536;
+/// The most events of a journal: its entries, the head aside.
+pub const MOST_EVENTS: usize = 65_536;
 
 /// The programs and queries of one node, its journal, and what its last accepted call ended. The journal has each call
 /// that was accepted and changed something, in turn. Contracts see a desk as the record of these.
@@ -81,7 +81,7 @@ impl Desk {
     pub fn has_room(&self) -> bool
         ensures { result ≡ desk.has_room self.now }
     {
-        self.journal.len() < MOST_ENTRIES
+        self.journal.len() < MOST_EVENTS
     }
 
     /// Whether the journal has room for a post: after Ok a post that is the next call is not refused with 53. Takes no
@@ -121,13 +121,14 @@ impl Desk {
     pub fn register(&mut self, certified: &Arc<Certified>) -> Result<ProgramId, DeskFault>
         ensures { Steps DeskFault.OutOfMemory (desk.registered self.old certified.now.value) self.old self.new result }
     {
-        self.programs.check(certified)?;
+        let keyed = self.programs.keyed(certified)?;
+        self.programs.check(&keyed)?;
         if !self.has_room() {
             return Err(DeskFault::BookFull);
         }
         self.journal.reserve(self.running + 1)?;
         let program = Program::share(certified)?;
-        let id = self.programs.register(certified)?;
+        let id = self.programs.take(keyed)?;
         let _count = self.programs.len();
         self.journal.push_reserved(Entry::Register(program));
         self.ended = None;

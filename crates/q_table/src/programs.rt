@@ -1,16 +1,16 @@
 //! Programs by their ids.
 
-ghost use Rattle.std.specs.Prelude.{◌≡◌, [], length, option_map, slice_get, position, Ok};
-ghost use Rattle.q_table.specs.Calls.{Steps, Gives};
+ghost use Rattle.std.specs.Prelude.{◌≡◌, [], length, option_map, slice_get, position, Ok, IfOk};
+ghost use Rattle.q_table.specs.Calls.{Steps};
 ghost use Rattle.q_table.specs.declared.fault.TableFault.TheVariants as fault;
 ghost use Rattle.q_table.specs.Programs.{registered, checked, IsTable};
 
 use crate::fault::TableFault;
+use crate::keyed::Keyed;
 use crate::program::{Program, ProgramId};
 use bq_check::certified::Certified;
-use bq_insn::encode::encode;
 use indexmap::IndexMap;
-use std::alloc::Global;
+use std::alloc::{AllocError, Global};
 use std::marker::Model;
 use std::sync::Arc;
 
@@ -53,7 +53,35 @@ impl Programs {
     pub fn register(&mut self, certified: &Arc<Certified>) -> Result<ProgramId, TableFault>
         ensures { Steps fault.OutOfMemory (registered self.old certified.now.value) self.old self.new result }
     {
-        let bytes = encode(self.alloc, certified.text())?;
+        let keyed = self.keyed(certified)?;
+        self.take(keyed)
+    }
+
+    /// A program with the bytes of its text, to be asked for and then taken. The one error is that memory ran out (99
+    /// OutOfMemory).
+    pub fn keyed(&self, certified: &Arc<Certified>) -> Result<Keyed, AllocError>
+        ensures { IfOk result (λ k. k ≡ certified.now.value) }
+    {
+        Keyed::of(self.alloc, certified)
+    }
+
+    /// Whether `take` would refuse the program for another cause than memory: with 52. Takes no memory.
+    pub fn check(&self, keyed: &Keyed) -> Result<(), TableFault>
+        ensures { result ≡ checked self.now keyed.now }
+    {
+        if self.by_text.get_index_of(&keyed.bytes).is_none()
+            && MOST_PROGRAMS <= self.by_text.len()
+        {
+            return Err(TableFault::Full);
+        }
+        Ok(())
+    }
+
+    /// Registers a program, as [`register`](Programs::register) does. Refused with 52, 99.
+    pub fn take(&mut self, keyed: Keyed) -> Result<ProgramId, TableFault>
+        ensures { Steps fault.OutOfMemory (registered self.old keyed) self.old self.new result }
+    {
+        let Keyed { bytes, program } = keyed;
         if let Some(id) = self.by_text.get_index_of(&bytes) {
             return Ok(ProgramId::new(id as u32));
         }
@@ -61,21 +89,10 @@ impl Programs {
         if MOST_PROGRAMS <= id {
             return Err(TableFault::Full);
         }
-        match self.by_text.insert(bytes, Program::share(certified)?) {
+        match self.by_text.insert(bytes, program) {
             Ok(_) => Ok(ProgramId::new(id as u32)),
             Err(_) => Err(TableFault::OutOfMemory),
         }
-    }
-
-    /// Whether `register` would refuse the program for another cause than memory: with 52; else 99.
-    pub fn check(&self, certified: &Certified) -> Result<(), TableFault>
-        ensures { Gives fault.OutOfMemory (checked self.now certified.now) result }
-    {
-        let bytes = encode(self.alloc, certified.text())?;
-        if self.by_text.get_index_of(&bytes).is_none() && MOST_PROGRAMS <= self.by_text.len() {
-            return Err(TableFault::Full);
-        }
-        Ok(())
     }
 
     /// The certificate of the program with this id, to share. Takes no memory.

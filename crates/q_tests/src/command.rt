@@ -1,6 +1,6 @@
 //! Commands whose writer fails.
 
-use q_command::perform::{Ended, carry_out, perform};
+use q_command::perform::{Outcome, carry_out, perform};
 use q_files::files::Files;
 use q_files::memory::MemoryFiles;
 use q_words::words::Line;
@@ -38,7 +38,7 @@ fn one_file(alloc: Global) -> Result<MemoryFiles, Fail> {
 }
 
 /// How the listing of one unit ends, with room for so many bytes.
-fn ends_with_room(alloc: Global, room: usize) -> Result<Ended, Fail> {
+fn ends_with_room(alloc: Global, room: usize) -> Result<Outcome, Fail> {
     let mut files = one_file(alloc)?;
     let mut out = Short { room };
     Ok(carry_out(alloc, &Line::Asm { file: "a" }, &mut files, &mut out))
@@ -46,8 +46,8 @@ fn ends_with_room(alloc: Global, room: usize) -> Result<Ended, Fail> {
 
 #[test]
 fn tells_that_the_writer_failed(rt: HostRuntime) -> Result<(), Fail> {
-    assert!(rt; ends_with_room(rt.alloc(), 16)? == Ended::Unwritten);
-    assert!(rt; ends_with_room(rt.alloc(), 17)? == Ended::Answered);
+    assert!(rt; ends_with_room(rt.alloc(), 16)? == Outcome::Unwritten);
+    assert!(rt; ends_with_room(rt.alloc(), 17)? == Outcome::Answered);
     Ok(())
 }
 
