@@ -20,8 +20,8 @@
 //!
 //! The tables stand in `specs/`, apart from the code: `Offsets`, `Kinds`, `Rules` with what each
 //! instruction makes of a state, `Edges`, `Listed` with the list that a call's edges are, and
-//! `Numbers`. `Covers` says what a state says of a machine's registers under a placement. `laws` has
-//! what follows for all states. No call takes memory, and none refuses an input.
+//! `Numbers`. `Covers` says what a state says of a machine's registers under a placement, and
+//! `Monotone` that of less an instruction leaves less. `laws` has what follows for all states. No call takes memory, and none refuses an input.
 //!
 //! The soundness of the rules, the checker and the verifier stand on this crate.
 //!
