@@ -4,7 +4,7 @@
 -- (`entry_full`) and the joins of such states are (`joined_full`). They rest on the law that the rows of ranges are
 -- monotone.
 use Rattle.std.proofs.Common.{◌≡◌, ℕ, zero, suc, ◌+◌, ◌*◌, ◌^◌, ◌<◌, ◌≤◌, List, [], ◌∷◌, ◌++◌, length, Option, Some, None, Bool, true, false, cond, arith, refl, sym, ap, subst, ◌∙◌, inl, inr}
-use Rattle.std.specs.Prelude.{◌⊎◌, ⊤, ℤ, pos, negsuc, ◌+ℤ◌, ◌-ℤ◌, int_le, Result, Ok, Err, slice_set, option_map}
+use Rattle.std.specs.Prelude.{⊤, ℤ, pos, negsuc, ◌+ℤ◌, ◌-ℤ◌, int_le, Result, Ok, Err, slice_set, option_map}
 use Rattle.std.proofs.lemmas.Int.{ints}
 use Rattle.std.proofs.lemmas.Bool.{cond_both, cases_eq, cases_lt, cases_Bool, eq-eqb, ne_eqb, lt-ltb, le-ltb, and_parts}
 use Rattle.std.proofs.lemmas.List.{get_or-set_same, get_or-set_other, get_or_past, set_past, length-set}
@@ -34,7 +34,7 @@ use Rattle.bq_range.specs.Table.{negated, sign_extended}
 use Rattle.bq_range.specs.Narrow.{branched}
 use Rattle.bq_range.specs.Monotone.{IsPart, LeavesLess, RowsAreMonotone}
 use Rattle.bq_state.specs.Offsets.{Span, SpanWithin, signed_of, limited, is_limited, moved_on, moved_back, fits}
-use Rattle.bq_state.specs.Kinds.{kind_of, KindCovers, StateCovers, join_kinds, join_states, entry_state}
+use Rattle.bq_state.specs.Kinds.{kind_of, KindCovers, join_kinds, join_states, entry_state}
 use Rattle.bq_state.specs.Monotone.{IsFullKind, IsFullState, IsAbove, IsRefinedAbove, SomeCovers, AreEdgesAbove, StatesAreOrdered, StatesAreMonotone}
 use Rattle.bq_state.proofs.Covering.{kind_covers_through, state_covers_itself, state_covers_through, join_covers, join_least, joined_count, joined_kind}
 use Rattle.bq_state.specs.Rules.{and_then, known, writable, number, allowed, readable, storable, sum_kind, difference_kind, pointer_kind, alu_kind, ordered_range, operand_kind, taken_kind, mapped, loaded_state, transfer}

@@ -2,7 +2,7 @@
 -- units: what arrives at a unit is below the note there of any notes that pass, since from less an instruction leaves
 -- less: by the laws that covering orders the states and that transfers, edges and joins are monotone. They speak of
 -- states of eleven kinds whose ranges are of words, and the entry's is one.
-use Rattle.std.proofs.Common.{◌≡◌, ℕ, zero, suc, ◌<◌, List, [], ◌∷◌, Option, Some, None, ap, sym, subst, ◌∙◌, refl, arith, inl, inr}
+use Rattle.std.proofs.Common.{◌≡◌, ℕ, zero, suc, ◌<◌, List, [], ◌∷◌, Option, Some, None, sym, subst, ◌∙◌, refl, arith, inl, inr}
 use Rattle.std.specs.Prelude.{◌≢◌, ◌==◌, Result, Ok, Err}
 use Rattle.std.specs.List.{fold}
 use Rattle.std.proofs.lemmas.Bool.{cases_Bool, eqb-true}
