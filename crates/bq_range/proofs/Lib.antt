@@ -8,3 +8,4 @@ pub mod Both
 pub mod Covers
 pub mod Monotone
 pub mod MonotoneEdges
+pub mod Parts

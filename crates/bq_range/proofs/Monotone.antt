@@ -14,7 +14,7 @@ use Rattle.bq_word.specs.declared.Width.{Width}
 use Rattle.bq_word.specs.declared.AluOp.{AluOp}
 use Rattle.bq_word.specs.declared.AluOp.TheVariants.{Add, Sub, Mul, Div, SignedDiv, Or, And, ShiftLeft, ShiftRight, Mod, SignedMod, Xor, Mov, ArithmeticShiftRight}
 use Rattle.bq_word.proofs.Bounds.{low_bound, operation_bound, extended_bound, swapped_bound}
-use Rattle.bq_range.specs.Interval.{Interval, IsIn, Within, between, single, is_single, top, whole, cut}
+use Rattle.bq_range.specs.Interval.{Interval, IsInterval, IsIn, Within, between, single, is_single, top, whole, cut}
 use Rattle.bq_range.specs.Table.{operated, row, sums, differences, products, quotients, remainders, ones, conjunctions, disjunctions, exclusive_disjunctions, shifted_left, left_shifts, right_shifts, arithmetic_right_shifts, negatives, negated, extensions, sign_extended, low_range, swapped_range}
 use Rattle.bq_range.proofs.Held.{choose_le, choose_lt, itself, div_mono, words}
 use Rattle.bq_range.proofs.Ones.{ones_above, ones_least, ones_power}
@@ -346,12 +346,9 @@ swapped_range_within bits a c o l =
 
 -- ---- ranges of words stay so
 
-abbrev pub IsFull : Interval → Type 0
-IsFull a = (a.lo ≤ a.hi) × (a.hi < 2 ^ 64)
-
 -- of one word a number, or else a range of numbers of the width
-full_of_one : (w n : ℕ) (t : Bool) (v : Interval) → 2 ^ w ≤ 2 ^ 64 → n < 2 ^ w → Fits w v → IsIn n (cond t (single n) v) → IsFull (cond t (single n) v)
-full_of_one w n t v p h k l = (omega (arith, l.low, l.high), omega (arith, p, fits_either w t (single n) v h k))
+full_of_one : (w n : ℕ) (t : Bool) (v : Interval) → 2 ^ w ≤ 2 ^ 64 → n < 2 ^ w → Fits w v → IsIn n (cond t (single n) v) → IsInterval (cond t (single n) v)
+full_of_one w n t v p h k l = record { ordered = omega (arith, l.low, l.high); words = omega (arith, p, fits_either w t (single n) v h k) }
 
 row_whole : (width : Width) (op : AluOp) → Fits (bits_of width) (row (bits_of width) op (whole (bits_of width)) (whole (bits_of width)))
 row_whole width Add = sums_fit (bits_of width) (whole (bits_of width)) (whole (bits_of width)) (whole_fits (bits_of width)) (whole_fits (bits_of width))
@@ -378,19 +375,19 @@ row_fits width op a b o p h k =
     let r = row_within width op a b (whole w) (whole w) (record { a_ordered = o; b_ordered = p; c_fits = whole_fits w; d_fits = whole_fits w; left = in_whole w a h; right = in_whole w b k }) in
     omega (arith, r.high, row_whole width op)
 
-pub operated_full : (width : Width) (op : AluOp) (a b : Interval) → a.lo ≤ a.hi → b.lo ≤ b.hi → IsFull (operated (bits_of width) op a b)
+pub operated_full : (width : Width) (op : AluOp) (a b : Interval) → a.lo ≤ a.hi → b.lo ≤ b.hi → IsInterval (operated (bits_of width) op a b)
 operated_full width op a b o p =
     let w = bits_of width in
     full_of_one w (operation w op a.lo b.lo) (is_single a && is_single b) (row w op (cut w a) (cut w b)) (words width) (operation_bound w op a.lo b.lo)
     (row_fits width op (cut w a) (cut w b) (cut_ordered w a o) (cut_ordered w b p) (cut_bound w a) (cut_bound w b))
     (operated_covers width op a b a.lo b.lo (least_of a a o (itself a)) (least_of b b p (itself b)))
 
-pub negated_full : (width : Width) (a : Interval) → a.lo ≤ a.hi → IsFull (negated (bits_of width) a)
+pub negated_full : (width : Width) (a : Interval) → a.lo ≤ a.hi → IsInterval (negated (bits_of width) a)
 negated_full width a o =
     let w = bits_of width in
     full_of_one w (operation w Sub 0 a.lo) (is_single a) (negatives w (cut w a)) (words width) (operation_bound w Sub 0 a.lo) (negatives_fit w (cut w a)) (negated_covers w a a.lo (least_of a a o (itself a)))
 
-pub sign_extended_full : (from : SignBits) (to : Width) (a : Interval) → a.lo ≤ a.hi → IsFull (sign_extended (sign_bits from) (bits_of to) a)
+pub sign_extended_full : (from : SignBits) (to : Width) (a : Interval) → a.lo ≤ a.hi → IsInterval (sign_extended (sign_bits from) (bits_of to) a)
 sign_extended_full from to a o =
     let w = bits_of to in
     let n = sign_bits from in
@@ -401,14 +398,14 @@ order_words B16 = omega arith
 order_words B32 = omega arith
 order_words B64 = omega arith
 
-pub low_range_full : (bits : SwapBits) (a : Interval) → a.lo ≤ a.hi → IsFull (low_range (swap_bits bits) a)
+pub low_range_full : (bits : SwapBits) (a : Interval) → a.lo ≤ a.hi → IsInterval (low_range (swap_bits bits) a)
 low_range_full bits a o =
     let n = swap_bits bits in
     full_of_one n (low n a.lo) (is_single a) (cond (ltb a.hi (2 ^ n)) a (whole n)) (order_words bits) (low_bound n a.lo)
     (choose_lt (Fits n) a.hi (2 ^ n) a (whole n) (λ s. s) (λ _. whole_fits n))
     (low_range_covers n a a.lo (least_of a a o (itself a)))
 
-pub swapped_range_full : (bits : SwapBits) (a : Interval) → a.lo ≤ a.hi → IsFull (swapped_range (swap_bits bits) a)
+pub swapped_range_full : (bits : SwapBits) (a : Interval) → a.lo ≤ a.hi → IsInterval (swapped_range (swap_bits bits) a)
 swapped_range_full bits a o =
     let n = swap_bits bits in
     full_of_one n (swapped n a.lo) (is_single a) (whole n) (order_words bits) (swapped_bound bits a.lo) (whole_fits n) (swapped_range_covers bits a a.lo (least_of a a o (itself a)))

@@ -2,3 +2,4 @@
 pub mod Interval
 pub mod Table
 pub mod Narrow
+pub mod Monotone

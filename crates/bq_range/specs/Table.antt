@@ -1,6 +1,6 @@
 -- The range that an operation leaves, one row for each operation: the first line of a row that fits.
 -- Unless a line says otherwise, operands are ranges of numbers of w bits.
-use Rattle.std.specs.Prelude.{ℕ, ◌+◌, ◌-◌, ◌*◌, ◌/◌, ◌%◌, ◌^◌, nat_lt, nat_le, min, max, if◌then◌else◌, ◌&&◌, ◌||◌}
+use Rattle.std.specs.Prelude.{◌≡◌, ◌≤◌, ℕ, ◌+◌, ◌-◌, ◌*◌, ◌/◌, ◌%◌, ◌^◌, nat_lt, nat_le, min, max, if◌then◌else◌, ◌&&◌, ◌||◌}
 use Rattle.std.specs.Int.Count.{count_leading_zeros}
 use Rattle.bq_word.specs.Word.{operation, low, swapped, extended}
 use Rattle.bq_word.specs.declared.AluOp.{AluOp}
@@ -30,9 +30,15 @@ remainders a b =
     if nat_le 1 b.lo then (if nat_lt a.hi b.lo then a else between 0 (min a.hi (b.hi - 1)))
     else between 0 a.hi
 
--- the least 2 ^ k - 1 that is at least the word x
+-- the least 2 ^ k - 1 that is at least the word x (the law `ones_is_least`)
 unfoldable pub ones : ℕ → ℕ
 ones x = 2 ^ (64 - count_leading_zeros 64 x) - 1
+
+-- n is the least 2 ^ k - 1 that is at least x
+pub record IsLeastOnes (x n : ℕ) : Type 0 where
+  pub power : (k : ℕ) × (n ≡ 2 ^ k - 1)
+  pub above : x ≤ n
+  pub least : (k : ℕ) → x ≤ 2 ^ k - 1 → n ≤ 2 ^ k - 1
 
 abbrev pub conjunctions : Interval → Interval → Interval
 conjunctions a b = between 0 (min a.hi b.hi)

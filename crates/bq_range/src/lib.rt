@@ -16,6 +16,9 @@
 //! range. Of single words the range is the exact result. What a branch leaves is the least range
 //! of the words that can be there.
 //!
+//! The rows are monotone too: smaller ranges in, smaller ranges out (`specs/Monotone.antt` and the law
+//! [`rows_are_monotone`](laws::rows_are_monotone)).
+//!
 //! The same facts stand as lemmas over the tables in `proofs/Covers.antt`, for proofs of crates
 //! above that speak of no call. What the tables say at telling operands, worked by hand, is the
 //! contract of [`worked`](worked::worked).
@@ -24,5 +27,6 @@
 //! programs stand on this crate.
 #![tactic(auto)]
 
+pub mod laws;
 pub mod range;
 pub mod worked;

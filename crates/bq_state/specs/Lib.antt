@@ -6,3 +6,4 @@ pub mod Edges
 pub mod Covers
 pub mod Listed
 pub mod Numbers
+pub mod Monotone

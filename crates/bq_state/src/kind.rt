@@ -49,8 +49,8 @@ fn in_record(at: Offsets, offset: i16, size: u32) -> Result<(), Rule>
 }
 
 impl Kind {
-    /// Whether what holds of the other holds of this one.
-    pub fn covers(self, other: Kind) -> bool
+    // Whether what holds of the other holds of this one.
+    pub(crate) fn covers(self, other: Kind) -> bool
         ensures { IsTrue result ↔ KindCovers self other }
     {
         match self {
@@ -70,8 +70,8 @@ impl Kind {
         }
     }
 
-    /// The least kind that covers both.
-    pub fn join(self, other: Kind) -> Kind
+    // The least kind that covers both.
+    pub(crate) fn join(self, other: Kind) -> Kind
         ensures { result ≡ join_kinds self other }
     {
         match self {

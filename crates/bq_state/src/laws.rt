@@ -8,29 +8,27 @@ ghost use Rattle.bq_word.specs.declared.Relation.{Relation};
 ghost use Rattle.bq_insn.specs.declared.insn.Insn.{Insn};
 ghost use Rattle.bq_insn.specs.declared.insn.Operand.{Operand};
 ghost use Rattle.bq_state.specs.declared.kind.Kind.{Kind};
-ghost use Rattle.bq_state.specs.Kinds.{StateCovers, join_states, entry_state};
+ghost use Rattle.bq_state.specs.Kinds.{join_states, entry_state};
 ghost use Rattle.bq_state.specs.Rules.{transfer};
 ghost use Rattle.bq_state.specs.Edges.{refined, edges};
+ghost use Rattle.bq_state.specs.Monotone.{StatesAreOrdered, StatesAreMonotone};
 
-/// A state covers itself.
-pub fn covers_itself()
-    ensures { (a : List Kind) → StateCovers a a }
+use bq_range::laws::rows_are_monotone;
+
+/// A state covers itself, what covers a state covers what that one covers, and the join of two states covers both and
+/// no more than any state that covers both.
+pub fn states_are_ordered()
+    ensures { StatesAreOrdered }
 {}
 
-/// What covers a state covers what that one covers.
-pub fn covers_through()
-    ensures { (a b c : List Kind) → StateCovers a b → StateCovers b c → StateCovers a c }
-{}
-
-/// The join of two states covers both.
-pub fn join_covers()
-    ensures { (a b : List Kind) → StateCovers (join_states a b) a × StateCovers (join_states a b) b }
-{}
-
-/// The join of two states covers no more than any state that covers both.
-pub fn join_is_least()
-    ensures { (a b c : List Kind) → length a ≡ length b → StateCovers c a → StateCovers c b → StateCovers c (join_states a b) }
-{}
+/// Of less an instruction leaves less: where it breaks no rule of a state, it breaks none of a state that this one
+/// covers, and what it leaves of that one is covered. So are each edge of a branch, the edges of an instruction and
+/// the joins of covered states. It is said of states of eleven kinds, as the entry's is.
+pub fn states_are_monotone()
+    ensures { StatesAreMonotone }
+{
+    rows_are_monotone();
+}
 
 /// The state at the entry has eleven kinds.
 pub fn entry_has_eleven()

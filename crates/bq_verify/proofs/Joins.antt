@@ -5,7 +5,7 @@ use Rattle.std.proofs.lemmas.List.Sums.{fold-append}
 use Rattle.bq_state.specs.declared.kind.Kind.{Kind}
 use Rattle.bq_flow.specs.Paths.{Among}
 use Rattle.bq_state.specs.Kinds.{StateCovers, join_states}
-use Rattle.bq_state.proofs.Covering.{state_covers_itself, state_covers_through, join_covers}
+use Rattle.bq_state.specs.Monotone.{StatesAreOrdered}
 use Rattle.bq_verify.specs.States.{joined}
 use Rattle.bq_verify.specs.Table.{extended}
 
@@ -23,13 +23,14 @@ extended_none (Some s) = refl
 
 -- ---- a join covers
 
-pub fold_covers_first : (s : List Kind) (xs : List (List Kind)) → StateCovers (fold join_states s xs) s
-fold_covers_first s [] = state_covers_itself s
-fold_covers_first s (x ∷ xs) = state_covers_through (fold join_states (join_states s x) xs) (join_states s x) s (fold_covers_first (join_states s x) xs) (join_covers s x).0
+module _ (order : StatesAreOrdered) where
+  pub fold_covers_first : (s : List Kind) (xs : List (List Kind)) → StateCovers (fold join_states s xs) s
+  fold_covers_first s [] = order.itself s
+  fold_covers_first s (x ∷ xs) = order.through (fold join_states (join_states s x) xs) (join_states s x) s (fold_covers_first (join_states s x) xs) (order.joined s x).0
 
-pub fold_covers : (s : List Kind) (xs : List (List Kind)) (x : List Kind) → Among x xs → StateCovers (fold join_states s xs) x
-fold_covers s [] x a = absurd a
-fold_covers s (y ∷ xs) x (inl e) =
-    let all : List Kind = fold join_states (join_states s y) xs in
-    subst (StateCovers all) (sym e) (state_covers_through all (join_states s y) y (fold_covers_first (join_states s y) xs) (join_covers s y).1)
-fold_covers s (y ∷ xs) x (inr a) = fold_covers (join_states s y) xs x a
+  pub fold_covers : (s : List Kind) (xs : List (List Kind)) (x : List Kind) → Among x xs → StateCovers (fold join_states s xs) x
+  fold_covers s [] x a = absurd a
+  fold_covers s (y ∷ xs) x (inl e) =
+      let all : List Kind = fold join_states (join_states s y) xs in
+      subst (StateCovers all) (sym e) (order.through all (join_states s y) y (fold_covers_first (join_states s y) xs) (order.joined s y).1)
+  fold_covers s (y ∷ xs) x (inr a) = fold_covers (join_states s y) xs x a

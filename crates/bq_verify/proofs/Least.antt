@@ -1,7 +1,8 @@
 -- The states of a text are the least that pass; where a rule is broken in them no notes pass. By induction over the
 -- units: what arrives at a unit is below the note there of any notes that pass, since from less an instruction leaves
--- less (bq_state/proofs/Monotone). That holds of states whose ranges have a word in them, and the entry's is one.
-use Rattle.std.proofs.Common.{◌≡◌, ℕ, zero, suc, ◌<◌, List, [], ◌∷◌, Option, Some, None, ap, sym, subst, ◌∙◌, refl, arith, inl, inr}
+-- less: by the laws that covering orders the states and that transfers, edges and joins are monotone. They speak of
+-- states of eleven kinds whose ranges are of words, and the entry's is one.
+use Rattle.std.proofs.Common.{◌≡◌, ℕ, zero, suc, ◌<◌, List, [], ◌∷◌, Option, Some, None, sym, subst, ◌∙◌, refl, arith, inl, inr}
 use Rattle.std.specs.Prelude.{◌≢◌, ◌==◌, Result, Ok, Err}
 use Rattle.std.specs.List.{fold}
 use Rattle.std.proofs.lemmas.Bool.{cases_Bool, eqb-true}
@@ -16,8 +17,7 @@ use Rattle.bq_state.specs.declared.rule.Rule.{Rule}
 use Rattle.bq_state.specs.Kinds.{StateCovers, join_states, entry_state}
 use Rattle.bq_state.specs.Rules.{transfer}
 use Rattle.bq_state.specs.Edges.{edges}
-use Rattle.bq_state.proofs.Monotone.{IsFullState, transfer_less, edges_less, entry_full, joined_full, Among as AmongEdges}
-use Rattle.bq_state.proofs.Covering.{state_covers_through, join_least}
+use Rattle.bq_state.specs.Monotone.{IsFullState, IsAbove, SomeCovers, AreEdgesAbove, StatesAreOrdered, StatesAreMonotone}
 use Rattle.bq_sound.specs.Passes.{note_at, NoteCovers, AllCovered, Passes}
 use Rattle.bq_sound.proofs.Among.{among_either}
 use Rattle.bq_sound.proofs.Along.{note_within}
@@ -34,24 +34,6 @@ use Rattle.bq_verify.proofs.Passing.{came}
 abbrev Notes : Type 0
 Notes = List (Option (List Kind))
 
--- a state that came to a unit came by an edge
-by_which : (unit : ℕ) (x : List Kind) (es : List (ℕ × List Kind)) → Among x (leading_to unit es) → AmongEdges (unit, x) es
-by_which unit x [] a = absurd a
-by_which unit x (f ∷ es) a = elim (cases_Bool (f.0 == unit)) [
-  | inl t ↦
-      let b : Among x (f.1 ∷ leading_to unit es) = rw t at a in
-      elim b [
-        | inl e ↦ inl (ap (λ (v : ℕ). (v, x)) (sym (eqb-true f.0 unit t)) ∙ ap (λ (y : List Kind). (f.0, y)) e)
-        | inr r ↦ inr (by_which unit x es r)
-      ]
-  | inr n ↦ inr (by_which unit x es (rw n at a))
-]
-
-edge_covered : (notes : Notes) (e : ℕ × List Kind) (es : List (ℕ × List Kind)) → AllCovered notes es → AmongEdges e es → NoteCovers notes e
-edge_covered notes e [] h a = absurd a
-edge_covered notes e (f ∷ es) h (inl is) = subst (NoteCovers notes) (sym is) h.0
-edge_covered notes e (f ∷ es) h (inr a) = edge_covered notes e es h.1 a
-
 same_note : (a b : List Kind) → Some a ≡ Some b → a ≡ b
 same_note a b e = cc
 
@@ -61,7 +43,7 @@ no_note a e = cc
 no_rule : (a : List Kind) (rule : Rule) → Ok a ≡ Err rule → ⊥
 no_rule a rule e = cc
 
-module _ (text : List Insn) (others : Notes) (text_is : IsText text) (passes : Passes record_length text others) where
+module _ (order : StatesAreOrdered) (monotone : StatesAreMonotone) (text : List Insn) (others : Notes) (text_is : IsText text) (passes : Passes record_length text others) where
   -- a state that the note at a unit covers
   record Below (unit : ℕ) (state : List Kind) : Type 0 where
     note : List Kind
@@ -75,8 +57,8 @@ module _ (text : List Insn) (others : Notes) (text_is : IsText text) (passes : P
       record {
         note = x.note;
         there = x.there;
-        covers = join_least a b x.note (x.full.count ∙ sym y.full.count) x.covers (subst (λ n. StateCovers n b) is y.covers);
-        full = joined_full a b x.full y.full;
+        covers = order.least a b x.note (x.full.count ∙ sym y.full.count) x.covers (subst (λ n. StateCovers n b) is y.covers);
+        full = (monotone.joins x.note y.note a b (x.covers, x.full) (y.covers, y.full)).1;
       }
 
   fold_below : (unit : ℕ) (s : List Kind) (xs : List (List Kind)) → Below unit s → ((x : List Kind) → Among x xs → Below unit x) → Below unit (fold join_states s xs)
@@ -88,19 +70,36 @@ module _ (text : List Insn) (others : Notes) (text_is : IsText text) (passes : P
   joined_below unit s (x ∷ xs) e all =
       subst (Below unit) (same_note (fold join_states x xs) s e) (fold_below unit x xs (all x (inl refl)) (λ y a. all y (inr a)))
 
+  -- an edge to a unit, below one whose state the note there covers
+  edge_below : (e : ℕ × List Kind) (fs : List (ℕ × List Kind)) → IsFullState e.1 → SomeCovers fs e → AllCovered others fs → Below e.0 e.1
+  edge_below e [] full h all = absurd h
+  edge_below e (f ∷ fs) full (inl h) all =
+      let c = all.0 in
+      record { note = c.note; there = subst (λ v. note_at others v ≡ Some c.note) h.0 c.there; covers = order.through c.note f.1 e.1 c.covers h.1; full = full }
+  edge_below e (f ∷ fs) full (inr h) all = edge_below e fs full h all.1
+
+  -- what edges bring to a unit is below the note there, where these edges lie below others that the notes cover
+  brought_below : (unit : ℕ) (x : List Kind) (es fs : List (ℕ × List Kind)) → AreEdgesAbove fs es → AllCovered others fs → Among x (leading_to unit es) → Below unit x
+  brought_below unit x [] fs h all a = absurd a
+  brought_below unit x (e ∷ es) fs h all a = elim (cases_Bool (e.0 == unit)) [
+    | inl t ↦
+        let b : Among x (e.1 ∷ leading_to unit es) = rw t at a in
+        let here : Below unit e.1 = subst (λ v. Below v e.1) (eqb-true e.0 unit t) (edge_below e fs h.0 h.1 all) in
+        elim b [ inl is ↦ subst (Below unit) (sym is) here | inr r ↦ brought_below unit x es fs h.2 all r ]
+    | inr n ↦ brought_below unit x es fs h.2 all (rw n at a)
+  ]
+
   -- what an instruction leaves of a state below a note is below the notes where it leads
   led_below : (n unit : ℕ) (i : Insn) (s after x : List Kind) → insn_at text n ≡ Some i → Below n s → transfer record_length i s ≡ Ok after → Among x (leading_to unit (edges n i after)) → Below unit x
   led_below n unit i s after x there h is a =
       let fine = passes.fine.each n h.note i (insn_within text n i there) h.there there in
-      let less = transfer_less record_length i h.note s fine.after (is_insn text n i text_is there) h.full h.covers fine.rules in
+      let less = monotone.transfers record_length i h.note s fine.after (is_insn text n i text_is there) (h.covers, h.full) fine.rules in
       let same : less.0 ≡ after = same_state less.0 after (sym less.1 ∙ is) in
-      let covers : StateCovers fine.after after = subst (StateCovers fine.after) same less.2 in
-      let edge = edges_less n i fine.after after (unit, x) (covers, subst IsFullState same less.3) (by_which unit x (edges n i after) a) in
-      let c = edge_covered others (unit, edge.1.0) (edges n i fine.after) fine.covered edge.1.1 in
-      record { note = c.note; there = c.there; covers = state_covers_through c.note edge.1.0 x c.covers edge.1.2; full = edge.0 }
+      let above : IsAbove fine.after after = subst (IsAbove fine.after) same less.2 in
+      brought_below unit x (edges n i after) (edges n i fine.after) (monotone.leads n i fine.after after above) fine.covered a
 
   entry_below : Below 0 (entry_state record_length)
-  entry_below = record { note = passes.entry.note; there = passes.entry.there; covers = passes.entry.covers; full = entry_full record_length (omega arith) }
+  entry_below = record { note = passes.entry.note; there = passes.entry.there; covers = passes.entry.covers; full = monotone.entry record_length (omega arith) }
 
   arrived_below : (notes : Notes) (unit n : ℕ) → ((v : ℕ) (s : List Kind) → v < unit → note_at notes v ≡ Some s → Below v s) → (x : List Kind) → Among x (arriving text notes unit n) → Below unit x
   arrived_below notes unit zero below x a = elim (cases_Bool (unit == 0)) [
@@ -144,7 +143,7 @@ module _ (text : List Insn) (others : Notes) (text_is : IsText text) (passes : P
   none_broken unit rule h =
       let b = states_below h.notes unit (suc unit) h.states unit h.state (omega arith) h.noted in
       let fine = passes.fine.each unit b.note h.insn (insn_within text unit h.insn h.there) b.there h.there in
-      let less = transfer_less record_length h.insn b.note h.state fine.after (is_insn text unit h.insn text_is h.there) b.full b.covers fine.rules in
+      let less = monotone.transfers record_length h.insn b.note h.state fine.after (is_insn text unit h.insn text_is h.there) (b.covers, b.full) fine.rules in
       no_rule less.0 rule (sym less.1 ∙ h.broken)
 
   none_refused : (fault : CheckFault) → IsRefused text fault → fault ≢ OutOfMemory → ⊥
@@ -156,8 +155,8 @@ module _ (text : List Insn) (others : Notes) (text_is : IsText text) (passes : P
   none_refused Entry h other = h
   none_refused (NotCovered unit) h other = h
 
-pub are_least : (text : List Insn) (notes : Notes) → IsText text → AreStates text notes (units text) → AreLeast text notes
-are_least text notes text_is are = record { each = λ others unit state passes noted. state_below text others text_is passes notes unit state are noted }
+pub are_least : StatesAreOrdered → StatesAreMonotone → (text : List Insn) (notes : Notes) → IsText text → AreStates text notes (units text) → AreLeast text notes
+are_least order monotone text notes text_is are = record { each = λ others unit state passes noted. state_below order monotone text others text_is passes notes unit state are noted }
 
-pub none_pass : (text : List Insn) (fault : CheckFault) → IsText text → IsRefused text fault → fault ≢ OutOfMemory → NonePass text
-none_pass text fault text_is refused other = λ notes passes. none_refused text notes text_is passes fault refused other
+pub none_pass : StatesAreOrdered → StatesAreMonotone → (text : List Insn) (fault : CheckFault) → IsText text → IsRefused text fault → fault ≢ OutOfMemory → NonePass text
+none_pass order monotone text fault text_is refused other = λ notes passes. none_refused order monotone text notes text_is passes fault refused other

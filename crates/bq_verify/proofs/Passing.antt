@@ -13,6 +13,7 @@ use Rattle.bq_state.specs.declared.rule.Rule.{Rule}
 use Rattle.bq_state.specs.Kinds.{StateCovers, join_states, entry_state}
 use Rattle.bq_state.specs.Rules.{transfer}
 use Rattle.bq_state.specs.Edges.{edges}
+use Rattle.bq_state.specs.Monotone.{StatesAreOrdered}
 use Rattle.bq_sound.specs.Passes.{note_at, NoteCovers, AllCovered, IsFine, Passes}
 use Rattle.bq_sound.proofs.Among.{among_left, among_right, among_either}
 use Rattle.bq_verify.specs.States.{joined, edges_after, edges_from, leading_to, arriving, AreStates, NoRuleBroken}
@@ -89,49 +90,50 @@ some_among : (xs : List (List Kind)) (s : List Kind) → joined xs ≡ Some s �
 some_among [] s e = absurd (let bad : none ≡ Some s = e in cc)
 some_among (x ∷ xs) s e = (x, inl refl)
 
-joined_covers : (xs : List (List Kind)) (x : List Kind) → Among x xs → (s : List Kind) × (joined xs ≡ Some s) × StateCovers s x
-joined_covers [] x a = absurd a
-joined_covers (y ∷ xs) x (inl e) = (fold join_states y xs, refl, subst (StateCovers (fold join_states y xs)) (sym e) (fold_covers_first y xs))
-joined_covers (y ∷ xs) x (inr a) = (fold join_states y xs, refl, fold_covers y xs x a)
+module _ (order : StatesAreOrdered) where
+  joined_covers : (xs : List (List Kind)) (x : List Kind) → Among x xs → (s : List Kind) × (joined xs ≡ Some s) × StateCovers s x
+  joined_covers [] x a = absurd a
+  joined_covers (y ∷ xs) x (inl e) = (fold join_states y xs, refl, subst (StateCovers (fold join_states y xs)) (sym e) (fold_covers_first order y xs))
+  joined_covers (y ∷ xs) x (inr a) = (fold join_states y xs, refl, fold_covers order y xs x a)
 
-noted : (text : List Insn) (notes : List (Option (List Kind))) (edge : ℕ × List Kind) → AreStates text notes (units text) → edge.0 < units text → Among edge.1 (arriving text notes edge.0 (units text)) → NoteCovers notes edge
-noted text notes edge a within arrived =
-    let j = joined_covers (arriving text notes edge.0 (units text)) edge.1 arrived in
-    record { note = j.0; there = a.each edge.0 within ∙ j.1; covers = j.2 }
+  noted : (text : List Insn) (notes : List (Option (List Kind))) (edge : ℕ × List Kind) → AreStates text notes (units text) → edge.0 < units text → Among edge.1 (arriving text notes edge.0 (units text)) → NoteCovers notes edge
+  noted text notes edge a within arrived =
+      let j = joined_covers (arriving text notes edge.0 (units text)) edge.1 arrived in
+      record { note = j.0; there = a.each edge.0 within ∙ j.1; covers = j.2 }
 
-all_of : (notes : List (Option (List Kind))) (es : List (ℕ × List Kind)) → ((edge : ℕ × List Kind) → Among edge es → NoteCovers notes edge) → AllCovered notes es
-all_of notes [] h = tt
-all_of notes (edge ∷ es) h = (h edge (inl refl), all_of notes es (λ f a. h f (inr a)))
+  all_of : (notes : List (Option (List Kind))) (es : List (ℕ × List Kind)) → ((edge : ℕ × List Kind) → Among edge es → NoteCovers notes edge) → AllCovered notes es
+  all_of notes [] h = tt
+  all_of notes (edge ∷ es) h = (h edge (inl refl), all_of notes es (λ f a. h f (inr a)))
 
-led : (text : List Insn) (unit : ℕ) (edge : ℕ × List Kind) (es : List (ℕ × List Kind)) → AllLead text unit es → Among edge es → Leads text unit edge.0
-led text unit edge [] l a = absurd a
-led text unit edge (f ∷ es) l (inl e) = subst (λ (g : ℕ × List Kind). Leads text unit g.0) (sym e) l.0
-led text unit edge (f ∷ es) l (inr a) = led text unit edge es l.1 a
+  led : (text : List Insn) (unit : ℕ) (edge : ℕ × List Kind) (es : List (ℕ × List Kind)) → AllLead text unit es → Among edge es → Leads text unit edge.0
+  led text unit edge [] l a = absurd a
+  led text unit edge (f ∷ es) l (inl e) = subst (λ (g : ℕ × List Kind). Leads text unit g.0) (sym e) l.0
+  led text unit edge (f ∷ es) l (inr a) = led text unit edge es l.1 a
 
-fine : (text : List Insn) (notes : List (Option (List Kind))) (unit : ℕ) (state : List Kind) (i : Insn) → IsText text → IsLegalFlow text → AreStates text notes (units text) → NoRuleBroken text notes (units text)
-    → unit < units text → note_at notes unit ≡ Some state → insn_at text unit ≡ Some i → IsFine record_length notes unit i state
-fine text notes unit state i text_is legal a unbroken within here there =
-    let ok = unbroken.each unit i state within there here in
-    record { after = ok.0; rules = ok.1; covered = all_of notes (edges unit i ok.0) (λ edge among. covered ok.0 ok.1 edge among) }
-  where
-    covered : (after : List Kind) → transfer record_length i state ≡ Ok after → (edge : ℕ × List Kind) → Among edge (edges unit i after) → NoteCovers notes edge
-    covered after passed edge among =
-        let leads : Leads text unit edge.0 = led text unit edge (edges unit i after) (edges_lead text unit i after text_is.few legal there) among in
-        let are : edges_from unit (insn_at text unit) (note_at notes unit) ≡ edges unit i after = rw (there, here, passed) refl in
-        let to : Among edge.1 (leading_to edge.0 (edges_from unit (insn_at text unit) (note_at notes unit))) =
-        subst (λ es. Among edge.1 (leading_to edge.0 es)) (sym are) (brought edge.0 edge (edges unit i after) refl among) in
-        noted text notes edge a (insn_within text edge.0 leads.insn leads.begins) (arrives text notes edge.0 unit (units text) edge.1 within to)
+  fine : (text : List Insn) (notes : List (Option (List Kind))) (unit : ℕ) (state : List Kind) (i : Insn) → IsText text → IsLegalFlow text → AreStates text notes (units text) → NoRuleBroken text notes (units text)
+      → unit < units text → note_at notes unit ≡ Some state → insn_at text unit ≡ Some i → IsFine record_length notes unit i state
+  fine text notes unit state i text_is legal a unbroken within here there =
+      let ok = unbroken.each unit i state within there here in
+      record { after = ok.0; rules = ok.1; covered = all_of notes (edges unit i ok.0) (λ edge among. covered ok.0 ok.1 edge among) }
+    where
+      covered : (after : List Kind) → transfer record_length i state ≡ Ok after → (edge : ℕ × List Kind) → Among edge (edges unit i after) → NoteCovers notes edge
+      covered after passed edge among =
+          let leads : Leads text unit edge.0 = led text unit edge (edges unit i after) (edges_lead text unit i after text_is.few legal there) among in
+          let are : edges_from unit (insn_at text unit) (note_at notes unit) ≡ edges unit i after = rw (there, here, passed) refl in
+          let to : Among edge.1 (leading_to edge.0 (edges_from unit (insn_at text unit) (note_at notes unit))) =
+          subst (λ es. Among edge.1 (leading_to edge.0 es)) (sym are) (brought edge.0 edge (edges unit i after) refl among) in
+          noted text notes edge a (insn_within text edge.0 leads.insn leads.begins) (arrives text notes edge.0 unit (units text) edge.1 within to)
 
-pub states_pass : (text : List Insn) (notes : List (Option (List Kind))) → IsText text → IsLegalFlow text → AreStates text notes (units text) → NoRuleBroken text notes (units text) → Passes record_length text notes
-states_pass text notes text_is legal a unbroken = record {
-  count = a.count;
-  flow = legal;
-  halves = record {
-    each = λ unit state within here.
-        let e : joined (arriving text notes unit (units text)) ≡ Some state = sym (a.each unit within) ∙ here in
-        let x = some_among (arriving text notes unit (units text)) state e in
-        begins text notes unit (units text) x.0 text_is legal x.1;
-  };
-  entry = noted text notes (0, entry_state record_length) a (omega (arith, text_is.some)) (entry_arrives text notes (units text));
-  fine = record { each = λ unit state i within here there. fine text notes unit state i text_is legal a unbroken within here there };
-}
+  pub states_pass : (text : List Insn) (notes : List (Option (List Kind))) → IsText text → IsLegalFlow text → AreStates text notes (units text) → NoRuleBroken text notes (units text) → Passes record_length text notes
+  states_pass text notes text_is legal a unbroken = record {
+    count = a.count;
+    flow = legal;
+    halves = record {
+      each = λ unit state within here.
+          let e : joined (arriving text notes unit (units text)) ≡ Some state = sym (a.each unit within) ∙ here in
+          let x = some_among (arriving text notes unit (units text)) state e in
+          begins text notes unit (units text) x.0 text_is legal x.1;
+    };
+    entry = noted text notes (0, entry_state record_length) a (omega (arith, text_is.some)) (entry_arrives text notes (units text));
+    fine = record { each = λ unit state i within here there. fine text notes unit state i text_is legal a unbroken within here there };
+  }

@@ -16,7 +16,7 @@ ghost use Rattle.bq_verify.specs.Refused.{IsRefused, IsBelow};
 ghost use Rattle.bq_verify.specs.Least.{AreLeast, NonePass};
 ghost use Rattle.bq_verify.specs.Table.{with_arrivals, IsFilled, AllWithin};
 
-use crate::laws::{refused_has_no_notes, states_are_least};
+use crate::laws::{refused_has_no_notes, states_are_least, states_pass};
 use bq_check::fault::CheckFault;
 use bq_check::notes::Notes;
 use bq_flow::flow::Flow;
@@ -113,6 +113,7 @@ pub fn verify(alloc: Global, text: &Text) -> Result<Notes, CheckFault>
     ensures refused { IfErr result (IsRefused text.now) }
     ensures none { IfErr result (λ fault. fault ≢ CheckFault.OutOfMemory → NonePass text.now) }
 {
+    states_pass();
     states_are_least();
     refused_has_no_notes();
     let states = fill(alloc, text, text.units())?;
@@ -120,11 +121,12 @@ pub fn verify(alloc: Global, text: &Text) -> Result<Notes, CheckFault>
 }
 
 /// What is known where the instruction at a unit begins, from the units below it; none where nothing
-/// reaches it, or behind the text. It tells why `verify` refuses a text at that unit.
+/// reaches it. It tells why `verify` refuses a text at that unit. Behind the text it is none of every text.
 ///
-/// Refused as by `verify` where the flow is refused, or where an instruction below the unit breaks a rule.
+/// Refused as by `verify` where the flow is refused, or where an instruction below the unit breaks a rule: where it
+/// answers, neither is so. 99 OutOfMemory may stand in place of any answer at a unit of the text.
 pub fn state_at(alloc: Global, text: &Text, unit: usize) -> Result<Option<State>, CheckFault>
-    ensures state { IfOk result (λ state. unit < units text.now → (notes : List (Option (List Kind))) × AreStates text.now notes unit × (state ≡ note_at notes unit)) }
+    ensures state { IfOk result (λ state. unit < units text.now → (notes : List (Option (List Kind))) × IsFilled text.now notes unit × (state ≡ note_at notes unit)) }
     ensures behind { units text.now ≤ unit → result ≡ Ok None }
     ensures refused { IfErr result (IsRefused text.now) }
     ensures below { IfErr result (IsBelow unit) }

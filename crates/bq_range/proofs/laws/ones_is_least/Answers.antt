@@ -1,0 +1,5 @@
+use Rattle.bq_range.proofs.Parts.{least_ones}
+use Rattle.bq_range.proofs.laws.ones_is_least.Goals as goal
+
+pub returns : goal.returns
+returns c = least_ones
