@@ -1,6 +1,6 @@
 -- From what a step tells to what a call ensures, for an asker.
-use Rattle.std.proofs.Common.{◌≡◌, ◌≢◌, ◌⊎◌, ℕ, zero, suc, ◌+◌, ◌-◌, ◌*◌, ◌<◌, ◌≤◌, eqb, cond, List, [], ◌∷◌, ◌++◌, map, length, set, refl, sym, ap, ◌∙◌, subst, inl, inr, ⊎_elim, arith, length-set, Option, Some, None, eq-eqb, ne_eqb}
-use mathlib.Core.Option.{some, none, some-injective, some-ne-none}
+use Rattle.std.proofs.Common.{◌≡◌, ◌≢◌, ℕ, ◌+◌, ◌-◌, ◌*◌, ◌<◌, eqb, cond, List, ◌∷◌, length, set, refl, sym, ap, ◌∙◌, subst, arith, length-set, Option, Some, None, eq-eqb, ne_eqb}
+use mathlib.Core.Option.{some, none}
 use mathlib.Core.Logic.{dite}
 use native.Mathlib.Decide.{ℕ_discrete}
 use prog.Atomic.{either}
@@ -8,7 +8,7 @@ use lib.ListN.{get_elem?}
 use Rattle.atomic_table.specs.Seated.{TableId}
 use Rattle.atomic_table.specs.Table.{step, Allows, rest}
 use Rattle.q_slots.specs.Rule.{Orderly}
-use Rattle.q_board.specs.Places.{times, has, lacks, jobs, bare}
+use Rattle.q_board.specs.Places.{times, lacks, jobs, bare}
 use Rattle.q_slots.specs.Plays.{Sat, asking, front, offering, looking, receiving, published, looked, taken}
 use Rattle.q_board.specs.AskerModel.{AskerModel, asker_model, IsAsker}
 use Rattle.q_board.specs.Calls.{Offers, LooksOnly, Receives}
@@ -22,9 +22,8 @@ use Rattle.q_slots.specs.declared.view.View.TheVariants.{Asker}
 use Rattle.q_slots.proofs.Moves.{at_lt}
 use Rattle.q_slots.proofs.AskerSteps.{publishes, looks, takes_result}
 use Rattle.q_slots.specs.Words.{found_of}
-use Rattle.q_slots.specs.declared.found.Found.{Found}
 use Rattle.q_slots.specs.declared.found.Found.TheVariants as found
-use Rattle.q_board.proofs.Rows.{tally, has_at, times_here, lacks_at, lacks_set_some, lacks_set_none, jobs_set}
+use Rattle.q_board.proofs.Rows.{times_here, lacks_at, lacks_set_some, lacks_set_none, jobs_set}
 
 -- the same at other names for the same numbers
 pub publish_allowed : (key slots id n k word : ℕ) (m : Sat) (a : Asking) (j : Job) (more : List (ℕ × Cell)) → slots ≡ key → a.number ≡ n → m ≡ (Asker a, (8 * n + k, cell.Offered j) ∷ more)
@@ -32,7 +31,7 @@ pub publish_allowed : (key slots id n k word : ℕ) (m : Sat) (a : Asking) (j : 
     → Allows (Orderly key) slots id m (8 * n + k) (λ _. word) (λ _. published (step slots (8 * n + k) word 0 none) m word)
 publish_allowed key slots id n k word m a j more sized num is near all free ready =
     subst (λ (x : ℕ). Allows (Orderly key) slots id m (8 * n + k) (λ _. x) (λ _. published (step slots (8 * n + k) x 0 none) m x)) (sym ready)
-    (    subst (λ (x : ℕ). Allows (Orderly key) x id m (8 * n + k) (λ _. 1) (λ _. published (step x (8 * n + k) 1 0 none) m 1)) (sym sized)
+    (subst (λ (x : ℕ). Allows (Orderly key) x id m (8 * n + k) (λ _. 1) (λ _. published (step x (8 * n + k) 1 0 none) m 1)) (sym sized)
     (subst (λ (y : Sat). Allows (Orderly key) key id y (8 * n + k) (λ _. 1) (λ _. published (step key (8 * n + k) 1 0 none) y 1)) (sym is)
     (subst (λ (x : ℕ). Allows (Orderly key) key id (Asker a, (8 * x + k, cell.Offered j) ∷ more) (8 * x + k) (λ _. 1) (λ _. published (step key (8 * x + k) 1 0 none) (Asker a, (8 * x + k, cell.Offered j) ∷ more) 1)) num
     (publishes key id a k near more j all free))))
@@ -77,8 +76,7 @@ module _ (z : TableId) (me : Sat) (n place : ℕ) (all free : List ℕ) (count c
 
       pub offer_keeps : (z' : TableId) → z' ≡ z → (count' : ℕ) → count' + 1 ≡ count → (cap' : ℕ) → cap' ≡ cap → IsAsker z' w n free count' cap'
       offer_keeps z' same count' fewer cap' as_large =
-          let e = ap (λ (x : Asking). x.row) view_is ∙ row_is in
-          (
+          let e = ap (λ (x : Asking). x.row) view_is ∙ row_is in (
             w_is ∙ ap (λ (x : Asking). (Asker x, bare (8 * n) free)) (sym view_is),
             ap (λ (x : Asking). x.number) view_is ∙ inv.1,
             ap (λ (x : Asking). x.opened) view_is ∙ inv.2,
@@ -92,15 +90,15 @@ module _ (z : TableId) (me : Sat) (n place : ℕ) (all free : List ℕ) (count c
 
       pub offer_told : (z' : TableId) → z' ≡ z → (old : AskerModel) → old ≡ asker_model z me.0 → Offers old (8 * n + place) j (asker_model z' w.0)
       offer_told z' same old old_is = subst (λ (x : AskerModel). Offers x (8 * n + place) j (asker_model z' w.0)) (sym old_is) (
-            ap (get_elem? a.row) spot ∙ is_free,
-            ap (λ (x : TableId). asker_model x w.0) same ∙ ap (λ (x : Sat). asker_model z x.0) w_is,
-          )
+        ap (get_elem? a.row) spot ∙ is_free,
+        ap (λ (x : TableId). asker_model x w.0) same ∙ ap (λ (x : Sat). asker_model z x.0) w_is,
+      )
 
 -- a word that is not 2 does not show a finished job
 not_finished : (x : ℕ) → x ≢ 2 → found_of x ≢ found.Finished
 not_finished x n = dite (ℕ_discrete x 0) (λ e h. let z : found.Empty ≡ found.Finished = sym (ap found_of e) ∙ h in cc)
     (λ m. dite (ℕ_discrete x 1) (λ e h. let z : found.Ready ≡ found.Finished = sym (ap found_of e) ∙ h in cc)
-        (λ k h. let z : found.Claimed (x - 3) ≡ found.Finished = sym (rw (ne_eqb x 0 m, ne_eqb x 1 k, ne_eqb x 2 n) refl) ∙ h in cc))
+    (λ k h. let z : found.Claimed (x - 3) ≡ found.Finished = sym (rw (ne_eqb x 0 m, ne_eqb x 1 k, ne_eqb x 2 n) refl) ∙ h in cc))
 
 -- A poll: the look
 module _ (z : TableId) (me : Sat) (n k : ℕ) (free : List ℕ) (count cap : ℕ) (near : k < 8) (inv : IsAsker z me n free count cap) where
@@ -112,7 +110,7 @@ module _ (z : TableId) (me : Sat) (n k : ℕ) (free : List ℕ) (count cap : ℕ
       subst (λ (x : ℕ). Allows (Orderly key) x id me i (λ x. x) (looked (step x i 0 0 none) me)) (sym sized)
       (subst (λ (y : Sat). Allows (Orderly key) key id y i (λ x. x) (looked (step key i 0 0 none) y)) (sym inv.0)
       (subst (λ (x : ℕ). Allows (Orderly key) key id (Asker a₀, bare (8 * n) free) x (λ x. x) (looked (step key x 0 0 none) (Asker a₀, bare (8 * n) free)))
-          (ap (λ (x : ℕ). 8 * x + k) inv.1 ∙ sym at) (looks key id a₀ k near (bare (8 * n) free))))
+      (ap (λ (x : ℕ). 8 * x + k) inv.1 ∙ sym at) (looks key id a₀ k near (bare (8 * n) free))))
 
   module _ (i slots r : ℕ) (m : Sat) (told : looked (step slots i 0 0 none) me r m) where
     m_is : m ≡ (Asker (looking a₀ i r), bare (8 * n) free)
@@ -123,16 +121,16 @@ module _ (z : TableId) (me : Sat) (n k : ℕ) (free : List ℕ) (count cap : ℕ
 
     pub look_keeps : (z' : TableId) → z' ≡ z → IsAsker z' m n free count cap
     look_keeps z' same = (
-        m_is ∙ ap (λ (x : Asking). (Asker x, bare (8 * n) free)) (sym asks),
-        ap (λ (x : Asking). x.number) asks ∙ inv.1,
-        ap (λ (x : Asking). x.opened) asks ∙ inv.2,
-        ap (λ (x : Asking). length x.row) asks ∙ inv.3,
-        omega (arith, ap (λ (x : Asking). jobs x.row) asks, inv.4),
-        (λ y. inv.5 y ∙ ap (λ (x : Asking). lacks x.row y) (sym asks)),
-        inv.6,
-        omega (arith, inv.7, ap (λ (x : TableId). x.words) same),
-        omega (arith, inv.8, ap (λ (x : TableId). x.words) same),
-      )
+      m_is ∙ ap (λ (x : Asking). (Asker x, bare (8 * n) free)) (sym asks),
+      ap (λ (x : Asking). x.number) asks ∙ inv.1,
+      ap (λ (x : Asking). x.opened) asks ∙ inv.2,
+      ap (λ (x : Asking). length x.row) asks ∙ inv.3,
+      omega (arith, ap (λ (x : Asking). jobs x.row) asks, inv.4),
+      (λ y. inv.5 y ∙ ap (λ (x : Asking). lacks x.row y) (sym asks)),
+      inv.6,
+      omega (arith, inv.7, ap (λ (x : TableId). x.words) same),
+      omega (arith, inv.8, ap (λ (x : TableId). x.words) same),
+    )
 
     pub look_shown : r ≡ 2 → (asking m.0).shown ≡ Some i
     look_shown e = ap (λ (x : Asking). x.shown) asks ∙ ap (λ (b : _). cond b (Some i) None) (eq-eqb r 2 e)
@@ -153,7 +151,7 @@ module _ (z : TableId) (me : Sat) (n k : ℕ) (free : List ℕ) (count cap : ℕ
         subst (λ (x : ℕ). Allows (Orderly key) x id me i (λ y. either (eqb y 2) 0 y) (taken (step x i 2 0 none) me)) (sym sized)
         (subst (λ (y : Sat). Allows (Orderly key) key id y i (λ x. either (eqb x 2) 0 x) (taken (step key i 2 0 none) y)) (sym inv.0)
         (subst (λ (x : ℕ). Allows (Orderly key) key id (Asker a₀, bare (8 * n) free) x (λ y. either (eqb y 2) 0 y) (taken (step key x 2 0 none) (Asker a₀, bare (8 * n) free)))
-            (sym here) (takes_result key id a₀ k near (bare (8 * n) free) (shown ∙ ap (λ (x : ℕ). Some x) here))))))
+        (sym here) (takes_result key id a₀ k near (bare (8 * n) free) (shown ∙ ap (λ (x : ℕ). Some x) here))))))
 
     module _ (slots r : ℕ) (w : Sat) (told : taken (step slots i 2 0 none) me r w) where
       abbrev d : Finished

@@ -1,6 +1,6 @@
 -- From what a step tells to what a call ensures, for a runner.
-use Rattle.std.proofs.Common.{◌≡◌, ◌≢◌, ◌⊎◌, ℕ, zero, suc, ◌+◌, ◌-◌, ◌*◌, ◌<◌, ◌≤◌, eqb, cond, List, [], ◌∷◌, ◌++◌, map, length, set, refl, sym, ap, ◌∙◌, subst, arith, length-set, Option, Some, None, eq-eqb, ne_eqb, zero-add}
-use mathlib.Core.Option.{some, none, some-injective, some-ne-none}
+use Rattle.std.proofs.Common.{◌≡◌, ◌≢◌, ℕ, ◌+◌, ◌-◌, ◌<◌, ◌≤◌, eqb, List, [], ◌∷◌, length, set, refl, sym, ap, ◌∙◌, subst, arith, length-set, Option, Some, None, ne_eqb, zero-add}
+use mathlib.Core.Option.{some, none}
 use mathlib.Core.Logic.{dite}
 use native.Mathlib.Decide.{ℕ_discrete}
 use prog.Atomic.{either}
@@ -19,20 +19,19 @@ use Rattle.q_session.specs.declared.ran.Ran.{Ran}
 use Rattle.q_session.specs.Done.{Finished}
 use Rattle.q_slots.specs.declared.cell.Cell.{Cell}
 use Rattle.q_slots.specs.declared.cell.Cell.TheVariants as cell
-use Rattle.q_slots.specs.declared.found.Found.{Found}
 use Rattle.q_slots.specs.declared.found.Found.TheVariants as found
 use Rattle.q_slots.specs.declared.view.Running.{Running}
 use Rattle.q_slots.specs.declared.view.View.{View}
 use Rattle.q_slots.specs.declared.view.View.TheVariants.{Runner}
 use Rattle.q_slots.proofs.Moves.{at_lt}
 use Rattle.q_slots.proofs.RunnerSteps.{tries, finishes, gives_back}
-use Rattle.q_board.proofs.Rows.{tally, has_at, has_set_none, has_set_some, jobs_set, jobs_room, jobs_nones, has_nones}
+use Rattle.q_board.proofs.Rows.{has_at, has_set_none, has_set_some, jobs_set, jobs_room, jobs_nones, has_nones}
 
 -- a word that is not 1 does not show a ready job
 pub not_ready : (x : ℕ) → x ≢ 1 → found_of x ≢ found.Ready
 not_ready x n = dite (ℕ_discrete x 0) (λ e h. let z : found.Empty ≡ found.Ready = sym (ap found_of e) ∙ h in cc)
     (λ m. dite (ℕ_discrete x 2) (λ e h. let z : found.Finished ≡ found.Ready = sym (ap found_of e) ∙ h in cc)
-        (λ k h. let z : found.Claimed (x - 3) ≡ found.Ready = sym (rw (ne_eqb x 0 m, ne_eqb x 1 n, ne_eqb x 2 k) refl) ∙ h in cc))
+    (λ k h. let z : found.Claimed (x - 3) ≡ found.Ready = sym (rw (ne_eqb x 0 m, ne_eqb x 1 n, ne_eqb x 2 k) refl) ∙ h in cc))
 
 -- the end of a claim: the slot is brought to the front, written, and given back by a store
 module _ (z : TableId) (me : Sat) (n : ℕ) (claims left : List ℕ) (count cap lanes next slot : ℕ) (j : Job) (inv : IsRunner z me n claims count cap lanes next)
@@ -98,7 +97,7 @@ module _ (z : TableId) (me : Sat) (n : ℕ) (claims left : List ℕ) (count cap 
     finish_told d ran job_is ran_is is = let done_is : d ≡ record { job = j; ran = ran } = λ i. record { job = job_is i; ran = ran_is i } in
         subst (λ (x : RunnerModel). Finishes x slot j ran (runner_model z' u.0 lanes next)) (sym old_is)
         (ap (λ (x : TableId). runner_model x u.0 lanes next) same ∙ ap (λ (x : Sat). runner_model z x.0 lanes next) is
-            ∙ ap (λ (x : Finished). runner_model z (Runner (finishing r slot (cell.Finished x))) lanes next) done_is)
+        ∙ ap (λ (x : Finished). runner_model z (Runner (finishing r slot (cell.Finished x))) lanes next) done_is)
 
     pub give_told : u ≡ (Runner (returning r slot), bare 0 left) → GivesBack old slot (runner_model z' u.0 lanes next)
     give_told is = subst (λ (x : RunnerModel). GivesBack x slot (runner_model z' u.0 lanes next)) (sym old_is)
@@ -116,7 +115,7 @@ module _ (z : TableId) (me : Sat) (n : ℕ) (claims : List ℕ) (count cap lanes
       (subst (λ (x : ℕ). Allows (Orderly key) x id me i (λ y. either (eqb y 1) word y) (tried (step x i 1 word none) me)) (sym sized)
       (subst (λ (y : Sat). Allows (Orderly key) key id y i (λ x. either (eqb x 1) word x) (tried (step key i 1 word none) y)) (sym inv.0)
       (subst (λ (x : ℕ). Allows (Orderly key) key id (Runner r₀, bare 0 claims) i (λ y. either (eqb y 1) x y) (tried (step key i 1 x none) (Runner r₀, bare 0 claims)))
-          (ap (λ (x : ℕ). 3 + x) inv.1 ∙ sym word_is) (tries key id r₀ i near (bare 0 claims)))))
+      (ap (λ (x : ℕ). 3 + x) inv.1 ∙ sym word_is) (tries key id r₀ i near (bare 0 claims)))))
 
   -- it missed
   module _ (slots word x : ℕ) (w : Sat) (miss : x ≢ 1) (told : tried (step slots i 1 word none) me x w) where
@@ -125,16 +124,16 @@ module _ (z : TableId) (me : Sat) (n : ℕ) (claims : List ℕ) (count cap lanes
 
     pub miss_keeps : (z' : TableId) → z' ≡ z → IsRunner z' w n claims count cap lanes next
     miss_keeps z' same = let now = ap (λ (y : Sat). running y.0) missed in (
-        missed ∙ ap (λ (y : Running). (Runner y, bare 0 claims)) (sym now),
-        ap (λ (y : Running). y.number) now ∙ inv.1,
-        ap (λ (y : Running). length y.held) now ∙ inv.2,
-        omega (arith, ap (λ (y : Running). jobs y.held) now, inv.3),
-        (λ k. inv.4 k ∙ ap (λ (y : Running). has y.held k) (sym now)),
-        inv.5,
-        omega (arith, inv.6, ap (λ (y : TableId). y.words) same),
-        inv.7,
-        inv.8,
-      )
+      missed ∙ ap (λ (y : Running). (Runner y, bare 0 claims)) (sym now),
+      ap (λ (y : Running). y.number) now ∙ inv.1,
+      ap (λ (y : Running). length y.held) now ∙ inv.2,
+      omega (arith, ap (λ (y : Running). jobs y.held) now, inv.3),
+      (λ k. inv.4 k ∙ ap (λ (y : Running). has y.held k) (sym now)),
+      inv.5,
+      omega (arith, inv.6, ap (λ (y : TableId). y.words) same),
+      inv.7,
+      inv.8,
+    )
 
     pub miss_told : (z' : TableId) → z' ≡ z → (old : RunnerModel) → old ≡ runner_model z me.0 lanes next → Misses old i (runner_model z' w.0 lanes next)
     miss_told z' same old old_is = subst (λ (y : RunnerModel). Misses y i (runner_model z' w.0 lanes next)) (sym old_is)

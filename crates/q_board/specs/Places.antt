@@ -1,5 +1,5 @@
 -- Places in a row of jobs.
-use Rattle.std.specs.Prelude.{◌≡◌, ℕ, zero, suc, ◌+◌, ◌*◌, ◌==◌, cond, List, [], ◌∷◌, map, Option, Some, None}
+use Rattle.std.specs.Prelude.{ℕ, zero, suc, ◌+◌, ◌==◌, cond, List, [], ◌∷◌, map, Option, Some, None}
 use Rattle.q_session.specs.declared.job.Job.{Job}
 use Rattle.q_slots.specs.declared.cell.Cell.{Cell}
 use Rattle.q_slots.specs.declared.cell.Cell.TheVariants.{Vacant}

@@ -19,7 +19,9 @@ use q_session::job::Job;
 use q_session::ran::Ran;
 use q_slots::cell::Cell;
 use q_slots::found::Found;
-use q_slots::rule::{Finish, GiveBack, MakeAsker, MakeRunner, Order, Publish, See, Take, TakeHome, Try};
+use q_slots::rule::{
+    Finish, GiveBack, MakeAsker, MakeRunner, Order, Publish, See, Take, TakeHome, Try,
+};
 use q_slots::view::View;
 use std::alloc::{AllocError, Global};
 use std::collections::VecDeque;
@@ -50,6 +52,7 @@ impl Board {
     ) -> Result<(Board, Vec<AskerSeat>, Vec<RunnerSeat>), OpenFault>
         ensures askers { IfOk result (λ made. made.1.items ≡ opened_askers (board_id made.0) askers) }
         ensures runners { IfOk result (λ made. made.2.items ≡ opened_runners (board_id made.0) (8 * askers) askers runners) }
+        ensures boards { IfOk result (λ made. All (λ s. s.table ≡ board_id made.0) made.1.items × All (λ s. s.table ≡ board_id made.0) made.2.items) }
         ensures counts { IfOk result (λ _. (1 ≤ askers) × (askers ≤ 16) × (1 ≤ runners) × (runners ≤ 64)) }
         ensures outside { ¬ ((1 ≤ askers) × (askers ≤ 16) × (1 ≤ runners) × (runners ≤ 64)) → result ≡ Err OpenFault.BadCount }
         ensures refused { result ≡ Err OpenFault.BadCount → ¬ ((1 ≤ askers) × (askers ≤ 16) × (1 ≤ runners) × (runners ≤ 64)) }

@@ -1,5 +1,5 @@
 -- Where each job is, by the rule.
-use Rattle.std.proofs.Common.{◌≡◌, ℕ, ◌+◌, ◌*◌, ◌<◌, ◌≤◌, List, length, map, get_or, refl, sym, ap, ◌∙◌, subst, inl, inr, arith, Option, Some, None}
+use Rattle.std.proofs.Common.{◌≡◌, ℕ, ◌+◌, ◌*◌, length, refl, sym, ap, ◌∙◌, inl, inr, arith, Option, Some}
 use Rattle.std.proofs.lemmas.List.{length-map}
 use mathlib.Core.Option.{some, some-injective}
 use lib.ListN.{get_elem?}
@@ -24,8 +24,14 @@ module _ (lanes : ℕ) (s : State Cell View) (o : Orderly lanes s) where
   account i (ready j) e = inl (word_is lanes s o i (ready j) empty e, home_is lanes s o i (ready j) empty e)
   account i (claimed r j) e = let x = o.claimant i r j e in let v = x.0 in
       let number : v.number ≡ r = o.placed r (Runner v) x.1 in
-      inr (inl (r, v, word_is lanes s o i (claimed r j) empty e, x.1, number,
-          o.fits r (Runner v) x.1 i (claimed r j) e ∙ ap (λ (n : ℕ). some (held_by n (claimed r j))) number ∙ ap (λ (y : Option Job). some y) (held_yes r j)))
+      inr (inl (
+        r,
+        v,
+        word_is lanes s o i (claimed r j) empty e,
+        x.1,
+        number,
+        o.fits r (Runner v) x.1 i (claimed r j) e ∙ ap (λ (n : ℕ). some (held_by n (claimed r j))) number ∙ ap (λ (y : Option Job). some y) (held_yes r j),
+      ))
   account i (finished d) e = let x = o.source i d e in
       inr (inr (d, refl, word_is lanes s o i (finished d) empty e, home_is lanes s o i (finished d) empty e, x.0, x.1, x.2, x.3))
 

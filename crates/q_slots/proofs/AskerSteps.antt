@@ -1,16 +1,15 @@
 -- Each step of an asker keeps the rule.
-use Rattle.std.proofs.Common.{◌≡◌, ◌≢◌, ◌⊎◌, ℕ, zero, suc, ◌+◌, ◌-◌, ◌*◌, ◌<◌, ◌≤◌, eqb, cond, List, [], ◌∷◌, ◌++◌, map, length, set, get_or, refl, sym, ap, ◌∙◌, subst, inl, inr, ⊎_elim, arith, length-set, Option, Some, None, eq-eqb, ne_eqb}
-use Rattle.std.proofs.lemmas.List.{map-set, length-map}
+use Rattle.std.proofs.Common.{◌≡◌, ◌≢◌, ℕ, zero, suc, ◌+◌, ◌-◌, ◌*◌, ◌<◌, eqb, cond, List, [], ◌∷◌, ◌++◌, map, length, set, get_or, refl, sym, ap, ◌∙◌, subst, inl, inr, ⊎_elim, arith, length-set, Option, Some, None, eq-eqb, ne_eqb}
+use Rattle.std.proofs.lemmas.List.{map-set}
 use mathlib.Core.Option as opt
 use mathlib.Core.Option.{some, none, some-injective, some-ne-none}
 use mathlib.Core.Logic.{dite}
 use native.Mathlib.Decide.{ℕ_discrete, dec_le}
 use prog.Atomic.{either}
 use lib.ListN.{get_elem?}
-use Rattle.atomic_table.specs.Table.{State, Me, step, Act, keeps, takes, gives, Valid, carried_after, stepped, Allows}
+use Rattle.atomic_table.specs.Table.{State, step, keeps, takes, gives, Allows}
 use Rattle.atomic_table.proofs.Lists.{at_set, set_here, set_else, set_again, at_map}
 use Rattle.q_slots.specs.Phase.{Phase, fresh, empty, ready, claimed, finished, code, shelf, job_of, held_by, IsFresh, IsFinished}
-use Rattle.q_slots.specs.Words.{found_of}
 use Rattle.q_slots.specs.Rule.{total, weight, place, Balanced, FitsSlot, Fits, Orderly}
 use Rattle.q_slots.specs.Plays.{Sat, offering, looking, receiving, opening_more, published, looked, taken, took_home}
 use Rattle.q_session.specs.declared.job.Job.{Job}
@@ -19,10 +18,9 @@ use Rattle.q_slots.specs.declared.cell.Cell.{Cell}
 use Rattle.q_slots.specs.declared.cell.Cell.TheVariants as cell
 use Rattle.q_slots.specs.declared.found.Look.{Look}
 use Rattle.q_slots.specs.declared.view.Asking.{Asking}
-use Rattle.q_slots.specs.declared.view.Running.{Running}
 use Rattle.q_slots.specs.declared.view.View.{View}
-use Rattle.q_slots.specs.declared.view.View.TheVariants.{Maker, Asker, Runner}
-use Rattle.q_slots.proofs.Moves.{board, at_lt, there, at_get, one_value, Alike, Apart, others, moves}
+use Rattle.q_slots.specs.declared.view.View.TheVariants.{Asker}
+use Rattle.q_slots.proofs.Moves.{board, at_lt, there, at_get, others, moves}
 
 module _ {A : Type 0} (g : A → ℕ) where
   pub total-append : (l m : List A) → total g (l ++ m) ≡ total g l + total g m
@@ -72,13 +70,13 @@ module _ (lanes : ℕ) (s : State Cell View) (o : Orderly lanes s) (id : ℕ) (a
   mine : Fits o.phases (length s.views) (Asker a) → k < 8 → length row ≡ 8 → Balanced now → FitsSlot now k q
       → ((j : ℕ) (x : Phase) → j < 8 → j ≢ k → FitsSlot a j x → FitsSlot now j x) → Fits (set o.phases at q) (length s.views) (Asker now)
   mine f h wide even here else = let long = length-set o.phases at q in let f₀ = f.0 in (
-      omega arith,
-      wide,
-      even,
-      λ j x near e. ⊎_elim
-          (λ t. let t₀ = t.0 in let same : k ≡ j = omega arith in subst (FitsSlot now j) t.1 (subst (λ (n : ℕ). FitsSlot now n q) same here))
-          (λ t. let t₀ = t.0 in else j x near (λ same. t.0 (ap (λ (n : ℕ). 8 * a.number + n) same)) (f.3 j x near t.1)) (at_set o.phases at (8 * a.number + j) q x e)
-    )
+    omega arith,
+    wide,
+    even,
+    λ j x near e. ⊎_elim
+        (λ t. let t₀ = t.0 in let same : k ≡ j = omega arith in subst (FitsSlot now j) t.1 (subst (λ (n : ℕ). FitsSlot now n q) same here))
+        (λ t. let t₀ = t.0 in else j x near (λ same. t.0 (ap (λ (n : ℕ). 8 * a.number + n) same)) (f.3 j x near t.1)) (at_set o.phases at (8 * a.number + j) q x e),
+  )
 
   pub asker_moves : (n : ℕ) (hs : List (opt.Option Cell)) → k < 8 → get_elem? o.phases at ≡ some p → get_elem? s.views id ≡ some (Asker a)
       → code q ≡ n → hs ≡ map shelf (set o.phases at q)
@@ -91,14 +89,14 @@ module _ (lanes : ℕ) (s : State Cell View) (o : Orderly lanes s) (id : ℕ) (a
       let sits = o.placed id (Asker a) me in
       let near = at_lt s.views id (Asker a) me in
       moves lanes s o at id p q (Asker a) (Asker now) n hs is me refl coded home
-          (mine f h wide even here else)
-          (λ u away fits. others o.phases (length s.views) at p q is (λ _. inl (omega arith)) u
-              (λ b e. let far : place (Asker b) ≢ place (Asker a) = λ z. away (ap place e ∙ z) in
-                  inl (dite (dec_le b.number a.number) (λ le. inr (omega arith)) (λ gt. inl (omega arith))))
-              (λ r e. held r.number) fits)
-          (λ x e. cc)
-          (λ r j e. inl (claims r j e))
-          (λ d e. inl (ends d e))
+      (mine f h wide even here else)
+      (λ u away fits. others o.phases (length s.views) at p q is (λ _. inl (omega arith)) u
+      (λ b e. let far : place (Asker b) ≢ place (Asker a) = λ z. away (ap place e ∙ z) in
+      inl (dite (dec_le b.number a.number) (λ le. inr (omega arith)) (λ gt. inl (omega arith))))
+      (λ r e. held r.number) fits)
+      (λ x e. cc)
+      (λ r j e. inl (claims r j e))
+      (λ d e. inl (ends d e))
 
 some_injective : {A : Type 0} (x y : A) → Some x ≡ Some y → x ≡ y
 some_injective x y e = cc
@@ -122,8 +120,7 @@ module _ (lanes id : ℕ) (a : Asking) (k : ℕ) (near : k < 8) where
       let is : get_elem? o.phases spot ≡ some empty = t.1 ∙ ap (λ (y : Phase). some y) p_is in
       let row : List (Option Job) = set a.row (spot - 8 * a.number) (Some j) in
       let row_is : row ≡ set a.row k (Some j) = ap (λ (n : ℕ). set a.row n (Some j)) spot_back in
-      let here : get_elem? row k ≡ some (Some j) = ap (λ (l : List (Option Job)). get_elem? l k) row_is ∙ set_here a.row k (Some j) (omega (arith, f.1)) in
-      (
+      let here : get_elem? row k ≡ some (Some j) = ap (λ (l : List (Option Job)). get_elem? l k) row_is ∙ set_here a.row k (Some j) (omega (arith, f.1)) in (
         Asker (offering a spot (cell.Offered j)),
         gives,
         tt,
@@ -149,8 +146,7 @@ module _ (lanes id : ℕ) (a : Asking) (k : ℕ) (near : k < 8) where
       let t = there o.phases spot (omega arith) in let p = t.0 in
       let slot = f.3 k p near t.1 in
       let w : ℕ = get_or s.words spot 0 in
-      let word = word_is lanes s o spot p p t.1 in
-      (
+      let word = word_is lanes s o spot p p t.1 in (
         Asker (looking a spot w),
         keeps,
         tt,
@@ -179,8 +175,7 @@ module _ (lanes id : ℕ) (a : Asking) (k : ℕ) (near : k < 8) where
       let row : List (Option Job) = set a.row (spot - 8 * a.number) None in
       let row_is : row ≡ set a.row k None = ap (λ (n : ℕ). set a.row n None) spot_back in
       let open_job : get_elem? a.row k ≡ some (Some d.job) = slot.0 ∙ ap (λ (y : Phase). some (job_of y)) done.1 in
-      let here : get_elem? row k ≡ some None = ap (λ (l : List (Option Job)). get_elem? l k) row_is ∙ set_here a.row k None (omega (arith, f.1)) in
-      (
+      let here : get_elem? row k ≡ some None = ap (λ (l : List (Option Job)). get_elem? l k) row_is ∙ set_here a.row k None (omega (arith, f.1)) in (
         Asker (receiving a spot d),
         takes spot (cell.Finished d),
         home_is lanes s o spot (finished d) empty is,
@@ -205,8 +200,7 @@ module _ (lanes id : ℕ) (a : Asking) (k : ℕ) (near : k < 8) where
       let p_is : p ≡ fresh = slot.2 (omega arith) in
       let is : get_elem? o.phases spot ≡ some fresh = t.1 ∙ ap (λ (y : Phase). some y) p_is in
       let w : ℕ = get_or s.words spot 0 in
-      let word : w ≡ 0 = word_is lanes s o spot fresh empty is in
-      (
+      let word : w ≡ 0 = word_is lanes s o spot fresh empty is in (
         Asker (opening_more a),
         takes spot cell.Vacant,
         home_is lanes s o spot fresh empty is,

@@ -1,16 +1,16 @@
 -- A step that changes one slot and one view keeps the rule.
-use Rattle.std.proofs.Common.{◌≡◌, ◌≢◌, ◌⊎◌, ℕ, zero, suc, ◌+◌, ◌-◌, ◌*◌, ◌<◌, ◌≤◌, eqb, List, [], ◌∷◌, ◌++◌, map, length, set, get_or, refl, sym, ap, ◌∙◌, subst, inl, inr, ⊎_elim, arith, length-set, Option, Some, None}
-use Rattle.std.proofs.lemmas.List.{map-set, length-map}
+use Rattle.std.proofs.Common.{◌≡◌, ◌≢◌, ◌⊎◌, ℕ, zero, suc, ◌+◌, ◌*◌, ◌<◌, ◌≤◌, List, [], ◌∷◌, map, length, set, get_or, refl, sym, ap, ◌∙◌, subst, ⊎_elim, arith, length-set, Option}
+use Rattle.std.proofs.lemmas.List.{map-set}
 use Rattle.std.specs.Prelude.{Contains}
 use mathlib.Core.Option as opt
 use mathlib.Core.Option.{some, some-injective, some-ne-none}
 use mathlib.Core.Logic.{dite}
-use native.Mathlib.Decide.{ℕ_discrete, dec_le}
+use native.Mathlib.Decide.{ℕ_discrete}
 use lib.ListN.{get_elem?}
 use Rattle.atomic_table.specs.Table.{State}
-use Rattle.atomic_table.proofs.Lists.{at_set, set_here, set_else, at_map}
-use Rattle.q_slots.specs.Phase.{Phase, fresh, empty, ready, claimed, finished, code, shelf, job_of, held_by, IsFresh, IsFinished}
-use Rattle.q_slots.specs.Rule.{total, weight, place, Balanced, FitsSlot, Fits, Orderly}
+use Rattle.atomic_table.proofs.Lists.{at_set, set_here, set_else}
+use Rattle.q_slots.specs.Phase.{Phase, claimed, finished, code, shelf, job_of, held_by, IsFresh, IsFinished}
+use Rattle.q_slots.specs.Rule.{place, FitsSlot, Fits, Orderly}
 use Rattle.q_session.specs.declared.job.Job.{Job}
 use Rattle.q_session.specs.Done.{Finished}
 use Rattle.q_slots.specs.declared.cell.Cell.{Cell}
@@ -77,15 +77,15 @@ others phases n i p q is early (Asker a) askers runners f =
       f.2,
       λ k x h e. ⊎_elim
           (λ t. ⊎_elim (λ away. absurd (apart_not a i k h away t.0))
-              (λ same. let here : get_elem? phases (8 * a.number + k) ≡ some p = ap (get_elem? phases) t.0 ∙ is in
-                  subst (FitsSlot a k) t.1 (alike_slot a k p q same (f.3 k p h here))) (askers a refl))
+          (λ same. let here : get_elem? phases (8 * a.number + k) ≡ some p = ap (get_elem? phases) t.0 ∙ is in
+          subst (FitsSlot a k) t.1 (alike_slot a k p q same (f.3 k p h here))) (askers a refl))
           (λ t. f.3 k x h t.1) (at_set phases i (8 * a.number + k) q x e),
     )
 others phases n i p q is early (Runner r) askers runners f =
     λ k x e. ⊎_elim
-        (λ t. let here : get_elem? r.held k ≡ some (held_by r.number p) = ap (get_elem? r.held) t.0 ∙ f i p is in
-            here ∙ ap (λ (j : Option Job). some j) (sym (runners r refl)) ∙ ap (λ (y : Phase). some (held_by r.number y)) t.1)
-        (λ t. f k x t.1) (at_set phases i k q x e)
+    (λ t. let here : get_elem? r.held k ≡ some (held_by r.number p) = ap (get_elem? r.held) t.0 ∙ f i p is in
+    here ∙ ap (λ (j : Option Job). some j) (sym (runners r refl)) ∙ ap (λ (y : Phase). some (held_by r.number y)) t.1)
+    (λ t. f k x t.1) (at_set phases i k q x e)
 
 -- the runners stay, with what they finished
 still : (views : List View) (id : ℕ) (v w : View) → get_elem? views id ≡ some v → Grows v w → (r : ℕ) (x : Running) → get_elem? views r ≡ some (Runner x)
@@ -93,7 +93,7 @@ still : (views : List View) (id : ℕ) (v w : View) → get_elem? views id ≡ s
 still views id v w at grows r x e =
     dite (ℕ_discrete r id)
     (λ same. let g = grows x (one_value views id v (Runner x) at (ap (get_elem? views) (sym same) ∙ e)) in
-        (g.0, ap (get_elem? (set views id w)) same ∙ set_here views id w (at_lt views id v at) ∙ ap (λ (u : View). some u) g.1, g.2))
+    (g.0, ap (get_elem? (set views id w)) same ∙ set_here views id w (at_lt views id v at) ∙ ap (λ (u : View). some u) g.1, g.2))
     (λ else. (x, set_else views id r w else ∙ e, λ d c. c))
 
 module _ (lanes : ℕ) (s : State Cell View) (o : Orderly lanes s) (i id : ℕ) (p q : Phase) (v w : View) where
@@ -119,13 +119,13 @@ module _ (lanes : ℕ) (s : State Cell View) (o : Orderly lanes s) (i id : ℕ) 
         claimant = λ k r j e. let T : Type 0 = (y : Running) × (get_elem? (set s.views id w) r ≡ some (Runner y)) in
             let old : get_elem? o.phases k ≡ some (claimed r j) → T = λ c. let x = o.claimant k r j c in let y = keep r x.0 x.1 in (y.0, y.1) in
             let split : T = ⊎_elim
-                (λ t. ⊎_elim (λ was. old (ap (get_elem? o.phases) t.0 ∙ is ∙ ap (λ (y : Phase). some y) was))
-                    (λ new. (new.0, ap (get_elem? (set s.views id w)) new.2 ∙ set_here s.views id w near ∙ ap (λ (u : View). some u) new.1)) (claims r j t.1))
-                (λ t. old t.1) (at_set o.phases i k q (claimed r j) e) in split;
+            (λ t. ⊎_elim (λ was. old (ap (get_elem? o.phases) t.0 ∙ is ∙ ap (λ (y : Phase). some y) was))
+            (λ new. (new.0, ap (get_elem? (set s.views id w)) new.2 ∙ set_here s.views id w near ∙ ap (λ (u : View). some u) new.1)) (claims r j t.1))
+            (λ t. old t.1) (at_set o.phases i k q (claimed r j) e) in split;
         source = λ k d e. let T : Type 0 = (r : ℕ) × (y : Running) × (get_elem? (set s.views id w) r ≡ some (Runner y)) × Contains y.finished d in
             let old : get_elem? o.phases k ≡ some (finished d) → T = λ c. let x = o.source k d c in let y = keep x.0 x.1 x.2 in (x.0, y.0, y.1, y.2 d x.3) in
             let split : T = ⊎_elim
-                (λ t. ⊎_elim (λ was. old (ap (get_elem? o.phases) t.0 ∙ is ∙ ap (λ (y : Phase). some y) was))
-                    (λ new. (id, new.0, set_here s.views id w near ∙ ap (λ (u : View). some u) new.1, new.2)) (ends d t.1))
-                (λ t. old t.1) (at_set o.phases i k q (finished d) e) in split;
+            (λ t. ⊎_elim (λ was. old (ap (get_elem? o.phases) t.0 ∙ is ∙ ap (λ (y : Phase). some y) was))
+            (λ new. (id, new.0, set_here s.views id w near ∙ ap (λ (u : View). some u) new.1, new.2)) (ends d t.1))
+            (λ t. old t.1) (at_set o.phases i k q (finished d) e) in split;
       }

@@ -1,21 +1,18 @@
 -- How a board opens.
-use Rattle.std.proofs.Common.{◌≡◌, ◌≢◌, ◌⊎◌, ℕ, zero, suc, ◌+◌, ◌-◌, ◌*◌, ◌<◌, ◌≤◌, List, [], ◌∷◌, ◌++◌, map, length, set, get_or, refl, sym, ap, ◌∙◌, subst, inl, inr, ⊎_elim, arith, length-set, length-append, Option, Some, None, replicate, cond, ne_eqb}
+use Rattle.std.proofs.Common.{◌≡◌, ◌⊎◌, ℕ, zero, suc, ◌+◌, ◌*◌, ◌<◌, ◌≤◌, List, [], ◌∷◌, ◌++◌, map, length, set, refl, sym, ap, ◌∙◌, subst, inl, inr, ⊎_elim, arith, length-set, length-append, Option, Some, None, replicate, cond, ne_eqb}
 use Rattle.std.proofs.lemmas.List.{length-replicate}
-use mathlib.Core.Option as opt
-use mathlib.Core.Option.{some, none, some-injective, some-ne-none}
+use mathlib.Core.Option.{some, some-injective, some-ne-none}
 use mathlib.Core.Logic.{dite}
-use native.Mathlib.Decide.{ℕ_discrete, dec_le}
+use native.Mathlib.Decide.{ℕ_discrete}
 use lib.ListN.{get_elem?}
 use Rattle.atomic_table.specs.Table.{State, opening, Splits}
-use Rattle.atomic_table.proofs.Lists.{at_set, at_longer, set_here, set_else}
-use Rattle.q_slots.specs.Phase.{Phase, fresh, empty, ready, claimed, finished, code, shelf, job_of, held_by, IsFresh, IsFinished}
-use Rattle.q_slots.specs.Rule.{maker, place, total, weight, FitsSlot, Fits, Orderly}
+use Rattle.atomic_table.proofs.Lists.{at_set, at_longer, set_else}
+use Rattle.q_slots.specs.Phase.{Phase, fresh, empty, ready, claimed, finished, code, shelf, job_of, held_by, IsFresh}
+use Rattle.q_slots.specs.Rule.{maker, place, Fits, Orderly}
 use Rattle.q_slots.specs.Plays.{new_asking, new_running, next_maker, first_asker, first_runner}
 use Rattle.q_session.specs.declared.job.Job.{Job}
-use Rattle.q_session.specs.Done.{Finished}
 use Rattle.q_slots.specs.declared.cell.Cell.{Cell}
 use Rattle.q_slots.specs.declared.cell.Cell.TheVariants as cell
-use Rattle.q_slots.specs.declared.view.Asking.{Asking}
 use Rattle.q_slots.specs.declared.view.Running.{Running}
 use Rattle.q_slots.specs.declared.view.View.{View}
 use Rattle.q_slots.specs.declared.view.View.TheVariants.{Maker, Asker, Runner}
@@ -46,7 +43,7 @@ pub opens : (lanes : ℕ) (words : List ℕ) (cells : List Cell) → words ≡ r
 opens lanes words cells ws cs =
     let F : List Phase = replicate lanes fresh in
     let only = λ (i : ℕ) (v : View) (e : get_elem? (maker lanes 0 ∷ []) i ≡ some v). let T : Type 0 = (i ≡ 0) × (maker lanes 0 ≡ v) in
-        let found : T = ⊎_elim (λ t. absurd (some-ne-none v (sym t))) (λ t. t) (at_end [] (maker lanes 0) v i e) in found in
+    let found : T = ⊎_elim (λ t. absurd (some-ne-none v (sym t))) (λ t. t) (at_end [] (maker lanes 0) v i e) in found in
     record {
       phases = F;
       count = length-replicate lanes fresh;
@@ -66,7 +63,7 @@ seats_more phases n (Runner r) h f = f
 
 module _ (lanes made id : ℕ) (right : View) (place_is : place right ≡ made + 1)
     (fits_right : (s : State Cell View) (o : Orderly lanes s) → length s.views ≡ made + 1
-      → ((i : ℕ) (p : Phase) → get_elem? o.phases i ≡ some p → 8 * made ≤ i → IsFresh p) → Fits o.phases (length s.views + 1) right) where
+    → ((i : ℕ) (p : Phase) → get_elem? o.phases i ≡ some p → 8 * made ≤ i → IsFresh p) → Fits o.phases (length s.views + 1) right) where
   parts : Splits (Orderly lanes) id (maker lanes made) (maker lanes (made + 1)) right
   parts s o me =
       let left : View = maker lanes (made + 1) in
@@ -77,10 +74,10 @@ module _ (lanes made id : ℕ) (right : View) (place_is : place right ≡ made +
       let long : length (views ++ right ∷ []) ≡ length s.views + 1 = omega (arith, length-append views (right ∷ []), length-set s.views id left) in
       let long_views : length views ≡ length s.views = length-set s.views id left in
       let keep = λ (r : ℕ) (x : Running) (e : get_elem? s.views r ≡ some (Runner x)).
-          let T : Type 0 = get_elem? (views ++ right ∷ []) r ≡ some (Runner x) in
-          let kept : T = at_longer views (right ∷ []) r (Runner x) (dite (ℕ_discrete r id)
-              (λ same. let z : maker lanes made ≡ Runner x = some-injective (maker lanes made) (Runner x) (sym me ∙ (ap (get_elem? s.views) (sym same) ∙ e)) in cc)
-              (λ else. set_else s.views id r left else ∙ e)) in kept in
+      let T : Type 0 = get_elem? (views ++ right ∷ []) r ≡ some (Runner x) in
+      let kept : T = at_longer views (right ∷ []) r (Runner x) (dite (ℕ_discrete r id)
+      (λ same. let z : maker lanes made ≡ Runner x = some-injective (maker lanes made) (Runner x) (sym me ∙ (ap (get_elem? s.views) (sym same) ∙ e)) in cc)
+      (λ else. set_else s.views id r left else ∙ e)) in kept in
       record {
         phases = o.phases;
         count = o.count;
@@ -91,8 +88,8 @@ module _ (lanes made id : ℕ) (right : View) (place_is : place right ≡ made +
             (λ t. ap place (sym t.1) ∙ place_is ∙ sym seats ∙ sym long_views ∙ sym t.0) (at_end views right u k e);
         fits = λ k u e. subst (λ (n : ℕ). Fits o.phases n u) (sym long) (⊎_elim
             (λ t. ⊎_elim
-                (λ y. subst (Fits o.phases (length s.views + 1)) y.1 (omega arith, f.1, λ i p at le. f.2 i p at (omega arith)))
-                (λ y. let sits = o.placed k u y.1 in let y₀ = y.0 in seats_more o.phases (length s.views) u (omega arith) (o.fits k u y.1)) (at_set s.views id k left u t))
+            (λ y. subst (Fits o.phases (length s.views + 1)) y.1 (omega arith, f.1, λ i p at le. f.2 i p at (omega arith)))
+            (λ y. let sits = o.placed k u y.1 in let y₀ = y.0 in seats_more o.phases (length s.views) u (omega arith) (o.fits k u y.1)) (at_set s.views id k left u t))
             (λ t. subst (Fits o.phases (length s.views + 1)) t.1 (fits_right s o seats f.2)) (at_end views right u k e));
         claimant = λ i r j e. let x = o.claimant i r j e in (x.0, keep r x.0 x.1);
         source = λ i d e. let x = o.source i d e in (x.0, x.1, keep x.0 x.1 x.2, x.3);
@@ -109,7 +106,8 @@ splits_asker lanes made id room = parts lanes made id (Asker (new_asking made)) 
         (λ le. absurd (omega arith)),
         (λ _. p_is),
         (λ none. cc),
-      )))
+      ),
+    ))
 
 -- no slot is claimed by a runner that there is not
 unheld : (lanes made : ℕ) (s : State Cell View) (o : Orderly lanes s) → length s.views ≡ made + 1 → (i : ℕ) (p : Phase) → get_elem? o.phases i ≡ some p → held_by (made + 1) p ≡ None
@@ -123,7 +121,7 @@ unheld lanes made s o seats i (finished d) e = refl
 pub splits_runner : (lanes made id : ℕ) → Splits (Orderly lanes) id (maker lanes made) (next_maker (maker lanes made)) (first_runner (maker lanes made))
 splits_runner lanes made id = parts lanes made id (Runner (new_running lanes (made + 1))) refl
     (λ s o seats none_yet. λ i p e.
-        replicate_at lanes i None (omega (arith, o.count, at_lt o.phases i p e)) ∙ ap (λ (y : Option Job). some y) (sym (unheld lanes made s o seats i p e)))
+    replicate_at lanes i None (omega (arith, o.count, at_lt o.phases i p e)) ∙ ap (λ (y : Option Job). some y) (sym (unheld lanes made s o seats i p e)))
 
 -- the same where the maker's view is known by an equation
 pub asker_split : (key made id : ℕ) (v : View) → v ≡ maker key made → 8 * made + 8 ≤ key → Splits (Orderly key) id v (next_maker v) (first_asker v)

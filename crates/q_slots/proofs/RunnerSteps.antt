@@ -1,28 +1,26 @@
 -- Each step of a runner keeps the rule.
-use Rattle.std.proofs.Common.{◌≡◌, ◌≢◌, ◌⊎◌, ℕ, zero, suc, ◌+◌, ◌-◌, ◌*◌, ◌<◌, ◌≤◌, eqb, cond, List, [], ◌∷◌, ◌++◌, map, length, set, get_or, refl, sym, ap, ◌∙◌, subst, inl, inr, ⊎_elim, arith, length-set, length-append, Option, Some, None, eq-eqb, ne_eqb}
+use Rattle.std.proofs.Common.{◌≡◌, ◌≢◌, ◌⊎◌, ℕ, zero, suc, ◌+◌, ◌<◌, eqb, cond, List, [], ◌∷◌, ◌++◌, map, length, set, get_or, refl, sym, ap, ◌∙◌, subst, inl, inr, ⊎_elim, arith, length-append, Option, Some, None, eq-eqb, ne_eqb}
 use Rattle.std.specs.Prelude.{Contains}
 use mathlib.Core.Option as opt
 use mathlib.Core.Option.{some, none, some-injective, some-ne-none}
 use mathlib.Core.Logic.{dite}
-use native.Mathlib.Decide.{ℕ_discrete, dec_le}
+use native.Mathlib.Decide.{ℕ_discrete}
 use prog.Atomic.{either}
 use lib.ListN.{get_elem?}
-use Rattle.atomic_table.specs.Table.{State, Me, step, Act, keeps, takes, gives, Valid, carried_after, stepped, Allows}
-use Rattle.atomic_table.proofs.Lists.{at_set, set_here, set_else, at_map}
-use Rattle.q_slots.specs.Phase.{Phase, fresh, empty, ready, claimed, finished, code, shelf, job_of, held_by, IsFresh, IsFinished}
-use Rattle.q_slots.specs.Words.{found_of}
-use Rattle.q_slots.specs.Rule.{place, Fits, Orderly}
-use Rattle.q_slots.specs.Plays.{Sat, trying, claiming, finishing, returning, tried, ended, given_back}
+use Rattle.atomic_table.specs.Table.{State, step, keeps, takes, gives, Allows}
+use Rattle.atomic_table.proofs.Lists.{at_set, set_here, set_else}
+use Rattle.q_slots.specs.Phase.{Phase, fresh, empty, ready, claimed, finished, code, shelf, held_by}
+use Rattle.q_slots.specs.Rule.{place, Orderly}
+use Rattle.q_slots.specs.Plays.{trying, claiming, finishing, returning, tried, ended, given_back}
 use Rattle.q_session.specs.declared.job.Job.{Job}
 use Rattle.q_session.specs.Done.{Finished}
 use Rattle.q_slots.specs.declared.cell.Cell.{Cell}
 use Rattle.q_slots.specs.declared.cell.Cell.TheVariants as cell
 use Rattle.q_slots.specs.declared.found.Look.{Look}
-use Rattle.q_slots.specs.declared.view.Asking.{Asking}
 use Rattle.q_slots.specs.declared.view.Running.{Running}
 use Rattle.q_slots.specs.declared.view.View.{View}
-use Rattle.q_slots.specs.declared.view.View.TheVariants.{Maker, Asker, Runner}
-use Rattle.q_slots.proofs.Moves.{board, at_lt, there, at_get, one_value, Alike, Apart, others, moves}
+use Rattle.q_slots.specs.declared.view.View.TheVariants.{Runner}
+use Rattle.q_slots.proofs.Moves.{board, at_lt, there, Alike, others, moves}
 use Rattle.q_slots.proofs.AskerSteps.{word_is, home_is, home_set, home_same}
 
 some_injective : {A : Type 0} (x y : A) → Some x ≡ Some y → x ≡ y
@@ -83,15 +81,15 @@ module _ (lanes : ℕ) (s : State Cell View) (o : Orderly lanes s) (id : ℕ) (r
       let f = o.fits id (Runner r) me in
       let sits = o.placed id (Runner r) me in
       moves lanes s o i id p q (Runner r) (Runner now) n hs is me refl coded home
-          (λ k x e. ⊎_elim
-              (λ t. ap (get_elem? held) t.0 ∙ here ∙ ap (λ (y : Phase). some (held_by r.number y)) t.1)
-              (λ t. else k t.0 ∙ f k x t.1) (at_set o.phases i k q x e))
-          (λ u away fits. others o.phases (length s.views) i p q is (λ e. inr (same.2 e)) u
-              (λ b e. inr same)
-              (λ x e. apart x.number (λ z. away (ap place e ∙ z))) fits)
-          (λ x e. let y : r ≡ x = cc in (now, refl, λ d c. grows d (subst (λ (z : Running). Contains z.finished d) (sym y) c)))
-          (λ k j e. ⊎_elim inl (λ z. inr (now, refl, z ∙ sits)) (claims k j e))
-          (λ d e. ⊎_elim inl (λ z. inr (now, refl, z)) (ends d e))
+      (λ k x e. ⊎_elim
+      (λ t. ap (get_elem? held) t.0 ∙ here ∙ ap (λ (y : Phase). some (held_by r.number y)) t.1)
+      (λ t. else k t.0 ∙ f k x t.1) (at_set o.phases i k q x e))
+      (λ u away fits. others o.phases (length s.views) i p q is (λ e. inr (same.2 e)) u
+      (λ b e. inr same)
+      (λ x e. apart x.number (λ z. away (ap place e ∙ z))) fits)
+      (λ x e. let y : r ≡ x = cc in (now, refl, λ d c. grows d (subst (λ (z : Running). Contains z.finished d) (sym y) c)))
+      (λ k j e. ⊎_elim inl (λ z. inr (now, refl, z ∙ sits)) (claims k j e))
+      (λ d e. ⊎_elim inl (λ z. inr (now, refl, z)) (ends d e))
 
 module _ (lanes id : ℕ) (r : Running) (i : ℕ) (near : i < lanes) where
   pub tries : (mine : List (ℕ × Cell))
@@ -103,42 +101,40 @@ module _ (lanes id : ℕ) (r : Running) (i : ℕ) (near : i < lanes) where
       let word = word_is lanes s o i p p t.1 in
       dite (ℕ_discrete w 1)
       (λ hit.
-          let x = ready_code p (sym word ∙ hit) in let j = x.0 in
-          let is : get_elem? o.phases i ≡ some (ready j) = t.1 ∙ ap (λ (y : Phase). some y) x.1 in
-          let q : Phase = claimed r.number j in
-          (
-            Runner (claiming r i j),
-            takes i (cell.Offered j),
-            home_is lanes s o i (ready j) q is,
-            runner_moves lanes s o id r i (ready j) q (set r.held i (Some j)) r.finished (claiming r i j).looks (either (eqb w 1) (3 + r.number) w) _ is me
-                (ap (λ (y : ℕ). either (eqb y 1) (3 + r.number) y) (sym hit))
-                (home_set lanes s o i (ready j) q is none refl)
-                (refl, (λ e. cc), (λ e. cc), (λ e. let e' = e.1 in cc))
-                (λ k ne. held_no k r.number j (λ z. ne (sym z)))
-                (set_here r.held i (Some j) (at_lt r.held i None (f i (ready j) is)) ∙ ap (λ (y : Option Job). some y) (sym (held_yes r.number j)))
-                (λ k ne. set_else r.held i k (Some j) ne)
-                (λ d c. c)
-                (λ k x e. inr (let y : r.number ≡ k = cc in sym y))
-                (λ d e. cc),
-            ((λ _. (j, f i (ready j) is, refl)), (λ ne. absurd (ne hit))),
-          ))
-      (λ miss.
-          (
-            Runner (trying r i w),
-            keeps,
-            tt,
-            runner_moves lanes s o id r i p p r.held r.finished (trying r i w).looks (either (eqb w 1) (3 + r.number) w) s.homes t.1 me
-                (sym word ∙ ap (λ b. either b (3 + r.number) w) (sym (ne_eqb w 1 miss)))
-                (home_same lanes s o i p p t.1 refl)
-                (refl, (λ e. e), (λ e. e), (λ e. e))
-                (λ k ne. refl)
-                (f i p t.1)
-                (λ k ne. refl)
-                (λ d c. c)
-                (λ k x e. inl e)
-                (λ d e. inl e),
-            ((λ hit. absurd (miss hit)), (λ _. refl)),
-          ))
+      let x = ready_code p (sym word ∙ hit) in let j = x.0 in
+      let is : get_elem? o.phases i ≡ some (ready j) = t.1 ∙ ap (λ (y : Phase). some y) x.1 in
+      let q : Phase = claimed r.number j in (
+        Runner (claiming r i j),
+        takes i (cell.Offered j),
+        home_is lanes s o i (ready j) q is,
+        runner_moves lanes s o id r i (ready j) q (set r.held i (Some j)) r.finished (claiming r i j).looks (either (eqb w 1) (3 + r.number) w) _ is me
+            (ap (λ (y : ℕ). either (eqb y 1) (3 + r.number) y) (sym hit))
+            (home_set lanes s o i (ready j) q is none refl)
+            (refl, (λ e. cc), (λ e. cc), (λ e. let e' = e.1 in cc))
+            (λ k ne. held_no k r.number j (λ z. ne (sym z)))
+            (set_here r.held i (Some j) (at_lt r.held i None (f i (ready j) is)) ∙ ap (λ (y : Option Job). some y) (sym (held_yes r.number j)))
+            (λ k ne. set_else r.held i k (Some j) ne)
+            (λ d c. c)
+            (λ k x e. inr (let y : r.number ≡ k = cc in sym y))
+            (λ d e. cc),
+        ((λ _. (j, f i (ready j) is, refl)), (λ ne. absurd (ne hit))),
+      ))
+      (λ miss. (
+        Runner (trying r i w),
+        keeps,
+        tt,
+        runner_moves lanes s o id r i p p r.held r.finished (trying r i w).looks (either (eqb w 1) (3 + r.number) w) s.homes t.1 me
+            (sym word ∙ ap (λ b. either b (3 + r.number) w) (sym (ne_eqb w 1 miss)))
+            (home_same lanes s o i p p t.1 refl)
+            (refl, (λ e. e), (λ e. e), (λ e. e))
+            (λ k ne. refl)
+            (f i p t.1)
+            (λ k ne. refl)
+            (λ d c. c)
+            (λ k x e. inl e)
+            (λ d e. inl e),
+        ((λ hit. absurd (miss hit)), (λ _. refl)),
+      ))
 
   pub finishes : (more : List (ℕ × Cell)) (d : Finished) → get_elem? r.held i ≡ some (Some d.job)
       → Allows (Orderly lanes) lanes id (Runner r, (i, cell.Finished d) ∷ more) i (λ _. 2) (λ _. ended (step lanes i 2 0 none) (Runner r, (i, cell.Finished d) ∷ more) 2)
@@ -147,8 +143,7 @@ module _ (lanes id : ℕ) (r : Running) (i : ℕ) (near : i < lanes) where
       let t = there o.phases i (omega (arith, o.count)) in let p = t.0 in
       let p_is = held_is r.number p d.job (some-injective (held_by r.number p) (Some d.job) (sym (f i p t.1) ∙ mine)) in
       let c : Phase = claimed r.number d.job in
-      let is : get_elem? o.phases i ≡ some c = t.1 ∙ ap (λ (y : Phase). some y) p_is in
-      (
+      let is : get_elem? o.phases i ≡ some c = t.1 ∙ ap (λ (y : Phase). some y) p_is in (
         Runner (finishing r i (cell.Finished d)),
         gives,
         tt,
@@ -171,8 +166,7 @@ module _ (lanes id : ℕ) (r : Running) (i : ℕ) (near : i < lanes) where
       let t = there o.phases i (omega (arith, o.count)) in let p = t.0 in
       let p_is = held_is r.number p j (some-injective (held_by r.number p) (Some j) (sym (f i p t.1) ∙ mine)) in
       let c : Phase = claimed r.number j in
-      let is : get_elem? o.phases i ≡ some c = t.1 ∙ ap (λ (y : Phase). some y) p_is in
-      (
+      let is : get_elem? o.phases i ≡ some c = t.1 ∙ ap (λ (y : Phase). some y) p_is in (
         Runner (returning r i),
         gives,
         tt,

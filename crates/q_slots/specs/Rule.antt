@@ -1,15 +1,14 @@
 -- The rule of the board.
-use Rattle.std.specs.Prelude.{◌≡◌, ℕ, zero, suc, ◌+◌, ◌*◌, ◌<◌, ◌≤◌, List, [], ◌∷◌, ◌++◌, map, length, Option, Some, None, Contains}
+use Rattle.std.specs.Prelude.{◌≡◌, ℕ, ◌+◌, ◌*◌, ◌<◌, ◌≤◌, List, [], ◌∷◌, map, length, Option, Some, None, Contains}
 use mathlib.Core.Option.{some}
 use lib.ListN.{get_elem?}
 use Rattle.atomic_table.specs.Table.{State}
-use Rattle.q_slots.specs.Phase.{Phase, fresh, claimed, finished, code, shelf, job_of, held_by, IsFresh, IsFinished}
+use Rattle.q_slots.specs.Phase.{Phase, claimed, finished, code, shelf, job_of, held_by, IsFresh, IsFinished}
 use Rattle.q_session.specs.declared.job.Job.{Job}
 use Rattle.q_session.specs.Done.{Finished}
 use Rattle.q_slots.specs.declared.cell.Cell.{Cell}
 use Rattle.q_slots.specs.declared.view.Asking.{Asking}
 use Rattle.q_slots.specs.declared.view.Running.{Running}
-use Rattle.q_slots.specs.declared.view.Making.{Making}
 use Rattle.q_slots.specs.declared.view.View.{View}
 use Rattle.q_slots.specs.declared.view.View.TheVariants.{Maker, Asker, Runner}
 

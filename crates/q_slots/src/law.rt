@@ -15,5 +15,4 @@ ghost use Rattle.q_slots.specs.declared.view.View.TheVariants.{Asker, Runner};
 pub fn accounted()
     ensures askers { (lanes : ℕ) (s : State Cell View) → Orderly lanes s → (id : ℕ) (a : Asking) → get_elem? s.views id ≡ some (Asker a) → Accounts s a }
     ensures runners { (lanes : ℕ) (s : State Cell View) → Orderly lanes s → (id : ℕ) (v : Running) → get_elem? s.views id ≡ some (Runner v) → HoldsOwn s id v }
-{
-}
+{}

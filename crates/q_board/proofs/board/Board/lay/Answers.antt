@@ -1,4 +1,4 @@
-use Rattle.std.proofs.Common.{rules, ◌∙◌, sym, ap}
+use Rattle.std.proofs.Common.{rules}
 use Rattle.q_slots.proofs.Opening.{opens}
 use Rattle.q_board.proofs.board.Board.lay.Goals as goal
 

@@ -1,4 +1,4 @@
-use Rattle.std.proofs.Common.{◌≡◌, ◌≤◌, ℕ, vec_len, vec_capacity, replicate}
+use Rattle.std.proofs.Common.{◌≡◌, ◌≤◌, vec_len, vec_capacity, replicate}
 use Rattle.q_slots.specs.declared.cell.Cell.TheVariants.{Vacant}
 use Rattle.q_board.proofs.board.Board.lay.Given as goal
 

@@ -1,4 +1,4 @@
-use Rattle.std.proofs.Common.{◌≡◌, ◌≤◌, ◌*◌, ◌+◌, ℕ, [], vec_len, vec_capacity}
+use Rattle.std.proofs.Common.{◌≡◌, ◌≤◌, ◌*◌, ◌+◌, [], vec_len, vec_capacity}
 use Rattle.q_slots.specs.Rule.{maker as making}
 use Rattle.q_board.specs.AskerModel.{opened_askers}
 use Rattle.q_board.specs.RunnerModel.{opened_runners}

@@ -1,7 +1,7 @@
-use Rattle.std.proofs.Common.{rules, ◌≡◌, ℕ, ◌+◌, ◌-◌, ◌*◌, ◌<◌, ◌≤◌, ◌∙◌, sym, ap, arith, refl, deque_len, deque_capacity}
+use Rattle.std.proofs.Common.{◌≡◌, ◌+◌, ◌-◌, ◌*◌, ◌<◌, ◌∙◌, sym, ap, arith, refl, deque_len, deque_capacity}
 use Rattle.atomic_table.specs.Seated.{TableId}
 use Rattle.q_board.specs.AskerModel.{AskerModel, IsAsker}
-use Rattle.q_board.proofs.AskerCalls.{look_allowed, look_keeps, look_shown, look_told, take_allowed, take_has, take_room, take_keeps, take_told}
+use Rattle.q_board.proofs.AskerCalls.{look_allowed, look_keeps, look_shown, look_told, take_allowed, take_has, take_room, take_keeps}
 use Rattle.q_board.proofs.board.Board.poll.Goals as goal
 
 pub load-requires : goal.load-requires
@@ -46,4 +46,4 @@ invariant_of-seat-2 c = let s = c.seat.inside in let t = c.args.self.now.table.s
     let near : k < 8 = omega arith in let at : i ≡ 8 * s.number + k = omega arith in let n = c.load.new.seat in let x = c.exchange-taken in let p = c.push_front_reserved in
     let inv' : IsAsker s.seat.table_id n.me s.number s.free.items (deque_len s.free) (deque_capacity s.free) = look_keeps s.seat.table_id s.seat.me s.number k s.free.items (deque_len s.free) (deque_capacity s.free) near inv i t.slots c.load.result n.me c.load.ensures.2 s.seat.table_id refl in
     take_keeps s.seat.table_id n.me s.number k s.free.items (deque_len s.free) (deque_capacity s.free) near inv' i at t.slots c.compare_exchange.result c.compare_exchange.new.seat.me c.compare_exchange.ensures.2
-        x.result x.new.seat.me x.ensures.2 x.ensures.3 x.new.seat.table_id (x.ensures.0 ∙ c.compare_exchange.ensures.0 ∙ c.load.ensures.0) (deque_len p.new.self) p.ensures.len (deque_capacity p.new.self) p.ensures.capacity p.new.self.items k p.ensures.items refl
+    x.result x.new.seat.me x.ensures.2 x.ensures.3 x.new.seat.table_id (x.ensures.0 ∙ c.compare_exchange.ensures.0 ∙ c.load.ensures.0) (deque_len p.new.self) p.ensures.len (deque_capacity p.new.self) p.ensures.capacity p.new.self.items k p.ensures.items refl

@@ -1,4 +1,4 @@
-use Rattle.std.proofs.Common.{rules, ◌≡◌, ◌+◌, ◌*◌, ◌≤◌, ◌∙◌, sym, ap, arith, refl, ℕ, ◌∷◌}
+use Rattle.std.proofs.Common.{◌∙◌, sym, ap, arith, refl, ℕ}
 use Rattle.q_slots.specs.Plays.{Sat, new_asking}
 use Rattle.q_slots.specs.Rule.{maker}
 use Rattle.q_slots.proofs.Opening.{asker_split}

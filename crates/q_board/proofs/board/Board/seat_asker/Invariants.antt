@@ -1,4 +1,4 @@
-use Rattle.std.proofs.Common.{◌≡◌, ◌≤◌, ◌*◌, ℕ, deque_len, deque_capacity}
+use Rattle.std.proofs.Common.{◌≡◌, ◌≤◌, ◌*◌, deque_len, deque_capacity}
 use Rattle.q_board.specs.Places.{bare}
 use Rattle.q_slots.specs.Plays.{new_asking}
 use Rattle.q_board.specs.BoardId.{board_id}

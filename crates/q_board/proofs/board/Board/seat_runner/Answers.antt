@@ -1,4 +1,4 @@
-use Rattle.std.proofs.Common.{rules, ◌≡◌, ◌+◌, ◌*◌, ◌≤◌, ◌∙◌, sym, ap, arith, refl, ℕ, [], deque_len, deque_capacity}
+use Rattle.std.proofs.Common.{rules, ◌∙◌, sym, ap, arith, ℕ, [], deque_len, deque_capacity}
 use Rattle.atomic_table.specs.Seated.{TableId}
 use Rattle.q_board.proofs.RunnerCalls.{opened}
 use Rattle.q_slots.specs.Plays.{Sat, first_runner}
@@ -14,4 +14,4 @@ pub invariant_of-result : goal.invariant_of-result
 invariant_of-result c = let b = c.args.self.now in let sized₀ = b.sized.0 in let next = c.requires.next in let s = c.split_seat-seat in let q = c.in_ok-claims in
     let board = ap (λ (x : TableId). x.words) (s.ensures.3 ∙ c.requires.board) in
     opened s.result.table_id b.lanes c.args.made (deque_len q.claims) (deque_capacity q.claims) s.result.me q.claims.items
-        (s.ensures.4 ∙ ap (λ (x : Sat). (first_runner x.0, [])) next.0) (search rules) (search rules) (search rules) (omega arith) next.2 next.1
+    (s.ensures.4 ∙ ap (λ (x : Sat). (first_runner x.0, [])) next.0) (search rules) (search rules) (search rules) (omega arith) next.2 next.1

@@ -1,4 +1,4 @@
-use Rattle.std.proofs.Common.{rules, ◌≡◌, ◌<◌, ◌∙◌, sym, ap, arith, subst, ℕ}
+use Rattle.std.proofs.Common.{◌≡◌, ◌<◌, sym, ap, arith, subst}
 use Rattle.q_board.specs.Calls.{is_at}
 use Rattle.std.proofs.Common.{Some, None}
 use Rattle.q_session.specs.declared.job.Job.{Job}
