@@ -1,0 +1,4 @@
+pub mod Rows
+pub mod AskerCalls
+pub mod RunnerCalls
+pub mod Opened

@@ -1,0 +1,197 @@
+-- From what a step tells to what a call ensures, for a runner.
+use Rattle.std.proofs.Common.{◌≡◌, ◌≢◌, ℕ, ◌+◌, ◌-◌, ◌<◌, ◌≤◌, eqb, List, [], ◌∷◌, length, set, refl, sym, ap, ◌∙◌, subst, arith, length-set, Option, Some, None, ne_eqb, zero-add}
+use mathlib.Core.Option.{some, none}
+use mathlib.Core.Logic.{dite}
+use native.Mathlib.Decide.{ℕ_discrete}
+use prog.Atomic.{either}
+use lib.ListN.{get_elem?}
+use Rattle.atomic_table.specs.Seated.{TableId}
+use Rattle.atomic_table.specs.Table.{step, Allows, rest}
+use Rattle.q_slots.specs.Words.{found_of}
+use Rattle.std.proofs.lemmas.List.{length-replicate}
+use Rattle.q_slots.specs.Rule.{Orderly, maker}
+use Rattle.q_board.specs.Places.{times, has, jobs, bare}
+use Rattle.q_slots.specs.Plays.{Sat, first_runner, running, front, trying, claiming, finishing, returning, tried, ended, given_back}
+use Rattle.q_board.specs.RunnerModel.{RunnerModel, runner_model, IsRunner}
+use Rattle.q_board.specs.Calls.{Misses, Claims, Finishes, GivesBack}
+use Rattle.q_session.specs.declared.job.Job.{Job}
+use Rattle.q_session.specs.declared.ran.Ran.{Ran}
+use Rattle.q_session.specs.Done.{Finished}
+use Rattle.q_slots.specs.declared.cell.Cell.{Cell}
+use Rattle.q_slots.specs.declared.cell.Cell.TheVariants as cell
+use Rattle.q_slots.specs.declared.found.Found.TheVariants as found
+use Rattle.q_slots.specs.declared.view.Running.{Running}
+use Rattle.q_slots.specs.declared.view.View.{View}
+use Rattle.q_slots.specs.declared.view.View.TheVariants.{Runner}
+use Rattle.q_slots.proofs.Moves.{at_lt}
+use Rattle.q_slots.proofs.RunnerSteps.{tries, finishes, gives_back}
+use Rattle.q_board.proofs.Rows.{has_at, has_set_none, has_set_some, jobs_set, jobs_room, jobs_nones, has_nones}
+
+-- a word that is not 1 does not show a ready job
+pub not_ready : (x : ℕ) → x ≢ 1 → found_of x ≢ found.Ready
+not_ready x n = dite (ℕ_discrete x 0) (λ e h. let z : found.Empty ≡ found.Ready = sym (ap found_of e) ∙ h in cc)
+    (λ m. dite (ℕ_discrete x 2) (λ e h. let z : found.Finished ≡ found.Ready = sym (ap found_of e) ∙ h in cc)
+    (λ k h. let z : found.Claimed (x - 3) ≡ found.Ready = sym (rw (ne_eqb x 0 m, ne_eqb x 1 n, ne_eqb x 2 k) refl) ∙ h in cc))
+
+-- the end of a claim: the slot is brought to the front, written, and given back by a store
+module _ (z : TableId) (me : Sat) (n : ℕ) (claims left : List ℕ) (count cap lanes next slot : ℕ) (j : Job) (inv : IsRunner z me n claims count cap lanes next)
+    (mine : get_elem? (running me.0).held slot ≡ some (Some j)) where
+  abbrev r : Running
+  r = running me.0
+
+  pub bring_asks : (me.1 ≡ bare 0 claims) × (0 < times slot claims)
+  bring_asks = (ap (λ (x : Sat). x.1) inv.0, omega (arith, inv.4 slot, has_at r.held slot j mine))
+
+  pub slot_near : slot < lanes
+  slot_near = omega (arith, at_lt r.held slot (Some j) mine, inv.2)
+
+  module _ (m : Sat) (same_view : m.0 ≡ me.0) (brought : m.1 ≡ bare 0 (slot ∷ left)) (c : Cell) (w : Sat) (w_is : w ≡ (m.0, (slot, c) ∷ rest m.1)) where
+    pub written : w ≡ (Runner r, (slot, c) ∷ bare 0 left)
+    written = w_is ∙ ap (λ (v : View). (v, (slot, c) ∷ rest m.1)) (same_view ∙ ap (λ (x : Sat). x.0) inv.0) ∙ ap (λ (l : List (ℕ × Cell)). (Runner r, (slot, c) ∷ rest l)) brought
+
+  module _ (old_times : (k : ℕ) → times k claims ≡ times k (slot ∷ left)) (count' : ℕ) (fewer : count' + 1 ≡ count) (r' : Running)
+      (number_is : r'.number ≡ r.number) (held_is : r'.held ≡ set r.held slot None) (u : Sat) (u_is : u ≡ (Runner r', bare 0 left)) where
+    pub let_go : (z' : TableId) → z' ≡ z → (cap' : ℕ) → cap' ≡ cap → IsRunner z' u n left count' cap' lanes next
+    let_go z' same cap' as_large = let now : running u.0 ≡ r' = ap (λ (x : Sat). running x.0) u_is in
+        let held_now = ap (λ (x : Running). x.held) now ∙ held_is in (
+          u_is ∙ ap (λ (x : Running). (Runner x, bare 0 left)) (sym now),
+          ap (λ (x : Running). x.number) now ∙ number_is ∙ inv.1,
+          ap length held_now ∙ length-set r.held slot None ∙ inv.2,
+          omega (arith, ap jobs held_now, jobs_set r.held slot (Some j) None mine, inv.3),
+          (λ k. omega (arith, ap (λ (l : List (Option Job)). has l k) held_now, has_set_none r.held slot k j mine, inv.4 k, old_times k)),
+          omega (arith, inv.5),
+          omega (arith, inv.6, ap (λ (x : TableId). x.words) same),
+          inv.7,
+          inv.8,
+        )
+
+  pub finish_keeps : ((k : ℕ) → times k claims ≡ times k (slot ∷ left)) → (count' : ℕ) → count' + 1 ≡ count → (d : Finished) (v : Sat) → v ≡ (Runner (finishing r slot (cell.Finished d)), bare 0 left)
+      → (z' : TableId) → z' ≡ z → (cap' : ℕ) → cap' ≡ cap → IsRunner z' v n left count' cap' lanes next
+  finish_keeps times_are count' fewer d v is = let_go times_are count' fewer (finishing r slot (cell.Finished d)) refl refl v is
+
+  module _ (key slots id : ℕ) (sized : slots ≡ key) (wide : key ≡ lanes) (w : Sat) where
+    pub finish_allowed : (d : Finished) → d.job ≡ j → w ≡ (Runner r, (slot, cell.Finished d) ∷ bare 0 left) → (word : ℕ) → word ≡ 2
+        → Allows (Orderly key) slots id w slot (λ _. word) (λ _. ended (step slots slot word 0 none) w word)
+    finish_allowed d job_is is word word_is =
+        subst (λ (x : ℕ). Allows (Orderly key) slots id w slot (λ _. x) (λ _. ended (step slots slot x 0 none) w x)) (sym word_is)
+        (subst (λ (x : ℕ). Allows (Orderly key) x id w slot (λ _. 2) (λ _. ended (step x slot 2 0 none) w 2)) (sym sized)
+        (subst (λ (y : Sat). Allows (Orderly key) key id y slot (λ _. 2) (λ _. ended (step key slot 2 0 none) y 2)) (sym is)
+        (finishes key id r slot (let near = slot_near in omega arith) (bare 0 left) d (mine ∙ ap (λ (x : Job). some (Some x)) (sym job_is)))))
+
+    pub give_allowed : w ≡ (Runner r, (slot, cell.Offered j) ∷ bare 0 left) → (word : ℕ) → word ≡ 1
+        → Allows (Orderly key) slots id w slot (λ _. word) (λ _. given_back (step slots slot word 0 none) w word)
+    give_allowed is word word_is =
+        subst (λ (x : ℕ). Allows (Orderly key) slots id w slot (λ _. x) (λ _. given_back (step slots slot x 0 none) w x)) (sym word_is)
+        (subst (λ (x : ℕ). Allows (Orderly key) x id w slot (λ _. 1) (λ _. given_back (step x slot 1 0 none) w 1)) (sym sized)
+        (subst (λ (y : Sat). Allows (Orderly key) key id y slot (λ _. 1) (λ _. given_back (step key slot 1 0 none) y 1)) (sym is)
+        (gives_back key id r slot (let near = slot_near in omega arith) (bare 0 left) j mine)))
+
+    pub finish_leaves : (d : Finished) → w ≡ (Runner r, (slot, cell.Finished d) ∷ bare 0 left) → (u : Sat) → ended (step slots slot 2 0 none) w 2 u → u ≡ (Runner (finishing r slot (cell.Finished d)), bare 0 left)
+    finish_leaves d is u told = told ∙ ap (λ (x : Sat). (Runner (finishing (running x.0) slot (front x.1)), rest x.1)) is
+
+    pub give_leaves : w ≡ (Runner r, (slot, cell.Offered j) ∷ bare 0 left) → (u : Sat) → given_back (step slots slot 1 0 none) w 1 u → u ≡ (Runner (returning r slot), bare 0 left)
+    give_leaves is u told = told ∙ ap (λ (x : Sat). (Runner (returning (running x.0) slot), rest x.1)) is
+
+  module _ (z' : TableId) (same : z' ≡ z) (old : RunnerModel) (old_is : old ≡ runner_model z me.0 lanes next) (u : Sat) where
+    pub finish_told : (d : Finished) (ran : Ran) → d.job ≡ j → d.ran ≡ ran → u ≡ (Runner (finishing r slot (cell.Finished d)), bare 0 left) → Finishes old slot j ran (runner_model z' u.0 lanes next)
+    finish_told d ran job_is ran_is is = let done_is : d ≡ record { job = j; ran = ran } = λ i. record { job = job_is i; ran = ran_is i } in
+        subst (λ (x : RunnerModel). Finishes x slot j ran (runner_model z' u.0 lanes next)) (sym old_is)
+        (ap (λ (x : TableId). runner_model x u.0 lanes next) same ∙ ap (λ (x : Sat). runner_model z x.0 lanes next) is
+        ∙ ap (λ (x : Finished). runner_model z (Runner (finishing r slot (cell.Finished x))) lanes next) done_is)
+
+    pub give_told : u ≡ (Runner (returning r slot), bare 0 left) → GivesBack old slot (runner_model z' u.0 lanes next)
+    give_told is = subst (λ (x : RunnerModel). GivesBack x slot (runner_model z' u.0 lanes next)) (sym old_is)
+        (ap (λ (x : TableId). runner_model x u.0 lanes next) same ∙ ap (λ (x : Sat). runner_model z x.0 lanes next) is)
+
+-- One try at a slot
+module _ (z : TableId) (me : Sat) (n : ℕ) (claims : List ℕ) (count cap lanes next i : ℕ) (inv : IsRunner z me n claims count cap lanes next) where
+  abbrev r₀ : Running
+  r₀ = running me.0
+
+  pub try_allowed : (key slots id ready word : ℕ) → slots ≡ key → i < key → ready ≡ 1 → word ≡ 3 + n
+      → Allows (Orderly key) slots id me i (λ x. either (eqb x ready) word x) (tried (step slots i ready word none) me)
+  try_allowed key slots id ready word sized near ready_is word_is =
+      subst (λ (y : ℕ). Allows (Orderly key) slots id me i (λ x. either (eqb x y) word x) (tried (step slots i y word none) me)) (sym ready_is)
+      (subst (λ (x : ℕ). Allows (Orderly key) x id me i (λ y. either (eqb y 1) word y) (tried (step x i 1 word none) me)) (sym sized)
+      (subst (λ (y : Sat). Allows (Orderly key) key id y i (λ x. either (eqb x 1) word x) (tried (step key i 1 word none) y)) (sym inv.0)
+      (subst (λ (x : ℕ). Allows (Orderly key) key id (Runner r₀, bare 0 claims) i (λ y. either (eqb y 1) x y) (tried (step key i 1 x none) (Runner r₀, bare 0 claims)))
+      (ap (λ (x : ℕ). 3 + x) inv.1 ∙ sym word_is) (tries key id r₀ i near (bare 0 claims)))))
+
+  -- it missed
+  module _ (slots word x : ℕ) (w : Sat) (miss : x ≢ 1) (told : tried (step slots i 1 word none) me x w) where
+    missed : w ≡ (Runner (trying r₀ i x), bare 0 claims)
+    missed = told.1 miss ∙ ap (λ (l : List (ℕ × Cell)). (Runner (trying r₀ i x), l)) (ap (λ (y : Sat). y.1) inv.0)
+
+    pub miss_keeps : (z' : TableId) → z' ≡ z → IsRunner z' w n claims count cap lanes next
+    miss_keeps z' same = let now = ap (λ (y : Sat). running y.0) missed in (
+      missed ∙ ap (λ (y : Running). (Runner y, bare 0 claims)) (sym now),
+      ap (λ (y : Running). y.number) now ∙ inv.1,
+      ap (λ (y : Running). length y.held) now ∙ inv.2,
+      omega (arith, ap (λ (y : Running). jobs y.held) now, inv.3),
+      (λ k. inv.4 k ∙ ap (λ (y : Running). has y.held k) (sym now)),
+      inv.5,
+      omega (arith, inv.6, ap (λ (y : TableId). y.words) same),
+      inv.7,
+      inv.8,
+    )
+
+    pub miss_told : (z' : TableId) → z' ≡ z → (old : RunnerModel) → old ≡ runner_model z me.0 lanes next → Misses old i (runner_model z' w.0 lanes next)
+    miss_told z' same old old_is = subst (λ (y : RunnerModel). Misses y i (runner_model z' w.0 lanes next)) (sym old_is)
+        (found_of x, not_ready x miss, ap (λ (y : TableId). runner_model y w.0 lanes next) same ∙ ap (λ (y : Sat). runner_model z y.0 lanes next) missed)
+
+  -- it hit, and the job was taken out of the slot
+  module _ (slots word x : ℕ) (w : Sat) (hit : x ≡ 1) (told : tried (step slots i 1 word none) me x w) where
+    abbrev got : (j : Job) × (get_elem? (running me.0).held i ≡ some None) × (w ≡ (Runner (claiming (running me.0) i j), (i, cell.Offered j) ∷ me.1))
+    got = told.0 hit
+
+    pub hit_has : (c : Cell) × (w.1 ≡ (i, c) ∷ rest w.1)
+    hit_has = (cell.Offered got.0, ap (λ (y : Sat). y.1) got.2 ∙ ap (λ (y : Sat). (i, cell.Offered got.0) ∷ rest y.1) (sym got.2))
+
+    pub hit_room : count < cap
+    hit_room = omega (arith, inv.3, inv.2, inv.5, jobs_room r₀.held i got.1)
+
+    module _ (c : Cell) (u : Sat) (was : w.1 ≡ (i, c) ∷ rest w.1) (u_is : u ≡ (w.0, (i, cell.Vacant) ∷ rest w.1)) where
+      pub hit_cell : c ≡ cell.Offered got.0
+      hit_cell = let e : (i, cell.Offered got.0) ∷ me.1 ≡ (i, c) ∷ rest w.1 = sym (ap (λ (y : Sat). y.1) got.2) ∙ was in
+          ap (λ (l : List (ℕ × Cell)). front l) (sym e)
+
+      hit_seat : u ≡ (Runner (claiming r₀ i got.0), bare 0 (i ∷ claims))
+      hit_seat = u_is ∙ ap (λ (y : Sat). (y.0, (i, cell.Vacant) ∷ rest y.1)) got.2
+          ∙ ap (λ (l : List (ℕ × Cell)). (Runner (claiming r₀ i got.0), (i, cell.Vacant) ∷ l)) (ap (λ (y : Sat). y.1) inv.0)
+          ∙ ap (λ (k : ℕ). (Runner (claiming r₀ i got.0), (k, cell.Vacant) ∷ bare 0 claims)) (sym (zero-add i))
+
+      pub hit_keeps : (z' : TableId) → z' ≡ z → (count' : ℕ) → count' ≡ count + 1 → (cap' : ℕ) → cap' ≡ cap → (now_claims : List ℕ) → now_claims ≡ i ∷ claims → IsRunner z' u n now_claims count' cap' lanes next
+      hit_keeps z' same count' more cap' as_large now_claims claims_are = let now = ap (λ (y : Sat). running y.0) hit_seat in
+          subst (λ (l : List ℕ). IsRunner z' u n l count' cap' lanes next) (sym claims_are) (
+            hit_seat ∙ ap (λ (y : Running). (Runner y, bare 0 (i ∷ claims))) (sym now),
+            ap (λ (y : Running). y.number) now ∙ inv.1,
+            ap (λ (y : Running). length y.held) now ∙ length-set r₀.held i (Some got.0) ∙ inv.2,
+            omega (arith, ap (λ (y : Running). jobs y.held) now, inv.3, jobs_set r₀.held i None (Some got.0) got.1),
+            (λ k. omega (arith, inv.4 k, ap (λ (y : Running). has y.held k) now, has_set_some r₀.held i k got.0 got.1)),
+            omega (arith, inv.5),
+            omega (arith, inv.6, ap (λ (y : TableId). y.words) same),
+            inv.7,
+            inv.8,
+          )
+
+      pub hit_told : (j : Job) → c ≡ cell.Offered j → (z' : TableId) → z' ≡ z → (old : RunnerModel) → old ≡ runner_model z me.0 lanes next → Claims old i j (runner_model z' u.0 lanes next)
+      hit_told j c_is z' same old old_is = let j_is : got.0 ≡ j = let e = sym hit_cell ∙ c_is in cc in
+          subst (λ (y : RunnerModel). Claims y i j (runner_model z' u.0 lanes next)) (sym old_is)
+          (got.1, ap (λ (y : TableId). runner_model y u.0 lanes next) same ∙ ap (λ (y : Sat). runner_model z y.0 lanes next) hit_seat ∙ ap (λ (y : Job). runner_model z (Runner (claiming r₀ i y)) lanes next) j_is)
+
+-- a seat as the board opens
+pub opened : (z : TableId) (lanes made count cap : ℕ) (me : Sat) (claims : List ℕ) → me ≡ (first_runner (maker lanes made), []) → claims ≡ [] → count ≡ 0 → lanes ≤ cap → lanes ≡ z.words → 0 < lanes → made < 128
+    → IsRunner z me (made + 1) claims count cap lanes 0
+opened z lanes made count cap me claims is none_yet zero_count room words some_lanes few =
+    subst (λ (x : Sat). IsRunner z x (made + 1) claims count cap lanes 0) (sym is)
+    (subst (λ (l : List ℕ). IsRunner z (first_runner (maker lanes made), []) (made + 1) l count cap lanes 0) (sym none_yet) (
+      refl,
+      refl,
+      length-replicate lanes None,
+      zero_count ∙ sym (jobs_nones lanes),
+      (λ k. sym (has_nones lanes k)),
+      room,
+      words,
+      some_lanes,
+      omega arith,
+    ))

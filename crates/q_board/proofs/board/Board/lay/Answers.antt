@@ -1,0 +1,6 @@
+use Rattle.std.proofs.Common.{rules}
+use Rattle.q_slots.proofs.Opening.{opens}
+use Rattle.q_board.proofs.board.Board.lay.Goals as goal
+
+pub new-requires : goal.new-requires
+new-requires c = opens c.args.lanes _ _ (search rules) (search rules)

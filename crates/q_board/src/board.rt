@@ -1,0 +1,261 @@
+//! The board, and the calls on it.
+
+ghost use Rattle.std.specs.Prelude.{◌≡◌, ℕ, ◌+◌, ◌*◌, ◌<◌, ◌≤◌, List, [], ◌∷◌, All, Some, IfOk, IfSome, Err, MatchOption, MatchResult};
+ghost use Rattle.std.specs.VecDeque.{deque_len, deque_capacity};
+ghost use Rattle.q_session.specs.Done.{IsFinished};
+ghost use Rattle.q_session.specs.Right.{IsRight};
+ghost use Rattle.q_slots.specs.Rule.{maker as making};
+ghost use Rattle.q_board.specs.AskerModel.{opened_asker, opened_askers};
+ghost use Rattle.q_board.specs.RunnerModel.{opened_runner, opened_runners};
+ghost use Rattle.q_board.specs.Places.{times, jobs, bare};
+ghost use Rattle.q_board.specs.Calls.{is_at, SameAsker, SameRunner, Offers, LooksOnly, Receives, Misses, Claims, Finishes, GivesBack};
+
+use crate::claim::Claim;
+use crate::fault::{OpenFault, RowFull};
+use crate::seats::{AskerSeat, ROW, RunnerSeat, Slot};
+use atomic_table::{Refused, Seat, Table};
+use q_session::done::Done;
+use q_session::job::Job;
+use q_session::ran::Ran;
+use q_slots::cell::Cell;
+use q_slots::found::Found;
+use q_slots::rule::{
+    Finish, GiveBack, MakeAsker, MakeRunner, Order, Publish, See, Take, TakeHome, Try,
+};
+use q_slots::view::View;
+use std::alloc::{AllocError, Global};
+use std::collections::VecDeque;
+
+/// The most askers of a board.
+pub const MOST_ASKERS: usize = 16;
+
+/// The most runners of a board.
+pub const MOST_RUNNERS: usize = 64;
+
+/// A board, which its askers and runners share. Each asker has a row of eight slots.
+#[derive(Drop)]
+pub struct Board {
+    table: Table<Cell, View, u64, Order, Global>,
+    lanes: usize,
+    ghost sized: { (table.shared.table_id.words ≡ lanes) × (table.shared.table_id.slots ≡ lanes) × (table.shared.key ≡ lanes) },
+}
+
+impl Board {
+    ghost use Rattle.q_board.specs.BoardId.{board_id};
+
+    /// Opens a board, with a seat for each asker and each runner. Refused with 62 where there are not 1 to 16 askers and
+    /// 1 to 64 runners, or with 99.
+    pub fn open(
+        alloc: Global,
+        askers: usize,
+        runners: usize,
+    ) -> Result<(Board, Vec<AskerSeat>, Vec<RunnerSeat>), OpenFault>
+        ensures askers { IfOk result (λ made. made.1.items ≡ opened_askers (board_id made.0) askers) }
+        ensures runners { IfOk result (λ made. made.2.items ≡ opened_runners (board_id made.0) (8 * askers) askers runners) }
+        ensures boards { IfOk result (λ made. All (λ s. s.table ≡ board_id made.0) made.1.items × All (λ s. s.table ≡ board_id made.0) made.2.items) }
+        ensures counts { IfOk result (λ _. (1 ≤ askers) × (askers ≤ 16) × (1 ≤ runners) × (runners ≤ 64)) }
+        ensures outside { ¬ ((1 ≤ askers) × (askers ≤ 16) × (1 ≤ runners) × (runners ≤ 64)) → result ≡ Err OpenFault.BadCount }
+        ensures refused { result ≡ Err OpenFault.BadCount → ¬ ((1 ≤ askers) × (askers ≤ 16) × (1 ≤ runners) × (runners ≤ 64)) }
+    {
+        if askers < 1 || askers > MOST_ASKERS || runners < 1 || runners > MOST_RUNNERS {
+            return Err(OpenFault::BadCount);
+        }
+        let (board, mut maker) = Board::lay(alloc, ROW * askers)?;
+        let mut asker_seats = Vec::with_capacity(alloc, askers)?;
+        for number in 0..askers {
+            let seat = board.seat_asker(alloc, &mut maker, number)?;
+            asker_seats.push_reserved(seat);
+        }
+        let mut runner_seats = Vec::with_capacity(alloc, runners)?;
+        for made in 0..runners {
+            let seat = board.seat_runner(alloc, &mut maker, askers + made)?;
+            runner_seats.push_reserved(seat);
+        }
+        Ok((board, asker_seats, runner_seats))
+    }
+
+    /// Puts a job into a free slot of the seat's row. Refused with 61, and the same job, exactly where eight jobs of the
+    /// seat are open: offered, and not yet received.
+    pub fn offer(&self, seat: &mut AskerSeat, job: Job) -> Result<Slot, (RowFull, Job)>
+        requires { seat.old.table ≡ board_id self.now }
+        ensures offered { MatchResult result
+            (λ slot. Offers seat.old slot.index job seat.new)
+            (λ refused. (jobs seat.old.row ≡ 8) × (refused.1 ≡ job) × (seat.new ≡ seat.old)) }
+        ensures same { SameAsker seat.old seat.new }
+    {
+        let Some(place) = seat.free.pop_front() else {
+            return Err((RowFull, job));
+        };
+        let index = ROW * seat.number + place;
+        let shared = &self.table.shared;
+        drop(shared.exchange(&mut seat.seat, index, Cell::Offered(job)));
+        shared.store::<Publish>(&mut seat.seat, index, Found::Ready.word());
+        Ok(Slot { index })
+    }
+
+    /// Looks once at a slot of the seat's own. Where the look shows a finished job, takes its result, which is the right
+    /// answer of the job that was open in the slot.
+    pub fn poll(&self, seat: &mut AskerSeat, slot: Slot) -> Option<Done>
+        requires board { seat.old.table ≡ board_id self.now }
+        requires own { (8 * seat.old.number ≤ slot.index) × (slot.index < 8 * seat.old.number + 8) }
+        ensures looked { MatchOption result (LooksOnly seat.old slot.index seat.new) (λ done. Receives seat.old slot.index done seat.new) }
+        ensures right { IfSome result (λ done. IsFinished done) }
+        ensures same { SameAsker seat.old seat.new }
+    {
+        let index = slot.index;
+        let finished = Found::Finished.word();
+        let shared = &self.table.shared;
+        if shared.load::<See>(&mut seat.seat, index) != finished {
+            return None;
+        }
+        let empty = Found::Empty.word();
+        shared.compare_exchange::<Take>(&mut seat.seat, index, finished, empty);
+        let taken = shared.exchange(&mut seat.seat, index, Cell::Vacant);
+        seat.free.push_front_reserved(index - ROW * seat.number);
+        match taken {
+            Cell::Finished(done) => {
+                let _job = done.job();
+                Some(done)
+            }
+            Cell::Vacant | Cell::Offered(_) => unreachable!(),
+        }
+    }
+
+    /// Tries once to claim the job of a slot: there is a claim exactly where the slot was found ready.
+    pub fn try_take(&self, seat: &mut RunnerSeat, slot: Slot) -> Option<Claim>
+        requires board { seat.old.table ≡ board_id self.now }
+        requires own { slot.index < seat.old.lanes }
+        ensures tried { MatchOption result (Misses seat.old slot.index seat.new) (λ claim. (claim.slot ≡ slot.index) × Claims seat.old slot.index claim.job seat.new) }
+        ensures same { SameRunner seat.old seat.new }
+    {
+        let index = slot.index;
+        let ready = Found::Ready.word();
+        let claimed = Found::Claimed(seat.number).word();
+        let shared = &self.table.shared;
+        if shared.compare_exchange::<Try>(&mut seat.seat, index, ready, claimed) != ready {
+            return None;
+        }
+        let taken = shared.exchange(&mut seat.seat, index, Cell::Vacant);
+        seat.claims.push_front_reserved(index);
+        match taken {
+            Cell::Offered(job) => Some(Claim { slot: index, job }),
+            Cell::Vacant | Cell::Finished(_) => unreachable!(),
+        }
+    }
+
+    /// Ends a claim of the seat with the right answer of its job, which then waits for the asker.
+    pub fn finish(&self, seat: &mut RunnerSeat, claim: Claim, ran: Ran)
+        requires board { seat.old.table ≡ board_id self.now }
+        requires own { is_at seat.old.held claim.slot (Some claim.job) }
+        requires right { IsRight claim.job.certified claim.job.view claim.job.start ran }
+        ensures finished { Finishes seat.old claim.slot claim.job ran seat.new }
+        ensures same { SameRunner seat.old seat.new }
+    {
+        let Claim { slot, job } = claim;
+        let done = Done::of(job, ran);
+        let shared = &self.table.shared;
+        bring(&mut seat.seat, &mut seat.claims, slot);
+        drop(shared.exchange(&mut seat.seat, slot, Cell::Finished(done)));
+        shared.store::<Finish>(&mut seat.seat, slot, Found::Finished.word());
+    }
+
+    /// Ends a claim of the seat, and makes its slot ready with the same job.
+    pub fn give_back(&self, seat: &mut RunnerSeat, claim: Claim)
+        requires board { seat.old.table ≡ board_id self.now }
+        requires own { is_at seat.old.held claim.slot (Some claim.job) }
+        ensures back { GivesBack seat.old claim.slot seat.new }
+        ensures same { SameRunner seat.old seat.new }
+    {
+        let Claim { slot, job } = claim;
+        let shared = &self.table.shared;
+        bring(&mut seat.seat, &mut seat.claims, slot);
+        drop(shared.exchange(&mut seat.seat, slot, Cell::Offered(job)));
+        shared.store::<GiveBack>(&mut seat.seat, slot, Found::Ready.word());
+    }
+}
+
+impl Board {
+    ghost use Rattle.q_board.specs.BoardId.{board_id};
+
+    // An empty board, and the seat that makes the others.
+    fn lay(alloc: Global, lanes: usize) -> Result<(Board, Seat<Cell, View>), AllocError>
+        requires { lanes ≤ 128 }
+        ensures { IfOk result (λ made. (made.0.lanes ≡ lanes) × (made.1.table_id ≡ board_id made.0) × (made.1.me ≡ (making lanes 0, []))) }
+    {
+        let mut words = Vec::with_capacity(alloc, lanes)?;
+        let mut cells = Vec::with_capacity(alloc, lanes)?;
+        for _ in 0..lanes {
+            words.push_reserved(0);
+            cells.push_reserved(Cell::Vacant);
+        }
+        let key = lanes as u64;
+        match Table::new(alloc, &words, cells, &key) {
+            Ok((table, seat)) => Ok((Board { table, lanes }, seat)),
+            Err(Refused { slots: _ }) => Err(AllocError),
+        }
+    }
+
+    // The next asker takes its row.
+    fn seat_asker(
+        &self,
+        alloc: Global,
+        maker: &mut Seat<Cell, View>,
+        number: usize,
+    ) -> Result<AskerSeat, AllocError>
+        requires board { maker.old.table_id ≡ board_id self.now }
+        requires next { (maker.old.me ≡ (making self.now.lanes number, [])) × (8 * number + 8 ≤ self.now.lanes) × (self.now.lanes ≤ 128) }
+        ensures maker { (maker.new.table_id ≡ maker.old.table_id) × (IfOk result (λ _. maker.new.me ≡ (making self.now.lanes (number + 1), []))) }
+        ensures seat { IfOk result (λ s. s ≡ opened_asker (board_id self.now) number) }
+    {
+        let mut free = VecDeque::with_capacity(alloc, ROW)?;
+        let mut seat = self.table.shared.split_seat::<MakeAsker>(maker);
+        for place in 0..ROW {
+            self.table
+                .shared
+                .load::<TakeHome>(&mut seat, ROW * number + place);
+            free.push_front_reserved(place);
+        }
+        Ok(AskerSeat { seat, number, free })
+    }
+
+    // The next runner, after so many seats.
+    fn seat_runner(
+        &self,
+        alloc: Global,
+        maker: &mut Seat<Cell, View>,
+        made: usize,
+    ) -> Result<RunnerSeat, AllocError>
+        requires board { maker.old.table_id ≡ board_id self.now }
+        requires next { (maker.old.me ≡ (making self.now.lanes made, [])) × (made < 128) × (0 < self.now.lanes) × (self.now.lanes ≤ 128) }
+        ensures maker { (maker.new.table_id ≡ maker.old.table_id) × (IfOk result (λ _. maker.new.me ≡ (making self.now.lanes (made + 1), []))) }
+        ensures seat { IfOk result (λ s. s ≡ opened_runner (board_id self.now) self.now.lanes (made + 1)) }
+    {
+        let claims = VecDeque::with_capacity(alloc, self.lanes)?;
+        let seat = self.table.shared.split_seat::<MakeRunner>(maker);
+        Ok(RunnerSeat {
+            seat,
+            number: made as u32 + 1,
+            claims,
+            lanes: self.lanes,
+            next: 0,
+        })
+    }
+}
+
+// Brings a claimed slot to the front of the seat, and takes it off the claims.
+fn bring(seat: &mut Seat<Cell, View>, claims: &mut VecDeque<usize>, slot: usize)
+    requires { (seat.old.me.1 ≡ bare 0 claims.old.items) × (0 < times slot claims.old.items) }
+    ensures same { (seat.new.table_id ≡ seat.old.table_id) × (seat.new.id ≡ seat.old.id) × (seat.new.me.0 ≡ seat.old.me.0) }
+    ensures front { seat.new.me.1 ≡ bare 0 (slot ∷ claims.new.items) }
+    ensures claims { (k : ℕ) → times k claims.old.items ≡ times k (slot ∷ claims.new.items) }
+    ensures room { (deque_capacity claims.new ≡ deque_capacity claims.old) × (deque_len claims.new + 1 ≡ deque_len claims.old) }
+{
+    while let Some(first) = claims.pop_front() {
+        if first == slot {
+            return;
+        }
+        claims.push_back_reserved(first);
+        seat.turn();
+    }
+    unreachable!()
+}

@@ -1,0 +1,5 @@
+pub mod Moves
+pub mod AskerSteps
+pub mod RunnerSteps
+pub mod Opening
+pub mod Accounting

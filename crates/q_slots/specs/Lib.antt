@@ -1,0 +1,5 @@
+pub mod Words
+pub mod Phase
+pub mod Rule
+pub mod Plays
+pub mod Account
