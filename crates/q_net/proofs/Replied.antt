@@ -1,0 +1,30 @@
+-- Replies to requests.
+use Rattle.std.proofs.Common.{◌≡◌, ℕ, List, [], ◌++◌, Err, refl, sym, ◌∙◌, subst, append-nil}
+use Rattle.sc_msg.specs.declared.message.Message.{Message}
+use Rattle.q_book.specs.State.{BookState}
+use Rattle.q_book.specs.Faults.{memory}
+use Rattle.q_net.specs.declared.request.Request.{Request}
+use Rattle.q_net.specs.declared.request.Request.TheVariants.{Register, Ask, Store}
+use Rattle.q_net.specs.declared.reply.Reply.{Reply}
+use Rattle.q_net.specs.declared.reply.Reply.TheVariants.{Refused}
+use Rattle.q_net.specs.declared.served.Registered.{Registered}
+use Rattle.q_net.specs.Replies.{Replies, Registers, of_registered}
+
+-- nothing is sent
+pub none_sent : {P : List Message → Type 0} (had has : List Message) → has ≡ had → P [] → (outs : List Message) × P outs × (has ≡ had ++ outs)
+none_sent had has same p = ([], p, same ∙ sym (append-nil had))
+
+pub registers_replies : (b c : BookState) (request : Request) (text notes bytes more : List ℕ) (r : Registered) (said : Reply) → request ≡ Register text notes → bytes ≡ text → more ≡ notes
+    → Registers b bytes more r c → said ≡ of_registered r → Replies b request said [] c
+registers_replies b c request text notes bytes more r said is first second done reply =
+    subst (λ (q : Request). Replies b q said [] c) (sym is)
+    (r, subst (λ (n : List ℕ). Registers b text n r c) second (subst (λ (t : List ℕ). Registers b t more r c) first done), reply, refl)
+
+-- memory ran out before the call
+pub asks_nothing : (b : BookState) (request : Request) (program start : ℕ) → request ≡ Ask program start → Replies b request (Refused 99) [] b
+asks_nothing b request program start is =
+    subst (λ (q : Request). Replies b q (Refused 99) [] b) (sym is) (Err memory, (refl, λ other. absurd (other refl)), refl, refl)
+
+pub stores_nothing : (b : BookState) (request : Request) (value : List ℕ) → request ≡ Store value → Replies b request (Refused 99) [] b
+stores_nothing b request value is =
+    subst (λ (q : Request). Replies b q (Refused 99) [] b) (sym is) (Err memory, (refl, λ other. absurd (other refl)), refl, refl)

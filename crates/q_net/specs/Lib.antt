@@ -1,0 +1,4 @@
+-- Client requests to a book.
+pub mod Requests
+pub mod Replies
+pub mod Serves

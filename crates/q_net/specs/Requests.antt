@@ -1,0 +1,145 @@
+-- How requests are spelled, and how an input of requests ends.
+use Rattle.std.specs.Prelude.{◌≡◌, ◌≢◌, ℕ, ◌≤◌, ◌<◌, ◌^◌, List, [], ◌∷◌, ◌++◌, length, Option, Some, None, Result, Ok, Err}
+use Rattle.std.specs.List.{flat_map}
+use Rattle.std.specs.Io.KnownBytes.{Consumes, IsAtEnd}
+use Rattle.bq_check.specs.Spelling.{short_bytes, long_bytes}
+use Rattle.q_net.specs.declared.request.Request.{Request}
+use Rattle.q_net.specs.declared.request.Request.TheVariants.{Register, Ask, Store, Answer}
+use Rattle.q_net.specs.declared.request.Stop.{Stop}
+use Rattle.q_net.specs.declared.request.Stop.TheVariants.{Unknown, Cut, LongText, LongNotes}
+use Rattle.q_net.specs.declared.pieces.Piece.{Piece}
+use Rattle.q_net.specs.declared.pieces.Piece.TheVariants as piece
+use Rattle.q_net.specs.declared.incoming.Next.{Next}
+use Rattle.q_net.specs.declared.incoming.Next.TheVariants as next
+
+abbrev pub most_text : ℕ
+most_text = 32768
+
+abbrev pub most_notes : ℕ
+most_notes = 770052
+
+-- the bytes of a request
+abbrev pub spelling : Request → List ℕ
+spelling (Register text notes) = 1 ∷ short_bytes (length text) ++ (text ++ (short_bytes (length notes) ++ notes))
+spelling (Ask program start) = 2 ∷ short_bytes program ++ long_bytes start
+spelling (Store value) = 3 ∷ value
+spelling (Answer query) = 4 ∷ long_bytes query
+
+abbrev pub spellings : List Request → List ℕ
+spellings requests = flat_map spelling requests
+
+-- the requests that have bytes
+abbrev pub IsRequest : Request → Type 0
+IsRequest (Register text notes) = (length text ≤ most_text) × (length notes ≤ most_notes)
+IsRequest (Ask program start) = (program < 2 ^ 32) × (start < 2 ^ 64)
+IsRequest (Store value) = length value ≡ 48
+IsRequest (Answer query) = query < 2 ^ 64
+
+-- ---- an input that ends within a request
+
+-- where in a request the input may end: within a number, or within so many bytes
+pub data Place : Type 0 where
+  text_length : Place
+  in_text : ℕ → Place
+  notes_length : List ℕ → Place
+  in_notes : List ℕ → ℕ → Place
+  program_number : Place
+  start_value : ℕ → Place
+  in_value : Place
+  query_number : Place
+
+-- the lengths before that place are allowed
+abbrev pub IsPlace : Place → Type 0
+IsPlace (in_text len) = len ≤ most_text
+IsPlace (notes_length text) = length text ≤ most_text
+IsPlace (in_notes text len) = (length text ≤ most_text) × (len ≤ most_notes)
+IsPlace place = Unit {0}
+
+-- the bytes of the request before that place
+abbrev pub before : Place → List ℕ
+before text_length = 1 ∷ []
+before (in_text len) = 1 ∷ short_bytes len
+before (notes_length text) = 1 ∷ short_bytes (length text) ++ text
+before (in_notes text len) = 1 ∷ short_bytes (length text) ++ (text ++ short_bytes len)
+before program_number = 2 ∷ []
+before (start_value program) = 2 ∷ short_bytes program
+before in_value = 3 ∷ []
+before query_number = 4 ∷ []
+
+-- how many bytes belong there
+abbrev pub wanted : Place → ℕ
+wanted text_length = 4
+wanted (in_text len) = len
+wanted (notes_length text) = 4
+wanted (in_notes text len) = len
+wanted program_number = 4
+wanted (start_value program) = 8
+wanted in_value = 48
+wanted query_number = 8
+
+-- the bytes of a request, up to too few of those that belong to some place
+pub record IsCut (bytes : List ℕ) : Type 0 where
+  pub place : Place
+  pub allowed : IsPlace place
+  pub part : List ℕ
+  pub few : length part < wanted place
+  pub whole : bytes ≡ before place ++ part
+
+-- ---- how requests end
+
+-- the bytes at which requests stop before their input ends
+abbrev pub IsStop : List ℕ → Stop → Type 0
+IsStop bytes Unknown = (kind : ℕ) × (bytes ≡ kind ∷ []) × (kind ≢ 1) × (kind ≢ 2) × (kind ≢ 3) × (kind ≢ 4)
+IsStop bytes Cut = IsCut bytes
+IsStop bytes LongText = (len : ℕ) × (most_text < len) × (len < 2 ^ 32) × (bytes ≡ 1 ∷ short_bytes len)
+IsStop bytes LongNotes =
+    (text : List ℕ) × (len : ℕ) × (length text ≤ most_text) × (most_notes < len) × (len < 2 ^ 32)
+    × (bytes ≡ 1 ∷ short_bytes (length text) ++ (text ++ short_bytes len))
+
+-- the input ended where it had to
+abbrev pub IsRead : Option (List ℕ) → Option Stop → Type 0
+IsRead left None = IsAtEnd left
+IsRead left (Some Cut) = IsAtEnd left
+IsRead left (Some stop) = Unit {0}
+
+-- ---- what comes next
+
+-- these bytes are the next request, or how requests end
+abbrev pub IsNext : List ℕ → Next → Type 0
+IsNext bytes next.End = bytes ≡ []
+IsNext bytes (next.Whole r) = IsRequest r × (bytes ≡ spelling r)
+IsNext bytes next.Lost = (text : List ℕ) × (notes : List ℕ) × IsRequest (Register text notes) × (bytes ≡ spelling (Register text notes))
+IsNext bytes (next.Ended stop) = IsStop bytes stop
+
+abbrev pub IsReadTo : Option (List ℕ) → Next → Type 0
+IsReadTo left next.End = IsRead left None
+IsReadTo left (next.Ended stop) = IsRead left (Some stop)
+IsReadTo left n = Unit {0}
+
+-- behind some bytes more were read, and together they are what comes next
+abbrev pub IsGot : List ℕ → Option (List ℕ) → Option (List ℕ) → Next → Type 0
+IsGot front input left n = (bytes : List ℕ) × Consumes input left bytes × IsNext (front ++ bytes) n × IsReadTo left n
+
+-- the same, or a read failed behind some bytes
+abbrev pub GetsNext : {E : Type 0} → List ℕ → Option (List ℕ) → Option (List ℕ) → Result Next E → Type 0
+GetsNext front input left (Ok n) = IsGot front input left n
+GetsNext front input left (Err e) = (part : List ℕ) × Consumes input left part
+
+-- a value by its bytes; or the input ended before so many
+abbrev pub Got : {A : Type 0} → (A → List ℕ) → ℕ → Option (List ℕ) → Option (List ℕ) → Option A → Type 0
+Got bytes_of len input left (Some a) = Consumes input left (bytes_of a)
+Got bytes_of len input left None = (part : List ℕ) × Consumes input left part × (length part < len) × IsAtEnd left
+
+abbrev pub Gets : {A E : Type 0} → (A → List ℕ) → ℕ → Option (List ℕ) → Option (List ℕ) → Result (Option A) E → Type 0
+Gets bytes_of len input left (Ok o) = Got bytes_of len input left o
+Gets bytes_of len input left (Err e) = (part : List ℕ) × Consumes input left part
+
+-- so many bytes, or there was no memory for them and they were passed over
+abbrev pub GotBlob : ℕ → Option (List ℕ) → Option (List ℕ) → Piece → Type 0
+GotBlob len input left (piece.Whole bytes) = Consumes input left bytes × (length bytes ≡ len)
+GotBlob len input left piece.Lost = (bytes : List ℕ) × Consumes input left bytes × (length bytes ≡ len)
+GotBlob len input left piece.Cut = (part : List ℕ) × Consumes input left part × (length part < len) × IsAtEnd left
+
+abbrev pub GetsBlob : {E : Type 0} → ℕ → Option (List ℕ) → Option (List ℕ) → Result Piece E → Type 0
+GetsBlob len input left (Ok p) = GotBlob len input left p
+GetsBlob len input left (Err e) = (part : List ℕ) × Consumes input left part

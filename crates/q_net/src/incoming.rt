@@ -1,0 +1,129 @@
+//! The next request of an input.
+
+ghost use Rattle.std.specs.Prelude.{◌≡◌, ◌≤◌, ℕ, List, [], ◌∷◌, ◌++◌, length, IfSome};
+ghost use Rattle.bq_check.specs.Spelling.{short_bytes};
+ghost use Rattle.q_wire.specs.Counts.{count_after};
+ghost use Rattle.q_net.specs.Requests.{GetsNext, most_text};
+
+use crate::pieces::{Piece, read_blob, read_byte, read_long, read_short, read_value};
+use crate::request::{Blob, Request, Stop};
+use q_wire::counted::Counted;
+use q_wire::fault::TransportFailed;
+use std::alloc::Global;
+use std::io::Read;
+
+// The greatest length of a text, in bytes.
+const MOST_TEXT: u32 = 32_768;
+
+// The greatest length of notes, in bytes.
+const MOST_NOTES: u32 = 770_052;
+
+/// What comes next.
+#[derive(Drop)]
+pub enum Next {
+    /// Nothing: the input ends.
+    End,
+    /// This request.
+    Whole(Request),
+    /// A registration for whose bytes there was no memory.
+    Lost,
+    /// None, though the input goes on or ends within one.
+    Ended(Stop),
+}
+
+/// The notes behind a text, which is none where there was no memory for it.
+fn notes<R: Read>(
+    alloc: Global,
+    text: Option<Blob>,
+    input: &mut Counted<R>,
+) -> Result<Next, TransportFailed>
+    ensures read { (whole : List ℕ) → length whole ≤ most_text → IfSome text (λ t. t ≡ whole)
+        → GetsNext (1 ∷ short_bytes (length whole) ++ whole) (R.remaining input.old.inner) (R.remaining input.new.inner) result }
+    ensures counted { input.new.failures ≡ count_after result input.old.failures }
+{
+    let Some(len) = read_short(input)? else {
+        return Ok(Next::Ended(Stop::Cut));
+    };
+    if len > MOST_NOTES {
+        return Ok(Next::Ended(Stop::LongNotes));
+    }
+    match read_blob(alloc, input, len as usize)? {
+        Piece::Cut => Ok(Next::Ended(Stop::Cut)),
+        Piece::Lost => Ok(Next::Lost),
+        Piece::Whole(notes) => match text {
+            Some(text) => Ok(Next::Whole(Request::Register { text, notes })),
+            None => Ok(Next::Lost),
+        },
+    }
+}
+
+/// A registration, behind its kind.
+fn register<R: Read>(alloc: Global, input: &mut Counted<R>) -> Result<Next, TransportFailed>
+    ensures read { GetsNext (1 ∷ []) (R.remaining input.old.inner) (R.remaining input.new.inner) result }
+    ensures counted { input.new.failures ≡ count_after result input.old.failures }
+{
+    let Some(len) = read_short(input)? else {
+        return Ok(Next::Ended(Stop::Cut));
+    };
+    if len > MOST_TEXT {
+        return Ok(Next::Ended(Stop::LongText));
+    }
+    match read_blob(alloc, input, len as usize)? {
+        Piece::Cut => Ok(Next::Ended(Stop::Cut)),
+        Piece::Lost => notes(alloc, None, input),
+        Piece::Whole(text) => notes(alloc, Some(text), input),
+    }
+}
+
+/// A query, behind its kind.
+fn ask<R: Read>(input: &mut Counted<R>) -> Result<Next, TransportFailed>
+    ensures read { GetsNext (2 ∷ []) (R.remaining input.old.inner) (R.remaining input.new.inner) result }
+    ensures counted { input.new.failures ≡ count_after result input.old.failures }
+{
+    let Some(program) = read_short(input)? else {
+        return Ok(Next::Ended(Stop::Cut));
+    };
+    let Some(start) = read_long(input)? else {
+        return Ok(Next::Ended(Stop::Cut));
+    };
+    Ok(Next::Whole(Request::Ask { program, start }))
+}
+
+/// A store, behind its kind.
+fn store<R: Read>(input: &mut Counted<R>) -> Result<Next, TransportFailed>
+    ensures read { GetsNext (3 ∷ []) (R.remaining input.old.inner) (R.remaining input.new.inner) result }
+    ensures counted { input.new.failures ≡ count_after result input.old.failures }
+{
+    match read_value(input)? {
+        Some(value) => Ok(Next::Whole(Request::Store(value))),
+        None => Ok(Next::Ended(Stop::Cut)),
+    }
+}
+
+/// A question for an answer, behind its kind.
+fn answer<R: Read>(input: &mut Counted<R>) -> Result<Next, TransportFailed>
+    ensures read { GetsNext (4 ∷ []) (R.remaining input.old.inner) (R.remaining input.new.inner) result }
+    ensures counted { input.new.failures ≡ count_after result input.old.failures }
+{
+    match read_long(input)? {
+        Some(query) => Ok(Next::Whole(Request::Answer(query))),
+        None => Ok(Next::Ended(Stop::Cut)),
+    }
+}
+
+/// The next request of an input, or how its requests end.
+pub fn read_next<R: Read>(alloc: Global, input: &mut Counted<R>) -> Result<Next, TransportFailed>
+    ensures read { GetsNext [] (R.remaining input.old.inner) (R.remaining input.new.inner) result }
+    ensures counted { input.new.failures ≡ count_after result input.old.failures }
+{
+    let Some(kind) = read_byte(input)? else {
+        return Ok(Next::End);
+    };
+    match kind {
+        1 => register(alloc, input),
+        2 => ask(input),
+        3 => store(input),
+        4 => answer(input),
+        _ => Ok(Next::Ended(Stop::Unknown)),
+    }
+}

@@ -1,0 +1,33 @@
+//! Client requests to a book, from any reader to any writer.
+//!
+//! A request begins with the byte of its kind. Numbers have their lowest byte first.
+//!
+//! | Kind | Behind it | Reply |
+//! |---|---|---|
+//! | 1 register | the length of a text in four bytes, the text, the length of notes in four bytes, the notes | 0, the program's number in four bytes |
+//! | 2 ask | the program's number in four bytes, the start in eight | 0, the query's number in eight bytes |
+//! | 3 store | 48 bytes | 0, the operation's tag in eight bytes |
+//! | 4 answer | the query's number in eight bytes | 0 0 where it has none yet; else 0 1, the accumulator and the steps, eight bytes each |
+//!
+//! A request that is refused is replied to by one byte, the number of the refusal. A registration is decoded, its notes
+//! are read and checked against the text, and only then the book is asked. Four replies end the requests, and change
+//! nothing: 84 at a kind that is none of these, 85 where the input ends within a request, 2 at a text of more than
+//! 32,768 bytes and 31 at notes of more than 770,052. After a reply of 99 nothing has changed, the request was read to
+//! its end, and the next one follows.
+//!
+//! Promised by [`serve`], if it returns, of the bytes of a reader and a writer that are known: the input begins with the
+//! spellings of requests and how they ended, what was written is the replies to them one behind the other, the book is
+//! the one that its own calls make of them in turn, and the messages of these calls stand in order behind those that
+//! were there. Where a read or a write fails (86) the same holds of the requests before, and the one at hand was done
+//! whole or not at all; and just one failure was counted, at the reader or at the writer.
+//!
+//! [`serve`]: serve::serve
+#![tactic(auto)]
+
+mod incoming;
+mod pieces;
+pub mod reply;
+pub mod request;
+pub mod serve;
+pub mod served;
+pub mod worked;

@@ -1,0 +1,126 @@
+//! The parts of a request, read from left to right.
+
+ghost use Rattle.std.specs.Prelude.{◌≡◌, [], ◌∷◌, length};
+ghost use Rattle.bq_check.specs.Spelling.{short_bytes, long_bytes};
+ghost use Rattle.q_net.specs.Requests.{Gets, GetsBlob};
+ghost use Rattle.q_wire.specs.Counts.{count_after};
+
+use crate::request::Blob;
+use q_wire::counted::Counted;
+use q_wire::fault::TransportFailed;
+use std::alloc::Global;
+use std::io::Read;
+
+/// So many bytes of a request.
+#[derive(Drop)]
+pub enum Piece {
+    /// These bytes.
+    Whole(Blob),
+    /// There was no memory for them.
+    Lost,
+    /// The input ended before.
+    Cut,
+}
+
+/// The number of these four bytes.
+#[tactic(auto, unfolding(bq_check::specs::Spelling::short_bytes))]
+fn short_of(bytes: &[u8]) -> u32
+    requires { length bytes.now ≡ 4 }
+    ensures { short_bytes result ≡ bytes.now }
+{
+    let [a, b, c, d] = bytes else {
+        return 0;
+    };
+    u32::from_le_bytes([*a, *b, *c, *d])
+}
+
+/// The number of these eight bytes.
+#[tactic(auto, unfolding(bq_check::specs::Spelling::long_bytes))]
+fn long_of(bytes: &[u8]) -> u64
+    requires { length bytes.now ≡ 8 }
+    ensures { long_bytes result ≡ bytes.now }
+{
+    let [a, b, c, d, e, f, g, h] = bytes else {
+        return 0;
+    };
+    u64::from_le_bytes([*a, *b, *c, *d, *e, *f, *g, *h])
+}
+
+/// The next byte; none where the input ends before it.
+pub fn read_byte<R: Read>(input: &mut Counted<R>) -> Result<Option<u8>, TransportFailed>
+    ensures read { Gets (λ b. b ∷ []) 1 (R.remaining input.old.inner) (R.remaining input.new.inner) result }
+    ensures counted { input.new.failures ≡ count_after result input.old.failures }
+{
+    let mut bytes = [0u8; 1];
+    if input.fill(&mut bytes)? < 1 {
+        return Ok(None);
+    }
+    Ok(Some(bytes[0]))
+}
+
+/// The number of the next four bytes; none where the input ends before them.
+pub fn read_short<R: Read>(input: &mut Counted<R>) -> Result<Option<u32>, TransportFailed>
+    ensures read { Gets short_bytes 4 (R.remaining input.old.inner) (R.remaining input.new.inner) result }
+    ensures counted { input.new.failures ≡ count_after result input.old.failures }
+{
+    let mut bytes = [0u8; 4];
+    if input.fill(&mut bytes)? < 4 {
+        return Ok(None);
+    }
+    Ok(Some(short_of(&bytes)))
+}
+
+/// The number of the next eight bytes; none where the input ends before them.
+pub fn read_long<R: Read>(input: &mut Counted<R>) -> Result<Option<u64>, TransportFailed>
+    ensures read { Gets long_bytes 8 (R.remaining input.old.inner) (R.remaining input.new.inner) result }
+    ensures counted { input.new.failures ≡ count_after result input.old.failures }
+{
+    let mut bytes = [0u8; 8];
+    if input.fill(&mut bytes)? < 8 {
+        return Ok(None);
+    }
+    Ok(Some(long_of(&bytes)))
+}
+
+/// The value of the next 48 bytes; none where the input ends before them.
+pub fn read_value<R: Read>(input: &mut Counted<R>) -> Result<Option<[u8; 48]>, TransportFailed>
+    ensures read { Gets (λ v. v) 48 (R.remaining input.old.inner) (R.remaining input.new.inner) result }
+    ensures counted { input.new.failures ≡ count_after result input.old.failures }
+{
+    let mut bytes = [0u8; 48];
+    if input.fill(&mut bytes)? < 48 {
+        return Ok(None);
+    }
+    Ok(Some(bytes))
+}
+
+/// So many bytes, passed over.
+fn pass_over<R: Read>(input: &mut Counted<R>, len: usize) -> Result<Piece, TransportFailed>
+    ensures read { GetsBlob len (R.remaining input.old.inner) (R.remaining input.new.inner) result }
+    ensures counted { input.new.failures ≡ count_after result input.old.failures }
+{
+    for _at in 0..len {
+        if read_byte(input)?.is_none() {
+            return Ok(Piece::Cut);
+        }
+    }
+    Ok(Piece::Lost)
+}
+
+/// So many bytes. Where there is no memory for them they are passed over.
+pub fn read_blob<R: Read>(
+    alloc: Global,
+    input: &mut Counted<R>,
+    len: usize,
+) -> Result<Piece, TransportFailed>
+    ensures read { GetsBlob len (R.remaining input.old.inner) (R.remaining input.new.inner) result }
+    ensures counted { input.new.failures ≡ count_after result input.old.failures }
+{
+    let Ok(mut bytes) = vec![in alloc; 0u8; len] else {
+        return pass_over(input, len);
+    };
+    if input.fill(bytes.as_mut_slice())? < len {
+        return Ok(Piece::Cut);
+    }
+    Ok(Piece::Whole(Blob::new(bytes)))
+}

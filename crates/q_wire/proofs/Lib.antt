@@ -1,0 +1,2 @@
+-- Proofs of counted readers and writers.
+pub mod Parts

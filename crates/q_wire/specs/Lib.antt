@@ -1,0 +1,3 @@
+-- Transports, and readers and writers whose failures are counted.
+pub mod Counts
+pub mod Faults

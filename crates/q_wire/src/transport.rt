@@ -1,0 +1,27 @@
+//! What sends and receives datagrams.
+
+ghost use Rattle.std.specs.Prelude.{◌≡◌, ◌≤◌, ℕ, length, IfOk, IfSome};
+ghost use Rattle.q_wire.specs.Counts.{transport_count};
+
+use crate::fault::TransportFault;
+
+/// A node's way to the others: datagrams, which may be lost, come again or in another order, be cut or forged.
+pub trait Transport {
+    // How many calls failed so far.
+    ghost failed: { Self → ℕ };
+
+    /// Sends a datagram to the node with this id. Refused with 86 where that fails, and with 99.
+    fn send(&mut self, to: u64, bytes: &[u8]) -> Result<(), TransportFault>
+        ensures { failed self.new ≡ transport_count result (failed self.old) };
+
+    /// Puts the next datagram at the start of a buffer and gives its length, or none where none is there. What does not
+    /// fit is lost. Refused with 86 where that fails.
+    fn receive(&mut self, into: &mut [u8]) -> Result<Option<usize>, TransportFault>
+        ensures counted { failed self.new ≡ transport_count result (failed self.old) }
+        ensures len { length into.new ≡ length into.old }
+        ensures fits { IfOk result (λ got. IfSome got (λ n. n ≤ length into.new)) };
+
+    /// How many calls failed so far, those that wanted memory aside. The count stays at its greatest value.
+    fn failures(&self) -> u64
+        ensures { result ≡ failed self.now };
+}
