@@ -4,8 +4,8 @@ use Rattle.std.specs.Ordering.{nat_cmp}
 use Rattle.std.specs.FinMap as fin
 use Rattle.sc_view.specs.Views.{ViewMap}
 use Rattle.sc_members.specs.Members.{Config}
-use Rattle.sc_node.specs.declared.session.Kind.{Kind}
-use Rattle.sc_node.specs.declared.session.Kind.TheVariants as kind
+use Rattle.sc_node.specs.declared.session.OperationKind.{OperationKind}
+use Rattle.sc_node.specs.declared.session.OperationKind.TheVariants as kind
 use Rattle.sc_node.specs.Sessions.{stored}
 use Rattle.sc_node.specs.State.{NodeState}
 use Rattle.sc_node.specs.Nodes.{founder}
@@ -98,7 +98,7 @@ module _ (config : Config) (ids : List ℕ) where
 
 -- ---- what is said of answers
 
-returned_held : (k : Kind) (end : Option ℕ) (view : Option ViewMap) (v : ViewMap) → returned_by k end view ≡ Some v → view ≡ Some v
+returned_held : (k : OperationKind) (end : Option ℕ) (view : Option ViewMap) (v : ViewMap) → returned_by k end view ≡ Some v → view ≡ Some v
 returned_held (kind.Store e) end view v h = absurd (no_some v h)
 returned_held kind.Collect None view v h = absurd (no_some v h)
 returned_held kind.Collect (Some place) view v h = h

@@ -5,8 +5,8 @@ use Rattle.std.specs.Ordering.{nat_cmp}
 use Rattle.std.specs.Cmp.{nat_cmp_total}
 use Rattle.std.specs.FinMap as fin
 use Rattle.sc_view.specs.Views.{ViewMap}
-use Rattle.sc_node.specs.declared.session.Kind.{Kind}
-use Rattle.sc_node.specs.declared.session.Kind.TheVariants as kind
+use Rattle.sc_node.specs.declared.session.OperationKind.{OperationKind}
+use Rattle.sc_node.specs.declared.session.OperationKind.TheVariants as kind
 use Rattle.sc_node.specs.declared.answer.Progress.{Progress}
 use Rattle.sc_node.specs.Sessions.{stored}
 use Rattle.sc_node.specs.State.{NodeState}
@@ -40,7 +40,7 @@ pub record IsOnward (w w' : WorldState) : Type 0 where
 pub onward_itself : (w : WorldState) → IsOnward w w
 onward_itself w = record { config = refl; founders = refl; ops = λ o in'. record { op = o; among = in'; by = refl; tagged = refl; returned = λ v h. h }; nodes = λ id n at. (n, at) }
 
-none_returned : (k : Kind) (view : Option ViewMap) → returned_by k None view ≡ None
+none_returned : (k : OperationKind) (view : Option ViewMap) → returned_by k None view ≡ None
 none_returned (kind.Store e) view = refl
 none_returned kind.Collect view = refl
 

@@ -3,8 +3,8 @@ use Rattle.std.specs.Prelude.{◌≡◌, ℕ, zero, suc, ◌&&◌, Bool, true, f
 use Rattle.std.specs.Fmt.{decimal}
 use Rattle.sc_msg.specs.Kinds.{kind_of, name_of}
 use Rattle.sc_msg.specs.declared.message.Message.{Message}
-use Rattle.sc_node.specs.declared.session.Kind.{Kind}
-use Rattle.sc_node.specs.declared.session.Kind.TheVariants as kind
+use Rattle.sc_node.specs.declared.session.OperationKind.{OperationKind}
+use Rattle.sc_node.specs.declared.session.OperationKind.TheVariants as kind
 use Rattle.sc_world.specs.declared.op.Op.{Op}
 use Rattle.sc_world.specs.Regular.{IsMeeting}
 use Rattle.q_desk.specs.declared.completed.Completed.{Completed}
@@ -68,7 +68,7 @@ journal_line events = codes "journal " ++ (decimal events ++ codes " events\n")
 
 -- ---- pairs of operations
 
-abbrev pub is_store : Kind → Bool
+abbrev pub is_store : OperationKind → Bool
 is_store (kind.Store e) = true
 is_store kind.Collect = false
 

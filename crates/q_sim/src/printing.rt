@@ -7,7 +7,7 @@ ghost use Rattle.q_sim.specs.Printing.{AddsPairs, told_lines, message_line, mess
 use q_cluster::cluster::Cluster;
 use q_desk::completed::Completed;
 use q_history::event::{Answer, Handed, Told};
-use sc_node::session::Kind;
+use sc_node::session::OperationKind;
 use sc_world::event::Sent;
 use sc_world::op::{Op, meets};
 use std::alloc::AllocError;
@@ -61,12 +61,12 @@ pub fn print_messages(lines: &mut String, cluster: &Cluster, sent: Sent) -> Resu
     Ok(())
 }
 
-fn is_store(kind: &Kind) -> bool
+fn is_store(kind: &OperationKind) -> bool
     ensures { result ≡ pair.is_store kind.now }
 {
     match kind {
-        Kind::Store(_) => true,
-        Kind::Collect => false,
+        OperationKind::Store(_) => true,
+        OperationKind::Collect => false,
     }
 }
 

@@ -10,8 +10,8 @@ use Rattle.sc_view.specs.declared.view.Stored.{Stored}
 use Rattle.sc_msg.specs.declared.message.Body.{Body}
 use Rattle.sc_msg.specs.declared.message.Body.TheVariants as bodies
 use Rattle.sc_msg.specs.declared.message.Message.{Message}
-use Rattle.sc_msg.specs.declared.kind.Kind.{Kind}
-use Rattle.sc_msg.specs.declared.kind.Kind.TheVariants as kinds
+use Rattle.sc_msg.specs.declared.kind.MessageKind.{MessageKind}
+use Rattle.sc_msg.specs.declared.kind.MessageKind.TheVariants as kinds
 use Rattle.sc_msg.specs.declared.fault.MessageFault.{MessageFault}
 use Rattle.sc_msg.specs.declared.fault.MessageFault.TheVariants.{BadHead, Short, TooLong, BadKind, Unsorted, Extra, BadField, OutOfMemory}
 use Rattle.sc_msg.specs.Kinds.{code, kind_of, kind_at}
@@ -30,22 +30,22 @@ no_fault e h = cc
 
 -- ---- the head
 
-same_kind : (k l : Kind) → Some k ≡ Some l → k ≡ l
+same_kind : (k l : MessageKind) → Some k ≡ Some l → k ≡ l
 same_kind k l e = cc
 
-same_code : (k l : Kind) → code k ≡ code l → k ≡ l
+same_code : (k l : MessageKind) → code k ≡ code l → k ≡ l
 same_code k l e = same_kind k l (sym (kind_at-code k) ∙ ap kind_at e ∙ kind_at-code l)
 
 fourth : (a b : ℕ) (x y : List ℕ) → 0x42 ∷ 0x51 ∷ 0x01 ∷ a ∷ x ≡ 0x42 ∷ 0x51 ∷ 0x01 ∷ b ∷ y → (a ≡ b) × (x ≡ y)
 fourth a b x y e = (cc, cc)
 
-head_front : (k l : Kind) (f g : ℕ) (x y : List ℕ) → f < 2 ^ 64 → g < 2 ^ 64 → head_bytes k f ++ x ≡ head_bytes l g ++ y → (k ≡ l) × (f ≡ g) × (x ≡ y)
+head_front : (k l : MessageKind) (f g : ℕ) (x y : List ℕ) → f < 2 ^ 64 → g < 2 ^ 64 → head_bytes k f ++ x ≡ head_bytes l g ++ y → (k ≡ l) × (f ≡ g) × (x ≡ y)
 head_front k l f g x y p q e =
     let c = fourth (code k) (code l) (number_bytes 8 f ++ x) (number_bytes 8 g ++ y) e in
     let n = number_front 8 f g x y p q c.1 in
     (same_code k l c.0, n.0, n.1)
 
-pub length-head_bytes : (k : Kind) (f : ℕ) → length (head_bytes k f) ≡ 12
+pub length-head_bytes : (k : MessageKind) (f : ℕ) → length (head_bytes k f) ≡ 12
 length-head_bytes k f = omega (arith, length-number_bytes 8 f)
 
 -- ---- bodies and their fields
@@ -64,7 +64,7 @@ slots_of (bodies.CollectQuery tag) = refl
 slots_of (bodies.CollectReply to tag v) = refl
 
 -- the body of a kind that has these fields, and of others any
-back : Kind → List Field → Body
+back : MessageKind → List Field → Body
 back kinds.EnterEcho (number to ∷ flag joined ∷ ids entered ∷ ids members ∷ ids left ∷ view v ∷ []) = bodies.EnterEcho to joined (record { entered = entered; joined = members; left = left }) v
 back kinds.Join fs = bodies.Join
 back kinds.JoinEcho (number about ∷ []) = bodies.JoinEcho about
@@ -176,17 +176,17 @@ message_small m p = omega (arith, length-append (head_bytes (kind_of m.body) m.f
 
 -- ---- what is spelled has no fault
 
-head_sound : (k : Kind) (f : ℕ) (x : List ℕ) → length (head_bytes k f ++ x) ≤ most_bytes → head_fault (head_bytes k f ++ x) ≡ None
+head_sound : (k : MessageKind) (f : ℕ) (x : List ℕ) → length (head_bytes k f ++ x) ≤ most_bytes → head_fault (head_bytes k f ++ x) ≡ None
 head_sound k f x small =
     let low : nat_lt most_bytes (length (head_bytes k f ++ x)) ≡ false = le-ltb _ _ small in
     let long : nat_lt (length (head_bytes k f ++ x)) 12 ≡ false = le-ltb _ _ (omega (arith, length-append (head_bytes k f) x, length-head_bytes k f)) in
     rw (low, long, kind_at-code k) refl
 
-no_head_fault : (bytes rest : List ℕ) (k : Kind) (f : ℕ) (e : MessageFault) → length bytes ≤ most_bytes → bytes ≡ head_bytes k f ++ rest → head_fault bytes ≡ Some e → ⊥
+no_head_fault : (bytes rest : List ℕ) (k : MessageKind) (f : ℕ) (e : MessageFault) → length bytes ≤ most_bytes → bytes ≡ head_bytes k f ++ rest → head_fault bytes ≡ Some e → ⊥
 no_head_fault bytes rest k f e small parts h = no_fault e (sym (head_sound k f rest (omega (arith, small, ap length parts))) ∙ ap head_fault (sym parts) ∙ h)
 
 -- behind a head that was read the answer is no fault of the head
-pub head_is_right : (bytes rest : List ℕ) (k : Kind) (f : ℕ) (r : Result Message MessageFault) → length bytes ≤ most_bytes → bytes ≡ head_bytes k f ++ rest → (e : MessageFault) → head_fault bytes ≡ Some e → r ≡ Err e
+pub head_is_right : (bytes rest : List ℕ) (k : MessageKind) (f : ℕ) (r : Result Message MessageFault) → length bytes ≤ most_bytes → bytes ≡ head_bytes k f ++ rest → (e : MessageFault) → head_fault bytes ≡ Some e → r ≡ Err e
 head_is_right bytes rest k f r small parts e h = absurd (no_head_fault bytes rest k f e small parts h)
 
 -- a field that is faulty behind the head of what is spelled
@@ -226,7 +226,7 @@ one_first_fault bytes d e (inl p) (inr (inr q)) = absurd (no_head_fault bytes _ 
 one_first_fault bytes d e (inr (inl p)) (inl q) = absurd (no_head_fault bytes p.rest p.kind p.from e p.small p.parts q)
 one_first_fault bytes d e (inr (inl p)) (inr (inl q)) =
     let h = head_front p.kind q.kind p.from q.from p.rest q.rest p.fits q.fits (sym p.parts ∙ q.parts) in
-    one_fields_fault (slots q.kind) q.rest d e (subst (λ (k : Kind). IsFieldsFault (slots k) q.rest d) h.0 (subst (λ (l : List ℕ). IsFieldsFault (slots p.kind) l d) h.2 p.faulty)) q.faulty
+    one_fields_fault (slots q.kind) q.rest d e (subst (λ (k : MessageKind). IsFieldsFault (slots k) q.rest d) h.0 (subst (λ (l : List ℕ). IsFieldsFault (slots p.kind) l d) h.2 p.faulty)) q.faulty
 one_first_fault bytes d e (inr (inl p)) (inr (inr q)) = absurd (no_body_fault bytes (q.next ∷ q.rest) q.message d q.legal q.parts p)
 one_first_fault bytes d e (inr (inr p)) (inl q) = absurd (no_head_fault bytes _ (kind_of p.message.body) p.message.from e p.small (p.parts ∙ spelled_on p.message (p.next ∷ p.rest)) q)
 one_first_fault bytes d e (inr (inr p)) (inr (inl q)) = absurd (no_body_fault bytes (p.next ∷ p.rest) p.message e p.legal p.parts q)

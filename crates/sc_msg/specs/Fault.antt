@@ -3,7 +3,7 @@ use Rattle.std.specs.Prelude.{ℕ, ◌≡◌, ◌≤◌, ◌<◌, ◌^◌, ◌�
 use Rattle.sc_view.specs.declared.view.ViewFault.{ViewFault}
 use Rattle.sc_view.specs.declared.view.ViewFault.TheVariants as views
 use Rattle.sc_msg.specs.declared.message.Message.{Message}
-use Rattle.sc_msg.specs.declared.kind.Kind.{Kind}
+use Rattle.sc_msg.specs.declared.kind.MessageKind.{MessageKind}
 use Rattle.sc_msg.specs.declared.fault.MessageFault.{MessageFault}
 use Rattle.sc_msg.specs.declared.fault.MessageFault.TheVariants.{BadHead, Short, TooLong, BadKind, Unsorted, Extra, BadField, OutOfMemory}
 use Rattle.sc_msg.specs.Kinds.{kind_at}
@@ -28,7 +28,7 @@ head_fault bytes =
 -- behind a head, a field that its kind has is faulty
 pub record IsBodyFault (bytes : List ℕ) (e : MessageFault) : Type 0 where
   pub small : length bytes ≤ most_bytes
-  pub kind : Kind
+  pub kind : MessageKind
   pub from : ℕ
   pub fits : from < 2 ^ 64
   pub rest : List ℕ

@@ -6,8 +6,8 @@ use Rattle.sc_members.specs.Members.{Facts}
 use Rattle.sc_view.specs.Views.{ViewMap}
 use Rattle.sc_msg.specs.declared.message.Body.{Body}
 use Rattle.sc_msg.specs.declared.message.Body.TheVariants as bodies
-use Rattle.sc_msg.specs.declared.kind.Kind.{Kind}
-use Rattle.sc_msg.specs.declared.kind.Kind.TheVariants as kinds
+use Rattle.sc_msg.specs.declared.kind.MessageKind.{MessageKind}
+use Rattle.sc_msg.specs.declared.kind.MessageKind.TheVariants as kinds
 use Rattle.sc_msg.specs.declared.fault.MessageFault.{MessageFault}
 use Rattle.sc_msg.specs.declared.fault.MessageFault.TheVariants.{Short, BadField, OutOfMemory}
 use Rattle.sc_msg.specs.Numbers.{number_bytes}
@@ -30,7 +30,7 @@ abbrev pub facts_slots : List Slot
 facts_slots = ids_slot ∷ ids_slot ∷ ids_slot ∷ []
 
 -- the fields that the bytes of a kind have, from left to right
-abbrev pub slots : Kind → List Slot
+abbrev pub slots : MessageKind → List Slot
 slots kinds.Enter = []
 slots kinds.EnterEcho = number_slot ∷ flag_slot ∷ facts_slots ++ view_slot ∷ []
 slots kinds.Join = []

@@ -2,10 +2,10 @@
 use Rattle.std.specs.Prelude.{ℕ, List, [], ◌∷◌, Option, find, nat_eq, codes}
 use Rattle.sc_msg.specs.declared.message.Body.{Body}
 use Rattle.sc_msg.specs.declared.message.Body.TheVariants as bodies
-use Rattle.sc_msg.specs.declared.kind.Kind.{Kind}
-use Rattle.sc_msg.specs.declared.kind.Kind.TheVariants.{Enter, EnterEcho, Join, JoinEcho, Leave, LeaveEcho, Store, StoreAck, StoreEcho, CollectQuery, CollectReply}
+use Rattle.sc_msg.specs.declared.kind.MessageKind.{MessageKind}
+use Rattle.sc_msg.specs.declared.kind.MessageKind.TheVariants.{Enter, EnterEcho, Join, JoinEcho, Leave, LeaveEcho, Store, StoreAck, StoreEcho, CollectQuery, CollectReply}
 
-abbrev pub kind_of : Body → Kind
+abbrev pub kind_of : Body → MessageKind
 kind_of bodies.Enter = Enter
 kind_of (bodies.EnterEcho to joined facts view) = EnterEcho
 kind_of bodies.Join = Join
@@ -19,7 +19,7 @@ kind_of (bodies.CollectQuery tag) = CollectQuery
 kind_of (bodies.CollectReply to tag view) = CollectReply
 
 -- the byte of a kind
-abbrev pub code : Kind → ℕ
+abbrev pub code : MessageKind → ℕ
 code Enter = 1
 code EnterEcho = 2
 code Join = 3
@@ -32,15 +32,15 @@ code StoreEcho = 9
 code CollectQuery = 10
 code CollectReply = 11
 
-abbrev pub all_kinds : List Kind
+abbrev pub all_kinds : List MessageKind
 all_kinds = Enter ∷ EnterEcho ∷ Join ∷ JoinEcho ∷ Leave ∷ LeaveEcho ∷ Store ∷ StoreAck ∷ StoreEcho ∷ CollectQuery ∷ CollectReply ∷ []
 
 -- the kind of a byte, if there is one
-abbrev pub kind_at : ℕ → Option Kind
+abbrev pub kind_at : ℕ → Option MessageKind
 kind_at byte = find (λ k. nat_eq (code k) byte) all_kinds
 
 -- the word by which a kind is printed
-abbrev pub name_of : Kind → List ℕ
+abbrev pub name_of : MessageKind → List ℕ
 name_of Enter = codes "enter"
 name_of EnterEcho = codes "enter-echo"
 name_of Join = codes "join"

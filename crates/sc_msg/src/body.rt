@@ -6,14 +6,14 @@ ghost use Rattle.sc_msg.specs.Messages.{head_bytes, ReadsBody};
 ghost use Rattle.sc_msg.specs.Fault.{head_fault, most_bytes};
 
 use crate::fault::MessageFault;
-use crate::kind::Kind;
+use crate::kind::MessageKind;
 use crate::message::{Body, MOST_BYTES};
 use crate::reader::Reader;
 use std::alloc::Global;
 
 impl<'a> Reader<'a> {
     /// The kind of the message, and its sender.
-    pub(crate) fn head(&mut self) -> Result<(Kind, u64), MessageFault>
+    pub(crate) fn head(&mut self) -> Result<(MessageKind, u64), MessageFault>
         ensures small { OnOk result (length self.old.rest.now ≤ most_bytes) }
         ensures fits { IfOk result (λ x. x.1 < 2 ^ 64) }
         ensures parts { IfOk result (λ x. self.old.rest.now ≡ head_bytes x.0 x.1 ++ self.new.rest.now) }
@@ -28,7 +28,7 @@ impl<'a> Reader<'a> {
         let [0x42, 0x51, 0x01, code, rest @ ..] = self.rest else {
             return Err(MessageFault::BadHead);
         };
-        let Some(kind) = Kind::of_byte(*code) else {
+        let Some(kind) = MessageKind::of_byte(*code) else {
             return Err(MessageFault::BadKind);
         };
         self.rest = rest;
@@ -37,8 +37,8 @@ impl<'a> Reader<'a> {
     }
 
     fn enter_echo(&mut self, alloc: Global) -> Result<Body, MessageFault>
-        ensures body { IfOk result (ReadsBody Kind.EnterEcho self.old.rest.now self.new.rest.now) }
-        ensures fault { IfErr result (OrMemory (IsFieldsFault (slots Kind.EnterEcho) self.old.rest.now)) }
+        ensures body { IfOk result (ReadsBody MessageKind.EnterEcho self.old.rest.now self.new.rest.now) }
+        ensures fault { IfErr result (OrMemory (IsFieldsFault (slots MessageKind.EnterEcho) self.old.rest.now)) }
     {
         let to = self.number()?;
         let joined = self.flag()?;
@@ -53,8 +53,8 @@ impl<'a> Reader<'a> {
     }
 
     fn store(&mut self, alloc: Global) -> Result<Body, MessageFault>
-        ensures body { IfOk result (ReadsBody Kind.Store self.old.rest.now self.new.rest.now) }
-        ensures fault { IfErr result (OrMemory (IsFieldsFault (slots Kind.Store) self.old.rest.now)) }
+        ensures body { IfOk result (ReadsBody MessageKind.Store self.old.rest.now self.new.rest.now) }
+        ensures fault { IfErr result (OrMemory (IsFieldsFault (slots MessageKind.Store) self.old.rest.now)) }
     {
         let tag = self.number()?;
         let view = self.view(alloc)?;
@@ -62,8 +62,8 @@ impl<'a> Reader<'a> {
     }
 
     fn store_ack(&mut self) -> Result<Body, MessageFault>
-        ensures body { IfOk result (ReadsBody Kind.StoreAck self.old.rest.now self.new.rest.now) }
-        ensures fault { IfErr result (OrMemory (IsFieldsFault (slots Kind.StoreAck) self.old.rest.now)) }
+        ensures body { IfOk result (ReadsBody MessageKind.StoreAck self.old.rest.now self.new.rest.now) }
+        ensures fault { IfErr result (OrMemory (IsFieldsFault (slots MessageKind.StoreAck) self.old.rest.now)) }
     {
         let to = self.number()?;
         let tag = self.number()?;
@@ -71,8 +71,8 @@ impl<'a> Reader<'a> {
     }
 
     fn collect_reply(&mut self, alloc: Global) -> Result<Body, MessageFault>
-        ensures body { IfOk result (ReadsBody Kind.CollectReply self.old.rest.now self.new.rest.now) }
-        ensures fault { IfErr result (OrMemory (IsFieldsFault (slots Kind.CollectReply) self.old.rest.now)) }
+        ensures body { IfOk result (ReadsBody MessageKind.CollectReply self.old.rest.now self.new.rest.now) }
+        ensures fault { IfErr result (OrMemory (IsFieldsFault (slots MessageKind.CollectReply) self.old.rest.now)) }
     {
         let to = self.number()?;
         let tag = self.number()?;
@@ -81,34 +81,34 @@ impl<'a> Reader<'a> {
     }
 
     /// The body of a message of this kind.
-    pub(crate) fn body(&mut self, alloc: Global, kind: Kind) -> Result<Body, MessageFault>
+    pub(crate) fn body(&mut self, alloc: Global, kind: MessageKind) -> Result<Body, MessageFault>
         ensures body { IfOk result (ReadsBody kind self.old.rest.now self.new.rest.now) }
         ensures fault { IfErr result (OrMemory (IsFieldsFault (slots kind) self.old.rest.now)) }
     {
         match kind {
-            Kind::Enter => Ok(Body::Enter),
-            Kind::EnterEcho => self.enter_echo(alloc),
-            Kind::Join => Ok(Body::Join),
-            Kind::JoinEcho => {
+            MessageKind::Enter => Ok(Body::Enter),
+            MessageKind::EnterEcho => self.enter_echo(alloc),
+            MessageKind::Join => Ok(Body::Join),
+            MessageKind::JoinEcho => {
                 let about = self.number()?;
                 Ok(Body::JoinEcho { about })
             }
-            Kind::Leave => Ok(Body::Leave),
-            Kind::LeaveEcho => {
+            MessageKind::Leave => Ok(Body::Leave),
+            MessageKind::LeaveEcho => {
                 let about = self.number()?;
                 Ok(Body::LeaveEcho { about })
             }
-            Kind::Store => self.store(alloc),
-            Kind::StoreAck => self.store_ack(),
-            Kind::StoreEcho => {
+            MessageKind::Store => self.store(alloc),
+            MessageKind::StoreAck => self.store_ack(),
+            MessageKind::StoreEcho => {
                 let view = self.view(alloc)?;
                 Ok(Body::StoreEcho { view })
             }
-            Kind::CollectQuery => {
+            MessageKind::CollectQuery => {
                 let tag = self.number()?;
                 Ok(Body::CollectQuery { tag })
             }
-            Kind::CollectReply => self.collect_reply(alloc),
+            MessageKind::CollectReply => self.collect_reply(alloc),
         }
     }
 }

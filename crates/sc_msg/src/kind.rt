@@ -7,7 +7,7 @@ use crate::message::{Body, Message};
 
 /// What a message is about, without what it carries.
 #[derive(Clone, Copy, Debug, PartialEq, Eq)]
-pub enum Kind {
+pub enum MessageKind {
     /// 1: a node enters.
     Enter,
     /// 2: what the sender knows, for a node that enters.
@@ -32,42 +32,42 @@ pub enum Kind {
     CollectReply,
 }
 
-impl Kind {
+impl MessageKind {
     /// The word by which a message of this kind is printed, as `store-ack`.
     pub fn name(&self) -> &'static str
         ensures { result.now ≡ name_of self.now }
     {
         match self {
-            Kind::Enter => "enter",
-            Kind::EnterEcho => "enter-echo",
-            Kind::Join => "join",
-            Kind::JoinEcho => "join-echo",
-            Kind::Leave => "leave",
-            Kind::LeaveEcho => "leave-echo",
-            Kind::Store => "store",
-            Kind::StoreAck => "store-ack",
-            Kind::StoreEcho => "store-echo",
-            Kind::CollectQuery => "collect-query",
-            Kind::CollectReply => "collect-reply",
+            MessageKind::Enter => "enter",
+            MessageKind::EnterEcho => "enter-echo",
+            MessageKind::Join => "join",
+            MessageKind::JoinEcho => "join-echo",
+            MessageKind::Leave => "leave",
+            MessageKind::LeaveEcho => "leave-echo",
+            MessageKind::Store => "store",
+            MessageKind::StoreAck => "store-ack",
+            MessageKind::StoreEcho => "store-echo",
+            MessageKind::CollectQuery => "collect-query",
+            MessageKind::CollectReply => "collect-reply",
         }
     }
 
     /// The kind of the fourth byte of a message.
-    pub(crate) fn of_byte(byte: u8) -> Option<Kind>
+    pub(crate) fn of_byte(byte: u8) -> Option<MessageKind>
         ensures { result ≡ kind_at byte }
     {
         match byte {
-            1 => Some(Kind::Enter),
-            2 => Some(Kind::EnterEcho),
-            3 => Some(Kind::Join),
-            4 => Some(Kind::JoinEcho),
-            5 => Some(Kind::Leave),
-            6 => Some(Kind::LeaveEcho),
-            7 => Some(Kind::Store),
-            8 => Some(Kind::StoreAck),
-            9 => Some(Kind::StoreEcho),
-            10 => Some(Kind::CollectQuery),
-            11 => Some(Kind::CollectReply),
+            1 => Some(MessageKind::Enter),
+            2 => Some(MessageKind::EnterEcho),
+            3 => Some(MessageKind::Join),
+            4 => Some(MessageKind::JoinEcho),
+            5 => Some(MessageKind::Leave),
+            6 => Some(MessageKind::LeaveEcho),
+            7 => Some(MessageKind::Store),
+            8 => Some(MessageKind::StoreAck),
+            9 => Some(MessageKind::StoreEcho),
+            10 => Some(MessageKind::CollectQuery),
+            11 => Some(MessageKind::CollectReply),
             _ => None,
         }
     }
@@ -77,38 +77,38 @@ impl Kind {
         ensures { result ≡ code self }
     {
         match self {
-            Kind::Enter => 1,
-            Kind::EnterEcho => 2,
-            Kind::Join => 3,
-            Kind::JoinEcho => 4,
-            Kind::Leave => 5,
-            Kind::LeaveEcho => 6,
-            Kind::Store => 7,
-            Kind::StoreAck => 8,
-            Kind::StoreEcho => 9,
-            Kind::CollectQuery => 10,
-            Kind::CollectReply => 11,
+            MessageKind::Enter => 1,
+            MessageKind::EnterEcho => 2,
+            MessageKind::Join => 3,
+            MessageKind::JoinEcho => 4,
+            MessageKind::Leave => 5,
+            MessageKind::LeaveEcho => 6,
+            MessageKind::Store => 7,
+            MessageKind::StoreAck => 8,
+            MessageKind::StoreEcho => 9,
+            MessageKind::CollectQuery => 10,
+            MessageKind::CollectReply => 11,
         }
     }
 }
 
 impl Message {
     /// Which of the eleven kinds of messages this is.
-    pub fn kind(&self) -> Kind
+    pub fn kind(&self) -> MessageKind
         ensures { result ≡ kind_of self.now.body }
     {
         match &self.body {
-            Body::Enter => Kind::Enter,
-            Body::EnterEcho { .. } => Kind::EnterEcho,
-            Body::Join => Kind::Join,
-            Body::JoinEcho { .. } => Kind::JoinEcho,
-            Body::Leave => Kind::Leave,
-            Body::LeaveEcho { .. } => Kind::LeaveEcho,
-            Body::Store { .. } => Kind::Store,
-            Body::StoreAck { .. } => Kind::StoreAck,
-            Body::StoreEcho { .. } => Kind::StoreEcho,
-            Body::CollectQuery { .. } => Kind::CollectQuery,
-            Body::CollectReply { .. } => Kind::CollectReply,
+            Body::Enter => MessageKind::Enter,
+            Body::EnterEcho { .. } => MessageKind::EnterEcho,
+            Body::Join => MessageKind::Join,
+            Body::JoinEcho { .. } => MessageKind::JoinEcho,
+            Body::Leave => MessageKind::Leave,
+            Body::LeaveEcho { .. } => MessageKind::LeaveEcho,
+            Body::Store { .. } => MessageKind::Store,
+            Body::StoreAck { .. } => MessageKind::StoreAck,
+            Body::StoreEcho { .. } => MessageKind::StoreEcho,
+            Body::CollectQuery { .. } => MessageKind::CollectQuery,
+            Body::CollectReply { .. } => MessageKind::CollectReply,
         }
     }
 }

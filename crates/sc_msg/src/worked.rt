@@ -6,7 +6,7 @@ ghost use Rattle.sc_msg.specs.Fault.{head_fault};
 ghost use Rattle.sc_msg.specs.Kinds.{code, kind_at, kind_of, name_of};
 ghost use Rattle.sc_msg.specs.Messages.{message_bytes};
 ghost use Rattle.sc_msg.specs.declared.fault.MessageFault.TheVariants as fault;
-ghost use Rattle.sc_msg.specs.declared.kind.Kind.TheVariants as kind;
+ghost use Rattle.sc_msg.specs.declared.kind.MessageKind.TheVariants as kind;
 ghost use Rattle.sc_msg.specs.declared.message.Body.TheVariants as body;
 
 /// What the definitions say of kinds, of the messages by which node 3 enters and tells that node 7 joined, and of bytes

@@ -11,7 +11,7 @@ use Rattle.sc_members.specs.Members.{Facts, Config, is_overfull, no_facts, found
 use Rattle.sc_msg.specs.declared.message.Message.{Message}
 use Rattle.sc_msg.specs.declared.message.Body.{Body}
 use Rattle.sc_msg.specs.declared.message.Body.TheVariants.{Enter, EnterEcho, Join, JoinEcho, Leave, LeaveEcho, Store, StoreAck, StoreEcho, CollectQuery, CollectReply}
-use Rattle.sc_node.specs.declared.session.Kind.TheVariants as kind
+use Rattle.sc_node.specs.declared.session.OperationKind.TheVariants as kind
 use Rattle.sc_node.specs.declared.session.Phase.{Phase}
 use Rattle.sc_node.specs.declared.session.Session.{Session}
 use Rattle.sc_node.specs.declared.answer.Advance.{Advance}

@@ -3,8 +3,8 @@ use Rattle.std.specs.Prelude.{ℕ, Bool, true, false, nat_le, Option, Some, None
 use Rattle.std.specs.FinSet as set
 use Rattle.sc_view.specs.Views.{ViewMap}
 use Rattle.sc_members.specs.Ids.{Ids}
-use Rattle.sc_node.specs.declared.session.Kind.{Kind}
-use Rattle.sc_node.specs.declared.session.Kind.TheVariants as kind
+use Rattle.sc_node.specs.declared.session.OperationKind.{OperationKind}
+use Rattle.sc_node.specs.declared.session.OperationKind.TheVariants as kind
 use Rattle.sc_node.specs.declared.session.Phase.{Phase}
 use Rattle.sc_node.specs.declared.session.StoreBack.{StoreBack}
 use Rattle.sc_node.specs.declared.session.Session.{Session}
@@ -114,11 +114,11 @@ abbrev pub ends : Advance → Bool
 ends advance.Ended = true
 ends a = false
 
-abbrev pub completed : Kind → ViewMap → Completion
+abbrev pub completed : OperationKind → ViewMap → Completion
 completed (kind.Store e) view = completion.Stored
 completed kind.Collect view = completion.Returned view
 
-abbrev pub ended_with : ℕ → Kind → Option StoreBack → Option Ended
+abbrev pub ended_with : ℕ → OperationKind → Option StoreBack → Option Ended
 ended_with tag k None = None
 ended_with tag k (Some b) = Some (record { tag = tag; what = completed k b.view })
 

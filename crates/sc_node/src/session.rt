@@ -1,5 +1,5 @@
 ghost use Rattle.std.specs.Prelude.{◌≡◌, Some, None, OnOk, OnErr};
-ghost use Rattle.sc_node.specs.declared.session.Kind.TheVariants as kind;
+ghost use Rattle.sc_node.specs.declared.session.OperationKind.TheVariants as kind;
 ghost use Rattle.std.specs.FinSet as set;
 ghost use Rattle.sc_node.specs.Sessions.{new_phase, count_sender, is_reached, counted_in, counting_phase, counted, advanced_by, apply, phase_with, phase_counting, replied, with_counted};
 
@@ -10,7 +10,7 @@ use std::alloc::{AllocError, Global};
 
 /// What an operation is for.
 #[derive(Clone, Copy, Debug, PartialEq, Eq)]
-pub enum Kind {
+pub enum OperationKind {
     /// The value that is stored, and its number.
     Store(Stored),
     Collect,
@@ -34,7 +34,7 @@ pub struct StoreBack {
 /// phase, whose counted senders it keeps, and stores back once that phase has ended.
 #[derive(Drop)]
 pub struct Session {
-    pub kind: Kind,
+    pub kind: OperationKind,
     pub query: Option<Phase>,
     pub back: Option<StoreBack>,
 }
@@ -72,7 +72,7 @@ impl Session {
         ensures { result ≡ record { kind = kind.Store stored; query = None; back = Some (record { view = view; phase = new_phase threshold }) } }
     {
         Session {
-            kind: Kind::Store(stored),
+            kind: OperationKind::Store(stored),
             query: None,
             back: Some(StoreBack {
                 view,
@@ -86,7 +86,7 @@ impl Session {
         ensures { result ≡ record { kind = kind.Collect; query = Some (new_phase threshold); back = None } }
     {
         Session {
-            kind: Kind::Collect,
+            kind: OperationKind::Collect,
             query: Some(Phase::new(alloc, threshold)),
             back: None,
         }

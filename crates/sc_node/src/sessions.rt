@@ -5,7 +5,7 @@ ghost use Rattle.sc_node.specs.Nodes.{sessions_after};
 ghost use Rattle.sc_node.specs.declared.answer.Advance.TheVariants as Advance;
 
 use crate::answer::{Advance, Completion, Ended};
-use crate::session::{Kind, Phase, Session, StoreBack};
+use crate::session::{OperationKind, Phase, Session, StoreBack};
 use std::alloc::{AllocError, Global};
 use std::collections::BTreeMap;
 use std::marker::Model;
@@ -119,8 +119,8 @@ fn ended_with(tag: u64, session: Session) -> Option<Ended>
 {
     let StoreBack { view, .. } = session.back?;
     let what = match session.kind {
-        Kind::Store(_) => Completion::Stored,
-        Kind::Collect => Completion::Returned(view),
+        OperationKind::Store(_) => Completion::Stored,
+        OperationKind::Collect => Completion::Returned(view),
     };
     Some(Ended { tag, what })
 }

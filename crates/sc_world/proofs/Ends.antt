@@ -7,8 +7,8 @@ use Rattle.sc_view.specs.declared.view.Stored.{Stored}
 use Rattle.sc_view.specs.Views.{ViewMap}
 use Rattle.sc_msg.specs.declared.message.Message.{Message}
 use Rattle.sc_msg.specs.declared.message.Body.{Body}
-use Rattle.sc_node.specs.declared.session.Kind.{Kind}
-use Rattle.sc_node.specs.declared.session.Kind.TheVariants as kind
+use Rattle.sc_node.specs.declared.session.OperationKind.{OperationKind}
+use Rattle.sc_node.specs.declared.session.OperationKind.TheVariants as kind
 use Rattle.sc_node.specs.declared.session.StoreBack.{StoreBack}
 use Rattle.sc_node.specs.declared.session.Session.{Session}
 use Rattle.sc_node.specs.declared.answer.Advance.{Advance}
@@ -79,7 +79,7 @@ stored_with s None from is = sym (ap view_in is)
 stored_with s (Some b) from is = sym (ap view_in is)
 
 -- the record of an operation that ended, as what it was and with what it held
-record HasEnded (w : WorldState) (place q tag : ℕ) (k : Kind) (view : ViewMap) : Type 0 where
+record HasEnded (w : WorldState) (place q tag : ℕ) (k : OperationKind) (view : ViewMap) : Type 0 where
   op : Op
   among : Among op w.ops
   by : op.node ≡ q
@@ -88,15 +88,15 @@ record HasEnded (w : WorldState) (place q tag : ℕ) (k : Kind) (view : ViewMap)
   kind : op.session.kind ≡ k
   held : stored op.session ≡ Some view
 
-completes-collect : (k : Kind) (v view : ViewMap) → completed k v ≡ completion.Returned view → (k ≡ kind.Collect) × (v ≡ view)
+completes-collect : (k : OperationKind) (v view : ViewMap) → completed k v ≡ completion.Returned view → (k ≡ kind.Collect) × (v ≡ view)
 completes-collect (kind.Store e) v view h = absurd (cc)
 completes-collect kind.Collect v view h = (refl, (let e : v ≡ view = cc in e))
 
-completes-store : (k : Kind) (v : ViewMap) → completed k v ≡ completion.Stored → (e : Stored) × (k ≡ kind.Store e)
+completes-store : (k : OperationKind) (v : ViewMap) → completed k v ≡ completion.Stored → (e : Stored) × (k ≡ kind.Store e)
 completes-store (kind.Store e) v h = (e, refl)
 completes-store kind.Collect v h = absurd (cc)
 
-module _ (w : WorldState) (place q tag : ℕ) (k : Kind) (v : ViewMap) (h : HasEnded w place q tag k v) where
+module _ (w : WorldState) (place q tag : ℕ) (k : OperationKind) (v : ViewMap) (h : HasEnded w place q tag k v) where
   has_returned : (view : ViewMap) → completed k v ≡ completion.Returned view → HasReturned w place q tag view
   has_returned view what =
       let c = completes-collect k v view what in
@@ -107,7 +107,7 @@ module _ (w : WorldState) (place q tag : ℕ) (k : Kind) (v : ViewMap) (h : HasE
         tagged = h.tagged;
         ended = h.ended;
         returned =
-            ap (λ (x : Kind). returned_by x h.op.end (stored h.op.session)) (h.kind ∙ c.0)
+            ap (λ (x : OperationKind). returned_by x h.op.end (stored h.op.session)) (h.kind ∙ c.0)
             ∙ ap (λ (x : Option ℕ). returned_by kind.Collect x (stored h.op.session)) h.ended
             ∙ h.held ∙ ap (λ (x : ViewMap). let o : Option ViewMap = Some x in o) c.1;
       }

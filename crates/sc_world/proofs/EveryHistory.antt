@@ -2,8 +2,8 @@
 use Rattle.std.proofs.Common.{◌≡◌, ℕ, List, [], ◌∷◌, Option, Some, refl, sym, ap, ◌∙◌, subst, Ok}
 use Rattle.sc_view.specs.Views.{ViewMap}
 use Rattle.sc_members.specs.Members.{Config}
-use Rattle.sc_node.specs.declared.session.Kind.{Kind}
-use Rattle.sc_node.specs.declared.session.Kind.TheVariants as kind
+use Rattle.sc_node.specs.declared.session.OperationKind.{OperationKind}
+use Rattle.sc_node.specs.declared.session.OperationKind.TheVariants as kind
 use Rattle.sc_world.specs.declared.event.Event.{Event}
 use Rattle.sc_world.specs.declared.event.Stepped.{Stepped}
 use Rattle.sc_world.specs.declared.op.Op.{Op}
@@ -70,7 +70,7 @@ module _ (w : WorldState) (l : IsLawful w) where
         record {
           begin = s.op.begin;
           earlier = s.begin;
-          event = (l.records.each s.op s.among).began ∙ ap (λ (k : Kind). let o : Option Event = Some (beginning_of s.op.node k) in o) s.kind ∙ ap (λ (i : ℕ). let o : Option Event = Some (beginning_of i (kind.Store e)) in o) s.node;
+          event = (l.records.each s.op s.among).began ∙ ap (λ (k : OperationKind). let o : Option Event = Some (beginning_of s.op.node k) in o) s.kind ∙ ap (λ (i : ℕ). let o : Option Event = Some (beginning_of i (kind.Store e)) in o) s.node;
           op = s.op;
           among = s.among;
           began = refl;

@@ -10,7 +10,7 @@ use Rattle.sc_members.specs.Members.{Config, with_left}
 use Rattle.sc_msg.specs.declared.message.Message.{Message}
 use Rattle.sc_msg.specs.declared.message.Body.{Body}
 use Rattle.sc_msg.specs.declared.message.Body.TheVariants.{Enter, EnterEcho, Join, Leave, Store, StoreAck, StoreEcho, CollectQuery, CollectReply}
-use Rattle.sc_node.specs.declared.session.Kind.TheVariants as kind
+use Rattle.sc_node.specs.declared.session.OperationKind.TheVariants as kind
 use Rattle.sc_node.specs.declared.session.Phase.{Phase}
 use Rattle.sc_node.specs.declared.session.StoreBack.{StoreBack}
 use Rattle.sc_node.specs.declared.session.Session.{Session}

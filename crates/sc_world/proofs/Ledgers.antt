@@ -7,8 +7,8 @@ use Rattle.std.specs.FinSet as set
 use Rattle.sc_msg.specs.declared.message.Message.{Message}
 use Rattle.sc_view.specs.declared.view.Stored.{Stored}
 use Rattle.sc_node.specs.declared.answer.Progress.{Progress}
-use Rattle.sc_node.specs.declared.session.Kind.{Kind}
-use Rattle.sc_node.specs.declared.session.Kind.TheVariants as kind
+use Rattle.sc_node.specs.declared.session.OperationKind.{OperationKind}
+use Rattle.sc_node.specs.declared.session.OperationKind.TheVariants as kind
 use Rattle.sc_world.specs.declared.act.Opened.{Opened}
 use Rattle.sc_node.specs.Sessions.{new_phase}
 use Rattle.sc_node.specs.State.{NodeState}
@@ -78,11 +78,11 @@ module _ (q place : ℕ) (p : Option Progress) (ops : List Op) (b : Option Opene
   distinct_next i k a c ha hc node tag = one_place i k a c (from i a ha) (from k c hc) node tag
 
 -- the node of an operation begins it
-begins_it : (node : ℕ) (d : Kind) → begins node (beginning_of node d) ≡ true
+begins_it : (node : ℕ) (d : OperationKind) → begins node (beginning_of node d) ≡ true
 begins_it node (kind.Store e) = eq-eqb node node refl
 begins_it node kind.Collect = eq-eqb node node refl
 
-none_begins : (e : Event) → ((node : ℕ) → begins node e ≡ false) → (node : ℕ) (d : Kind) → e ≡ beginning_of node d → ⊥
+none_begins : (e : Event) → ((node : ℕ) → begins node e ≡ false) → (node : ℕ) (d : OperationKind) → e ≡ beginning_of node d → ⊥
 none_begins e quiet node d is = let no : false ≡ true = sym (quiet node) ∙ ap (begins node) is ∙ begins_it node d in absurd (cc)
 
 module _ (w : WorldState) (history : IsHistory w) (linked : IsLinked w) (sound : IsSound w) (tallied : IsTallied w) (records : AreRecords w) where
@@ -90,7 +90,7 @@ module _ (w : WorldState) (history : IsHistory w) (linked : IsLinked w) (sound :
     kept : (o : Op) → Among o w.ops → IsRecord w' o
     kept o in' = record_kept w e w' k o (sound.began o in') (records.each o in')
 
-    begun_now : (place j node : ℕ) (d : Kind) → (e ≡ beginning_of node d → HasBegun w' (clock w)) → place ≡ clock w + j → slice_get (e ∷ []) j ≡ Some (beginning_of node d) → HasBegun w' place
+    begun_now : (place j node : ℕ) (d : OperationKind) → (e ≡ beginning_of node d → HasBegun w' (clock w)) → place ≡ clock w + j → slice_get (e ∷ []) j ≡ Some (beginning_of node d) → HasBegun w' place
     begun_now place zero node d new at h =
         let same : e ≡ beginning_of node d = cc in
         let now : clock w ≡ place = omega (arith, at) in
@@ -98,8 +98,8 @@ module _ (w : WorldState) (history : IsHistory w) (linked : IsLinked w) (sound :
     begun_now place (suc j) node d new at h = absurd (cc)
 
     -- what began before began, and what begins now has its record
-    all_begun : ((o : Op) → Among o w.ops → IsThere w' o) → ((node : ℕ) (d : Kind) → e ≡ beginning_of node d → HasBegun w' (clock w))
-        → (place node : ℕ) (d : Kind) → slice_get w'.events place ≡ Some (beginning_of node d) → HasBegun w' place
+    all_begun : ((o : Op) → Among o w.ops → IsThere w' o) → ((node : ℕ) (d : OperationKind) → e ≡ beginning_of node d → HasBegun w' (clock w))
+        → (place node : ℕ) (d : OperationKind) → slice_get w'.events place ≡ Some (beginning_of node d) → HasBegun w' place
     all_begun there new place node d h =
         elim (get_append w.events (e ∷ []) place (beginning_of node d) (ap (λ (es : List Event). slice_get es place) (sym k.events) ∙ h)) [
           | inl old ↦ let b = records.all place node d old in let t = there b.op b.among in record { op = t.op; among = t.among; at = t.begin ∙ b.at }
@@ -119,7 +119,7 @@ module _ (w : WorldState) (history : IsHistory w) (linked : IsLinked w) (sound :
     next = after w e q r
 
     -- each event that begins an operation has its record in the next world
-    all_next : ((node : ℕ) (d : Kind) → e ≡ beginning_of node d → HasBegun next (clock w)) → (place node : ℕ) (d : Kind) → slice_get next.events place ≡ Some (beginning_of node d) → HasBegun next place
+    all_next : ((node : ℕ) (d : OperationKind) → e ≡ beginning_of node d → HasBegun next (clock w)) → (place node : ℕ) (d : OperationKind) → slice_get next.events place ≡ Some (beginning_of node d) → HasBegun next place
     all_next new = all_begun e next k (persists w e q r) new
 
     module _ (moves_none : r.progress ≡ None) where
@@ -131,7 +131,7 @@ module _ (w : WorldState) (history : IsHistory w) (linked : IsLinked w) (sound :
 
       -- an operation may begin
       pub begun_records : ((y : Opened) → r.begun ≡ Some y → (o : Op) → Among o w.ops → o.node ≡ q → o.tag ≡ y.tag → ⊥)
-          → ((o : Op) → Among o (op_begun q (clock w) r.begun) → IsRecord next o) → ((node : ℕ) (d : Kind) → e ≡ beginning_of node d → HasBegun next (clock w)) → AreRecords next
+          → ((o : Op) → Among o (op_begun q (clock w) r.begun) → IsRecord next o) → ((node : ℕ) (d : OperationKind) → e ≡ beginning_of node d → HasBegun next (clock w)) → AreRecords next
       begun_records fresh new begins_now = record {
         distinct = distinct_next q (clock w) r.progress w.ops r.begun records.distinct fresh;
         each = λ o in'. elim (among-append o (map (advanced q (clock w) r.progress) w.ops) (op_begun q (clock w) r.begun) in') [

@@ -8,8 +8,8 @@ use Rattle.sc_view.specs.Views.{ViewMap}
 use Rattle.sc_members.specs.Ids.{Ids, Has}
 use Rattle.sc_msg.specs.declared.message.Message.{Message}
 use Rattle.sc_msg.specs.declared.message.Body.TheVariants.{StoreAck, CollectReply}
-use Rattle.sc_node.specs.declared.session.Kind.{Kind}
-use Rattle.sc_node.specs.declared.session.Kind.TheVariants as kind
+use Rattle.sc_node.specs.declared.session.OperationKind.{OperationKind}
+use Rattle.sc_node.specs.declared.session.OperationKind.TheVariants as kind
 use Rattle.sc_node.specs.declared.session.Phase.{Phase}
 use Rattle.sc_node.specs.declared.session.StoreBack.{StoreBack}
 use Rattle.sc_node.specs.State.{NodeState}
@@ -28,7 +28,7 @@ Among x [] = ⊥
 Among x (y ∷ ys) = (x ≡ y) ⊎ Among x ys
 
 -- the event that begins an operation of this kind
-abbrev pub beginning_of : ℕ → Kind → Event
+abbrev pub beginning_of : ℕ → OperationKind → Event
 beginning_of node (kind.Store e) = event.Store node e.value
 beginning_of node kind.Collect = event.Collect node
 
@@ -148,7 +148,7 @@ pub record AreRecords (w : WorldState) : Type 0 where
   pub distinct : AreDistinct w.ops
   pub each : (o : Op) → Among o w.ops → IsRecord w o
   -- each event that begins an operation has the record of that operation
-  pub all : (place node : ℕ) (k : Kind) → slice_get w.events place ≡ Some (beginning_of node k) → HasBegun w place
+  pub all : (place node : ℕ) (k : OperationKind) → slice_get w.events place ≡ Some (beginning_of node k) → HasBegun w place
 
 -- the message of this number is one of these
 abbrev pub IsOneOf : ℕ → Sent → Type 0

@@ -6,8 +6,8 @@ use Rattle.sc_view.specs.Views.{ViewMap, number_at, IsCoveredBy}
 use Rattle.sc_members.specs.Ids.{Has, IsLeastCommon}
 use Rattle.sc_node.specs.declared.answer.Completion.TheVariants as completion
 use Rattle.sc_node.specs.declared.answer.Ended.{Ended}
-use Rattle.sc_node.specs.declared.session.Kind.{Kind}
-use Rattle.sc_node.specs.declared.session.Kind.TheVariants as kind
+use Rattle.sc_node.specs.declared.session.OperationKind.{OperationKind}
+use Rattle.sc_node.specs.declared.session.OperationKind.TheVariants as kind
 use Rattle.sc_node.specs.Sessions.{stored, repliers, ackers}
 use Rattle.sc_world.specs.declared.event.Event.{Event}
 use Rattle.sc_world.specs.declared.event.Event.TheVariants as event
@@ -37,7 +37,7 @@ pub record Meets (a b : Op) : Type 0 where
 abbrev pub IsMeeting : Op → Op → Option ℕ → Type 0
 IsMeeting a b least = IsLeastCommon (ackers a.session) (repliers b.session) least
 
-abbrev pub returned_by : Kind → Option ℕ → Option ViewMap → Option ViewMap
+abbrev pub returned_by : OperationKind → Option ℕ → Option ViewMap → Option ViewMap
 returned_by kind.Collect (Some end) view = view
 returned_by k end view = None
 
