@@ -61,7 +61,7 @@ put_has v id e = let is : number_at (put v id e) id ≡ (newer (fin.get v id) e)
 pub len-put : (v : ViewMap) (id : ℕ) (e : Stored) → fin.len (put v id e) ≡ cond (is_some (fin.get v id)) (fin.len v) (fin.len v + 1)
 len-put v id e = fin.len-insert nat_cmp_total v id (newer (fin.get v id) e)
 
-news : (old : Option Stored) (e : Stored) → is_newer old e ≡ true → newer old e ≡ e
+pub news : (old : Option Stored) (e : Stored) → is_newer old e ≡ true → newer old e ≡ e
 news None e is = refl
 news (Some old) e is = ap (λ b. cond b e old) is
 

@@ -1,5 +1,5 @@
 -- A view: a finite map from ids to the sequence number and the bytes that were stored.
-use Rattle.std.specs.Prelude.{◌≡◌, ℕ, ◌≤◌, ◌<◌, ◌++◌, map, Bool, true, Option, Some, None, nat_lt, if◌then◌else◌, ◌⊎◌}
+use Rattle.std.specs.Prelude.{◌≡◌, ℕ, List, [], ◌∷◌, length, ◌≤◌, ◌<◌, ◌++◌, map, Bool, true, Option, Some, None, nat_lt, if◌then◌else◌, ◌⊎◌}
 use Rattle.std.specs.Ordering.{nat_cmp}
 use Rattle.std.specs.Coded.{Coded, coded_ℕ}
 use Rattle.std.specs.FinMap as fin
@@ -60,3 +60,19 @@ IsCoveredBy v w =
 abbrev pub Agree : ViewMap → ViewMap → Type 0
 Agree v w =
     (id : ℕ) (d e : Stored) → fin.get v id ≡ Some d → fin.get w id ≡ Some e → d.number ≡ e.number → d ≡ e
+
+-- lists joined in turn
+abbrev pub joined : List (List (ℕ × Stored)) → List (ℕ × Stored)
+joined [] = []
+joined (c ∷ cs) = c ++ joined cs
+
+-- each list has 1 to 32 entries
+abbrev pub HasSmallChunks : List (List (ℕ × Stored)) → Type 0
+HasSmallChunks [] = Unit {0}
+HasSmallChunks (c ∷ cs) = ((1 ≤ length c) × (length c ≤ 32)) × HasSmallChunks cs
+
+-- a view's entries in rising id order, cut into at most 16 chunks
+pub record IsChunking (v : ViewMap) (chunks : List (List (ℕ × Stored))) : Type 0 where
+  pub all : joined chunks ≡ fin.entries v
+  pub few : length chunks ≤ 16
+  pub small : HasSmallChunks chunks

@@ -1,15 +1,18 @@
-ghost use Rattle.std.specs.Prelude.{◌≡◌, ℕ, ◌≤◌, ◌<◌, ◌↔◌, not, filter, is_some, length, IsTrue, IfSome, IfOk, OnOk, OnErr, IsErrOf};
+ghost use Rattle.std.specs.Prelude.{◌≡◌, ℕ, List, ◌≤◌, ◌<◌, ◌↔◌, not, filter, is_some, length, IsTrue, IfSome, IfOk, OnOk, OnErr, IsErrOf};
 ghost use Rattle.std.specs.FinMap as fin;
-ghost use Rattle.std.specs.BTreeMap.{get, keys, IsOrdered};
 ghost use Rattle.std.specs.Ordering.{nat_cmp};
 ghost use Rattle.std.specs.Map.Iter.{TakesFirst};
 ghost use Rattle.std.specs.Iterator.{at_most};
 ghost use Rattle.sc_view.specs.Faults.{fault_number, fault_name};
-ghost use Rattle.sc_view.specs.Views.{IsView, is_newer, put, merge, most_entries};
+ghost use Rattle.sc_view.specs.Views.{IsView, is_newer, put, merge, most_entries, IsChunking};
+ghost use Rattle.std.specs.List.{slice_get};
+ghost use Rattle.std.specs.Option.{option_copied};
 ghost use Rattle.sc_view.specs.declared.view.Stored.{Stored as StoredValue};
 
+use crate::chunk::{Chunk, find};
+use crate::row::{Rest, Row, count_new, merged, next_entry, place, put_entry};
+use arrayvec::ArrayVec;
 use std::alloc::{AllocError, AllocFailed, Global};
-use std::collections::{BTreeMap, btree_map};
 use std::marker::Model;
 
 /// The most ids that a view holds.
@@ -23,6 +26,9 @@ pub struct Stored {
     /// The bytes that were stored.
     pub value: [u8; 48],
 }
+
+/// An id, and what is known of it.
+pub type Entry = (u64, Stored);
 
 /// Why a view doesn't take what it is given.
 #[derive(Clone, Copy, Debug, PartialEq, Eq)]
@@ -80,47 +86,51 @@ impl<T: Drop> From<AllocFailed<T>> for ViewFault {
 /// For each node the newest value that is known of it: at most 256 nodes, sequence numbers from 1.
 #[derive(Drop)]
 pub struct View {
-    entries: BTreeMap<u64, Stored>,
+    alloc: Global,
+    row: Row,
+    count: usize,
 }
 
 impl Model for View {
     ghost use Rattle.std.specs.FinMap as fin;
     ghost use Rattle.sc_view.specs.Views.{ViewMap, IsView, view_code};
+    ghost use Rattle.sc_view.specs.Rows.{joined, IsHeld};
 
     ghost Value = { ViewMap };
 
     ghost coded = { view_code };
 
-    ghost view = { λ a. fin.from_entries a.entries.entries };
+    ghost view = { λ a. fin.from_entries (joined a.row.items) };
 
-    ghost invariant = { λ a. IsView (fin.from_entries a.entries.entries) };
+    ghost invariant = { λ a. IsHeld a.row.items a.count };
 }
 
 /// The entries of a view that are still to come, in rising id order.
 #[derive(Drop)]
 pub struct Records<'a> {
-    inner: btree_map::Iter<'a, u64, Stored>,
+    rest: Rest<'a>,
 }
 
 impl<'a> Model for Records<'a> {
     ghost use Rattle.std.specs.Prelude.{ℕ, List};
     ghost use Rattle.sc_view.specs.declared.view.Stored.{Stored};
+    ghost use Rattle.sc_view.specs.Rows.{joined};
+    ghost use Rattle.std.specs.Prelude.{◌++◌};
 
     ghost Value = { List (ℕ × Stored) };
 
-    ghost view = { λ a. a.inner };
+    ghost view = { λ a. a.rest.entries.now ++ joined a.rest.chunks.now };
 }
 
 impl<'a> Iterator for Records<'a> {
-    type Item = (u64, Stored);
+    type Item = Entry;
 
     ghost next_gives = { TakesFirst (λ e. e) };
 
     ghost remaining = { λ s. at_most (length s) };
 
-    fn next(&mut self) -> Option<(u64, Stored)> {
-        let (id, stored) = self.inner.next()?;
-        Some((*id, *stored))
+    fn next(&mut self) -> Option<Entry> {
+        next_entry(&mut self.rest)
     }
 }
 
@@ -129,8 +139,12 @@ impl View {
     pub fn new(alloc: Global) -> View
         ensures { result ≡ fin.empty }
     {
+        let mut row = ArrayVec::new();
+        row.push(Chunk::default());
         View {
-            entries: BTreeMap::new(alloc),
+            alloc,
+            row,
+            count: 0,
         }
     }
 
@@ -139,7 +153,8 @@ impl View {
         ensures value { result ≡ fin.get self.now id }
         ensures counted { IfSome result (λ stored. 1 ≤ stored.number) }
     {
-        self.entries.get(&id).copied()
+        let chunks = self.row.as_slice();
+        find(chunks[place(chunks, id)].as_slice(), id)
     }
 
     /// How many nodes the view has a value of.
@@ -147,7 +162,7 @@ impl View {
         ensures count { result ≡ fin.len self.now }
         ensures valid { IsView self.now }
     {
-        self.entries.len()
+        self.count
     }
 
     /// Whether the view has a value of no node.
@@ -163,8 +178,37 @@ impl View {
         ensures few { length result ≤ most_entries }
     {
         Records {
-            inner: self.entries.iter(),
+            rest: Rest {
+                entries: &[],
+                chunks: self.row.as_slice(),
+            },
         }
+    }
+
+    /// The same map. Copies no entry.
+    pub fn share(&self) -> Result<View, AllocError>
+        ensures { IfOk result (λ view. view ≡ self.now) }
+    {
+        Ok(View {
+            alloc: self.alloc,
+            row: self.row.clone()?,
+            count: self.count,
+        })
+    }
+
+    /// The entries of chunk number k, 1 to 32 in rising id order, and None past the last chunk. There are at most 16
+    /// chunks, and joined in turn they are the entries of the view.
+    pub fn chunk(&self, k: usize) -> Option<&[Entry]>
+        ensures { (chunks : List (List (ℕ × StoredValue))) × IsChunking self.now chunks × (option_copied result ≡ slice_get chunks k) }
+    {
+        let chunks = self.row.as_slice();
+        if self.count == 0 {
+            return None;
+        }
+        if chunks.len() <= k {
+            return None;
+        }
+        Some(chunks[k].as_slice())
     }
 
     /// Learns one value of a node: the one with the larger number stays, and at equal numbers the one that is there.
@@ -176,10 +220,14 @@ impl View {
         ensures full { IsErrOf result ViewFault.Full ↔ (most_entries < fin.len (put self.old id stored)) }
         ensures err { OnErr result (self.new ≡ self.old) }
     {
-        if self.len_with(id) > MOST_ENTRIES {
+        let count = self.len_with(id);
+        if count > MOST_ENTRIES {
             return Err(ViewFault::Full);
         }
-        learn(&mut self.entries, id, stored)?;
+        if is_newer(self.get(id), stored) {
+            put_entry(self.alloc, &mut self.row, id, stored)?;
+            self.count = count;
+        }
         Ok(())
     }
 
@@ -198,12 +246,16 @@ impl View {
         ensures valid { IfOk result IsView }
         ensures full { IsErrOf result ViewFault.Full ↔ (most_entries < fin.len (merge self.now other.now)) }
     {
-        if self.merged_len(other) > MOST_ENTRIES {
+        let count = self.merged_len(other);
+        if count > MOST_ENTRIES {
             return Err(ViewFault::Full);
         }
-        let View { mut entries } = self.clone()?;
-        learn_all(&mut entries, &other.entries)?;
-        Ok(View { entries })
+        let row = merged(self.alloc, &self.row, other.row.as_slice())?;
+        Ok(View {
+            alloc: self.alloc,
+            row,
+            count,
+        })
     }
 
     // How many ids the two views have together.
@@ -212,7 +264,7 @@ impl View {
         ensures valid { IsView self.now }
         ensures other_valid { IsView other.now }
     {
-        self.len() + count_new(&self.entries, &other.entries)
+        self.count + count_new(self.row.as_slice(), other.row.as_slice())
     }
 
     /// Learns all that the other view holds, as `merged`. At Err the view is as it was.
@@ -227,14 +279,6 @@ impl View {
     }
 }
 
-// How many ids of the second are not in the first.
-fn count_new(known: &BTreeMap<u64, Stored>, more: &BTreeMap<u64, Stored>) -> usize
-    ensures count { result ≡ length (filter (λ id. not (is_some (get nat_cmp known.now id))) (keys more.now)) }
-    ensures ordered { IsOrdered nat_cmp more.now }
-{
-    more.keys().filter(|id| !known.contains_key(*id)).count()
-}
-
 // Whether the value is newer than what is known.
 fn is_newer(known: Option<Stored>, stored: Stored) -> bool
     ensures { result ≡ is_newer known stored }
@@ -245,34 +289,10 @@ fn is_newer(known: Option<Stored>, stored: Stored) -> bool
     }
 }
 
-fn learn(entries: &mut BTreeMap<u64, Stored>, id: u64, stored: Stored) -> Result<(), AllocError>
-    ensures ok { OnOk result (fin.from_entries entries.new.entries ≡ put (fin.from_entries entries.old.entries) id stored) }
-    ensures err { OnErr result (entries.new.entries ≡ entries.old.entries) }
-{
-    if is_newer(entries.get(&id).copied(), stored) {
-        entries.insert(id, stored)?;
-    }
-    Ok(())
-}
-
-fn learn_all(
-    entries: &mut BTreeMap<u64, Stored>,
-    more: &BTreeMap<u64, Stored>,
-) -> Result<(), AllocError>
-    ensures { OnOk result (fin.from_entries entries.new.entries ≡ merge (fin.from_entries entries.old.entries) (fin.from_entries more.now.entries)) }
-{
-    for (id, stored) in more {
-        learn(entries, *id, *stored)?;
-    }
-    Ok(())
-}
-
 impl Clone for View {
     ghost is_clone = { λ view copy. copy ≡ view };
 
     fn clone(&self) -> Result<View, AllocError> {
-        Ok(View {
-            entries: self.entries.clone()?,
-        })
+        self.share()
     }
 }

@@ -1,17 +1,26 @@
 use Rattle.std.proofs.Common.{sym, subst, ap, ◌∙◌}
+use Rattle.std.specs.Ordering.{nat_cmp}
 use Rattle.std.specs.FinMap as fin
+use Rattle.std.specs.FinMap.Entries.{find}
 use Rattle.sc_view.specs.Views.{ViewMap, IsView}
-use Rattle.sc_view.proofs.Maps.{get_found}
+use Rattle.sc_view.specs.Rows.{Rises}
+use Rattle.sc_view.proofs.MapLemmas.{get_rising}
+use Rattle.sc_view.proofs.RowLemmas.{rises_in, find_in}
 use Rattle.sc_view.proofs.ViewLemmas.{counted_at}
 use Rattle.sc_view.proofs.view.View.get.Goals as goal
 
+pub find-requires : goal.find-requires
+find-requires c =
+    subst Rises (sym c.as_slice.ensures) (rises_in c.self.inside.row.items c.as_slice-chunks.result.now c.place.result c.index-chunks-place.result c.as_slice-chunks.ensures.value c.self.invariant.row.rises c.place.ensures.within c.index-chunks-place.is)
+
 returns_value : goal.returns-clause-value
 returns_value c =
-    c.copied.ensures ∙ c.get.ensures.value ∙ sym (get_found c.self.inside.entries.entries c.args.id)
-    ∙ ap (λ (m : ViewMap). fin.get m c.args.id) c.self.view_is
+    c.find.ensures ∙ ap (find nat_cmp c.args.id) c.as_slice.ensures
+    ∙ find_in c.args.id c.self.inside.row.items c.as_slice-chunks.result.now c.place.result c.index-chunks-place.result c.as_slice-chunks.ensures.value c.place.ensures.within c.place.ensures.under c.place.ensures.over c.index-chunks-place.is
+    ∙ sym (get_rising _ c.args.id) ∙ ap (λ (m : ViewMap). fin.get m c.args.id) c.self.view_is
 
 pub returns-clause-value : goal.returns-clause-value
 returns-clause-value c = returns_value c
 
 pub returns-clause-counted : goal.returns-clause-counted
-returns-clause-counted c = counted_at c.args.self.now c.args.id _ (subst IsView c.self.view_is c.self.invariant) (returns_value c)
+returns-clause-counted c = counted_at c.args.self.now c.args.id _ (subst IsView c.self.view_is c.self.invariant.valid) (returns_value c)

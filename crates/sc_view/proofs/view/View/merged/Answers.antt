@@ -1,15 +1,19 @@
-use Rattle.std.proofs.Common.{◌≡◌, sym, subst, arith}
+use Rattle.std.proofs.Common.{◌≡◌, sym, subst, ap, ◌∙◌, arith}
 use Rattle.std.specs.FinMap as fin
-use Rattle.sc_view.specs.Views.{IsView, merge}
+use Rattle.sc_view.specs.Rows.{joined}
+use Rattle.sc_view.specs.Views.{ViewMap, IsView, merge}
+use Rattle.sc_view.proofs.MapLemmas.{len_rising}
 use Rattle.sc_view.proofs.ViewLemmas.{merge_valid}
 use Rattle.sc_view.proofs.view.View.merged.Goals as goal
 
 pub invariant_of-result : goal.invariant_of-result
 invariant_of-result c =
-    let both : fin.from_entries c.learn_all.new.entries.entries ≡ merge c.args.self.now c.args.other.now = cc (c.in_ok-learn_all.ensures, c.entries.view_is, c.in_ok-entries.ensures.cases, c.other.view_is) in
-    subst IsView (sym both)
-    (merge_valid c.args.self.now c.args.other.now c.merged_len.ensures.valid c.merged_len.ensures.other_valid
-    (omega (arith, c.merged_len.ensures.count, c.if-merged_len-gt-MOST_ENTRIES.false)))
+    let both : fin.from_entries (joined c.in_ok-row.row.items) ≡ merge c.args.self.now c.args.other.now = cc (c.in_ok-row.ensures.ok, c.as_slice.ensures.value, c.self.view_is, c.other.view_is) in
+    record {
+      row = c.in_ok-row.ensures.row;
+      counted = c.merged_len-count.ensures.count ∙ sym (ap (λ (v : ViewMap). fin.len v) both) ∙ len_rising (joined c.in_ok-row.row.items) c.in_ok-row.ensures.row.rises;
+      valid = subst IsView (sym both) (merge_valid c.args.self.now c.args.other.now c.merged_len-count.ensures.valid c.merged_len-count.ensures.other_valid (omega (arith, c.merged_len-count.ensures.count, c.if-count-gt-MOST_ENTRIES.false)));
+    }
 
 pub returns-clause-valid : goal.returns-clause-valid
-returns-clause-valid c = invariant_of-result c
+returns-clause-valid c = (invariant_of-result c).valid

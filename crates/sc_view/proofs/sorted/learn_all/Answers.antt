@@ -1,7 +1,7 @@
 use Rattle.std.proofs.Common.{ap, ◌∙◌}
 use Rattle.std.specs.FinMap as fin
 use Rattle.sc_view.proofs.ViewLemmas.{put_all, put_all-found}
-use Rattle.sc_view.proofs.view.learn_all.Goals as goal
+use Rattle.sc_view.proofs.sorted.learn_all.Goals as goal
 
 pub loop-id-init : goal.loop-id-init
 loop-id-init c =

@@ -2,7 +2,7 @@ use Rattle.std.proofs.Common.{◌≡◌}
 use Rattle.std.specs.FinMap as fin
 use Rattle.sc_view.specs.Views.{merge}
 use Rattle.sc_view.proofs.ViewLemmas.{put_all}
-use Rattle.sc_view.proofs.view.learn_all.Given as goal
+use Rattle.sc_view.proofs.sorted.learn_all.Given as goal
 
 abbrev pub invariant-loop-id : goal.invariant-loop-id
 invariant-loop-id l =

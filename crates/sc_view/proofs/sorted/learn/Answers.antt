@@ -4,7 +4,7 @@ use Rattle.sc_view.specs.declared.view.Stored.{Stored}
 use Rattle.sc_view.specs.Views.{is_newer}
 use Rattle.sc_view.proofs.Maps.{get_found}
 use Rattle.sc_view.proofs.ViewLemmas.{learned, not_learned}
-use Rattle.sc_view.proofs.view.learn.Goals as goal
+use Rattle.sc_view.proofs.sorted.learn.Goals as goal
 
 pub returns-in_ok-insert-clause-ok : goal.returns-in_ok-insert-clause-ok
 returns-in_ok-insert-clause-ok c =

@@ -1,0 +1,264 @@
+-- Entries in rising id order.
+use Rattle.std.proofs.Common.{◌≡◌, ℕ, suc, ◌+◌, ◌≤◌, ◌<◌, Bool, true, false, cond, ◌==◌, nat_lt, nat_le, ◌&&◌, List, [], ◌∷◌, ◌++◌, length, take, drop, get_or, Option, Some, None, refl, sym, ap, subst, ◌∙◌, arith, append_assoc, T}
+use Rattle.std.proofs.lemmas.Bool.{ltb-true, ltb-false, lt-ltb, eqb-true, eqb-false, eq-eqb, leb-true, leb-false, le-leb}
+use Rattle.std.proofs.lemmas.List.{drop_more, take-append-drop}
+use Rattle.std.specs.declared.cmp.Ordering.TheVariants.{Less, Equal, Greater}
+use Rattle.std.specs.Ordering.{nat_cmp, is_eq, is_lt}
+use Rattle.std.specs.List.{slice_get}
+use Rattle.std.specs.FinMap.Entries.{put, find, by_order, below_all, is_sorted, is_sorted-put}
+use Rattle.std.specs.Cmp.{nat_cmp_total}
+use Rattle.sc_view.specs.declared.view.Stored.{Stored}
+use Rattle.sc_view.specs.Rows.{before, without_first, starts_above, entry_at, from, count_lacking, Over, Under, Rises, joined}
+
+pub cmp_less : (x y : ℕ) → x < y → nat_cmp x y ≡ Less
+cmp_less x y h = ap (λ b. cond b Less (cond (x == y) Equal Greater)) (lt-ltb x y h)
+
+pub cmp_greater : (x y : ℕ) → y < x → nat_cmp x y ≡ Greater
+cmp_greater x y h =
+    elim (nat_lt x y) as (λ b. nat_lt x y ≡ b → cond b Less (cond (x == y) Equal Greater) ≡ Greater) [
+      | true ↦ λ p. absurd (omega (arith, ltb-true x y p))
+      | false ↦ λ p. elim (x == y) as (λ c. (x == y) ≡ c → cond c Equal Greater ≡ Greater) [
+        | true ↦ λ q. absurd (omega (arith, eqb-true x y q))
+        | false ↦ λ q. refl
+      ] refl
+    ] refl
+
+less_from : (x y : ℕ) → T (is_lt (nat_cmp x y)) → x < y
+less_from x y h =
+    elim (nat_lt x y) as (λ b. nat_lt x y ≡ b → T (is_lt (cond b Less (cond (x == y) Equal Greater))) → x < y) [
+      | true ↦ λ p t. ltb-true x y p
+      | false ↦ λ p. elim (x == y) as (λ c. T (is_lt (cond c Equal Greater)) → x < y) [ true ↦ λ t. absurd t | false ↦ λ t. absurd t ]
+    ] refl h
+
+-- ---- the order
+
+pub over_lower : (x y : ℕ) (es : List (ℕ × Stored)) → x ≤ y → Over y es → Over x es
+over_lower x y [] h o = tt
+over_lower x y (e ∷ es) h o = (omega (arith, h, o.0), over_lower x y es h o.1)
+
+pub over_right : (x : ℕ) (es fs : List (ℕ × Stored)) → Over x (es ++ fs) → Over x fs
+over_right x [] fs o = o
+over_right x (e ∷ es) fs o = over_right x es fs o.1
+
+pub rises_right : (es fs : List (ℕ × Stored)) → Rises (es ++ fs) → Rises fs
+rises_right [] fs r = r
+rises_right (e ∷ es) fs r = rises_right es fs r.1
+
+over_left : (x : ℕ) (es fs : List (ℕ × Stored)) → Over x (es ++ fs) → Over x es
+over_left x [] fs o = tt
+over_left x (e ∷ es) fs o = (o.0, over_left x es fs o.1)
+
+pub rises_left : (es fs : List (ℕ × Stored)) → Rises (es ++ fs) → Rises es
+rises_left [] fs r = tt
+rises_left (e ∷ es) fs r = (over_left e.0 es fs r.0, rises_left es fs r.1)
+
+-- entries before one with the id or a smaller one
+pub under_before : (id : ℕ) (es : List (ℕ × Stored)) (f : ℕ × Stored) (fs : List (ℕ × Stored)) → Rises (es ++ f ∷ fs) → f.0 ≤ id → Under id es
+under_before id [] f fs r h = tt
+under_before id (e ∷ es) f fs r h = (omega (arith, (over_right e.0 es (f ∷ fs) r.0).0, h), under_before id es f fs r.1 h)
+
+pub over_from : (id : ℕ) (f : ℕ × Stored) (fs : List (ℕ × Stored)) → Rises (f ∷ fs) → id < f.0 → Over id (f ∷ fs)
+over_from id f fs r h = (h, over_lower id f.0 fs (omega (arith, h)) r.0)
+
+both : (a b : Bool) → T a → T b → T (a && b)
+both true b p q = q
+both false b p q = p
+
+first : (a b : Bool) → T (a && b) → T a
+first true b p = tt
+first false b p = p
+
+second : (a b : Bool) → T (a && b) → T b
+second true b p = p
+second false b p = absurd p
+
+below : (x : ℕ) (es : List (ℕ × Stored)) → Over x es → T (below_all nat_cmp x es)
+below x [] o = tt
+below x (e ∷ es) o = both _ _ (subst (λ r. T (is_lt r)) (sym (cmp_less x e.0 o.0)) tt) (below x es o.1)
+
+pub sorted_from : (es : List (ℕ × Stored)) → Rises es → T (is_sorted nat_cmp es)
+sorted_from [] r = tt
+sorted_from (e ∷ es) r = both _ _ (below e.0 es r.0) (sorted_from es r.1)
+
+above : (x : ℕ) (es : List (ℕ × Stored)) → T (below_all nat_cmp x es) → Over x es
+above x [] h = tt
+above x (e ∷ es) h = (less_from x e.0 (first _ _ h), above x es (second _ _ h))
+
+pub rises_from : (es : List (ℕ × Stored)) → T (is_sorted nat_cmp es) → Rises es
+rises_from [] h = tt
+rises_from (e ∷ es) h = (above e.0 es (first _ _ h), rises_from es (second _ _ h))
+
+-- ---- a put among the entries of which some are smaller and some larger
+
+pub put_under : (id : ℕ) (x : Stored) (es fs : List (ℕ × Stored)) → Under id es → put nat_cmp id x (es ++ fs) ≡ es ++ put nat_cmp id x fs
+put_under id x [] fs u = refl
+put_under id x (e ∷ es) fs u =
+    ap (λ o. by_order o ((id, x) ∷ e ∷ (es ++ fs)) ((e.0, x) ∷ (es ++ fs)) (e ∷ put nat_cmp id x (es ++ fs))) (cmp_greater id e.0 u.0)
+    ∙ ap (λ r. e ∷ r) (put_under id x es fs u.1)
+
+pub put_over : (id : ℕ) (x : Stored) (es fs : List (ℕ × Stored)) → Over id fs → put nat_cmp id x (es ++ fs) ≡ put nat_cmp id x es ++ fs
+put_over id x [] [] o = refl
+put_over id x [] (f ∷ fs) o = ap (λ r. by_order r ((id, x) ∷ f ∷ fs) ((f.0, x) ∷ fs) (f ∷ put nat_cmp id x fs)) (cmp_less id f.0 o.0)
+put_over id x (e ∷ es) fs o =
+    elim (nat_cmp id e.0) as (λ r. by_order r ((id, x) ∷ e ∷ (es ++ fs)) ((e.0, x) ∷ (es ++ fs)) (e ∷ put nat_cmp id x (es ++ fs)) ≡ by_order r ((id, x) ∷ e ∷ es) ((e.0, x) ∷ es) (e ∷ put nat_cmp id x es) ++ fs) [
+      | Less ↦ refl
+      | Equal ↦ refl
+      | Greater ↦ ap (λ r. e ∷ r) (put_over id x es fs o)
+    ]
+
+pub put_within : (id : ℕ) (x : Stored) (es fs gs : List (ℕ × Stored)) → Under id es → Over id gs → put nat_cmp id x (es ++ (fs ++ gs)) ≡ es ++ (put nat_cmp id x fs ++ gs)
+put_within id x es fs gs u o = put_under id x es (fs ++ gs) u ∙ ap (λ r. es ++ r) (put_over id x fs gs o)
+
+pub find_none : (id : ℕ) (es : List (ℕ × Stored)) → Over id es → find nat_cmp id es ≡ None
+find_none id [] o = refl
+find_none id (e ∷ es) o = ap (λ r. cond (is_eq r) (Some e.1) (find nat_cmp id es)) (cmp_less id e.0 o.0) ∙ find_none id es o.1
+
+find_under : (id : ℕ) (es fs : List (ℕ × Stored)) → Under id es → find nat_cmp id (es ++ fs) ≡ find nat_cmp id fs
+find_under id [] fs u = refl
+find_under id (e ∷ es) fs u = ap (λ r. cond (is_eq r) (Some e.1) (find nat_cmp id (es ++ fs))) (cmp_greater id e.0 u.0) ∙ find_under id es fs u.1
+
+find_over : (id : ℕ) (es fs : List (ℕ × Stored)) → Over id fs → find nat_cmp id (es ++ fs) ≡ find nat_cmp id es
+find_over id [] fs o = find_none id fs o
+find_over id (e ∷ es) fs o = ap (λ r. cond (is_eq (nat_cmp id e.0)) (Some e.1) r) (find_over id es fs o)
+
+pub find_within : (id : ℕ) (es fs gs : List (ℕ × Stored)) → Under id es → Over id gs → find nat_cmp id (es ++ (fs ++ gs)) ≡ find nat_cmp id fs
+find_within id es fs gs u o = find_under id es (fs ++ gs) u ∙ find_over id fs gs o
+
+-- ---- the place in a chunk
+
+pub before_step : (id : ℕ) (es : List (ℕ × Stored)) (k : ℕ) (d : ℕ × Stored) → k < length es → before id (drop k es) ≡ cond (nat_le id (get_or es k d).0) 0 (suc (before id (drop (k + 1) es)))
+before_step id es k d h = ap (before id) (drop_more es k d h)
+
+pub before_fits : (id : ℕ) (es : List (ℕ × Stored)) → before id es ≤ length es
+before_fits id [] = omega arith
+before_fits id (e ∷ es) =
+    let rest = before_fits id es in
+    elim (nat_le id e.0) as (λ b. cond b 0 (suc (before id es)) ≤ suc (length es)) [ true ↦ omega arith | false ↦ omega (arith, rest) ]
+
+cmp_equal : (x y : ℕ) → x ≡ y → nat_cmp x y ≡ Equal
+cmp_equal x y h =
+    elim (nat_lt x y) as (λ b. nat_lt x y ≡ b → cond b Less (cond (x == y) Equal Greater) ≡ Equal) [
+      | true ↦ λ p. absurd (omega (arith, ltb-true x y p, h))
+      | false ↦ λ p. ap (λ c. cond c Equal Greater) (eq-eqb x y h)
+    ] refl
+
+put_first : (id : ℕ) (x : Stored) (e : ℕ × Stored) (es : List (ℕ × Stored)) → id ≤ e.0 → put nat_cmp id x (e ∷ es) ≡ (id, x) ∷ without_first id (e ∷ es)
+put_first id x e es h =
+    elim (e.0 == id) as (λ b. (e.0 == id) ≡ b → put nat_cmp id x (e ∷ es) ≡ (id, x) ∷ cond b es (e ∷ es)) [
+      | true ↦ λ p. let same : e.0 ≡ id = eqb-true e.0 id p in
+          ap (λ o. by_order o ((id, x) ∷ e ∷ es) ((e.0, x) ∷ es) (e ∷ put nat_cmp id x es)) (cmp_equal id e.0 (sym same)) ∙ ap (λ n. (n, x) ∷ es) same
+      | false ↦ λ p. ap (λ o. by_order o ((id, x) ∷ e ∷ es) ((e.0, x) ∷ es) (e ∷ put nat_cmp id x es)) (cmp_less id e.0 (omega (arith, h, eqb-false e.0 id p)))
+    ] refl
+
+pub put_parts : (id : ℕ) (x : Stored) (es : List (ℕ × Stored)) → put nat_cmp id x es ≡ take (before id es) es ++ (id, x) ∷ without_first id (drop (before id es) es)
+put_parts id x [] = refl
+put_parts id x (e ∷ es) =
+    elim (nat_le id e.0) as (λ b. nat_le id e.0 ≡ b → put nat_cmp id x (e ∷ es) ≡ take (cond b 0 (suc (before id es))) (e ∷ es) ++ (id, x) ∷ without_first id (drop (cond b 0 (suc (before id es))) (e ∷ es))) [
+      | true ↦ λ p. put_first id x e es (leb-true id e.0 p)
+      | false ↦ λ p. ap (λ o. by_order o ((id, x) ∷ e ∷ es) ((e.0, x) ∷ es) (e ∷ put nat_cmp id x es)) (cmp_greater id e.0 (leb-false id e.0 p)) ∙ ap (λ r. e ∷ r) (put_parts id x es)
+    ] refl
+
+find_first : (id : ℕ) (e : ℕ × Stored) (es : List (ℕ × Stored)) → id ≤ e.0 → Over e.0 es → find nat_cmp id (e ∷ es) ≡ cond (e.0 == id) (Some e.1) None
+find_first id e es h o =
+    elim (e.0 == id) as (λ b. (e.0 == id) ≡ b → find nat_cmp id (e ∷ es) ≡ cond b (Some e.1) None) [
+      | true ↦ λ p. ap (λ r. cond (is_eq r) (Some e.1) (find nat_cmp id es)) (cmp_equal id e.0 (sym (eqb-true e.0 id p)))
+      | false ↦ λ p. ap (λ r. cond (is_eq r) (Some e.1) (find nat_cmp id es)) (cmp_less id e.0 (omega (arith, h, eqb-false e.0 id p))) ∙ find_none id es (over_lower id e.0 es h o)
+    ] refl
+
+find_later : (id : ℕ) (e : ℕ × Stored) (es : List (ℕ × Stored)) → e.0 < id → find nat_cmp id (e ∷ es) ≡ find nat_cmp id es
+find_later id e es h = ap (λ r. cond (is_eq r) (Some e.1) (find nat_cmp id es)) (cmp_greater id e.0 h)
+
+pub find_at : (id : ℕ) (es : List (ℕ × Stored)) (d : ℕ × Stored) → Rises es → before id es < length es
+    → find nat_cmp id es ≡ cond ((get_or es (before id es) d).0 == id) (Some (get_or es (before id es) d).1) None
+find_at id [] d r h = absurd (omega (arith, h))
+find_at id (e ∷ es) d r h =
+    elim (nat_le id e.0) as (λ b. nat_le id e.0 ≡ b → cond b 0 (suc (before id es)) < suc (length es)
+    → find nat_cmp id (e ∷ es) ≡ cond ((get_or (e ∷ es) (cond b 0 (suc (before id es))) d).0 == id) (Some (get_or (e ∷ es) (cond b 0 (suc (before id es))) d).1) None) [
+      | true ↦ λ p h. find_first id e es (leb-true id e.0 p) r.0
+      | false ↦ λ p h. find_later id e es (leb-false id e.0 p) ∙ find_at id es d r.1 (omega (arith, h))
+    ] refl h
+
+pub find_past : (id : ℕ) (es : List (ℕ × Stored)) → length es ≤ before id es → find nat_cmp id es ≡ None
+find_past id [] h = refl
+find_past id (e ∷ es) h =
+    elim (nat_le id e.0) as (λ b. nat_le id e.0 ≡ b → suc (length es) ≤ cond b 0 (suc (before id es)) → find nat_cmp id (e ∷ es) ≡ None) [
+      | true ↦ λ p h. absurd (omega (arith, h))
+      | false ↦ λ p h. find_later id e es (leb-false id e.0 p) ∙ find_past id es (omega (arith, h))
+    ] refl h
+
+-- a put adds at most one entry
+pub put_longer : (id : ℕ) (x : Stored) (es : List (ℕ × Stored)) → length es ≤ length (put nat_cmp id x es)
+put_longer id x [] = omega arith
+put_longer id x (e ∷ es) =
+    let rest = put_longer id x es in
+    elim (nat_cmp id e.0) as (λ o. suc (length es) ≤ length (by_order o ((id, x) ∷ e ∷ es) ((e.0, x) ∷ es) (e ∷ put nat_cmp id x es))) [
+      | Less ↦ omega arith
+      | Equal ↦ omega arith
+      | Greater ↦ omega (arith, rest)
+    ]
+
+pub put_by_one : (id : ℕ) (x : Stored) (es : List (ℕ × Stored)) → length (put nat_cmp id x es) ≤ length es + 1
+put_by_one id x [] = omega arith
+put_by_one id x (e ∷ es) =
+    let rest = put_by_one id x es in
+    elim (nat_cmp id e.0) as (λ o. length (by_order o ((id, x) ∷ e ∷ es) ((e.0, x) ∷ es) (e ∷ put nat_cmp id x es)) ≤ suc (length es) + 1) [
+      | Less ↦ omega arith
+      | Equal ↦ omega arith
+      | Greater ↦ omega (arith, rest)
+    ]
+
+tested : {X : Type 0} (a b : ℕ) (x y : X) → a ≡ b → cond (a == b) x y ≡ x
+tested a b x y h = ap (λ t. cond t x y) (eq-eqb a b h)
+
+failed : {X : Type 0} (a b : ℕ) (x y : X) → (a ≡ b → ⊥) → cond (a == b) x y ≡ y
+failed a b x y h = elim (a == b) as (λ t. (a == b) ≡ t → cond t x y ≡ y) [ true ↦ λ p. absurd (h (eqb-true a b p)) | false ↦ λ p. refl ] refl
+
+pub find_found : (id : ℕ) (es : List (ℕ × Stored)) (n : ℕ) (d : ℕ × Stored) → n ≡ before id es → n < length es → Rises es → (get_or es n d).0 ≡ id → Some (get_or es n d).1 ≡ find nat_cmp id es
+find_found id es n d is h r same =
+    sym (find_at id es d r (subst (λ m. m < length es) is h) ∙ ap (λ m. cond ((get_or es m d).0 == id) (Some (get_or es m d).1) None) (sym is)
+    ∙ tested (get_or es n d).0 id (Some (get_or es n d).1) None same)
+
+pub find_other : (id : ℕ) (es : List (ℕ × Stored)) (n : ℕ) (d : ℕ × Stored) → n ≡ before id es → n < length es → Rises es → ((get_or es n d).0 ≡ id → ⊥) → None ≡ find nat_cmp id es
+find_other id es n d is h r other =
+    sym (find_at id es d r (subst (λ m. m < length es) is h) ∙ ap (λ m. cond ((get_or es m d).0 == id) (Some (get_or es m d).1) None) (sym is)
+    ∙ failed (get_or es n d).0 id (Some (get_or es n d).1) None other)
+
+pub put_built : (id : ℕ) (x : Stored) (es : List (ℕ × Stored)) → (([] ++ take (before id es) es) ++ (id, x) ∷ []) ++ without_first id (drop (before id es) es) ≡ put nat_cmp id x es
+put_built id x es = append_assoc (take (before id es) es) ((id, x) ∷ []) (without_first id (drop (before id es) es)) ∙ sym (put_parts id x es)
+
+-- ---- entries from an id on
+
+pub find_from : (q id : ℕ) (es : List (ℕ × Stored)) → id ≤ q → find nat_cmp q (from id es) ≡ find nat_cmp q es
+find_from q id [] h = refl
+find_from q id (e ∷ es) h =
+    elim (nat_le id e.0) as (λ b. nat_le id e.0 ≡ b → find nat_cmp q (cond b (e ∷ es) (from id es)) ≡ find nat_cmp q (e ∷ es)) [
+      | true ↦ λ p. refl
+      | false ↦ λ p. find_from q id es h ∙ sym (find_later q e es (omega (arith, leb-false id e.0 p, h)))
+    ] refl
+
+pub rises_onward : (id : ℕ) (es : List (ℕ × Stored)) → Rises es → Rises (from id es)
+rises_onward id [] r = tt
+rises_onward id (e ∷ es) r =
+    elim (nat_le id e.0) as (λ b. Rises (cond b (e ∷ es) (from id es))) [ true ↦ r | false ↦ rises_onward id es r.1 ]
+
+pub from_here : (id : ℕ) (e : ℕ × Stored) (es : List (ℕ × Stored)) → id ≤ e.0 → e ∷ es ≡ from id (e ∷ es)
+from_here id e es h = sym (ap (λ b. cond b (e ∷ es) (from id es)) (le-leb id e.0 h))
+
+pub from_later : (id : ℕ) (e : ℕ × Stored) (es : List (ℕ × Stored)) → e.0 < id → from id es ≡ from id (e ∷ es)
+from_later id e es h =
+    elim (nat_le id e.0) as (λ b. nat_le id e.0 ≡ b → from id es ≡ cond b (e ∷ es) (from id es)) [
+      | true ↦ λ p. absurd (omega (arith, leb-true id e.0 p, h))
+      | false ↦ λ p. refl
+    ] refl
+
+pub find_over_head : (id : ℕ) (e : ℕ × Stored) (es : List (ℕ × Stored)) → Rises (e ∷ es) → id < e.0 → find nat_cmp id (e ∷ es) ≡ None
+find_over_head id e es r h = find_none id (e ∷ es) (over_from id e es r h)
+
+pub find_here : (id : ℕ) (e : ℕ × Stored) (es : List (ℕ × Stored)) → id ≡ e.0 → find nat_cmp id (e ∷ es) ≡ Some e.1
+find_here id e es h = ap (λ r. cond (is_eq r) (Some e.1) (find nat_cmp id es)) (cmp_equal id e.0 h)
+
+pub find_behind : (id : ℕ) (e : ℕ × Stored) (es : List (ℕ × Stored)) → e.0 < id → find nat_cmp id es ≡ find nat_cmp id (e ∷ es)
+find_behind id e es h = sym (find_later id e es h)
+
+pub rises_put : (id : ℕ) (x : Stored) (es : List (ℕ × Stored)) → Rises es → Rises (put nat_cmp id x es)
+rises_put id x es r = rises_from (put nat_cmp id x es) (is_sorted-put nat_cmp nat_cmp_total id x es (sorted_from es r))

@@ -1,0 +1,79 @@
+-- Rows of chunks: entries in rising id order, within each chunk and across them.
+use Rattle.std.specs.Prelude.{◌≡◌, ℕ, suc, ◌+◌, ◌≤◌, ◌<◌, nat_le, nat_lt, ◌==◌, Bool, true, false, cond, length, List, [], ◌∷◌, ◌++◌, Option, Some, None, is_some}
+use Rattle.std.specs.Ordering.{nat_cmp}
+use Rattle.std.specs.FinMap.Entries.{find}
+use Rattle.std.specs.FinMap as fin
+use Rattle.sc_view.specs.declared.view.Stored.{Stored}
+use Rattle.sc_view.specs.Views.{IsView}
+pub use Rattle.sc_view.specs.Views.{joined}
+
+-- how many entries stand before the first that has this id or a larger one
+abbrev pub before : ℕ → List (ℕ × Stored) → ℕ
+before id [] = 0
+before id (e ∷ es) = cond (nat_le id e.0) 0 (suc (before id es))
+
+-- the entries without the first, if it has this id
+abbrev pub without_first : ℕ → List (ℕ × Stored) → List (ℕ × Stored)
+without_first id [] = []
+without_first id (e ∷ es) = cond (e.0 == id) es (e ∷ es)
+
+-- whether there are entries, all of larger ids
+abbrev pub starts_above : ℕ → List (ℕ × Stored) → Bool
+starts_above id [] = false
+starts_above id (e ∷ es) = nat_lt id e.0
+
+-- the value of an entry, if it has this id
+abbrev pub entry_at : ℕ → Option (ℕ × Stored) → Option Stored
+entry_at id None = None
+entry_at id (Some e) = cond (e.0 == id) (Some e.1) None
+
+-- the entries from an id on
+abbrev pub from : ℕ → List (ℕ × Stored) → List (ℕ × Stored)
+from id [] = []
+from id (e ∷ es) = cond (nat_le id e.0) (e ∷ es) (from id es)
+
+-- how many of the entries have an id that isn't known
+abbrev pub count_lacking : List (ℕ × Stored) → List (ℕ × Stored) → ℕ
+count_lacking known [] = 0
+count_lacking known (e ∷ es) = cond (is_some (find nat_cmp e.0 known)) (count_lacking known es) (suc (count_lacking known es))
+
+-- whether a number is larger than what is known
+abbrev pub is_larger : Option ℕ → ℕ → Bool
+is_larger None n = true
+is_larger (Some known) n = nat_lt known n
+
+-- all ids are larger
+abbrev pub Over : ℕ → List (ℕ × Stored) → Type 0
+Over id [] = Unit {0}
+Over id (e ∷ es) = (id < e.0) × Over id es
+
+-- all ids are smaller
+abbrev pub Under : ℕ → List (ℕ × Stored) → Type 0
+Under id [] = Unit {0}
+Under id (e ∷ es) = (e.0 < id) × Under id es
+
+-- the ids rise
+abbrev pub Rises : List (ℕ × Stored) → Type 0
+Rises [] = Unit {0}
+Rises (e ∷ es) = Over e.0 es × Rises es
+
+abbrev pub HasAtMost : ℕ → List (List (ℕ × Stored)) → Type 0
+HasAtMost n [] = Unit {0}
+HasAtMost n (c ∷ cs) = (length c ≤ n) × HasAtMost n cs
+
+abbrev pub HasAtLeast : ℕ → List (List (ℕ × Stored)) → Type 0
+HasAtLeast n [] = Unit {0}
+HasAtLeast n (c ∷ cs) = (n ≤ length c) × HasAtLeast n cs
+
+-- a row of 1 to 16 chunks of at most 32 entries, and where there are several chunks of at least 16
+pub record IsRow (cs : List (List (ℕ × Stored))) : Type 0 where
+  pub some : 1 ≤ length cs
+  pub most : HasAtMost 32 cs
+  pub least : 1 < length cs → HasAtLeast 16 cs
+  pub rises : Rises (joined cs)
+
+-- what each view keeps
+pub record IsHeld (cs : List (List (ℕ × Stored))) (count : ℕ) : Type 0 where
+  pub row : IsRow cs
+  pub counted : count ≡ length (joined cs)
+  pub valid : IsView (fin.from_entries (joined cs))

@@ -1,0 +1,196 @@
+//! Rows of chunks, whose ids rise within and across the chunks.
+ghost use Rattle.std.specs.Prelude.{◌≡◌, ◌+◌, ◌≤◌, ◌<◌, [], length, IfOk, OnOk, OnErr, slice_index_or, slice_set, take, drop, ◌++◌};
+ghost use Rattle.std.specs.Ordering.{nat_cmp};
+ghost use Rattle.std.specs.FinMap.Entries.{put, find};
+ghost use Rattle.sc_view.specs.Rows.{joined, IsRow, Rises, Under, Over, starts_above, from, count_lacking, is_larger};
+ghost use Rattle.std.specs.Option.{option_map};
+ghost use Rattle.std.specs.Map.Iter.{TakesFirst};
+ghost use Rattle.std.specs.FinMap as fin;
+ghost use Rattle.sc_view.specs.Views.{merge};
+
+use crate::chunk::{Chunk, with_entry};
+use crate::view::{Entry, Stored};
+use arrayvec::ArrayVec;
+use std::alloc::{AllocError, Global};
+
+/// The most chunks of a row.
+pub(crate) const MOST_CHUNKS: usize = 16;
+
+/// The most entries of a chunk.
+const MOST: usize = 32;
+
+/// The fewest entries of a chunk, where there are several.
+const FEWEST: usize = 16;
+
+pub(crate) type Row = ArrayVec<Chunk, 16>;
+
+/// The chunk where an id belongs: all ids before it are smaller, and all behind it are larger.
+pub(crate) fn place(row: &[Chunk], id: u64) -> usize
+    requires { IsRow row.now }
+    ensures within { result < length row.now }
+    ensures under { Under id (joined (take result row.now)) }
+    ensures over { Over id (joined (drop (result + 1) row.now)) }
+{
+    for k in 1..row.len() {
+        if starts_above(&row[k], id) {
+            return k - 1;
+        }
+    }
+    row.len() - 1
+}
+
+// Whether all ids are larger.
+fn starts_above(chunk: &Chunk, id: u64) -> bool
+    ensures { result ≡ starts_above id chunk.now }
+{
+    match chunk.as_slice().first() {
+        Some((first, _)) => id < *first,
+        None => false,
+    }
+}
+
+/// Learns an entry. At Err the row is as it was.
+pub(crate) fn put_entry(
+    alloc: Global,
+    row: &mut Row,
+    id: u64,
+    stored: Stored,
+) -> Result<(), AllocError>
+    requires row { IsRow row.old.items }
+    requires room { length (put nat_cmp id stored (joined row.old.items)) ≤ 256 }
+    ensures ok { OnOk result (joined row.new.items ≡ put nat_cmp id stored (joined row.old.items)) }
+    ensures row { IsRow row.new.items }
+    ensures err { OnErr result (row.new.items ≡ row.old.items) }
+{
+    let chunks = row.as_slice();
+    let at = place(chunks, id);
+    let mut all = with_entry(alloc, chunks[at].as_slice(), id, stored)?;
+    if all.len() <= MOST {
+        let whole = Chunk::of(all)?;
+        set(row, at, whole);
+    } else {
+        let back = Chunk::of(Vec::from_slice(alloc, &all[FEWEST..])?)?;
+        all.truncate(FEWEST);
+        let front = Chunk::of(all)?;
+        set(row, at, front);
+        row.insert(at + 1, back);
+    }
+    Ok(())
+}
+
+// Puts another chunk in the place of one.
+fn set(row: &mut Row, at: usize, chunk: Chunk)
+    requires { at < length row.old.items }
+    ensures { row.new.items ≡ slice_set row.old.items at chunk }
+{
+    row.as_mut_slice()[at] = chunk;
+}
+
+/// The entries of a row that are still to come.
+#[derive(Drop)]
+pub(crate) struct Rest<'a> {
+    pub(crate) entries: &'a [Entry],
+    pub(crate) chunks: &'a [Chunk],
+}
+
+/// The next entry that is to come.
+#[inline]
+pub(crate) fn next_entry(rest: &mut Rest<'_>) -> Option<Entry>
+    ensures { TakesFirst (λ e. e) (rest.old.entries.now ++ joined rest.old.chunks.now) result (rest.new.entries.now ++ joined rest.new.chunks.now) }
+{
+    while rest.entries.is_empty() {
+        let (chunk, chunks) = rest.chunks.split_first()?;
+        rest.entries = chunk.as_slice();
+        rest.chunks = chunks;
+    }
+    let (entry, entries) = rest.entries.split_first()?;
+    rest.entries = entries;
+    Some(*entry)
+}
+
+/// The number at an id. Only entries from that id on are then still to come.
+#[inline]
+pub(crate) fn seek(rest: &mut Rest<'_>, id: u64) -> Option<u64>
+    requires { Rises (rest.old.entries.now ++ joined rest.old.chunks.now) }
+    ensures value { result ≡ option_map (λ e. e.number) (find nat_cmp id (rest.old.entries.now ++ joined rest.old.chunks.now)) }
+    ensures rest { rest.new.entries.now ++ joined rest.new.chunks.now ≡ from id (rest.old.entries.now ++ joined rest.old.chunks.now) }
+{
+    loop {
+        match rest.entries.split_first() {
+            Some((entry, entries)) => {
+                if id < entry.0 {
+                    return None;
+                }
+                if id == entry.0 {
+                    return Some(entry.1.number);
+                }
+                rest.entries = entries;
+            }
+            None => {
+                let (chunk, chunks) = rest.chunks.split_first()?;
+                rest.entries = chunk.as_slice();
+                rest.chunks = chunks;
+            }
+        }
+    }
+}
+
+/// How many ids the second row has that the first has not.
+pub(crate) fn count_new(known: &[Chunk], more: &[Chunk]) -> usize
+    requires known { Rises (joined known.now) }
+    requires more { Rises (joined more.now) }
+    requires few { length (joined more.now) ≤ 256 }
+    ensures { result ≡ count_lacking (joined known.now) (joined more.now) }
+{
+    let mut rest = Rest {
+        entries: &[],
+        chunks: known,
+    };
+    let mut theirs = Rest {
+        entries: &[],
+        chunks: more,
+    };
+    let mut count = 0;
+    while let Some((id, _)) = next_entry(&mut theirs) {
+        if seek(&mut rest, id).is_none() {
+            count += 1;
+        }
+    }
+    count
+}
+
+// Whether a number is larger than what is known.
+#[inline]
+fn is_larger(known: Option<u64>, number: u64) -> bool
+    ensures { result ≡ is_larger known number }
+{
+    match known {
+        Some(known) => known < number,
+        None => true,
+    }
+}
+
+/// A row with all that either has, and at equal numbers the first row's value.
+pub(crate) fn merged(alloc: Global, known: &Row, more: &[Chunk]) -> Result<Row, AllocError>
+    requires known { IsRow known.now.items }
+    requires more { Rises (joined more.now) }
+    requires room { fin.len (merge (fin.from_entries (joined known.now.items)) (fin.from_entries (joined more.now))) ≤ 256 }
+    ensures ok { IfOk result (λ row. fin.from_entries (joined row.items) ≡ merge (fin.from_entries (joined known.now.items)) (fin.from_entries (joined more.now))) }
+    ensures row { IfOk result (λ row. IsRow row.items) }
+{
+    let mut row = known.clone()?;
+    let mut rest = Rest {
+        entries: &[],
+        chunks: known.as_slice(),
+    };
+    let mut theirs = Rest {
+        entries: &[],
+        chunks: more,
+    };
+    while let Some((id, stored)) = next_entry(&mut theirs) {
+        if is_larger(seek(&mut rest, id), stored.number) {
+            put_entry(alloc, &mut row, id, stored)?;
+        }
+    }
+    Ok(row)
+}
