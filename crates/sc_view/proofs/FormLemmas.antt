@@ -5,7 +5,7 @@ use Rattle.sc_view.specs.declared.form.Command.{Command}
 use Rattle.sc_view.specs.declared.form.Command.TheVariants.{Merge}
 use Rattle.sc_view.specs.declared.form.Reply.{Reply}
 use Rattle.sc_view.specs.Views.{ViewMap}
-use Rattle.sc_view.specs.Forms.{Runs, Answers, AllCounted}
+use Rattle.sc_view.specs.Forms.{Runs, Answers}
 
 runs_push : (v w : ViewMap) (cs : List Command) (rs : List Reply) (u : ViewMap) (c : Command) (r : Reply) (new : ViewMap) → Runs v w cs rs u → Answers u w c r new → Runs v w (cs ++ c ∷ []) (rs ++ r ∷ []) new
 runs_push v w [] [] u c r new h a = (new, subst (λ x. Answers x w c r new) h a, refl)
@@ -15,6 +15,3 @@ runs_push v w (d ∷ cs) (s ∷ rs) u c r new h a = (h.0, h.1, runs_push h.0 w c
 
 pub runs_next : (v w : ViewMap) (cs : List Command) (i : ℕ) (d : Command) (rs : List Reply) (u : ViewMap) (r : Reply) (new : ViewMap) → i < length cs → Runs v w (take i cs) rs u → Answers u w (get_or cs i d) r new → Runs v w (take (i + 1) cs) (rs ++ r ∷ []) new
 runs_next v w cs i d rs u r new l h a = subst (λ ds. Runs v w ds (rs ++ r ∷ []) new) (sym (take_more cs i d l)) (runs_push v w (take i cs) rs u (get_or cs i d) r new h a)
-
-pub counted_next : (cs : List Command) (i : ℕ) → i < length cs → AllCounted (drop i cs) → AllCounted (drop (i + 1) cs)
-counted_next cs i l h = (subst AllCounted (drop_more cs i Merge l) h).1

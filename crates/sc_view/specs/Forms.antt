@@ -29,12 +29,3 @@ Runs v other [] [] new = new ≡ v
 Runs v other [] (r ∷ rs) new = ⊥
 Runs v other (c ∷ cs) [] new = ⊥
 Runs v other (c ∷ cs) (r ∷ rs) new = (next : ViewMap) × Answers v other c r next × Runs next other cs rs new
-
-abbrev pub IsCounted : Command → Type 0
-IsCounted (Get id) = Unit {0}
-IsCounted (Put id x) = 1 ≤ x.number
-IsCounted Merge = Unit {0}
-
-abbrev pub AllCounted : List Command → Type 0
-AllCounted [] = Unit {0}
-AllCounted (c ∷ cs) = IsCounted c × AllCounted cs

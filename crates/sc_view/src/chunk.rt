@@ -92,13 +92,14 @@ pub(crate) fn find(entries: &[Entry], id: u64) -> Option<Stored>
     ensures { result ≡ find nat_cmp id entries.now }
 {
     let at = before(entries, id);
-    if at < entries.len() {
-        let (known, stored) = entries[at];
-        if known == id {
-            return Some(stored);
-        }
+    if at >= entries.len() {
+        return None;
     }
-    None
+    let entry = entries[at];
+    if entry.0 != id {
+        return None;
+    }
+    Some(entry.1)
 }
 
 /// The entries with one more, or with another value at its id.

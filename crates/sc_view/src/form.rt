@@ -2,7 +2,7 @@
 ghost use Rattle.std.specs.Prelude.{◌≡◌, ℕ, ◌≤◌, ◌<◌, ◌↔◌, IfOk, OnOk, OnErr, IsErrOf};
 ghost use Rattle.std.specs.FinMap as fin;
 ghost use Rattle.sc_view.specs.Views.{ViewMap, put, merge, most_entries};
-ghost use Rattle.sc_view.specs.Forms.{Runs, Answers, AllCounted, IsCounted};
+ghost use Rattle.sc_view.specs.Forms.{Runs, Answers};
 
 use crate::view::{Stored, View, ViewFault};
 use std::alloc::{AllocError, Global};
@@ -18,7 +18,6 @@ pub trait ViewForm {
 
     /// Learns one value.
     fn learn(&mut self, id: u64, stored: Stored) -> Result<(), ViewFault>
-        requires { 1 ≤ stored.number }
         ensures ok { OnOk result (map self.new ≡ put (map self.old) id stored) }
         ensures full { IsErrOf result ViewFault.Full ↔ (most_entries < fin.len (put (map self.old) id stored)) }
         ensures err { OnErr result (map self.new ≡ map self.old) };
@@ -68,7 +67,6 @@ pub enum Reply {
 
 /// Carries out one command.
 pub fn step<V: ViewForm>(view: &mut V, other: &V, command: Command) -> Reply
-    requires { IsCounted command }
     ensures { Answers (V.map view.old) (V.map other.now) command result (V.map view.new) }
 {
     match command {
@@ -85,7 +83,6 @@ pub fn run<V: ViewForm>(
     other: &V,
     commands: &[Command],
 ) -> Result<Vec<Reply>, AllocError>
-    requires { AllCounted commands.now }
     ensures { IfOk result (λ replies. Runs (V.map view.old) (V.map other.now) commands.now replies.items (V.map view.new)) }
 {
     let mut replies = Vec::new(alloc);

@@ -122,7 +122,7 @@ pub(crate) fn seek(rest: &mut Rest<'_>, id: u64) -> Option<u64>
                     return None;
                 }
                 if id == entry.0 {
-                    return Some(entry.1.number);
+                    return Some(entry.1.number());
                 }
                 rest.entries = entries;
             }
@@ -187,9 +187,9 @@ pub(crate) fn merged(alloc: Global, known: &Row, more: &[Chunk]) -> Result<Row, 
         entries: &[],
         chunks: more,
     };
-    while let Some((id, stored)) = next_entry(&mut theirs) {
-        if is_larger(seek(&mut rest, id), stored.number) {
-            put_entry(alloc, &mut row, id, stored)?;
+    while let Some(entry) = next_entry(&mut theirs) {
+        if is_larger(seek(&mut rest, entry.0), entry.1.number()) {
+            put_entry(alloc, &mut row, entry.0, entry.1)?;
         }
     }
     Ok(row)

@@ -107,12 +107,13 @@ impl SortedView {
     /// Learns one value of a node: the one with the larger number stays, and at equal numbers the one that is there.
     /// Refused 46 where a 257th id would come, and else 99; the view is then as it was.
     pub fn put(&mut self, id: u64, stored: Stored) -> Result<(), ViewFault>
-        requires { 1 ≤ stored.number }
         ensures ok { OnOk result (self.new ≡ put self.old id stored) }
         ensures valid { OnOk result (IsView self.new) }
         ensures full { IsErrOf result ViewFault.Full ↔ (most_entries < fin.len (put self.old id stored)) }
         ensures err { OnErr result (self.new ≡ self.old) }
     {
+        // Its number counts from 1.
+        let _ = stored.number();
         if self.len_with(id) > MOST_ENTRIES {
             return Err(ViewFault::Full);
         }
@@ -177,7 +178,7 @@ fn is_newer(known: Option<Stored>, stored: Stored) -> bool
     ensures { result ≡ is_newer known stored }
 {
     match known {
-        Some(known) => known.number < stored.number,
+        Some(known) => known.number() < stored.number(),
         None => true,
     }
 }

@@ -6,7 +6,7 @@ ghost use Rattle.std.specs.Iterator.{at_most};
 ghost use Rattle.sc_view.specs.Faults.{fault_number, fault_name};
 ghost use Rattle.sc_view.specs.Views.{IsView, is_newer, put, merge, most_entries, IsChunking};
 ghost use Rattle.std.specs.List.{slice_get};
-ghost use Rattle.std.specs.Option.{option_copied};
+ghost use Rattle.std.specs.Option.{option_copied, SomeIff};
 ghost use Rattle.sc_view.specs.declared.view.Stored.{Stored as StoredValue};
 
 use crate::chunk::{Chunk, find};
@@ -21,10 +21,48 @@ pub const MOST_ENTRIES: usize = 256;
 /// A value of a node, with the number under which the node stored it.
 #[derive(Clone, Copy, Debug, PartialEq, Eq)]
 pub struct Stored {
+    number: u64,
+    value: [u8; 48],
+}
+
+impl Model for Stored {
+    ghost use Rattle.std.specs.Prelude.{◌≤◌};
+    ghost use Rattle.sc_view.specs.Values.{StoredValue};
+
+    ghost Value = { StoredValue };
+
+    ghost view = { λ s. record { number = s.number; value = s.value } };
+
+    ghost invariant = { λ s. 1 ≤ s.number };
+
+    ghost inverse = { λ v. record { number = v.number; value = v.value } };
+}
+
+impl Stored {
+    /// The value under its number; none where the number is 0, since nodes count their stores from 1.
+    pub fn new(number: u64, value: [u8; 48]) -> Option<Stored>
+        ensures { SomeIff result (1 ≤ number) (record { number = number; value = value }) }
+    {
+        if number == 0 {
+            return None;
+        }
+        Some(Stored { number, value })
+    }
+
     /// The sequence number of the store, counted by the storing node from 1.
-    pub number: u64,
+    pub fn number(&self) -> u64
+        ensures number { result ≡ self.now.number }
+        ensures counted { 1 ≤ result }
+    {
+        self.number
+    }
+
     /// The bytes that were stored.
-    pub value: [u8; 48],
+    pub fn value(&self) -> &[u8; 48]
+        ensures { result.now ≡ self.now.value }
+    {
+        &self.value
+    }
 }
 
 /// An id, and what is known of it.
@@ -214,12 +252,13 @@ impl View {
     /// Learns one value of a node: the one with the larger number stays, and at equal numbers the one that is there.
     /// Refused 46 where a 257th id would come, and else 99; the view is then as it was.
     pub fn put(&mut self, id: u64, stored: Stored) -> Result<(), ViewFault>
-        requires { 1 ≤ stored.number }
         ensures ok { OnOk result (self.new ≡ put self.old id stored) }
         ensures valid { OnOk result (IsView self.new) }
         ensures full { IsErrOf result ViewFault.Full ↔ (most_entries < fin.len (put self.old id stored)) }
         ensures err { OnErr result (self.new ≡ self.old) }
     {
+        // Its number counts from 1.
+        let _ = stored.number();
         let count = self.len_with(id);
         if count > MOST_ENTRIES {
             return Err(ViewFault::Full);
@@ -284,7 +323,7 @@ fn is_newer(known: Option<Stored>, stored: Stored) -> bool
     ensures { result ≡ is_newer known stored }
 {
     match known {
-        Some(known) => known.number < stored.number,
+        Some(known) => known.number() < stored.number(),
         None => true,
     }
 }

@@ -1,12 +1,18 @@
-use Rattle.std.proofs.Common.{sym, subst, ◌<◌, ◌≤◌, length, arith, ◌∙◌}
+use Rattle.std.proofs.Common.{◌≡◌, ◌<◌, ◌≤◌, ℕ, Some, length, sym, ap, subst, ◌∙◌, arith}
+use Rattle.sc_view.specs.declared.view.Stored.{Stored}
 use Rattle.sc_view.proofs.EntryLemmas.{find_found, find_other, find_past}
 use Rattle.sc_view.proofs.chunk.find.Goals as goal
 
-pub returns-then-known-id : goal.returns-then-known-id
-returns-then-known-id c = find_found c.args.id c.args.entries.now c.before-at.result _ c.before-at.ensures.value c.if-at-entries.true c.requires c.if-known-id.true
+pub returns-then-at-entries : goal.returns-then-at-entries
+returns-then-at-entries c = sym (find_past c.args.id c.args.entries.now (subst (λ n. length c.args.entries.now ≤ n) c.before-at.ensures.value c.if-at-entries.true))
 
-pub returns-else-known-id : goal.returns-else-known-id
-returns-else-known-id c = find_other c.args.id c.args.entries.now c.before-at.result _ c.before-at.ensures.value c.if-at-entries.true c.requires c.if-known-id.false
+pub returns-then-entry-id : goal.returns-then-entry-id
+returns-then-entry-id c =
+    find_other c.args.id c.args.entries.now c.before-at.result c.index-entries-at.result c.before-at.ensures.value c.if-at-entries.false c.requires
+    (λ same. c.if-entry-id.true (ap (λ (e : ℕ × Stored). e.0) c.index-entries-at.is ∙ same))
 
-pub returns-else-at-entries : goal.returns-else-at-entries
-returns-else-at-entries c = sym (find_past c.args.id c.args.entries.now (subst (λ n. length c.args.entries.now ≤ n) c.before-at.ensures.value c.if-at-entries.false))
+pub returns : goal.returns
+returns c =
+    ap (λ (e : ℕ × Stored). Some e.1) c.index-entries-at.is
+    ∙ find_found c.args.id c.args.entries.now c.before-at.result c.index-entries-at.result c.before-at.ensures.value c.if-at-entries.false c.requires
+    (ap (λ (e : ℕ × Stored). e.0) (sym c.index-entries-at.is) ∙ c.if-entry-id.false)

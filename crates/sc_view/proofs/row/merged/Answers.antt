@@ -2,13 +2,13 @@ use Rattle.std.proofs.Common.{◌≡◌, ◌+◌, ℕ, List, true, false, ap, su
 use Rattle.std.proofs.lemmas.List.Elements.{same_from_all_zip}
 use Rattle.std.specs.FinMap as fin
 use Rattle.sc_view.specs.declared.view.Stored.{Stored}
-use Rattle.sc_view.specs.Rows.{joined, IsRow, Rises}
+use Rattle.sc_view.specs.Rows.{joined, IsRow, Rises, is_larger}
 use Rattle.sc_view.proofs.MapLemmas.{Tells, tells_all, theirs_next, rest_next, tells_next, newer_next, same_next, same_tail, left_put, left_kept, room_next, put_all_rising}
 use Rattle.sc_view.proofs.ViewLemmas.{put_all}
 use Rattle.sc_view.proofs.row.merged.Goals as goal
 
-pub loop-id-init : goal.loop-id-init
-loop-id-init c =
+pub loop-entry-init : goal.loop-entry-init
+loop-entry-init c =
     let same : c.in_ok-row.row.items ≡ c.args.known.now.items = same_from_all_zip _ _ _ c.in_ok-row.ensures.cases (λ x y h. h) in
     let held : List (List (ℕ × Stored)) = c.args.known.now.items in
     record {
@@ -22,29 +22,29 @@ loop-id-init c =
 
 pub put_entry-requires-clause-room : goal.put_entry-requires-clause-room
 put_entry-requires-clause-room c =
-    let new = newer_next true (c.in-Some.id, c.in-Some.stored) _ _ _ (joined c.loop-id.row.items) _ c.seek.result c.in-Some.ensures c.loop-id.invariant.tells c.loop-id.invariant.same c.seek.ensures.value (sym c.is_larger.ensures ∙ c.if-is_larger.true) in
-    room_next (c.in-Some.id, c.in-Some.stored) _ _ (joined c.loop-id.row.items) _ c.in-Some.ensures c.loop-id.invariant.row.rises new c.loop-id.invariant.left c.requires.room
+    let new = newer_next true c.in-Some.entry _ _ _ (joined c.loop-entry.row.items) _ c.seek.result c.in-Some.ensures c.loop-entry.invariant.tells c.loop-entry.invariant.same c.seek.ensures.value (ap (is_larger c.seek.result) (sym c.number.ensures.number) ∙ sym c.is_larger.ensures ∙ c.if-is_larger.true) in
+    room_next c.in-Some.entry _ _ (joined c.loop-entry.row.items) _ c.in-Some.ensures c.loop-entry.invariant.row.rises new c.loop-entry.invariant.left c.requires.room
 
-pub loop-id-preserved-in-Continue-branch-2 : goal.loop-id-preserved-in-Continue-branch-2
-loop-id-preserved-in-Continue-branch-2 c =
-    let new = newer_next true (c.in-Some.id, c.in-Some.stored) _ _ _ (joined c.loop-id.row.items) _ c.seek.result c.in-Some.ensures c.loop-id.invariant.tells c.loop-id.invariant.same c.seek.ensures.value (sym c.is_larger.ensures ∙ c.if-is_larger.true) in
+pub loop-entry-preserved-in-Continue-branch-2 : goal.loop-entry-preserved-in-Continue-branch-2
+loop-entry-preserved-in-Continue-branch-2 c =
+    let new = newer_next true c.in-Some.entry _ _ _ (joined c.loop-entry.row.items) _ c.seek.result c.in-Some.ensures c.loop-entry.invariant.tells c.loop-entry.invariant.same c.seek.ensures.value (ap (is_larger c.seek.result) (sym c.number.ensures.number) ∙ sym c.is_larger.ensures ∙ c.if-is_larger.true) in
     record {
       row = c.in_ok-put_entry.ensures.row;
-      theirs = theirs_next (c.in-Some.id, c.in-Some.stored) _ _ c.in-Some.ensures c.loop-id.invariant.theirs;
-      rest = rest_next c.in-Some.id _ _ c.seek.ensures.rest c.loop-id.invariant.rest;
-      tells = tells_next (c.in-Some.id, c.in-Some.stored) _ _ _ _ _ c.in-Some.ensures c.seek.ensures.rest c.loop-id.invariant.theirs c.loop-id.invariant.tells;
-      same = same_next (c.in-Some.id, c.in-Some.stored) _ _ (joined c.loop-id.row.items) _ _ c.in-Some.ensures c.in_ok-put_entry.ensures.ok c.loop-id.invariant.theirs c.loop-id.invariant.same;
-      left = left_put (c.in-Some.id, c.in-Some.stored) _ _ (joined c.loop-id.row.items) _ _ c.in-Some.ensures c.in_ok-put_entry.ensures.ok new c.loop-id.invariant.left;
+      theirs = theirs_next c.in-Some.entry _ _ c.in-Some.ensures c.loop-entry.invariant.theirs;
+      rest = rest_next c.in-Some.entry.0 _ _ c.seek.ensures.rest c.loop-entry.invariant.rest;
+      tells = tells_next c.in-Some.entry _ _ _ _ _ c.in-Some.ensures c.seek.ensures.rest c.loop-entry.invariant.theirs c.loop-entry.invariant.tells;
+      same = same_next c.in-Some.entry _ _ (joined c.loop-entry.row.items) _ _ c.in-Some.ensures c.in_ok-put_entry.ensures.ok c.loop-entry.invariant.theirs c.loop-entry.invariant.same;
+      left = left_put c.in-Some.entry _ _ (joined c.loop-entry.row.items) _ _ c.in-Some.ensures c.in_ok-put_entry.ensures.ok new c.loop-entry.invariant.left;
     }
 
-pub loop-id-preserved : goal.loop-id-preserved
-loop-id-preserved c =
-    let old = newer_next false (c.in-Some.id, c.in-Some.stored) _ _ _ (joined c.loop-id.row.items) _ c.seek.result c.in-Some.ensures c.loop-id.invariant.tells c.loop-id.invariant.same c.seek.ensures.value (sym c.is_larger.ensures ∙ c.if-is_larger.false) in
+pub loop-entry-preserved : goal.loop-entry-preserved
+loop-entry-preserved c =
+    let old = newer_next false c.in-Some.entry _ _ _ (joined c.loop-entry.row.items) _ c.seek.result c.in-Some.ensures c.loop-entry.invariant.tells c.loop-entry.invariant.same c.seek.ensures.value (ap (is_larger c.seek.result) (sym c.number.ensures.number) ∙ sym c.is_larger.ensures ∙ c.if-is_larger.false) in
     record {
-      row = c.loop-id.invariant.row;
-      theirs = theirs_next (c.in-Some.id, c.in-Some.stored) _ _ c.in-Some.ensures c.loop-id.invariant.theirs;
-      rest = rest_next c.in-Some.id _ _ c.seek.ensures.rest c.loop-id.invariant.rest;
-      tells = tells_next (c.in-Some.id, c.in-Some.stored) _ _ _ _ _ c.in-Some.ensures c.seek.ensures.rest c.loop-id.invariant.theirs c.loop-id.invariant.tells;
-      same = same_tail (c.in-Some.id, c.in-Some.stored) _ _ (joined c.loop-id.row.items) _ c.in-Some.ensures c.loop-id.invariant.theirs c.loop-id.invariant.same;
-      left = left_kept (c.in-Some.id, c.in-Some.stored) _ _ (joined c.loop-id.row.items) _ c.in-Some.ensures old c.loop-id.invariant.left;
+      row = c.loop-entry.invariant.row;
+      theirs = theirs_next c.in-Some.entry _ _ c.in-Some.ensures c.loop-entry.invariant.theirs;
+      rest = rest_next c.in-Some.entry.0 _ _ c.seek.ensures.rest c.loop-entry.invariant.rest;
+      tells = tells_next c.in-Some.entry _ _ _ _ _ c.in-Some.ensures c.seek.ensures.rest c.loop-entry.invariant.theirs c.loop-entry.invariant.tells;
+      same = same_tail c.in-Some.entry _ _ (joined c.loop-entry.row.items) _ c.in-Some.ensures c.loop-entry.invariant.theirs c.loop-entry.invariant.same;
+      left = left_kept c.in-Some.entry _ _ (joined c.loop-entry.row.items) _ c.in-Some.ensures old c.loop-entry.invariant.left;
     }

@@ -6,8 +6,8 @@ use Rattle.sc_view.proofs.MapLemmas.{Tells}
 use Rattle.sc_view.proofs.ViewLemmas.{put_all}
 use Rattle.sc_view.proofs.row.merged.Given as goal
 
-abbrev pub invariant-loop-id : goal.invariant-loop-id
-invariant-loop-id l = record {
+abbrev pub invariant-loop-entry : goal.invariant-loop-entry
+invariant-loop-entry l = record {
   row : IsRow l.row.items;
   theirs : Rises (l.theirs.entries.now ++ joined l.theirs.chunks.now);
   rest : Rises (l.rest.entries.now ++ joined l.rest.chunks.now);
@@ -16,5 +16,5 @@ invariant-loop-id l = record {
   left : put_all (fin.from_entries (joined l.row.items)) (l.theirs.entries.now ++ joined l.theirs.chunks.now) ≡ merge (fin.from_entries (joined l.known.items)) (fin.from_entries (joined l.more));
 }
 
-abbrev pub decreases-loop-id : goal.decreases-loop-id
-decreases-loop-id l = length (l.theirs.entries.now ++ joined l.theirs.chunks.now)
+abbrev pub decreases-loop-entry : goal.decreases-loop-entry
+decreases-loop-entry l = length (l.theirs.entries.now ++ joined l.theirs.chunks.now)
