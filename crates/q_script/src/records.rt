@@ -94,12 +94,13 @@ impl Record {
 
     /// What the node stored.
     fn stored(&self) -> Stored
+        requires { 1 ≤ self.now.number }
         ensures { result ≡ stored_of self.now }
     {
-        Stored {
-            number: self.number,
-            value: value_bytes(self.value),
-        }
+        let Some(stored) = Stored::new(self.number, value_bytes(self.value)) else {
+            unreachable!()
+        };
+        stored
     }
 }
 

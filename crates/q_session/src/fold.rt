@@ -44,7 +44,7 @@ fn record_bytes(id: u64, stored: &Stored) -> [u8; 64]
 {
     let mut bytes = [0; 64];
     bytes[..8].copy_from_slice(&id.to_le_bytes());
-    bytes[8..16].copy_from_slice(&stored.number.to_le_bytes());
-    bytes[16..].copy_from_slice(&stored.value);
+    bytes[8..16].copy_from_slice(&stored.number().to_le_bytes());
+    bytes[16..].copy_from_slice(stored.value());
     bytes
 }

@@ -11,8 +11,8 @@ use std::io;
 
 fn tell_view(rt: &impl Print, view: &View) -> io::Result<()> {
     for (id, stored) in view.records() {
-        let byte = stored.value[0];
-        print!(rt; " value {id} {} {byte}", stored.number)?;
+        let byte = stored.value()[0];
+        print!(rt; " value {id} {} {byte}", stored.number())?;
     }
     Ok(())
 }

@@ -18,24 +18,13 @@ fn value_of(words: &[&str]) -> Option<(u64, Stored)> {
 fn stored_of(count: &str, byte: &str) -> Option<Stored> {
     let number = number(count)?;
     let byte = byte.parse::<u8>().ok()?;
-    Some(Stored {
-        number,
-        value: [byte; 48],
-    })
-}
-
-fn put(view: &mut View, id: u64, stored: Stored) -> Result<(), ViewFault> {
-    if 1 <= stored.number {
-        view.put(id, stored)
-    } else {
-        Ok(())
-    }
+    Stored::new(number, [byte; 48])
 }
 
 /// Learns the value that these words spell, if they do.
 fn learn(view: &mut View, words: &[&str]) -> Result<(), ViewFault> {
     match value_of(words) {
-        Some((id, stored)) => put(view, id, stored),
+        Some((id, stored)) => view.put(id, stored),
         None => Ok(()),
     }
 }
@@ -60,8 +49,8 @@ fn merged(alloc: Global, first: &[&str], second: &[&str]) -> Result<View, ViewFa
 }
 
 fn tell_value(rt: &impl Print, id: u64, stored: Stored) -> io::Result<()> {
-    let byte = stored.value[0];
-    print!(rt; " {id} {} {byte}", stored.number)
+    let byte = stored.value()[0];
+    print!(rt; " {id} {} {byte}", stored.number())
 }
 
 fn tell_values(rt: &impl Print, view: &View) -> io::Result<()> {

@@ -60,12 +60,11 @@ fn push_value(out: &mut Vec<u8>, value: &[u8; 48]) -> Result<(), AllocError>
 }
 
 fn push_stored(out: &mut Vec<u8>, stored: Stored) -> Result<(), AllocError>
-    requires { 1 ≤ stored.number }
     ensures legal { OnOk result (IsStored stored) }
     ensures spelled { OnOk result (out.new.items ≡ out.old.items ++ stored_bytes stored) }
 {
-    push_number(out, stored.number)?;
-    push_value(out, &stored.value)
+    push_number(out, stored.number())?;
+    push_value(out, stored.value())
 }
 
 fn push_view(out: &mut Vec<u8>, view: &View) -> Result<(), AllocError>

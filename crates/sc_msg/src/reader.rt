@@ -130,7 +130,10 @@ impl<'a> Reader<'a> {
         let bytes = self.take(48)?;
         let mut value = [0; 48];
         value.copy_from_slice(bytes);
-        Ok(Stored { number, value })
+        let Some(stored) = Stored::new(number, value) else {
+            unreachable!()
+        };
+        Ok(stored)
     }
 
     /// A set of ids: a count of at most 1,024, and the ids in rising order.

@@ -27,7 +27,10 @@ fn stored(byte: u8) -> Stored
 {
     let mut value = [0; 48];
     value[0] = byte;
-    Stored { number: 1, value }
+    let Some(stored) = Stored::new(1, value) else {
+        unreachable!()
+    };
+    stored
 }
 
 fn first_store(alloc: Global) -> Result<Message, ViewFault> {

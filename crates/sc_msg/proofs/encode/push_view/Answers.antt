@@ -1,17 +1,10 @@
-use Rattle.std.proofs.Common.{ℕ, ◌≤◌, List, ◌++◌, ap, subst, ◌∙◌, append_assoc}
+use Rattle.std.proofs.Common.{ℕ, List, ◌++◌, ap, subst, ◌∙◌, append_assoc}
 use Rattle.std.specs.FinMap as fin
 use Rattle.sc_view.specs.declared.view.Stored.{Stored}
 use Rattle.sc_msg.specs.Numbers.{number_bytes}
 use Rattle.sc_msg.specs.Entries.{view_layout, stored_bytes}
-use Rattle.sc_msg.proofs.Rising.{entries_counted}
-use Rattle.sc_msg.proofs.Writing.{WrittenTo, written_more, written_all, all_at}
+use Rattle.sc_msg.proofs.Writing.{WrittenTo, written_more, written_all}
 use Rattle.sc_msg.proofs.encode.push_view.Goals as goal
-
-pub push_stored-requires : goal.push_stored-requires
-push_stored-requires c =
-    let v = c.args.view.now in
-    let w = c.loop-id.invariant in
-    all_at (λ (e : ℕ × Stored). 1 ≤ e.1.number) (fin.entries v) w.done c.next.new.self (c.in-Some.id, c.in-Some.stored) (w.split ∙ ap (λ (l : List (ℕ × Stored)). w.done ++ l) c.in-Some.ensures.steps) (entries_counted v c.len.ensures.valid)
 
 pub loop-id-preserved : goal.loop-id-preserved
 loop-id-preserved c =

@@ -1,4 +1,5 @@
-use Rattle.std.proofs.Common.{arith, rules}
+use Rattle.std.proofs.Common.{arith, rules, sym, subst}
+use Rattle.sc_msg.specs.Entries.{IsStored}
 use Rattle.sc_msg.proofs.Parts.{value_cut}
 use Rattle.sc_msg.proofs.reader.Reader.stored.Goals as goal
 
@@ -8,4 +9,6 @@ returns-in_err-bytes-clause-fault c =
     search (rules, cut)
 
 pub returns-clause-stored : goal.returns-clause-stored
-returns-clause-stored c = record { positive = omega arith; fits = c.in_ok-number.ensures.fits; whole = c.copy_from_slice.ensures.len; bytes = rw c.copy_from_slice.ensures.after c.in_ok-bytes.ensures.bytes }
+returns-clause-stored c =
+    subst IsStored (sym c.in-Some.ensures.1)
+    (record { positive = omega arith; fits = c.in_ok-number.ensures.fits; whole = c.copy_from_slice.ensures.len; bytes = rw c.copy_from_slice.ensures.after c.in_ok-bytes.ensures.bytes })
