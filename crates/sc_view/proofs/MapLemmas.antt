@@ -211,6 +211,7 @@ chunking cs v row is some few = record {
   all = sym (entries_rising (joined cs) row.rises) ∙ ap (λ (m : ViewMap). fin.entries m) is;
   few = row_short cs row few;
   small = small_chunks cs row some;
+  filled = row.least;
 }
 
 no_entries : (es : List (ℕ × Stored)) → length es ≡ 0 → [] ≡ es
@@ -222,6 +223,7 @@ no_chunking cs v row is none = record {
   all = no_entries (joined cs) none ∙ sym (entries_rising (joined cs) row.rises) ∙ ap (λ (m : ViewMap). fin.entries m) is;
   few = omega arith;
   small = tt;
+  filled = λ h. tt;
 }
 
 pub slice_get_past : {X : Type 0} (xs : List X) (k : ℕ) → length xs ≤ k → None ≡ slice_get xs k

@@ -5,7 +5,7 @@ use Rattle.std.specs.FinMap.Entries.{find}
 use Rattle.std.specs.FinMap as fin
 use Rattle.sc_view.specs.declared.view.Stored.{Stored}
 use Rattle.sc_view.specs.Views.{IsView}
-pub use Rattle.sc_view.specs.Views.{joined}
+pub use Rattle.sc_view.specs.Views.{joined, HasAtLeast}
 
 -- how many entries stand before the first that has this id or a larger one
 abbrev pub before : ℕ → List (ℕ × Stored) → ℕ
@@ -60,10 +60,6 @@ Rises (e ∷ es) = Over e.0 es × Rises es
 abbrev pub HasAtMost : ℕ → List (List (ℕ × Stored)) → Type 0
 HasAtMost n [] = Unit {0}
 HasAtMost n (c ∷ cs) = (length c ≤ n) × HasAtMost n cs
-
-abbrev pub HasAtLeast : ℕ → List (List (ℕ × Stored)) → Type 0
-HasAtLeast n [] = Unit {0}
-HasAtLeast n (c ∷ cs) = (n ≤ length c) × HasAtLeast n cs
 
 -- a row of 1 to 16 chunks of at most 32 entries, and where there are several chunks of at least 16
 pub record IsRow (cs : List (List (ℕ × Stored))) : Type 0 where

@@ -71,8 +71,14 @@ abbrev pub HasSmallChunks : List (List (ℕ × Stored)) → Type 0
 HasSmallChunks [] = Unit {0}
 HasSmallChunks (c ∷ cs) = ((1 ≤ length c) × (length c ≤ 32)) × HasSmallChunks cs
 
--- a view's entries in rising id order, cut into at most 16 chunks
+-- each list has at least so many entries
+abbrev pub HasAtLeast : ℕ → List (List (ℕ × Stored)) → Type 0
+HasAtLeast n [] = Unit {0}
+HasAtLeast n (c ∷ cs) = (n ≤ length c) × HasAtLeast n cs
+
+-- a view's entries in rising id order, cut into at most 16 chunks, where there are several of at least 16 entries
 pub record IsChunking (v : ViewMap) (chunks : List (List (ℕ × Stored))) : Type 0 where
   pub all : joined chunks ≡ fin.entries v
   pub few : length chunks ≤ 16
   pub small : HasSmallChunks chunks
+  pub filled : 1 < length chunks → HasAtLeast 16 chunks

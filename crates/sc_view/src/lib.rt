@@ -15,6 +15,7 @@
 #![tactic(auto)]
 
 mod chunk;
+pub mod chunks;
 pub mod form;
 pub mod laws;
 mod row;

@@ -10,6 +10,7 @@ ghost use Rattle.std.specs.Option.{option_copied, SomeIff};
 ghost use Rattle.sc_view.specs.declared.view.Stored.{Stored as StoredValue};
 
 use crate::chunk::{Chunk, find};
+use crate::chunks::Chunks;
 use crate::row::{Rest, Row, count_new, merged, next_entry, place, put_entry};
 use arrayvec::ArrayVec;
 use std::alloc::{AllocError, AllocFailed, Global};
@@ -234,19 +235,21 @@ impl View {
         })
     }
 
-    /// The entries of chunk number k, 1 to 32 in rising id order, and None past the last chunk. There are at most 16
-    /// chunks, and joined in turn they are the entries of the view.
+    /// The chunks that hold the entries. Takes no memory.
+    pub fn chunks(&self) -> Chunks<'_>
+        ensures { IsChunking self.now result }
+    {
+        if self.count == 0 {
+            return Chunks::of(&[]);
+        }
+        Chunks::of(self.row.as_slice())
+    }
+
+    /// The entries of chunk number k of `chunks`, and None past the last chunk. Takes no memory.
     pub fn chunk(&self, k: usize) -> Option<&[Entry]>
         ensures { (chunks : List (List (ℕ × StoredValue))) × IsChunking self.now chunks × (option_copied result ≡ slice_get chunks k) }
     {
-        let chunks = self.row.as_slice();
-        if self.count == 0 {
-            return None;
-        }
-        if chunks.len() <= k {
-            return None;
-        }
-        Some(chunks[k].as_slice())
+        self.chunks().get(k)
     }
 
     /// Learns one value of a node: the one with the larger number stays, and at equal numbers the one that is there.
