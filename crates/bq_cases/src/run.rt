@@ -3,8 +3,9 @@
 //! - `place A B`: from here on the frame lies at A and the record at B; `placed`, or `none` where they can't.
 //! - `run LIMIT FILL ACC VALUES = SOURCE`: what the text answers, and in how many steps, over records in turn, of which
 //!   each has one of the values (bytes with commas between them) as its byte 16 and is 0 elsewhere. The frame is filled
-//!   with the byte FILL before the first of them.
+//!   with the byte FILL before the first of them. Or `refused NUMBER NAME`, by the fault that stopped it.
 
+use crate::refusal::print_refusal;
 use crate::words::{number, numbers, text};
 use bq_insn::text::Text;
 use bq_meaning::fault::Fault;
@@ -103,7 +104,7 @@ fn print_run(
     let mut frame = [start.fill; 512];
     match fold(text, place, start.limit, &mut frame, start.acc, values) {
         Ok(ended) => println!(rt; " {} in {}", ended.acc, ended.steps),
-        Err(fault) => println!(rt; " {fault:?}"),
+        Err(fault) => print_refusal(rt, fault.number(), fault.name(), None),
     }
 }
 

@@ -3,3 +3,4 @@ pub mod Storing
 pub mod Reach
 pub mod Once
 pub mod Folding
+pub mod Least

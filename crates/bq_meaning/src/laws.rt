@@ -6,6 +6,14 @@ ghost use Rattle.bq_insn.specs.declared.insn.Insn.{Insn};
 ghost use Rattle.bq_meaning.specs.Place.{Place, IsPlacement};
 ghost use Rattle.bq_meaning.specs.Runs.{RecordRun};
 ghost use Rattle.bq_meaning.specs.Answers.{FoldsTo, Folds, IsAnswer};
+ghost use Rattle.bq_meaning.specs.Faults.{LeastFaultIsNamed};
+
+/// An instruction faults exactly by the fault with the least number of those that hold of it: that it reads an unset
+/// register (91), writes r10 (92), reaches outside the frame and the record (93), or writes into the record (94). It is
+/// done exactly where none of them holds.
+pub fn least_fault_is_named()
+    ensures { LeastFaultIsNamed }
+{}
 
 /// From an accumulator, a record and a frame there is one record run at most at a placement.
 pub fn one_run()

@@ -15,10 +15,11 @@
 //! where several hold at a step, the least number is answered, and the frame is as it was.
 //!
 //! The definitions stand in `specs/`, apart from the code: `Place` has what a placement is, `Memory`
-//! where an access lies, `Meaning` what each form of instruction does, `Runs` what a record run is and
-//! how it fails, and `Answers` what a text answers over a list of records, the same at every placement.
-//! `laws` has what follows for all texts: one run, one answer, and an answer over no records. What they say at telling
-//! machines, worked by hand, stands in [`worked`].
+//! where an access lies, `Meaning` what each form of instruction does, `Faults` what each fault says of
+//! an instruction, `Runs` what a record run is and how it fails, and `Answers` what a text answers over a
+//! list of records, the same at every placement. `laws` has what follows for all texts: the least fault
+//! is named, one run, one answer, and an answer over no records. What they say at telling machines,
+//! worked by hand, stands in [`worked`].
 //!
 //! The checker, the loop that runs checked programs without tests, and all that speaks of an answer
 //! stand on these definitions.

@@ -16,3 +16,4 @@ pub mod Along
 pub mod Runs
 pub mod Folds
 pub mod Lifted
+pub mod Limits

@@ -1,8 +1,10 @@
 -- What a certificate promises of a text.
-use Rattle.std.specs.Prelude.{◌≡◌, ℕ, ◌*◌, ◌^◌, ◌<◌, ◌≤◌, List, length, All}
+use Rattle.std.specs.Prelude.{◌≡◌, ◌↔◌, ℕ, ◌*◌, ◌^◌, ◌<◌, ◌≤◌, List, length, All, Result}
 use Rattle.bq_insn.specs.declared.insn.Insn.{Insn}
 use Rattle.bq_meaning.specs.Place.{Place, IsPlacement}
-use Rattle.bq_meaning.specs.Runs.{RecordRun}
+use Rattle.bq_meaning.specs.Runs.{RecordRun, RunAnswers}
+use Rattle.bq_meaning.specs.declared.fault.Fault.{Fault}
+use Rattle.bq_meaning.specs.declared.run.Ended.{Ended}
 use Rattle.bq_meaning.specs.Answers.{IsAnswer}
 
 -- so many bytes
@@ -32,3 +34,9 @@ pub record HasAnswer (text : List Insn) (longest : ℕ) (records : List (List �
   pub is : IsAnswer text records start answer steps
   pub within : steps ≤ longest * length records
   pub word : answer < 2 ^ 64
+
+-- under every limit of at least the longest path a record run has the outcome that it has under that one
+abbrev pub LimitIsFree : ℕ → List Insn → ℕ → Type 0
+LimitIsFree len text longest =
+    (p : Place) (acc : ℕ) (bytes frame : List ℕ) (limit : ℕ) → IsPlacement p → acc < 2 ^ 64 → AreBytes len bytes → AreBytes 512 frame → longest ≤ limit
+    → (result : Result Ended Fault) (after : List ℕ) → RunAnswers p text acc bytes frame limit result after ↔ RunAnswers p text acc bytes frame longest result after

@@ -15,7 +15,7 @@ ghost use Rattle.bq_state.specs.Rules.{transfer};
 ghost use Rattle.bq_state.specs.Edges.{edges};
 ghost use Rattle.bq_sound.specs.Passes.{Passes};
 ghost use Rattle.bq_sound.specs.Steps.{IsMachine, IsCovered};
-ghost use Rattle.bq_sound.specs.Safe.{AreBytes, IsSafe, HasAnswer};
+ghost use Rattle.bq_sound.specs.Safe.{AreBytes, IsSafe, LimitIsFree, HasAnswer};
 
 /// An instruction that breaks no rule of a state does not fault in a machine that the state covers. It
 /// ends with a word, or goes on along a feasible edge, whose state covers the machine that it leaves.
@@ -27,6 +27,12 @@ pub fn step_is_covered()
 /// within the longest path, with one answer and one frame that are the same at every placement.
 pub fn passing_is_safe()
     ensures { (len : ℕ) (text : List Insn) (notes : List (Option (List Kind))) (longest : ℕ) → len ≤ record_room → IsText text → Passes len text notes → IsLongest text longest → IsSafe len text longest }
+{}
+
+/// A text whose notes pass has the same record run, with the same outcome, under every limit of at least the longest
+/// path.
+pub fn limit_is_free()
+    ensures { (len : ℕ) (text : List Insn) (notes : List (Option (List Kind))) (longest : ℕ) → len ≤ record_room → IsText text → Passes len text notes → IsLongest text longest → LimitIsFree len text longest }
 {}
 
 /// A text that is safe for records of so many bytes has an answer over any of them from any start value. It is a word,

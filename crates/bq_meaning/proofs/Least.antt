@@ -1,0 +1,249 @@
+-- An instruction faults by the least of the faults that hold of it.
+use Rattle.std.proofs.Common.{◌≡◌, ◌≢◌, ◌⊎◌, ◌↔◌, ℕ, ◌+◌, ◌-◌, ◌<◌, ◌≤◌, ℤ, Bool, true, false, ◌&&◌, nat_lt, nat_le, List, length, Option, Some, None, arith, refl, sym, subst, ◌∙◌, inl, inr, if◌then◌else◌}
+use Rattle.std.proofs.lemmas.Bool.Decides.{nat_tests}
+use Rattle.bq_word.specs.declared.AluOp.{AluOp}
+use Rattle.bq_word.specs.declared.AluOp.TheVariants as ops
+use Rattle.bq_insn.specs.declared.insn.Insn.{Insn}
+use Rattle.bq_insn.specs.declared.insn.Insn.TheVariants as insns
+use Rattle.bq_insn.specs.declared.insn.Operand.{Operand}
+use Rattle.bq_insn.specs.declared.insn.Operand.TheVariants as operands
+use Rattle.bq_insn.specs.declared.insn.Size.{Size}
+use Rattle.bq_insn.specs.declared.insn.Size.TheVariants as sizes
+use Rattle.bq_meaning.specs.Place.{Place, IsPlacement, record_room}
+use Rattle.bq_meaning.specs.Memory.{access, is_inside, size_bytes, signed_bytes}
+use Rattle.bq_meaning.specs.Meaning.{Outcome, Continues, Ends, Faults, held, value, taken, moved, reading, writing, stored, perform}
+use Rattle.bq_meaning.specs.Faults.{fault_number, OperandReads, Reads, Writes, LoadsAt, StoresAt, AreWithin, ReadsUnset, WritesFramePointer, AccessesOutside, WritesRecord, Holds, IsLeast, HoldsNone, IsDone, LeastFaultIsNamed}
+use Rattle.bq_meaning.specs.declared.machine.Machine.{Machine}
+use Rattle.bq_meaning.specs.declared.machine.Location.{Location}
+use Rattle.bq_meaning.specs.declared.machine.Location.TheVariants.{Frame, Record}
+use Rattle.bq_meaning.specs.declared.fault.Fault.{Fault}
+use Rattle.bq_meaning.specs.declared.fault.Fault.TheVariants.{ReadUnset, WroteFramePointer, OutsideAccess, WroteRecord, BadPlace, StepsOut}
+
+-- an outcome that names the least of four facts
+abbrev Judged : Type 0 → Type 0 → Type 0 → Type 0 → Outcome → Type 0
+Judged R W O S (Continues next) = (R → ⊥) × (W → ⊥) × (O → ⊥) × (S → ⊥)
+Judged R W O S (Ends answer) = (R → ⊥) × (W → ⊥) × (O → ⊥) × (S → ⊥)
+Judged R W O S (Faults ReadUnset) = R
+Judged R W O S (Faults WroteFramePointer) = (R → ⊥) × W
+Judged R W O S (Faults OutsideAccess) = (R → ⊥) × (W → ⊥) × O
+Judged R W O S (Faults WroteRecord) = (R → ⊥) × (W → ⊥) × (O → ⊥) × S
+Judged R W O S (Faults BadPlace) = ⊥
+Judged R W O S (Faults StepsOut) = ⊥
+
+abbrev JudgedAt : Place → Insn → Machine → Outcome → Type 0
+JudgedAt p i m o = Judged (ReadsUnset i m) (WritesFramePointer i) (AccessesOutside p i m) (WritesRecord p i m) o
+
+-- ---- the parts of an instruction
+
+read_first : (R W O S : Type 0) (h : Option ℕ) (go : ℕ → Outcome) → (h ≡ None → R) → ((a : ℕ) → h ≡ Some a → Judged R W O S (go a)) → Judged R W O S (reading ReadUnset h go)
+read_first R W O S None go r k = r refl
+read_first R W O S (Some a) go r k = k a refl
+
+write_by : (R W O S : Type 0) (d : ℕ) (o : Outcome) (b : Bool) → (b ≡ true → d < 10) → (b ≡ false → 10 ≤ d) → (R → ⊥) → (10 ≤ d → W) → (d < 10 → Judged R W O S o) → Judged R W O S (if b then o else Faults WroteFramePointer)
+write_by R W O S d o true below above r w k = k (below refl)
+write_by R W O S d o false below above r w k = (r, w (above refl))
+
+write_next : (R W O S : Type 0) (d : ℕ) (o : Outcome) → (R → ⊥) → (10 ≤ d → W) → (d < 10 → Judged R W O S o) → Judged R W O S (writing d o)
+write_next R W O S d o r w k = write_by R W O S d o (nat_lt d 10) (λ e. grind (arith, nat_tests)) (λ e. grind (arith, nat_tests)) r w k
+
+-- where an access lies, in plain words
+abbrev Lies : Place → ℕ → ℕ → ℕ → Option Location → Type 0
+Lies p len address size (Some (Frame at)) = AreWithin p.frame 512 address size
+Lies p len address size (Some (Record at)) = AreWithin p.record len address size
+Lies p len address size None = (AreWithin p.frame 512 address size → ⊥) × (AreWithin p.record len address size → ⊥)
+
+inside_by : (x y : Bool) (A B : Type 0) → (x ≡ true → A) → (y ≡ true → B) → (x && y) ≡ true → A × B
+inside_by true true A B f g e = (f refl, g refl)
+inside_by true false A B f g e = cc
+inside_by false y A B f g e = cc
+
+inside_not : (x y : Bool) (A B : Type 0) → (A → x ≡ true) → (B → y ≡ true) → (x && y) ≡ false → A × B → ⊥
+inside_not true true A B f g e h = cc
+inside_not true false A B f g e h = let a = g h.1 in cc
+inside_not false y A B f g e h = let a = f h.0 in cc
+
+inside_is : (start len address size : ℕ) → is_inside start len address size ≡ true → AreWithin start len address size
+inside_is start len address size e = inside_by (nat_le start address) (nat_le (address + size) (start + len)) (start ≤ address) (address + size ≤ start + len) (λ h. grind (arith, nat_tests)) (λ h. grind (arith, nat_tests)) e
+
+inside_is_not : (start len address size : ℕ) → is_inside start len address size ≡ false → AreWithin start len address size → ⊥
+inside_is_not start len address size e = inside_not (nat_le start address) (nat_le (address + size) (start + len)) (start ≤ address) (address + size ≤ start + len) (λ h. grind (arith, nat_tests)) (λ h. grind (arith, nat_tests)) e
+
+lies_by : (p : Place) (len address size : ℕ) (x y : Bool) → (x ≡ true → AreWithin p.frame 512 address size) → (x ≡ false → AreWithin p.frame 512 address size → ⊥) → (y ≡ true → AreWithin p.record len address size) → (y ≡ false → AreWithin p.record len address size → ⊥) → Lies p len address size (if x then Some (Frame (address - p.frame)) else (if y then Some (Record (address - p.record)) else None))
+lies_by p len address size true y a b c d = a refl
+lies_by p len address size false true a b c d = c refl
+lies_by p len address size false false a b c d = (b refl, d refl)
+
+lies : (p : Place) (len address size : ℕ) → Lies p len address size (access p len address size)
+lies p len address size = lies_by p len address size (is_inside p.frame 512 address size) (is_inside p.record len address size) (inside_is p.frame 512 address size) (inside_is_not p.frame 512 address size) (inside_is p.record len address size) (inside_is_not p.record len address size)
+
+-- no byte is in both regions
+never_both : (p : Place) (len address size : ℕ) → IsPlacement p → len ≤ record_room → 0 < size → AreWithin p.frame 512 address size → AreWithin p.record len address size → ⊥
+never_both p len address size is room some a b = elim is.apart as (λ _. ⊥) [ inl h ↦ omega arith | inr h ↦ omega arith ]
+
+-- ---- registers
+
+taken_none : (op : AluOp) (registers : List (Option ℕ)) (d : ℕ) → taken registers op d ≡ None → (op ≢ ops.Mov) × (held registers d ≡ None)
+taken_none ops.Mov registers d h = cc
+taken_none _ registers d h = (λ e. cc, h)
+
+taken_some : (op : AluOp) (registers : List (Option ℕ)) (d a : ℕ) → taken registers op d ≡ Some a → op ≢ ops.Mov → held registers d ≡ Some a
+taken_some ops.Mov registers d a h n = absurd (n refl)
+taken_some _ registers d a h n = h
+
+operand_unset : (x : Operand) (registers : List (Option ℕ)) → value registers x ≡ None → (r : ℕ) × OperandReads x r × (held registers r ≡ None)
+operand_unset (operands.Register s) registers h = (s, refl, h)
+operand_unset (operands.Number z) registers h = cc
+
+operand_set : (x : Operand) (registers : List (Option ℕ)) (a r : ℕ) → value registers x ≡ Some a → OperandReads x r → held registers r ≡ None → ⊥
+operand_set (operands.Register s) registers a r h e n = let e' = e in absurd (cc)
+operand_set (operands.Number z) registers a r h e n = e
+
+set_one : (registers : List (Option ℕ)) (d r a : ℕ) → held registers d ≡ Some a → r ≡ d → held registers r ≡ None → ⊥
+set_one registers d r a h e n = let i : held registers d ≡ None = rw e at n in absurd (cc)
+
+size_some : (size : Size) → 0 < size_bytes size
+size_some sizes.B1 = omega arith
+size_some sizes.B2 = omega arith
+size_some sizes.B4 = omega arith
+size_some sizes.B8 = omega arith
+
+-- ---- loads
+
+load_at : (R W S : Type 0) (p : Place) (i : Insn) (m : Machine) (base d : ℕ) (offset : ℤ) (a size : ℕ) (l : Option Location) (go : Location → Machine) → held m.registers base ≡ Some a → ((address n : ℕ) → LoadsAt i m address n → (address ≡ moved a offset) × (n ≡ size)) → LoadsAt i m (moved a offset) size → ((address n : ℕ) → StoresAt i m address n → ⊥) → (R → ⊥) → (W → ⊥) → (S → ⊥) → Lies p (length m.record) (moved a offset) size l
+    → Judged R W (AccessesOutside p i m) S (reading OutsideAccess l (λ k. Continues (go k)))
+load_at R W S p i m base d offset a size None go h one is none r w s at = (r, w, (moved a offset, size, inl is, at.0, at.1))
+load_at R W S p i m base d offset a size (Some (Frame k)) go h one is none r w s at = (r, w, (λ o. elim o.2 as (λ _. ⊥) [ inl x ↦ let e = one o.0 o.1 x in o.3 (rw (e.0, e.1) at) | inr x ↦ none o.0 o.1 x ]), s)
+load_at R W S p i m base d offset a size (Some (Record k)) go h one is none r w s at = (r, w, (λ o. elim o.2 as (λ _. ⊥) [ inl x ↦ let e = one o.0 o.1 x in o.4 (rw (e.0, e.1) at) | inr x ↦ none o.0 o.1 x ]), s)
+
+store_at : (R W : Type 0) (p : Place) (i : Insn) (m : Machine) (a : ℕ) (offset : ℤ) (size v : ℕ) (l : Option Location) → IsPlacement p → length m.record ≤ record_room → 0 < size → ((address n : ℕ) → LoadsAt i m address n → ⊥) → ((address n : ℕ) → StoresAt i m address n → (address ≡ moved a offset) × (n ≡ size)) → StoresAt i m (moved a offset) size → (R → ⊥) → (W → ⊥) → Lies p (length m.record) (moved a offset) size l
+    → Judged R W (AccessesOutside p i m) (WritesRecord p i m) (reading OutsideAccess l (λ k. stored m k size v))
+store_at R W p i m a offset size v None place room some none one is r w at = (r, w, (moved a offset, size, inr is, at.0, at.1))
+store_at R W p i m a offset size v (Some (Frame k)) place room some none one is r w at = (
+  r,
+  w,
+  (λ o. elim o.2 as (λ _. ⊥) [ inl x ↦ none o.0 o.1 x | inr x ↦ let e = one o.0 o.1 x in o.3 (rw (e.0, e.1) at) ]),
+  (λ s. let e = one s.0 s.1 s.2 in let there : AreWithin p.record (length m.record) (moved a offset) size = rw (e.0, e.1) at s.3 in never_both p (length m.record) (moved a offset) size place room some at there),
+)
+store_at R W p i m a offset size v (Some (Record k)) place room some none one is r w at =
+    (r, w, (λ o. elim o.2 as (λ _. ⊥) [ inl x ↦ none o.0 o.1 x | inr x ↦ let e = one o.0 o.1 x in o.4 (rw (e.0, e.1) at) ]), (moved a offset, size, is, at))
+
+-- an address is one
+one_address : (registers : List (Option ℕ)) (base : ℕ) (offset : ℤ) (a b address n size : ℕ) → held registers base ≡ Some a → held registers base ≡ Some b → address ≡ moved b offset → n ≡ size → (address ≡ moved a offset) × (n ≡ size)
+one_address registers base offset a b address n size h i e f = let s : b ≡ a = cc in (subst (λ x. address ≡ moved x offset) s e, f)
+
+-- ---- each form of instruction
+
+judged : (p : Place) (i : Insn) (m : Machine) → IsPlacement p → length m.record ≤ record_room → JudgedAt p i m (perform p i m)
+judged p (insns.Alu w op d x) m place room =
+    read_first _ _ _ _ (taken m.registers op d) _ (λ e. let t = taken_none op m.registers d e in (d, inl (t.0, refl), t.1)) (λ a ea.
+    read_first _ _ _ _ (value m.registers x) _ (λ e. let t = operand_unset x m.registers e in (t.0, inr t.1, t.2)) (λ b eb.
+    write_next _ _ _ _ d _ (λ r. elim r.1 as (λ _. ⊥) [ inl h ↦ set_one m.registers d r.0 a (taken_some op m.registers d a ea h.0) h.1 r.2 | inr h ↦ operand_set x m.registers b r.0 eb h r.2 ]) (λ h. (d, refl, h)) (λ h.
+    ((λ r. elim r.1 as (λ _. ⊥) [ inl h ↦ set_one m.registers d r.0 a (taken_some op m.registers d a ea h.0) h.1 r.2 | inr h ↦ operand_set x m.registers b r.0 eb h r.2 ]), (λ w. omega arith), (λ o. elim o.2 as (λ _. ⊥) [ inl x ↦ x | inr x ↦ x ]), (λ s. s.2)))))
+judged p (insns.Negate w d) m place room =
+    read_first _ _ _ _ (held m.registers d) _ (λ e. (d, refl, e)) (λ a ea.
+    write_next _ _ _ _ d _ (λ r. set_one m.registers d r.0 a ea r.1 r.2) (λ h. (d, refl, h)) (λ h.
+    ((λ r. set_one m.registers d r.0 a ea r.1 r.2), (λ w. omega arith), (λ o. elim o.2 as (λ _. ⊥) [ inl x ↦ x | inr x ↦ x ]), (λ s. s.2))))
+judged p (insns.Extend e d s) m place room =
+    read_first _ _ _ _ (held m.registers s) _ (λ e. (s, refl, e)) (λ a ea.
+    write_next _ _ _ _ d _ (λ r. set_one m.registers s r.0 a ea r.1 r.2) (λ h. (d, refl, h)) (λ h.
+    ((λ r. set_one m.registers s r.0 a ea r.1 r.2), (λ w. omega arith), (λ o. elim o.2 as (λ _. ⊥) [ inl x ↦ x | inr x ↦ x ]), (λ s. s.2))))
+judged p (insns.Order o bits d) m place room =
+    read_first _ _ _ _ (held m.registers d) _ (λ e. (d, refl, e)) (λ a ea.
+    write_next _ _ _ _ d _ (λ r. set_one m.registers d r.0 a ea r.1 r.2) (λ h. (d, refl, h)) (λ h.
+    ((λ r. set_one m.registers d r.0 a ea r.1 r.2), (λ w. omega arith), (λ o. elim o.2 as (λ _. ⊥) [ inl x ↦ x | inr x ↦ x ]), (λ s. s.2))))
+judged p (insns.Jump offset) m place room = ((λ r. r.1), (λ w. w.1), (λ o. elim o.2 as (λ _. ⊥) [ inl x ↦ x | inr x ↦ x ]), (λ s. s.2))
+judged p (insns.JumpFar distance) m place room = ((λ r. r.1), (λ w. w.1), (λ o. elim o.2 as (λ _. ⊥) [ inl x ↦ x | inr x ↦ x ]), (λ s. s.2))
+judged p (insns.Branch w relation d x offset) m place room =
+    read_first _ _ _ _ (held m.registers d) _ (λ e. (d, inl refl, e)) (λ a ea.
+    read_first _ _ _ _ (value m.registers x) _ (λ e. let t = operand_unset x m.registers e in (t.0, inr t.1, t.2)) (λ b eb.
+    ((λ r. elim r.1 as (λ _. ⊥) [ inl h ↦ set_one m.registers d r.0 a ea h r.2 | inr h ↦ operand_set x m.registers b r.0 eb h r.2 ]), (λ w. w.1), (λ o. elim o.2 as (λ _. ⊥) [ inl x ↦ x | inr x ↦ x ]), (λ s. s.2))))
+judged p insns.Exit m place room =
+    read_first _ _ _ _ (held m.registers 0) _ (λ e. (0, refl, e)) (λ a ea.
+    ((λ r. set_one m.registers 0 r.0 a ea r.1 r.2), (λ w. w.1), (λ o. elim o.2 as (λ _. ⊥) [ inl x ↦ x | inr x ↦ x ]), (λ s. s.2)))
+judged p (insns.Load size d base offset) m place room =
+    read_first _ _ _ _ (held m.registers base) _ (λ e. (base, refl, e)) (λ a ea.
+    write_next _ _ _ _ d _ (λ r. set_one m.registers base r.0 a ea r.1 r.2) (λ h. (d, refl, h)) (λ h.
+    load_at _ _ _ p (insns.Load size d base offset) m base d offset a (size_bytes size) (access p (length m.record) (moved a offset) (size_bytes size)) _ ea (λ address n l. one_address m.registers base offset a l.0.0 address n (size_bytes size) ea l.0.1 l.0.2 l.1) ((a, ea, refl), refl) (λ address n l. l)
+    (λ r. set_one m.registers base r.0 a ea r.1 r.2) (λ w. omega arith) (λ s. s.2) (lies p (length m.record) (moved a offset) (size_bytes size))))
+judged p (insns.LoadSigned bits d base offset) m place room =
+    read_first _ _ _ _ (held m.registers base) _ (λ e. (base, refl, e)) (λ a ea.
+    write_next _ _ _ _ d _ (λ r. set_one m.registers base r.0 a ea r.1 r.2) (λ h. (d, refl, h)) (λ h.
+    load_at _ _ _ p (insns.LoadSigned bits d base offset) m base d offset a (signed_bytes bits) (access p (length m.record) (moved a offset) (signed_bytes bits)) _ ea (λ address n l. one_address m.registers base offset a l.0.0 address n (signed_bytes bits) ea l.0.1 l.0.2 l.1) ((a, ea, refl), refl) (λ address n l. l)
+    (λ r. set_one m.registers base r.0 a ea r.1 r.2) (λ w. omega arith) (λ s. s.2) (lies p (length m.record) (moved a offset) (signed_bytes bits))))
+judged p (insns.Store size base offset x) m place room =
+    read_first _ _ _ _ (held m.registers base) _ (λ e. (base, inl refl, e)) (λ a ea.
+    read_first _ _ _ _ (value m.registers x) _ (λ e. let t = operand_unset x m.registers e in (t.0, inr t.1, t.2)) (λ v eb.
+    store_at _ _ p (insns.Store size base offset x) m a offset (size_bytes size) v (access p (length m.record) (moved a offset) (size_bytes size)) place room (size_some size) (λ address n l. l) (λ address n l. one_address m.registers base offset a l.0.0 address n (size_bytes size) ea l.0.1 l.0.2 l.1) ((a, ea, refl), refl)
+    (λ r. elim r.1 as (λ _. ⊥) [ inl h ↦ set_one m.registers base r.0 a ea h r.2 | inr h ↦ operand_set x m.registers v r.0 eb h r.2 ]) (λ w. w.1) (lies p (length m.record) (moved a offset) (size_bytes size))))
+judged p (insns.Wide d v) m place room =
+    write_next _ _ _ _ d _ (λ r. r.1) (λ h. (d, refl, h)) (λ h. ((λ r. r.1), (λ w. omega arith), (λ o. elim o.2 as (λ _. ⊥) [ inl x ↦ x | inr x ↦ x ]), (λ s. s.2)))
+
+-- ---- the law
+
+no_fault : (p : Place) (i : Insn) (m : Machine) → (ReadsUnset i m → ⊥) → (WritesFramePointer i → ⊥) → (AccessesOutside p i m → ⊥) → (WritesRecord p i m → ⊥) → HoldsNone p i m
+no_fault p i m r w o s ReadUnset h = r h
+no_fault p i m r w o s WroteFramePointer h = w h
+no_fault p i m r w o s OutsideAccess h = o h
+no_fault p i m r w o s WroteRecord h = s h
+no_fault p i m r w o s BadPlace h = h
+no_fault p i m r w o s StepsOut h = h
+
+done : (p : Place) (i : Insn) (m : Machine) (o : Outcome) → JudgedAt p i m o → IsDone o → HoldsNone p i m
+done p i m (Continues next) j d = no_fault p i m j.0 j.1 j.2 j.3
+done p i m (Ends answer) j d = no_fault p i m j.0 j.1 j.2 j.3
+done p i m (Faults f) j d = absurd d
+
+holds : (p : Place) (i : Insn) (m : Machine) (f : Fault) → JudgedAt p i m (Faults f) → Holds p i m f
+holds p i m ReadUnset j = j
+holds p i m WroteFramePointer j = j.1
+holds p i m OutsideAccess j = j.2
+holds p i m WroteRecord j = j.3
+holds p i m BadPlace j = j
+holds p i m StepsOut j = j
+
+least : (p : Place) (i : Insn) (m : Machine) (f g : Fault) → JudgedAt p i m (Faults f) → Holds p i m g → fault_number f ≤ fault_number g
+least p i m BadPlace g j h = absurd j
+least p i m StepsOut g j h = absurd j
+least p i m f BadPlace j h = absurd h
+least p i m f StepsOut j h = absurd h
+least p i m WroteFramePointer ReadUnset j h = absurd (j.0 h)
+least p i m OutsideAccess ReadUnset j h = absurd (j.0 h)
+least p i m OutsideAccess WroteFramePointer j h = absurd (j.1 h)
+least p i m WroteRecord ReadUnset j h = absurd (j.0 h)
+least p i m WroteRecord WroteFramePointer j h = absurd (j.1 h)
+least p i m WroteRecord OutsideAccess j h = absurd (j.2 h)
+least p i m f g j h = omega arith
+
+is_least : (p : Place) (i : Insn) (m : Machine) (f : Fault) → JudgedAt p i m (Faults f) → IsLeast p i m f
+is_least p i m f j = (holds p i m f j, λ g h. least p i m f g j h)
+
+same_number : (f g : Fault) → fault_number f ≡ fault_number g → f ≡ g
+same_number ReadUnset ReadUnset e = refl
+same_number WroteFramePointer WroteFramePointer e = refl
+same_number OutsideAccess OutsideAccess e = refl
+same_number WroteRecord WroteRecord e = refl
+same_number BadPlace BadPlace e = refl
+same_number StepsOut StepsOut e = refl
+same_number f g e = absurd (omega arith)
+
+named : (p : Place) (i : Insn) (m : Machine) (o : Outcome) (f : Fault) → JudgedAt p i m o → IsLeast p i m f → o ≡ Faults f
+named p i m (Continues next) f j l = absurd (done p i m (Continues next) j tt f l.0)
+named p i m (Ends answer) f j l = absurd (done p i m (Ends answer) j tt f l.0)
+named p i m (Faults g) f j l =
+    let a = is_least p i m g j in
+    let x : fault_number g ≤ fault_number f = a.1 f l.0 in
+    let y : fault_number f ≤ fault_number g = l.1 g a.0 in
+    let e : g ≡ f = let n : fault_number g ≡ fault_number f = omega arith in same_number g f n in
+    cc
+
+clear : (p : Place) (i : Insn) (m : Machine) (o : Outcome) → JudgedAt p i m o → HoldsNone p i m → IsDone o
+clear p i m (Continues next) j n = tt
+clear p i m (Ends answer) j n = tt
+clear p i m (Faults f) j n = n f (holds p i m f j)
+
+pub least_fault : LeastFaultIsNamed
+least_fault p i m place room =
+    let j = judged p i m place room in (
+      λ f. ((λ e. is_least p i m f (subst (JudgedAt p i m) e j)), (λ l. named p i m (perform p i m) f j l)),
+      ((λ d. done p i m (perform p i m) j d), (λ n. clear p i m (perform p i m) j n)),
+    )

@@ -1,0 +1,38 @@
+-- What ends within the longest path ends alike under every greater limit.
+use Rattle.std.proofs.Common.{◌≡◌, ◌↔◌, ℕ, ◌≤◌, arith, List, Option}
+use Rattle.std.specs.Prelude.{Result, Ok, Err}
+use Rattle.bq_insn.specs.Slots.{IsText}
+use Rattle.bq_insn.specs.declared.insn.Insn.{Insn}
+use Rattle.bq_flow.specs.Paths.{IsLongest}
+use Rattle.bq_meaning.specs.Place.{Place, record_room}
+use Rattle.bq_meaning.specs.Runs.{RecordRun, RunAnswers, entry_machine}
+use Rattle.bq_meaning.specs.declared.fault.Fault.{Fault}
+use Rattle.bq_meaning.specs.declared.run.Ended.{Ended}
+use Rattle.bq_meaning.proofs.Once.{same_end, no_refusal}
+use Rattle.bq_state.specs.declared.kind.Kind.{Kind}
+use Rattle.bq_sound.specs.Passes.{Passes}
+use Rattle.bq_sound.specs.Safe.{IsSafe, LimitIsFree}
+use Rattle.bq_sound.proofs.Runs.{safe}
+
+-- the outcome under one limit that the run keeps is that under another
+moved_limit : (p : Place) (text : List Insn) (acc : ℕ) (bytes frame : List ℕ) (n answer : ℕ) (left : List ℕ) (limit other : ℕ) → RecordRun p text acc bytes frame n answer left → n ≤ limit → n ≤ other
+    → (result : Result Ended Fault) (after : List ℕ) → RunAnswers p text acc bytes frame limit result after → RunAnswers p text acc bytes frame other result after
+moved_limit p text acc bytes frame n answer left limit other run low small (Ok e) after h =
+    let same = same_end p text n e.steps (entry_machine p acc bytes frame) answer e.acc left after run h.0 in
+    let s : n ≡ e.steps = same.0 in
+    (h.0, omega arith)
+moved_limit p text acc bytes frame n answer left limit other run low small (Err f) after h =
+    absurd (no_refusal p text n limit (entry_machine p acc bytes frame) answer left f run low h.0)
+
+free : (len : ℕ) (text : List Insn) (longest : ℕ) → IsSafe len text longest → LimitIsFree len text longest
+free len text longest is p acc bytes frame limit place word whole full high result after =
+    let r = is.runs acc bytes frame word whole full in
+    let run = r.run p place in
+    let within : r.steps ≤ longest = r.within in
+    let below : r.steps ≤ limit = omega arith in (
+      moved_limit p text acc bytes frame r.steps r.answer r.after limit longest run below within result after,
+      moved_limit p text acc bytes frame r.steps r.answer r.after longest limit run within below result after,
+    )
+
+pub any_limit : (len : ℕ) (text : List Insn) (notes : List (Option (List Kind))) (longest : ℕ) → len ≤ record_room → IsText text → Passes len text notes → IsLongest text longest → LimitIsFree len text longest
+any_limit len text notes longest room legal passes is = free len text longest (safe len text notes longest room legal passes is)
