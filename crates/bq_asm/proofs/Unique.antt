@@ -9,7 +9,7 @@ use Rattle.bq_asm.specs.declared.fault.AsmFault.TheVariants as faults
 use Rattle.bq_asm.specs.Operands.{jump_insn}
 use Rattle.bq_asm.specs.Line.{Statement, Complete, JumpTo, Line, Blank, Label, Instruction, Spells}
 use Rattle.bq_asm.specs.Labels.{NoLine, IsFirstLine, IsRepeated, IsUnresolved, HasLabelFault, Mean, Means}
-use Rattle.bq_asm.specs.Source.{lines_of, IsSource, IsUnreadable, IsFault}
+use Rattle.bq_asm.specs.Source.{lines_of, Says, IsSource, IsUnreadable, IsFault, HasOneFault}
 use Rattle.bq_asm.specs.Steps.{least}
 use Rattle.bq_asm.proofs.Said.{one_saying}
 
@@ -85,6 +85,56 @@ no_fault source t faults.TooLong x h f =
     let u = subst (λ (y : List Insn). 4096 < units y) e f.2 in
     absurd (omega (arith, u, x.few))
 no_fault source t faults.OutOfMemory x h f = refl
+
+-- ---- a source has one fault
+
+module _ {A : Type 0} (P : List A → A → List A → Type 0) where
+  one_first_line : (before lines : List A) (m n : ℕ) → IsFirstLine P before lines m → IsFirstLine P before lines n → m ≡ n
+  one_first_line before [] m n f g = absurd f
+  one_first_line before (line ∷ lines) m n (inl f) (inl g) = f.1 ∙ sym g.1
+  one_first_line before (line ∷ lines) m n (inl f) (inr g) = absurd (g.0 f.0)
+  one_first_line before (line ∷ lines) m n (inr f) (inl g) = absurd (f.0 g.0)
+  one_first_line before (line ∷ lines) m n (inr f) (inr g) = one_first_line (before ++ line ∷ []) lines m n f.1 g.1
+
+-- where each line says something, none is unreadable
+readable : (source : List ℕ) (lines : List Line) (n : ℕ) → Says source lines → IsFault source (faults.Syntax n) → ⊥
+readable source lines n says f = no_unreadable [] (lines_of source) lines n says f
+
+labelled : (source : List ℕ) (t : List Insn) (n : ℕ) → IsSource source t → IsFault source (faults.Label n) → ⊥
+labelled source t n h f =
+    let e = says_unique (lines_of source) f.0 h.lines f.1 h.says in
+    no_label_fault [] h.lines t n h.once h.means (subst (λ lines. IsFirstLine HasLabelFault [] lines n) e f.2)
+
+short : (source : List ℕ) → IsFault source faults.BadLength → IsFault source faults.TooLong → ⊥
+short source h f =
+    let e = one_text source f.0 [] f.1 h in
+    let u = subst (λ (y : List Insn). 4096 < units y) e f.2 in
+    omega (arith, u)
+
+pub one_fault : (source : List ℕ) → HasOneFault source
+one_fault source (faults.Syntax m) (faults.Syntax n) p q no_d no_e = ap faults.Syntax (one_first_line IsUnreadable [] (lines_of source) m n p q)
+one_fault source (faults.Syntax m) (faults.Label n) p q no_d no_e = absurd (readable source q.0 m q.1 p)
+one_fault source (faults.Syntax m) faults.BadLength p q no_d no_e = absurd (readable source q.lines m q.says p)
+one_fault source (faults.Syntax m) faults.TooLong p q no_d no_e = absurd (readable source q.1.lines m q.1.says p)
+one_fault source (faults.Label m) (faults.Syntax n) p q no_d no_e = absurd (readable source p.0 n p.1 q)
+one_fault source (faults.Label m) (faults.Label n) p q no_d no_e =
+    let e = says_unique (lines_of source) p.0 q.0 p.1 q.1 in
+    ap faults.Label (one_first_line HasLabelFault [] q.0 m n (subst (λ lines. IsFirstLine HasLabelFault [] lines m) e p.2) q.2)
+one_fault source (faults.Label m) faults.BadLength p q no_d no_e = absurd (labelled source [] m q p)
+one_fault source (faults.Label m) faults.TooLong p q no_d no_e = absurd (labelled source q.0 m q.1 p)
+one_fault source faults.BadLength (faults.Syntax n) p q no_d no_e = absurd (readable source p.lines n p.says q)
+one_fault source faults.BadLength (faults.Label n) p q no_d no_e = absurd (labelled source [] n p q)
+one_fault source faults.BadLength faults.BadLength p q no_d no_e = refl
+one_fault source faults.BadLength faults.TooLong p q no_d no_e = absurd (short source p q)
+one_fault source faults.TooLong (faults.Syntax n) p q no_d no_e = absurd (readable source p.1.lines n p.1.says q)
+one_fault source faults.TooLong (faults.Label n) p q no_d no_e = absurd (labelled source p.0 n p.1 q)
+one_fault source faults.TooLong faults.BadLength p q no_d no_e = absurd (short source q p)
+one_fault source faults.TooLong faults.TooLong p q no_d no_e = refl
+one_fault source faults.OutOfMemory e p q no_d no_e = absurd (no_d refl)
+one_fault source (faults.Syntax m) faults.OutOfMemory p q no_d no_e = absurd (no_e refl)
+one_fault source (faults.Label m) faults.OutOfMemory p q no_d no_e = absurd (no_e refl)
+one_fault source faults.BadLength faults.OutOfMemory p q no_d no_e = absurd (no_e refl)
+one_fault source faults.TooLong faults.OutOfMemory p q no_d no_e = absurd (no_e refl)
 
 pub all_from : (r : Result (List Insn) AsmFault) (source : List ℕ) (t : List Insn) → IsText t → IsSource source t → IfOk r (λ u. IsSource source u) → IfErr r (IsFault source) → MatchResult r (λ u. u ≡ t) (λ e. e ≡ faults.OutOfMemory)
 all_from (Ok u) source t x h s f = one_text source u t s h

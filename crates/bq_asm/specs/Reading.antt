@@ -1,4 +1,6 @@
--- Reading a line from its bytes, as functions of lists.
+-- Reading a line from its bytes, as functions of lists. It says the reader again, step by step, so that private
+-- functions have contracts; of public contracts only the worked rows cite it. What a line says is `Spells` of
+-- `specs/Line.antt`, a relation apart from the reader, which the public contracts cite by `specs/Source.antt`.
 use Rattle.std.specs.Prelude.{◌≡◌, ℕ, ◌-◌, ◌^◌, ℤ, pos, negsuc, Bool, false, not, ◌&&◌, ◌==◌, nat_lt, if◌then◌else◌, List, [], ◌∷◌, length, Option, Some, None, option_map}
 use Rattle.std.specs.List.{list_all}
 use Rattle.std.specs.Char.{is_ascii_digit}

@@ -1,5 +1,5 @@
 -- The spellings of a text, the one that is written, and the first fault of a source that spells none.
-use Rattle.std.specs.Prelude.{ℕ, ◌<◌, ◌==◌, List, [], ◌∷◌, ◌++◌, codes}
+use Rattle.std.specs.Prelude.{◌≡◌, ◌≢◌, ℕ, ◌<◌, ◌==◌, List, [], ◌∷◌, ◌++◌, codes}
 use Rattle.std.specs.List.{AllZip, flat_map, slice_split}
 use Rattle.bq_insn.specs.declared.insn.Insn.{Insn}
 use Rattle.bq_insn.specs.Slots.{units}
@@ -60,6 +60,10 @@ IsFault source (Label line) = (lines : List Line) × Says source lines × IsFirs
 IsFault source BadLength = IsSource source []
 IsFault source TooLong = (t : List Insn) × IsSource source t × (4096 < units t)
 IsFault source OutOfMemory = Unit {0}
+
+-- a source has one fault at most, besides want of memory
+abbrev pub HasOneFault : List ℕ → Type 0
+HasOneFault source = (d e : AsmFault) → IsFault source d → IsFault source e → d ≢ OutOfMemory → e ≢ OutOfMemory → d ≡ e
 
 -- ---- the numbers and names by which faults are reported
 

@@ -1,8 +1,8 @@
-//! Laws of sources and texts, the first two of them contracts of functions that do nothing.
+//! Laws of sources and texts, the first three of them contracts of functions that do nothing.
 
 ghost use Rattle.std.specs.Prelude.{◌≡◌, ℕ, List, MatchResult};
 ghost use Rattle.bq_insn.specs.Slots.{IsText};
-ghost use Rattle.bq_asm.specs.Source.{IsSource, disassembly};
+ghost use Rattle.bq_asm.specs.Source.{IsSource, HasOneFault, disassembly};
 
 use crate::assemble::assemble;
 use crate::disassemble::disassemble;
@@ -14,6 +14,11 @@ use std::alloc::Global;
 /// A source spells one text at most.
 pub fn one_text()
     ensures { (source : List ℕ) (t u : List Insn) → IsSource source t → IsSource source u → t ≡ u }
+{}
+
+/// A source has one fault at most, besides want of memory.
+pub fn one_fault()
+    ensures { (source : List ℕ) → HasOneFault source }
 {}
 
 /// What is written of a text spells it.

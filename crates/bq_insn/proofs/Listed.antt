@@ -25,6 +25,15 @@ some_units : (t : List Insn) → 1 ≤ length t → 1 ≤ units t
 some_units [] n = n
 some_units (i ∷ t) n = omega (arith, ap length (flat_map-cons slots_of i t), length-append (slots_of i) (slots t), length-second i)
 
+-- each instruction has a unit at least
+pub length-units : (t : List Insn) → length t ≤ units t
+length-units [] = omega arith
+length-units (i ∷ t) = omega (arith, ap length (flat_map-cons slots_of i t), length-append (slots_of i) (slots t), length-second i, length-units t)
+
+pub counted_more : (t : List Insn) (k : ℕ) (i : Insn) (count : ℕ) → take (k + 1) t ≡ take k t ++ i ∷ [] → count ≡ units (take k t) → count + length (slots_of i) ≡ units (take (k + 1) t)
+counted_more t k i count more h =
+    omega (arith, h, ap units more, ap length (slots-push (take k t) i), length-append (slots (take k t)) (slots_of i))
+
 pub same_insns : (s : List (Option Insn)) (t : List Insn) → s ≡ slots t → begun s ≡ t
 same_insns s t e = ap begun e ∙ begun-slots t
 

@@ -1,7 +1,7 @@
 //! The explanation of a refusal.
 
 ghost use Rattle.std.specs.Prelude.{IfOk};
-ghost use Rattle.q_explain.specs.Told.{IsTold};
+ghost use Rattle.q_explain.specs.Told.{IsKnown, IsTold};
 
 use crate::advice::{of_flow, of_rule};
 use bq_asm::disassemble::disassemble;
@@ -79,11 +79,23 @@ fn write_state(out: &mut String, state: &State) -> Result<(), AllocError> {
     Ok(())
 }
 
+/// What is known of the registers at a unit; none where nothing reaches it, and where the flow or a
+/// unit below is refused.
+fn known(alloc: Global, text: &Text, unit: usize) -> Result<Option<State>, AllocError>
+    ensures { IfOk result (IsKnown text.now unit) }
+{
+    match state_at(alloc, text, unit) {
+        Ok(state) => Ok(state),
+        Err(CheckFault::Flow { .. } | CheckFault::Rule { .. }) => Ok(None),
+        Err(_) => Err(AllocError),
+    }
+}
+
 /// Why a text is refused at a unit, with this advice.
 fn told(alloc: Global, text: &Text, unit: usize, advice: &str) -> Result<String, AllocError> {
     let mut out = String::new(alloc);
     write_instruction(alloc, &mut out, text, unit)?;
-    if let Ok(Some(state)) = state_at(alloc, text, unit) {
+    if let Some(state) = known(alloc, text, unit)? {
         write_state(&mut out, &state)?;
     }
     out.push_str(advice)?;

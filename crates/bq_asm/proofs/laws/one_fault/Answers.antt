@@ -1,0 +1,5 @@
+use Rattle.bq_asm.proofs.Unique.{one_fault}
+use Rattle.bq_asm.proofs.laws.one_fault.Goals as goal
+
+pub returns : goal.returns
+returns c = one_fault
