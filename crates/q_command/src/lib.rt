@@ -6,6 +6,7 @@
 //!   script prints that SCRIPT spells; the answers that the journal JOURNAL recorded. Where it was refused, the writer took exactly the line of the refusal, whose
 //!   reason holds of the files.
 //! - [`perform`] does that and gives the exit status.
+//! - [`refusal_line`] writes the line of a refusal without taking memory.
 //! - [`program`] has programs from assembler text, with their certificates.
 //! - [`listing`] is the text that `asm` prints.
 //! - [`audit`] is the text that `audit` prints: the answers of a journal that is replayed.
@@ -29,3 +30,4 @@ pub mod audit;
 pub mod listing;
 pub mod perform;
 pub mod program;
+pub mod refusal_line;
