@@ -130,7 +130,9 @@ fn answer<F: Files>(alloc: Global, line: &Line<'_>, files: &mut F) -> Result<Pri
     }
 }
 
-/// Runs a command, and writes its answer or its refusal. It gives up only where a write failed, which the writer counted.
+/// Runs a command, and writes its answer or its refusal.
+///
+/// It gives up only where a write failed, which the writer counted.
 pub fn carry_out<F: Files, W: Write>(
     alloc: Global,
     line: &Line<'_>,
