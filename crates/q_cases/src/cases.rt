@@ -5,6 +5,7 @@ use q_command::advice::advice;
 use q_command::perform::perform;
 use q_files::files::Files;
 use q_files::memory::MemoryFiles;
+use q_wire::counted::Counted;
 use q_words::words::read_words;
 use std::alloc::{AllocError, Global};
 use std::io;
@@ -34,7 +35,7 @@ impl Cases {
     }
 
     /// Takes a line, and writes what comes of it.
-    pub fn take<W: Write>(&mut self, line: CaseLine<'_>, out: &mut W) -> io::Result<()> {
+    pub fn take<W: Write>(&mut self, line: CaseLine<'_>, out: &mut Counted<W>) -> io::Result<()> {
         match line {
             CaseLine::Title(text) => writeln!(out, "{text}"),
             CaseLine::File(name) => Ok(self.begin_file(name)?),
@@ -120,7 +121,7 @@ impl Cases {
     }
 
     /// Runs the command of these words.
-    fn command<W: Write>(&mut self, words: &str, out: &mut W) -> io::Result<()> {
+    fn command<W: Write>(&mut self, words: &str, out: &mut Counted<W>) -> io::Result<()> {
         writeln!(out, "$ {words}")?;
         self.end_file();
         self.files.failures = 0;
@@ -138,7 +139,7 @@ impl Cases {
     }
 
     /// Writes what explains the refusal of the program of these words' command.
-    fn explain<W: Write>(&mut self, words: &str, out: &mut W) -> io::Result<()> {
+    fn explain<W: Write>(&mut self, words: &str, out: &mut Counted<W>) -> io::Result<()> {
         writeln!(out, "? {words}")?;
         self.end_file();
         let words: Vec<&str> = words.split(' ').collect(self.alloc)?;

@@ -22,6 +22,7 @@ mod line;
 
 use crate::cases::Cases;
 use crate::line::CaseLine;
+use q_wire::counted::Counted;
 use std::io;
 
 fn main(rt: HostRuntime) -> io::Result<()> {
@@ -29,7 +30,8 @@ fn main(rt: HostRuntime) -> io::Result<()> {
     let mut cases = Cases::new(alloc);
     for line in rt.lines(alloc) {
         let line = line?;
-        cases.take(CaseLine::read(line.as_str()), &mut io::writer(&rt))?;
+        let mut out = Counted::new(io::writer(&rt));
+        cases.take(CaseLine::read(line.as_str()), &mut out)?;
     }
     Ok(())
 }

@@ -28,6 +28,7 @@ use Rattle.q_command.specs.Listing.{listing_of}
 use Rattle.q_files.specs.declared.files.FileFault.{FileFault}
 use Rattle.q_command.specs.declared.perform.Outcome.{Outcome}
 use Rattle.q_command.specs.declared.perform.Outcome.TheVariants.{Answered, Unsaved, Refused, Unwritten}
+use Rattle.q_wire.specs.Counts.{one_more}
 use Rattle.q_words.specs.declared.words.Line.{Line}
 use Rattle.q_words.specs.declared.words.Line.TheVariants.{Asm, Check, Run, Sim, Audit}
 
@@ -154,6 +155,12 @@ Ends reads writes line old before Unsaved new after = (lines : List ℕ) × Answ
 Ends reads writes line old before (Refused r) new after = Refuses reads line old r new × Appends before after (refusal_line r)
 Ends reads writes line old before Unwritten new after =
     ((lines : List ℕ) × (unwritten : Bool) × Answers reads writes line old lines unwritten new) ⊎ ((r : Refusal) × Refuses reads line old r new)
+
+-- How many calls of the writer failed so far, of which this many failed before the command: one more where it gave up,
+-- and else as many.
+abbrev pub failures_after : Outcome → ℕ → ℕ
+failures_after Unwritten before = one_more before
+failures_after outcome before = before
 
 -- the exit status
 abbrev pub status_of : Outcome → ℕ

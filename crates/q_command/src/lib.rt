@@ -1,11 +1,13 @@
 //! The commands of the program `bqview`, over any files and any writer.
 //!
-//! - [`carry_out`] runs a command over any [`Files`] and any writer, and says how it ended. Where it answered, the writer
-//!   took exactly the text that the command answers: the listing of the program that FILE spells; the longest path of
-//!   that program, whose notes pass; what that program means over the records that RECORDS lists, from START; what the
-//!   script prints that SCRIPT spells; the answers that the journal JOURNAL recorded. Where it was refused, the writer took exactly the line of the refusal, whose
-//!   reason holds of the files.
+//! - [`carry_out`] runs a command over any [`Files`] and any writer, and says how it ended. Where it answered, the
+//!   writer took exactly the text that the command answers: the listing of the program that FILE spells; the longest
+//!   path of that program, whose notes pass; what that program means over the records that RECORDS lists, from START;
+//!   what the script prints that SCRIPT spells; the answers that the journal JOURNAL recorded. Where it was refused,
+//!   the writer took exactly the line of the refusal, whose reason holds of the files. It gives up only where a write
+//!   failed, which the writer counted.
 //! - [`perform`] does that and gives the exit status.
+//! - [`put_refusal`] writes the line of a refusal without taking memory.
 //! - [`program`] has programs from assembler text, with their certificates.
 //! - [`listing`] is the text that `asm` prints.
 //! - [`audit`] is the text that `audit` prints: the answers of a journal that is replayed.
@@ -17,6 +19,7 @@
 //! [`carry_out`]: perform::carry_out
 //! [`perform`]: perform::perform
 //! [`program`]: program::certified
+//! [`put_refusal`]: refusal_line::put_refusal
 //! [`Files`]: q_files::files::Files
 //! [`simulate`]: q_sim::simulation::simulate
 //! [`listing`]: listing::listing
@@ -29,3 +32,4 @@ pub mod audit;
 pub mod listing;
 pub mod perform;
 pub mod program;
+pub mod refusal_line;

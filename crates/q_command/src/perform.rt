@@ -2,12 +2,13 @@
 
 ghost use Rattle.std.specs.Prelude.{◌≡◌, ◌≢◌, ℕ, List, false, IfOk, IfErr, string_bytes};
 ghost use Rattle.std.specs.Io.KnownBytes.{Appends};
-ghost use Rattle.q_command.specs.Perform.{Accepts, Answers, Computes, Ends, IsProgram, IsSimulated, IsUnaccepted, IsUnassembled, IsUnlisted, IsUnsimulated, Lists, Refuses, status_of};
+ghost use Rattle.q_command.specs.Perform.{Accepts, Answers, Computes, Ends, IsProgram, IsSimulated, IsUnaccepted, IsUnassembled, IsUnlisted, IsUnsimulated, Lists, Refuses, failures_after, status_of};
 ghost use Rattle.q_command.specs.declared.perform.Outcome.{Outcome};
 
 use crate::audit::audit;
 use crate::listing::listing;
 use crate::program::{certified, program, utf8};
+use crate::refusal_line::put_refusal;
 use bq_check::certified::Certified;
 use q_files::files::Files;
 use q_script::records::read_records;
@@ -15,6 +16,7 @@ use q_script::script::Script;
 use q_session::fold::fold_checked;
 use q_sim::refusal::Refusal;
 use q_sim::simulation::{Printed, simulate};
+use q_wire::counted::Counted;
 use q_words::words::Line;
 use std::alloc::Global;
 use std::io::Write;
@@ -129,21 +131,24 @@ fn answer<F: Files>(alloc: Global, line: &Line<'_>, files: &mut F) -> Result<Pri
 }
 
 /// Runs a command, and writes its answer or its refusal.
+///
+/// It gives up only where a write failed, which the writer counted.
 pub fn carry_out<F: Files, W: Write>(
     alloc: Global,
     line: &Line<'_>,
     files: &mut F,
-    out: &mut W,
+    out: &mut Counted<W>,
 ) -> Outcome
-    ensures { Ends F.read_gives F.write_gives line.now files.old (W.contents out.old) result files.new (W.contents out.new) }
+    ensures ended { Ends F.read_gives F.write_gives line.now files.old (W.contents out.old.inner) result files.new (W.contents out.new.inner) }
+    ensures counted { out.new.failures ≡ failures_after result out.old.failures }
 {
     match answer(alloc, line, files) {
-        Ok(Printed { lines, unwritten }) => match out.write_all(lines.as_bytes()) {
+        Ok(Printed { lines, unwritten }) => match out.put(lines.as_bytes()) {
             Ok(()) if unwritten => Outcome::Unsaved,
             Ok(()) => Outcome::Answered,
             Err(_) => Outcome::Unwritten,
         },
-        Err(refusal) => match writeln!(out, "{refusal}") {
+        Err(refusal) => match put_refusal(out, &refusal) {
             Ok(()) => Outcome::Refused(refusal),
             Err(_) => Outcome::Unwritten,
         },
@@ -152,9 +157,14 @@ pub fn carry_out<F: Files, W: Write>(
 
 /// Runs a command, writes its answer or its refusal, and gives the exit status: 0, or 1 after a refusal, where a journal
 /// was not written, or where the writer fails.
-pub fn perform<F: Files, W: Write>(alloc: Global, line: &Line<'_>, files: &mut F, out: &mut W) -> u8
-    ensures ended { (outcome : Outcome) × Ends F.read_gives F.write_gives line.now files.old (W.contents out.old) outcome files.new (W.contents out.new) × (result ≡ status_of outcome) }
-    ensures told { result ≡ 0 → (lines : List ℕ) × Answers F.read_gives F.write_gives line.now files.old lines false files.new × Appends (W.contents out.old) (W.contents out.new) lines }
+pub fn perform<F: Files, W: Write>(
+    alloc: Global,
+    line: &Line<'_>,
+    files: &mut F,
+    out: &mut Counted<W>,
+) -> u8
+    ensures ended { (outcome : Outcome) × Ends F.read_gives F.write_gives line.now files.old (W.contents out.old.inner) outcome files.new (W.contents out.new.inner) × (result ≡ status_of outcome) × (out.new.failures ≡ failures_after outcome out.old.failures) }
+    ensures told { result ≡ 0 → (lines : List ℕ) × Answers F.read_gives F.write_gives line.now files.old lines false files.new × Appends (W.contents out.old.inner) (W.contents out.new.inner) lines }
 {
     match carry_out(alloc, line, files, out) {
         Outcome::Answered => 0,

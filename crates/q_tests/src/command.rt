@@ -3,6 +3,7 @@
 use q_command::perform::{Outcome, carry_out, perform};
 use q_files::files::Files;
 use q_files::memory::MemoryFiles;
+use q_wire::counted::Counted;
 use q_words::words::Line;
 use std::alloc::Global;
 use std::io;
@@ -40,7 +41,7 @@ fn one_file(alloc: Global) -> Result<MemoryFiles, Fail> {
 /// How the listing of one unit ends, with room for so many bytes.
 fn ends_with_room(alloc: Global, room: usize) -> Result<Outcome, Fail> {
     let mut files = one_file(alloc)?;
-    let mut out = Short { room };
+    let mut out = Counted::new(Short { room });
     Ok(carry_out(alloc, &Line::Asm { file: "a" }, &mut files, &mut out))
 }
 
@@ -56,7 +57,8 @@ fn answers_1_where_the_writer_fails(rt: HostRuntime) -> Result<(), Fail> {
     let alloc = rt.alloc();
     let mut files = one_file(alloc)?;
     let line = Line::Asm { file: "c" };
-    let status = perform(alloc, &line, &mut files, &mut Short { room: 3 });
+    let mut out = Counted::new(Short { room: 3 });
+    let status = perform(alloc, &line, &mut files, &mut out);
     assert_eq!(rt; status, 1);
     Ok(())
 }

@@ -57,6 +57,7 @@
 use q_command::advice::advice;
 use q_command::perform::perform;
 use q_files::folder::Folder;
+use q_wire::counted::Counted;
 use q_words::words::{WordsFault, read_words};
 use std::process::ExitCode;
 use std::{env, io};
@@ -81,7 +82,8 @@ fn main(rt: HostRuntime) -> io::Result<ExitCode> {
             return Ok(ExitCode::from(fault.status()));
         }
     };
-    let status = perform(alloc, &line, &mut Folder::new(&rt), &mut io::writer(&rt));
+    let mut out = Counted::new(io::writer(&rt));
+    let status = perform(alloc, &line, &mut Folder::new(&rt), &mut out);
     if status == 1 {
         if let Ok(Some(text)) = advice(alloc, &line, &mut Folder::new(&rt)) {
             rt.eprint(text)?;
