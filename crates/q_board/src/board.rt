@@ -81,6 +81,7 @@ impl Board {
         ensures offered { MatchResult result
             (λ slot. Offers seat.old slot.index job seat.new)
             (λ refused. (jobs seat.old.row ≡ 8) × (refused.1 ≡ job) × (seat.new ≡ seat.old)) }
+        ensures count { IfOk result (λ _. jobs seat.new.row ≡ jobs seat.old.row + 1) }
         ensures same { SameAsker seat.old seat.new }
     {
         let Some(place) = seat.free.pop_front() else {
@@ -100,6 +101,7 @@ impl Board {
         requires own { (8 * seat.old.number ≤ slot.index) × (slot.index < 8 * seat.old.number + 8) }
         ensures looked { MatchOption result (LooksOnly seat.old slot.index seat.new) (λ done. Receives seat.old slot.index done seat.new) }
         ensures right { IfSome result (λ done. IsFinished done) }
+        ensures count { IfSome result (λ _. jobs seat.new.row + 1 ≡ jobs seat.old.row) }
         ensures same { SameAsker seat.old seat.new }
     {
         let index = slot.index;

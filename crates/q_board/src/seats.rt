@@ -1,6 +1,6 @@
 //! What a thread needs to use a board.
 
-ghost use Rattle.std.specs.Prelude.{◌≡◌, ◌+◌, ◌*◌, ◌%◌, ◌<◌, MatchOption, Some, None};
+ghost use Rattle.std.specs.Prelude.{◌≡◌, ◌+◌, ◌*◌, ◌%◌, ◌<◌, length, MatchOption, Some, None};
 ghost use Rattle.q_board.specs.Places.{jobs};
 ghost use Rattle.q_board.specs.Calls.{is_at};
 ghost use Rattle.q_session.specs.declared.job.Job.{Job};
@@ -62,7 +62,8 @@ impl AskerSeat {
 
     /// How many more jobs can be offered.
     pub fn room(&self) -> usize
-        ensures { result + jobs self.now.row ≡ 8 }
+        ensures room { result + jobs self.now.row ≡ 8 }
+        ensures row { length self.now.row ≡ 8 }
     {
         self.free.len()
     }

@@ -2,3 +2,4 @@
 mod Replays
 mod Journals
 mod Calls
+mod Noted

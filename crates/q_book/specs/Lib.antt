@@ -3,3 +3,4 @@ pub mod State
 pub mod Faults
 pub mod Books
 pub mod Replays
+pub mod Noted

@@ -15,3 +15,4 @@
 pub mod answer;
 pub mod book;
 pub mod fault;
+pub mod laws;

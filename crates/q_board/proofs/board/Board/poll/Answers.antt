@@ -1,6 +1,7 @@
 use Rattle.std.proofs.Common.{◌≡◌, ◌+◌, ◌-◌, ◌*◌, ◌<◌, ◌∙◌, sym, ap, arith, refl, deque_len, deque_capacity}
 use Rattle.atomic_table.specs.Seated.{TableId}
 use Rattle.q_board.specs.AskerModel.{AskerModel, IsAsker}
+use Rattle.q_board.specs.Places.{jobs}
 use Rattle.q_board.proofs.AskerCalls.{look_allowed, look_keeps, look_shown, look_told, take_allowed, take_has, take_room, take_keeps}
 use Rattle.q_board.proofs.board.Board.poll.Goals as goal
 
@@ -47,3 +48,12 @@ invariant_of-seat-2 c = let s = c.seat.inside in let t = c.args.self.now.table.s
     let inv' : IsAsker s.seat.table_id n.me s.number s.free.items (deque_len s.free) (deque_capacity s.free) = look_keeps s.seat.table_id s.seat.me s.number k s.free.items (deque_len s.free) (deque_capacity s.free) near inv i t.slots c.load.result n.me c.load.ensures.2 s.seat.table_id refl in
     take_keeps s.seat.table_id n.me s.number k s.free.items (deque_len s.free) (deque_capacity s.free) near inv' i at t.slots c.compare_exchange.result c.compare_exchange.new.seat.me c.compare_exchange.ensures.2
     x.result x.new.seat.me x.ensures.2 x.ensures.3 x.new.seat.table_id (x.ensures.0 ∙ c.compare_exchange.ensures.0 ∙ c.load.ensures.0) (deque_len p.new.self) p.ensures.len (deque_capacity p.new.self) p.ensures.capacity p.new.self.items k p.ensures.items refl
+
+pub returns-clause-count : goal.returns-clause-count
+returns-clause-count c = let s = c.seat.inside in let t = c.args.self.now.table.shared.table_id in let i = c.args.slot.index in let k = i - 8 * s.number in
+    let number = ap (λ (x : AskerModel). x.number) c.seat.view_is in let inv = c.seat.invariant in let inv₁ = inv.1 in let own = c.requires.own in
+    let near : k < 8 = omega arith in let at : i ≡ 8 * s.number + k = omega arith in let n = c.load.new.seat in let x = c.exchange-taken in let p = c.push_front_reserved in
+    let inv' : IsAsker s.seat.table_id n.me s.number s.free.items (deque_len s.free) (deque_capacity s.free) = look_keeps s.seat.table_id s.seat.me s.number k s.free.items (deque_len s.free) (deque_capacity s.free) near inv i t.slots c.load.result n.me c.load.ensures.2 s.seat.table_id refl in
+    let new = take_keeps s.seat.table_id n.me s.number k s.free.items (deque_len s.free) (deque_capacity s.free) near inv' i at t.slots c.compare_exchange.result c.compare_exchange.new.seat.me c.compare_exchange.ensures.2
+    x.result x.new.seat.me x.ensures.2 x.ensures.3 x.new.seat.table_id (x.ensures.0 ∙ c.compare_exchange.ensures.0 ∙ c.load.ensures.0) (deque_len p.new.self) p.ensures.len (deque_capacity p.new.self) p.ensures.capacity p.new.self.items k p.ensures.items refl in
+    omega (arith, inv.4, new.4, p.ensures.len, ap (λ (x : AskerModel). jobs x.row) c.seat.view_is)

@@ -1,0 +1,114 @@
+-- What posts and hand-outs add to a book's journal, and why a post is refused.
+use Rattle.std.proofs.Common.{◌≡◌, Bool, true, false, cond, List, [], ◌∷◌, ◌++◌, ◌⊎◌, inl, inr, Option, Some, None, Result, Ok, Err, refl, sym, ap, ◌∙◌, subst, if◌then◌else◌}
+use Rattle.std.specs.Prelude.{slice_get, ◌==◌}
+use Rattle.sc_node.specs.declared.fault.NodeFault.TheVariants as node_fault
+use Rattle.q_session.specs.declared.ran.Ran.{Ran}
+use Rattle.q_session.specs.declared.job.Job.{Job}
+use Rattle.q_session.specs.declared.query.Phase.{Phase}
+use Rattle.q_session.specs.declared.query.Phase.TheVariants.{Collecting, Ready, Running, Answered}
+use Rattle.q_session.specs.declared.query.Query.{Query}
+use Rattle.q_desk.specs.State.{DeskState}
+use Rattle.q_desk.specs.Desks as desk
+use Rattle.q_desk.specs.declared.journal.Entry.TheVariants as entry
+use Rattle.q_desk.specs.declared.fault.DeskFault.{DeskFault}
+use Rattle.q_desk.specs.declared.fault.DeskFault.TheVariants as desk_fault
+use Rattle.q_book.specs.declared.fault.BookFault.{BookFault}
+use Rattle.q_book.specs.declared.fault.BookFault.TheVariants as fault
+use Rattle.q_book.specs.Faults.{of_desk}
+use Rattle.q_book.specs.State.{BookState}
+use Rattle.q_book.specs.Books.{with_desk, by_desk, handed_out, posted, room_for_post}
+use Rattle.q_book.specs.Noted.{IsResultFault, PostsAreNoted, RoomLeavesResultFaults, HandOutsAreNoted, NoneChangesNothing}
+use Rattle.q_book.proofs.Journals.{handed_out-adds, handed_out-same, posted-adds}
+
+abbrev Desked : Type 0 → Type 0
+Desked A = Result (A × DeskState) DeskFault
+
+abbrev Booked : Type 0 → Type 0
+Booked A = Result (A × BookState) BookFault
+
+-- ---- an accepted call of the desk
+
+record Went (A : Type 0) (b : BookState) (r : Desked A) (a : A) (c : BookState) : Type 0 where
+  pub desk : DeskState
+  pub did : r ≡ Ok (a, desk)
+  pub book : c ≡ record b { desk = desk }
+
+went-desk : {A : Type 0} (b : BookState) (r : Desked A) (a : A) (c : BookState) → by_desk (with_desk b) r ≡ Ok (a, c) → Went A b r a c
+went-desk {A} b (Ok x) a c h =
+    let e : ◌≡◌ {A = A × BookState} (x.0, record b { desk = x.1 }) (a, c) = cc in
+    record { desk = x.1; did = ap (λ (y : A). let z : Desked A = Ok (y, x.1) in z) (ap (λ (p : A × BookState). p.0) e); book = sym (ap (λ (p : A × BookState). p.1) e) }
+went-desk b (Err f) a c h = absurd (cc)
+
+went-here : {A : Type 0} (gone : Bool) (b : BookState) (r : Desked A) (a : A) (c : BookState)
+    → (let x : Booked A = if gone then Err (fault.Node node_fault.Gone) else by_desk (with_desk b) r in x) ≡ Ok (a, c) → Went A b r a c
+went-here false b r a c h = went-desk b r a c h
+went-here true b r a c h = absurd (cc)
+
+pub posts_noted : PostsAreNoted
+posts_noted b j ran c h =
+    let w = went-here b.node.gone b (desk.posted b.desk b.id j ran) tt c h in
+    ap (λ (x : BookState). x.desk.journal) w.book ∙ posted-adds b.desk b.id j ran w.desk w.did
+
+pub hand_outs_noted : HandOutsAreNoted
+hand_outs_noted b j c h =
+    let w = went-here b.node.gone b (desk.handed_out b.desk b.id) (Some j) c h in
+    ap (λ (x : BookState). x.desk.journal) w.book ∙ handed_out-adds b.desk b.id j w.desk w.did
+
+pub none_changes : NoneChangesNothing
+none_changes b c h =
+    let w = went-here b.node.gone b (desk.handed_out b.desk b.id) None c h in
+    w.book ∙ ap (λ (d : DeskState). record b { desk = d }) (handed_out-same b.desk b.id w.desk w.did)
+
+-- ---- a refused post
+
+abbrev IsPostFault : DeskFault → Type 0
+IsPostFault f = (f ≡ desk_fault.Stranger) ⊎ (f ≡ desk_fault.AlreadyAnswered)
+
+fault-of : (g f : DeskFault) (h : (let r : Desked (Unit {0}) = Err g in r) ≡ Err f) → g ≡ f
+fault-of g f h = cc
+
+stranger : (f : DeskFault) → (let r : Desked (Unit {0}) = Err desk_fault.Stranger in r) ≡ Err f → IsPostFault f
+stranger f h = inl (sym (fault-of desk_fault.Stranger f h))
+
+test-fault : (same roomy : Bool) (x : DeskState) (f : DeskFault) → roomy ≡ true
+    → (let r : Desked (Unit {0}) = if same then (if roomy then Ok (tt, x) else Err desk_fault.BookFull) else Err desk_fault.Stranger in r) ≡ Err f → IsPostFault f
+test-fault true true x f room h = absurd (cc)
+test-fault true false x f room h = absurd (cc)
+test-fault false roomy x f room h = stranger f h
+
+phase-fault : (s : DeskState) (j : Job) (ran : Ran) (q : Query) (p : Phase) (f : DeskFault) → desk.has_room s ≡ true → desk.posted_to s j ran q p ≡ Err f → IsPostFault f
+phase-fault s j ran q (Running view) f room h = test-fault (desk.is_job_of s.programs j q view) (desk.has_room s) _ f room h
+phase-fault s j ran q (Answered view old) f room h = inr (sym (fault-of desk_fault.AlreadyAnswered f h))
+phase-fault s j ran q Collecting f room h = stranger f h
+phase-fault s j ran q (Ready view) f room h = stranger f h
+
+query-fault : (s : DeskState) (j : Job) (ran : Ran) (o : Option Query) (f : DeskFault) → desk.has_room s ≡ true → desk.posted_at s j ran o ≡ Err f → IsPostFault f
+query-fault s j ran (Some q) f room h = phase-fault s j ran q q.phase f room h
+query-fault s j ran None f room h = stranger f h
+
+own-fault : (own : Bool) (s : DeskState) (j : Job) (ran : Ran) (o : Option Query) (f : DeskFault) → desk.has_room s ≡ true → (if own then desk.posted_at s j ran o else Err desk_fault.Stranger) ≡ Err f → IsPostFault f
+own-fault true s j ran o f room h = query-fault s j ran o f room h
+own-fault false s j ran o f room h = stranger f h
+
+of-desk : (f : DeskFault) → IsPostFault f → IsResultFault (of_desk f)
+of-desk f (inl e) = inl (ap of_desk e)
+of-desk f (inr e) = inr (ap of_desk e)
+
+desk-fault : (b : BookState) (r : Desked (Unit {0})) (e : BookFault) → ((f : DeskFault) → r ≡ Err f → IsPostFault f) → by_desk (with_desk b) r ≡ Err e → IsResultFault e
+desk-fault b (Ok x) e faults h = absurd (cc)
+desk-fault b (Err f) e faults h = let same : of_desk f ≡ e = cc in subst IsResultFault same (of-desk f (faults f refl))
+
+has-room : (gone roomy : Bool) → (let r : Result (Unit {0}) BookFault = if gone then Err (fault.Node node_fault.Gone) else (if roomy then Ok tt else Err (fault.Desk desk_fault.BookFull)) in r) ≡ Ok tt → (gone ≡ false) × (roomy ≡ true)
+has-room false true h = (refl, refl)
+has-room false false h = absurd (cc)
+has-room true roomy h = absurd (cc)
+
+here-fault : (gone : Bool) (b : BookState) (r : Desked (Unit {0})) (e : BookFault) → gone ≡ false → ((f : DeskFault) → r ≡ Err f → IsPostFault f)
+    → (let x : Booked (Unit {0}) = if gone then Err (fault.Node node_fault.Gone) else by_desk (with_desk b) r in x) ≡ Err e → IsResultFault e
+here-fault false b r e stays faults h = desk-fault b r e faults h
+here-fault true b r e stays faults h = absurd (cc)
+
+pub room_leaves : RoomLeavesResultFaults
+room_leaves b j ran e room h =
+    let r = has-room b.node.gone (desk.has_room b.desk) room in
+    here-fault b.node.gone b (desk.posted b.desk b.id j ran) e r.0 (λ f. own-fault (j.node == b.id) b.desk j ran (slice_get b.desk.queries j.query) f r.1) h

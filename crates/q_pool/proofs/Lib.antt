@@ -1,0 +1,3 @@
+mod Rounds
+mod Turning
+mod Pumping

@@ -1,0 +1,15 @@
+//! Runners and the pump of a job board.
+//!
+//! A runner's thread tries the slots of a board in turn, and runs and finishes each job that it claims: [`runner`] has
+//! its round, [`runners`] the threads. The pump of a node carries results from its asker's row into its book, and jobs
+//! from the book into the row: [`pump`]. A [`gate`] is told of each run.
+//!
+//! What a round makes of a runner's seat is said by `specs/Served`, what the pump makes of a row and a book by
+//! `specs/Pumped`: it holds in every schedule, since a seat's record tells of its own steps alone. That a thread gets
+//! on is said nowhere.
+#![tactic(auto)]
+
+pub mod gate;
+pub mod pump;
+pub mod runner;
+pub mod runners;

@@ -1,0 +1,117 @@
+//! Runners in threads of their own.
+
+ghost use Rattle.std.specs.Prelude.{◌≡◌, All, IfOk};
+ghost use Rattle.q_board.specs.BoardId.{board_id};
+
+use crate::gate::Gate;
+use crate::runner::run_some;
+use q_board::board::Board;
+use q_board::seats::RunnerSeat;
+use std::alloc::AllocError;
+use std::sync::Wait;
+use std::sync::atomic::AtomicBool;
+use std::sync::atomic::Ordering::SeqCst;
+use std::thread;
+use std::thread::{Scope, Threads};
+
+/// How many slots a runner's thread tries before it looks whether the work is over: half of the most slots of a board.
+const LOOKS: u32 = 64;
+
+/// Starts a thread for each seat, which runs the board's jobs, calls `work` in this thread, and then stops and joins the
+/// others. Where a thread can't be started, `work` isn't called, the threads that were started are joined, and it is
+/// refused with 99 OutOfMemory. The seats are used up.
+pub fn with_runners<R, G, T, W>(
+    rt: &R,
+    board: &Board,
+    seats: Vec<RunnerSeat>,
+    gate: &G,
+    work: W,
+) -> Result<T, AllocError>
+where
+    R: Wait + Threads + Sync,
+    G: Gate + Sync,
+    T: Drop,
+    W: FnOnce() -> T + Drop,
+    requires seats { All (λ s. s.table ≡ board_id board.now) seats.items }
+    requires work { W.pre work }
+    ensures { IfOk result (λ answer. W.post work answer) }
+{
+    let over = AtomicBool::new(false);
+    let over = &over;
+    thread::scope(
+        thread::scope_env(),
+        rt,
+        move |scope| -> Result<T, AllocError>
+            requires seats { All (λ s. s.table ≡ board_id board.now) seats.items }
+            requires work { W.pre work }
+            ensures { IfOk result (λ answer. W.post work answer) }
+        {
+            let answer = if start_all(scope, rt, board, seats, gate, over) {
+                Ok(work())
+            } else {
+                Err(AllocError)
+            };
+            over.store(true, SeqCst);
+            answer
+        },
+    )
+}
+
+// Starts a thread for each seat, until one can't be started. Answers whether all were.
+fn start_all<'s, E, R: Wait + Threads + Sync, G: Gate + Sync>(
+    scope: &Scope<'s, E>,
+    rt: &'s R,
+    board: &'s Board,
+    seats: Vec<RunnerSeat>,
+    gate: &'s G,
+    over: &'s AtomicBool,
+) -> bool
+    requires { All (λ s. s.table ≡ board_id board.now) seats.items }
+{
+    for seat in seats {
+        if !start(scope, rt, board, seat, gate, over) {
+            return false;
+        }
+    }
+    true
+}
+
+// Starts the thread of a seat. Answers whether it was started.
+fn start<'s, E, R: Wait + Threads + Sync, G: Gate + Sync>(
+    scope: &Scope<'s, E>,
+    rt: &'s R,
+    board: &'s Board,
+    seat: RunnerSeat,
+    gate: &'s G,
+    over: &'s AtomicBool,
+) -> bool
+    requires { seat.table ≡ board_id board.now }
+{
+    scope
+        .spawn(
+            move ||
+                requires { seat.table ≡ board_id board.now }
+            { run_until(rt, board, seat, gate, over) },
+        )
+        .is_ok()
+}
+
+// Runs the board's jobs until the work is over, and gives way where there was none.
+fn run_until<R: Wait, G: Gate>(
+    rt: &R,
+    board: &Board,
+    mut seat: RunnerSeat,
+    gate: &G,
+    over: &AtomicBool,
+)
+    requires { seat.table ≡ board_id board.now }
+{
+    for _ in rt.forever() {
+        if over.load(SeqCst) {
+            break;
+        }
+        if run_some(board, &mut seat, gate, LOOKS) == 0 {
+            thread::yield_now();
+        }
+    }
+}
