@@ -1,5 +1,8 @@
 //! What the lock of a node keeps.
 
+ghost use Rattle.std.specs.Prelude.{◌≡◌, ◌≤◌, ◌+◌, [], vec_len, vec_capacity};
+ghost use Rattle.q_nodes.specs.Held.{Asks, Delivers, Hears, Stores};
+
 use q_book::answer::Asked;
 use q_book::book::Book;
 use q_book::fault::BookFault;
@@ -32,7 +35,9 @@ pub enum Lost {
 impl Held {
     /// Takes the bytes of a datagram: the message that they spell is delivered, and what the book gives waits behind what
     /// waits already. Where that is refused nothing changes.
-    pub fn hear(&mut self, alloc: Global, bytes: &[u8]) -> Result<(), Lost> {
+    pub fn hear(&mut self, alloc: Global, bytes: &[u8]) -> Result<(), Lost>
+        ensures { Hears bytes.now self.old.book self.old.waiting.items result self.new.book self.new.waiting.items }
+    {
         let message = match decode(alloc, bytes) {
             Ok(message) => message,
             Err(fault) => return Err(Lost::Bytes(fault)),
@@ -44,7 +49,10 @@ impl Held {
     }
 
     /// Delivers a message, for whose answers there is room.
-    fn take_in(&mut self, message: &Message) -> Result<(), Lost> {
+    fn take_in(&mut self, message: &Message) -> Result<(), Lost>
+        requires { vec_len self.old.waiting + 2 ≤ vec_capacity self.old.waiting }
+        ensures { Delivers message.now self.old.book self.old.waiting.items result self.new.book self.new.waiting.items }
+    {
         match self.book.deliver(message) {
             Ok(taken) => {
                 taken.outs.append_to(&mut self.waiting);
@@ -55,7 +63,9 @@ impl Held {
     }
 
     /// Begins to store a value, and answers the operation's tag. What the book gives waits.
-    pub fn store(&mut self, value: &[u8; 48]) -> Result<u64, BookFault> {
+    pub fn store(&mut self, value: &[u8; 48]) -> Result<u64, BookFault>
+        ensures { Stores value.now self.old.book self.old.waiting.items result self.new.book self.new.waiting.items }
+    {
         self.waiting.reserve(2)?;
         let begun = self.book.store(value)?;
         let tag = begun.tag;
@@ -64,7 +74,9 @@ impl Held {
     }
 
     /// A query begins, and its number is answered. What the book gives waits.
-    pub fn ask(&mut self, program: ProgramId, start: u64) -> Result<usize, BookFault> {
+    pub fn ask(&mut self, program: ProgramId, start: u64) -> Result<usize, BookFault>
+        ensures { Asks program start self.old.book self.old.waiting.items result self.new.book self.new.waiting.items }
+    {
         self.waiting.reserve(2)?;
         let Asked {
             query,
@@ -75,7 +87,11 @@ impl Held {
     }
 
     /// The messages that wait, which wait no longer.
-    pub fn take(&mut self, alloc: Global) -> Vec<Message> {
+    pub fn take(&mut self, alloc: Global) -> Vec<Message>
+        ensures given { result.items ≡ self.old.waiting.items }
+        ensures none { self.new.waiting.items ≡ [] }
+        ensures book { self.new.book ≡ self.old.book }
+    {
         std::mem::replace(&mut self.waiting, Vec::new(alloc))
     }
 }

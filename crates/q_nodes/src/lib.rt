@@ -18,13 +18,17 @@
 //! refusal, and the script goes on. Where the journals do not gather, their refusal is printed last. The exit status is 0;
 //! or 1 where the script was refused, the journals did not gather, or the writer failed.
 //!
-//! Promised, and proved: what a node's thread does to a book under its lock, and what each line may print. An answer
-//! that is printed is recorded in a book of that node which is the replay of its journal, so it is right. What
-//! other threads did between two looks under a lock can't be said by a contract: the type of what the lock keeps says
-//! that it is always the replay of its journal ([`Held`]).
+//! Proved of what is done under a lock ([`held`], [`seat`]): a datagram changes nothing, or the message that its bytes
+//! spell is delivered and what the book gives waits to be sent; each other call is one of the book, exact, and what the
+//! book gives waits too. The book is always the replay of its journal, since its type keeps that. What other threads did
+//! between two looks no contract can say.
 //!
-//! Tested alone: that the threads send, hear and end, that operations end, and which of the lines that may be printed
-//! are.
+//! Proved of what is printed ([`line`]): the lines of a script print, in turn, what calls of books of their nodes answer
+//! or refuse. An `answer` line is what some book of that node recorded for the query, and so it is right; behind a
+//! `store` line nothing stands only where some book of that node does not have the operation open.
+//!
+//! Tested alone: how a script is read, that the nodes' threads send, hear and end, that operations end, what is printed
+//! where the journals do not gather, and the exit status.
 //!
 //! [`run_cluster`]: run::run_cluster
 //! [`ClusterScript`]: script::ClusterScript

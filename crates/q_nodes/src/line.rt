@@ -1,5 +1,12 @@
 //! The lines of a script, one after the other.
 
+ghost use Rattle.std.specs.Prelude.{◌≡◌, ◌++◌, ◌^◌, ◌-◌, min, IfSome, IsTrue, OnOk};
+ghost use Rattle.std.specs.Io.KnownBytes.{Appends};
+ghost use Rattle.q_nodes.specs.Lines.{Prints, TellsProgram, TellsEnd, TellsStore, TellsAnswer, TellsAsk, Tells, TellsAll, refused_line, unanswered_line, program_id};
+ghost use Rattle.q_nodes.specs.Seats.{HasEnded, IsRecorded};
+ghost use Rattle.q_history.specs.declared.event.Told.TheVariants as told;
+ghost use Rattle.q_sim.specs.Printing.{told_lines};
+
 use crate::fault::NodesFault;
 use crate::held::Held;
 use crate::script::ClusterLine;
@@ -32,7 +39,9 @@ fn await_end<R: Wait + Clock>(
     held: &Mutex<Held>,
     node: u64,
     tag: u64,
-) -> bool {
+) -> bool
+    ensures { IsTrue result → HasEnded node tag }
+{
     for turn in 0..MOST_TURNS {
         pump_all(rt, seats);
         if seat::has_ended(rt, held, node, tag) {
@@ -50,7 +59,9 @@ fn await_answer<R: Wait + Clock>(
     held: &Mutex<Held>,
     node: u64,
     query: usize,
-) -> Option<Ran> {
+) -> Option<Ran>
+    ensures { IfSome result (IsRecorded node query) }
+{
     for turn in 0..MOST_TURNS {
         pump_all(rt, seats);
         if let Some(ran) = seat::answer(rt, held, node, query) {
@@ -61,8 +72,17 @@ fn await_answer<R: Wait + Clock>(
     None
 }
 
-fn refuse<W: Write>(fault: NodesFault, out: &mut W) -> io::Result<()> {
+fn refuse<W: Write>(fault: NodesFault, out: &mut W) -> io::Result<()>
+    ensures { OnOk result (Appends (W.contents out.old) (W.contents out.new) (refused_line fault)) }
+{
     writeln!(out, "{fault}")
+}
+
+fn tell_program<W: Write>(id: ProgramId, out: &mut W) -> io::Result<()>
+    ensures { OnOk result (Appends (W.contents out.old) (W.contents out.new) (told_lines (told.Registered id))) }
+{
+    let number = id.number();
+    writeln!(out, "program {number}")
 }
 
 /// `program NODE HEX`: the program is decoded, verified and checked before the node is looked for.
@@ -73,7 +93,9 @@ fn run_program<R: Wait, W: Write>(
     node: u64,
     code: &[u8],
     out: &mut W,
-) -> io::Result<()> {
+) -> io::Result<()>
+    ensures { OnOk result (Prints (TellsProgram node code.now) (W.contents out.old) (W.contents out.new)) }
+{
     let program = match certified_code(alloc, code) {
         Ok(program) => program,
         Err(refusal) => return refuse(NodesFault::Script(refusal), out),
@@ -82,11 +104,26 @@ fn run_program<R: Wait, W: Write>(
         return refuse(NodesFault::no_such_node(), out);
     };
     match seat::register(rt, held, node, &program) {
-        Ok(id) => {
-            let number = id.number();
-            writeln!(out, "program {number}")
-        }
+        Ok(id) => tell_program(id, out),
         Err(fault) => refuse(fault, out),
+    }
+}
+
+/// Waits for the end of a store that was begun, and prints what comes behind its tag.
+fn end_store<R: Wait + Clock, W: Write>(
+    rt: &R,
+    seats: &[Mutex<Held>],
+    held: &Mutex<Held>,
+    node: u64,
+    tag: u64,
+    out: &mut W,
+) -> io::Result<()>
+    ensures { OnOk result (Prints (TellsEnd node tag) (W.contents out.old) (W.contents out.new)) }
+{
+    if await_end(rt, seats, held, node, tag) {
+        out.write_all(b"")
+    } else {
+        writeln!(out, "unanswered")
     }
 }
 
@@ -97,38 +134,32 @@ fn run_store<R: Wait + Clock, W: Write>(
     node: u64,
     value: u64,
     out: &mut W,
-) -> io::Result<()> {
+) -> io::Result<()>
+    ensures { OnOk result (Prints (TellsStore node value) (W.contents out.old) (W.contents out.new)) }
+{
     let Some(held) = seat::seat(seats, node) else {
         return refuse(NodesFault::no_such_node(), out);
     };
-    let tag = match seat::store(rt, held, node, &value_bytes(value)) {
-        Ok(tag) => tag,
-        Err(fault) => return refuse(fault, out),
-    };
-    writeln!(out, "store {tag}")?;
-    if await_end(rt, seats, held, node, tag) {
-        return Ok(());
+    match seat::store(rt, held, node, &value_bytes(value)) {
+        Ok(tag) => {
+            writeln!(out, "store {tag}")?;
+            end_store(rt, seats, held, node, tag, out)
+        }
+        Err(fault) => refuse(fault, out),
     }
-    writeln!(out, "unanswered")
 }
 
-/// `ask NODE PROGRAM START`.
-fn run_ask<R: Wait + Clock, W: Write>(
+/// Waits for the answer of a query that was begun, and prints what comes behind its number.
+fn end_query<R: Wait + Clock, W: Write>(
     rt: &R,
     seats: &[Mutex<Held>],
+    held: &Mutex<Held>,
     node: u64,
-    program: u64,
-    start: u64,
+    query: usize,
     out: &mut W,
-) -> io::Result<()> {
-    let Some(held) = seat::seat(seats, node) else {
-        return refuse(NodesFault::no_such_node(), out);
-    };
-    let query = match seat::ask(rt, held, node, program_id(program), start) {
-        Ok(query) => query,
-        Err(fault) => return refuse(fault, out),
-    };
-    writeln!(out, "query {query}")?;
+) -> io::Result<()>
+    ensures { OnOk result (Prints (TellsAnswer node query) (W.contents out.old) (W.contents out.new)) }
+{
     match await_answer(rt, seats, held, node, query) {
         Some(ran) => {
             let acc = ran.acc;
@@ -139,8 +170,33 @@ fn run_ask<R: Wait + Clock, W: Write>(
     }
 }
 
+/// `ask NODE PROGRAM START`.
+fn run_ask<R: Wait + Clock, W: Write>(
+    rt: &R,
+    seats: &[Mutex<Held>],
+    node: u64,
+    program: u64,
+    start: u64,
+    out: &mut W,
+) -> io::Result<()>
+    ensures { OnOk result (Prints (TellsAsk node program start) (W.contents out.old) (W.contents out.new)) }
+{
+    let Some(held) = seat::seat(seats, node) else {
+        return refuse(NodesFault::no_such_node(), out);
+    };
+    match seat::ask(rt, held, node, program_id(program), start) {
+        Ok(query) => {
+            writeln!(out, "query {query}")?;
+            end_query(rt, seats, held, node, query, out)
+        }
+        Err(fault) => refuse(fault, out),
+    }
+}
+
 /// The id of this number. Of a number that is too large it is the greatest id, which no program has.
-fn program_id(number: u64) -> ProgramId {
+fn program_id(number: u64) -> ProgramId
+    ensures { result ≡ program_id number }
+{
     ProgramId::new(u32::try_from(number).unwrap_or(u32::MAX))
 }
 
@@ -151,7 +207,9 @@ pub fn run_line<R: Wait + Clock, W: Write>(
     seats: &[Mutex<Held>],
     line: &ClusterLine,
     out: &mut W,
-) -> io::Result<()> {
+) -> io::Result<()>
+    ensures { OnOk result (Prints (Tells line.now) (W.contents out.old) (W.contents out.new)) }
+{
     match line {
         ClusterLine::Program { node, code } => {
             run_program(rt, alloc, seats, *node, code.as_slice(), out)
@@ -172,7 +230,9 @@ pub fn run_lines<R: Wait + Clock, W: Write>(
     seats: &[Mutex<Held>],
     lines: &[ClusterLine],
     out: &mut W,
-) -> io::Result<()> {
+) -> io::Result<()>
+    ensures { OnOk result (Prints (TellsAll lines.now) (W.contents out.old) (W.contents out.new)) }
+{
     for line in lines {
         run_line(rt, alloc, seats, line, out)?;
     }

@@ -1,5 +1,7 @@
 //! The thread of a node.
 
+ghost use Rattle.std.specs.Prelude.{◌≡◌, ◌≤◌, length};
+
 use crate::held::Held;
 use crate::turn::pause;
 use q_wire::transport::Transport;
@@ -24,7 +26,10 @@ fn tell<T: Transport>(alloc: Global, nodes: u64, transport: &mut T, message: &Me
 }
 
 /// How many bytes were received, 0 where none were.
-fn receive<T: Transport>(transport: &mut T, buffer: &mut [u8]) -> usize {
+fn receive<T: Transport>(transport: &mut T, buffer: &mut [u8]) -> usize
+    ensures fits { result ≤ length buffer.new }
+    ensures len { length buffer.new ≡ length buffer.old }
+{
     match transport.receive(buffer) {
         Ok(Some(len)) => len,
         Ok(None) | Err(_) => 0,

@@ -1,6 +1,10 @@
 //! What is done and seen under the lock of a node.
 //!
-//! Each call takes the lock once. It names the node whose book it means.
+//! Each call takes the lock once. It names the node whose book it means, and says what it found of some book of that
+//! node which is the replay of its journal: which one it was no clause can say, since other threads go on.
+
+ghost use Rattle.std.specs.Prelude.{⊤, IfSome, IsTrue, MatchBool};
+ghost use Rattle.q_nodes.specs.Seats.{BeginsQuery, BeginsStore, HasEnded, IsBookOf, IsRecorded, Registers};
 
 use crate::fault::NodesFault;
 use crate::held::Held;
@@ -16,18 +20,89 @@ pub fn seat(seats: &[Mutex<Held>], node: u64) -> Option<&Mutex<Held>> {
     seats.get(usize::try_from(place).ok()?)
 }
 
+/// Whether this is the book of the node. Every book is the replay of its journal, and its recorded answers are right.
+fn is_of(book: &Book, node: u64) -> bool
+    ensures { MatchBool result (IsBookOf node book.now) ⊤ }
+{
+    let _journal = book.journal();
+    let _desk = book.desk();
+    book.id() == node
+}
+
+/// Registers a program in the book of the node.
+fn register_in(held: &mut Held, node: u64, program: &Program) -> Result<ProgramId, NodesFault>
+    ensures { Registers node program.now result }
+{
+    if !is_of(&held.book, node) {
+        return Err(NodesFault::no_such_node());
+    }
+    match held.book.register(program) {
+        Ok(id) => Ok(id),
+        Err(fault) => Err(NodesFault::from(fault)),
+    }
+}
+
+/// Begins to store a value in the book of the node.
+fn store_in(held: &mut Held, node: u64, value: &[u8; 48]) -> Result<u64, NodesFault>
+    ensures { BeginsStore node value.now result }
+{
+    if !is_of(&held.book, node) {
+        return Err(NodesFault::no_such_node());
+    }
+    match held.store(value) {
+        Ok(tag) => Ok(tag),
+        Err(fault) => Err(NodesFault::from(fault)),
+    }
+}
+
+/// Begins a query in the book of the node.
+fn ask_in(
+    held: &mut Held,
+    node: u64,
+    program: ProgramId,
+    start: u64,
+) -> Result<usize, NodesFault>
+    ensures { BeginsQuery node program start result }
+{
+    if !is_of(&held.book, node) {
+        return Err(NodesFault::no_such_node());
+    }
+    match held.ask(program, start) {
+        Ok(query) => Ok(query),
+        Err(fault) => Err(NodesFault::from(fault)),
+    }
+}
+
+/// Whether the operation with this tag has ended, by the book of the node.
+fn has_ended_in(book: &Book, node: u64, tag: u64) -> bool
+    ensures { IsTrue result → HasEnded node tag }
+{
+    is_of(book, node) && !book.is_open(tag)
+}
+
+/// The answer of a query, if the book of the node has it.
+fn answer_in(book: &Book, node: u64, query: usize) -> Option<Ran>
+    ensures { IfSome result (IsRecorded node query) }
+{
+    if !is_of(book, node) {
+        return None;
+    }
+    match book.answer(query) {
+        Ok(Some(ran)) => Some(ran),
+        Ok(None) | Err(_) => None,
+    }
+}
+
 /// Registers a program at the node.
 pub fn register<R: Wait>(
     rt: &R,
     held: &Mutex<Held>,
     node: u64,
     program: &Program,
-) -> Result<ProgramId, NodesFault> {
-    let mut guard = held.lock(rt);
-    if guard.book.id() != node {
-        return Err(NodesFault::no_such_node());
-    }
-    Ok(guard.book.register(program)?)
+) -> Result<ProgramId, NodesFault>
+    ensures { Registers node program.now result }
+{
+    register_in(&mut held.lock(rt), node, program)
 }
 
 /// The node begins to store a value: the tag of the operation.
@@ -36,12 +111,10 @@ pub fn store<R: Wait>(
     held: &Mutex<Held>,
     node: u64,
     value: &[u8; 48],
-) -> Result<u64, NodesFault> {
-    let mut guard = held.lock(rt);
-    if guard.book.id() != node {
-        return Err(NodesFault::no_such_node());
-    }
-    Ok(guard.store(value)?)
+) -> Result<u64, NodesFault>
+    ensures { BeginsStore node value.now result }
+{
+    store_in(&mut held.lock(rt), node, value)
 }
 
 /// The node begins a query: its number.
@@ -51,38 +124,24 @@ pub fn ask<R: Wait>(
     node: u64,
     program: ProgramId,
     start: u64,
-) -> Result<usize, NodesFault> {
-    let mut guard = held.lock(rt);
-    if guard.book.id() != node {
-        return Err(NodesFault::no_such_node());
-    }
-    Ok(guard.ask(program, start)?)
-}
-
-/// Whether the operation with this tag has ended at the node.
-fn has_ended_in(book: &Book, node: u64, tag: u64) -> bool {
-    book.id() == node && !book.is_open(tag)
+) -> Result<usize, NodesFault>
+    ensures { BeginsQuery node program start result }
+{
+    ask_in(&mut held.lock(rt), node, program, start)
 }
 
 /// Looks whether the operation with this tag has ended at the node.
-pub fn has_ended<R: Wait>(rt: &R, held: &Mutex<Held>, node: u64, tag: u64) -> bool {
+pub fn has_ended<R: Wait>(rt: &R, held: &Mutex<Held>, node: u64, tag: u64) -> bool
+    ensures { IsTrue result → HasEnded node tag }
+{
     let guard = held.lock(rt);
     has_ended_in(&guard.book, node, tag)
 }
 
-/// The answer of a query at the node, if it is recorded.
-fn answer_in(book: &Book, node: u64, query: usize) -> Option<Ran> {
-    if book.id() != node {
-        return None;
-    }
-    match book.answer(query) {
-        Ok(Some(ran)) => Some(ran),
-        Ok(None) | Err(_) => None,
-    }
-}
-
 /// Looks for the answer of a query at the node.
-pub fn answer<R: Wait>(rt: &R, held: &Mutex<Held>, node: u64, query: usize) -> Option<Ran> {
+pub fn answer<R: Wait>(rt: &R, held: &Mutex<Held>, node: u64, query: usize) -> Option<Ran>
+    ensures { IfSome result (IsRecorded node query) }
+{
     let guard = held.lock(rt);
     answer_in(&guard.book, node, query)
 }

@@ -24,11 +24,9 @@ fn open_all<R: Net>(rt: &R, alloc: Global, nodes: u64) -> io::Result<Vec<UdpTran
 /// Where the sockets of the nodes are.
 fn peers(alloc: Global, transports: &[UdpTransport]) -> io::Result<Vec<Peer>> {
     let mut peers = Vec::new(alloc);
-    let mut id = 0;
-    for transport in transports {
-        id += 1;
+    for (place, transport) in transports.iter().enumerate() {
         peers.push(Peer {
-            id,
+            id: (place as u64).saturating_add(1),
             address: transport.address()?,
         })?;
     }
