@@ -33,8 +33,8 @@ pub enum Lost {
 }
 
 impl Held {
-    /// Takes the bytes of a datagram: the message that they spell is delivered, and what the book gives waits behind what
-    /// waits already. Where that is refused nothing changes.
+    /// Takes the bytes of a datagram: the message that they spell is delivered, and what the book gives waits behind
+    /// what waits already. Where that is refused nothing changes.
     pub fn hear(&mut self, alloc: Global, bytes: &[u8]) -> Result<(), Lost>
         ensures { Hears bytes.now self.old.book self.old.waiting.items result self.new.book self.new.waiting.items }
     {

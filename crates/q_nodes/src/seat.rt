@@ -146,8 +146,8 @@ pub fn answer<R: Wait>(rt: &R, held: &Mutex<Held>, node: u64, query: usize) -> O
     answer_in(&guard.book, node, query)
 }
 
-/// Runs the job of the ready query of a node with the least number, if there is one, with the lock free, and records the
-/// answer.
+/// Runs the job of the ready query of a node with the least number, if there is one, with the lock free, and records
+/// the answer.
 pub fn pump<R: Wait>(rt: &R, held: &Mutex<Held>) {
     let handed = held.lock(rt).book.hand_out();
     if let Ok(Some(job)) = handed {

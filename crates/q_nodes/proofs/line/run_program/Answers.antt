@@ -1,5 +1,4 @@
-use Rattle.std.proofs.Common.{subst, sym}
-use Rattle.q_nodes.specs.Faults.{no_such_node}
+use Rattle.std.proofs.Common.{inl}
 use Rattle.q_nodes.proofs.Telling.{program_told, program_refused}
 use Rattle.q_nodes.proofs.line.run_program.Goals as goal
 

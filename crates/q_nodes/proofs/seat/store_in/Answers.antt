@@ -1,3 +1,4 @@
+use Rattle.std.proofs.Common.{inr}
 use Rattle.q_nodes.proofs.seat.store_in.Goals as goal
 
 pub returns-in-Err : goal.returns-in-Err
