@@ -78,10 +78,7 @@ impl Held {
         ensures { Asks program start self.old.book self.old.waiting.items result self.new.book self.new.waiting.items }
     {
         self.waiting.reserve(2)?;
-        let Asked {
-            query,
-            begun,
-        } = self.book.ask(program, start)?;
+        let Asked { query, begun } = self.book.ask(program, start)?;
         begun.outs.append_to(&mut self.waiting);
         Ok(query)
     }

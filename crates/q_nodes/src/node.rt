@@ -79,7 +79,14 @@ pub fn tend<R: Wait + Clock, T: Transport + Drop>(
         if over.load(Ordering::SeqCst) {
             break;
         }
-        if take_turn(rt, alloc, nodes, held, &mut transport, buffer.as_mut_slice()) {
+        if take_turn(
+            rt,
+            alloc,
+            nodes,
+            held,
+            &mut transport,
+            buffer.as_mut_slice(),
+        ) {
             idle = 0;
         } else {
             pause(rt, idle);

@@ -105,10 +105,7 @@ fn found(text: &str) -> Result<Founding, ScriptFault> {
 }
 
 /// The founding that a text spells on its first line, and the lines behind it.
-fn read_parts(
-    alloc: Global,
-    source: &str,
-) -> Result<(Founding, Vec<ClusterLine>), ScriptFault> {
+fn read_parts(alloc: Global, source: &str) -> Result<(Founding, Vec<ClusterLine>), ScriptFault> {
     let body = source.strip_suffix('\n').unwrap_or(source);
     let Some((first, rest)) = body.split_once('\n') else {
         let founding = found(body)?;

@@ -56,12 +56,7 @@ fn store_in(held: &mut Held, node: u64, value: &[u8; 48]) -> Result<u64, NodesFa
 }
 
 /// Begins a query in the book of the node.
-fn ask_in(
-    held: &mut Held,
-    node: u64,
-    program: ProgramId,
-    start: u64,
-) -> Result<usize, NodesFault>
+fn ask_in(held: &mut Held, node: u64, program: ProgramId, start: u64) -> Result<usize, NodesFault>
     ensures { BeginsQuery node program start result }
 {
     if !is_of(&held.book, node) {
