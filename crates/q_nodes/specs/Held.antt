@@ -1,0 +1,40 @@
+-- What is done to a node's book, and to the messages that wait to be sent, while its lock is held.
+use Rattle.std.specs.Prelude.{◌≡◌, ◌≢◌, ◌⊎◌, ℕ, List, ◌++◌, Result, Ok, Err}
+use Rattle.sc_msg.specs.Fault.{IsFault}
+use Rattle.sc_msg.specs.Messages.{message_bytes, IsMessage}
+use Rattle.sc_msg.specs.declared.message.Message.{Message}
+use Rattle.sc_node.specs.declared.answer.Begun.{Begun}
+use Rattle.q_book.specs.State.{BookState}
+use Rattle.q_book.specs.Books.{asked, delivered, stored}
+use Rattle.q_book.specs.Faults.{memory}
+use Rattle.q_book.specs.declared.answer.Asked.{Asked}
+use Rattle.q_book.specs.declared.answer.Taken.{Taken}
+use Rattle.q_book.specs.declared.fault.BookFault.{BookFault}
+use Rattle.q_nodes.specs.declared.held.Lost.{Lost}
+use Rattle.q_nodes.specs.declared.held.Lost.TheVariants as lost
+
+-- the book and what waits are as they were
+abbrev pub IsSame : BookState → List Message → BookState → List Message → Type 0
+IsSame b had c has = (c ≡ b) × (has ≡ had)
+
+-- the message is delivered, and what the book gives waits behind what waited; or the book refuses it
+abbrev pub Delivers : Message → BookState → List Message → Result (Unit {0}) Lost → BookState → List Message → Type 0
+Delivers m b had (Ok u) c has = (a : Taken) × (delivered b m ≡ Ok (a, c)) × (has ≡ had ++ a.outs)
+Delivers m b had (Err (lost.Book f)) c has = IsSame b had c has × (f ≢ memory → delivered b m ≡ Err f)
+Delivers m b had (Err e) c has = ⊥
+
+-- the bytes spell a message, which is delivered or which the book refuses; or they spell none; or memory ran out
+abbrev pub Hears : List ℕ → BookState → List Message → Result (Unit {0}) Lost → BookState → List Message → Type 0
+Hears bytes b had (Err (lost.Bytes f)) c has = IsSame b had c has × IsFault bytes f
+Hears bytes b had (Err lost.OutOfMemory) c has = IsSame b had c has
+Hears bytes b had result c has = (m : Message) × IsMessage m × (bytes ≡ message_bytes m) × Delivers m b had result c has
+
+-- the store begins, and what the book gives waits behind what waited; or it is refused
+abbrev pub Stores : List ℕ → BookState → List Message → Result ℕ BookFault → BookState → List Message → Type 0
+Stores value b had (Ok tag) c has = (a : Begun) × (stored b value ≡ Ok (a, c)) × (tag ≡ a.tag) × (has ≡ had ++ a.outs)
+Stores value b had (Err f) c has = IsSame b had c has × (f ≢ memory → stored b value ≡ Err f)
+
+-- the query begins, and what the book gives waits behind what waited; or it is refused
+abbrev pub Asks : ℕ → ℕ → BookState → List Message → Result ℕ BookFault → BookState → List Message → Type 0
+Asks program start b had (Ok query) c has = (a : Asked) × (asked b program start ≡ Ok (a, c)) × (query ≡ a.query) × (has ≡ had ++ a.begun.outs)
+Asks program start b had (Err f) c has = IsSame b had c has × (f ≢ memory → asked b program start ≡ Err f)

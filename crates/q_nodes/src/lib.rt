@@ -1,0 +1,46 @@
+//! A cluster whose nodes run in threads of their own, each with a transport and with its book behind a lock.
+//!
+//! [`run_cluster`] takes a script ([`ClusterScript`]): the founders and, in turn, programs, stores and queries. The
+//! thread of a node ([`node`]) receives datagrams, delivers each message to its book under the lock, and sends what the book
+//! gives with the lock free. The caller's thread takes one line of the script after the other ([`line`]): it makes the
+//! call of the book under its lock, and looks at all books again and again until the operation has ended or the answer
+//! stands ([`turn`]), 100,000 times at most. Jobs run in between, with no lock held. At the end the threads are joined,
+//! and the journals of the nodes are gathered into one cluster.
+//!
+//! | Line | Prints |
+//! |---|---|
+//! | `nodes N B/B G/G`, first | nothing: the nodes 1 to N found the cluster, 16 at most |
+//! | `program NODE HEX` | `program P` |
+//! | `store NODE U64` | `store TAG` |
+//! | `ask NODE PROGRAM START` | `query Q`, and then `answer NODE Q ACC STEPS` |
+//!
+//! Behind `store TAG` or `query Q` stands `unanswered` where the turns were not enough. A refused line prints its
+//! refusal, and the script goes on. Where the journals do not gather, their refusal is printed last. The exit status is
+//! 0; or 1 where the script was refused, the journals did not gather, or the writer failed.
+//!
+//! Proved of what is done under a lock ([`held`], [`seat`]): a datagram changes nothing, or the message that its bytes
+//! spell is delivered and what the book gives waits to be sent; each other call is one of the book, exact, and what the
+//! book gives waits too. The book is always the replay of its journal, since its type keeps that. What other threads did
+//! between two looks no contract can say.
+//!
+//! Proved of what is printed ([`line`]): the lines of a script print, in turn, what calls of books of their nodes answer
+//! or refuse. An `answer` line is what some book of that node recorded for the query, and so it is right; behind a
+//! `store` line nothing stands only where some book of that node does not have the operation open.
+//!
+//! Tested alone: how a script is read, that the nodes' threads send, hear and end, that operations end, what is printed
+//! where the journals do not gather, and the exit status.
+//!
+//! [`run_cluster`]: run::run_cluster
+//! [`ClusterScript`]: script::ClusterScript
+//! [`Held`]: held::Held
+#![tactic(auto)]
+
+pub mod fault;
+pub mod held;
+pub mod line;
+pub mod node;
+pub mod run;
+pub mod script;
+pub mod seat;
+pub mod sockets;
+pub mod turn;

@@ -1,0 +1,152 @@
+//! What is done and seen under the lock of a node.
+//!
+//! Each call takes the lock once. It names the node whose book it means, and says what it found of some book of that
+//! node which is the replay of its journal: which one it was no clause can say, since other threads go on.
+
+ghost use Rattle.std.specs.Prelude.{⊤, IfSome, IsTrue, MatchBool};
+ghost use Rattle.q_nodes.specs.Seats.{BeginsQuery, BeginsStore, HasEnded, IsBookOf, IsRecorded, Registers};
+
+use crate::fault::NodesFault;
+use crate::held::Held;
+use q_book::book::Book;
+use q_session::done::Done;
+use q_session::ran::Ran;
+use q_table::program::{Program, ProgramId};
+use std::sync::{Mutex, Wait};
+
+/// The lock of this node, which is counted from 1.
+pub fn seat(seats: &[Mutex<Held>], node: u64) -> Option<&Mutex<Held>> {
+    let place = node.checked_sub(1)?;
+    seats.get(usize::try_from(place).ok()?)
+}
+
+/// Whether this is the book of the node. Every book is the replay of its journal, and its recorded answers are right.
+fn is_of(book: &Book, node: u64) -> bool
+    ensures { MatchBool result (IsBookOf node book.now) ⊤ }
+{
+    let _journal = book.journal();
+    let _desk = book.desk();
+    book.id() == node
+}
+
+/// Registers a program in the book of the node.
+fn register_in(held: &mut Held, node: u64, program: &Program) -> Result<ProgramId, NodesFault>
+    ensures { Registers node program.now result }
+{
+    if !is_of(&held.book, node) {
+        return Err(NodesFault::no_such_node());
+    }
+    match held.book.register(program) {
+        Ok(id) => Ok(id),
+        Err(fault) => Err(NodesFault::from(fault)),
+    }
+}
+
+/// Begins to store a value in the book of the node.
+fn store_in(held: &mut Held, node: u64, value: &[u8; 48]) -> Result<u64, NodesFault>
+    ensures { BeginsStore node value.now result }
+{
+    if !is_of(&held.book, node) {
+        return Err(NodesFault::no_such_node());
+    }
+    match held.store(value) {
+        Ok(tag) => Ok(tag),
+        Err(fault) => Err(NodesFault::from(fault)),
+    }
+}
+
+/// Begins a query in the book of the node.
+fn ask_in(held: &mut Held, node: u64, program: ProgramId, start: u64) -> Result<usize, NodesFault>
+    ensures { BeginsQuery node program start result }
+{
+    if !is_of(&held.book, node) {
+        return Err(NodesFault::no_such_node());
+    }
+    match held.ask(program, start) {
+        Ok(query) => Ok(query),
+        Err(fault) => Err(NodesFault::from(fault)),
+    }
+}
+
+/// Whether the operation with this tag has ended, by the book of the node.
+fn has_ended_in(book: &Book, node: u64, tag: u64) -> bool
+    ensures { IsTrue result → HasEnded node tag }
+{
+    is_of(book, node) && !book.is_open(tag)
+}
+
+/// The answer of a query, if the book of the node has it.
+fn answer_in(book: &Book, node: u64, query: usize) -> Option<Ran>
+    ensures { IfSome result (IsRecorded node query) }
+{
+    if !is_of(book, node) {
+        return None;
+    }
+    match book.answer(query) {
+        Ok(Some(ran)) => Some(ran),
+        Ok(None) | Err(_) => None,
+    }
+}
+
+/// Registers a program at the node.
+pub fn register<R: Wait>(
+    rt: &R,
+    held: &Mutex<Held>,
+    node: u64,
+    program: &Program,
+) -> Result<ProgramId, NodesFault>
+    ensures { Registers node program.now result }
+{
+    register_in(&mut held.lock(rt), node, program)
+}
+
+/// The node begins to store a value: the tag of the operation.
+pub fn store<R: Wait>(
+    rt: &R,
+    held: &Mutex<Held>,
+    node: u64,
+    value: &[u8; 48],
+) -> Result<u64, NodesFault>
+    ensures { BeginsStore node value.now result }
+{
+    store_in(&mut held.lock(rt), node, value)
+}
+
+/// The node begins a query: its number.
+pub fn ask<R: Wait>(
+    rt: &R,
+    held: &Mutex<Held>,
+    node: u64,
+    program: ProgramId,
+    start: u64,
+) -> Result<usize, NodesFault>
+    ensures { BeginsQuery node program start result }
+{
+    ask_in(&mut held.lock(rt), node, program, start)
+}
+
+/// Looks whether the operation with this tag has ended at the node.
+pub fn has_ended<R: Wait>(rt: &R, held: &Mutex<Held>, node: u64, tag: u64) -> bool
+    ensures { IsTrue result → HasEnded node tag }
+{
+    let guard = held.lock(rt);
+    has_ended_in(&guard.book, node, tag)
+}
+
+/// Looks for the answer of a query at the node.
+pub fn answer<R: Wait>(rt: &R, held: &Mutex<Held>, node: u64, query: usize) -> Option<Ran>
+    ensures { IfSome result (IsRecorded node query) }
+{
+    let guard = held.lock(rt);
+    answer_in(&guard.book, node, query)
+}
+
+/// Runs the job of the ready query of a node with the least number, if there is one, with the lock free, and records
+/// the answer.
+pub fn pump<R: Wait>(rt: &R, held: &Mutex<Held>) {
+    let handed = held.lock(rt).book.hand_out();
+    if let Ok(Some(job)) = handed {
+        let done = Done::run(job);
+        let _ = held.lock(rt).book.post(&done);
+    }
+}

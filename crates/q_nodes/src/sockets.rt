@@ -1,0 +1,76 @@
+//! Clusters whose nodes have a socket each.
+
+use crate::fault::NodesFault;
+use crate::run::run_cluster;
+use crate::script::ClusterScript;
+use q_wire::udp::{Peer, UdpTransport};
+use std::alloc::Global;
+use std::io;
+use std::io::Write;
+use std::net::Net;
+use std::sync::Wait;
+use std::thread::Threads;
+use std::time::Clock;
+
+/// A socket for each node. None knows a peer yet.
+fn open_all<R: Net>(rt: &R, alloc: Global, nodes: u64) -> io::Result<Vec<UdpTransport>> {
+    let mut transports = Vec::new(alloc);
+    for _ in 0..nodes {
+        transports.push(UdpTransport::open(rt, alloc)?)?;
+    }
+    Ok(transports)
+}
+
+/// Where the sockets of the nodes are.
+fn peers(alloc: Global, transports: &[UdpTransport]) -> io::Result<Vec<Peer>> {
+    let mut peers = Vec::new(alloc);
+    for (place, transport) in transports.iter().enumerate() {
+        peers.push(Peer {
+            id: (place as u64).saturating_add(1),
+            address: transport.address()?,
+        })?;
+    }
+    Ok(peers)
+}
+
+/// Makes the peers known to a node.
+fn meet_all(transport: &mut UdpTransport, peers: &[Peer]) -> io::Result<()> {
+    for peer in peers {
+        transport.meet(peer.id, peer.address)?;
+    }
+    Ok(())
+}
+
+/// A socket for each of so many nodes, at free ports of loopback, each of which knows all.
+pub fn open_sockets<R: Net>(rt: &R, alloc: Global, nodes: u64) -> io::Result<Vec<UdpTransport>> {
+    let mut transports = open_all(rt, alloc, nodes)?;
+    let peers = peers(alloc, transports.as_slice())?;
+    for transport in transports.as_mut_slice() {
+        meet_all(transport, peers.as_slice())?;
+    }
+    Ok(transports)
+}
+
+/// Runs the script that a text spells by a thread and a socket for each node, and prints what its lines tell. The exit
+/// status. A script that is refused prints its refusal, and a socket that can't be opened 86 TransportFailed.
+pub fn run_over_sockets<R: Net + Wait + Threads + Clock + Sync, W: Write>(
+    rt: &R,
+    alloc: Global,
+    source: &str,
+    out: &mut W,
+) -> u8 {
+    let script = match ClusterScript::read(alloc, source) {
+        Ok(script) => script,
+        Err(fault) => return refuse(fault, out),
+    };
+    match open_sockets(rt, alloc, script.nodes) {
+        Ok(transports) => run_cluster(rt, alloc, &script, transports, out),
+        Err(_) => refuse(NodesFault::TransportFailed, out),
+    }
+}
+
+/// Prints a refusal: the exit status of what is refused.
+fn refuse<W: Write>(fault: NodesFault, out: &mut W) -> u8 {
+    let _ = writeln!(out, "{fault}");
+    1
+}

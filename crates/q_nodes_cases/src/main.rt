@@ -1,0 +1,27 @@
+//! Scripts of nodes in threads as text, over memory and over sockets of loopback.
+//!
+//! | Line | What it does |
+//! |---|---|
+//! | `-- TEXT` | is printed as it stands, and begins a script |
+//! | `* COUNT TEXT` | adds the line TEXT to the script so many times |
+//! | `$ sockets` | is printed, with what the script prints over a socket for each node, and the exit status |
+//! | `$ memory` | is printed, with what the script prints over memory, and the exit status |
+//! | `$ deaf NODE` | is printed, with what it prints over memory where this node hears nothing |
+//! | any other | is added to the script as a line |
+#![tactic(auto)]
+
+mod cases;
+mod deaf;
+
+use crate::cases::Cases;
+use std::io;
+
+fn main(rt: HostRuntime) -> io::Result<()> {
+    let alloc = rt.alloc();
+    let mut cases = Cases::new(alloc);
+    for line in rt.lines(alloc) {
+        let line = line?;
+        cases.take(&rt, line.as_str(), &mut io::writer(&rt))?;
+    }
+    Ok(())
+}
