@@ -1,0 +1,14 @@
+//! Tests of the job board with threads: its row of eight, the gate, and many askers and runners at once.
+//!
+//! What a call makes of a seat or a book is proved in its crate, for every schedule. Here threads run: that jobs get
+//! done at all is said by no proof.
+#![tactic(auto)]
+
+#[cfg(test)]
+mod asking;
+#[cfg(test)]
+mod gate;
+#[cfg(test)]
+mod many;
+#[cfg(test)]
+mod row;
