@@ -3,3 +3,4 @@ pub mod AskerSteps
 pub mod RunnerSteps
 pub mod Opening
 pub mod Accounting
+pub mod Summing

@@ -45,7 +45,7 @@ module _ {A : Type 0} where
 pub held_yes : (n : ℕ) (j : Job) → held_by n (claimed n j) ≡ Some j
 held_yes n j = ap (λ b. cond b (Some j) None) (eq-eqb n n refl)
 
-held_no : (n r : ℕ) (j : Job) → r ≢ n → held_by n (claimed r j) ≡ None
+pub held_no : (n r : ℕ) (j : Job) → r ≢ n → held_by n (claimed r j) ≡ None
 held_no n r j ne = ap (λ b. cond b (Some j) None) (ne_eqb r n ne)
 
 pub held_is : (n : ℕ) (p : Phase) (j : Job) → held_by n p ≡ Some j → p ≡ claimed n j

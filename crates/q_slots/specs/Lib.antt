@@ -3,3 +3,4 @@ pub mod Phase
 pub mod Rule
 pub mod Plays
 pub mod Account
+pub mod Sums

@@ -1,5 +1,6 @@
 use Rattle.q_slots.proofs.Accounting.{accounts, holds_own}
+use Rattle.q_slots.proofs.Summing.{adds}
 use Rattle.q_slots.proofs.law.accounted.Goals as goal
 
 pub returns : goal.returns
-returns c = record { askers = accounts; runners = holds_own }
+returns c = record { askers = accounts; adds = adds; runners = holds_own }
