@@ -162,4 +162,4 @@ loses input left before after b had n is got written =
     let g : IsGot [] input left next.Lost = subst (IsGot [] input left) is got in
     let (bytes, consumed, lost, read) = g in
     let (text, notes, legal, spelled) = lost in
-    (Register text notes, Refused 99, [], legal, subst (Consumes input left) spelled consumed, (registered.Text decode_fault.OutOfMemory, (refl, tt), refl, refl), sym (append-nil had), written)
+    (Register text notes, Refused 99, [], legal, subst (Consumes input left) spelled consumed, (registered.Text decode_fault.OutOfMemory, (refl, λ known. absurd (known refl)), refl, refl), sym (append-nil had), written)

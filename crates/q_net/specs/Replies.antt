@@ -5,6 +5,7 @@ use Rattle.bq_insn.specs.Fault as decode
 use Rattle.bq_insn.specs.Slots as text
 use Rattle.bq_insn.specs.Slots.{IsText}
 use Rattle.bq_state.specs.declared.kind.Kind.{Kind}
+use Rattle.bq_insn.specs.declared.fault.DecodeFault.TheVariants as decode_fault
 use Rattle.bq_check.specs.declared.fault.NotesFault.TheVariants as notes_fault
 use Rattle.bq_check.specs.Numbers as check
 use Rattle.bq_check.specs.Faults.{IsFirstFault}
@@ -43,7 +44,7 @@ reply_bytes (reply.Refused number) = number ∷ []
 -- what comes of the bytes of a text and of notes: the first fault of the text, then of the notes, then of the check, and
 -- only then the book's answer. Each may be that memory ran out, and then the book is as it was.
 abbrev pub Registers : BookState → List ℕ → List ℕ → Registered → BookState → Type 0
-Registers b bytes notes (registered.Text f) c = (c ≡ b) × decode.IsFault bytes f
+Registers b bytes notes (registered.Text f) c = (c ≡ b) × (f ≢ decode_fault.OutOfMemory → decode.IsFault bytes f)
 Registers b bytes notes (registered.Notes f) c =
     (c ≡ b) × ((t : List Insn) × IsText t × (bytes ≡ text.spelling t))
     × (f ≢ notes_fault.OutOfMemory → (n : List (Option (List Kind))) → IsNotes n → notes ≡ notes_bytes n → ⊥)

@@ -1,0 +1,129 @@
+//! Jobs over the board.
+
+ghost use Rattle.std.specs.Prelude.{◌≡◌, All};
+ghost use Rattle.q_board.specs.BoardId.{board_id};
+
+use crate::jobs::{Times, jobs};
+use anyhow::{Result, anyhow};
+use q_board::board::Board;
+use q_board::seats::{AskerSeat, ROW, RunnerSeat};
+use q_pool::gate::Open;
+use q_pool::runner::run_some;
+use q_pool::runners::with_runners;
+use q_session::job::Job;
+use std::sync::Wait;
+use std::thread;
+use std::thread::Threads;
+use std::alloc::Global;
+use std::time::{Clock, Instant};
+
+/// Hands so many jobs over, one behind the other.
+pub fn hand(rt: &HostRuntime, count: usize) -> Result<Times> {
+    let jobs = jobs(rt.alloc(), count)?;
+    let (board, mut askers, mut runners) = Board::open(rt.alloc(), 1, 1).map_err(|_| anyhow!(
+        "no board"
+    ))?;
+    let asker = askers.pop().ok_or(anyhow!("no asker"))?;
+    let runner = runners.pop().ok_or(anyhow!("no runner"))?;
+    let start = Instant::now(rt)?;
+    let done = hand_all(&board, asker, runner, jobs);
+    Ok(Times::of(done, start.elapsed(rt)?))
+}
+
+/// Hands each job over; how many results came back. A seat that is alone on a board gets the slot of its last result
+/// again, so the runner tries all eight.
+fn hand_all(board: &Board, mut asker: AskerSeat, mut runner: RunnerSeat, jobs: Vec<Job>) -> usize
+    requires asker { asker.table ≡ board_id board.now }
+    requires runner { runner.table ≡ board_id board.now }
+{
+    let mut done: usize = 0;
+    for job in jobs {
+        if let Ok(slot) = board.offer(&mut asker, job) {
+            run_some(board, &mut runner, &Open, ROW as u32);
+            if board.poll(&mut asker, slot).is_some() {
+                done = done.saturating_add(1);
+            }
+        }
+    }
+    done
+}
+
+/// Runs so many jobs by so many runners.
+pub fn run<R>(rt: &R, count: usize, runners: usize) -> Result<Times>
+where
+    R: Wait + Threads + Clock + Alloc<A = Global> + Sync,
+{
+    let jobs = jobs(rt.alloc(), count)?;
+    let (board, mut askers, seats) = Board::open(rt.alloc(), 1, runners).map_err(|_| anyhow!(
+        "no board"
+    ))?;
+    let asker = askers.pop().ok_or(anyhow!("no asker"))?;
+    let start = Instant::now(rt)?;
+    let done = run_all(rt, &board, asker, seats, jobs)?;
+    Ok(Times::of(done, start.elapsed(rt)?))
+}
+
+/// Starts the runners, and offers all jobs to them; how many results came back.
+fn run_all<R: Wait + Threads + Sync>(
+    rt: &R,
+    board: &Board,
+    asker: AskerSeat,
+    seats: Vec<RunnerSeat>,
+    jobs: Vec<Job>,
+) -> Result<usize>
+    requires asker { asker.table ≡ board_id board.now }
+    requires runners { All (λ s. s.table ≡ board_id board.now) seats.items }
+{
+    let done = with_runners(
+        rt,
+        board,
+        seats,
+        &Open,
+        move || -> usize
+            requires { asker.table ≡ board_id board.now }
+        { offer_all(rt, board, asker, jobs) },
+    )?;
+    Ok(done)
+}
+
+/// Offers all jobs, each as soon as there is room, and receives all results.
+fn offer_all<R: Wait>(rt: &R, board: &Board, mut asker: AskerSeat, jobs: Vec<Job>) -> usize
+    requires { asker.table ≡ board_id board.now }
+{
+    let mut done: usize = 0;
+    for job in jobs {
+        for _ in rt.forever() {
+            if asker.room() > 0 {
+                break;
+            }
+            done = done.saturating_add(receive(board, &mut asker));
+        }
+        let _slot = board.offer(&mut asker, job);
+    }
+    for _ in rt.forever() {
+        if asker.room() == ROW {
+            break;
+        }
+        done = done.saturating_add(receive(board, &mut asker));
+    }
+    done
+}
+
+/// Looks once at each open slot; how many results came.
+fn receive(board: &Board, asker: &mut AskerSeat) -> usize
+    requires { asker.old.table ≡ board_id board.now }
+    ensures { asker.new.table ≡ asker.old.table }
+{
+    let mut done: usize = 0;
+    for place in 0..ROW {
+        if let Some(slot) = asker.held(place) {
+            if board.poll(asker, slot).is_some() {
+                done = done.saturating_add(1);
+            }
+        }
+    }
+    if done == 0 {
+        thread::yield_now();
+    }
+    done
+}

@@ -1,0 +1,58 @@
+//! Jobs to be run, and how long they took.
+
+use anyhow::{Result, anyhow};
+use q_session::job::Job;
+use q_session::query::{Phase, Query};
+use q_sim::program::certified_code;
+use q_table::program::ProgramId;
+use sc_view::view::{Stored, View};
+use std::alloc::Global;
+use std::time::Duration;
+
+/// `mov64 r0, r3 / add64 r0, 1 / exit`
+const COUNT: [u8; 24] = [
+    0xbf, 0x30, 0, 0, 0, 0, 0, 0, 0x07, 0, 0, 0, 1, 0, 0, 0, 0x95, 0, 0, 0, 0, 0, 0, 0,
+];
+
+/// How many jobs were done, and how long each took.
+#[derive(Clone, Copy)]
+pub struct Times {
+    pub jobs: usize,
+    pub nanos: u128,
+}
+
+impl Times {
+    /// Of so many jobs, which took this long in all.
+    pub fn of(jobs: usize, took: Duration) -> Times {
+        let nanos = match took.as_nanos().checked_div(jobs as u128) {
+            Some(nanos) => nanos,
+            None => 0,
+        };
+        Times { jobs, nanos }
+    }
+}
+
+/// A job over a view of one record.
+fn one(alloc: Global) -> Result<Job> {
+    let program = certified_code(alloc, &COUNT).map_err(|_| anyhow!("refused"))?;
+    let mut view = View::new(alloc);
+    let stored = Stored::new(1, [7; 48]).ok_or(anyhow!("no value"))?;
+    view.put(1, stored).map_err(|_| anyhow!("no room"))?;
+    let query = Query {
+        tag: 0,
+        program: ProgramId::new(0),
+        start: 0,
+        phase: Phase::Ready(view),
+    };
+    Job::of(1, 0, &query, &program)?.ok_or(anyhow!("not ready"))
+}
+
+/// So many jobs, which share their program and their view.
+pub fn jobs(alloc: Global, count: usize) -> Result<Vec<Job>> {
+    let job = one(alloc)?;
+    let mut jobs = Vec::with_capacity(alloc, count)?;
+    for _ in 0..count {
+        jobs.push(job.clone()?)?;
+    }
+    Ok(jobs)
+}

@@ -1,0 +1,164 @@
+//! The same jobs through two queues, each behind a lock.
+
+use crate::jobs::{Times, jobs};
+use anyhow::Result;
+use q_session::done::Done;
+use q_session::job::Job;
+use std::collections::VecDeque;
+use std::sync::atomic::AtomicBool;
+use std::sync::atomic::Ordering::SeqCst;
+use std::sync::{Mutex, Wait};
+use std::thread;
+use std::thread::{Scope, Threads};
+use std::alloc::Global;
+use std::time::{Clock, Instant};
+
+/// What the threads share.
+#[derive(Drop)]
+struct Queues {
+    offered: Mutex<VecDeque<Job>>,
+    finished: Mutex<VecDeque<Done>>,
+    over: AtomicBool,
+}
+
+impl Queues {
+    fn new(alloc: Global) -> Queues {
+        Queues {
+            offered: Mutex::new(VecDeque::new(alloc)),
+            finished: Mutex::new(VecDeque::new(alloc)),
+            over: AtomicBool::new(false),
+        }
+    }
+
+    /// Whether the job was taken up.
+    fn offer(&self, rt: &impl Wait, job: Job) -> bool {
+        self.offered.lock(rt).push_back(job).is_ok()
+    }
+
+    /// Runs the next job, if there is one.
+    fn run_one(&self, rt: &impl Wait) -> bool {
+        let job = self.offered.lock(rt).pop_front();
+        match job {
+            Some(job) => {
+                let done = Done::run(job);
+                self.finished.lock(rt).push_back(done).is_ok()
+            }
+            None => false,
+        }
+    }
+
+    /// Takes the next result, if there is one.
+    fn receive(&self, rt: &impl Wait) -> bool {
+        let done = self.finished.lock(rt).pop_front();
+        done.is_some()
+    }
+}
+
+/// Hands so many jobs over, one behind the other.
+pub fn hand(rt: &HostRuntime, count: usize) -> Result<Times> {
+    let jobs = jobs(rt.alloc(), count)?;
+    let queues = Queues::new(rt.alloc());
+    let start = Instant::now(rt)?;
+    let mut done: usize = 0;
+    for job in jobs {
+        if queues.offer(rt, job) && queues.run_one(rt) && queues.receive(rt) {
+            done = done.saturating_add(1);
+        }
+    }
+    Ok(Times::of(done, start.elapsed(rt)?))
+}
+
+/// Runs so many jobs by so many runners.
+pub fn run<R>(rt: &R, count: usize, runners: usize) -> Result<Times>
+where
+    R: Wait + Threads + Clock + Alloc<A = Global> + Sync,
+{
+    let jobs = jobs(rt.alloc(), count)?;
+    let queues = Queues::new(rt.alloc());
+    let start = Instant::now(rt)?;
+    let done = run_all(rt, &queues, runners, jobs);
+    Ok(Times::of(done, start.elapsed(rt)?))
+}
+
+/// Starts the runners and offers all jobs to them; how many results came back.
+fn run_all<R: Wait + Threads + Sync>(
+    rt: &R,
+    queues: &Queues,
+    runners: usize,
+    jobs: Vec<Job>,
+) -> usize {
+    thread::scope(thread::scope_env(), rt, |scope| {
+        let done = if start_all(scope, rt, queues, runners) {
+            offer_all(rt, queues, jobs)
+        } else {
+            0
+        };
+        queues.over.store(true, SeqCst);
+        done
+    })
+}
+
+/// Starts the threads of the runners.
+fn start_all<'s, E, R: Wait + Threads + Sync>(
+    scope: &Scope<'s, E>,
+    rt: &'s R,
+    queues: &'s Queues,
+    runners: usize,
+) -> bool {
+    for _ in 0..runners {
+        if scope.spawn(move || run_until(rt, queues)).is_err() {
+            return false;
+        }
+    }
+    true
+}
+
+/// Runs jobs until the work is over.
+fn run_until<R: Wait>(rt: &R, queues: &Queues) {
+    for _ in rt.forever() {
+        if queues.over.load(SeqCst) {
+            break;
+        }
+        if !queues.run_one(rt) {
+            thread::yield_now();
+        }
+    }
+}
+
+/// Offers all jobs, at most eight at a time, and receives all results.
+fn offer_all<R: Wait>(rt: &R, queues: &Queues, jobs: Vec<Job>) -> usize {
+    let mut offered: usize = 0;
+    let mut done: usize = 0;
+    for job in jobs {
+        for _ in rt.forever() {
+            if offered.saturating_sub(done) < 8 {
+                break;
+            }
+            done = done.saturating_add(receive_some(rt, queues));
+        }
+        if queues.offer(rt, job) {
+            offered = offered.saturating_add(1);
+        }
+    }
+    for _ in rt.forever() {
+        if offered == done {
+            break;
+        }
+        done = done.saturating_add(receive_some(rt, queues));
+    }
+    done
+}
+
+/// Takes all results that are there; how many there were.
+fn receive_some<R: Wait>(rt: &R, queues: &Queues) -> usize {
+    let mut done: usize = 0;
+    for _ in 0..8 {
+        if queues.receive(rt) {
+            done = done.saturating_add(1);
+        }
+    }
+    if done == 0 {
+        thread::yield_now();
+    }
+    done
+}
