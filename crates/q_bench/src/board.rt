@@ -11,14 +11,14 @@ use q_pool::gate::Open;
 use q_pool::runner::run_some;
 use q_pool::runners::with_runners;
 use q_session::job::Job;
+use std::alloc::Global;
 use std::sync::Wait;
 use std::thread;
 use std::thread::Threads;
-use std::alloc::Global;
 use std::time::{Clock, Instant};
 
 /// Hands so many jobs over, one behind the other.
-pub fn hand(rt: &HostRuntime, count: usize) -> Result<Times> {
+pub fn hand<R: Wait + Clock + Alloc<A = Global>>(rt: &R, count: usize) -> Result<Times> {
     let jobs = jobs(rt.alloc(), count)?;
     let (board, mut askers, mut runners) = Board::open(rt.alloc(), 1, 1).map_err(|_| anyhow!(
         "no board"

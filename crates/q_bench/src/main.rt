@@ -14,8 +14,13 @@ mod board;
 mod jobs;
 mod queues;
 
+use crate::jobs::Times;
 use anyhow::{Context, Result, bail};
+use std::alloc::Global;
 use std::env;
+use std::sync::Wait;
+use std::thread::Threads;
+use std::time::Clock;
 
 /// A number of the command line, or another where it is not given.
 fn size(words: &[String], index: usize, usual: usize) -> Result<usize> {
@@ -30,42 +35,48 @@ fn size(words: &[String], index: usize, usual: usize) -> Result<usize> {
 fn main(rt: HostRuntime) -> Result<()> {
     let words: Vec<String> = env::args(&rt)?.collect(rt.alloc())?;
     match words.get(1).map(|word| word.as_str()) {
-        Some("hand") => hand(&rt, size(&words, 2, 64)?),
-        Some("run") => run(&rt, size(&words, 2, 64)?, size(&words, 3, 2)?),
+        Some("hand") => tell(&rt, "hand", hand(&rt, size(&words, 2, 64)?)?),
+        Some("run") => tell(
+            &rt,
+            "run",
+            run(&rt, size(&words, 2, 64)?, size(&words, 3, 2)?)?,
+        ),
         Some(word) => bail!("{word:?} is none of hand and run"),
         None => {
-            hand(&rt, 64)?;
-            run(&rt, 64, 2)
+            tell(&rt, "hand", hand(&rt, 64)?)?;
+            tell(&rt, "run", run(&rt, 64, 2)?)
         }
     }
 }
 
+/// Times of the board, and of the queues.
+#[derive(Clone, Copy)]
+struct Both {
+    board: Times,
+    queues: Times,
+}
+
 /// Times one thread.
-fn hand(rt: &HostRuntime, count: usize) -> Result<()> {
+fn hand<R: Wait + Clock + Alloc<A = Global>>(rt: &R, count: usize) -> Result<Both> {
     let board = board::hand(rt, count)?;
     let queues = queues::hand(rt, count)?;
-    println!(rt;
-        "hand {count} jobs: board {} queues {}",
-        board.jobs, queues.jobs
-    )?;
-    eprintln!(rt;
-        "a job: board {} ns, queues {} ns",
-        board.nanos, queues.nanos
-    )?;
-    Ok(())
+    Ok(Both { board, queues })
 }
 
 /// Times so many runners.
-fn run<R>(rt: &R, count: usize, runners: usize) -> Result<()>
+fn run<R>(rt: &R, count: usize, runners: usize) -> Result<Both>
 where
-    R: Wait + Threads + Clock + Alloc<A = Global> + Stdio + Sync,
+    R: Wait + Threads + Clock + Alloc<A = Global> + Sync,
 {
     let board = board::run(rt, count, runners)?;
     let queues = queues::run(rt, count, runners)?;
-    println!(rt;
-        "run {count} jobs by {runners}: board {} queues {}",
-        board.jobs, queues.jobs
-    )?;
+    Ok(Both { board, queues })
+}
+
+/// Prints what was done, and how long a job took.
+fn tell(rt: &HostRuntime, what: &str, both: Both) -> Result<()> {
+    let Both { board, queues } = both;
+    println!(rt; "{what} board {} queues {}", board.jobs, queues.jobs)?;
     eprintln!(rt;
         "a job: board {} ns, queues {} ns",
         board.nanos, queues.nanos

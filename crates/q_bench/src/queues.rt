@@ -4,13 +4,13 @@ use crate::jobs::{Times, jobs};
 use anyhow::Result;
 use q_session::done::Done;
 use q_session::job::Job;
+use std::alloc::Global;
 use std::collections::VecDeque;
 use std::sync::atomic::AtomicBool;
 use std::sync::atomic::Ordering::SeqCst;
 use std::sync::{Mutex, Wait};
 use std::thread;
 use std::thread::{Scope, Threads};
-use std::alloc::Global;
 use std::time::{Clock, Instant};
 
 /// What the threads share.
@@ -55,7 +55,7 @@ impl Queues {
 }
 
 /// Hands so many jobs over, one behind the other.
-pub fn hand(rt: &HostRuntime, count: usize) -> Result<Times> {
+pub fn hand<R: Wait + Clock + Alloc<A = Global>>(rt: &R, count: usize) -> Result<Times> {
     let jobs = jobs(rt.alloc(), count)?;
     let queues = Queues::new(rt.alloc());
     let start = Instant::now(rt)?;
