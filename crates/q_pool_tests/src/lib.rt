@@ -4,11 +4,7 @@
 //! done at all is said by no proof.
 #![tactic(auto)]
 
-#[cfg(test)]
-mod asking;
-#[cfg(test)]
-mod gate;
-#[cfg(test)]
-mod many;
-#[cfg(test)]
-mod row;
+pub mod asking;
+pub mod gate;
+pub mod many;
+pub mod row;

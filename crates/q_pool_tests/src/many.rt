@@ -14,6 +14,7 @@ use std::alloc::Global;
 use std::sync::Wait;
 use std::sync::atomic::AtomicUsize;
 use std::sync::atomic::Ordering::SeqCst;
+#[cfg(test)]
 use std::test::Fail;
 use std::thread;
 use std::thread::{Scope, Threads};

@@ -11,6 +11,7 @@ use q_book::book::Book;
 use q_pool::gate::Open;
 use q_pool::pump::pump_once;
 use q_pool::runner::run_some;
+#[cfg(test)]
 use std::test::Fail;
 
 /// The refusal of the next job's offer and the query of the job that comes back; none where it is taken.
@@ -27,6 +28,18 @@ fn offer_next(board: &Board, seat: &mut AskerSeat, book: &mut Book) -> Option<(u
     }
 }
 
+/// Whether eight jobs in a row are taken.
+fn fill(board: &Board, seat: &mut AskerSeat, book: &mut Book) -> bool
+    requires { seat.old.table ≡ board_id board.now }
+    ensures { seat.new.table ≡ seat.old.table }
+{
+    let mut taken = true;
+    for _ in 0..8 {
+        taken = taken && offer_next(board, seat, book).is_none();
+    }
+    taken
+}
+
 #[test]
 fn a_ninth_job_comes_back(rt: HostRuntime) -> Result<(), Fail> {
     let alloc = rt.alloc();
@@ -37,9 +50,7 @@ fn a_ninth_job_comes_back(rt: HostRuntime) -> Result<(), Fail> {
     let (board, mut askers, mut runners) = Board::open(alloc, 1, 1).map_err(|_| "no board")?;
     let mut asker = askers.pop().ok_or("no asker")?;
     let mut runner = runners.pop().ok_or("no runner")?;
-    for _ in 0..8 {
-        assert_eq!(rt; offer_next(&board, &mut asker, &mut book), None);
-    }
+    assert!(rt; fill(&board, &mut asker, &mut book));
     assert_eq!(rt; offer_next(&board, &mut asker, &mut book), Some((61, 8)));
     assert_eq!(rt; run_some(&board, &mut runner, &Open, 8), 8);
     let slot = asker.held(0).ok_or("no open job")?;
