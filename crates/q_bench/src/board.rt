@@ -30,20 +30,17 @@ pub fn hand<R: Wait + Clock + Alloc<A = Global>>(rt: &R, count: usize) -> Result
     Ok(Times::of(done, start.elapsed(rt)?))
 }
 
-/// Hands each job over; how many results came back. A seat that is alone on a board gets the slot of its last result
-/// again, so the runner tries all eight.
+/// Hands each job over; how many results came back. The runner tries all eight slots, and the asker looks at each that is
+/// open, as a pump does.
 fn hand_all(board: &Board, mut asker: AskerSeat, mut runner: RunnerSeat, jobs: Vec<Job>) -> usize
     requires asker { asker.table ≡ board_id board.now }
     requires runner { runner.table ≡ board_id board.now }
 {
     let mut done: usize = 0;
     for job in jobs {
-        if let Ok(slot) = board.offer(&mut asker, job) {
-            run_some(board, &mut runner, &Open, ROW as u32);
-            if board.poll(&mut asker, slot).is_some() {
-                done = done.saturating_add(1);
-            }
-        }
+        let _slot = board.offer(&mut asker, job);
+        run_some(board, &mut runner, &Open, ROW as u32);
+        done = done.saturating_add(receive(board, &mut asker));
     }
     done
 }

@@ -107,43 +107,54 @@ fn ask_three<R: Clock>(
     rt: &R,
     alloc: Global,
     board: &Board,
-    mut seat: AskerSeat,
-    mut book: Book,
+    seat: &mut AskerSeat,
+    book: &mut Book,
     signs: &Signs,
-) -> Option<Book>
-    requires { seat.table ≡ board_id board.now }
+) -> Option<()>
+    requires { seat.old.table ≡ board_id board.now }
 {
-    ask(alloc, &mut book, 10)?;
-    pump_until_answered(rt, board, &mut seat, &mut book, 0)?;
-    ask(alloc, &mut book, 20)?;
-    pump_until_told(rt, board, &mut seat, &mut book, &signs.began)?;
-    ask(alloc, &mut book, 30)?;
-    pump_until_answered(rt, board, &mut seat, &mut book, 2)?;
+    ask(alloc, book, 10)?;
+    pump_until_answered(rt, board, seat, book, 0)?;
+    ask(alloc, book, 20)?;
+    pump_until_told(rt, board, seat, book, &signs.began)?;
+    ask(alloc, book, 30)?;
+    pump_until_answered(rt, board, seat, book, 2)?;
     signs.answered.store(true, SeqCst);
-    pump_until_answered(rt, board, &mut seat, &mut book, 1)?;
-    Some(book)
+    pump_until_answered(rt, board, seat, book, 1)
 }
 
-/// The book after the three queries, by so many runners; none where one held up another.
-fn with_gate<R: Wait + Threads + Clock + Sync>(
+/// Whether the three answers are right.
+fn are_right(book: &Book) -> bool {
+    is_right(book, 0, 10) && is_right(book, 1, 20) && is_right(book, 2, 30)
+}
+
+/// Asks the three queries; whether all are answered, and right.
+fn answers_three<R: Clock>(
     rt: &R,
     alloc: Global,
-    runners: usize,
-) -> Option<Book> {
-    let book = founded(alloc)?;
-    let (board, mut askers, seats) = Board::open(alloc, 1, runners).ok()?;
-    let seat = askers.pop()?;
-    run_with_gate(rt, alloc, &board, seat, seats, book)
+    board: &Board,
+    mut seat: AskerSeat,
+    signs: &Signs,
+) -> bool
+    requires { seat.table ≡ board_id board.now }
+{
+    match founded(alloc) {
+        Some(mut book) => {
+            let asked = ask_three(rt, alloc, board, &mut seat, &mut book, signs);
+            asked.is_some() && are_right(&book)
+        }
+        None => false,
+    }
 }
 
-fn run_with_gate<R: Wait + Threads + Clock + Sync>(
+/// The same while runners run, behind the gate. Whether no run held up another, and all answers are right.
+fn passes<R: Wait + Threads + Clock + Sync>(
     rt: &R,
     alloc: Global,
     board: &Board,
     seat: AskerSeat,
     seats: Vec<RunnerSeat>,
-    book: Book,
-) -> Option<Book>
+) -> bool
     requires asker { seat.table ≡ board_id board.now }
     requires runners { All (λ s. s.table ≡ board_id board.now) seats.items }
 {
@@ -154,33 +165,44 @@ fn run_with_gate<R: Wait + Threads + Clock + Sync>(
     };
     let signs = &signs;
     let gate = Held { rt, signs };
-    let book = with_runners(
+    let answered = with_runners(
         rt,
         board,
         seats,
         &gate,
-        move || -> Option<Book>
+        move || -> bool
             requires { seat.table ≡ board_id board.now }
-        { ask_three(rt, alloc, board, seat, book, signs) },
-    )
-    .ok()??;
-    if signs.late.load(SeqCst) {
-        return None;
+        { answers_three(rt, alloc, board, seat, signs) },
+    );
+    match answered {
+        Ok(answered) => answered && !signs.late.load(SeqCst),
+        Err(_) => false,
     }
-    Some(book)
+}
+
+/// Whether the gate is passed by so many runners; none where there is no board.
+fn passes_with<R: Wait + Threads + Clock + Sync>(
+    rt: &R,
+    alloc: Global,
+    runners: usize,
+) -> Option<bool> {
+    match Board::open(alloc, 1, runners) {
+        Ok((board, mut askers, seats)) => match askers.pop() {
+            Some(seat) => Some(passes(rt, alloc, &board, seat, seats)),
+            None => None,
+        },
+        Err(_) => None,
+    }
 }
 
 #[test]
 fn a_second_runner_answers_while_the_first_is_held(rt: HostRuntime) -> Result<(), Fail> {
-    let book = with_gate(&rt, rt.alloc(), 2).ok_or("a held run held up another")?;
-    assert!(rt; is_right(&book, 0, 10));
-    assert!(rt; is_right(&book, 1, 20));
-    assert!(rt; is_right(&book, 2, 30));
+    assert!(rt; passes_with(&rt, rt.alloc(), 2) == Some(true));
     Ok(())
 }
 
 #[test]
 fn one_serial_runner_fails_the_gate(rt: HostRuntime) -> Result<(), Fail> {
-    assert!(rt; with_gate(&rt, rt.alloc(), 1).is_none());
+    assert!(rt; passes_with(&rt, rt.alloc(), 1) == Some(false));
     Ok(())
 }

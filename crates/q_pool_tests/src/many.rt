@@ -5,7 +5,7 @@ ghost use Rattle.q_board.specs.BoardId.{board_id};
 
 use crate::asking::{ask, founded, is_right};
 use q_board::board::Board;
-use q_board::seats::AskerSeat;
+use q_board::seats::{AskerSeat, RunnerSeat};
 use q_book::book::Book;
 use q_pool::gate::Open;
 use q_pool::pump::pump_once;
@@ -25,19 +25,30 @@ const QUERIES: usize = 625;
 /// How often an asker pumps at most.
 const PUMPS: u32 = 10_000_000;
 
-/// Asks all queries, each from its own number, pumps until all are answered, and counts the right answers.
-fn ask_all(alloc: Global, board: &Board, mut seat: AskerSeat, right: &AtomicUsize) -> Option<()>
-    requires { seat.table ≡ board_id board.now }
-{
-    let mut book = founded(alloc)?;
+/// Asks all queries, each from its own number. Whether all were asked.
+fn ask_each(alloc: Global, book: &mut Book) -> Option<()> {
     for query in 0..QUERIES {
-        ask(alloc, &mut book, query as u64)?;
-    }
-    let posted = pump_all(board, &mut seat, &mut book)?;
-    if posted == QUERIES as u32 {
-        right.fetch_add(count_right(&book), SeqCst);
+        ask(alloc, book, query as u64)?;
     }
     Some(())
+}
+
+/// Asks all queries, and pumps until all are answered; how many answers are right.
+fn ask_all(alloc: Global, board: &Board, mut seat: AskerSeat) -> usize
+    requires { seat.table ≡ board_id board.now }
+{
+    match founded(alloc) {
+        Some(mut book) => {
+            let asked = ask_each(alloc, &mut book);
+            let posted = pump_all(board, &mut seat, &mut book);
+            if asked.is_some() && posted == Some(QUERIES as u32) {
+                count_right(&book)
+            } else {
+                0
+            }
+        }
+        None => 0,
+    }
 }
 
 /// Pumps until so many results were posted.
@@ -76,9 +87,9 @@ fn start<'s, E, R: Wait + Threads + Sync>(
     let _rt = rt;
     scope
         .spawn(
-            move || -> Option<()>
+            move || -> usize
                 requires { seat.table ≡ board_id board.now }
-            { ask_all(alloc, board, seat, right) },
+            { right.fetch_add(ask_all(alloc, board, seat), SeqCst) },
         )
         .is_ok()
 }
@@ -121,6 +132,34 @@ fn ask_in_threads<R: Wait + Threads + Sync>(
     )
 }
 
+/// How many answers are right, while so many runners run.
+fn right_among<R: Wait + Threads + Sync>(
+    rt: &R,
+    alloc: Global,
+    board: &Board,
+    askers: Vec<AskerSeat>,
+    runners: Vec<RunnerSeat>,
+) -> Option<usize>
+    requires askers { All (λ s. s.table ≡ board_id board.now) askers.items }
+    requires runners { All (λ s. s.table ≡ board_id board.now) runners.items }
+{
+    let right = AtomicUsize::new(0);
+    let right = &right;
+    let all = with_runners(
+        rt,
+        board,
+        runners,
+        &Open,
+        move || -> bool
+            requires { All (λ s. s.table ≡ board_id board.now) askers.items }
+        { ask_in_threads(rt, alloc, board, askers, right) },
+    );
+    match all {
+        Ok(true) => Some(right.load(SeqCst)),
+        Ok(false) | Err(_) => None,
+    }
+}
+
 /// How many of the answers are right, of so many askers and runners.
 fn right_answers<R: Wait + Threads + Sync>(
     rt: &R,
@@ -128,23 +167,10 @@ fn right_answers<R: Wait + Threads + Sync>(
     askers: usize,
     runners: usize,
 ) -> Option<usize> {
-    let (board, asker_seats, runner_seats) = Board::open(alloc, askers, runners).ok()?;
-    let right = AtomicUsize::new(0);
-    let (board, right) = (&board, &right);
-    let all = with_runners(
-        rt,
-        board,
-        runner_seats,
-        &Open,
-        move || -> bool
-            requires { All (λ s. s.table ≡ board_id board.now) asker_seats.items }
-        { ask_in_threads(rt, alloc, board, asker_seats, right) },
-    )
-    .ok()?;
-    if !all {
-        return None;
+    match Board::open(alloc, askers, runners) {
+        Ok((board, askers, runners)) => right_among(rt, alloc, &board, askers, runners),
+        Err(_) => None,
     }
-    Some(right.load(SeqCst))
 }
 
 #[test]

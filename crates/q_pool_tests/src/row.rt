@@ -6,11 +6,12 @@ ghost use Rattle.q_board.specs.Calls.{SameAsker};
 
 use crate::asking::{ask, founded, is_right};
 use q_board::board::Board;
-use q_board::seats::AskerSeat;
+use q_board::seats::{AskerSeat, RunnerSeat};
 use q_book::book::Book;
 use q_pool::gate::Open;
 use q_pool::pump::pump_once;
 use q_pool::runner::run_some;
+use std::alloc::Global;
 #[cfg(test)]
 use std::test::Fail;
 
@@ -40,26 +41,88 @@ fn fill(board: &Board, seat: &mut AskerSeat, book: &mut Book) -> bool
     taken
 }
 
+/// The query of the result in the row's first place, once it is recorded.
+fn record_first(board: &Board, seat: &mut AskerSeat, book: &mut Book) -> Option<usize>
+    requires { seat.old.table ≡ board_id board.now }
+    ensures { seat.new.table ≡ seat.old.table }
+{
+    let slot = seat.held(0)?;
+    match board.poll(seat, slot) {
+        Some(done) => {
+            let query = done.job().query();
+            match book.post(&done) {
+                Ok(()) => Some(query),
+                Err(_) => None,
+            }
+        }
+        None => None,
+    }
+}
+
+/// Whether the ninth job comes back with 61, and one more is taken once a result was received.
+fn gives_back_the_ninth(
+    board: &Board,
+    asker: &mut AskerSeat,
+    runner: &mut RunnerSeat,
+    book: &mut Book,
+) -> bool
+    requires asker { asker.old.table ≡ board_id board.now }
+    requires runner { runner.old.table ≡ board_id board.now }
+{
+    let filled = fill(board, asker, book);
+    let ninth = offer_next(board, asker, book);
+    let ran = run_some(board, runner, &Open, 8);
+    let first = record_first(board, asker, book);
+    let tenth = offer_next(board, asker, book);
+    let posted = pump_once(board, asker, book);
+    let is_posted = match posted {
+        Ok(posted) => posted == 7,
+        Err(_) => false,
+    };
+    filled && ninth == Some((61, 8)) && ran == 8 && first.is_some() && tenth == None && is_posted
+}
+
+/// Asks so many queries. Whether all were asked.
+fn ask_each(alloc: Global, book: &mut Book, queries: u64) -> Option<()> {
+    for start in 0..queries {
+        ask(alloc, book, start)?;
+    }
+    Some(())
+}
+
+/// Whether the first eight answers are right.
+fn are_right(book: &Book) -> bool {
+    (0..8).all(|query| is_right(book, query, query as u64))
+}
+
+/// The same with a board and a book of its own.
+fn row_of_eight(alloc: Global, board: &Board, mut asker: AskerSeat, mut runner: RunnerSeat) -> bool
+    requires asker { asker.table ≡ board_id board.now }
+    requires runner { runner.table ≡ board_id board.now }
+{
+    match founded(alloc) {
+        Some(mut book) => {
+            let asked = ask_each(alloc, &mut book, 10);
+            let gives = gives_back_the_ninth(board, &mut asker, &mut runner, &mut book);
+            asked.is_some() && gives && are_right(&book)
+        }
+        None => false,
+    }
+}
+
+/// Whether a row has eight places; none where there is no board.
+fn has_eight(alloc: Global) -> Option<bool> {
+    match Board::open(alloc, 1, 1) {
+        Ok((board, mut askers, mut runners)) => match (askers.pop(), runners.pop()) {
+            (Some(asker), Some(runner)) => Some(row_of_eight(alloc, &board, asker, runner)),
+            _ => None,
+        },
+        Err(_) => None,
+    }
+}
+
 #[test]
 fn a_ninth_job_comes_back(rt: HostRuntime) -> Result<(), Fail> {
-    let alloc = rt.alloc();
-    let mut book = founded(alloc).ok_or("no book")?;
-    for start in 0..10 {
-        ask(alloc, &mut book, start).ok_or("not asked")?;
-    }
-    let (board, mut askers, mut runners) = Board::open(alloc, 1, 1).map_err(|_| "no board")?;
-    let mut asker = askers.pop().ok_or("no asker")?;
-    let mut runner = runners.pop().ok_or("no runner")?;
-    assert!(rt; fill(&board, &mut asker, &mut book));
-    assert_eq!(rt; offer_next(&board, &mut asker, &mut book), Some((61, 8)));
-    assert_eq!(rt; run_some(&board, &mut runner, &Open, 8), 8);
-    let slot = asker.held(0).ok_or("no open job")?;
-    let done = board.poll(&mut asker, slot).ok_or("no result")?;
-    book.post(&done)?;
-    assert_eq!(rt; offer_next(&board, &mut asker, &mut book), None);
-    assert_eq!(rt; pump_once(&board, &mut asker, &mut book)?, 7);
-    for query in 0..8 {
-        assert!(rt; is_right(&book, query, query as u64));
-    }
+    assert!(rt; has_eight(rt.alloc()) == Some(true));
     Ok(())
 }
