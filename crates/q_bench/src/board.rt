@@ -1,15 +1,17 @@
 //! Jobs over the board.
 
-ghost use Rattle.std.specs.Prelude.{◌≡◌, All};
+ghost use Rattle.std.specs.Prelude.{◌≡◌, ◌+◌, ◌*◌, ◌≤◌, All};
 ghost use Rattle.q_board.specs.BoardId.{board_id};
+ghost use Rattle.q_board.specs.Calls.{SameAsker, SameRunner};
 
 use crate::jobs::{Times, jobs};
 use anyhow::{Result, anyhow};
 use q_board::board::Board;
 use q_board::seats::{AskerSeat, ROW, RunnerSeat};
 use q_pool::gate::Open;
-use q_pool::runner::run_some;
 use q_pool::runners::with_runners;
+use q_session::done::Done;
+use q_session::fold::fold_checked;
 use q_session::job::Job;
 use std::alloc::Global;
 use std::sync::Wait;
@@ -30,19 +32,51 @@ pub fn hand<R: Wait + Clock + Alloc<A = Global>>(rt: &R, count: usize) -> Result
     Ok(Times::of(done, start.elapsed(rt)?))
 }
 
-/// Hands each job over; how many results came back. The runner tries all eight slots, and the asker looks at each that is
-/// open, as a pump does.
+/// Hands each job over; how many results came back.
 fn hand_all(board: &Board, mut asker: AskerSeat, mut runner: RunnerSeat, jobs: Vec<Job>) -> usize
     requires asker { asker.table ≡ board_id board.now }
     requires runner { runner.table ≡ board_id board.now }
+    requires lanes { 8 * asker.number + 8 ≤ runner.lanes }
 {
     let mut done: usize = 0;
     for job in jobs {
-        let _slot = board.offer(&mut asker, job);
-        run_some(board, &mut runner, &Open, ROW as u32);
-        done = done.saturating_add(receive(board, &mut asker));
+        if hand_one(board, &mut asker, &mut runner, job) {
+            done = done.saturating_add(1);
+        }
     }
     done
+}
+
+/// Offers a job, takes it, runs it, finishes it and takes its result: whether it came.
+fn hand_one(board: &Board, asker: &mut AskerSeat, runner: &mut RunnerSeat, job: Job) -> bool
+    requires asker { asker.old.table ≡ board_id board.now }
+    requires runner { runner.old.table ≡ board_id board.now }
+    requires lanes { 8 * asker.old.number + 8 ≤ runner.old.lanes }
+    ensures asker { SameAsker asker.old asker.new }
+    ensures runner { SameRunner runner.old runner.new }
+{
+    let Ok(slot) = board.offer(asker, job) else {
+        return false;
+    };
+    let Some(claim) = board.try_take(runner, slot) else {
+        return false;
+    };
+    let job = claim.job();
+    let ran = fold_checked(job.certified().certified(), job.view(), job.start());
+    board.finish(runner, claim, ran);
+    board.poll(asker, slot).is_some()
+}
+
+/// Runs each job where it is; how many there were.
+pub fn run_alone<R: Clock + Alloc<A = Global>>(rt: &R, count: usize) -> Result<Times> {
+    let jobs = jobs(rt.alloc(), count)?;
+    let start = Instant::now(rt)?;
+    let mut done: usize = 0;
+    for job in jobs {
+        let _done = Done::run(job);
+        done = done.saturating_add(1);
+    }
+    Ok(Times::of(done, start.elapsed(rt)?))
 }
 
 /// Runs so many jobs by so many runners.

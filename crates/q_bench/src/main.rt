@@ -5,7 +5,8 @@
 //! | `hand JOBS` | one thread offers, takes, runs, finishes and polls each job, one behind the other |
 //! | `run JOBS RUNNERS` | one thread offers and polls, so many others take, run and finish |
 //!
-//! Each job runs three instructions over one record. The counts go to the standard output and are the same at each run;
+//! Each job runs three instructions over one record; with `hand`, the time of a job that is run where it is comes last, and
+//! what a job takes beyond that is its hand-over. The counts go to the standard output and are the same at each run;
 //! the times of a job go to the standard error. With no words it does a small run of each. To give the board work is all
 //! that its functions do, so they promise nothing more than that they are safe.
 #![tactic(auto)]
@@ -35,7 +36,7 @@ fn size(words: &[String], index: usize, usual: usize) -> Result<usize> {
 fn main(rt: HostRuntime) -> Result<()> {
     let words: Vec<String> = env::args(&rt)?.collect(rt.alloc())?;
     match words.get(1).map(|word| word.as_str()) {
-        Some("hand") => tell(&rt, "hand", hand(&rt, size(&words, 2, 64)?)?),
+        Some("hand") => tell_hand(&rt, hand(&rt, size(&words, 2, 64)?)?),
         Some("run") => tell(
             &rt,
             "run",
@@ -43,7 +44,7 @@ fn main(rt: HostRuntime) -> Result<()> {
         ),
         Some(word) => bail!("{word:?} is none of hand and run"),
         None => {
-            tell(&rt, "hand", hand(&rt, 64)?)?;
+            tell_hand(&rt, hand(&rt, 64)?)?;
             tell(&rt, "run", run(&rt, 64, 2)?)
         }
     }
@@ -56,11 +57,12 @@ struct Both {
     queues: Times,
 }
 
-/// Times one thread.
-fn hand<R: Wait + Clock + Alloc<A = Global>>(rt: &R, count: usize) -> Result<Both> {
+/// Times one thread, and jobs that are run where they are.
+fn hand<R: Wait + Clock + Alloc<A = Global>>(rt: &R, count: usize) -> Result<(Both, Times)> {
     let board = board::hand(rt, count)?;
     let queues = queues::hand(rt, count)?;
-    Ok(Both { board, queues })
+    let alone = board::run_alone(rt, count)?;
+    Ok((Both { board, queues }, alone))
 }
 
 /// Times so many runners.
@@ -71,6 +73,14 @@ where
     let board = board::run(rt, count, runners)?;
     let queues = queues::run(rt, count, runners)?;
     Ok(Both { board, queues })
+}
+
+/// Prints what one thread did, and how long a job took.
+fn tell_hand(rt: &HostRuntime, times: (Both, Times)) -> Result<()> {
+    let (both, alone) = times;
+    tell(rt, "hand", both)?;
+    eprintln!(rt; "a job that is run where it is: {} ns", alone.nanos)?;
+    Ok(())
 }
 
 /// Prints what was done, and how long a job took.

@@ -81,6 +81,7 @@ impl Board {
         ensures offered { MatchResult result
             (λ slot. Offers seat.old slot.index job seat.new)
             (λ refused. (jobs seat.old.row ≡ 8) × (refused.1 ≡ job) × (seat.new ≡ seat.old)) }
+        ensures own { IfOk result (λ slot. (8 * seat.old.number ≤ slot.index) × (slot.index < 8 * seat.old.number + 8)) }
         ensures count { IfOk result (λ _. jobs seat.new.row ≡ jobs seat.old.row + 1) }
         ensures same { SameAsker seat.old seat.new }
     {

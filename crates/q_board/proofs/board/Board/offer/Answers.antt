@@ -1,7 +1,7 @@
 use Rattle.std.proofs.Common.{rules, ◌∙◌, sym, ap, arith, deque_len, deque_capacity}
 use Rattle.q_board.specs.AskerModel.{AskerModel}
 use Rattle.q_board.specs.Places.{jobs}
-use Rattle.q_board.proofs.AskerCalls.{offer_allowed, offer_keeps, offer_told}
+use Rattle.q_board.proofs.AskerCalls.{is_near, offer_allowed, offer_keeps, offer_told}
 use Rattle.q_board.proofs.board.Board.offer.Goals as goal
 
 pub store-requires : goal.store-requires
@@ -20,3 +20,10 @@ pub returns-clause-count : goal.returns-clause-count
 returns-clause-count c = let s = c.seat.inside in let old = c.seat.invariant in
     let new = offer_keeps s.seat.table_id s.seat.me s.number c.in-Some.place s.free.items c.pop_front.new.self.items (deque_len s.free) (deque_capacity s.free) c.in-Some.ensures.items c.seat.invariant c.args.job c.exchange.new.seat.me c.exchange.ensures.3 c.args.self.now.table.shared.table_id.slots c.store.new.seat.me c.store.ensures.2 c.store.new.seat.table_id (c.store.ensures.0 ∙ c.exchange.ensures.0) (deque_len c.pop_front.new.self) c.in-Some.ensures.cases (deque_capacity c.pop_front.new.self) c.in-Some.ensures.capacity in
     omega (arith, old.4, new.4, c.in-Some.ensures.cases, ap (λ (x : AskerModel). jobs x.row) c.seat.view_is)
+
+pub returns-clause-own : goal.returns-clause-own
+returns-clause-own c = let s = c.seat.inside in
+    let near = is_near s.seat.table_id s.seat.me s.number c.in-Some.place s.free.items c.pop_front.new.self.items (deque_len s.free) (deque_capacity s.free) c.in-Some.ensures.items c.seat.invariant in
+    let old = c.seat.invariant in
+    let same = ap (λ (x : AskerModel). x.number) c.seat.view_is in
+    (omega (arith, near, old.1, same), omega (arith, near, old.1, same))
