@@ -7,13 +7,14 @@ use prog.Atomic.{either}
 use lib.ListN.{get_elem?}
 use Rattle.atomic_table.specs.Seated.{TableId}
 use Rattle.atomic_table.specs.Table.{step, Allows, rest}
+use Rattle.atomic_table.proofs.Lists.{set_here}
 use Rattle.q_slots.specs.Words.{found_of}
 use Rattle.std.proofs.lemmas.List.{length-replicate}
 use Rattle.q_slots.specs.Rule.{Orderly, maker}
 use Rattle.q_board.specs.Places.{times, has, jobs, bare}
 use Rattle.q_slots.specs.Plays.{Sat, first_runner, running, front, trying, claiming, finishing, returning, tried, ended, given_back}
 use Rattle.q_board.specs.RunnerModel.{RunnerModel, runner_model, IsRunner}
-use Rattle.q_board.specs.Calls.{Misses, Claims, Finishes, GivesBack}
+use Rattle.q_board.specs.Calls.{is_at, Misses, Claims, Finishes, GivesBack}
 use Rattle.q_session.specs.declared.job.Job.{Job}
 use Rattle.q_session.specs.declared.ran.Ran.{Ran}
 use Rattle.q_session.specs.Done.{Finished}
@@ -32,6 +33,9 @@ pub not_ready : (x : ℕ) → x ≢ 1 → found_of x ≢ found.Ready
 not_ready x n = dite (ℕ_discrete x 0) (λ e h. let z : found.Empty ≡ found.Ready = sym (ap found_of e) ∙ h in cc)
     (λ m. dite (ℕ_discrete x 2) (λ e h. let z : found.Finished ≡ found.Ready = sym (ap found_of e) ∙ h in cc)
     (λ k h. let z : found.Claimed (x - 3) ≡ found.Ready = sym (rw (ne_eqb x 0 m, ne_eqb x 1 n, ne_eqb x 2 k) refl) ∙ h in cc))
+
+pub claimed_at : (r q : RunnerModel) (i : ℕ) (j : Job) → Claims r i j q → is_at q.held i (Some j)
+claimed_at r q i j t = ap (λ (x : RunnerModel). get_elem? x.held i) t.1 ∙ set_here r.held i (Some j) (at_lt r.held i None t.0)
 
 -- the end of a claim: the slot is brought to the front, written, and given back by a store
 module _ (z : TableId) (me : Sat) (n : ℕ) (claims left : List ℕ) (count cap lanes next slot : ℕ) (j : Job) (inv : IsRunner z me n claims count cap lanes next)
@@ -178,6 +182,9 @@ module _ (z : TableId) (me : Sat) (n : ℕ) (claims : List ℕ) (count cap lanes
       hit_told j c_is z' same old old_is = let j_is : got.0 ≡ j = let e = sym hit_cell ∙ c_is in cc in
           subst (λ (y : RunnerModel). Claims y i j (runner_model z' u.0 lanes next)) (sym old_is)
           (got.1, ap (λ (y : TableId). runner_model y u.0 lanes next) same ∙ ap (λ (y : Sat). runner_model z y.0 lanes next) hit_seat ∙ ap (λ (y : Job). runner_model z (Runner (claiming r₀ i y)) lanes next) j_is)
+
+      pub hit_holds : (j : Job) → c ≡ cell.Offered j → is_at (running u.0).held i (Some j)
+      hit_holds j c_is = claimed_at (runner_model z me.0 lanes next) (runner_model z u.0 lanes next) i j (hit_told j c_is z refl (runner_model z me.0 lanes next) refl)
 
 -- a seat as the board opens
 pub opened : (z : TableId) (lanes made count cap : ℕ) (me : Sat) (claims : List ℕ) → me ≡ (first_runner (maker lanes made), []) → claims ≡ [] → count ≡ 0 → lanes ≤ cap → lanes ≡ z.words → 0 < lanes → made < 128

@@ -129,6 +129,7 @@ impl Board {
         requires board { seat.old.table ≡ board_id self.now }
         requires own { slot.index < seat.old.lanes }
         ensures tried { MatchOption result (Misses seat.old slot.index seat.new) (λ claim. (claim.slot ≡ slot.index) × Claims seat.old slot.index claim.job seat.new) }
+        ensures held { IfSome result (λ claim. is_at seat.new.held claim.slot (Some claim.job)) }
         ensures same { SameRunner seat.old seat.new }
     {
         let index = slot.index;

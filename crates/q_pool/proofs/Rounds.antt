@@ -1,9 +1,7 @@
 -- One look more of a runner's round.
 use Rattle.std.proofs.Common.{◌≡◌, ◌≢◌, ℕ, zero, suc, ◌+◌, ◌%◌, ◌<◌, List, [], ◌∷◌, ◌++◌, map, length, set, refl, sym, ap, ◌∙◌, subst, arith, Option, Some, None, length-append, append_assoc, append-nil, add-one}
 use Rattle.std.proofs.lemmas.List.{set-set}
-use mathlib.Core.Option.{some}
-use lib.ListN.{get_elem?}
-use Rattle.atomic_table.proofs.Lists.{set_here, set_again}
+use Rattle.atomic_table.proofs.Lists.{set_again}
 use Rattle.q_session.specs.declared.job.Job.{Job}
 use Rattle.q_session.specs.declared.ran.Ran.{Ran}
 use Rattle.q_session.specs.Done.{Finished}
@@ -11,9 +9,8 @@ use Rattle.q_slots.specs.declared.found.Look.{Look}
 use Rattle.q_slots.specs.declared.found.Found.{Found}
 use Rattle.q_slots.specs.declared.found.Found.TheVariants as found
 use Rattle.q_slots.specs.Plays.{look}
-use Rattle.q_slots.proofs.Moves.{at_lt}
 use Rattle.q_board.specs.RunnerModel.{RunnerModel}
-use Rattle.q_board.specs.Calls.{is_at, Misses, Claims, Finishes}
+use Rattle.q_board.specs.Calls.{Misses, Claims, Finishes}
 use Rattle.q_pool.specs.Served.{after, turns, is_ready, ready, Served}
 
 abbrev slot_of : Look → ℕ
@@ -35,9 +32,6 @@ not_counted (found.Claimed r) n = refl
 
 pub starts : (r : RunnerModel) → Served r 0 0 r
 starts r = record { looks = []; done = []; looked = sym (append-nil r.looks); in_turn = refl; won = refl; finished = sym (append-nil r.finished); as_many = refl; held = refl; next = refl; board = refl; lanes = refl; number = refl }
-
-pub claimed_at : (r q : RunnerModel) (i : ℕ) (j : Job) → Claims r i j q → is_at q.held i (Some j)
-claimed_at r q i j t = ap (λ (x : RunnerModel). get_elem? x.held i) t.1 ∙ set_here r.held i (Some j) (at_lt r.held i None t.0)
 
 module _ (old r₀ r₁ : RunnerModel) (n k i : ℕ) (s : Served old n k r₀) (turned : r₁ ≡ record r₀ { next = (r₀.next + 1) % r₀.lanes }) (here : i ≡ r₀.next) where
   step_looks : (f : Found) (q : RunnerModel) → q.looks ≡ r₁.looks ++ look i f ∷ [] → q.looks ≡ old.looks ++ (s.looks ++ look i f ∷ [])

@@ -1,8 +1,8 @@
-use Rattle.std.proofs.Common.{rules, ◌≡◌, ◌+◌, ◌≤◌, ℕ, ap, ◌∙◌, arith, sym, subst, Some}
+use Rattle.std.proofs.Common.{rules, ◌≡◌, ◌+◌, ◌≤◌, ℕ, ap, ◌∙◌, arith, sym, subst}
 use Rattle.q_board.specs.RunnerModel.{RunnerModel}
-use Rattle.q_board.specs.Calls.{is_at, Finishes, Claims, Misses}
+use Rattle.q_board.specs.Calls.{Finishes, Claims, Misses}
 use Rattle.q_pool.specs.Served.{Served}
-use Rattle.q_pool.proofs.Rounds.{starts, claimed_at, misses_one, serves_one}
+use Rattle.q_pool.proofs.Rounds.{starts, misses_one, serves_one}
 use Rattle.q_pool.proofs.runner.run_some.Goals.{in-Some, in_default}
 use Rattle.q_pool.proofs.runner.run_some.Goals as goal
 
@@ -11,10 +11,6 @@ loop-init g c = record { served = starts c.args.seat.now; few = omega arith }
 
 pub try_take-requires-clause-own : goal.try_take-requires-clause-own
 try_take-requires-clause-own g c = let i = c.next-slot.ensures.slot in let i₁ = i.1 in let l = ap (λ (x : RunnerModel). x.lanes) c.next-slot.ensures.seat in omega arith
-
-pub finish-requires-clause-own : goal.finish-requires-clause-own
-finish-requires-clause-own g c = let e = c.in-Some.ensures.tried in let q = c.try_take.new.seat in
-    subst (λ (x : ℕ). is_at q.held x (Some c.in-Some.claim.job)) (sym e.0) (claimed_at c.next-slot.new.self q c.next-slot.result.index c.in-Some.claim.job e.1)
 
 pub loop-preserved : goal.loop-preserved
 loop-preserved g c = let s = c.loop.invariant.served in let few = c.loop.invariant.few in let old = c.args.seat.now in let r₁ = c.next-slot.new.self in let q = c.try_take.new.seat in let i = c.next-slot.result.index in let n = c.loop.counter in

@@ -1,7 +1,7 @@
 use Rattle.std.proofs.Common.{◌≡◌, ◌+◌, ◌<◌, ◌∙◌, sym, ap, arith, deque_len, deque_capacity}
 use Rattle.atomic_table.specs.Seated.{TableId}
 use Rattle.q_board.specs.RunnerModel.{RunnerModel}
-use Rattle.q_board.proofs.RunnerCalls.{try_allowed, miss_told, hit_has, hit_room, hit_keeps}
+use Rattle.q_board.proofs.RunnerCalls.{try_allowed, miss_told, hit_has, hit_room, hit_keeps, hit_holds}
 use Rattle.q_board.proofs.board.Board.try_take.Goals as goal
 
 pub compare_exchange-requires : goal.compare_exchange-requires
@@ -29,3 +29,8 @@ pub invariant_of-seat-2 : goal.invariant_of-seat-2
 invariant_of-seat-2 c = let s = c.seat.inside in let t = c.args.self.now.table.shared.table_id in let i = c.args.slot.index in
     hit_keeps s.seat.table_id s.seat.me s.number s.claims.items (deque_len s.claims) (deque_capacity s.claims) s.lanes s.next i c.seat.invariant t.slots (3 + s.number) c.compare_exchange.result c.compare_exchange.new.seat.me (c.if-compare_exchange-ready.false ∙ c.word-ready.ensures.word) c.compare_exchange.ensures.2
     c.exchange-taken.result c.exchange-taken.new.seat.me c.exchange-taken.ensures.2 c.exchange-taken.ensures.3 c.exchange-taken.new.seat.table_id (c.exchange-taken.ensures.0 ∙ c.compare_exchange.ensures.0) (deque_len c.push_front_reserved.new.self) c.push_front_reserved.ensures.len (deque_capacity c.push_front_reserved.new.self) c.push_front_reserved.ensures.capacity c.push_front_reserved.new.self.items c.push_front_reserved.ensures.items
+
+pub returns-clause-held : goal.returns-clause-held
+returns-clause-held c = let s = c.seat.inside in let t = c.args.self.now.table.shared.table_id in let i = c.args.slot.index in
+    hit_holds s.seat.table_id s.seat.me s.number s.claims.items (deque_len s.claims) (deque_capacity s.claims) s.lanes s.next i c.seat.invariant t.slots (3 + s.number) c.compare_exchange.result c.compare_exchange.new.seat.me (c.if-compare_exchange-ready.false ∙ c.word-ready.ensures.word) c.compare_exchange.ensures.2
+    c.exchange-taken.result c.exchange-taken.new.seat.me c.exchange-taken.ensures.2 c.exchange-taken.ensures.3 c.in-Offered.job c.in-Offered.is
