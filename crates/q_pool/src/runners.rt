@@ -14,8 +14,9 @@ use std::sync::atomic::Ordering::SeqCst;
 use std::thread;
 use std::thread::{Scope, Threads};
 
-/// How many slots a runner's thread tries before it looks whether the work is over: half of the most slots of a board.
-const LOOKS: u32 = 64;
+/// How many slots a runner's thread tries before it looks whether the work is over, and gives way where none was ready: as
+/// many as one asker has. More of them slow the askers down, whose words they contend for.
+const LOOKS: u32 = 8;
 
 /// Starts a thread for each seat, which runs the board's jobs, calls `work` in this thread, and then stops and joins the
 /// others. Where a thread can't be started, `work` isn't called, the threads that were started are joined, and it is
