@@ -1,14 +1,14 @@
 -- Entries in rising id order.
-use Rattle.std.proofs.Common.{◌≡◌, ℕ, suc, ◌+◌, ◌≤◌, ◌<◌, Bool, true, false, cond, ◌==◌, nat_lt, nat_le, ◌&&◌, List, [], ◌∷◌, ◌++◌, length, take, drop, get_or, set, Option, Some, None, refl, sym, ap, subst, ◌∙◌, arith, append_assoc, T}
-use Rattle.std.proofs.lemmas.Bool.{ltb-true, ltb-false, lt-ltb, eqb-true, eqb-false, eq-eqb, leb-true, leb-false, le-leb}
-use Rattle.std.proofs.lemmas.List.{drop_more, drop_all, set_split, take-append-drop}
+use Rattle.std.proofs.Common.{◌≡◌, ℕ, suc, ◌+◌, ◌≤◌, ◌<◌, Bool, true, false, cond, ◌==◌, nat_lt, nat_le, ◌&&◌, List, [], ◌∷◌, ◌++◌, length, take, drop, get_or, set, Some, None, refl, sym, ap, subst, ◌∙◌, arith, append_assoc, T}
+use Rattle.std.proofs.lemmas.Bool.{ltb-true, lt-ltb, eqb-true, eqb-false, eq-eqb, leb-true, leb-false, le-leb}
+use Rattle.std.proofs.lemmas.List.{drop_more, drop_all, set_split}
 use Rattle.std.specs.declared.cmp.Ordering.TheVariants.{Less, Equal, Greater}
 use Rattle.std.specs.Ordering.{nat_cmp, is_eq, is_lt}
-use Rattle.std.specs.List.{slice_get, insert}
+use Rattle.std.specs.List.{insert}
 use Rattle.std.specs.FinMap.Entries.{put, find, by_order, below_all, is_sorted, is_sorted-put}
 use Rattle.std.specs.Cmp.{nat_cmp_total}
 use Rattle.sc_view.specs.declared.view.Stored.{Stored}
-use Rattle.sc_view.specs.Rows.{before, without_first, starts_above, entry_at, from, count_lacking, Over, Under, Rises, joined}
+use Rattle.sc_view.specs.Rows.{before, without_first, from, Over, Under, Rises}
 
 pub cmp_less : (x y : ℕ) → x < y → nat_cmp x y ≡ Less
 cmp_less x y h = ap (λ b. cond b Less (cond (x == y) Equal Greater)) (lt-ltb x y h)

@@ -1,5 +1,5 @@
 -- Rising entries, seen as a finite map.
-use Rattle.std.proofs.Common.{◌≡◌, ℕ, suc, ◌+◌, ◌≤◌, ◌<◌, Bool, true, false, not, cond, ◌==◌, nat_lt, List, [], ◌∷◌, ◌++◌, map, length, Option, Some, None, is_some, refl, sym, ap, subst, ◌∙◌, arith, T, true≢false}
+use Rattle.std.proofs.Common.{◌≡◌, ℕ, suc, ◌+◌, ◌≤◌, ◌<◌, Bool, true, false, not, cond, nat_lt, List, [], ◌∷◌, map, length, Option, Some, None, is_some, refl, sym, ap, subst, ◌∙◌, arith, true≢false}
 use Rattle.std.proofs.Common.{length-append, zero}
 use mir.Val.{bool_byte}
 use Rattle.std.proofs.lemmas.Bool.{ltb-true}
@@ -12,10 +12,10 @@ use Rattle.std.specs.FinMap as fin
 use Rattle.std.specs.FinMap.Entries as list
 use Rattle.std.specs.FinMap.Entries.{find, find-put}
 use Rattle.sc_view.specs.declared.view.Stored.{Stored}
-use Rattle.sc_view.specs.Views.{ViewMap, IsView, is_newer, newer, put, merge, number_of, number_at, IsBelow, HasSmallChunks, IsChunking}
-use Rattle.sc_view.specs.Rows.{Rises, Over, from, count_lacking, count_newer, is_larger, IsRow, IsHeld, joined, HasAtMost, HasAtLeast}
+use Rattle.sc_view.specs.Views.{ViewMap, IsView, is_newer, put, merge, number_of, IsBelow, HasSmallChunks, IsChunking}
+use Rattle.sc_view.specs.Rows.{Rises, from, count_lacking, count_newer, is_larger, IsRow, IsHeld, joined, HasAtMost, HasAtLeast}
 use Rattle.sc_view.proofs.RowLemmas.{row_short}
-use Rattle.sc_view.proofs.EntryLemmas.{sorted_from, rises_from, cmp_greater, find_from, rises_put, rises_onward, find_here, find_behind}
+use Rattle.sc_view.proofs.EntryLemmas.{sorted_from, cmp_greater, find_from, rises_put, rises_onward, find_here, find_behind}
 use Rattle.sc_view.proofs.ViewLemmas.{news, lacks, put_all, put_all-is, len-put, not_learned, empty_valid, len-merge}
 
 pub entries_rising : (es : List (ℕ × Stored)) → Rises es → fin.entries (fin.from_entries {R = nat_cmp} es) ≡ es
@@ -166,7 +166,7 @@ larger_step : (n a total : ℕ) (e : ℕ × Stored) (es rest known : List (ℕ �
     → a ≡ bool_byte (is_larger r e.1.number) → n + count_newer known (e ∷ es) ≡ total → (n + a) + count_newer known es ≡ total
 larger_step n a total e es rest known r t is one sum =
     let here : is_newer (find nat_cmp e.0 known) e.1 ≡ is_larger r e.1.number =
-        ap (λ (o : Option Stored). is_newer o e.1) (sym (t e.0 (omega arith))) ∙ sym (larger_is (find nat_cmp e.0 rest) e.1) ∙ ap (λ (o : Option ℕ). is_larger o e.1.number) (sym is) in
+    ap (λ (o : Option Stored). is_newer o e.1) (sym (t e.0 (omega arith))) ∙ sym (larger_is (find nat_cmp e.0 rest) e.1) ∙ ap (λ (o : Option ℕ). is_larger o e.1.number) (sym is) in
     one_more (is_larger r e.1.number) n a (count_newer known es) total one (ap (λ c. n + cond c (suc (count_newer known es)) (count_newer known es)) (sym here) ∙ sum)
 
 pub larger_next : (n a total : ℕ) (e : ℕ × Stored) (now next rest known : List (ℕ × Stored)) (r : Option ℕ) → now ≡ e ∷ next → Tells now rest known → r ≡ option_map (λ e. e.number) (find nat_cmp e.0 rest)

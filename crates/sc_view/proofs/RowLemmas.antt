@@ -1,5 +1,5 @@
 -- Rows of chunks.
-use Rattle.std.proofs.Common.{◌≡◌, ℕ, zero, suc, ◌+◌, ◌-◌, ◌*◌, ◌≤◌, ◌<◌, Bool, true, false, List, [], ◌∷◌, ◌++◌, length, map, take, drop, get_or, set, refl, sym, ap, subst, ◌∙◌, arith, append_assoc, length-append, true≢false, nat_lt}
+use Rattle.std.proofs.Common.{◌≡◌, ℕ, zero, suc, ◌+◌, ◌*◌, ◌≤◌, ◌<◌, Bool, true, false, List, [], ◌∷◌, ◌++◌, length, map, take, drop, get_or, set, refl, sym, ap, subst, ◌∙◌, arith, append_assoc, length-append, true≢false, nat_lt}
 use Rattle.std.proofs.lemmas.Bool.{ltb-true, ltb-false}
 use Rattle.std.proofs.lemmas.List.{drop_more, take-append-drop, drop_all, set_split, take_more_set, drop-set-lt}
 use Rattle.std.proofs.lemmas.List.{length-set, length-drop, length-take-le}
@@ -9,7 +9,7 @@ use Rattle.std.specs.Ordering.{nat_cmp}
 use Rattle.std.specs.FinMap.Entries.{put, find}
 use Rattle.sc_view.specs.declared.view.Stored.{Stored}
 use Rattle.sc_view.specs.Rows.{Over, Under, Rises, joined, HasAtMost, HasAtLeast, IsRow, LearnsAt, starts_above}
-use Rattle.sc_view.proofs.EntryLemmas.{put_within, under_before, over_from, rises_right, sorted_from, rises_from, put_longer, put_by_one, rises_put, find_within, rises_left}
+use Rattle.sc_view.proofs.EntryLemmas.{put_within, under_before, over_from, rises_right, put_longer, put_by_one, rises_put, find_within, rises_left}
 
 pub flat-append : (cs ds : List (List (ℕ × Stored))) → joined (cs ++ ds) ≡ joined cs ++ joined ds
 flat-append [] ds = refl
@@ -240,8 +240,8 @@ pub put_learnt : (id : ℕ) (x : Stored) (cs ds new : List (List (ℕ × Stored)
 put_learnt id x cs ds new k same row l u o learnt =
     let here : k < length cs = subst (λ r. k < length r) same l in
     let made : IsPut id x cs (set cs k (put nat_cmp id x (get_or cs k []))) =
-        put_whole id x cs k (get_or cs k []) (put nat_cmp id x (get_or cs k [])) row here (subst (λ r. Under id (joined (take k r))) same u) (subst (λ r. Over id (joined (drop (k + 1) r))) same o)
-        (get_same cs k [] (get_or cs k []) here) refl learnt.1 in
+    put_whole id x cs k (get_or cs k []) (put nat_cmp id x (get_or cs k [])) row here (subst (λ r. Under id (joined (take k r))) same u) (subst (λ r. Over id (joined (drop (k + 1) r))) same o)
+    (get_same cs k [] (get_or cs k []) here) refl learnt.1 in
     subst (IsPut id x cs) (sym learnt.0) made
 
 -- where the chunk was read from a row

@@ -1,5 +1,5 @@
 -- Rows of chunks: entries in rising id order, within each chunk and across them.
-use Rattle.std.specs.Prelude.{◌≡◌, ℕ, suc, ◌+◌, ◌≤◌, ◌<◌, nat_le, nat_lt, slice_set, slice_index_or, ◌==◌, Bool, true, false, cond, length, map, List, [], ◌∷◌, ◌++◌, Option, Some, None, is_some}
+use Rattle.std.specs.Prelude.{◌≡◌, ℕ, suc, ◌≤◌, ◌<◌, nat_le, nat_lt, slice_set, slice_index_or, ◌==◌, Bool, true, false, cond, length, map, List, [], ◌∷◌, Option, Some, None, is_some}
 use Rattle.std.specs.Ordering.{nat_cmp}
 use Rattle.std.specs.FinMap.Entries.{find, put}
 use Rattle.std.specs.FinMap as fin

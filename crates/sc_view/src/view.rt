@@ -335,8 +335,8 @@ impl View {
     }
 }
 
-// Whether the value is newer than what is known.
-fn is_newer(known: Option<Stored>, stored: Stored) -> bool
+/// Whether the value is newer than what is known.
+pub(crate) fn is_newer(known: Option<Stored>, stored: Stored) -> bool
     ensures { result ≡ is_newer known stored }
 {
     match known {

@@ -1,9 +1,8 @@
-use Rattle.std.proofs.Common.{◌≡◌, ◌+◌, ◌≤◌, ◌<◌, length, take, drop, set, sym, ap, subst, ◌∙◌, arith}
+use Rattle.std.proofs.Common.{ap, ◌∙◌, arith}
 use Rattle.std.proofs.lemmas.List.{take_rest}
 use Rattle.std.specs.Ordering.{nat_cmp}
-use Rattle.std.specs.List.{insert}
 use Rattle.std.specs.FinMap.Entries.{put}
-use Rattle.sc_view.proofs.RowLemmas.{IsPut, put_whole_in, put_split_in, room_in}
+use Rattle.sc_view.proofs.RowLemmas.{put_whole_in, put_split_in, room_in}
 use Rattle.sc_view.proofs.row.put_copy.Goals as goal
 
 pub returns-in_ok-whole-clause-ok : goal.returns-in_ok-whole-clause-ok

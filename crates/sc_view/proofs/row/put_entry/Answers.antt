@@ -1,8 +1,6 @@
-use Rattle.std.proofs.Common.{◌≡◌, ◌≤◌, ◌<◌, ◌+◌, [], length, get_or, take, drop, true, sym, ap, subst, ◌∙◌, arith}
-use Rattle.std.specs.Ordering.{nat_cmp}
-use Rattle.std.specs.FinMap.Entries.{put}
-use Rattle.sc_view.specs.Rows.{joined, Under, Over, LearnsAt}
-use Rattle.sc_view.proofs.RowLemmas.{IsPut, length_at_most, put_learnt}
+use Rattle.std.proofs.Common.{◌<◌, [], length, subst}
+use Rattle.sc_view.specs.Rows.{LearnsAt}
+use Rattle.sc_view.proofs.RowLemmas.{length_at_most, put_learnt}
 use Rattle.sc_view.proofs.row.put_entry.Goals as goal
 
 pub learn_at-requires-clause-few : goal.learn_at-requires-clause-few

@@ -1,6 +1,6 @@
 use mir.Val.{bool_byte}
-use Rattle.std.proofs.Common.{◌≡◌, ◌+◌, ap, sym, ◌∙◌, arith}
-use Rattle.sc_view.specs.Rows.{joined, count_lacking, count_newer, is_larger}
+use Rattle.std.proofs.Common.{ap, ◌∙◌, arith}
+use Rattle.sc_view.specs.Rows.{joined, is_larger}
 use Rattle.sc_view.proofs.MapLemmas.{theirs_next, rest_next, tells_next, lacking_next, larger_next, lacking_few, newer_few}
 use Rattle.sc_view.proofs.row.what_is_new.Goals as goal
 
@@ -12,7 +12,7 @@ overflow_add-ids c =
 pub overflow_add-values : goal.overflow_add-values
 overflow_add-values c =
     let next = larger_next c.loop-entry.values c.from-values.result _ c.in-Some.entry _ _ _ (joined c.args.known.now) c.seek-number.result c.in-Some.ensures c.loop-entry.invariant.tells c.seek-number.ensures.value
-        (c.from-values.ensures ∙ ap bool_byte (c.is_larger.ensures ∙ ap (is_larger c.seek-number.result) c.number.ensures.number)) c.loop-entry.invariant.newer in
+    (c.from-values.ensures ∙ ap bool_byte (c.is_larger.ensures ∙ ap (is_larger c.seek-number.result) c.number.ensures.number)) c.loop-entry.invariant.newer in
     omega (arith, next, newer_few (joined c.args.known.now) (joined c.args.more.now), c.requires.few)
 
 pub loop-entry-preserved : goal.loop-entry-preserved
@@ -22,5 +22,5 @@ loop-entry-preserved c = record {
   tells = tells_next c.in-Some.entry _ _ _ _ (joined c.args.known.now) c.in-Some.ensures c.seek-number.ensures.rest c.loop-entry.invariant.theirs c.loop-entry.invariant.tells;
   lacking = lacking_next c.is_none.result c.loop-entry.ids c.from-ids.result _ c.in-Some.entry _ _ _ (joined c.args.known.now) c.seek-number.result c.in-Some.ensures c.loop-entry.invariant.tells c.seek-number.ensures.value c.is_none.ensures c.from-ids.ensures c.loop-entry.invariant.lacking;
   newer = larger_next c.loop-entry.values c.from-values.result _ c.in-Some.entry _ _ _ (joined c.args.known.now) c.seek-number.result c.in-Some.ensures c.loop-entry.invariant.tells c.seek-number.ensures.value
-    (c.from-values.ensures ∙ ap bool_byte (c.is_larger.ensures ∙ ap (is_larger c.seek-number.result) c.number.ensures.number)) c.loop-entry.invariant.newer;
+      (c.from-values.ensures ∙ ap bool_byte (c.is_larger.ensures ∙ ap (is_larger c.seek-number.result) c.number.ensures.number)) c.loop-entry.invariant.newer;
 }

@@ -1,8 +1,7 @@
-use Rattle.std.proofs.Common.{◌≡◌, ◌≤◌, ◌+◌, ℕ, List, length, ap, subst, sym, ◌∙◌, arith}
+use Rattle.std.proofs.Common.{◌≡◌, length, ap, sym, ◌∙◌, arith}
 use Rattle.std.specs.FinMap as fin
-use Rattle.sc_view.specs.declared.view.Stored.{Stored}
 use Rattle.sc_view.specs.Rows.{joined, count_lacking, count_newer}
-use Rattle.sc_view.specs.Views.{ViewMap, merge}
+use Rattle.sc_view.specs.Views.{ViewMap}
 use Rattle.sc_view.proofs.MapLemmas.{merged_count, merge_none, below_none, len_rising, lacking_few}
 use Rattle.sc_view.proofs.view.View.news_of.Goals as goal
 
