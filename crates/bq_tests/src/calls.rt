@@ -52,6 +52,7 @@ fn a_text_is_made_of_instructions(rt: HostRuntime) -> Result<(), Fail> {
     let text = Text::of(rt.alloc(), &[wide])?;
     let bytes = encode(rt.alloc(), &text)?;
     assert!(rt; bytes.as_slice() == WIDE.as_slice());
+    assert!(rt; wide.is_same(&wide) && !wide.is_same(&Insn::Exit));
     assert!(rt; Text::of(rt.alloc(), &[Insn::Exit; 4097]).is_err());
     Ok(())
 }
@@ -136,6 +137,7 @@ fn states_are_covered_and_joined(rt: HostRuntime) {
 fn certificates_keep_text_and_notes(rt: HostRuntime) -> Result<(), Fail> {
     let text = decode(rt.alloc(), b"\xb7\0\0\0\0\0\0\0\x95\0\0\0\0\0\0\0")?;
     let notes = verify(rt.alloc(), &text)?;
+    notes.are_notes();
     let certified = check(rt.alloc(), text, notes)?;
     assert_eq!(rt; certified.text().units(), 2);
     assert_eq!(rt; certified.notes().at(0), Some(State::entry()));

@@ -1,8 +1,7 @@
 -- When two instructions are the same.
-use Rattle.std.proofs.Common.{◌≡◌, Bool, true, refl, ap, rules}
-use Rattle.std.specs.Prelude.{◌==◌, ◌&&◌, Option, Some, None}
+use Rattle.std.proofs.Common.{◌≡◌, Bool, true, refl, ap, subst, rules}
+use Rattle.std.specs.Prelude.{◌==◌, ◌&&◌, ◌↔◌}
 use Rattle.std.proofs.lemmas.Bool.{false≢true}
-use Rattle.std.specs.Option.{option_eq}
 use Rattle.std.specs.Ordering.{int_eq}
 use Rattle.std.specs.Cmp.{first_so, second_so, signed_Decides, unsigned_Decides}
 use denote.Enum.Bare.{same_true}
@@ -24,6 +23,7 @@ use Rattle.bq_insn.specs.contracts.insn.ByteOrderPartialEq.TheImpl.{eq-value as 
 use Rattle.bq_insn.specs.contracts.insn.SizePartialEq.TheImpl.{eq-value as size_eq}
 use Rattle.bq_insn.specs.contracts.insn.OperandPartialEq.TheImpl.{eq-value as operand_eq}
 use Rattle.bq_insn.specs.contracts.insn.InsnPartialEq.TheImpl.{eq-value as insn_eq}
+use Rattle.bq_insn.specs.contracts.insn.InsnEq.TheImpl.Laws.{laws-law}
 use Rattle.bq_insn.specs.declared.insn.Insn.{Insn}
 use Rattle.bq_insn.specs.declared.insn.Insn.TheVariants as insns
 use Rattle.bq_insn.specs.declared.insn.Operand.{Operand}
@@ -45,7 +45,7 @@ same_operand (operands.Register r) (operands.Number s) h = absurd (false≢true 
 same_operand (operands.Number r) (operands.Register s) h = absurd (false≢true h)
 same_operand (operands.Number r) (operands.Number s) h = ap operands.Number ((signed_Decides r s).0 h)
 
-pub same_insn : (i j : Insn) → insn_eq.it i j ≡ true → i ≡ j
+same_insn : (i j : Insn) → insn_eq.it i j ≡ true → i ≡ j
 same_insn (insns.Alu a b c d) (insns.Alu a' b' c' d') h =
     let t = split4 (width_eq.it a a') (alu_eq.it b b') (c == c') (operand_eq.it d d') h in
     let a-same = same_true width.the_type (search rules) a a' t.0 in
@@ -124,8 +124,6 @@ same_insn (insns.Wide a b) (insns.Wide a' b') h =
     cc
 same_insn (insns.Wide a b) j h = absurd (false≢true h)
 
-pub same_slot : (i j : Option Insn) → option_eq insn_eq.it i j ≡ true → i ≡ j
-same_slot None None h = refl
-same_slot None (Some j) h = absurd (false≢true h)
-same_slot (Some i) None h = absurd (false≢true h)
-same_slot (Some i) (Some j) h = ap (λ (x : Insn). Some x) (same_insn i j h)
+-- the test of two instructions finds out whether they are the same
+pub told : (i j : Insn) → (insn_eq.it i j ≡ true) ↔ (i ≡ j)
+told i j = (same_insn i j, λ same. subst (λ (x : Insn). insn_eq.it i x ≡ true) same (laws-law.refl i))
