@@ -156,7 +156,7 @@ abbrev pub RefusesScript : {F : Type 0} → (F → List ℕ → Result (List ℕ
 RefusesScript {F} reads name old denied new =
     IsUnread reads name old denied new
     ⊎ ((between : F) × (denied.file.now ≡ name) × reads old name (Ok denied.bytes.items) between × IsUnsimulated denied.bytes.items denied.refusal
-      × (denied.refusal ≢ refusal.OutOfMemory → new ≡ between))
+    × (denied.refusal ≢ refusal.OutOfMemory → new ≡ between))
 
 -- the command is refused for this reason, over files that stand thus before and after
 abbrev pub Refuses : {F : Type 0} → (F → List ℕ → Result (List ℕ) FileFault → F → Type 0) → Line → F → Denied → F → Type 0

@@ -150,11 +150,7 @@ fn of_journal(fault: ReplayFault) -> &'static str {
 }
 
 /// What is told of a refusal.
-fn write_reason(
-    alloc: Global,
-    out: &mut String,
-    denied: &Denied<'_>,
-) -> Result<(), AllocError> {
+fn write_reason(alloc: Global, out: &mut String, denied: &Denied<'_>) -> Result<(), AllocError> {
     let file = denied.file;
     match denied.refusal {
         Refusal::FileFailed => writeln!(out, "{file}: It is not UTF-8, which text files are."),
@@ -162,8 +158,10 @@ fn write_reason(
         Refusal::Program(fault) => write_program(alloc, out, denied, fault),
         Refusal::Records(fault) => write_records(out, denied, fault),
         Refusal::Script(fault) => write_script(out, denied, fault),
-        Refusal::Fraction(_) =>
-            writeln!(out, "{file}: A fraction is N/D with 1 <= N <= D <= 1000, as 4/5."),
+        Refusal::Fraction(_) => writeln!(
+            out,
+            "{file}: A fraction is N/D with 1 <= N <= D <= 1000, as 4/5."
+        ),
         Refusal::Cluster(_) => writeln!(out, "{file}: A cluster is founded by 1 to 256 nodes."),
         Refusal::Journal(fault) => {
             let words = of_journal(fault);

@@ -134,7 +134,11 @@ fn told<'a>(
 }
 
 /// What `asm` prints.
-fn asm_answer<'a, F: Files>(alloc: Global, file: &'a str, files: &mut F) -> Result<Printed, Denied<'a>>
+fn asm_answer<'a, F: Files>(
+    alloc: Global,
+    file: &'a str,
+    files: &mut F,
+) -> Result<Printed, Denied<'a>>
     ensures answered { IfOk result (λ p. AnswersFile F.read_gives Lists file.now files.old (string_bytes p.lines) p.unwritten files.new) }
     ensures refused { IfErr result (λ denied. RefusesFile F.read_gives IsUnassembled file.now files.old denied files.new) }
 {

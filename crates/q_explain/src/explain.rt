@@ -106,11 +106,7 @@ fn told(alloc: Global, text: &Text, unit: usize, advice: &str) -> Result<String,
 /// Why the verifier refuses a text for this fault, in a few lines; none where the fault is of no instruction.
 ///
 /// The one error is that memory ran out (99 OutOfMemory).
-pub fn explain(
-    alloc: Global,
-    text: &Text,
-    fault: CheckFault,
-) -> Result<Option<String>, AllocError>
+pub fn explain(alloc: Global, text: &Text, fault: CheckFault) -> Result<Option<String>, AllocError>
     ensures { IfOk result (IsTold fault) }
 {
     match fault {

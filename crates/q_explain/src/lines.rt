@@ -2,7 +2,8 @@
 
 /// Arithmetic of two operands, without the width.
 const ARITHMETIC: [&str; 14] = [
-    "add", "sub", "mul", "div", "sdiv", "or", "and", "lsh", "rsh", "mod", "smod", "xor", "mov", "arsh",
+    "add", "sub", "mul", "div", "sdiv", "or", "and", "lsh", "rsh", "mod", "smod", "xor", "mov",
+    "arsh",
 ];
 
 /// Conditional jumps, without the width.
@@ -19,27 +20,27 @@ fn stem(word: &str) -> &str {
 fn instruction(word: &str) -> &'static str {
     let stem = stem(word);
     if ARITHMETIC.contains(&stem) {
-        return "Arithmetic has its width behind its name, and takes a register and, behind a comma, a register or a number from -2147483648 to 2147483647: add64 r1, r2 or mov32 r0, -5.";
+        return "Arithmetic has its width behind its name, and takes a register, a comma, and a\nregister or a number from -2147483648 to 2147483647: add64 r1, r2 or mov32 r0, -5.";
     }
     if BRANCHES.contains(&stem) {
-        return "A conditional jump has its width behind its name, and takes a register, a register or a number, and a label of a later line or a distance: jlt64 r4, 10, done or jlt64 r4, 10, +2.";
+        return "A conditional jump has its width behind its name, and takes a register, a register\nor a number, and a later label or a distance, with commas between:\njlt64 r4, 10, done or jlt64 r4, 10, +2.";
     }
     match stem {
         "load" | "loads" =>
-            "Loads are load1, load2, load4, load8, loads1, loads2 and loads4, and take a register and a place, whose distance is always written: load8 r4, [r1+16].",
+            "Loads are load1, load2, load4, load8, loads1, loads2 and loads4, and take a\nregister, a comma, and a place whose distance is always written: load8 r4, [r1+16].",
         "store" =>
-            "Stores are store1, store2, store4 and store8, and take a place, whose distance is always written, and a register or a number: store8 [r10-8], r4.",
+            "Stores are store1, store2, store4 and store8, and take a place whose distance is\nalways written, a comma, and a register or a number: store8 [r10-8], r4.",
         "ja" =>
             "ja and ja32 take a label of a later line, or a distance with its sign: ja done or ja +2.",
         "neg" => "neg32 and neg64 take a register: neg64 r0.",
         "le" | "be" | "swap" =>
             "Byte orders have 16, 32 or 64 behind their name, and take a register: be16 r0.",
         "mov32s" | "mov64s" =>
-            "Moves with a sign are mov32s8, mov32s16, mov64s8, mov64s16 and mov64s32, and take two registers: mov64s8 r0, r4.",
+            "Moves with a sign are mov32s8, mov32s16, mov64s8, mov64s16 and mov64s32, and take\ntwo registers: mov64s8 r0, r4.",
         "wide" => "wide takes a register and a number below 2^64: wide r0, 1099511627785.",
         "exit" => "exit stands alone.",
         _ =>
-            "No instruction begins so. A line has one instruction, as mov64 r0, r3; or a label, as done: alone; or a comment, which begins with #; or nothing.",
+            "No instruction begins so. A line has one instruction, as mov64 r0, r3; or a label\nalone, as done: or a comment, which begins with #; or nothing.",
     }
 }
 
@@ -61,20 +62,22 @@ pub fn assembler_line(text: &str) -> &'static str {
 /// What an event of a script takes.
 fn event(word: &str) -> &'static str {
     match word {
-        "program" => "program NODE HEX: the program's bytes, two hexadecimal digits each, as asm lists them, all in one word.",
-        "store" => "store NODE U64",
-        "ask" => "ask NODE PROGRAM START",
-        "deliver" => "deliver MESSAGE NODE",
-        "all" => "all LIMIT",
-        "hand" => "hand NODE",
-        "run" => "run JOB",
-        "enter" => "enter ID",
-        "leave" => "leave ID",
-        "crash" => "crash ID",
+        "program" =>
+            "program NODE HEX, where HEX is the program's bytes in one word, two hexadecimal\ndigits each: what asm lists, without its line feeds.",
+        "store" => "store NODE U64, with one space between, in decimal",
+        "ask" => "ask NODE PROGRAM START, with one space between, in decimal",
+        "deliver" => "deliver MESSAGE NODE, with one space between, in decimal",
+        "all" => "all LIMIT, in decimal",
+        "hand" => "hand NODE, in decimal",
+        "run" => "run JOB, in decimal",
+        "enter" => "enter ID, in decimal",
+        "leave" => "leave ID, in decimal",
+        "crash" => "crash ID, in decimal",
         "pairs" => "pairs stands alone.",
         "journal" => "journal NODE FILE: the file's name is one word.",
         "nodes" => "nodes stands on the first line, and only there.",
-        _ => "Behind its first line a script has program, store, ask, deliver, all, hand, run, enter, leave, crash, pairs and journal, one a line, with no blank lines and no comments.",
+        _ =>
+            "No event begins so. They are program, store, ask, deliver, all, hand, run, enter,\nleave, crash, pairs and journal, one a line, with no blank lines and no comments.",
     }
 }
 
