@@ -35,6 +35,32 @@ first_unreadable view texts done items t i k f l e h n d =
     let m = length-map items view in
     subst (λ u. IsFirstLine IsUnreadable [] u (k + 1)) (sym (pieces_at texts done i t f l e)) (subst (IsFirstLine IsUnreadable [] (done ++ t ∷ drop (i + 1) texts)) (omega (arith, d, m)) here)
 
+-- the least line of no form stands behind the lines before
+behind : (before after : List (List ℕ)) (n : ℕ) → IsFirstLine IsUnreadable before after n → length before < n
+behind before [] n h = absurd h
+behind before (x ∷ after) n h = elim h [
+  | inl here ↦ let at = here.1 in omega (arith, at)
+  | inr later ↦ let more = behind (before ++ x ∷ []) after n later.1 in omega (arith, more, length-append before (x ∷ []))
+]
+
+first_readable : (x : List ℕ) (rest : List (List ℕ)) (w : Line) → Spells x w → IsFirstLine IsUnreadable [] (x ∷ rest) 1 → ⊥
+first_readable x rest w s h = elim h [
+  | inl here ↦ here.0 w s
+  | inr later ↦ let more = behind (x ∷ []) rest 1 later.1 in omega (arith, more)
+]
+
+front_readable : (done : List (List ℕ)) (v : List Line) (t : List ℕ) (rest : List (List ℕ)) (w : Line) → AllZip Spells done v → Spells t w → IsFirstLine IsUnreadable [] (done ++ t ∷ rest) 1 → ⊥
+front_readable [] v t rest w z s h = first_readable t rest w s h
+front_readable (x ∷ done) [] t rest w z s h = absurd z
+front_readable (x ∷ done) (y ∷ v) t rest w z s h = first_readable x (done ++ t ∷ rest) y z.0 h
+
+-- a line was read, so the first is of a form
+pub none_first : {X : Type 0} (view : X → Line) (texts done : List (List ℕ)) (items : List X) (t : List ℕ) (i : ℕ) (x : X) → done ≡ take i texts → i < length texts → t ≡ get_or texts i t
+    → AllZip Spells done (map view items) → line_at t ≡ Some (view x) → IsFirstLine IsUnreadable [] texts 1 → ⊥
+none_first view texts done items t i x f l e z read h =
+    front_readable done (map view items) t (drop (i + 1) texts) (view x) z (line_sound t (view x) read)
+    (subst (λ u. IsFirstLine IsUnreadable [] u 1) (pieces_at texts done i t f l e) h)
+
 pushed : {X E : Type 0} (items new : List X) (x : X) (r : Result (Unit {0}) E) → new ≡ cond (is_ok r) (items ++ x ∷ []) items → is_err r ≡ false → new ≡ items ++ x ∷ []
 pushed items new x (Ok u) e f = e
 pushed items new x (Err d) e f = absurd cc

@@ -1,5 +1,5 @@
 -- What the steps of assembling give.
-use Rattle.std.specs.Prelude.{◌≡◌, ℕ, ◌<◌, List, [], Option, Some, None, min}
+use Rattle.std.specs.Prelude.{◌≡◌, ◌≢◌, ℕ, ◌<◌, List, [], Option, Some, None, min}
 use Rattle.bq_insn.specs.declared.insn.Insn.{Insn}
 use Rattle.bq_insn.specs.Slots.{units}
 use Rattle.bq_asm.specs.declared.fault.AsmFault.{AsmFault}
@@ -7,17 +7,17 @@ use Rattle.bq_asm.specs.declared.fault.AsmFault.TheVariants.{Syntax, BadLength, 
 use Rattle.bq_asm.specs.Labels.{IsFirstLine}
 use Rattle.bq_asm.specs.Source.{lines_of, IsUnreadable}
 
--- a line of no form, or want of memory
+-- A line of no form. Memory runs out only where the first line is of a form.
 abbrev pub IsReadFault : List ℕ → AsmFault → Type 0
 IsReadFault source (Syntax line) = IsFirstLine IsUnreadable [] (lines_of source) line
-IsReadFault source OutOfMemory = Unit {0}
+IsReadFault source OutOfMemory = IsFirstLine IsUnreadable [] (lines_of source) 1 → ⊥
 IsReadFault source _ = ⊥
 
--- no instruction, too many, or want of memory
+-- No instruction, or too many. Memory runs out only where neither is so.
 abbrev pub IsLengthFault : List Insn → AsmFault → Type 0
 IsLengthFault t BadLength = t ≡ []
 IsLengthFault t TooLong = 4096 < units t
-IsLengthFault t OutOfMemory = Unit {0}
+IsLengthFault t OutOfMemory = (t ≢ []) × (units t < 4097)
 IsLengthFault t _ = ⊥
 
 -- the lesser number, where there is one

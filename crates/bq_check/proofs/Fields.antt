@@ -7,6 +7,7 @@ use Rattle.std.specs.Int.{w32, w64, cast_unsigned, from_le_bytes}
 use Rattle.bq_range.specs.Interval.{Interval, IsInterval}
 use Rattle.bq_state.specs.Offsets.{Span, IsSpan}
 use Rattle.bq_state.specs.declared.kind.Kind.{Kind}
+use Rattle.bq_state.specs.Kinds.{StateKinds}
 use Rattle.bq_state.specs.declared.kind.Kind.TheVariants.{Unset, Number, FramePointer, RecordPointer}
 use Rattle.bq_check.specs.Spelling.{short_bytes, long_bytes, range_bytes, offset_bytes, span_bytes, kind_bytes, state_bytes, note_bytes, notes_bytes, IsKind, IsState, IsNote, IsNotes}
 use Rattle.bq_check.proofs.Codes.{IsCode, once}
@@ -149,7 +150,7 @@ kinds_are_code = record { one = λ a b x y p q e. one_kind a b x y p q e }
 pub states_are_code : IsCode state_bytes IsState
 states_are_code = record { one = λ a b x y p q e. once kind_bytes IsKind kinds_are_code a b x y p.kinds q.kinds (p.count ∙ sym q.count) e }
 
-one_note : (a b : Option (List Kind)) (x y : List ℕ) → IsNote a → IsNote b → note_bytes a ++ x ≡ note_bytes b ++ y → (a ≡ b) × (x ≡ y)
+one_note : (a b : Option StateKinds) (x y : List ℕ) → IsNote a → IsNote b → note_bytes a ++ x ≡ note_bytes b ++ y → (a ≡ b) × (x ≡ y)
 one_note None None x y p q e = (refl, (one_byte 0 0 x y e).1)
 one_note None (Some b) x y p q e = absurd (other 0 1 _ _ (λ h. omega (arith, h)) e)
 one_note (Some a) None x y p q e = absurd (other 1 0 _ _ (λ h. omega (arith, h)) e)
@@ -160,13 +161,13 @@ one_note (Some a) (Some b) x y p q e =
 pub note_is_code : IsCode note_bytes IsNote
 note_is_code = record { one = λ a b x y p q e. one_note a b x y p q e }
 
-pub counted : (n : List (Option (List Kind))) (x : List ℕ) → notes_bytes n ++ x ≡ short_bytes (length n) ++ (flat_map note_bytes n ++ x)
+pub counted : (n : List (Option StateKinds)) (x : List ℕ) → notes_bytes n ++ x ≡ short_bytes (length n) ++ (flat_map note_bytes n ++ x)
 counted n x = append_assoc (short_bytes (length n)) (flat_map note_bytes n) x
 
 pub notes_are_code : IsCode notes_bytes IsNotes
 notes_are_code = record { one = λ a b x y p q e. one a b x y p q e }
   where
-    one : (a b : List (Option (List Kind))) (x y : List ℕ) → IsNotes a → IsNotes b → notes_bytes a ++ x ≡ notes_bytes b ++ y → (a ≡ b) × (x ≡ y)
+    one : (a b : List (Option StateKinds)) (x y : List ℕ) → IsNotes a → IsNotes b → notes_bytes a ++ x ≡ notes_bytes b ++ y → (a ≡ b) × (x ≡ y)
     one a b x y p q e =
         let s = short_front (length a) (length b) (flat_map note_bytes a ++ x) (flat_map note_bytes b ++ y) (omega (arith, p.few)) (omega (arith, q.few)) (sym (counted a x) ∙ e ∙ counted b y) in
         once note_bytes IsNote note_is_code a b x y p.each q.each s.0 s.1

@@ -5,3 +5,4 @@ pub mod Checked
 pub mod Once
 pub mod Read
 pub mod Written
+mod Seen

@@ -3,13 +3,12 @@ use Rattle.std.proofs.Common.{◌≡◌, ℕ, ◌<◌, List, length, Option, Som
 use Rattle.std.specs.Prelude.{MatchResult, IfErr, ⊤}
 use Rattle.std.proofs.lemmas.Bool.{cases_lt}
 use Rattle.std.proofs.lemmas.List.{get_or_past}
-use Rattle.bq_insn.specs.Slots.{units}
+use Rattle.bq_insn.specs.Slots.{units, insn_at}
 use Rattle.bq_insn.specs.declared.insn.Insn.{Insn}
-use Rattle.bq_flow.specs.Paths.{insn_at}
 use Rattle.bq_flow.proofs.Units.{insn_within}
 use Rattle.bq_flow.proofs.Legal.{not_legal, one_first}
 use Rattle.bq_meaning.specs.Place.{record_length}
-use Rattle.bq_state.specs.declared.kind.Kind.{Kind}
+use Rattle.bq_state.specs.Kinds.{StateKinds}
 use Rattle.bq_state.specs.declared.rule.Rule.{Rule as Broken}
 use Rattle.bq_state.specs.Rules.{transfer}
 use Rattle.bq_state.specs.Edges.{edges}
@@ -19,16 +18,16 @@ use Rattle.bq_check.specs.declared.fault.CheckFault.{CheckFault}
 use Rattle.bq_check.specs.declared.fault.CheckFault.TheVariants.{WrongCount, Flow, NoteForm, Entry, Rule, NotCovered, OutOfMemory}
 use Rattle.bq_check.specs.Faults.{IsReached, IsFirstHalf, IsFirstFault}
 
-module _ (text : List Insn) (notes : List (Option (List Kind))) where
+module _ (text : List Insn) (notes : List (Option StateKinds)) where
   -- ---- second halves
 
-  no_state : (state : List Kind) (o : Option (List Kind)) → o ≡ None → o ≡ Some state → ⊥
+  no_state : (state : StateKinds) (o : Option StateKinds) → o ≡ None → o ≡ Some state → ⊥
   no_state state o e f = let bad : Some state ≡ None = sym f ∙ e in cc
 
   no_insn : (i : Insn) (o : Option Insn) → o ≡ None → o ≡ Some i → ⊥
   no_insn i o e f = let bad : Some i ≡ None = sym f ∙ e in cc
 
-  note_within : (unit : ℕ) (state : List Kind) → note_at notes unit ≡ Some state → unit < length notes
+  note_within : (unit : ℕ) (state : StateKinds) → note_at notes unit ≡ Some state → unit < length notes
   note_within unit state noted = elim (cases_lt unit (length notes)) [
     | inl l ↦ l
     | inr g ↦ absurd (no_state state (note_at notes unit) (get_or_past notes unit None g) noted)
@@ -54,35 +53,35 @@ module _ (text : List Insn) (notes : List (Option (List Kind))) where
   -- ---- units
 
   -- the first unit that is not fine
-  record IsFirstBad (unit : ℕ) (i : Insn) (state : List Kind) : Type 0 where
+  record IsFirstBad (unit : ℕ) (i : Insn) (state : StateKinds) : Type 0 where
     reached : IsReached text notes unit i state
     bad : IsFine record_length notes unit i state → ⊥
 
-  broken_is_bad : (unit : ℕ) (i : Insn) (state : List Kind) (rule : Broken) → IsReached text notes unit i state → transfer record_length i state ≡ Err rule → IsFirstBad unit i state
+  broken_is_bad : (unit : ℕ) (i : Insn) (state : StateKinds) (rule : Broken) → IsReached text notes unit i state → transfer record_length i state ≡ Err rule → IsFirstBad unit i state
   broken_is_bad unit i state rule reached e = record { reached = reached; bad = λ fine. bad fine }
     where
-      differ : (after : List Kind) (r : Result (List Kind) Broken) → r ≡ Ok after → r ≡ Err rule → ⊥
+      differ : (after : StateKinds) (r : Result StateKinds Broken) → r ≡ Ok after → r ≡ Err rule → ⊥
       differ after r p q = let no_way : Ok after ≡ Err rule = sym p ∙ q in cc
 
       bad : IsFine record_length notes unit i state → ⊥
       bad fine = differ fine.after (transfer record_length i state) fine.rules e
 
-  uncovered_is_bad : (unit : ℕ) (i : Insn) (state after : List Kind) → IsReached text notes unit i state → transfer record_length i state ≡ Ok after → (AllCovered notes (edges unit i after) → ⊥) → IsFirstBad unit i state
+  uncovered_is_bad : (unit : ℕ) (i : Insn) (state after : StateKinds) → IsReached text notes unit i state → transfer record_length i state ≡ Ok after → (AllCovered notes (edges unit i after) → ⊥) → IsFirstBad unit i state
   uncovered_is_bad unit i state after reached e uncovered = record { reached = reached; bad = λ fine. bad fine }
     where
-      same : (a b : List Kind) (r : Result (List Kind) Broken) → r ≡ Ok a → r ≡ Ok b → a ≡ b
+      same : (a b : StateKinds) (r : Result StateKinds Broken) → r ≡ Ok a → r ≡ Ok b → a ≡ b
       same a b r p q = let both : Ok a ≡ Ok b = sym p ∙ q in cc
 
       bad : IsFine record_length notes unit i state → ⊥
       bad fine = uncovered (subst (λ s. AllCovered notes (edges unit i s)) (same fine.after after (transfer record_length i state) fine.rules e) fine.covered)
 
-  bad_before : (unit n : ℕ) (i : Insn) (state : List Kind) → IsFirstBad unit i state → AllFine record_length text notes n → unit < n → ⊥
+  bad_before : (unit n : ℕ) (i : Insn) (state : StateKinds) → IsFirstBad unit i state → AllFine record_length text notes n → unit < n → ⊥
   bad_before unit n i state b fine l = b.bad (fine.each unit state i l b.reached.noted b.reached.there)
 
-  not_all_fine : (unit : ℕ) (i : Insn) (state : List Kind) → IsFirstBad unit i state → AllFine record_length text notes (units text) → ⊥
+  not_all_fine : (unit : ℕ) (i : Insn) (state : StateKinds) → IsFirstBad unit i state → AllFine record_length text notes (units text) → ⊥
   not_all_fine unit i state b fine = bad_before unit (units text) i state b fine (insn_within text unit i b.reached.there)
 
-  one_bad : (unit other : ℕ) (i j : Insn) (state old : List Kind) → IsFirstBad unit i state → IsFirstBad other j old → unit ≡ other
+  one_bad : (unit other : ℕ) (i j : Insn) (state old : StateKinds) → IsFirstBad unit i state → IsFirstBad other j old → unit ≡ other
   one_bad unit other i j state old f g = elim (cases_lt unit other) [
     | inl l ↦ absurd (bad_before unit other i state f g.reached.below l)
     | inr m ↦ elim (cases_lt other unit) [
@@ -91,20 +90,20 @@ module _ (text : List Insn) (notes : List (Option (List Kind))) where
     ]
   ]
 
-  same_state : (unit other : ℕ) (a b : List Kind) → unit ≡ other → note_at notes unit ≡ Some a → note_at notes other ≡ Some b → a ≡ b
+  same_state : (unit other : ℕ) (a b : StateKinds) → unit ≡ other → note_at notes unit ≡ Some a → note_at notes other ≡ Some b → a ≡ b
   same_state unit other a b e p q = let h : Some a ≡ Some b = sym p ∙ ap (note_at notes) e ∙ q in cc
 
   same_insn : (unit other : ℕ) (i j : Insn) → unit ≡ other → insn_at text unit ≡ Some i → insn_at text other ≡ Some j → i ≡ j
   same_insn unit other i j e p q = let h : Some i ≡ Some j = sym p ∙ ap (insn_at text) e ∙ q in cc
 
-  same_transfer : (unit other : ℕ) (i j : Insn) (state old : List Kind) → unit ≡ other → IsReached text notes unit i state → IsReached text notes other j old → transfer record_length i state ≡ transfer record_length j old
+  same_transfer : (unit other : ℕ) (i j : Insn) (state old : StateKinds) → unit ≡ other → IsReached text notes unit i state → IsReached text notes other j old → transfer record_length i state ≡ transfer record_length j old
   same_transfer unit other i j state old e r s =
       ap (λ x. transfer record_length x state) (same_insn unit other i j e r.there s.there) ∙ ap (transfer record_length j) (same_state unit other state old e r.noted s.noted)
 
-  one_rule : (rule wrong : Broken) (r s : Result (List Kind) Broken) → r ≡ s → r ≡ Err rule → s ≡ Err wrong → rule ≡ wrong
+  one_rule : (rule wrong : Broken) (r s : Result StateKinds Broken) → r ≡ s → r ≡ Err rule → s ≡ Err wrong → rule ≡ wrong
   one_rule rule wrong r s e p q = let h : Err rule ≡ Err wrong = sym p ∙ e ∙ q in cc
 
-  broken_or_not : (rule : Broken) (after : List Kind) (r s : Result (List Kind) Broken) → r ≡ s → r ≡ Err rule → s ≡ Ok after → ⊥
+  broken_or_not : (rule : Broken) (after : StateKinds) (r s : Result StateKinds Broken) → r ≡ s → r ≡ Err rule → s ≡ Ok after → ⊥
   broken_or_not rule after r s e p q = let h : Err rule ≡ Ok after = sym p ∙ e ∙ q in cc
 
   rule_or_uncovered : (unit other : ℕ) (rule : Broken) → IsFirstFault text notes (Rule unit rule) → IsFirstFault text notes (NotCovered other) → ⊥

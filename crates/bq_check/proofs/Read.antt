@@ -9,6 +9,7 @@ use mir.Val.{to_z, of_z}
 use Rattle.bq_range.specs.Interval.{Interval, IsInterval}
 use Rattle.bq_state.specs.Offsets.{Span, IsSpan}
 use Rattle.bq_state.specs.declared.kind.Kind.{Kind}
+use Rattle.bq_state.specs.Kinds.{StateKinds}
 use Rattle.bq_state.specs.declared.kind.Kind.TheVariants.{Unset, Number, FramePointer, RecordPointer}
 use Rattle.bq_check.specs.declared.fault.NotesFault.{NotesFault}
 use Rattle.bq_check.specs.declared.fault.NotesFault.TheVariants.{NoteForm, OutOfMemory}
@@ -104,15 +105,15 @@ no_kind bytes rest b parts zeroth first second third = record { none = λ k more
 -- ---- states
 
 -- the first n of eleven kinds were read, and rest is what is left of the bytes
-pub record ReadKinds (bytes : List ℕ) (kinds : List Kind) (n : ℕ) (rest : List ℕ) : Type 0 where
+pub record ReadKinds (bytes : List ℕ) (kinds : StateKinds) (n : ℕ) (rest : List ℕ) : Type 0 where
   pub count : length kinds ≡ 11
   pub legal : AllByRecursion IsKind (take n kinds)
   pub parts : bytes ≡ state_bytes (take n kinds) ++ rest
 
-pub kinds_none : (bytes : List ℕ) (kinds : List Kind) → length kinds ≡ 11 → ReadKinds bytes kinds 0 bytes
+pub kinds_none : (bytes : List ℕ) (kinds : StateKinds) → length kinds ≡ 11 → ReadKinds bytes kinds 0 bytes
 kinds_none bytes kinds count = record { count = count; legal = tt; parts = refl }
 
-pub kinds_more : (bytes : List ℕ) (kinds : List Kind) (n : ℕ) (rest after : List ℕ) (k : Kind) → ReadKinds bytes kinds n rest → n < 11 → IsKind k → rest ≡ kind_bytes k ++ after → length (set kinds n k) ≡ length kinds → ReadKinds bytes (set kinds n k) (n + 1) after
+pub kinds_more : (bytes : List ℕ) (kinds : StateKinds) (n : ℕ) (rest after : List ℕ) (k : Kind) → ReadKinds bytes kinds n rest → n < 11 → IsKind k → rest ≡ kind_bytes k ++ after → length (set kinds n k) ≡ length kinds → ReadKinds bytes (set kinds n k) (n + 1) after
 kinds_more bytes kinds n rest after k read lt is parts same =
     let t : take (n + 1) (set kinds n k) ≡ take n kinds ++ k ∷ [] = take_more_set kinds n k (omega (arith, lt, read.count)) in
     record {
@@ -121,12 +122,12 @@ kinds_more bytes kinds n rest after k read lt is parts same =
       parts = read.parts ∙ ap (λ l. state_bytes (take n kinds) ++ l) parts ∙ sym (append_assoc (state_bytes (take n kinds)) (kind_bytes k) after) ∙ ap (λ l. l ++ after) (sym (flat_map_push kind_bytes (take n kinds) k)) ∙ ap (λ l. state_bytes l ++ after) (sym t);
     }
 
-pub kinds_all : (bytes : List ℕ) (kinds : List Kind) (n : ℕ) (rest : List ℕ) → ReadKinds bytes kinds n rest → 11 ≤ n → IsState kinds × (bytes ≡ state_bytes kinds ++ rest)
+pub kinds_all : (bytes : List ℕ) (kinds : StateKinds) (n : ℕ) (rest : List ℕ) → ReadKinds bytes kinds n rest → 11 ≤ n → IsState kinds × (bytes ≡ state_bytes kinds ++ rest)
 kinds_all bytes kinds n rest read all =
     let t : take n kinds ≡ kinds = take_all n kinds (omega (arith, read.count, all)) in
     (record { count = read.count; kinds = subst (AllByRecursion IsKind) t read.legal }, read.parts ∙ ap (λ l. state_bytes l ++ rest) t)
 
-pub no_state : (bytes : List ℕ) (kinds : List Kind) (n : ℕ) (rest : List ℕ) → ReadKinds bytes kinds n rest → n < 11 → BeginsNone kind_bytes IsKind rest → BeginsNone state_bytes IsState bytes
+pub no_state : (bytes : List ℕ) (kinds : StateKinds) (n : ℕ) (rest : List ℕ) → ReadKinds bytes kinds n rest → n < 11 → BeginsNone kind_bytes IsKind rest → BeginsNone state_bytes IsState bytes
 no_state bytes kinds n rest read lt none = record { none = λ s more is e. stops kind_bytes IsKind kinds_are_code (take n kinds) s rest more none read.legal is.kinds (omega (arith, lt, is.count, length-take n kinds)) (sym read.parts ∙ e) }
 
 -- ---- notes
@@ -134,34 +135,34 @@ no_state bytes kinds n rest read lt none = record { none = λ s more is e. stops
 pub no_note_left : (bytes : List ℕ) → bytes ≡ [] → BeginsNone note_bytes IsNote bytes
 no_note_left bytes empty = record { none = λ o more l e. none o more (sym empty ∙ e) }
   where
-    none : (o : Option (List Kind)) (more : List ℕ) → [] ≡ note_bytes o ++ more → ⊥
+    none : (o : Option StateKinds) (more : List ℕ) → [] ≡ note_bytes o ++ more → ⊥
     none None more e = cc
     none (Some s) more e = cc
 
 pub no_note : (bytes rest : List ℕ) (b : ℕ) → bytes ≡ b ∷ rest → (b ≡ 0 → ⊥) → (b ≡ 1 → BeginsNone state_bytes IsState rest) → BeginsNone note_bytes IsNote bytes
 no_note bytes rest b parts zeroth first = record { none = λ o more l e. none o more l (sym parts ∙ e) }
   where
-    none : (o : Option (List Kind)) (more : List ℕ) → IsNote o → b ∷ rest ≡ note_bytes o ++ more → ⊥
+    none : (o : Option StateKinds) (more : List ℕ) → IsNote o → b ∷ rest ≡ note_bytes o ++ more → ⊥
     none None more l e = zeroth (one_byte b 0 rest more e).0
     none (Some s) more l e =
         let t = one_byte b 1 rest (state_bytes s ++ more) e in
         (first t.0).none s more l t.1
 
 -- some of so many notes were read, and rest is what is left of the bytes
-pub record ReadNotes (bytes : List ℕ) (count : ℕ) (notes : List (Option (List Kind))) (rest : List ℕ) : Type 0 where
+pub record ReadNotes (bytes : List ℕ) (count : ℕ) (notes : List (Option StateKinds)) (rest : List ℕ) : Type 0 where
   pub legal : AllByRecursion IsNote notes
   pub parts : bytes ≡ short_bytes count ++ (flat_map note_bytes notes ++ rest)
 
 pub notes_none : (bytes : List ℕ) (count : ℕ) (rest : List ℕ) → bytes ≡ short_bytes count ++ rest → ReadNotes bytes count [] rest
 notes_none bytes count rest parts = record { legal = tt; parts = parts }
 
-pub notes_more : (bytes : List ℕ) (count : ℕ) (notes : List (Option (List Kind))) (rest after : List ℕ) (o : Option (List Kind)) → ReadNotes bytes count notes rest → IsNote o → rest ≡ note_bytes o ++ after → ReadNotes bytes count (notes ++ o ∷ []) after
+pub notes_more : (bytes : List ℕ) (count : ℕ) (notes : List (Option StateKinds)) (rest after : List ℕ) (o : Option StateKinds) → ReadNotes bytes count notes rest → IsNote o → rest ≡ note_bytes o ++ after → ReadNotes bytes count (notes ++ o ∷ []) after
 notes_more bytes count notes rest after o read is parts = record {
   legal = all_push IsNote notes o read.legal is;
   parts = read.parts ∙ ap (λ l. short_bytes count ++ l) (ap (λ l. flat_map note_bytes notes ++ l) parts ∙ sym (append_assoc (flat_map note_bytes notes) (note_bytes o) after) ∙ ap (λ l. l ++ after) (sym (flat_map_push note_bytes notes o)));
 }
 
-pub notes_all : (bytes : List ℕ) (count : ℕ) (notes : List (Option (List Kind))) (rest : List ℕ) → ReadNotes bytes count notes rest → length notes ≡ count → bytes ≡ notes_bytes notes ++ rest
+pub notes_all : (bytes : List ℕ) (count : ℕ) (notes : List (Option StateKinds)) (rest : List ℕ) → ReadNotes bytes count notes rest → length notes ≡ count → bytes ≡ notes_bytes notes ++ rest
 notes_all bytes count notes rest read all = read.parts ∙ ap (λ n. short_bytes n ++ (flat_map note_bytes notes ++ rest)) (sym all) ∙ sym (counted notes rest)
 
 pub no_count : (bytes : List ℕ) → length bytes < 4 → BeginsNone notes_bytes IsNotes bytes
@@ -170,15 +171,15 @@ no_count bytes short = record { none = λ n more is e. omega (arith, short, ap l
 pub many : (bytes rest : List ℕ) (count : ℕ) → count < 2 ^ 32 → bytes ≡ short_bytes count ++ rest → 4096 < count → BeginsNone notes_bytes IsNotes bytes
 many bytes rest count fits parts above = record { none = λ n more is e. none n more is e }
   where
-    none : (n : List (Option (List Kind))) (more : List ℕ) → IsNotes n → bytes ≡ notes_bytes n ++ more → ⊥
+    none : (n : List (Option StateKinds)) (more : List ℕ) → IsNotes n → bytes ≡ notes_bytes n ++ more → ⊥
     none n more is e =
         let s = short_front count (length n) rest (flat_map note_bytes n ++ more) fits (omega (arith, is.few)) (sym parts ∙ e ∙ counted n more) in
         omega (arith, s.0, is.few, above)
 
-pub no_notes : (bytes : List ℕ) (count : ℕ) (notes : List (Option (List Kind))) (rest : List ℕ) → count < 2 ^ 32 → ReadNotes bytes count notes rest → length notes < count → BeginsNone note_bytes IsNote rest → BeginsNone notes_bytes IsNotes bytes
+pub no_notes : (bytes : List ℕ) (count : ℕ) (notes : List (Option StateKinds)) (rest : List ℕ) → count < 2 ^ 32 → ReadNotes bytes count notes rest → length notes < count → BeginsNone note_bytes IsNote rest → BeginsNone notes_bytes IsNotes bytes
 no_notes bytes count notes rest fits read lt left = record { none = λ n more is e. none n more is e }
   where
-    none : (n : List (Option (List Kind))) (more : List ℕ) → IsNotes n → bytes ≡ notes_bytes n ++ more → ⊥
+    none : (n : List (Option StateKinds)) (more : List ℕ) → IsNotes n → bytes ≡ notes_bytes n ++ more → ⊥
     none n more is e =
         let s = short_front count (length n) (flat_map note_bytes notes ++ rest) (flat_map note_bytes n ++ more) fits (omega (arith, is.few)) (sym read.parts ∙ e ∙ counted n more) in
         stops note_bytes IsNote note_is_code notes n rest more left read.legal is.each (omega (arith, lt, s.0)) s.1
@@ -186,25 +187,25 @@ no_notes bytes count notes rest fits read lt left = record { none = λ n more is
 -- ---- whole bytes
 
 -- notes have these bytes
-abbrev pub Spells : List ℕ → List (Option (List Kind)) → Type 0
+abbrev pub Spells : List ℕ → List (Option StateKinds) → Type 0
 Spells bytes n = bytes ≡ notes_bytes n
 
-pub no_whole : (bytes : List ℕ) → BeginsNone notes_bytes IsNotes bytes → (n : List (Option (List Kind))) → IsNotes n → bytes ≡ notes_bytes n → ⊥
+pub no_whole : (bytes : List ℕ) → BeginsNone notes_bytes IsNotes bytes → (n : List (Option StateKinds)) → IsNotes n → bytes ≡ notes_bytes n → ⊥
 no_whole bytes none n is e = none.none n [] is (e ∙ sym (append-nil (notes_bytes n)))
 
-pub passed_on : (bytes : List ℕ) (r : Result (List (Option (List Kind))) NotesFault) (x d : NotesFault) → r ≡ Err x → x ≡ d → (d ≡ NoteForm → BeginsNone notes_bytes IsNotes bytes) → IfErr r (λ e. e ≡ NoteForm → (n : List (Option (List Kind))) → IsNotes n → bytes ≡ notes_bytes n → ⊥)
+pub passed_on : (bytes : List ℕ) (r : Result (List (Option StateKinds)) NotesFault) (x d : NotesFault) → r ≡ Err x → x ≡ d → (d ≡ NoteForm → BeginsNone notes_bytes IsNotes bytes) → IfErr r (λ e. e ≡ NoteForm → (n : List (Option StateKinds)) → IsNotes n → bytes ≡ notes_bytes n → ⊥)
 passed_on bytes r x d is same refused =
-    let P : Result (List (Option (List Kind))) NotesFault → Type 0 = λ s. IfErr s (λ e. e ≡ NoteForm → (n : List (Option (List Kind))) → IsNotes n → bytes ≡ notes_bytes n → ⊥) in
+    let P : Result (List (Option StateKinds)) NotesFault → Type 0 = λ s. IfErr s (λ e. e ≡ NoteForm → (n : List (Option StateKinds)) → IsNotes n → bytes ≡ notes_bytes n → ⊥) in
     subst P (sym is) (λ e. no_whole bytes (refused (sym same ∙ e)))
 
-pub left_over : (bytes : List ℕ) (m : List (Option (List Kind))) (rest : List ℕ) → IsNotes m → bytes ≡ notes_bytes m ++ rest → (rest ≡ [] → ⊥) → (n : List (Option (List Kind))) → IsNotes n → bytes ≡ notes_bytes n → ⊥
+pub left_over : (bytes : List ℕ) (m : List (Option StateKinds)) (rest : List ℕ) → IsNotes m → bytes ≡ notes_bytes m ++ rest → (rest ≡ [] → ⊥) → (n : List (Option StateKinds)) → IsNotes n → bytes ≡ notes_bytes n → ⊥
 left_over bytes m rest legal parts some n is e = some (notes_are_code.one m n rest [] legal is (sym parts ∙ e ∙ sym (append-nil (notes_bytes n)))).1
 
-pub one_notes : (m n : List (Option (List Kind))) → IsNotes m → IsNotes n → notes_bytes m ≡ notes_bytes n → m ≡ n
+pub one_notes : (m n : List (Option StateKinds)) → IsNotes m → IsNotes n → notes_bytes m ≡ notes_bytes n → m ≡ n
 one_notes m n p q e = (notes_are_code.one m n [] [] p q (ap (λ l. l ++ []) e)).0
 
 -- what spells notes is read as these, unless memory runs out
-pub reads : (bytes : List ℕ) (r : Result (List (Option (List Kind))) NotesFault) → IfOk r IsNotes → IfOk r (λ n. bytes ≡ notes_bytes n) → IfErr r (λ e. e ≡ NoteForm → (n : List (Option (List Kind))) → IsNotes n → bytes ≡ notes_bytes n → ⊥) → (n : List (Option (List Kind))) → IsNotes n → bytes ≡ notes_bytes n → MatchResult r (λ m. m ≡ n) (λ e. e ≡ OutOfMemory)
+pub reads : (bytes : List ℕ) (r : Result (List (Option StateKinds)) NotesFault) → IfOk r IsNotes → IfOk r (λ n. bytes ≡ notes_bytes n) → IfErr r (λ e. e ≡ NoteForm → (n : List (Option StateKinds)) → IsNotes n → bytes ≡ notes_bytes n → ⊥) → (n : List (Option StateKinds)) → IsNotes n → bytes ≡ notes_bytes n → MatchResult r (λ m. m ≡ n) (λ e. e ≡ OutOfMemory)
 reads bytes (Ok m) legal spelled refused n is e = one_notes m n legal is (sym spelled ∙ e)
 reads bytes (Err NoteForm) legal spelled refused n is e = absurd (refused refl n is e)
 reads bytes (Err OutOfMemory) legal spelled refused n is e = refl

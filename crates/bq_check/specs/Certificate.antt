@@ -4,13 +4,13 @@ use Rattle.bq_insn.specs.Slots.{IsText}
 use Rattle.bq_insn.specs.declared.insn.Insn.{Insn}
 use Rattle.bq_flow.specs.Paths.{IsLongest}
 use Rattle.bq_meaning.specs.Place.{record_length}
-use Rattle.bq_state.specs.declared.kind.Kind.{Kind}
+use Rattle.bq_state.specs.Kinds.{StateKinds}
 use Rattle.bq_sound.specs.Passes.{Passes}
 
 -- a text, its notes, and the greatest number of instructions on a path
 pub record Certificate : Type 0 where
   pub text : List Insn
-  pub notes : List (Option (List Kind))
+  pub notes : List (Option StateKinds)
   pub longest : ℕ
 
 -- a legal text, its notes pass, and that is the longest path

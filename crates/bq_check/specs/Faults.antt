@@ -1,12 +1,11 @@
 -- The first fault of notes that do not pass: 21, the flow's, 31, 22, and then the units with a state in rising order.
 use Rattle.std.specs.Prelude.{◌≡◌, ◌≢◌, ℕ, List, length, Option, Some, None, Ok, Err}
-use Rattle.bq_insn.specs.Slots.{units}
+use Rattle.bq_insn.specs.Slots.{units, insn_at}
 use Rattle.bq_insn.specs.declared.insn.Insn.{Insn}
-use Rattle.bq_flow.specs.Paths.{insn_at, IsLegalFlow}
+use Rattle.bq_flow.specs.Paths.{IsLegalFlow}
 use Rattle.bq_flow.specs.Faults.{IsFirstFlowFault}
 use Rattle.bq_meaning.specs.Place.{record_length}
-use Rattle.bq_state.specs.declared.kind.Kind.{Kind}
-use Rattle.bq_state.specs.Kinds.{entry_state}
+use Rattle.bq_state.specs.Kinds.{StateKinds, entry_state}
 use Rattle.bq_state.specs.Rules.{transfer}
 use Rattle.bq_state.specs.Edges.{edges}
 use Rattle.bq_check.specs.declared.fault.CheckFault.{CheckFault}
@@ -14,40 +13,40 @@ use Rattle.bq_check.specs.declared.fault.CheckFault.TheVariants.{WrongCount, Flo
 use Rattle.bq_sound.specs.Passes.{note_at, NoteCovers, AllCovered, NoHalves, AllFine}
 
 -- a unit below which all is fine, with a state and an instruction
-pub record IsReached (text : List Insn) (notes : List (Option (List Kind))) (unit : ℕ) (i : Insn) (state : List Kind) : Type 0 where
+pub record IsReached (text : List Insn) (notes : List (Option StateKinds)) (unit : ℕ) (i : Insn) (state : StateKinds) : Type 0 where
   pub below : AllFine record_length text notes unit
   pub noted : note_at notes unit ≡ Some state
   pub there : insn_at text unit ≡ Some i
 
 -- a unit with a state where no instruction begins, and none below it
-pub record IsFirstHalf (text : List Insn) (notes : List (Option (List Kind))) (unit : ℕ) : Type 0 where
+pub record IsFirstHalf (text : List Insn) (notes : List (Option StateKinds)) (unit : ℕ) : Type 0 where
   pub below : NoHalves text notes unit
-  pub state : List Kind
+  pub state : StateKinds
   pub noted : note_at notes unit ≡ Some state
   pub second : insn_at text unit ≡ None
 
 -- what holds where the units are looked at one by one
-pub record IsOpened (text : List Insn) (notes : List (Option (List Kind))) : Type 0 where
+pub record IsOpened (text : List Insn) (notes : List (Option StateKinds)) : Type 0 where
   pub count : length notes ≡ units text
   pub flow : IsLegalFlow text
   pub halves : NoHalves text notes (units text)
   pub entry : NoteCovers notes (0, entry_state record_length)
 
 -- what is wrong with the instruction at a unit with a state
-abbrev pub IsUnitFault : List (Option (List Kind)) → ℕ → Insn → List Kind → CheckFault → Type 0
+abbrev pub IsUnitFault : List (Option StateKinds) → ℕ → Insn → StateKinds → CheckFault → Type 0
 IsUnitFault notes unit i state (Rule at rule) = (at ≡ unit) × (transfer record_length i state ≡ Err rule)
-IsUnitFault notes unit i state (NotCovered at) = (at ≡ unit) × ((after : List Kind) × (transfer record_length i state ≡ Ok after) × (AllCovered notes (edges unit i after) → ⊥))
+IsUnitFault notes unit i state (NotCovered at) = (at ≡ unit) × ((after : StateKinds) × (transfer record_length i state ≡ Ok after) × (AllCovered notes (edges unit i after) → ⊥))
 IsUnitFault notes unit i state f = ⊥
 
-abbrev pub IsFirstFault : List Insn → List (Option (List Kind)) → CheckFault → Type 0
+abbrev pub IsFirstFault : List Insn → List (Option StateKinds) → CheckFault → Type 0
 IsFirstFault text notes WrongCount = length notes ≢ units text
 IsFirstFault text notes (Flow unit rule) = (length notes ≡ units text) × IsFirstFlowFault text unit rule
 IsFirstFault text notes (NoteForm unit) = (length notes ≡ units text) × IsLegalFlow text × IsFirstHalf text notes unit
 IsFirstFault text notes Entry =
     (length notes ≡ units text) × IsLegalFlow text × NoHalves text notes (units text) × (NoteCovers notes (0, entry_state record_length) → ⊥)
 IsFirstFault text notes (Rule unit rule) =
-    IsOpened text notes × ((i : Insn) × (state : List Kind) × IsReached text notes unit i state × (transfer record_length i state ≡ Err rule))
+    IsOpened text notes × ((i : Insn) × (state : StateKinds) × IsReached text notes unit i state × (transfer record_length i state ≡ Err rule))
 IsFirstFault text notes (NotCovered unit) =
-    IsOpened text notes × ((i : Insn) × (state : List Kind) × (after : List Kind) × IsReached text notes unit i state × (transfer record_length i state ≡ Ok after)
+    IsOpened text notes × ((i : Insn) × (state : StateKinds) × (after : StateKinds) × IsReached text notes unit i state × (transfer record_length i state ≡ Ok after)
     × (AllCovered notes (edges unit i after) → ⊥))
 IsFirstFault text notes OutOfMemory = Unit {0}

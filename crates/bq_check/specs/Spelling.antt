@@ -5,6 +5,7 @@ use Rattle.std.specs.Int.{w32, w64, cast_unsigned, to_le_bytes}
 use Rattle.bq_range.specs.Interval.{Interval, IsInterval}
 use Rattle.bq_state.specs.Offsets.{Span, IsSpan}
 use Rattle.bq_state.specs.declared.kind.Kind.{Kind}
+use Rattle.bq_state.specs.Kinds.{StateKinds}
 use Rattle.bq_state.specs.declared.kind.Kind.TheVariants.{Unset, Number, FramePointer, RecordPointer}
 
 -- ---- the bytes, those of a number from the lowest
@@ -31,14 +32,14 @@ kind_bytes (Number a) = 1 ∷ range_bytes a
 kind_bytes (FramePointer s) = 2 ∷ span_bytes s
 kind_bytes (RecordPointer s) = 3 ∷ span_bytes s
 
-abbrev pub state_bytes : List Kind → List ℕ
+abbrev pub state_bytes : StateKinds → List ℕ
 state_bytes state = flat_map kind_bytes state
 
-abbrev pub note_bytes : Option (List Kind) → List ℕ
+abbrev pub note_bytes : Option StateKinds → List ℕ
 note_bytes None = 0 ∷ []
 note_bytes (Some state) = 1 ∷ state_bytes state
 
-abbrev pub notes_bytes : List (Option (List Kind)) → List ℕ
+abbrev pub notes_bytes : List (Option StateKinds) → List ℕ
 notes_bytes notes = short_bytes (length notes) ++ flat_map note_bytes notes
 
 -- ---- the notes that have bytes
@@ -50,16 +51,16 @@ IsKind (FramePointer s) = IsSpan s
 IsKind (RecordPointer s) = IsSpan s
 
 -- eleven kinds
-pub record IsState (state : List Kind) : Type 0 where
+pub record IsState (state : StateKinds) : Type 0 where
   pub count : length state ≡ 11
   pub kinds : AllByRecursion IsKind state
 
-abbrev pub IsNote : Option (List Kind) → Type 0
+abbrev pub IsNote : Option StateKinds → Type 0
 IsNote None = Unit {0}
 IsNote (Some state) = IsState state
 
 -- at most 4,096 notes
-pub record IsNotes (notes : List (Option (List Kind))) : Type 0 where
+pub record IsNotes (notes : List (Option StateKinds)) : Type 0 where
   pub few : length notes ≤ 4096
   pub each : AllByRecursion IsNote notes
 

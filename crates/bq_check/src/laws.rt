@@ -4,7 +4,7 @@
 ghost use Rattle.std.specs.Prelude.{◌≡◌, List, Option};
 ghost use Rattle.bq_insn.specs.declared.insn.Insn.{Insn};
 ghost use Rattle.bq_meaning.specs.Place.{record_length};
-ghost use Rattle.bq_state.specs.declared.kind.Kind.{Kind};
+ghost use Rattle.bq_state.specs.Kinds.{StateKinds};
 ghost use Rattle.bq_sound.specs.Passes.{Passes};
 ghost use Rattle.bq_check.specs.declared.fault.CheckFault.{CheckFault};
 ghost use Rattle.bq_check.specs.declared.fault.CheckFault.TheVariants.{OutOfMemory};
@@ -13,15 +13,15 @@ ghost use Rattle.bq_check.specs.Spelling.{notes_bytes, IsNotes};
 
 /// Notes that pass have no fault but want of memory.
 pub fn passing_has_no_fault()
-    ensures { (text : List Insn) (notes : List (Option (List Kind))) (fault : CheckFault) → Passes record_length text notes → IsFirstFault text notes fault → fault ≡ OutOfMemory }
+    ensures { (text : List Insn) (notes : List (Option StateKinds)) (fault : CheckFault) → Passes record_length text notes → IsFirstFault text notes fault → fault ≡ OutOfMemory }
 {}
 
 /// A text with notes has one first fault at most, want of memory aside.
 pub fn one_first_fault()
-    ensures { (text : List Insn) (notes : List (Option (List Kind))) (fault other : CheckFault) → IsFirstFault text notes fault → IsFirstFault text notes other → (fault ≡ OutOfMemory → ⊥) → (other ≡ OutOfMemory → ⊥) → fault ≡ other }
+    ensures { (text : List Insn) (notes : List (Option StateKinds)) (fault other : CheckFault) → IsFirstFault text notes fault → IsFirstFault text notes other → (fault ≡ OutOfMemory → ⊥) → (other ≡ OutOfMemory → ⊥) → fault ≡ other }
 {}
 
 /// Notes have bytes that no other notes have.
 pub fn one_spelling()
-    ensures { (notes other : List (Option (List Kind))) → IsNotes notes → IsNotes other → notes_bytes notes ≡ notes_bytes other → notes ≡ other }
+    ensures { (notes other : List (Option StateKinds)) → IsNotes notes → IsNotes other → notes_bytes notes ≡ notes_bytes other → notes ≡ other }
 {}

@@ -32,6 +32,7 @@
 pub mod certified;
 pub mod check;
 pub mod fault;
+mod kept;
 pub mod laws;
 pub mod notes;
 mod reading;

@@ -15,9 +15,9 @@ pub struct Notes {
 
 impl Model for Notes {
     ghost use Rattle.std.specs.Prelude.{◌≤◌, List, Option, length};
-    ghost use Rattle.bq_state.specs.declared.kind.Kind.{Kind};
+    ghost use Rattle.bq_state.specs.Kinds.{StateKinds};
 
-    ghost Value = { List (Option (List Kind)) };
+    ghost Value = { List (Option StateKinds) };
 
     ghost view = { λ n. n.states.items };
 

@@ -1,10 +1,10 @@
 //! Bytes to notes.
 
-ghost use Rattle.std.specs.Prelude.{◌≡◌, ◌≤◌, ◌<◌, ◌^◌, ◌++◌, ◌∷◌, [], List, Option, length, IfSome, IfNone, IfOk, IfErr, MatchResult};
-ghost use Rattle.std.specs.List.{AllByRecursion};
+ghost use Rattle.std.specs.Prelude.{◌≡◌, ◌<◌, ◌^◌, ◌++◌, ◌∷◌, [], List, Option, length, IfSome, IfNone, IfOk, IfErr, MatchResult};
 ghost use Rattle.bq_range.specs.Interval.{IsInterval};
 ghost use Rattle.bq_state.specs.Offsets.{IsSpan};
 ghost use Rattle.bq_state.specs.declared.kind.Kind.{Kind};
+ghost use Rattle.bq_state.specs.Kinds.{StateKinds};
 ghost use Rattle.bq_check.specs.Spelling.{short_bytes, long_bytes, range_bytes, span_bytes, kind_bytes, note_bytes, state_bytes, notes_bytes, IsKind, IsState, IsNote, IsNotes, BeginsNone};
 
 use crate::fault::NotesFault;
@@ -149,7 +149,7 @@ impl<'a> Reader<'a> {
 fn notes_of(alloc: Global, bytes: &[u8]) -> Result<Notes, NotesFault>
     ensures legal { IfOk result IsNotes }
     ensures spelled { IfOk result (λ n. bytes.now ≡ notes_bytes n) }
-    ensures refused { IfErr result (λ e. e ≡ NotesFault.NoteForm → (n : List (Option (List Kind))) → IsNotes n → bytes.now ≡ notes_bytes n → ⊥) }
+    ensures refused { IfErr result (λ e. e ≡ NotesFault.NoteForm → (n : List (Option StateKinds)) → IsNotes n → bytes.now ≡ notes_bytes n → ⊥) }
 {
     let mut reader = Reader { rest: bytes };
     let notes = reader.notes(alloc)?;
@@ -174,7 +174,7 @@ impl Notes {
         ensures spelled { IfOk result (λ n. bytes.now ≡ notes_bytes n) }
 
         // What spells notes is read as these, unless memory runs out.
-        ensures all { (n : List (Option (List Kind))) → IsNotes n → bytes.now ≡ notes_bytes n → MatchResult result (λ m. m ≡ n) (λ e. e ≡ NotesFault.OutOfMemory) }
+        ensures all { (n : List (Option StateKinds)) → IsNotes n → bytes.now ≡ notes_bytes n → MatchResult result (λ m. m ≡ n) (λ e. e ≡ NotesFault.OutOfMemory) }
     {
         notes_of(alloc, bytes)
     }

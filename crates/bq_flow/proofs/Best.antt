@@ -3,13 +3,13 @@ use Rattle.std.proofs.Common.{◌≡◌, ℕ, zero, suc, ◌+◌, ◌<◌, ◌�
 use Rattle.std.specs.Prelude.{pos}
 use Rattle.std.proofs.lemmas.Bool.{cases_lt}
 use Rattle.std.proofs.lemmas.List.{get_or-set_same, get_or-set_other, length-set}
-use Rattle.bq_insn.specs.Slots.{units}
+use Rattle.bq_insn.specs.Slots.{units, insn_at}
 use Rattle.bq_insn.specs.declared.insn.Insn.{Insn}
 use Rattle.bq_insn.specs.declared.insn.Insn.TheVariants as insns
 use Rattle.bq_flow.specs.declared.successors.Successors.{Successors}
 use Rattle.bq_flow.specs.declared.successors.Successors.TheVariants as nexts
 use Rattle.bq_flow.specs.Successors.{successors}
-use Rattle.bq_flow.specs.Paths.{insn_at, Among, IsLegalFlow, Path, IsLongest}
+use Rattle.bq_flow.specs.Paths.{Among, IsLegalFlow, Path, IsLongest}
 use Rattle.bq_flow.specs.Flow.{places, successors_of, successors_at, IsNext, AreNext}
 use Rattle.bq_flow.specs.Table.{IsLongestFrom, IsTable}
 use Rattle.bq_flow.proofs.Units.{first_begins, insn_within}

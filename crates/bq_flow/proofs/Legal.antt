@@ -2,7 +2,7 @@
 use Rattle.std.proofs.Common.{◌≡◌, ℕ, ◌+◌, ◌<◌, List, [], ◌∷◌, ◌++◌, Option, Some, None, Bool, true, false, ap, sym, subst, ◌∙◌, refl, arith, inl, inr}
 use Rattle.std.specs.Prelude.{◌⊎◌, ℤ, pos, negsuc, nat_le, is_none, if◌then◌else◌}
 use Rattle.std.proofs.lemmas.Bool.{cases_Bool, cases_lt, leb-false, lt-leb}
-use Rattle.bq_insn.specs.Slots.{units}
+use Rattle.bq_insn.specs.Slots.{units, insn_at}
 use Rattle.bq_insn.specs.declared.insn.Insn.{Insn}
 use Rattle.bq_flow.specs.declared.fault.FlowRule.{FlowRule}
 use Rattle.bq_flow.specs.declared.fault.FlowRule.TheVariants.{Backward, OutsideText, IntoWide, FallsOff}
@@ -11,7 +11,7 @@ use Rattle.bq_flow.specs.declared.fault.FlowFault.TheVariants.{At, OutOfMemory}
 use Rattle.bq_flow.specs.declared.successors.Successors.{Successors}
 use Rattle.bq_flow.specs.declared.successors.Successors.TheVariants as nexts
 use Rattle.bq_flow.specs.Successors.{next_unit, distance_of, falls_through, destination, jumps_to, successors}
-use Rattle.bq_flow.specs.Paths.{insn_at, Among, IsForward, IsLegalFlow}
+use Rattle.bq_flow.specs.Paths.{Among, IsForward, IsLegalFlow}
 use Rattle.bq_flow.specs.Faults.{place_fault, jump_fault, fall_fault, first_of, flow_fault, NoFlowFault, IsFirstFlowFault, IsFlowFault}
 use Rattle.bq_flow.specs.Flow.{unit_behind, unit_jumped_to, place_of, places, successors_of, successors_at, IsNext, AreNext}
 use Rattle.bq_flow.proofs.Units.{next_begins, next_forward, insn_within}

@@ -6,9 +6,8 @@ use Rattle.std.proofs.lemmas.List.{get_or_past}
 use Rattle.std.proofs.lemmas.List.Concat.{flat_map-cons}
 use Rattle.bq_insn.specs.declared.insn.Insn.{Insn}
 use Rattle.bq_insn.specs.declared.insn.Insn.TheVariants as insns
-use Rattle.bq_insn.specs.Slots.{slots_of, slots, units}
+use Rattle.bq_insn.specs.Slots.{slots_of, slots, units, insn_at}
 use Rattle.bq_flow.specs.Successors.{next_unit}
-use Rattle.bq_flow.specs.Paths.{insn_at}
 
 -- an instruction of one unit
 record IsNarrow (i : Insn) : Type 0 where

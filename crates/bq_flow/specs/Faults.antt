@@ -1,13 +1,12 @@
 -- The first fault of a text's flow.
 use Rattle.std.specs.Prelude.{◌≡◌, ℕ, ℤ, pos, negsuc, ◌<◌, ◌&&◌, nat_le, is_none, List, Option, Some, None, if◌then◌else◌, codes}
-use Rattle.bq_insn.specs.Slots.{units}
+use Rattle.bq_insn.specs.Slots.{units, insn_at}
 use Rattle.bq_insn.specs.declared.insn.Insn.{Insn}
 use Rattle.bq_flow.specs.declared.fault.FlowRule.{FlowRule}
 use Rattle.bq_flow.specs.declared.fault.FlowRule.TheVariants.{Backward, OutsideText, IntoWide, FallsOff}
 use Rattle.bq_flow.specs.declared.fault.FlowFault.{FlowFault}
 use Rattle.bq_flow.specs.declared.fault.FlowFault.TheVariants.{At, OutOfMemory}
 use Rattle.bq_flow.specs.Successors.{next_unit, distance_of, falls_through, destination}
-use Rattle.bq_flow.specs.Paths.{insn_at}
 
 -- what is first wrong with a place where a jump leads
 abbrev pub place_fault : List Insn → ℕ → ℤ → Option FlowRule

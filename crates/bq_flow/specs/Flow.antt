@@ -1,11 +1,11 @@
 -- The flow of a text as the program's types hold it.
 use Rattle.std.specs.Prelude.{◌≡◌, ℕ, ℤ, pos, ◌<◌, List, [], ◌∷◌, Option, Some, None, if◌then◌else◌}
-use Rattle.bq_insn.specs.Slots.{units}
+use Rattle.bq_insn.specs.Slots.{units, insn_at}
 use Rattle.bq_insn.specs.declared.insn.Insn.{Insn}
 use Rattle.bq_flow.specs.declared.successors.Successors.{Successors}
 use Rattle.bq_flow.specs.declared.successors.Successors.TheVariants as nexts
 use Rattle.bq_flow.specs.Successors.{successors, falls_through, next_unit, destination, unit_of}
-use Rattle.bq_flow.specs.Paths.{insn_at, IsLegalFlow, IsLongest}
+use Rattle.bq_flow.specs.Paths.{IsLegalFlow, IsLongest}
 
 -- a text and its longest path
 pub record TextFlow : Type 0 where

@@ -1,13 +1,9 @@
 -- Legal flow, and paths from the first unit to an exit.
-use Rattle.std.specs.Prelude.{◌≡◌, ◌⊎◌, ℕ, zero, suc, ℤ, pos, ◌<◌, ◌≤◌, List, [], ◌∷◌, Option, Some, None, slice_index_or}
-use Rattle.bq_insn.specs.Slots.{slots}
+use Rattle.std.specs.Prelude.{◌≡◌, ◌⊎◌, ℕ, zero, suc, ℤ, pos, ◌<◌, ◌≤◌, List, [], ◌∷◌, Some}
+use Rattle.bq_insn.specs.Slots.{insn_at}
 use Rattle.bq_insn.specs.declared.insn.Insn.{Insn}
 use Rattle.bq_insn.specs.declared.insn.Insn.TheVariants.{Exit}
 use Rattle.bq_flow.specs.Successors.{successors}
-
--- the instruction that begins at a unit
-abbrev pub insn_at : List Insn → ℕ → Option Insn
-insn_at text unit = slice_index_or (slots text) unit None
 
 abbrev pub Among : {A : Type 0} → A → List A → Type 0
 Among v [] = ⊥

@@ -1,8 +1,8 @@
 -- The longest paths from each unit.
 use Rattle.std.specs.Prelude.{◌≡◌, ℕ, ◌+◌, ◌<◌, ◌≤◌, List, length, Some, slice_index}
-use Rattle.bq_insn.specs.Slots.{units}
+use Rattle.bq_insn.specs.Slots.{units, insn_at}
 use Rattle.bq_insn.specs.declared.insn.Insn.{Insn}
-use Rattle.bq_flow.specs.Paths.{insn_at, Path}
+use Rattle.bq_flow.specs.Paths.{Path}
 
 -- the greatest number of instructions on a path from a unit to an exit
 pub record IsLongestFrom (text : List Insn) (unit longest : ℕ) : Type 0 where

@@ -2,12 +2,12 @@
 //! step calls it there.
 
 ghost use Rattle.std.specs.Prelude.{◌≡◌, ◌<◌, ◌+◌, ◌^◌, ℕ, ℤ, pos, List, Some};
-ghost use Rattle.bq_insn.specs.Slots.{IsText};
+ghost use Rattle.bq_insn.specs.Slots.{IsText, insn_at};
 ghost use Rattle.bq_insn.specs.declared.insn.Insn.{Insn};
 ghost use Rattle.bq_word.specs.Word.{low, modulo};
 ghost use Rattle.bq_flow.specs.declared.fault.FlowRule.{FlowRule};
 ghost use Rattle.bq_flow.specs.Successors.{destination};
-ghost use Rattle.bq_flow.specs.Paths.{insn_at, IsLegalFlow, IsLongest};
+ghost use Rattle.bq_flow.specs.Paths.{IsLegalFlow, IsLongest};
 ghost use Rattle.bq_flow.specs.Faults.{IsFirstFlowFault};
 
 /// A text whose flow has a fault has no legal flow.

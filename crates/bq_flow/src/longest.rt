@@ -1,9 +1,9 @@
 //! The longest path of a text, by one pass from its end.
 
 ghost use Rattle.std.specs.Prelude.{◌≡◌, ◌<◌, ◌≤◌, ◌+◌, IfOk};
-ghost use Rattle.bq_insn.specs.Slots.{units};
+ghost use Rattle.bq_insn.specs.Slots.{units, insn_at};
 ghost use Rattle.bq_insn.specs.declared.insn.Insn.{Insn};
-ghost use Rattle.bq_flow.specs.Paths.{insn_at, IsLegalFlow, IsLongest};
+ghost use Rattle.bq_flow.specs.Paths.{IsLegalFlow, IsLongest};
 ghost use Rattle.bq_flow.specs.Table.{IsTable, IsLongestFrom};
 
 use crate::successors::{Successors, successors_at};

@@ -8,7 +8,8 @@ ghost use Rattle.bq_insn.specs.declared.insn.Operand.TheVariants as operand;
 ghost use Rattle.bq_flow.specs.declared.fault.FlowRule.TheVariants as rule;
 ghost use Rattle.bq_flow.specs.declared.fault.FlowFault.TheVariants as fault;
 ghost use Rattle.bq_flow.specs.Successors.{successors};
-ghost use Rattle.bq_flow.specs.Paths.{insn_at, IsLegalFlow};
+ghost use Rattle.bq_insn.specs.Slots.{insn_at};
+ghost use Rattle.bq_flow.specs.Paths.{IsLegalFlow};
 ghost use Rattle.bq_flow.specs.Flow.{successors_at};
 ghost use Rattle.bq_flow.specs.Faults.{flow_fault, rule_number, fault_number, IsFlowFault};
 

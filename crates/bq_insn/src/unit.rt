@@ -2,12 +2,12 @@
 
 ghost use Rattle.std.specs.Prelude.{◌≡◌, ◌<◌};
 ghost use Rattle.bq_insn.specs.Insn.{code_of, offset_of, source_of, src_of, imm_of, extension_width, extension_bits, opcode_of, fields_of};
-ghost use Rattle.bq_word.specs.Word.{swap_bits};
+ghost use Rattle.bq_word.specs.Word.{sign_bits, swap_bits};
 
 use crate::fields::{Fields, ZERO};
 use crate::insn::{Extension, Insn, Operand};
 use crate::opcode::{AluCode, Opcode, Source};
-use bq_word::{AluOp, SwapBits, Width};
+use bq_word::{AluOp, SignBits, SwapBits, Width};
 
 impl Operand {
     /// Where it stands.
@@ -75,12 +75,23 @@ fn signed_offset(op: AluOp) -> u16
 
 impl Extension {
     /// How wide the result is.
-    fn width(self) -> Width
+    pub fn width(self) -> Width
         ensures { result ≡ extension_width self }
     {
         match self {
             Extension::W32From8 | Extension::W32From16 => Width::W32,
             Extension::W64From8 | Extension::W64From16 | Extension::W64From32 => Width::W64,
+        }
+    }
+
+    /// The low bits of the source that are read with their sign.
+    pub fn source(self) -> SignBits
+        ensures { sign_bits result ≡ extension_bits self }
+    {
+        match self {
+            Extension::W32From8 | Extension::W64From8 => SignBits::B8,
+            Extension::W32From16 | Extension::W64From16 => SignBits::B16,
+            Extension::W64From32 => SignBits::B32,
         }
     }
 

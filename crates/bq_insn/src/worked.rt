@@ -1,12 +1,12 @@
 //! What the definitions say at telling instructions and bytes, worked by hand from RFC 9669's tables.
 
-ghost use Rattle.std.specs.Prelude.{◌≡◌, ◌≤◌, ℕ, List, length, slice_index_or, IfNone, Some, None, [], ◌∷◌, codes, pos, negsuc, true, false};
+ghost use Rattle.std.specs.Prelude.{◌≡◌, ◌≤◌, ℕ, List, length, IfNone, Some, None, [], ◌∷◌, codes, pos, negsuc, true, false};
 ghost use Rattle.bq_insn.specs.Fault.{fault_name, fault_number, front_fault, unit_fault_name, unit_fault_number, IsFault, IsLengthFault};
 ghost use Rattle.bq_insn.specs.Fields.{unit_bytes};
 ghost use Rattle.bq_insn.specs.Insn.{insn_bytes};
 ghost use Rattle.bq_insn.specs.Opcode.{opcode_at};
 ghost use Rattle.bq_insn.specs.Rows.{is_left_out, is_listed, unit_fault};
-ghost use Rattle.bq_insn.specs.Slots.{slots, units, IsText};
+ghost use Rattle.bq_insn.specs.Slots.{insn_at, units, IsText};
 ghost use Rattle.bq_insn.specs.declared.fault.DecodeFault.TheVariants as fault;
 ghost use Rattle.bq_insn.specs.declared.fault.UnitFault.TheVariants as wrong;
 ghost use Rattle.bq_insn.specs.declared.insn.Insn.{Insn};
@@ -40,10 +40,10 @@ pub fn worked_bytes()
 
 /// What lies at each unit, how many units a text may have, and which numbers name a register.
 pub fn worked_texts()
-    ensures begins { slice_index_or (slots (insn.Wide 0 7 ∷ insn.Exit ∷ [])) 0 None ≡ Some (insn.Wide 0 7) }
-    ensures second_half { slice_index_or (slots (insn.Wide 0 7 ∷ insn.Exit ∷ [])) 1 None ≡ None }
-    ensures behind_wide { slice_index_or (slots (insn.Wide 0 7 ∷ insn.Exit ∷ [])) 2 None ≡ Some insn.Exit }
-    ensures behind_the_end { slice_index_or (slots (insn.Exit ∷ [])) 1 None ≡ None }
+    ensures begins { insn_at (insn.Wide 0 7 ∷ insn.Exit ∷ []) 0 ≡ Some (insn.Wide 0 7) }
+    ensures second_half { insn_at (insn.Wide 0 7 ∷ insn.Exit ∷ []) 1 ≡ None }
+    ensures behind_wide { insn_at (insn.Wide 0 7 ∷ insn.Exit ∷ []) 2 ≡ Some insn.Exit }
+    ensures behind_the_end { insn_at (insn.Exit ∷ []) 1 ≡ None }
     ensures empty { IsText [] → ⊥ }
     ensures exit { IsText (insn.Exit ∷ []) }
     ensures most { (text : List Insn) → units text ≡ 4096 → IsLengthFault text fault.TooLong → ⊥ }

@@ -1,5 +1,5 @@
 -- An instruction faults by the least of the faults that hold of it.
-use Rattle.std.proofs.Common.{◌≡◌, ◌≢◌, ◌⊎◌, ◌↔◌, ℕ, ◌+◌, ◌-◌, ◌<◌, ◌≤◌, ℤ, Bool, true, false, ◌&&◌, nat_lt, nat_le, List, length, Option, Some, None, arith, refl, sym, subst, ◌∙◌, inl, inr, if◌then◌else◌}
+use Rattle.std.proofs.Common.{◌≡◌, ◌≢◌, ℕ, ◌+◌, ◌-◌, ◌<◌, ◌≤◌, ℤ, Bool, true, false, ◌&&◌, nat_lt, nat_le, List, length, Option, Some, None, arith, refl, subst, inl, inr, if◌then◌else◌}
 use Rattle.std.proofs.lemmas.Bool.Decides.{nat_tests}
 use Rattle.bq_word.specs.declared.AluOp.{AluOp}
 use Rattle.bq_word.specs.declared.AluOp.TheVariants as ops
@@ -10,9 +10,11 @@ use Rattle.bq_insn.specs.declared.insn.Operand.TheVariants as operands
 use Rattle.bq_insn.specs.declared.insn.Size.{Size}
 use Rattle.bq_insn.specs.declared.insn.Size.TheVariants as sizes
 use Rattle.bq_meaning.specs.Place.{Place, IsPlacement, record_room}
-use Rattle.bq_meaning.specs.Memory.{access, is_inside, size_bytes, signed_bytes}
+use Rattle.bq_insn.specs.Insn.{size_bytes}
+use Rattle.bq_word.specs.Word.{signed_bytes}
+use Rattle.bq_meaning.specs.Memory.{access, is_inside}
 use Rattle.bq_meaning.specs.Meaning.{Outcome, Continues, Ends, Faults, held, value, taken, moved, reading, writing, stored, perform}
-use Rattle.bq_meaning.specs.Faults.{fault_number, OperandReads, Reads, Writes, LoadsAt, StoresAt, AreWithin, ReadsUnset, WritesFramePointer, AccessesOutside, WritesRecord, Holds, IsLeast, HoldsNone, IsDone, LeastFaultIsNamed}
+use Rattle.bq_meaning.specs.Faults.{fault_number, OperandReads, LoadsAt, StoresAt, AreWithin, ReadsUnset, WritesFramePointer, AccessesOutside, WritesRecord, Holds, IsLeast, HoldsNone, IsDone, LeastFaultIsNamed}
 use Rattle.bq_meaning.specs.declared.machine.Machine.{Machine}
 use Rattle.bq_meaning.specs.declared.machine.Location.{Location}
 use Rattle.bq_meaning.specs.declared.machine.Location.TheVariants.{Frame, Record}

@@ -6,7 +6,8 @@ use Rattle.bq_insn.specs.declared.insn.Insn.TheVariants as insns
 use Rattle.bq_insn.specs.declared.insn.Operand.{Operand}
 use Rattle.bq_insn.specs.declared.insn.Operand.TheVariants as operands
 use Rattle.bq_meaning.specs.Place.{Place, IsPlacement, record_room}
-use Rattle.bq_meaning.specs.Memory.{size_bytes, signed_bytes}
+use Rattle.bq_insn.specs.Insn.{size_bytes}
+use Rattle.bq_word.specs.Word.{signed_bytes}
 use Rattle.bq_meaning.specs.Meaning.{Outcome, Continues, Ends, Faults, held, moved, perform}
 use Rattle.bq_meaning.specs.declared.machine.Machine.{Machine}
 use Rattle.bq_meaning.specs.declared.fault.Fault.{Fault}

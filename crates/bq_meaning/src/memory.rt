@@ -3,7 +3,7 @@
 ghost use Rattle.std.specs.Prelude.{◌≡◌, ◌≤◌, ◌<◌, ◌+◌, ◌^◌, Some, None, IfOk, IfErr, IfSome, length};
 ghost use Rattle.bq_word.specs.Word.{le_number};
 ghost use Rattle.bq_meaning.specs.Place.{record_length};
-ghost use Rattle.bq_meaning.specs.Memory.{is_inside, access, loaded, LiesWithin, size_bytes, signed_bytes};
+ghost use Rattle.bq_meaning.specs.Memory.{is_inside, access, loaded, LiesWithin};
 ghost use Rattle.bq_meaning.specs.Meaning.{reading, stored};
 ghost use Rattle.bq_meaning.specs.Runs.{StepAnswers};
 
@@ -11,33 +11,6 @@ use crate::fault::Fault;
 use crate::machine::{Location, Machine};
 use crate::placement::{FRAME_LENGTH, Placement, RECORD_LENGTH};
 use crate::step::Step;
-use bq_insn::insn::Size;
-use bq_word::SignBits;
-
-/// How many bytes an access moves.
-pub(crate) fn size_bytes(size: Size) -> usize
-    ensures value { result ≡ size_bytes size }
-    ensures small { result ≤ 8 }
-{
-    match size {
-        Size::B1 => 1,
-        Size::B2 => 2,
-        Size::B4 => 4,
-        Size::B8 => 8,
-    }
-}
-
-/// How many bytes a load with a sign reads.
-pub(crate) fn signed_bytes(bits: SignBits) -> usize
-    ensures value { result ≡ signed_bytes bits }
-    ensures small { result ≤ 8 }
-{
-    match bits {
-        SignBits::B8 => 1,
-        SignBits::B16 => 2,
-        SignBits::B32 => 4,
-    }
-}
 
 fn is_inside(start: u64, len: u64, address: u64, size: u64) -> bool
     requires fits { start + len < 2 ^ 64 }

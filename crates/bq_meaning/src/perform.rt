@@ -1,20 +1,18 @@
 //! What each form of instruction does, one method for each.
 
 ghost use Rattle.std.specs.Prelude.{◌≡◌, ◌+◌, ◌≤◌, ◌<◌, OnOk, IfErr, ℤ};
-ghost use Rattle.bq_word.specs.Word.{bits_of, swap_bits, extended};
-ghost use Rattle.bq_insn.specs.Insn.{extension_bits, extension_width};
+ghost use Rattle.bq_word.specs.Word.{swap_bits};
 ghost use Rattle.bq_meaning.specs.Meaning.{Continues, at_unit, moved, ordered, perform, target, writing, written};
 ghost use Rattle.bq_meaning.specs.Place.{Place};
 ghost use Rattle.bq_meaning.specs.Runs.{StepAnswers};
 
 use crate::fault::Fault;
 use crate::machine::Machine;
-use crate::memory::{signed_bytes, size_bytes};
 use crate::placement::Placement;
 use crate::step::Step;
 use bq_insn::insn::{ByteOrder, Extension, Insn, Operand, Size};
 use bq_insn::register::Register;
-use bq_word::{AluOp, Relation, SignBits, SwapBits, Width, alu, extend, relates, swap};
+use bq_word::{AluOp, Relation, SignBits, SwapBits, Width, alu, extend, low_bits, relates, swap};
 
 fn writable(dst: Register) -> Result<(), Fault>
     ensures ok { OnOk result (dst < 10) }
@@ -39,25 +37,8 @@ fn ordered(order: ByteOrder, bits: SwapBits, value: u64) -> u64
     ensures { result ≡ ordered order (swap_bits bits) value }
 {
     match order {
-        ByteOrder::Little => match bits {
-            SwapBits::B16 => value & 0xffff,
-            SwapBits::B32 => value & 0xffff_ffff,
-            SwapBits::B64 => value,
-        },
+        ByteOrder::Little => low_bits(bits, value),
         ByteOrder::Big | ByteOrder::Swapped => swap(bits, value),
-    }
-}
-
-/// The low bits of a word, read with their sign, as an instruction extends them.
-fn extended(extension: Extension, value: u64) -> u64
-    ensures { result ≡ extended (extension_bits extension) (bits_of (extension_width extension)) value }
-{
-    match extension {
-        Extension::W32From8 => extend(SignBits::B8, Width::W32, value),
-        Extension::W32From16 => extend(SignBits::B16, Width::W32, value),
-        Extension::W64From8 => extend(SignBits::B8, Width::W64, value),
-        Extension::W64From16 => extend(SignBits::B16, Width::W64, value),
-        Extension::W64From32 => extend(SignBits::B32, Width::W64, value),
     }
 }
 
@@ -101,7 +82,7 @@ impl Machine {
         ensures { (p : Place) → StepAnswers (perform p (Insn.Extend extension dst src) self.old) self.old result self.new }
     {
         let b = self.read(src)?;
-        self.write(dst, extended(extension, b))
+        self.write(dst, extend(extension.source(), extension.width(), b))
     }
 
     fn order(&mut self, order: ByteOrder, bits: SwapBits, dst: Register) -> Result<Step, Fault>
@@ -155,7 +136,8 @@ impl Machine {
     {
         let a = self.read(base)?;
         writable(dst)?;
-        let value = self.number_at(placement, moved(a, i32::from(offset)), size_bytes(size))?;
+        let from = moved(a, i32::from(offset));
+        let value = self.number_at(placement, from, size.bytes() as usize)?;
         self.write(dst, value)
     }
 
@@ -172,7 +154,8 @@ impl Machine {
     {
         let a = self.read(base)?;
         writable(dst)?;
-        let value = self.number_at(placement, moved(a, i32::from(offset)), signed_bytes(size))?;
+        let from = moved(a, i32::from(offset));
+        let value = self.number_at(placement, from, size.bytes() as usize)?;
         self.write(dst, extend(size, Width::W64, value))
     }
 
@@ -192,7 +175,7 @@ impl Machine {
         self.store_at(
             placement,
             moved(a, i32::from(offset)),
-            size_bytes(size),
+            size.bytes() as usize,
             value,
         )
     }

@@ -1,7 +1,8 @@
 //! One step of a machine.
 
 ghost use Rattle.std.specs.Prelude.{◌≡◌, ◌<◌, IfSome};
-ghost use Rattle.bq_meaning.specs.Meaning.{insn_at, step};
+ghost use Rattle.bq_insn.specs.Slots.{insn_at};
+ghost use Rattle.bq_meaning.specs.Meaning.{step};
 ghost use Rattle.bq_meaning.specs.Runs.{StepAnswers};
 
 use crate::fault::Fault;

@@ -3,24 +3,24 @@ use Rattle.std.proofs.Common.{◌≡◌, ℕ, ◌+◌, ◌<◌, ◌≤◌, lengt
 use Rattle.std.specs.Prelude.{ℤ, pos}
 use Rattle.std.proofs.lemmas.Bool.{cases_lt}
 use Rattle.std.proofs.lemmas.List.{get_or_past}
-use Rattle.bq_insn.specs.Slots.{units}
+use Rattle.bq_insn.specs.Slots.{units, insn_at}
 use Rattle.bq_insn.specs.declared.insn.Insn.{Insn}
 use Rattle.bq_insn.specs.declared.insn.Insn.TheVariants as insns
-use Rattle.bq_flow.specs.Paths.{insn_at, Among, IsLegalFlow}
+use Rattle.bq_flow.specs.Paths.{Among, IsLegalFlow}
 use Rattle.bq_flow.specs.Successors.{successors, destination}
 use Rattle.bq_flow.proofs.Units.{insn_within}
 use Rattle.bq_flow.proofs.Words.{in_words}
 use Rattle.bq_meaning.specs.Meaning.{target}
-use Rattle.bq_state.specs.declared.kind.Kind.{Kind}
+use Rattle.bq_state.specs.Kinds.{StateKinds}
 use Rattle.bq_state.specs.Edges.{refined, along, edges}
 use Rattle.bq_sound.specs.Passes.{note_at, NoteCovers, AllCovered}
 use Rattle.bq_sound.proofs.Among.{among_either}
 
 -- a unit that has a state is one of the notes
-pub note_within : (notes : List (Option (List Kind))) (unit : ℕ) (state : List Kind) → note_at notes unit ≡ Some state → unit < length notes
+pub note_within : (notes : List (Option StateKinds)) (unit : ℕ) (state : StateKinds) → note_at notes unit ≡ Some state → unit < length notes
 note_within notes unit state e = elim (cases_lt unit (length notes)) [ inl l ↦ l | inr g ↦ let none : note_at notes unit ≡ None = get_or_past notes unit None g in cc ]
 
-pub among_covered : (notes : List (Option (List Kind))) (es : List (ℕ × List Kind)) (e : ℕ × List Kind) → AllCovered notes es → Among e es → NoteCovers notes e
+pub among_covered : (notes : List (Option StateKinds)) (es : List (ℕ × StateKinds)) (e : ℕ × StateKinds) → AllCovered notes es → Among e es → NoteCovers notes e
 among_covered notes [] e h a = absurd a
 among_covered notes (x ∷ es) e h (inl is) = subst (NoteCovers notes) (sym is) h.0
 among_covered notes (x ∷ es) e h (inr a) = among_covered notes es e h.1 a
@@ -34,16 +34,16 @@ lands text unit i distance few legal there among =
     let next = insn_within text f.next f.insn f.begins in
     ap pos (in_words unit f.next distance (omega (arith, here, few)) (omega (arith, next, few)) f.is) ∙ sym f.is
 
-along_unit : (unit : ℕ) (o : Option (List Kind)) (e : ℕ × List Kind) → Among e (along unit o) → e.0 ≡ unit
+along_unit : (unit : ℕ) (o : Option StateKinds) (e : ℕ × StateKinds) → Among e (along unit o) → e.0 ≡ unit
 along_unit unit None e h = absurd h
-along_unit unit (Some state) e (inl is) = ap (λ (x : ℕ × List Kind). x.0) is
+along_unit unit (Some state) e (inl is) = ap (λ (x : ℕ × StateKinds). x.0) is
 along_unit unit (Some state) e (inr h) = absurd h
 
-only : (unit : ℕ) (state : List Kind) (e : ℕ × List Kind) → Among e ((unit, state) ∷ []) → pos e.0 ≡ pos unit
-only unit state e (inl is) = ap (λ (x : ℕ × List Kind). pos x.0) is
+only : (unit : ℕ) (state : StateKinds) (e : ℕ × StateKinds) → Among e ((unit, state) ∷ []) → pos e.0 ≡ pos unit
+only unit state e (inl is) = ap (λ (x : ℕ × StateKinds). pos x.0) is
 only unit state e (inr h) = absurd h
 
-pub along_successors : (text : List Insn) (unit : ℕ) (i : Insn) (after : List Kind) (e : ℕ × List Kind) → units text ≤ 4096 → IsLegalFlow text → insn_at text unit ≡ Some i → Among e (edges unit i after)
+pub along_successors : (text : List Insn) (unit : ℕ) (i : Insn) (after : StateKinds) (e : ℕ × StateKinds) → units text ≤ 4096 → IsLegalFlow text → insn_at text unit ≡ Some i → Among e (edges unit i after)
     → Among (pos e.0) (successors unit i)
 along_successors text unit (insns.Jump distance) after e few legal there h = inl (only (target unit distance) after e h ∙ lands text unit (insns.Jump distance) distance few legal there (inl refl))
 along_successors text unit (insns.JumpFar distance) after e few legal there h = inl (only (target unit distance) after e h ∙ lands text unit (insns.JumpFar distance) distance few legal there (inl refl))

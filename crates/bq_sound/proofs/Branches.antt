@@ -19,10 +19,9 @@ use Rattle.bq_meaning.specs.Meaning.{Continues, target, at_unit, perform}
 use Rattle.bq_range.specs.Interval.{Interval, IsIn, single}
 use Rattle.bq_range.specs.Narrow.{branched}
 use Rattle.bq_range.proofs.Covers.{branched_covers}
-use Rattle.bq_state.specs.declared.kind.Kind.{Kind}
 use Rattle.bq_state.specs.declared.kind.Kind.TheVariants.{Number}
 use Rattle.bq_state.specs.declared.rule.Rule.TheVariants.{WrongKind}
-use Rattle.bq_state.specs.Kinds.{kind_of}
+use Rattle.bq_state.specs.Kinds.{StateKinds, kind_of}
 use Rattle.bq_state.specs.Rules.{transfer, and_then, known, number, operand_kind}
 use Rattle.bq_state.specs.Edges.{with_number, with_numbers, refined_by_number, refined_by_register, refined, along, edges}
 use Rattle.bq_sound.proofs.Tags.{Tagged, Num, tag_at, HoldsNumber, TagHolds, TagsHold, narrowed_holds}
@@ -33,32 +32,32 @@ use Rattle.bq_sound.proofs.Operands.{operand_tag, held_is, value_is, operand_hol
 
 -- ---- jumps
 
-jumps : {len : ℕ} (m : Common) (i : Insn) (unit : ℕ) (state after left : List Kind) → Stands len m state → TagsHold left m.tags → Among (unit, left) (edges m.unit i after)
+jumps : {len : ℕ} (m : Common) (i : Insn) (unit : ℕ) (state after left : StateKinds) → Stands len m state → TagsHold left m.tags → Among (unit, left) (edges m.unit i after)
     → ((p : Place) → perform p i (machine p m) ≡ Continues (at_unit (machine p m) unit)) → GoesOn len m i after
 jumps m i unit state after left s holds among does =
     goes_on m (record { unit = unit; tags = m.tags; frame = m.frame; «record» = m.record }) i after left
     (record { words = s.whole.words; frame = s.whole.frame; «record» = s.whole.record; fits = s.whole.fits }) holds among (λ p place. does p)
 
-pub does_jump : {len : ℕ} (m : Common) (distance : ℤ) (state after : List Kind) → Stands len m state → transfer len (insns.Jump distance) state ≡ Ok after → GoesOn len m (insns.Jump distance) after
+pub does_jump : {len : ℕ} (m : Common) (distance : ℤ) (state after : StateKinds) → Stands len m state → transfer len (insns.Jump distance) state ≡ Ok after → GoesOn len m (insns.Jump distance) after
 does_jump m distance state after s rules =
     jumps m (insns.Jump distance) (target m.unit distance) state after after s (subst (λ q. TagsHold q m.tags) (same_state state after rules) s.holds) (inl refl) (λ p. refl)
 
-pub does_jump_far : {len : ℕ} (m : Common) (distance : ℤ) (state after : List Kind) → Stands len m state → transfer len (insns.JumpFar distance) state ≡ Ok after → GoesOn len m (insns.JumpFar distance) after
+pub does_jump_far : {len : ℕ} (m : Common) (distance : ℤ) (state after : StateKinds) → Stands len m state → transfer len (insns.JumpFar distance) state ≡ Ok after → GoesOn len m (insns.JumpFar distance) after
 does_jump_far m distance state after s rules =
     jumps m (insns.JumpFar distance) (target m.unit distance) state after after s (subst (λ q. TagsHold q m.tags) (same_state state after rules) s.holds) (inl refl) (λ p. refl)
 
 -- ---- what an edge of a branch says
 
 -- the state on an edge, which holds of the registers
-record Leads (o : Option (List Kind)) (tags : List (Option Tagged)) : Type 0 where
-  state : List Kind
+record Leads (o : Option StateKinds) (tags : List (Option Tagged)) : Type 0 where
+  state : StateKinds
   is : o ≡ Some state
   holds : TagsHold state tags
 
 in_range : (a : Interval) (t : Option Tagged) (w : ℕ) → t ≡ Some (Num w) → IsIn w a → HoldsNumber a t
 in_range a t w e h = record { word = w; is = e; within = h }
 
-with_number_leads : (state : List Kind) (tags : List (Option Tagged)) (d x y : ℕ) (o : Option (Interval × Interval)) → TagsHold state tags → tag_at tags d ≡ Some (Num x)
+with_number_leads : (state : StateKinds) (tags : List (Option Tagged)) (d x y : ℕ) (o : Option (Interval × Interval)) → TagsHold state tags → tag_at tags d ≡ Some (Num x)
     → IsSomeAnd o (λ p. IsIn x p.0 × IsIn y p.1) → Leads (with_number state d o) tags
 with_number_leads state tags d x y None h e b = absurd b
 with_number_leads state tags d x y (Some p) h e b = record {
@@ -67,7 +66,7 @@ with_number_leads state tags d x y (Some p) h e b = record {
   holds = narrowed_holds state tags d (Number p.0) h (in_range p.0 (tag_at tags d) x e b.0);
 }
 
-with_numbers_leads : (state : List Kind) (tags : List (Option Tagged)) (d s x y : ℕ) (o : Option (Interval × Interval)) → TagsHold state tags → tag_at tags d ≡ Some (Num x) → tag_at tags s ≡ Some (Num y)
+with_numbers_leads : (state : StateKinds) (tags : List (Option Tagged)) (d s x y : ℕ) (o : Option (Interval × Interval)) → TagsHold state tags → tag_at tags d ≡ Some (Num x) → tag_at tags s ≡ Some (Num y)
     → IsSomeAnd o (λ p. IsIn x p.0 × IsIn y p.1) → Leads (with_numbers state d s o) tags
 with_numbers_leads state tags d s x y None h e f b = absurd b
 with_numbers_leads state tags d s x y (Some p) h e f b = record {
@@ -88,7 +87,7 @@ itself n = record { low = omega arith; high = omega arith }
 same_number : (x y : ℕ) (t : Option Tagged) → t ≡ Some (Num x) → t ≡ Some (Num y) → x ≡ y
 same_number x y t e f = cc
 
-refined_leads : (state : List Kind) (tags : List (Option Tagged)) (w : Width) (r : Relation) (taken : Bool) (d : ℕ) (operand : Operand) (a b : Interval) (x y : ℕ) → TagsHold state tags
+refined_leads : (state : StateKinds) (tags : List (Option Tagged)) (w : Width) (r : Relation) (taken : Bool) (d : ℕ) (operand : Operand) (a b : Interval) (x y : ℕ) → TagsHold state tags
     → kind_of state d ≡ Number a → operand_kind state operand ≡ Number b → tag_at tags d ≡ Some (Num x) → operand_tag tags operand ≡ Some (Num y) → IsIn x a → IsIn y b
     → relates (bits_of w) r x y ≡ taken → Leads (refined state w r taken d operand) tags
 refined_leads state tags w r taken d (operands.Number z) a b x y h ka kb ex ey ix iy e =
@@ -112,17 +111,17 @@ refined_leads state tags w r taken d (operands.Register s) a b x y h ka kb ex ey
 -- ---- branches
 
 -- an edge that leads to a state is one of the edges
-along_edge : (unit : ℕ) (o : Option (List Kind)) (state : List Kind) → o ≡ Some state → Among (unit, state) (along unit o)
+along_edge : (unit : ℕ) (o : Option StateKinds) (state : StateKinds) → o ≡ Some state → Among (unit, state) (along unit o)
 along_edge unit o state e = subst (λ q. Among (unit, state) (along unit q)) (sym e) (inl refl)
 
-abbrev sides : ℕ → ℕ → Width → Relation → ℕ → Operand → List Kind → List (ℕ × List Kind)
+abbrev sides : ℕ → ℕ → Width → Relation → ℕ → Operand → StateKinds → List (ℕ × StateKinds)
 sides stay go w r d operand state = along stay (refined state w r false d operand) ++ along go (refined state w r true d operand)
 
-gone : (stay go : ℕ) (w : Width) (r : Relation) (d : ℕ) (operand : Operand) (state after left : List Kind) → state ≡ after → refined state w r true d operand ≡ Some left → Among (go, left) (sides stay go w r d operand after)
+gone : (stay go : ℕ) (w : Width) (r : Relation) (d : ℕ) (operand : Operand) (state after left : StateKinds) → state ≡ after → refined state w r true d operand ≡ Some left → Among (go, left) (sides stay go w r d operand after)
 gone stay go w r d operand state after left is e =
     subst (λ q. Among (go, left) (sides stay go w r d operand q)) is (among_right (go, left) (along stay (refined state w r false d operand)) (along go (refined state w r true d operand)) (along_edge go (refined state w r true d operand) left e))
 
-stayed : (stay go : ℕ) (w : Width) (r : Relation) (d : ℕ) (operand : Operand) (state after left : List Kind) → state ≡ after → refined state w r false d operand ≡ Some left → Among (stay, left) (sides stay go w r d operand after)
+stayed : (stay go : ℕ) (w : Width) (r : Relation) (d : ℕ) (operand : Operand) (state after left : StateKinds) → state ≡ after → refined state w r false d operand ≡ Some left → Among (stay, left) (sides stay go w r d operand after)
 stayed stay go w r d operand state after left is e =
     subst (λ q. Among (stay, left) (sides stay go w r d operand q)) is (among_left (stay, left) (along stay (refined state w r false d operand)) (along go (refined state w r true d operand)) (along_edge stay (refined state w r false d operand) left e))
 
@@ -130,7 +129,7 @@ branch_performs : (p : Place) (m : Common) (w : Width) (r : Relation) (d : ℕ) 
     → relates (bits_of w) r x y ≡ taken → perform p (insns.Branch w r d operand distance) (machine p m) ≡ Continues (at_unit (machine p m) (cond taken (target m.unit distance) (m.unit + 1)))
 branch_performs p m w r d operand distance x y taken ex ey e = rw (held_is p m.tags d (Num x) ex, value_is p m.tags operand (Num y) ey, e) refl
 
-pub does_branch : {len : ℕ} (m : Common) (w : Width) (r : Relation) (d : ℕ) (operand : Operand) (distance : ℤ) (state after : List Kind)
+pub does_branch : {len : ℕ} (m : Common) (w : Width) (r : Relation) (d : ℕ) (operand : Operand) (distance : ℤ) (state after : StateKinds)
     → Stands len m state → transfer len (insns.Branch w r d operand distance) state ≡ Ok after → GoesOn len m (insns.Branch w r d operand distance) after
 does_branch m w r d operand distance state after s rules =
     let i = insns.Branch w r d operand distance in

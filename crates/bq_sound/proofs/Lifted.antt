@@ -9,7 +9,7 @@ use Rattle.bq_meaning.specs.Meaning.{held, perform}
 use Rattle.bq_meaning.specs.declared.machine.Machine.{Machine}
 use Rattle.bq_state.specs.Covers.{KindHolds, StateHolds}
 use Rattle.bq_state.specs.Edges.{edges}
-use Rattle.bq_state.specs.Kinds.{kind_of}
+use Rattle.bq_state.specs.Kinds.{StateKinds, kind_of}
 use Rattle.bq_state.specs.Rules.{transfer}
 use Rattle.bq_state.specs.declared.kind.Kind.{Kind}
 use Rattle.bq_state.specs.declared.kind.Kind.TheVariants.{Unset, Number, FramePointer, RecordPointer}
@@ -86,12 +86,12 @@ many_tags p kinds (x ∷ xs) h w =
     words_each t ts a b zero v e = a v e
     words_each t ts a b (suc r) v e = b r v e
 
-record Lifted (len : ℕ) (p : Place) (state : List Kind) (m : Machine) : Type 0 where
+record Lifted (len : ℕ) (p : Place) (state : StateKinds) (m : Machine) : Type 0 where
   common : Common
   is : machine p common ≡ m
   stands : Stands len common state
 
-lifted : (len : ℕ) (p : Place) (state : List Kind) (m : Machine) → len ≤ record_room → IsMachine len m → StateHolds p state m.registers → Lifted len p state m
+lifted : (len : ℕ) (p : Place) (state : StateKinds) (m : Machine) → len ≤ record_room → IsMachine len m → StateHolds p state m.registers → Lifted len p state m
 lifted len p state m few whole holds =
     let t = many_tags p (kind_of state) m.registers holds.each whole.words in
     let count : length t.tags ≡ 11 = sym (length-map t.tags (option_map (image p))) ∙ ap length t.is ∙ whole.count in
@@ -109,7 +109,7 @@ lowered_kind p (Number a) t h = record { word = h.word; held = ap (option_map (i
 lowered_kind p (FramePointer s) t h = record { offset = h.offset; held = ap (option_map (image p)) h.is; within = h.within }
 lowered_kind p (RecordPointer s) t h = record { offset = h.offset; held = ap (option_map (image p)) h.is; within = h.within }
 
-lowered : (p : Place) (state : List Kind) (tags : List (Option Tagged)) → TagsHold state tags → StateHolds p state (images p tags)
+lowered : (p : Place) (state : StateKinds) (tags : List (Option Tagged)) → TagsHold state tags → StateHolds p state (images p tags)
 lowered p state tags h = record { each = λ r. subst (KindHolds p (kind_of state r)) (sym (held_image p tags r)) (lowered_kind p (kind_of state r) (tag_at tags r) (h.each r)) }
 
 small_image : (p : Place) (t : Option Tagged) (w : ℕ) → ((v : Tagged) → t ≡ Some v → IsWord v) → option_map (image p) t ≡ Some w → w < 2 ^ 64
@@ -126,7 +126,7 @@ whole_machine len p m h = record {
 
 -- ---- a step
 
-pub covered : (len : ℕ) (p : Place) (i : Insn) (state after : List Kind) (m : Machine) → len ≤ record_room → IsPlacement p → IsInsn i → IsMachine len m → StateHolds p state m.registers → transfer len i state ≡ Ok after
+pub covered : (len : ℕ) (p : Place) (i : Insn) (state after : StateKinds) (m : Machine) → len ≤ record_room → IsPlacement p → IsInsn i → IsMachine len m → StateHolds p state m.registers → transfer len i state ≡ Ok after
     → IsCovered len p (edges m.unit i after) (perform p i m)
 covered len p i state after m few place legal whole holds rules =
     let l = lifted len p state m few whole holds in

@@ -1,5 +1,5 @@
 -- What ends within the longest path ends alike under every greater limit.
-use Rattle.std.proofs.Common.{◌≡◌, ◌↔◌, ℕ, ◌≤◌, arith, List, Option}
+use Rattle.std.proofs.Common.{◌≡◌, ℕ, ◌≤◌, arith, List, Option}
 use Rattle.std.specs.Prelude.{Result, Ok, Err}
 use Rattle.bq_insn.specs.Slots.{IsText}
 use Rattle.bq_insn.specs.declared.insn.Insn.{Insn}
@@ -9,7 +9,7 @@ use Rattle.bq_meaning.specs.Runs.{RecordRun, RunAnswers, entry_machine}
 use Rattle.bq_meaning.specs.declared.fault.Fault.{Fault}
 use Rattle.bq_meaning.specs.declared.run.Ended.{Ended}
 use Rattle.bq_meaning.proofs.Once.{same_end, no_refusal}
-use Rattle.bq_state.specs.declared.kind.Kind.{Kind}
+use Rattle.bq_state.specs.Kinds.{StateKinds}
 use Rattle.bq_sound.specs.Passes.{Passes}
 use Rattle.bq_sound.specs.Safe.{IsSafe, LimitIsFree}
 use Rattle.bq_sound.proofs.Runs.{safe}
@@ -34,5 +34,5 @@ free len text longest is p acc bytes frame limit place word whole full high resu
       moved_limit p text acc bytes frame r.steps r.answer r.after longest limit run within below result after,
     )
 
-pub any_limit : (len : ℕ) (text : List Insn) (notes : List (Option (List Kind))) (longest : ℕ) → len ≤ record_room → IsText text → Passes len text notes → IsLongest text longest → LimitIsFree len text longest
+pub any_limit : (len : ℕ) (text : List Insn) (notes : List (Option StateKinds)) (longest : ℕ) → len ≤ record_room → IsText text → Passes len text notes → IsLongest text longest → LimitIsFree len text longest
 any_limit len text notes longest room legal passes is = free len text longest (safe len text notes longest room legal passes is)

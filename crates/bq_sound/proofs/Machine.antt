@@ -10,6 +10,7 @@ use Rattle.bq_meaning.specs.Place.{Place, IsPlacement, record_room}
 use Rattle.bq_meaning.specs.Meaning.{Continues, Ends, at_unit, with_register, perform}
 use Rattle.bq_meaning.specs.declared.machine.Machine.{Machine}
 use Rattle.bq_state.specs.declared.kind.Kind.{Kind}
+use Rattle.bq_state.specs.Kinds.{StateKinds}
 use Rattle.bq_state.specs.Edges.{edges}
 use Rattle.bq_sound.specs.Safe.{AreBytes}
 use Rattle.bq_sound.proofs.Tags.{Tagged, image, images, images_set, IsWord, tag_at, tag_set_same, tag_set_other, TagHolds, TagsHold, written_holds}
@@ -34,14 +35,14 @@ pub record IsWhole (len : ℕ) (m : Common) : Type 0 where
   pub fits : len ≤ record_room
 
 -- what is known before an instruction: the state holds of the machine
-pub record Stands (len : ℕ) (m : Common) (state : List Kind) : Type 0 where
+pub record Stands (len : ℕ) (m : Common) (state : StateKinds) : Type 0 where
   pub whole : IsWhole len m
   pub holds : TagsHold state m.tags
 
 -- it goes on, alike at every placement, along an edge whose state holds
-pub record GoesOn (len : ℕ) (m : Common) (i : Insn) (after : List Kind) : Type 0 where
+pub record GoesOn (len : ℕ) (m : Common) (i : Insn) (after : StateKinds) : Type 0 where
   pub next : Common
-  pub left : List Kind
+  pub left : StateKinds
   pub edge : Among (next.unit, left) (edges m.unit i after)
   pub stands : Stands len next left
   pub steps : (p : Place) → IsPlacement p → perform p i (machine p m) ≡ Continues (machine p next)
@@ -53,7 +54,7 @@ pub record Stops (m : Common) (i : Insn) : Type 0 where
   pub exits : i ≡ Exit
   pub steps : (p : Place) → IsPlacement p → perform p i (machine p m) ≡ Ends answer
 
-pub goes_on : {len : ℕ} (m next : Common) (i : Insn) (after left : List Kind) → IsWhole len next → TagsHold left next.tags → Among (next.unit, left) (edges m.unit i after)
+pub goes_on : {len : ℕ} (m next : Common) (i : Insn) (after left : StateKinds) → IsWhole len next → TagsHold left next.tags → Among (next.unit, left) (edges m.unit i after)
     → ((p : Place) → IsPlacement p → perform p i (machine p m) ≡ Continues (machine p next)) → GoesOn len m i after
 goes_on m next i after left whole holds among does = record { next = next; left = left; edge = among; stands = record { whole = whole; holds = holds }; steps = does }
 
@@ -74,7 +75,7 @@ put_words tags d v h low small = record {
   ];
 }
 
-pub puts : {len : ℕ} (m : Common) (i : Insn) (unit d : ℕ) (state after : List Kind) (k : Kind) (v : Tagged) → Stands len m state → d < 10
+pub puts : {len : ℕ} (m : Common) (i : Insn) (unit d : ℕ) (state after : StateKinds) (k : Kind) (v : Tagged) → Stands len m state → d < 10
     → TagHolds k (Some v) → IsWord v → slice_set state d k ≡ after → Among (unit, after) (edges m.unit i after)
     → ((p : Place) → IsPlacement p → perform p i (machine p m) ≡ Continues (at_unit (with_register (machine p m) d (image p v)) unit))
     → GoesOn len m i after

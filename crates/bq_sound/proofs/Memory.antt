@@ -3,7 +3,7 @@ use Rattle.std.proofs.Common.{◌≡◌, ℕ, ◌+◌, ◌*◌, ◌^◌, ◌<◌
 use Rattle.std.specs.Prelude.{ℤ, slice_set, slice_range}
 use Rattle.std.specs.List.{splice}
 use Rattle.std.proofs.lemmas.Bool.{lt-ltb}
-use Rattle.bq_word.specs.Word.{le_bytes, le_number, sign_bits, extended}
+use Rattle.bq_word.specs.Word.{le_bytes, le_number, sign_bits, extended, signed_bytes}
 use Rattle.bq_word.specs.declared.SignBits.{SignBits}
 use Rattle.bq_word.specs.declared.SignBits.TheVariants as signs
 use Rattle.bq_word.proofs.Bounds.{extended_bound}
@@ -14,12 +14,12 @@ use Rattle.bq_insn.specs.declared.insn.Size.{Size}
 use Rattle.bq_insn.specs.declared.insn.Size.TheVariants.{B1, B2, B4, B8}
 use Rattle.bq_flow.specs.Paths.{Among}
 use Rattle.bq_meaning.specs.Place.{Place, IsPlacement, record_room}
-use Rattle.bq_meaning.specs.Memory.{size_bytes, signed_bytes, loaded}
+use Rattle.bq_insn.specs.Insn.{size_bytes}
+use Rattle.bq_meaning.specs.Memory.{loaded}
 use Rattle.bq_meaning.specs.Meaning.{Outcome, Continues, written, loading, perform}
 use Rattle.bq_range.specs.Interval.{Interval, IsIn, whole, all_words}
-use Rattle.bq_state.specs.declared.kind.Kind.{Kind}
 use Rattle.bq_state.specs.declared.kind.Kind.TheVariants.{Number}
-use Rattle.bq_state.specs.Kinds.{kind_of}
+use Rattle.bq_state.specs.Kinds.{StateKinds, kind_of}
 use Rattle.bq_state.specs.Rules.{transfer, and_then, known, writable, readable, storable, operand_kind, loaded_state}
 use Rattle.bq_state.specs.Edges.{edges}
 use Rattle.bq_sound.specs.Safe.{AreBytes}
@@ -59,7 +59,7 @@ load_performs : (p : Place) → IsPlacement p → (len : ℕ) → len ≤ record
 load_performs p place len few m full d base distance size f region z some h e low o is =
     rw (is, held_is p m.tags base (Ptr region z) e, lt-ltb d 10 low, full, accesses p place len few region z distance size some h, loaded_is p m region h.at size) refl
 
-does_loading : (len : ℕ) (m : Common) (i : Insn) (d base : ℕ) (distance : ℤ) (size : ℕ) (f : ℕ → ℕ) (range : Interval) (state after : List Kind)
+does_loading : (len : ℕ) (m : Common) (i : Insn) (d base : ℕ) (distance : ℤ) (size : ℕ) (f : ℕ → ℕ) (range : Interval) (state after : StateKinds)
     → Loads size f range → Stands len m state → loaded_state len state d base distance size range ≡ Ok after → Among (m.unit + 1, after) (edges m.unit i after)
     → ((p : Place) → perform p i (machine p m) ≡ loading p (machine p m) d base distance size f) → GoesOn len m i after
 does_loading len m i d base distance size f range state after l s rules among does =
@@ -95,12 +95,12 @@ signed_loads bits = record {
   small = λ n h. extended_bound (sign_bits bits) 64 n;
 }
 
-pub does_load : {len : ℕ} (m : Common) (size : Size) (d base : ℕ) (distance : ℤ) (state after : List Kind)
+pub does_load : {len : ℕ} (m : Common) (size : Size) (d base : ℕ) (distance : ℤ) (state after : StateKinds)
     → Stands len m state → transfer len (insns.Load size d base distance) state ≡ Ok after → GoesOn len m (insns.Load size d base distance) after
 does_load {len} m size d base distance state after s rules =
     does_loading len m (insns.Load size d base distance) d base distance (size_bytes size) (λ n. n) (whole (8 * size_bytes size)) state after (plain_loads size) s rules (inl refl) (λ p. refl)
 
-pub does_load_signed : {len : ℕ} (m : Common) (bits : SignBits) (d base : ℕ) (distance : ℤ) (state after : List Kind)
+pub does_load_signed : {len : ℕ} (m : Common) (bits : SignBits) (d base : ℕ) (distance : ℤ) (state after : StateKinds)
     → Stands len m state → transfer len (insns.LoadSigned bits d base distance) state ≡ Ok after → GoesOn len m (insns.LoadSigned bits d base distance) after
 does_load_signed {len} m bits d base distance state after s rules =
     does_loading len m (insns.LoadSigned bits d base distance) d base distance (signed_bytes bits) (extended (sign_bits bits) 64) all_words state after (signed_loads bits) s rules (inl refl) (λ p. refl)
@@ -122,14 +122,14 @@ store_performs : (p : Place) → IsPlacement p → (len : ℕ) → len ≤ recor
 store_performs p place len few m full size base distance x z w h e f =
     rw (held_is p m.tags base (Ptr InFrame z) e, value_is p m.tags x (Num w) f, full, accesses p place len few InFrame z distance (size_bytes size) (some_size size) h) refl
 
-does_storing : (len : ℕ) (m : Common) (size : Size) (base : ℕ) (distance : ℤ) (x : Operand) (state after : List Kind) (z : ℤ) (w : ℕ) (h : Inside len InFrame z distance (size_bytes size))
+does_storing : (len : ℕ) (m : Common) (size : Size) (base : ℕ) (distance : ℤ) (x : Operand) (state after : StateKinds) (z : ℤ) (w : ℕ) (h : Inside len InFrame z distance (size_bytes size))
     → tag_at m.tags base ≡ Some (Ptr InFrame z) → operand_tag m.tags x ≡ Some (Num w) → Stands len m state → state ≡ after → GoesOn len m (insns.Store size base distance x) after
 does_storing len m size base distance x state after z w h e f s is =
     goes_on m (with_bytes m h.at (size_bytes size) w) (insns.Store size base distance x) after after
     (record { words = s.whole.words; frame = written_bytes 512 m.frame h.at (size_bytes size) w s.whole.frame h.room; «record» = s.whole.record; fits = s.whole.fits })
     (subst (λ q. TagsHold q m.tags) is s.holds) (inl refl) (λ p place. store_performs p place len s.whole.fits m s.whole.record.count size base distance x z w h e f)
 
-pub does_store : {len : ℕ} (m : Common) (size : Size) (base : ℕ) (distance : ℤ) (x : Operand) (state after : List Kind)
+pub does_store : {len : ℕ} (m : Common) (size : Size) (base : ℕ) (distance : ℤ) (x : Operand) (state after : StateKinds)
     → Stands len m state → transfer len (insns.Store size base distance x) state ≡ Ok after → GoesOn len m (insns.Store size base distance x) after
 does_store {len} m size base distance x state after s rules =
     let k = kind_of state base in

@@ -10,7 +10,7 @@ use Rattle.bq_insn.specs.declared.insn.Operand.TheVariants as operands
 use Rattle.bq_meaning.specs.Place.{Place}
 use Rattle.bq_meaning.specs.Meaning.{held, value, taken}
 use Rattle.bq_range.specs.Interval.{single}
-use Rattle.bq_state.specs.declared.kind.Kind.{Kind}
+use Rattle.bq_state.specs.Kinds.{StateKinds}
 use Rattle.bq_state.specs.Rules.{operand_kind, taken_kind}
 use Rattle.bq_sound.proofs.Tags.{Tagged, Num, image, images, held_image, IsWord, word_of, tag_at, HoldsNumber, holds_word, TagHolds, TagsHold}
 use Rattle.bq_sound.proofs.Machine.{AreWords}
@@ -39,11 +39,11 @@ taken_is p tags op d v e = held_is p tags d v e
 number_of : (n : ℕ) → HoldsNumber (single n) (Some (Num n))
 number_of n = holds_word (single n) n (record { low = omega arith; high = omega arith })
 
-pub operand_holds : (state : List Kind) (tags : List (Option Tagged)) (x : Operand) → TagsHold state tags → TagHolds (operand_kind state x) (operand_tag tags x)
+pub operand_holds : (state : StateKinds) (tags : List (Option Tagged)) (x : Operand) → TagsHold state tags → TagHolds (operand_kind state x) (operand_tag tags x)
 operand_holds state tags (operands.Register r) h = h.each r
 operand_holds state tags (operands.Number z) h = number_of (modulo 64 z)
 
-pub taken_holds : (state : List Kind) (tags : List (Option Tagged)) (op : AluOp) (d : ℕ) → TagsHold state tags → TagHolds (taken_kind state op d) (taken_tag tags op d)
+pub taken_holds : (state : StateKinds) (tags : List (Option Tagged)) (op : AluOp) (d : ℕ) → TagsHold state tags → TagHolds (taken_kind state op d) (taken_tag tags op d)
 taken_holds state tags ops.Mov d h = number_of 0
 taken_holds state tags op d h = h.each d
 

@@ -7,11 +7,10 @@ use Rattle.std.proofs.lemmas.List.{get_or_past}
 use Rattle.std.proofs.lemmas.List.Concat.{flat_map-cons}
 use Rattle.std.proofs.lemmas.List.Elements.{All-append, All-nil, All-same, All-get_or, All-from_recursion}
 use Rattle.bq_insn.specs.Insn.{IsInsn}
-use Rattle.bq_insn.specs.Slots.{slots_of, slots, units, IsText}
+use Rattle.bq_insn.specs.Slots.{slots_of, slots, units, IsText, insn_at}
 use Rattle.bq_insn.specs.declared.insn.Insn.{Insn}
 use Rattle.bq_insn.specs.declared.insn.Insn.TheVariants as insns
-use Rattle.bq_flow.specs.Paths.{insn_at}
-use Rattle.bq_state.specs.declared.kind.Kind.{Kind}
+use Rattle.bq_state.specs.Kinds.{StateKinds}
 use Rattle.bq_state.specs.Rules.{transfer}
 use Rattle.bq_sound.proofs.Machine.{Common, GoesOn, Stops, Stands}
 use Rattle.bq_sound.proofs.Registers.{does_alu, does_negate, does_extend, does_order, does_wide, does_exit}
@@ -42,7 +41,7 @@ is_insn t unit i h e = elim (cases_lt unit (units t)) [
 
 -- ---- every instruction
 
-pub progress : {len : ℕ} (m : Common) (i : Insn) (state after : List Kind) → IsInsn i → Stands len m state → transfer len i state ≡ Ok after → GoesOn len m i after ⊎ Stops m i
+pub progress : {len : ℕ} (m : Common) (i : Insn) (state after : StateKinds) → IsInsn i → Stands len m state → transfer len i state ≡ Ok after → GoesOn len m i after ⊎ Stops m i
 progress m (insns.Alu w op d x) state after legal s rules = inl (does_alu m w op d x state after s rules)
 progress m (insns.Negate w d) state after legal s rules = inl (does_negate m w d state after s rules)
 progress m (insns.Extend e d r) state after legal s rules = inl (does_extend m e d r state after s rules)

@@ -1,5 +1,5 @@
 -- Instructions that work on registers alone.
-use Rattle.std.proofs.Common.{◌≡◌, ℕ, ◌+◌, ◌^◌, ◌<◌, ◌≤◌, refl, ◌∙◌, subst, inl, arith, List, Some, Ok}
+use Rattle.std.proofs.Common.{◌≡◌, ℕ, ◌+◌, ◌^◌, ◌<◌, ◌≤◌, refl, ◌∙◌, subst, inl, arith, Some, Ok}
 use Rattle.std.specs.Prelude.{slice_set}
 use Rattle.std.proofs.lemmas.Bool.{lt-ltb}
 use Rattle.bq_word.specs.Word.{bits_of, operation, low, swap_bits, swapped, extended}
@@ -27,10 +27,9 @@ use Rattle.bq_range.specs.Interval.{Interval, IsIn, single}
 use Rattle.bq_range.specs.Table.{negated, sign_extended}
 use Rattle.bq_range.proofs.Held.{words}
 use Rattle.bq_range.proofs.Covers.{negated_covers, sign_extended_covers, low_range_covers, swapped_range_covers}
-use Rattle.bq_state.specs.declared.kind.Kind.{Kind}
 use Rattle.bq_state.specs.declared.kind.Kind.TheVariants.{Number}
 use Rattle.bq_state.specs.declared.rule.Rule.TheVariants.{WrongKind, AnswerKind}
-use Rattle.bq_state.specs.Kinds.{kind_of}
+use Rattle.bq_state.specs.Kinds.{StateKinds, kind_of}
 use Rattle.bq_state.specs.Rules.{transfer, and_then, known, writable, number, allowed, operand_kind, taken_kind, alu_kind, mapped, ordered_range}
 use Rattle.bq_state.specs.Edges.{edges}
 use Rattle.bq_sound.proofs.Tags.{Tagged, Num, image, images, tag_at, HoldsNumber, holds_word, TagHolds}
@@ -46,7 +45,7 @@ alu_performs : (p : Place) (m : Common) (w : Width) (op : AluOp) (d : ℕ) (x : 
     → perform p (insns.Alu w op d x) (machine p m) ≡ Continues (written (machine p m) d (image p value))
 alu_performs p m w op d x u v value eu ev low is = rw (taken_is p m.tags op d u eu, value_is p m.tags x v ev, lt-ltb d 10 low, is) refl
 
-pub does_alu : {len : ℕ} (m : Common) (w : Width) (op : AluOp) (d : ℕ) (x : Operand) (state after : List Kind)
+pub does_alu : {len : ℕ} (m : Common) (w : Width) (op : AluOp) (d : ℕ) (x : Operand) (state after : StateKinds)
     → Stands len m state → transfer len (insns.Alu w op d x) state ≡ Ok after → GoesOn len m (insns.Alu w op d x) after
 does_alu m w op d x state after s rules =
     let a = taken_kind state op d in
@@ -74,7 +73,7 @@ one m p d s f = reading ReadUnset (held (images p m.tags) s) (λ a. writing d (C
 one_performs : (p : Place) (m : Common) (d s : ℕ) (f : ℕ → ℕ) (w : ℕ) → tag_at m.tags s ≡ Some (Num w) → d < 10 → one m p d s f ≡ Continues (written (machine p m) d (f w))
 one_performs p m d s f w e low = rw (held_is p m.tags s (Num w) e, lt-ltb d 10 low) refl
 
-does_one : {len : ℕ} (m : Common) (i : Insn) (d s : ℕ) (f : ℕ → ℕ) (g : Interval → Interval) (state after : List Kind)
+does_one : {len : ℕ} (m : Common) (i : Insn) (d s : ℕ) (f : ℕ → ℕ) (g : Interval → Interval) (state after : StateKinds)
     → Covers f g → Stands len m state → mapped state d s g ≡ Ok after → Among (m.unit + 1, after) (edges m.unit i after)
     → ((p : Place) → perform p i (machine p m) ≡ one m p d s f) → GoesOn len m i after
 does_one m i d s f g state after c stands rules among does =
@@ -90,7 +89,7 @@ does_one m i d s f g state after c stands rules among does =
 negation : (w : Width) → Covers (operation (bits_of w) Sub 0) (negated (bits_of w))
 negation w = record { small = operation_word w Sub 0; covers = negated_covers (bits_of w) }
 
-pub does_negate : {len : ℕ} (m : Common) (w : Width) (d : ℕ) (state after : List Kind)
+pub does_negate : {len : ℕ} (m : Common) (w : Width) (d : ℕ) (state after : StateKinds)
     → Stands len m state → transfer len (insns.Negate w d) state ≡ Ok after → GoesOn len m (insns.Negate w d) after
 does_negate m w d state after s rules =
     does_one m (insns.Negate w d) d d (operation (bits_of w) Sub 0) (negated (bits_of w)) state after (negation w) s rules (inl refl) (λ p. refl)
@@ -105,7 +104,7 @@ extension extensions.W64From8 = record { small = extended_word 8 W64; covers = s
 extension extensions.W64From16 = record { small = extended_word 16 W64; covers = sign_extended_covers B16 W64 }
 extension extensions.W64From32 = record { small = extended_word 32 W64; covers = sign_extended_covers B32 W64 }
 
-pub does_extend : {len : ℕ} (m : Common) (e : Extension) (d r : ℕ) (state after : List Kind)
+pub does_extend : {len : ℕ} (m : Common) (e : Extension) (d r : ℕ) (state after : StateKinds)
     → Stands len m state → transfer len (insns.Extend e d r) state ≡ Ok after → GoesOn len m (insns.Extend e d r) after
 does_extend m e d r state after s rules =
     does_one m (insns.Extend e d r) d r _ _ state after (extension e) s rules (inl refl) (λ p. refl)
@@ -128,14 +127,14 @@ order orders.Little bits = record { small = low_word bits; covers = low_range_co
 order orders.Big bits = record { small = swapped_word bits; covers = swapped_range_covers bits }
 order orders.Swapped bits = record { small = swapped_word bits; covers = swapped_range_covers bits }
 
-pub does_order : {len : ℕ} (m : Common) (o : ByteOrder) (bits : SwapBits) (d : ℕ) (state after : List Kind)
+pub does_order : {len : ℕ} (m : Common) (o : ByteOrder) (bits : SwapBits) (d : ℕ) (state after : StateKinds)
     → Stands len m state → transfer len (insns.Order o bits d) state ≡ Ok after → GoesOn len m (insns.Order o bits d) after
 does_order m o bits d state after s rules =
     does_one m (insns.Order o bits d) d d (ordered o (swap_bits bits)) (ordered_range o (swap_bits bits)) state after (order o bits) s rules (inl refl) (λ p. refl)
 
 -- ---- a number of 64 bits, and an exit
 
-pub does_wide : {len : ℕ} (m : Common) (d v : ℕ) (state after : List Kind) → v < 2 ^ 64
+pub does_wide : {len : ℕ} (m : Common) (d v : ℕ) (state after : StateKinds) → v < 2 ^ 64
     → Stands len m state → transfer len (insns.Wide d v) state ≡ Ok after → GoesOn len m (insns.Wide d v) after
 does_wide m d v state after small s rules =
     let low = wrote d (λ _. Ok (slice_set state d (Number (single v)))) after rules in
@@ -147,7 +146,7 @@ does_wide m d v state after small s rules =
 exit_performs : (p : Place) (m : Common) (w : ℕ) → tag_at m.tags 0 ≡ Some (Num w) → perform p insns.Exit (machine p m) ≡ Ends w
 exit_performs p m w e = rw (held_is p m.tags 0 (Num w) e) refl
 
-pub does_exit : {len : ℕ} (m : Common) (state after : List Kind) → Stands len m state → transfer len insns.Exit state ≡ Ok after → Stops m insns.Exit
+pub does_exit : {len : ℕ} (m : Common) (state after : StateKinds) → Stands len m state → transfer len insns.Exit state ≡ Ok after → Stops m insns.Exit
 does_exit m state after s rules =
     let k = kind_of state 0 in
     let r = read k (tag_at m.tags 0) (λ k'. and_then (number AnswerKind k') (λ _. Ok state)) after (s.holds.each 0) rules in

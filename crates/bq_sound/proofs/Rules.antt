@@ -1,15 +1,16 @@
 -- What passing a rule of the checker says of the registers.
-use Rattle.std.proofs.Common.{◌≡◌, ℕ, ◌<◌, refl, inl, inr, arith, List, Option, Some, None, Result, Ok}
+use Rattle.std.proofs.Common.{◌≡◌, ℕ, ◌<◌, refl, inl, inr, arith, Option, Some, None, Result, Ok}
 use Rattle.std.proofs.lemmas.Bool.{cases_lt}
 use Rattle.std.proofs.lemmas.Bool.Decides.{nat_tests}
 use Rattle.bq_range.specs.Interval.{Interval}
 use Rattle.bq_state.specs.declared.kind.Kind.{Kind}
+use Rattle.bq_state.specs.Kinds.{StateKinds}
 use Rattle.bq_state.specs.declared.kind.Kind.TheVariants.{Unset, Number, FramePointer, RecordPointer}
 use Rattle.bq_state.specs.declared.rule.Rule.{Rule}
 use Rattle.bq_state.specs.Rules.{and_then, known, writable, number, allowed}
 use Rattle.bq_sound.proofs.Tags.{InFrame, InRecord, Tagged, Num, Ptr, TagHolds}
 
-pub same_state : (a b : List Kind) → ◌≡◌ {A = Result (List Kind) Rule} (Ok a) (Ok b) → a ≡ b
+pub same_state : (a b : StateKinds) → ◌≡◌ {A = Result StateKinds Rule} (Ok a) (Ok b) → a ≡ b
 same_state a b e = cc
 
 -- a register that may be read holds a value

@@ -2,17 +2,16 @@
 use Rattle.std.proofs.Common.{◌≡◌, ◌∙◌, ap, ℕ, zero, suc, ◌+◌, ◌^◌, ◌<◌, ◌≤◌, refl, subst, inl, inr, arith, List, [], ◌∷◌, length, Option, Some, None}
 use Rattle.std.specs.Prelude.{pos, ⊤}
 use Rattle.std.proofs.lemmas.Int.{ints}
-use Rattle.bq_insn.specs.Slots.{units, IsText}
+use Rattle.bq_insn.specs.Slots.{units, IsText, insn_at}
 use Rattle.bq_insn.specs.declared.insn.Insn.{Insn}
-use Rattle.bq_flow.specs.Paths.{insn_at, Path, IsLongest}
+use Rattle.bq_flow.specs.Paths.{Path, IsLongest}
 use Rattle.bq_meaning.specs.Place.{Place, IsPlacement, record_room}
 use Rattle.bq_meaning.specs.Meaning.{Outcome, Continues, moved, perform, step}
 use Rattle.bq_meaning.specs.Meaning.{Ends as Answers}
 use Rattle.bq_meaning.specs.Runs.{entry_machine, RunsTo}
 use Rattle.bq_range.specs.Interval.{single, all_words}
 use Rattle.bq_state.specs.Offsets.{IsOffset, at_offset}
-use Rattle.bq_state.specs.declared.kind.Kind.{Kind}
-use Rattle.bq_state.specs.Kinds.{kind_of, entry_state}
+use Rattle.bq_state.specs.Kinds.{StateKinds, kind_of, entry_state}
 use Rattle.bq_sound.specs.Passes.{note_at, Passes}
 use Rattle.bq_sound.specs.Safe.{AreBytes, IsSafe}
 use Rattle.bq_sound.proofs.Tags.{InFrame, InRecord, Tagged, Num, Ptr, IsWord, tag_at, HoldsNumber, HoldsPointer, TagHolds, TagsHold, covered_tags}
@@ -35,7 +34,7 @@ record Ends (text : List Insn) (m : Common) : Type 0 where
   path : Path text m.unit count
   run : (p : Place) → IsPlacement p → RunsTo p text (machine p m) count answer after
 
-ends : (len fuel : ℕ) (text : List Insn) (notes : List (Option (List Kind))) (m : Common) (state : List Kind) → IsText text → Passes len text notes → IsWhole len m → note_at notes m.unit ≡ Some state → TagsHold state m.tags
+ends : (len fuel : ℕ) (text : List Insn) (notes : List (Option StateKinds)) (m : Common) (state : StateKinds) → IsText text → Passes len text notes → IsWhole len m → note_at notes m.unit ≡ Some state → TagsHold state m.tags
     → units text ≤ m.unit + fuel → Ends text m
 ends len zero text notes m state t passes whole noted holds room = absurd (omega (arith, note_within notes m.unit state noted, passes.count))
 ends len (suc fuel) text notes m state t passes whole noted holds room =
@@ -86,13 +85,13 @@ entry_is p place len acc bytes frame full =
     rw (a, b, full) refl
 
 -- kinds and registers, one by one
-AllHold : List Kind → List (Option Tagged) → Type 0
+AllHold : StateKinds → List (Option Tagged) → Type 0
 AllHold [] [] = ⊤
 AllHold [] (t ∷ ts) = ⊥
 AllHold (k ∷ ks) [] = ⊥
 AllHold (k ∷ ks) (t ∷ ts) = TagHolds k t × AllHold ks ts
 
-all_hold : (state : List Kind) (tags : List (Option Tagged)) → AllHold state tags → (r : ℕ) → TagHolds (kind_of state r) (tag_at tags r)
+all_hold : (state : StateKinds) (tags : List (Option Tagged)) → AllHold state tags → (r : ℕ) → TagHolds (kind_of state r) (tag_at tags r)
 unfolding AllHold
 all_hold [] [] h r = tt
 all_hold [] (t ∷ ts) h r = absurd h
@@ -140,7 +139,7 @@ entry_whole len acc bytes frame few h b f = record {
 
 -- ---- notes that pass make a text safe
 
-pub safe : (len : ℕ) (text : List Insn) (notes : List (Option (List Kind))) (longest : ℕ) → len ≤ record_room → IsText text → Passes len text notes → IsLongest text longest → IsSafe len text longest
+pub safe : (len : ℕ) (text : List Insn) (notes : List (Option StateKinds)) (longest : ℕ) → len ≤ record_room → IsText text → Passes len text notes → IsLongest text longest → IsSafe len text longest
 safe len text notes longest few t passes most = record {
   runs = λ acc bytes frame small b f.
       let m = entry_common len acc bytes frame in

@@ -10,7 +10,7 @@ use Rattle.bq_range.specs.Interval.{Interval, IsIn, Within}
 use Rattle.bq_state.specs.Offsets.{Span, SpanWithin, IsOffset}
 use Rattle.bq_state.specs.declared.kind.Kind.{Kind}
 use Rattle.bq_state.specs.declared.kind.Kind.TheVariants.{Unset, Number, FramePointer, RecordPointer}
-use Rattle.bq_state.specs.Kinds.{kind_of, KindCovers, StateCovers}
+use Rattle.bq_state.specs.Kinds.{StateKinds, kind_of, KindCovers, StateCovers}
 use Rattle.bq_sound.proofs.Words.{moved_small}
 
 pub data Region : Type 0 where
@@ -89,7 +89,7 @@ TagHolds (Number a) t = HoldsNumber a t
 TagHolds (FramePointer s) t = HoldsPointer InFrame s t
 TagHolds (RecordPointer s) t = HoldsPointer InRecord s t
 
-pub record TagsHold (state : List Kind) (tags : List (Option Tagged)) : Type 0 where
+pub record TagsHold (state : StateKinds) (tags : List (Option Tagged)) : Type 0 where
   pub each : (r : ℕ) → TagHolds (kind_of state r) (tag_at tags r)
 
 number_held : (a b : Interval) (t : Option Tagged) → Within b a → HoldsNumber b t → HoldsNumber a t
@@ -113,20 +113,20 @@ covered_tag (RecordPointer a) (Number b) t c h = absurd c
 covered_tag (RecordPointer a) (FramePointer b) t c h = absurd c
 covered_tag (RecordPointer a) (RecordPointer b) t c h = pointer_held InRecord a b t c h
 
-pub covered_tags : (a b : List Kind) (tags : List (Option Tagged)) → StateCovers a b → TagsHold b tags → TagsHold a tags
+pub covered_tags : (a b : StateKinds) (tags : List (Option Tagged)) → StateCovers a b → TagsHold b tags → TagsHold a tags
 covered_tags a b tags c h = record { each = λ r. covered_tag (kind_of a r) (kind_of b r) (tag_at tags r) (c.each r) (h.each r) }
 
 -- ---- a register that is written, and one that more is known of
 
-kind_set_same : (state : List Kind) (d : ℕ) (k : Kind) (t : Option Tagged) → TagHolds k t → TagHolds (kind_of (slice_set state d k) d) t
+kind_set_same : (state : StateKinds) (d : ℕ) (k : Kind) (t : Option Tagged) → TagHolds k t → TagHolds (kind_of (slice_set state d k) d) t
 kind_set_same [] d k t h = tt
 kind_set_same (x ∷ xs) zero k t h = h
 kind_set_same (x ∷ xs) (suc d) k t h = kind_set_same xs d k t h
 
-kind_set_other : (state : List Kind) (d r : ℕ) (k : Kind) → (r ≡ d → ⊥) → kind_of (slice_set state d k) r ≡ kind_of state r
+kind_set_other : (state : StateKinds) (d r : ℕ) (k : Kind) → (r ≡ d → ⊥) → kind_of (slice_set state d k) r ≡ kind_of state r
 kind_set_other state d r k h = get_or-set_other state d r k Unset h
 
-pub written_holds : (state : List Kind) (tags : List (Option Tagged)) (d : ℕ) (k : Kind) (v : Tagged) → TagsHold state tags → d < length tags → TagHolds k (Some v)
+pub written_holds : (state : StateKinds) (tags : List (Option Tagged)) (d : ℕ) (k : Kind) (v : Tagged) → TagsHold state tags → d < length tags → TagHolds k (Some v)
     → TagsHold (slice_set state d k) (slice_set tags d (Some v))
 written_holds state tags d k v h low here = record {
   each = λ r. elim (cases_eq r d) [
@@ -137,7 +137,7 @@ written_holds state tags d k v h low here = record {
   ];
 }
 
-pub narrowed_holds : (state : List Kind) (tags : List (Option Tagged)) (d : ℕ) (k : Kind) → TagsHold state tags → TagHolds k (tag_at tags d) → TagsHold (slice_set state d k) tags
+pub narrowed_holds : (state : StateKinds) (tags : List (Option Tagged)) (d : ℕ) (k : Kind) → TagsHold state tags → TagHolds k (tag_at tags d) → TagsHold (slice_set state d k) tags
 narrowed_holds state tags d k h here = record {
   each = λ r. elim (cases_eq r d) [
     | inl e ↦ subst (λ q. TagHolds (kind_of (slice_set state d k) q) (tag_at tags q)) (sym e) (kind_set_same state d k (tag_at tags d) here)

@@ -9,7 +9,7 @@ ghost use Rattle.bq_flow.specs.Paths.{IsLongest};
 ghost use Rattle.bq_meaning.specs.Place.{Place, IsPlacement, record_room};
 ghost use Rattle.bq_meaning.specs.Meaning.{perform};
 ghost use Rattle.bq_meaning.specs.declared.machine.Machine.{Machine};
-ghost use Rattle.bq_state.specs.declared.kind.Kind.{Kind};
+ghost use Rattle.bq_state.specs.Kinds.{StateKinds};
 ghost use Rattle.bq_state.specs.Covers.{StateHolds};
 ghost use Rattle.bq_state.specs.Rules.{transfer};
 ghost use Rattle.bq_state.specs.Edges.{edges};
@@ -20,19 +20,19 @@ ghost use Rattle.bq_sound.specs.Safe.{AreBytes, IsSafe, LimitIsFree, HasAnswer};
 /// An instruction that breaks no rule of a state does not fault in a machine that the state covers. It
 /// ends with a word, or goes on along a feasible edge, whose state covers the machine that it leaves.
 pub fn step_is_covered()
-    ensures { (len : ℕ) (p : Place) (i : Insn) (state after : List Kind) (m : Machine) → len ≤ record_room → IsPlacement p → IsInsn i → IsMachine len m → StateHolds p state m.registers → transfer len i state ≡ Ok after → IsCovered len p (edges m.unit i after) (perform p i m) }
+    ensures { (len : ℕ) (p : Place) (i : Insn) (state after : StateKinds) (m : Machine) → len ≤ record_room → IsPlacement p → IsInsn i → IsMachine len m → StateHolds p state m.registers → transfer len i state ≡ Ok after → IsCovered len p (edges m.unit i after) (perform p i m) }
 {}
 
 /// A text whose notes pass never faults: from every accumulator, record and frame its record run ends
 /// within the longest path, with one answer and one frame that are the same at every placement.
 pub fn passing_is_safe()
-    ensures { (len : ℕ) (text : List Insn) (notes : List (Option (List Kind))) (longest : ℕ) → len ≤ record_room → IsText text → Passes len text notes → IsLongest text longest → IsSafe len text longest }
+    ensures { (len : ℕ) (text : List Insn) (notes : List (Option StateKinds)) (longest : ℕ) → len ≤ record_room → IsText text → Passes len text notes → IsLongest text longest → IsSafe len text longest }
 {}
 
 /// A text whose notes pass has the same record run, with the same outcome, under every limit of at least the longest
 /// path.
 pub fn limit_is_free()
-    ensures { (len : ℕ) (text : List Insn) (notes : List (Option (List Kind))) (longest : ℕ) → len ≤ record_room → IsText text → Passes len text notes → IsLongest text longest → LimitIsFree len text longest }
+    ensures { (len : ℕ) (text : List Insn) (notes : List (Option StateKinds)) (longest : ℕ) → len ≤ record_room → IsText text → Passes len text notes → IsLongest text longest → LimitIsFree len text longest }
 {}
 
 /// A text that is safe for records of so many bytes has an answer over any of them from any start value. It is a word,

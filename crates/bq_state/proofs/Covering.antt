@@ -1,11 +1,11 @@
 -- What covers what.
-use Rattle.std.proofs.Common.{◌≡◌, ℕ, zero, suc, ◌<◌, arith, List, [], ◌∷◌, length, refl, ap, sym, ◌∙◌, ◌+◌, get_or, set}
+use Rattle.std.proofs.Common.{◌≡◌, ℕ, zero, suc, ◌<◌, arith, [], ◌∷◌, length, refl, ap, sym, ◌∙◌, ◌+◌, get_or, set}
 use Rattle.std.proofs.lemmas.Int.{ints, clamps}
 use Rattle.std.proofs.lemmas.List.{ext_get_or, get_or_default}
 use Rattle.std.proofs.lemmas.List.Edits.{fill_by_more}
 use Rattle.bq_range.specs.Interval.{Interval, Within}
 use Rattle.bq_state.specs.Offsets.{Span, SpanWithin, join_spans}
-use Rattle.bq_state.specs.Kinds.{kind_of, KindCovers, StateCovers, join_kinds, join_states}
+use Rattle.bq_state.specs.Kinds.{StateKinds, kind_of, KindCovers, StateCovers, join_kinds, join_states}
 use Rattle.bq_state.specs.declared.kind.Kind.{Kind}
 use Rattle.bq_state.specs.declared.kind.Kind.TheVariants.{Unset, Number, FramePointer, RecordPointer}
 
@@ -74,54 +74,54 @@ kind_join_least c a b h k = absurd h
 
 -- ---- states
 
-pub state_covers_itself : (a : List Kind) → StateCovers a a
+pub state_covers_itself : (a : StateKinds) → StateCovers a a
 state_covers_itself a = record { each = λ r. kind_covers_itself (kind_of a r) }
 
-pub state_covers_through : (a b c : List Kind) → StateCovers a b → StateCovers b c → StateCovers a c
+pub state_covers_through : (a b c : StateKinds) → StateCovers a b → StateCovers b c → StateCovers a c
 state_covers_through a b c h k = record { each = λ r. kind_covers_through (kind_of a r) (kind_of b r) (kind_of c r) (h.each r) (k.each r) }
 
-joined_left : (a b : List Kind) (r : ℕ) → KindCovers (kind_of (join_states a b) r) (kind_of a r)
+joined_left : (a b : StateKinds) (r : ℕ) → KindCovers (kind_of (join_states a b) r) (kind_of a r)
 joined_left [] b r = tt
 joined_left (x ∷ xs) [] r = tt
 joined_left (x ∷ xs) (y ∷ ys) zero = kind_join_left x y
 joined_left (x ∷ xs) (y ∷ ys) (suc r) = joined_left xs ys r
 
-joined_right : (a b : List Kind) (r : ℕ) → KindCovers (kind_of (join_states a b) r) (kind_of b r)
+joined_right : (a b : StateKinds) (r : ℕ) → KindCovers (kind_of (join_states a b) r) (kind_of b r)
 joined_right [] b r = tt
 joined_right (x ∷ xs) [] r = tt
 joined_right (x ∷ xs) (y ∷ ys) zero = kind_join_right x y
 joined_right (x ∷ xs) (y ∷ ys) (suc r) = joined_right xs ys r
 
-pub join_covers : (a b : List Kind) → StateCovers (join_states a b) a × StateCovers (join_states a b) b
+pub join_covers : (a b : StateKinds) → StateCovers (join_states a b) a × StateCovers (join_states a b) b
 join_covers a b = (record { each = joined_left a b }, record { each = joined_right a b })
 
-join_least_at : (k : Kind) (a b : List Kind) (r : ℕ) → length a ≡ length b → KindCovers k (kind_of a r) → KindCovers k (kind_of b r) → KindCovers k (kind_of (join_states a b) r)
+join_least_at : (k : Kind) (a b : StateKinds) (r : ℕ) → length a ≡ length b → KindCovers k (kind_of a r) → KindCovers k (kind_of b r) → KindCovers k (kind_of (join_states a b) r)
 join_least_at k [] b r e h i = h
 join_least_at k (x ∷ xs) [] r e h i = absurd (omega arith)
 join_least_at k (x ∷ xs) (y ∷ ys) zero e h i = kind_join_least k x y h i
 join_least_at k (x ∷ xs) (y ∷ ys) (suc r) e h i = let same : length xs ≡ length ys = omega arith in join_least_at k xs ys r same h i
 
-pub join_least : (a b c : List Kind) → length a ≡ length b → StateCovers c a → StateCovers c b → StateCovers c (join_states a b)
+pub join_least : (a b c : StateKinds) → length a ≡ length b → StateCovers c a → StateCovers c b → StateCovers c (join_states a b)
 join_least a b c e h i = record { each = λ r. join_least_at (kind_of c r) a b r e (h.each r) (i.each r) }
 
-pub joined_count : (a b : List Kind) → length a ≡ length b → length (join_states a b) ≡ length a
+pub joined_count : (a b : StateKinds) → length a ≡ length b → length (join_states a b) ≡ length a
 joined_count [] b e = refl
 joined_count (x ∷ xs) [] e = absurd (omega arith)
 joined_count (x ∷ xs) (y ∷ ys) e = let same : length xs ≡ length ys = omega arith in ap suc (joined_count xs ys same)
 
-pub joined_kind : (a b : List Kind) (r : ℕ) → r < length a → r < length b → kind_of (join_states a b) r ≡ join_kinds (kind_of a r) (kind_of b r)
+pub joined_kind : (a b : StateKinds) (r : ℕ) → r < length a → r < length b → kind_of (join_states a b) r ≡ join_kinds (kind_of a r) (kind_of b r)
 joined_kind [] b r h k = absurd (omega arith)
 joined_kind (x ∷ xs) [] r h k = absurd (omega arith)
 joined_kind (x ∷ xs) (y ∷ ys) zero h k = refl
 joined_kind (x ∷ xs) (y ∷ ys) (suc r) h k = joined_kind xs ys r (omega arith) (omega arith)
 
 -- a list that holds, for each register, the join of both
-pub joined_lists : (a b l : List Kind) (n : ℕ) → length a ≡ n → length b ≡ n → length l ≡ n → ((r : ℕ) → r < n → kind_of l r ≡ join_kinds (kind_of a r) (kind_of b r)) → l ≡ join_states a b
+pub joined_lists : (a b l : StateKinds) (n : ℕ) → length a ≡ n → length b ≡ n → length l ≡ n → ((r : ℕ) → r < n → kind_of l r ≡ join_kinds (kind_of a r) (kind_of b r)) → l ≡ join_states a b
 joined_lists a b l n e f g h =
     let count : length (join_states a b) ≡ length a = joined_count a b (omega arith) in
     ext_get_or Unset l (join_states a b) (omega arith) (λ r k. h r (omega arith) ∙ sym (joined_kind a b r (omega arith) (omega arith)))
 
-pub joined_more : (a b l : List Kind) (n i : ℕ) (k x y : Kind) → length a ≡ n → length b ≡ n → length l ≡ n → i < n → x ≡ get_or a i x → y ≡ get_or b i y → k ≡ join_kinds (get_or a i x) (get_or b i y)
+pub joined_more : (a b l : StateKinds) (n i : ℕ) (k x y : Kind) → length a ≡ n → length b ≡ n → length l ≡ n → i < n → x ≡ get_or a i x → y ≡ get_or b i y → k ≡ join_kinds (get_or a i x) (get_or b i y)
     → ((r : ℕ) → r < i → kind_of l r ≡ join_kinds (kind_of a r) (kind_of b r)) → (r : ℕ) → r < i + 1 → kind_of (set l i k) r ≡ join_kinds (kind_of a r) (kind_of b r)
 joined_more a b l n i k x y e f g h p q j before =
     let u : get_or a i x ≡ kind_of a i = get_or_default a i x Unset (omega arith) in

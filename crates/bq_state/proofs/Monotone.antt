@@ -8,13 +8,13 @@ use Rattle.std.specs.Prelude.{⊤, ℤ, pos, negsuc, ◌+ℤ◌, ◌-ℤ◌, int
 use Rattle.std.proofs.lemmas.Int.{ints}
 use Rattle.std.proofs.lemmas.Bool.{cond_both, cases_eq, cases_lt, cases_Bool, eq-eqb, ne_eqb, lt-ltb, le-ltb, and_parts}
 use Rattle.std.proofs.lemmas.List.{get_or-set_same, get_or-set_other, get_or_past, set_past, length-set}
-use Rattle.bq_word.specs.Word.{bits_of, low, modulo, swap_bits}
+use Rattle.bq_word.specs.Word.{bits_of, low, modulo, swap_bits, signed_bytes}
 use Rattle.bq_word.specs.declared.Width.{Width}
 use Rattle.bq_word.specs.declared.Width.TheVariants.{W32, W64}
 use Rattle.bq_word.specs.declared.AluOp.{AluOp}
 use Rattle.bq_word.specs.declared.AluOp.TheVariants as ops
 use Rattle.bq_word.specs.declared.Relation.{Relation}
-use Rattle.bq_insn.specs.Insn.{extension_bits, extension_width, IsInsn}
+use Rattle.bq_insn.specs.Insn.{extension_bits, extension_width, IsInsn, size_bytes}
 use Rattle.bq_insn.specs.declared.insn.Size.{Size}
 use Rattle.bq_insn.specs.declared.insn.Size.TheVariants as sizes
 use Rattle.bq_word.proofs.Bounds.{modulo_bound, low_bound}
@@ -28,13 +28,12 @@ use Rattle.bq_insn.specs.declared.insn.Extension.{Extension}
 use Rattle.bq_insn.specs.declared.insn.Extension.TheVariants as extensions
 use Rattle.bq_word.specs.declared.SwapBits.{SwapBits}
 use Rattle.bq_word.specs.declared.SignBits.TheVariants.{B8, B16, B32}
-use Rattle.bq_meaning.specs.Memory.{size_bytes, signed_bytes}
 use Rattle.bq_range.specs.Interval.{Interval, IsInterval, Within, single, whole, all_words}
 use Rattle.bq_range.specs.Table.{negated, sign_extended}
 use Rattle.bq_range.specs.Narrow.{branched}
 use Rattle.bq_range.specs.Monotone.{IsPart, LeavesLess, RowsAreMonotone}
 use Rattle.bq_state.specs.Offsets.{Span, SpanWithin, signed_of, limited, is_limited, moved_on, moved_back, fits}
-use Rattle.bq_state.specs.Kinds.{kind_of, KindCovers, join_kinds, join_states, entry_state}
+use Rattle.bq_state.specs.Kinds.{StateKinds, kind_of, KindCovers, join_kinds, join_states, entry_state}
 use Rattle.bq_state.specs.Monotone.{IsFullKind, IsFullState, IsAbove, IsRefinedAbove, SomeCovers, AreEdgesAbove, StatesAreOrdered, StatesAreMonotone}
 use Rattle.bq_state.proofs.Covering.{kind_covers_through, state_covers_itself, state_covers_through, join_covers, join_least, joined_count, joined_kind}
 use Rattle.bq_state.specs.Rules.{and_then, known, writable, number, allowed, readable, storable, sum_kind, difference_kind, pointer_kind, alu_kind, ordered_range, operand_kind, taken_kind, mapped, loaded_state, transfer}
@@ -215,23 +214,23 @@ pointer_follows w op h i = tt
 
 -- ---- states
 
-past : (s : List Kind) (r : ℕ) → length s ≤ r → kind_of s r ≡ Unset
+past : (s : StateKinds) (r : ℕ) → length s ≤ r → kind_of s r ≡ Unset
 past s r h = get_or_past s r Unset h
 
 -- what holds of a kind that is set and of the others holds of all
-set_each : (P : ℕ → Kind → Type 0) (s : List Kind) (d : ℕ) (l : Kind) → d < length s → P d l → ((r : ℕ) → (r ≡ d → ⊥) → P r (kind_of s r)) → (r : ℕ) → P r (kind_of (slice_set s d l) r)
+set_each : (P : ℕ → Kind → Type 0) (s : StateKinds) (d : ℕ) (l : Kind) → d < length s → P d l → ((r : ℕ) → (r ≡ d → ⊥) → P r (kind_of s r)) → (r : ℕ) → P r (kind_of (slice_set s d l) r)
 set_each P s d l low here others r = elim (cases_eq r d) [
   | inl e ↦ subst (λ x. P x (kind_of (slice_set s d l) x)) (sym e) (subst (P d) (sym (get_or-set_same s d l Unset low)) here)
   | inr ne ↦ subst (P r) (sym (get_or-set_other s d r l Unset ne)) (others r ne)
 ]
 
-full_put : (s : List Kind) (d : ℕ) (l : Kind) → d < 11 → IsFullState s → IsFullKind l → IsFullState (slice_set s d l)
+full_put : (s : StateKinds) (d : ℕ) (l : Kind) → d < 11 → IsFullState s → IsFullKind l → IsFullState (slice_set s d l)
 full_put s d l low h f = record {
   count = length-set s d l ∙ h.count;
   kinds = set_each (λ r. IsFullKind) s d l (omega (arith, low, h.count)) f (λ r ne. h.kinds r);
 }
 
-put : (n s : List Kind) (d : ℕ) (k l : Kind) → d < 11 → IsAbove n s → Results k l → IsAbove (slice_set n d k) (slice_set s d l)
+put : (n s : StateKinds) (d : ℕ) (k l : Kind) → d < 11 → IsAbove n s → Results k l → IsAbove (slice_set n d k) (slice_set s d l)
 put n s d k l low h i = (record { each = set_each (λ r. KindCovers (kind_of (slice_set n d k) r)) s d l (omega (arith, low, h.1.count)) here others }, full_put s d l low h.1 i.1)
   where
     here : KindCovers (kind_of (slice_set n d k) d) l
@@ -247,10 +246,10 @@ put n s d k l low h i = (record { each = set_each (λ r. KindCovers (kind_of (sl
 
 -- ---- instructions
 
-less_at : (n s : List Kind) (r : ℕ) → IsAbove n s → Less (kind_of n r) (kind_of s r)
+less_at : (n s : StateKinds) (r : ℕ) → IsAbove n s → Less (kind_of n r) (kind_of s r)
 less_at n s r h = less_is (kind_of n r) (kind_of s r) (h.0.each r) (h.1.kinds r)
 
-register_follows : (n s : List Kind) (r : ℕ) → IsAbove n s → Follows Both (known (kind_of n r)) (known (kind_of s r))
+register_follows : (n s : StateKinds) (r : ℕ) → IsAbove n s → Follows Both (known (kind_of n r)) (known (kind_of s r))
 register_follows n s r h = known_follows (less_at n s r h)
 
 -- a word is part of itself
@@ -260,21 +259,21 @@ itself x h = record { words = record { ordered = omega arith; words = h }; withi
 one_number : (x : ℕ) → x < 2 ^ 64 → Both (Number (single x)) (Number (single x))
 one_number x h = numbers (itself x h)
 
-operand_follows : (n s : List Kind) (x : Operand) → IsAbove n s → Follows Both (known (operand_kind n x)) (known (operand_kind s x))
+operand_follows : (n s : StateKinds) (x : Operand) → IsAbove n s → Follows Both (known (operand_kind n x)) (known (operand_kind s x))
 operand_follows n s (operands.Register r) h = register_follows n s r h
 operand_follows n s (operands.Number z) h = one_number (modulo 64 z) (modulo_bound 64 z)
 
-taken_follows : (n s : List Kind) (op : AluOp) (d : ℕ) → IsAbove n s → Follows Both (known (taken_kind n op d)) (known (taken_kind s op d))
+taken_follows : (n s : StateKinds) (op : AluOp) (d : ℕ) → IsAbove n s → Follows Both (known (taken_kind n op d)) (known (taken_kind s op d))
 taken_follows n s ops.Mov d h = one_number 0 (omega arith)
 taken_follows n s op d h = register_follows n s d h
 
-mapped_follows : (n s : List Kind) (d b : ℕ) (f : Interval → Interval) → ((a c : Interval) → IsPart a c → IsPart (f a) (f c)) → IsAbove n s → Follows IsAbove (mapped n d b f) (mapped s d b f)
+mapped_follows : (n s : StateKinds) (d b : ℕ) (f : Interval → Interval) → ((a c : Interval) → IsPart a c → IsPart (f a) (f c)) → IsAbove n s → Follows IsAbove (mapped n d b f) (mapped s d b f)
 mapped_follows n s d b f g h =
     then_follows Both IsAbove (known (kind_of n b)) (known (kind_of s b)) _ _ (register_follows n s b h) (λ k l kl.
     then_follows (IsLow d) IsAbove (writable d) (writable d) _ _ (writable_follows d) (λ _ _ low.
     then_follows Ranges IsAbove (number WrongKind k) (number WrongKind l) _ _ (number_follows WrongKind kl) (λ c a r. put n s d (Number (f c)) (Number (f a)) (omega (arith, low)) h (let p = g a c r in (p.within, p.words)))))
 
-loaded_follows : (len : ℕ) (n s : List Kind) (d base : ℕ) (offset : ℤ) (size : ℕ) (range : Interval) → IsInterval range → IsAbove n s → Follows IsAbove (loaded_state len n d base offset size range) (loaded_state len s d base offset size range)
+loaded_follows : (len : ℕ) (n s : StateKinds) (d base : ℕ) (offset : ℤ) (size : ℕ) (range : Interval) → IsInterval range → IsAbove n s → Follows IsAbove (loaded_state len n d base offset size range) (loaded_state len s d base offset size range)
 loaded_follows len n s d base offset size range f h =
     then_follows Both IsAbove (known (kind_of n base)) (known (kind_of s base)) _ _ (register_follows n s base h) (λ k l kl.
     then_follows (IsLow d) IsAbove (writable d) (writable d) _ _ (writable_follows d) (λ _ _ low.
@@ -305,7 +304,7 @@ module _ (rows : RowsAreMonotone) where
   load_full sizes.B4 = record { ordered = omega arith; words = omega arith }
   load_full sizes.B8 = record { ordered = omega arith; words = omega arith }
 
-  transfer_follows : (len : ℕ) (i : Insn) (n s : List Kind) → IsInsn i → IsAbove n s → Follows IsAbove (transfer len i n) (transfer len i s)
+  transfer_follows : (len : ℕ) (i : Insn) (n s : StateKinds) → IsInsn i → IsAbove n s → Follows IsAbove (transfer len i n) (transfer len i s)
   transfer_follows len (insns.Alu w op d x) n s legal h =
       then_follows Both IsAbove (known (taken_kind n op d)) (known (taken_kind s op d)) _ _ (taken_follows n s op d h) (λ a b ab.
       then_follows Both IsAbove (known (operand_kind n x)) (known (operand_kind s x)) _ _ (operand_follows n s x h) (λ k l kl.
@@ -335,42 +334,42 @@ module _ (rows : RowsAreMonotone) where
       put n s d (Number (single v)) (Number (single v)) (omega (arith, low)) h (let p = itself v legal.1 in (p.within, p.words)))
 
   -- where the first is there so is the second
-  follows_ok : (x y : Result (List Kind) Rule) (after : List Kind) → Follows IsAbove x y → x ≡ Ok after → (left : List Kind) × (y ≡ Ok left) × IsAbove after left
+  follows_ok : (x y : Result StateKinds Rule) (after : StateKinds) → Follows IsAbove x y → x ≡ Ok after → (left : StateKinds) × (y ≡ Ok left) × IsAbove after left
   follows_ok (Err rule) y after h e = let bad : Err rule ≡ Ok after = e in absurd cc
   follows_ok (Ok a) (Err rule) after h e = absurd h
   follows_ok (Ok a) (Ok b) after h e = let is : a ≡ after = cc in (b, refl, subst (λ x. IsAbove x b) is h)
 
-  transfer_less : (len : ℕ) (i : Insn) (n s after : List Kind) → IsInsn i → IsAbove n s → transfer len i n ≡ Ok after → (left : List Kind) × (transfer len i s ≡ Ok left) × IsAbove after left
+  transfer_less : (len : ℕ) (i : Insn) (n s after : StateKinds) → IsInsn i → IsAbove n s → transfer len i n ≡ Ok after → (left : StateKinds) × (transfer len i s ≡ Ok left) × IsAbove after left
   transfer_less len i n s after legal h e = follows_ok (transfer len i n) (transfer len i s) after (transfer_follows len i n s legal h) e
 
   -- ---- edges: each of the smaller state's has one of the larger state's that covers it
 
-  is_set : (s : List Kind) (d : ℕ) (a : Interval) → length s ≡ 11 → kind_of s d ≡ Number a → d < 11
+  is_set : (s : StateKinds) (d : ℕ) (a : Interval) → length s ≡ 11 → kind_of s d ≡ Number a → d < 11
   is_set s d a count e = elim (cases_lt d 11) [
     | inl l ↦ l
     | inr g ↦ let u : kind_of s d ≡ Unset = past s d (omega (arith, g, count)) in let bad : Unset ≡ Number a = sym u ∙ e in absurd cc
   ]
 
-  full_at : (s : List Kind) (d : ℕ) (a : Interval) → IsFullState s → kind_of s d ≡ Number a → IsInterval a
+  full_at : (s : StateKinds) (d : ℕ) (a : Interval) → IsFullState s → kind_of s d ≡ Number a → IsInterval a
   full_at s d a h e = subst IsFullKind e (h.kinds d)
 
   -- with less in a register of the smaller state
-  less_put : (n s : List Kind) (d : ℕ) (a p : Interval) → IsAbove n s → kind_of s d ≡ Number a → IsPart p a → IsAbove n (slice_set s d (Number p))
+  less_put : (n s : StateKinds) (d : ℕ) (a p : Interval) → IsAbove n s → kind_of s d ≡ Number a → IsPart p a → IsAbove n (slice_set s d (Number p))
   less_put n s d a p h e l =
       let low = is_set s d a h.1.count e in
       let here : KindCovers (kind_of n d) (Number p) = kind_covers_through (kind_of n d) (Number a) (Number p) (subst (KindCovers (kind_of n d)) e (h.0.each d)) l.within in
       (record { each = set_each (λ r. KindCovers (kind_of n r)) s d (Number p) (omega (arith, low, h.1.count)) here (λ r ne. h.0.each r) }, full_put s d (Number p) low h.1 l.words)
 
-  one_leads : (n s : List Kind) (d : ℕ) (a : Interval) (o p : Option (Interval × Interval)) → IsAbove n s → kind_of s d ≡ Number a → LeavesLess p o → IsRefinedAbove (with_number n d o) (with_number s d p)
+  one_leads : (n s : StateKinds) (d : ℕ) (a : Interval) (o p : Option (Interval × Interval)) → IsAbove n s → kind_of s d ≡ Number a → LeavesLess p o → IsRefinedAbove (with_number n d o) (with_number s d p)
   one_leads n s d a o None h e l = tt
   one_leads n s d a None (Some p) h e l = absurd l
   one_leads n s d a (Some o) (Some p) h e l = put n s d (Number o.0) (Number p.0) (is_set s d a h.1.count e) h (l.0.within, l.0.words)
 
-  one_stays : (n s : List Kind) (d : ℕ) (a b : Interval) (p : Option (Interval × Interval)) → IsAbove n s → kind_of s d ≡ Number a → LeavesLess p (Some (a, b)) → IsRefinedAbove (Some n) (with_number s d p)
+  one_stays : (n s : StateKinds) (d : ℕ) (a b : Interval) (p : Option (Interval × Interval)) → IsAbove n s → kind_of s d ≡ Number a → LeavesLess p (Some (a, b)) → IsRefinedAbove (Some n) (with_number s d p)
   one_stays n s d a b None h e i = tt
   one_stays n s d a b (Some p) h e i = less_put n s d a p.0 h e i.0
 
-  by_number : (n s : List Kind) (w : Width) (r : Relation) (taken : Bool) (d x : ℕ) {k l : Kind} → IsAbove n s → low (bits_of w) x < 2 ^ 64 → kind_of s d ≡ l → Less k l → IsRefinedAbove (refined_by_number n w r taken d x k) (refined_by_number s w r taken d x l)
+  by_number : (n s : StateKinds) (w : Width) (r : Relation) (taken : Bool) (d x : ℕ) {k l : Kind} → IsAbove n s → low (bits_of w) x < 2 ^ 64 → kind_of s d ≡ l → Less k l → IsRefinedAbove (refined_by_number n w r taken d x k) (refined_by_number s w r taken d x l)
   by_number n s w r taken d x h q j (both (numbers {a = c} {b = a} i)) =
       let one = single (low (bits_of w) x) in
       one_leads n s d a (branched (bits_of w) r taken c one) (branched (bits_of w) r taken a one) h j (rows.branches w r taken a one c one i (itself (low (bits_of w) x) q))
@@ -380,7 +379,7 @@ module _ (rows : RowsAreMonotone) where
       one_stays n s d a one (branched (bits_of w) r taken a one) h j (rows.narrows w r taken a one (full_at s d a h.1 j) word.words)
   by_number n s w r taken d x h q j less = h
 
-  two_lead : (n s : List Kind) (d e : ℕ) (a b : Interval) (o p : Option (Interval × Interval)) → IsAbove n s → kind_of s d ≡ Number a → kind_of s e ≡ Number b → LeavesLess p o → IsRefinedAbove (with_numbers n d e o) (with_numbers s d e p)
+  two_lead : (n s : StateKinds) (d e : ℕ) (a b : Interval) (o p : Option (Interval × Interval)) → IsAbove n s → kind_of s d ≡ Number a → kind_of s e ≡ Number b → LeavesLess p o → IsRefinedAbove (with_numbers n d e o) (with_numbers s d e p)
   two_lead n s d e a b o None h i j l = tt
   two_lead n s d e a b None (Some p) h i j l = absurd l
   two_lead n s d e a b (Some o) (Some p) h i j l =
@@ -388,17 +387,17 @@ module _ (rows : RowsAreMonotone) where
       (put n s d (Number o.0) (Number p.0) (is_set s d a h.1.count i) h (l.0.within, l.0.words))
       (l.1.within, l.1.words)
 
-  two_stay : (n s : List Kind) (d e : ℕ) (a b : Interval) (p : Option (Interval × Interval)) → (d ≡ e → ⊥) → IsAbove n s → kind_of s d ≡ Number a → kind_of s e ≡ Number b → LeavesLess p (Some (a, b)) → IsRefinedAbove (Some n) (with_numbers s d e p)
+  two_stay : (n s : StateKinds) (d e : ℕ) (a b : Interval) (p : Option (Interval × Interval)) → (d ≡ e → ⊥) → IsAbove n s → kind_of s d ≡ Number a → kind_of s e ≡ Number b → LeavesLess p (Some (a, b)) → IsRefinedAbove (Some n) (with_numbers s d e p)
   two_stay n s d e a b None ne h i j k = tt
   two_stay n s d e a b (Some p) ne h i j k =
       let other : kind_of (slice_set s d (Number p.0)) e ≡ Number b = get_or-set_other s d e (Number p.0) Unset (λ q. ne (sym q)) ∙ j in
       less_put n (slice_set s d (Number p.0)) e b p.1 (less_put n s d a p.0 h i k.0) other k.1
 
   -- where one of the larger state's kinds is no number
-  two_less : (n s : List Kind) (w : Width) (r : Relation) (taken : Bool) (d e : ℕ) (a b : Interval) → (d ≡ e → ⊥) → IsAbove n s → kind_of s d ≡ Number a → kind_of s e ≡ Number b → IsRefinedAbove (Some n) (with_numbers s d e (branched (bits_of w) r taken a b))
+  two_less : (n s : StateKinds) (w : Width) (r : Relation) (taken : Bool) (d e : ℕ) (a b : Interval) → (d ≡ e → ⊥) → IsAbove n s → kind_of s d ≡ Number a → kind_of s e ≡ Number b → IsRefinedAbove (Some n) (with_numbers s d e (branched (bits_of w) r taken a b))
   two_less n s w r taken d e a b ne h i j = two_stay n s d e a b (branched (bits_of w) r taken a b) ne h i j (rows.narrows w r taken a b (full_at s d a h.1 i) (full_at s e b h.1 j))
 
-  by_register : (n s : List Kind) (w : Width) (r : Relation) (taken : Bool) (d e : ℕ) {k l u v : Kind} → (d ≡ e → ⊥) → IsAbove n s → kind_of s d ≡ l → kind_of s e ≡ v → Less k l → Less u v
+  by_register : (n s : StateKinds) (w : Width) (r : Relation) (taken : Bool) (d e : ℕ) {k l u v : Kind} → (d ≡ e → ⊥) → IsAbove n s → kind_of s d ≡ l → kind_of s e ≡ v → Less k l → Less u v
       → IsRefinedAbove (refined_by_register n w r taken d e k u) (refined_by_register s w r taken d e l v)
   by_register n s w r taken d e ne h i j (both (numbers {a = c} {b = a} x)) (both (numbers {a = m} {b = b} y)) =
       two_lead n s d e a b (branched (bits_of w) r taken c m) (branched (bits_of w) r taken a b) h i j (rows.branches w r taken a b c m x y)
@@ -411,44 +410,44 @@ module _ (rows : RowsAreMonotone) where
   low_word W32 x = let h : low 32 x < 2 ^ 32 = low_bound 32 x in omega (arith, h)
   low_word W64 x = low_bound 64 x
 
-  refined_less : (w : Width) (r : Relation) (taken : Bool) (d : ℕ) (x : Operand) (n s : List Kind) → IsAbove n s → IsRefinedAbove (refined n w r taken d x) (refined s w r taken d x)
+  refined_less : (w : Width) (r : Relation) (taken : Bool) (d : ℕ) (x : Operand) (n s : StateKinds) → IsAbove n s → IsRefinedAbove (refined n w r taken d x) (refined s w r taken d x)
   refined_less w r taken d (operands.Number z) n s h = by_number n s w r taken d (modulo 64 z) h (low_word w (modulo 64 z)) refl (less_at n s d h)
   refined_less w r taken d (operands.Register e) n s h = elim (cases_eq d e) [
     | inl q ↦ rw (eq-eqb d e q) h
     | inr ne ↦ rw (ne_eqb d e ne) (by_register n s w r taken d e ne h refl refl (less_at n s d h) (less_at n s e h))
   ]
 
-  some_left : (es fs : List (ℕ × List Kind)) (e : ℕ × List Kind) → SomeCovers es e → SomeCovers (es ++ fs) e
+  some_left : (es fs : List (ℕ × StateKinds)) (e : ℕ × StateKinds) → SomeCovers es e → SomeCovers (es ++ fs) e
   some_left [] fs e h = absurd h
   some_left (g ∷ es) fs e (inl h) = inl h
   some_left (g ∷ es) fs e (inr h) = inr (some_left es fs e h)
 
-  some_right : (es fs : List (ℕ × List Kind)) (e : ℕ × List Kind) → SomeCovers fs e → SomeCovers (es ++ fs) e
+  some_right : (es fs : List (ℕ × StateKinds)) (e : ℕ × StateKinds) → SomeCovers fs e → SomeCovers (es ++ fs) e
   some_right [] fs e h = h
   some_right (g ∷ es) fs e h = inr (some_right es fs e h)
 
   -- the edges above may be more
-  above_left : (es fs xs : List (ℕ × List Kind)) → AreEdgesAbove es xs → AreEdgesAbove (es ++ fs) xs
+  above_left : (es fs xs : List (ℕ × StateKinds)) → AreEdgesAbove es xs → AreEdgesAbove (es ++ fs) xs
   above_left es fs [] h = tt
   above_left es fs (x ∷ xs) h = (h.0, some_left es fs x h.1, above_left es fs xs h.2)
 
-  above_right : (es fs xs : List (ℕ × List Kind)) → AreEdgesAbove fs xs → AreEdgesAbove (es ++ fs) xs
+  above_right : (es fs xs : List (ℕ × StateKinds)) → AreEdgesAbove fs xs → AreEdgesAbove (es ++ fs) xs
   above_right es fs [] h = tt
   above_right es fs (x ∷ xs) h = (h.0, some_right es fs x h.1, above_right es fs xs h.2)
 
-  above_both : (es xs ys : List (ℕ × List Kind)) → AreEdgesAbove es xs → AreEdgesAbove es ys → AreEdgesAbove es (xs ++ ys)
+  above_both : (es xs ys : List (ℕ × StateKinds)) → AreEdgesAbove es xs → AreEdgesAbove es ys → AreEdgesAbove es (xs ++ ys)
   above_both es [] ys h k = k
   above_both es (x ∷ xs) ys h k = (h.0, h.1, above_both es xs ys h.2 k)
 
-  one_edge : (unit : ℕ) (n s : List Kind) → IsAbove n s → AreEdgesAbove ((unit, n) ∷ []) ((unit, s) ∷ [])
+  one_edge : (unit : ℕ) (n s : StateKinds) → IsAbove n s → AreEdgesAbove ((unit, n) ∷ []) ((unit, s) ∷ [])
   one_edge unit n s h = (h.1, inl (refl, h.0), tt)
 
-  along_edge : (unit : ℕ) (o p : Option (List Kind)) → IsRefinedAbove o p → AreEdgesAbove (along unit o) (along unit p)
+  along_edge : (unit : ℕ) (o p : Option StateKinds) → IsRefinedAbove o p → AreEdgesAbove (along unit o) (along unit p)
   along_edge unit o None h = tt
   along_edge unit None (Some s) h = absurd h
   along_edge unit (Some n) (Some s) h = one_edge unit n s h
 
-  edges_less : (unit : ℕ) (i : Insn) (n s : List Kind) → IsAbove n s → AreEdgesAbove (edges unit i n) (edges unit i s)
+  edges_less : (unit : ℕ) (i : Insn) (n s : StateKinds) → IsAbove n s → AreEdgesAbove (edges unit i n) (edges unit i s)
   edges_less unit (insns.Jump offset) n s h = one_edge (target unit offset) n s h
   edges_less unit (insns.JumpFar offset) n s h = one_edge (target unit offset) n s h
   edges_less unit (insns.Branch w r d x offset) n s h =
@@ -488,7 +487,7 @@ join_full (FramePointer s) (FramePointer t) h i = tt
 join_full (RecordPointer s) (RecordPointer t) h i = tt
 join_full k l h i = tt
 
-joined_full : (a b : List Kind) → IsFullState a → IsFullState b → IsFullState (join_states a b)
+joined_full : (a b : StateKinds) → IsFullState a → IsFullState b → IsFullState (join_states a b)
 joined_full a b h i = record { count = joined_count a b (h.count ∙ sym i.count) ∙ h.count; kinds = at }
   where
     at : (r : ℕ) → IsFullKind (kind_of (join_states a b) r)
@@ -497,7 +496,7 @@ joined_full a b h i = record { count = joined_count a b (h.count ∙ sym i.count
       | inr g ↦ subst IsFullKind (sym (past (join_states a b) r (omega (arith, g, joined_count a b (h.count ∙ sym i.count), h.count)))) tt
     ]
 
-joins_above : (n m a b : List Kind) → IsAbove n a → IsAbove m b → IsAbove (join_states n m) (join_states a b)
+joins_above : (n m a b : StateKinds) → IsAbove n a → IsAbove m b → IsAbove (join_states n m) (join_states a b)
 joins_above n m a b h k =
     let both = join_covers n m in
     let left = state_covers_through (join_states n m) n a both.0 h.0 in

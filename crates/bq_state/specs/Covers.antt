@@ -4,7 +4,7 @@ use Rattle.bq_meaning.specs.Place.{Place}
 use Rattle.bq_meaning.specs.Meaning.{held, moved}
 use Rattle.bq_range.specs.Interval.{Interval, IsIn}
 use Rattle.bq_state.specs.Offsets.{Span, IsOffset}
-use Rattle.bq_state.specs.Kinds.{kind_of}
+use Rattle.bq_state.specs.Kinds.{StateKinds, kind_of}
 use Rattle.bq_state.specs.declared.kind.Kind.{Kind}
 use Rattle.bq_state.specs.declared.kind.Kind.TheVariants.{Unset, Number, FramePointer, RecordPointer}
 
@@ -28,5 +28,5 @@ KindHolds p (FramePointer s) register = IsPointer p.frame s register
 KindHolds p (RecordPointer s) register = IsPointer p.record s register
 
 -- a state covers a machine's registers
-pub record StateHolds (p : Place) (state : List Kind) (registers : List (Option ℕ)) : Type 0 where
+pub record StateHolds (p : Place) (state : StateKinds) (registers : List (Option ℕ)) : Type 0 where
   pub each : (r : ℕ) → KindHolds p (kind_of state r) (held registers r)

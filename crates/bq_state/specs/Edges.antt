@@ -10,41 +10,41 @@ use Rattle.bq_insn.specs.declared.insn.Operand.TheVariants as operands
 use Rattle.bq_meaning.specs.Meaning.{target}
 use Rattle.bq_range.specs.Interval.{Interval, single}
 use Rattle.bq_range.specs.Narrow.{branched}
-use Rattle.bq_state.specs.Kinds.{kind_of}
+use Rattle.bq_state.specs.Kinds.{StateKinds, kind_of}
 use Rattle.bq_state.specs.declared.kind.Kind.{Kind}
 use Rattle.bq_state.specs.declared.kind.Kind.TheVariants.{Number}
 
 -- the state on an edge of a comparison of a register with a number
-abbrev pub with_number : List Kind → ℕ → Option (Interval × Interval) → Option (List Kind)
+abbrev pub with_number : StateKinds → ℕ → Option (Interval × Interval) → Option StateKinds
 with_number state d None = None
 with_number state d (Some p) = Some (slice_set state d (Number p.0))
 
 -- the same of two registers
-abbrev pub with_numbers : List Kind → ℕ → ℕ → Option (Interval × Interval) → Option (List Kind)
+abbrev pub with_numbers : StateKinds → ℕ → ℕ → Option (Interval × Interval) → Option StateKinds
 with_numbers state d s None = None
 with_numbers state d s (Some p) = Some (slice_set (slice_set state d (Number p.0)) s (Number p.1))
 
-abbrev pub refined_by_number : List Kind → Width → Relation → Bool → ℕ → ℕ → Kind → Option (List Kind)
+abbrev pub refined_by_number : StateKinds → Width → Relation → Bool → ℕ → ℕ → Kind → Option StateKinds
 refined_by_number state w r taken d n (Number a) = with_number state d (branched (bits_of w) r taken a (single (low (bits_of w) n)))
 refined_by_number state w r taken d n k = Some state
 
-abbrev pub refined_by_register : List Kind → Width → Relation → Bool → ℕ → ℕ → Kind → Kind → Option (List Kind)
+abbrev pub refined_by_register : StateKinds → Width → Relation → Bool → ℕ → ℕ → Kind → Kind → Option StateKinds
 refined_by_register state w r taken d s (Number a) (Number b) = with_numbers state d s (branched (bits_of w) r taken a b)
 refined_by_register state w r taken d s k l = Some state
 
 -- the state of a branch on the edge that is taken or the one that is not; None where that edge is not feasible.
 -- One register compared with itself tells nothing
-abbrev pub refined : List Kind → Width → Relation → Bool → ℕ → Operand → Option (List Kind)
+abbrev pub refined : StateKinds → Width → Relation → Bool → ℕ → Operand → Option StateKinds
 refined state w r taken d (operands.Number z) = refined_by_number state w r taken d (modulo 64 z) (kind_of state d)
 refined state w r taken d (operands.Register s) =
     if d == s then Some state else refined_by_register state w r taken d s (kind_of state d) (kind_of state s)
 
 -- one edge, if it is feasible
-abbrev pub along : ℕ → Option (List Kind) → List (ℕ × List Kind)
+abbrev pub along : ℕ → Option StateKinds → List (ℕ × StateKinds)
 along unit o = option_to_list (option_map (λ s. (unit, s)) o)
 
 -- the feasible edges of an instruction, each with the state there, given the state that the instruction leaves
-abbrev pub edges : ℕ → Insn → List Kind → List (ℕ × List Kind)
+abbrev pub edges : ℕ → Insn → StateKinds → List (ℕ × StateKinds)
 edges unit (insns.Jump offset) state = (target unit offset, state) ∷ []
 edges unit (insns.JumpFar distance) state = (target unit distance, state) ∷ []
 edges unit (insns.Branch w r d x offset) state =

@@ -5,8 +5,12 @@ use Rattle.bq_state.specs.Offsets.{SpanWithin, at_offset, join_spans}
 use Rattle.bq_state.specs.declared.kind.Kind.{Kind}
 use Rattle.bq_state.specs.declared.kind.Kind.TheVariants.{Unset, Number, FramePointer, RecordPointer}
 
+-- what is known of the registers, that of r0 first: a state, as contracts see it
+abbrev pub StateKinds : Type 0
+StateKinds = List Kind
+
 -- the kind of a register
-abbrev pub kind_of : List Kind → ℕ → Kind
+abbrev pub kind_of : StateKinds → ℕ → Kind
 kind_of state r = slice_index_or state r Unset
 
 -- what holds of the second kind's registers holds of the first's
@@ -17,7 +21,7 @@ KindCovers (FramePointer a) (FramePointer b) = SpanWithin b a
 KindCovers (RecordPointer a) (RecordPointer b) = SpanWithin b a
 KindCovers a b = ⊥
 
-pub record StateCovers (a b : List Kind) : Type 0 where
+pub record StateCovers (a b : StateKinds) : Type 0 where
   pub each : (r : ℕ) → KindCovers (kind_of a r) (kind_of b r)
 
 -- the least kind that covers both
@@ -27,14 +31,14 @@ join_kinds (FramePointer a) (FramePointer b) = FramePointer (join_spans a b)
 join_kinds (RecordPointer a) (RecordPointer b) = RecordPointer (join_spans a b)
 join_kinds a b = Unset
 
-abbrev pub join_states : List Kind → List Kind → List Kind
+abbrev pub join_states : StateKinds → StateKinds → StateKinds
 join_states [] ys = []
 join_states (a ∷ xs) [] = []
 join_states (a ∷ xs) (b ∷ ys) = join_kinds a b ∷ join_states xs ys
 
 -- the entry of a run over a record of len bytes: r1 points to the record, r2 is its length, r3 any accumulator, and
 -- r10 points to the frame's end
-abbrev pub entry_state : ℕ → List Kind
+abbrev pub entry_state : ℕ → StateKinds
 entry_state len =
     Unset ∷ RecordPointer (at_offset (pos 0)) ∷ Number (single len) ∷ Number all_words ∷ Unset ∷ Unset ∷ Unset ∷ Unset ∷ Unset ∷ Unset
     ∷ FramePointer (at_offset (pos 512)) ∷ []

@@ -1,13 +1,13 @@
 -- Edges as a list.
 use Rattle.std.specs.Prelude.{ℕ, List, [], ◌∷◌, ◌++◌, Option, Some, None}
-use Rattle.bq_state.specs.declared.kind.Kind.{Kind}
+use Rattle.bq_state.specs.Kinds.{StateKinds}
 use Rattle.bq_state.specs.declared.edges.Edge.{Edge}
 use Rattle.bq_state.specs.declared.edges.Edges.{Edges}
 
-abbrev pub edge_list : Option Edge → List (ℕ × List Kind)
+abbrev pub edge_list : Option Edge → List (ℕ × StateKinds)
 edge_list None = []
 edge_list (Some e) = (e.unit, e.state) ∷ []
 
 -- the edge to the unit behind comes first
-abbrev pub listed : Edges → List (ℕ × List Kind)
+abbrev pub listed : Edges → List (ℕ × StateKinds)
 listed e = edge_list e.behind ++ edge_list e.jump

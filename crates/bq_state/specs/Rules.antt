@@ -1,22 +1,21 @@
 -- The rules at one unit, in their order, and what an instruction makes of a state, where records have len bytes.
-use Rattle.std.specs.Prelude.{ℕ, ◌*◌, ℤ, List, Option, Some, None, Result, Ok, Err, if◌then◌else◌, nat_lt, slice_set, option_map}
-use Rattle.bq_word.specs.Word.{bits_of, modulo, swap_bits}
+use Rattle.std.specs.Prelude.{ℕ, ◌*◌, ℤ, Option, Some, None, Result, Ok, Err, if◌then◌else◌, nat_lt, slice_set, option_map}
+use Rattle.bq_word.specs.Word.{bits_of, modulo, swap_bits, signed_bytes}
 use Rattle.bq_word.specs.declared.Width.{Width}
 use Rattle.bq_word.specs.declared.Width.TheVariants.{W64}
 use Rattle.bq_word.specs.declared.AluOp.{AluOp}
 use Rattle.bq_word.specs.declared.AluOp.TheVariants as ops
-use Rattle.bq_insn.specs.Insn.{extension_bits, extension_width}
+use Rattle.bq_insn.specs.Insn.{extension_bits, extension_width, size_bytes}
 use Rattle.bq_insn.specs.declared.insn.Insn.{Insn}
 use Rattle.bq_insn.specs.declared.insn.Insn.TheVariants as insns
 use Rattle.bq_insn.specs.declared.insn.Operand.{Operand}
 use Rattle.bq_insn.specs.declared.insn.Operand.TheVariants as operands
 use Rattle.bq_insn.specs.declared.insn.ByteOrder.{ByteOrder}
 use Rattle.bq_insn.specs.declared.insn.ByteOrder.TheVariants as orders
-use Rattle.bq_meaning.specs.Memory.{size_bytes, signed_bytes}
 use Rattle.bq_range.specs.Interval.{Interval, single, whole, all_words}
 use Rattle.bq_range.specs.Table.{operated, negated, sign_extended, low_range, swapped_range}
 use Rattle.bq_state.specs.Offsets.{moved_on, moved_back, fits}
-use Rattle.bq_state.specs.Kinds.{kind_of}
+use Rattle.bq_state.specs.Kinds.{StateKinds, kind_of}
 use Rattle.bq_state.specs.declared.kind.Kind.{Kind}
 use Rattle.bq_state.specs.declared.kind.Kind.TheVariants.{Unset, Number, FramePointer, RecordPointer}
 use Rattle.bq_state.specs.declared.rule.Rule.{Rule}
@@ -93,31 +92,31 @@ ordered_range orders.Swapped n a = swapped_range n a
 -- ---- states
 
 -- an operand's kind; a number is extended with its sign to 64 bits
-abbrev pub operand_kind : List Kind → Operand → Kind
+abbrev pub operand_kind : StateKinds → Operand → Kind
 operand_kind state (operands.Register r) = kind_of state r
 operand_kind state (operands.Number z) = Number (single (modulo 64 z))
 
 -- what an operation reads of its destination; a move reads nothing there
-abbrev pub taken_kind : List Kind → AluOp → ℕ → Kind
+abbrev pub taken_kind : StateKinds → AluOp → ℕ → Kind
 taken_kind state ops.Mov d = Number (single 0)
 taken_kind state op d = kind_of state d
 
 -- the state with a number that an instruction makes of a register's number
-abbrev pub mapped : List Kind → ℕ → ℕ → (Interval → Interval) → Result (List Kind) Rule
+abbrev pub mapped : StateKinds → ℕ → ℕ → (Interval → Interval) → Result StateKinds Rule
 mapped state d s f =
     and_then (known (kind_of state s)) (λ k.
     and_then (writable d) (λ _.
     and_then (number WrongKind k) (λ a. Ok (slice_set state d (Number (f a))))))
 
 -- the state with a number that was loaded from size bytes
-abbrev pub loaded_state : ℕ → List Kind → ℕ → ℕ → ℤ → ℕ → Interval → Result (List Kind) Rule
+abbrev pub loaded_state : ℕ → StateKinds → ℕ → ℕ → ℤ → ℕ → Interval → Result StateKinds Rule
 loaded_state len state d base offset size range =
     and_then (known (kind_of state base)) (λ k.
     and_then (writable d) (λ _.
     and_then (readable len k offset size) (λ _. Ok (slice_set state d (Number range)))))
 
 -- the state after an instruction, or the first rule that it breaks
-abbrev pub transfer : ℕ → Insn → List Kind → Result (List Kind) Rule
+abbrev pub transfer : ℕ → Insn → StateKinds → Result StateKinds Rule
 transfer len (insns.Alu w op d x) state =
     and_then (known (taken_kind state op d)) (λ a.
     and_then (known (operand_kind state x)) (λ b.

@@ -1,14 +1,13 @@
 //! Laws of states, each the contract of a function that does nothing. Whoever needs one at a step
 //! calls it there.
 
-ghost use Rattle.std.specs.Prelude.{◌≡◌, ℕ, List, length, Bool, Some, Ok};
+ghost use Rattle.std.specs.Prelude.{◌≡◌, ℕ, length, Bool, Some, Ok};
 ghost use Rattle.std.specs.List.{All};
 ghost use Rattle.bq_word.specs.declared.Width.{Width};
 ghost use Rattle.bq_word.specs.declared.Relation.{Relation};
 ghost use Rattle.bq_insn.specs.declared.insn.Insn.{Insn};
 ghost use Rattle.bq_insn.specs.declared.insn.Operand.{Operand};
-ghost use Rattle.bq_state.specs.declared.kind.Kind.{Kind};
-ghost use Rattle.bq_state.specs.Kinds.{join_states, entry_state};
+ghost use Rattle.bq_state.specs.Kinds.{StateKinds, join_states, entry_state};
 ghost use Rattle.bq_state.specs.Rules.{transfer};
 ghost use Rattle.bq_state.specs.Edges.{refined, edges};
 ghost use Rattle.bq_state.specs.Monotone.{StatesAreOrdered, StatesAreMonotone};
@@ -37,20 +36,20 @@ pub fn entry_has_eleven()
 
 /// The join of two states of as many registers has as many.
 pub fn join_keeps_count()
-    ensures { (a b : List Kind) → length a ≡ length b → length (join_states a b) ≡ length a }
+    ensures { (a b : StateKinds) → length a ≡ length b → length (join_states a b) ≡ length a }
 {}
 
 /// An instruction leaves a state of as many registers.
 pub fn transfer_keeps_count()
-    ensures { (len : ℕ) (i : Insn) (a b : List Kind) → transfer len i a ≡ Ok b → length b ≡ length a }
+    ensures { (len : ℕ) (i : Insn) (a b : StateKinds) → transfer len i a ≡ Ok b → length b ≡ length a }
 {}
 
 /// So does each edge of a branch.
 pub fn refined_keeps_count()
-    ensures { (a b : List Kind) (w : Width) (r : Relation) (taken : Bool) (d : ℕ) (x : Operand) → refined a w r taken d x ≡ Some b → length b ≡ length a }
+    ensures { (a b : StateKinds) (w : Width) (r : Relation) (taken : Bool) (d : ℕ) (x : Operand) → refined a w r taken d x ≡ Some b → length b ≡ length a }
 {}
 
 /// So does each edge of an instruction.
 pub fn edges_keep_count()
-    ensures { (unit : ℕ) (i : Insn) (a : List Kind) → All (λ e. length e.1 ≡ length a) (edges unit i a) }
+    ensures { (unit : ℕ) (i : Insn) (a : StateKinds) → All (λ e. length e.1 ≡ length a) (edges unit i a) }
 {}

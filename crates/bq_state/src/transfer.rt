@@ -1,12 +1,8 @@
 //! What an instruction makes of a state.
 
-ghost use Rattle.std.specs.Prelude.{◌≡◌, ◌≤◌, ◌*◌, ℤ};
-ghost use Rattle.bq_word.specs.Word.{bits_of, swap_bits, modulo};
-ghost use Rattle.bq_insn.specs.Insn.{extension_bits, extension_width};
-ghost use Rattle.bq_range.specs.Interval.{Interval, whole, all_words};
-ghost use Rattle.bq_range.specs.Table.{sign_extended};
+ghost use Rattle.std.specs.Prelude.{◌≡◌, ℤ};
+ghost use Rattle.bq_word.specs.Word.{swap_bits, modulo};
 ghost use Rattle.bq_meaning.specs.Place.{record_length};
-ghost use Rattle.bq_meaning.specs.Memory.{size_bytes, signed_bytes};
 ghost use Rattle.bq_state.specs.Kinds.{kind_of};
 ghost use Rattle.bq_state.specs.Rules.{and_then, known, number, writable, allowed, ordered_range, operand_kind, taken_kind, loaded_state, transfer};
 
@@ -16,7 +12,7 @@ use crate::state::State;
 use bq_insn::insn::{ByteOrder, Extension, Insn, Operand, Size};
 use bq_insn::register::Register;
 use bq_range::range::Range;
-use bq_word::{AluOp, Relation, SignBits, SwapBits, Width};
+use bq_word::{AluOp, Relation, SwapBits, Width};
 
 // Instructions write r0 to r9.
 fn writable(dst: Register) -> Result<(), Rule>
@@ -42,49 +38,12 @@ pub(crate) fn word_of(number: i32) -> u64
     i64::from(number).cast_unsigned()
 }
 
-fn extended(extension: Extension, range: Range) -> Range
-    ensures { result ≡ sign_extended (extension_bits extension) (bits_of (extension_width extension)) range }
-{
-    match extension {
-        Extension::W32From8 => Range::extend(SignBits::B8, Width::W32, range),
-        Extension::W32From16 => Range::extend(SignBits::B16, Width::W32, range),
-        Extension::W64From8 => Range::extend(SignBits::B8, Width::W64, range),
-        Extension::W64From16 => Range::extend(SignBits::B16, Width::W64, range),
-        Extension::W64From32 => Range::extend(SignBits::B32, Width::W64, range),
-    }
-}
-
 fn ordered(order: ByteOrder, bits: SwapBits, range: Range) -> Range
     ensures { result ≡ ordered_range order (swap_bits bits) range }
 {
     match order {
         ByteOrder::Little => Range::low_bits(bits, range),
         ByteOrder::Big | ByteOrder::Swapped => Range::swap(bits, range),
-    }
-}
-
-// How many bytes an access moves.
-fn size_bytes(size: Size) -> u32
-    ensures value { result ≡ size_bytes size }
-    ensures some { 1 ≤ result }
-    ensures small { result ≤ 8 }
-{
-    match size {
-        Size::B1 => 1,
-        Size::B2 => 2,
-        Size::B4 => 4,
-        Size::B8 => 8,
-    }
-}
-
-// How many bytes a load with a sign reads.
-fn signed_bytes(bits: SignBits) -> u32
-    ensures { result ≡ signed_bytes bits }
-{
-    match bits {
-        SignBits::B8 => 1,
-        SignBits::B16 => 2,
-        SignBits::B32 => 4,
     }
 }
 
@@ -144,7 +103,10 @@ impl State {
         ensures { result ≡ transfer record_length (Insn.Extend extension dst src) self.now }
     {
         let range = self.source(dst, src)?;
-        Ok(self.with(dst, Kind::Number(extended(extension, range))))
+        Ok(self.with(
+            dst,
+            Kind::Number(Range::extend(extension.source(), extension.width(), range)),
+        ))
     }
 
     fn order(&self, order: ByteOrder, bits: SwapBits, dst: Register) -> Result<State, Rule>
@@ -193,7 +155,7 @@ impl State {
     {
         let to = self.kind(base.number()).known()?;
         let value = self.operand(value).known()?;
-        to.storable(value, offset, size_bytes(size))?;
+        to.storable(value, offset, size.bytes())?;
         Ok(*self)
     }
 
@@ -231,7 +193,7 @@ impl State {
                 base,
                 offset,
             } => {
-                let bytes = size_bytes(size);
+                let bytes = size.bytes();
                 self.load(dst, base, offset, bytes, Range::of_load(bytes))
             }
             Insn::LoadSigned {
@@ -239,13 +201,7 @@ impl State {
                 dst,
                 base,
                 offset,
-            } => self.load(
-                dst,
-                base,
-                offset,
-                signed_bytes(size),
-                Range::of_signed_load(),
-            ),
+            } => self.load(dst, base, offset, size.bytes(), Range::of_signed_load()),
             Insn::Store {
                 size,
                 base,

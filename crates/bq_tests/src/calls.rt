@@ -6,6 +6,7 @@ use bq_check::check::check;
 use bq_flow::laws::{
     destination_in_words, faulty_is_not_legal, first_unit_begins, one_first_fault, one_longest,
 };
+use bq_frame::block::Block;
 use bq_insn::decode::decode;
 use bq_insn::encode::encode;
 use bq_insn::fault::UnitFault;
@@ -51,6 +52,7 @@ fn a_text_is_made_of_instructions(rt: HostRuntime) -> Result<(), Fail> {
     let text = Text::of(rt.alloc(), &[wide])?;
     let bytes = encode(rt.alloc(), &text)?;
     assert!(rt; bytes.as_slice() == WIDE.as_slice());
+    assert!(rt; wide.is_same(&wide) && !wide.is_same(&Insn::Exit));
     assert!(rt; Text::of(rt.alloc(), &[Insn::Exit; 4097]).is_err());
     Ok(())
 }
@@ -135,6 +137,7 @@ fn states_are_covered_and_joined(rt: HostRuntime) {
 fn certificates_keep_text_and_notes(rt: HostRuntime) -> Result<(), Fail> {
     let text = decode(rt.alloc(), b"\xb7\0\0\0\0\0\0\0\x95\0\0\0\0\0\0\0")?;
     let notes = verify(rt.alloc(), &text)?;
+    notes.are_notes();
     let certified = check(rt.alloc(), text, notes)?;
     assert_eq!(rt; certified.text().units(), 2);
     assert_eq!(rt; certified.notes().at(0), Some(State::entry()));
@@ -151,4 +154,24 @@ fn laws_are_called() {
     one_longest();
     first_unit_begins();
     destination_in_words();
+}
+
+#[test]
+fn a_block_holds_a_frame_and_a_record(rt: HostRuntime) -> Result<(), Fail> {
+    let mut block = Block::new(rt.alloc())?;
+    block.is_block();
+    block.set_record(&[7; 16]);
+    unsafe {
+        block.store8(504, 0x0807_0605_0403_0201);
+        block.store1(0, 0x1ff);
+        block.store2(1, 0x1_2345);
+        block.store4(4, u64::MAX);
+    }
+    assert_eq!(rt; unsafe { block.load8(508) }, 0x0707_0707_0807_0605);
+    assert_eq!(rt; unsafe { block.load4(0) }, 0x23_45ff);
+    assert_eq!(rt; unsafe { block.load2(7) }, 0xff);
+    assert_eq!(rt; unsafe { block.load1(528) }, 0);
+    block.clear_frame();
+    assert_eq!(rt; unsafe { block.load8(508) }, 0x0707_0707_0000_0000);
+    Ok(())
 }

@@ -1,15 +1,14 @@
 -- What arrives at a unit depends on the units below alone.
 use Rattle.std.proofs.Common.{◌≡◌, ℕ, zero, suc, ◌+◌, ◌<◌, List, ◌++◌, length, Option, ap, ◌∙◌, refl, arith}
-use Rattle.bq_insn.specs.Slots.{units}
+use Rattle.bq_insn.specs.Slots.{units, insn_at}
 use Rattle.bq_insn.specs.declared.insn.Insn.{Insn}
-use Rattle.bq_flow.specs.Paths.{insn_at}
-use Rattle.bq_state.specs.declared.kind.Kind.{Kind}
+use Rattle.bq_state.specs.Kinds.{StateKinds}
 use Rattle.bq_sound.specs.Passes.{note_at}
 use Rattle.bq_verify.specs.States.{joined, edges_from, leading_to, arriving, AreStates}
 use Rattle.bq_verify.specs.Table.{extended}
 use Rattle.bq_verify.proofs.Joins.{extended_joined}
 
-pub arriving_same : (text : List Insn) (notes others : List (Option (List Kind))) (unit n : ℕ) → ((v : ℕ) → v < n → note_at others v ≡ note_at notes v) → arriving text others unit n ≡ arriving text notes unit n
+pub arriving_same : (text : List Insn) (notes others : List (Option StateKinds)) (unit n : ℕ) → ((v : ℕ) → v < n → note_at others v ≡ note_at notes v) → arriving text others unit n ≡ arriving text notes unit n
 arriving_same text notes others unit zero same = refl
 arriving_same text notes others unit (suc n) same =
     let below = arriving_same text notes others unit n (λ v l. same v (omega (arith, l))) in
@@ -17,7 +16,7 @@ arriving_same text notes others unit (suc n) same =
     rw (below, here) refl
 
 -- the states with one more unit
-pub states_more : (text : List Insn) (notes others : List (Option (List Kind))) (n : ℕ) → AreStates text notes n → length others ≡ units text → ((v : ℕ) → v < n + 1 → note_at others v ≡ note_at notes v)
+pub states_more : (text : List Insn) (notes others : List (Option StateKinds)) (n : ℕ) → AreStates text notes n → length others ≡ units text → ((v : ℕ) → v < n + 1 → note_at others v ≡ note_at notes v)
     → ((unit : ℕ) → unit < units text → note_at others unit ≡ extended (note_at notes unit) (leading_to unit (edges_from n (insn_at text n) (note_at notes n))))
     → AreStates text others (n + 1)
 states_more text notes others n a count same more = record {
@@ -27,7 +26,7 @@ states_more text notes others n a count same more = record {
       let below : arriving text others unit n ≡ arriving text notes unit n = arriving_same text notes others unit n (λ v l. same v (omega (arith, l))) in
       let here : note_at others n ≡ note_at notes n = same n (omega arith) in
       let e : n + 1 ≡ suc n = omega arith in
-      let left : List (List Kind) = leading_to unit (edges_from n (insn_at text n) (note_at notes n)) in
+      let left : List StateKinds = leading_to unit (edges_from n (insn_at text n) (note_at notes n)) in
       let step : note_at others unit ≡ joined (arriving text notes unit n ++ left) =
       more unit within ∙ ap (λ o. extended o left) before ∙ extended_joined (arriving text notes unit n) left in
       rw (e, below, here) step;

@@ -3,13 +3,12 @@ use Rattle.std.proofs.Common.{◌≡◌, ℕ, ◌+◌, ◌<◌, ◌≤◌, List,
 use Rattle.std.specs.Prelude.{◌==◌, Result, Ok, Err, IfErr, if◌then◌else◌, slice_set}
 use Rattle.std.proofs.lemmas.Bool.{cases_Bool, cases_lt, eqb-true, eqb-false}
 use Rattle.std.proofs.lemmas.List.{get_or-set_same, get_or-set_other, length-set}
-use Rattle.bq_insn.specs.Slots.{units, IsText}
+use Rattle.bq_insn.specs.Slots.{units, IsText, insn_at}
 use Rattle.bq_insn.specs.declared.insn.Insn.{Insn}
-use Rattle.bq_flow.specs.Paths.{insn_at, IsLegalFlow}
+use Rattle.bq_flow.specs.Paths.{IsLegalFlow}
 use Rattle.bq_flow.proofs.Units.{insn_within}
 use Rattle.bq_meaning.specs.Place.{record_length}
-use Rattle.bq_state.specs.declared.kind.Kind.{Kind}
-use Rattle.bq_state.specs.Kinds.{entry_state}
+use Rattle.bq_state.specs.Kinds.{StateKinds, entry_state}
 use Rattle.bq_state.specs.Rules.{transfer}
 use Rattle.bq_state.specs.Edges.{edges}
 use Rattle.bq_sound.specs.Passes.{note_at}
@@ -24,65 +23,65 @@ use Rattle.bq_verify.proofs.Joins.{extended_twice, extended_none}
 use Rattle.bq_verify.proofs.Arrivals.{states_more}
 
 abbrev Notes : Type 0
-Notes = List (Option (List Kind))
+Notes = List (Option StateKinds)
 
 -- what one edge brings to a unit
-abbrev brings : ℕ → ℕ × List Kind → List (List Kind)
+abbrev brings : ℕ → ℕ × StateKinds → List StateKinds
 brings unit edge = if edge.0 == unit then edge.1 ∷ [] else []
 
-arrival_at : (notes : Notes) (edge : ℕ × List Kind) (unit : ℕ) → edge.0 < length notes → note_at (with_arrival notes edge) unit ≡ extended (note_at notes unit) (brings unit edge)
+arrival_at : (notes : Notes) (edge : ℕ × StateKinds) (unit : ℕ) → edge.0 < length notes → note_at (with_arrival notes edge) unit ≡ extended (note_at notes unit) (brings unit edge)
 arrival_at notes edge unit within = elim (cases_Bool (edge.0 == unit)) [
   | inl t ↦
       let e : edge.0 ≡ unit = eqb-true edge.0 unit t in
-      let new : Option (List Kind) = extended (note_at notes edge.0) (edge.1 ∷ []) in
+      let new : Option StateKinds = extended (note_at notes edge.0) (edge.1 ∷ []) in
       let same : note_at (slice_set notes edge.0 new) edge.0 ≡ new = get_or-set_same notes edge.0 new None within in
       rw t (subst (λ u. note_at (with_arrival notes edge) u ≡ extended (note_at notes u) (edge.1 ∷ [])) e same)
   | inr f ↦
       let n : edge.0 ≡ unit → ⊥ = eqb-false edge.0 unit f in
-      let new : Option (List Kind) = extended (note_at notes edge.0) (edge.1 ∷ []) in
+      let new : Option StateKinds = extended (note_at notes edge.0) (edge.1 ∷ []) in
       let other : note_at (slice_set notes edge.0 new) unit ≡ note_at notes unit = get_or-set_other notes edge.0 unit new None (λ e. n (sym e)) in
       rw f (other ∙ sym (extended_none (note_at notes unit)))
 ]
 
-still_within : (notes others : Notes) (es : List (ℕ × List Kind)) → length others ≡ length notes → AllWithin notes es → AllWithin others es
+still_within : (notes others : Notes) (es : List (ℕ × StateKinds)) → length others ≡ length notes → AllWithin notes es → AllWithin others es
 still_within notes others [] e w = tt
 still_within notes others (edge ∷ es) e w = let first = w.0 in (omega (arith, e, first), still_within notes others es e w.1)
 
-arrival_count : (notes : Notes) (edge : ℕ × List Kind) → length (with_arrival notes edge) ≡ length notes
+arrival_count : (notes : Notes) (edge : ℕ × StateKinds) → length (with_arrival notes edge) ≡ length notes
 arrival_count notes edge = length-set notes edge.0 (extended (note_at notes edge.0) (edge.1 ∷ []))
 
-arrivals_count : (notes : Notes) (es : List (ℕ × List Kind)) → length (with_arrivals notes es) ≡ length notes
+arrivals_count : (notes : Notes) (es : List (ℕ × StateKinds)) → length (with_arrivals notes es) ≡ length notes
 arrivals_count notes [] = refl
 arrivals_count notes (edge ∷ es) = arrivals_count (with_arrival notes edge) es ∙ arrival_count notes edge
 
-arrivals_at : (notes : Notes) (es : List (ℕ × List Kind)) (unit : ℕ) → AllWithin notes es → note_at (with_arrivals notes es) unit ≡ extended (note_at notes unit) (leading_to unit es)
+arrivals_at : (notes : Notes) (es : List (ℕ × StateKinds)) (unit : ℕ) → AllWithin notes es → note_at (with_arrivals notes es) unit ≡ extended (note_at notes unit) (leading_to unit es)
 arrivals_at notes [] unit w = sym (extended_none (note_at notes unit))
 arrivals_at notes (edge ∷ es) unit w =
     let rest = arrivals_at (with_arrival notes edge) es unit (still_within notes (with_arrival notes edge) es (arrival_count notes edge) w.1) in
     let first = arrival_at notes edge unit w.0 in
     rest ∙ (ap (λ o. extended o (leading_to unit es)) first ∙ extended_twice (note_at notes unit) (brings unit edge) (leading_to unit es))
 
-pub all_within : (text : List Insn) (unit : ℕ) (notes : Notes) (es : List (ℕ × List Kind)) → length notes ≡ units text → AllLead text unit es → AllWithin notes es
+pub all_within : (text : List Insn) (unit : ℕ) (notes : Notes) (es : List (ℕ × StateKinds)) → length notes ≡ units text → AllLead text unit es → AllWithin notes es
 all_within text unit notes [] e l = tt
 all_within text unit notes (edge ∷ es) e l =
     let inside = insn_within text edge.0 l.0.insn l.0.begins in
     (omega (arith, e, inside), all_within text unit notes es e l.1)
 
 -- nothing arrives at this unit or at one below
-none_back : (text : List Insn) (unit v : ℕ) (es : List (ℕ × List Kind)) → v ≤ unit → AllLead text unit es → leading_to v es ≡ []
+none_back : (text : List Insn) (unit v : ℕ) (es : List (ℕ × StateKinds)) → v ≤ unit → AllLead text unit es → leading_to v es ≡ []
 none_back text unit v [] before l = refl
 none_back text unit v (edge ∷ es) before l = elim (cases_Bool (edge.0 == v)) [
   | inl t ↦ let e : edge.0 ≡ v = eqb-true edge.0 v t in let forward = l.0.forward in absurd (omega (arith, e, forward, before))
   | inr f ↦ rw f (none_back text unit v es before l.1)
 ]
 
-kept : (text : List Insn) (unit v : ℕ) (notes : Notes) (es : List (ℕ × List Kind)) → length notes ≡ units text → AllLead text unit es → v ≤ unit → note_at (with_arrivals notes es) v ≡ note_at notes v
+kept : (text : List Insn) (unit v : ℕ) (notes : Notes) (es : List (ℕ × StateKinds)) → length notes ≡ units text → AllLead text unit es → v ≤ unit → note_at (with_arrivals notes es) v ≡ note_at notes v
 kept text unit v notes es count l before =
     arrivals_at notes es v (all_within text unit notes es count l) ∙ (ap (extended (note_at notes v)) (none_back text unit v es before l) ∙ extended_none (note_at notes v))
 
 -- ---- one more unit
 
-pub filled_on : (text : List Insn) (notes : Notes) (n : ℕ) (i : Insn) (state after : List Kind) → IsText text → IsFilled text notes n → insn_at text n ≡ Some i → note_at notes n ≡ Some state → transfer record_length i state ≡ Ok after
+pub filled_on : (text : List Insn) (notes : Notes) (n : ℕ) (i : Insn) (state after : StateKinds) → IsText text → IsFilled text notes n → insn_at text n ≡ Some i → note_at notes n ≡ Some state → transfer record_length i state ≡ Ok after
     → IsFilled text (with_arrivals notes (edges n i after)) (n + 1)
 filled_on text notes n i state after text_is h there here passed = record {
   legal = h.legal;
@@ -90,7 +89,7 @@ filled_on text notes n i state after text_is h there here passed = record {
   unbroken = record { each = unbroken };
 }
   where
-    es : List (ℕ × List Kind)
+    es : List (ℕ × StateKinds)
     es = edges n i after
 
     lead : AllLead text n es
@@ -106,7 +105,7 @@ filled_on text notes n i state after text_is h there here passed = record {
     more unit within =
         arrivals_at notes es unit (all_within text n notes es h.states.count lead) ∙ ap (λ edges. extended (note_at notes unit) (leading_to unit edges)) (sym are)
 
-    unbroken : (unit : ℕ) (j : Insn) (s : List Kind) → unit < n + 1 → insn_at text unit ≡ Some j → note_at (with_arrivals notes es) unit ≡ Some s → (a : List Kind) × (transfer record_length j s ≡ Ok a)
+    unbroken : (unit : ℕ) (j : Insn) (s : StateKinds) → unit < n + 1 → insn_at text unit ≡ Some j → note_at (with_arrivals notes es) unit ≡ Some s → (a : StateKinds) × (transfer record_length j s ≡ Ok a)
     unbroken unit j s l begins noted = elim (cases_lt unit n) [
       | inl k ↦ h.unbroken.each unit j s k begins (sym (same unit l) ∙ noted)
       | inr g ↦
@@ -120,7 +119,7 @@ filled_on text notes n i state after text_is h there here passed = record {
 
 -- a unit where no instruction begins, or that nothing reaches
 pub filled_past : (text : List Insn) (notes : Notes) (n : ℕ) → IsFilled text notes n → edges_from n (insn_at text n) (note_at notes n) ≡ []
-    → ((i : Insn) (state : List Kind) → insn_at text n ≡ Some i → note_at notes n ≡ Some state → ⊥) → IsFilled text notes (n + 1)
+    → ((i : Insn) (state : StateKinds) → insn_at text n ≡ Some i → note_at notes n ≡ Some state → ⊥) → IsFilled text notes (n + 1)
 filled_past text notes n h empty never = record {
   legal = h.legal;
   states = states_more text notes notes n h.states h.states.count (λ v l. refl) (λ unit within.
@@ -128,7 +127,7 @@ filled_past text notes n h empty never = record {
   unbroken = record { each = unbroken };
 }
   where
-    unbroken : (unit : ℕ) (j : Insn) (s : List Kind) → unit < n + 1 → insn_at text unit ≡ Some j → note_at notes unit ≡ Some s → (a : List Kind) × (transfer record_length j s ≡ Ok a)
+    unbroken : (unit : ℕ) (j : Insn) (s : StateKinds) → unit < n + 1 → insn_at text unit ≡ Some j → note_at notes unit ≡ Some s → (a : StateKinds) × (transfer record_length j s ≡ Ok a)
     unbroken unit j s l begins noted = elim (cases_lt unit n) [
       | inl k ↦ h.unbroken.each unit j s k begins noted
       | inr g ↦
@@ -159,11 +158,11 @@ filled_first text notes text_is legal count empty = record {
 
 -- ---- as the pass needs it
 
-pub edges_within : (text : List Insn) (notes : Notes) (n : ℕ) (i : Insn) (after : List Kind) → IsText text → IsFilled text notes n → insn_at text n ≡ Some i → AllWithin notes (edges n i after)
+pub edges_within : (text : List Insn) (notes : Notes) (n : ℕ) (i : Insn) (after : StateKinds) → IsText text → IsFilled text notes n → insn_at text n ≡ Some i → AllWithin notes (edges n i after)
 edges_within text notes n i after text_is h there = all_within text n notes (edges n i after) h.states.count (edges_lead text n i after text_is.few h.legal there)
 
-pub filled_by : (text : List Insn) (notes new : Notes) (n : ℕ) (i : Insn) (state : List Kind) → IsText text → IsFilled text notes n → insn_at text n ≡ Some i → note_at notes n ≡ Some state
-    → (after : List Kind) × (transfer record_length i state ≡ Ok after) × (new ≡ with_arrivals notes (edges n i after)) → IsFilled text new (n + 1)
+pub filled_by : (text : List Insn) (notes new : Notes) (n : ℕ) (i : Insn) (state : StateKinds) → IsText text → IsFilled text notes n → insn_at text n ≡ Some i → note_at notes n ≡ Some state
+    → (after : StateKinds) × (transfer record_length i state ≡ Ok after) × (new ≡ with_arrivals notes (edges n i after)) → IsFilled text new (n + 1)
 filled_by text notes new n i state text_is h there here done =
     subst (λ table. IsFilled text table (n + 1)) (sym done.2) (filled_on text notes n i state done.0 text_is h there here done.1)
 
@@ -178,7 +177,7 @@ pub filled_unreached : (text : List Insn) (notes : Notes) (n : ℕ) → IsFilled
 filled_unreached text notes n h none = filled_past text notes n h (rw none (from_none n (insn_at text n))) (λ i state there here. let bad : Some state ≡ None = sym here ∙ none in absurd (cc))
 
 -- a rule that the pass meets is the first that is broken
-pub broken_first : (text : List Insn) (notes : Notes) (n : ℕ) (i : Insn) (state : List Kind) (fault : CheckFault) → IsFilled text notes n → insn_at text n ≡ Some i → note_at notes n ≡ Some state
+pub broken_first : (text : List Insn) (notes : Notes) (n : ℕ) (i : Insn) (state : StateKinds) (fault : CheckFault) → IsFilled text notes n → insn_at text n ≡ Some i → note_at notes n ≡ Some state
     → (rule : BrokenRule) × (fault ≡ CheckRule n rule) × (transfer record_length i state ≡ Err rule) → IsRefused text fault
 broken_first text notes n i state fault h there here broken =
     subst (IsRefused text) (sym broken.1) (h.legal, record { notes = notes; states = h.states; below = h.unbroken; insn = i; there = there; state = state; noted = here; broken = broken.2 })

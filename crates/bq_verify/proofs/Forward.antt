@@ -1,15 +1,15 @@
 -- Where a text's flow is legal, each edge leads to an instruction behind its unit.
 use Rattle.std.proofs.Common.{◌≡◌, ℕ, ◌+◌, ◌<◌, ◌≤◌, List, [], ◌∷◌, ◌++◌, Option, Some, None, true, false, sym, subst, refl, arith, inl, inr}
 use Rattle.std.specs.Prelude.{ℤ, pos}
-use Rattle.bq_insn.specs.Slots.{units}
+use Rattle.bq_insn.specs.Slots.{units, insn_at}
 use Rattle.bq_insn.specs.declared.insn.Insn.{Insn}
 use Rattle.bq_insn.specs.declared.insn.Insn.TheVariants as insns
 use Rattle.bq_flow.specs.Successors.{destination}
-use Rattle.bq_flow.specs.Paths.{insn_at, IsForward, IsLegalFlow}
+use Rattle.bq_flow.specs.Paths.{IsForward, IsLegalFlow}
 use Rattle.bq_flow.proofs.Units.{insn_within}
 use Rattle.bq_flow.proofs.Words.{in_words}
 use Rattle.bq_meaning.specs.Meaning.{target}
-use Rattle.bq_state.specs.declared.kind.Kind.{Kind}
+use Rattle.bq_state.specs.Kinds.{StateKinds}
 use Rattle.bq_state.specs.Edges.{edges, along, refined}
 
 -- an instruction behind the unit
@@ -19,7 +19,7 @@ pub record Leads (text : List Insn) (unit next : ℕ) : Type 0 where
   pub begins : insn_at text next ≡ Some insn
 
 -- all these edges lead to one
-abbrev pub AllLead : List Insn → ℕ → List (ℕ × List Kind) → Type 0
+abbrev pub AllLead : List Insn → ℕ → List (ℕ × StateKinds) → Type 0
 AllLead text unit [] = Unit {0}
 AllLead text unit (edge ∷ others) = Leads text unit edge.0 × AllLead text unit others
 
@@ -35,15 +35,15 @@ jumped text unit d few within h =
     let e : target unit d ≡ h.next = in_words unit h.next d (omega (arith, few, within)) (omega (arith, few, inside)) h.is in
     record { forward = subst (λ n. unit < n) (sym e) h.forward; insn = h.insn; begins = subst (λ n. insn_at text n ≡ Some h.insn) (sym e) h.begins }
 
-along_lead : (text : List Insn) (unit next : ℕ) (o : Option (List Kind)) (others : List (ℕ × List Kind)) → Leads text unit next → AllLead text unit others → AllLead text unit (along next o ++ others)
+along_lead : (text : List Insn) (unit next : ℕ) (o : Option StateKinds) (others : List (ℕ × StateKinds)) → Leads text unit next → AllLead text unit others → AllLead text unit (along next o ++ others)
 along_lead text unit next None others h more = more
 along_lead text unit next (Some s) others h more = (h, more)
 
-one_lead : (text : List Insn) (unit next : ℕ) (o : Option (List Kind)) → Leads text unit next → AllLead text unit (along next o)
+one_lead : (text : List Insn) (unit next : ℕ) (o : Option StateKinds) → Leads text unit next → AllLead text unit (along next o)
 one_lead text unit next None h = tt
 one_lead text unit next (Some s) h = (h, tt)
 
-pub edges_lead : (text : List Insn) (unit : ℕ) (i : Insn) (after : List Kind) → units text ≤ 4096 → IsLegalFlow text → insn_at text unit ≡ Some i → AllLead text unit (edges unit i after)
+pub edges_lead : (text : List Insn) (unit : ℕ) (i : Insn) (after : StateKinds) → units text ≤ 4096 → IsLegalFlow text → insn_at text unit ≡ Some i → AllLead text unit (edges unit i after)
 edges_lead text unit (insns.Alu w op d x) after few legal there = (same_next text unit (unit + 1) (legal.each unit (insns.Alu w op d x) (pos (unit + 1)) there (inl refl)), tt)
 edges_lead text unit (insns.Negate w d) after few legal there = (same_next text unit (unit + 1) (legal.each unit (insns.Negate w d) (pos (unit + 1)) there (inl refl)), tt)
 edges_lead text unit (insns.Extend k d s) after few legal there = (same_next text unit (unit + 1) (legal.each unit (insns.Extend k d s) (pos (unit + 1)) there (inl refl)), tt)

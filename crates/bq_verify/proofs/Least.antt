@@ -6,15 +6,14 @@ use Rattle.std.proofs.Common.{◌≡◌, ℕ, zero, suc, ◌<◌, List, [], ◌�
 use Rattle.std.specs.Prelude.{◌≢◌, ◌==◌, Result, Ok, Err}
 use Rattle.std.specs.List.{fold}
 use Rattle.std.proofs.lemmas.Bool.{cases_Bool, eqb-true}
-use Rattle.bq_insn.specs.Slots.{units, IsText}
+use Rattle.bq_insn.specs.Slots.{units, IsText, insn_at}
 use Rattle.bq_insn.specs.declared.insn.Insn.{Insn}
-use Rattle.bq_flow.specs.Paths.{insn_at, Among}
+use Rattle.bq_flow.specs.Paths.{Among}
 use Rattle.bq_flow.proofs.Units.{insn_within}
 use Rattle.bq_flow.proofs.Legal.{not_legal}
 use Rattle.bq_meaning.specs.Place.{record_length}
-use Rattle.bq_state.specs.declared.kind.Kind.{Kind}
 use Rattle.bq_state.specs.declared.rule.Rule.{Rule}
-use Rattle.bq_state.specs.Kinds.{StateCovers, join_states, entry_state}
+use Rattle.bq_state.specs.Kinds.{StateKinds, StateCovers, join_states, entry_state}
 use Rattle.bq_state.specs.Rules.{transfer}
 use Rattle.bq_state.specs.Edges.{edges}
 use Rattle.bq_state.specs.Monotone.{IsFullState, IsAbove, SomeCovers, AreEdgesAbove, StatesAreOrdered, StatesAreMonotone}
@@ -32,26 +31,26 @@ use Rattle.bq_verify.proofs.Forward.{edges_lead}
 use Rattle.bq_verify.proofs.Passing.{came}
 
 abbrev Notes : Type 0
-Notes = List (Option (List Kind))
+Notes = List (Option StateKinds)
 
-same_note : (a b : List Kind) → Some a ≡ Some b → a ≡ b
+same_note : (a b : StateKinds) → Some a ≡ Some b → a ≡ b
 same_note a b e = cc
 
-no_note : (a : List Kind) → ◌≡◌ {A = Option (List Kind)} None (Some a) → ⊥
+no_note : (a : StateKinds) → ◌≡◌ {A = Option StateKinds} None (Some a) → ⊥
 no_note a e = cc
 
-no_rule : (a : List Kind) (rule : Rule) → Ok a ≡ Err rule → ⊥
+no_rule : (a : StateKinds) (rule : Rule) → Ok a ≡ Err rule → ⊥
 no_rule a rule e = cc
 
 module _ (order : StatesAreOrdered) (monotone : StatesAreMonotone) (text : List Insn) (others : Notes) (text_is : IsText text) (passes : Passes record_length text others) where
   -- a state that the note at a unit covers
-  record Below (unit : ℕ) (state : List Kind) : Type 0 where
-    note : List Kind
+  record Below (unit : ℕ) (state : StateKinds) : Type 0 where
+    note : StateKinds
     there : note_at others unit ≡ Some note
     covers : StateCovers note state
     full : IsFullState state
 
-  join_below : (unit : ℕ) (a b : List Kind) → Below unit a → Below unit b → Below unit (join_states a b)
+  join_below : (unit : ℕ) (a b : StateKinds) → Below unit a → Below unit b → Below unit (join_states a b)
   join_below unit a b x y =
       let is : y.note ≡ x.note = same_note y.note x.note (sym y.there ∙ x.there) in
       record {
@@ -61,17 +60,17 @@ module _ (order : StatesAreOrdered) (monotone : StatesAreMonotone) (text : List 
         full = (monotone.joins x.note y.note a b (x.covers, x.full) (y.covers, y.full)).1;
       }
 
-  fold_below : (unit : ℕ) (s : List Kind) (xs : List (List Kind)) → Below unit s → ((x : List Kind) → Among x xs → Below unit x) → Below unit (fold join_states s xs)
+  fold_below : (unit : ℕ) (s : StateKinds) (xs : List StateKinds) → Below unit s → ((x : StateKinds) → Among x xs → Below unit x) → Below unit (fold join_states s xs)
   fold_below unit s [] h all = h
   fold_below unit s (x ∷ xs) h all = fold_below unit (join_states s x) xs (join_below unit s x h (all x (inl refl))) (λ y a. all y (inr a))
 
-  joined_below : (unit : ℕ) (s : List Kind) (xs : List (List Kind)) → joined xs ≡ Some s → ((x : List Kind) → Among x xs → Below unit x) → Below unit s
+  joined_below : (unit : ℕ) (s : StateKinds) (xs : List StateKinds) → joined xs ≡ Some s → ((x : StateKinds) → Among x xs → Below unit x) → Below unit s
   joined_below unit s [] e all = absurd (no_note s e)
   joined_below unit s (x ∷ xs) e all =
       subst (Below unit) (same_note (fold join_states x xs) s e) (fold_below unit x xs (all x (inl refl)) (λ y a. all y (inr a)))
 
   -- an edge to a unit, below one whose state the note there covers
-  edge_below : (e : ℕ × List Kind) (fs : List (ℕ × List Kind)) → IsFullState e.1 → SomeCovers fs e → AllCovered others fs → Below e.0 e.1
+  edge_below : (e : ℕ × StateKinds) (fs : List (ℕ × StateKinds)) → IsFullState e.1 → SomeCovers fs e → AllCovered others fs → Below e.0 e.1
   edge_below e [] full h all = absurd h
   edge_below e (f ∷ fs) full (inl h) all =
       let c = all.0 in
@@ -79,7 +78,7 @@ module _ (order : StatesAreOrdered) (monotone : StatesAreMonotone) (text : List 
   edge_below e (f ∷ fs) full (inr h) all = edge_below e fs full h all.1
 
   -- what edges bring to a unit is below the note there, where these edges lie below others that the notes cover
-  brought_below : (unit : ℕ) (x : List Kind) (es fs : List (ℕ × List Kind)) → AreEdgesAbove fs es → AllCovered others fs → Among x (leading_to unit es) → Below unit x
+  brought_below : (unit : ℕ) (x : StateKinds) (es fs : List (ℕ × StateKinds)) → AreEdgesAbove fs es → AllCovered others fs → Among x (leading_to unit es) → Below unit x
   brought_below unit x [] fs h all a = absurd a
   brought_below unit x (e ∷ es) fs h all a = elim (cases_Bool (e.0 == unit)) [
     | inl t ↦
@@ -90,7 +89,7 @@ module _ (order : StatesAreOrdered) (monotone : StatesAreMonotone) (text : List 
   ]
 
   -- what an instruction leaves of a state below a note is below the notes where it leads
-  led_below : (n unit : ℕ) (i : Insn) (s after x : List Kind) → insn_at text n ≡ Some i → Below n s → transfer record_length i s ≡ Ok after → Among x (leading_to unit (edges n i after)) → Below unit x
+  led_below : (n unit : ℕ) (i : Insn) (s after x : StateKinds) → insn_at text n ≡ Some i → Below n s → transfer record_length i s ≡ Ok after → Among x (leading_to unit (edges n i after)) → Below unit x
   led_below n unit i s after x there h is a =
       let fine = passes.fine.each n h.note i (insn_within text n i there) h.there there in
       let less = monotone.transfers record_length i h.note s fine.after (is_insn text n i text_is there) (h.covers, h.full) fine.rules in
@@ -101,7 +100,7 @@ module _ (order : StatesAreOrdered) (monotone : StatesAreMonotone) (text : List 
   entry_below : Below 0 (entry_state record_length)
   entry_below = record { note = passes.entry.note; there = passes.entry.there; covers = passes.entry.covers; full = monotone.entry record_length (omega arith) }
 
-  arrived_below : (notes : Notes) (unit n : ℕ) → ((v : ℕ) (s : List Kind) → v < unit → note_at notes v ≡ Some s → Below v s) → (x : List Kind) → Among x (arriving text notes unit n) → Below unit x
+  arrived_below : (notes : Notes) (unit n : ℕ) → ((v : ℕ) (s : StateKinds) → v < unit → note_at notes v ≡ Some s → Below v s) → (x : StateKinds) → Among x (arriving text notes unit n) → Below unit x
   arrived_below notes unit zero below x a = elim (cases_Bool (unit == 0)) [
     | inl t ↦
         let b : Among x (entry_state record_length ∷ []) = rw t at a in
@@ -114,18 +113,18 @@ module _ (order : StatesAreOrdered) (monotone : StatesAreMonotone) (text : List 
         | inr r ↦ by_edge (insn_at text n) (note_at notes n) refl refl r
       ]
     where
-      by_rule : (i : Insn) (s : List Kind) (r : Result (List Kind) Rule) → insn_at text n ≡ Some i → note_at notes n ≡ Some s → transfer record_length i s ≡ r → Among x (leading_to unit (edges_after n i r)) → Below unit x
+      by_rule : (i : Insn) (s : StateKinds) (r : Result StateKinds Rule) → insn_at text n ≡ Some i → note_at notes n ≡ Some s → transfer record_length i s ≡ r → Among x (leading_to unit (edges_after n i r)) → Below unit x
       by_rule i s (Ok after) there noted is b =
           let forward = (came text n unit x (edges n i after) (edges_lead text n i after text_is.few passes.flow there) b).forward in
           led_below n unit i s after x there (below n s forward noted) is b
       by_rule i s (Err rule) there noted is b = absurd b
 
-      by_edge : (o : Option Insn) (note : Option (List Kind)) → insn_at text n ≡ o → note_at notes n ≡ note → Among x (leading_to unit (edges_from n o note)) → Below unit x
+      by_edge : (o : Option Insn) (note : Option StateKinds) → insn_at text n ≡ o → note_at notes n ≡ note → Among x (leading_to unit (edges_from n o note)) → Below unit x
       by_edge None _ there noted b = absurd b
       by_edge (Some i) None there noted b = absurd b
       by_edge (Some i) (Some s) there noted b = by_rule i s (transfer record_length i s) there noted refl b
 
-  states_below : (notes : Notes) (end fuel : ℕ) → AreStates text notes end → (unit : ℕ) (s : List Kind) → unit < fuel → note_at notes unit ≡ Some s → Below unit s
+  states_below : (notes : Notes) (end fuel : ℕ) → AreStates text notes end → (unit : ℕ) (s : StateKinds) → unit < fuel → note_at notes unit ≡ Some s → Below unit s
   states_below notes end zero are unit s l noted = absurd (omega (arith, l))
   states_below notes end (suc fuel) are unit s l noted =
       let within : unit < units text = omega (arith, note_within notes unit s noted, are.count) in
@@ -133,7 +132,7 @@ module _ (order : StatesAreOrdered) (monotone : StatesAreMonotone) (text : List 
       (arrived_below notes unit end (λ v t k e. states_below notes end fuel are v t (omega (arith, k, l)) e))
 
   -- each of the states is covered by the note there of any notes that pass
-  state_below : (notes : Notes) (unit : ℕ) (state : List Kind) → AreStates text notes (units text) → note_at notes unit ≡ Some state → NoteCovers others (unit, state)
+  state_below : (notes : Notes) (unit : ℕ) (state : StateKinds) → AreStates text notes (units text) → note_at notes unit ≡ Some state → NoteCovers others (unit, state)
   state_below notes unit state are noted =
       let b = states_below notes (units text) (suc unit) are unit state (omega arith) noted in
       record { note = b.note; there = b.there; covers = b.covers }

@@ -1,10 +1,11 @@
 -- What the verifier refuses: the first fault of the flow, or the first rule that is broken, in rising order of units.
 use Rattle.std.specs.Prelude.{◌≡◌, ℕ, ◌<◌, List, Option, Some, Err}
 use Rattle.bq_insn.specs.declared.insn.Insn.{Insn}
-use Rattle.bq_flow.specs.Paths.{insn_at, IsLegalFlow}
+use Rattle.bq_insn.specs.Slots.{insn_at}
+use Rattle.bq_flow.specs.Paths.{IsLegalFlow}
 use Rattle.bq_flow.specs.Faults.{IsFirstFlowFault}
 use Rattle.bq_meaning.specs.Place.{record_length}
-use Rattle.bq_state.specs.declared.kind.Kind.{Kind}
+use Rattle.bq_state.specs.Kinds.{StateKinds}
 use Rattle.bq_state.specs.declared.rule.Rule.{Rule as BrokenRule}
 use Rattle.bq_state.specs.Rules.{transfer}
 use Rattle.bq_sound.specs.Passes.{note_at}
@@ -14,12 +15,12 @@ use Rattle.bq_verify.specs.States.{AreStates, NoRuleBroken}
 
 -- the instruction at this unit breaks this rule in the state that arrives there, and none below breaks one
 pub record IsFirstBroken (text : List Insn) (unit : ℕ) (rule : BrokenRule) : Type 0 where
-  pub notes : List (Option (List Kind))
+  pub notes : List (Option StateKinds)
   pub states : AreStates text notes unit
   pub below : NoRuleBroken text notes unit
   pub insn : Insn
   pub there : insn_at text unit ≡ Some insn
-  pub state : List Kind
+  pub state : StateKinds
   pub noted : note_at notes unit ≡ Some state
   pub broken : transfer record_length insn state ≡ Err rule
 

@@ -6,7 +6,7 @@ ghost use Rattle.bq_insn.specs.Slots.{units, IsText};
 ghost use Rattle.bq_insn.specs.declared.insn.Insn.{Insn};
 ghost use Rattle.bq_flow.specs.Paths.{IsLegalFlow};
 ghost use Rattle.bq_meaning.specs.Place.{record_length};
-ghost use Rattle.bq_state.specs.declared.kind.Kind.{Kind};
+ghost use Rattle.bq_state.specs.Kinds.{StateKinds};
 ghost use Rattle.bq_check.specs.declared.fault.CheckFault.{CheckFault};
 ghost use Rattle.bq_check.specs.declared.fault.CheckFault.TheVariants.{OutOfMemory};
 ghost use Rattle.bq_verify.specs.States.{AreStates, NoRuleBroken};
@@ -18,14 +18,14 @@ use bq_state::laws::{states_are_monotone, states_are_ordered};
 
 /// The states of a text in which no instruction breaks a rule pass, where its flow is legal.
 pub fn states_pass()
-    ensures { (text : List Insn) (notes : List (Option (List Kind))) → IsText text → IsLegalFlow text → AreStates text notes (units text) → NoRuleBroken text notes (units text) → Passes record_length text notes }
+    ensures { (text : List Insn) (notes : List (Option StateKinds)) → IsText text → IsLegalFlow text → AreStates text notes (units text) → NoRuleBroken text notes (units text) → Passes record_length text notes }
 {
     states_are_ordered();
 }
 
 /// The states of a text are covered by those of all notes that pass.
 pub fn states_are_least()
-    ensures { (text : List Insn) (notes : List (Option (List Kind))) → IsText text → AreStates text notes (units text) → AreLeast text notes }
+    ensures { (text : List Insn) (notes : List (Option StateKinds)) → IsText text → AreStates text notes (units text) → AreLeast text notes }
 {
     states_are_ordered();
     states_are_monotone();

@@ -1,17 +1,15 @@
 //! The pass over the units.
 
-ghost use Rattle.std.specs.Prelude.{◌≡◌, ◌≢◌, ℕ, ◌<◌, ◌≤◌, ◌+◌, IfOk, IfErr, List, Option, Some, None, Ok, Err, [], ◌∷◌, length};
-ghost use Rattle.bq_insn.specs.Slots.{units, IsText};
-ghost use Rattle.bq_flow.specs.Paths.{insn_at, IsLegalFlow};
+ghost use Rattle.std.specs.Prelude.{◌≡◌, ◌≢◌, ℕ, ◌<◌, ◌≤◌, IfOk, IfErr, List, Option, Some, None, Ok, Err, length};
+ghost use Rattle.bq_insn.specs.Slots.{units};
 ghost use Rattle.bq_meaning.specs.Place.{record_length};
-ghost use Rattle.bq_state.specs.declared.kind.Kind.{Kind};
 ghost use Rattle.bq_state.specs.declared.rule.Rule.{Rule};
-ghost use Rattle.bq_state.specs.Kinds.{entry_state};
+ghost use Rattle.bq_state.specs.Kinds.{StateKinds, entry_state};
 ghost use Rattle.bq_state.specs.Rules.{transfer};
 ghost use Rattle.bq_state.specs.Edges.{edges};
 ghost use Rattle.bq_state.specs.Listed.{edge_list};
 ghost use Rattle.bq_sound.specs.Passes.{Passes, note_at};
-ghost use Rattle.bq_verify.specs.States.{AreStates, edges_from};
+ghost use Rattle.bq_verify.specs.States.{AreStates};
 ghost use Rattle.bq_verify.specs.Refused.{IsRefused, IsBelow};
 ghost use Rattle.bq_verify.specs.Least.{AreLeast, NonePass};
 ghost use Rattle.bq_verify.specs.Table.{with_arrivals, IsFilled, AllWithin};
@@ -62,8 +60,8 @@ fn lead_on(
     state: State,
 ) -> Result<(), CheckFault>
     requires within { unit < 4096 }
-    requires edges { (after : List Kind) → transfer record_length insn.now state ≡ Ok after → AllWithin states.old.items (edges unit insn.now after) }
-    ensures ok { IfOk result (λ _. (after : List Kind) × (transfer record_length insn.now state ≡ Ok after) × (states.new.items ≡ with_arrivals states.old.items (edges unit insn.now after))) }
+    requires edges { (after : StateKinds) → transfer record_length insn.now state ≡ Ok after → AllWithin states.old.items (edges unit insn.now after) }
+    ensures ok { IfOk result (λ _. (after : StateKinds) × (transfer record_length insn.now state ≡ Ok after) × (states.new.items ≡ with_arrivals states.old.items (edges unit insn.now after))) }
     ensures err { IfErr result (λ fault. (rule : Rule) × (fault ≡ CheckFault.Rule unit rule) × (transfer record_length insn.now state ≡ Err rule)) }
 {
     let after = match state.transfer(insn) {
@@ -126,7 +124,7 @@ pub fn verify(alloc: Global, text: &Text) -> Result<Notes, CheckFault>
 /// Refused as by `verify` where the flow is refused, or where an instruction below the unit breaks a rule: where it
 /// answers, neither is so. 99 OutOfMemory may stand in place of any answer at a unit of the text.
 pub fn state_at(alloc: Global, text: &Text, unit: usize) -> Result<Option<State>, CheckFault>
-    ensures state { IfOk result (λ state. unit < units text.now → (notes : List (Option (List Kind))) × IsFilled text.now notes unit × (state ≡ note_at notes unit)) }
+    ensures state { IfOk result (λ state. unit < units text.now → (notes : List (Option StateKinds)) × IsFilled text.now notes unit × (state ≡ note_at notes unit)) }
     ensures behind { units text.now ≤ unit → result ≡ Ok None }
     ensures refused { IfErr result (IsRefused text.now) }
     ensures below { IfErr result (IsBelow unit) }

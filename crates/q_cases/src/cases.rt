@@ -2,7 +2,7 @@
 
 use crate::line::CaseLine;
 use q_command::advice::advice;
-use q_command::perform::perform;
+use q_command::perform::{Outcome, carry_out};
 use q_files::files::Files;
 use q_files::memory::MemoryFiles;
 use q_wire::counted::Counted;
@@ -128,7 +128,7 @@ impl Cases {
         self.files.passing = self.passing.take();
         let words: Vec<&str> = words.split(' ').collect(self.alloc)?;
         let status = match read_words(self.alloc, words.as_slice()) {
-            Ok(line) => perform(self.alloc, &line, &mut self.files, out),
+            Ok(line) => carry_out(self.alloc, &line, &mut self.files, out).status(),
             Err(fault) => {
                 writeln!(out, "{fault}")?;
                 fault.status()
@@ -138,7 +138,7 @@ impl Cases {
         writeln!(out, "status {status} failures {failures}")
     }
 
-    /// Writes what explains the refusal of the program of these words' command.
+    /// Writes what explains the refusal of these words' command.
     fn explain<W: Write>(&mut self, words: &str, out: &mut Counted<W>) -> io::Result<()> {
         writeln!(out, "? {words}")?;
         self.end_file();
@@ -146,10 +146,15 @@ impl Cases {
         let Ok(line) = read_words(self.alloc, words.as_slice()) else {
             return writeln!(out, "no command");
         };
-        match advice(self.alloc, &line, &mut self.files) {
+        let mut unseen = Counted::new(Vec::new(self.alloc));
+        let outcome = carry_out(self.alloc, &line, &mut self.files, &mut unseen);
+        let Outcome::Refused(denied) = &outcome else {
+            return writeln!(out, "nothing to explain");
+        };
+        match advice(self.alloc, denied) {
             Ok(Some(text)) => write!(out, "{text}"),
             Ok(None) => writeln!(out, "nothing to explain"),
-            Err(refusal) => writeln!(out, "{refusal}"),
+            Err(_) => writeln!(out, "no memory"),
         }
     }
 }

@@ -10,7 +10,7 @@
 //! | `@ PLACE HEX NAME` | goes on with the file of this name, with this byte at PLACE, counted from 1 at its end |
 //! | `! COUNT` | makes a read or a write of the next command fail once so many of them went through |
 //! | `$ WORDS` | is printed, with what the command of these words prints, its status, and how many files failed |
-//! | `? WORDS` | is printed, with what explains the refusal of the command's program |
+//! | `? WORDS` | is printed, with what explains the refusal of the command |
 //! | any other | is added to the file as a line |
 //!
 //! Words have one space between, so that two spaces have an empty word between them. Where words name no command, what

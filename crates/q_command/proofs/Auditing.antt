@@ -1,6 +1,5 @@
 -- The lines of answers, by the numbers of their queries.
-use Rattle.std.proofs.Common.{◌≡◌, ℕ, ◌+◌, ◌≤◌, suc, List, [], ◌∷◌, ◌++◌, length, take, ap, ◌∙◌, sym, arith, append_assoc, append-nil}
-use Rattle.std.proofs.lemmas.List.{length-take}
+use Rattle.std.proofs.Common.{◌≡◌, ℕ, ◌+◌, suc, List, [], ◌∷◌, ◌++◌, length, ap, ◌∙◌, sym, arith, append_assoc, append-nil}
 use Rattle.q_session.specs.declared.query.Query.{Query}
 use Rattle.q_desk.specs.Desks.{answer_in}
 use Rattle.q_command.specs.Audit.{answer_line, answer_lines}

@@ -1,31 +1,20 @@
--- Of which commands a person is told why their program is refused.
-use Rattle.std.specs.Prelude.{◌≡◌, List, ℕ, Option, None, Result, Ok}
-use Rattle.bq_insn.specs.declared.insn.Insn.{Insn}
-use Rattle.q_explain.specs.Told.{IsTold}
+-- Of which refusals a person is told something.
+use Rattle.std.specs.Prelude.{◌≢◌, List, ℕ, Bool, true, false, Option, Some, None, IsUtf8}
+use Rattle.q_sim.specs.Refusal.{number}
 use Rattle.q_sim.specs.declared.refusal.Refusal.{Refusal}
-use Rattle.q_command.specs.Perform.{IsProgram, IsUnassembled, RefusesFile}
-use Rattle.q_files.specs.declared.files.FileFault.{FileFault}
-use Rattle.q_words.specs.declared.words.Line.{Line}
-use Rattle.q_words.specs.declared.words.Line.TheVariants.{Asm, Check, Run, Sim, Audit}
+use Rattle.q_sim.specs.declared.refusal.Refusal.TheVariants.{FileFailed}
 
--- something is told exactly where the verifier refuses the program of this file
-pub record Explains {F X : Type 0} (reads : F → List ℕ → Result (List ℕ) FileFault → F → Type 0) (name : List ℕ) (old : F) (told : Option X) (new : F) : Type 0 where
-  pub source : List ℕ
-  pub text : List Insn
-  pub read : reads old name (Ok source) new
-  pub program : IsProgram source text
-  pub is_told : IsTold text told
+-- The refusal of these bytes is none for want of memory; and where a file failed, it is for bytes that are no text.
+abbrev pub IsExplained : Refusal → List ℕ → Type 0
+IsExplained FileFailed bytes = ¬ (IsUtf8 bytes)
+IsExplained refusal bytes = number refusal ≢ 99
 
--- what is told of a command, over files that stand thus before and after
-abbrev pub Advises : {F X : Type 0} → (F → List ℕ → Result (List ℕ) FileFault → F → Type 0) → Line → F → Option X → F → Type 0
-Advises reads (Asm file) old told new = told ≡ None
-Advises reads (Check file) old told new = Explains reads file.now old told new
-Advises reads (Run file start records) old told new = Explains reads file.now old told new
-Advises reads (Sim script) old told new = told ≡ None
-Advises reads (Audit journal) old told new = told ≡ None
+-- the answer tells whether this is so
+abbrev pub Meets : Bool → Type 0 → Type 0
+Meets true P = P
+Meets false P = ¬ P
 
--- why nothing can be told of a command
-abbrev pub IsUnadvised : {F : Type 0} → (F → List ℕ → Result (List ℕ) FileFault → F → Type 0) → Line → F → Refusal → F → Type 0
-IsUnadvised reads (Check file) old r new = RefusesFile reads IsUnassembled file.now old r new
-IsUnadvised reads (Run file start records) old r new = RefusesFile reads IsUnassembled file.now old r new
-IsUnadvised reads line old r new = ⊥
+-- something is told exactly of the refusals that are explained
+abbrev pub IsToldOf : {X : Type 0} → Refusal → List ℕ → Option X → Type 0
+IsToldOf refusal bytes (Some told) = IsExplained refusal bytes
+IsToldOf refusal bytes None = ¬ (IsExplained refusal bytes)

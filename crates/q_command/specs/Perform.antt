@@ -26,6 +26,7 @@ use Rattle.q_sim.specs.Simulates.{IsSimulationFault, Simulates, Writing}
 use Rattle.q_command.specs.Audit.{Audits, IsUnaudited}
 use Rattle.q_command.specs.Listing.{listing_of}
 use Rattle.q_files.specs.declared.files.FileFault.{FileFault}
+use Rattle.q_command.specs.declared.denied.Denied.{Denied}
 use Rattle.q_command.specs.declared.perform.Outcome.{Outcome}
 use Rattle.q_command.specs.declared.perform.Outcome.TheVariants.{Answered, Unsaved, Refused, Unwritten}
 use Rattle.q_wire.specs.Counts.{one_more}
@@ -96,17 +97,27 @@ pub record IsSimulated {F : Type 0} (writes : Writing F) (source : List ℕ) (ol
   pub spelled : IsScript source script
   pub simulates : Simulates writes script old lines unwritten new
 
--- The command answers these lines, over files that stand thus before and after. It is told whether a journal was not
--- written.
+-- The file is read, and its bytes give these lines. It is told whether a journal was not written.
+abbrev pub AnswersFile : {F : Type 0} → (F → List ℕ → Result (List ℕ) FileFault → F → Type 0) → (List ℕ → List ℕ → Type 0) → List ℕ → F → List ℕ → Bool → F → Type 0
+AnswersFile reads gives name old lines unwritten new = (bytes : List ℕ) × reads old name (Ok bytes) new × gives bytes lines × (unwritten ≡ false)
+
+-- a program is read, and then records, and what it computes over them is these lines
+abbrev pub AnswersRun : {F : Type 0} → (F → List ℕ → Result (List ℕ) FileFault → F → Type 0) → List ℕ → ℕ → List ℕ → F → List ℕ → Bool → F → Type 0
+AnswersRun {F} reads name start records old lines unwritten new =
+    (source : List ℕ) × (between : F) × reads old name (Ok source) between × AnswersFile reads (Computes source start) records between lines unwritten new
+
+-- a script is read, and prints these lines
+abbrev pub AnswersScript : {F : Type 0} → (F → List ℕ → Result (List ℕ) FileFault → F → Type 0) → Writing F → List ℕ → F → List ℕ → Bool → F → Type 0
+AnswersScript {F} reads writes name old lines unwritten new =
+    (source : List ℕ) × (between : F) × reads old name (Ok source) between × IsSimulated writes source between lines unwritten new
+
+-- the command answers these lines, over files that stand thus before and after
 abbrev pub Answers : {F : Type 0} → (F → List ℕ → Result (List ℕ) FileFault → F → Type 0) → Writing F → Line → F → List ℕ → Bool → F → Type 0
-Answers reads writes (Asm file) old lines unwritten new = (source : List ℕ) × reads old file.now (Ok source) new × Lists source lines × (unwritten ≡ false)
-Answers reads writes (Check file) old lines unwritten new = (source : List ℕ) × reads old file.now (Ok source) new × Accepts source lines × (unwritten ≡ false)
-Answers {F} reads writes (Run file start records) old lines unwritten new =
-    (source : List ℕ) × (listed : List ℕ) × (between : F) × reads old file.now (Ok source) between × reads between records.now (Ok listed) new
-    × Computes source start listed lines × (unwritten ≡ false)
-Answers {F} reads writes (Sim script) old lines unwritten new =
-    (source : List ℕ) × (between : F) × reads old script.now (Ok source) between × IsSimulated writes source between lines unwritten new
-Answers reads writes (Audit journal) old lines unwritten new = (bytes : List ℕ) × reads old journal.now (Ok bytes) new × Audits bytes lines × (unwritten ≡ false)
+Answers reads writes (Asm file) old lines unwritten new = AnswersFile reads Lists file.now old lines unwritten new
+Answers reads writes (Check file) old lines unwritten new = AnswersFile reads Accepts file.now old lines unwritten new
+Answers reads writes (Run file start records) old lines unwritten new = AnswersRun reads file.now start records.now old lines unwritten new
+Answers reads writes (Sim script) old lines unwritten new = AnswersScript reads writes script.now old lines unwritten new
+Answers reads writes (Audit journal) old lines unwritten new = AnswersFile reads Audits journal.now old lines unwritten new
 
 -- ---- refusals
 
@@ -123,27 +134,37 @@ IsUnsimulated source refusal.FileFailed = ¬ (IsUtf8 source)
 IsUnsimulated source (refusal.Script f) = IsUtf8 source × scripts.IsFault source f
 IsUnsimulated source r = IsUtf8 source × ((script : Script) × IsScript source script × IsSimulationFault script.founding r)
 
--- the file is not read, or its bytes are refused for this reason
-abbrev pub RefusesFile : {F : Type 0} → (F → List ℕ → Result (List ℕ) FileFault → F → Type 0) → (List ℕ → Refusal → Type 0) → List ℕ → F → Refusal → F → Type 0
-RefusesFile reads refuses name old r new =
-    ((fault : FileFault) × reads old name (Err fault) new × (r ≡ refusal_of fault))
-    ⊎ ((bytes : List ℕ) × reads old name (Ok bytes) new × refuses bytes r)
+-- The file is not read, and nothing was read of it.
+abbrev pub IsUnread : {F : Type 0} → (F → List ℕ → Result (List ℕ) FileFault → F → Type 0) → List ℕ → F → Denied → F → Type 0
+IsUnread reads name old denied new =
+    (denied.file.now ≡ name) × (denied.bytes.items ≡ []) × ((fault : FileFault) × reads old name (Err fault) new × (denied.refusal ≡ refusal_of fault))
 
--- The script's file is not read, or its script is not run. Unless memory ran out, nothing is written.
-abbrev pub RefusesScript : {F : Type 0} → (F → List ℕ → Result (List ℕ) FileFault → F → Type 0) → List ℕ → F → Refusal → F → Type 0
-RefusesScript {F} reads name old r new =
-    ((fault : FileFault) × reads old name (Err fault) new × (r ≡ refusal_of fault))
-    ⊎ ((source : List ℕ) × (between : F) × reads old name (Ok source) between × IsUnsimulated source r × (r ≢ refusal.OutOfMemory → new ≡ between))
+-- The file is not read; or its bytes, which are handed out, are refused for this reason.
+abbrev pub RefusesFile : {F : Type 0} → (F → List ℕ → Result (List ℕ) FileFault → F → Type 0) → (List ℕ → Refusal → Type 0) → List ℕ → F → Denied → F → Type 0
+RefusesFile reads refuses name old denied new =
+    IsUnread reads name old denied new
+    ⊎ ((denied.file.now ≡ name) × reads old name (Ok denied.bytes.items) new × refuses denied.bytes.items denied.refusal)
+
+-- the program is refused, or it is accepted and the records are refused
+abbrev pub RefusesRun : {F : Type 0} → (F → List ℕ → Result (List ℕ) FileFault → F → Type 0) → List ℕ → List ℕ → F → Denied → F → Type 0
+RefusesRun {F} reads name records old denied new =
+    RefusesFile reads IsUnaccepted name old denied new
+    ⊎ ((source : List ℕ) × (between : F) × reads old name (Ok source) between × IsAccepted source × RefusesFile reads IsUnlisted records between denied new)
+
+-- The script is not read, or it is not run. Unless memory ran out, nothing is written.
+abbrev pub RefusesScript : {F : Type 0} → (F → List ℕ → Result (List ℕ) FileFault → F → Type 0) → List ℕ → F → Denied → F → Type 0
+RefusesScript {F} reads name old denied new =
+    IsUnread reads name old denied new
+    ⊎ ((between : F) × (denied.file.now ≡ name) × reads old name (Ok denied.bytes.items) between × IsUnsimulated denied.bytes.items denied.refusal
+    × (denied.refusal ≢ refusal.OutOfMemory → new ≡ between))
 
 -- the command is refused for this reason, over files that stand thus before and after
-abbrev pub Refuses : {F : Type 0} → (F → List ℕ → Result (List ℕ) FileFault → F → Type 0) → Line → F → Refusal → F → Type 0
-Refuses reads (Asm file) old r new = RefusesFile reads IsUnassembled file.now old r new
-Refuses reads (Check file) old r new = RefusesFile reads IsUnaccepted file.now old r new
-Refuses {F} reads (Run file start records) old r new =
-    RefusesFile reads IsUnaccepted file.now old r new
-    ⊎ ((source : List ℕ) × (between : F) × reads old file.now (Ok source) between × IsAccepted source × RefusesFile reads IsUnlisted records.now between r new)
-Refuses reads (Sim script) old r new = RefusesScript reads script.now old r new
-Refuses reads (Audit journal) old r new = RefusesFile reads IsUnaudited journal.now old r new
+abbrev pub Refuses : {F : Type 0} → (F → List ℕ → Result (List ℕ) FileFault → F → Type 0) → Line → F → Denied → F → Type 0
+Refuses reads (Asm file) old denied new = RefusesFile reads IsUnassembled file.now old denied new
+Refuses reads (Check file) old denied new = RefusesFile reads IsUnaccepted file.now old denied new
+Refuses reads (Run file start records) old denied new = RefusesRun reads file.now records.now old denied new
+Refuses reads (Sim script) old denied new = RefusesScript reads script.now old denied new
+Refuses reads (Audit journal) old denied new = RefusesFile reads IsUnaudited journal.now old denied new
 
 -- ---- ends
 
@@ -152,9 +173,9 @@ Refuses reads (Audit journal) old r new = RefusesFile reads IsUnaudited journal.
 abbrev pub Ends : {F : Type 0} → (F → List ℕ → Result (List ℕ) FileFault → F → Type 0) → Writing F → Line → F → Option (List ℕ) → Outcome → F → Option (List ℕ) → Type 0
 Ends reads writes line old before Answered new after = (lines : List ℕ) × Answers reads writes line old lines false new × Appends before after lines
 Ends reads writes line old before Unsaved new after = (lines : List ℕ) × Answers reads writes line old lines true new × Appends before after lines
-Ends reads writes line old before (Refused r) new after = Refuses reads line old r new × Appends before after (refusal_line r)
+Ends reads writes line old before (Refused denied) new after = Refuses reads line old denied new × Appends before after (refusal_line denied.refusal)
 Ends reads writes line old before Unwritten new after =
-    ((lines : List ℕ) × (unwritten : Bool) × Answers reads writes line old lines unwritten new) ⊎ ((r : Refusal) × Refuses reads line old r new)
+    ((lines : List ℕ) × (unwritten : Bool) × Answers reads writes line old lines unwritten new) ⊎ ((denied : Denied) × Refuses reads line old denied new)
 
 -- How many calls of the writer failed so far, of which this many failed before the command: one more where it gave up,
 -- and else as many.
@@ -166,5 +187,5 @@ failures_after outcome before = before
 abbrev pub status_of : Outcome → ℕ
 status_of Answered = 0
 status_of Unsaved = 1
-status_of (Refused r) = 1
+status_of (Refused denied) = 1
 status_of Unwritten = 1

@@ -1,33 +1,199 @@
-//! Why a command's program is refused, in words for a person.
+//! Why a command was refused, in words for a person.
 
-ghost use Rattle.std.specs.Prelude.{IfOk, IfErr};
-ghost use Rattle.q_command.specs.Advice.{Advises, IsUnadvised};
+ghost use Rattle.std.specs.Prelude.{◌≡◌, ◌≢◌, true, false, IfOk, IsUtf8};
+ghost use Rattle.q_command.specs.Advice.{IsToldOf, Meets, IsExplained};
 
+use crate::denied::Denied;
 use crate::program::program;
+use bq_asm::fault::AsmFault;
+use bq_check::fault::CheckFault;
 use q_explain::explain::explain;
-use q_files::files::Files;
+use q_explain::lines::{assembler_line, script_line};
+use q_replay::fault::ReplayFault;
+use q_script::records::{RecordFault, RecordsFault};
+use q_script::script::ScriptFault;
 use q_sim::refusal::Refusal;
-use q_words::words::Line;
-use std::alloc::Global;
+use std::alloc::{AllocError, Global};
+use std::str;
 
-/// What explains that the verifier refuses the program of a command; none where it does not, and of a command that verifies
-/// no program.
-///
-/// Refused where the program can't be had: 87 FileFailed, or what the assembler refuses, or 99 OutOfMemory.
-pub fn advice<F: Files>(
+/// Of a line, this many characters are shown.
+const SHOWN: usize = 72;
+
+/// The line of a file with this number, counted from 1.
+fn line_of(bytes: &[u8], number: usize) -> &str {
+    match str::from_utf8(bytes) {
+        Ok(text) => text.split('\n').nth(number.saturating_sub(1)).unwrap_or(""),
+        Err(_) => "",
+    }
+}
+
+/// A line as it is shown: its first characters, and a question mark for each that is not to be printed.
+fn write_line(out: &mut String, line: &str) -> Result<(), AllocError> {
+    for letter in line.chars().take(SHOWN) {
+        out.push(if letter.is_control() { '?' } else { letter })?;
+    }
+    out.push('\n')
+}
+
+/// A line that is of no form, and what may stand there.
+fn write_form(
+    out: &mut String,
+    file: &str,
+    number: usize,
+    line: &str,
+    form: &str,
+) -> Result<(), AllocError> {
+    write!(out, "{file}, line {number}: ")?;
+    write_line(out, line)?;
+    writeln!(out, "{form}")?;
+    out.push_str("docs/FORMATS.md lists each form.\n")
+}
+
+/// What a list of records asks of the line that breaks it.
+fn of_record(fault: RecordFault) -> &'static str {
+    match fault {
+        RecordFault::Syntax =>
+            "A line is ID SEQ VALUE, three numbers below 2^64 with one space between: 1 1 5.",
+        RecordFault::Unsorted => "Its id is not above the one before. Ids rise from line to line.",
+        RecordFault::BadField => "Its second number is 0. A node's stores are numbered from 1.",
+        RecordFault::Full => "A list has 256 records at most.",
+    }
+}
+
+/// What assembler text asks, where it is refused for this.
+fn of_assembler(fault: AsmFault, line: &str) -> &'static str {
+    match fault {
+        AsmFault::Syntax { .. } => assembler_line(line),
+        AsmFault::Label { .. } =>
+            "It defines a label again, or jumps to a label that no later line defines, or too far. Jumps go forward.",
+        AsmFault::BadLength => "The file has no instruction.",
+        AsmFault::TooLong => "The program has more than 4096 units.",
+        AsmFault::OutOfMemory => "",
+    }
+}
+
+/// What is told of assembler text.
+fn write_assembler(
+    out: &mut String,
+    denied: &Denied<'_>,
+    fault: AsmFault,
+) -> Result<(), AllocError> {
+    match fault {
+        AsmFault::Syntax { line } | AsmFault::Label { line } => {
+            let text = line_of(denied.bytes.as_slice(), line);
+            write_form(out, denied.file, line, text, of_assembler(fault, text))
+        }
+        _ => {
+            let file = denied.file;
+            let words = of_assembler(fault, "");
+            writeln!(out, "{file}: {words}")
+        }
+    }
+}
+
+/// What is told of a program that the verifier refuses.
+fn write_program(
     alloc: Global,
-    line: &Line<'_>,
-    files: &mut F,
-) -> Result<Option<String>, Refusal>
-    ensures advised { IfOk result (λ told. Advises F.read_gives line.now files.old told files.new) }
-    ensures refused { IfErr result (λ r. IsUnadvised F.read_gives line.now files.old r files.new) }
-{
-    let file = match line {
-        Line::Check { file } => file,
-        Line::Run { file, .. } => file,
-        Line::Asm { .. } | Line::Sim { .. } | Line::Audit { .. } => return Ok(None),
+    out: &mut String,
+    denied: &Denied<'_>,
+    fault: CheckFault,
+) -> Result<(), AllocError> {
+    let file = denied.file;
+    write!(out, "{file}, ")?;
+    let Ok(text) = program(alloc, denied.bytes.as_slice()) else {
+        return Err(AllocError);
     };
-    let source = files.read(alloc, file)?;
-    let text = program(alloc, source.as_slice())?;
-    Ok(explain(alloc, &text)?)
+    match explain(alloc, &text, fault)? {
+        Some(told) => out.push_str(told.as_str()),
+        None => out.push('\n'),
+    }
+}
+
+/// What is told of a list of records.
+fn write_records(
+    out: &mut String,
+    denied: &Denied<'_>,
+    fault: RecordsFault,
+) -> Result<(), AllocError> {
+    match fault {
+        RecordsFault::Line { line, fault } => {
+            let text = line_of(denied.bytes.as_slice(), line);
+            write_form(out, denied.file, line, text, of_record(fault))
+        }
+        RecordsFault::OutOfMemory => Ok(()),
+    }
+}
+
+/// What is told of a script.
+fn write_script(
+    out: &mut String,
+    denied: &Denied<'_>,
+    fault: ScriptFault,
+) -> Result<(), AllocError> {
+    match fault {
+        ScriptFault::Syntax { line } => {
+            let text = line_of(denied.bytes.as_slice(), line);
+            write_form(out, denied.file, line, text, script_line(line, text))
+        }
+        ScriptFault::OutOfMemory => Ok(()),
+    }
+}
+
+/// What a journal asks of the event that breaks it.
+fn of_journal(fault: ReplayFault) -> &'static str {
+    match fault {
+        ReplayFault::Form { .. } => "The bytes are cut there, or of no form of an event.",
+        ReplayFault::Mismatch { .. } =>
+            "No node's calls give this event there, or its answer is not what the program gives.",
+        ReplayFault::OutOfMemory => "",
+    }
+}
+
+/// What is told of a refusal.
+fn write_reason(alloc: Global, out: &mut String, denied: &Denied<'_>) -> Result<(), AllocError> {
+    let file = denied.file;
+    match denied.refusal {
+        Refusal::FileFailed => writeln!(out, "{file}: It is not UTF-8, which text files are."),
+        Refusal::Assembler(fault) => write_assembler(out, denied, fault),
+        Refusal::Program(fault) => write_program(alloc, out, denied, fault),
+        Refusal::Records(fault) => write_records(out, denied, fault),
+        Refusal::Script(fault) => write_script(out, denied, fault),
+        Refusal::Fraction(_) => writeln!(
+            out,
+            "{file}: A fraction is N/D with 1 <= N <= D <= 1000, as 4/5."
+        ),
+        Refusal::Cluster(_) => writeln!(out, "{file}: A cluster is founded by 1 to 256 nodes."),
+        Refusal::Journal(fault) => {
+            let words = of_journal(fault);
+            writeln!(out, "{file}: {words}")
+        }
+        Refusal::Bytes(_) | Refusal::OutOfMemory => Ok(()),
+    }
+}
+
+/// Whether something is told of a refusal.
+fn is_explained(denied: &Denied<'_>) -> bool
+    ensures { Meets result (IsExplained denied.now.refusal denied.now.bytes.items) }
+{
+    match denied.refusal {
+        Refusal::FileFailed => str::from_utf8(denied.bytes.as_slice()).is_err(),
+        refusal => refusal.number() != 99,
+    }
+}
+
+/// What explains a refusal, from the bytes that are refused; none of want of memory, and of a file that was not read, of
+/// which [`Folder`] tells.
+///
+/// The one error is that memory ran out (99 OutOfMemory).
+///
+/// [`Folder`]: q_files::folder::Folder
+pub fn advice(alloc: Global, denied: &Denied<'_>) -> Result<Option<String>, AllocError>
+    ensures told { IfOk result (IsToldOf denied.now.refusal denied.now.bytes.items) }
+{
+    if !is_explained(denied) {
+        return Ok(None);
+    }
+    let mut out = String::new(alloc);
+    write_reason(alloc, &mut out, denied)?;
+    Ok(Some(out))
 }

@@ -6,18 +6,19 @@
 //!   what the script prints that SCRIPT spells; the answers that the journal JOURNAL recorded. Where it was refused,
 //!   the writer took exactly the line of the refusal, whose reason holds of the files. It gives up only where a write
 //!   failed, which the writer counted.
-//! - [`perform`] does that and gives the exit status.
+//!   It hands out what was read and refused ([`Denied`]), and gives the exit status.
 //! - [`put_refusal`] writes the line of a refusal without taking memory.
 //! - [`program`] has programs from assembler text, with their certificates.
 //! - [`listing`] is the text that `asm` prints.
 //! - [`audit`] is the text that `audit` prints: the answers of a journal that is replayed.
-//! - [`advice`] explains a refusal of the verifier in words, of exactly the programs that it refuses.
+//! - [`advice`] explains a refusal in words, from the bytes that were read: any but want of memory, and a file that was not
+//!   read.
 //!
 //! Scripts are run by [`simulate`], of the crate below: it takes each event of a script as one step of a cluster, whose type
 //! keeps that every recorded answer is true, and answers the lines of what the steps tell.
 //!
 //! [`carry_out`]: perform::carry_out
-//! [`perform`]: perform::perform
+//! [`Denied`]: denied::Denied
 //! [`program`]: program::certified
 //! [`put_refusal`]: refusal_line::put_refusal
 //! [`Files`]: q_files::files::Files
@@ -29,6 +30,7 @@
 
 pub mod advice;
 pub mod audit;
+pub mod denied;
 pub mod listing;
 pub mod perform;
 pub mod program;

@@ -1,11 +1,11 @@
 //! Commands, run over files and a writer.
 
-ghost use Rattle.std.specs.Prelude.{◌≡◌, ◌≢◌, ℕ, List, false, IfOk, IfErr, string_bytes};
-ghost use Rattle.std.specs.Io.KnownBytes.{Appends};
-ghost use Rattle.q_command.specs.Perform.{Accepts, Answers, Computes, Ends, IsProgram, IsSimulated, IsUnaccepted, IsUnassembled, IsUnlisted, IsUnsimulated, Lists, Refuses, failures_after, status_of};
-ghost use Rattle.q_command.specs.declared.perform.Outcome.{Outcome};
+ghost use Rattle.std.specs.Prelude.{◌≡◌, ◌≢◌, ℕ, List, false, Ok, Err, IfOk, IfErr, string_bytes};
+ghost use Rattle.q_command.specs.Audit.{Audits, IsUnaudited};
+ghost use Rattle.q_command.specs.Perform.{Accepts, Answers, AnswersFile, AnswersRun, AnswersScript, Computes, Ends, IsProgram, IsSimulated, IsUnaccepted, IsUnassembled, IsUnlisted, IsUnread, IsUnsimulated, Lists, Refuses, RefusesFile, RefusesRun, RefusesScript, failures_after, status_of};
 
 use crate::audit::audit;
+use crate::denied::Denied;
 use crate::listing::listing;
 use crate::program::{certified, program, utf8};
 use crate::refusal_line::put_refusal;
@@ -22,16 +22,28 @@ use std::alloc::Global;
 use std::io::Write;
 
 /// How a command ended.
-#[derive(Clone, Copy, Debug, PartialEq, Eq)]
-pub enum Outcome {
+#[derive(Drop)]
+pub enum Outcome<'a> {
     /// It wrote its answer, and each journal that it was to write.
     Answered,
     /// It wrote its answer, but a journal was not written.
     Unsaved,
     /// It wrote its refusal.
-    Refused(Refusal),
+    Refused(Denied<'a>),
     /// The writer failed.
     Unwritten,
+}
+
+impl Outcome<'_> {
+    /// The exit status: 0, or 1 after a refusal, where a journal was not written, or where the writer failed.
+    pub fn status(&self) -> u8
+        ensures { result ≡ status_of self.now }
+    {
+        match self {
+            Outcome::Answered => 0,
+            Outcome::Unsaved | Outcome::Refused(_) | Outcome::Unwritten => 1,
+        }
+    }
 }
 
 /// The listing of the program that assembler text spells, refused as [`program`].
@@ -84,61 +96,187 @@ fn simulated<F: Files>(alloc: Global, source: &[u8], files: &mut F) -> Result<Pr
     simulate(alloc, script, files)
 }
 
-/// What a command prints that writes no journal.
-fn told(lines: String) -> Printed
-    ensures { (result.lines ≡ lines) × (result.unwritten ≡ false) }
+/// The bytes of a file.
+fn read<'a, F: Files>(alloc: Global, file: &'a str, files: &mut F) -> Result<Vec<u8>, Denied<'a>>
+    ensures read { IfOk result (λ bytes. F.read_gives files.old file.now (Ok bytes.items) files.new) }
+    ensures refused { IfErr result (λ denied. IsUnread F.read_gives file.now files.old denied files.new) }
 {
-    Printed {
-        lines,
-        unwritten: false,
+    match files.read(alloc, file) {
+        Ok(bytes) => Ok(bytes),
+        Err(fault) => Err(Denied {
+            refusal: Refusal::from(fault),
+            file,
+            bytes: Vec::new(alloc),
+        }),
+    }
+}
+
+/// What a command prints that writes no journal; or its refusal, with the bytes that are refused.
+fn told<'a>(
+    answer: Result<String, Refusal>,
+    file: &'a str,
+    bytes: Vec<u8>,
+) -> Result<Printed, Denied<'a>>
+    ensures told { IfOk result (λ p. (answer ≡ Ok p.lines) × (p.unwritten ≡ false)) }
+    ensures refused { IfErr result (λ denied. (answer ≡ Err denied.refusal) × (denied.file.now ≡ file.now) × (denied.bytes.items ≡ bytes.items)) }
+{
+    match answer {
+        Ok(lines) => Ok(Printed {
+            lines,
+            unwritten: false,
+        }),
+        Err(refusal) => Err(Denied {
+            refusal,
+            file,
+            bytes,
+        }),
+    }
+}
+
+/// What `asm` prints.
+fn asm_answer<'a, F: Files>(
+    alloc: Global,
+    file: &'a str,
+    files: &mut F,
+) -> Result<Printed, Denied<'a>>
+    ensures answered { IfOk result (λ p. AnswersFile F.read_gives Lists file.now files.old (string_bytes p.lines) p.unwritten files.new) }
+    ensures refused { IfErr result (λ denied. RefusesFile F.read_gives IsUnassembled file.now files.old denied files.new) }
+{
+    let source = read(alloc, file, files)?;
+    let lines = assembled(alloc, source.as_slice());
+    told(lines, file, source)
+}
+
+/// What `check` prints.
+fn check_answer<'a, F: Files>(
+    alloc: Global,
+    file: &'a str,
+    files: &mut F,
+) -> Result<Printed, Denied<'a>>
+    ensures answered { IfOk result (λ p. AnswersFile F.read_gives Accepts file.now files.old (string_bytes p.lines) p.unwritten files.new) }
+    ensures refused { IfErr result (λ denied. RefusesFile F.read_gives IsUnaccepted file.now files.old denied files.new) }
+{
+    let source = read(alloc, file, files)?;
+    let lines = accepted(alloc, source.as_slice());
+    told(lines, file, source)
+}
+
+/// What `audit` prints.
+fn audit_answer<'a, F: Files>(
+    alloc: Global,
+    journal: &'a str,
+    files: &mut F,
+) -> Result<Printed, Denied<'a>>
+    ensures answered { IfOk result (λ p. AnswersFile F.read_gives Audits journal.now files.old (string_bytes p.lines) p.unwritten files.new) }
+    ensures refused { IfErr result (λ denied. RefusesFile F.read_gives IsUnaudited journal.now files.old denied files.new) }
+{
+    let bytes = read(alloc, journal, files)?;
+    let lines = audit(alloc, bytes.as_slice());
+    told(lines, journal, bytes)
+}
+
+/// The program of a file, with its certificate.
+fn certified_file<'a, F: Files>(
+    alloc: Global,
+    file: &'a str,
+    files: &mut F,
+) -> Result<Certified, Denied<'a>>
+    ensures certified { IfOk result (λ c. (source : List ℕ) × F.read_gives files.old file.now (Ok source) files.new × IsProgram source c.text) }
+    ensures refused { IfErr result (λ denied. RefusesFile F.read_gives IsUnaccepted file.now files.old denied files.new) }
+{
+    let source = read(alloc, file, files)?;
+    match certified(alloc, source.as_slice()) {
+        Ok(certified) => Ok(certified),
+        Err(refusal) => Err(Denied {
+            refusal,
+            file,
+            bytes: source,
+        }),
+    }
+}
+
+/// What `run` prints of a program over the records of a file.
+fn computed_file<'a, F: Files>(
+    alloc: Global,
+    certified: &Certified,
+    start: u64,
+    records: &'a str,
+    files: &mut F,
+) -> Result<Printed, Denied<'a>>
+    ensures answered { IfOk result (λ p. (source : List ℕ) → IsProgram source certified.now.text → AnswersFile F.read_gives (Computes source start) records.now files.old (string_bytes p.lines) p.unwritten files.new) }
+    ensures refused { IfErr result (λ denied. RefusesFile F.read_gives IsUnlisted records.now files.old denied files.new) }
+{
+    let listed = read(alloc, records, files)?;
+    let lines = computed(alloc, certified, start, listed.as_slice());
+    told(lines, records, listed)
+}
+
+/// What `run` prints.
+fn run_answer<'a, F: Files>(
+    alloc: Global,
+    file: &'a str,
+    start: u64,
+    records: &'a str,
+    files: &mut F,
+) -> Result<Printed, Denied<'a>>
+    ensures answered { IfOk result (λ p. AnswersRun F.read_gives file.now start records.now files.old (string_bytes p.lines) p.unwritten files.new) }
+    ensures refused { IfErr result (λ denied. RefusesRun F.read_gives file.now records.now files.old denied files.new) }
+{
+    let certified = certified_file(alloc, file, files)?;
+    computed_file(alloc, &certified, start, records, files)
+}
+
+/// What `sim` prints.
+fn sim_answer<'a, F: Files>(
+    alloc: Global,
+    script: &'a str,
+    files: &mut F,
+) -> Result<Printed, Denied<'a>>
+    ensures answered { IfOk result (λ p. AnswersScript F.read_gives F.write_gives script.now files.old (string_bytes p.lines) p.unwritten files.new) }
+    ensures refused { IfErr result (λ denied. RefusesScript F.read_gives script.now files.old denied files.new) }
+{
+    let source = read(alloc, script, files)?;
+    match simulated(alloc, source.as_slice(), files) {
+        Ok(printed) => Ok(printed),
+        Err(refusal) => Err(Denied {
+            refusal,
+            file: script,
+            bytes: source,
+        }),
     }
 }
 
 /// What a command prints, or why it is refused.
-fn answer<F: Files>(alloc: Global, line: &Line<'_>, files: &mut F) -> Result<Printed, Refusal>
+fn answer<'a, F: Files>(
+    alloc: Global,
+    line: &Line<'a>,
+    files: &mut F,
+) -> Result<Printed, Denied<'a>>
     ensures answered { IfOk result (λ p. Answers F.read_gives F.write_gives line.now files.old (string_bytes p.lines) p.unwritten files.new) }
-    ensures refused { IfErr result (λ r. Refuses F.read_gives line.now files.old r files.new) }
+    ensures refused { IfErr result (λ denied. Refuses F.read_gives line.now files.old denied files.new) }
 {
     match line {
-        Line::Asm { file } => {
-            let source = files.read(alloc, file)?;
-            Ok(told(assembled(alloc, source.as_slice())?))
-        }
-        Line::Check { file } => {
-            let source = files.read(alloc, file)?;
-            Ok(told(accepted(alloc, source.as_slice())?))
-        }
+        Line::Asm { file } => asm_answer(alloc, file, files),
+        Line::Check { file } => check_answer(alloc, file, files),
         Line::Run {
             file,
             start,
             records,
-        } => {
-            let source = files.read(alloc, file)?;
-            let certified = certified(alloc, source.as_slice())?;
-            let listed = files.read(alloc, records)?;
-            let lines = computed(alloc, &certified, *start, listed.as_slice())?;
-            Ok(told(lines))
-        }
-        Line::Sim { script } => {
-            let source = files.read(alloc, script)?;
-            simulated(alloc, source.as_slice(), files)
-        }
-        Line::Audit { journal } => {
-            let bytes = files.read(alloc, journal)?;
-            Ok(told(audit(alloc, bytes.as_slice())?))
-        }
+        } => run_answer(alloc, file, *start, records, files),
+        Line::Sim { script } => sim_answer(alloc, script, files),
+        Line::Audit { journal } => audit_answer(alloc, journal, files),
     }
 }
 
 /// Runs a command, and writes its answer or its refusal.
 ///
 /// It gives up only where a write failed, which the writer counted.
-pub fn carry_out<F: Files, W: Write>(
+pub fn carry_out<'a, F: Files, W: Write>(
     alloc: Global,
-    line: &Line<'_>,
+    line: &Line<'a>,
     files: &mut F,
     out: &mut Counted<W>,
-) -> Outcome
+) -> Outcome<'a>
     ensures ended { Ends F.read_gives F.write_gives line.now files.old (W.contents out.old.inner) result files.new (W.contents out.new.inner) }
     ensures counted { out.new.failures ≡ failures_after result out.old.failures }
 {
@@ -148,26 +286,9 @@ pub fn carry_out<F: Files, W: Write>(
             Ok(()) => Outcome::Answered,
             Err(_) => Outcome::Unwritten,
         },
-        Err(refusal) => match put_refusal(out, &refusal) {
-            Ok(()) => Outcome::Refused(refusal),
+        Err(denied) => match put_refusal(out, &denied.refusal) {
+            Ok(()) => Outcome::Refused(denied),
             Err(_) => Outcome::Unwritten,
         },
-    }
-}
-
-/// Runs a command, writes its answer or its refusal, and gives the exit status: 0, or 1 after a refusal, where a journal
-/// was not written, or where the writer fails.
-pub fn perform<F: Files, W: Write>(
-    alloc: Global,
-    line: &Line<'_>,
-    files: &mut F,
-    out: &mut Counted<W>,
-) -> u8
-    ensures ended { (outcome : Outcome) × Ends F.read_gives F.write_gives line.now files.old (W.contents out.old.inner) outcome files.new (W.contents out.new.inner) × (result ≡ status_of outcome) × (out.new.failures ≡ failures_after outcome out.old.failures) }
-    ensures told { result ≡ 0 → (lines : List ℕ) × Answers F.read_gives F.write_gives line.now files.old lines false files.new × Appends (W.contents out.old.inner) (W.contents out.new.inner) lines }
-{
-    match carry_out(alloc, line, files, out) {
-        Outcome::Answered => 0,
-        Outcome::Unsaved | Outcome::Refused(_) | Outcome::Unwritten => 1,
     }
 }

@@ -1,7 +1,6 @@
 -- What keeps a desk a desk, and when a job is that of a query.
 mod Lists
 mod Keeps
-mod Insns
 mod Texts
 mod Views
 mod Jobs

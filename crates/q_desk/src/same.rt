@@ -59,7 +59,11 @@ fn is_same_text(text: &Text, other: &Text) -> bool
 fn is_same_insn(insn: Option<Insn>, other: Option<Insn>) -> bool
     ensures { IsTrue result ↔ (insn ≡ other) }
 {
-    insn == other
+    match (insn, other) {
+        (None, None) => true,
+        (Some(insn), Some(other)) => insn.is_same(&other),
+        (None, Some(_)) | (Some(_), None) => false,
+    }
 }
 
 fn is_same_view(view: &View, other: &View) -> bool

@@ -7,16 +7,16 @@ use bq_state::rule::Rule;
 pub(crate) fn of_rule(rule: Rule) -> &'static str {
     match rule {
         Rule::UnsetRegister => {
-            "It reads a register of which nothing is known. Write the register before, on each way that leads here, and the same kind of value on each."
+            "It reads a register of which nothing is known. Write the register before, on each\nway that leads here, and the same kind of value on each."
         }
         Rule::WrongKind => {
-            "It takes a pointer where a number must stand, or the other way round, or moves a pointer too far. Addresses are pointers; to a pointer only a number may be added, or subtracted from it, at 64 bits, and its offset stays within 65536; comparisons, other arithmetic and stored values take numbers."
+            "It takes a pointer where a number must stand, or the other way round, or moves a\npointer too far. Addresses are pointers; to a pointer only a number may be added,\nor subtracted from it, at 64 bits, and its offset stays within 65536; comparisons,\nother arithmetic and stored values take numbers. Narrow a number first, by and64."
         }
         Rule::OutsideFrame => {
-            "It may access bytes outside the frame. The pointer's least offset plus the distance must be at least 0, and its greatest offset plus the distance plus the size at most 512. r10 has offset 512: load8 r0, [r10-8] reads the frame's last bytes."
+            "It may access bytes outside the frame. The pointer's least offset plus the\ndistance must be at least 0, and its greatest offset plus the distance plus the\nsize at most 512. r10 has offset 512: load8 r0, [r10-8] reads the last bytes."
         }
         Rule::OutsideRecord => {
-            "It may access bytes outside the record. The pointer's least offset plus the distance must be at least 0, and its greatest offset plus the distance plus the size at most 64. Narrow an index first, by and64 or by a jump around the access."
+            "It may access bytes outside the record. The pointer's least offset plus the\ndistance must be at least 0, and its greatest offset plus the distance plus the\nsize at most 64. Narrow an index first, by and64 or by a jump around the access."
         }
         Rule::RecordWritten =>
             "It writes into the record, which is read only. Store into the frame.",
@@ -35,6 +35,6 @@ pub(crate) fn of_flow(rule: FlowRule) -> &'static str {
         FlowRule::IntoWide =>
             "It jumps into the second half of a wide instruction, which takes two units.",
         FlowRule::FallsOff =>
-            "The program may go on behind its end. Its last instruction is exit, or a jump is missing.",
+            "The program may go on behind its end. Its last instruction must be exit or ja.",
     }
 }

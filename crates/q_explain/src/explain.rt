@@ -11,7 +11,7 @@ use bq_range::range::Range;
 use bq_state::kind::Kind;
 use bq_state::offsets::Offsets;
 use bq_state::state::State;
-use bq_verify::verify::{state_at, verify};
+use bq_verify::verify::state_at;
 use std::alloc::{AllocError, Global};
 
 /// The instruction at a unit, as assembler text.
@@ -103,16 +103,15 @@ fn told(alloc: Global, text: &Text, unit: usize, advice: &str) -> Result<String,
     Ok(out)
 }
 
-/// Why the verifier refuses a text, in a few lines; none where it accepts it.
+/// Why the verifier refuses a text for this fault, in a few lines; none where the fault is of no instruction.
 ///
 /// The one error is that memory ran out (99 OutOfMemory).
-pub fn explain(alloc: Global, text: &Text) -> Result<Option<String>, AllocError>
-    ensures { IfOk result (IsTold text.now) }
+pub fn explain(alloc: Global, text: &Text, fault: CheckFault) -> Result<Option<String>, AllocError>
+    ensures { IfOk result (IsTold fault) }
 {
-    match verify(alloc, text) {
-        Ok(_) => Ok(None),
-        Err(CheckFault::Rule { unit, rule }) => Ok(Some(told(alloc, text, unit, of_rule(rule))?)),
-        Err(CheckFault::Flow { unit, rule }) => Ok(Some(told(alloc, text, unit, of_flow(rule))?)),
-        Err(_) => Err(AllocError),
+    match fault {
+        CheckFault::Rule { unit, rule } => Ok(Some(told(alloc, text, unit, of_rule(rule))?)),
+        CheckFault::Flow { unit, rule } => Ok(Some(told(alloc, text, unit, of_flow(rule))?)),
+        _ => Ok(None),
     }
 }

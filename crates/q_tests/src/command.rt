@@ -1,6 +1,6 @@
 //! Commands whose writer fails.
 
-use q_command::perform::{Outcome, carry_out, perform};
+use q_command::perform::{Outcome, carry_out};
 use q_files::files::Files;
 use q_files::memory::MemoryFiles;
 use q_wire::counted::Counted;
@@ -39,7 +39,7 @@ fn one_file(alloc: Global) -> Result<MemoryFiles, Fail> {
 }
 
 /// How the listing of one unit ends, with room for so many bytes.
-fn ends_with_room(alloc: Global, room: usize) -> Result<Outcome, Fail> {
+fn ends_with_room(alloc: Global, room: usize) -> Result<Outcome<'static>, Fail> {
     let mut files = one_file(alloc)?;
     let mut out = Counted::new(Short { room });
     Ok(carry_out(alloc, &Line::Asm { file: "a" }, &mut files, &mut out))
@@ -47,8 +47,8 @@ fn ends_with_room(alloc: Global, room: usize) -> Result<Outcome, Fail> {
 
 #[test]
 fn tells_that_the_writer_failed(rt: HostRuntime) -> Result<(), Fail> {
-    assert!(rt; ends_with_room(rt.alloc(), 16)? == Outcome::Unwritten);
-    assert!(rt; ends_with_room(rt.alloc(), 17)? == Outcome::Answered);
+    assert!(rt; matches!(&ends_with_room(rt.alloc(), 16)?, Outcome::Unwritten));
+    assert!(rt; matches!(&ends_with_room(rt.alloc(), 17)?, Outcome::Answered));
     Ok(())
 }
 
@@ -58,7 +58,7 @@ fn answers_1_where_the_writer_fails(rt: HostRuntime) -> Result<(), Fail> {
     let mut files = one_file(alloc)?;
     let line = Line::Asm { file: "c" };
     let mut out = Counted::new(Short { room: 3 });
-    let status = perform(alloc, &line, &mut files, &mut out);
-    assert_eq!(rt; status, 1);
+    let outcome = carry_out(alloc, &line, &mut files, &mut out);
+    assert_eq!(rt; outcome.status(), 1);
     Ok(())
 }

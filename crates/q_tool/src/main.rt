@@ -44,18 +44,19 @@
 //! is 0; or 1 after a refusal, or where a journal was not written or the standard output failed; or 2 for a wrong
 //! command line, which is explained on the standard error.
 //!
-//! [`read_words`] reads the words of the command line, [`perform`] runs the command, and [`advice`] explains a refusal of
-//! the verifier on the standard error: their contracts say what the program does. `main` alone reaches the machine: its
-//! words, its files, its standard output and its standard error.
+//! [`read_words`] reads the words of the command line, [`carry_out`] runs the command, and [`advice`] explains a refusal on
+//! the standard error, from what was read: their contracts say what the program does. `main` alone reaches the machine:
+//! its words, its files, its standard output and its standard error. Why the system refuses a file is told on the standard
+//! error, too.
 //!
 //! [`Refusal`]: q_sim::refusal::Refusal
 //! [`read_words`]: q_words::words::read_words
-//! [`perform`]: q_command::perform::perform
+//! [`carry_out`]: q_command::perform::carry_out
 //! [`advice`]: q_command::advice::advice
 #![tactic(auto)]
 
 use q_command::advice::advice;
-use q_command::perform::perform;
+use q_command::perform::{Outcome, carry_out};
 use q_files::folder::Folder;
 use q_wire::counted::Counted;
 use q_words::words::{WordsFault, read_words};
@@ -83,11 +84,11 @@ fn main(rt: HostRuntime) -> io::Result<ExitCode> {
         }
     };
     let mut out = Counted::new(io::writer(&rt));
-    let status = perform(alloc, &line, &mut Folder::new(&rt), &mut out);
-    if status == 1 {
-        if let Ok(Some(text)) = advice(alloc, &line, &mut Folder::new(&rt)) {
+    let outcome = carry_out(alloc, &line, &mut Folder::new(&rt), &mut out);
+    if let Outcome::Refused(denied) = &outcome {
+        if let Ok(Some(text)) = advice(alloc, denied) {
             rt.eprint(text)?;
         }
     }
-    Ok(ExitCode::from(status))
+    Ok(ExitCode::from(outcome.status()))
 }

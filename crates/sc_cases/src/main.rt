@@ -19,6 +19,9 @@
 //!   refusal.
 //! - `view ID NUMBER BYTE .. / ID NUMBER BYTE ..`: the first view merged with the second: id, number and byte of each
 //!   value.
+//! - `share FIRST COUNT NUMBER BYTE / ID NUMBER BYTE`: a view of so many ids from the first on, and a copy that learns one
+//!   more value: how many entries each chunk of the copy has, and the number that each of the two knows at the id; or
+//!   the refusal.
 //!
 //! Another line is printed as it stands.
 #![tactic(auto)]
@@ -40,6 +43,7 @@ fn answer(rt: &impl Print, alloc: Global, worlds: &mut Worlds, words: &[&str]) -
         Some(Case::Message(digits)) => bytes::tell(rt, alloc, digits),
         Some(Case::Members(line)) => members::tell(rt, alloc, &line),
         Some(Case::View(first, second)) => views::tell(rt, alloc, first, second),
+        Some(Case::Share(ids, value)) => views::tell_shared(rt, alloc, ids, value),
         None => Ok(()),
     }
 }

@@ -76,3 +76,96 @@ pub(crate) fn tell(
         Err(fault) => refuse(rt, fault),
     }
 }
+
+fn tell_chunks(rt: &impl Print, view: &View) -> io::Result<()> {
+    print!(rt; " chunks")?;
+    for k in 0..view.chunks().len() {
+        print!(rt; " {}", view.chunk(k).map_or(0, |entries| entries.len()))?;
+    }
+    Ok(())
+}
+
+fn number_at(view: &View, id: u64) -> u64 {
+    view.get(id).map_or(0, |stored| stored.number())
+}
+
+/// A copy of the view that has learned one more value.
+fn copy_with(view: &View, id: u64, stored: Stored) -> Result<View, ViewFault> {
+    let mut copy = view.share()?;
+    copy.put(id, stored)?;
+    Ok(copy)
+}
+
+fn tell_copy(rt: &impl Print, view: &View, id: u64, stored: Stored) -> io::Result<()> {
+    match copy_with(view, id, stored) {
+        Ok(copy) => {
+            tell_chunks(rt, &copy)?;
+            println!(rt;
+                ", copy {}, view {}",
+                number_at(&copy, id),
+                number_at(view, id)
+            )
+        }
+        Err(fault) => refuse(rt, fault),
+    }
+}
+
+/// The ids of a view, and the value that it has at each.
+#[derive(Clone, Copy)]
+struct Filling {
+    first: u64,
+    count: u64,
+    stored: Stored,
+}
+
+/// A view of these values.
+fn filled(alloc: Global, filling: Filling) -> Result<View, ViewFault> {
+    let mut view = View::new(alloc);
+    for place in 0..filling.count {
+        view.put(filling.first.wrapping_add(place), filling.stored)?;
+    }
+    Ok(view)
+}
+
+fn filling(words: &[&str]) -> Option<Filling> {
+    let [first, count, number_word, byte] = words else {
+        return None;
+    };
+    let first = number(first)?;
+    let count = number(count)?;
+    let stored = stored_of(number_word, byte)?;
+    Some(Filling {
+        first,
+        count,
+        stored,
+    })
+}
+
+fn tell_filled(
+    rt: &impl Print,
+    alloc: Global,
+    filling: Filling,
+    id: u64,
+    learned: Stored,
+) -> io::Result<()> {
+    match filled(alloc, filling) {
+        Ok(view) => tell_copy(rt, &view, id, learned),
+        Err(fault) => refuse(rt, fault),
+    }
+}
+
+/// A view, and a copy that learns one more value.
+pub(crate) fn tell_shared(
+    rt: &impl Print,
+    alloc: Global,
+    words: &[&str],
+    value: &[&str],
+) -> io::Result<()> {
+    let Some(filling) = filling(words) else {
+        return Ok(());
+    };
+    let Some((id, learned)) = value_of(value) else {
+        return Ok(());
+    };
+    tell_filled(rt, alloc, filling, id, learned)
+}

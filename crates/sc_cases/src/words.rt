@@ -45,6 +45,7 @@ pub(crate) enum Case<'a> {
     Message(&'a str),
     Members(MembersLine<'a>),
     View(&'a [&'a str], &'a [&'a str]),
+    Share(&'a [&'a str], &'a [&'a str]),
 }
 
 pub(crate) fn number(word: &str) -> Option<u64> {
@@ -181,6 +182,10 @@ impl Case<'_> {
     pub(crate) fn read<'a>(words: &'a [&'a str]) -> Option<Case<'a>> {
         if let ["message", digits] = words {
             return Some(Case::Message(digits));
+        }
+        if let ["share", values @ ..] = words {
+            let (first, second) = halves(values);
+            return Some(Case::Share(first, second));
         }
         if let ["view", values @ ..] = words {
             let (first, second) = halves(values);

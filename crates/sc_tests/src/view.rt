@@ -1,7 +1,12 @@
+use sc_view::form::{Command, Reply, run};
 use sc_view::laws::{
     merge_is_idempotent, merge_is_least_upper_bound, merge_takes_the_larger_number,
     order_is_partial,
 };
+use sc_view::sorted::SortedView;
+use sc_view::view::{Stored, View, ViewFault};
+use std::alloc::Global;
+use std::test::Fail;
 
 #[test]
 fn laws_can_be_cited() {
@@ -9,4 +14,118 @@ fn laws_can_be_cited() {
     order_is_partial();
     merge_is_least_upper_bound();
     merge_is_idempotent();
+}
+
+fn stored(number: u64) -> Result<Stored, ViewFault> {
+    // No number here is 0.
+    Stored::new(number, [number as u8; 48]).ok_or(ViewFault::Full)
+}
+
+/// Learns a value, and once more where memory is refused.
+fn put_again(view: &mut View, id: u64, number: u64) -> Result<(), ViewFault> {
+    let stored = stored(number)?;
+    match view.put(id, stored) {
+        Err(ViewFault::OutOfMemory) => view.put(id, stored),
+        other => other,
+    }
+}
+
+/// Learns values of so many nodes under one number, in no order of their ids.
+fn learn(view: &mut View, ids: u64, number: u64) -> Result<(), ViewFault> {
+    for place in 0..ids {
+        put_again(view, place.wrapping_mul(37) % 257, number)?;
+    }
+    Ok(())
+}
+
+fn merge_again(view: &mut View, other: &View) -> Result<(), ViewFault> {
+    match view.merge(other) {
+        Err(ViewFault::OutOfMemory) => view.merge(other),
+        other => other,
+    }
+}
+
+fn sum_of_numbers(view: &View) -> u64 {
+    view.records().fold(0, |sum: u64, (_, stored)| sum.wrapping_add(stored.number()))
+}
+
+/// What is seen at the end of a run of puts and merges.
+#[derive(Clone, Copy)]
+struct Seen {
+    ids: usize,
+    sum: u64,
+    kept_sum: u64,
+    refused: Option<ViewFault>,
+}
+
+/// A view of 200 nodes is shared, and learns newer values of 256 nodes; then a new node is refused, and a known one not.
+fn seen_at_the_end(alloc: Global) -> Result<Seen, ViewFault> {
+    let mut view = View::new(alloc);
+    learn(&mut view, 200, 1)?;
+    let kept = view.share()?;
+    let mut newer = View::new(alloc);
+    learn(&mut newer, 256, 2)?;
+    merge_again(&mut view, &newer)?;
+    let refused = put_again(&mut view, 300, 1).err();
+    put_again(&mut view, 5, 3)?;
+    Ok(Seen {
+        ids: view.len(),
+        sum: sum_of_numbers(&view),
+        kept_sum: sum_of_numbers(&kept),
+        refused,
+    })
+}
+
+/// Run with any one allocation refused, the call at which it is refused changes nothing, and then succeeds.
+#[test]
+fn want_of_memory_changes_nothing(rt: HostRuntime) -> Result<(), Fail> {
+    let seen = seen_at_the_end(rt.alloc())?;
+    assert_eq!(rt; seen.ids, 256);
+    assert_eq!(rt; seen.sum, 513);
+    assert_eq!(rt; seen.kept_sum, 200);
+    assert_eq!(rt; seen.refused, Some(ViewFault::Full));
+    Ok(())
+}
+
+/// What the other view is told first.
+fn told() -> Result<[Command; 2], ViewFault> {
+    Ok([Command::Put(1, stored(3)?), Command::Put(2, stored(1)?)])
+}
+
+fn asked() -> Result<[Command; 7], ViewFault> {
+    Ok([
+        Command::Put(1, stored(2)?),
+        Command::Get(1),
+        Command::Merge,
+        Command::Get(1),
+        Command::Get(2),
+        Command::Get(3),
+        Command::Put(2, stored(1)?),
+    ])
+}
+
+fn replies_of_chunks(alloc: Global) -> Result<Vec<Reply>, ViewFault> {
+    let mut view = View::new(alloc);
+    let mut other = View::new(alloc);
+    run(alloc, &mut other, &view, &told()?)?;
+    Ok(run(alloc, &mut view, &other, &asked()?)?)
+}
+
+fn replies_of_a_sorted_map(alloc: Global) -> Result<Vec<Reply>, ViewFault> {
+    let mut view = SortedView::new(alloc);
+    let mut other = SortedView::new(alloc);
+    run(alloc, &mut other, &view, &told()?)?;
+    Ok(run(alloc, &mut view, &other, &asked()?)?)
+}
+
+#[test]
+fn both_forms_reply_alike(rt: HostRuntime) -> Result<(), Fail> {
+    let replies = replies_of_chunks(rt.alloc())?;
+    assert_eq!(rt;
+        replies.as_slice(),
+        replies_of_a_sorted_map(rt.alloc())?.as_slice()
+    );
+    assert_eq!(rt; replies.get(3), Some(&Reply::Known(Some(stored(3)?))));
+    assert_eq!(rt; replies.get(5), Some(&Reply::Known(None)));
+    Ok(())
 }

@@ -1,14 +1,14 @@
 -- Entries in rising id order.
-use Rattle.std.proofs.Common.{◌≡◌, ℕ, suc, ◌+◌, ◌≤◌, ◌<◌, Bool, true, false, cond, ◌==◌, nat_lt, nat_le, ◌&&◌, List, [], ◌∷◌, ◌++◌, length, take, drop, get_or, Option, Some, None, refl, sym, ap, subst, ◌∙◌, arith, append_assoc, T}
-use Rattle.std.proofs.lemmas.Bool.{ltb-true, ltb-false, lt-ltb, eqb-true, eqb-false, eq-eqb, leb-true, leb-false, le-leb}
-use Rattle.std.proofs.lemmas.List.{drop_more, take-append-drop}
+use Rattle.std.proofs.Common.{◌≡◌, ℕ, suc, ◌+◌, ◌≤◌, ◌<◌, Bool, true, false, cond, ◌==◌, nat_lt, nat_le, ◌&&◌, List, [], ◌∷◌, ◌++◌, length, take, drop, get_or, set, Some, None, refl, sym, ap, subst, ◌∙◌, arith, append_assoc, T}
+use Rattle.std.proofs.lemmas.Bool.{ltb-true, lt-ltb, eqb-true, eqb-false, eq-eqb, leb-true, leb-false, le-leb}
+use Rattle.std.proofs.lemmas.List.{drop_more, drop_all, set_split}
 use Rattle.std.specs.declared.cmp.Ordering.TheVariants.{Less, Equal, Greater}
 use Rattle.std.specs.Ordering.{nat_cmp, is_eq, is_lt}
-use Rattle.std.specs.List.{slice_get}
+use Rattle.std.specs.List.{insert}
 use Rattle.std.specs.FinMap.Entries.{put, find, by_order, below_all, is_sorted, is_sorted-put}
 use Rattle.std.specs.Cmp.{nat_cmp_total}
 use Rattle.sc_view.specs.declared.view.Stored.{Stored}
-use Rattle.sc_view.specs.Rows.{before, without_first, starts_above, entry_at, from, count_lacking, Over, Under, Rises, joined}
+use Rattle.sc_view.specs.Rows.{before, without_first, from, Over, Under, Rises}
 
 pub cmp_less : (x y : ℕ) → x < y → nat_cmp x y ≡ Less
 cmp_less x y h = ap (λ b. cond b Less (cond (x == y) Equal Greater)) (lt-ltb x y h)
@@ -262,3 +262,25 @@ find_behind id e es h = sym (find_later id e es h)
 
 pub rises_put : (id : ℕ) (x : Stored) (es : List (ℕ × Stored)) → Rises es → Rises (put nat_cmp id x es)
 rises_put id x es r = rises_from (put nat_cmp id x es) (is_sorted-put nat_cmp nat_cmp_total id x es (sorted_from es r))
+
+-- ---- a put in place
+
+head_kept : (id : ℕ) (e : ℕ × Stored) (es : List (ℕ × Stored)) → (e.0 ≡ id → ⊥) → without_first id (e ∷ es) ≡ e ∷ es
+head_kept id e es other = failed e.0 id es (e ∷ es) other
+
+pub put_over_known : (id : ℕ) (x : Stored) (es : List (ℕ × Stored)) (n : ℕ) (d : ℕ × Stored) → n ≡ before id es → n < length es → (get_or es n d).0 ≡ id → set es n (id, x) ≡ put nat_cmp id x es
+put_over_known id x es n d is l same =
+    let later : without_first id (drop n es) ≡ drop (n + 1) es = ap (without_first id) (drop_more es n d l) ∙ tested (get_or es n d).0 id (drop (n + 1) es) (get_or es n d ∷ drop (n + 1) es) same in
+    let next : suc n ≡ n + 1 = omega arith in
+    set_split es n (id, x) l ∙ ap (λ m. take n es ++ (id, x) ∷ drop m es) next ∙ ap (λ r. take n es ++ (id, x) ∷ r) (sym later)
+    ∙ ap (λ m. take m es ++ (id, x) ∷ without_first id (drop m es)) is ∙ sym (put_parts id x es)
+
+pub put_between : (id : ℕ) (x : Stored) (es : List (ℕ × Stored)) (n : ℕ) (d : ℕ × Stored) → n ≡ before id es → n < length es → ((get_or es n d).0 ≡ id → ⊥) → insert es n (id, x) ≡ put nat_cmp id x es
+put_between id x es n d is l other =
+    let later : without_first id (drop n es) ≡ drop n es = ap (without_first id) (drop_more es n d l) ∙ head_kept id (get_or es n d) (drop (n + 1) es) other ∙ sym (drop_more es n d l) in
+    ap (λ r. take n es ++ (id, x) ∷ r) (sym later) ∙ ap (λ m. take m es ++ (id, x) ∷ without_first id (drop m es)) is ∙ sym (put_parts id x es)
+
+pub put_behind : (id : ℕ) (x : Stored) (es : List (ℕ × Stored)) (n : ℕ) → n ≡ before id es → length es ≤ n → insert es n (id, x) ≡ put nat_cmp id x es
+put_behind id x es n is h =
+    let later : without_first id (drop n es) ≡ drop n es = ap (without_first id) (drop_all n es h) ∙ sym (drop_all n es h) in
+    ap (λ r. take n es ++ (id, x) ∷ r) (sym later) ∙ ap (λ m. take m es ++ (id, x) ∷ without_first id (drop m es)) is ∙ sym (put_parts id x es)

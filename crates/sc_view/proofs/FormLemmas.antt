@@ -1,8 +1,7 @@
 -- Runs of commands, one step on.
-use Rattle.std.proofs.Common.{◌≡◌, ℕ, ◌+◌, ◌<◌, List, [], ◌∷◌, ◌++◌, length, take, drop, get_or, refl, sym, subst}
-use Rattle.std.proofs.lemmas.List.{take_more, drop_more}
+use Rattle.std.proofs.Common.{ℕ, ◌+◌, ◌<◌, List, [], ◌∷◌, ◌++◌, length, take, get_or, refl, sym, subst}
+use Rattle.std.proofs.lemmas.List.{take_more}
 use Rattle.sc_view.specs.declared.form.Command.{Command}
-use Rattle.sc_view.specs.declared.form.Command.TheVariants.{Merge}
 use Rattle.sc_view.specs.declared.form.Reply.{Reply}
 use Rattle.sc_view.specs.Views.{ViewMap}
 use Rattle.sc_view.specs.Forms.{Runs, Answers}

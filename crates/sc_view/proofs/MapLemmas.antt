@@ -1,6 +1,8 @@
 -- Rising entries, seen as a finite map.
-use Rattle.std.proofs.Common.{◌≡◌, ℕ, suc, ◌+◌, ◌≤◌, ◌<◌, Bool, true, false, not, cond, ◌==◌, nat_lt, List, [], ◌∷◌, ◌++◌, map, length, Option, Some, None, is_some, refl, sym, ap, subst, ◌∙◌, arith, T}
+use Rattle.std.proofs.Common.{◌≡◌, ℕ, suc, ◌+◌, ◌≤◌, ◌<◌, Bool, true, false, not, cond, nat_lt, List, [], ◌∷◌, map, length, Option, Some, None, is_some, refl, sym, ap, subst, ◌∙◌, arith, true≢false}
 use Rattle.std.proofs.Common.{length-append, zero}
+use mir.Val.{bool_byte}
+use Rattle.std.proofs.lemmas.Bool.{ltb-true}
 use Rattle.std.specs.List.{slice_get}
 use Rattle.std.specs.Ordering.{nat_cmp, is_eq}
 use Rattle.std.specs.Cmp.{nat_cmp_total}
@@ -10,10 +12,10 @@ use Rattle.std.specs.FinMap as fin
 use Rattle.std.specs.FinMap.Entries as list
 use Rattle.std.specs.FinMap.Entries.{find, find-put}
 use Rattle.sc_view.specs.declared.view.Stored.{Stored}
-use Rattle.sc_view.specs.Views.{ViewMap, IsView, is_newer, newer, put, merge, HasSmallChunks, IsChunking}
-use Rattle.sc_view.specs.Rows.{Rises, Over, from, count_lacking, is_larger, IsRow, IsHeld, joined, HasAtMost, HasAtLeast}
+use Rattle.sc_view.specs.Views.{ViewMap, IsView, is_newer, put, merge, number_of, IsBelow, HasSmallChunks, IsChunking}
+use Rattle.sc_view.specs.Rows.{Rises, from, count_lacking, count_newer, is_larger, IsRow, IsHeld, joined, HasAtMost, HasAtLeast}
 use Rattle.sc_view.proofs.RowLemmas.{row_short}
-use Rattle.sc_view.proofs.EntryLemmas.{sorted_from, rises_from, cmp_greater, find_from, rises_put, rises_onward}
+use Rattle.sc_view.proofs.EntryLemmas.{sorted_from, cmp_greater, find_from, rises_put, rises_onward, find_here, find_behind}
 use Rattle.sc_view.proofs.ViewLemmas.{news, lacks, put_all, put_all-is, len-put, not_learned, empty_valid, len-merge}
 
 pub entries_rising : (es : List (ℕ × Stored)) → Rises es → fin.entries (fin.from_entries {R = nat_cmp} es) ≡ es
@@ -91,16 +93,18 @@ some_map : (o : Option Stored) → is_some (option_map (λ e. e.number) o) ≡ i
 some_map None = refl
 some_map (Some e) = refl
 
+less_one : (b c : Bool) (n a m total : ℕ) → c ≡ not b → a ≡ bool_byte b → n + cond c m (suc m) ≡ total → (n + a) + m ≡ total
+less_one true false n a m total is one sum = omega (arith, one, sum)
+less_one false true n a m total is one sum = omega (arith, one, sum)
+less_one true true n a m total is one sum = absurd (true≢false is)
+less_one false false n a m total is one sum = absurd (true≢false (sym is))
+
 -- one step of the count
-pub lacking_step : (b : Bool) (n total : ℕ) (e : ℕ × Stored) (es rest known : List (ℕ × Stored)) (r : Option ℕ) → Tells (e ∷ es) rest known → r ≡ option_map (λ e. e.number) (find nat_cmp e.0 rest)
-    → is_some r ≡ b → n + count_lacking known (e ∷ es) ≡ total → cond b n (n + 1) + count_lacking known es ≡ total
-lacking_step b n total e es rest known r t is some sum =
-    let known_here : is_some (find nat_cmp e.0 known) ≡ b = ap (λ (o : Option Stored). is_some o) (sym (t e.0 (omega arith))) ∙ sym (some_map (find nat_cmp e.0 rest)) ∙ ap (λ (o : Option ℕ). is_some o) (sym is) ∙ some in
-    counted_by b n (count_lacking known es) total (ap (λ c. n + cond c (count_lacking known es) (suc (count_lacking known es))) (sym known_here) ∙ sum)
-  where
-    counted_by : (b : Bool) (n m total : ℕ) → n + cond b m (suc m) ≡ total → cond b n (n + 1) + m ≡ total
-    counted_by true n m total h = h
-    counted_by false n m total h = omega (arith, h)
+lacking_step : (b : Bool) (n a total : ℕ) (e : ℕ × Stored) (es rest known : List (ℕ × Stored)) (r : Option ℕ) → Tells (e ∷ es) rest known → r ≡ option_map (λ e. e.number) (find nat_cmp e.0 rest)
+    → is_some r ≡ not b → a ≡ bool_byte b → n + count_lacking known (e ∷ es) ≡ total → (n + a) + count_lacking known es ≡ total
+lacking_step b n a total e es rest known r t is none one sum =
+    let here : is_some (find nat_cmp e.0 known) ≡ is_some r = ap (λ (o : Option Stored). is_some o) (sym (t e.0 (omega arith))) ∙ sym (some_map (find nat_cmp e.0 rest)) ∙ ap (λ (o : Option ℕ). is_some o) (sym is) in
+    less_one b (is_some r) n a (count_lacking known es) total none one (ap (λ c. n + cond c (count_lacking known es) (suc (count_lacking known es))) (sym here) ∙ sum)
 
 -- ---- a merge, entry by entry
 
@@ -132,7 +136,7 @@ put_all_rising v es r = ap (put_all v) (sym (entries_rising es r)) ∙ put_all-i
 -- a row of one chunk with no entry
 pub blank_held : IsHeld ([] ∷ []) 0
 blank_held = record {
-  row = record { some = omega arith; most = (omega arith, tt); least = λ h. absurd (omega (arith, h)); rises = tt };
+  row = record { some = omega arith; most = (omega arith, tt); least = λ h. absurd (omega (arith, h)); single = λ h. refl; split = λ h. absurd (omega (arith, h)); rises = tt };
   counted = refl;
   valid = empty_valid;
 }
@@ -149,10 +153,34 @@ pub tells_next : (e : ℕ × Stored) (now next rest left known : List (ℕ × St
 tells_next e now next rest left known is sought r t =
     subst (λ (x : List (ℕ × Stored)). Tells next x known) (sym sought) (tells_from e next rest known (subst Rises is r) (subst (λ (x : List (ℕ × Stored)). Tells x rest known) is t))
 
-pub count_next : (b : Bool) (n total : ℕ) (e : ℕ × Stored) (now next rest known : List (ℕ × Stored)) (r : Option ℕ) → now ≡ e ∷ next → Tells now rest known → r ≡ option_map (λ e. e.number) (find nat_cmp e.0 rest)
-    → is_some r ≡ b → n + count_lacking known now ≡ total → cond b n (n + 1) + count_lacking known next ≡ total
-count_next b n total e now next rest known r is t found some sum =
-    lacking_step b n total e next rest known r (subst (λ (x : List (ℕ × Stored)). Tells x rest known) is t) found some (subst (λ (x : List (ℕ × Stored)). n + count_lacking known x ≡ total) is sum)
+pub lacking_next : (b : Bool) (n a total : ℕ) (e : ℕ × Stored) (now next rest known : List (ℕ × Stored)) (r : Option ℕ) → now ≡ e ∷ next → Tells now rest known → r ≡ option_map (λ e. e.number) (find nat_cmp e.0 rest)
+    → is_some r ≡ not b → a ≡ bool_byte b → n + count_lacking known now ≡ total → (n + a) + count_lacking known next ≡ total
+lacking_next b n a total e now next rest known r is t found none one sum =
+    lacking_step b n a total e next rest known r (subst (λ (x : List (ℕ × Stored)). Tells x rest known) is t) found none one (subst (λ (x : List (ℕ × Stored)). n + count_lacking known x ≡ total) is sum)
+
+one_more : (b : Bool) (n a m total : ℕ) → a ≡ bool_byte b → n + cond b (suc m) m ≡ total → (n + a) + m ≡ total
+one_more true n a m total one sum = omega (arith, one, sum)
+one_more false n a m total one sum = omega (arith, one, sum)
+
+larger_step : (n a total : ℕ) (e : ℕ × Stored) (es rest known : List (ℕ × Stored)) (r : Option ℕ) → Tells (e ∷ es) rest known → r ≡ option_map (λ e. e.number) (find nat_cmp e.0 rest)
+    → a ≡ bool_byte (is_larger r e.1.number) → n + count_newer known (e ∷ es) ≡ total → (n + a) + count_newer known es ≡ total
+larger_step n a total e es rest known r t is one sum =
+    let here : is_newer (find nat_cmp e.0 known) e.1 ≡ is_larger r e.1.number =
+    ap (λ (o : Option Stored). is_newer o e.1) (sym (t e.0 (omega arith))) ∙ sym (larger_is (find nat_cmp e.0 rest) e.1) ∙ ap (λ (o : Option ℕ). is_larger o e.1.number) (sym is) in
+    one_more (is_larger r e.1.number) n a (count_newer known es) total one (ap (λ c. n + cond c (suc (count_newer known es)) (count_newer known es)) (sym here) ∙ sum)
+
+pub larger_next : (n a total : ℕ) (e : ℕ × Stored) (now next rest known : List (ℕ × Stored)) (r : Option ℕ) → now ≡ e ∷ next → Tells now rest known → r ≡ option_map (λ e. e.number) (find nat_cmp e.0 rest)
+    → a ≡ bool_byte (is_larger r e.1.number) → n + count_newer known now ≡ total → (n + a) + count_newer known next ≡ total
+larger_next n a total e now next rest known r is t found one sum =
+    larger_step n a total e next rest known r (subst (λ (x : List (ℕ × Stored)). Tells x rest known) is t) found one (subst (λ (x : List (ℕ × Stored)). n + count_newer known x ≡ total) is sum)
+
+at_most_one : (b : Bool) (n m : ℕ) → n ≤ m → cond b (suc n) n ≤ suc m
+at_most_one true n m h = omega (arith, h)
+at_most_one false n m h = omega (arith, h)
+
+pub newer_few : (known es : List (ℕ × Stored)) → count_newer known es ≤ length es
+newer_few known [] = omega arith
+newer_few known (e ∷ es) = at_most_one (is_newer (find nat_cmp e.0 known) e.1) (count_newer known es) (length es) (newer_few known es)
 
 pub newer_next : (b : Bool) (e : ℕ × Stored) (now next rest row known : List (ℕ × Stored)) (r : Option ℕ) → now ≡ e ∷ next → Tells now rest known → Tells now row known → r ≡ option_map (λ e. e.number) (find nat_cmp e.0 rest)
     → is_larger r e.1.number ≡ b → is_newer (fin.get (fin.from_entries {R = nat_cmp} row) e.0) e.1 ≡ b
@@ -195,6 +223,55 @@ merged_count es fs v w n m is others r s count new =
     let both : n + m ≡ fin.len (merge (fin.from_entries es) (fin.from_entries fs)) = omega (arith, here, lacking, count, len-merge (fin.from_entries es) (fin.from_entries fs)) in
     both ∙ (λ i. fin.len (merge (is i) (others i)))
 
+-- ---- where nothing is newer
+
+zero_by : (b : Bool) (m : ℕ) → cond b (suc m) m ≡ 0 → (b ≡ false) × (m ≡ 0)
+zero_by true m h = absurd (omega (arith, h))
+zero_by false m h = (refl, h)
+
+put_none : (known es : List (ℕ × Stored)) → count_newer known es ≡ 0 → put_all (fin.from_entries known) es ≡ fin.from_entries known
+put_none known [] h = refl
+put_none known (e ∷ es) h =
+    let none = zero_by (is_newer (find nat_cmp e.0 known) e.1) (count_newer known es) h in
+    ap (λ (v : ViewMap). put_all v es) (sym (not_learned (fin.from_entries known) e.0 e.1 (ap (λ (o : Option Stored). is_newer o e.1) (get_rising known e.0) ∙ none.0)))
+    ∙ put_none known es none.1
+
+-- a merge of what is known changes nothing
+pub merge_none : (es fs : List (ℕ × Stored)) (v w : ViewMap) (n : ℕ) → fin.from_entries es ≡ v → fin.from_entries fs ≡ w → Rises fs → n ≡ count_newer es fs → n ≡ 0 → merge v w ≡ v
+merge_none es fs v w n is others r count none =
+    sym (λ i. merge (is i) (others i)) ∙ sym (put_all_rising (fin.from_entries es) fs r) ∙ put_none es fs (sym count ∙ none) ∙ is
+
+no_newer : (o : Option Stored) (x : Stored) → 1 ≤ x.number → x.number ≤ number_of o → is_newer o x ≡ false
+no_newer None x h l = absurd (omega (arith, h, l))
+no_newer (Some old) x h l = not_less (nat_lt old.number x.number) old.number x.number refl l
+  where
+    not_less : (b : Bool) (m n : ℕ) → nat_lt m n ≡ b → n ≤ m → b ≡ false
+    not_less true m n is l = absurd (omega (arith, ltb-true m n is, l))
+    not_less false m n is l = refl
+
+none_by : (b : Bool) (m : ℕ) → b ≡ false → m ≡ 0 → cond b (suc m) m ≡ 0
+none_by true m is h = absurd (true≢false is)
+none_by false m is h = h
+
+from_tail : (e : ℕ × Stored) (es all : List (ℕ × Stored)) → Rises (e ∷ es) → Tells (e ∷ es) (e ∷ es) all → Tells es es all
+from_tail e [] all r t = tt
+from_tail e (f ∷ es) all r t = λ q h. find_behind q e (f ∷ es) (omega (arith, h, r.0.0)) ∙ t q (omega (arith, h, r.0.0))
+
+none_newer : (known all es : List (ℕ × Stored)) → Rises es → Tells es es all → ((q : ℕ) → number_of (find nat_cmp q all) ≤ number_of (find nat_cmp q known)) → ((q : ℕ) (x : Stored) → find nat_cmp q all ≡ Some x → 1 ≤ x.number)
+    → count_newer known es ≡ 0
+none_newer known all [] r t less counted = refl
+none_newer known all (e ∷ es) r t less counted =
+    let here : find nat_cmp e.0 all ≡ Some e.1 = sym (t e.0 (omega arith)) ∙ find_here e.0 e es refl in
+    let old : is_newer (find nat_cmp e.0 known) e.1 ≡ false = no_newer (find nat_cmp e.0 known) e.1 (counted e.0 e.1 here) (subst (λ (o : Option Stored). number_of o ≤ number_of (find nat_cmp e.0 known)) here (less e.0)) in
+    none_by (is_newer (find nat_cmp e.0 known) e.1) (count_newer known es) old (none_newer known all es r.1 (from_tail e es all r t) less counted)
+
+pub below_none : (es fs : List (ℕ × Stored)) (v w : ViewMap) (n : ℕ) → fin.from_entries es ≡ v → fin.from_entries fs ≡ w → Rises fs → IsView (fin.from_entries fs) → n ≡ count_newer es fs → IsBelow w v → n ≡ 0
+below_none es fs v w n is others r valid count below =
+    let under : IsBelow (fin.from_entries fs) (fin.from_entries es) = subst (λ (u : ViewMap). IsBelow (fin.from_entries fs) u) (sym is) (subst (λ (u : ViewMap). IsBelow u v) (sym others) below) in
+    count ∙ none_newer es fs fs r (tells_all fs fs)
+    (λ q. subst (λ (o : Option Stored). number_of (find nat_cmp q fs) ≤ number_of o) (get_rising es q) (subst (λ (o : Option Stored). number_of o ≤ number_of (fin.get {R = nat_cmp} (fin.from_entries es) q)) (get_rising fs q) (under.at q)))
+    (λ q x has. valid.counted q x (get_rising fs q ∙ has))
+
 -- ---- the chunks of a row
 
 small_if_several : (cs : List (List (ℕ × Stored))) → HasAtMost 32 cs → HasAtLeast 16 cs → HasSmallChunks cs
@@ -206,12 +283,17 @@ small_chunks [] row some = tt
 small_chunks (c ∷ []) row some = ((omega (arith, some, length-append c []), row.most.0), tt)
 small_chunks (c ∷ d ∷ cs) row some = small_if_several (c ∷ d ∷ cs) row.most (row.least (omega arith))
 
+length_of : (cs : List (List (ℕ × Stored))) (v : ViewMap) → IsRow cs → fin.from_entries (joined cs) ≡ v → fin.len v ≡ length (joined cs)
+length_of cs v row is = sym (ap (λ (m : ViewMap). fin.len m) is) ∙ len_rising (joined cs) row.rises
+
 pub chunking : (cs : List (List (ℕ × Stored))) (v : ViewMap) → IsRow cs → fin.from_entries (joined cs) ≡ v → 1 ≤ length (joined cs) → length (joined cs) ≤ 256 → IsChunking v cs
 chunking cs v row is some few = record {
   all = sym (entries_rising (joined cs) row.rises) ∙ ap (λ (m : ViewMap). fin.entries m) is;
   few = row_short cs row few;
   small = small_chunks cs row some;
   filled = row.least;
+  single = λ h. omega (arith, row.single (omega (arith, h, length_of cs v row is)));
+  split = λ h. row.split (sym (length_of cs v row is) ∙ h);
 }
 
 no_entries : (es : List (ℕ × Stored)) → length es ≡ 0 → [] ≡ es
@@ -224,6 +306,8 @@ no_chunking cs v row is none = record {
   few = omega arith;
   small = tt;
   filled = λ h. tt;
+  single = λ h. omega arith;
+  split = λ h. absurd (omega (arith, h, length_of cs v row is, none));
 }
 
 pub slice_get_past : {X : Type 0} (xs : List X) (k : ℕ) → length xs ≤ k → None ≡ slice_get xs k

@@ -1,5 +1,5 @@
 -- Rows of chunks.
-use Rattle.std.proofs.Common.{◌≡◌, ℕ, zero, suc, ◌+◌, ◌-◌, ◌*◌, ◌≤◌, ◌<◌, Bool, true, false, List, [], ◌∷◌, ◌++◌, length, take, drop, get_or, set, refl, sym, ap, subst, ◌∙◌, arith, append_assoc, length-append, true≢false, nat_lt}
+use Rattle.std.proofs.Common.{◌≡◌, ℕ, zero, suc, ◌+◌, ◌*◌, ◌≤◌, ◌<◌, Bool, true, false, List, [], ◌∷◌, ◌++◌, length, map, take, drop, get_or, set, refl, sym, ap, subst, ◌∙◌, arith, append_assoc, length-append, true≢false, nat_lt}
 use Rattle.std.proofs.lemmas.Bool.{ltb-true, ltb-false}
 use Rattle.std.proofs.lemmas.List.{drop_more, take-append-drop, drop_all, set_split, take_more_set, drop-set-lt}
 use Rattle.std.proofs.lemmas.List.{length-set, length-drop, length-take-le}
@@ -8,8 +8,8 @@ use Rattle.std.specs.List.{insert}
 use Rattle.std.specs.Ordering.{nat_cmp}
 use Rattle.std.specs.FinMap.Entries.{put, find}
 use Rattle.sc_view.specs.declared.view.Stored.{Stored}
-use Rattle.sc_view.specs.Rows.{Over, Under, Rises, joined, HasAtMost, HasAtLeast, IsRow, starts_above}
-use Rattle.sc_view.proofs.EntryLemmas.{put_within, under_before, over_from, rises_right, sorted_from, rises_from, put_longer, put_by_one, rises_put, find_within, rises_left}
+use Rattle.sc_view.specs.Rows.{Over, Under, Rises, joined, HasAtMost, HasAtLeast, IsRow, LearnsAt, starts_above}
+use Rattle.sc_view.proofs.EntryLemmas.{put_within, under_before, over_from, rises_right, put_longer, put_by_one, rises_put, find_within, rises_left}
 
 pub flat-append : (cs ds : List (List (ℕ × Stored))) → joined (cs ++ ds) ≡ joined cs ++ joined ds
 flat-append [] ds = refl
@@ -89,9 +89,45 @@ others_large (p ∷ pre) c post h =
     let all : HasAtLeast 16 (p ∷ (pre ++ c ∷ post)) = h (omega (arith, length-append pre (c ∷ post))) in
     ((all.0, least_left 16 pre (c ∷ post) all.1), (least_right 16 pre (c ∷ post) all.1).1)
 
+-- ---- how many entries, and in chunks of which sizes
+
+flat_length : (pre : List (List (ℕ × Stored))) (c : List (ℕ × Stored)) (post : List (List (ℕ × Stored))) → length (joined (pre ++ c ∷ post)) ≡ length (joined pre) + (length c + length (joined post))
+flat_length pre c post = ap length (flat-append pre (c ∷ post)) ∙ length-append (joined pre) (c ++ joined post) ∙ ap (λ n. length (joined pre) + n) (length-append c (joined post))
+
+lone : (pre : List (List (ℕ × Stored))) (c : List (ℕ × Stored)) (post : List (List (ℕ × Stored))) → length (pre ++ c ∷ post) ≡ 1 → (length (joined pre) ≡ 0) × (length (joined post) ≡ 0)
+lone [] c [] h = (refl, refl)
+lone [] c (d ∷ post) h = absurd (omega (arith, h))
+lone (p ∷ pre) c post h = absurd (omega (arith, h, length-append pre (c ∷ post)))
+
+same_sizes : (pre : List (List (ℕ × Stored))) (c d : List (ℕ × Stored)) (post : List (List (ℕ × Stored))) → length c ≡ length d → map (λ c. length c) (pre ++ c ∷ post) ≡ map (λ c. length c) (pre ++ d ∷ post)
+same_sizes [] c d post h = ap (λ n. n ∷ map (λ c. length c) post) h
+same_sizes (p ∷ pre) c d post h = ap (λ ns. length p ∷ ns) (same_sizes pre c d post h)
+
+-- a put into one of the chunks of a row of 33 entries leaves their sizes
+split_kept : (b : Bool) (pre : List (List (ℕ × Stored))) (c all : List (ℕ × Stored)) (post : List (List (ℕ × Stored))) → IsRow (pre ++ c ∷ post)
+    → length c ≤ length all → length all ≤ length c + 1 → length all ≤ 32 → nat_lt (length c) (length all) ≡ b → length (joined (pre ++ all ∷ post)) ≡ 33 → map (λ c. length c) (pre ++ all ∷ post) ≡ 16 ∷ 17 ∷ []
+split_kept true pre c all post row longer by_one fits more whole =
+    let one : length (pre ++ c ∷ post) ≡ 1 = row.single (omega (arith, flat_length pre c post, flat_length pre all post, ltb-true (length c) (length all) more, by_one, whole)) in
+    let none = lone pre c post one in
+    absurd (omega (arith, flat_length pre all post, none.0, none.1, fits, whole))
+split_kept false pre c all post row longer by_one fits more whole =
+    let same : length all ≡ length c = omega (arith, longer, ltb-false (length c) (length all) more) in
+    same_sizes pre all c post same ∙ row.split (omega (arith, flat_length pre c post, flat_length pre all post, same, whole))
+
+-- the 33rd entry splits a row of one chunk
+split_first : (pre : List (List (ℕ × Stored))) (f b : List (ℕ × Stored)) (post : List (List (ℕ × Stored))) → HasAtLeast 16 pre → HasAtLeast 16 post
+    → length f ≡ 16 → 17 ≤ length b → length (joined (pre ++ f ∷ b ∷ post)) ≡ 33 → map (λ c. length c) (pre ++ f ∷ b ∷ post) ≡ 16 ∷ 17 ∷ []
+split_first [] f b [] g h f_long b_long whole =
+    let long : length b ≡ 17 = omega (arith, whole, f_long, length-append f (b ++ []), length-append b []) in
+    λ i. f_long i ∷ long i ∷ []
+split_first [] f b (p ∷ post) g h f_long b_long whole =
+    absurd (omega (arith, whole, f_long, b_long, h.0, length-append f (b ++ (p ++ joined post)), length-append b (p ++ joined post), length-append p (joined post)))
+split_first (p ∷ pre) f b post g h f_long b_long whole =
+    absurd (omega (arith, whole, f_long, b_long, g.0, length-append p (joined (pre ++ f ∷ b ∷ post)), flat_length pre f (b ∷ post), length-append b (joined post)))
+
 row_whole : (pre : List (List (ℕ × Stored))) (c all : List (ℕ × Stored)) (post : List (List (ℕ × Stored))) → IsRow (pre ++ c ∷ post)
-    → length c ≤ length all → length all ≤ 32 → Rises (joined (pre ++ all ∷ post)) → IsRow (pre ++ all ∷ post)
-row_whole pre c all post row longer fits rises =
+    → length c ≤ length all → length all ≤ length c + 1 → length all ≤ 32 → Rises (joined (pre ++ all ∷ post)) → IsRow (pre ++ all ∷ post)
+row_whole pre c all post row longer by_one fits rises =
     let same : length (pre ++ all ∷ post) ≡ length (pre ++ c ∷ post) = omega (arith, length-append pre (all ∷ post), length-append pre (c ∷ post)) in
     record {
       some = omega (arith, same, row.some);
@@ -100,17 +136,21 @@ row_whole pre c all post row longer fits rises =
           let old : HasAtLeast 16 (pre ++ c ∷ post) = row.least (omega (arith, same, several)) in
           let here : HasAtLeast 16 (c ∷ post) = least_right 16 pre (c ∷ post) old in
           least_join 16 pre (all ∷ post) (least_left 16 pre (c ∷ post) old) (omega (arith, here.0, longer), here.1);
+      single = λ few. same ∙ row.single (omega (arith, flat_length pre c post, flat_length pre all post, longer, few));
+      split = split_kept (nat_lt (length c) (length all)) pre c all post row longer by_one fits refl;
       rises = rises;
     }
 
 row_split : (pre : List (List (ℕ × Stored))) (c f b : List (ℕ × Stored)) (post : List (List (ℕ × Stored))) → IsRow (pre ++ c ∷ post)
-    → 16 ≤ length f → length f ≤ 32 → 16 ≤ length b → length b ≤ 32 → Rises (joined (pre ++ f ∷ b ∷ post)) → IsRow (pre ++ f ∷ b ∷ post)
-row_split pre c f b post row f_least f_most b_least b_most rises =
+    → length f ≡ 16 → 17 ≤ length b → length b ≤ 32 → Rises (joined (pre ++ f ∷ b ∷ post)) → IsRow (pre ++ f ∷ b ∷ post)
+row_split pre c f b post row f_long b_least b_most rises =
     let others = others_large pre c post row.least in
     record {
       some = omega (arith, length-append pre (f ∷ b ∷ post));
-      most = most_join 32 pre (f ∷ b ∷ post) (most_left 32 pre (c ∷ post) row.most) (f_most, (b_most, (most_right 32 pre (c ∷ post) row.most).1));
-      least = λ _. least_join 16 pre (f ∷ b ∷ post) others.0 (f_least, (b_least, others.1));
+      most = most_join 32 pre (f ∷ b ∷ post) (most_left 32 pre (c ∷ post) row.most) (omega (arith, f_long), (b_most, (most_right 32 pre (c ∷ post) row.most).1));
+      least = λ _. least_join 16 pre (f ∷ b ∷ post) others.0 (omega (arith, f_long), (omega (arith, b_least), others.1));
+      single = λ few. absurd (omega (arith, few, flat_length pre f (b ∷ post), length-append b (joined post), f_long, b_least));
+      split = split_first pre f b post others.0 others.1 f_long b_least;
       rises = rises;
     }
 
@@ -128,19 +168,19 @@ whole_at : (id : ℕ) (x : Stored) (pre : List (List (ℕ × Stored))) (c : List
 whole_at id x pre c post row u o fits =
     let is : joined (pre ++ put nat_cmp id x c ∷ post) ≡ put nat_cmp id x (joined (pre ++ c ∷ post)) = flat-append pre (put nat_cmp id x c ∷ post) ∙ flat_put id x pre c post u o in
     record {
-      row = row_whole pre c (put nat_cmp id x c) post row (put_longer id x c) fits (subst Rises (sym is) (rises_put id x _ row.rises));
+      row = row_whole pre c (put nat_cmp id x c) post row (put_longer id x c) (put_by_one id x c) fits (subst Rises (sym is) (rises_put id x _ row.rises));
       entries = is;
     }
 
 split_at : (id : ℕ) (x : Stored) (pre : List (List (ℕ × Stored))) (c f b : List (ℕ × Stored)) (post : List (List (ℕ × Stored))) → IsRow (pre ++ c ∷ post) → Under id (joined pre) → Over id (joined post)
-    → f ++ b ≡ put nat_cmp id x c → length f ≡ 16 → 16 ≤ length b → IsPut id x (pre ++ c ∷ post) (pre ++ f ∷ b ∷ post)
+    → f ++ b ≡ put nat_cmp id x c → length f ≡ 16 → 17 ≤ length b → IsPut id x (pre ++ c ∷ post) (pre ++ f ∷ b ∷ post)
 split_at id x pre c f b post row u o all f_long b_long =
     let fits : length c ≤ 32 = (most_right 32 pre (c ∷ post) row.most).0 in
     let long : length f + length b ≤ length c + 1 = subst (λ n. n ≤ length c + 1) (sym (ap length all) ∙ length-append f b) (put_by_one id x c) in
     let is : joined (pre ++ f ∷ b ∷ post) ≡ put nat_cmp id x (joined (pre ++ c ∷ post)) =
     flat-append pre (f ∷ b ∷ post) ∙ ap (λ r. joined pre ++ r) (sym (append_assoc f b (joined post)) ∙ ap (λ r. r ++ joined post) all) ∙ flat_put id x pre c post u o in
     record {
-      row = row_split pre c f b post row (omega (arith, f_long)) (omega (arith, f_long)) b_long (omega (arith, long, f_long, fits)) (subst Rises (sym is) (rises_put id x _ row.rises));
+      row = row_split pre c f b post row f_long b_long (omega (arith, long, f_long, fits)) (subst Rises (sym is) (rises_put id x _ row.rises));
       entries = is;
     }
 
@@ -164,7 +204,7 @@ inserted cs k f b h =
     ∙ ap (λ r. take k cs ++ f ∷ b ∷ r) (drop-set-lt (k + 1) cs k f (omega arith))
 
 pub put_split : (id : ℕ) (x : Stored) (cs : List (List (ℕ × Stored))) (k : ℕ) (c f b : List (ℕ × Stored)) → IsRow cs → k < length cs → Under id (joined (take k cs)) → Over id (joined (drop (k + 1) cs))
-    → c ≡ get_or cs k c → f ++ b ≡ put nat_cmp id x c → length f ≡ 16 → 16 ≤ length b → IsPut id x cs (insert (set cs k f) (k + 1) b)
+    → c ≡ get_or cs k c → f ++ b ≡ put nat_cmp id x c → length f ≡ 16 → 17 ≤ length b → IsPut id x cs (insert (set cs k f) (k + 1) b)
 put_split id x cs k c f b row l u o read all f_long b_long =
     let here : cs ≡ take k cs ++ c ∷ drop (k + 1) cs = parts cs k c l ∙ ap (λ r. take k cs ++ r ∷ drop (k + 1) cs) (sym read) in
     let made : IsPut id x (take k cs ++ c ∷ drop (k + 1) cs) (take k cs ++ f ∷ b ∷ drop (k + 1) cs) =
@@ -190,23 +230,34 @@ room_for id x cs k f b l made few =
     let short : length (insert (set cs k f) (k + 1) b) ≤ 16 = row_short (insert (set cs k f) (k + 1) b) made.row (subst (λ es. length es ≤ 256) (sym made.entries) few) in
     omega (arith, short, length-insert (set cs k f) (k + 1) b (omega (arith, length-set cs k f, l)), length-set cs k f)
 
--- where the chunks were read from a row
-pub put_whole_in : (id : ℕ) (x : Stored) (cs ds : List (List (ℕ × Stored))) (k : ℕ) (c all : List (ℕ × Stored)) → ds ≡ cs → IsRow cs → k < length ds → Under id (joined (take k ds)) → Over id (joined (drop (k + 1) ds))
-    → c ≡ get_or ds k c → all ≡ put nat_cmp id x c → length all ≤ 32 → IsPut id x cs (set cs k all)
-put_whole_in id x cs ds k c all same row l u o read is fits =
-    subst (λ r. IsPut id x r (set r k all)) same (put_whole id x ds k c all (subst IsRow (sym same) row) l u o read is fits)
+get_same : (cs : List (List (ℕ × Stored))) (k : ℕ) (d e : List (ℕ × Stored)) → k < length cs → get_or cs k d ≡ get_or cs k e
+get_same [] k d e h = absurd (omega (arith, h))
+get_same (c ∷ cs) zero d e h = refl
+get_same (c ∷ cs) (suc k) d e h = get_same cs k d e (omega (arith, h))
 
-pub put_split_in : (id : ℕ) (x : Stored) (cs ds : List (List (ℕ × Stored))) (k : ℕ) (c all : List (ℕ × Stored)) → ds ≡ cs → IsRow cs → k < length ds → Under id (joined (take k ds)) → Over id (joined (drop (k + 1) ds))
+-- a put in place
+pub put_learnt : (id : ℕ) (x : Stored) (cs ds new : List (List (ℕ × Stored))) (k : ℕ) → ds ≡ cs → IsRow cs → k < length ds → Under id (joined (take k ds)) → Over id (joined (drop (k + 1) ds)) → LearnsAt k id x cs new true → IsPut id x cs new
+put_learnt id x cs ds new k same row l u o learnt =
+    let here : k < length cs = subst (λ r. k < length r) same l in
+    let made : IsPut id x cs (set cs k (put nat_cmp id x (get_or cs k []))) =
+    put_whole id x cs k (get_or cs k []) (put nat_cmp id x (get_or cs k [])) row here (subst (λ r. Under id (joined (take k r))) same u) (subst (λ r. Over id (joined (drop (k + 1) r))) same o)
+    (get_same cs k [] (get_or cs k []) here) refl learnt.1 in
+    subst (IsPut id x cs) (sym learnt.0) made
+
+-- where the chunk was read from a row
+pub put_whole_in : (id : ℕ) (x : Stored) (cs ds : List (List (ℕ × Stored))) (k : ℕ) (c all : List (ℕ × Stored)) → ds ≡ cs → IsRow cs → k < length cs → Under id (joined (take k cs)) → Over id (joined (drop (k + 1) cs))
+    → c ≡ get_or ds k c → all ≡ put nat_cmp id x c → length all ≤ 32 → IsPut id x cs (set cs k all)
+put_whole_in id x cs ds k c all same row l u o read is fits = put_whole id x cs k c all row l u o (read ∙ ap (λ r. get_or r k c) same) is fits
+
+pub put_split_in : (id : ℕ) (x : Stored) (cs ds : List (List (ℕ × Stored))) (k : ℕ) (c all : List (ℕ × Stored)) → ds ≡ cs → IsRow cs → k < length cs → Under id (joined (take k cs)) → Over id (joined (drop (k + 1) cs))
     → c ≡ get_or ds k c → all ≡ put nat_cmp id x c → 32 < length all → IsPut id x cs (insert (set cs k (take 16 all)) (k + 1) (drop 16 all))
 put_split_in id x cs ds k c all same row l u o read is long =
-    subst (λ r. IsPut id x r (insert (set r k (take 16 all)) (k + 1) (drop 16 all))) same
-    (put_split id x ds k c (take 16 all) (drop 16 all) (subst IsRow (sym same) row) l u o read (take-append-drop 16 all ∙ is)
-    (length-take-le 16 all (omega (arith, long))) (omega (arith, length-drop 16 all, long)))
+    put_split id x cs k c (take 16 all) (drop 16 all) row l u o (read ∙ ap (λ r. get_or r k c) same) (take-append-drop 16 all ∙ is)
+    (length-take-le 16 all (omega (arith, long))) (omega (arith, length-drop 16 all, long))
 
-pub room_in : (id : ℕ) (x : Stored) (cs ds : List (List (ℕ × Stored))) (k : ℕ) (all : List (ℕ × Stored)) → ds ≡ cs → k < length ds → IsPut id x cs (insert (set cs k (take 16 all)) (k + 1) (drop 16 all)) → length (put nat_cmp id x (joined cs)) ≤ 256
+pub room_in : (id : ℕ) (x : Stored) (cs : List (List (ℕ × Stored))) (k : ℕ) (all : List (ℕ × Stored)) → k < length cs → IsPut id x cs (insert (set cs k (take 16 all)) (k + 1) (drop 16 all)) → length (put nat_cmp id x (joined cs)) ≤ 256
     → (k + 1 ≤ length (set cs k (take 16 all))) × (length (set cs k (take 16 all)) < 16)
-room_in id x cs ds k all same l made few =
-    let here : k < length cs = subst (λ r. k < length r) same l in
+room_in id x cs k all here made few =
     let room : length cs < 16 = room_for id x cs k (take 16 all) (drop 16 all) here made few in
     (omega (arith, here, length-set cs k (take 16 all)), omega (arith, room, length-set cs k (take 16 all)))
 

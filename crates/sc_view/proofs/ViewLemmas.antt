@@ -61,6 +61,14 @@ put_has v id e = let is : number_at (put v id e) id ≡ (newer (fin.get v id) e)
 pub len-put : (v : ViewMap) (id : ℕ) (e : Stored) → fin.len (put v id e) ≡ cond (is_some (fin.get v id)) (fin.len v) (fin.len v + 1)
 len-put v id e = fin.len-insert nat_cmp_total v id (newer (fin.get v id) e)
 
+known_by : (o : Option Stored) (n m : ℕ) → 1 ≤ m → m ≤ number_of o → cond (is_some o) n (n + 1) ≡ n
+known_by None n m h l = absurd (omega (arith, h, l))
+known_by (Some e) n m h l = refl
+
+-- what is known adds no id
+pub known_len : (v : ViewMap) (id : ℕ) (e : Stored) → 1 ≤ e.number → e.number ≤ number_at v id → fin.len (put v id e) ≡ fin.len v
+known_len v id e h l = len-put v id e ∙ known_by (fin.get v id) (fin.len v) e.number h l
+
 pub news : (old : Option Stored) (e : Stored) → is_newer old e ≡ true → newer old e ≡ e
 news None e is = refl
 news (Some old) e is = ap (λ b. cond b e old) is

@@ -1,7 +1,6 @@
 -- What a run of commands answers, by the map alone.
-use Rattle.std.specs.Prelude.{◌≡◌, ℕ, ◌≤◌, ◌<◌, List, [], ◌∷◌, Option, Result, Ok, Err}
+use Rattle.std.specs.Prelude.{◌≡◌, ◌≤◌, ◌<◌, List, [], ◌∷◌, Result, Ok, Err}
 use Rattle.std.specs.FinMap as fin
-use Rattle.sc_view.specs.declared.view.Stored.{Stored}
 use Rattle.sc_view.specs.declared.view.ViewFault.{ViewFault}
 use Rattle.sc_view.specs.declared.view.ViewFault.TheVariants.{Full, OutOfMemory}
 use Rattle.sc_view.specs.declared.form.Command.{Command}

@@ -1,10 +1,10 @@
 -- Rows of chunks: entries in rising id order, within each chunk and across them.
-use Rattle.std.specs.Prelude.{◌≡◌, ℕ, suc, ◌+◌, ◌≤◌, ◌<◌, nat_le, nat_lt, ◌==◌, Bool, true, false, cond, length, List, [], ◌∷◌, ◌++◌, Option, Some, None, is_some}
+use Rattle.std.specs.Prelude.{◌≡◌, ℕ, suc, ◌≤◌, ◌<◌, nat_le, nat_lt, slice_set, slice_index_or, ◌==◌, Bool, true, false, cond, length, map, List, [], ◌∷◌, Option, Some, None, is_some}
 use Rattle.std.specs.Ordering.{nat_cmp}
-use Rattle.std.specs.FinMap.Entries.{find}
+use Rattle.std.specs.FinMap.Entries.{find, put}
 use Rattle.std.specs.FinMap as fin
 use Rattle.sc_view.specs.declared.view.Stored.{Stored}
-use Rattle.sc_view.specs.Views.{IsView}
+use Rattle.sc_view.specs.Views.{IsView, is_newer}
 pub use Rattle.sc_view.specs.Views.{joined, HasAtLeast}
 
 -- how many entries stand before the first that has this id or a larger one
@@ -37,6 +37,21 @@ abbrev pub count_lacking : List (ℕ × Stored) → List (ℕ × Stored) → ℕ
 count_lacking known [] = 0
 count_lacking known (e ∷ es) = cond (is_some (find nat_cmp e.0 known)) (count_lacking known es) (suc (count_lacking known es))
 
+-- how many of the entries are newer than what is known
+abbrev pub count_newer : List (ℕ × Stored) → List (ℕ × Stored) → ℕ
+count_newer known [] = 0
+count_newer known (e ∷ es) = cond (is_newer (find nat_cmp e.0 known) e.1) (suc (count_newer known es)) (count_newer known es)
+
+-- what a chunk has once it was asked to learn an entry in place, by whether it did
+abbrev pub Learns : ℕ → Stored → List (ℕ × Stored) → List (ℕ × Stored) → Bool → Type 0
+Learns id x old new true = (new ≡ put nat_cmp id x old) × (length new ≤ 32)
+Learns id x old new false = new ≡ old
+
+-- the same of the chunk at a place of a row
+abbrev pub LearnsAt : ℕ → ℕ → Stored → List (List (ℕ × Stored)) → List (List (ℕ × Stored)) → Bool → Type 0
+LearnsAt at id x old new true = (new ≡ slice_set old at (put nat_cmp id x (slice_index_or old at []))) × (length (put nat_cmp id x (slice_index_or old at [])) ≤ 32)
+LearnsAt at id x old new false = new ≡ old
+
 -- whether a number is larger than what is known
 abbrev pub is_larger : Option ℕ → ℕ → Bool
 is_larger None n = true
@@ -61,11 +76,14 @@ abbrev pub HasAtMost : ℕ → List (List (ℕ × Stored)) → Type 0
 HasAtMost n [] = Unit {0}
 HasAtMost n (c ∷ cs) = (length c ≤ n) × HasAtMost n cs
 
--- a row of 1 to 16 chunks of at most 32 entries, and where there are several chunks of at least 16
+-- a row of chunks of at most 32 entries, and where there are several of at least 16; up to 32 entries are in one chunk,
+-- and the 33rd splits it
 pub record IsRow (cs : List (List (ℕ × Stored))) : Type 0 where
   pub some : 1 ≤ length cs
   pub most : HasAtMost 32 cs
   pub least : 1 < length cs → HasAtLeast 16 cs
+  pub single : length (joined cs) ≤ 32 → length cs ≡ 1
+  pub split : length (joined cs) ≡ 33 → map (λ c. length c) cs ≡ 16 ∷ 17 ∷ []
   pub rises : Rises (joined cs)
 
 -- what each view keeps

@@ -76,9 +76,12 @@ abbrev pub HasAtLeast : ℕ → List (List (ℕ × Stored)) → Type 0
 HasAtLeast n [] = Unit {0}
 HasAtLeast n (c ∷ cs) = (n ≤ length c) × HasAtLeast n cs
 
--- a view's entries in rising id order, cut into at most 16 chunks, where there are several of at least 16 entries
+-- a view's entries in rising id order, cut into at most 16 chunks, where there are several of at least 16 entries; up to
+-- 32 entries are in one chunk, and the 33rd splits it into 16 and 17
 pub record IsChunking (v : ViewMap) (chunks : List (List (ℕ × Stored))) : Type 0 where
   pub all : joined chunks ≡ fin.entries v
   pub few : length chunks ≤ 16
   pub small : HasSmallChunks chunks
   pub filled : 1 < length chunks → HasAtLeast 16 chunks
+  pub single : fin.len v ≤ 32 → length chunks ≤ 1
+  pub split : fin.len v ≡ 33 → map (λ c. length c) chunks ≡ 16 ∷ 17 ∷ []

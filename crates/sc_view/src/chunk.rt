@@ -1,29 +1,34 @@
-//! Chunks: entries in rising id order, which views share and no one changes.
-ghost use Rattle.std.specs.Prelude.{◌≡◌, ◌+◌, ◌≤◌, ◌<◌, [], length, IfOk};
+//! Chunks: entries in rising id order, which views share. A chunk that several views have is never changed.
+ghost use Rattle.std.specs.Prelude.{◌≡◌, ◌+◌, ◌≤◌, ◌<◌, [], length, IfOk, OnOk, OnErr};
 ghost use Rattle.std.specs.Ordering.{nat_cmp};
 ghost use Rattle.std.specs.FinMap.Entries.{put, find};
-ghost use Rattle.sc_view.specs.Rows.{Rises, before, without_first};
+ghost use Rattle.std.specs.Arc.{arc_value};
+ghost use Rattle.sc_view.specs.Rows.{Rises, Learns, before, without_first};
 
 use crate::view::{Entry, Stored};
 use std::alloc::{AllocError, Global};
 use std::marker::Model;
-use std::sync::ArcSlice;
+use std::sync::Arc;
 
-/// Entries in rising id order that views share. No one changes them.
+/// The most entries of a chunk.
+pub(crate) const MOST: usize = 32;
+
+/// Entries in rising id order that views share. They are changed only where one view alone has them.
 #[derive(Drop)]
 pub(crate) struct Chunk {
-    shared: Option<ArcSlice<Entry>>,
+    shared: Option<Arc<Vec<Entry>>>,
 }
 
 impl Model for Chunk {
     ghost use Rattle.std.specs.Prelude.{ℕ, List, []};
     ghost use Rattle.std.specs.Option.{unwrap_or, option_map};
-    ghost use Rattle.std.specs.Arc.{arc_slice_items};
+    ghost use Rattle.std.specs.Arc.{arc_value};
+    ghost use Rattle.std.specs.Vec.{vec_items};
     ghost use Rattle.sc_view.specs.declared.view.Stored.{Stored};
 
     ghost Value = { List (ℕ × Stored) };
 
-    ghost view = { λ c. unwrap_or (option_map (λ it. arc_slice_items it) c.shared) [] };
+    ghost view = { λ c. unwrap_or (option_map (λ it. vec_items (arc_value it)) c.shared) [] };
 }
 
 impl Default for Chunk {
@@ -53,11 +58,11 @@ impl Clone for Chunk {
 
 impl Chunk {
     /// A chunk of these entries.
-    pub(crate) fn of(entries: Vec<Entry>) -> Result<Chunk, AllocError>
+    pub(crate) fn of(alloc: Global, entries: Vec<Entry>) -> Result<Chunk, AllocError>
         ensures { IfOk result (λ chunk. chunk ≡ entries.items) }
     {
         Ok(Chunk {
-            shared: Some(ArcSlice::from_vec(entries)?),
+            shared: Some(Arc::new(alloc, entries)?),
         })
     }
 
@@ -71,6 +76,51 @@ impl Chunk {
             None => &[],
         }
     }
+}
+
+/// Learns an entry in place, where no other view has the chunk and there is room. Answers whether it did.
+pub(crate) fn learn(chunk: &mut Chunk, id: u64, stored: Stored) -> Result<bool, AllocError>
+    requires { length chunk.old ≤ 32 }
+    ensures ok { IfOk result (Learns id stored chunk.old chunk.new) }
+    ensures err { OnErr result (chunk.new ≡ chunk.old) }
+{
+    match &mut chunk.shared {
+        Some(shared) => learn_in(shared, id, stored),
+        None => Ok(false),
+    }
+}
+
+// The same of the entries.
+fn learn_in(shared: &mut Arc<Vec<Entry>>, id: u64, stored: Stored) -> Result<bool, AllocError>
+    requires { length (arc_value shared.old).items ≤ 32 }
+    ensures ok { IfOk result (Learns id stored (arc_value shared.old).items (arc_value shared.new).items) }
+    ensures err { OnErr result ((arc_value shared.new).items ≡ (arc_value shared.old).items) }
+{
+    match Arc::get_mut(shared) {
+        Some(entries) => put_in(entries, id, stored),
+        None => Ok(false),
+    }
+}
+
+// Learns an entry among others, where there is room.
+fn put_in(entries: &mut Vec<Entry>, id: u64, stored: Stored) -> Result<bool, AllocError>
+    requires { length entries.old.items ≤ 32 }
+    ensures ok { IfOk result (Learns id stored entries.old.items entries.new.items) }
+    ensures err { OnErr result (entries.new.items ≡ entries.old.items) }
+{
+    let at = before(entries, id);
+    if at < entries.len() {
+        let (known, _) = entries[at];
+        if known == id {
+            entries[at] = (id, stored);
+            return Ok(true);
+        }
+    }
+    if entries.len() == MOST {
+        return Ok(false);
+    }
+    entries.insert(at, (id, stored))?;
+    Ok(true)
 }
 
 /// How many entries stand before the first that has this id or a larger one.

@@ -2,22 +2,19 @@
 ghost use Rattle.std.specs.Prelude.{◌≡◌, ◌+◌, ◌≤◌, ◌<◌, [], length, IfOk, OnOk, OnErr, slice_index_or, slice_set, take, drop, ◌++◌};
 ghost use Rattle.std.specs.Ordering.{nat_cmp};
 ghost use Rattle.std.specs.FinMap.Entries.{put, find};
-ghost use Rattle.sc_view.specs.Rows.{joined, IsRow, Rises, Under, Over, starts_above, from, count_lacking, is_larger};
+ghost use Rattle.sc_view.specs.Rows.{joined, IsRow, Rises, Under, Over, LearnsAt, starts_above, from, count_lacking, count_newer, is_larger};
 ghost use Rattle.std.specs.Option.{option_map};
 ghost use Rattle.std.specs.Map.Iter.{TakesFirst};
 ghost use Rattle.std.specs.FinMap as fin;
 ghost use Rattle.sc_view.specs.Views.{merge};
 
-use crate::chunk::{Chunk, with_entry};
+use crate::chunk::{Chunk, MOST, learn, with_entry};
 use crate::view::{Entry, Stored};
 use arrayvec::ArrayVec;
 use std::alloc::{AllocError, Global};
 
 /// The most chunks of a row.
 pub(crate) const MOST_CHUNKS: usize = 16;
-
-/// The most entries of a chunk.
-const MOST: usize = 32;
 
 /// The fewest entries of a chunk, where there are several.
 const FEWEST: usize = 16;
@@ -62,16 +59,49 @@ pub(crate) fn put_entry(
     ensures row { IsRow row.new.items }
     ensures err { OnErr result (row.new.items ≡ row.old.items) }
 {
+    let at = place(row.as_slice(), id);
+    if learn_at(row, at, id, stored)? {
+        return Ok(());
+    }
+    put_copy(alloc, row, at, id, stored)
+}
+
+// Learns an entry in place, where no other view has its chunk and there is room. Answers whether it did.
+fn learn_at(row: &mut Row, at: usize, id: u64, stored: Stored) -> Result<bool, AllocError>
+    requires within { at < length row.old.items }
+    requires few { length (slice_index_or row.old.items at []) ≤ 32 }
+    ensures ok { IfOk result (LearnsAt at id stored row.old.items row.new.items) }
+    ensures err { OnErr result (row.new.items ≡ row.old.items) }
+{
+    learn(&mut row.as_mut_slice()[at], id, stored)
+}
+
+// Learns an entry in a copy of its chunk, or in two where it splits.
+fn put_copy(
+    alloc: Global,
+    row: &mut Row,
+    at: usize,
+    id: u64,
+    stored: Stored,
+) -> Result<(), AllocError>
+    requires row { IsRow row.old.items }
+    requires room { length (put nat_cmp id stored (joined row.old.items)) ≤ 256 }
+    requires within { at < length row.old.items }
+    requires under { Under id (joined (take at row.old.items)) }
+    requires over { Over id (joined (drop (at + 1) row.old.items)) }
+    ensures ok { OnOk result (joined row.new.items ≡ put nat_cmp id stored (joined row.old.items)) }
+    ensures row { IsRow row.new.items }
+    ensures err { OnErr result (row.new.items ≡ row.old.items) }
+{
     let chunks = row.as_slice();
-    let at = place(chunks, id);
     let mut all = with_entry(alloc, chunks[at].as_slice(), id, stored)?;
     if all.len() <= MOST {
-        let whole = Chunk::of(all)?;
+        let whole = Chunk::of(alloc, all)?;
         set(row, at, whole);
     } else {
-        let back = Chunk::of(Vec::from_slice(alloc, &all[FEWEST..])?)?;
+        let back = Chunk::of(alloc, Vec::from_slice(alloc, &all[FEWEST..])?)?;
         all.truncate(FEWEST);
-        let front = Chunk::of(all)?;
+        let front = Chunk::of(alloc, all)?;
         set(row, at, front);
         row.insert(at + 1, back);
     }
@@ -135,12 +165,22 @@ pub(crate) fn seek(rest: &mut Rest<'_>, id: u64) -> Option<u64>
     }
 }
 
-/// How many ids the second row has that the first has not.
-pub(crate) fn count_new(known: &[Chunk], more: &[Chunk]) -> usize
+/// What one row tells beyond another.
+#[derive(Clone, Copy)]
+pub(crate) struct News {
+    /// How many ids are new.
+    pub(crate) ids: usize,
+    /// How many values are newer than what is known, those of new ids among them.
+    pub(crate) values: usize,
+}
+
+/// What the second row tells beyond the first.
+pub(crate) fn what_is_new(known: &[Chunk], more: &[Chunk]) -> News
     requires known { Rises (joined known.now) }
     requires more { Rises (joined more.now) }
     requires few { length (joined more.now) ≤ 256 }
-    ensures { result ≡ count_lacking (joined known.now) (joined more.now) }
+    ensures ids { result.ids ≡ count_lacking (joined known.now) (joined more.now) }
+    ensures values { result.values ≡ count_newer (joined known.now) (joined more.now) }
 {
     let mut rest = Rest {
         entries: &[],
@@ -150,13 +190,14 @@ pub(crate) fn count_new(known: &[Chunk], more: &[Chunk]) -> usize
         entries: &[],
         chunks: more,
     };
-    let mut count = 0;
-    while let Some((id, _)) = next_entry(&mut theirs) {
-        if seek(&mut rest, id).is_none() {
-            count += 1;
-        }
+    let mut ids = 0;
+    let mut values = 0;
+    while let Some(entry) = next_entry(&mut theirs) {
+        let number = seek(&mut rest, entry.0);
+        ids += usize::from(number.is_none());
+        values += usize::from(is_larger(number, entry.1.number()));
     }
-    count
+    News { ids, values }
 }
 
 // Whether a number is larger than what is known.

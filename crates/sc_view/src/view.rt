@@ -1,17 +1,17 @@
-ghost use Rattle.std.specs.Prelude.{◌≡◌, ℕ, List, ◌≤◌, ◌<◌, ◌↔◌, not, filter, is_some, length, IsTrue, IfSome, IfOk, OnOk, OnErr, IsErrOf};
+ghost use Rattle.std.specs.Prelude.{◌≡◌, ◌+◌, ℕ, List, ◌≤◌, ◌<◌, ◌↔◌, not, filter, is_some, length, IsTrue, IfSome, IfOk, OnOk, OnErr, IsOk, IsErrOf};
 ghost use Rattle.std.specs.FinMap as fin;
 ghost use Rattle.std.specs.Ordering.{nat_cmp};
 ghost use Rattle.std.specs.Map.Iter.{TakesFirst};
 ghost use Rattle.std.specs.Iterator.{at_most};
 ghost use Rattle.sc_view.specs.Faults.{fault_number, fault_name};
-ghost use Rattle.sc_view.specs.Views.{IsView, is_newer, put, merge, most_entries, IsChunking};
+ghost use Rattle.sc_view.specs.Views.{IsView, is_newer, put, merge, most_entries, number_at, IsBelow, IsChunking};
 ghost use Rattle.std.specs.List.{slice_get};
 ghost use Rattle.std.specs.Option.{option_copied, SomeIff};
 ghost use Rattle.sc_view.specs.declared.view.Stored.{Stored as StoredValue};
 
 use crate::chunk::{Chunk, find};
 use crate::chunks::Chunks;
-use crate::row::{Rest, Row, count_new, merged, next_entry, place, put_entry};
+use crate::row::{News, Rest, Row, merged, next_entry, place, put_entry, what_is_new};
 use arrayvec::ArrayVec;
 use std::alloc::{AllocError, AllocFailed, Global};
 use std::marker::Model;
@@ -253,32 +253,35 @@ impl View {
     }
 
     /// Learns one value of a node: the one with the larger number stays, and at equal numbers the one that is there.
-    /// Refused 46 where a 257th id would come, and else 99; the view is then as it was.
+    /// Refused 46 where a 257th id would come, and else 99; the view is then as it was. What is known takes no memory.
     pub fn put(&mut self, id: u64, stored: Stored) -> Result<(), ViewFault>
         ensures ok { OnOk result (self.new ≡ put self.old id stored) }
         ensures valid { OnOk result (IsView self.new) }
         ensures full { IsErrOf result ViewFault.Full ↔ (most_entries < fin.len (put self.old id stored)) }
         ensures err { OnErr result (self.new ≡ self.old) }
+        ensures known { stored.number ≤ number_at self.old id → IsOk result × (self.new ≡ self.old) }
     {
         // Its number counts from 1.
         let _ = stored.number();
-        let count = self.len_with(id);
+        let (known, count) = self.get_with_len(id);
         if count > MOST_ENTRIES {
             return Err(ViewFault::Full);
         }
-        if is_newer(self.get(id), stored) {
+        if is_newer(known, stored) {
             put_entry(self.alloc, &mut self.row, id, stored)?;
             self.count = count;
         }
         Ok(())
     }
 
-    // How many ids the view has once it has this one.
-    fn len_with(&self, id: u64) -> usize
-        ensures count { (stored : StoredValue) → result ≡ fin.len (put self.now id stored) }
+    // What is known of the node, and how many ids the view has once it has this one.
+    fn get_with_len(&self, id: u64) -> (Option<Stored>, usize)
+        ensures known { result.0 ≡ fin.get self.now id }
+        ensures count { (stored : StoredValue) → result.1 ≡ fin.len (put self.now id stored) }
         ensures valid { IsView self.now }
     {
-        self.len() + usize::from(self.get(id).is_none())
+        let known = self.get(id);
+        (known, self.len() + usize::from(known.is_none()))
     }
 
     /// This view and the other as one: for each node the value with the larger number, this view's at equal ones.
@@ -288,9 +291,13 @@ impl View {
         ensures valid { IfOk result IsView }
         ensures full { IsErrOf result ViewFault.Full ↔ (most_entries < fin.len (merge self.now other.now)) }
     {
-        let count = self.merged_len(other);
+        let news = self.news_of(other);
+        let count = self.len() + news.ids;
         if count > MOST_ENTRIES {
             return Err(ViewFault::Full);
+        }
+        if news.values == 0 {
+            return Ok(self.share()?);
         }
         let row = merged(self.alloc, &self.row, other.row.as_slice())?;
         Ok(View {
@@ -300,29 +307,36 @@ impl View {
         })
     }
 
-    // How many ids the two views have together.
-    fn merged_len(&self, other: &View) -> usize
-        ensures count { result ≡ fin.len (merge self.now other.now) }
+    // What the other view tells beyond this one.
+    fn news_of(&self, other: &View) -> News
+        ensures count { fin.len self.now + result.ids ≡ fin.len (merge self.now other.now) }
+        ensures few { result.ids ≤ most_entries }
+        ensures none { result.values ≡ 0 → merge self.now other.now ≡ self.now }
+        ensures known { IsBelow other.now self.now → result.values ≡ 0 }
         ensures valid { IsView self.now }
         ensures other_valid { IsView other.now }
     {
-        self.count + count_new(self.row.as_slice(), other.row.as_slice())
+        what_is_new(self.row.as_slice(), other.row.as_slice())
     }
 
-    /// Learns all that the other view holds, as `merged`. At Err the view is as it was.
+    /// Learns all that the other view holds, as `merged`. At Err the view is as it was. What is known takes no memory.
     pub fn merge(&mut self, other: &View) -> Result<(), ViewFault>
         ensures ok { OnOk result (self.new ≡ merge self.old other.now) }
         ensures valid { OnOk result (IsView self.new) }
         ensures full { IsErrOf result ViewFault.Full ↔ (most_entries < fin.len (merge self.old other.now)) }
         ensures err { OnErr result (self.new ≡ self.old) }
+        ensures known { IsBelow other.now self.old → IsOk result × (self.new ≡ self.old) }
     {
+        if self.news_of(other).values == 0 {
+            return Ok(());
+        }
         *self = self.merged(other)?;
         Ok(())
     }
 }
 
-// Whether the value is newer than what is known.
-fn is_newer(known: Option<Stored>, stored: Stored) -> bool
+/// Whether the value is newer than what is known.
+pub(crate) fn is_newer(known: Option<Stored>, stored: Stored) -> bool
     ensures { result ≡ is_newer known stored }
 {
     match known {

@@ -7,7 +7,7 @@ ghost use Rattle.bq_range.specs.Table.{negated, negatives, sign_extended, extens
 
 use super::Range;
 use super::width::{top, whole};
-use bq_word::{AluOp, SignBits, SwapBits, Width, alu, extend, swap};
+use bq_word::{AluOp, SignBits, SwapBits, Width, alu, extend, low_bits, swap};
 
 impl Range {
     /// What negation at a width leaves (NEG, RFC 9669, section 4.1).
@@ -44,7 +44,7 @@ impl Range {
         ensures covers { (x : ℕ) → IsIn x a → IsIn (low (swap_bits bits) x) result }
     {
         if a.is_single() {
-            Range::single(low(bits, a.lo))
+            Range::single(low_bits(bits, a.lo))
         } else if a.hi <= greatest(bits) {
             a
         } else {
@@ -127,15 +127,5 @@ fn greatest(bits: SwapBits) -> u64
         SwapBits::B16 => 0xffff,
         SwapBits::B32 => 0xffff_ffff,
         SwapBits::B64 => u64::MAX,
-    }
-}
-
-fn low(bits: SwapBits, x: u64) -> u64
-    ensures { result ≡ low (swap_bits bits) x }
-{
-    match bits {
-        SwapBits::B16 => x & 0xffff,
-        SwapBits::B32 => x & 0xffff_ffff,
-        SwapBits::B64 => x,
     }
 }

@@ -7,7 +7,7 @@ use Rattle.std.proofs.lemmas.Iterator.Splits.{YieldsList-from_str_split}
 use Rattle.bq_asm.specs.Line.{Spells}
 use Rattle.bq_asm.specs.Source.{lines_of}
 use Rattle.bq_asm.specs.View.{line_view}
-use Rattle.bq_asm.proofs.Lines.{first_unreadable, read_more, all_read}
+use Rattle.bq_asm.proofs.Lines.{first_unreadable, none_first, read_more, all_read}
 use Rattle.bq_asm.proofs.assemble.read_lines.Goals as goal
 
 pub returns-in_default-clause-fault : goal.returns-in_default-clause-fault
@@ -30,3 +30,11 @@ returns-clause-read c =
     let road = YieldsList-from_str_split 10 c.args.source.now (lit< tt) (ap split_text i ∙ c.split-text-items.ensures.text) (ap split_has_more i ∙ c.split-text-items.ensures.has_more) (ap split_pattern i ∙ c.split-text-items.ensures.pattern) in
     let t = YieldsList-end road c.loop-text.yielded _ c.loop-text.yielded_by _ _ c.in-None.is c.next.ensures.steps in
     all_read line_view (lines_of c.args.source.now) (map (λ (x : Bor (List ℕ)). x.now) c.loop-text.yielded) c.loop-text.lines.items t.0 c.loop-text.invariant
+
+pub returns-then-is_err-clause-fault : goal.returns-then-is_err-clause-fault
+returns-then-is_err-clause-fault c =
+    let i = c.into_iter-text-iterator.ensures.into_iter_gives in
+    let road = YieldsList-from_str_split 10 c.args.source.now (lit< tt) (ap split_text i ∙ c.split-text-items.ensures.text) (ap split_has_more i ∙ c.split-text-items.ensures.has_more) (ap split_pattern i ∙ c.split-text-items.ensures.pattern) in
+    let t = YieldsList-turn road c.loop-text.yielded _ c.loop-text.yielded_by _ _ c.in-Some.text c.in-Some.is c.next.ensures.steps in
+    let f = YieldsList-so_far road c.loop-text.yielded _ c.loop-text.yielded_by in
+    none_first line_view (lines_of c.args.source.now) (map (λ (x : Bor (List ℕ)). x.now) c.loop-text.yielded) c.loop-text.lines.items c.in-Some.text.now _ c.in-Some-read.line f t.0 t.1 c.loop-text.invariant c.in-Some-read.ensures

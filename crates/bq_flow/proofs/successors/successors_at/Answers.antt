@@ -1,5 +1,5 @@
 use Rattle.std.proofs.Common.{◌≡◌, ◌∙◌, Some}
-use Rattle.bq_flow.specs.Paths.{insn_at}
+use Rattle.bq_insn.specs.Slots.{insn_at}
 use Rattle.bq_flow.proofs.Legal.{named, are_next}
 use Rattle.bq_flow.proofs.successors.successors_at.Goals as goal
 

@@ -1,7 +1,7 @@
 use Rattle.std.proofs.Common.{rules, ◌≡◌, ◌<◌, ◌+◌, Some, None, ap, sym, subst, ◌∙◌, length}
 use Rattle.std.proofs.lemmas.List.{get_or_default}
 use Rattle.std.proofs.lemmas.Result.{err_from_is_err_and}
-use Rattle.bq_flow.specs.Paths.{insn_at}
+use Rattle.bq_insn.specs.Slots.{insn_at}
 use Rattle.bq_state.specs.Edges.{edges}
 use Rattle.bq_sound.specs.Passes.{note_at}
 use Rattle.bq_verify.specs.Refused.{IsRefused, IsBelow}

@@ -1,4 +1,4 @@
-use Rattle.std.proofs.Common.{◌≡◌, ◌∙◌, ◌++◌, ℕ, List, ap, codes, string_bytes}
+use Rattle.std.proofs.Common.{◌∙◌, ◌++◌, ℕ, List, ap, codes}
 use Rattle.q_desk.specs.State.{DeskState}
 use Rattle.q_command.specs.Audit.{answer_lines}
 use Rattle.q_command.proofs.audit.audit.Goals as goal

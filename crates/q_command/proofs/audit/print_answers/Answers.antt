@@ -1,4 +1,4 @@
-use Rattle.std.proofs.Common.{rules, ◌≡◌, ◌+◌, ◌++◌, [], ◌∷◌, length, take, string_bytes, arith}
+use Rattle.std.proofs.Common.{rules, ◌≡◌, ◌+◌, ◌++◌, [], ◌∷◌, length, take, string_bytes}
 use Rattle.std.proofs.lemmas.List.{take_more, length-take}
 use Rattle.q_command.proofs.Auditing.{more_answers}
 use Rattle.q_command.proofs.audit.print_answers.Goals as goal

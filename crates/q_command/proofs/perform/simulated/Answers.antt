@@ -1,4 +1,4 @@
-use Rattle.std.proofs.Common.{ℕ, List, Bool, subst, string_bytes}
+use Rattle.std.proofs.Common.{ℕ, List, subst, string_bytes}
 use Rattle.std.specs.Prelude.{Result, Ok, Err, IfOk, IfErr, IsUtf8}
 use Rattle.q_script.specs.Script.{IsScript}
 use Rattle.q_script.specs.declared.script.Script.{Script}

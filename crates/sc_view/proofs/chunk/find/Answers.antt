@@ -1,4 +1,4 @@
-use Rattle.std.proofs.Common.{◌≡◌, ◌<◌, ◌≤◌, ℕ, Some, length, sym, ap, subst, ◌∙◌, arith}
+use Rattle.std.proofs.Common.{◌≤◌, ℕ, Some, length, sym, ap, subst, ◌∙◌}
 use Rattle.sc_view.specs.declared.view.Stored.{Stored}
 use Rattle.sc_view.proofs.EntryLemmas.{find_found, find_other, find_past}
 use Rattle.sc_view.proofs.chunk.find.Goals as goal

@@ -1,4 +1,3 @@
-use Rattle.std.proofs.Common.{◌≡◌}
 use Rattle.sc_view.proofs.EntryLemmas.{put_built}
 use Rattle.sc_view.proofs.chunk.with_entry.Goals as goal
 

@@ -1,4 +1,4 @@
-use Rattle.std.proofs.Common.{◌≡◌, ◌+◌, ◌++◌, length}
+use Rattle.std.proofs.Common.{◌≡◌, ◌++◌, length}
 use Rattle.std.specs.FinMap as fin
 use Rattle.sc_view.specs.Views.{merge}
 use Rattle.sc_view.specs.Rows.{joined, Rises, IsRow}

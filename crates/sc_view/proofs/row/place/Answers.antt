@@ -1,4 +1,4 @@
-use Rattle.std.proofs.Common.{◌≡◌, ◌+◌, ◌-◌, ◌≤◌, true, false, get_or, take, drop, sym, ap, subst, ◌∙◌, arith}
+use Rattle.std.proofs.Common.{◌≡◌, true, false, get_or, take, drop, sym, ap, subst, ◌∙◌, arith}
 use Rattle.sc_view.specs.Rows.{joined, Under, Over, starts_above}
 use Rattle.sc_view.proofs.RowLemmas.{past, not_yet}
 use Rattle.sc_view.proofs.row.place.Goals as goal

@@ -1,44 +1,18 @@
-use Rattle.std.proofs.Common.{◌≡◌, ◌+◌, ◌≤◌, ◌<◌, length, take, drop, set, sym, ap, subst, ◌∙◌, arith}
-use Rattle.std.proofs.lemmas.List.{take_rest}
-use Rattle.std.specs.Ordering.{nat_cmp}
-use Rattle.std.specs.List.{insert}
-use Rattle.std.specs.FinMap.Entries.{put}
-use Rattle.sc_view.proofs.RowLemmas.{IsPut, put_whole_in, put_split_in, room_in}
+use Rattle.std.proofs.Common.{◌<◌, [], length, subst}
+use Rattle.sc_view.specs.Rows.{LearnsAt}
+use Rattle.sc_view.proofs.RowLemmas.{length_at_most, put_learnt}
 use Rattle.sc_view.proofs.row.put_entry.Goals as goal
 
-pub returns-in_ok-whole-clause-ok : goal.returns-in_ok-whole-clause-ok
-returns-in_ok-whole-clause-ok c =
-    let made = put_whole_in c.args.id c.args.stored c.args.row.now.items c.as_slice-chunks.result.now c.place-at.result c.index-chunks-at.result c.in_ok-all.all.items
-    c.as_slice-chunks.ensures.value c.requires.row c.place-at.ensures.within c.place-at.ensures.under c.place-at.ensures.over c.index-chunks-at.is
-    (c.in_ok-all.ensures ∙ ap (put nat_cmp c.args.id c.args.stored) c.as_slice.ensures) (omega (arith, c.len.ensures, c.in_ok-all.all.ok, c.if-len-le-MOST.true)) in
-    rw (c.set.ensures, c.in_ok-whole.ensures) made.entries
+pub learn_at-requires-clause-few : goal.learn_at-requires-clause-few
+learn_at-requires-clause-few c =
+    length_at_most 32 c.args.row.now.items c.place-at.result [] c.requires.row.most (subst (λ cs. c.place-at.result < length cs) c.as_slice.ensures.value c.place-at.ensures.within)
 
-pub returns-in_ok-whole-clause-row : goal.returns-in_ok-whole-clause-row
-returns-in_ok-whole-clause-row c =
-    let made = put_whole_in c.args.id c.args.stored c.args.row.now.items c.as_slice-chunks.result.now c.place-at.result c.index-chunks-at.result c.in_ok-all.all.items
-    c.as_slice-chunks.ensures.value c.requires.row c.place-at.ensures.within c.place-at.ensures.under c.place-at.ensures.over c.index-chunks-at.is
-    (c.in_ok-all.ensures ∙ ap (put nat_cmp c.args.id c.args.stored) c.as_slice.ensures) (omega (arith, c.len.ensures, c.in_ok-all.all.ok, c.if-len-le-MOST.true)) in
-    rw (c.set.ensures, c.in_ok-whole.ensures) made.row
+pub returns-then-branch-clause-ok : goal.returns-then-branch-clause-ok
+returns-then-branch-clause-ok c =
+    (put_learnt c.args.id c.args.stored c.args.row.now.items c.as_slice.result.now c.learn_at.new.row.items c.place-at.result c.as_slice.ensures.value c.requires.row c.place-at.ensures.within c.place-at.ensures.under c.place-at.ensures.over
+    (subst (LearnsAt c.place-at.result c.args.id c.args.stored c.args.row.now.items c.learn_at.new.row.items) c.if-branch.true c.in_ok-learn_at.ensures.ok)).entries
 
-pub insert-requires : goal.insert-requires
-insert-requires c =
-    let made = put_split_in c.args.id c.args.stored c.args.row.now.items c.as_slice-chunks.result.now c.place-at.result c.index-chunks-at.result c.in_ok-all.all.items
-    c.as_slice-chunks.ensures.value c.requires.row c.place-at.ensures.within c.place-at.ensures.under c.place-at.ensures.over c.index-chunks-at.is
-    (c.in_ok-all.ensures ∙ ap (put nat_cmp c.args.id c.args.stored) c.as_slice.ensures) (omega (arith, c.len.ensures, c.in_ok-all.all.ok, c.if-len-le-MOST.false)) in
-    let room = room_in c.args.id c.args.stored c.args.row.now.items c.as_slice-chunks.result.now c.place-at.result c.in_ok-all.all.items
-    c.as_slice-chunks.ensures.value c.place-at.ensures.within made c.requires.room in
-    rw (c.set-else-len-le-MOST.ensures, c.in_ok-front.ensures, c.truncate.ensures.items) (omega arith, (room.0, room.1))
-
-pub returns-in_ok-front-clause-ok : goal.returns-in_ok-front-clause-ok
-returns-in_ok-front-clause-ok c =
-    let made = put_split_in c.args.id c.args.stored c.args.row.now.items c.as_slice-chunks.result.now c.place-at.result c.index-chunks-at.result c.in_ok-all.all.items
-    c.as_slice-chunks.ensures.value c.requires.row c.place-at.ensures.within c.place-at.ensures.under c.place-at.ensures.over c.index-chunks-at.is
-    (c.in_ok-all.ensures ∙ ap (put nat_cmp c.args.id c.args.stored) c.as_slice.ensures) (omega (arith, c.len.ensures, c.in_ok-all.all.ok, c.if-len-le-MOST.false)) in
-    rw (c.insert.ensures.items, c.set-else-len-le-MOST.ensures, c.in_ok-front.ensures, c.truncate.ensures.items, c.in_ok-back.ensures, c.in_ok-from_slice.ensures.items, c.deref.ensures.value, take_rest c.in_ok-all.all.items 16) made.entries
-
-pub returns-in_ok-front-clause-row : goal.returns-in_ok-front-clause-row
-returns-in_ok-front-clause-row c =
-    let made = put_split_in c.args.id c.args.stored c.args.row.now.items c.as_slice-chunks.result.now c.place-at.result c.index-chunks-at.result c.in_ok-all.all.items
-    c.as_slice-chunks.ensures.value c.requires.row c.place-at.ensures.within c.place-at.ensures.under c.place-at.ensures.over c.index-chunks-at.is
-    (c.in_ok-all.ensures ∙ ap (put nat_cmp c.args.id c.args.stored) c.as_slice.ensures) (omega (arith, c.len.ensures, c.in_ok-all.all.ok, c.if-len-le-MOST.false)) in
-    rw (c.insert.ensures.items, c.set-else-len-le-MOST.ensures, c.in_ok-front.ensures, c.truncate.ensures.items, c.in_ok-back.ensures, c.in_ok-from_slice.ensures.items, c.deref.ensures.value, take_rest c.in_ok-all.all.items 16) made.row
+pub returns-then-branch-clause-row : goal.returns-then-branch-clause-row
+returns-then-branch-clause-row c =
+    (put_learnt c.args.id c.args.stored c.args.row.now.items c.as_slice.result.now c.learn_at.new.row.items c.place-at.result c.as_slice.ensures.value c.requires.row c.place-at.ensures.within c.place-at.ensures.under c.place-at.ensures.over
+    (subst (LearnsAt c.place-at.result c.args.id c.args.stored c.args.row.now.items c.learn_at.new.row.items) c.if-branch.true c.in_ok-learn_at.ensures.ok)).row

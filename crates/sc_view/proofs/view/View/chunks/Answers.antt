@@ -1,5 +1,4 @@
-use Rattle.std.proofs.Common.{◌≡◌, ◌≤◌, ℕ, List, [], length, sym, subst, ◌∙◌, arith}
-use Rattle.sc_view.specs.declared.view.Stored.{Stored}
+use Rattle.std.proofs.Common.{◌≡◌, ◌≤◌, length, sym, subst, ◌∙◌, arith}
 use Rattle.sc_view.specs.Rows.{joined}
 use Rattle.sc_view.specs.Views.{IsChunking}
 use Rattle.sc_view.proofs.MapLemmas.{chunking, no_chunking, len_rising}

@@ -1,4 +1,4 @@
-use Rattle.std.proofs.Common.{◌≡◌, sym, subst, ap, ◌∙◌, arith}
+use Rattle.std.proofs.Common.{◌≡◌, ◌+◌, sym, subst, ap, ◌∙◌, arith}
 use Rattle.std.specs.FinMap as fin
 use Rattle.sc_view.specs.Rows.{joined}
 use Rattle.sc_view.specs.Views.{ViewMap, IsView, merge}
@@ -9,10 +9,11 @@ use Rattle.sc_view.proofs.view.View.merged.Goals as goal
 pub invariant_of-result : goal.invariant_of-result
 invariant_of-result c =
     let both : fin.from_entries (joined c.in_ok-row.row.items) ≡ merge c.args.self.now c.args.other.now = cc (c.in_ok-row.ensures.ok, c.as_slice.ensures.value, c.self.view_is, c.other.view_is) in
+    let count : c.len.result + c.news_of-news.result.ids ≡ fin.len (merge c.args.self.now c.args.other.now) = omega (arith, c.len.ensures.count, c.news_of-news.ensures.count) in
     record {
       row = c.in_ok-row.ensures.row;
-      counted = c.merged_len-count.ensures.count ∙ sym (ap (λ (v : ViewMap). fin.len v) both) ∙ len_rising (joined c.in_ok-row.row.items) c.in_ok-row.ensures.row.rises;
-      valid = subst IsView (sym both) (merge_valid c.args.self.now c.args.other.now c.merged_len-count.ensures.valid c.merged_len-count.ensures.other_valid (omega (arith, c.merged_len-count.ensures.count, c.if-count-gt-MOST_ENTRIES.false)));
+      counted = count ∙ sym (ap (λ (v : ViewMap). fin.len v) both) ∙ len_rising (joined c.in_ok-row.row.items) c.in_ok-row.ensures.row.rises;
+      valid = subst IsView (sym both) (merge_valid c.args.self.now c.args.other.now c.news_of-news.ensures.valid c.news_of-news.ensures.other_valid (omega (arith, count, c.if-count-gt-MOST_ENTRIES.false)));
     }
 
 pub returns-clause-valid : goal.returns-clause-valid

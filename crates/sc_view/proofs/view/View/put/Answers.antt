@@ -1,4 +1,4 @@
-use Rattle.std.proofs.Common.{◌≡◌, ◌≤◌, ℕ, List, Option, true, false, length, sym, ap, subst, ◌∙◌, arith}
+use Rattle.std.proofs.Common.{◌≡◌, ◌≤◌, ℕ, List, Option, true, length, sym, ap, subst, ◌∙◌, arith}
 use Rattle.std.specs.Ordering.{nat_cmp}
 use Rattle.std.specs.FinMap as fin
 use Rattle.std.specs.FinMap.Entries as list
@@ -6,7 +6,7 @@ use Rattle.sc_view.specs.declared.view.Stored.{Stored}
 use Rattle.sc_view.specs.Rows.{joined, Rises}
 use Rattle.sc_view.specs.Views.{ViewMap, IsView, is_newer, put}
 use Rattle.sc_view.proofs.MapLemmas.{learned_in, put_length}
-use Rattle.sc_view.proofs.ViewLemmas.{put_valid, not_learned}
+use Rattle.sc_view.proofs.ViewLemmas.{put_valid, not_learned, known_len}
 use Rattle.sc_view.proofs.view.View.put.Goals as goal
 
 -- what is read of the view is read of its entries
@@ -21,25 +21,25 @@ made id x es fs v is new wrote = ap (λ (gs : List (ℕ × Stored)). fin.from_en
 
 pub put_entry-requires-clause-room : goal.put_entry-requires-clause-room
 put_entry-requires-clause-room c =
-    let new = same_news c.args.id c.args.stored (joined c.self.inside.row.items) c.args.self.now c.get.result c.self.view_is c.get.ensures.value (sym c.is_newer.ensures ∙ c.if-is_newer.true) in
-    let count = counted c.args.id c.args.stored (joined c.self.inside.row.items) c.args.self.now c.len_with-count.result c.self.view_is c.self.invariant.row.rises new (c.len_with-count.ensures.count c.args.stored) in
+    let new = same_news c.args.id c.args.stored (joined c.self.inside.row.items) c.args.self.now c.get_with_len-known.result.0 c.self.view_is c.get_with_len-known.ensures.known (sym c.is_newer.ensures ∙ c.if-is_newer.true) in
+    let count = counted c.args.id c.args.stored (joined c.self.inside.row.items) c.args.self.now c.get_with_len-known.result.1 c.self.view_is c.self.invariant.row.rises new (c.get_with_len-known.ensures.count c.args.stored) in
     omega (arith, count, c.if-count-gt-MOST_ENTRIES.false)
 
 pub returns-in_ok-put_entry-clause-ok : goal.returns-in_ok-put_entry-clause-ok
 returns-in_ok-put_entry-clause-ok c =
-    let new = same_news c.args.id c.args.stored (joined c.self.inside.row.items) c.args.self.now c.get.result c.self.view_is c.get.ensures.value (sym c.is_newer.ensures ∙ c.if-is_newer.true) in
+    let new = same_news c.args.id c.args.stored (joined c.self.inside.row.items) c.args.self.now c.get_with_len-known.result.0 c.self.view_is c.get_with_len-known.ensures.known (sym c.is_newer.ensures ∙ c.if-is_newer.true) in
     made c.args.id c.args.stored (joined c.self.inside.row.items) (joined c.put_entry.new.row.items) c.args.self.now c.self.view_is new c.in_ok-put_entry.ensures.ok
 
 pub returns-in_ok-put_entry-clause-valid : goal.returns-in_ok-put_entry-clause-valid
 returns-in_ok-put_entry-clause-valid c =
-    let new = same_news c.args.id c.args.stored (joined c.self.inside.row.items) c.args.self.now c.get.result c.self.view_is c.get.ensures.value (sym c.is_newer.ensures ∙ c.if-is_newer.true) in
+    let new = same_news c.args.id c.args.stored (joined c.self.inside.row.items) c.args.self.now c.get_with_len-known.result.0 c.self.view_is c.get_with_len-known.ensures.known (sym c.is_newer.ensures ∙ c.if-is_newer.true) in
     let is = made c.args.id c.args.stored (joined c.self.inside.row.items) (joined c.put_entry.new.row.items) c.args.self.now c.self.view_is new c.in_ok-put_entry.ensures.ok in
-    subst IsView (sym is) (put_valid c.args.self.now c.args.id c.args.stored c.len_with-count.ensures.valid (subst (λ n. 1 ≤ n) c.number.ensures.number c.number.ensures.counted) (omega (arith, c.len_with-count.ensures.count c.args.stored, c.if-count-gt-MOST_ENTRIES.false)))
+    subst IsView (sym is) (put_valid c.args.self.now c.args.id c.args.stored c.get_with_len-known.ensures.valid (subst (λ n. 1 ≤ n) c.number.ensures.number c.number.ensures.counted) (omega (arith, c.get_with_len-known.ensures.count c.args.stored, c.if-count-gt-MOST_ENTRIES.false)))
 
 pub invariant_of-self-then-is_newer : goal.invariant_of-self-then-is_newer
 invariant_of-self-then-is_newer c =
-    let new = same_news c.args.id c.args.stored (joined c.self.inside.row.items) c.args.self.now c.get.result c.self.view_is c.get.ensures.value (sym c.is_newer.ensures ∙ c.if-is_newer.true) in
-    let count = counted c.args.id c.args.stored (joined c.self.inside.row.items) c.args.self.now c.len_with-count.result c.self.view_is c.self.invariant.row.rises new (c.len_with-count.ensures.count c.args.stored) in
+    let new = same_news c.args.id c.args.stored (joined c.self.inside.row.items) c.args.self.now c.get_with_len-known.result.0 c.self.view_is c.get_with_len-known.ensures.known (sym c.is_newer.ensures ∙ c.if-is_newer.true) in
+    let count = counted c.args.id c.args.stored (joined c.self.inside.row.items) c.args.self.now c.get_with_len-known.result.1 c.self.view_is c.self.invariant.row.rises new (c.get_with_len-known.ensures.count c.args.stored) in
     record {
       row = c.in_ok-put_entry.ensures.row;
       counted = sym (ap length c.in_ok-put_entry.ensures.ok ∙ count);
@@ -48,4 +48,8 @@ invariant_of-self-then-is_newer c =
 
 pub returns-else-is_newer-clause-ok : goal.returns-else-is_newer-clause-ok
 returns-else-is_newer-clause-ok c =
-    not_learned c.args.self.now c.args.id c.args.stored (ap (λ o. is_newer o c.args.stored) (sym c.get.ensures.value) ∙ sym c.is_newer.ensures ∙ c.if-is_newer.false)
+    not_learned c.args.self.now c.args.id c.args.stored (ap (λ o. is_newer o c.args.stored) (sym c.get_with_len-known.ensures.known) ∙ sym c.is_newer.ensures ∙ c.if-is_newer.false)
+
+pub returns-then-count-gt-MOST_ENTRIES-clause-known : goal.returns-then-count-gt-MOST_ENTRIES-clause-known
+returns-then-count-gt-MOST_ENTRIES-clause-known c = λ old.
+    absurd (omega (arith, known_len c.args.self.now c.args.id c.args.stored (subst (λ n. 1 ≤ n) c.number.ensures.number c.number.ensures.counted) old, c.get_with_len-known.ensures.count c.args.stored, c.get_with_len-known.ensures.valid.few, c.if-count-gt-MOST_ENTRIES.true))

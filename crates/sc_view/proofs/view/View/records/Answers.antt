@@ -1,4 +1,4 @@
-use Rattle.std.proofs.Common.{◌≤◌, sym, ap, subst, length, ◌∙◌}
+use Rattle.std.proofs.Common.{◌≤◌, sym, ap, subst, ◌∙◌}
 use Rattle.std.specs.FinMap as fin
 use Rattle.sc_view.specs.Rows.{joined}
 use Rattle.sc_view.specs.Views.{ViewMap, most_entries}

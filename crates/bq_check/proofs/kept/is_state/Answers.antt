@@ -1,0 +1,12 @@
+use Rattle.std.proofs.Common.{◌≤◌, length, ap, subst, arith}
+use Rattle.std.specs.List.{AllByRecursion}
+use Rattle.bq_check.specs.Spelling.{IsKind}
+use Rattle.bq_check.proofs.Seen.{seen_all}
+use Rattle.bq_check.proofs.kept.is_state.Goals as goal
+
+pub returns : goal.returns
+returns c =
+    let is = c.kinds-kind-items.ensures.kinds in
+    let few : length c.kinds-kind-items.result.now ≤ c.loop-kind.kind-index = omega (arith, ap length is, c.kinds-kind-items.ensures.count, c.loop-kind-test.false) in
+    let all = seen_all IsKind c.kinds-kind-items.result.now c.loop-kind.kind-index c.loop-kind.invariant few in
+    record { count = c.kinds-kind-items.ensures.count; kinds = subst (AllByRecursion IsKind) is all }

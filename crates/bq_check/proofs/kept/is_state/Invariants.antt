@@ -1,0 +1,6 @@
+use Rattle.bq_check.specs.Spelling.{IsKind}
+use Rattle.bq_check.proofs.Seen.{Seen}
+use Rattle.bq_check.proofs.kept.is_state.Given as goal
+
+abbrev pub invariant-loop-kind : goal.invariant-loop-kind
+invariant-loop-kind l = Seen IsKind l.kind-items l.kind-index

@@ -1,0 +1,84 @@
+//! How long a node takes over a store message, which it acknowledges and echoes.
+
+use crate::values::{USUAL, each, learn, view_of};
+use anyhow::{Result, anyhow};
+use sc_members::config::Config;
+use sc_msg::message::{Body, Message};
+use sc_node::fault::NodeFault;
+use sc_node::node::Node;
+use sc_view::view::View;
+use std::alloc::Global;
+use std::time::{Clock, Duration, Instant};
+
+fn refused(fault: NodeFault) -> anyhow::Error {
+    anyhow!("refused {} {}", fault.number(), fault.name())
+}
+
+/// What founder 2 sends to store this view.
+fn store_of(view: View) -> Message {
+    Message {
+        from: 2,
+        body: Body::Store { tag: 0, view },
+    }
+}
+
+/// As many messages as rounds. Each has newer values than the one before at so many ids, and else what is known.
+fn messages(alloc: Global, known: &View, newer: u64, rounds: u64) -> Result<Vec<Message>> {
+    let mut view = known.share()?;
+    let mut all = Vec::new(alloc);
+    for round in 0..rounds {
+        learn(&mut view, newer, round.wrapping_add(USUAL + 1))?;
+        all.push(store_of(view.share()?))?;
+    }
+    Ok(all)
+}
+
+/// All messages reach the node.
+fn time(rt: &impl Clock, node: &mut Node, messages: &[Message]) -> Result<Duration> {
+    let start = Instant::now(rt)?;
+    for message in messages {
+        let _delivered = node.deliver(message).map_err(refused)?;
+    }
+    Ok(start.elapsed(rt)?)
+}
+
+/// A node that knows this view.
+fn node_of(alloc: Global, known: &View) -> Result<Node> {
+    let founders: Vec<u64> = (1..4).collect(alloc)?;
+    let mut node = Node::founder(alloc, Config::default(), 1, &founders).map_err(refused)?;
+    let _delivered = node.deliver(&store_of(known.share()?)).map_err(refused)?;
+    Ok(node)
+}
+
+/// Times so many deliveries, each of which tells of so many newer values.
+fn tell(
+    rt: &(impl Clock + Print + Eprint + Alloc<A = Global>),
+    known: &View,
+    newer: u64,
+    rounds: u64,
+) -> Result<()> {
+    let alloc = rt.alloc();
+    let mut node = node_of(alloc, known)?;
+    let messages = messages(alloc, known, newer, rounds)?;
+    let took = time(rt, &mut node, &messages)?;
+    println!(rt;
+        "deliver, {newer} newer: {} ids, {} messages",
+        node.view().len(),
+        messages.len()
+    )?;
+    eprintln!(rt; "{newer} newer {} ns", each(took, rounds))?;
+    Ok(())
+}
+
+/// Times so many rounds of each.
+pub(crate) fn run(
+    rt: &(impl Clock + Print + Eprint + Alloc<A = Global>),
+    ids: u64,
+    rounds: u64,
+) -> Result<()> {
+    let known = view_of(rt.alloc(), ids, USUAL)?;
+    for newer in [0, 1, 4, 16, 64, 256] {
+        tell(rt, &known, ids.min(newer), rounds)?;
+    }
+    Ok(())
+}

@@ -1,0 +1,83 @@
+//! How long a merge takes, and what nodes do with views besides.
+
+use crate::values::{USUAL, each, learn, refused, view_of};
+use anyhow::Result;
+use sc_view::view::View;
+use std::alloc::Global;
+use std::time::{Clock, Duration, Instant};
+
+/// Two views as one, so often.
+fn time_merging(rt: &impl Clock, known: &View, told: &View, rounds: u64) -> Result<Duration> {
+    let start = Instant::now(rt)?;
+    for _ in 0..rounds {
+        let _both = known.merged(told).map_err(refused)?;
+    }
+    Ok(start.elapsed(rt)?)
+}
+
+fn time_sharing(rt: &impl Clock, view: &View, rounds: u64) -> Result<Duration> {
+    let start = Instant::now(rt)?;
+    for _ in 0..rounds {
+        let _copy = view.share()?;
+    }
+    Ok(start.elapsed(rt)?)
+}
+
+/// Reads all values so often. Gives the sum of their numbers, too.
+fn time_reading(rt: &impl Clock, view: &View, rounds: u64) -> Result<(Duration, u64)> {
+    let start = Instant::now(rt)?;
+    let mut sum = 0u64;
+    for _ in 0..rounds {
+        for (_, stored) in view.records() {
+            sum = sum.wrapping_add(stored.number());
+        }
+    }
+    Ok((start.elapsed(rt)?, sum))
+}
+
+/// Times a merge of two views, and tells it under this name.
+fn tell(
+    rt: &(impl Clock + Print + Eprint),
+    name: &str,
+    known: &View,
+    told: &View,
+    rounds: u64,
+) -> Result<()> {
+    let both = known.merged(told).map_err(refused)?;
+    let took = time_merging(rt, known, told, rounds)?;
+    println!(rt; "merge, {name}: {} ids", both.len())?;
+    eprintln!(rt; "{name} {} ns", each(took, rounds))?;
+    Ok(())
+}
+
+/// Times so many rounds of each.
+pub(crate) fn run(
+    rt: &(impl Clock + Print + Eprint + Alloc<A = Global>),
+    ids: u64,
+    rounds: u64,
+) -> Result<()> {
+    let alloc = rt.alloc();
+    let known = view_of(alloc, ids, USUAL)?;
+    let newer = view_of(alloc, ids, USUAL + 1)?;
+    let mut one = known.share()?;
+    learn(&mut one, 1, USUAL + 1)?;
+    tell(
+        rt,
+        "nothing new",
+        &known,
+        &view_of(alloc, ids, USUAL)?,
+        rounds,
+    )?;
+    tell(rt, "one newer", &known, &one, rounds)?;
+    tell(rt, "all newer", &known, &newer, rounds)?;
+    tell(rt, "all ids new", &View::new(alloc), &newer, rounds)?;
+    let sharing = time_sharing(rt, &known, rounds)?;
+    let (reading, sum) = time_reading(rt, &known, rounds)?;
+    println!(rt; "numbers {sum}")?;
+    eprintln!(rt;
+        "sharing {} ns, reading {} ns",
+        each(sharing, rounds),
+        each(reading, rounds)
+    )?;
+    Ok(())
+}

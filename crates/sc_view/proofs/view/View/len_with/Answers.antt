@@ -1,6 +1,0 @@
-use Rattle.std.proofs.Common.{arith}
-use Rattle.sc_view.proofs.ViewLemmas.{len-put}
-use Rattle.sc_view.proofs.view.View.len_with.Goals as goal
-
-pub returns-clause-count : goal.returns-clause-count
-returns-clause-count c = λ stored. grind (arith, c.len.ensures.count, c.get.ensures.value, c.is_none.ensures, c.from.ensures, len-put c.args.self.now c.args.id stored)
