@@ -7,8 +7,14 @@ ghost use Rattle.q_session.specs.Right.{IsRight};
 use crate::ran::Ran;
 use bq_check::certified::Certified;
 use bq_meaning::laws::appended;
-use bq_meaning::placement::Placement;
+use bq_meaning::placement::{FRAME_LENGTH, Placement};
 use sc_view::view::{Stored, View};
+
+/// Where the frame lies in each run. The answer is the same at every placement.
+const FRAME: u64 = 4096;
+
+/// Where the record lies.
+const RECORD: u64 = 8192;
 
 /// What the record runs of a certified program come to over the entries of a view in rising order of ids: the first
 /// with the start value and a frame of zeros, each later one with the accumulator and the frame that the one before
@@ -16,12 +22,12 @@ use sc_view::view::{Stored, View};
 pub fn fold_checked(certified: &Certified, view: &View, start: u64) -> Ran
     ensures right { IsRight certified.now view.now start result }
 {
-    let Some(placement) = Placement::new(4096, 8192) else {
+    let Some(placement) = Placement::new(FRAME, RECORD) else {
         unreachable!()
     };
     // A record run takes at most 4,096 steps.
     let _longest = certified.longest();
-    let mut frame = [0; 512];
+    let mut frame = [0; FRAME_LENGTH];
     let mut ran = Ran {
         acc: start,
         steps: 0,
