@@ -50,6 +50,23 @@ fn node_of(alloc: Global, known: &View) -> Result<Node> {
     Ok(node)
 }
 
+/// Times these messages at the node, each of which tells of so many newer values.
+fn tell_times(
+    rt: &(impl Clock + Print + Eprint),
+    node: &mut Node,
+    messages: &[Message],
+    newer: u64,
+) -> Result<()> {
+    let took = time(rt, node, messages)?;
+    let ids = node.view().len();
+    println!(rt;
+        "deliver, {newer} newer: {ids} ids, {} messages",
+        messages.len()
+    )?;
+    eprintln!(rt; "{newer} newer {} ns", each(took, messages.len() as u64))?;
+    Ok(())
+}
+
 /// Times so many deliveries, each of which tells of so many newer values.
 fn tell(
     rt: &(impl Clock + Print + Eprint + Alloc<A = Global>),
@@ -57,17 +74,9 @@ fn tell(
     newer: u64,
     rounds: u64,
 ) -> Result<()> {
-    let alloc = rt.alloc();
-    let mut node = node_of(alloc, known)?;
-    let messages = messages(alloc, known, newer, rounds)?;
-    let took = time(rt, &mut node, &messages)?;
-    println!(rt;
-        "deliver, {newer} newer: {} ids, {} messages",
-        node.view().len(),
-        messages.len()
-    )?;
-    eprintln!(rt; "{newer} newer {} ns", each(took, rounds))?;
-    Ok(())
+    let mut node = node_of(rt.alloc(), known)?;
+    let messages = messages(rt.alloc(), known, newer, rounds)?;
+    tell_times(rt, &mut node, &messages, newer)
 }
 
 /// Times so many rounds of each.

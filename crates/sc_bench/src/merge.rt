@@ -50,34 +50,64 @@ fn tell(
     Ok(())
 }
 
+/// The views that are merged.
+#[derive(Drop)]
+struct Views {
+    known: View,
+    same: View,
+    one_newer: View,
+    newer: View,
+}
+
+/// A view that tells one newer value.
+fn with_one_newer(known: &View) -> Result<View> {
+    let mut view = known.share()?;
+    learn(&mut view, 1, USUAL + 1)?;
+    Ok(view)
+}
+
+fn views_of(alloc: Global, ids: u64) -> Result<Views> {
+    let known = view_of(alloc, ids, USUAL)?;
+    let same = view_of(alloc, ids, USUAL)?;
+    let newer = view_of(alloc, ids, USUAL + 1)?;
+    let one_newer = with_one_newer(&known)?;
+    Ok(Views {
+        known,
+        same,
+        one_newer,
+        newer,
+    })
+}
+
+fn tell_merges(rt: &(impl Clock + Print + Eprint), views: &Views, rounds: u64) -> Result<()> {
+    tell(rt, "nothing new", &views.known, &views.same, rounds)?;
+    tell(rt, "one newer", &views.known, &views.one_newer, rounds)?;
+    tell(rt, "all newer", &views.known, &views.newer, rounds)
+}
+
+fn tell_reading(rt: &(impl Clock + Print + Eprint), view: &View, rounds: u64) -> Result<()> {
+    let sharing = time_sharing(rt, view, rounds)?;
+    let (reading, sum) = time_reading(rt, view, rounds)?;
+    println!(rt; "numbers {sum}")?;
+    let (sharing, reading) = (each(sharing, rounds), each(reading, rounds));
+    eprintln!(rt; "sharing {sharing} ns, reading {reading} ns")?;
+    Ok(())
+}
+
 /// Times so many rounds of each.
 pub(crate) fn run(
     rt: &(impl Clock + Print + Eprint + Alloc<A = Global>),
     ids: u64,
     rounds: u64,
 ) -> Result<()> {
-    let alloc = rt.alloc();
-    let known = view_of(alloc, ids, USUAL)?;
-    let newer = view_of(alloc, ids, USUAL + 1)?;
-    let mut one = known.share()?;
-    learn(&mut one, 1, USUAL + 1)?;
+    let views = views_of(rt.alloc(), ids)?;
+    tell_merges(rt, &views, rounds)?;
     tell(
         rt,
-        "nothing new",
-        &known,
-        &view_of(alloc, ids, USUAL)?,
+        "all ids new",
+        &View::new(rt.alloc()),
+        &views.newer,
         rounds,
     )?;
-    tell(rt, "one newer", &known, &one, rounds)?;
-    tell(rt, "all newer", &known, &newer, rounds)?;
-    tell(rt, "all ids new", &View::new(alloc), &newer, rounds)?;
-    let sharing = time_sharing(rt, &known, rounds)?;
-    let (reading, sum) = time_reading(rt, &known, rounds)?;
-    println!(rt; "numbers {sum}")?;
-    eprintln!(rt;
-        "sharing {} ns, reading {} ns",
-        each(sharing, rounds),
-        each(reading, rounds)
-    )?;
-    Ok(())
+    tell_reading(rt, &views.known, rounds)
 }

@@ -33,22 +33,28 @@ fn time_shared(rt: &impl Clock, view: &mut View, ids: u64, rounds: u64) -> Resul
     Ok(took)
 }
 
+/// How long the puts take into a view that alone has its chunks.
+fn alone(rt: &(impl Clock + Alloc<A = Global>), ids: u64, rounds: u64) -> Result<Duration> {
+    let mut view = view_of(rt.alloc(), ids, USUAL)?;
+    time_alone(rt, &mut view, ids, rounds)
+}
+
+/// How long they take into one that is shared before each round.
+fn shared(rt: &(impl Clock + Alloc<A = Global>), ids: u64, rounds: u64) -> Result<Duration> {
+    let mut view = view_of(rt.alloc(), ids, USUAL)?;
+    time_shared(rt, &mut view, ids, rounds)
+}
+
 /// Times so many rounds.
 pub(crate) fn run(
     rt: &(impl Clock + Print + Eprint + Alloc<A = Global>),
     ids: u64,
     rounds: u64,
 ) -> Result<()> {
-    let mut view = view_of(rt.alloc(), ids, USUAL)?;
-    let mut shared = view_of(rt.alloc(), ids, USUAL)?;
-    let alone = time_alone(rt, &mut view, ids, rounds)?;
-    let copying = time_shared(rt, &mut shared, ids, rounds)?;
-    println!(rt; "put: {} ids, {rounds} rounds", view.len())?;
     let puts = ids.saturating_mul(rounds);
-    eprintln!(rt;
-        "alone {} ns, shared before each round {} ns",
-        each(alone, puts),
-        each(copying, puts)
-    )?;
+    let (alone, shared) = (alone(rt, ids, rounds)?, shared(rt, ids, rounds)?);
+    println!(rt; "put: {ids} ids, {rounds} rounds")?;
+    let (alone, shared) = (each(alone, puts), each(shared, puts));
+    eprintln!(rt; "alone {alone} ns, shared before each round {shared} ns")?;
     Ok(())
 }

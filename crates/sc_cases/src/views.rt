@@ -127,7 +127,7 @@ fn filled(alloc: Global, filling: Filling) -> Result<View, ViewFault> {
     Ok(view)
 }
 
-fn filling(words: &[&str]) -> Option<Filling> {
+fn filling_of(words: &[&str]) -> Option<Filling> {
     let [first, count, number_word, byte] = words else {
         return None;
     };
@@ -161,7 +161,7 @@ pub(crate) fn tell_shared(
     words: &[&str],
     value: &[&str],
 ) -> io::Result<()> {
-    let Some(filling) = filling(words) else {
+    let Some(filling) = filling_of(words) else {
         return Ok(());
     };
     let Some((id, learned)) = value_of(value) else {

@@ -18,7 +18,7 @@ fn laws_can_be_cited() {
 
 fn stored(number: u64) -> Result<Stored, ViewFault> {
     // No number here is 0.
-    Stored::new(number, [number as u8; 48]).ok_or(ViewFault::Full)
+    Stored::new(number, [7; 48]).ok_or(ViewFault::Full)
 }
 
 /// Learns a value, and once more where memory is refused.
