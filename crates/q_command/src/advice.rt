@@ -65,7 +65,7 @@ fn of_assembler(fault: AsmFault, line: &str) -> &'static str {
     match fault {
         AsmFault::Syntax { .. } => assembler_line(line),
         AsmFault::Label { .. } =>
-            "It defines a label again, or jumps to a label that no later line defines, or too far. Jumps go forward.",
+            "It defines a label again, or jumps to a label that no later line defines, or too\nfar. Jumps go forward.",
         AsmFault::BadLength => "The file has no instruction.",
         AsmFault::TooLong => "The program has more than 4096 units.",
         AsmFault::OutOfMemory => "",
