@@ -38,6 +38,7 @@
 pub mod fault;
 pub mod held;
 pub mod line;
+pub mod losses;
 pub mod node;
 pub mod run;
 pub mod script;
