@@ -26,7 +26,10 @@ use Rattle.q_nodes.specs.Scripts.{AreLines, AreParts, IsLaterFault, IsOther, IsP
 
 -- ---- lines of another kind
 
-command_of : ScriptLine → Command
+false≢true : false ≡ true → ⊥
+false≢true e = absurd cc
+
+abbrev command_of : ScriptLine → Command
 command_of (Program node code) = command.Program
 command_of (Store node value) = command.Store
 command_of (Ask node program start) = command.Ask
@@ -40,7 +43,7 @@ command_of (Crash node) = command.Crash
 command_of Pairs = command.Pairs
 command_of (Journal node file) = command.Journal
 
-is_taken : Command → Bool
+abbrev is_taken : Command → Bool
 is_taken command.Program = true
 is_taken command.Store = true
 is_taken command.Ask = true
@@ -86,7 +89,7 @@ is_event : (k : ScriptLine) → is_taken (command_of k) ≡ true → (l : Cluste
 is_event (Program node code) e = (line.Program node code, refl)
 is_event (Store node value) e = (line.Store node value, refl)
 is_event (Ask node program start) e = (line.Ask node program start, refl)
-is_event _ e = absurd cc
+is_event _ e = absurd (false≢true e)
 
 not_alone : (text : List ℕ) (l : ClusterLine) → IsAlone text (event_of l) → ⊥
 not_alone text (line.Program node code) h = h
@@ -102,10 +105,10 @@ other_kind text k (inr p) n l (inr q) =
     let there = is_event k (ap is_taken (one_command text k (event_of l) p q) ∙ taken_event l) in
     n there.0 there.1
 
-pub judged_other : (text : List ℕ) (k : ScriptLine) → Judges Spells text (Ok k) → ((l : ClusterLine) → event_of l ≡ k → ⊥) → Judges {ClusterLine} SpellsLine text (Err Form)
+pub judged_other : (text : List ℕ) (k : ScriptLine) → Judges Spells text (Ok k) → ((l : ClusterLine) → event_of l ≡ k → ⊥) → Judges {X = ClusterLine} SpellsLine text (Err Form)
 judged_other text k h n = other_kind text k h n
 
-pub judged_fault : (text : List ℕ) (f : LineFault) → Judges {ScriptLine} Spells text (Err f) → Judges {ClusterLine} SpellsLine text (Err f)
+pub judged_fault : (text : List ℕ) (f : LineFault) → Judges {X = ScriptLine} Spells text (Err f) → Judges {X = ClusterLine} SpellsLine text (Err f)
 judged_fault text Form h = λ l s. h (event_of l) s
 judged_fault text OutOfMemory h = tt
 

@@ -1,6 +1,6 @@
 //! The scripts of nodes in threads.
 
-ghost use Rattle.std.specs.Prelude.{◌≡◌, ◌∷◌, ◌++◌, ¬, IfOk, IfErr, MatchOption, MatchResult};
+ghost use Rattle.std.specs.Prelude.{◌≡◌, ◌∷◌, ◌++◌, IfOk, IfErr, MatchOption, MatchResult};
 ghost use Rattle.q_script.specs.Founding.{SpellsFounding};
 ghost use Rattle.q_script.specs.Line.{Judges};
 ghost use Rattle.q_script.specs.Lines.{without_last_feed};
