@@ -1,5 +1,5 @@
 -- What is done to a node's book, and to the messages that wait to be sent, while its lock is held.
-use Rattle.std.specs.Prelude.{◌≡◌, ◌≢◌, ◌⊎◌, ℕ, ◌+◌, ◌-◌, ◌^◌, min, List, ◌++◌, codes, decimal, Result, Ok, Err}
+use Rattle.std.specs.Prelude.{◌≡◌, ◌≢◌, ℕ, ◌+◌, ◌-◌, ◌^◌, min, List, ◌++◌, codes, decimal, Result, Ok, Err}
 use Rattle.sc_msg.specs.Fault.{IsFault}
 use Rattle.sc_msg.specs.Messages.{message_bytes, IsMessage}
 use Rattle.sc_msg.specs.declared.message.Message.{Message}
@@ -61,5 +61,4 @@ together l k = record { bytes = sum_of l.bytes k.bytes; book = sum_of l.book k.b
 -- the line that tells them, without the line feed
 abbrev pub losses_text : Losses → List ℕ
 losses_text l =
-    codes "refused datagrams: " ++ decimal l.bytes ++ codes " that spell no message, " ++ decimal l.book ++ codes " by books, " ++ decimal l.memory
-    ++ codes " for want of memory"
+    codes "refused datagrams: " ++ (decimal l.bytes ++ (codes " that spell no message, " ++ (decimal l.book ++ (codes " by books, " ++ (decimal l.memory ++ codes " for want of memory")))))

@@ -1,7 +1,6 @@
 -- Which texts are scripts of nodes in threads, and what is first wrong with a text that is none.
 use Rattle.std.specs.Prelude.{◌≡◌, ◌⊎◌, ℕ, zero, suc, ◌<◌, ◌≤◌, List, ◌∷◌}
 use Rattle.std.specs.List.{AllZip}
-use Rattle.sc_members.specs.declared.config.BadFraction.{BadFraction}
 use Rattle.q_script.specs.declared.founding.Founding.{Founding}
 use Rattle.q_script.specs.declared.line.ScriptLine.{ScriptLine}
 use Rattle.q_script.specs.declared.line.ScriptLine.TheVariants as event
