@@ -10,7 +10,7 @@ use q_command::perform::{Outcome, carry_out};
 use q_files::files::Files;
 use q_files::folder::Folder;
 use q_wire::counted::Counted;
-use q_words::words::read_words;
+use q_words::words::{Wanted, read_words};
 use std::alloc::Global;
 use std::io::{ErrorKind, Write};
 use std::process::ExitCode;
@@ -32,7 +32,7 @@ fn printed<F: Files>(alloc: Global, command: &str, files: &mut F) -> io::Result<
     let words: Vec<&str> = command.split(' ').collect(alloc)?;
     let mut out = Counted::new(Vec::new(alloc));
     match read_words(alloc, words.as_slice()) {
-        Ok(line) => {
+        Ok(Wanted::Line(line)) => {
             let outcome = carry_out(alloc, &line, files, &mut out);
             if let Outcome::Refused(denied) = &outcome {
                 if let Some(text) = advice(alloc, denied)? {
@@ -40,6 +40,7 @@ fn printed<F: Files>(alloc: Global, command: &str, files: &mut F) -> io::Result<
                 }
             }
         }
+        Ok(Wanted::Cluster { .. }) => write!(out, "no command over files")?,
         Err(fault) => write!(out, "{fault}")?,
     }
     Ok(out.inner)
