@@ -31,7 +31,7 @@ fn print_flow_fault(rt: &impl Print, fault: FlowFault) -> io::Result<()> {
     print_refusal(rt, fault.number(), fault.name(), unit)
 }
 
-fn print_fault(rt: &impl Print, fault: CheckFault) -> io::Result<()> {
+pub(crate) fn print_fault(rt: &impl Print, fault: CheckFault) -> io::Result<()> {
     print_refusal(rt, fault.number(), fault.name(), fault.unit())
 }
 

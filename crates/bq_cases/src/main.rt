@@ -8,6 +8,7 @@
 //! | `alu`, `swap`, `extend`, `relates` | [`word`]: words |
 //! | `asm`, `decode`, `opcodes`, `over`, `exits`, `register` | [`text`]: texts, their bytes and their listing |
 //! | `place`, `run` | [`run`]: what texts answer |
+//! | `loop` | [`raw`]: what the loop over checked code answers |
 //! | `operation`, `edge`, `mapped`, `load`, `join`, `meet` | [`range`]: ranges of words |
 //! | `after`, `edges`, `offsets` | [`state`]: what is known of registers |
 //! | `flow`, `verify`, `check`, `certify`, `known` | [`check`]: flow, notes and certificates |
@@ -18,6 +19,7 @@
 
 mod check;
 mod range;
+mod raw;
 mod refusal;
 mod run;
 mod state;
@@ -44,6 +46,7 @@ fn answer(
         }
         "place" => run::place(rt, alloc, place, rest),
         "run" => run::run(rt, alloc, place, rest),
+        "loop" => raw::answer(rt, alloc, rest),
         "operation" | "edge" | "mapped" | "load" | "join" | "meet" => {
             range::answer(rt, alloc, verb, rest)
         }

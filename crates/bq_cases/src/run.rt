@@ -32,7 +32,7 @@ pub(crate) fn place(
 }
 
 /// The record with this value.
-fn record_of(value: u8) -> [u8; 64] {
+pub(crate) fn record_of(value: u8) -> [u8; 64] {
     let mut record = [0; 64];
     record[16] = value;
     record
@@ -71,7 +71,7 @@ struct Start<'a> {
 }
 
 /// The bytes of these words; none where one is no byte.
-fn values_of(alloc: Global, words: &str) -> Result<Option<Vec<u8>>, AllocError> {
+pub(crate) fn values_of(alloc: Global, words: &str) -> Result<Option<Vec<u8>>, AllocError> {
     let mut values = Vec::new(alloc);
     for word in words.split(',') {
         match word.parse::<u8>() {
