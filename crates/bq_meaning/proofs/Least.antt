@@ -15,7 +15,7 @@ use Rattle.bq_word.specs.Word.{signed_bytes}
 use Rattle.bq_meaning.specs.Memory.{access, is_inside}
 use Rattle.bq_meaning.specs.Meaning.{Outcome, Continues, Ends, Faults, held, value, taken, moved, reading, writing, stored, perform}
 use Rattle.bq_meaning.specs.Faults.{fault_number, OperandReads, LoadsAt, StoresAt, AreWithin, ReadsUnset, WritesFramePointer, AccessesOutside, WritesRecord, Holds, IsLeast, HoldsNone, IsDone, LeastFaultIsNamed}
-use Rattle.bq_meaning.specs.declared.machine.Machine.{Machine}
+use Rattle.bq_meaning.specs.Machines.{MachineState as Machine}
 use Rattle.bq_meaning.specs.declared.machine.Location.{Location}
 use Rattle.bq_meaning.specs.declared.machine.Location.TheVariants.{Frame, Record}
 use Rattle.bq_meaning.specs.declared.fault.Fault.{Fault}

@@ -9,7 +9,7 @@ use Rattle.bq_meaning.specs.Place.{Place}
 use Rattle.bq_meaning.specs.Memory.{access}
 use Rattle.bq_meaning.specs.Meaning.{reading, stored}
 use Rattle.bq_meaning.specs.Runs.{StepAnswers}
-use Rattle.bq_meaning.specs.declared.machine.Machine.{Machine}
+use Rattle.bq_meaning.specs.Machines.{MachineState as Machine}
 use Rattle.bq_meaning.specs.declared.machine.Location.TheVariants.{Frame}
 use Rattle.bq_meaning.specs.declared.fault.Fault.TheVariants.{OutsideAccess}
 use Rattle.bq_meaning.specs.declared.step.Step.TheVariants as steps

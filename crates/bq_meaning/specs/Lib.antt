@@ -1,3 +1,4 @@
+pub mod Machines
 pub mod Place
 pub mod Memory
 pub mod Meaning

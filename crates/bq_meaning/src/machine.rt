@@ -9,6 +9,7 @@ use crate::placement::{FRAME_LENGTH, Placement, RECORD_LENGTH};
 use bq_insn::insn::Operand;
 use bq_insn::register::Register;
 use bq_word::AluOp;
+use std::marker::Model;
 
 /// A machine. Pointers are plain words.
 #[derive(Clone, Copy, Debug, PartialEq, Eq)]
@@ -21,6 +22,20 @@ pub struct Machine {
     pub frame: [u8; FRAME_LENGTH],
     /// What r1 points to: only read.
     pub record: [u8; RECORD_LENGTH],
+}
+
+impl Model for Machine {
+    ghost use Rattle.std.specs.Prelude.{◌≡◌, length};
+    ghost use Rattle.bq_meaning.specs.Place.{record_length};
+    ghost use Rattle.bq_meaning.specs.Machines.{MachineState};
+
+    ghost Value = { MachineState };
+
+    ghost view = { λ m. record { unit = m.unit; registers = m.registers; frame = m.frame; «record» = m.record } };
+
+    ghost invariant = { λ m. (length m.registers ≡ 11) × (length m.frame ≡ 512) × (length m.«record» ≡ record_length) };
+
+    ghost inverse = { λ m. record { unit = m.unit; registers = m.registers; frame = m.frame; «record» = m.record } };
 }
 
 /// Where an access lies: so many bytes behind the start of the frame, or of the record.

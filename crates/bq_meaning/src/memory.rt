@@ -60,6 +60,7 @@ impl Machine {
         size: usize,
     ) -> Result<u64, Fault>
         requires { size ≤ 8 }
+        ensures length { length self.now.«record» ≡ record_length }
         ensures ok { IfOk result (λ v. (l : Location) × (access placement.now record_length address size ≡ Some l) × (v ≡ le_number (loaded self.now l size))) }
         ensures err { IfErr result (λ f. (f ≡ Fault.OutsideAccess) × (access placement.now record_length address size ≡ None)) }
     {
@@ -80,7 +81,8 @@ impl Machine {
     ) -> Result<Step, Fault>
         requires small { size ≤ 8 }
         requires room { self.old.unit + 1 < 2 ^ 64 }
-        ensures { StepAnswers (reading Fault.OutsideAccess (access placement.now record_length address size) (λ l. stored self.old l size value)) self.old result self.new }
+        ensures length { length self.old.«record» ≡ record_length }
+        ensures stored { StepAnswers (reading Fault.OutsideAccess (access placement.now record_length address size) (λ l. stored self.old l size value)) self.old result self.new }
     {
         match placement.access(address, size) {
             Some(Location::Frame(at)) => {

@@ -8,7 +8,7 @@ ghost use Rattle.bq_insn.specs.declared.insn.Insn.{Insn};
 ghost use Rattle.bq_flow.specs.Paths.{IsLongest};
 ghost use Rattle.bq_meaning.specs.Place.{Place, IsPlacement, record_room};
 ghost use Rattle.bq_meaning.specs.Meaning.{perform};
-ghost use Rattle.bq_meaning.specs.declared.machine.Machine.{Machine};
+ghost use Rattle.bq_meaning.specs.Machines.{MachineState as Machine};
 ghost use Rattle.bq_state.specs.Kinds.{StateKinds};
 ghost use Rattle.bq_state.specs.Covers.{StateHolds};
 ghost use Rattle.bq_state.specs.Rules.{transfer};

@@ -1,9 +1,10 @@
-use Rattle.std.proofs.Common.{◌≡◌, ◌+◌, ℕ, arith, ap, subst}
+use Rattle.std.proofs.Common.{◌≡◌, ◌+◌, ℕ, List, arith, ap, sym, subst}
 use Rattle.std.specs.Prelude.{Ok, Err}
 use Rattle.bq_meaning.specs.declared.fault.Fault.TheVariants.{StepsOut}
 use Rattle.bq_meaning.specs.declared.step.Step.TheVariants.{Ends}
 use Rattle.bq_meaning.specs.declared.run.Ended.{Ended}
-use Rattle.bq_meaning.specs.Runs.{RunFaults, entry_machine}
+use Rattle.bq_meaning.specs.Machines.{MachineState}
+use Rattle.bq_meaning.specs.Runs.{RunsTo, RunFaults, entry_machine}
 use Rattle.bq_meaning.proofs.Reach.{ends_after, faults_after, reaches_more, still_runs}
 use Rattle.bq_meaning.proofs.Once.{same_end, no_refusal, one_refusal}
 use Rattle.bq_meaning.proofs.run.run_checked.Goals as goal
@@ -15,7 +16,8 @@ pub returns-in-Ok-Ends-clause-ok : goal.returns-in-Ok-Ends-clause-ok
 returns-in-Ok-Ends-clause-ok c =
     let is : c.step_checked.result ≡ Ok (Ends c.in-Ok-Ends.acc) = let a = c.in-Ok-Ends.is in let b = c.in-Ok-Ends.field-0-is in cc in
     let m = entry_machine c.args.placement.now c.args.acc c.args.«record».now c.args.frame.now in
-    ends_after c.args.placement.now c.args.text.now c.loop-done.done m c.loop-done.machine c.step_checked.new.machine c.in-Ok-Ends.acc c.step_checked.result c.loop-done.invariant.reached c.step_checked.ensures is
+    let run = ends_after c.args.placement.now c.args.text.now c.loop-done.done m c.loop-done.machine c.step_checked.new.machine c.in-Ok-Ends.acc c.step_checked.result c.loop-done.invariant.reached c.step_checked.ensures is in
+    subst (λ (frame : List ℕ). RunsTo c.args.placement.now c.args.text.now m (c.loop-done.done + 1) c.in-Ok-Ends.acc frame) (sym (ap (λ (x : MachineState). x.frame) c.machine.view_is)) run
 
 pub returns-in-Err-clause-err : goal.returns-in-Err-clause-err
 returns-in-Err-clause-err c =
@@ -40,13 +42,13 @@ pub returns-in-Ok-Ends-clause-complete : goal.returns-in-Ok-Ends-clause-complete
 returns-in-Ok-Ends-clause-complete c =
     let m = entry_machine c.args.placement.now c.args.acc c.args.«record».now c.args.frame.now in
     λ n answer after low run.
-    let same = same_end c.args.placement.now c.args.text.now (c.loop-done.done + 1) n m c.in-Ok-Ends.acc answer c.step_checked.new.machine.frame after (returns-in-Ok-Ends-clause-ok c) run in
+    let same = same_end c.args.placement.now c.args.text.now (c.loop-done.done + 1) n m c.in-Ok-Ends.acc answer c.machine.inside.frame after (returns-in-Ok-Ends-clause-ok c) run in
     (ap Ok (ends_alike same.1 same.0), same.2)
 
 pub returns-in-Ok-Ends-clause-faulty : goal.returns-in-Ok-Ends-clause-faulty
 returns-in-Ok-Ends-clause-faulty c =
     let m = entry_machine c.args.placement.now c.args.acc c.args.«record».now c.args.frame.now in
-    λ f fault. absurd (no_refusal c.args.placement.now c.args.text.now (c.loop-done.done + 1) c.args.limit m c.in-Ok-Ends.acc c.step_checked.new.machine.frame f (returns-in-Ok-Ends-clause-ok c) (omega arith) fault)
+    λ f fault. absurd (no_refusal c.args.placement.now c.args.text.now (c.loop-done.done + 1) c.args.limit m c.in-Ok-Ends.acc c.machine.inside.frame f (returns-in-Ok-Ends-clause-ok c) (omega arith) fault)
 
 pub returns-in-Err-clause-complete : goal.returns-in-Err-clause-complete
 returns-in-Err-clause-complete c =
