@@ -6,10 +6,8 @@ ghost use Rattle.q_session.specs.Right.{IsRight};
 
 use crate::ran::Ran;
 use bq_check::certified::Certified;
-use bq_frame::block::Block;
 use bq_meaning::laws::appended;
 use bq_meaning::placement::Placement;
-use bq_run::run::Lowered;
 use sc_view::view::{Stored, View};
 
 /// What the record runs of a certified program come to over the entries of a view in rising order of ids: the first
@@ -40,32 +38,8 @@ pub fn fold_checked(certified: &Certified, view: &View, start: u64) -> Ran
     ran
 }
 
-/// The same by the loop without tests, over a block, whose frame it clears first. Takes no memory and has no failure.
-pub fn run_fold(lowered: &Lowered, view: &View, start: u64, block: &mut Block) -> Ran
-    ensures { IsRight lowered.now view.now start result }
-{
-    // A record run takes at most 4,096 steps.
-    let _longest = lowered.certified().longest();
-    block.is_block();
-    block.clear_frame();
-    let mut ran = Ran {
-        acc: start,
-        steps: 0,
-    };
-    for (id, stored) in view.records() {
-        appended();
-        let bytes = record_bytes(id, &stored);
-        let ended = lowered.run(&bytes, ran.acc, block);
-        ran = Ran {
-            acc: ended.acc,
-            steps: ran.steps + ended.steps,
-        };
-    }
-    ran
-}
-
 // The 64 bytes of an entry.
-fn record_bytes(id: u64, stored: &Stored) -> [u8; 64]
+pub(crate) fn record_bytes(id: u64, stored: &Stored) -> [u8; 64]
     ensures { result ≡ record_bytes (id, stored.now) }
 {
     let mut bytes = [0; 64];

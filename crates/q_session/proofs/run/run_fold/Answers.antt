@@ -9,7 +9,7 @@ use Rattle.bq_meaning.specs.Answers.{FoldsTo, zero_frame}
 use Rattle.bq_check.specs.Certificate.{Certificate}
 use Rattle.q_session.proofs.Records.{room, one_more}
 use Rattle.q_session.specs.Records.{record_bytes}
-use Rattle.q_session.proofs.fold.run_fold.Goals as goal
+use Rattle.q_session.proofs.run.run_fold.Goals as goal
 
 pub overflow_add-ran : goal.overflow_add-ran
 overflow_add-ran c =

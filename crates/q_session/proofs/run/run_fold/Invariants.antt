@@ -3,7 +3,7 @@ use Rattle.std.proofs.Common.{◌*◌, ◌≤◌, length, map, take}
 use Rattle.bq_meaning.specs.Place.{Place, IsPlacement}
 use Rattle.bq_meaning.specs.Answers.{FoldsTo, zero_frame}
 use Rattle.q_session.specs.Records.{record_bytes}
-use Rattle.q_session.proofs.fold.run_fold.Given as goal
+use Rattle.q_session.proofs.run.run_fold.Given as goal
 
 abbrev pub invariant-loop-id : goal.invariant-loop-id
 invariant-loop-id l = record {
