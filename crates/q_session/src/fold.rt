@@ -45,7 +45,7 @@ pub fn fold_checked(certified: &Certified, view: &View, start: u64) -> Ran
 }
 
 // The 64 bytes of an entry.
-fn record_bytes(id: u64, stored: &Stored) -> [u8; 64]
+pub(crate) fn record_bytes(id: u64, stored: &Stored) -> [u8; 64]
     ensures { result ≡ record_bytes (id, stored.now) }
 {
     let mut bytes = [0; 64];
