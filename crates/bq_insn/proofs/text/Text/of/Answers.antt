@@ -2,8 +2,8 @@ use Rattle.std.proofs.Common.{◌≤◌, length, ap, arith, rules}
 use Rattle.bq_insn.proofs.Listed.{same_insns, listed_text, listed_slots, length-units}
 use Rattle.bq_insn.proofs.text.Text.of.Goals as goal
 
-pub returns-then-insns-gt4096-clause-fault : goal.returns-then-insns-gt4096-clause-fault
-returns-then-insns-gt4096-clause-fault c = omega (arith, length-units c.args.insns.now)
+pub returns-then-insns-gt-MOST_UNITS-clause-fault : goal.returns-then-insns-gt4096-clause-fault
+returns-then-insns-gt-MOST_UNITS-clause-fault c = omega (arith, length-units c.args.insns.now)
 
 pub returns-clause-same : goal.returns-clause-same
 returns-clause-same c = same_insns c.in_ok-slots.slots.items c.args.insns.now c.in_ok-slots.ensures.slots
