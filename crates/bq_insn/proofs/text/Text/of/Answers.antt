@@ -2,7 +2,7 @@ use Rattle.std.proofs.Common.{◌≤◌, length, ap, arith, rules}
 use Rattle.bq_insn.proofs.Listed.{same_insns, listed_text, listed_slots, length-units}
 use Rattle.bq_insn.proofs.text.Text.of.Goals as goal
 
-pub returns-then-insns-gt-MOST_UNITS-clause-fault : goal.returns-then-insns-gt4096-clause-fault
+pub returns-then-insns-gt-MOST_UNITS-clause-fault : goal.returns-then-insns-gt-MOST_UNITS-clause-fault
 returns-then-insns-gt-MOST_UNITS-clause-fault c = omega (arith, length-units c.args.insns.now)
 
 pub returns-clause-same : goal.returns-clause-same
