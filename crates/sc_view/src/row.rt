@@ -13,9 +13,6 @@ use crate::view::{Entry, Stored};
 use arrayvec::ArrayVec;
 use std::alloc::{AllocError, Global};
 
-/// The most chunks of a row.
-pub(crate) const MOST_CHUNKS: usize = 16;
-
 /// The fewest entries of a chunk, where there are several.
 const FEWEST: usize = 16;
 

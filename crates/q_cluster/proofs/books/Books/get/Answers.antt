@@ -1,6 +1,6 @@
 use Rattle.std.proofs.Common.{sym, ap, ◌∙◌}
 use Rattle.std.specs.FinMap as fin
-use Rattle.sc_view.proofs.Maps.{get_found}
+use Rattle.sc_maps.proofs.Maps.{get_found}
 use Rattle.q_cluster.specs.Tables.{BookMap}
 use Rattle.q_cluster.proofs.books.Books.get.Goals as goal
 

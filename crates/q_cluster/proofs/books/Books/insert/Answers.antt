@@ -1,6 +1,6 @@
 use Rattle.std.proofs.Common.{ap, ◌∙◌}
 use Rattle.std.specs.FinMap as fin
-use Rattle.sc_view.proofs.Maps.{one_written}
+use Rattle.sc_maps.proofs.Maps.{one_written}
 use Rattle.q_cluster.specs.Tables.{BookMap}
 use Rattle.q_cluster.proofs.books.Books.insert.Goals as goal
 

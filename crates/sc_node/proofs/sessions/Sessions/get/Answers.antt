@@ -1,7 +1,7 @@
 use Rattle.std.proofs.Common.{sym, ap, ◌∙◌}
 use Rattle.std.specs.FinMap as fin
 use Rattle.std.specs.Ordering.{nat_cmp}
-use Rattle.sc_view.proofs.Maps.{get_found}
+use Rattle.sc_maps.proofs.Maps.{get_found}
 use Rattle.sc_node.specs.declared.session.Session.{Session}
 use Rattle.sc_node.proofs.sessions.Sessions.get.Goals as goal
 

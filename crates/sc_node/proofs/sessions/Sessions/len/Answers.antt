@@ -2,7 +2,7 @@ use Rattle.std.proofs.Common.{◌≡◌, sym, ap, ◌∙◌}
 use Rattle.std.specs.FinMap as fin
 use Rattle.std.specs.Ordering.{nat_cmp}
 use Rattle.sc_node.specs.declared.session.Session.{Session}
-use Rattle.sc_view.proofs.Maps.{len_found}
+use Rattle.sc_maps.proofs.Maps.{len_found}
 use Rattle.sc_node.proofs.sessions.Sessions.len.Goals as goal
 
 pub returns : goal.returns

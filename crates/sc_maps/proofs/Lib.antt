@@ -1,0 +1,2 @@
+-- Lemmas on trees as maps.
+pub mod Maps

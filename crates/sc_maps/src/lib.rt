@@ -1,0 +1,2 @@
+//! Lemmas on trees of numbered entries, seen as finite maps, for the proofs of the crates above.
+#![tactic(auto)]
