@@ -6,7 +6,7 @@ use q_command::perform::{Outcome, carry_out};
 use q_files::files::Files;
 use q_files::memory::MemoryFiles;
 use q_wire::counted::Counted;
-use q_words::words::read_words;
+use q_words::words::{Wanted, read_words};
 use std::alloc::{AllocError, Global};
 use std::io;
 use std::io::Write;
@@ -128,7 +128,13 @@ impl Cases {
         self.files.passing = self.passing.take();
         let words: Vec<&str> = words.split(' ').collect(self.alloc)?;
         let status = match read_words(self.alloc, words.as_slice()) {
-            Ok(line) => carry_out(self.alloc, &line, &mut self.files, out).status(),
+            Ok(Wanted::Line(line)) => {
+                carry_out(self.alloc, &line, &mut self.files, out).status()
+            }
+            Ok(Wanted::Cluster { .. }) => {
+                writeln!(out, "no command over files")?;
+                0
+            }
             Err(fault) => {
                 writeln!(out, "{fault}")?;
                 fault.status()
@@ -143,7 +149,7 @@ impl Cases {
         writeln!(out, "? {words}")?;
         self.end_file();
         let words: Vec<&str> = words.split(' ').collect(self.alloc)?;
-        let Ok(line) = read_words(self.alloc, words.as_slice()) else {
+        let Ok(Wanted::Line(line)) = read_words(self.alloc, words.as_slice()) else {
             return writeln!(out, "no command");
         };
         let mut unseen = Counted::new(Vec::new(self.alloc));

@@ -1,2 +1,3 @@
 -- Nodes in threads: lemmas.
 mod Telling
+mod Reading

@@ -1,5 +1,7 @@
 -- Why nodes are not run, or a line of their script is refused.
 use Rattle.std.specs.Prelude.{ℕ, List, codes}
+use Rattle.q_board.specs.declared.fault.OpenFault.{OpenFault}
+use Rattle.q_board.specs.declared.fault.OpenFault.TheVariants as opening
 use Rattle.q_book.specs.declared.fault.BookFault.{BookFault}
 use Rattle.q_gather.specs.declared.fault.GatherFault.{GatherFault}
 use Rattle.q_gather.specs.declared.fault.GatherFault.TheVariants as gather
@@ -31,6 +33,11 @@ memory = Script refusal.OutOfMemory
 -- what a book refuses
 abbrev pub of_fault : BookFault → NodesFault
 of_fault f = Script (refusal.Cluster (of_book f))
+
+-- why no board is opened
+abbrev pub of_open : OpenFault → NodesFault
+of_open opening.BadCount = BadCount
+of_open opening.OutOfMemory = memory
 
 -- why journals do not gather
 abbrev pub of_gather : GatherFault → NodesFault

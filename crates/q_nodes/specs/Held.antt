@@ -1,5 +1,5 @@
 -- What is done to a node's book, and to the messages that wait to be sent, while its lock is held.
-use Rattle.std.specs.Prelude.{◌≡◌, ◌≢◌, ◌⊎◌, ℕ, List, ◌++◌, Result, Ok, Err}
+use Rattle.std.specs.Prelude.{◌≡◌, ◌≢◌, ℕ, ◌+◌, ◌-◌, ◌^◌, min, List, ◌++◌, codes, decimal, Result, Ok, Err}
 use Rattle.sc_msg.specs.Fault.{IsFault}
 use Rattle.sc_msg.specs.Messages.{message_bytes, IsMessage}
 use Rattle.sc_msg.specs.declared.message.Message.{Message}
@@ -12,6 +12,7 @@ use Rattle.q_book.specs.declared.answer.Taken.{Taken}
 use Rattle.q_book.specs.declared.fault.BookFault.{BookFault}
 use Rattle.q_nodes.specs.declared.held.Lost.{Lost}
 use Rattle.q_nodes.specs.declared.held.Lost.TheVariants as lost
+use Rattle.q_nodes.specs.declared.losses.Losses.{Losses}
 
 -- the book and what waits are as they were
 abbrev pub IsSame : BookState → List Message → BookState → List Message → Type 0
@@ -38,3 +39,26 @@ Stores value b had (Err f) c has = IsSame b had c has × (f ≢ memory → store
 abbrev pub Asks : ℕ → ℕ → BookState → List Message → Result ℕ BookFault → BookState → List Message → Type 0
 Asks program start b had (Ok query) c has = (a : Asked) × (asked b program start ≡ Ok (a, c)) × (query ≡ a.query) × (has ≡ had ++ a.begun.outs)
 Asks program start b had (Err f) c has = IsSame b had c has × (f ≢ memory → asked b program start ≡ Err f)
+
+-- ---- datagrams that changed nothing
+
+abbrev pub no_losses : Losses
+no_losses = record { bytes = 0; book = 0; memory = 0 }
+
+-- a sum, up to the greatest value
+abbrev pub sum_of : ℕ → ℕ → ℕ
+sum_of m n = min (m + n) (2 ^ 64 - 1)
+
+-- one datagram more
+abbrev pub with_one : Losses → Lost → Losses
+with_one l (lost.Bytes f) = record l { bytes = sum_of l.bytes 1 }
+with_one l (lost.Book f) = record l { book = sum_of l.book 1 }
+with_one l lost.OutOfMemory = record l { memory = sum_of l.memory 1 }
+
+abbrev pub together : Losses → Losses → Losses
+together l k = record { bytes = sum_of l.bytes k.bytes; book = sum_of l.book k.book; memory = sum_of l.memory k.memory }
+
+-- the line that tells them, without the line feed
+abbrev pub losses_text : Losses → List ℕ
+losses_text l =
+    codes "refused datagrams: " ++ (decimal l.bytes ++ (codes " that spell no message, " ++ (decimal l.book ++ (codes " by books, " ++ (decimal l.memory ++ codes " for want of memory")))))

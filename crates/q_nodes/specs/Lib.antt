@@ -3,3 +3,4 @@ pub mod Faults
 pub mod Held
 pub mod Seats
 pub mod Lines
+pub mod Scripts

@@ -3,7 +3,9 @@
 ghost use Rattle.std.specs.Prelude.{◌≡◌};
 ghost use Rattle.q_nodes.specs.Faults.{bad_founders, no_such_node, of_world};
 
+use q_board::fault::OpenFault;
 use q_book::fault::BookFault;
+use q_files::files::FileFault;
 use q_gather::fault::GatherFault;
 use q_history::fault::ClusterFault;
 use q_sim::refusal::Refusal;
@@ -68,6 +70,32 @@ impl From<BookFault> for NodesFault {
 
     fn from(fault: BookFault) -> NodesFault {
         NodesFault::Script(Refusal::Cluster(ClusterFault::from(fault)))
+    }
+}
+
+impl From<OpenFault> for NodesFault {
+    ghost use Rattle.std.specs.Prelude.{◌≡◌};
+    ghost use Rattle.q_nodes.specs.Faults.{of_open};
+
+    ghost from_gives = { λ fault e. e ≡ of_open fault };
+
+    fn from(fault: OpenFault) -> NodesFault {
+        match fault {
+            OpenFault::BadCount => NodesFault::BadCount,
+            OpenFault::OutOfMemory => NodesFault::Script(Refusal::OutOfMemory),
+        }
+    }
+}
+
+impl From<FileFault> for NodesFault {
+    ghost use Rattle.std.specs.Prelude.{◌≡◌};
+    ghost use Rattle.q_sim.specs.Refusal.{refusal_of};
+    ghost use Rattle.q_nodes.specs.declared.fault.NodesFault.TheVariants.{Script};
+
+    ghost from_gives = { λ fault e. e ≡ Script (refusal_of fault) };
+
+    fn from(fault: FileFault) -> NodesFault {
+        NodesFault::Script(Refusal::from(fault))
     }
 }
 

@@ -1,24 +1,37 @@
 //! What the lock of a node keeps.
 
-ghost use Rattle.std.specs.Prelude.{◌≡◌, ◌≤◌, ◌+◌, [], vec_len, vec_capacity};
-ghost use Rattle.q_nodes.specs.Held.{Asks, Delivers, Hears, Stores};
+ghost use Rattle.std.specs.Prelude.{◌≡◌, ◌≤◌, ◌+◌, [], vec_len, vec_capacity, MatchResult};
+ghost use Rattle.q_board.specs.BoardId.{board_id};
+ghost use Rattle.q_pool.specs.Pumped.{Pumped, Stopped};
+ghost use Rattle.q_nodes.specs.Held.{Asks, Delivers, Hears, Stores, no_losses};
 
+use crate::losses::Losses;
+use q_board::board::Board;
+use q_board::seats::AskerSeat;
 use q_book::answer::Asked;
 use q_book::book::Book;
 use q_book::fault::BookFault;
+use q_pool::pump::pump_once;
 use q_table::program::ProgramId;
 use sc_msg::decode::decode;
 use sc_msg::fault::MessageFault;
 use sc_msg::message::Message;
 use std::alloc::Global;
 
-/// A node's book, and the messages that its thread has still to send.
+/// A node's book, the messages that its thread has still to send, and its seat at the board of jobs.
 #[derive(Drop)]
-pub struct Held {
+pub struct Held<'b> {
     /// The book, which is the replay of its journal.
     pub book: Book,
     /// What the book gave and the node's thread did not send yet, in turn.
     pub waiting: Vec<Message>,
+    /// The datagrams that changed nothing so far.
+    pub lost: Losses,
+    /// The board.
+    pub board: &'b Board,
+    /// The node's seat at this board.
+    pub asker: AskerSeat,
+    ghost seated: { asker.table ≡ board_id board.now },
 }
 
 /// Why a datagram changes nothing: it counts as lost.
@@ -32,7 +45,24 @@ pub enum Lost {
     OutOfMemory,
 }
 
-impl Held {
+impl<'b> Held<'b> {
+    /// A book that gave nothing and heard nothing yet.
+    pub fn new(alloc: Global, book: Book, board: &'b Board, asker: AskerSeat) -> Held<'b>
+        requires { asker.table ≡ board_id board.now }
+        ensures book { result.book ≡ book }
+        ensures waiting { result.waiting.items ≡ [] }
+        ensures lost { result.lost ≡ no_losses }
+        ensures asker { result.asker ≡ asker }
+    {
+        Held {
+            book,
+            waiting: Vec::new(alloc),
+            lost: Losses::none(),
+            board,
+            asker,
+        }
+    }
+
     /// Takes the bytes of a datagram: the message that they spell is delivered, and what the book gives waits behind
     /// what waits already. Where that is refused nothing changes.
     pub fn hear(&mut self, alloc: Global, bytes: &[u8]) -> Result<(), Lost>
@@ -90,5 +120,14 @@ impl Held {
         ensures book { self.new.book ≡ self.old.book }
     {
         std::mem::replace(&mut self.waiting, Vec::new(alloc))
+    }
+    /// Posts the results that wait for the node at the board, and offers jobs of its ready queries there. Refused as
+    /// [`pump_once`] is.
+    pub fn pump(&mut self) -> Result<u32, BookFault>
+        ensures { MatchResult result
+            (λ posted. Pumped self.old.asker self.old.book posted self.new.asker self.new.book)
+            (λ fault. Stopped self.old.asker self.old.book fault self.new.asker self.new.book) }
+    {
+        pump_once(self.board, &mut self.asker, &mut self.book)
     }
 }

@@ -25,8 +25,8 @@ use std::time::Clock;
 /// After so many turns an operation or a query is left unanswered.
 const MOST_TURNS: u32 = 100_000;
 
-/// Runs what is ready at any node.
-fn pump_all<R: Wait>(rt: &R, seats: &[Mutex<Held>]) {
+/// Carries results and jobs between the board and the books of all nodes.
+fn pump_all<R: Wait>(rt: &R, seats: &[Mutex<Held<'_>>]) {
     for held in seats {
         seat::pump(rt, held);
     }
@@ -35,8 +35,8 @@ fn pump_all<R: Wait>(rt: &R, seats: &[Mutex<Held>]) {
 /// Takes turns until the operation with this tag has ended. Whether it has.
 fn await_end<R: Wait + Clock>(
     rt: &R,
-    seats: &[Mutex<Held>],
-    held: &Mutex<Held>,
+    seats: &[Mutex<Held<'_>>],
+    held: &Mutex<Held<'_>>,
     node: u64,
     tag: u64,
 ) -> bool
@@ -55,8 +55,8 @@ fn await_end<R: Wait + Clock>(
 /// Takes turns until the answer of this query stands.
 fn await_answer<R: Wait + Clock>(
     rt: &R,
-    seats: &[Mutex<Held>],
-    held: &Mutex<Held>,
+    seats: &[Mutex<Held<'_>>],
+    held: &Mutex<Held<'_>>,
     node: u64,
     query: usize,
 ) -> Option<Ran>
@@ -89,7 +89,7 @@ fn tell_program<W: Write>(id: ProgramId, out: &mut W) -> io::Result<()>
 fn run_program<R: Wait, W: Write>(
     rt: &R,
     alloc: Global,
-    seats: &[Mutex<Held>],
+    seats: &[Mutex<Held<'_>>],
     node: u64,
     code: &[u8],
     out: &mut W,
@@ -112,8 +112,8 @@ fn run_program<R: Wait, W: Write>(
 /// Waits for the end of a store that was begun, and prints what comes behind its tag.
 fn end_store<R: Wait + Clock, W: Write>(
     rt: &R,
-    seats: &[Mutex<Held>],
-    held: &Mutex<Held>,
+    seats: &[Mutex<Held<'_>>],
+    held: &Mutex<Held<'_>>,
     node: u64,
     tag: u64,
     out: &mut W,
@@ -130,7 +130,7 @@ fn end_store<R: Wait + Clock, W: Write>(
 /// `store NODE U64`.
 fn run_store<R: Wait + Clock, W: Write>(
     rt: &R,
-    seats: &[Mutex<Held>],
+    seats: &[Mutex<Held<'_>>],
     node: u64,
     value: u64,
     out: &mut W,
@@ -152,8 +152,8 @@ fn run_store<R: Wait + Clock, W: Write>(
 /// Waits for the answer of a query that was begun, and prints what comes behind its number.
 fn end_query<R: Wait + Clock, W: Write>(
     rt: &R,
-    seats: &[Mutex<Held>],
-    held: &Mutex<Held>,
+    seats: &[Mutex<Held<'_>>],
+    held: &Mutex<Held<'_>>,
     node: u64,
     query: usize,
     out: &mut W,
@@ -173,7 +173,7 @@ fn end_query<R: Wait + Clock, W: Write>(
 /// `ask NODE PROGRAM START`.
 fn run_ask<R: Wait + Clock, W: Write>(
     rt: &R,
-    seats: &[Mutex<Held>],
+    seats: &[Mutex<Held<'_>>],
     node: u64,
     program: u64,
     start: u64,
@@ -204,7 +204,7 @@ fn program_id(number: u64) -> ProgramId
 pub fn run_line<R: Wait + Clock, W: Write>(
     rt: &R,
     alloc: Global,
-    seats: &[Mutex<Held>],
+    seats: &[Mutex<Held<'_>>],
     line: &ClusterLine,
     out: &mut W,
 ) -> io::Result<()>
@@ -227,7 +227,7 @@ pub fn run_line<R: Wait + Clock, W: Write>(
 pub fn run_lines<R: Wait + Clock, W: Write>(
     rt: &R,
     alloc: Global,
-    seats: &[Mutex<Held>],
+    seats: &[Mutex<Held<'_>>],
     lines: &[ClusterLine],
     out: &mut W,
 ) -> io::Result<()>

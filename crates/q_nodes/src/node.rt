@@ -1,19 +1,20 @@
 //! The thread of a node.
 
-ghost use Rattle.std.specs.Prelude.{◌≡◌, ◌≤◌, length};
+ghost use Rattle.std.specs.Prelude.{◌≡◌, ◌≤◌, length, IfSome};
 
 use crate::held::Held;
 use crate::turn::pause;
 use q_wire::transport::Transport;
 use sc_msg::encode::encode;
-use sc_msg::message::Message;
+use sc_msg::message::{MOST_BYTES, Message};
 use std::alloc::Global;
 use std::sync::atomic::{AtomicBool, Ordering};
 use std::sync::{Mutex, Wait};
 use std::time::Clock;
 
-/// The most bytes of a datagram that is received: those of the longest message.
-const MOST_BYTES: usize = 60_000;
+/// The most bytes of a datagram that are looked at: one more than the longest message has, so that none is taken for
+/// the start of a longer datagram.
+const LOOKED_AT: usize = MOST_BYTES + 1;
 
 /// Sends a message to each of so many nodes, itself among them. A datagram that is not sent is lost.
 fn tell<T: Transport>(alloc: Global, nodes: u64, transport: &mut T, message: &Message) {
@@ -25,24 +26,25 @@ fn tell<T: Transport>(alloc: Global, nodes: u64, transport: &mut T, message: &Me
     }
 }
 
-/// How many bytes were received, 0 where none were.
-fn receive<T: Transport>(transport: &mut T, buffer: &mut [u8]) -> usize
-    ensures fits { result ≤ length buffer.new }
+/// How many bytes the datagram has that was received, if one was.
+fn receive<T: Transport>(transport: &mut T, buffer: &mut [u8]) -> Option<usize>
+    ensures fits { IfSome result (λ len. len ≤ length buffer.new) }
     ensures len { length buffer.new ≡ length buffer.old }
 {
-    match transport.receive(buffer) {
-        Ok(Some(len)) => len,
-        Ok(None) | Err(_) => 0,
+    transport.receive(buffer).unwrap_or(None)
+}
+
+/// Delivers what was received, or counts it as lost, under the lock.
+fn hear<R: Wait>(rt: &R, alloc: Global, held: &Mutex<Held<'_>>, bytes: &[u8]) {
+    let mut guard = held.lock(rt);
+    if let Err(lost) = guard.hear(alloc, bytes) {
+        guard.lost.count(lost);
     }
 }
 
-/// Delivers what was received, and takes the messages that wait, under the lock.
-fn hear<R: Wait>(rt: &R, alloc: Global, held: &Mutex<Held>, bytes: &[u8]) -> Vec<Message> {
-    let mut guard = held.lock(rt);
-    if !bytes.is_empty() {
-        let _ = guard.hear(alloc, bytes);
-    }
-    guard.take(alloc)
+/// The messages that wait, taken under the lock.
+fn take<R: Wait>(rt: &R, alloc: Global, held: &Mutex<Held<'_>>) -> Vec<Message> {
+    held.lock(rt).take(alloc)
 }
 
 /// One turn of a node: it hears a datagram, if there is one, and sends what waits. Whether there was anything to do.
@@ -50,16 +52,19 @@ fn take_turn<R: Wait, T: Transport>(
     rt: &R,
     alloc: Global,
     nodes: u64,
-    held: &Mutex<Held>,
+    held: &Mutex<Held<'_>>,
     transport: &mut T,
     buffer: &mut [u8],
 ) -> bool {
-    let len = receive(transport, buffer);
-    let messages = hear(rt, alloc, held, &buffer[..len]);
+    let received = receive(transport, buffer);
+    if let Some(len) = received {
+        hear(rt, alloc, held, &buffer[..len]);
+    }
+    let messages = take(rt, alloc, held);
     for message in &messages {
         tell(alloc, nodes, transport, message);
     }
-    len > 0 || !messages.is_empty()
+    received.is_some() || !messages.is_empty()
 }
 
 /// Runs a node until the cluster is over: its thread hears and sends, and gives way where there is nothing to do.
@@ -67,11 +72,11 @@ pub fn tend<R: Wait + Clock, T: Transport + Drop>(
     rt: &R,
     alloc: Global,
     nodes: u64,
-    held: &Mutex<Held>,
+    held: &Mutex<Held<'_>>,
     over: &AtomicBool,
     mut transport: T,
 ) {
-    let Ok(mut buffer) = vec![in alloc; 0u8; MOST_BYTES] else {
+    let Ok(mut buffer) = vec![in alloc; 0u8; LOOKED_AT] else {
         return;
     };
     let mut idle: u32 = 0;

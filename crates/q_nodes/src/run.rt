@@ -1,13 +1,21 @@
 //! A whole cluster, run by threads.
 
+ghost use Rattle.std.specs.Prelude.{◌≡◌, ◌⊎◌, All};
+ghost use Rattle.q_board.specs.BoardId.{board_id};
+
 use crate::fault::NodesFault;
 use crate::held::Held;
 use crate::line::run_lines;
+use crate::losses::Losses;
 use crate::node::tend;
 use crate::script::{ClusterLine, ClusterScript};
+use q_board::board::Board;
+use q_board::seats::{AskerSeat, RunnerSeat};
 use q_book::book::Book;
 use q_cluster::cluster::Cluster;
 use q_gather::gather::gather;
+use q_pool::gate::Open;
+use q_pool::runners::with_runners;
 use q_replay::write::journal_bytes;
 use q_wire::transport::Transport;
 use sc_members::config::Config;
@@ -18,6 +26,9 @@ use std::sync::{Mutex, Wait};
 use std::thread;
 use std::thread::{Scope, Threads};
 use std::time::Clock;
+
+/// How many threads run jobs.
+const RUNNERS: usize = 4;
 
 /// How the lines of a script went.
 #[derive(Clone, Copy)]
@@ -39,16 +50,22 @@ fn ids(alloc: Global, nodes: u64) -> Result<Vec<u64>, AllocError> {
     Ok(ids)
 }
 
-/// The book of each founder, behind its lock; nothing waits.
-fn found(alloc: Global, config: Config, nodes: u64) -> Result<Vec<Mutex<Held>>, NodesFault> {
+/// The book of each founder with its seat at the board, behind its lock; nothing waits.
+fn found<'b>(
+    alloc: Global,
+    board: &'b Board,
+    askers: Vec<AskerSeat>,
+    config: Config,
+    nodes: u64,
+) -> Result<Vec<Mutex<Held<'b>>>, NodesFault>
+    requires { All (λ s. s.table ≡ board_id board.now) askers.items }
+{
     let ids = ids(alloc, nodes)?;
     let mut seats = Vec::new(alloc);
-    for id in &ids {
-        let book = Book::founder(alloc, config, *id, ids.as_slice())?;
-        let held = Held {
-            book,
-            waiting: Vec::new(alloc),
-        };
+    for asker in askers {
+        let id = (seats.len() as u64).saturating_add(1);
+        let book = Book::founder(alloc, config, id, ids.as_slice())?;
+        let held = Held::new(alloc, book, board, asker);
         if seats.push(Mutex::new(held)).is_err() {
             return Err(NodesFault::from(AllocError));
         }
@@ -57,12 +74,12 @@ fn found(alloc: Global, config: Config, nodes: u64) -> Result<Vec<Mutex<Held>>, 
 }
 
 /// Starts the thread of a node. Whether it runs.
-fn start<'s, E, R: Wait + Threads + Clock + Sync, T: Transport + Send + Drop + 's>(
+fn start<'s, 'b, E, R: Wait + Threads + Clock + Sync, T: Transport + Send + Drop + 's>(
     scope: &Scope<'s, E>,
     rt: &'s R,
     alloc: Global,
     nodes: u64,
-    held: &'s Mutex<Held>,
+    held: &'s Mutex<Held<'b>>,
     over: &'s AtomicBool,
     transport: T,
 ) -> bool {
@@ -72,12 +89,12 @@ fn start<'s, E, R: Wait + Threads + Clock + Sync, T: Transport + Send + Drop + '
 }
 
 /// Starts the threads of the nodes. Whether all run.
-fn start_all<'s, E, R: Wait + Threads + Clock + Sync, T: Transport + Send + Drop + 's>(
+fn start_all<'s, 'b, E, R: Wait + Threads + Clock + Sync, T: Transport + Send + Drop + 's>(
     scope: &Scope<'s, E>,
     rt: &'s R,
     alloc: Global,
     nodes: u64,
-    seats: &'s [Mutex<Held>],
+    seats: &'s [Mutex<Held<'b>>],
     over: &'s AtomicBool,
     transports: Vec<T>,
 ) -> bool {
@@ -94,7 +111,7 @@ fn run_threads<R: Wait + Threads + Clock + Sync, T: Transport + Send + Drop, W: 
     rt: &R,
     alloc: Global,
     nodes: u64,
-    seats: &[Mutex<Held>],
+    seats: &[Mutex<Held<'_>>],
     over: &AtomicBool,
     lines: &[ClusterLine],
     transports: Vec<T>,
@@ -114,19 +131,60 @@ fn run_threads<R: Wait + Threads + Clock + Sync, T: Transport + Send + Drop, W: 
     })
 }
 
-/// The journals of the nodes, whose threads have ended.
-fn journals(alloc: Global, seats: Vec<Mutex<Held>>) -> Result<Vec<Vec<u8>>, AllocError> {
-    let mut journals = Vec::new(alloc);
+/// The same while the runners run the jobs of the board.
+fn run_with_runners<R: Wait + Threads + Clock + Sync, T: Transport + Send + Drop, W: Write>(
+    rt: &R,
+    alloc: Global,
+    board: &Board,
+    runners: Vec<RunnerSeat>,
+    seats: &[Mutex<Held<'_>>],
+    script: &ClusterScript,
+    transports: Vec<T>,
+    out: &mut W,
+) -> Course
+    requires { All (λ s. s.table ≡ board_id board.now) runners.items }
+{
+    let over = AtomicBool::new(false);
+    let over = &over;
+    let nodes = script.nodes;
+    let lines = script.lines.as_slice();
+    let work = move || run_threads(rt, alloc, nodes, seats, over, lines, transports, out);
+    match with_runners(rt, board, runners, &Open, work) {
+        Ok(course) => course,
+        Err(_) => Course::Unstarted,
+    }
+}
+
+/// What the locks kept.
+fn unlocked<'b>(alloc: Global, seats: Vec<Mutex<Held<'b>>>) -> Result<Vec<Held<'b>>, AllocError> {
+    let mut nodes = Vec::new(alloc);
     for seat in seats {
-        let held = seat.into_inner();
-        journals.push(journal_bytes(alloc, &held.book)?)?;
+        nodes.push(seat.into_inner())?;
+    }
+    Ok(nodes)
+}
+
+/// The datagrams that any node lost.
+fn losses(nodes: &[Held<'_>]) -> Losses {
+    let mut losses = Losses::none();
+    for node in nodes {
+        losses = losses.and(node.lost);
+    }
+    losses
+}
+
+/// The journals of the nodes.
+fn journals(alloc: Global, nodes: &[Held<'_>]) -> Result<Vec<Vec<u8>>, AllocError> {
+    let mut journals = Vec::new(alloc);
+    for node in nodes {
+        journals.push(journal_bytes(alloc, &node.book)?)?;
     }
     Ok(journals)
 }
 
 /// The cluster of the nodes, out of their journals.
-fn gather_all(alloc: Global, seats: Vec<Mutex<Held>>) -> Result<Cluster, NodesFault> {
-    let journals = journals(alloc, seats)?;
+fn gather_all(alloc: Global, nodes: &[Held<'_>]) -> Result<Cluster, NodesFault> {
+    let journals = journals(alloc, nodes)?;
     let mut slices: Vec<&[u8]> = Vec::new(alloc);
     for journal in &journals {
         if slices.push(journal.as_slice()).is_err() {
@@ -137,41 +195,69 @@ fn gather_all(alloc: Global, seats: Vec<Mutex<Held>>) -> Result<Cluster, NodesFa
 }
 
 /// Prints a refusal: the exit status of what is refused.
-fn refuse<W: Write>(fault: NodesFault, out: &mut W) -> u8 {
+pub fn refuse<W: Write>(fault: NodesFault, out: &mut W) -> u8
+    ensures { result ≡ 1 }
+{
     let _ = writeln!(out, "{fault}");
     1
 }
 
-/// Runs a script by a thread for each node, over these transports, and prints what its lines tell. The exit status.
-pub fn run_cluster<R: Wait + Threads + Clock + Sync, T: Transport + Send + Drop, W: Write>(
+/// Ends a run whose threads have ended: tells the datagrams that were lost, and gathers the journals. The exit status.
+fn end<W: Write, N: Write>(
+    alloc: Global,
+    seats: Vec<Mutex<Held<'_>>>,
+    out: &mut W,
+    notes: &mut N,
+) -> u8 {
+    let nodes = match unlocked(alloc, seats) {
+        Ok(nodes) => nodes,
+        Err(fault) => return refuse(NodesFault::from(fault), out),
+    };
+    let losses = losses(nodes.as_slice());
+    let _ = writeln!(notes, "{losses}");
+    match gather_all(alloc, nodes.as_slice()) {
+        Ok(_cluster) => 0,
+        Err(fault) => refuse(fault, out),
+    }
+}
+
+/// Runs a script by a thread for each node, over these transports, and by four runners, and prints what its lines tell.
+/// How many datagrams changed nothing goes to the notes. The exit status.
+pub fn run_cluster<R, T, W, N>(
     rt: &R,
     alloc: Global,
     script: &ClusterScript,
     transports: Vec<T>,
     out: &mut W,
-) -> u8 {
-    let seats = match found(alloc, script.config, script.nodes) {
+    notes: &mut N,
+) -> u8
+where
+    R: Wait + Threads + Clock + Sync,
+    T: Transport + Send + Drop,
+    W: Write,
+    N: Write,
+{
+    let (board, askers, runners) = match Board::open(alloc, script.nodes as usize, RUNNERS) {
+        Ok(opened) => opened,
+        Err(fault) => return refuse(NodesFault::from(fault), out),
+    };
+    let seats = match found(alloc, &board, askers, script.config, script.nodes) {
         Ok(seats) => seats,
         Err(fault) => return refuse(fault, out),
     };
-    let over = AtomicBool::new(false);
-    let course = run_threads(
+    let course = run_with_runners(
         rt,
         alloc,
-        script.nodes,
+        &board,
+        runners,
         seats.as_slice(),
-        &over,
-        script.lines.as_slice(),
+        script,
         transports,
         out,
     );
     match course {
-        Course::Done => {}
-        Course::Unwritten => return 1,
-        Course::Unstarted => return refuse(NodesFault::from(AllocError), out),
-    }
-    match gather_all(alloc, seats) {
-        Ok(_cluster) => 0,
-        Err(fault) => refuse(fault, out),
+        Course::Done => end(alloc, seats, out, notes),
+        Course::Unwritten => 1,
+        Course::Unstarted => refuse(NodesFault::from(AllocError), out),
     }
 }

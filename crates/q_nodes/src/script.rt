@@ -1,5 +1,13 @@
 //! The scripts of nodes in threads.
 
+ghost use Rattle.std.specs.Prelude.{◌≡◌, ◌∷◌, ◌++◌, IfOk, IfErr, MatchOption, MatchResult};
+ghost use Rattle.q_script.specs.Founding.{SpellsFounding};
+ghost use Rattle.q_script.specs.Line.{Judges};
+ghost use Rattle.q_script.specs.Lines.{without_last_feed};
+ghost use Rattle.q_script.specs.Words.{Lacks};
+ghost use Rattle.q_sim.specs.Simulates.{HasFractions, config_of};
+ghost use Rattle.q_nodes.specs.Scripts.{AreLines, AreParts, Fits, IsClusterScript, IsLaterFault, IsOther, IsPartsFault, IsRefused, IsUnfit, SpellsLine, bad_fraction, event_of};
+
 use crate::fault::NodesFault;
 use q_script::founding::Founding;
 use q_script::line::{LineFault, ScriptLine};
@@ -51,7 +59,9 @@ pub struct ClusterScript {
 }
 
 /// The line of a script, where it is one that nodes in threads take.
-fn taken(line: ScriptLine) -> Option<ClusterLine> {
+fn taken(line: ScriptLine) -> Option<ClusterLine>
+    ensures { MatchOption result ((l : ClusterLine) → event_of l ≡ line → ⊥) (λ l. event_of l ≡ line) }
+{
     match line {
         ScriptLine::Program { node, code } => Some(ClusterLine::Program { node, code }),
         ScriptLine::Store { node, value } => Some(ClusterLine::Store { node, value }),
@@ -69,15 +79,23 @@ fn taken(line: ScriptLine) -> Option<ClusterLine> {
 }
 
 /// The line that a text spells.
-fn read_line(alloc: Global, text: &str) -> Result<ClusterLine, LineFault> {
+fn read_line(alloc: Global, text: &str) -> Result<ClusterLine, LineFault>
+    ensures { Judges SpellsLine text.now result }
+{
     match ScriptLine::read(alloc, text) {
-        Ok(line) => taken(line).ok_or(LineFault::Form),
+        Ok(line) => match taken(line) {
+            Some(line) => Ok(line),
+            None => Err(LineFault::Form),
+        },
         Err(fault) => Err(fault),
     }
 }
 
 /// The lines of these lines, of which the first is line 2 of a script.
-fn read_lines(alloc: Global, text: &str) -> Result<Vec<ClusterLine>, ScriptFault> {
+fn read_lines(alloc: Global, text: &str) -> Result<Vec<ClusterLine>, ScriptFault>
+    ensures read { IfOk result (λ lines. AreLines text.now lines.items) }
+    ensures fault { IfErr result (IsLaterFault text.now) }
+{
     let mut lines = Vec::new(alloc);
     for part in text.split('\n') {
         let line = match read_line(alloc, part) {
@@ -97,17 +115,36 @@ fn read_lines(alloc: Global, text: &str) -> Result<Vec<ClusterLine>, ScriptFault
 }
 
 /// The founding of line 1.
-fn found(text: &str) -> Result<Founding, ScriptFault> {
+fn found(text: &str) -> Result<Founding, ScriptFault>
+    ensures { MatchResult result (SpellsFounding text.now) (λ fault. (fault ≡ ScriptFault.Syntax 1) × IsOther 0 text.now) }
+{
     match Founding::read(text) {
         Some(founding) => Ok(founding),
         None => Err(ScriptFault::Syntax { line: 1 }),
     }
 }
 
+/// The text without a line feed at its end.
+fn without_last_feed(text: &str) -> &str
+    ensures { result.now ≡ without_last_feed text.now }
+{
+    text.strip_suffix('\n').unwrap_or(text)
+}
+
+/// The first line, and what stands behind its line feed, where there is one.
+fn first_line(text: &str) -> Option<(&str, &str)>
+    ensures { MatchOption result (Lacks 10 text.now) (λ p. Lacks 10 p.0.now × (text.now ≡ p.0.now ++ (10 ∷ p.1.now))) }
+{
+    text.split_once('\n')
+}
+
 /// The founding that a text spells on its first line, and the lines behind it.
-fn read_parts(alloc: Global, source: &str) -> Result<(Founding, Vec<ClusterLine>), ScriptFault> {
-    let body = source.strip_suffix('\n').unwrap_or(source);
-    let Some((first, rest)) = body.split_once('\n') else {
+fn read_parts(alloc: Global, source: &str) -> Result<(Founding, Vec<ClusterLine>), ScriptFault>
+    ensures read { IfOk result (λ parts. AreParts source.now parts.0 parts.1.items) }
+    ensures fault { IfErr result (IsPartsFault source.now) }
+{
+    let body = without_last_feed(source);
+    let Some((first, rest)) = first_line(body) else {
         let founding = found(body)?;
         return Ok((founding, Vec::new(alloc)));
     };
@@ -117,7 +154,9 @@ fn read_parts(alloc: Global, source: &str) -> Result<(Founding, Vec<ClusterLine>
 }
 
 /// The fractions of a founding. Refused with 45.
-fn config_of(founding: &Founding) -> Result<Config, NodesFault> {
+fn config_of(founding: &Founding) -> Result<Config, NodesFault>
+    ensures { MatchResult result (λ config. HasFractions founding.now × (config ≡ config_of founding.now)) (λ fault. (fault ≡ bad_fraction) × ¬ (HasFractions founding.now)) }
+{
     let beta = founding.beta;
     let gamma = founding.gamma;
     match Config::new(
@@ -131,25 +170,37 @@ fn config_of(founding: &Founding) -> Result<Config, NodesFault> {
     }
 }
 
+/// The script of a founding and of these lines. Refused are 45, 62 and 49, in this order.
+fn fitting(founding: Founding, lines: Vec<ClusterLine>) -> Result<ClusterScript, NodesFault>
+    ensures { MatchResult result (λ script. Fits founding script × (script.lines ≡ lines)) (IsUnfit founding) }
+{
+    let config = match config_of(&founding) {
+        Ok(config) => config,
+        Err(fault) => return Err(fault),
+    };
+    if founding.count > MOST_NODES {
+        return Err(NodesFault::BadCount);
+    }
+    if founding.count == 0 {
+        return Err(NodesFault::bad_founders());
+    }
+    Ok(ClusterScript {
+        config,
+        nodes: founding.count,
+        lines,
+    })
+}
+
 impl ClusterScript {
     /// The script that a text spells. Refused are 9 Syntax, with the least line of another form or of another kind, and
     /// then 45 BadFraction, 62 BadCount for more than 16 nodes, 49 BadFounders for none, in this order; or 99.
-    pub fn read(alloc: Global, source: &str) -> Result<ClusterScript, NodesFault> {
-        let (founding, lines) = match read_parts(alloc, source) {
-            Ok(parts) => parts,
-            Err(fault) => return Err(NodesFault::Script(Refusal::Script(fault))),
-        };
-        let config = config_of(&founding)?;
-        if founding.count > MOST_NODES {
-            return Err(NodesFault::BadCount);
+    pub fn read(alloc: Global, source: &str) -> Result<ClusterScript, NodesFault>
+        ensures read { IfOk result (IsClusterScript source.now) }
+        ensures fault { IfErr result (IsRefused source.now) }
+    {
+        match read_parts(alloc, source) {
+            Ok((founding, lines)) => fitting(founding, lines),
+            Err(fault) => Err(NodesFault::Script(Refusal::Script(fault))),
         }
-        if founding.count == 0 {
-            return Err(NodesFault::bad_founders());
-        }
-        Ok(ClusterScript {
-            config,
-            nodes: founding.count,
-            lines,
-        })
     }
 }

@@ -9,13 +9,12 @@ ghost use Rattle.q_nodes.specs.Seats.{BeginsQuery, BeginsStore, HasEnded, IsBook
 use crate::fault::NodesFault;
 use crate::held::Held;
 use q_book::book::Book;
-use q_session::done::Done;
 use q_session::ran::Ran;
 use q_table::program::{Program, ProgramId};
 use std::sync::{Mutex, Wait};
 
 /// The lock of this node, which is counted from 1.
-pub fn seat(seats: &[Mutex<Held>], node: u64) -> Option<&Mutex<Held>> {
+pub fn seat<'s, 'b>(seats: &'s [Mutex<Held<'b>>], node: u64) -> Option<&'s Mutex<Held<'b>>> {
     let place = node.checked_sub(1)?;
     seats.get(usize::try_from(place).ok()?)
 }
@@ -30,7 +29,7 @@ fn is_of(book: &Book, node: u64) -> bool
 }
 
 /// Registers a program in the book of the node.
-fn register_in(held: &mut Held, node: u64, program: &Program) -> Result<ProgramId, NodesFault>
+fn register_in(held: &mut Held<'_>, node: u64, program: &Program) -> Result<ProgramId, NodesFault>
     ensures { Registers node program.now result }
 {
     if !is_of(&held.book, node) {
@@ -43,7 +42,7 @@ fn register_in(held: &mut Held, node: u64, program: &Program) -> Result<ProgramI
 }
 
 /// Begins to store a value in the book of the node.
-fn store_in(held: &mut Held, node: u64, value: &[u8; 48]) -> Result<u64, NodesFault>
+fn store_in(held: &mut Held<'_>, node: u64, value: &[u8; 48]) -> Result<u64, NodesFault>
     ensures { BeginsStore node value.now result }
 {
     if !is_of(&held.book, node) {
@@ -56,7 +55,12 @@ fn store_in(held: &mut Held, node: u64, value: &[u8; 48]) -> Result<u64, NodesFa
 }
 
 /// Begins a query in the book of the node.
-fn ask_in(held: &mut Held, node: u64, program: ProgramId, start: u64) -> Result<usize, NodesFault>
+fn ask_in(
+    held: &mut Held<'_>,
+    node: u64,
+    program: ProgramId,
+    start: u64,
+) -> Result<usize, NodesFault>
     ensures { BeginsQuery node program start result }
 {
     if !is_of(&held.book, node) {
@@ -91,7 +95,7 @@ fn answer_in(book: &Book, node: u64, query: usize) -> Option<Ran>
 /// Registers a program at the node.
 pub fn register<R: Wait>(
     rt: &R,
-    held: &Mutex<Held>,
+    held: &Mutex<Held<'_>>,
     node: u64,
     program: &Program,
 ) -> Result<ProgramId, NodesFault>
@@ -103,7 +107,7 @@ pub fn register<R: Wait>(
 /// The node begins to store a value: the tag of the operation.
 pub fn store<R: Wait>(
     rt: &R,
-    held: &Mutex<Held>,
+    held: &Mutex<Held<'_>>,
     node: u64,
     value: &[u8; 48],
 ) -> Result<u64, NodesFault>
@@ -115,7 +119,7 @@ pub fn store<R: Wait>(
 /// The node begins a query: its number.
 pub fn ask<R: Wait>(
     rt: &R,
-    held: &Mutex<Held>,
+    held: &Mutex<Held<'_>>,
     node: u64,
     program: ProgramId,
     start: u64,
@@ -126,7 +130,7 @@ pub fn ask<R: Wait>(
 }
 
 /// Looks whether the operation with this tag has ended at the node.
-pub fn has_ended<R: Wait>(rt: &R, held: &Mutex<Held>, node: u64, tag: u64) -> bool
+pub fn has_ended<R: Wait>(rt: &R, held: &Mutex<Held<'_>>, node: u64, tag: u64) -> bool
     ensures { IsTrue result → HasEnded node tag }
 {
     let guard = held.lock(rt);
@@ -134,19 +138,15 @@ pub fn has_ended<R: Wait>(rt: &R, held: &Mutex<Held>, node: u64, tag: u64) -> bo
 }
 
 /// Looks for the answer of a query at the node.
-pub fn answer<R: Wait>(rt: &R, held: &Mutex<Held>, node: u64, query: usize) -> Option<Ran>
+pub fn answer<R: Wait>(rt: &R, held: &Mutex<Held<'_>>, node: u64, query: usize) -> Option<Ran>
     ensures { IfSome result (IsRecorded node query) }
 {
     let guard = held.lock(rt);
     answer_in(&guard.book, node, query)
 }
 
-/// Runs the job of the ready query of a node with the least number, if there is one, with the lock free, and records
-/// the answer.
-pub fn pump<R: Wait>(rt: &R, held: &Mutex<Held>) {
-    let handed = held.lock(rt).book.hand_out();
-    if let Ok(Some(job)) = handed {
-        let done = Done::run(job);
-        let _ = held.lock(rt).book.post(&done);
-    }
+/// Carries results from the board into the book of a node, and jobs from the book to the board. What stops the pump
+/// stops it at the next call too, and loses nothing.
+pub fn pump<R: Wait>(rt: &R, held: &Mutex<Held<'_>>) {
+    let _ = held.lock(rt).pump();
 }

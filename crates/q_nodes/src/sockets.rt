@@ -1,16 +1,18 @@
 //! Clusters whose nodes have a socket each.
 
 use crate::fault::NodesFault;
-use crate::run::run_cluster;
+use crate::run::{refuse, run_cluster};
 use crate::script::ClusterScript;
+use q_files::files::Files;
+use q_sim::refusal::Refusal;
 use q_wire::udp::{Peer, UdpTransport};
 use std::alloc::Global;
-use std::io;
 use std::io::Write;
 use std::net::Net;
 use std::sync::Wait;
 use std::thread::Threads;
 use std::time::Clock;
+use std::{io, str};
 
 /// A socket for each node. None knows a peer yet.
 fn open_all<R: Net>(rt: &R, alloc: Global, nodes: u64) -> io::Result<Vec<UdpTransport>> {
@@ -51,26 +53,42 @@ pub fn open_sockets<R: Net>(rt: &R, alloc: Global, nodes: u64) -> io::Result<Vec
     Ok(transports)
 }
 
-/// Runs the script that a text spells by a thread and a socket for each node, and prints what its lines tell. The exit
-/// status. A script that is refused prints its refusal, and a socket that can't be opened 86 TransportFailed.
-pub fn run_over_sockets<R: Net + Wait + Threads + Clock + Sync, W: Write>(
+/// Runs the script that a text spells by a thread and a socket for each node, and prints what its lines tell; how many
+/// datagrams changed nothing goes to the notes. The exit status. A script that is refused prints its refusal, and a socket
+/// that can't be opened 86 TransportFailed.
+pub fn run_over_sockets<R: Net + Wait + Threads + Clock + Sync, W: Write, N: Write>(
     rt: &R,
     alloc: Global,
     source: &str,
     out: &mut W,
+    notes: &mut N,
 ) -> u8 {
     let script = match ClusterScript::read(alloc, source) {
         Ok(script) => script,
         Err(fault) => return refuse(fault, out),
     };
     match open_sockets(rt, alloc, script.nodes) {
-        Ok(transports) => run_cluster(rt, alloc, &script, transports, out),
+        Ok(transports) => run_cluster(rt, alloc, &script, transports, out, notes),
         Err(_) => refuse(NodesFault::TransportFailed, out),
     }
 }
 
-/// Prints a refusal: the exit status of what is refused.
-fn refuse<W: Write>(fault: NodesFault, out: &mut W) -> u8 {
-    let _ = writeln!(out, "{fault}");
-    1
+/// The command `cluster`: runs the script in the file of this name so. A file that fails, or is no UTF-8, is refused with
+/// 87 FileFailed.
+pub fn run_file<R: Net + Wait + Threads + Clock + Sync, F: Files, W: Write, N: Write>(
+    rt: &R,
+    alloc: Global,
+    name: &str,
+    files: &mut F,
+    out: &mut W,
+    notes: &mut N,
+) -> u8 {
+    let bytes = match files.read(alloc, name) {
+        Ok(bytes) => bytes,
+        Err(fault) => return refuse(NodesFault::from(fault), out),
+    };
+    match str::from_utf8(bytes.as_slice()) {
+        Ok(source) => run_over_sockets(rt, alloc, source, out, notes),
+        Err(_) => refuse(NodesFault::Script(Refusal::FileFailed), out),
+    }
 }

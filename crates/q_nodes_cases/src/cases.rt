@@ -1,11 +1,15 @@
 //! The scripts, and what they print.
 
 use crate::deaf::Deaf;
+use crate::noise::Noisy;
+use q_files::files::Files;
+use q_files::memory::MemoryFiles;
 use q_nodes::run::run_cluster;
 use q_nodes::script::ClusterScript;
-use q_nodes::sockets::run_over_sockets;
+use q_nodes::sockets::{run_file, run_over_sockets};
 use q_script::number::number;
 use q_wire::memory::{Hub, MemoryTransport};
+use q_words::words::{Wanted, read_words};
 use std::alloc::{AllocError, Global};
 use std::io;
 use std::io::Write;
@@ -72,14 +76,59 @@ impl Cases {
         words: &str,
         out: &mut W,
     ) -> io::Result<u8> {
-        if words == "sockets" {
-            return Ok(run_over_sockets(rt, self.alloc, self.script.as_str(), out));
+        let (word, rest) = words.split_once(' ').unwrap_or((words, ""));
+        match word {
+            "sockets" => {
+                let mut notes = Vec::new(self.alloc);
+                let source = self.script.as_str();
+                let status = run_over_sockets(rt, self.alloc, source, out, &mut notes);
+                out.write_all(notes.as_slice())?;
+                Ok(status)
+            }
+            "memory" => self.run_over_memory(rt, 0, out),
+            "deaf" => self.run_over_memory(rt, number(rest).unwrap_or(0), out),
+            "noisy" => self.run_over_noise(rt, rest.as_bytes(), out),
+            _ => self.run_command(rt, words, out),
         }
-        let deaf = match words.split_once(' ') {
-            Some((_, node)) => number(node).unwrap_or(0),
-            None => 0,
+    }
+
+    /// Runs the command of these words over a file `s`, which holds the script.
+    fn run_command<R: Net + Wait + Threads + Clock + Sync, W: Write>(
+        &self,
+        rt: &R,
+        words: &str,
+        out: &mut W,
+    ) -> io::Result<u8> {
+        let words: Vec<&str> = words.split(' ').collect(self.alloc)?;
+        let name = match read_words(self.alloc, words.as_slice()) {
+            Ok(Wanted::Cluster { script }) => script,
+            Ok(Wanted::Line(_)) => {
+                writeln!(out, "another command")?;
+                return Ok(0);
+            }
+            Err(fault) => {
+                writeln!(out, "{fault}")?;
+                return Ok(fault.status());
+            }
         };
-        self.run_over_memory(rt, deaf, out)
+        let mut files = MemoryFiles::new(self.alloc);
+        let _ = files.write("s", self.script.as_bytes());
+        let _ = files.write("t", &[0xff]);
+        let mut notes = Vec::new(self.alloc);
+        let status = run_file(rt, self.alloc, name, &mut files, out, &mut notes);
+        out.write_all(notes.as_slice())?;
+        Ok(status)
+    }
+
+    /// The script, or its refusal, which is printed.
+    fn read<W: Write>(&self, out: &mut W) -> io::Result<Option<ClusterScript>> {
+        match ClusterScript::read(self.alloc, self.script.as_str()) {
+            Ok(script) => Ok(Some(script)),
+            Err(fault) => {
+                writeln!(out, "{fault}")?;
+                Ok(None)
+            }
+        }
     }
 
     /// Runs the script over memory, where this node hears nothing.
@@ -89,12 +138,8 @@ impl Cases {
         deaf: u64,
         out: &mut W,
     ) -> io::Result<u8> {
-        let script = match ClusterScript::read(self.alloc, self.script.as_str()) {
-            Ok(script) => script,
-            Err(fault) => {
-                writeln!(out, "{fault}")?;
-                return Ok(1);
-            }
+        let Some(script) = self.read(out)? else {
+            return Ok(1);
         };
         let hub = Mutex::new(Hub::new(self.alloc));
         let mut transports = Vec::new(self.alloc);
@@ -105,6 +150,34 @@ impl Cases {
                 is_deaf: id == deaf,
             })?;
         }
-        Ok(run_cluster(rt, self.alloc, &script, transports, out))
+        let mut notes = Vec::new(self.alloc);
+        let status = run_cluster(rt, self.alloc, &script, transports, out, &mut notes);
+        out.write_all(notes.as_slice())?;
+        Ok(status)
+    }
+
+    /// Runs the script over memory, where datagrams are disturbed.
+    fn run_over_noise<R: Net + Wait + Threads + Clock + Sync, W: Write>(
+        &self,
+        rt: &R,
+        letters: &[u8],
+        out: &mut W,
+    ) -> io::Result<u8> {
+        let Some(script) = self.read(out)? else {
+            return Ok(1);
+        };
+        let hub = Mutex::new(Hub::new(self.alloc));
+        let mut transports = Vec::new(self.alloc);
+        for known in 0..script.nodes {
+            transports.push(Noisy {
+                inner: MemoryTransport::new(rt, &hub, known + 1),
+                alloc: self.alloc,
+                letters,
+                sent: 0,
+                kept: None,
+            })?;
+        }
+        let mut notes = Vec::new(self.alloc);
+        Ok(run_cluster(rt, self.alloc, &script, transports, out, &mut notes))
     }
 }

@@ -6,13 +6,14 @@
 //! | `check FILE` | `accepted longest L`: the program never faults, and does L steps for a record at most |
 //! | `run FILE START RECORDS` | `acc A steps S`: the last accumulator, and all steps |
 //! | `sim SCRIPT` | what each event of a script tells, over a cluster in memory |
+//! | `cluster SCRIPT` | what each line of a script tells, over nodes with a thread and a UDP socket of loopback each |
 //! | `audit JOURNAL` | `answer Q ACC STEPS` for each answer that a node recorded, by the numbers of its queries; then `journal ok` |
 //!
 //! FILE holds assembler text. START is a number in decimal. RECORDS holds a line `ID SEQ VALUE` for each record, by
 //! rising ids: the node, the sequence number of its store, and the number that it stored, whose eight bytes are the first
 //! of the value's 48.
 //!
-//! SCRIPT holds one event a line. Words have one space between, numbers are below 2^64 in decimal.
+//! SCRIPT of `sim` holds one event a line. Words have one space between, numbers are below 2^64 in decimal.
 //!
 //! | Line | Prints |
 //! |---|---|
@@ -37,30 +38,42 @@
 //! stays 0, but for a journal whose file fails (87): it is 1 at the end. Refused `nodes` end the script: 45 before 49. A
 //! line of another form is 9 before anything runs.
 //!
+//! SCRIPT of `cluster` has the lines `nodes`, with 1 to 16 nodes, `program`, `store` and `ask` alone. Nothing is delivered
+//! by lines: the nodes send their messages over the sockets, and four runners run the jobs. `store TAG` and `query Q` stand
+//! alone on their lines, with no messages behind them; the next line of the script is taken once the store has ended, or
+//! `answer NODE Q ACC STEPS` is printed. After 100,000 turns `unanswered` is printed in its place. At the end the journals
+//! of the nodes are gathered into one cluster, and a refusal is printed last. A line on the standard error tells how many
+//! datagrams were refused, and why.
+//!
 //! A refusal prints `refused N Name`, then ` at U` where it carries a unit or a journal's event, or ` line L` where a
 //! line ([`Refusal`]). `run` finds faults in this order: FILE, its text, the verifier and the checker, RECORDS, its
-//! lines. `sim` finds them in this: SCRIPT, its text, its founders. `audit` finds a fault of JOURNAL, and then of its
+//! lines. `sim` finds them in this: SCRIPT, its text, its founders; and `cluster` too, which then finds the sockets that
+//! can't be opened (86). `audit` finds a fault of JOURNAL, and then of its
 //! least faulty event. Want of memory, 99, may stand in place of any answer and of any other refusal. The exit status
 //! is 0; or 1 after a refusal, or where a journal was not written or the standard output failed; or 2 for a wrong
 //! command line, which is explained on the standard error.
 //!
-//! [`read_words`] reads the words of the command line, [`carry_out`] runs the command, and [`advice`] explains a refusal on
-//! the standard error, from what was read: their contracts say what the program does. `main` alone reaches the machine:
-//! its words, its files, its standard output and its standard error. Why the system refuses a file is told on the standard
-//! error, too.
+//! [`read_words`] reads the words of the command line, [`carry_out`] runs the command, or [`run_file`] where it is
+//! `cluster`, and [`advice`] explains a refusal on the standard error, from what was read: their contracts say what the
+//! program does. `main` alone reaches the machine: its words, its files, its standard output and its standard error. Why
+//! the system refuses a file is told on the standard error, too.
 //!
 //! [`Refusal`]: q_sim::refusal::Refusal
 //! [`read_words`]: q_words::words::read_words
 //! [`carry_out`]: q_command::perform::carry_out
+//! [`run_file`]: q_nodes::sockets::run_file
 //! [`advice`]: q_command::advice::advice
 #![tactic(auto)]
 
 use q_command::advice::advice;
 use q_command::perform::{Outcome, carry_out};
 use q_files::folder::Folder;
+use q_nodes::sockets::run_file;
 use q_wire::counted::Counted;
-use q_words::words::{WordsFault, read_words};
+use q_words::words::{Line, Wanted, WordsFault, read_words};
+use std::alloc::Global;
 use std::process::ExitCode;
+use std::rt::Files as SystemFiles;
 use std::{env, io};
 
 /// Says why no command runs, where `clap` says that text belongs.
@@ -72,23 +85,37 @@ fn explain(rt: &(impl Print + Eprint), fault: &WordsFault) -> io::Result<()> {
     }
 }
 
-fn main(rt: HostRuntime) -> io::Result<ExitCode> {
+/// Runs a command over files: the exit status.
+fn run_line<R: SystemFiles + Alloc<A = Global> + Print + Eprint>(
+    rt: &R,
+    line: &Line<'_>,
+) -> io::Result<u8> {
     let alloc = rt.alloc();
-    let args: Vec<String> = env::args(&rt)?.collect(alloc)?;
-    let words: Vec<&str> = args.iter().map(|word| word.as_str()).collect(alloc)?;
-    let line = match read_words(alloc, words.as_slice()) {
-        Ok(line) => line,
-        Err(fault) => {
-            explain(&rt, &fault)?;
-            return Ok(ExitCode::from(fault.status()));
-        }
-    };
-    let mut out = Counted::new(io::writer(&rt));
-    let outcome = carry_out(alloc, &line, &mut Folder::new(&rt), &mut out);
+    let mut out = Counted::new(io::writer(rt));
+    let outcome = carry_out(alloc, line, &mut Folder::new(rt), &mut out);
     if let Outcome::Refused(denied) = &outcome {
         if let Ok(Some(text)) = advice(alloc, denied) {
             rt.eprint(text)?;
         }
     }
-    Ok(ExitCode::from(outcome.status()))
+    Ok(outcome.status())
+}
+
+fn main(rt: HostRuntime) -> io::Result<ExitCode> {
+    let alloc = rt.alloc();
+    let args: Vec<String> = env::args(&rt)?.collect(alloc)?;
+    let words: Vec<&str> = args.iter().map(|word| word.as_str()).collect(alloc)?;
+    let status = match read_words(alloc, words.as_slice()) {
+        Ok(Wanted::Line(line)) => run_line(&rt, &line)?,
+        Ok(Wanted::Cluster { script }) => {
+            let mut out = Counted::new(io::writer(&rt));
+            let mut files = Folder::new(&rt);
+            run_file(&rt, alloc, script, &mut files, &mut out, &mut rt.stderr())
+        }
+        Err(fault) => {
+            explain(&rt, &fault)?;
+            fault.status()
+        }
+    };
+    Ok(ExitCode::from(status))
 }

@@ -13,10 +13,10 @@ use Rattle.clap.specs.declared.builder.command.Command.TheViews.{out-Command}
 use Rattle.clap.specs.declared.parser.matches.SubCommand.{SubCommand}
 use Rattle.clap.specs.declared.parser.matches.ArgMatches.TheViews.{out-SubCommand}
 use Rattle.clap.proofs.OnLiterals.{clap_on_literals}
-use Rattle.q_words.specs.declared.words.Line.{Line}
+use Rattle.q_words.specs.declared.words.Wanted.{Wanted}
 use Rattle.q_words.specs.declared.words.WordsFault.{WordsFault}
 use Rattle.q_words.specs.declared.words.WordsFault.TheVariants.{BadStart}
-use Rattle.q_words.specs.Words.{bqview, HasCommand, HasBadStart, Reads}
+use Rattle.q_words.specs.Words.{bqview, IsMet, HasBadStart, Reads}
 
 pub simple : is_simple bqview ≡ true
 unfolding clap_on_literals
@@ -77,25 +77,25 @@ entered_in : (a : App) (stop : Option (Text × List Text)) (p : Text × List Row
 entered_in a None p e = absurd (not_some p e)
 entered_in a (Some q) p e = find_in (λ s. answers_to q.0 (label_of s)) a.subs q.1 p e
 
-all_names : names (built bqview).subs ≡ codes "asm" ∷ codes "check" ∷ codes "run" ∷ codes "sim" ∷ codes "audit" ∷ []
+all_names : names (built bqview).subs ≡ codes "asm" ∷ codes "check" ∷ codes "run" ∷ codes "sim" ∷ codes "cluster" ∷ codes "audit" ∷ []
 all_names = refl
 
-one_of_five : (n : Text) → In n (codes "asm" ∷ codes "check" ∷ codes "run" ∷ codes "sim" ∷ codes "audit" ∷ []) → (n ≡ codes "asm" → ⊥) → (n ≡ codes "check" → ⊥) → (n ≡ codes "run" → ⊥) → (n ≡ codes "sim" → ⊥)
-    → (n ≡ codes "audit" → ⊥) → ⊥
-one_of_five n h a b c d k = elim h [
+one_of_six : (n : Text) → In n (codes "asm" ∷ codes "check" ∷ codes "run" ∷ codes "sim" ∷ codes "cluster" ∷ codes "audit" ∷ []) → (n ≡ codes "asm" → ⊥) → (n ≡ codes "check" → ⊥) → (n ≡ codes "run" → ⊥) → (n ≡ codes "sim" → ⊥)
+    → (n ≡ codes "cluster" → ⊥) → (n ≡ codes "audit" → ⊥) → ⊥
+one_of_six n h a b c d f k = elim h [
   | inl e ↦ a e
-  | inr h ↦ elim h [ inl e ↦ b e | inr h ↦ elim h [ inl e ↦ c e | inr h ↦ elim h [ inl e ↦ d e | inr h ↦ elim h [ inl e ↦ k e | inr h ↦ h ] ] ] ]
+  | inr h ↦ elim h [ inl e ↦ b e | inr h ↦ elim h [ inl e ↦ c e | inr h ↦ elim h [ inl e ↦ d e | inr h ↦ elim h [ inl e ↦ f e | inr h ↦ elim h [ inl e ↦ k e | inr h ↦ h ] ] ] ] ]
 ]
 
 pub other_command : {Z : Type 0} (o : Option (Box SubCommand Z)) (words : List Text) → is_some o ≡ true → subcommand_rows o ≡ subcommand_of bqview words
     → let name = option_map (λ b. (out-SubCommand (box_value b)).name.now) o in (name ≡ Some (codes "asm") → ⊥) → (name ≡ Some (codes "check") → ⊥) → (name ≡ Some (codes "run") → ⊥) → (name ≡ Some (codes "sim") → ⊥)
-    → (name ≡ Some (codes "audit") → ⊥) → ⊥
-other_command None words s e a b c d k = true≢false (sym s)
-other_command (Some x) words s e a b c d k =
+    → (name ≡ Some (codes "cluster") → ⊥) → (name ≡ Some (codes "audit") → ⊥) → ⊥
+other_command None words s e a b c d f k = true≢false (sym s)
+other_command (Some x) words s e a b c d f k =
     let n : Text = (out-SubCommand (box_value x)).name.now in
     let known = entered_in (built bqview) (stop_after (built bqview).top.rules (names_of (built bqview)) (argument_words bqview words)) (n, rows_of (found_of (out-SubCommand (box_value x)).matches)) (sym e) in
-    one_of_five n (subst (In n) all_names known) (λ h. a (ap (λ t. Some t) h)) (λ h. b (ap (λ t. Some t) h)) (λ h. c (ap (λ t. Some t) h)) (λ h. d (ap (λ t. Some t) h))
-    (λ h. k (ap (λ t. Some t) h))
+    one_of_six n (subst (In n) all_names known) (λ h. a (ap (λ t. Some t) h)) (λ h. b (ap (λ t. Some t) h)) (λ h. c (ap (λ t. Some t) h)) (λ h. d (ap (λ t. Some t) h))
+    (λ h. f (ap (λ t. Some t) h)) (λ h. k (ap (λ t. Some t) h))
 
 -- ---- how commands are put together
 
@@ -124,7 +124,7 @@ made (Ok c) x y g h k e f = (h ∙ e, k ∙ f)
 made (Err d) x y g h k e f = tt
 
 -- what is read of `run`
-pub run_read : (words : List Text) (r : Result Line WordsFault) (rows : List Row) → fault_of bqview words ≡ [] → subcommand_of bqview words ≡ Some (codes "run", rows)
-    → MatchResult r (λ line. HasCommand line (codes "run", rows)) (λ e. (e ≡ BadStart) × HasBadStart (codes "run", rows)) → Reads words r
-run_read words (Ok line) rows n s h = (n, was_met (HasCommand line) _ (codes "run", rows) s h)
+pub run_read : (words : List Text) (r : Result Wanted WordsFault) (rows : List Row) → fault_of bqview words ≡ [] → subcommand_of bqview words ≡ Some (codes "run", rows)
+    → MatchResult r (λ asked. IsMet asked (codes "run", rows)) (λ e. (e ≡ BadStart) × HasBadStart (codes "run", rows)) → Reads words r
+run_read words (Ok asked) rows n s h = (n, was_met (IsMet asked) _ (codes "run", rows) s h)
 run_read words (Err e) rows n s h = subst (λ d. Reads words (Err d)) (sym h.0) (n, was_met HasBadStart _ (codes "run", rows) s h.1)

@@ -7,6 +7,8 @@ use Rattle.clap.specs.declared.error.kind.ErrorKind.TheVariants as kind
 use Rattle.clap.specs.declared.builder.action.ArgAction.TheVariants.{Set}
 use Rattle.q_words.specs.declared.words.Line.{Line}
 use Rattle.q_words.specs.declared.words.Line.TheVariants.{Asm, Check, Run, Sim, Audit}
+use Rattle.q_words.specs.declared.words.Wanted.{Wanted}
+use Rattle.q_words.specs.declared.words.Wanted.TheVariants as wanted
 use Rattle.q_words.specs.declared.words.WordsFault.{WordsFault}
 use Rattle.q_words.specs.declared.words.WordsFault.TheVariants.{Help, Wrong, BadStart, OutOfMemory}
 use Rattle.q_script.specs.Words.{IsNumeral}
@@ -33,16 +35,25 @@ run_app = with_rule (with_rule (with_rule (new_app (codes "run")) (operand (code
 abbrev pub sim_app : App
 sim_app = with_rule (new_app (codes "sim")) (operand (codes "SCRIPT"))
 
+-- `cluster SCRIPT`
+abbrev pub cluster_app : App
+cluster_app = with_rule (new_app (codes "cluster")) (operand (codes "SCRIPT"))
+
 -- `audit JOURNAL`
 abbrev pub audit_app : App
 audit_app = with_rule (new_app (codes "audit")) (operand (codes "JOURNAL"))
 
--- the program, of which one command is wanted
+-- the program, of which one command is wanted, with none below it
+abbrev pub bare_app : App
+bare_app =
+    let plain = new_app (codes "bqview") in
+    record plain { top = record plain.top { subcommand_required = true; disable_help_subcommand = true } }
+
+-- the program
 abbrev pub bqview : App
 bqview =
-    let plain = new_app (codes "bqview") in
-    let one = record plain { top = record plain.top { subcommand_required = true; disable_help_subcommand = true } } in
-    with_subcommand (with_subcommand (with_subcommand (with_subcommand (with_subcommand one asm_app.top) check_app.top) run_app.top) sim_app.top) audit_app.top
+    let asm_check_run = with_subcommand (with_subcommand (with_subcommand bare_app asm_app.top) check_app.top) run_app.top in
+    with_subcommand (with_subcommand (with_subcommand asm_check_run sim_app.top) cluster_app.top) audit_app.top
 
 -- ---- what the words say
 
@@ -50,7 +61,7 @@ bqview =
 abbrev pub operand_of : Text → List Row → Text
 operand_of name rows = unwrap_or (first_of name rows) []
 
--- the command that was met, by its name and what was found for its operands
+-- the command over files that was met, by its name and what was found for its operands
 abbrev pub HasCommand : Line → Text × List Row → Type 0
 HasCommand (Asm file) met = (met.0 ≡ codes "asm") × (file.now ≡ operand_of (codes "FILE") met.1)
 HasCommand (Check file) met = (met.0 ≡ codes "check") × (file.now ≡ operand_of (codes "FILE") met.1)
@@ -59,6 +70,11 @@ HasCommand (Run file start records) met =
     × (records.now ≡ operand_of (codes "RECORDS") met.1)
 HasCommand (Sim script) met = (met.0 ≡ codes "sim") × (script.now ≡ operand_of (codes "SCRIPT") met.1)
 HasCommand (Audit journal) met = (met.0 ≡ codes "audit") × (journal.now ≡ operand_of (codes "JOURNAL") met.1)
+
+-- what was met asks for this
+abbrev pub IsMet : Wanted → Text × List Row → Type 0
+IsMet (wanted.Line line) met = HasCommand line met
+IsMet (wanted.Cluster script) met = (met.0 ≡ codes "cluster") × (script.now ≡ operand_of (codes "SCRIPT") met.1)
 
 -- the command `run` was met, and its START is no number
 abbrev pub HasBadStart : Text × List Row → Type 0
@@ -79,8 +95,8 @@ HasFault words BadStart = (fault_of bqview words ≡ []) × IsSomeAnd (subcomman
 HasFault words OutOfMemory = ⊤
 
 -- a command is read exactly where the words have no fault by the rules of `clap`, and the START of `run` is a number
-abbrev pub Reads : List Text → Result Line WordsFault → Type 0
-Reads words (Ok line) = (fault_of bqview words ≡ []) × IsSomeAnd (subcommand_of bqview words) (HasCommand line)
+abbrev pub Reads : List Text → Result Wanted WordsFault → Type 0
+Reads words (Ok asked) = (fault_of bqview words ≡ []) × IsSomeAnd (subcommand_of bqview words) (IsMet asked)
 Reads words (Err e) = HasFault words e
 
 -- the exit status of the program, where it runs no command

@@ -3,14 +3,14 @@
 ghost use Rattle.std.specs.Prelude.{◌≡◌, codes, IfOk, MatchResult, map, false, true};
 ghost use Rattle.clap.specs.Words.{app_of, found_of, rows_of, with_rule, with_subcommand};
 ghost use Rattle.clap.specs.declared.builder.command.Command.TheViews.{out-Command};
-ghost use Rattle.q_words.specs.Words.{asm_app, check_app, run_app, sim_app, audit_app, bqview, operand, operand_of, HasCommand, HasBadStart, Reads, exit_status};
+ghost use Rattle.q_words.specs.Words.{asm_app, check_app, run_app, sim_app, cluster_app, audit_app, bare_app, bqview, operand, operand_of, IsMet, HasBadStart, Reads, exit_status};
 
 use clap::error::ErrorKind;
 use clap::{Arg, ArgAction, ArgMatches, Command, Error};
 use q_script::number::number;
 use std::alloc::{AllocError, Global};
 
-/// A command with its operands.
+/// A command over files, with its operands.
 #[derive(Clone, Copy)]
 pub enum Line<'a> {
     /// `asm FILE`: list the units of the program that a file of assembler text spells.
@@ -41,6 +41,18 @@ pub enum Line<'a> {
     Audit {
         /// The name of the file.
         journal: &'a str,
+    },
+}
+
+/// What the words of a command line ask for.
+#[derive(Clone, Copy)]
+pub enum Wanted<'a> {
+    /// A command over files.
+    Line(Line<'a>),
+    /// `cluster SCRIPT`: run a script by a thread for each node.
+    Cluster {
+        /// The name of the file.
+        script: &'a str,
     },
 }
 
@@ -180,6 +192,21 @@ fn sim_command<'a>(alloc: Global) -> Result<Command<'a>, AllocError>
     )
 }
 
+/// The command `cluster`.
+fn cluster_command<'a>(alloc: Global) -> Result<Command<'a>, AllocError>
+    ensures { IfOk result (λ c. (app_of c ≡ cluster_app) × ((out-Command c).has_globals ≡ false)) }
+{
+    let command = Command::new(alloc, "cluster")
+        .about("Runs a script over nodes with a socket each, and prints what its lines told")
+        .after_help("Example: bqview cluster examples/three.cluster");
+    with_operand(
+        alloc,
+        command,
+        "SCRIPT",
+        "A file of programs, stores and queries, one a line, of which the first founds the cluster",
+    )
+}
+
 /// The command `audit`.
 fn audit_command<'a>(alloc: Global) -> Result<Command<'a>, AllocError>
     ensures { IfOk result (λ c. (app_of c ≡ audit_app) × ((out-Command c).has_globals ≡ false)) }
@@ -204,19 +231,26 @@ fn with_command<'a>(command: Command<'a>, below: Command<'a>) -> Result<Command<
     command.subcommand(below)
 }
 
+/// The program, with no command below it yet.
+fn bare_program<'a>(alloc: Global) -> Command<'a>
+    ensures { (app_of result ≡ bare_app) × ((out-Command result).has_globals ≡ false) }
+{
+    Command::new(alloc, "bqview")
+        .about("Programs of RFC 9669 over store-collect views")
+        .after_help("Example: bqview sim examples/count.sim")
+        .subcommand_required(true)
+        .disable_help_subcommand(true)
+}
+
 /// The program's command line.
 fn program<'a>(alloc: Global) -> Result<Command<'a>, AllocError>
     ensures { IfOk result (λ c. (app_of c ≡ bqview) × ((out-Command c).has_globals ≡ false)) }
 {
-    let command = Command::new(alloc, "bqview")
-        .about("Programs of RFC 9669 over store-collect views")
-        .after_help("Example: bqview sim examples/count.sim")
-        .subcommand_required(true)
-        .disable_help_subcommand(true);
-    let command = with_command(command, asm_command(alloc)?)?;
+    let command = with_command(bare_program(alloc), asm_command(alloc)?)?;
     let command = with_command(command, check_command(alloc)?)?;
     let command = with_command(command, run_command(alloc)?)?;
     let command = with_command(command, sim_command(alloc)?)?;
+    let command = with_command(command, cluster_command(alloc)?)?;
     with_command(command, audit_command(alloc)?)
 }
 
@@ -228,43 +262,47 @@ fn operand_text<'a>(found: &ArgMatches<'a>, name: &str) -> &'a str
 }
 
 /// The command `run` with what was found for its operands.
-fn run_line<'a>(found: &ArgMatches<'a>) -> Result<Line<'a>, WordsFault>
-    ensures { MatchResult result (λ line. HasCommand line (codes "run", rows_of (found_of found.now))) (λ e. (e ≡ WordsFault.BadStart) × HasBadStart (codes "run", rows_of (found_of found.now))) }
+fn run_line<'a>(found: &ArgMatches<'a>) -> Result<Wanted<'a>, WordsFault>
+    ensures { MatchResult result (λ wanted. IsMet wanted (codes "run", rows_of (found_of found.now))) (λ e. (e ≡ WordsFault.BadStart) × HasBadStart (codes "run", rows_of (found_of found.now))) }
 {
     match number(operand_text(found, "START")) {
-        Some(start) => Ok(Line::Run {
+        Some(start) => Ok(Wanted::Line(Line::Run {
             file: operand_text(found, "FILE"),
             start,
             records: operand_text(found, "RECORDS"),
-        }),
+        })),
         None => Err(WordsFault::BadStart),
     }
 }
 
 /// Reads the words of the command line, of which the first is the program's name.
-pub fn read_words<'a>(alloc: Global, words: &'a [&'a str]) -> Result<Line<'a>, WordsFault>
+pub fn read_words<'a>(alloc: Global, words: &'a [&'a str]) -> Result<Wanted<'a>, WordsFault>
     ensures { Reads (map (λ word. word.now) words.entry.now) result }
 {
     let matches = program(alloc)?.try_get_matches_from(words)?;
     if let Some(found) = matches.subcommand_matches("asm") {
         let file = operand_text(found, "FILE");
-        return Ok(Line::Asm { file });
+        return Ok(Wanted::Line(Line::Asm { file }));
     }
     if let Some(found) = matches.subcommand_matches("check") {
         let file = operand_text(found, "FILE");
-        return Ok(Line::Check { file });
+        return Ok(Wanted::Line(Line::Check { file }));
     }
     if let Some(found) = matches.subcommand_matches("run") {
         return run_line(found);
     }
     if let Some(found) = matches.subcommand_matches("sim") {
         let script = operand_text(found, "SCRIPT");
-        return Ok(Line::Sim { script });
+        return Ok(Wanted::Line(Line::Sim { script }));
+    }
+    if let Some(found) = matches.subcommand_matches("cluster") {
+        let script = operand_text(found, "SCRIPT");
+        return Ok(Wanted::Cluster { script });
     }
     match matches.subcommand_matches("audit") {
-        Some(found) => Ok(Line::Audit {
+        Some(found) => Ok(Wanted::Line(Line::Audit {
             journal: operand_text(found, "JOURNAL"),
-        }),
+        })),
         None => unreachable!(),
     }
 }
