@@ -1,0 +1,117 @@
+//! Runs the commands of a document as they are written there, over the files beside it.
+//!
+//! The document is `README.md`. In its blocks that begin with a line "```console" a line `$ bqview WORDS` is a command, and
+//! what stands behind it, up to the next or to the block's end, is what it prints: its standard output, and then what
+//! explains its refusal. Each command is printed, with whether it prints just that.
+#![tactic(auto)]
+
+use q_command::advice::advice;
+use q_command::perform::{Outcome, carry_out};
+use q_files::files::Files;
+use q_files::folder::Folder;
+use q_wire::counted::Counted;
+use q_words::words::{Wanted, read_words};
+use std::alloc::Global;
+use std::io::{ErrorKind, Write};
+use std::process::ExitCode;
+use std::{io, str};
+
+/// The document that is being read.
+#[derive(Drop)]
+struct Document {
+    /// Whether a block of commands is open.
+    is_open: bool,
+    /// The command whose output is being read.
+    command: Option<String>,
+    /// What it prints, as the document says.
+    told: Vec<u8>,
+}
+
+/// What a command prints.
+fn printed<F: Files>(alloc: Global, command: &str, files: &mut F) -> io::Result<Vec<u8>> {
+    let words: Vec<&str> = command.split(' ').collect(alloc)?;
+    let mut out = Counted::new(Vec::new(alloc));
+    match read_words(alloc, words.as_slice()) {
+        Ok(Wanted::Line(line)) => {
+            let outcome = carry_out(alloc, &line, files, &mut out);
+            if let Outcome::Refused(denied) = &outcome {
+                if let Some(text) = advice(alloc, denied)? {
+                    write!(out, "{text}")?;
+                }
+            }
+        }
+        Ok(Wanted::Cluster { .. }) => {}
+        Err(fault) => write!(out, "{fault}")?,
+    }
+    Ok(out.inner)
+}
+
+/// Runs the command whose output was read, and tells whether it prints just that.
+fn end_command<F: Files>(
+    rt: &impl Print,
+    alloc: Global,
+    document: &mut Document,
+    files: &mut F,
+) -> io::Result<()> {
+    if let Some(command) = document.command.take() {
+        let bytes = printed(alloc, command.as_str(), files)?;
+        if bytes.as_slice() == document.told.as_slice() {
+            println!(rt; "{command}: as written")?;
+        } else {
+            println!(rt; "{command}: prints otherwise")?;
+            io::writer(rt).write_all(bytes.as_slice())?;
+        }
+    }
+    document.told.clear();
+    Ok(())
+}
+
+/// Takes the next line of the document.
+fn take_line<F: Files>(
+    rt: &impl Print,
+    alloc: Global,
+    document: &mut Document,
+    line: &str,
+    files: &mut F,
+) -> io::Result<()> {
+    if !document.is_open {
+        document.is_open = line == "```console";
+        return Ok(());
+    }
+    if line == "```" {
+        document.is_open = false;
+        return end_command(rt, alloc, document, files);
+    }
+    if let Some(command) = line.strip_prefix("$ ") {
+        end_command(rt, alloc, document, files)?;
+        document.command = Some(String::from_str(alloc, command)?);
+        return Ok(());
+    }
+    document.told.extend_from_slice(line.as_bytes())?;
+    Ok(document.told.push(b'\n')?)
+}
+
+/// The text of a file.
+fn text_of(bytes: &[u8]) -> io::Result<&str> {
+    match str::from_utf8(bytes) {
+        Ok(text) => Ok(text),
+        Err(_) => Err(io::Error::from(ErrorKind::InvalidData)),
+    }
+}
+
+fn main(rt: HostRuntime) -> io::Result<ExitCode> {
+    let alloc = rt.alloc();
+    let mut files = Folder::new(&rt);
+    let Ok(bytes) = files.read(alloc, "README.md") else {
+        return Ok(ExitCode::from(1));
+    };
+    let mut document = Document {
+        is_open: false,
+        command: None,
+        told: Vec::new(alloc),
+    };
+    for line in text_of(bytes.as_slice())?.split('\n') {
+        take_line(&rt, alloc, &mut document, line, &mut files)?;
+    }
+    Ok(ExitCode::from(0))
+}
