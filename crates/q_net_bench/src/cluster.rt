@@ -1,0 +1,68 @@
+//! Scripts over nodes with sockets.
+
+use crate::Times;
+use anyhow::Result;
+use q_nodes::sockets::run_over_sockets;
+use std::alloc::Global;
+use std::net::Net;
+use std::sync::Wait;
+use std::thread::Threads;
+use std::time::{Clock, Instant};
+
+/// It counts the records of a view.
+const COUNT: &str = "bf3000000000000007000000010000009500000000000000";
+
+/// A script of so many nodes, with these lines and then one line so many times.
+fn script(alloc: Global, nodes: u64, lines: &str, line: &str, count: u64) -> Result<String> {
+    let mut script = format!(in alloc; "nodes {nodes} 4/5 4/5\n{lines}")?;
+    for _ in 0..count {
+        script.push_str(line)?;
+        script.push('\n')?;
+    }
+    Ok(script)
+}
+
+/// How many printed lines begin with this word.
+fn lines_of(printed: &[u8], word: &[u8]) -> u64 {
+    let mut lines: u64 = 0;
+    for line in printed.split(|byte| *byte == b'\n') {
+        if line.starts_with(word) {
+            lines = lines.saturating_add(1);
+        }
+    }
+    lines
+}
+
+/// Runs a script, and counts its lines that begin with this word.
+fn run<R>(rt: &R, script: &str, word: &[u8]) -> Result<Times>
+where
+    R: Net + Wait + Threads + Clock + Alloc<A = Global> + Sync,
+{
+    let mut printed = Vec::new(rt.alloc());
+    let mut notes = Vec::new(rt.alloc());
+    let start = Instant::now(rt)?;
+    let _status = run_over_sockets(rt, rt.alloc(), script, &mut printed, &mut notes);
+    Ok(Times {
+        done: lines_of(printed.as_slice(), word),
+        taken: start.elapsed(rt)?,
+    })
+}
+
+/// So many stores.
+pub fn stores<R>(rt: &R, nodes: u64, count: u64) -> Result<Times>
+where
+    R: Net + Wait + Threads + Clock + Alloc<A = Global> + Sync,
+{
+    let script = script(rt.alloc(), nodes, "", "store 1 7", count)?;
+    run(rt, script.as_str(), b"store ")
+}
+
+/// So many queries.
+pub fn asks<R>(rt: &R, nodes: u64, count: u64) -> Result<Times>
+where
+    R: Net + Wait + Threads + Clock + Alloc<A = Global> + Sync,
+{
+    let lines = format!(in rt.alloc(); "program 1 {COUNT}\nstore 1 7\n")?;
+    let script = script(rt.alloc(), nodes, lines.as_str(), "ask 1 0 0", count)?;
+    run(rt, script.as_str(), b"answer ")
+}

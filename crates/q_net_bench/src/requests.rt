@@ -1,0 +1,89 @@
+//! Requests of clients over memory.
+
+use crate::Times;
+use anyhow::{Result, anyhow};
+use q_book::book::Book;
+use q_net::serve::serve;
+use q_wire::counted::Counted;
+use sc_members::config::Config;
+use sc_msg::message::Message;
+use std::alloc::Global;
+use std::sync::Wait;
+use std::time::{Clock, Instant};
+
+/// `mov64 r0, r3 / add64 r0, 1 / exit`, behind its kind and its length.
+const TEXT: [u8; 29] = [
+    1, 24, 0, 0, 0, 0xbf, 0x30, 0, 0, 0, 0, 0, 0, 0x07, 0, 0, 0, 1, 0, 0, 0, 0x95, 0, 0, 0, 0, 0,
+    0, 0,
+];
+
+/// Notes of it, behind their length: of its three units, the last two like the first but for a number in r0.
+const NOTES_LENGTH: [u8; 8] = [216, 0, 0, 0, 3, 0, 0, 0];
+
+/// What is known of r1 to r10 at each unit: the record, its length, any number, nothing, and the frame's end.
+const KNOWN: [u8; 58] = [
+    3, 0, 0, 0, 0, 0, 0, 0, 0, 1, 64, 0, 0, 0, 0, 0, 0, 0, 64, 0, 0, 0, 0, 0, 0, 0, 1, 0, 0, 0, 0,
+    0, 0, 0, 0, 255, 255, 255, 255, 255, 255, 255, 255, 0, 0, 0, 0, 0, 0, 2, 0, 2, 0, 0, 0, 2, 0,
+    0,
+];
+
+/// Any number in r0, behind the byte of a state.
+const NUMBER: [u8; 18] = [
+    1, 1, 0, 0, 0, 0, 0, 0, 0, 0, 255, 255, 255, 255, 255, 255, 255, 255,
+];
+
+/// A request for the answer of query 0.
+const ANSWER: [u8; 9] = [4, 0, 0, 0, 0, 0, 0, 0, 0];
+
+/// A request that registers the program with its notes.
+fn registration(alloc: Global) -> Result<Vec<u8>> {
+    let mut request = Vec::from_slice(alloc, &TEXT)?;
+    request.extend_from_slice(&NOTES_LENGTH)?;
+    request.extend_from_slice(&[1, 0])?;
+    request.extend_from_slice(&KNOWN)?;
+    for _ in 0..2 {
+        request.extend_from_slice(&NUMBER)?;
+        request.extend_from_slice(&KNOWN)?;
+    }
+    Ok(request)
+}
+
+/// Serves a request so many times, of which each reply has so many bytes.
+fn run<R>(rt: &R, request: &[u8], count: u64, reply: usize) -> Result<Times>
+where
+    R: Wait + Clock + Alloc<A = Global>,
+{
+    let config = Config::new(4, 5, 4, 5).map_err(|_| anyhow!("no fractions"))?;
+    let mut book = Book::founder(rt.alloc(), config, 1, &[1]).map_err(|_| anyhow!("no book"))?;
+    let mut input = Vec::new(rt.alloc());
+    for _ in 0..count {
+        input.extend_from_slice(request)?;
+    }
+    let mut sent: Vec<Message> = Vec::new(rt.alloc());
+    let mut reader = Counted::new(input.as_slice());
+    let mut writer = Counted::new(Vec::new(rt.alloc()));
+    let start = Instant::now(rt)?;
+    let served = serve(
+        rt,
+        rt.alloc(),
+        &mut book,
+        &mut reader,
+        &mut writer,
+        &mut sent,
+    );
+    let taken = start.elapsed(rt)?;
+    served.map_err(|_| anyhow!("not served"))?;
+    let done = writer.inner.len().checked_div(reply).unwrap_or(0) as u64;
+    Ok(Times { done, taken })
+}
+
+/// So many requests for an answer that is not there.
+pub fn answers<R: Wait + Clock + Alloc<A = Global>>(rt: &R, count: u64) -> Result<Times> {
+    run(rt, &ANSWER, count, 1)
+}
+
+/// So many registrations.
+pub fn registrations<R: Wait + Clock + Alloc<A = Global>>(rt: &R, count: u64) -> Result<Times> {
+    let request = registration(rt.alloc())?;
+    run(rt, request.as_slice(), count, 5)
+}
