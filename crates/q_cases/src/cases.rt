@@ -128,7 +128,9 @@ impl Cases {
         self.files.passing = self.passing.take();
         let words: Vec<&str> = words.split(' ').collect(self.alloc)?;
         let status = match read_words(self.alloc, words.as_slice()) {
-            Ok(Wanted::Line(line)) => carry_out(self.alloc, &line, &mut self.files, out).status(),
+            Ok(Wanted::Line(line)) => {
+                carry_out(self.alloc, &line, &mut self.files, out).status()
+            }
             Ok(Wanted::Cluster { .. }) => {
                 writeln!(out, "no command over files")?;
                 0

@@ -40,7 +40,7 @@ fn printed<F: Files>(alloc: Global, command: &str, files: &mut F) -> io::Result<
                 }
             }
         }
-        Ok(Wanted::Cluster { .. }) => write!(out, "no command over files")?,
+        Ok(Wanted::Cluster { .. }) => {}
         Err(fault) => write!(out, "{fault}")?,
     }
     Ok(out.inner)

@@ -139,7 +139,7 @@ fn asm_command<'a>(alloc: Global) -> Result<Command<'a>, AllocError>
 {
     let command = Command::new(alloc, "asm")
         .about("Prints each unit of a program as 16 hexadecimal digits, one a line")
-        .after_help("Example: bqview asm examples/count.bpf");
+        .after_help("Example: bqview asm examples/count.bpf\nFormats: docs/FORMATS.md");
     with_operand(alloc, command, "FILE", ASSEMBLER)
 }
 
@@ -148,10 +148,8 @@ fn check_command<'a>(alloc: Global) -> Result<Command<'a>, AllocError>
     ensures { IfOk result (λ c. (app_of c ≡ check_app) × ((out-Command c).has_globals ≡ false)) }
 {
     let command = Command::new(alloc, "check")
-        .about(
-            "Proves that a program never faults, and prints the most steps that it does for one record",
-        )
-        .after_help("Example: bqview check examples/count.bpf");
+        .about("Proves that a program never faults, and prints its most steps")
+        .after_help("Example: bqview check examples/count.bpf\nFormats: docs/FORMATS.md");
     with_operand(alloc, command, "FILE", ASSEMBLER)
 }
 
@@ -160,8 +158,10 @@ fn run_command<'a>(alloc: Global) -> Result<Command<'a>, AllocError>
     ensures { IfOk result (λ c. (app_of c ≡ run_app) × ((out-Command c).has_globals ≡ false)) }
 {
     let command = Command::new(alloc, "run")
-        .about("Runs a program over records, and prints the last accumulator and the steps done")
-        .after_help("Example: bqview run examples/sum.bpf 0 examples/three.records");
+        .about("Runs a program over records, and prints the answer and the steps")
+        .after_help(
+            "Example: bqview run examples/sum.bpf 0 examples/three.records\nFormats: docs/FORMATS.md",
+        );
     let command = with_operand(alloc, command, "FILE", ASSEMBLER)?;
     let command = with_operand(
         alloc,
@@ -182,8 +182,8 @@ fn sim_command<'a>(alloc: Global) -> Result<Command<'a>, AllocError>
     ensures { IfOk result (λ c. (app_of c ≡ sim_app) × ((out-Command c).has_globals ≡ false)) }
 {
     let command = Command::new(alloc, "sim")
-        .about("Runs a script over a cluster in memory, and prints what each event told")
-        .after_help("Example: bqview sim examples/count.sim");
+        .about("Runs a script over a cluster in memory, and prints what events tell")
+        .after_help("Example: bqview sim examples/count.sim\nFormats: docs/FORMATS.md");
     with_operand(
         alloc,
         command,
@@ -197,13 +197,13 @@ fn cluster_command<'a>(alloc: Global) -> Result<Command<'a>, AllocError>
     ensures { IfOk result (λ c. (app_of c ≡ cluster_app) × ((out-Command c).has_globals ≡ false)) }
 {
     let command = Command::new(alloc, "cluster")
-        .about("Runs a script over nodes with a socket each, and prints what its lines told")
-        .after_help("Example: bqview cluster examples/three.cluster");
+        .about("Runs a script over nodes with sockets, and prints what its lines tell")
+        .after_help("Example: bqview cluster examples/three.cluster\nFormats: docs/FORMATS.md");
     with_operand(
         alloc,
         command,
         "SCRIPT",
-        "A file of programs, stores and queries, one a line, of which the first founds the cluster",
+        "A file of `nodes`, programs, stores and queries, one a line",
     )
 }
 
@@ -212,8 +212,8 @@ fn audit_command<'a>(alloc: Global) -> Result<Command<'a>, AllocError>
     ensures { IfOk result (λ c. (app_of c ≡ audit_app) × ((out-Command c).has_globals ≡ false)) }
 {
     let command = Command::new(alloc, "audit")
-        .about("Replays the journal of a node, and prints the answers that it recorded")
-        .after_help("Example: bqview audit node.journal");
+        .about("Replays a node's journal, and prints the answers that it recorded")
+        .after_help("Example: bqview audit node.journal\nFormats: docs/FORMATS.md");
     with_operand(
         alloc,
         command,
@@ -237,7 +237,7 @@ fn bare_program<'a>(alloc: Global) -> Command<'a>
 {
     Command::new(alloc, "bqview")
         .about("Programs of RFC 9669 over store-collect views")
-        .after_help("Example: bqview sim examples/count.sim")
+        .after_help("Example: bqview sim examples/count.sim\nFormats: docs/FORMATS.md")
         .subcommand_required(true)
         .disable_help_subcommand(true)
 }
