@@ -141,9 +141,17 @@ impl Cases {
                 taken.outs.append_to(&mut self.sent);
             }
         }
-        while let Ok(Some(job)) = self.book.hand_out() {
+        self.answer_all();
+        Ok(())
+    }
+
+    /// Runs the job of each ready query, as many as messages may be delivered.
+    fn answer_all(&mut self) {
+        for _ in 0..MOST_DELIVERIES {
+            let Ok(Some(job)) = self.book.hand_out() else {
+                return;
+            };
             let _ = self.book.post(&Done::run(job));
         }
-        Ok(())
     }
 }
