@@ -28,7 +28,7 @@ fn source_of(alloc: Global, units: u64) -> Result<String, AllocError> {
 }
 
 fn refused(fault: AsmFault) -> anyhow::Error {
-    anyhow!("refused {} {}", fault.number(), fault.name())
+    anyhow!("refused {}", fault.reason())
 }
 
 /// How long it takes to assemble a source so many times.

@@ -40,11 +40,11 @@ fn bytes_of(alloc: Global, units: u64) -> Result<Vec<u8>, AllocError> {
 }
 
 fn undecoded(fault: DecodeFault) -> anyhow::Error {
-    anyhow!("refused {} {}", fault.number(), fault.name())
+    anyhow!("refused {}", fault.reason())
 }
 
 fn refused(fault: CheckFault) -> anyhow::Error {
-    anyhow!("refused {} {}", fault.number(), fault.name())
+    anyhow!("refused {}", fault.reason())
 }
 
 /// How long verifying and checking take, and the longest path.

@@ -4,6 +4,7 @@
 //! |---|---|
 //! | `asm UNITS RUNS` | assembling and disassembling, see [`asm`] |
 //! | `check UNITS RUNS` | the verifier and the checker, see [`check`] |
+//! | `fold PROGRAM RUNS` | folds over 256 records, see [`fold`] |
 //! | `store IDS ROUNDS` | a store-collect object with churn, see [`store`] |
 //!
 //! The counts go to the standard output and are the same at each run; the times go to the standard error. With no
@@ -14,6 +15,7 @@
 mod asm;
 mod check;
 mod cluster;
+mod fold;
 mod store;
 
 use anyhow::{Context, Result, bail};
@@ -34,11 +36,18 @@ fn main(rt: HostRuntime) -> Result<()> {
     match words.get(1).map(|word| word.as_str()) {
         Some("asm") => asm::run(&rt, size(&words, 2, 64)?, size(&words, 3, 1)?),
         Some("check") => check::run(&rt, size(&words, 2, 64)?, size(&words, 3, 1)?),
+        Some("fold") => {
+            let name = words.get(2).map_or("sum", |word| word.as_str());
+            fold::run(&rt, name, size(&words, 3, 1)?)
+        }
         Some("store") => store::run(&rt, size(&words, 2, 32)?, size(&words, 3, 4)?),
-        Some(word) => bail!("{word:?} is none of asm, check and store"),
+        Some(word) => bail!("{word:?} is none of asm, check, fold and store"),
         None => {
             asm::run(&rt, 64, 1)?;
             check::run(&rt, 64, 1)?;
+            for name in ["arithmetic", "moves", "sum", "branches"] {
+                fold::run(&rt, name, 1)?;
+            }
             store::run(&rt, 32, 4)
         }
     }

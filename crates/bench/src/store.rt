@@ -20,7 +20,7 @@ fn measure(rt: &impl Clock, cluster: &mut Cluster, rounds: u64) -> Result<(Durat
 }
 
 fn refused(fault: WorldFault) -> anyhow::Error {
-    anyhow!("refused {} {}", fault.number(), fault.name())
+    anyhow!("refused {}", fault.reason())
 }
 
 /// Times so many rounds.

@@ -1,5 +1,4 @@
 pub mod Parts
-pub mod Numbers
 pub mod Spaces
 pub mod Clean
 pub mod Mnemonics

@@ -1,6 +1,6 @@
 -- A source spells one text at most, and one that spells a text has no fault.
 use Rattle.std.proofs.Common.{◌≡◌, ℕ, ◌<◌, ◌≤◌, List, [], ◌∷◌, ◌++◌, length, Option, Some, None, refl, ap, sym, ◌∙◌, subst, inl, inr, ◌⊎◌, arith, length-append}
-use Rattle.std.specs.Prelude.{pos, min, MatchOption, MatchResult, IfOk, IfErr, Result, Ok, Err}
+use Rattle.std.specs.Prelude.{pos, min, MatchOption, MatchResult, IfOk, IfErr, IsErr, IsErrAnd, Result, Ok, Err}
 use Rattle.std.specs.List.{AllZip}
 use Rattle.bq_insn.specs.declared.insn.Insn.{Insn}
 use Rattle.bq_insn.specs.Slots.{units, IsText}
@@ -10,7 +10,7 @@ use Rattle.bq_asm.specs.Operands.{jump_insn}
 use Rattle.bq_asm.specs.Line.{Statement, Complete, JumpTo, Line, Blank, Label, Instruction, Spells}
 use Rattle.bq_asm.specs.Labels.{NoLine, IsFirstLine, IsRepeated, IsUnresolved, HasLabelFault, Mean, Means}
 use Rattle.bq_asm.specs.Source.{lines_of, Says, IsSource, IsUnreadable, IsFault, HasOneFault}
-use Rattle.bq_asm.specs.Steps.{least}
+use Rattle.bq_asm.specs.Steps.{IsLengthFault, least}
 use Rattle.bq_asm.proofs.Said.{one_saying}
 
 says_unique : (texts : List (List ℕ)) (v w : List Line) → AllZip Spells texts v → AllZip Spells texts w → v ≡ w
@@ -96,9 +96,16 @@ module _ {A : Type 0} (P : List A → A → List A → Type 0) where
   one_first_line before (line ∷ lines) m n (inr f) (inl g) = absurd (f.0 g.0)
   one_first_line before (line ∷ lines) m n (inr f) (inr g) = one_first_line (before ++ line ∷ []) lines m n f.1 g.1
 
--- where each line says something, none is unreadable
+-- where each line says something, none is unreadable, so want of memory may be told
 readable : (source : List ℕ) (lines : List Line) (n : ℕ) → Says source lines → IsFault source (faults.Syntax n) → ⊥
 readable source lines n says f = no_unreadable [] (lines_of source) lines n says f
+
+pub may_run_out : (source : List ℕ) (lines : List Line) → Says source lines → IsFault source faults.OutOfMemory
+may_run_out source lines says = λ f. readable source lines 1 says f
+
+pub run_out : {A : Type 0} (source : List ℕ) (r : Result A AsmFault) → IsFault source faults.OutOfMemory → IsErr r → IsErrAnd r (λ e. e ≡ faults.OutOfMemory) → IfErr r (IsFault source)
+run_out source (Ok a) out h k = tt
+run_out source (Err e) out h k = subst (IsFault source) (sym k) out
 
 labelled : (source : List ℕ) (t : List Insn) (n : ℕ) → IsSource source t → IsFault source (faults.Label n) → ⊥
 labelled source t n h f =
@@ -188,3 +195,12 @@ no_label lines t None None h k e = (h, k.1)
 no_label lines t None (Some m) h k e = absurd cc
 no_label lines t (Some m) None h k e = absurd cc
 no_label lines t (Some m) (Some l) h k e = absurd cc
+
+-- what is wrong with the instructions' length is wrong with the source that means them
+pub length_fault : (source : List ℕ) (lines : List Line) (t : List Insn) (r : Result (List Insn) AsmFault) → Says source lines → NoLine IsRepeated [] lines × Mean lines t → IfErr r (IsLengthFault t) → IfErr r (IsFault source)
+length_fault source lines t (Ok u) says h k = tt
+length_fault source lines t (Err (faults.Syntax n)) says h k = absurd k
+length_fault source lines t (Err (faults.Label n)) says h k = absurd k
+length_fault source lines t (Err faults.BadLength) says h k = record { lines = lines; says = says; once = h.0; means = subst (Mean lines) k h.1 }
+length_fault source lines t (Err faults.TooLong) says h k = (t, record { lines = lines; says = says; once = h.0; means = h.1 }, k)
+length_fault source lines t (Err faults.OutOfMemory) says h k = may_run_out source lines says

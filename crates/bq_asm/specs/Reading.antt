@@ -5,6 +5,7 @@ use Rattle.std.specs.Prelude.{◌≡◌, ℕ, ◌-◌, ◌^◌, ℤ, pos, negsuc
 use Rattle.std.specs.List.{list_all}
 use Rattle.std.specs.Char.{is_ascii_digit}
 use Rattle.std.specs.Str.Parse.{digits_value}
+use Rattle.decimal.specs.Natural.{natural_at}
 use Rattle.bq_insn.specs.declared.insn.Operand.{Operand}
 use Rattle.bq_insn.specs.declared.insn.Operand.TheVariants as operands
 use Rattle.bq_insn.specs.declared.insn.Insn.{Insn}
@@ -62,17 +63,6 @@ pair_at text = do
   Some (trimmed p.0, trimmed p.1)
 
 -- ---- numbers
-
-abbrev pub decimal_else : List ℕ → Option (List ℕ) → Bool
-decimal_else text None = not (length text == 0) && list_all is_ascii_digit text
-decimal_else text (Some rest) = length rest == 0
-
--- digits with no zero in front of others
-unfoldable pub is_decimal : List ℕ → Bool
-is_decimal text = decimal_else text (strip 48 text)
-
-unfoldable pub natural_at : List ℕ → Option ℕ
-natural_at text = if is_decimal text && nat_lt (digits_value 10 text) (2 ^ 64) then Some (digits_value 10 text) else None
 
 abbrev pub positive_of : ℕ → Option ℤ
 positive_of n = if nat_lt n (2 ^ 63) then Some (pos n) else None

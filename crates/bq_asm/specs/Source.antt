@@ -1,6 +1,8 @@
 -- The spellings of a text, the one that is written, and the first fault of a source that spells none.
 use Rattle.std.specs.Prelude.{◌≡◌, ◌≢◌, ℕ, ◌<◌, ◌==◌, List, [], ◌∷◌, ◌++◌, codes}
 use Rattle.std.specs.List.{AllZip, flat_map, slice_split}
+use Rattle.reasons.specs.declared.Reason.{Reason}
+use Rattle.reasons.specs.declared.Reason.TheVariants as reasons
 use Rattle.bq_insn.specs.declared.insn.Insn.{Insn}
 use Rattle.bq_insn.specs.Slots.{units}
 use Rattle.bq_asm.specs.declared.fault.AsmFault.{AsmFault}
@@ -53,30 +55,23 @@ disassembly t = flat_map insn_line t
 abbrev pub IsUnreadable : List (List ℕ) → List ℕ → List (List ℕ) → Type 0
 IsUnreadable before line after = (v : Line) → Spells line v → ⊥
 
--- what is first wrong with a source
+-- What is first wrong with a source. Memory runs out only where the first line is of a form: before that none is asked for.
 abbrev pub IsFault : List ℕ → AsmFault → Type 0
 IsFault source (Syntax line) = IsFirstLine IsUnreadable [] (lines_of source) line
 IsFault source (Label line) = (lines : List Line) × Says source lines × IsFirstLine HasLabelFault [] lines line
 IsFault source BadLength = IsSource source []
 IsFault source TooLong = (t : List Insn) × IsSource source t × (4096 < units t)
-IsFault source OutOfMemory = Unit {0}
+IsFault source OutOfMemory = IsFirstLine IsUnreadable [] (lines_of source) 1 → ⊥
 
 -- a source has one fault at most, besides want of memory
 abbrev pub HasOneFault : List ℕ → Type 0
 HasOneFault source = (d e : AsmFault) → IsFault source d → IsFault source e → d ≢ OutOfMemory → e ≢ OutOfMemory → d ≡ e
 
--- ---- the numbers and names by which faults are reported
+-- ---- the reasons by which faults are told
 
-abbrev pub fault_number : AsmFault → ℕ
-fault_number (Syntax line) = 9
-fault_number (Label line) = 10
-fault_number BadLength = 1
-fault_number TooLong = 2
-fault_number OutOfMemory = 99
-
-abbrev pub fault_name : AsmFault → List ℕ
-fault_name (Syntax line) = codes "Syntax"
-fault_name (Label line) = codes "Label"
-fault_name BadLength = codes "BadLength"
-fault_name TooLong = codes "TooLong"
-fault_name OutOfMemory = codes "OutOfMemory"
+abbrev pub reason : AsmFault → Reason
+reason (Syntax line) = reasons.Syntax
+reason (Label line) = reasons.Label
+reason BadLength = reasons.BadLength
+reason TooLong = reasons.TooLong
+reason OutOfMemory = reasons.OutOfMemory

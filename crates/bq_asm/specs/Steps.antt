@@ -4,13 +4,12 @@ use Rattle.bq_insn.specs.declared.insn.Insn.{Insn}
 use Rattle.bq_insn.specs.Slots.{units}
 use Rattle.bq_asm.specs.declared.fault.AsmFault.{AsmFault}
 use Rattle.bq_asm.specs.declared.fault.AsmFault.TheVariants.{Syntax, BadLength, TooLong, OutOfMemory}
-use Rattle.bq_asm.specs.Labels.{IsFirstLine}
-use Rattle.bq_asm.specs.Source.{lines_of, IsUnreadable}
+use Rattle.bq_asm.specs.Source.{IsFault}
 
--- A line of no form. Memory runs out only where the first line is of a form.
+-- a line of no form, or want of memory
 abbrev pub IsReadFault : List ℕ → AsmFault → Type 0
-IsReadFault source (Syntax line) = IsFirstLine IsUnreadable [] (lines_of source) line
-IsReadFault source OutOfMemory = IsFirstLine IsUnreadable [] (lines_of source) 1 → ⊥
+IsReadFault source (Syntax line) = IsFault source (Syntax line)
+IsReadFault source OutOfMemory = IsFault source OutOfMemory
 IsReadFault source _ = ⊥
 
 -- No instruction, or too many. Memory runs out only where neither is so.

@@ -1,8 +1,9 @@
-//! Why a source is refused, each reason with its number and its name.
+//! Why a source is refused, and the reason that is told of each.
 
 ghost use Rattle.std.specs.Prelude.{◌≡◌};
-ghost use Rattle.bq_asm.specs.Source.{fault_number, fault_name};
+ghost use Rattle.bq_asm.specs.Source.{reason};
 
+use reasons::Reason;
 use std::alloc::{AllocError, AllocFailed};
 
 /// Why a source is not assembled. Lines are counted from 1, and end at line feeds.
@@ -23,34 +24,21 @@ pub enum AsmFault {
     BadLength,
     /// 2: there are more than 4,096 units.
     TooLong,
-    /// 99: memory ran out. It may stand in place of any other answer.
+    /// 99: memory ran out. It may stand in place of any other answer, but of a first line that is of no form.
     OutOfMemory,
 }
 
 impl AsmFault {
-    /// The number by which the fault is reported.
-    pub fn number(&self) -> u8
-        ensures { result ≡ fault_number self.now }
+    /// The reason by which the fault is told.
+    pub fn reason(&self) -> Reason
+        ensures { result ≡ reason self.now }
     {
         match self {
-            AsmFault::Syntax { .. } => 9,
-            AsmFault::Label { .. } => 10,
-            AsmFault::BadLength => 1,
-            AsmFault::TooLong => 2,
-            AsmFault::OutOfMemory => 99,
-        }
-    }
-
-    /// The name by which the fault is reported.
-    pub fn name(&self) -> &'static str
-        ensures { result.now ≡ fault_name self.now }
-    {
-        match self {
-            AsmFault::Syntax { .. } => "Syntax",
-            AsmFault::Label { .. } => "Label",
-            AsmFault::BadLength => "BadLength",
-            AsmFault::TooLong => "TooLong",
-            AsmFault::OutOfMemory => "OutOfMemory",
+            AsmFault::Syntax { .. } => Reason::Syntax,
+            AsmFault::Label { .. } => Reason::Label,
+            AsmFault::BadLength => Reason::BadLength,
+            AsmFault::TooLong => Reason::TooLong,
+            AsmFault::OutOfMemory => Reason::OutOfMemory,
         }
     }
 }

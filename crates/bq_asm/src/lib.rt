@@ -8,7 +8,8 @@
 //! - [`assemble`] gives the text that a source spells, or the first fault: 9 Syntax at the least line
 //!   that is of no form, then 10 Label at the least line that defines a name a second time or whose
 //!   jump names a label that no later line defines or that is too far, then 1 BadLength for no
-//!   instruction, then 2 TooLong for more than 4,096 units. 99 OutOfMemory may stand in place of any.
+//!   instruction, then 2 TooLong for more than 4,096 units. 99 OutOfMemory may stand in place of any
+//!   but of a first line that is of no form.
 //! - [`disassemble`] writes the one spelling of a text that has distances alone.
 //! - What is written of a text is assembled to that text, and a source spells one text at most
 //!   ([`laws`]).

@@ -6,11 +6,12 @@ ghost use Rattle.bq_asm.specs.View.{line_view, statement_view};
 
 use crate::jump::Jump;
 use crate::mnemonic::Mnemonic;
-use crate::number::{distance, natural};
+use crate::number::distance;
 use crate::operand::{memory, operand, register};
 use crate::text::{cut, pair, trimmed};
 use bq_insn::insn::{Extension, Insn, Size};
 use bq_word::{AluOp, Relation, SignBits, Width};
+use decimal::numeral::natural;
 
 /// An instruction, or a jump to a label.
 #[derive(Clone, Copy)]

@@ -1,38 +1,8 @@
 ghost use Rattle.std.specs.Prelude.{◌≡◌, ◌<◌, ◌≤ℤ◌, ◌<ℤ◌, ◌^◌, pos, IfSome};
-ghost use Rattle.std.specs.List.{list_all};
-ghost use Rattle.std.specs.Char.{is_ascii_digit};
-ghost use Rattle.bq_asm.specs.Reading.{Gives, is_decimal, natural_at, positive_at, negative_at, signed_at, distance_at};
+ghost use Rattle.bq_asm.specs.Reading.{Gives, positive_at, negative_at, signed_at, distance_at};
 
 use crate::text::strip;
-
-fn are_digits(text: &str) -> bool
-    ensures { result ≡ list_all is_ascii_digit text.now }
-{
-    text.as_bytes().iter().all(|byte| byte.is_ascii_digit())
-}
-
-/// Digits with no zero in front of others.
-#[tactic(auto, unfolding(crate::specs::Reading::is_decimal))]
-fn is_decimal(text: &str) -> bool
-    ensures { result ≡ is_decimal text.now }
-{
-    match strip(text, '0') {
-        Some(rest) => rest.is_empty(),
-        None => !text.is_empty() && are_digits(text),
-    }
-}
-
-/// A number below 2^64.
-#[tactic(auto, unfolding(crate::specs::Reading::natural_at))]
-pub fn natural(text: &str) -> Option<u64>
-    ensures { result ≡ natural_at text.now }
-{
-    if is_decimal(text) {
-        text.parse().ok()
-    } else {
-        None
-    }
-}
+use decimal::numeral::natural;
 
 /// The number below 2^63 that these digits stand for.
 #[tactic(auto, unfolding(crate::specs::Reading::positive_at))]

@@ -1,10 +1,11 @@
 ghost use Rattle.std.specs.Prelude.{◌≡◌};
 ghost use Rattle.bq_asm.specs.Reading.{Gives, register_at, operand_at, place_of, place_at, memory_at};
 
-use crate::number::{distance, natural, negative, positive, signed};
+use crate::number::{distance, negative, positive, signed};
 use crate::text::{cut, strip};
 use bq_insn::insn::Operand;
 use bq_insn::register::Register;
+use decimal::numeral::natural;
 
 /// A register, as `r7`.
 #[tactic(auto, unfolding(crate::specs::Reading::register_at))]

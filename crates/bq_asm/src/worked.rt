@@ -2,9 +2,10 @@
 //! the crate's page.
 
 ghost use Rattle.std.specs.Prelude.{◌≡◌, ◌++◌, Some, None, [], ◌∷◌, codes, pos, negsuc};
+ghost use Rattle.reasons.specs.Table as table;
 ghost use Rattle.bq_asm.specs.Mnemonic.{mnemonic_at, name};
-ghost use Rattle.bq_asm.specs.Reading.{jump_by, line_at, natural_at, operand_at, place_at, statement_at};
-ghost use Rattle.bq_asm.specs.Source.{disassembly, fault_name, fault_number, insn_line};
+ghost use Rattle.bq_asm.specs.Reading.{jump_by, line_at, operand_at, place_at, statement_at};
+ghost use Rattle.bq_asm.specs.Source.{disassembly, reason, insn_line};
 ghost use Rattle.bq_asm.specs.Line.{Label};
 ghost use Rattle.bq_asm.specs.declared.fault.AsmFault.TheVariants as fault;
 ghost use Rattle.bq_asm.specs.declared.jump.Jump.TheVariants as jump;
@@ -35,13 +36,10 @@ pub fn worked_lines()
     ensures extended { insn_line (insn.Extend extension.W32From8 0 4) ≡ codes "mov32s8 r0, r4" ++ 10 ∷ [] }
 {}
 
-/// Operands as they are read: no zero stands in front, a number has 32 bits, an offset 16 and its sign, the number of
+/// Operands as they are read: a number has 32 bits, an offset 16 and its sign, the number of
 /// `wide` 64, and `exit` has no operand.
-#[tactic(auto, unfolding(crate::specs::Reading::natural_at, crate::specs::Reading::is_decimal, crate::specs::Reading::operand_at, crate::specs::Reading::signed_at, crate::specs::Reading::negative_at, crate::specs::Reading::positive_at, crate::specs::Reading::register_at, crate::specs::Reading::place_at, crate::specs::Reading::statement_at, crate::specs::Reading::line_at, crate::specs::Reading::trimmed))]
+#[tactic(auto, unfolding(decimal::specs::Natural::natural_at, decimal::specs::Natural::is_decimal, crate::specs::Reading::operand_at, crate::specs::Reading::signed_at, crate::specs::Reading::negative_at, crate::specs::Reading::positive_at, crate::specs::Reading::register_at, crate::specs::Reading::place_at, crate::specs::Reading::statement_at, crate::specs::Reading::line_at, crate::specs::Reading::trimmed))]
 pub fn worked_operands()
-    ensures zero { natural_at (codes "01") ≡ None }
-    ensures most { natural_at (codes "18446744073709551615") ≡ Some 18446744073709551615 }
-    ensures beyond { natural_at (codes "18446744073709551616") ≡ None }
     ensures least { operand_at (codes "-2147483648") ≡ Some (operand.Number (negsuc 2147483647)) }
     ensures wide { operand_at (codes "2147483648") ≡ None }
     ensures below { place_at (codes "r10-8") ≡ Some (10, negsuc 7) }
@@ -54,7 +52,7 @@ pub fn worked_operands()
 
 /// How faults are reported.
 pub fn worked_reports()
-    ensures long { fault_number fault.TooLong ≡ 2 }
-    ensures memory { fault_number fault.OutOfMemory ≡ 99 }
-    ensures name { fault_name fault.TooLong ≡ codes "TooLong" }
+    ensures long { table.number (reason fault.TooLong) ≡ 2 }
+    ensures memory { table.number (reason fault.OutOfMemory) ≡ 99 }
+    ensures name { table.name (reason fault.TooLong) ≡ codes "TooLong" }
 {}

@@ -28,11 +28,11 @@ fn print_flow_fault(rt: &impl Print, fault: FlowFault) -> io::Result<()> {
         FlowFault::At { unit, .. } => Some(unit),
         FlowFault::OutOfMemory => None,
     };
-    print_refusal(rt, fault.number(), fault.name(), unit)
+    print_refusal(rt, fault.reason(), unit)
 }
 
 pub(crate) fn print_fault(rt: &impl Print, fault: CheckFault) -> io::Result<()> {
-    print_refusal(rt, fault.number(), fault.name(), fault.unit())
+    print_refusal(rt, fault.reason(), fault.unit())
 }
 
 fn print_successors(rt: &impl Print, unit: usize, successors: Successors) -> io::Result<()> {
@@ -78,7 +78,7 @@ fn check_with(rt: &impl Print, alloc: Global, digits: &str, text: Text) -> io::R
     };
     match Notes::read(alloc, bytes.as_slice()) {
         Ok(notes) => print_longest(rt, check(alloc, text, notes)),
-        Err(fault) => print_refusal(rt, fault.number(), fault.name(), None),
+        Err(fault) => print_refusal(rt, fault.reason(), None),
     }
 }
 

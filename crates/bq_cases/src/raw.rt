@@ -12,7 +12,7 @@ use bq_check::fault::CheckFault;
 use bq_frame::block::Block;
 use bq_insn::text::Text;
 use bq_meaning::run::Ended;
-use bq_run::run::Lowered;
+use bq_run::run::run;
 use bq_verify::verify::verify;
 use std::alloc::{AllocError, Global};
 use std::io;
@@ -29,7 +29,6 @@ fn fold(
     start: u64,
     values: &[u8],
 ) -> Result<Ended, AllocError> {
-    let lowered = Lowered::of(alloc, certified)?;
     let mut block = Block::new(alloc)?;
     block.set_record(&[0xff; 64]);
     block.clear_frame();
@@ -38,7 +37,7 @@ fn fold(
         steps: 0,
     };
     for value in values {
-        let ended = lowered.run(&record_of(*value), all.acc, &mut block);
+        let ended = run(certified, &record_of(*value), all.acc, &mut block);
         all = Ended {
             acc: ended.acc,
             steps: all.steps.wrapping_add(ended.steps),

@@ -104,7 +104,7 @@ fn print_run(
     let mut frame = [start.fill; 512];
     match fold(text, place, start.limit, &mut frame, start.acc, values) {
         Ok(ended) => println!(rt; " {} in {}", ended.acc, ended.steps),
-        Err(fault) => print_refusal(rt, fault.number(), fault.name(), None),
+        Err(fault) => print_refusal(rt, fault.reason(), None),
     }
 }
 

@@ -13,6 +13,7 @@ use bq_range::range::Range;
 use bq_state::edges::Edge;
 use bq_state::kind::Kind;
 use bq_state::offsets::Offsets;
+use bq_state::region::Region;
 use bq_state::state::State;
 use std::alloc::Global;
 use std::io;
@@ -20,16 +21,11 @@ use std::io;
 /// The most units of a text.
 const MOST_UNITS: u64 = 4096;
 
-fn print_pointer(rt: &impl Print, region: &str, at: Offsets) -> io::Result<()> {
-    println!(rt; " {region} {} {}", at.lo(), at.hi())
-}
-
 pub(crate) fn print_kind(rt: &impl Print, kind: Kind) -> io::Result<()> {
     match kind {
         Kind::Unset => println!(rt; " unset"),
         Kind::Number(range) => println!(rt; " number {} {}", range.lo(), range.hi()),
-        Kind::RecordPointer(at) => print_pointer(rt, "record", at),
-        Kind::FramePointer(at) => print_pointer(rt, "frame", at),
+        Kind::Pointer(region, at) => { println!(rt; " {} {} {}", region.name(), at.lo(), at.hi()) }
     }
 }
 
@@ -44,13 +40,17 @@ fn offsets(first: u64, last: u64) -> Option<Offsets> {
     }
 }
 
+fn pointer(region: Region, first: u64, last: u64) -> Option<Kind> {
+    Some(Kind::Pointer(region, offsets(first, last)?))
+}
+
 fn kind_of(alloc: Global, words: &str) -> Option<Kind> {
     let (name, ends) = words.split_once(' ')?;
     let ends = numbers(alloc, ends).ok()??;
     match (name, ends.as_slice()) {
         ("number", [a, b]) => Range::new(*a, *b).map(Kind::Number),
-        ("record", [a, b]) => offsets(*a, *b).map(Kind::RecordPointer),
-        ("frame", [a, b]) => offsets(*a, *b).map(Kind::FramePointer),
+        ("record", [a, b]) => pointer(Region::Record, *a, *b),
+        ("frame", [a, b]) => pointer(Region::Frame, *a, *b),
         _ => None,
     }
 }
@@ -65,7 +65,7 @@ fn nothing_but(kind: Kind) -> State {
 fn print_after(rt: &impl Print, state: &State, insn: &Insn, register: u64) -> io::Result<()> {
     match state.transfer(insn) {
         Ok(state) => print_kind(rt, state.kind(u8::try_from(register).unwrap_or(11))),
-        Err(rule) => print_refusal(rt, rule.number(), rule.name(), None),
+        Err(rule) => print_refusal(rt, rule.reason(), None),
     }
 }
 

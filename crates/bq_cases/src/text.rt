@@ -24,12 +24,12 @@ use std::io;
 const EXIT: [u8; 8] = [0x95, 0, 0, 0, 0, 0, 0, 0];
 
 fn print_fault(rt: &impl Print, fault: AsmFault) -> io::Result<()> {
-    let (number, name) = (fault.number(), fault.name());
+    let reason = fault.reason();
     match fault {
         AsmFault::Syntax { line } | AsmFault::Label { line } => {
-            println!(rt; " refused {number} {name} at line {line}")
+            println!(rt; " refused {reason} at line {line}")
         }
-        _ => print_refusal(rt, number, name, None),
+        _ => print_refusal(rt, reason, None),
     }
 }
 
@@ -38,7 +38,7 @@ pub(crate) fn print_decode_fault(rt: &impl Print, fault: DecodeFault) -> io::Res
         DecodeFault::At { unit, .. } => Some(unit),
         _ => None,
     };
-    print_refusal(rt, fault.number(), fault.name(), unit)
+    print_refusal(rt, fault.reason(), unit)
 }
 
 /// Prints what is written of a text.
@@ -78,7 +78,7 @@ fn unit_fault(alloc: Global, opcode: u8, fields: &[u8]) -> Result<u8, AllocError
     unit.extend_from_slice(fields)?;
     Ok(match decode(alloc, unit.as_slice()) {
         Ok(_) => 0,
-        Err(fault) => fault.number(),
+        Err(fault) => fault.reason().number(),
     })
 }
 

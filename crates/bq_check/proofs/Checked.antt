@@ -11,7 +11,7 @@ use Rattle.bq_state.specs.Kinds.{StateKinds}
 use Rattle.bq_sound.specs.Passes.{note_at, NoHalves, IsFine, AllFine}
 use Rattle.bq_check.specs.declared.fault.CheckFault.{CheckFault}
 use Rattle.bq_check.specs.declared.fault.CheckFault.TheVariants.{WrongCount, Flow, NoteForm, Entry, Rule, NotCovered, OutOfMemory}
-use Rattle.bq_check.specs.Numbers.{flow_refusal}
+use Rattle.bq_check.specs.Reasons.{flow_refusal}
 use Rattle.bq_check.specs.Faults.{IsOpened, IsUnitFault, IsFirstFault}
 
 module _ (text : List Insn) (notes : List (Option StateKinds)) where

@@ -8,8 +8,10 @@ use Rattle.bq_range.specs.Interval.{Interval, IsInterval}
 use Rattle.bq_state.specs.Offsets.{Span, IsSpan}
 use Rattle.bq_state.specs.declared.kind.Kind.{Kind}
 use Rattle.bq_state.specs.Kinds.{StateKinds}
-use Rattle.bq_state.specs.declared.kind.Kind.TheVariants.{Unset, Number, FramePointer, RecordPointer}
-use Rattle.bq_check.specs.Spelling.{short_bytes, long_bytes, range_bytes, offset_bytes, span_bytes, kind_bytes, state_bytes, note_bytes, notes_bytes, IsKind, IsState, IsNote, IsNotes}
+use Rattle.bq_state.specs.declared.kind.Kind.TheVariants.{Unset, Number, Pointer}
+use Rattle.bq_state.specs.declared.region.Region.{Region}
+use Rattle.bq_state.specs.declared.region.Region.TheVariants.{Frame, Record}
+use Rattle.bq_check.specs.Spelling.{short_bytes, long_bytes, range_bytes, offset_bytes, span_bytes, region_byte, kind_bytes, state_bytes, note_bytes, notes_bytes, IsKind, IsState, IsNote, IsNotes}
 use Rattle.bq_check.proofs.Codes.{IsCode, once}
 
 -- ---- fronts of one length
@@ -118,29 +120,31 @@ spans_are_code = record { one = λ a b x y p q e. one a b x y (are_limited a p) 
 other : (a b : ℕ) (x y : List ℕ) → (a ≡ b → ⊥) → a ∷ x ≡ b ∷ y → ⊥
 other a b x y apart e = apart (one_byte a b x y e).0
 
+region_above : (n : ℕ) (r : Region) → n < 2 → n ≡ region_byte r → ⊥
+region_above n Frame l e = omega (arith, l, e)
+region_above n Record l e = omega (arith, l, e)
+
+one_region : (r t : Region) → region_byte r ≡ region_byte t → r ≡ t
+one_region Frame Frame e = refl
+one_region Record Record e = refl
+one_region Frame Record e = absurd (omega (arith, e))
+one_region Record Frame e = absurd (omega (arith, e))
+
 one_kind : (a b : Kind) (x y : List ℕ) → IsKind a → IsKind b → kind_bytes a ++ x ≡ kind_bytes b ++ y → (a ≡ b) × (x ≡ y)
 one_kind Unset Unset x y p q e = (refl, (one_byte 0 0 x y e).1)
 one_kind Unset (Number b) x y p q e = absurd (other 0 1 _ _ (λ h. omega (arith, h)) e)
-one_kind Unset (FramePointer b) x y p q e = absurd (other 0 2 _ _ (λ h. omega (arith, h)) e)
-one_kind Unset (RecordPointer b) x y p q e = absurd (other 0 3 _ _ (λ h. omega (arith, h)) e)
+one_kind Unset (Pointer r b) x y p q e = absurd (region_above 0 r (omega arith) (one_byte 0 (region_byte r) _ _ e).0)
 one_kind (Number a) Unset x y p q e = absurd (other 1 0 _ _ (λ h. omega (arith, h)) e)
 one_kind (Number a) (Number b) x y p q e =
     let s = ranges_are_code.one a b x y p q (one_byte 1 1 (range_bytes a ++ x) (range_bytes b ++ y) e).1 in
     (ap Number s.0, s.1)
-one_kind (Number a) (FramePointer b) x y p q e = absurd (other 1 2 _ _ (λ h. omega (arith, h)) e)
-one_kind (Number a) (RecordPointer b) x y p q e = absurd (other 1 3 _ _ (λ h. omega (arith, h)) e)
-one_kind (FramePointer a) Unset x y p q e = absurd (other 2 0 _ _ (λ h. omega (arith, h)) e)
-one_kind (FramePointer a) (Number b) x y p q e = absurd (other 2 1 _ _ (λ h. omega (arith, h)) e)
-one_kind (FramePointer a) (FramePointer b) x y p q e =
-    let s = spans_are_code.one a b x y p q (one_byte 2 2 (span_bytes a ++ x) (span_bytes b ++ y) e).1 in
-    (ap FramePointer s.0, s.1)
-one_kind (FramePointer a) (RecordPointer b) x y p q e = absurd (other 2 3 _ _ (λ h. omega (arith, h)) e)
-one_kind (RecordPointer a) Unset x y p q e = absurd (other 3 0 _ _ (λ h. omega (arith, h)) e)
-one_kind (RecordPointer a) (Number b) x y p q e = absurd (other 3 1 _ _ (λ h. omega (arith, h)) e)
-one_kind (RecordPointer a) (FramePointer b) x y p q e = absurd (other 3 2 _ _ (λ h. omega (arith, h)) e)
-one_kind (RecordPointer a) (RecordPointer b) x y p q e =
-    let s = spans_are_code.one a b x y p q (one_byte 3 3 (span_bytes a ++ x) (span_bytes b ++ y) e).1 in
-    (ap RecordPointer s.0, s.1)
+one_kind (Number a) (Pointer r b) x y p q e = absurd (region_above 1 r (omega arith) (one_byte 1 (region_byte r) _ _ e).0)
+one_kind (Pointer r a) Unset x y p q e = absurd (region_above 0 r (omega arith) (sym (one_byte (region_byte r) 0 _ _ e).0))
+one_kind (Pointer r a) (Number b) x y p q e = absurd (region_above 1 r (omega arith) (sym (one_byte (region_byte r) 1 _ _ e).0))
+one_kind (Pointer r a) (Pointer t b) x y p q e =
+    let h = one_byte (region_byte r) (region_byte t) (span_bytes a ++ x) (span_bytes b ++ y) e in
+    let s = spans_are_code.one a b x y p q h.1 in
+    (ap (λ z. Pointer z a) (one_region r t h.0) ∙ ap (Pointer t) s.0, s.1)
 
 pub kinds_are_code : IsCode kind_bytes IsKind
 kinds_are_code = record { one = λ a b x y p q e. one_kind a b x y p q e }

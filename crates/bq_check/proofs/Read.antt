@@ -10,7 +10,8 @@ use Rattle.bq_range.specs.Interval.{Interval, IsInterval}
 use Rattle.bq_state.specs.Offsets.{Span, IsSpan}
 use Rattle.bq_state.specs.declared.kind.Kind.{Kind}
 use Rattle.bq_state.specs.Kinds.{StateKinds}
-use Rattle.bq_state.specs.declared.kind.Kind.TheVariants.{Unset, Number, FramePointer, RecordPointer}
+use Rattle.bq_state.specs.declared.kind.Kind.TheVariants.{Unset, Number, Pointer}
+use Rattle.bq_state.specs.declared.region.Region.TheVariants.{Frame, Record}
 use Rattle.bq_check.specs.declared.fault.NotesFault.{NotesFault}
 use Rattle.bq_check.specs.declared.fault.NotesFault.TheVariants.{NoteForm, OutOfMemory}
 use Rattle.bq_check.specs.Spelling.{short_bytes, long_bytes, range_bytes, offset_bytes, span_bytes, kind_bytes, state_bytes, note_bytes, notes_bytes, IsKind, IsState, IsNote, IsNotes, BeginsNone}
@@ -84,8 +85,7 @@ no_kind_left bytes empty = record { none = λ k more l e. none k more (sym empty
     none : (k : Kind) (more : List ℕ) → [] ≡ kind_bytes k ++ more → ⊥
     none Unset more e = cc
     none (Number a) more e = cc
-    none (FramePointer s) more e = cc
-    none (RecordPointer s) more e = cc
+    none (Pointer region s) more e = cc
 
 pub no_kind : (bytes rest : List ℕ) (b : ℕ) → bytes ≡ b ∷ rest → (b ≡ 0 → ⊥) → (b ≡ 1 → BeginsNone range_bytes IsInterval rest) → (b ≡ 2 → BeginsNone span_bytes IsSpan rest) → (b ≡ 3 → BeginsNone span_bytes IsSpan rest) → BeginsNone kind_bytes IsKind bytes
 no_kind bytes rest b parts zeroth first second third = record { none = λ k more l e. none k more l (sym parts ∙ e) }
@@ -95,10 +95,10 @@ no_kind bytes rest b parts zeroth first second third = record { none = λ k more
     none (Number a) more l e =
         let s = one_byte b 1 rest (range_bytes a ++ more) e in
         (first s.0).none a more l s.1
-    none (FramePointer a) more l e =
+    none (Pointer Frame a) more l e =
         let s = one_byte b 2 rest (span_bytes a ++ more) e in
         (second s.0).none a more l s.1
-    none (RecordPointer a) more l e =
+    none (Pointer Record a) more l e =
         let s = one_byte b 3 rest (span_bytes a ++ more) e in
         (third s.0).none a more l s.1
 

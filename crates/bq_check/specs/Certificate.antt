@@ -1,5 +1,7 @@
 -- What a certificate holds.
 use Rattle.std.specs.Prelude.{ℕ, List, Option}
+use Rattle.bq_code.specs.Lowered.{IsLowered}
+use Rattle.bq_code.specs.declared.code.Code.{Code}
 use Rattle.bq_insn.specs.Slots.{IsText}
 use Rattle.bq_insn.specs.declared.insn.Insn.{Insn}
 use Rattle.bq_flow.specs.Paths.{IsLongest}
@@ -18,3 +20,8 @@ pub record IsCertified (c : Certificate) : Type 0 where
   pub legal : IsText c.text
   pub passes : Passes record_length c.text c.notes
   pub longest : IsLongest c.text c.longest
+
+-- it is kept with the codes that the loop runs in place of its text
+pub record HasCodes (c : Certificate) (codes : List Code) : Type 0 where
+  pub certified : IsCertified c
+  pub lowered : IsLowered c.text codes

@@ -1,5 +1,5 @@
 -- Which fault comes first, what a certificate holds, and how notes are spelt.
 pub mod Faults
-pub mod Numbers
+pub mod Reasons
 pub mod Certificate
 pub mod Spelling

@@ -6,7 +6,9 @@ use Rattle.bq_range.specs.Interval.{Interval, IsInterval}
 use Rattle.bq_state.specs.Offsets.{Span, IsSpan}
 use Rattle.bq_state.specs.declared.kind.Kind.{Kind}
 use Rattle.bq_state.specs.Kinds.{StateKinds}
-use Rattle.bq_state.specs.declared.kind.Kind.TheVariants.{Unset, Number, FramePointer, RecordPointer}
+use Rattle.bq_state.specs.declared.kind.Kind.TheVariants.{Unset, Number, Pointer}
+use Rattle.bq_state.specs.declared.region.Region.{Region}
+use Rattle.bq_state.specs.declared.region.Region.TheVariants.{Frame, Record}
 
 -- ---- the bytes, those of a number from the lowest
 
@@ -26,11 +28,14 @@ offset_bytes z = short_bytes (cast_unsigned w32 z)
 abbrev pub span_bytes : Span → List ℕ
 span_bytes s = offset_bytes s.lo ++ offset_bytes s.hi
 
+abbrev pub region_byte : Region → ℕ
+region_byte Frame = 2
+region_byte Record = 3
+
 abbrev pub kind_bytes : Kind → List ℕ
 kind_bytes Unset = 0 ∷ []
 kind_bytes (Number a) = 1 ∷ range_bytes a
-kind_bytes (FramePointer s) = 2 ∷ span_bytes s
-kind_bytes (RecordPointer s) = 3 ∷ span_bytes s
+kind_bytes (Pointer region s) = region_byte region ∷ span_bytes s
 
 abbrev pub state_bytes : StateKinds → List ℕ
 state_bytes state = flat_map kind_bytes state
@@ -47,8 +52,7 @@ notes_bytes notes = short_bytes (length notes) ++ flat_map note_bytes notes
 abbrev pub IsKind : Kind → Type 0
 IsKind Unset = Unit {0}
 IsKind (Number a) = IsInterval a
-IsKind (FramePointer s) = IsSpan s
-IsKind (RecordPointer s) = IsSpan s
+IsKind (Pointer region s) = IsSpan s
 
 -- eleven kinds
 pub record IsState (state : StateKinds) : Type 0 where

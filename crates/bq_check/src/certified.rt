@@ -1,33 +1,36 @@
 //! A text that was checked.
 
 ghost use Rattle.std.specs.Prelude.{◌≡◌, ◌≤◌};
+ghost use Rattle.bq_code.specs.Lowered.{IsLowered};
 ghost use Rattle.bq_flow.specs.Paths.{IsLongest};
 ghost use Rattle.bq_meaning.specs.Place.{record_length};
 ghost use Rattle.bq_sound.specs.Passes.{Passes};
 ghost use Rattle.bq_sound.specs.Safe.{IsSafe};
 
 use crate::notes::Notes;
+use bq_code::code::Code;
 use bq_insn::text::Text;
 use bq_sound::laws::passing_is_safe;
 use std::marker::Model;
 
-/// A text whose notes pass, with these notes and its longest path. [`check`](crate::check::check)
-/// alone makes one.
+/// A text whose notes pass, with these notes, its longest path and its codes, which follow from the text. Contracts see
+/// the first three. [`check`](crate::check::check) alone makes one.
 #[derive(Drop)]
 pub struct Certified {
     pub(crate) text: Text,
     pub(crate) notes: Notes,
     pub(crate) longest: u32,
+    pub(crate) codes: Vec<Code>,
 }
 
 impl Model for Certified {
-    ghost use Rattle.bq_check.specs.Certificate.{Certificate, IsCertified};
+    ghost use Rattle.bq_check.specs.Certificate.{Certificate, HasCodes};
 
     ghost Value = { Certificate };
 
     ghost view = { λ c. record { text = c.text; notes = c.notes; longest = c.longest } };
 
-    ghost invariant = { λ c. IsCertified (record { text = c.text; notes = c.notes; longest = c.longest }) };
+    ghost invariant = { λ c. HasCodes (record { text = c.text; notes = c.notes; longest = c.longest }) c.codes.items };
 }
 
 impl Certified {
@@ -55,6 +58,13 @@ impl Certified {
         ensures within { result ≤ 4096 }
     {
         self.longest
+    }
+
+    /// What the loop over checked code runs: one code for each unit of the text.
+    pub fn codes(&self) -> &[Code]
+        ensures { IsLowered self.now.text result.now }
+    {
+        self.codes.as_slice()
     }
 
     /// From every accumulator, record and frame a record run of the text ends within the longest path,

@@ -12,6 +12,7 @@ ghost use Rattle.bq_check.specs.Faults.{IsFirstHalf, IsOpened, IsUnitFault, IsFi
 use crate::certified::Certified;
 use crate::fault::CheckFault;
 use crate::notes::Notes;
+use bq_code::lower::lower;
 use bq_flow::flow::Flow;
 use bq_insn::insn::Insn;
 use bq_insn::text::Text;
@@ -120,11 +121,15 @@ fn certify(alloc: Global, text: Text, notes: Notes) -> Result<Certified, CheckFa
 {
     let longest = open(alloc, &text, &notes)?;
     check_units(&text, &notes)?;
-    Ok(Certified {
-        text,
-        notes,
-        longest,
-    })
+    match lower(alloc, &text) {
+        Ok(codes) => Ok(Certified {
+            text,
+            notes,
+            longest,
+            codes,
+        }),
+        Err(_) => Err(CheckFault::OutOfMemory),
+    }
 }
 
 /// The text with these notes as a certificate, where they pass; else the first fault: 21 WrongCount,

@@ -1,11 +1,11 @@
-//! Why a text with notes is refused, and why bytes are no notes, each reason with its number and its
-//! name.
+//! Why a text with notes is refused, and why bytes are no notes, and the reason that is told of each.
 
 ghost use Rattle.std.specs.Prelude.{◌≡◌};
-ghost use Rattle.bq_check.specs.Numbers.{fault_number, fault_name, fault_unit, notes_number, notes_name};
+ghost use Rattle.bq_check.specs.Reasons.{reason, fault_unit, notes_reason};
 
 use bq_flow::fault::{FlowFault, FlowRule};
 use bq_state::rule::Rule;
+use reasons::Reason;
 use std::alloc::{AllocError, AllocFailed};
 
 /// Why a text with notes is refused: the first fault, in the order in which they stand here.
@@ -44,33 +44,18 @@ pub enum CheckFault {
 }
 
 impl CheckFault {
-    /// The number by which the fault is reported: 11 to 14, 21 to 31 or 99.
-    pub fn number(&self) -> u8
-        ensures { result ≡ fault_number self.now }
+    /// The reason by which the fault is told: 11 to 14, 21 to 31 or 99.
+    pub fn reason(&self) -> Reason
+        ensures { result ≡ reason self.now }
     {
         match self {
-            CheckFault::WrongCount => 21,
-            CheckFault::Flow { rule, .. } => rule.number(),
-            CheckFault::NoteForm { .. } => 31,
-            CheckFault::Entry => 22,
-            CheckFault::Rule { rule, .. } => rule.number(),
-            CheckFault::NotCovered { .. } => 29,
-            CheckFault::OutOfMemory => 99,
-        }
-    }
-
-    /// The name by which the fault is reported.
-    pub fn name(&self) -> &'static str
-        ensures { result.now ≡ fault_name self.now }
-    {
-        match self {
-            CheckFault::WrongCount => "WrongCount",
-            CheckFault::Flow { rule, .. } => rule.name(),
-            CheckFault::NoteForm { .. } => "NoteForm",
-            CheckFault::Entry => "Entry",
-            CheckFault::Rule { rule, .. } => rule.name(),
-            CheckFault::NotCovered { .. } => "NotCovered",
-            CheckFault::OutOfMemory => "OutOfMemory",
+            CheckFault::WrongCount => Reason::WrongCount,
+            CheckFault::Flow { rule, .. } => rule.reason(),
+            CheckFault::NoteForm { .. } => Reason::NoteForm,
+            CheckFault::Entry => Reason::Entry,
+            CheckFault::Rule { rule, .. } => rule.reason(),
+            CheckFault::NotCovered { .. } => Reason::NotCovered,
+            CheckFault::OutOfMemory => Reason::OutOfMemory,
         }
     }
 
@@ -90,7 +75,7 @@ impl CheckFault {
 
 impl From<FlowFault> for CheckFault {
     ghost use Rattle.std.specs.Prelude.{◌≡◌};
-    ghost use Rattle.bq_check.specs.Numbers.{flow_refusal};
+    ghost use Rattle.bq_check.specs.Reasons.{flow_refusal};
 
     ghost from_gives = { λ fault e. e ≡ flow_refusal fault };
 
@@ -112,23 +97,13 @@ pub enum NotesFault {
 }
 
 impl NotesFault {
-    /// The number by which the fault is reported, 31 or 99.
-    pub fn number(&self) -> u8
-        ensures { result ≡ notes_number self.now }
+    /// The reason by which the fault is told, 31 or 99.
+    pub fn reason(&self) -> Reason
+        ensures { result ≡ notes_reason self.now }
     {
         match self {
-            NotesFault::NoteForm => 31,
-            NotesFault::OutOfMemory => 99,
-        }
-    }
-
-    /// The name by which the fault is reported.
-    pub fn name(&self) -> &'static str
-        ensures { result.now ≡ notes_name self.now }
-    {
-        match self {
-            NotesFault::NoteForm => "NoteForm",
-            NotesFault::OutOfMemory => "OutOfMemory",
+            NotesFault::NoteForm => Reason::NoteForm,
+            NotesFault::OutOfMemory => Reason::OutOfMemory,
         }
     }
 }

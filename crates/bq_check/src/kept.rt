@@ -28,7 +28,7 @@ fn is_kind(kind: Kind)
     match kind {
         Kind::Unset => {}
         Kind::Number(range) => is_interval(range),
-        Kind::FramePointer(offsets) | Kind::RecordPointer(offsets) => is_span(offsets),
+        Kind::Pointer(_, offsets) => is_span(offsets),
     }
 }
 

@@ -18,7 +18,7 @@
 //! of bytes that are no notes, and 99 OutOfMemory may stand in place of any answer.
 //!
 //! The definitions are in `specs/`: `Faults` has which fault is the first, `Certificate` what a
-//! certificate holds, `Spelling` the bytes of notes, and `Numbers` the faults' numbers and names. When
+//! certificate holds, `Spelling` the bytes of notes, and `Reasons` what is told of faults. When
 //! notes pass is defined one crate below. `laws` has what follows: notes that pass have no fault,
 //! others have one first fault, and notes have bytes of their own.
 //!

@@ -12,6 +12,7 @@ use crate::notes::Notes;
 use bq_range::range::Range;
 use bq_state::kind::Kind;
 use bq_state::offsets::Offsets;
+use bq_state::region::Region;
 use bq_state::state::State;
 use std::alloc::Global;
 
@@ -89,8 +90,8 @@ impl<'a> Reader<'a> {
         match self.byte()? {
             0 => Some(Kind::Unset),
             1 => Some(Kind::Number(self.range()?)),
-            2 => Some(Kind::FramePointer(self.offsets()?)),
-            3 => Some(Kind::RecordPointer(self.offsets()?)),
+            2 => Some(Kind::Pointer(Region::Frame, self.offsets()?)),
+            3 => Some(Kind::Pointer(Region::Record, self.offsets()?)),
             _ => None,
         }
     }

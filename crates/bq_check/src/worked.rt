@@ -1,29 +1,31 @@
 //! Worked values of the faults and of the bytes of notes.
 
 ghost use Rattle.std.specs.Prelude.{◌≡◌, [], ◌∷◌, pos, negsuc, Some, None};
+ghost use Rattle.reasons.specs.Table as table;
 ghost use Rattle.bq_range.specs.Interval.{between};
 ghost use Rattle.bq_flow.specs.declared.fault.FlowRule.TheVariants.{FallsOff};
 ghost use Rattle.bq_flow.specs.declared.fault.FlowFault.TheVariants as flow;
 ghost use Rattle.bq_sound.specs.Passes.{note_at};
 ghost use Rattle.bq_state.specs.declared.kind.Kind.TheVariants as kind;
+ghost use Rattle.bq_state.specs.declared.region.Region.TheVariants as region;
 ghost use Rattle.bq_state.specs.declared.rule.Rule.TheVariants.{AnswerKind};
 ghost use Rattle.bq_check.specs.declared.fault.CheckFault.TheVariants as fault;
 ghost use Rattle.bq_check.specs.declared.fault.NotesFault.TheVariants as notes;
-ghost use Rattle.bq_check.specs.Numbers.{fault_number, fault_unit, flow_refusal, notes_number};
+ghost use Rattle.bq_check.specs.Reasons.{reason, fault_unit, flow_refusal, notes_reason};
 ghost use Rattle.bq_check.specs.Spelling.{short_bytes, long_bytes, kind_bytes, note_bytes, notes_bytes};
 
 /// What the definitions say at telling operands.
 #[tactic(auto, unfolding(crate::specs::Spelling::short_bytes, crate::specs::Spelling::long_bytes))]
 pub fn worked()
     // The numbers of the faults, and the units that they name.
-    ensures count { fault_number fault.WrongCount ≡ 21 }
-    ensures entry { fault_number fault.Entry ≡ 22 }
-    ensures not_covered { fault_number (fault.NotCovered 7) ≡ 29 }
-    ensures form { fault_number (fault.NoteForm 7) ≡ 31 }
-    ensures of_the_flow { fault_number (fault.Flow 7 FallsOff) ≡ 14 }
-    ensures of_a_rule { fault_number (fault.Rule 7 AnswerKind) ≡ 30 }
-    ensures out_of_memory { fault_number fault.OutOfMemory ≡ 99 }
-    ensures form_of_bytes { notes_number notes.NoteForm ≡ 31 }
+    ensures count { table.number (reason fault.WrongCount) ≡ 21 }
+    ensures entry { table.number (reason fault.Entry) ≡ 22 }
+    ensures not_covered { table.number (reason (fault.NotCovered 7)) ≡ 29 }
+    ensures form { table.number (reason (fault.NoteForm 7)) ≡ 31 }
+    ensures of_the_flow { table.number (reason (fault.Flow 7 FallsOff)) ≡ 14 }
+    ensures of_a_rule { table.number (reason (fault.Rule 7 AnswerKind)) ≡ 30 }
+    ensures out_of_memory { table.number (reason fault.OutOfMemory) ≡ 99 }
+    ensures form_of_bytes { table.number (notes_reason notes.NoteForm) ≡ 31 }
     ensures told { fault_unit (fault.NotCovered 7) ≡ Some 7 }
     ensures told_of_a_rule { fault_unit (fault.Rule 7 AnswerKind) ≡ Some 7 }
     ensures not_told { fault_unit fault.Entry ≡ None }
@@ -39,8 +41,8 @@ pub fn worked()
     ensures long { long_bytes 258 ≡ 2 ∷ 1 ∷ 0 ∷ 0 ∷ 0 ∷ 0 ∷ 0 ∷ 0 ∷ [] }
     ensures unset { kind_bytes kind.Unset ≡ 0 ∷ [] }
     ensures number { kind_bytes (kind.Number (between 5 258)) ≡ 1 ∷ 5 ∷ 0 ∷ 0 ∷ 0 ∷ 0 ∷ 0 ∷ 0 ∷ 0 ∷ 2 ∷ 1 ∷ 0 ∷ 0 ∷ 0 ∷ 0 ∷ 0 ∷ 0 ∷ [] }
-    ensures frame { kind_bytes (kind.FramePointer (record { lo = negsuc 1; hi = pos 512 })) ≡ 2 ∷ 254 ∷ 255 ∷ 255 ∷ 255 ∷ 0 ∷ 2 ∷ 0 ∷ 0 ∷ [] }
-    ensures into_the_record { kind_bytes (kind.RecordPointer (record { lo = pos 0; hi = pos 3 })) ≡ 3 ∷ 0 ∷ 0 ∷ 0 ∷ 0 ∷ 3 ∷ 0 ∷ 0 ∷ 0 ∷ [] }
+    ensures frame { kind_bytes (kind.Pointer region.Frame (record { lo = negsuc 1; hi = pos 512 })) ≡ 2 ∷ 254 ∷ 255 ∷ 255 ∷ 255 ∷ 0 ∷ 2 ∷ 0 ∷ 0 ∷ [] }
+    ensures into_the_record { kind_bytes (kind.Pointer region.Record (record { lo = pos 0; hi = pos 3 })) ≡ 3 ∷ 0 ∷ 0 ∷ 0 ∷ 0 ∷ 3 ∷ 0 ∷ 0 ∷ 0 ∷ [] }
     ensures no_state { note_bytes None ≡ 0 ∷ [] }
     ensures two_notes { notes_bytes (None ∷ Some (kind.Unset ∷ []) ∷ []) ≡ 2 ∷ 0 ∷ 0 ∷ 0 ∷ 0 ∷ 1 ∷ 0 ∷ [] }
 {}

@@ -3,12 +3,13 @@
 ghost use Rattle.std.specs.Prelude.{◌≡◌, ◌<◌, ◌^◌, ◌++◌, IfOk, OnOk};
 ghost use Rattle.bq_range.specs.Interval.{IsInterval};
 ghost use Rattle.bq_state.specs.Offsets.{IsSpan};
-ghost use Rattle.bq_check.specs.Spelling.{short_bytes, long_bytes, range_bytes, span_bytes, kind_bytes, note_bytes, state_bytes, notes_bytes, IsKind, IsState, IsNote, IsNotes};
+ghost use Rattle.bq_check.specs.Spelling.{short_bytes, long_bytes, range_bytes, span_bytes, region_byte, kind_bytes, note_bytes, state_bytes, notes_bytes, IsKind, IsState, IsNote, IsNotes};
 
 use crate::notes::Notes;
 use bq_range::range::Range;
 use bq_state::kind::Kind;
 use bq_state::offsets::Offsets;
+use bq_state::region::Region;
 use bq_state::state::State;
 use std::alloc::{AllocError, Global};
 
@@ -44,6 +45,15 @@ fn push_offsets(out: &mut Vec<u8>, offsets: Offsets) -> Result<(), AllocError>
     push_short(out, offsets.hi().cast_unsigned())
 }
 
+fn region_byte(region: Region) -> u8
+    ensures { result ≡ region_byte region }
+{
+    match region {
+        Region::Frame => 2,
+        Region::Record => 3,
+    }
+}
+
 fn push_kind(out: &mut Vec<u8>, kind: Kind) -> Result<(), AllocError>
     ensures legal { OnOk result (IsKind kind) }
     ensures spelled { OnOk result (out.new.items ≡ out.old.items ++ kind_bytes kind) }
@@ -54,12 +64,8 @@ fn push_kind(out: &mut Vec<u8>, kind: Kind) -> Result<(), AllocError>
             out.push(1)?;
             push_range(out, range)
         }
-        Kind::FramePointer(offsets) => {
-            out.push(2)?;
-            push_offsets(out, offsets)
-        }
-        Kind::RecordPointer(offsets) => {
-            out.push(3)?;
+        Kind::Pointer(region, offsets) => {
+            out.push(region_byte(region))?;
             push_offsets(out, offsets)
         }
     }

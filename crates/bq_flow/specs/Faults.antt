@@ -1,5 +1,7 @@
 -- The first fault of a text's flow.
-use Rattle.std.specs.Prelude.{◌≡◌, ℕ, ℤ, pos, negsuc, ◌<◌, ◌&&◌, nat_le, is_none, List, Option, Some, None, if◌then◌else◌, codes}
+use Rattle.std.specs.Prelude.{◌≡◌, ℕ, ℤ, pos, negsuc, ◌<◌, ◌&&◌, nat_le, is_none, List, Option, Some, None, if◌then◌else◌}
+use Rattle.reasons.specs.declared.Reason.{Reason}
+use Rattle.reasons.specs.declared.Reason.TheVariants as reasons
 use Rattle.bq_insn.specs.Slots.{units, insn_at}
 use Rattle.bq_insn.specs.declared.insn.Insn.{Insn}
 use Rattle.bq_flow.specs.declared.fault.FlowRule.{FlowRule}
@@ -47,24 +49,14 @@ abbrev pub IsFlowFault : List Insn → FlowFault → Type 0
 IsFlowFault text (At unit rule) = IsFirstFlowFault text unit rule
 IsFlowFault text OutOfMemory = Unit {0}
 
--- ---- the numbers and names by which faults are reported
+-- ---- the reasons by which faults are told
 
-abbrev pub rule_number : FlowRule → ℕ
-rule_number Backward = 11
-rule_number OutsideText = 12
-rule_number IntoWide = 13
-rule_number FallsOff = 14
+abbrev pub rule_reason : FlowRule → Reason
+rule_reason Backward = reasons.Backward
+rule_reason OutsideText = reasons.OutsideText
+rule_reason IntoWide = reasons.IntoWide
+rule_reason FallsOff = reasons.FallsOff
 
-abbrev pub fault_number : FlowFault → ℕ
-fault_number (At unit rule) = rule_number rule
-fault_number OutOfMemory = 99
-
-abbrev pub rule_name : FlowRule → List ℕ
-rule_name Backward = codes "Backward"
-rule_name OutsideText = codes "OutsideText"
-rule_name IntoWide = codes "IntoWide"
-rule_name FallsOff = codes "FallsOff"
-
-abbrev pub fault_name : FlowFault → List ℕ
-fault_name (At unit rule) = rule_name rule
-fault_name OutOfMemory = codes "OutOfMemory"
+abbrev pub reason : FlowFault → Reason
+reason (At unit rule) = rule_reason rule
+reason OutOfMemory = reasons.OutOfMemory

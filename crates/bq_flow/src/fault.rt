@@ -1,8 +1,9 @@
-//! Why a text's flow is refused, each reason with its number and its name.
+//! Why a text's flow is refused, and the reason that is told of each.
 
 ghost use Rattle.std.specs.Prelude.{◌≡◌};
-ghost use Rattle.bq_flow.specs.Faults.{rule_number, rule_name, fault_number, fault_name};
+ghost use Rattle.bq_flow.specs.Faults.{rule_reason, reason};
 
+use reasons::Reason;
 use std::alloc::AllocError;
 
 /// What is wrong with the flow at an instruction.
@@ -33,49 +34,27 @@ pub enum FlowFault {
 }
 
 impl FlowRule {
-    /// The number by which the fault is reported, 11 to 14.
-    pub fn number(&self) -> u8
-        ensures { result ≡ rule_number self.now }
+    /// The reason by which the fault is told, 11 to 14.
+    pub fn reason(&self) -> Reason
+        ensures { result ≡ rule_reason self.now }
     {
         match self {
-            FlowRule::Backward => 11,
-            FlowRule::OutsideText => 12,
-            FlowRule::IntoWide => 13,
-            FlowRule::FallsOff => 14,
-        }
-    }
-
-    /// The name by which the fault is reported.
-    pub fn name(&self) -> &'static str
-        ensures { result.now ≡ rule_name self.now }
-    {
-        match self {
-            FlowRule::Backward => "Backward",
-            FlowRule::OutsideText => "OutsideText",
-            FlowRule::IntoWide => "IntoWide",
-            FlowRule::FallsOff => "FallsOff",
+            FlowRule::Backward => Reason::Backward,
+            FlowRule::OutsideText => Reason::OutsideText,
+            FlowRule::IntoWide => Reason::IntoWide,
+            FlowRule::FallsOff => Reason::FallsOff,
         }
     }
 }
 
 impl FlowFault {
-    /// The number by which the fault is reported, 11 to 14 or 99.
-    pub fn number(&self) -> u8
-        ensures { result ≡ fault_number self.now }
+    /// The reason by which the fault is told, 11 to 14 or 99.
+    pub fn reason(&self) -> Reason
+        ensures { result ≡ reason self.now }
     {
         match self {
-            FlowFault::At { rule, .. } => rule.number(),
-            FlowFault::OutOfMemory => 99,
-        }
-    }
-
-    /// The name by which the fault is reported.
-    pub fn name(&self) -> &'static str
-        ensures { result.now ≡ fault_name self.now }
-    {
-        match self {
-            FlowFault::At { rule, .. } => rule.name(),
-            FlowFault::OutOfMemory => "OutOfMemory",
+            FlowFault::At { rule, .. } => rule.reason(),
+            FlowFault::OutOfMemory => Reason::OutOfMemory,
         }
     }
 }

@@ -1,6 +1,7 @@
 //! Worked values of the definitions of flow.
 
 ghost use Rattle.std.specs.Prelude.{◌≡◌, [], ◌∷◌, pos, negsuc, Some, None};
+ghost use Rattle.reasons.specs.Table as table;
 ghost use Rattle.bq_word.specs.declared.Width.TheVariants.{W64};
 ghost use Rattle.bq_word.specs.declared.Relation.TheVariants as relation;
 ghost use Rattle.bq_insn.specs.declared.insn.Insn.TheVariants as insn;
@@ -11,7 +12,7 @@ ghost use Rattle.bq_flow.specs.Successors.{successors};
 ghost use Rattle.bq_insn.specs.Slots.{insn_at};
 ghost use Rattle.bq_flow.specs.Paths.{IsLegalFlow};
 ghost use Rattle.bq_flow.specs.Flow.{successors_at};
-ghost use Rattle.bq_flow.specs.Faults.{flow_fault, rule_number, fault_number, IsFlowFault};
+ghost use Rattle.bq_flow.specs.Faults.{flow_fault, rule_reason, reason, IsFlowFault};
 
 /// What the definitions say at telling operands.
 pub fn worked()
@@ -46,9 +47,9 @@ pub fn worked()
     ensures not_legal { IsLegalFlow (insn.Jump (negsuc 0) ∷ insn.Exit ∷ []) → ⊥ }
 
     // The numbers of the faults.
-    ensures backward { rule_number rule.Backward ≡ 11 }
-    ensures outside_text { rule_number rule.OutsideText ≡ 12 }
-    ensures wide_number { rule_number rule.IntoWide ≡ 13 }
-    ensures at_a_unit { fault_number (fault.At 3 rule.FallsOff) ≡ 14 }
-    ensures out_of_memory { fault_number fault.OutOfMemory ≡ 99 }
+    ensures backward { table.number (rule_reason rule.Backward) ≡ 11 }
+    ensures outside_text { table.number (rule_reason rule.OutsideText) ≡ 12 }
+    ensures wide_number { table.number (rule_reason rule.IntoWide) ≡ 13 }
+    ensures at_a_unit { table.number (reason (fault.At 3 rule.FallsOff)) ≡ 14 }
+    ensures out_of_memory { table.number (reason fault.OutOfMemory) ≡ 99 }
 {}

@@ -1,7 +1,8 @@
 //! What the definitions say at telling instructions and bytes, worked by hand from RFC 9669's tables.
 
 ghost use Rattle.std.specs.Prelude.{◌≡◌, ◌≤◌, ℕ, List, length, IfNone, Some, None, [], ◌∷◌, codes, pos, negsuc, true, false};
-ghost use Rattle.bq_insn.specs.Fault.{fault_name, fault_number, front_fault, unit_fault_name, unit_fault_number, IsFault, IsLengthFault};
+ghost use Rattle.reasons.specs.Table as table;
+ghost use Rattle.bq_insn.specs.Fault.{reason, front_fault, unit_reason, IsFault, IsLengthFault};
 ghost use Rattle.bq_insn.specs.Fields.{unit_bytes};
 ghost use Rattle.bq_insn.specs.Insn.{insn_bytes};
 ghost use Rattle.bq_insn.specs.Opcode.{opcode_at};
@@ -68,9 +69,9 @@ pub fn worked_faults()
 
 /// How faults are reported.
 pub fn worked_reports()
-    ensures long { fault_number fault.TooLong ≡ 2 }
-    ensures memory { fault_number fault.OutOfMemory ≡ 99 }
-    ensures out { unit_fault_number wrong.LeftOut ≡ 8 }
-    ensures name { fault_name fault.TooLong ≡ codes "TooLong" }
-    ensures field { unit_fault_name wrong.BadField ≡ codes "BadField" }
+    ensures long { table.number (reason fault.TooLong) ≡ 2 }
+    ensures memory { table.number (reason fault.OutOfMemory) ≡ 99 }
+    ensures out { table.number (unit_reason wrong.LeftOut) ≡ 8 }
+    ensures name { table.name (reason fault.TooLong) ≡ codes "TooLong" }
+    ensures field { table.name (unit_reason wrong.BadField) ≡ codes "BadField" }
 {}

@@ -9,7 +9,7 @@ use Rattle.bq_meaning.proofs.Once.{same_end}
 pub same_fold : (p : Place) (text : List Insn) (records : List (List ℕ)) (acc : ℕ) (frame : List ℕ) (answer steps other count : ℕ) (after left : List ℕ) → FoldsTo p text records acc frame answer steps after → FoldsTo p text records acc frame other count left → (answer ≡ other) × (steps ≡ count) × (after ≡ left)
 same_fold p text [] acc frame answer steps other count after left h i = (h.0 ∙ sym i.0, h.1 ∙ sym i.1, h.2 ∙ sym i.2)
 same_fold p text (r ∷ rs) acc frame answer steps other count after left (n, next, middle, rest, run, fold, sum) (m, next', middle', rest', run', fold', sum') =
-    let same = same_end p text n m (entry_machine p acc r frame) next next' middle middle' run run' in
+    let same = same_end p text n m (entry_machine p acc r frame) next next' middle middle' run.runs run'.runs in
     let moved : FoldsTo p text rs next middle other rest' left =
     subst (λ x. FoldsTo p text rs next x other rest' left) (sym same.2) (subst (λ x. FoldsTo p text rs x middle' other rest' left) (sym same.1) fold') in
     let tail = same_fold p text rs next middle answer rest other rest' after left fold moved in

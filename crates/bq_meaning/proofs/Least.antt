@@ -1,6 +1,7 @@
 -- An instruction faults by the least of the faults that hold of it.
 use Rattle.std.proofs.Common.{◌≡◌, ◌≢◌, ℕ, ◌+◌, ◌-◌, ◌<◌, ◌≤◌, ℤ, Bool, true, false, ◌&&◌, nat_lt, nat_le, List, length, Option, Some, None, arith, refl, subst, inl, inr, if◌then◌else◌}
 use Rattle.std.proofs.lemmas.Bool.Decides.{nat_tests}
+use Rattle.reasons.specs.Table.{number}
 use Rattle.bq_word.specs.declared.AluOp.{AluOp}
 use Rattle.bq_word.specs.declared.AluOp.TheVariants as ops
 use Rattle.bq_insn.specs.declared.insn.Insn.{Insn}
@@ -14,7 +15,7 @@ use Rattle.bq_insn.specs.Insn.{size_bytes}
 use Rattle.bq_word.specs.Word.{signed_bytes}
 use Rattle.bq_meaning.specs.Memory.{access, is_inside}
 use Rattle.bq_meaning.specs.Meaning.{Outcome, Continues, Ends, Faults, held, value, taken, moved, reading, writing, stored, perform}
-use Rattle.bq_meaning.specs.Faults.{fault_number, OperandReads, LoadsAt, StoresAt, AreWithin, ReadsUnset, WritesFramePointer, AccessesOutside, WritesRecord, Holds, IsLeast, HoldsNone, IsDone, LeastFaultIsNamed}
+use Rattle.bq_meaning.specs.Faults.{reason, OperandReads, LoadsAt, StoresAt, AreWithin, ReadsUnset, WritesFramePointer, AccessesOutside, WritesRecord, Holds, IsLeast, HoldsNone, IsDone, LeastFaultIsNamed}
 use Rattle.bq_meaning.specs.Machines.{MachineState as Machine}
 use Rattle.bq_meaning.specs.declared.machine.Location.{Location}
 use Rattle.bq_meaning.specs.declared.machine.Location.TheVariants.{Frame, Record}
@@ -203,7 +204,7 @@ holds p i m WroteRecord j = j.3
 holds p i m BadPlace j = j
 holds p i m StepsOut j = j
 
-least : (p : Place) (i : Insn) (m : Machine) (f g : Fault) → JudgedAt p i m (Faults f) → Holds p i m g → fault_number f ≤ fault_number g
+least : (p : Place) (i : Insn) (m : Machine) (f g : Fault) → JudgedAt p i m (Faults f) → Holds p i m g → number (reason f) ≤ number (reason g)
 least p i m BadPlace g j h = absurd j
 least p i m StepsOut g j h = absurd j
 least p i m f BadPlace j h = absurd h
@@ -219,7 +220,7 @@ least p i m f g j h = omega arith
 is_least : (p : Place) (i : Insn) (m : Machine) (f : Fault) → JudgedAt p i m (Faults f) → IsLeast p i m f
 is_least p i m f j = (holds p i m f j, λ g h. least p i m f g j h)
 
-same_number : (f g : Fault) → fault_number f ≡ fault_number g → f ≡ g
+same_number : (f g : Fault) → number (reason f) ≡ number (reason g) → f ≡ g
 same_number ReadUnset ReadUnset e = refl
 same_number WroteFramePointer WroteFramePointer e = refl
 same_number OutsideAccess OutsideAccess e = refl
@@ -233,9 +234,9 @@ named p i m (Continues next) f j l = absurd (done p i m (Continues next) j tt f 
 named p i m (Ends answer) f j l = absurd (done p i m (Ends answer) j tt f l.0)
 named p i m (Faults g) f j l =
     let a = is_least p i m g j in
-    let x : fault_number g ≤ fault_number f = a.1 f l.0 in
-    let y : fault_number f ≤ fault_number g = l.1 g a.0 in
-    let e : g ≡ f = let n : fault_number g ≡ fault_number f = omega arith in same_number g f n in
+    let x : number (reason g) ≤ number (reason f) = a.1 f l.0 in
+    let y : number (reason f) ≤ number (reason g) = l.1 g a.0 in
+    let e : g ≡ f = let n : number (reason g) ≡ number (reason f) = omega arith in same_number g f n in
     cc
 
 clear : (p : Place) (i : Insn) (m : Machine) (o : Outcome) → JudgedAt p i m o → HoldsNone p i m → IsDone o

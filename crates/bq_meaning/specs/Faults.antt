@@ -1,5 +1,8 @@
--- The faults of a step: by which number and name each is reported, and what each says of an instruction.
-use Rattle.std.specs.Prelude.{◌≡◌, ◌≢◌, ◌⊎◌, ◌↔◌, ℕ, ◌+◌, ◌≤◌, ℤ, List, length, codes, Some, None}
+-- The faults of a step: by which reason each is told, and what each says of an instruction.
+use Rattle.std.specs.Prelude.{◌≡◌, ◌≢◌, ◌⊎◌, ◌↔◌, ℕ, ◌+◌, ◌≤◌, ℤ, length, Some, None}
+use Rattle.reasons.specs.Table.{number}
+use Rattle.reasons.specs.declared.Reason.{Reason}
+use Rattle.reasons.specs.declared.Reason.TheVariants as reasons
 use Rattle.bq_word.specs.declared.AluOp.TheVariants as ops
 use Rattle.bq_insn.specs.declared.insn.Insn.{Insn}
 use Rattle.bq_insn.specs.declared.insn.Insn.TheVariants as insns
@@ -13,23 +16,15 @@ use Rattle.bq_meaning.specs.Machines.{MachineState as Machine}
 use Rattle.bq_meaning.specs.declared.fault.Fault.{Fault}
 use Rattle.bq_meaning.specs.declared.fault.Fault.TheVariants.{ReadUnset, WroteFramePointer, OutsideAccess, WroteRecord, BadPlace, StepsOut}
 
--- ---- numbers and names
+-- ---- reasons
 
-abbrev pub fault_number : Fault → ℕ
-fault_number ReadUnset = 91
-fault_number WroteFramePointer = 92
-fault_number OutsideAccess = 93
-fault_number WroteRecord = 94
-fault_number BadPlace = 95
-fault_number StepsOut = 96
-
-abbrev pub fault_name : Fault → List ℕ
-fault_name ReadUnset = codes "ReadUnset"
-fault_name WroteFramePointer = codes "WroteFramePointer"
-fault_name OutsideAccess = codes "OutsideAccess"
-fault_name WroteRecord = codes "WroteRecord"
-fault_name BadPlace = codes "BadPlace"
-fault_name StepsOut = codes "StepsOut"
+abbrev pub reason : Fault → Reason
+reason ReadUnset = reasons.ReadUnset
+reason WroteFramePointer = reasons.WroteFramePointer
+reason OutsideAccess = reasons.OutsideAccess
+reason WroteRecord = reasons.WroteRecord
+reason BadPlace = reasons.BadPlace
+reason StepsOut = reasons.StepsOut
 
 -- ---- which registers an instruction reads and writes
 
@@ -120,7 +115,7 @@ Holds p i m StepsOut = ⊥
 -- ---- the law
 
 abbrev pub IsLeast : Place → Insn → Machine → Fault → Type 0
-IsLeast p i m f = Holds p i m f × ((g : Fault) → Holds p i m g → fault_number f ≤ fault_number g)
+IsLeast p i m f = Holds p i m f × ((g : Fault) → Holds p i m g → number (reason f) ≤ number (reason g))
 
 abbrev pub HoldsNone : Place → Insn → Machine → Type 0
 HoldsNone p i m = (g : Fault) → Holds p i m g → ⊥

@@ -1,7 +1,9 @@
-//! Why an instruction is not done, each reason with its number and its name.
+//! Why an instruction is not done, and the reason that is told of each.
 
 ghost use Rattle.std.specs.Prelude.{◌≡◌};
-ghost use Rattle.bq_meaning.specs.Faults.{fault_number, fault_name};
+ghost use Rattle.bq_meaning.specs.Faults.{reason};
+
+use reasons::Reason;
 
 /// Why an instruction can't be done. Where several of these hold, the one with the least number is answered.
 #[derive(Clone, Copy, Debug, PartialEq, Eq, Drop)]
@@ -21,31 +23,17 @@ pub enum Fault {
 }
 
 impl Fault {
-    /// The number by which the fault is reported, 91 to 96.
-    pub fn number(&self) -> u8
-        ensures { result ≡ fault_number self.now }
+    /// The reason by which the fault is told, 91 to 96.
+    pub fn reason(&self) -> Reason
+        ensures { result ≡ reason self.now }
     {
         match self {
-            Fault::ReadUnset => 91,
-            Fault::WroteFramePointer => 92,
-            Fault::OutsideAccess => 93,
-            Fault::WroteRecord => 94,
-            Fault::BadPlace => 95,
-            Fault::StepsOut => 96,
-        }
-    }
-
-    /// The name by which the fault is reported.
-    pub fn name(&self) -> &'static str
-        ensures { result.now ≡ fault_name self.now }
-    {
-        match self {
-            Fault::ReadUnset => "ReadUnset",
-            Fault::WroteFramePointer => "WroteFramePointer",
-            Fault::OutsideAccess => "OutsideAccess",
-            Fault::WroteRecord => "WroteRecord",
-            Fault::BadPlace => "BadPlace",
-            Fault::StepsOut => "StepsOut",
+            Fault::ReadUnset => Reason::ReadUnset,
+            Fault::WroteFramePointer => Reason::WroteFramePointer,
+            Fault::OutsideAccess => Reason::OutsideAccess,
+            Fault::WroteRecord => Reason::WroteRecord,
+            Fault::BadPlace => Reason::BadPlace,
+            Fault::StepsOut => Reason::StepsOut,
         }
     }
 }

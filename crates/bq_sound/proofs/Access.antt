@@ -11,20 +11,19 @@ use Rattle.bq_meaning.specs.declared.machine.Location.{Location}
 use Rattle.bq_meaning.specs.declared.machine.Location.TheVariants.{Frame, Record}
 use Rattle.bq_state.specs.Offsets.{Span, IsOffset, fits}
 use Rattle.bq_state.specs.declared.kind.Kind.{Kind}
-use Rattle.bq_state.specs.declared.kind.Kind.TheVariants.{Unset, Number, FramePointer, RecordPointer}
+use Rattle.bq_state.specs.declared.kind.Kind.TheVariants.{Unset, Number, Pointer}
+use Rattle.bq_state.specs.declared.region.Region.{Region}
+use Rattle.bq_state.specs.declared.region.Region.TheVariants as regions
+use Rattle.bq_state.specs.Covers.{start}
 use Rattle.bq_state.specs.declared.rule.Rule.{Rule}
-use Rattle.bq_state.specs.declared.rule.Rule.TheVariants.{OutsideFrame, OutsideRecord}
-use Rattle.bq_state.specs.Rules.{and_then, readable, storable}
+use Rattle.bq_state.specs.declared.rule.Rule.TheVariants.{OutsideFrame}
+use Rattle.bq_state.specs.Rules.{and_then, extent, outside, readable, storable}
 use Rattle.bq_sound.proofs.Words.{moved_on}
-use Rattle.bq_sound.proofs.Tags.{Region, InFrame, InRecord, Tagged, Num, Ptr, start, image, same_word, same_pointer, HoldsPointer, TagHolds}
-
-abbrev pub extent : ℕ → Region → ℕ
-extent len InFrame = 512
-extent len InRecord = len
+use Rattle.bq_sound.proofs.Tags.{Tagged, Num, Ptr, image, same_word, same_pointer, HoldsPointer, TagHolds}
 
 abbrev pub location : Region → ℕ → Location
-location InFrame at = Frame at
-location InRecord at = Record at
+location regions.Frame at = Frame at
+location regions.Record at = Record at
 
 -- so many bytes at a distance from an offset lie in the region, at a place; a record has len bytes
 pub record Inside (len : ℕ) (region : Region) (z distance : ℤ) (size : ℕ) : Type 0 where
@@ -43,8 +42,8 @@ inside len region s distance z size e h =
     record { at = n.0; is = n.1; room = omega (arith, ints, b.1, n.1, h.high) }
 
 region_fits : (p : Place) → IsPlacement p → (len : ℕ) → len ≤ record_room → (region : Region) → start p region + extent len region < 2 ^ 64
-region_fits p place len few InFrame = place.frame_fits
-region_fits p place len few InRecord = omega (arith, place.record_fits, few)
+region_fits p place len few regions.Frame = place.frame_fits
+region_fits p place len few regions.Record = omega (arith, place.record_fits, few)
 
 address_is : (p : Place) → IsPlacement p → (len : ℕ) → len ≤ record_room → (region : Region) (z distance : ℤ) (size : ℕ) (h : Inside len region z distance size) → moved (moved (start p region) z) distance ≡ start p region + h.at
 address_is p place len few region z distance size h = moved_on (start p region) z distance ∙ ap (moved (start p region)) h.is ∙ below (start p region) h.at (omega (arith, region_fits p place len few region, h.room))
@@ -64,13 +63,13 @@ within start len at size h = grind (arith, nat_tests)
 -- an access to a record within its room goes to the same place of the same region
 pub accesses : (p : Place) → IsPlacement p → (len : ℕ) → len ≤ record_room → (region : Region) (z distance : ℤ) (size : ℕ) → 1 ≤ size → (h : Inside len region z distance size)
     → access p len (moved (image p (Ptr region z)) distance) size ≡ Some (location region h.at)
-accesses p place len few InFrame z distance size some h =
-    let e = address_is p place len few InFrame z distance size h in
+accesses p place len few regions.Frame z distance size some h =
+    let e = address_is p place len few regions.Frame z distance size h in
     let t = within p.frame 512 h.at size h.room in
     let same : p.frame + h.at - p.frame ≡ h.at = omega arith in
     rw (e, t, same) refl
-accesses p place len few InRecord z distance size some h =
-    let e = address_is p place len few InRecord z distance size h in
+accesses p place len few regions.Record z distance size some h =
+    let e = address_is p place len few regions.Record z distance size h in
     let f : is_inside p.frame 512 (p.record + h.at) size ≡ false = elim place.apart [ inl a ↦ before p h.at size some a | inr b ↦ behind p h.at size some (omega (arith, h.room, few)) b ] in
     let t = within p.record len h.at size h.room in
     let same : p.record + h.at - p.record ≡ h.at = omega arith in
@@ -92,28 +91,25 @@ pub allows : {B : Type 0} (len : ℕ) (k : Kind) (distance : ℤ) (size : ℕ) (
     → Reads len v distance size × (go tt ≡ Ok after)
 allows len Unset distance size go after v h e = cc
 allows len (Number a) distance size go after v h e = cc
-allows len (FramePointer s) distance size go after v h e =
-    elim (cases_Bool (fits s distance size 512)) [ inl t ↦ (reads_within len InFrame s distance size v h t, rw t at e) | inr f ↦ let no : Err OutsideFrame ≡ Ok after = rw f at e in cc ]
-allows len (RecordPointer s) distance size go after v h e =
-    elim (cases_Bool (fits s distance size len)) [ inl t ↦ (reads_within len InRecord s distance size v h t, rw t at e) | inr f ↦ let no : Err OutsideRecord ≡ Ok after = rw f at e in cc ]
+allows len (Pointer region s) distance size go after v h e =
+    elim (cases_Bool (fits s distance size (extent len region))) [ inl t ↦ (reads_within len region s distance size v h t, rw t at e) | inr f ↦ let no : Err (outside region) ≡ Ok after = rw f at e in cc ]
 
 -- a pointer into the frame and a number that may be written there
 pub record Writes (len : ℕ) (u v : Tagged) (distance : ℤ) (size : ℕ) : Type 0 where
   pub z : ℤ
-  pub is : u ≡ Ptr InFrame z
-  pub inside : Inside len InFrame z distance size
+  pub is : u ≡ Ptr regions.Frame z
+  pub inside : Inside len regions.Frame z distance size
   pub word : ℕ
   pub number : v ≡ Num word
 
 pub stores : {B : Type 0} (len : ℕ) (k l : Kind) (distance : ℤ) (size : ℕ) (go : Unit {0} → Result B Rule) (after : B) (u v : Tagged) → TagHolds k (Some u) → TagHolds l (Some v)
     → and_then (storable k l distance size) go ≡ Ok after → Writes len u v distance size × (go tt ≡ Ok after)
-stores len (FramePointer s) (Number a) distance size go after u v h i e =
+stores len (Pointer regions.Frame s) (Number a) distance size go after u v h i e =
     elim (cases_Bool (fits s distance size 512)) [
-      | inl t ↦ (record { z = h.offset; is = same_pointer u InFrame h.offset h.is; inside = inside len InFrame s distance h.offset size t h.within; word = i.word; number = same_word v i.word i.is }, rw t at e)
+      | inl t ↦ (record { z = h.offset; is = same_pointer u regions.Frame h.offset h.is; inside = inside len regions.Frame s distance h.offset size t h.within; word = i.word; number = same_word v i.word i.is }, rw t at e)
       | inr f ↦ let no : Err OutsideFrame ≡ Ok after = rw f at e in cc
     ]
-stores len (RecordPointer s) Unset distance size go after u v h i e = cc
-stores len (RecordPointer s) (Number a) distance size go after u v h i e = cc
-stores len (RecordPointer s) (FramePointer t) distance size go after u v h i e = cc
-stores len (RecordPointer s) (RecordPointer t) distance size go after u v h i e = cc
+stores len (Pointer regions.Record s) Unset distance size go after u v h i e = cc
+stores len (Pointer regions.Record s) (Number a) distance size go after u v h i e = cc
+stores len (Pointer regions.Record s) (Pointer region t) distance size go after u v h i e = cc
 stores len k l distance size go after u v h i e = cc

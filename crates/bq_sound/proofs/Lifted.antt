@@ -12,9 +12,9 @@ use Rattle.bq_state.specs.Edges.{edges}
 use Rattle.bq_state.specs.Kinds.{StateKinds, kind_of}
 use Rattle.bq_state.specs.Rules.{transfer}
 use Rattle.bq_state.specs.declared.kind.Kind.{Kind}
-use Rattle.bq_state.specs.declared.kind.Kind.TheVariants.{Unset, Number, FramePointer, RecordPointer}
+use Rattle.bq_state.specs.declared.kind.Kind.TheVariants.{Unset, Number, Pointer}
 use Rattle.bq_sound.specs.Steps.{IsMachine, IsCovered}
-use Rattle.bq_sound.proofs.Tags.{InFrame, InRecord, Tagged, Num, Ptr, image, image_small, images, held_image, IsWord, word_of, tag_at, TagHolds, TagsHold}
+use Rattle.bq_sound.proofs.Tags.{Tagged, Num, Ptr, image, image_small, images, held_image, IsWord, word_of, tag_at, TagHolds, TagsHold}
 use Rattle.bq_sound.proofs.Machine.{Common, machine, IsWhole, Stands}
 use Rattle.bq_sound.proofs.Progress.{progress}
 
@@ -41,17 +41,11 @@ one_tag p (Number a) register h w = record {
   holds = record { word = h.word; is = refl; within = h.within };
   word = λ v e. word_of h.word v (w h.word h.held) e;
 }
-one_tag p (FramePointer s) register h w = record {
-  tag = Some (Ptr InFrame h.offset);
+one_tag p (Pointer region s) register h w = record {
+  tag = Some (Ptr region h.offset);
   is = sym h.held;
   holds = record { offset = h.offset; is = refl; within = h.within };
-  word = λ v e. pointer_word (Ptr InFrame h.offset) v tt e;
-}
-one_tag p (RecordPointer s) register h w = record {
-  tag = Some (Ptr InRecord h.offset);
-  is = sym h.held;
-  holds = record { offset = h.offset; is = refl; within = h.within };
-  word = λ v e. pointer_word (Ptr InRecord h.offset) v tt e;
+  word = λ v e. pointer_word (Ptr region h.offset) v tt e;
 }
 
 record ManyTags (p : Place) (kinds : ℕ → Kind) (registers : List (Option ℕ)) : Type 0 where
@@ -63,8 +57,7 @@ record ManyTags (p : Place) (kinds : ℕ → Kind) (registers : List (Option ℕ
 none_held : (p : Place) (k : Kind) → KindHolds p k None → TagHolds k None
 none_held p Unset h = tt
 none_held p (Number a) h = let e = h.held in cc
-none_held p (FramePointer s) h = let e = h.held in cc
-none_held p (RecordPointer s) h = let e = h.held in cc
+none_held p (Pointer region s) h = let e = h.held in cc
 
 many_tags : (p : Place) (kinds : ℕ → Kind) (registers : List (Option ℕ)) → ((r : ℕ) → KindHolds p (kinds r) (held registers r)) → ((r n : ℕ) → held registers r ≡ Some n → n < 2 ^ 64) → ManyTags p kinds registers
 many_tags p kinds [] h w = record { tags = []; is = refl; holds = λ r. none_held p (kinds r) (h r); words = λ r v e. no_word v e }
@@ -106,8 +99,7 @@ lifted len p state m few whole holds =
 lowered_kind : (p : Place) (k : Kind) (t : Option Tagged) → TagHolds k t → KindHolds p k (option_map (image p) t)
 lowered_kind p Unset t h = tt
 lowered_kind p (Number a) t h = record { word = h.word; held = ap (option_map (image p)) h.is; within = h.within }
-lowered_kind p (FramePointer s) t h = record { offset = h.offset; held = ap (option_map (image p)) h.is; within = h.within }
-lowered_kind p (RecordPointer s) t h = record { offset = h.offset; held = ap (option_map (image p)) h.is; within = h.within }
+lowered_kind p (Pointer region s) t h = record { offset = h.offset; held = ap (option_map (image p)) h.is; within = h.within }
 
 lowered : (p : Place) (state : StateKinds) (tags : List (Option Tagged)) → TagsHold state tags → StateHolds p state (images p tags)
 lowered p state tags h = record { each = λ r. subst (KindHolds p (kind_of state r)) (sym (held_image p tags r)) (lowered_kind p (kind_of state r) (tag_at tags r) (h.each r)) }

@@ -18,11 +18,11 @@ use Rattle.bq_sound.proofs.Runs.{safe}
 moved_limit : (p : Place) (text : List Insn) (acc : ℕ) (bytes frame : List ℕ) (n answer : ℕ) (left : List ℕ) (limit other : ℕ) → RecordRun p text acc bytes frame n answer left → n ≤ limit → n ≤ other
     → (result : Result Ended Fault) (after : List ℕ) → RunAnswers p text acc bytes frame limit result after → RunAnswers p text acc bytes frame other result after
 moved_limit p text acc bytes frame n answer left limit other run low small (Ok e) after h =
-    let same = same_end p text n e.steps (entry_machine p acc bytes frame) answer e.acc left after run h.0 in
+    let same = same_end p text n e.steps (entry_machine p acc bytes frame) answer e.acc left after run.runs h.0.runs in
     let s : n ≡ e.steps = same.0 in
     (h.0, omega arith)
 moved_limit p text acc bytes frame n answer left limit other run low small (Err f) after h =
-    absurd (no_refusal p text n limit (entry_machine p acc bytes frame) answer left f run low h.0)
+    absurd (no_refusal p text n limit (entry_machine p acc bytes frame) answer left f run.runs low h.0)
 
 free : (len : ℕ) (text : List Insn) (longest : ℕ) → IsSafe len text longest → LimitIsFree len text longest
 free len text longest is p acc bytes frame limit place word whole full high result after =

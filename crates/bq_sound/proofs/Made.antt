@@ -15,10 +15,12 @@ use Rattle.bq_range.proofs.Held.{words}
 use Rattle.bq_range.proofs.Covers.{operated_covers}
 use Rattle.bq_state.specs.Offsets.{Span, moved_on, moved_back}
 use Rattle.bq_state.specs.declared.kind.Kind.{Kind}
-use Rattle.bq_state.specs.declared.kind.Kind.TheVariants.{Number, FramePointer, RecordPointer}
+use Rattle.bq_state.specs.declared.kind.Kind.TheVariants.{Number, Pointer}
+use Rattle.bq_state.specs.declared.region.Region.{Region}
+use Rattle.bq_state.specs.Covers.{start}
 use Rattle.bq_state.specs.Rules.{sum_kind, difference_kind, pointer_kind, alu_kind}
 use Rattle.bq_sound.proofs.Moves.{Moved, on, back}
-use Rattle.bq_sound.proofs.Tags.{Region, InFrame, InRecord, Tagged, Num, Ptr, start, image, IsWord, same_word, same_pointer, image_small, HoldsNumber, HoldsPointer, holds_word, TagHolds}
+use Rattle.bq_sound.proofs.Tags.{Tagged, Num, Ptr, image, IsWord, same_word, same_pointer, image_small, HoldsNumber, HoldsPointer, holds_word, TagHolds}
 
 -- a value of a kind that is so much at each placement
 pub record Made (k : Kind) (f : Place → ℕ) : Type 0 where
@@ -48,10 +50,10 @@ numbers_made w op a b u v hu hv =
     (λ p. ap (λ (x : ℕ). operation (bits_of w) op x (image p v)) (ap (image p) eu) ∙ ap (operation (bits_of w) op hu.word) (ap (image p) ev))
 
 -- a pointer and a number, as an operation that moves the pointer takes them
-moved_made : (region : Region) (kind : Span → Kind) (t : Span) (f g : Place → ℕ) → ((o : Option Tagged) → HoldsPointer region t o → TagHolds (kind t) o) → ((p : Place) → g p ≡ f p) → Moved region t f → Made (kind t) g
-moved_made region kind t f g holds same m = record {
+moved_made : (region : Region) (t : Span) (f g : Place → ℕ) → ((p : Place) → g p ≡ f p) → Moved region t f → Made (Pointer region t) g
+moved_made region t f g same m = record {
   value = Ptr region m.z;
-  holds = holds (Some (Ptr region m.z)) (record { offset = m.z; is = refl; within = m.within });
+  holds = record { offset = m.z; is = refl; within = m.within };
   word = tt;
   is = λ p. same p ∙ m.is p;
 }
@@ -62,21 +64,21 @@ made_like k l f e m = subst (λ q. Made q f) e m
 held_word : (v : Tagged) (w : ℕ) → v ≡ Num w → IsWord v → w < 2 ^ 64
 held_word v w e h = subst IsWord e h
 
-made_on : (region : Region) (kind : Span → Kind) (s t : Span) (a : Interval) (u v : Tagged) → ((o : Option Tagged) → HoldsPointer region t o → TagHolds (kind t) o)
-    → HoldsPointer region s (Some u) → HoldsNumber a (Some v) → IsWord v → moved_on s a ≡ Some t → Made (kind t) (λ p. operation 64 Add (image p u) (image p v))
-made_on region kind s t a u v holds hu hv small e =
+made_on : (region : Region) (s t : Span) (a : Interval) (u v : Tagged)
+    → HoldsPointer region s (Some u) → HoldsNumber a (Some v) → IsWord v → moved_on s a ≡ Some t → Made (Pointer region t) (λ p. operation 64 Add (image p u) (image p v))
+made_on region s t a u v hu hv small e =
     let eu = same_pointer u region hu.offset hu.is in
     let ev = same_word v hv.word hv.is in
-    moved_made region kind t (λ p. operation 64 Add (moved (start p region) hu.offset) hv.word) (λ p. operation 64 Add (image p u) (image p v)) holds
+    moved_made region t (λ p. operation 64 Add (moved (start p region) hu.offset) hv.word) (λ p. operation 64 Add (image p u) (image p v))
     (λ p. ap (λ (x : ℕ). operation 64 Add x (image p v)) (ap (image p) eu) ∙ ap (operation 64 Add (image p (Ptr region hu.offset))) (ap (image p) ev))
     (on region s t a hu.offset hv.word hu.within hv.within (held_word v hv.word ev small) e)
 
-made_back : (region : Region) (kind : Span → Kind) (s t : Span) (a : Interval) (u v : Tagged) → ((o : Option Tagged) → HoldsPointer region t o → TagHolds (kind t) o)
-    → HoldsPointer region s (Some u) → HoldsNumber a (Some v) → IsWord v → moved_back s a ≡ Some t → Made (kind t) (λ p. operation 64 Sub (image p u) (image p v))
-made_back region kind s t a u v holds hu hv small e =
+made_back : (region : Region) (s t : Span) (a : Interval) (u v : Tagged)
+    → HoldsPointer region s (Some u) → HoldsNumber a (Some v) → IsWord v → moved_back s a ≡ Some t → Made (Pointer region t) (λ p. operation 64 Sub (image p u) (image p v))
+made_back region s t a u v hu hv small e =
     let eu = same_pointer u region hu.offset hu.is in
     let ev = same_word v hv.word hv.is in
-    moved_made region kind t (λ p. operation 64 Sub (moved (start p region) hu.offset) hv.word) (λ p. operation 64 Sub (image p u) (image p v)) holds
+    moved_made region t (λ p. operation 64 Sub (moved (start p region) hu.offset) hv.word) (λ p. operation 64 Sub (image p u) (image p v))
     (λ p. ap (λ (x : ℕ). operation 64 Sub x (image p v)) (ap (image p) eu) ∙ ap (operation 64 Sub (image p (Ptr region hu.offset))) (ap (image p) ev))
     (back region s t a hu.offset hv.word hu.within hv.within (held_word v hv.word ev small) e)
 
@@ -87,27 +89,18 @@ turned k u v m = record { value = m.value; holds = m.holds; word = m.word; is = 
     swap x y = omega arith
 
 sums_made : (a b k : Kind) (u v : Tagged) → sum_kind a b ≡ Some k → TagHolds a (Some u) → TagHolds b (Some v) → IsWord u → IsWord v → Made k (λ p. operation 64 Add (image p u) (image p v))
-sums_made (FramePointer s) (Number b) k u v e hu hv su sv =
-    let t = some_of FramePointer (moved_on s b) k e in
-    made_like (FramePointer t.0) k _ t.2 (made_on InFrame FramePointer s t.0 b u v (λ o h. h) hu hv sv t.1)
-sums_made (RecordPointer s) (Number b) k u v e hu hv su sv =
-    let t = some_of RecordPointer (moved_on s b) k e in
-    made_like (RecordPointer t.0) k _ t.2 (made_on InRecord RecordPointer s t.0 b u v (λ o h. h) hu hv sv t.1)
-sums_made (Number a) (FramePointer s) k u v e hu hv su sv =
-    let t = some_of FramePointer (moved_on s a) k e in
-    turned k u v (made_like (FramePointer t.0) k _ t.2 (made_on InFrame FramePointer s t.0 a v u (λ o h. h) hv hu su t.1))
-sums_made (Number a) (RecordPointer s) k u v e hu hv su sv =
-    let t = some_of RecordPointer (moved_on s a) k e in
-    turned k u v (made_like (RecordPointer t.0) k _ t.2 (made_on InRecord RecordPointer s t.0 a v u (λ o h. h) hv hu su t.1))
+sums_made (Pointer r s) (Number b) k u v e hu hv su sv =
+    let t = some_of (Pointer r) (moved_on s b) k e in
+    made_like (Pointer r t.0) k _ t.2 (made_on r s t.0 b u v hu hv sv t.1)
+sums_made (Number a) (Pointer r s) k u v e hu hv su sv =
+    let t = some_of (Pointer r) (moved_on s a) k e in
+    turned k u v (made_like (Pointer r t.0) k _ t.2 (made_on r s t.0 a v u hv hu su t.1))
 sums_made a b k u v e hu hv su sv = cc
 
 differences_made : (a b k : Kind) (u v : Tagged) → difference_kind a b ≡ Some k → TagHolds a (Some u) → TagHolds b (Some v) → IsWord u → IsWord v → Made k (λ p. operation 64 Sub (image p u) (image p v))
-differences_made (FramePointer s) (Number b) k u v e hu hv su sv =
-    let t = some_of FramePointer (moved_back s b) k e in
-    made_like (FramePointer t.0) k _ t.2 (made_back InFrame FramePointer s t.0 b u v (λ o h. h) hu hv sv t.1)
-differences_made (RecordPointer s) (Number b) k u v e hu hv su sv =
-    let t = some_of RecordPointer (moved_back s b) k e in
-    made_like (RecordPointer t.0) k _ t.2 (made_back InRecord RecordPointer s t.0 b u v (λ o h. h) hu hv sv t.1)
+differences_made (Pointer r s) (Number b) k u v e hu hv su sv =
+    let t = some_of (Pointer r) (moved_back s b) k e in
+    made_like (Pointer r t.0) k _ t.2 (made_back r s t.0 b u v hu hv sv t.1)
 differences_made a b k u v e hu hv su sv = cc
 
 same_kind : (k l : Kind) → Some k ≡ Some l → k ≡ l

@@ -19,16 +19,18 @@ use Rattle.bq_meaning.specs.Memory.{loaded}
 use Rattle.bq_meaning.specs.Meaning.{Outcome, Continues, written, loading, perform}
 use Rattle.bq_range.specs.Interval.{Interval, IsIn, whole, all_words}
 use Rattle.bq_state.specs.declared.kind.Kind.TheVariants.{Number}
+use Rattle.bq_state.specs.declared.region.Region.{Region}
+use Rattle.bq_state.specs.declared.region.Region.TheVariants as regions
 use Rattle.bq_state.specs.Kinds.{StateKinds, kind_of}
-use Rattle.bq_state.specs.Rules.{transfer, and_then, known, writable, readable, storable, operand_kind, loaded_state}
+use Rattle.bq_state.specs.Rules.{extent, transfer, and_then, known, writable, readable, storable, operand_kind, loaded_state}
 use Rattle.bq_state.specs.Edges.{edges}
 use Rattle.bq_sound.specs.Safe.{AreBytes}
-use Rattle.bq_sound.proofs.Tags.{Region, InFrame, InRecord, Tagged, Num, Ptr, tag_at, holds_word, TagHolds, TagsHold}
+use Rattle.bq_sound.proofs.Tags.{Tagged, Num, Ptr, tag_at, holds_word, TagHolds, TagsHold}
 use Rattle.bq_sound.proofs.Rules.{same_state, read, wrote}
 use Rattle.bq_sound.proofs.Machine.{Common, machine, IsWhole, GoesOn, Stands, goes_on, puts}
 use Rattle.bq_sound.proofs.Operands.{operand_tag, held_is, value_is, operand_holds}
 use Rattle.bq_sound.proofs.Bytes.{read_below, written_bytes}
-use Rattle.bq_sound.proofs.Access.{extent, location, Inside, accesses, allows, stores}
+use Rattle.bq_sound.proofs.Access.{location, Inside, accesses, allows, stores}
 
 known_pointer : (t : Option Tagged) (u v : Tagged) → t ≡ Some u → u ≡ v → t ≡ Some v
 known_pointer t u v e f = e ∙ ap Some f
@@ -42,16 +44,16 @@ record Loads (size : ℕ) (f : ℕ → ℕ) (range : Interval) : Type 0 where
   small : (n : ℕ) → n < 256 ^ size → f n < 2 ^ 64
 
 abbrev region_bytes : Common → Region → List ℕ
-region_bytes m InFrame = m.frame
-region_bytes m InRecord = m.record
+region_bytes m regions.Frame = m.frame
+region_bytes m regions.Record = m.record
 
 region_whole : (len : ℕ) (m : Common) → IsWhole len m → (region : Region) → AreBytes (extent len region) (region_bytes m region)
-region_whole len m h InFrame = h.frame
-region_whole len m h InRecord = h.record
+region_whole len m h regions.Frame = h.frame
+region_whole len m h regions.Record = h.record
 
 loaded_is : (p : Place) (m : Common) (region : Region) (at size : ℕ) → loaded (machine p m) (location region at) size ≡ slice_range (region_bytes m region) at (at + size)
-loaded_is p m InFrame at size = refl
-loaded_is p m InRecord at size = refl
+loaded_is p m regions.Frame at size = refl
+loaded_is p m regions.Record at size = refl
 
 load_performs : (p : Place) → IsPlacement p → (len : ℕ) → len ≤ record_room → (m : Common) → length m.record ≡ len → (d base : ℕ) (distance : ℤ) (size : ℕ) (f : ℕ → ℕ) (region : Region) (z : ℤ) → 1 ≤ size → (h : Inside len region z distance size)
     → tag_at m.tags base ≡ Some (Ptr region z) → d < 10 → (o : Outcome) → o ≡ loading p (machine p m) d base distance size f
@@ -116,14 +118,14 @@ some_size B2 = omega arith
 some_size B4 = omega arith
 some_size B8 = omega arith
 
-store_performs : (p : Place) → IsPlacement p → (len : ℕ) → len ≤ record_room → (m : Common) → length m.record ≡ len → (size : Size) (base : ℕ) (distance : ℤ) (x : Operand) (z : ℤ) (w : ℕ) (h : Inside len InFrame z distance (size_bytes size))
-    → tag_at m.tags base ≡ Some (Ptr InFrame z) → operand_tag m.tags x ≡ Some (Num w)
+store_performs : (p : Place) → IsPlacement p → (len : ℕ) → len ≤ record_room → (m : Common) → length m.record ≡ len → (size : Size) (base : ℕ) (distance : ℤ) (x : Operand) (z : ℤ) (w : ℕ) (h : Inside len regions.Frame z distance (size_bytes size))
+    → tag_at m.tags base ≡ Some (Ptr regions.Frame z) → operand_tag m.tags x ≡ Some (Num w)
     → perform p (insns.Store size base distance x) (machine p m) ≡ Continues (machine p (with_bytes m h.at (size_bytes size) w))
 store_performs p place len few m full size base distance x z w h e f =
-    rw (held_is p m.tags base (Ptr InFrame z) e, value_is p m.tags x (Num w) f, full, accesses p place len few InFrame z distance (size_bytes size) (some_size size) h) refl
+    rw (held_is p m.tags base (Ptr regions.Frame z) e, value_is p m.tags x (Num w) f, full, accesses p place len few regions.Frame z distance (size_bytes size) (some_size size) h) refl
 
-does_storing : (len : ℕ) (m : Common) (size : Size) (base : ℕ) (distance : ℤ) (x : Operand) (state after : StateKinds) (z : ℤ) (w : ℕ) (h : Inside len InFrame z distance (size_bytes size))
-    → tag_at m.tags base ≡ Some (Ptr InFrame z) → operand_tag m.tags x ≡ Some (Num w) → Stands len m state → state ≡ after → GoesOn len m (insns.Store size base distance x) after
+does_storing : (len : ℕ) (m : Common) (size : Size) (base : ℕ) (distance : ℤ) (x : Operand) (state after : StateKinds) (z : ℤ) (w : ℕ) (h : Inside len regions.Frame z distance (size_bytes size))
+    → tag_at m.tags base ≡ Some (Ptr regions.Frame z) → operand_tag m.tags x ≡ Some (Num w) → Stands len m state → state ≡ after → GoesOn len m (insns.Store size base distance x) after
 does_storing len m size base distance x state after z w h e f s is =
     goes_on m (with_bytes m h.at (size_bytes size) w) (insns.Store size base distance x) after after
     (record { words = s.whole.words; frame = written_bytes 512 m.frame h.at (size_bytes size) w s.whole.frame h.room; «record» = s.whole.record; fits = s.whole.fits })
@@ -139,6 +141,6 @@ does_store {len} m size base distance x state after s rules =
     let ru = read k (tag_at m.tags base) (λ k'. and_then (known l) (λ l'. and_then (storable k' l' distance n) (λ _. Ok state))) after (s.holds.each base) rules in
     let rv = read l (operand_tag m.tags x) (λ l'. and_then (storable k l' distance n) (λ _. Ok state)) after hv ru.2 in
     let to = stores len k l distance n (λ _. Ok state) after ru.0 rv.0 (subst (TagHolds k) ru.1 (s.holds.each base)) (subst (TagHolds l) rv.1 hv) rv.2 in
-    let at_base : tag_at m.tags base ≡ Some (Ptr InFrame to.0.z) = known_pointer (tag_at m.tags base) ru.0 (Ptr InFrame to.0.z) ru.1 to.0.is in
+    let at_base : tag_at m.tags base ≡ Some (Ptr regions.Frame to.0.z) = known_pointer (tag_at m.tags base) ru.0 (Ptr regions.Frame to.0.z) ru.1 to.0.is in
     let at_value : operand_tag m.tags x ≡ Some (Num to.0.word) = known_pointer (operand_tag m.tags x) rv.0 (Num to.0.word) rv.1 to.0.number in
     does_storing len m size base distance x state after to.0.z to.0.word to.0.inside at_base at_value s (same_state state after to.1)

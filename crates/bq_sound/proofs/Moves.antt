@@ -11,7 +11,8 @@ use Rattle.bq_meaning.specs.Meaning.{moved}
 use Rattle.bq_range.specs.Interval.{Interval, IsIn}
 use Rattle.bq_state.specs.Offsets.{Span, IsOffset, signed_of, is_limited, limited, moved_on, moved_back}
 use Rattle.bq_sound.proofs.Words as words
-use Rattle.bq_sound.proofs.Tags.{Region, start}
+use Rattle.bq_state.specs.declared.region.Region.{Region}
+use Rattle.bq_state.specs.Covers.{start}
 
 -- a word of a range, read with its sign
 record Signed (a : Interval) (w : ℕ) : Type 0 where

@@ -5,10 +5,10 @@ use Rattle.std.proofs.lemmas.Bool.Decides.{nat_tests}
 use Rattle.bq_range.specs.Interval.{Interval}
 use Rattle.bq_state.specs.declared.kind.Kind.{Kind}
 use Rattle.bq_state.specs.Kinds.{StateKinds}
-use Rattle.bq_state.specs.declared.kind.Kind.TheVariants.{Unset, Number, FramePointer, RecordPointer}
+use Rattle.bq_state.specs.declared.kind.Kind.TheVariants.{Unset, Number, Pointer}
 use Rattle.bq_state.specs.declared.rule.Rule.{Rule}
 use Rattle.bq_state.specs.Rules.{and_then, known, writable, number, allowed}
-use Rattle.bq_sound.proofs.Tags.{InFrame, InRecord, Tagged, Num, Ptr, TagHolds}
+use Rattle.bq_sound.proofs.Tags.{Tagged, Num, Ptr, TagHolds}
 
 pub same_state : (a b : StateKinds) → ◌≡◌ {A = Result StateKinds Rule} (Ok a) (Ok b) → a ≡ b
 same_state a b e = cc
@@ -17,8 +17,7 @@ same_state a b e = cc
 pub read : {B : Type 0} (k : Kind) (t : Option Tagged) (go : Kind → Result B Rule) (after : B) → TagHolds k t → and_then (known k) go ≡ Ok after → (v : Tagged) × (t ≡ Some v) × (go k ≡ Ok after)
 read Unset t go after h e = cc
 read (Number a) t go after h e = (Num h.word, h.is, e)
-read (FramePointer s) t go after h e = (Ptr InFrame h.offset, h.is, e)
-read (RecordPointer s) t go after h e = (Ptr InRecord h.offset, h.is, e)
+read (Pointer region s) t go after h e = (Ptr region h.offset, h.is, e)
 
 -- one that may be written is none past r9
 pub wrote : {B : Type 0} (d : ℕ) (go : Unit {0} → Result B Rule) (after : B) → and_then (writable d) go ≡ Ok after → (d < 10) × (go tt ≡ Ok after)
@@ -31,5 +30,4 @@ gave (Some k) go after e = (k, refl, e)
 pub numbered : {B : Type 0} (rule : Rule) (k : Kind) (go : Interval → Result B Rule) (after : B) → and_then (number rule k) go ≡ Ok after → (a : Interval) × (k ≡ Number a) × (go a ≡ Ok after)
 numbered rule Unset go after e = cc
 numbered rule (Number a) go after e = (a, refl, e)
-numbered rule (FramePointer s) go after e = cc
-numbered rule (RecordPointer s) go after e = cc
+numbered rule (Pointer region s) go after e = cc

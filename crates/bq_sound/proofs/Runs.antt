@@ -14,7 +14,8 @@ use Rattle.bq_state.specs.Offsets.{IsOffset, at_offset}
 use Rattle.bq_state.specs.Kinds.{StateKinds, kind_of, entry_state}
 use Rattle.bq_sound.specs.Passes.{note_at, Passes}
 use Rattle.bq_sound.specs.Safe.{AreBytes, IsSafe}
-use Rattle.bq_sound.proofs.Tags.{InFrame, InRecord, Tagged, Num, Ptr, IsWord, tag_at, HoldsNumber, HoldsPointer, TagHolds, TagsHold, covered_tags}
+use Rattle.bq_state.specs.declared.region.Region.TheVariants as regions
+use Rattle.bq_sound.proofs.Tags.{Tagged, Num, Ptr, IsWord, tag_at, HoldsNumber, HoldsPointer, TagHolds, TagsHold, covered_tags}
 use Rattle.bq_sound.proofs.Machine.{Common, machine, IsWhole}
 use Rattle.bq_sound.proofs.Along.{note_within, among_covered, along_successors}
 use Rattle.bq_sound.proofs.Progress.{is_insn, progress}
@@ -73,7 +74,7 @@ ends len (suc fuel) text notes m state t passes whole noted holds room =
 abbrev entry_common : ℕ → ℕ → List ℕ → List ℕ → Common
 entry_common len acc bytes frame = record {
   unit = 0;
-  tags = None ∷ Some (Ptr InRecord (pos 0)) ∷ Some (Num len) ∷ Some (Num acc) ∷ None ∷ None ∷ None ∷ None ∷ None ∷ None ∷ Some (Ptr InFrame (pos 512)) ∷ [];
+  tags = None ∷ Some (Ptr regions.Record (pos 0)) ∷ Some (Num len) ∷ Some (Num acc) ∷ None ∷ None ∷ None ∷ None ∷ None ∷ None ∷ Some (Ptr regions.Frame (pos 512)) ∷ [];
   frame = frame;
   «record» = bytes;
 }
@@ -124,8 +125,8 @@ unfolding AllHold
 entry_holds len acc bytes frame h =
     let any : HoldsNumber all_words (Some (Num acc)) = record { word = acc; is = refl; within = record { low = omega arith; high = omega arith } } in
     let long : HoldsNumber (single len) (Some (Num len)) = record { word = len; is = refl; within = record { low = omega arith; high = omega arith } } in
-    let here : HoldsPointer InRecord (at_offset (pos 0)) (Some (Ptr InRecord (pos 0))) = record { offset = pos 0; is = refl; within = offset_zero } in
-    let end : HoldsPointer InFrame (at_offset (pos 512)) (Some (Ptr InFrame (pos 512))) = record { offset = pos 512; is = refl; within = offset_end } in
+    let here : HoldsPointer regions.Record (at_offset (pos 0)) (Some (Ptr regions.Record (pos 0))) = record { offset = pos 0; is = refl; within = offset_zero } in
+    let end : HoldsPointer regions.Frame (at_offset (pos 512)) (Some (Ptr regions.Frame (pos 512))) = record { offset = pos 512; is = refl; within = offset_end } in
     record { each = all_hold (entry_state len) (entry_common len acc bytes frame).tags (tt, (here, (long, (any, (tt, (tt, (tt, (tt, (tt, (tt, (end, tt))))))))))) }
 
 entry_whole : (len acc : ℕ) (bytes frame : List ℕ) → len ≤ record_room → acc < 2 ^ 64 → AreBytes len bytes → AreBytes 512 frame → IsWhole len (entry_common len acc bytes frame)
@@ -153,6 +154,10 @@ safe len text notes longest few t passes most = record {
         within = most.bound r.count r.path;
         word = r.word;
         whole = r.whole;
-        run = λ p place. subst (λ n. RunsTo p text n r.count r.answer r.after) (entry_is p place len acc bytes frame b.count) (r.run p place);
+        run = λ p place. record {
+          room = omega (arith, b.count, few);
+          whole = f.count;
+          runs = subst (λ n. RunsTo p text n r.count r.answer r.after) (entry_is p place len acc bytes frame b.count) (r.run p place);
+        };
       };
 }

@@ -9,22 +9,16 @@ use Rattle.bq_meaning.specs.Meaning.{held, moved}
 use Rattle.bq_range.specs.Interval.{Interval, IsIn, Within}
 use Rattle.bq_state.specs.Offsets.{Span, SpanWithin, IsOffset}
 use Rattle.bq_state.specs.declared.kind.Kind.{Kind}
-use Rattle.bq_state.specs.declared.kind.Kind.TheVariants.{Unset, Number, FramePointer, RecordPointer}
+use Rattle.bq_state.specs.declared.kind.Kind.TheVariants.{Unset, Number, Pointer}
+use Rattle.bq_state.specs.declared.region.Region.{Region}
+use Rattle.bq_state.specs.Covers.{start}
 use Rattle.bq_state.specs.Kinds.{StateKinds, kind_of, KindCovers, StateCovers}
 use Rattle.bq_sound.proofs.Words.{moved_small}
-
-pub data Region : Type 0 where
-  InFrame : Region
-  InRecord : Region
 
 -- a word, or a region's start and an offset from it
 pub data Tagged : Type 0 where
   Num : (word : ℕ) → Tagged
   Ptr : (region : Region) (offset : ℤ) → Tagged
-
-abbrev pub start : Place → Region → ℕ
-start p InFrame = p.frame
-start p InRecord = p.record
 
 -- the word at a placement
 abbrev pub image : Place → Tagged → ℕ
@@ -86,8 +80,7 @@ holds_word a w h = record { word = w; is = refl; within = h }
 abbrev pub TagHolds : Kind → Option Tagged → Type 0
 TagHolds Unset t = ⊤
 TagHolds (Number a) t = HoldsNumber a t
-TagHolds (FramePointer s) t = HoldsPointer InFrame s t
-TagHolds (RecordPointer s) t = HoldsPointer InRecord s t
+TagHolds (Pointer region s) t = HoldsPointer region s t
 
 pub record TagsHold (state : StateKinds) (tags : List (Option Tagged)) : Type 0 where
   pub each : (r : ℕ) → TagHolds (kind_of state r) (tag_at tags r)
@@ -102,16 +95,10 @@ covered_tag : (a b : Kind) (t : Option Tagged) → KindCovers a b → TagHolds b
 covered_tag Unset b t c h = tt
 covered_tag (Number a) Unset t c h = absurd c
 covered_tag (Number a) (Number b) t c h = number_held a b t c h
-covered_tag (Number a) (FramePointer b) t c h = absurd c
-covered_tag (Number a) (RecordPointer b) t c h = absurd c
-covered_tag (FramePointer a) Unset t c h = absurd c
-covered_tag (FramePointer a) (Number b) t c h = absurd c
-covered_tag (FramePointer a) (FramePointer b) t c h = pointer_held InFrame a b t c h
-covered_tag (FramePointer a) (RecordPointer b) t c h = absurd c
-covered_tag (RecordPointer a) Unset t c h = absurd c
-covered_tag (RecordPointer a) (Number b) t c h = absurd c
-covered_tag (RecordPointer a) (FramePointer b) t c h = absurd c
-covered_tag (RecordPointer a) (RecordPointer b) t c h = pointer_held InRecord a b t c h
+covered_tag (Number a) (Pointer q b) t c h = absurd c
+covered_tag (Pointer r a) Unset t c h = absurd c
+covered_tag (Pointer r a) (Number b) t c h = absurd c
+covered_tag (Pointer r a) (Pointer q b) t c h = pointer_held r a b t c.1 (subst (λ x. HoldsPointer x b t) (sym c.0) h)
 
 pub covered_tags : (a b : StateKinds) (tags : List (Option Tagged)) → StateCovers a b → TagsHold b tags → TagsHold a tags
 covered_tags a b tags c h = record { each = λ r. covered_tag (kind_of a r) (kind_of b r) (tag_at tags r) (c.each r) (h.each r) }

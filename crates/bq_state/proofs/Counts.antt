@@ -21,7 +21,7 @@ use Rattle.bq_state.specs.Kinds.{StateKinds, kind_of}
 use Rattle.bq_state.specs.Rules.{and_then, known, writable, number, allowed, readable, storable, alu_kind, ordered_range, operand_kind, taken_kind, mapped, loaded_state, transfer}
 use Rattle.bq_state.specs.Edges.{with_number, with_numbers, refined_by_number, refined_by_register, refined, along, edges}
 use Rattle.bq_state.specs.declared.kind.Kind.{Kind}
-use Rattle.bq_state.specs.declared.kind.Kind.TheVariants.{Unset, Number, FramePointer, RecordPointer}
+use Rattle.bq_state.specs.declared.kind.Kind.TheVariants.{Unset, Number, Pointer}
 use Rattle.bq_state.specs.declared.rule.Rule.{Rule}
 use Rattle.bq_state.specs.declared.rule.Rule.TheVariants.{WrongKind, AnswerKind}
 
@@ -85,17 +85,14 @@ same_count a b h = let e : a ≡ b = cc in rw e refl
 by_number_count : (a b : StateKinds) (w : Width) (r : Relation) (taken : Bool) (d n : ℕ) (k : Kind) → refined_by_number a w r taken d n k ≡ Some b → length b ≡ length a
 by_number_count a b w r taken d n (Number x) h = number_count a b d (branched (bits_of w) r taken x (single (low (bits_of w) n))) h
 by_number_count a b w r taken d n Unset h = same_count a b h
-by_number_count a b w r taken d n (FramePointer x) h = same_count a b h
-by_number_count a b w r taken d n (RecordPointer x) h = same_count a b h
+by_number_count a b w r taken d n (Pointer q x) h = same_count a b h
 
 by_register_count : (a b : StateKinds) (w : Width) (r : Relation) (taken : Bool) (d s : ℕ) (k l : Kind) → refined_by_register a w r taken d s k l ≡ Some b → length b ≡ length a
 by_register_count a b w r taken d s (Number x) (Number y) h = numbers_count a b d s (branched (bits_of w) r taken x y) h
 by_register_count a b w r taken d s (Number x) Unset h = same_count a b h
-by_register_count a b w r taken d s (Number x) (FramePointer y) h = same_count a b h
-by_register_count a b w r taken d s (Number x) (RecordPointer y) h = same_count a b h
+by_register_count a b w r taken d s (Number x) (Pointer q y) h = same_count a b h
 by_register_count a b w r taken d s Unset l h = same_count a b h
-by_register_count a b w r taken d s (FramePointer x) l h = same_count a b h
-by_register_count a b w r taken d s (RecordPointer x) l h = same_count a b h
+by_register_count a b w r taken d s (Pointer q x) l h = same_count a b h
 
 pub refined_count : (a b : StateKinds) (w : Width) (r : Relation) (taken : Bool) (d : ℕ) (x : Operand) → refined a w r taken d x ≡ Some b → length b ≡ length a
 refined_count a b w r taken d (operands.Number z) h = by_number_count a b w r taken d (modulo 64 z) (kind_of a d) h

@@ -1,13 +1,16 @@
 -- What covers what.
-use Rattle.std.proofs.Common.{◌≡◌, ℕ, zero, suc, ◌<◌, arith, [], ◌∷◌, length, refl, ap, sym, ◌∙◌, ◌+◌, get_or, set}
+use Rattle.std.proofs.Common.{◌≡◌, true, inl, inr, ℕ, zero, suc, ◌<◌, arith, [], ◌∷◌, length, refl, ap, sym, ◌∙◌, ◌+◌, get_or, set}
 use Rattle.std.proofs.lemmas.Int.{ints, clamps}
+use Rattle.std.proofs.lemmas.Bool.{cases_Bool}
 use Rattle.std.proofs.lemmas.List.{ext_get_or, get_or_default}
 use Rattle.std.proofs.lemmas.List.Edits.{fill_by_more}
 use Rattle.bq_range.specs.Interval.{Interval, Within}
 use Rattle.bq_state.specs.Offsets.{Span, SpanWithin, join_spans}
-use Rattle.bq_state.specs.Kinds.{StateKinds, kind_of, KindCovers, StateCovers, join_kinds, join_states}
+use Rattle.bq_state.specs.Kinds.{StateKinds, kind_of, KindCovers, StateCovers, is_same, join_kinds, join_states}
 use Rattle.bq_state.specs.declared.kind.Kind.{Kind}
-use Rattle.bq_state.specs.declared.kind.Kind.TheVariants.{Unset, Number, FramePointer, RecordPointer}
+use Rattle.bq_state.specs.declared.kind.Kind.TheVariants.{Unset, Number, Pointer}
+use Rattle.bq_state.specs.declared.region.Region.{Region}
+use Rattle.bq_state.specs.declared.region.Region.TheVariants.{Frame, Record}
 
 -- ---- ranges and offsets
 
@@ -34,42 +37,45 @@ span_least c a b h k = record { low = omega (arith, ints, clamps); high = omega 
 
 -- ---- kinds
 
+same_itself : (r : Region) → is_same r r ≡ true
+same_itself Frame = refl
+same_itself Record = refl
+
+same_is : (r s : Region) → is_same r s ≡ true → r ≡ s
+same_is Frame Frame e = refl
+same_is Record Record e = refl
+same_is Frame Record e = cc
+same_is Record Frame e = cc
+
 pub kind_covers_itself : (a : Kind) → KindCovers a a
 kind_covers_itself Unset = tt
 kind_covers_itself (Number a) = within_itself a
-kind_covers_itself (FramePointer a) = span_in_itself a
-kind_covers_itself (RecordPointer a) = span_in_itself a
+kind_covers_itself (Pointer r a) = (refl, span_in_itself a)
 
 pub kind_covers_through : (a b c : Kind) → KindCovers a b → KindCovers b c → KindCovers a c
 kind_covers_through Unset b c h k = tt
 kind_covers_through (Number x) (Number y) (Number z) h k = within_through x y z h k
-kind_covers_through (FramePointer x) (FramePointer y) (FramePointer z) h k = span_through x y z h k
-kind_covers_through (RecordPointer x) (RecordPointer y) (RecordPointer z) h k = span_through x y z h k
+kind_covers_through (Pointer r x) (Pointer s y) (Pointer t z) h k = (h.0 ∙ k.0, span_through x y z h.1 k.1)
 kind_covers_through (Number x) (Number y) c h k = absurd k
-kind_covers_through (FramePointer x) (FramePointer y) c h k = absurd k
-kind_covers_through (RecordPointer x) (RecordPointer y) c h k = absurd k
+kind_covers_through (Pointer r x) (Pointer s y) c h k = absurd k
 kind_covers_through a b c h k = absurd h
 
 pub kind_join_left : (a b : Kind) → KindCovers (join_kinds a b) a
 kind_join_left (Number x) (Number y) = record { low = omega arith; high = omega arith }
-kind_join_left (FramePointer x) (FramePointer y) = span_left x y
-kind_join_left (RecordPointer x) (RecordPointer y) = span_left x y
+kind_join_left (Pointer r x) (Pointer s y) = elim (cases_Bool (is_same r s)) [ inl e ↦ rw e (refl, span_left x y) | inr e ↦ rw e tt ]
 kind_join_left a b = tt
 
 pub kind_join_right : (a b : Kind) → KindCovers (join_kinds a b) b
 kind_join_right (Number x) (Number y) = record { low = omega arith; high = omega arith }
-kind_join_right (FramePointer x) (FramePointer y) = span_right x y
-kind_join_right (RecordPointer x) (RecordPointer y) = span_right x y
+kind_join_right (Pointer r x) (Pointer s y) = elim (cases_Bool (is_same r s)) [ inl e ↦ rw e (same_is r s e, span_right x y) | inr e ↦ rw e tt ]
 kind_join_right a b = tt
 
 pub kind_join_least : (c a b : Kind) → KindCovers c a → KindCovers c b → KindCovers c (join_kinds a b)
 kind_join_least Unset a b h k = tt
 kind_join_least (Number z) (Number x) (Number y) h k = record { low = omega arith; high = omega arith }
-kind_join_least (FramePointer z) (FramePointer x) (FramePointer y) h k = span_least z x y h k
-kind_join_least (RecordPointer z) (RecordPointer x) (RecordPointer y) h k = span_least z x y h k
+kind_join_least (Pointer t z) (Pointer r x) (Pointer s y) h k = rw (← h.0, ← k.0, same_itself t) (refl, span_least z x y h.1 k.1)
 kind_join_least (Number z) (Number x) b h k = absurd k
-kind_join_least (FramePointer z) (FramePointer x) b h k = absurd k
-kind_join_least (RecordPointer z) (RecordPointer x) b h k = absurd k
+kind_join_least (Pointer t z) (Pointer r x) b h k = absurd k
 kind_join_least c a b h k = absurd h
 
 -- ---- states

@@ -33,16 +33,18 @@ use Rattle.bq_range.specs.Table.{negated, sign_extended}
 use Rattle.bq_range.specs.Narrow.{branched}
 use Rattle.bq_range.specs.Monotone.{IsPart, LeavesLess, RowsAreMonotone}
 use Rattle.bq_state.specs.Offsets.{Span, SpanWithin, signed_of, limited, is_limited, moved_on, moved_back, fits}
-use Rattle.bq_state.specs.Kinds.{StateKinds, kind_of, KindCovers, join_kinds, join_states, entry_state}
+use Rattle.bq_state.specs.Kinds.{StateKinds, kind_of, KindCovers, is_same, join_kinds, join_states, entry_state}
 use Rattle.bq_state.specs.Monotone.{IsFullKind, IsFullState, IsAbove, IsRefinedAbove, SomeCovers, AreEdgesAbove, StatesAreOrdered, StatesAreMonotone}
 use Rattle.bq_state.proofs.Covering.{kind_covers_through, state_covers_itself, state_covers_through, join_covers, join_least, joined_count, joined_kind}
-use Rattle.bq_state.specs.Rules.{and_then, known, writable, number, allowed, readable, storable, sum_kind, difference_kind, pointer_kind, alu_kind, ordered_range, operand_kind, taken_kind, mapped, loaded_state, transfer}
+use Rattle.bq_state.specs.Rules.{and_then, known, writable, number, allowed, extent, outside, readable, storable, sum_kind, difference_kind, pointer_kind, alu_kind, ordered_range, operand_kind, taken_kind, mapped, loaded_state, transfer}
 use Rattle.bq_state.specs.Edges.{with_number, with_numbers, refined_by_number, refined_by_register, refined, along, edges}
 use Rattle.bq_meaning.specs.Meaning.{target}
 use Rattle.bq_state.specs.declared.kind.Kind.{Kind}
-use Rattle.bq_state.specs.declared.kind.Kind.TheVariants.{Unset, Number, FramePointer, RecordPointer}
+use Rattle.bq_state.specs.declared.kind.Kind.TheVariants.{Unset, Number, Pointer}
+use Rattle.bq_state.specs.declared.region.Region.{Region}
+use Rattle.bq_state.specs.declared.region.Region.TheVariants.{Frame, Record}
 use Rattle.bq_state.specs.declared.rule.Rule.{Rule}
-use Rattle.bq_state.specs.declared.rule.Rule.TheVariants.{WrongKind, AnswerKind, OutsideFrame, OutsideRecord}
+use Rattle.bq_state.specs.declared.rule.Rule.TheVariants.{WrongKind, AnswerKind, OutsideFrame}
 
 -- ---- offsets
 
@@ -94,8 +96,7 @@ fits_less s t offset size len h e =
 -- two kinds of known registers, the second no more than the first
 data Both : Kind → Kind → Type 0 where
   numbers : {a b : Interval} → IsPart b a → Both (Number a) (Number b)
-  frames : {s t : Span} → SpanWithin t s → Both (FramePointer s) (FramePointer t)
-  records : {s t : Span} → SpanWithin t s → Both (RecordPointer s) (RecordPointer t)
+  pointers : {r : Region} {s t : Span} → SpanWithin t s → Both (Pointer r s) (Pointer r t)
 
 -- a kind and one that it covers
 data Less : Kind → Kind → Type 0 where
@@ -105,8 +106,7 @@ data Less : Kind → Kind → Type 0 where
 less_is : (k l : Kind) → KindCovers k l → IsFullKind l → Less k l
 less_is Unset l h f = unset
 less_is (Number a) (Number b) h f = both (numbers (record { words = f; within = h }))
-less_is (FramePointer s) (FramePointer t) h f = both (frames h)
-less_is (RecordPointer s) (RecordPointer t) h f = both (records h)
+less_is (Pointer r s) (Pointer q t) h f = both (subst (λ x. Both (Pointer r s) (Pointer x t)) h.0 (pointers h.1))
 less_is k l h f = absurd h
 
 abbrev Results : Kind → Kind → Type 0
@@ -114,8 +114,7 @@ Results k l = KindCovers k l × IsFullKind l
 
 both_cover : {k l : Kind} → Both k l → Results k l
 both_cover (numbers h) = (h.within, h.words)
-both_cover (frames h) = (h, tt)
-both_cover (records h) = (h, tt)
+both_cover (pointers h) = ((refl, h), tt)
 
 -- ---- results: where the first is there so is the second, and they stand so
 
@@ -132,8 +131,7 @@ then_follows R S (Ok a) (Ok b) f g h go = go a b h
 known_follows : {k l : Kind} → Less k l → Follows Both (known k) (known l)
 known_follows unset = tt
 known_follows (both (numbers h)) = numbers h
-known_follows (both (frames h)) = frames h
-known_follows (both (records h)) = records h
+known_follows (both (pointers h)) = pointers h
 
 abbrev IsLow : ℕ → Unit {0} → Unit {0} → Type 0
 IsLow d a b = d < 10
@@ -149,8 +147,7 @@ Ranges a b = IsPart b a
 
 number_follows : (rule : Rule) {k l : Kind} → Both k l → Follows Ranges (number rule k) (number rule l)
 number_follows rule (numbers h) = h
-number_follows rule (frames h) = tt
-number_follows rule (records h) = tt
+number_follows rule (pointers h) = tt
 
 abbrev Any : Unit {0} → Unit {0} → Type 0
 Any a b = ⊤
@@ -163,12 +160,11 @@ fits_follows s t offset size len rule h = elim (cases_Bool (fits s offset size l
 
 readable_follows : (len : ℕ) (offset : ℤ) (size : ℕ) {k l : Kind} → Both k l → Follows Any (readable len k offset size) (readable len l offset size)
 readable_follows len offset size (numbers h) = tt
-readable_follows len offset size (frames {s = s} {t = t} h) = fits_follows s t offset size 512 OutsideFrame h
-readable_follows len offset size (records {s = s} {t = t} h) = fits_follows s t offset size len OutsideRecord h
+readable_follows len offset size (pointers {r = r} {s = s} {t = t} h) = fits_follows s t offset size (extent len r) (outside r) h
 
 storable_follows : (offset : ℤ) (size : ℕ) {k l u v : Kind} → Both k l → Both u v → Follows Any (storable k u offset size) (storable l v offset size)
-storable_follows offset size (frames {s = s} {t = t} h) (numbers i) = fits_follows s t offset size 512 OutsideFrame h
-storable_follows offset size (records h) (numbers i) = tt
+storable_follows offset size (pointers {r = Frame} {s = s} {t = t} h) (numbers i) = fits_follows s t offset size 512 OutsideFrame h
+storable_follows offset size (pointers {r = Record} h) (numbers i) = tt
 storable_follows offset size h i = tt
 
 -- ---- operations
@@ -183,27 +179,18 @@ allowed_follows None p h = tt
 allowed_follows (Some k) (Some l) h = h
 allowed_follows (Some k) None h = absurd h
 
-moves : (kind : Span → Kind) → ((s t : Span) → SpanWithin t s → Results (kind s) (kind t)) → (o p : Option Span) → SpansLess o p → MayFollow (option_map kind o) (option_map kind p)
-moves kind covers None p h = tt
-moves kind covers (Some s) (Some t) h = covers s t h
-moves kind covers (Some s) None h = absurd h
-
-frame_moves : (o p : Option Span) → SpansLess o p → MayFollow (option_map FramePointer o) (option_map FramePointer p)
-frame_moves = moves FramePointer (λ s t h. (h, tt))
-
-record_moves : (o p : Option Span) → SpansLess o p → MayFollow (option_map RecordPointer o) (option_map RecordPointer p)
-record_moves = moves RecordPointer (λ s t h. (h, tt))
+moves : (r : Region) (o p : Option Span) → SpansLess o p → MayFollow (option_map (Pointer r) o) (option_map (Pointer r) p)
+moves r None p h = tt
+moves r (Some s) (Some t) h = ((refl, h), tt)
+moves r (Some s) None h = absurd h
 
 sum_follows : {k l u v : Kind} → Both k l → Both u v → MayFollow (sum_kind k u) (sum_kind l v)
-sum_follows (frames {s = s} {t = t} h) (numbers {a = a} {b = b} i) = frame_moves (moved_on s a) (moved_on t b) (moved_on_less s t a b h i)
-sum_follows (records {s = s} {t = t} h) (numbers {a = a} {b = b} i) = record_moves (moved_on s a) (moved_on t b) (moved_on_less s t a b h i)
-sum_follows (numbers {a = a} {b = b} i) (frames {s = s} {t = t} h) = frame_moves (moved_on s a) (moved_on t b) (moved_on_less s t a b h i)
-sum_follows (numbers {a = a} {b = b} i) (records {s = s} {t = t} h) = record_moves (moved_on s a) (moved_on t b) (moved_on_less s t a b h i)
+sum_follows (pointers {r = r} {s = s} {t = t} h) (numbers {a = a} {b = b} i) = moves r (moved_on s a) (moved_on t b) (moved_on_less s t a b h i)
+sum_follows (numbers {a = a} {b = b} i) (pointers {r = r} {s = s} {t = t} h) = moves r (moved_on s a) (moved_on t b) (moved_on_less s t a b h i)
 sum_follows h i = tt
 
 difference_follows : {k l u v : Kind} → Both k l → Both u v → MayFollow (difference_kind k u) (difference_kind l v)
-difference_follows (frames {s = s} {t = t} h) (numbers {a = a} {b = b} i) = frame_moves (moved_back s a) (moved_back t b) (moved_back_less s t a b h i)
-difference_follows (records {s = s} {t = t} h) (numbers {a = a} {b = b} i) = record_moves (moved_back s a) (moved_back t b) (moved_back_less s t a b h i)
+difference_follows (pointers {r = r} {s = s} {t = t} h) (numbers {a = a} {b = b} i) = moves r (moved_back s a) (moved_back t b) (moved_back_less s t a b h i)
 difference_follows h i = tt
 
 pointer_follows : (w : Width) (op : AluOp) {k l u v : Kind} → Both k l → Both u v → MayFollow (pointer_kind w op k u) (pointer_kind w op l v)
@@ -483,8 +470,7 @@ entry_full len h = record { count = refl; kinds = at }
 
 join_full : (k l : Kind) → IsFullKind k → IsFullKind l → IsFullKind (join_kinds k l)
 join_full (Number a) (Number b) h i = record { ordered = omega (arith, h.ordered, i.ordered); words = omega (arith, h.words, i.words) }
-join_full (FramePointer s) (FramePointer t) h i = tt
-join_full (RecordPointer s) (RecordPointer t) h i = tt
+join_full (Pointer r s) (Pointer q t) h i = elim (cases_Bool (is_same r q)) [ inl e ↦ rw e tt | inr e ↦ rw e tt ]
 join_full k l h i = tt
 
 joined_full : (a b : StateKinds) → IsFullState a → IsFullState b → IsFullState (join_states a b)

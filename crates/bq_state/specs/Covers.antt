@@ -6,13 +6,20 @@ use Rattle.bq_range.specs.Interval.{Interval, IsIn}
 use Rattle.bq_state.specs.Offsets.{Span, IsOffset}
 use Rattle.bq_state.specs.Kinds.{StateKinds, kind_of}
 use Rattle.bq_state.specs.declared.kind.Kind.{Kind}
-use Rattle.bq_state.specs.declared.kind.Kind.TheVariants.{Unset, Number, FramePointer, RecordPointer}
+use Rattle.bq_state.specs.declared.kind.Kind.TheVariants.{Unset, Number, Pointer}
+use Rattle.bq_state.specs.declared.region.Region.{Region}
+use Rattle.bq_state.specs.declared.region.Region.TheVariants.{Frame, Record}
 
 -- a word of the range
 pub record IsNumber (a : Interval) (register : Option ℕ) : Type 0 where
   pub word : ℕ
   pub held : register ≡ Some word
   pub within : IsIn word a
+
+-- the address at which a region begins
+abbrev pub start : Place → Region → ℕ
+start p Frame = p.frame
+start p Record = p.record
 
 -- a region's start plus one of the offsets, modulo 2^64
 pub record IsPointer (start : ℕ) (s : Span) (register : Option ℕ) : Type 0 where
@@ -24,8 +31,7 @@ pub record IsPointer (start : ℕ) (s : Span) (register : Option ℕ) : Type 0 w
 abbrev pub KindHolds : Place → Kind → Option ℕ → Type 0
 KindHolds p Unset register = ⊤
 KindHolds p (Number a) register = IsNumber a register
-KindHolds p (FramePointer s) register = IsPointer p.frame s register
-KindHolds p (RecordPointer s) register = IsPointer p.record s register
+KindHolds p (Pointer region s) register = IsPointer (start p region) s register
 
 -- a state covers a machine's registers
 pub record StateHolds (p : Place) (state : StateKinds) (registers : List (Option ℕ)) : Type 0 where

@@ -5,5 +5,6 @@ pub mod Rules
 pub mod Edges
 pub mod Covers
 pub mod Listed
-pub mod Numbers
+pub mod Reasons
+pub mod Regions
 pub mod Monotone

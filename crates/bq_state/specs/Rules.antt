@@ -14,10 +14,12 @@ use Rattle.bq_insn.specs.declared.insn.ByteOrder.{ByteOrder}
 use Rattle.bq_insn.specs.declared.insn.ByteOrder.TheVariants as orders
 use Rattle.bq_range.specs.Interval.{Interval, single, whole, all_words}
 use Rattle.bq_range.specs.Table.{operated, negated, sign_extended, low_range, swapped_range}
-use Rattle.bq_state.specs.Offsets.{moved_on, moved_back, fits}
+use Rattle.bq_state.specs.Offsets.{Span, moved_on, moved_back, fits}
 use Rattle.bq_state.specs.Kinds.{StateKinds, kind_of}
 use Rattle.bq_state.specs.declared.kind.Kind.{Kind}
-use Rattle.bq_state.specs.declared.kind.Kind.TheVariants.{Unset, Number, FramePointer, RecordPointer}
+use Rattle.bq_state.specs.declared.kind.Kind.TheVariants.{Unset, Number, Pointer}
+use Rattle.bq_state.specs.declared.region.Region.{Region}
+use Rattle.bq_state.specs.declared.region.Region.TheVariants.{Frame, Record}
 use Rattle.bq_state.specs.declared.rule.Rule.{Rule}
 use Rattle.bq_state.specs.declared.rule.Rule.TheVariants.{UnsetRegister, WrongKind, OutsideFrame, OutsideRecord, RecordWritten, FramePointerWritten, AnswerKind}
 
@@ -46,31 +48,40 @@ abbrev pub allowed : Option Kind → Result Kind Rule
 allowed None = Err WrongKind
 allowed (Some k) = Ok k
 
+-- the bytes of a region
+abbrev pub extent : ℕ → Region → ℕ
+extent len Frame = 512
+extent len Record = len
+
+abbrev pub outside : Region → Rule
+outside Frame = OutsideFrame
+outside Record = OutsideRecord
+
+-- size bytes at a distance from these offsets lie in the region
+abbrev pub inside : ℕ → Region → Span → ℤ → ℕ → Result (Unit {0}) Rule
+inside len region s offset size = if fits s offset size (extent len region) then Ok tt else Err (outside region)
+
 -- size bytes may be read at a distance from there
 abbrev pub readable : ℕ → Kind → ℤ → ℕ → Result (Unit {0}) Rule
-readable len (FramePointer s) offset size = if fits s offset size 512 then Ok tt else Err OutsideFrame
-readable len (RecordPointer s) offset size = if fits s offset size len then Ok tt else Err OutsideRecord
+readable len (Pointer region s) offset size = inside len region s offset size
 readable len k offset size = Err WrongKind
 
 -- a number may be written there: the value's kind comes before the region, and the region before the bounds
 abbrev pub storable : Kind → Kind → ℤ → ℕ → Result (Unit {0}) Rule
-storable (FramePointer s) (Number v) offset size = if fits s offset size 512 then Ok tt else Err OutsideFrame
-storable (RecordPointer s) (Number v) offset size = Err RecordWritten
+storable (Pointer Frame s) (Number v) offset size = if fits s offset size 512 then Ok tt else Err OutsideFrame
+storable (Pointer Record s) (Number v) offset size = Err RecordWritten
 storable k v offset size = Err WrongKind
 
 -- ---- kinds of results
 
 -- a pointer moves by a number, at 64 bits, by addition in either order, or by subtraction of the number
 abbrev pub sum_kind : Kind → Kind → Option Kind
-sum_kind (FramePointer s) (Number b) = option_map FramePointer (moved_on s b)
-sum_kind (RecordPointer s) (Number b) = option_map RecordPointer (moved_on s b)
-sum_kind (Number a) (FramePointer s) = option_map FramePointer (moved_on s a)
-sum_kind (Number a) (RecordPointer s) = option_map RecordPointer (moved_on s a)
+sum_kind (Pointer region s) (Number b) = option_map (Pointer region) (moved_on s b)
+sum_kind (Number a) (Pointer region s) = option_map (Pointer region) (moved_on s a)
 sum_kind a b = None
 
 abbrev pub difference_kind : Kind → Kind → Option Kind
-difference_kind (FramePointer s) (Number b) = option_map FramePointer (moved_back s b)
-difference_kind (RecordPointer s) (Number b) = option_map RecordPointer (moved_back s b)
+difference_kind (Pointer region s) (Number b) = option_map (Pointer region) (moved_back s b)
 difference_kind a b = None
 
 -- what an operation makes of two kinds where one is no number

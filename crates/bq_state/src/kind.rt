@@ -1,15 +1,14 @@
 //! Kinds: what is known of one register.
 
-ghost use Rattle.std.specs.Prelude.{◌≡◌, ◌↔◌, IsTrue, Ok, Err, if◌then◌else◌};
+ghost use Rattle.std.specs.Prelude.{◌≡◌, ◌↔◌, IsTrue};
 ghost use Rattle.bq_meaning.specs.Place.{record_length};
-ghost use Rattle.bq_state.specs.Offsets.{fits};
 ghost use Rattle.bq_state.specs.Kinds.{KindCovers, join_kinds};
-ghost use Rattle.bq_state.specs.Rules.{known, number, readable, storable, sum_kind, difference_kind, pointer_kind, alu_kind};
+ghost use Rattle.bq_state.specs.Rules.{inside, known, number, readable, storable, sum_kind, difference_kind, pointer_kind, alu_kind};
 ghost use Rattle.bq_range.specs.Interval.{Interval};
 
 use crate::offsets::Offsets;
+use crate::region::Region;
 use crate::rule::Rule;
-use bq_meaning::placement::{FRAME_LENGTH, RECORD_LENGTH};
 use bq_range::range::Range;
 use bq_word::{AluOp, Width};
 
@@ -20,31 +19,18 @@ pub enum Kind {
     Unset,
     /// A number in a range.
     Number(Range),
-    /// The start of the frame plus one of these offsets.
-    FramePointer(Offsets),
-    /// The start of the record plus one of these offsets.
-    RecordPointer(Offsets),
+    /// The start of a region plus one of these offsets.
+    Pointer(Region, Offsets),
 }
 
-// Whether so many bytes at a distance from there lie in the frame.
-fn in_frame(at: Offsets, offset: i16, size: u32) -> Result<(), Rule>
-    ensures { result ≡ (if fits at offset size 512 then Ok tt else Err Rule.OutsideFrame) }
+// Whether so many bytes at a distance from there lie in the region.
+fn in_region(region: Region, at: Offsets, offset: i16, size: u32) -> Result<(), Rule>
+    ensures { result ≡ inside record_length region at offset size }
 {
-    if at.fits(offset, size, FRAME_LENGTH as u32) {
+    if at.fits(offset, size, region.length()) {
         Ok(())
     } else {
-        Err(Rule::OutsideFrame)
-    }
-}
-
-// Whether so many bytes at a distance from there lie in the record.
-fn in_record(at: Offsets, offset: i16, size: u32) -> Result<(), Rule>
-    ensures { result ≡ (if fits at offset size record_length then Ok tt else Err Rule.OutsideRecord) }
-{
-    if at.fits(offset, size, RECORD_LENGTH as u32) {
-        Ok(())
-    } else {
-        Err(Rule::OutsideRecord)
+        Err(region.outside())
     }
 }
 
@@ -59,12 +45,8 @@ impl Kind {
                 Kind::Number(b) => a.covers(b),
                 _ => false,
             },
-            Kind::FramePointer(a) => match other {
-                Kind::FramePointer(b) => a.covers(b),
-                _ => false,
-            },
-            Kind::RecordPointer(a) => match other {
-                Kind::RecordPointer(b) => a.covers(b),
+            Kind::Pointer(region, a) => match other {
+                Kind::Pointer(into, b) => region == into && a.covers(b),
                 _ => false,
             },
         }
@@ -80,12 +62,14 @@ impl Kind {
                 Kind::Number(b) => Kind::Number(a.join(b)),
                 _ => Kind::Unset,
             },
-            Kind::FramePointer(a) => match other {
-                Kind::FramePointer(b) => Kind::FramePointer(a.join(b)),
-                _ => Kind::Unset,
-            },
-            Kind::RecordPointer(a) => match other {
-                Kind::RecordPointer(b) => Kind::RecordPointer(a.join(b)),
+            Kind::Pointer(region, a) => match other {
+                Kind::Pointer(into, b) => {
+                    if region == into {
+                        Kind::Pointer(region, a.join(b))
+                    } else {
+                        Kind::Unset
+                    }
+                }
                 _ => Kind::Unset,
             },
         }
@@ -116,8 +100,7 @@ impl Kind {
         ensures { result ≡ readable record_length self offset size }
     {
         match self {
-            Kind::FramePointer(at) => in_frame(at, offset, size),
-            Kind::RecordPointer(at) => in_record(at, offset, size),
+            Kind::Pointer(region, at) => in_region(region, at, offset, size),
             _ => Err(Rule::WrongKind),
         }
     }
@@ -130,8 +113,10 @@ impl Kind {
             return Err(Rule::WrongKind);
         };
         match self {
-            Kind::FramePointer(at) => in_frame(at, offset, size),
-            Kind::RecordPointer(_) => Err(Rule::RecordWritten),
+            Kind::Pointer(region, at) => match region {
+                Region::Frame => in_region(region, at, offset, size),
+                Region::Record => Err(Rule::RecordWritten),
+            },
             _ => Err(Rule::WrongKind),
         }
     }
@@ -143,16 +128,11 @@ impl Kind {
         match self {
             Kind::Unset => None,
             Kind::Number(by) => match other {
-                Kind::FramePointer(at) => at.moved_on(by).map(Kind::FramePointer),
-                Kind::RecordPointer(at) => at.moved_on(by).map(Kind::RecordPointer),
+                Kind::Pointer(region, at) => Some(Kind::Pointer(region, at.moved_on(by)?)),
                 _ => None,
             },
-            Kind::FramePointer(at) => match other {
-                Kind::Number(by) => at.moved_on(by).map(Kind::FramePointer),
-                _ => None,
-            },
-            Kind::RecordPointer(at) => match other {
-                Kind::Number(by) => at.moved_on(by).map(Kind::RecordPointer),
+            Kind::Pointer(region, at) => match other {
+                Kind::Number(by) => Some(Kind::Pointer(region, at.moved_on(by)?)),
                 _ => None,
             },
         }
@@ -166,8 +146,7 @@ impl Kind {
             return None;
         };
         match self {
-            Kind::FramePointer(at) => at.moved_back(by).map(Kind::FramePointer),
-            Kind::RecordPointer(at) => at.moved_back(by).map(Kind::RecordPointer),
+            Kind::Pointer(region, at) => Some(Kind::Pointer(region, at.moved_back(by)?)),
             _ => None,
         }
     }

@@ -1,7 +1,8 @@
 //! What is known of a machine at a unit of a program, and the rules of the checker.
 //!
 //! A [`State`] says of each of the eleven registers what is known of it, its [`Kind`]: nothing, a
-//! number in a range, or a pointer to the frame or the record plus one of a range of [`Offsets`].
+//! number in a range, or a pointer to a [`Region`], the frame or the record, plus one of a range of
+//! [`Offsets`].
 //! Offsets lie within -65,536 to 65,536.
 //!
 //! - [`State::entry`] is the state at the entry of a run over a record.
@@ -20,7 +21,7 @@
 //!
 //! The tables stand in `specs/`, apart from the code: `Offsets`, `Kinds`, `Rules` with what each
 //! instruction makes of a state, `Edges`, `Listed` with the list that a call's edges are, and
-//! `Numbers`. `Covers` says what a state says of a machine's registers under a placement, and
+//! `Reasons`. `Covers` says what a state says of a machine's registers under a placement, and
 //! `Monotone` that of less an instruction leaves less. `laws` has what follows for all states. No call takes memory, and none refuses an input.
 //!
 //! The soundness of the rules, the checker and the verifier stand on this crate.
@@ -33,6 +34,7 @@
 //! [`State::join`]: state::State::join
 //! [`Kind`]: kind::Kind
 //! [`Offsets`]: offsets::Offsets
+//! [`Region`]: region::Region
 //! [`Rule`]: rule::Rule
 #![tactic(auto)]
 
@@ -40,6 +42,7 @@ pub mod edges;
 pub mod kind;
 pub mod laws;
 pub mod offsets;
+pub mod region;
 pub mod rule;
 pub mod state;
 mod transfer;

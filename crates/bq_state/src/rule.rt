@@ -1,7 +1,9 @@
 //! The rules of the checker.
 
 ghost use Rattle.std.specs.Prelude.{◌≡◌};
-ghost use Rattle.bq_state.specs.Numbers.{rule_number, rule_name};
+ghost use Rattle.bq_state.specs.Reasons.{reason};
+
+use reasons::Reason;
 
 /// A rule of the checker that an instruction breaks.
 #[derive(Clone, Copy, Debug, PartialEq, Eq)]
@@ -23,33 +25,18 @@ pub enum Rule {
 }
 
 impl Rule {
-    /// The number by which it is reported: 23 to 28, or 30.
-    pub fn number(&self) -> u8
-        ensures { result ≡ rule_number self.now }
+    /// The reason by which it is told: 23 to 28, or 30.
+    pub fn reason(&self) -> Reason
+        ensures { result ≡ reason self.now }
     {
         match self {
-            Rule::UnsetRegister => 23,
-            Rule::WrongKind => 24,
-            Rule::OutsideFrame => 25,
-            Rule::OutsideRecord => 26,
-            Rule::RecordWritten => 27,
-            Rule::FramePointerWritten => 28,
-            Rule::AnswerKind => 30,
-        }
-    }
-
-    /// The name by which it is reported.
-    pub fn name(&self) -> &'static str
-        ensures { result.now ≡ rule_name self.now }
-    {
-        match self {
-            Rule::UnsetRegister => "UnsetRegister",
-            Rule::WrongKind => "WrongKind",
-            Rule::OutsideFrame => "OutsideFrame",
-            Rule::OutsideRecord => "OutsideRecord",
-            Rule::RecordWritten => "RecordWritten",
-            Rule::FramePointerWritten => "FramePointerWritten",
-            Rule::AnswerKind => "AnswerKind",
+            Rule::UnsetRegister => Reason::UnsetRegister,
+            Rule::WrongKind => Reason::WrongKind,
+            Rule::OutsideFrame => Reason::OutsideFrame,
+            Rule::OutsideRecord => Reason::OutsideRecord,
+            Rule::RecordWritten => Reason::RecordWritten,
+            Rule::FramePointerWritten => Reason::FramePointerWritten,
+            Rule::AnswerKind => Reason::AnswerKind,
         }
     }
 }

@@ -6,6 +6,7 @@ ghost use Rattle.bq_state.specs.Kinds.{StateCovers, kind_of, join_states, entry_
 
 use crate::kind::Kind;
 use crate::offsets::Offsets;
+use crate::region::Region;
 use bq_insn::register::Register;
 use bq_meaning::placement::{FRAME_LENGTH, RECORD_LENGTH};
 use bq_range::range::Range;
@@ -18,10 +19,10 @@ pub struct State {
 }
 
 impl Model for State {
-    ghost use Rattle.std.specs.Prelude.{◌≡◌, List, length};
-    ghost use Rattle.bq_state.specs.declared.kind.Kind.{Kind};
+    ghost use Rattle.std.specs.Prelude.{◌≡◌, length};
+    ghost use Rattle.bq_state.specs.Kinds.{StateKinds};
 
-    ghost Value = { List Kind };
+    ghost Value = { StateKinds };
 
     ghost view = { λ s. s.kinds };
 
@@ -54,7 +55,7 @@ impl State {
         State {
             kinds: [
                 Kind::Unset,
-                Kind::RecordPointer(Offsets::at(0)),
+                Kind::Pointer(Region::Record, Offsets::at(0)),
                 Kind::Number(Range::single(RECORD_LENGTH as u64)),
                 Kind::Number(Range::full()),
                 Kind::Unset,
@@ -63,7 +64,7 @@ impl State {
                 Kind::Unset,
                 Kind::Unset,
                 Kind::Unset,
-                Kind::FramePointer(Offsets::at(FRAME_LENGTH as i32)),
+                Kind::Pointer(Region::Frame, Offsets::at(FRAME_LENGTH as i32)),
             ],
         }
     }

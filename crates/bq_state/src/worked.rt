@@ -1,6 +1,7 @@
 //! Worked values of the rules.
 
 ghost use Rattle.std.specs.Prelude.{◌≡◌, [], ◌∷◌, ℕ, pos, negsuc, true, false, Some, None, Ok, Err};
+ghost use Rattle.reasons.specs.Table as table;
 ghost use Rattle.bq_word.specs.declared.Width.TheVariants.{W32, W64};
 ghost use Rattle.bq_word.specs.declared.AluOp.TheVariants as op;
 ghost use Rattle.bq_word.specs.declared.Relation.TheVariants as relation;
@@ -11,12 +12,13 @@ ghost use Rattle.bq_insn.specs.declared.insn.Extension.TheVariants as extension;
 ghost use Rattle.bq_insn.specs.declared.insn.Size.TheVariants as size;
 ghost use Rattle.bq_range.specs.Interval.{between, single, all_words};
 ghost use Rattle.bq_state.specs.declared.kind.Kind.TheVariants as kind;
+ghost use Rattle.bq_state.specs.declared.region.Region.TheVariants as region;
 ghost use Rattle.bq_state.specs.declared.rule.Rule.TheVariants as rule;
 ghost use Rattle.bq_state.specs.Offsets.{Span, IsSpan, at_offset, join_spans, moved_on, moved_back, fits};
 ghost use Rattle.bq_state.specs.Kinds.{KindCovers, StateCovers, entry_state, join_kinds, join_states, kind_of};
 ghost use Rattle.bq_state.specs.Rules.{known, writable, number, storable, alu_kind, ordered_range, operand_kind, taken_kind, transfer};
 ghost use Rattle.bq_state.specs.Edges.{refined, edges};
-ghost use Rattle.bq_state.specs.Numbers.{rule_number};
+ghost use Rattle.bq_state.specs.Reasons.{reason};
 
 /// What the definitions say at telling operands.
 pub fn worked()
@@ -40,25 +42,25 @@ pub fn worked()
     ensures before_the_start { fits (at_offset (pos 4)) (negsuc 4) 1 512 ≡ false }
 
     // Kinds.
-    ensures covered { KindCovers (kind.FramePointer (record { lo = pos 1; hi = pos 3 })) (kind.FramePointer (at_offset (pos 3))) }
-    ensures not_covered { KindCovers (kind.FramePointer (at_offset (pos 1))) (kind.FramePointer (at_offset (pos 3))) → ⊥ }
-    ensures not_of_that_region { KindCovers (kind.FramePointer (at_offset (pos 1))) (kind.RecordPointer (at_offset (pos 1))) → ⊥ }
-    ensures joined_pointers { join_kinds (kind.FramePointer (at_offset (pos 1))) (kind.FramePointer (at_offset (pos 3))) ≡ kind.FramePointer (record { lo = pos 1; hi = pos 3 }) }
-    ensures joined_others { join_kinds (kind.FramePointer (at_offset (pos 1))) (kind.RecordPointer (at_offset (pos 1))) ≡ kind.Unset }
+    ensures covered { KindCovers (kind.Pointer region.Frame (record { lo = pos 1; hi = pos 3 })) (kind.Pointer region.Frame (at_offset (pos 3))) }
+    ensures not_covered { KindCovers (kind.Pointer region.Frame (at_offset (pos 1))) (kind.Pointer region.Frame (at_offset (pos 3))) → ⊥ }
+    ensures not_of_that_region { KindCovers (kind.Pointer region.Frame (at_offset (pos 1))) (kind.Pointer region.Record (at_offset (pos 1))) → ⊥ }
+    ensures joined_pointers { join_kinds (kind.Pointer region.Frame (at_offset (pos 1))) (kind.Pointer region.Frame (at_offset (pos 3))) ≡ kind.Pointer region.Frame (record { lo = pos 1; hi = pos 3 }) }
+    ensures joined_others { join_kinds (kind.Pointer region.Frame (at_offset (pos 1))) (kind.Pointer region.Record (at_offset (pos 1))) ≡ kind.Unset }
     ensures numbers { alu_kind W64 op.Sub (kind.Number (single 7)) (kind.Number (single 2)) ≡ Some (kind.Number (single 5)) }
-    ensures pointer_on { alu_kind W64 op.Add (kind.Number (single 2)) (kind.RecordPointer (at_offset (pos 1))) ≡ Some (kind.RecordPointer (at_offset (pos 3))) }
-    ensures pointer_back { alu_kind W64 op.Sub (kind.FramePointer (at_offset (pos 512))) (kind.Number (single 8)) ≡ Some (kind.FramePointer (at_offset (pos 504))) }
-    ensures pointer_taken_away { alu_kind W64 op.Sub (kind.Number (single 8)) (kind.FramePointer (at_offset (pos 512))) ≡ None }
-    ensures pointer_of_32_bits { alu_kind W32 op.Add (kind.FramePointer (at_offset (pos 512))) (kind.Number (single 8)) ≡ None }
+    ensures pointer_on { alu_kind W64 op.Add (kind.Number (single 2)) (kind.Pointer region.Record (at_offset (pos 1))) ≡ Some (kind.Pointer region.Record (at_offset (pos 3))) }
+    ensures pointer_back { alu_kind W64 op.Sub (kind.Pointer region.Frame (at_offset (pos 512))) (kind.Number (single 8)) ≡ Some (kind.Pointer region.Frame (at_offset (pos 504))) }
+    ensures pointer_taken_away { alu_kind W64 op.Sub (kind.Number (single 8)) (kind.Pointer region.Frame (at_offset (pos 512))) ≡ None }
+    ensures pointer_of_32_bits { alu_kind W32 op.Add (kind.Pointer region.Frame (at_offset (pos 512))) (kind.Number (single 8)) ≡ None }
     ensures little { ordered_range order.Little 16 (single 4660) ≡ single 4660 }
     ensures big { ordered_range order.Big 16 (single 4660) ≡ single 13330 }
 
     // States.
     ensures of_a_register { kind_of (kind.Unset ∷ kind.Number (single 5) ∷ []) 1 ≡ kind.Number (single 5) }
-    ensures of_the_record { kind_of (entry_state 64) 1 ≡ kind.RecordPointer (at_offset (pos 0)) }
+    ensures of_the_record { kind_of (entry_state 64) 1 ≡ kind.Pointer region.Record (at_offset (pos 0)) }
     ensures of_the_length { kind_of (entry_state 64) 2 ≡ kind.Number (single 64) }
     ensures of_the_accumulator { kind_of (entry_state 64) 3 ≡ kind.Number all_words }
-    ensures of_the_frame { kind_of (entry_state 64) 10 ≡ kind.FramePointer (at_offset (pos 512)) }
+    ensures of_the_frame { kind_of (entry_state 64) 10 ≡ kind.Pointer region.Frame (at_offset (pos 512)) }
     ensures of_the_others { kind_of (entry_state 64) 0 ≡ kind.Unset }
     ensures joined_states { join_states (kind.Number (single 3) ∷ kind.Unset ∷ []) (kind.Number (single 5) ∷ kind.Number (single 7) ∷ []) ≡ kind.Number (between 3 5) ∷ kind.Unset ∷ [] }
     ensures second_not_covered { StateCovers (kind.Unset ∷ kind.Number (single 5) ∷ []) (kind.Unset ∷ kind.Unset ∷ []) → ⊥ }
@@ -67,20 +69,20 @@ pub fn worked()
     ensures unset { known kind.Unset ≡ Err rule.UnsetRegister }
     ensures last_written { writable 9 ≡ Ok tt }
     ensures never_written { writable 10 ≡ Err rule.FramePointerWritten }
-    ensures no_number { number rule.AnswerKind (kind.FramePointer (at_offset (pos 0))) ≡ Err rule.AnswerKind }
-    ensures stored { storable (kind.FramePointer (at_offset (pos 504))) (kind.Number all_words) (pos 0) 8 ≡ Ok tt }
-    ensures stored_behind { storable (kind.FramePointer (at_offset (pos 504))) (kind.Number all_words) (pos 1) 8 ≡ Err rule.OutsideFrame }
-    ensures stored_into_the_record { storable (kind.RecordPointer (at_offset (pos 0))) (kind.Number all_words) (pos 0) 1 ≡ Err rule.RecordWritten }
-    ensures answer { rule_number rule.AnswerKind ≡ 30 }
-    ensures frame_pointer { rule_number rule.FramePointerWritten ≡ 28 }
+    ensures no_number { number rule.AnswerKind (kind.Pointer region.Frame (at_offset (pos 0))) ≡ Err rule.AnswerKind }
+    ensures stored { storable (kind.Pointer region.Frame (at_offset (pos 504))) (kind.Number all_words) (pos 0) 8 ≡ Ok tt }
+    ensures stored_behind { storable (kind.Pointer region.Frame (at_offset (pos 504))) (kind.Number all_words) (pos 1) 8 ≡ Err rule.OutsideFrame }
+    ensures stored_into_the_record { storable (kind.Pointer region.Record (at_offset (pos 0))) (kind.Number all_words) (pos 0) 1 ≡ Err rule.RecordWritten }
+    ensures answer { table.number (reason rule.AnswerKind) ≡ 30 }
+    ensures frame_pointer { table.number (reason rule.FramePointerWritten) ≡ 28 }
 
     // What an instruction makes of a state, or the rule that it breaks.
     ensures low_halves { transfer 64 (insn.Alu W32 op.Add 0 (operand.Number (pos 1))) (kind.Number (single 4294967295) ∷ []) ≡ Ok (kind.Number (single 0) ∷ []) }
     ensures of_its_source { transfer 64 (insn.Extend extension.W64From8 1 0) (kind.Number (single 128) ∷ kind.Unset ∷ []) ≡ Ok (kind.Number (single 128) ∷ kind.Number (single 18446744073709551488) ∷ []) }
-    ensures loaded { transfer 64 (insn.Load size.B4 0 0 (pos 60)) (kind.RecordPointer (at_offset (pos 0)) ∷ []) ≡ Ok (kind.Number (between 0 4294967295) ∷ []) }
-    ensures loaded_behind { transfer 64 (insn.Load size.B4 0 0 (pos 61)) (kind.RecordPointer (at_offset (pos 0)) ∷ []) ≡ Err rule.OutsideRecord }
-    ensures compared { transfer 64 (insn.Branch W64 relation.Equal 0 (operand.Register 1) (pos 2)) (kind.Number (single 1) ∷ kind.FramePointer (at_offset (pos 0)) ∷ []) ≡ Err rule.WrongKind }
-    ensures answered { transfer 64 insn.Exit (kind.FramePointer (at_offset (pos 0)) ∷ []) ≡ Err rule.AnswerKind }
+    ensures loaded { transfer 64 (insn.Load size.B4 0 0 (pos 60)) (kind.Pointer region.Record (at_offset (pos 0)) ∷ []) ≡ Ok (kind.Number (between 0 4294967295) ∷ []) }
+    ensures loaded_behind { transfer 64 (insn.Load size.B4 0 0 (pos 61)) (kind.Pointer region.Record (at_offset (pos 0)) ∷ []) ≡ Err rule.OutsideRecord }
+    ensures compared { transfer 64 (insn.Branch W64 relation.Equal 0 (operand.Register 1) (pos 2)) (kind.Number (single 1) ∷ kind.Pointer region.Frame (at_offset (pos 0)) ∷ []) ≡ Err rule.WrongKind }
+    ensures answered { transfer 64 insn.Exit (kind.Pointer region.Frame (at_offset (pos 0)) ∷ []) ≡ Err rule.AnswerKind }
 
     // What an instruction reads: a move has no use for what its destination held.
     ensures extended { operand_kind [] (operand.Number (negsuc 0)) ≡ kind.Number (single 18446744073709551615) }

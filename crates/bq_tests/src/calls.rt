@@ -26,6 +26,7 @@ use bq_meaning::step::{Step, step_checked};
 use bq_range::range::Range;
 use bq_state::kind::Kind;
 use bq_state::offsets::Offsets;
+use bq_state::region::Region;
 use bq_state::state::State;
 use bq_verify::verify::verify;
 use std::test::Fail;
@@ -125,7 +126,7 @@ fn nothing_but(kind: Kind) -> State {
 fn states_are_covered_and_joined(rt: HostRuntime) {
     let five = nothing_but(Kind::Number(Range::single(5)));
     let seven = nothing_but(Kind::Number(Range::single(7)));
-    let pointer = nothing_but(Kind::RecordPointer(Offsets::at(0)));
+    let pointer = nothing_but(Kind::Pointer(Region::Record, Offsets::at(0)));
     let joined = five.join(&seven);
     assert!(rt; joined.covers(&five) && !five.covers(&joined));
     assert_eq!(rt; Some(joined.kind(0)), Range::new(5, 7).map(Kind::Number));

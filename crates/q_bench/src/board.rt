@@ -6,13 +6,14 @@ ghost use Rattle.q_board.specs.Calls.{SameAsker, SameRunner};
 
 use crate::jobs::{Times, jobs};
 use anyhow::{Result, anyhow};
+use bq_frame::block::Block;
 use q_board::board::Board;
 use q_board::seats::{AskerSeat, ROW, RunnerSeat};
 use q_pool::gate::Open;
 use q_pool::runners::with_runners;
 use q_session::done::Done;
-use q_session::fold::fold_checked;
 use q_session::job::Job;
+use q_session::run::run_fold;
 use std::alloc::Global;
 use std::sync::Wait;
 use std::thread;
@@ -27,20 +28,27 @@ pub fn hand<R: Wait + Clock + Alloc<A = Global>>(rt: &R, count: usize) -> Result
     ))?;
     let asker = askers.pop().ok_or(anyhow!("no asker"))?;
     let runner = runners.pop().ok_or(anyhow!("no runner"))?;
+    let mut block = Block::new(rt.alloc())?;
     let start = Instant::now(rt)?;
-    let done = hand_all(&board, asker, runner, jobs);
+    let done = hand_all(&board, asker, runner, &mut block, jobs);
     Ok(Times::of(done, start.elapsed(rt)?))
 }
 
 /// Hands each job over; how many results came back.
-fn hand_all(board: &Board, mut asker: AskerSeat, mut runner: RunnerSeat, jobs: Vec<Job>) -> usize
+fn hand_all(
+    board: &Board,
+    mut asker: AskerSeat,
+    mut runner: RunnerSeat,
+    block: &mut Block,
+    jobs: Vec<Job>,
+) -> usize
     requires asker { asker.table ≡ board_id board.now }
     requires runner { runner.table ≡ board_id board.now }
     requires lanes { 8 * asker.number + 8 ≤ runner.lanes }
 {
     let mut done: usize = 0;
     for job in jobs {
-        if hand_one(board, &mut asker, &mut runner, job) {
+        if hand_one(board, &mut asker, &mut runner, block, job) {
             done = done.saturating_add(1);
         }
     }
@@ -48,7 +56,13 @@ fn hand_all(board: &Board, mut asker: AskerSeat, mut runner: RunnerSeat, jobs: V
 }
 
 /// Offers a job, takes it, runs it, finishes it and takes its result: whether it came.
-fn hand_one(board: &Board, asker: &mut AskerSeat, runner: &mut RunnerSeat, job: Job) -> bool
+fn hand_one(
+    board: &Board,
+    asker: &mut AskerSeat,
+    runner: &mut RunnerSeat,
+    block: &mut Block,
+    job: Job,
+) -> bool
     requires asker { asker.old.table ≡ board_id board.now }
     requires runner { runner.old.table ≡ board_id board.now }
     requires lanes { 8 * asker.old.number + 8 ≤ runner.old.lanes }
@@ -62,7 +76,7 @@ fn hand_one(board: &Board, asker: &mut AskerSeat, runner: &mut RunnerSeat, job: 
         return false;
     };
     let job = claim.job();
-    let ran = fold_checked(job.certified().certified(), job.view(), job.start());
+    let ran = run_fold(job.certified().certified(), job.view(), job.start(), block);
     board.finish(runner, claim, ran);
     board.poll(asker, slot).is_some()
 }
@@ -70,10 +84,11 @@ fn hand_one(board: &Board, asker: &mut AskerSeat, runner: &mut RunnerSeat, job: 
 /// Runs each job where it is; how many there were.
 pub fn run_alone<R: Clock + Alloc<A = Global>>(rt: &R, count: usize) -> Result<Times> {
     let jobs = jobs(rt.alloc(), count)?;
+    let mut block = Block::new(rt.alloc())?;
     let start = Instant::now(rt)?;
     let mut done: usize = 0;
     for job in jobs {
-        let _done = Done::run(job);
+        let _done = Done::run(job, &mut block);
         done = done.saturating_add(1);
     }
     Ok(Times::of(done, start.elapsed(rt)?))
@@ -84,19 +99,21 @@ pub fn run<R>(rt: &R, count: usize, runners: usize) -> Result<Times>
 where
     R: Wait + Threads + Clock + Alloc<A = Global> + Sync,
 {
-    let jobs = jobs(rt.alloc(), count)?;
-    let (board, mut askers, seats) = Board::open(rt.alloc(), 1, runners).map_err(|_| anyhow!(
+    let alloc = rt.alloc();
+    let jobs = jobs(alloc, count)?;
+    let (board, mut askers, seats) = Board::open(alloc, 1, runners).map_err(|_| anyhow!(
         "no board"
     ))?;
     let asker = askers.pop().ok_or(anyhow!("no asker"))?;
     let start = Instant::now(rt)?;
-    let done = run_all(rt, &board, asker, seats, jobs)?;
+    let done = run_all(rt, alloc, &board, asker, seats, jobs)?;
     Ok(Times::of(done, start.elapsed(rt)?))
 }
 
 /// Starts the runners, and offers all jobs to them; how many results came back.
 fn run_all<R: Wait + Threads + Sync>(
     rt: &R,
+    alloc: Global,
     board: &Board,
     asker: AskerSeat,
     seats: Vec<RunnerSeat>,
@@ -107,6 +124,7 @@ fn run_all<R: Wait + Threads + Sync>(
 {
     let done = with_runners(
         rt,
+        alloc,
         board,
         seats,
         &Open,

@@ -2,6 +2,7 @@
 
 use crate::jobs::{Times, jobs};
 use anyhow::Result;
+use bq_frame::block::Block;
 use q_session::done::Done;
 use q_session::job::Job;
 use std::alloc::Global;
@@ -35,12 +36,12 @@ impl Queues {
         self.offered.lock(rt).push_back(job).is_ok()
     }
 
-    /// Runs the next job, if there is one.
-    fn run_one(&self, rt: &impl Wait) -> bool {
+    /// Runs the next job over the block, if there is one.
+    fn run_one(&self, rt: &impl Wait, block: &mut Block) -> bool {
         let job = self.offered.lock(rt).pop_front();
         match job {
             Some(job) => {
-                let done = Done::run(job);
+                let done = Done::run(job, block);
                 self.finished.lock(rt).push_back(done).is_ok()
             }
             None => false,
@@ -58,10 +59,11 @@ impl Queues {
 pub fn hand<R: Wait + Clock + Alloc<A = Global>>(rt: &R, count: usize) -> Result<Times> {
     let jobs = jobs(rt.alloc(), count)?;
     let queues = Queues::new(rt.alloc());
+    let mut block = Block::new(rt.alloc())?;
     let start = Instant::now(rt)?;
     let mut done: usize = 0;
     for job in jobs {
-        if queues.offer(rt, job) && queues.run_one(rt) && queues.receive(rt) {
+        if queues.offer(rt, job) && queues.run_one(rt, &mut block) && queues.receive(rt) {
             done = done.saturating_add(1);
         }
     }
@@ -76,19 +78,20 @@ where
     let jobs = jobs(rt.alloc(), count)?;
     let queues = Queues::new(rt.alloc());
     let start = Instant::now(rt)?;
-    let done = run_all(rt, &queues, runners, jobs);
+    let done = run_all(rt, rt.alloc(), &queues, runners, jobs);
     Ok(Times::of(done, start.elapsed(rt)?))
 }
 
 /// Starts the runners and offers all jobs to them; how many results came back.
 fn run_all<R: Wait + Threads + Sync>(
     rt: &R,
+    alloc: Global,
     queues: &Queues,
     runners: usize,
     jobs: Vec<Job>,
 ) -> usize {
     thread::scope(thread::scope_env(), rt, |scope| {
-        let done = if start_all(scope, rt, queues, runners) {
+        let done = if start_all(scope, rt, alloc, queues, runners) {
             offer_all(rt, queues, jobs)
         } else {
             0
@@ -98,15 +101,19 @@ fn run_all<R: Wait + Threads + Sync>(
     })
 }
 
-/// Starts the threads of the runners.
+/// Starts the threads of the runners, each with a block of its own.
 fn start_all<'s, E, R: Wait + Threads + Sync>(
     scope: &Scope<'s, E>,
     rt: &'s R,
+    alloc: Global,
     queues: &'s Queues,
     runners: usize,
 ) -> bool {
     for _ in 0..runners {
-        if scope.spawn(move || run_until(rt, queues)).is_err() {
+        let Ok(block) = Block::new(alloc) else {
+            return false;
+        };
+        if scope.spawn(move || run_until(rt, queues, block)).is_err() {
             return false;
         }
     }
@@ -114,12 +121,12 @@ fn start_all<'s, E, R: Wait + Threads + Sync>(
 }
 
 /// Runs jobs until the work is over.
-fn run_until<R: Wait>(rt: &R, queues: &Queues) {
+fn run_until<R: Wait>(rt: &R, queues: &Queues, mut block: Block) {
     for _ in rt.forever() {
         if queues.over.load(SeqCst) {
             break;
         }
-        if !queues.run_one(rt) {
+        if !queues.run_one(rt, &mut block) {
             thread::yield_now();
         }
     }

@@ -4,6 +4,7 @@ ghost use Rattle.std.specs.Prelude.{◌≡◌, ℕ, ◌+◌, ◌*◌, ◌<◌, �
 ghost use Rattle.std.specs.VecDeque.{deque_len, deque_capacity};
 ghost use Rattle.q_session.specs.Done.{IsFinished};
 ghost use Rattle.q_session.specs.Right.{IsRight};
+ghost use Rattle.atomic_table.specs.Table.{rest};
 ghost use Rattle.q_slots.specs.Rule.{maker as making};
 ghost use Rattle.q_board.specs.AskerModel.{opened_asker, opened_askers};
 ghost use Rattle.q_board.specs.RunnerModel.{opened_runner, opened_runners};
@@ -13,7 +14,7 @@ ghost use Rattle.q_board.specs.Calls.{is_at, SameAsker, SameRunner, Offers, Look
 use crate::claim::Claim;
 use crate::fault::{OpenFault, RowFull};
 use crate::seats::{AskerSeat, ROW, RunnerSeat, Slot};
-use atomic_table::{Refused, Seat, Table};
+use atomic_table::{Refused, Seat, Shared, Table};
 use q_session::done::Done;
 use q_session::job::Job;
 use q_session::ran::Ran;
@@ -90,7 +91,7 @@ impl Board {
         };
         let index = ROW * seat.number + place;
         let shared = &self.table.shared;
-        drop(shared.exchange(&mut seat.seat, index, Cell::Offered(job)));
+        put(&mut seat.seat, shared, index, Cell::Offered(job));
         shared.store::<Publish>(&mut seat.seat, index, Found::Ready.word());
         Ok(Slot { index })
     }
@@ -159,7 +160,7 @@ impl Board {
         let done = Done::of(job, ran);
         let shared = &self.table.shared;
         bring(&mut seat.seat, &mut seat.claims, slot);
-        drop(shared.exchange(&mut seat.seat, slot, Cell::Finished(done)));
+        put(&mut seat.seat, shared, slot, Cell::Finished(done));
         shared.store::<Finish>(&mut seat.seat, slot, Found::Finished.word());
     }
 
@@ -173,7 +174,7 @@ impl Board {
         let Claim { slot, job } = claim;
         let shared = &self.table.shared;
         bring(&mut seat.seat, &mut seat.claims, slot);
-        drop(shared.exchange(&mut seat.seat, slot, Cell::Offered(job)));
+        put(&mut seat.seat, shared, slot, Cell::Offered(job));
         shared.store::<GiveBack>(&mut seat.seat, slot, Found::Ready.word());
     }
 }
@@ -244,6 +245,22 @@ impl Board {
             next: 0,
         })
     }
+}
+
+// Puts something into the slot that the seat took last.
+#[inline(always)]
+fn put(
+    seat: &mut Seat<Cell, View>,
+    shared: &Shared<Cell, View, u64, Order>,
+    slot: usize,
+    cell: Cell,
+)
+    requires { (seat.old.table_id ≡ shared.now.table_id) × ((old : Cell) × (seat.old.me.1 ≡ (slot, old) ∷ rest seat.old.me.1)) }
+    ensures board { seat.new.table_id ≡ seat.old.table_id }
+    ensures seat { seat.new.id ≡ seat.old.id }
+    ensures there { seat.new.me ≡ (seat.old.me.0, (slot, cell) ∷ rest seat.old.me.1) }
+{
+    *seat.slot_mut(shared, slot) = cell;
 }
 
 // Brings a claimed slot to the front of the seat, and takes it off the claims.

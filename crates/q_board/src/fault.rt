@@ -1,9 +1,10 @@
-//! Why a board refuses a call, each reason with its number and its name.
+//! Why a board refuses a call, and the reason that is told of each.
 
 ghost use Rattle.std.specs.Prelude.{◌≡◌};
-ghost use Rattle.q_board.specs.Faults.{open_number, open_name, row_number, row_name};
+ghost use Rattle.q_board.specs.Faults.{reason};
 ghost use Rattle.q_board.specs.declared.fault.OpenFault.TheVariants.{OutOfMemory};
 
+use reasons::Reason;
 use std::alloc::AllocError;
 
 /// 61: eight jobs of the seat are open.
@@ -20,39 +21,22 @@ pub enum OpenFault {
 }
 
 impl RowFull {
-    /// The number by which the fault is reported.
-    pub fn number(&self) -> u8
-        ensures { result ≡ row_number }
+    /// The reason by which the fault is told.
+    pub fn reason(&self) -> Reason
+        ensures { result ≡ Reason.RowFull }
     {
-        61
-    }
-
-    /// The name by which the fault is reported.
-    pub fn name(&self) -> &'static str
-        ensures { result.now ≡ row_name }
-    {
-        "RowFull"
+        Reason::RowFull
     }
 }
 
 impl OpenFault {
-    /// The number by which the fault is reported.
-    pub fn number(&self) -> u8
-        ensures { result ≡ open_number self.now }
+    /// The reason by which the fault is told.
+    pub fn reason(&self) -> Reason
+        ensures { result ≡ reason self.now }
     {
         match self {
-            OpenFault::BadCount => 62,
-            OpenFault::OutOfMemory => 99,
-        }
-    }
-
-    /// The name by which the fault is reported.
-    pub fn name(&self) -> &'static str
-        ensures { result.now ≡ open_name self.now }
-    {
-        match self {
-            OpenFault::BadCount => "BadCount",
-            OpenFault::OutOfMemory => "OutOfMemory",
+            OpenFault::BadCount => Reason::BadCount,
+            OpenFault::OutOfMemory => Reason::OutOfMemory,
         }
     }
 }

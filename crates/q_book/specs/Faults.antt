@@ -1,5 +1,5 @@
--- The refusals of nodes and desks as a book's, and the numbers and names by which refusals are reported.
-use Rattle.std.specs.Prelude.{ℕ, List}
+-- The refusals of nodes and desks as a book's, and the reasons by which refusals are told.
+use Rattle.reasons.specs.declared.Reason.{Reason}
 use Rattle.sc_node.specs.Faults as node
 use Rattle.sc_node.specs.declared.fault.NodeFault.TheVariants as node_fault
 use Rattle.q_desk.specs.Faults as desk
@@ -16,10 +16,6 @@ abbrev pub of_desk : DeskFault → BookFault
 of_desk desk_fault.OutOfMemory = memory
 of_desk f = fault.Desk f
 
-abbrev pub fault_number : BookFault → ℕ
-fault_number (fault.Node f) = node.fault_number f
-fault_number (fault.Desk f) = desk.fault_number f
-
-abbrev pub fault_name : BookFault → List ℕ
-fault_name (fault.Node f) = node.fault_name f
-fault_name (fault.Desk f) = desk.fault_name f
+abbrev pub reason : BookFault → Reason
+reason (fault.Node f) = node.reason f
+reason (fault.Desk f) = desk.reason f

@@ -1,9 +1,10 @@
-//! Why a book refuses a call, each reason with its number and its name.
+//! Why a book refuses a call, and the reason that is told of each.
 
 ghost use Rattle.std.specs.Prelude.{◌≡◌};
-ghost use Rattle.q_book.specs.Faults.{fault_number, fault_name};
+ghost use Rattle.q_book.specs.Faults.{reason};
 
 use q_desk::fault::DeskFault;
+use reasons::Reason;
 use sc_node::fault::NodeFault;
 use std::alloc::AllocError;
 
@@ -18,23 +19,13 @@ pub enum BookFault {
 }
 
 impl BookFault {
-    /// The number by which the fault is reported.
-    pub fn number(&self) -> u8
-        ensures { result ≡ fault_number self.now }
+    /// The reason by which the fault is told.
+    pub fn reason(&self) -> Reason
+        ensures { result ≡ reason self.now }
     {
         match self {
-            BookFault::Node(fault) => fault.number(),
-            BookFault::Desk(fault) => fault.number(),
-        }
-    }
-
-    /// The name by which the fault is reported.
-    pub fn name(&self) -> &'static str
-        ensures { result.now ≡ fault_name self.now }
-    {
-        match self {
-            BookFault::Node(fault) => fault.name(),
-            BookFault::Desk(fault) => fault.name(),
+            BookFault::Node(fault) => fault.reason(),
+            BookFault::Desk(fault) => fault.reason(),
         }
     }
 }

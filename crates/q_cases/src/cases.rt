@@ -128,7 +128,7 @@ impl Cases {
         self.files.passing = self.passing.take();
         let words: Vec<&str> = words.split(' ').collect(self.alloc)?;
         let status = match read_words(self.alloc, words.as_slice()) {
-            Ok(Wanted::Line(line)) => {
+            Ok(Wanted::FileCommand(line)) => {
                 carry_out(self.alloc, &line, &mut self.files, out).status()
             }
             Ok(Wanted::Cluster { .. }) => {
@@ -149,7 +149,7 @@ impl Cases {
         writeln!(out, "? {words}")?;
         self.end_file();
         let words: Vec<&str> = words.split(' ').collect(self.alloc)?;
-        let Ok(Wanted::Line(line)) = read_words(self.alloc, words.as_slice()) else {
+        let Ok(Wanted::FileCommand(line)) = read_words(self.alloc, words.as_slice()) else {
             return writeln!(out, "no command");
         };
         let mut unseen = Counted::new(Vec::new(self.alloc));

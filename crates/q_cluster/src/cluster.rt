@@ -15,6 +15,7 @@ ghost use Rattle.q_history.specs.Books.{BooksAreReplays};
 ghost use Rattle.q_cluster.specs.Acts.{Doing, IsThere, MayRun, book_at};
 
 use crate::books::{Books, found_books};
+use bq_frame::block::Block;
 use q_book::answer::{Asked, Taken};
 use q_book::book::Book;
 use q_history::event::{Answer, Event, Handed, Stepped, Told};
@@ -34,14 +35,15 @@ use sc_world::op::Op;
 use std::alloc::Global;
 use std::marker::Model;
 
-/// The book of each node, what is kept of every event, and the jobs that were handed out. Contracts see it as a world with
-/// a desk for each node. Some list of events made it of its founders.
+/// The book of each node, what is kept of every event, the jobs that were handed out, and the block over which they are
+/// run. Contracts see it as a world with a desk for each node. Some list of events made it of its founders.
 #[derive(Drop)]
 pub struct Cluster {
     alloc: Global,
     books: Books,
     ledger: Ledger,
     jobs: Vec<Job>,
+    block: Block,
 }
 
 impl Model for Cluster {
@@ -66,11 +68,13 @@ impl Cluster {
     {
         let books = found_books(alloc, config, founders)?;
         let ledger = Ledger::new(alloc, config, founders)?;
+        let block = Block::new(alloc)?;
         Ok(Cluster {
             alloc,
             books,
             ledger,
             jobs: Vec::new(alloc),
+            block,
         })
     }
 
@@ -319,7 +323,7 @@ impl Cluster {
     fn finish(&mut self, number: usize) -> Result<Stepped, ClusterFault>
         ensures { Takes self.old (Event.Finish number) self.new result }
     {
-        let done = Done::run(self.job_to_run(number)?);
+        let done = Done::run(self.job_to_run(number)?, &mut self.block);
         let job = done.job();
         let node = job.node();
         let query = job.query();

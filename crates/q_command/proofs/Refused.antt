@@ -9,7 +9,7 @@ use Rattle.q_sim.specs.declared.refusal.Refusal.TheVariants.{FileFailed, Script}
 use Rattle.q_command.specs.Perform.{IsUnsimulated, Refuses}
 use Rattle.q_command.specs.declared.denied.Denied.{Denied}
 use Rattle.q_files.specs.declared.files.FileFault.{FileFault}
-use Rattle.q_words.specs.declared.words.Line.{Line}
+use Rattle.q_words.specs.declared.words.FileCommand.{FileCommand}
 
 -- a script that is read is not run
 pub unsimulated_script : (bytes : List ℕ) (script : Events) (r : Refusal) → IsUtf8 bytes → IsScript bytes script → IsSimulationFault script.founding r
@@ -19,6 +19,6 @@ unsimulated_script bytes script (Script f) utf8 spelled h = absurd h
 unsimulated_script bytes script r utf8 spelled h = (utf8, (script, spelled, h))
 
 -- a command that is refused, whichever the refusal
-pub some_refusal : {F : Type 0} (reads : F → List ℕ → Result (List ℕ) FileFault → F → Type 0) (line : Line) (old new : F) (denied : Denied)
+pub some_refusal : {F : Type 0} (reads : F → List ℕ → Result (List ℕ) FileFault → F → Type 0) (line : FileCommand) (old new : F) (denied : Denied)
     → Refuses reads line old denied new → (d : Denied) × Refuses reads line old d new
 some_refusal reads line old new denied refused = (denied, refused)

@@ -1,13 +1,14 @@
 -- Of which refusals a person is told something.
 use Rattle.std.specs.Prelude.{◌≢◌, List, ℕ, Bool, true, false, Option, Some, None, IsUtf8}
-use Rattle.q_sim.specs.Refusal.{number}
+use Rattle.reasons.specs.Table.{number}
+use Rattle.q_sim.specs.Refusal.{reason}
 use Rattle.q_sim.specs.declared.refusal.Refusal.{Refusal}
 use Rattle.q_sim.specs.declared.refusal.Refusal.TheVariants.{FileFailed}
 
 -- The refusal of these bytes is none for want of memory; and where a file failed, it is for bytes that are no text.
 abbrev pub IsExplained : Refusal → List ℕ → Type 0
 IsExplained FileFailed bytes = ¬ (IsUtf8 bytes)
-IsExplained refusal bytes = number refusal ≢ 99
+IsExplained refusal bytes = number (reason refusal) ≢ 99
 
 -- the answer tells whether this is so
 abbrev pub Meets : Bool → Type 0 → Type 0

@@ -7,7 +7,7 @@ use Rattle.bq_insn.specs.Slots.{spelling, IsText}
 use Rattle.bq_asm.specs.Source as assembler
 use Rattle.bq_asm.specs.Source.{IsSource}
 use Rattle.bq_flow.specs.Paths.{IsLongest}
-use Rattle.bq_state.specs.declared.kind.Kind.{Kind}
+use Rattle.bq_state.specs.Kinds.{StateKinds}
 use Rattle.bq_sound.specs.Passes.{Passes}
 use Rattle.bq_meaning.specs.Place.{record_length}
 use Rattle.bq_meaning.specs.Answers.{IsAnswer}
@@ -30,8 +30,8 @@ use Rattle.q_command.specs.declared.denied.Denied.{Denied}
 use Rattle.q_command.specs.declared.perform.Outcome.{Outcome}
 use Rattle.q_command.specs.declared.perform.Outcome.TheVariants.{Answered, Unsaved, Refused, Unwritten}
 use Rattle.q_wire.specs.Counts.{one_more}
-use Rattle.q_words.specs.declared.words.Line.{Line}
-use Rattle.q_words.specs.declared.words.Line.TheVariants.{Asm, Check, Run, Sim, Audit}
+use Rattle.q_words.specs.declared.words.FileCommand.{FileCommand}
+use Rattle.q_words.specs.declared.words.FileCommand.TheVariants.{Asm, Check, Run, Sim, Audit}
 
 -- ---- programs
 
@@ -44,7 +44,7 @@ pub record IsProgram (source : List ℕ) (text : List Insn) : Type 0 where
 -- the bytes spell a program whose notes pass
 pub record IsAccepted (source : List ℕ) : Type 0 where
   pub text : List Insn
-  pub notes : List (Option (List Kind))
+  pub notes : List (Option StateKinds)
   pub program : IsProgram source text
   pub passes : Passes record_length text notes
 
@@ -71,7 +71,7 @@ pub record Lists (source lines : List ℕ) : Type 0 where
 -- the lines say how long the longest path of the program is, whose notes pass
 pub record Accepts (source lines : List ℕ) : Type 0 where
   pub text : List Insn
-  pub notes : List (Option (List Kind))
+  pub notes : List (Option StateKinds)
   pub longest : ℕ
   pub program : IsProgram source text
   pub passes : Passes record_length text notes
@@ -112,7 +112,7 @@ AnswersScript {F} reads writes name old lines unwritten new =
     (source : List ℕ) × (between : F) × reads old name (Ok source) between × IsSimulated writes source between lines unwritten new
 
 -- the command answers these lines, over files that stand thus before and after
-abbrev pub Answers : {F : Type 0} → (F → List ℕ → Result (List ℕ) FileFault → F → Type 0) → Writing F → Line → F → List ℕ → Bool → F → Type 0
+abbrev pub Answers : {F : Type 0} → (F → List ℕ → Result (List ℕ) FileFault → F → Type 0) → Writing F → FileCommand → F → List ℕ → Bool → F → Type 0
 Answers reads writes (Asm file) old lines unwritten new = AnswersFile reads Lists file.now old lines unwritten new
 Answers reads writes (Check file) old lines unwritten new = AnswersFile reads Accepts file.now old lines unwritten new
 Answers reads writes (Run file start records) old lines unwritten new = AnswersRun reads file.now start records.now old lines unwritten new
@@ -159,7 +159,7 @@ RefusesScript {F} reads name old denied new =
     × (denied.refusal ≢ refusal.OutOfMemory → new ≡ between))
 
 -- the command is refused for this reason, over files that stand thus before and after
-abbrev pub Refuses : {F : Type 0} → (F → List ℕ → Result (List ℕ) FileFault → F → Type 0) → Line → F → Denied → F → Type 0
+abbrev pub Refuses : {F : Type 0} → (F → List ℕ → Result (List ℕ) FileFault → F → Type 0) → FileCommand → F → Denied → F → Type 0
 Refuses reads (Asm file) old denied new = RefusesFile reads IsUnassembled file.now old denied new
 Refuses reads (Check file) old denied new = RefusesFile reads IsUnaccepted file.now old denied new
 Refuses reads (Run file start records) old denied new = RefusesRun reads file.now records.now old denied new
@@ -170,7 +170,7 @@ Refuses reads (Audit journal) old denied new = RefusesFile reads IsUnaudited jou
 
 -- The command ends so, over files and a writer that stand thus before and after: the writer took exactly the lines of the
 -- answer, or exactly the line of the refusal. Where the writer failed, it was given one of the two, and may have taken a part.
-abbrev pub Ends : {F : Type 0} → (F → List ℕ → Result (List ℕ) FileFault → F → Type 0) → Writing F → Line → F → Option (List ℕ) → Outcome → F → Option (List ℕ) → Type 0
+abbrev pub Ends : {F : Type 0} → (F → List ℕ → Result (List ℕ) FileFault → F → Type 0) → Writing F → FileCommand → F → Option (List ℕ) → Outcome → F → Option (List ℕ) → Type 0
 Ends reads writes line old before Answered new after = (lines : List ℕ) × Answers reads writes line old lines false new × Appends before after lines
 Ends reads writes line old before Unsaved new after = (lines : List ℕ) × Answers reads writes line old lines true new × Appends before after lines
 Ends reads writes line old before (Refused denied) new after = Refuses reads line old denied new × Appends before after (refusal_line denied.refusal)

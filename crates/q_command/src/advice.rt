@@ -177,7 +177,7 @@ fn is_explained(denied: &Denied<'_>) -> bool
 {
     match denied.refusal {
         Refusal::FileFailed => str::from_utf8(denied.bytes.as_slice()).is_err(),
-        refusal => refusal.number() != 99,
+        refusal => refusal.reason().number() != 99,
     }
 }
 

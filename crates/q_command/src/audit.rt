@@ -1,9 +1,10 @@
 //! What a journal tells.
 
-ghost use Rattle.std.specs.Prelude.{◌≡◌, ◌++◌, IfOk, IfErr, OnOk, string_bytes};
+ghost use Rattle.std.specs.Prelude.{◌≡◌, ◌++◌, IfOk, IfErr, OnOk, codes, string_bytes};
 ghost use Rattle.q_desk.specs.Desks.{answer_in};
 ghost use Rattle.q_command.specs.Audit.{Audits, IsUnaudited, answer_line, answer_lines};
 
+use q_book::book::Book;
 use q_replay::replay::replay;
 use q_session::query::{Phase, Query};
 use q_sim::refusal::Refusal;
@@ -33,6 +34,17 @@ fn print_answers(lines: &mut String, queries: &[Query]) -> Result<(), AllocError
     Ok(())
 }
 
+/// The lines of the answers that a book records.
+fn told(alloc: Global, book: &Book) -> Result<String, Refusal>
+    ensures told { IfOk result (λ lines. string_bytes lines ≡ answer_lines 0 book.now.desk.queries ++ codes "journal ok\n") }
+    ensures refused { IfErr result (λ fault. fault ≡ Refusal.OutOfMemory) }
+{
+    let mut lines = String::new(alloc);
+    print_answers(&mut lines, book.desk().queries())?;
+    lines.push_str("journal ok\n")?;
+    Ok(lines)
+}
+
 /// Replays the journal of a node, and answers the lines of the answers that the node recorded. Each is right.
 ///
 /// Refused where the bytes are no journal of a node: 57 JournalForm or 58 JournalMismatch with the least faulty event,
@@ -42,8 +54,5 @@ pub fn audit(alloc: Global, bytes: &[u8]) -> Result<String, Refusal>
     ensures refused { IfErr result (IsUnaudited bytes.now) }
 {
     let book = replay(alloc, bytes)?;
-    let mut lines = String::new(alloc);
-    print_answers(&mut lines, book.desk().queries())?;
-    lines.push_str("journal ok\n")?;
-    Ok(lines)
+    told(alloc, &book)
 }

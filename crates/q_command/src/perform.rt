@@ -10,14 +10,15 @@ use crate::listing::listing;
 use crate::program::{certified, program, utf8};
 use crate::refusal_line::put_refusal;
 use bq_check::certified::Certified;
+use bq_frame::block::Block;
 use q_files::files::Files;
 use q_script::records::read_records;
 use q_script::script::Script;
-use q_session::fold::fold_checked;
+use q_session::run::run_fold;
 use q_sim::refusal::Refusal;
 use q_sim::simulation::{Printed, simulate};
 use q_wire::counted::Counted;
-use q_words::words::Line;
+use q_words::words::FileCommand;
 use std::alloc::Global;
 use std::io::Write;
 
@@ -78,7 +79,8 @@ fn computed(
 {
     let listed = utf8(listed)?;
     let view = read_records(alloc, listed)?;
-    let ran = fold_checked(certified, &view, start);
+    let mut block = Block::new(alloc)?;
+    let ran = run_fold(certified, &view, start, &mut block);
     let acc = ran.acc;
     let steps = ran.steps;
     Ok(format!(in alloc; "acc {acc} steps {steps}\n")?)
@@ -249,22 +251,22 @@ fn sim_answer<'a, F: Files>(
 /// What a command prints, or why it is refused.
 fn answer<'a, F: Files>(
     alloc: Global,
-    line: &Line<'a>,
+    line: &FileCommand<'a>,
     files: &mut F,
 ) -> Result<Printed, Denied<'a>>
     ensures answered { IfOk result (λ p. Answers F.read_gives F.write_gives line.now files.old (string_bytes p.lines) p.unwritten files.new) }
     ensures refused { IfErr result (λ denied. Refuses F.read_gives line.now files.old denied files.new) }
 {
     match line {
-        Line::Asm { file } => asm_answer(alloc, file, files),
-        Line::Check { file } => check_answer(alloc, file, files),
-        Line::Run {
+        FileCommand::Asm { file } => asm_answer(alloc, file, files),
+        FileCommand::Check { file } => check_answer(alloc, file, files),
+        FileCommand::Run {
             file,
             start,
             records,
         } => run_answer(alloc, file, *start, records, files),
-        Line::Sim { script } => sim_answer(alloc, script, files),
-        Line::Audit { journal } => audit_answer(alloc, journal, files),
+        FileCommand::Sim { script } => sim_answer(alloc, script, files),
+        FileCommand::Audit { journal } => audit_answer(alloc, journal, files),
     }
 }
 
@@ -273,7 +275,7 @@ fn answer<'a, F: Files>(
 /// It gives up only where a write failed, which the writer counted.
 pub fn carry_out<'a, F: Files, W: Write>(
     alloc: Global,
-    line: &Line<'a>,
+    line: &FileCommand<'a>,
     files: &mut F,
     out: &mut Counted<W>,
 ) -> Outcome<'a>

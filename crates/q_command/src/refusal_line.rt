@@ -2,6 +2,7 @@
 
 ghost use Rattle.std.specs.Prelude.{◌≡◌, OnOk, decimal};
 ghost use Rattle.std.specs.Io.KnownBytes.{Appends};
+ghost use Rattle.reasons.specs.Table.{text};
 ghost use Rattle.q_wire.specs.Counts.{count_after};
 ghost use Rattle.q_sim.specs.Refusal.{place_text, refusal_line};
 
@@ -9,6 +10,7 @@ use itoa::Buffer;
 use q_sim::refusal::{Place, Refusal};
 use q_wire::counted::Counted;
 use q_wire::fault::TransportFailed;
+use reasons::Reason;
 use std::io::Write;
 
 /// Writes a number in decimal.
@@ -36,6 +38,16 @@ fn put_place<W: Write>(out: &mut Counted<W>, place: Place) -> Result<(), Transpo
     put_number(out, number)
 }
 
+/// Writes a reason's number and its name, with a space between.
+fn put_reason<W: Write>(out: &mut Counted<W>, reason: Reason) -> Result<(), TransportFailed>
+    ensures written { OnOk result (Appends (W.contents out.old.inner) (W.contents out.new.inner) (text reason)) }
+    ensures counted { out.new.failures ≡ count_after result out.old.failures }
+{
+    put_number(out, usize::from(reason.number()))?;
+    out.put(b" ")?;
+    out.put(reason.name().as_bytes())
+}
+
 /// Writes the line of a refusal: the number, the name, and where it arose if it carries that. It takes no memory.
 ///
 /// Refused with 86 where a write fails; a part of the line may have been written before.
@@ -44,9 +56,7 @@ pub fn put_refusal<W: Write>(out: &mut Counted<W>, refusal: &Refusal) -> Result<
     ensures counted { out.new.failures ≡ count_after result out.old.failures }
 {
     out.put(b"refused ")?;
-    put_number(out, usize::from(refusal.number()))?;
-    out.put(b" ")?;
-    out.put(refusal.name().as_bytes())?;
+    put_reason(out, refusal.reason())?;
     put_place(out, refusal.place())?;
     out.put(b"\n")
 }

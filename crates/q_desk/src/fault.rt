@@ -1,9 +1,10 @@
-//! Why a desk refuses a call, each reason with its number and its name.
+//! Why a desk refuses a call, and the reason that is told of each.
 
 ghost use Rattle.std.specs.Prelude.{◌≡◌};
-ghost use Rattle.q_desk.specs.Faults.{of_table, fault_number, fault_name};
+ghost use Rattle.q_desk.specs.Faults.{of_table, reason};
 
 use q_table::fault::TableFault;
+use reasons::Reason;
 use std::alloc::AllocError;
 
 /// Why a desk refuses a call. After a refusal the desk is as it was. Where several hold, the first of 51, 52, 56, 55
@@ -27,33 +28,18 @@ pub enum DeskFault {
 }
 
 impl DeskFault {
-    /// The number by which the fault is reported.
-    pub fn number(&self) -> u8
-        ensures { result ≡ fault_number self.now }
+    /// The reason by which the fault is told.
+    pub fn reason(&self) -> Reason
+        ensures { result ≡ reason self.now }
     {
         match self {
-            DeskFault::UnknownProgram => 51,
-            DeskFault::TableFull => 52,
-            DeskFault::BookFull => 53,
-            DeskFault::NoSuchQuery => 54,
-            DeskFault::Stranger => 55,
-            DeskFault::AlreadyAnswered => 56,
-            DeskFault::OutOfMemory => 99,
-        }
-    }
-
-    /// The name by which the fault is reported.
-    pub fn name(&self) -> &'static str
-        ensures { result.now ≡ fault_name self.now }
-    {
-        match self {
-            DeskFault::UnknownProgram => "UnknownProgram",
-            DeskFault::TableFull => "TableFull",
-            DeskFault::BookFull => "BookFull",
-            DeskFault::NoSuchQuery => "NoSuchQuery",
-            DeskFault::Stranger => "Stranger",
-            DeskFault::AlreadyAnswered => "AlreadyAnswered",
-            DeskFault::OutOfMemory => "OutOfMemory",
+            DeskFault::UnknownProgram => Reason::UnknownProgram,
+            DeskFault::TableFull => Reason::TableFull,
+            DeskFault::BookFull => Reason::BookFull,
+            DeskFault::NoSuchQuery => Reason::NoSuchQuery,
+            DeskFault::Stranger => Reason::Stranger,
+            DeskFault::AlreadyAnswered => Reason::AlreadyAnswered,
+            DeskFault::OutOfMemory => Reason::OutOfMemory,
         }
     }
 }

@@ -1,8 +1,12 @@
-//! Runs the commands of a document as they are written there, over the files beside it.
+//! Runs the commands of the examples' document as they are written there, over the files that they name, and lists the
+//! refusals.
 //!
-//! The document is `README.md`. In its blocks that begin with a line "```console" a line `$ bqview WORDS` is a command, and
-//! what stands behind it, up to the next or to the block's end, is what it prints: its standard output, and then what
-//! explains its refusal. Each command is printed, with whether it prints just that.
+//! In the document's blocks that begin with a line "```console" a line `$ ./bqview WORDS`, or `$ ./look WORDS`, is a
+//! command, and what stands behind it, up to the next or to the block's end, is what it prints: its standard output, and
+//! then what explains its refusal. Each command is printed, with whether it prints just that.
+//!
+//! The refusals are the rows `| NUMBER | NAME |` that `docs/REFUSALS.md` has; those that a command prints, which
+//! `docs/FORMATS.md` has too, end with "printed". `./check-documents` looks them up there.
 #![tactic(auto)]
 
 use q_command::advice::advice;
@@ -11,9 +15,9 @@ use q_files::files::Files;
 use q_files::folder::Folder;
 use q_wire::counted::Counted;
 use q_words::words::{Wanted, read_words};
+use reasons::Reason;
 use std::alloc::Global;
 use std::io::{ErrorKind, Write};
-use std::process::ExitCode;
 use std::{io, str};
 
 /// The document that is being read.
@@ -32,7 +36,7 @@ fn printed<F: Files>(alloc: Global, command: &str, files: &mut F) -> io::Result<
     let words: Vec<&str> = command.split(' ').collect(alloc)?;
     let mut out = Counted::new(Vec::new(alloc));
     match read_words(alloc, words.as_slice()) {
-        Ok(Wanted::Line(line)) => {
+        Ok(Wanted::FileCommand(line)) => {
             let outcome = carry_out(alloc, &line, files, &mut out);
             if let Outcome::Refused(denied) = &outcome {
                 if let Some(text) = advice(alloc, denied)? {
@@ -66,6 +70,12 @@ fn end_command<F: Files>(
     Ok(())
 }
 
+/// The words behind the program's name, if the line is a command.
+fn words_of(line: &str) -> Option<&str> {
+    line.strip_prefix("$ ./bqview ")
+        .or_else(|| line.strip_prefix("$ ./look "))
+}
+
 /// Takes the next line of the document.
 fn take_line<F: Files>(
     rt: &impl Print,
@@ -82,9 +92,9 @@ fn take_line<F: Files>(
         document.is_open = false;
         return end_command(rt, alloc, document, files);
     }
-    if let Some(command) = line.strip_prefix("$ ") {
+    if let Some(words) = words_of(line) {
         end_command(rt, alloc, document, files)?;
-        document.command = Some(String::from_str(alloc, command)?);
+        document.command = Some(format!(in alloc; "bqview {words}")?);
         return Ok(());
     }
     document.told.extend_from_slice(line.as_bytes())?;
@@ -99,19 +109,72 @@ fn text_of(bytes: &[u8]) -> io::Result<&str> {
     }
 }
 
-fn main(rt: HostRuntime) -> io::Result<ExitCode> {
-    let alloc = rt.alloc();
-    let mut files = Folder::new(&rt);
-    let Ok(bytes) = files.read(alloc, "README.md") else {
-        return Ok(ExitCode::from(1));
-    };
+/// The bytes of a document.
+fn read<F: Files>(alloc: Global, name: &str, files: &mut F) -> io::Result<Vec<u8>> {
+    match files.read(alloc, name) {
+        Ok(bytes) => Ok(bytes),
+        Err(_) => Err(io::Error::from(ErrorKind::NotFound)),
+    }
+}
+
+/// Runs the commands of a document.
+fn run_commands<F: Files>(
+    rt: &impl Print,
+    alloc: Global,
+    name: &str,
+    files: &mut F,
+) -> io::Result<()> {
+    println!(rt; "{name}")?;
+    let bytes = read(alloc, name, files)?;
     let mut document = Document {
         is_open: false,
         command: None,
         told: Vec::new(alloc),
     };
     for line in text_of(bytes.as_slice())?.split('\n') {
-        take_line(&rt, alloc, &mut document, line, &mut files)?;
+        take_line(rt, alloc, &mut document, line, files)?;
     }
-    Ok(ExitCode::from(0))
+    Ok(())
+}
+
+/// Whether a command prints refusals for this reason.
+fn is_printed(reason: Reason) -> bool {
+    !matches!(
+        reason,
+        Reason::WrongCount
+            | Reason::Entry
+            | Reason::NotCovered
+            | Reason::NoteForm
+            | Reason::NoSuchQuery
+            | Reason::RowFull
+            | Reason::BadHead
+            | Reason::Short
+            | Reason::LongMessage
+            | Reason::BadKind
+            | Reason::Extra
+            | Reason::BadRequest
+            | Reason::CutRequest
+            | Reason::ReadUnset
+            | Reason::WroteFramePointer
+            | Reason::OutsideAccess
+            | Reason::WroteRecord
+            | Reason::BadPlace
+            | Reason::StepsOut
+    )
+}
+
+/// Lists the refusals, each as the row that the documents have.
+fn list_refusals(rt: &impl Print) -> io::Result<()> {
+    for reason in Reason::all().iter() {
+        let end = if is_printed(*reason) { " printed" } else { "" };
+        println!(rt; "| {} | {} |{end}", reason.number(), reason.name())?;
+    }
+    Ok(())
+}
+
+fn main(rt: HostRuntime) -> io::Result<()> {
+    let alloc = rt.alloc();
+    let mut files = Folder::new(&rt, false);
+    run_commands(&rt, alloc, "examples/README.md", &mut files)?;
+    list_refusals(&rt)
 }

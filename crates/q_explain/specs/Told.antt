@@ -2,7 +2,7 @@
 use Rattle.std.specs.Prelude.{◌≡◌, ◌≢◌, ◌<◌, ◌⊎◌, ℕ, List, Option, Some, None}
 use Rattle.bq_insn.specs.declared.insn.Insn.{Insn}
 use Rattle.bq_insn.specs.Slots.{units}
-use Rattle.bq_state.specs.declared.kind.Kind.{Kind}
+use Rattle.bq_state.specs.Kinds.{StateKinds}
 use Rattle.bq_sound.specs.Passes.{note_at}
 use Rattle.bq_check.specs.declared.fault.CheckFault.{CheckFault}
 use Rattle.bq_check.specs.declared.fault.CheckFault.TheVariants.{Flow, Rule, OutOfMemory}
@@ -10,15 +10,15 @@ use Rattle.bq_verify.specs.Refused.{IsRefused, IsBelow}
 use Rattle.bq_verify.specs.Table.{IsFilled}
 
 -- what reaches the unit from those below it
-abbrev pub IsReaching : List Insn → ℕ → Option (List Kind) → Type 0
-IsReaching text unit state = unit < units text → (notes : List (Option (List Kind))) × IsFilled text notes unit × (state ≡ note_at notes unit)
+abbrev pub IsReaching : List Insn → ℕ → Option StateKinds → Type 0
+IsReaching text unit state = unit < units text → (notes : List (Option StateKinds)) × IsFilled text notes unit × (state ≡ note_at notes unit)
 
 -- the flow is refused, or an instruction below the unit breaks a rule
 abbrev pub IsCutOff : List Insn → ℕ → Type 0
 IsCutOff text unit = (fault : CheckFault) × IsRefused text fault × IsBelow unit fault × (fault ≢ OutOfMemory)
 
 -- what is known of the registers at a unit: want of memory leaves nothing out
-abbrev pub IsKnown : List Insn → ℕ → Option (List Kind) → Type 0
+abbrev pub IsKnown : List Insn → ℕ → Option StateKinds → Type 0
 IsKnown text unit (Some state) = IsReaching text unit (Some state)
 IsKnown text unit None = IsReaching text unit None ⊎ IsCutOff text unit
 

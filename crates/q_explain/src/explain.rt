@@ -10,6 +10,7 @@ use bq_insn::text::Text;
 use bq_range::range::Range;
 use bq_state::kind::Kind;
 use bq_state::offsets::Offsets;
+use bq_state::region::Region;
 use bq_state::state::State;
 use bq_verify::verify::state_at;
 use std::alloc::{AllocError, Global};
@@ -46,7 +47,8 @@ fn write_range(out: &mut String, range: Range) -> Result<(), AllocError> {
     }
 }
 
-fn write_offsets(out: &mut String, region: &str, offsets: Offsets) -> Result<(), AllocError> {
+fn write_pointer(out: &mut String, region: Region, offsets: Offsets) -> Result<(), AllocError> {
+    let region = region.name();
     let (lo, hi) = (offsets.lo(), offsets.hi());
     if lo == hi {
         write!(out, "a pointer to the {region}'s start plus {lo}")
@@ -64,8 +66,7 @@ fn write_register(out: &mut String, register: u8, kind: Kind) -> Result<(), Allo
     match kind {
         Kind::Unset => {}
         Kind::Number(range) => write_range(out, range)?,
-        Kind::FramePointer(offsets) => write_offsets(out, "frame", offsets)?,
-        Kind::RecordPointer(offsets) => write_offsets(out, "record", offsets)?,
+        Kind::Pointer(region, offsets) => write_pointer(out, region, offsets)?,
     }
     out.push('\n')
 }

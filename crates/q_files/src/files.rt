@@ -47,6 +47,9 @@ pub trait Files {
         ensures counted { failed self.new ≡ failures_after result (failed self.old) }
         ensures written { write_gives self.old name.now bytes.now result self.new };
 
+    /// Tells a person that so many of so many steps of the work are done. It changes no file and no count.
+    fn tell(&self, done: usize, of: usize);
+
     /// How many calls failed so far, those that wanted memory aside. It stays at its greatest value.
     fn failures(&self) -> u64
         ensures { result ≡ failed self.now };

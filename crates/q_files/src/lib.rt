@@ -1,7 +1,7 @@
 //! Files by name, read and written whole.
 //!
 //! - [`Files`] is what a command asks of the folder that it runs in. Its contracts say what a read and a write may answer
-//!   by two relations of the implementing type, and count the calls that failed.
+//!   by two relations of the implementing type, and count the calls that failed. It is told how far long work is.
 //! - [`Folder`] is the machine's files, of which no contract says what they hold.
 //! - [`MemoryFiles`] is files in memory, of which each call's contract does.
 //!

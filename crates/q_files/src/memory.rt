@@ -7,6 +7,7 @@ ghost use Rattle.q_files.specs.Memory.{IsWritten, after_call, fails_next};
 
 use crate::files::{FileFault, Files};
 use std::alloc::{AllocError, Global};
+use std::cell::Cell;
 use std::collections::BTreeMap;
 
 /// Files in memory, by their names. One of the calls may be made to fail.
@@ -19,6 +20,8 @@ pub struct MemoryFiles {
     pub passing: Option<u64>,
     /// How many calls failed so far.
     pub failures: u64,
+    /// How far the work was when that was last told: so many of so many steps.
+    told: Cell<Option<(usize, usize)>>,
 }
 
 impl MemoryFiles {
@@ -33,7 +36,13 @@ impl MemoryFiles {
             files: BTreeMap::new(alloc),
             passing: None,
             failures: 0,
+            told: Cell::new(None),
         }
+    }
+
+    /// How far the work was when that was last told: so many of so many steps; none if it never was.
+    pub fn told(&self) -> Option<(usize, usize)> {
+        self.told.get()
     }
 
     /// Counts a call that failed.
@@ -99,6 +108,10 @@ impl Files for MemoryFiles {
         }
         self.put(name, bytes)?;
         Ok(())
+    }
+
+    fn tell(&self, done: usize, of: usize) {
+        self.told.set(Some((done, of)));
     }
 
     fn failures(&self) -> u64 {

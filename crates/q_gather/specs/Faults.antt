@@ -1,5 +1,7 @@
--- The numbers and names by which refusals are reported.
-use Rattle.std.specs.Prelude.{ℕ, List, codes}
+-- The reasons by which refusals are told.
+use Rattle.std.specs.Prelude.{ℕ}
+use Rattle.reasons.specs.declared.Reason.{Reason}
+use Rattle.reasons.specs.declared.Reason.TheVariants as reasons
 use Rattle.q_replay.specs.Faults as replay
 use Rattle.q_replay.specs.declared.fault.ReplayFault.{ReplayFault}
 use Rattle.q_replay.specs.declared.fault.ReplayFault.TheVariants as replay_fault
@@ -11,16 +13,9 @@ abbrev pub of_replay : ℕ → ReplayFault → GatherFault
 of_replay place replay_fault.OutOfMemory = OutOfMemory
 of_replay place f = Journal place f
 
-abbrev pub fault_number : GatherFault → ℕ
-fault_number (Journal place fault) = replay.fault_number fault
-fault_number IdUsed = 44
-fault_number BadFounders = 49
-fault_number NeverSent = 82
-fault_number OutOfMemory = 99
-
-abbrev pub fault_name : GatherFault → List ℕ
-fault_name (Journal place fault) = replay.fault_name fault
-fault_name IdUsed = codes "IdUsed"
-fault_name BadFounders = codes "BadFounders"
-fault_name NeverSent = codes "NeverSent"
-fault_name OutOfMemory = codes "OutOfMemory"
+abbrev pub reason : GatherFault → Reason
+reason (Journal place fault) = replay.reason fault
+reason IdUsed = reasons.IdUsed
+reason BadFounders = reasons.BadFounders
+reason NeverSent = reasons.NeverSent
+reason OutOfMemory = reasons.OutOfMemory

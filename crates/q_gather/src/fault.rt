@@ -1,9 +1,10 @@
-//! Why journals are not gathered, each reason with its number and its name.
+//! Why journals are not gathered, and the reason that is told of each.
 
 ghost use Rattle.std.specs.Prelude.{◌≡◌};
-ghost use Rattle.q_gather.specs.Faults.{fault_number, fault_name};
+ghost use Rattle.q_gather.specs.Faults.{reason};
 
 use q_replay::fault::ReplayFault;
+use reasons::Reason;
 use std::alloc::{AllocError, AllocFailed};
 
 /// Why journals are not gathered. Where several hold, the first of these is answered.
@@ -22,29 +23,16 @@ pub enum GatherFault {
 }
 
 impl GatherFault {
-    /// The number by which the fault is reported.
-    pub fn number(&self) -> u8
-        ensures { result ≡ fault_number self.now }
+    /// The reason by which the fault is told.
+    pub fn reason(&self) -> Reason
+        ensures { result ≡ reason self.now }
     {
         match self {
-            GatherFault::Journal { fault, .. } => fault.number(),
-            GatherFault::IdUsed => 44,
-            GatherFault::BadFounders => 49,
-            GatherFault::NeverSent => 82,
-            GatherFault::OutOfMemory => 99,
-        }
-    }
-
-    /// The name by which the fault is reported.
-    pub fn name(&self) -> &'static str
-        ensures { result.now ≡ fault_name self.now }
-    {
-        match self {
-            GatherFault::Journal { fault, .. } => fault.name(),
-            GatherFault::IdUsed => "IdUsed",
-            GatherFault::BadFounders => "BadFounders",
-            GatherFault::NeverSent => "NeverSent",
-            GatherFault::OutOfMemory => "OutOfMemory",
+            GatherFault::Journal { fault, .. } => fault.reason(),
+            GatherFault::IdUsed => Reason::IdUsed,
+            GatherFault::BadFounders => Reason::BadFounders,
+            GatherFault::NeverSent => Reason::NeverSent,
+            GatherFault::OutOfMemory => Reason::OutOfMemory,
         }
     }
 }

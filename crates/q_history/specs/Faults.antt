@@ -1,5 +1,6 @@
--- The refusals of desks and books as a cluster's, and the numbers and names by which refusals are reported.
-use Rattle.std.specs.Prelude.{ℕ, List, codes}
+-- The refusals of desks and books as a cluster's, and the reasons by which refusals are told.
+use Rattle.reasons.specs.declared.Reason.{Reason}
+use Rattle.reasons.specs.declared.Reason.TheVariants as reasons
 use Rattle.sc_world.specs.Acts as acts
 use Rattle.sc_world.specs.Faults as world
 use Rattle.q_desk.specs.Faults as desk
@@ -23,12 +24,7 @@ abbrev pub of_book : BookFault → ClusterFault
 of_book (book_fault.Node f) = fault.World (world_fault.Node f)
 of_book (book_fault.Desk f) = fault.Desk f
 
-abbrev pub fault_number : ClusterFault → ℕ
-fault_number fault.NoSuchJob = 83
-fault_number (fault.World f) = world.fault_number f
-fault_number (fault.Desk f) = desk.fault_number f
-
-abbrev pub fault_name : ClusterFault → List ℕ
-fault_name fault.NoSuchJob = codes "NoSuchJob"
-fault_name (fault.World f) = world.fault_name f
-fault_name (fault.Desk f) = desk.fault_name f
+abbrev pub reason : ClusterFault → Reason
+reason fault.NoSuchJob = reasons.NoSuchJob
+reason (fault.World f) = world.reason f
+reason (fault.Desk f) = desk.reason f

@@ -1,10 +1,11 @@
-//! Why an event is refused, each reason with its number and its name.
+//! Why an event is refused, and the reason that is told of each.
 
 ghost use Rattle.std.specs.Prelude.{◌≡◌};
-ghost use Rattle.q_history.specs.Faults.{fault_number, fault_name};
+ghost use Rattle.q_history.specs.Faults.{reason};
 
 use q_book::fault::BookFault;
 use q_desk::fault::DeskFault;
+use reasons::Reason;
 use sc_node::fault::NodeFault;
 use sc_world::fault::WorldFault;
 use std::alloc::AllocError;
@@ -22,25 +23,14 @@ pub enum ClusterFault {
 }
 
 impl ClusterFault {
-    /// The number by which the fault is reported.
-    pub fn number(&self) -> u8
-        ensures { result ≡ fault_number self.now }
+    /// The reason by which the fault is told.
+    pub fn reason(&self) -> Reason
+        ensures { result ≡ reason self.now }
     {
         match self {
-            ClusterFault::NoSuchJob => 83,
-            ClusterFault::World(fault) => fault.number(),
-            ClusterFault::Desk(fault) => fault.number(),
-        }
-    }
-
-    /// The name by which the fault is reported.
-    pub fn name(&self) -> &'static str
-        ensures { result.now ≡ fault_name self.now }
-    {
-        match self {
-            ClusterFault::NoSuchJob => "NoSuchJob",
-            ClusterFault::World(fault) => fault.name(),
-            ClusterFault::Desk(fault) => fault.name(),
+            ClusterFault::NoSuchJob => Reason::NoSuchJob,
+            ClusterFault::World(fault) => fault.reason(),
+            ClusterFault::Desk(fault) => fault.reason(),
         }
     }
 }

@@ -7,7 +7,8 @@ use Rattle.bq_insn.specs.Insn.{insn_bytes}
 use Rattle.bq_insn.specs.Slots.{slots_of, slots, units, spelling, IsText}
 use Rattle.bq_insn.proofs.Reading.{length-insn_bytes}
 use Rattle.bq_state.specs.declared.kind.Kind.{Kind}
-use Rattle.bq_state.specs.declared.kind.Kind.TheVariants.{Unset, Number, FramePointer, RecordPointer}
+use Rattle.bq_state.specs.Kinds.{StateKinds}
+use Rattle.bq_state.specs.declared.kind.Kind.TheVariants.{Unset, Number, Pointer}
 use Rattle.bq_check.specs.Spelling.{short_bytes, long_bytes, offset_bytes, kind_bytes, state_bytes, note_bytes, notes_bytes, IsNote, IsNotes}
 use Rattle.bq_check.proofs.Fields.{length-short, length-long}
 use Rattle.sc_members.specs.Members.{Config}
@@ -51,27 +52,26 @@ text_small t p = omega (arith, length-spelling t, p.few)
 kind_small : (k : Kind) → length (kind_bytes k) ≤ 17
 kind_small Unset = omega arith
 kind_small (Number a) = omega (arith, length-append (long_bytes a.lo) (long_bytes a.hi), length-long a.lo, length-long a.hi)
-kind_small (FramePointer s) = omega (arith, length-append (offset_bytes s.lo) (offset_bytes s.hi), length-short (cast_unsigned w32 s.lo), length-short (cast_unsigned w32 s.hi))
-kind_small (RecordPointer s) = omega (arith, length-append (offset_bytes s.lo) (offset_bytes s.hi), length-short (cast_unsigned w32 s.lo), length-short (cast_unsigned w32 s.hi))
+kind_small (Pointer region s) = omega (arith, length-append (offset_bytes s.lo) (offset_bytes s.hi), length-short (cast_unsigned w32 s.lo), length-short (cast_unsigned w32 s.hi))
 
-state_small : (ks : List Kind) → length (state_bytes ks) ≤ 17 * length ks
+state_small : (ks : StateKinds) → length (state_bytes ks) ≤ 17 * length ks
 state_small [] = omega arith
 state_small (k ∷ ks) = omega (arith, length-append (kind_bytes k) (state_bytes ks), kind_small k, state_small ks)
 
-note_small : (o : Option (List Kind)) → IsNote o → length (note_bytes o) ≤ 188
+note_small : (o : Option StateKinds) → IsNote o → length (note_bytes o) ≤ 188
 note_small None p = omega arith
 note_small (Some s) p = omega (arith, state_small s, p.count)
 
-all_small : (ns : List (Option (List Kind))) → AllByRecursion IsNote ns → length (flat_map note_bytes ns) ≤ 188 * length ns
+all_small : (ns : List (Option StateKinds)) → AllByRecursion IsNote ns → length (flat_map note_bytes ns) ≤ 188 * length ns
 all_small [] p = omega arith
 all_small (o ∷ ns) p = omega (arith, length-append (note_bytes o) (flat_map note_bytes ns), note_small o p.0, all_small ns p.1)
 
-pub notes_small : (ns : List (Option (List Kind))) → IsNotes ns → length (notes_bytes ns) ≤ 770052
+pub notes_small : (ns : List (Option StateKinds)) → IsNotes ns → length (notes_bytes ns) ≤ 770052
 notes_small ns p = omega (arith, length-append (short_bytes (length ns)) (flat_map note_bytes ns), length-short (length ns), all_small ns p.each, p.few)
 
 -- ---- bodies
 
-pub length-registered : (t : List Insn) (ns : List (Option (List Kind))) → length (body_bytes (Register t ns)) ≡ 4 + length (spelling t) + length (notes_bytes ns)
+pub length-registered : (t : List Insn) (ns : List (Option StateKinds)) → length (body_bytes (Register t ns)) ≡ 4 + length (spelling t) + length (notes_bytes ns)
 length-registered t ns =
     omega (arith, length-append (number_bytes 4 (length (spelling t))) (spelling t ++ notes_bytes ns), length-append (spelling t) (notes_bytes ns), length-number_bytes 4 (length (spelling t)))
 

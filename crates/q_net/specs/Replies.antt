@@ -1,13 +1,16 @@
 -- What is replied to a request, and what it does to the book.
 use Rattle.std.specs.Prelude.{◌≡◌, ◌≢◌, ℕ, List, [], ◌∷◌, ◌++◌, Option, Some, None, Result, Ok, Err}
+use Rattle.reasons.specs.Table.{number}
+use Rattle.reasons.specs.declared.Reason.{Reason}
+use Rattle.reasons.specs.declared.Reason.TheVariants as reasons
 use Rattle.bq_insn.specs.declared.insn.Insn.{Insn}
 use Rattle.bq_insn.specs.Fault as decode
 use Rattle.bq_insn.specs.Slots as text
 use Rattle.bq_insn.specs.Slots.{IsText}
-use Rattle.bq_state.specs.declared.kind.Kind.{Kind}
+use Rattle.bq_state.specs.Kinds.{StateKinds}
 use Rattle.bq_insn.specs.declared.fault.DecodeFault.TheVariants as decode_fault
 use Rattle.bq_check.specs.declared.fault.NotesFault.TheVariants as notes_fault
-use Rattle.bq_check.specs.Numbers as check
+use Rattle.bq_check.specs.Reasons as check
 use Rattle.bq_check.specs.Faults.{IsFirstFault}
 use Rattle.bq_check.specs.Spelling.{short_bytes, long_bytes, notes_bytes, IsNotes}
 use Rattle.bq_check.specs.Certificate.{Certificate, IsCertified}
@@ -20,7 +23,7 @@ use Rattle.q_desk.specs.Faults as desk_fault
 use Rattle.q_desk.specs.Desks.{answer_of}
 use Rattle.q_book.specs.State.{BookState}
 use Rattle.q_book.specs.Books as book
-use Rattle.q_book.specs.Faults.{memory, fault_number}
+use Rattle.q_book.specs.Faults.{memory, reason}
 use Rattle.q_book.specs.declared.fault.BookFault.{BookFault}
 use Rattle.q_book.specs.declared.answer.Asked.{Asked}
 use Rattle.q_net.specs.declared.request.Request.{Request}
@@ -34,10 +37,10 @@ use Rattle.q_net.specs.declared.served.Registered.TheVariants as registered
 
 abbrev pub reply_bytes : Reply → List ℕ
 reply_bytes (reply.Program program) = 0 ∷ short_bytes program
-reply_bytes (reply.Number number) = 0 ∷ long_bytes number
+reply_bytes (reply.Number value) = 0 ∷ long_bytes value
 reply_bytes reply.Open = 0 ∷ 0 ∷ []
 reply_bytes (reply.Answer acc steps) = 0 ∷ 1 ∷ long_bytes acc ++ long_bytes steps
-reply_bytes (reply.Refused number) = number ∷ []
+reply_bytes (reply.Refused why) = why ∷ []
 
 -- ---- registrations
 
@@ -47,9 +50,9 @@ abbrev pub Registers : BookState → List ℕ → List ℕ → Registered → Bo
 Registers b bytes notes (registered.Text f) c = (c ≡ b) × (f ≢ decode_fault.OutOfMemory → decode.IsFault bytes f)
 Registers b bytes notes (registered.Notes f) c =
     (c ≡ b) × ((t : List Insn) × IsText t × (bytes ≡ text.spelling t))
-    × (f ≢ notes_fault.OutOfMemory → (n : List (Option (List Kind))) → IsNotes n → notes ≡ notes_bytes n → ⊥)
+    × (f ≢ notes_fault.OutOfMemory → (n : List (Option StateKinds)) → IsNotes n → notes ≡ notes_bytes n → ⊥)
 Registers b bytes notes (registered.Check f) c =
-    (c ≡ b) × ((t : List Insn) × (n : List (Option (List Kind))) × IsText t × (bytes ≡ text.spelling t) × IsNotes n × (notes ≡ notes_bytes n)
+    (c ≡ b) × ((t : List Insn) × (n : List (Option StateKinds)) × IsText t × (bytes ≡ text.spelling t) × IsNotes n × (notes ≡ notes_bytes n)
     × IsFirstFault t n f)
 Registers b bytes notes (registered.Book r) c =
     (program : Certificate) × IsCertified program × (bytes ≡ text.spelling program.text) × IsNotes program.notes × (notes ≡ notes_bytes program.notes)
@@ -57,19 +60,19 @@ Registers b bytes notes (registered.Book r) c =
 
 abbrev pub of_register : Result ℕ BookFault → Reply
 of_register (Ok id) = reply.Program id
-of_register (Err e) = reply.Refused (fault_number e)
+of_register (Err e) = reply.Refused (number (reason e))
 
 abbrev pub of_registered : Registered → Reply
-of_registered (registered.Text f) = reply.Refused (decode.fault_number f)
-of_registered (registered.Notes f) = reply.Refused (check.notes_number f)
-of_registered (registered.Check f) = reply.Refused (check.fault_number f)
+of_registered (registered.Text f) = reply.Refused (number (decode.reason f))
+of_registered (registered.Notes f) = reply.Refused (number (check.notes_reason f))
+of_registered (registered.Check f) = reply.Refused (number (check.reason f))
 of_registered (registered.Book r) = of_register r
 
 -- ---- the other requests
 
 abbrev pub of_ask : Result Asked BookFault → Reply
 of_ask (Ok a) = reply.Number a.query
-of_ask (Err e) = reply.Refused (fault_number e)
+of_ask (Err e) = reply.Refused (number (reason e))
 
 abbrev pub sent_by_ask : Result Asked BookFault → List Message
 sent_by_ask (Ok a) = a.begun.outs
@@ -77,7 +80,7 @@ sent_by_ask (Err e) = []
 
 abbrev pub of_store : Result Begun BookFault → Reply
 of_store (Ok a) = reply.Number a.tag
-of_store (Err e) = reply.Refused (fault_number e)
+of_store (Err e) = reply.Refused (number (reason e))
 
 abbrev pub sent_by_store : Result Begun BookFault → List Message
 sent_by_store (Ok a) = a.outs
@@ -86,7 +89,7 @@ sent_by_store (Err e) = []
 abbrev pub of_answer : Result (Option Ran) DeskFault → Reply
 of_answer (Ok None) = reply.Open
 of_answer (Ok (Some ran)) = reply.Answer ran.acc ran.steps
-of_answer (Err e) = reply.Refused (desk_fault.fault_number e)
+of_answer (Err e) = reply.Refused (number (desk_fault.reason e))
 
 -- A request to a book is replied to, sends messages and leaves a book. What a call of the book answers is its own, or
 -- that memory ran out, after which the book is as it was and nothing is sent.
@@ -98,9 +101,12 @@ Replies b (Store value) said sent c =
     (r : Result Begun BookFault) × Steps memory (book.stored b value) b c r × (said ≡ of_store r) × (sent ≡ sent_by_store r)
 Replies b (Answer query) said sent c = (c ≡ b) × (said ≡ of_answer (answer_of b.desk query)) × (sent ≡ [])
 
--- the reply at which requests stop
+-- why requests stop, and the reply at which they do
+abbrev pub stop_reason : Stop → Reason
+stop_reason stop.Unknown = reasons.BadRequest
+stop_reason stop.Cut = reasons.CutRequest
+stop_reason stop.LongText = reasons.TooLong
+stop_reason stop.LongNotes = reasons.NoteForm
+
 abbrev pub stop_number : Stop → ℕ
-stop_number stop.Unknown = 84
-stop_number stop.Cut = 85
-stop_number stop.LongText = 2
-stop_number stop.LongNotes = 31
+stop_number s = number (stop_reason s)

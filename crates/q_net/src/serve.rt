@@ -12,6 +12,7 @@ use crate::served::reply;
 use q_book::book::Book;
 use q_wire::counted::Counted;
 use q_wire::fault::TransportFailed;
+use reasons::Reason;
 use sc_msg::message::Message;
 use std::alloc::Global;
 use std::io::{Read, Write};
@@ -21,12 +22,13 @@ use std::sync::Wait;
 fn number_of(stop: Stop) -> u8
     ensures { result ≡ stop_number stop }
 {
-    match stop {
-        Stop::Unknown => 84,
-        Stop::Cut => 85,
-        Stop::LongText => 2,
-        Stop::LongNotes => 31,
-    }
+    let reason = match stop {
+        Stop::Unknown => Reason::BadRequest,
+        Stop::Cut => Reason::CutRequest,
+        Stop::LongText => Reason::TooLong,
+        Stop::LongNotes => Reason::NoteForm,
+    };
+    reason.number()
 }
 
 /// Reads the next request and replies to it: whether requests go on.

@@ -70,11 +70,11 @@ fn reply_to_registered(registered: &Registered) -> Reply
     ensures { result ≡ of_registered registered.now }
 {
     match registered {
-        Registered::Text(fault) => Reply::Refused(fault.number()),
-        Registered::Notes(fault) => Reply::Refused(fault.number()),
-        Registered::Check(fault) => Reply::Refused(fault.number()),
+        Registered::Text(fault) => Reply::Refused(fault.reason().number()),
+        Registered::Notes(fault) => Reply::Refused(fault.reason().number()),
+        Registered::Check(fault) => Reply::Refused(fault.reason().number()),
         Registered::Book(Ok(program)) => Reply::Program(program.number()),
-        Registered::Book(Err(fault)) => Reply::Refused(fault.number()),
+        Registered::Book(Err(fault)) => Reply::Refused(fault.reason().number()),
     }
 }
 
@@ -93,7 +93,7 @@ fn ask(book: &mut Book, program: u32, start: u64, sent: &mut Vec<Message>) -> Re
             collect.outs.append_to(sent);
             Reply::Number(query as u64)
         }
-        Err(fault) => Reply::Refused(fault.number()),
+        Err(fault) => Reply::Refused(fault.reason().number()),
     }
 }
 
@@ -107,7 +107,7 @@ fn store(book: &mut Book, value: &[u8; 48], sent: &mut Vec<Message>) -> Reply
             begun.outs.append_to(sent);
             Reply::Number(begun.tag)
         }
-        Err(fault) => Reply::Refused(fault.number()),
+        Err(fault) => Reply::Refused(fault.reason().number()),
     }
 }
 
@@ -121,7 +121,7 @@ fn answer(book: &Book, query: u64) -> Reply
             steps: ran.steps,
         },
         Ok(None) => Reply::Open,
-        Err(fault) => Reply::Refused(fault.number()),
+        Err(fault) => Reply::Refused(fault.reason().number()),
     }
 }
 

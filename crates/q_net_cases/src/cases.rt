@@ -1,6 +1,7 @@
 //! A book, and the requests that it is to serve.
 
 use crate::stream::{Input, Output};
+use bq_frame::block::Block;
 use q_book::book::Book;
 use q_net::serve::serve;
 use q_script::number::number;
@@ -16,11 +17,12 @@ use std::sync::Wait;
 /// How many deliveries a book is given to settle.
 const MOST_DELIVERIES: u32 = 1000;
 
-/// The book, what it gave, and the next input with the place where it fails.
+/// The book, the block over which its jobs are run, what it gave, and the next input with the place where it fails.
 #[derive(Drop)]
 pub struct Cases {
     alloc: Global,
     book: Book,
+    block: Block,
     sent: Vec<Message>,
     input: Vec<u8>,
     read_limit: Option<usize>,
@@ -39,6 +41,7 @@ impl Cases {
         Some(Cases {
             alloc,
             book: alone(alloc)?,
+            block: Block::new(alloc).ok()?,
             sent: Vec::new(alloc),
             input: Vec::new(alloc),
             read_limit: None,
@@ -151,7 +154,8 @@ impl Cases {
             let Ok(Some(job)) = self.book.hand_out() else {
                 return;
             };
-            let _ = self.book.post(&Done::run(job));
+            let done = Done::run(job, &mut self.block);
+            let _ = self.book.post(&done);
         }
     }
 }

@@ -1,3 +1,4 @@
 -- Nodes in threads: lemmas.
 mod Telling
 mod Reading
+mod Endings

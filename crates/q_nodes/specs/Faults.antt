@@ -1,5 +1,7 @@
 -- Why nodes are not run, or a line of their script is refused.
-use Rattle.std.specs.Prelude.{ℕ, List, codes}
+use Rattle.std.specs.Prelude.{ℕ, List, ◌++◌, codes}
+use Rattle.reasons.specs.Table as table
+use Rattle.reasons.specs.declared.Reason.TheVariants as reasons
 use Rattle.q_board.specs.declared.fault.OpenFault.{OpenFault}
 use Rattle.q_board.specs.declared.fault.OpenFault.TheVariants as opening
 use Rattle.q_book.specs.declared.fault.BookFault.{BookFault}
@@ -49,6 +51,6 @@ of_gather gather.OutOfMemory = memory
 
 -- the line that is printed, without the line feed
 abbrev pub text : NodesFault → List ℕ
-text BadCount = codes "refused 62 BadCount"
-text TransportFailed = codes "refused 86 TransportFailed"
+text BadCount = codes "refused " ++ table.text reasons.BadCount
+text TransportFailed = codes "refused " ++ table.text reasons.TransportFailed
 text (Script r) = refusal_text.text r

@@ -4,3 +4,4 @@ pub mod Held
 pub mod Seats
 pub mod Lines
 pub mod Scripts
+pub mod Runs

@@ -9,6 +9,7 @@ use q_files::files::FileFault;
 use q_gather::fault::GatherFault;
 use q_history::fault::ClusterFault;
 use q_sim::refusal::Refusal;
+use reasons::Reason;
 use sc_node::fault::NodeFault;
 use sc_world::fault::WorldFault;
 use std::alloc::AllocError;
@@ -55,8 +56,8 @@ impl fmt::Display for NodesFault {
 
     fn fmt<W: fmt::Write>(&self, f: &mut fmt::Formatter<W>) -> fmt::Result {
         match self {
-            NodesFault::BadCount => write!(f, "refused 62 BadCount"),
-            NodesFault::TransportFailed => write!(f, "refused 86 TransportFailed"),
+            NodesFault::BadCount => write!(f, "refused {}", Reason::BadCount),
+            NodesFault::TransportFailed => write!(f, "refused {}", Reason::TransportFailed),
             NodesFault::Script(refusal) => write!(f, "{refusal}"),
         }
     }

@@ -72,7 +72,8 @@ fn await_answer<R: Wait + Clock>(
     None
 }
 
-fn refuse<W: Write>(fault: NodesFault, out: &mut W) -> io::Result<()>
+/// Prints the line of a refusal.
+pub fn refuse<W: Write>(fault: NodesFault, out: &mut W) -> io::Result<()>
     ensures { OnOk result (Appends (W.contents out.old) (W.contents out.new) (refused_line fault)) }
 {
     writeln!(out, "{fault}")

@@ -1,11 +1,14 @@
 //! A whole cluster, run by threads.
 
-ghost use Rattle.std.specs.Prelude.{◌≡◌, ◌⊎◌, All};
+ghost use Rattle.std.specs.Prelude.{◌≡◌, List, All, IfOk, IfErr};
 ghost use Rattle.q_board.specs.BoardId.{board_id};
+ghost use Rattle.q_nodes.specs.Faults.{memory};
+ghost use Rattle.q_nodes.specs.Lines.{TellsAll};
+ghost use Rattle.q_nodes.specs.Runs.{Ends, IsRefusedAlone, IsWritten, status_of};
 
 use crate::fault::NodesFault;
 use crate::held::Held;
-use crate::line::run_lines;
+use crate::line::{refuse, run_lines};
 use crate::losses::Losses;
 use crate::node::tend;
 use crate::script::{ClusterLine, ClusterScript};
@@ -30,15 +33,27 @@ use std::time::Clock;
 /// How many threads run jobs.
 const RUNNERS: usize = 4;
 
-/// How the lines of a script went.
+/// How a run ended.
 #[derive(Clone, Copy)]
-enum Course {
-    /// Each line was run.
-    Done,
+pub enum Ending {
+    /// What the lines tell was printed, and the journals of the nodes gather.
+    Gathered,
+    /// This refusal was printed last: behind what the lines tell where the journals do not gather, and else alone.
+    Refused(NodesFault),
     /// The writer failed.
     Unwritten,
-    /// A thread could not be started.
-    Unstarted,
+}
+
+impl Ending {
+    /// The exit status.
+    pub fn status(self) -> u8
+        ensures { result ≡ status_of self }
+    {
+        match self {
+            Ending::Gathered => 0,
+            Ending::Refused(_) | Ending::Unwritten => 1,
+        }
+    }
 }
 
 /// The ids 1 to this number.
@@ -106,8 +121,25 @@ fn start_all<'s, 'b, E, R: Wait + Threads + Clock + Sync, T: Transport + Send + 
     true
 }
 
-/// Runs the lines while the nodes' threads run, and ends the threads.
-fn run_threads<R: Wait + Threads + Clock + Sync, T: Transport + Send + Drop, W: Write>(
+/// What the lines tell. Refused with 99 alone.
+fn text_of_lines<R: Wait + Clock>(
+    rt: &R,
+    alloc: Global,
+    seats: &[Mutex<Held<'_>>],
+    lines: &[ClusterLine],
+) -> Result<Vec<u8>, NodesFault>
+    ensures told { IfOk result (λ text. TellsAll lines.now text.items) }
+    ensures refused { IfErr result (λ fault. fault ≡ memory) }
+{
+    let mut text = Vec::new(alloc);
+    match run_lines(rt, alloc, seats, lines, &mut text) {
+        Ok(()) => Ok(text),
+        Err(_) => Err(NodesFault::from(AllocError)),
+    }
+}
+
+/// What the lines tell while the nodes' threads run; then these threads are ended. Refused with 99 alone.
+fn run_threads<R: Wait + Threads + Clock + Sync, T: Transport + Send + Drop>(
     rt: &R,
     alloc: Global,
     nodes: u64,
@@ -115,24 +147,30 @@ fn run_threads<R: Wait + Threads + Clock + Sync, T: Transport + Send + Drop, W: 
     over: &AtomicBool,
     lines: &[ClusterLine],
     transports: Vec<T>,
-    out: &mut W,
-) -> Course {
-    thread::scope(thread::scope_env(), rt, |scope| {
-        let course = if start_all(scope, rt, alloc, nodes, seats, over, transports) {
-            match run_lines(rt, alloc, seats, lines, out) {
-                Ok(()) => Course::Done,
-                Err(_) => Course::Unwritten,
-            }
-        } else {
-            Course::Unstarted
-        };
-        over.store(true, Ordering::SeqCst);
-        course
-    })
+) -> Result<Vec<u8>, NodesFault>
+    ensures told { IfOk result (λ text. TellsAll lines.now text.items) }
+    ensures refused { IfErr result (λ fault. fault ≡ memory) }
+{
+    thread::scope(
+        thread::scope_env(),
+        rt,
+        |scope| -> Result<Vec<u8>, NodesFault>
+            ensures told { IfOk result (λ text. TellsAll lines.entry.now text.items) }
+            ensures refused { IfErr result (λ fault. fault ≡ memory) }
+        {
+            let text = if start_all(scope, rt, alloc, nodes, seats, over, transports) {
+                text_of_lines(rt, alloc, seats, lines)
+            } else {
+                Err(NodesFault::from(AllocError))
+            };
+            over.store(true, Ordering::SeqCst);
+            text
+        },
+    )
 }
 
 /// The same while the runners run the jobs of the board.
-fn run_with_runners<R: Wait + Threads + Clock + Sync, T: Transport + Send + Drop, W: Write>(
+fn run_with_runners<R: Wait + Threads + Clock + Sync, T: Transport + Send + Drop>(
     rt: &R,
     alloc: Global,
     board: &Board,
@@ -140,18 +178,22 @@ fn run_with_runners<R: Wait + Threads + Clock + Sync, T: Transport + Send + Drop
     seats: &[Mutex<Held<'_>>],
     script: &ClusterScript,
     transports: Vec<T>,
-    out: &mut W,
-) -> Course
+) -> Result<Vec<u8>, NodesFault>
     requires { All (λ s. s.table ≡ board_id board.now) runners.items }
+    ensures told { IfOk result (λ text. TellsAll script.now.lines.items text.items) }
+    ensures refused { IfErr result (λ fault. fault ≡ memory) }
 {
     let over = AtomicBool::new(false);
     let over = &over;
     let nodes = script.nodes;
     let lines = script.lines.as_slice();
-    let work = move || run_threads(rt, alloc, nodes, seats, over, lines, transports, out);
-    match with_runners(rt, board, runners, &Open, work) {
-        Ok(course) => course,
-        Err(_) => Course::Unstarted,
+    let work = move || -> Result<Vec<u8>, NodesFault>
+        ensures told { IfOk result (λ text. TellsAll lines.entry.now text.items) }
+        ensures refused { IfErr result (λ fault. fault ≡ memory) }
+    { run_threads(rt, alloc, nodes, seats, over, lines, transports) };
+    match with_runners(rt, alloc, board, runners, &Open, work) {
+        Ok(told) => told,
+        Err(fault) => Err(NodesFault::from(fault)),
     }
 }
 
@@ -194,35 +236,91 @@ fn gather_all(alloc: Global, nodes: &[Held<'_>]) -> Result<Cluster, NodesFault> 
     Ok(gather(alloc, slices.as_slice())?)
 }
 
-/// Prints a refusal: the exit status of what is refused.
-pub fn refuse<W: Write>(fault: NodesFault, out: &mut W) -> u8
-    ensures { result ≡ 1 }
+/// Prints a refusal, with which a run ends.
+pub fn print_refusal<W: Write>(fault: NodesFault, out: &mut W) -> Ending
+    ensures { IsRefusedAlone fault result (W.contents out.old) (W.contents out.new) }
 {
-    let _ = writeln!(out, "{fault}");
-    1
+    match refuse(fault, out) {
+        Ok(()) => Ending::Refused(fault),
+        Err(_) => Ending::Unwritten,
+    }
 }
 
-/// Ends a run whose threads have ended: tells the datagrams that were lost, and gathers the journals. The exit status.
-fn end<W: Write, N: Write>(
+/// Tells the datagrams that were lost by nodes whose threads have ended, and gathers their journals.
+fn gather_seats<N: Write>(
     alloc: Global,
     seats: Vec<Mutex<Held<'_>>>,
-    out: &mut W,
     notes: &mut N,
-) -> u8 {
+) -> Result<(), NodesFault> {
     let nodes = match unlocked(alloc, seats) {
         Ok(nodes) => nodes,
-        Err(fault) => return refuse(NodesFault::from(fault), out),
+        Err(fault) => return Err(NodesFault::from(fault)),
     };
     let losses = losses(nodes.as_slice());
     let _ = writeln!(notes, "{losses}");
     match gather_all(alloc, nodes.as_slice()) {
-        Ok(_cluster) => 0,
-        Err(fault) => refuse(fault, out),
+        Ok(_cluster) => Ok(()),
+        Err(fault) => Err(fault),
     }
 }
 
-/// Runs a script by a thread for each node, over these transports, and by four runners, and prints what its lines tell.
-/// How many datagrams changed nothing goes to the notes. The exit status.
+/// Prints what the lines told, and then the refusal of a cluster that is not gathered.
+fn print_all<W: Write>(told: &[u8], gathered: Result<(), NodesFault>, out: &mut W) -> Ending
+    ensures { (lines : List ClusterLine) → TellsAll lines told.now → IsWritten lines result (W.contents out.old) (W.contents out.new) }
+{
+    match out.write_all(told) {
+        Ok(()) => match gathered {
+            Ok(()) => Ending::Gathered,
+            Err(fault) => print_refusal(fault, out),
+        },
+        Err(_) => Ending::Unwritten,
+    }
+}
+
+/// Runs a script by a thread for each node, over these transports, and by four runners, and prints what its lines tell,
+/// all at the end. How many datagrams changed nothing goes to the notes.
+#[tactic(auto, using(crate::proofs::Endings::alone))]
+pub fn run_script<R, T, W, N>(
+    rt: &R,
+    alloc: Global,
+    script: &ClusterScript,
+    transports: Vec<T>,
+    out: &mut W,
+    notes: &mut N,
+) -> Ending
+where
+    R: Wait + Threads + Clock + Sync,
+    T: Transport + Send + Drop,
+    W: Write,
+    N: Write,
+    ensures { IsWritten script.now.lines.items result (W.contents out.old) (W.contents out.new) }
+{
+    let (board, askers, runners) = match Board::open(alloc, script.nodes as usize, RUNNERS) {
+        Ok(opened) => opened,
+        Err(fault) => return print_refusal(NodesFault::from(fault), out),
+    };
+    let seats = match found(alloc, &board, askers, script.config, script.nodes) {
+        Ok(seats) => seats,
+        Err(fault) => return print_refusal(fault, out),
+    };
+    match run_with_runners(
+        rt,
+        alloc,
+        &board,
+        runners,
+        seats.as_slice(),
+        script,
+        transports,
+    ) {
+        Ok(told) => {
+            let gathered = gather_seats(alloc, seats, notes);
+            print_all(told.as_slice(), gathered, out)
+        }
+        Err(fault) => print_refusal(fault, out),
+    }
+}
+
+/// The same: the exit status.
 pub fn run_cluster<R, T, W, N>(
     rt: &R,
     alloc: Global,
@@ -236,28 +334,7 @@ where
     T: Transport + Send + Drop,
     W: Write,
     N: Write,
+    ensures { Ends (IsWritten script.now.lines.items) result (W.contents out.old) (W.contents out.new) }
 {
-    let (board, askers, runners) = match Board::open(alloc, script.nodes as usize, RUNNERS) {
-        Ok(opened) => opened,
-        Err(fault) => return refuse(NodesFault::from(fault), out),
-    };
-    let seats = match found(alloc, &board, askers, script.config, script.nodes) {
-        Ok(seats) => seats,
-        Err(fault) => return refuse(fault, out),
-    };
-    let course = run_with_runners(
-        rt,
-        alloc,
-        &board,
-        runners,
-        seats.as_slice(),
-        script,
-        transports,
-        out,
-    );
-    match course {
-        Course::Done => end(alloc, seats, out, notes),
-        Course::Unwritten => 1,
-        Course::Unstarted => refuse(NodesFault::from(AllocError), out),
-    }
+    run_script(rt, alloc, script, transports, out, notes).status()
 }

@@ -14,7 +14,7 @@ use std::alloc::{AllocError, Global};
 use std::io;
 use std::io::Write;
 use std::net::Net;
-use std::sync::{Mutex, Wait};
+use std::sync::Wait;
 use std::thread::Threads;
 use std::time::Clock;
 
@@ -85,8 +85,9 @@ impl Cases {
                 out.write_all(notes.as_slice())?;
                 Ok(status)
             }
-            "memory" => self.run_over_memory(rt, 0, out),
-            "deaf" => self.run_over_memory(rt, number(rest).unwrap_or(0), out),
+            "memory" => self.run_over_memory(rt, 0, 0, out),
+            "deaf" => self.run_over_memory(rt, number(rest).unwrap_or(0), 0, out),
+            "mute" => self.run_over_memory(rt, 0, number(rest).unwrap_or(0), out),
             "noisy" => self.run_over_noise(rt, rest.as_bytes(), out),
             _ => self.run_command(rt, words, out),
         }
@@ -102,7 +103,7 @@ impl Cases {
         let words: Vec<&str> = words.split(' ').collect(self.alloc)?;
         let name = match read_words(self.alloc, words.as_slice()) {
             Ok(Wanted::Cluster { script }) => script,
-            Ok(Wanted::Line(_)) => {
+            Ok(Wanted::FileCommand(_)) => {
                 writeln!(out, "another command")?;
                 return Ok(0);
             }
@@ -131,23 +132,25 @@ impl Cases {
         }
     }
 
-    /// Runs the script over memory, where this node hears nothing.
+    /// Runs the script over memory, where one node hears nothing, and one sends nothing.
     fn run_over_memory<R: Net + Wait + Threads + Clock + Sync, W: Write>(
         &self,
         rt: &R,
         deaf: u64,
+        mute: u64,
         out: &mut W,
     ) -> io::Result<u8> {
         let Some(script) = self.read(out)? else {
             return Ok(1);
         };
-        let hub = Mutex::new(Hub::new(self.alloc));
+        let hub = Hub::open(self.alloc, script.nodes)?;
         let mut transports = Vec::new(self.alloc);
         for known in 0..script.nodes {
             let id = known + 1;
             transports.push(Deaf {
                 inner: MemoryTransport::new(rt, &hub, id),
                 is_deaf: id == deaf,
+                is_mute: id == mute,
             })?;
         }
         let mut notes = Vec::new(self.alloc);
@@ -166,7 +169,7 @@ impl Cases {
         let Some(script) = self.read(out)? else {
             return Ok(1);
         };
-        let hub = Mutex::new(Hub::new(self.alloc));
+        let hub = Hub::open(self.alloc, script.nodes)?;
         let mut transports = Vec::new(self.alloc);
         for known in 0..script.nodes {
             transports.push(Noisy {

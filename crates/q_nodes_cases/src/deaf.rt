@@ -1,19 +1,23 @@
-//! A transport that hears nothing.
+//! A transport that hears nothing, or sends nothing.
 
 use q_wire::fault::TransportFault;
 use q_wire::transport::Transport;
 
-/// A transport that hears nothing where it is deaf.
+/// A transport that hears nothing where it is deaf, and sends nothing where it is mute.
 #[derive(Drop)]
 pub struct Deaf<T> {
     pub inner: T,
     pub is_deaf: bool,
+    pub is_mute: bool,
 }
 
 impl<T: Transport> Transport for Deaf<T> {
     ghost failed = { λ t. T.failed t.inner };
 
     fn send(&mut self, to: u64, bytes: &[u8]) -> Result<(), TransportFault> {
+        if self.is_mute {
+            return Ok(());
+        }
         self.inner.send(to, bytes)
     }
 

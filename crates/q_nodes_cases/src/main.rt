@@ -7,6 +7,7 @@
 //! | `$ sockets` | is printed, with what the script prints over a socket for each node, and the exit status |
 //! | `$ memory` | is printed, with what the script prints over memory, and the exit status |
 //! | `$ deaf NODE` | is printed, with what it prints over memory where this node hears nothing |
+//! | `$ mute NODE` | is printed, with what it prints over memory where this node sends nothing |
 //! | `$ noisy LETTERS` | is printed, with what it prints over memory where datagrams are disturbed by these letters |
 //! | `$ WORDS` | is printed, with what the command of these words prints over the one file `s`, which holds the script |
 //! | any other | is added to the script as a line |

@@ -1,9 +1,9 @@
 //! A transport that disturbs what is sent over another.
 
-ghost use Rattle.std.specs.Prelude.{◌≡◌, ◌≤◌, length};
+ghost use Rattle.std.specs.Prelude.{◌≡◌};
 
 use q_wire::fault::TransportFault;
-use q_wire::transport::Transport;
+use q_wire::transport::{Transport, put_at_start};
 use std::alloc::Global;
 
 /// Bytes that are no message.
@@ -35,16 +35,6 @@ fn sent_before(letter: u8, bytes: &[u8]) -> Option<&[u8]> {
     }
 }
 
-/// Puts bytes at the start of a buffer, as far as they fit.
-fn put(bytes: &[u8], into: &mut [u8]) -> usize
-    ensures len { length into.new ≡ length into.old }
-    ensures fits { result ≤ length into.new }
-{
-    let len = bytes.len().min(into.len());
-    into[..len].copy_from_slice(&bytes[..len]);
-    len
-}
-
 impl<T> Noisy<'_, T> {
     /// The letter of the next datagram.
     fn next_letter(&mut self) -> u8
@@ -72,7 +62,7 @@ impl<T: Transport> Transport for Noisy<'_, T> {
 
     fn receive(&mut self, into: &mut [u8]) -> Result<Option<usize>, TransportFault> {
         if let Some(kept) = self.kept.take() {
-            return Ok(Some(put(kept.as_slice(), into)));
+            return Ok(Some(put_at_start(kept.as_slice(), into)));
         }
         let Some(len) = self.inner.receive(into)? else {
             return Ok(None);
@@ -82,7 +72,7 @@ impl<T: Transport> Transport for Noisy<'_, T> {
             self.kept = Some(first);
             return Ok(Some(second));
         }
-        Ok(Some(put(first.as_slice(), into)))
+        Ok(Some(put_at_start(first.as_slice(), into)))
     }
 
     fn failures(&self) -> u64 {

@@ -5,9 +5,10 @@ ghost use Rattle.q_board.specs.BoardId.{board_id};
 
 use crate::gate::Gate;
 use crate::runner::run_some;
+use bq_frame::block::Block;
 use q_board::board::Board;
 use q_board::seats::RunnerSeat;
-use std::alloc::AllocError;
+use std::alloc::{AllocError, Global};
 use std::sync::Wait;
 use std::sync::atomic::AtomicBool;
 use std::sync::atomic::Ordering::SeqCst;
@@ -18,11 +19,12 @@ use std::thread::{Scope, Threads};
 /// many as one asker has. More of them slow the askers down, whose words they contend for.
 const LOOKS: u32 = 8;
 
-/// Starts a thread for each seat, which runs the board's jobs, calls `work` in this thread, and then stops and joins the
-/// others. Where a thread can't be started, `work` isn't called, the threads that were started are joined, and it is
-/// refused with 99 OutOfMemory. The seats are used up.
+/// Starts a thread for each seat, which runs the board's jobs over a block of its own, calls `work` in this thread, and
+/// then stops and joins the others. Where a block or a thread can't be had, `work` isn't called, the threads that were
+/// started are joined, and it is refused with 99 OutOfMemory. The seats are used up.
 pub fn with_runners<R, G, T, W>(
     rt: &R,
+    alloc: Global,
     board: &Board,
     seats: Vec<RunnerSeat>,
     gate: &G,
@@ -47,7 +49,7 @@ where
             requires work { W.pre work }
             ensures { IfOk result (λ answer. W.post work answer) }
         {
-            let answer = if start_all(scope, rt, board, seats, gate, over) {
+            let answer = if start_all(scope, rt, alloc, board, seats, gate, over) {
                 Ok(work())
             } else {
                 Err(AllocError)
@@ -58,10 +60,11 @@ where
     )
 }
 
-// Starts a thread for each seat, until one can't be started. Answers whether all were.
+// Starts a thread for each seat, until one has no block or can't be started. Answers whether all were.
 fn start_all<'s, E, R: Wait + Threads + Sync, G: Gate + Sync>(
     scope: &Scope<'s, E>,
     rt: &'s R,
+    alloc: Global,
     board: &'s Board,
     seats: Vec<RunnerSeat>,
     gate: &'s G,
@@ -70,7 +73,10 @@ fn start_all<'s, E, R: Wait + Threads + Sync, G: Gate + Sync>(
     requires { All (λ s. s.table ≡ board_id board.now) seats.items }
 {
     for seat in seats {
-        if !start(scope, rt, board, seat, gate, over) {
+        let Ok(block) = Block::new(alloc) else {
+            return false;
+        };
+        if !start(scope, rt, board, seat, block, gate, over) {
             return false;
         }
     }
@@ -83,6 +89,7 @@ fn start<'s, E, R: Wait + Threads + Sync, G: Gate + Sync>(
     rt: &'s R,
     board: &'s Board,
     seat: RunnerSeat,
+    block: Block,
     gate: &'s G,
     over: &'s AtomicBool,
 ) -> bool
@@ -92,7 +99,7 @@ fn start<'s, E, R: Wait + Threads + Sync, G: Gate + Sync>(
         .spawn(
             move ||
                 requires { seat.table ≡ board_id board.now }
-            { run_until(rt, board, seat, gate, over) },
+            { run_until(rt, board, seat, block, gate, over) },
         )
         .is_ok()
 }
@@ -102,6 +109,7 @@ fn run_until<R: Wait, G: Gate>(
     rt: &R,
     board: &Board,
     mut seat: RunnerSeat,
+    mut block: Block,
     gate: &G,
     over: &AtomicBool,
 )
@@ -111,7 +119,7 @@ fn run_until<R: Wait, G: Gate>(
         if over.load(SeqCst) {
             break;
         }
-        if run_some(board, &mut seat, gate, LOOKS) == 0 {
+        if run_some(board, &mut seat, &mut block, gate, LOOKS) == 0 {
             thread::yield_now();
         }
     }

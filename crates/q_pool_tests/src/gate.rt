@@ -167,6 +167,7 @@ fn passes<R: Wait + Threads + Clock + Sync>(
     let gate = Held { rt, signs };
     let answered = with_runners(
         rt,
+        alloc,
         board,
         seats,
         &gate,

@@ -147,6 +147,7 @@ fn right_among<R: Wait + Threads + Sync>(
     let right = &right;
     let all = with_runners(
         rt,
+        alloc,
         board,
         runners,
         &Open,

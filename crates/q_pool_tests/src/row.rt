@@ -5,6 +5,7 @@ ghost use Rattle.q_board.specs.BoardId.{board_id};
 ghost use Rattle.q_board.specs.Calls.{SameAsker};
 
 use crate::asking::{ask, founded, is_right};
+use bq_frame::block::Block;
 use q_board::board::Board;
 use q_board::seats::{AskerSeat, RunnerSeat};
 use q_book::book::Book;
@@ -25,7 +26,7 @@ fn offer_next(board: &Board, seat: &mut AskerSeat, book: &mut Book) -> Option<(u
     };
     match board.offer(seat, job) {
         Ok(_) => None,
-        Err((fault, job)) => Some((fault.number(), job.query())),
+        Err((fault, job)) => Some((fault.reason().number(), job.query())),
     }
 }
 
@@ -64,6 +65,7 @@ fn gives_back_the_ninth(
     board: &Board,
     asker: &mut AskerSeat,
     runner: &mut RunnerSeat,
+    block: &mut Block,
     book: &mut Book,
 ) -> bool
     requires asker { asker.old.table ≡ board_id board.now }
@@ -71,7 +73,7 @@ fn gives_back_the_ninth(
 {
     let filled = fill(board, asker, book);
     let ninth = offer_next(board, asker, book);
-    let ran = run_some(board, runner, &Open, 8);
+    let ran = run_some(board, runner, block, &Open, 8);
     let first = record_first(board, asker, book);
     let tenth = offer_next(board, asker, book);
     let posted = pump_once(board, asker, book);
@@ -95,18 +97,35 @@ fn are_right(book: &Book) -> bool {
     (0..8).all(|query| is_right(book, query, query as u64))
 }
 
-/// The same with a board and a book of its own.
-fn row_of_eight(alloc: Global, board: &Board, mut asker: AskerSeat, mut runner: RunnerSeat) -> bool
-    requires asker { asker.table ≡ board_id board.now }
-    requires runner { runner.table ≡ board_id board.now }
+/// The same with a book of its own.
+fn row_over(
+    alloc: Global,
+    board: &Board,
+    asker: &mut AskerSeat,
+    runner: &mut RunnerSeat,
+    block: &mut Block,
+) -> bool
+    requires asker { asker.old.table ≡ board_id board.now }
+    requires runner { runner.old.table ≡ board_id board.now }
 {
     match founded(alloc) {
         Some(mut book) => {
             let asked = ask_each(alloc, &mut book, 10);
-            let gives = gives_back_the_ninth(board, &mut asker, &mut runner, &mut book);
+            let gives = gives_back_the_ninth(board, asker, runner, block, &mut book);
             asked.is_some() && gives && are_right(&book)
         }
         None => false,
+    }
+}
+
+/// The same over a block of its own.
+fn row_of_eight(alloc: Global, board: &Board, mut asker: AskerSeat, mut runner: RunnerSeat) -> bool
+    requires asker { asker.table ≡ board_id board.now }
+    requires runner { runner.table ≡ board_id board.now }
+{
+    match Block::new(alloc) {
+        Ok(mut block) => row_over(alloc, board, &mut asker, &mut runner, &mut block),
+        Err(_) => false,
     }
 }
 

@@ -9,6 +9,7 @@ use crate::refusal::Refusal;
 use bq_check::check::check;
 use bq_check::notes::Notes;
 use bq_flow::laws::one_longest;
+use bq_frame::block::Block;
 use bq_insn::text::Text;
 use bq_meaning::laws::one_answer;
 use q_book::book::Book;
@@ -70,15 +71,15 @@ fn hand_out(book: &mut Book) -> Result<(), Refusal>
     Ok(())
 }
 
-/// The job of the query is run anew, and its answer compared.
-fn post(book: &mut Book, query: u64, acc: u64, steps: u64) -> Result<(), Refusal>
+/// The job of the query is run anew over the block, and its answer compared.
+fn post(book: &mut Book, block: &mut Block, query: u64, acc: u64, steps: u64) -> Result<(), Refusal>
     ensures { Calling book.old (entry.Post query (record { acc = acc; steps = steps })) book.new result }
 {
     one_answer();
     let Some(job) = book.running_job(query as usize)? else {
         return Err(Refusal::Mismatch);
     };
-    let done = Done::run(job);
+    let done = Done::run(job, block);
     let _job = done.job();
     let ran = done.ran();
     if ran.acc != acc || ran.steps != steps {
@@ -88,8 +89,13 @@ fn post(book: &mut Book, query: u64, acc: u64, steps: u64) -> Result<(), Refusal
     Ok(())
 }
 
-/// Makes the call that an event names.
-pub(crate) fn take(alloc: Global, book: &mut Book, event: Written) -> Result<(), Refusal>
+/// Makes the call that an event names. A post runs over the block.
+pub(crate) fn take(
+    alloc: Global,
+    book: &mut Book,
+    block: &mut Block,
+    event: Written,
+) -> Result<(), Refusal>
     requires { IsWritten event }
     ensures { Taking book.old event book.new result }
 {
@@ -101,6 +107,6 @@ pub(crate) fn take(alloc: Global, book: &mut Book, event: Written) -> Result<(),
         Written::Store(value) => store(book, &value),
         Written::Deliver(message) => deliver(book, &message),
         Written::HandOut => hand_out(book),
-        Written::Post { query, acc, steps } => post(book, query, acc, steps),
+        Written::Post { query, acc, steps } => post(book, block, query, acc, steps),
     }
 }

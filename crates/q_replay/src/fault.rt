@@ -1,8 +1,9 @@
-//! Why bytes are no journal, each reason with its number and its name.
+//! Why bytes are no journal, and the reason that is told of each.
 
 ghost use Rattle.std.specs.Prelude.{◌≡◌};
-ghost use Rattle.q_replay.specs.Faults.{fault_number, fault_name, fault_event};
+ghost use Rattle.q_replay.specs.Faults.{reason, fault_event};
 
+use reasons::Reason;
 use std::alloc::AllocError;
 
 /// What is first wrong with bytes that are no journal of a book. Events are counted from 1, and the head is event 0. At
@@ -18,25 +19,14 @@ pub enum ReplayFault {
 }
 
 impl ReplayFault {
-    /// The number by which the fault is reported.
-    pub fn number(&self) -> u8
-        ensures { result ≡ fault_number self.now }
+    /// The reason by which the fault is told.
+    pub fn reason(&self) -> Reason
+        ensures { result ≡ reason self.now }
     {
         match self {
-            ReplayFault::Form { .. } => 57,
-            ReplayFault::Mismatch { .. } => 58,
-            ReplayFault::OutOfMemory => 99,
-        }
-    }
-
-    /// The name by which the fault is reported.
-    pub fn name(&self) -> &'static str
-        ensures { result.now ≡ fault_name self.now }
-    {
-        match self {
-            ReplayFault::Form { .. } => "JournalForm",
-            ReplayFault::Mismatch { .. } => "JournalMismatch",
-            ReplayFault::OutOfMemory => "OutOfMemory",
+            ReplayFault::Form { .. } => Reason::JournalForm,
+            ReplayFault::Mismatch { .. } => Reason::JournalMismatch,
+            ReplayFault::OutOfMemory => Reason::OutOfMemory,
         }
     }
 

@@ -10,6 +10,7 @@ use crate::call::take;
 use crate::fault::ReplayFault;
 use crate::refusal::Refusal;
 use bq_flow::laws::one_longest;
+use bq_frame::block::Block;
 use q_book::book::Book;
 use q_journal::head::Head;
 use q_journal::laws::{one_event, one_head};
@@ -45,9 +46,12 @@ fn book_of(alloc: Global, bytes: &[u8]) -> Result<Book, ReplayFault>
     // Each event takes a byte and more.
     let _most = bytes.len();
     let (mut book, mut rest) = open(alloc, bytes)?;
+    let Ok(mut block) = Block::new(alloc) else {
+        return Err(ReplayFault::OutOfMemory);
+    };
     let mut count = 0;
     while !rest.is_empty() {
-        rest = take_next(alloc, &mut book, rest, count)?;
+        rest = take_next(alloc, &mut book, &mut block, rest, count)?;
         count += 1;
     }
     let _desk = book.desk();
@@ -97,6 +101,7 @@ fn begin(alloc: Global, head: &Head) -> Result<Book, Refusal>
 fn take_next<'a>(
     alloc: Global,
     book: &mut Book,
+    block: &mut Block,
     rest: &'a [u8],
     count: usize,
 ) -> Result<&'a [u8], ReplayFault>
@@ -112,7 +117,7 @@ fn take_next<'a>(
         Err(ReadFault::Form) => return Err(ReplayFault::Form { event }),
         Err(ReadFault::OutOfMemory) => return Err(ReplayFault::OutOfMemory),
     };
-    match take(alloc, book, written) {
+    match take(alloc, book, block, written) {
         Ok(()) => Ok(more),
         Err(Refusal::Mismatch) => Err(ReplayFault::Mismatch { event }),
         Err(Refusal::OutOfMemory) => Err(ReplayFault::OutOfMemory),

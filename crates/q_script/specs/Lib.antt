@@ -1,5 +1,4 @@
 pub mod Words
-pub mod Parts
 pub mod Lines
 pub mod Command
 pub mod Line

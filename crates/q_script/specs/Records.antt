@@ -1,8 +1,10 @@
 -- Lists of records, the view that they make, and what is first wrong with a list.
-use Rattle.std.specs.Prelude.{◌≡◌, ℕ, ◌+◌, ◌≤◌, ◌<◌, List, [], ◌∷◌, ◌++◌, length, codes, Option, Some, None, replicate}
+use Rattle.std.specs.Prelude.{◌≡◌, ℕ, ◌+◌, ◌≤◌, ◌<◌, List, [], ◌∷◌, ◌++◌, length, Option, Some, None, replicate}
 use Rattle.std.specs.List.{AllZip}
 use Rattle.std.specs.Int.{w64, to_le_bytes}
 use Rattle.std.specs.FinMap as fin
+use Rattle.reasons.specs.declared.Reason.{Reason}
+use Rattle.reasons.specs.declared.Reason.TheVariants as reasons
 use Rattle.sc_view.specs.declared.view.Stored.{Stored}
 use Rattle.sc_view.specs.Views.{ViewMap, put, most_entries}
 use Rattle.q_script.specs.declared.records.Record.{Record}
@@ -87,16 +89,10 @@ abbrev pub IsRefusal : List ℕ → RecordsFault → Type 0
 IsRefusal source (Line line fault) = IsFaultAt (record_lines source) line fault
 IsRefusal source OutOfMemory = Unit {0}
 
--- ---- the numbers and names by which faults are reported
+-- ---- the reasons by which faults are told
 
-abbrev pub fault_number : RecordFault → ℕ
-fault_number Syntax = 9
-fault_number Unsorted = 75
-fault_number BadField = 77
-fault_number Full = 46
-
-abbrev pub fault_name : RecordFault → List ℕ
-fault_name Syntax = codes "Syntax"
-fault_name Unsorted = codes "Unsorted"
-fault_name BadField = codes "BadField"
-fault_name Full = codes "ViewFull"
+abbrev pub reason : RecordFault → Reason
+reason Syntax = reasons.Syntax
+reason Unsorted = reasons.Unsorted
+reason BadField = reasons.MessageField
+reason Full = reasons.ViewFull

@@ -1,6 +1,8 @@
 -- Scripts, and the first fault of a text that is none.
-use Rattle.std.specs.Prelude.{◌≡◌, ℕ, zero, suc, List, ◌∷◌, codes}
+use Rattle.std.specs.Prelude.{◌≡◌, ℕ, zero, suc, List, ◌∷◌}
 use Rattle.std.specs.List.{AllZip}
+use Rattle.reasons.specs.declared.Reason.{Reason}
+use Rattle.reasons.specs.declared.Reason.TheVariants as reasons
 use Rattle.q_script.specs.declared.line.ScriptLine.{ScriptLine}
 use Rattle.q_script.specs.declared.founding.Founding.{Founding}
 use Rattle.q_script.specs.declared.script.Script.{Script}
@@ -37,12 +39,8 @@ abbrev pub IsLaterFault : List ℕ → ScriptFault → Type 0
 IsLaterFault text (Syntax line) = IsFirst IsOther 1 (parts_of text) line
 IsLaterFault text OutOfMemory = Unit {0}
 
--- ---- the numbers and names by which faults are reported
+-- ---- the reasons by which faults are told
 
-abbrev pub fault_number : ScriptFault → ℕ
-fault_number (Syntax line) = 9
-fault_number OutOfMemory = 99
-
-abbrev pub fault_name : ScriptFault → List ℕ
-fault_name (Syntax line) = codes "Syntax"
-fault_name OutOfMemory = codes "OutOfMemory"
+abbrev pub reason : ScriptFault → Reason
+reason (Syntax line) = reasons.Syntax
+reason OutOfMemory = reasons.OutOfMemory

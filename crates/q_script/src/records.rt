@@ -1,11 +1,13 @@
 //! Lists of records.
 
 ghost use Rattle.std.specs.Prelude.{◌≡◌, ℕ, ◌≤◌, ◌∷◌, ◌++◌, codes, IfOk, IfErr, MatchResult, replicate};
+ghost use Rattle.reasons.specs.Table as table;
 ghost use Rattle.q_script.specs.Words.{Reads};
-ghost use Rattle.q_script.specs.Records.{IsRecord, IsAbove, HasFault, IsView, IsRefusal, value_bytes, stored_of, fault_number, fault_name};
+ghost use Rattle.q_script.specs.Records.{IsRecord, IsAbove, HasFault, IsView, IsRefusal, value_bytes, stored_of, reason};
 
 use crate::number::{leading, pair};
 use crate::text::without_last_feed;
+use reasons::Reason;
 use sc_view::view::{Stored, View, ViewFault};
 use std::alloc::Global;
 
@@ -34,27 +36,15 @@ pub enum RecordFault {
 }
 
 impl RecordFault {
-    /// The number by which the fault is reported.
-    pub fn number(&self) -> u8
-        ensures { result ≡ fault_number self.now }
+    /// The reason by which the fault is told.
+    pub fn reason(&self) -> Reason
+        ensures { result ≡ reason self.now }
     {
         match self {
-            RecordFault::Syntax => 9,
-            RecordFault::Unsorted => 75,
-            RecordFault::BadField => 77,
-            RecordFault::Full => 46,
-        }
-    }
-
-    /// The name by which the fault is reported.
-    pub fn name(&self) -> &'static str
-        ensures { result.now ≡ fault_name self.now }
-    {
-        match self {
-            RecordFault::Syntax => "Syntax",
-            RecordFault::Unsorted => "Unsorted",
-            RecordFault::BadField => "BadField",
-            RecordFault::Full => "ViewFull",
+            RecordFault::Syntax => Reason::Syntax,
+            RecordFault::Unsorted => Reason::Unsorted,
+            RecordFault::BadField => Reason::MessageField,
+            RecordFault::Full => Reason::ViewFull,
         }
     }
 }
@@ -160,8 +150,8 @@ pub fn read_records(alloc: Global, source: &str) -> Result<View, RecordsFault>
 /// What the definitions say of telling records.
 pub fn worked()
     ensures little_endian { value_bytes 258 ≡ 2 ∷ 1 ∷ replicate 46 0 }
-    ensures unsorted { fault_number RecordFault.Unsorted ≡ 75 }
-    ensures bad_field { fault_number RecordFault.BadField ≡ 77 }
-    ensures full { fault_number RecordFault.Full ≡ 46 }
-    ensures full_name { fault_name RecordFault.Full ≡ codes "ViewFull" }
+    ensures unsorted { table.number (reason RecordFault.Unsorted) ≡ 75 }
+    ensures bad_field { table.number (reason RecordFault.BadField) ≡ 77 }
+    ensures full { table.number (reason RecordFault.Full) ≡ 46 }
+    ensures full_name { table.name (reason RecordFault.Full) ≡ codes "ViewFull" }
 {}

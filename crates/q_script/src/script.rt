@@ -2,11 +2,12 @@
 
 ghost use Rattle.std.specs.Prelude.{◌≡◌, IfOk, IfErr, MatchResult};
 ghost use Rattle.q_script.specs.Founding.{SpellsFounding};
-ghost use Rattle.q_script.specs.Script.{IsScript, IsFault, AreLines, IsLaterFault, IsOther, fault_number, fault_name};
+ghost use Rattle.q_script.specs.Script.{IsScript, IsFault, AreLines, IsLaterFault, IsOther, reason};
 
 use crate::founding::Founding;
 use crate::line::{LineFault, ScriptLine};
 use crate::text::{cut, without_last_feed};
+use reasons::Reason;
 use std::alloc::Global;
 
 /// A script: how its cluster is founded, and its events in turn.
@@ -31,23 +32,13 @@ pub enum ScriptFault {
 }
 
 impl ScriptFault {
-    /// The number by which the fault is reported, 9 or 99.
-    pub fn number(&self) -> u8
-        ensures { result ≡ fault_number self.now }
+    /// The reason by which the fault is told, 9 or 99.
+    pub fn reason(&self) -> Reason
+        ensures { result ≡ reason self.now }
     {
         match self {
-            ScriptFault::Syntax { .. } => 9,
-            ScriptFault::OutOfMemory => 99,
-        }
-    }
-
-    /// The name by which the fault is reported.
-    pub fn name(&self) -> &'static str
-        ensures { result.now ≡ fault_name self.now }
-    {
-        match self {
-            ScriptFault::Syntax { .. } => "Syntax",
-            ScriptFault::OutOfMemory => "OutOfMemory",
+            ScriptFault::Syntax { .. } => Reason::Syntax,
+            ScriptFault::OutOfMemory => Reason::OutOfMemory,
         }
     }
 }

@@ -4,9 +4,10 @@ ghost use Rattle.std.specs.Prelude.{◌≡◌};
 ghost use Rattle.q_session.specs.Done.{IsFinished};
 ghost use Rattle.q_session.specs.Right.{IsRight};
 
-use crate::fold::fold_checked;
 use crate::job::Job;
 use crate::ran::Ran;
+use crate::run::run_fold;
+use bq_frame::block::Block;
 use std::marker::Model;
 
 /// A job that was run, with its right answer.
@@ -29,11 +30,11 @@ impl Model for Done {
 }
 
 impl Done {
-    /// Runs a job: its program over its view from its start value. Takes no memory.
-    pub fn run(job: Job) -> Done
+    /// Runs a job over a block: its program over its view from its start value. Takes no memory.
+    pub fn run(job: Job, block: &mut Block) -> Done
         ensures { result.job ≡ job }
     {
-        let ran = fold_checked(job.certified().certified(), job.view(), job.start());
+        let ran = run_fold(job.certified().certified(), job.view(), job.start(), block);
         Done::of(job, ran)
     }
 

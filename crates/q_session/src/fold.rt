@@ -16,7 +16,7 @@ const FRAME: u64 = 4096;
 /// Where the record lies.
 const RECORD: u64 = 8192;
 
-/// What the record runs of a certified program come to over the entries of a view in rising order of ids: the first
+/// The reference for tests: what the record runs of a certified program come to over the entries of a view in rising order of ids: the first
 /// with the start value and a frame of zeros, each later one with the accumulator and the frame that the one before
 /// left. It is the answer at every placement, and takes at most the longest path for each entry. Takes no memory.
 pub fn fold_checked(certified: &Certified, view: &View, start: u64) -> Ran

@@ -1,9 +1,9 @@
 //! Queries of one node, their jobs, and what a job comes to.
 //!
-//! A certified program runs over the records of a view in rising order of ids: [`fold`]. The result is the meaning of its
-//! text folded over these records from the start value, the same at every placement, in at most the longest path for
-//! each record; [`run`] does the same over raw memory, without tests. A job that was run holds its right answer:
-//! [`done`]. Nothing here takes memory.
+//! A certified program runs over the records of a view in rising order of ids, over raw memory and without tests:
+//! [`run`]. The result is the meaning of its text folded over these records from the start value, the same at every
+//! placement, in at most the longest path for each record. [`fold`] has the same by the machine that tests every access,
+//! for tests to compare with. A job that was run holds its right answer: [`done`]. No run takes memory.
 //!
 //! `specs/Records` says which bytes a record has, `specs/Right` when an answer is right.
 #![tactic(auto)]

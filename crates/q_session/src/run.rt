@@ -4,18 +4,19 @@ ghost use Rattle.q_session.specs.Right.{IsRight};
 
 use crate::fold::record_bytes;
 use crate::ran::Ran;
+use bq_check::certified::Certified;
 use bq_frame::block::Block;
 use bq_meaning::laws::appended;
-use bq_run::run::Lowered;
+use bq_run::run::run;
 use sc_view::view::View;
 
 /// What [`fold_checked`](crate::fold::fold_checked) answers, by the loop without tests over a block, whose frame it
 /// clears first. Takes no memory, and has no failure.
-pub fn run_fold(lowered: &Lowered, view: &View, start: u64, block: &mut Block) -> Ran
-    ensures { IsRight lowered.now view.now start result }
+pub fn run_fold(certified: &Certified, view: &View, start: u64, block: &mut Block) -> Ran
+    ensures { IsRight certified.now view.now start result }
 {
     // A record run takes at most 4,096 steps.
-    let _longest = lowered.certified().longest();
+    let _longest = certified.longest();
     block.is_block();
     block.clear_frame();
     let mut ran = Ran {
@@ -25,7 +26,7 @@ pub fn run_fold(lowered: &Lowered, view: &View, start: u64, block: &mut Block) -
     for (id, stored) in view.records() {
         appended();
         let bytes = record_bytes(id, &stored);
-        let ended = lowered.run(&bytes, ran.acc, block);
+        let ended = run(certified, &bytes, ran.acc, block);
         ran = Ran {
             acc: ended.acc,
             steps: ran.steps + ended.steps,

@@ -1,11 +1,14 @@
--- Refusals: the number, the name and the place by which each is reported, and its line.
+-- Refusals: the reason and the place by which each is told, and its line.
 use Rattle.std.specs.Prelude.{ℕ, List, [], ◌∷◌, ◌++◌, codes, Option, Some, None}
 use Rattle.std.specs.Fmt.{decimal}
+use Rattle.reasons.specs.Table.{number, name}
+use Rattle.reasons.specs.declared.Reason.{Reason}
+use Rattle.reasons.specs.declared.Reason.TheVariants as reasons
 use Rattle.bq_asm.specs.Source as asm
 use Rattle.bq_asm.specs.declared.fault.AsmFault.TheVariants as asm_fault
 use Rattle.bq_insn.specs.Fault as bytes
 use Rattle.bq_insn.specs.declared.fault.DecodeFault.TheVariants as bytes_fault
-use Rattle.bq_check.specs.Numbers as program
+use Rattle.bq_check.specs.Reasons as program
 use Rattle.q_script.specs.Records as records
 use Rattle.q_script.specs.declared.records.RecordsFault.TheVariants as records_fault
 use Rattle.q_script.specs.Script as script
@@ -19,31 +22,18 @@ use Rattle.q_sim.specs.declared.refusal.Refusal.TheVariants.{FileFailed, Assembl
 use Rattle.q_sim.specs.declared.refusal.Place.{Place}
 use Rattle.q_sim.specs.declared.refusal.Place.TheVariants.{Untold, Unit, Event, Line}
 
-abbrev pub number : Refusal → ℕ
-number FileFailed = 87
-number (Assembler f) = asm.fault_number f
-number (Bytes f) = bytes.fault_number f
-number (Program f) = program.fault_number f
-number (Records (records_fault.Line line f)) = records.fault_number f
-number (Records records_fault.OutOfMemory) = 99
-number (Script f) = script.fault_number f
-number (Fraction f) = 45
-number (Cluster f) = cluster.fault_number f
-number (Journal f) = journal.fault_number f
-number OutOfMemory = 99
-
-abbrev pub name : Refusal → List ℕ
-name FileFailed = codes "FileFailed"
-name (Assembler f) = asm.fault_name f
-name (Bytes f) = bytes.fault_name f
-name (Program f) = program.fault_name f
-name (Records (records_fault.Line line f)) = records.fault_name f
-name (Records records_fault.OutOfMemory) = codes "OutOfMemory"
-name (Script f) = script.fault_name f
-name (Fraction f) = codes "BadFraction"
-name (Cluster f) = cluster.fault_name f
-name (Journal f) = journal.fault_name f
-name OutOfMemory = codes "OutOfMemory"
+abbrev pub reason : Refusal → Reason
+reason FileFailed = reasons.FileFailed
+reason (Assembler f) = asm.reason f
+reason (Bytes f) = bytes.reason f
+reason (Program f) = program.reason f
+reason (Records (records_fault.Line line f)) = records.reason f
+reason (Records records_fault.OutOfMemory) = reasons.OutOfMemory
+reason (Script f) = script.reason f
+reason (Fraction f) = reasons.BadFraction
+reason (Cluster f) = cluster.reason f
+reason (Journal f) = journal.reason f
+reason OutOfMemory = reasons.OutOfMemory
 
 abbrev pub at_unit : Option ℕ → Place
 at_unit None = Untold
@@ -71,7 +61,7 @@ place_text (Line l) = codes " line " ++ decimal l
 
 -- `refused N Name`, and then ` at U` or ` line L`
 abbrev pub text : Refusal → List ℕ
-text r = codes "refused " ++ (decimal (number r) ++ (32 ∷ (name r ++ place_text (place r))))
+text r = codes "refused " ++ (decimal (number (reason r)) ++ (32 ∷ (name (reason r) ++ place_text (place r))))
 
 -- the line that is printed
 abbrev pub refusal_line : Refusal → List ℕ

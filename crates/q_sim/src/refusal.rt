@@ -1,4 +1,4 @@
-//! Why a command or an event is refused, each reason with its number and its name.
+//! Why a command or an event is refused, and the reason and the place that are told of each.
 
 ghost use Rattle.std.specs.Prelude.{◌≡◌};
 ghost use Rattle.q_sim.specs.Refusal as refusal;
@@ -11,6 +11,7 @@ use q_history::fault::ClusterFault;
 use q_replay::fault::ReplayFault;
 use q_script::records::RecordsFault;
 use q_script::script::ScriptFault;
+use reasons::Reason;
 use sc_members::config::BadFraction;
 use std::alloc::AllocError;
 use std::error::Error;
@@ -71,39 +72,23 @@ impl fmt::Display for Place {
 }
 
 impl Refusal {
-    /// The number by which the refusal is reported.
-    pub fn number(&self) -> u8
-        ensures { result ≡ refusal.number self.now }
+    /// The reason by which the refusal is told.
+    pub fn reason(&self) -> Reason
+        ensures { result ≡ refusal.reason self.now }
     {
         match self {
-            Refusal::FileFailed => 87,
-            Refusal::Assembler(fault) => fault.number(),
-            Refusal::Bytes(fault) => fault.number(),
-            Refusal::Program(fault) => fault.number(),
-            Refusal::Records(RecordsFault::Line { fault, .. }) => fault.number(),
-            Refusal::Script(fault) => fault.number(),
-            Refusal::Fraction(fault) => fault.number(),
-            Refusal::Cluster(fault) => fault.number(),
-            Refusal::Journal(fault) => fault.number(),
-            Refusal::Records(RecordsFault::OutOfMemory) | Refusal::OutOfMemory => 99,
-        }
-    }
-
-    /// The name by which the refusal is reported.
-    pub fn name(&self) -> &'static str
-        ensures { result.now ≡ refusal.name self.now }
-    {
-        match self {
-            Refusal::FileFailed => "FileFailed",
-            Refusal::Assembler(fault) => fault.name(),
-            Refusal::Bytes(fault) => fault.name(),
-            Refusal::Program(fault) => fault.name(),
-            Refusal::Records(RecordsFault::Line { fault, .. }) => fault.name(),
-            Refusal::Script(fault) => fault.name(),
-            Refusal::Fraction(fault) => fault.name(),
-            Refusal::Cluster(fault) => fault.name(),
-            Refusal::Journal(fault) => fault.name(),
-            Refusal::Records(RecordsFault::OutOfMemory) | Refusal::OutOfMemory => "OutOfMemory",
+            Refusal::FileFailed => Reason::FileFailed,
+            Refusal::Assembler(fault) => fault.reason(),
+            Refusal::Bytes(fault) => fault.reason(),
+            Refusal::Program(fault) => fault.reason(),
+            Refusal::Records(RecordsFault::Line { fault, .. }) => fault.reason(),
+            Refusal::Script(fault) => fault.reason(),
+            Refusal::Fraction(fault) => fault.reason(),
+            Refusal::Cluster(fault) => fault.reason(),
+            Refusal::Journal(fault) => fault.reason(),
+            Refusal::Records(RecordsFault::OutOfMemory) | Refusal::OutOfMemory => {
+                Reason::OutOfMemory
+            }
         }
     }
 
@@ -139,10 +124,9 @@ impl fmt::Display for Refusal {
     ghost output = { λ refusal. Some (text refusal) };
 
     fn fmt<W: fmt::Write>(&self, f: &mut fmt::Formatter<W>) -> fmt::Result {
-        let number = self.number();
-        let name = self.name();
+        let reason = self.reason();
         let place = self.place();
-        write!(f, "refused {number} {name}{place}")
+        write!(f, "refused {reason}{place}")
     }
 }
 

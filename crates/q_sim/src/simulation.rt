@@ -49,7 +49,7 @@ pub struct Printed {
 ///
 /// Refused are 45 BadFraction and then 49 BadFounders, by which the script ends before any event, and 99 OutOfMemory.
 /// Each event is one step of the cluster; a refused one prints its refusal, and the script goes on. So does a script with
-/// a journal whose file fails.
+/// a journal whose file fails. After each line it is told how many of all are done.
 pub fn simulate<F: Files>(alloc: Global, script: Script, files: &mut F) -> Result<Printed, Refusal>
     ensures printed { IfOk result (λ p. Simulates F.write_gives script files.old (string_bytes p.lines) p.unwritten files.new) }
     ensures refused { IfErr result (IsSimulationFault script.founding) }
@@ -57,8 +57,12 @@ pub fn simulate<F: Files>(alloc: Global, script: Script, files: &mut F) -> Resul
 {
     let Script { founding, lines } = script;
     let mut simulation = Simulation::new(alloc, &founding)?;
+    let all = lines.len();
+    let mut done: usize = 0;
     for line in lines {
         simulation.perform(line, files)?;
+        done = done.saturating_add(1);
+        files.tell(done, all);
     }
     simulation.cluster.answers_are_true();
     simulation.cluster.books_are_replays();

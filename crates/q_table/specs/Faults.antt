@@ -1,12 +1,9 @@
--- The numbers and names by which refusals are reported.
-use Rattle.std.specs.Prelude.{ℕ, List, codes}
+-- The reasons by which refusals are told.
+use Rattle.reasons.specs.declared.Reason.{Reason}
+use Rattle.reasons.specs.declared.Reason.TheVariants as reasons
 use Rattle.q_table.specs.declared.fault.TableFault.{TableFault}
 use Rattle.q_table.specs.declared.fault.TableFault.TheVariants as fault
 
-abbrev pub fault_number : TableFault → ℕ
-fault_number fault.Full = 52
-fault_number fault.OutOfMemory = 99
-
-abbrev pub fault_name : TableFault → List ℕ
-fault_name fault.Full = codes "TableFull"
-fault_name fault.OutOfMemory = codes "OutOfMemory"
+abbrev pub reason : TableFault → Reason
+reason fault.Full = reasons.TableFull
+reason fault.OutOfMemory = reasons.OutOfMemory

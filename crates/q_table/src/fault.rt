@@ -1,8 +1,9 @@
 //! Why a program is not registered.
 
 ghost use Rattle.std.specs.Prelude.{◌≡◌};
-ghost use Rattle.q_table.specs.Faults.{fault_number, fault_name};
+ghost use Rattle.q_table.specs.Faults.{reason};
 
+use reasons::Reason;
 use std::alloc::AllocError;
 
 /// Why a program is not registered. After a refusal the table is as it was.
@@ -15,23 +16,13 @@ pub enum TableFault {
 }
 
 impl TableFault {
-    /// The number by which the fault is reported.
-    pub fn number(&self) -> u8
-        ensures { result ≡ fault_number self.now }
+    /// The reason by which the fault is told.
+    pub fn reason(&self) -> Reason
+        ensures { result ≡ reason self.now }
     {
         match self {
-            TableFault::Full => 52,
-            TableFault::OutOfMemory => 99,
-        }
-    }
-
-    /// The name by which the fault is reported.
-    pub fn name(&self) -> &'static str
-        ensures { result.now ≡ fault_name self.now }
-    {
-        match self {
-            TableFault::Full => "TableFull",
-            TableFault::OutOfMemory => "OutOfMemory",
+            TableFault::Full => Reason::TableFull,
+            TableFault::OutOfMemory => Reason::OutOfMemory,
         }
     }
 }

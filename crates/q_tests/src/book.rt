@@ -9,7 +9,7 @@ use std::test::Fail;
 fn refusal<T: Drop>(answer: Result<T, BookFault>) -> u8 {
     match answer {
         Ok(_) => 0,
-        Err(fault) => fault.number(),
+        Err(fault) => fault.reason().number(),
     }
 }
 

@@ -91,7 +91,7 @@ pub fn answer(cluster: &Cluster) -> Option<Ran> {
 fn refused(ran: Result<(), (usize, ClusterFault)>) -> Option<(usize, u8)> {
     match ran {
         Ok(()) => None,
-        Err((place, fault)) => Some((place, fault.number())),
+        Err((place, fault)) => Some((place, fault.reason().number())),
     }
 }
 

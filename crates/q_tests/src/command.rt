@@ -4,7 +4,7 @@ use q_command::perform::{Outcome, carry_out};
 use q_files::files::Files;
 use q_files::memory::MemoryFiles;
 use q_wire::counted::Counted;
-use q_words::words::Line;
+use q_words::words::FileCommand;
 use std::alloc::Global;
 use std::io;
 use std::io::{ErrorKind, Write};
@@ -42,7 +42,7 @@ fn one_file(alloc: Global) -> Result<MemoryFiles, Fail> {
 fn ends_with_room(alloc: Global, room: usize) -> Result<Outcome<'static>, Fail> {
     let mut files = one_file(alloc)?;
     let mut out = Counted::new(Short { room });
-    Ok(carry_out(alloc, &Line::Asm { file: "a" }, &mut files, &mut out))
+    Ok(carry_out(alloc, &FileCommand::Asm { file: "a" }, &mut files, &mut out))
 }
 
 #[test]
@@ -56,7 +56,7 @@ fn tells_that_the_writer_failed(rt: HostRuntime) -> Result<(), Fail> {
 fn answers_1_where_the_writer_fails(rt: HostRuntime) -> Result<(), Fail> {
     let alloc = rt.alloc();
     let mut files = one_file(alloc)?;
-    let line = Line::Asm { file: "c" };
+    let line = FileCommand::Asm { file: "c" };
     let mut out = Counted::new(Short { room: 3 });
     let outcome = carry_out(alloc, &line, &mut files, &mut out);
     assert_eq!(rt; outcome.status(), 1);

@@ -21,7 +21,7 @@ fn journal(alloc: Global, cluster: &Cluster, node: u64) -> Result<Vec<u8>, Fail>
 fn gathered(alloc: Global, journals: &[&[u8]]) -> Result<Option<Ran>, u8> {
     match gather(alloc, journals) {
         Ok(cluster) => Ok(answer(&cluster)),
-        Err(fault) => Err(fault.number()),
+        Err(fault) => Err(fault.reason().number()),
     }
 }
 

@@ -70,10 +70,11 @@ use q_command::perform::{Outcome, carry_out};
 use q_files::folder::Folder;
 use q_nodes::sockets::run_file;
 use q_wire::counted::Counted;
-use q_words::words::{Line, Wanted, WordsFault, read_words};
+use q_words::words::{FileCommand, Wanted, WordsFault, read_words};
 use std::alloc::Global;
+use std::io::IsTerminal;
 use std::process::ExitCode;
-use std::rt::Files as SystemFiles;
+use std::rt::{Clock, Files as SystemFiles};
 use std::{env, io};
 
 /// Says why no command runs, where `clap` says that text belongs.
@@ -86,13 +87,16 @@ fn explain(rt: &(impl Print + Eprint), fault: &WordsFault) -> io::Result<()> {
 }
 
 /// Runs a command over files: the exit status.
-fn run_line<R: SystemFiles + Alloc<A = Global> + Print + Eprint>(
+///
+/// Where a person watches the standard error, long work tells there how far it is.
+fn run_line<R: SystemFiles + Alloc<A = Global> + Print + Eprint + Clock>(
     rt: &R,
-    line: &Line<'_>,
+    line: &FileCommand<'_>,
+    is_watched: bool,
 ) -> io::Result<u8> {
     let alloc = rt.alloc();
     let mut out = Counted::new(io::writer(rt));
-    let outcome = carry_out(alloc, line, &mut Folder::new(rt), &mut out);
+    let outcome = carry_out(alloc, line, &mut Folder::new(rt, is_watched), &mut out);
     if let Outcome::Refused(denied) = &outcome {
         if let Ok(Some(text)) = advice(alloc, denied) {
             rt.eprint(text)?;
@@ -105,11 +109,12 @@ fn main(rt: HostRuntime) -> io::Result<ExitCode> {
     let alloc = rt.alloc();
     let args: Vec<String> = env::args(&rt)?.collect(alloc)?;
     let words: Vec<&str> = args.iter().map(|word| word.as_str()).collect(alloc)?;
+    let is_watched = rt.stderr().is_terminal();
     let status = match read_words(alloc, words.as_slice()) {
-        Ok(Wanted::Line(line)) => run_line(&rt, &line)?,
+        Ok(Wanted::FileCommand(line)) => run_line(&rt, &line, is_watched)?,
         Ok(Wanted::Cluster { script }) => {
             let mut out = Counted::new(io::writer(&rt));
-            let mut files = Folder::new(&rt);
+            let mut files = Folder::new(&rt, is_watched);
             run_file(&rt, alloc, script, &mut files, &mut out, &mut rt.stderr())
         }
         Err(fault) => {

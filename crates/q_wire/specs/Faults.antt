@@ -1,12 +1,9 @@
--- The numbers and names by which failures of transports are reported.
-use Rattle.std.specs.Prelude.{ℕ, List, codes}
+-- The reasons by which failures of transports are told.
+use Rattle.reasons.specs.declared.Reason.{Reason}
+use Rattle.reasons.specs.declared.Reason.TheVariants as reasons
 use Rattle.q_wire.specs.declared.fault.TransportFault.{TransportFault}
 use Rattle.q_wire.specs.declared.fault.TransportFault.TheVariants as fault
 
-abbrev pub fault_number : TransportFault → ℕ
-fault_number fault.Failed = 86
-fault_number fault.OutOfMemory = 99
-
-abbrev pub fault_name : TransportFault → List ℕ
-fault_name fault.Failed = codes "TransportFailed"
-fault_name fault.OutOfMemory = codes "OutOfMemory"
+abbrev pub reason : TransportFault → Reason
+reason fault.Failed = reasons.TransportFailed
+reason fault.OutOfMemory = reasons.OutOfMemory

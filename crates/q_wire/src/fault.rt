@@ -1,8 +1,9 @@
-//! Why reads, writes and datagrams fail, each reason with its number and its name.
+//! Why reads, writes and datagrams fail, and the reason that is told of each.
 
 ghost use Rattle.std.specs.Prelude.{◌≡◌};
-ghost use Rattle.q_wire.specs.Faults.{fault_number, fault_name};
+ghost use Rattle.q_wire.specs.Faults.{reason};
 
+use reasons::Reason;
 use std::alloc::AllocError;
 
 /// 86 TransportFailed: a read or a write failed, and was counted.
@@ -19,23 +20,13 @@ pub enum TransportFault {
 }
 
 impl TransportFault {
-    /// The number by which the fault is reported, 86 or 99.
-    pub fn number(&self) -> u8
-        ensures { result ≡ fault_number self.now }
+    /// The reason by which the fault is told, 86 or 99.
+    pub fn reason(&self) -> Reason
+        ensures { result ≡ reason self.now }
     {
         match self {
-            TransportFault::Failed => 86,
-            TransportFault::OutOfMemory => 99,
-        }
-    }
-
-    /// The name by which the fault is reported.
-    pub fn name(&self) -> &'static str
-        ensures { result.now ≡ fault_name self.now }
-    {
-        match self {
-            TransportFault::Failed => "TransportFailed",
-            TransportFault::OutOfMemory => "OutOfMemory",
+            TransportFault::Failed => Reason::TransportFailed,
+            TransportFault::OutOfMemory => Reason::OutOfMemory,
         }
     }
 }

@@ -1,44 +1,92 @@
-//! Datagrams over memory, that threads share under a lock.
+//! Datagrams over memory, that threads share.
 
-ghost use Rattle.std.specs.Prelude.{◌≡◌};
+ghost use Rattle.std.specs.Prelude.{◌≡◌, ◌≤◌, ◌↔◌, ◌++◌, ◌∷◌, [], length, IfOk, IfSome, IsSome, OnOk, OnErr, MatchOption};
+ghost use Rattle.q_wire.specs.Counts.{transport_count};
 
 use crate::fault::TransportFault;
-use crate::transport::Transport;
+use crate::transport::{Transport, count_failure, put_at_start};
 use std::alloc::{AllocError, Global};
 use std::collections::VecDeque;
+use std::marker::Model;
 use std::sync::{Mutex, Wait};
 
+/// What was sent to a node and what it did not receive yet. Contracts see the bytes of each datagram, in the order in
+/// which they were sent.
 #[derive(Drop)]
-struct Datagram {
-    to: u64,
-    bytes: Vec<u8>,
-}
-
-/// Datagrams that were sent and not yet received, in the order in which they were sent.
-#[derive(Drop)]
-pub struct Hub {
+pub struct Mailbox {
     alloc: Global,
-    waiting: VecDeque<Datagram>,
+    waiting: VecDeque<Vec<u8>>,
 }
 
-impl Hub {
-    /// No datagram.
-    pub fn new(alloc: Global) -> Hub {
-        Hub {
+impl Model for Mailbox {
+    ghost use Rattle.std.specs.Prelude.{ℕ, List, map};
+
+    ghost Value = { List (List ℕ) };
+
+    ghost view = { λ mailbox. map (λ bytes. bytes.items) mailbox.waiting.items };
+}
+
+impl Mailbox {
+    /// An empty one.
+    pub fn new(alloc: Global) -> Mailbox
+        ensures { result ≡ [] }
+    {
+        Mailbox {
             alloc,
             waiting: VecDeque::new(alloc),
         }
     }
 
-    fn put(&mut self, to: u64, bytes: &[u8]) -> Result<(), AllocError> {
+    /// Puts a datagram behind those that wait.
+    pub fn put(&mut self, bytes: &[u8]) -> Result<(), AllocError>
+        ensures ok { OnOk result (self.new ≡ self.old ++ bytes.now ∷ []) }
+        ensures err { OnErr result (self.new ≡ self.old) }
+    {
         let bytes = Vec::from_slice(self.alloc, bytes)?;
-        self.waiting.push_back(Datagram { to, bytes })?;
+        self.waiting.push_back(bytes)?;
         Ok(())
     }
 
-    fn take(&mut self, to: u64) -> Option<Datagram> {
-        let place = self.waiting.iter().position(|datagram| datagram.to == to)?;
-        self.waiting.remove(place)
+    /// Takes the datagram that waits longest.
+    pub fn take(&mut self) -> Option<Vec<u8>>
+        ensures { MatchOption result ((self.old ≡ []) × (self.new ≡ [])) (λ bytes. self.old ≡ bytes.items ∷ self.new) }
+    {
+        self.waiting.pop_front()
+    }
+}
+
+/// A mailbox with a lock of its own for each of some nodes, which are counted from 1. Contracts see how many.
+#[derive(Drop)]
+pub struct Hub {
+    mailboxes: Vec<Mutex<Mailbox>>,
+}
+
+impl Model for Hub {
+    ghost use Rattle.std.specs.Prelude.{ℕ, vec_len};
+
+    ghost Value = { ℕ };
+
+    ghost view = { λ hub. vec_len hub.mailboxes };
+}
+
+impl Hub {
+    /// An empty mailbox for each of so many nodes.
+    pub fn open(alloc: Global, nodes: u64) -> Result<Hub, AllocError>
+        ensures { IfOk result (λ hub. hub ≡ nodes) }
+    {
+        let mut mailboxes = Vec::new(alloc);
+        for _ in 0..nodes {
+            mailboxes.push(Mutex::new(Mailbox::new(alloc)))?;
+        }
+        Ok(Hub { mailboxes })
+    }
+
+    /// The mailbox of a node.
+    fn mailbox(&self, node: u64) -> Option<&Mutex<Mailbox>>
+        ensures { IsSome result ↔ ((1 ≤ node) × (node ≤ self.now)) }
+    {
+        let place = node.checked_sub(1)?;
+        self.mailboxes.get(place as usize)
     }
 }
 
@@ -46,21 +94,21 @@ impl Hub {
 #[derive(Drop)]
 pub struct MemoryTransport<'a, R: Wait> {
     rt: &'a R,
-    hub: &'a Mutex<Hub>,
-    id: u64,
+    hub: &'a Hub,
+    node: u64,
     /// How many calls failed so far.
     pub failures: u64,
 }
 
 impl<'a, R: Wait> MemoryTransport<'a, R> {
     /// The end of this node.
-    pub fn new(rt: &'a R, hub: &'a Mutex<Hub>, id: u64) -> Self
+    pub fn new(rt: &'a R, hub: &'a Hub, node: u64) -> Self
         ensures { result.failures ≡ 0 }
     {
         MemoryTransport {
             rt,
             hub,
-            id,
+            node,
             failures: 0,
         }
     }
@@ -70,18 +118,19 @@ impl<R: Wait> Transport for MemoryTransport<'_, R> {
     ghost failed = { λ t. t.failures };
 
     fn send(&mut self, to: u64, bytes: &[u8]) -> Result<(), TransportFault> {
-        self.hub.lock(self.rt).put(to, bytes)?;
+        let Some(mailbox) = self.hub.mailbox(to) else {
+            return Err(count_failure(&mut self.failures));
+        };
+        mailbox.lock(self.rt).put(bytes)?;
         Ok(())
     }
 
     fn receive(&mut self, into: &mut [u8]) -> Result<Option<usize>, TransportFault> {
-        let taken = self.hub.lock(self.rt).take(self.id);
-        let Some(datagram) = taken else {
-            return Ok(None);
+        let Some(mailbox) = self.hub.mailbox(self.node) else {
+            return Err(count_failure(&mut self.failures));
         };
-        let len = datagram.bytes.len().min(into.len());
-        into[..len].copy_from_slice(&datagram.bytes[..len]);
-        Ok(Some(len))
+        let taken = mailbox.lock(self.rt).take();
+        Ok(taken.map(|bytes| put_at_start(bytes.as_slice(), into)))
     }
 
     fn failures(&self) -> u64 {

@@ -1,7 +1,7 @@
 //! What sends and receives datagrams.
 
-ghost use Rattle.std.specs.Prelude.{◌≡◌, ◌≤◌, ℕ, length, IfOk, IfSome};
-ghost use Rattle.q_wire.specs.Counts.{transport_count};
+ghost use Rattle.std.specs.Prelude.{◌≡◌, ◌≤◌, ◌++◌, ℕ, length, min, take, drop, IfOk, IfSome};
+ghost use Rattle.q_wire.specs.Counts.{fault_count, transport_count};
 
 use crate::fault::TransportFault;
 
@@ -24,4 +24,23 @@ pub trait Transport {
     /// How many calls failed so far, those that wanted memory aside. The count stays at its greatest value.
     fn failures(&self) -> u64
         ensures { result ≡ failed self.now };
+}
+
+/// Counts a call that failed: its refusal.
+pub(crate) fn count_failure(failures: &mut u64) -> TransportFault
+    ensures failed { result ≡ TransportFault.Failed }
+    ensures counted { failures.new ≡ fault_count result failures.old }
+{
+    *failures = failures.saturating_add(1);
+    TransportFault::Failed
+}
+
+/// Puts a datagram at the start of a buffer, as much of it as fits: how many bytes.
+pub fn put_at_start(bytes: &[u8], into: &mut [u8]) -> usize
+    ensures count { result ≡ min (length bytes.now) (length into.old) }
+    ensures bytes { into.new ≡ take result bytes.now ++ drop result into.old }
+{
+    let len = bytes.len().min(into.len());
+    into[..len].copy_from_slice(&bytes[..len]);
+    len
 }

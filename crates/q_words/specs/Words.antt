@@ -5,8 +5,8 @@ use Rattle.clap.specs.declared.error.Error.{Error}
 use Rattle.clap.specs.declared.error.kind.ErrorKind.TheVariants.{DisplayHelp}
 use Rattle.clap.specs.declared.error.kind.ErrorKind.TheVariants as kind
 use Rattle.clap.specs.declared.builder.action.ArgAction.TheVariants.{Set}
-use Rattle.q_words.specs.declared.words.Line.{Line}
-use Rattle.q_words.specs.declared.words.Line.TheVariants.{Asm, Check, Run, Sim, Audit}
+use Rattle.q_words.specs.declared.words.FileCommand.{FileCommand}
+use Rattle.q_words.specs.declared.words.FileCommand.TheVariants.{Asm, Check, Run, Sim, Audit}
 use Rattle.q_words.specs.declared.words.Wanted.{Wanted}
 use Rattle.q_words.specs.declared.words.Wanted.TheVariants as wanted
 use Rattle.q_words.specs.declared.words.WordsFault.{WordsFault}
@@ -62,7 +62,7 @@ abbrev pub operand_of : Text → List Row → Text
 operand_of name rows = unwrap_or (first_of name rows) []
 
 -- the command over files that was met, by its name and what was found for its operands
-abbrev pub HasCommand : Line → Text × List Row → Type 0
+abbrev pub HasCommand : FileCommand → Text × List Row → Type 0
 HasCommand (Asm file) met = (met.0 ≡ codes "asm") × (file.now ≡ operand_of (codes "FILE") met.1)
 HasCommand (Check file) met = (met.0 ≡ codes "check") × (file.now ≡ operand_of (codes "FILE") met.1)
 HasCommand (Run file start records) met =
@@ -73,7 +73,7 @@ HasCommand (Audit journal) met = (met.0 ≡ codes "audit") × (journal.now ≡ o
 
 -- what was met asks for this
 abbrev pub IsMet : Wanted → Text × List Row → Type 0
-IsMet (wanted.Line line) met = HasCommand line met
+IsMet (wanted.FileCommand line) met = HasCommand line met
 IsMet (wanted.Cluster script) met = (met.0 ≡ codes "cluster") × (script.now ≡ operand_of (codes "SCRIPT") met.1)
 
 -- the command `run` was met, and its START is no number

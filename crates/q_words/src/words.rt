@@ -12,7 +12,7 @@ use std::alloc::{AllocError, Global};
 
 /// A command over files, with its operands.
 #[derive(Clone, Copy)]
-pub enum Line<'a> {
+pub enum FileCommand<'a> {
     /// `asm FILE`: list the units of the program that a file of assembler text spells.
     Asm {
         /// The name of the file.
@@ -48,7 +48,7 @@ pub enum Line<'a> {
 #[derive(Clone, Copy)]
 pub enum Wanted<'a> {
     /// A command over files.
-    Line(Line<'a>),
+    FileCommand(FileCommand<'a>),
     /// `cluster SCRIPT`: run a script by a thread for each node.
     Cluster {
         /// The name of the file.
@@ -266,7 +266,7 @@ fn run_line<'a>(found: &ArgMatches<'a>) -> Result<Wanted<'a>, WordsFault>
     ensures { MatchResult result (λ wanted. IsMet wanted (codes "run", rows_of (found_of found.now))) (λ e. (e ≡ WordsFault.BadStart) × HasBadStart (codes "run", rows_of (found_of found.now))) }
 {
     match number(operand_text(found, "START")) {
-        Some(start) => Ok(Wanted::Line(Line::Run {
+        Some(start) => Ok(Wanted::FileCommand(FileCommand::Run {
             file: operand_text(found, "FILE"),
             start,
             records: operand_text(found, "RECORDS"),
@@ -282,25 +282,25 @@ pub fn read_words<'a>(alloc: Global, words: &'a [&'a str]) -> Result<Wanted<'a>,
     let matches = program(alloc)?.try_get_matches_from(words)?;
     if let Some(found) = matches.subcommand_matches("asm") {
         let file = operand_text(found, "FILE");
-        return Ok(Wanted::Line(Line::Asm { file }));
+        return Ok(Wanted::FileCommand(FileCommand::Asm { file }));
     }
     if let Some(found) = matches.subcommand_matches("check") {
         let file = operand_text(found, "FILE");
-        return Ok(Wanted::Line(Line::Check { file }));
+        return Ok(Wanted::FileCommand(FileCommand::Check { file }));
     }
     if let Some(found) = matches.subcommand_matches("run") {
         return run_line(found);
     }
     if let Some(found) = matches.subcommand_matches("sim") {
         let script = operand_text(found, "SCRIPT");
-        return Ok(Wanted::Line(Line::Sim { script }));
+        return Ok(Wanted::FileCommand(FileCommand::Sim { script }));
     }
     if let Some(found) = matches.subcommand_matches("cluster") {
         let script = operand_text(found, "SCRIPT");
         return Ok(Wanted::Cluster { script });
     }
     match matches.subcommand_matches("audit") {
-        Some(found) => Ok(Wanted::Line(Line::Audit {
+        Some(found) => Ok(Wanted::FileCommand(FileCommand::Audit {
             journal: operand_text(found, "JOURNAL"),
         })),
         None => unreachable!(),

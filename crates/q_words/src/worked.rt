@@ -4,7 +4,7 @@ ghost use Rattle.std.specs.Prelude.{◌≡◌, ℕ, List, codes};
 ghost use Rattle.clap.specs.Words.{Row};
 ghost use Rattle.q_script.specs.Words.{IsNumeral};
 ghost use Rattle.q_words.specs.Words.{HasCommand, IsMet, operand_of};
-ghost use Rattle.q_words.specs.declared.words.Line.TheVariants as line;
+ghost use Rattle.q_words.specs.declared.words.FileCommand.TheVariants as line;
 ghost use Rattle.q_words.specs.declared.words.Wanted.TheVariants as wanted;
 
 /// Which command each word names, with its operands. No two name the same.

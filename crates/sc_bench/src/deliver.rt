@@ -11,7 +11,7 @@ use std::alloc::Global;
 use std::time::{Clock, Duration, Instant};
 
 fn refused(fault: NodeFault) -> anyhow::Error {
-    anyhow!("refused {} {}", fault.number(), fault.name())
+    anyhow!("refused {}", fault.reason())
 }
 
 /// What founder 2 sends to store this view.

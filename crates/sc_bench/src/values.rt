@@ -19,7 +19,7 @@ pub(crate) fn id_at(place: u64) -> u64 {
 }
 
 pub(crate) fn refused(fault: ViewFault) -> anyhow::Error {
-    anyhow!("refused {} {}", fault.number(), fault.name())
+    anyhow!("refused {}", fault.reason())
 }
 
 /// Learns values under this number, at the ids of so many places.

@@ -78,7 +78,7 @@ fn tell_message(rt: &impl Print, alloc: Global, message: &Message, bytes: &[u8])
 }
 
 fn refuse(rt: &impl Print, fault: MessageFault) -> io::Result<()> {
-    println!(rt; " refused {} {}", fault.number(), fault.name())
+    println!(rt; " refused {}", fault.reason())
 }
 
 /// What the message of these hexadecimal digits says, or why they are none.

@@ -78,7 +78,7 @@ fn tell_counts(rt: &impl Print, facts: &Facts) -> io::Result<()> {
 }
 
 fn refuse(rt: &impl Print, fault: FactsFault) -> io::Result<()> {
-    println!(rt; " refused {} {}", fault.number(), fault.name())
+    println!(rt; " refused {}", fault.reason())
 }
 
 fn tell_facts(rt: &impl Print, facts: Result<Facts, FactsFault>) -> io::Result<()> {
@@ -96,8 +96,8 @@ fn tell_fraction(rt: &impl Print, fraction: Fraction) -> io::Result<()> {
             beta.beta_threshold(4),
             gamma.gamma_threshold(4)
         ),
-        (Err(fault), _) => println!(rt; " refused {} {}", fault.number(), fault.name()),
-        (_, Err(fault)) => println!(rt; " joins refused {} {}", fault.number(), fault.name()),
+        (Err(fault), _) => println!(rt; " refused {}", fault.reason()),
+        (_, Err(fault)) => println!(rt; " joins refused {}", fault.reason()),
     }
 }
 
@@ -105,7 +105,7 @@ fn tell_threshold(rt: &impl Print, fraction: Fraction, count: usize) -> io::Resu
     let Fraction { num, den } = fraction;
     match Config::new(num, den, num, den) {
         Ok(config) => println!(rt; " {}", config.beta_threshold(count)),
-        Err(fault) => println!(rt; " refused {} {}", fault.number(), fault.name()),
+        Err(fault) => println!(rt; " refused {}", fault.reason()),
     }
 }
 

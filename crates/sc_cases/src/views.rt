@@ -61,7 +61,7 @@ fn tell_values(rt: &impl Print, view: &View) -> io::Result<()> {
 }
 
 fn refuse(rt: &impl Print, fault: ViewFault) -> io::Result<()> {
-    println!(rt; " refused {} {}", fault.number(), fault.name())
+    println!(rt; " refused {}", fault.reason())
 }
 
 /// The first view, merged with the second.

@@ -50,7 +50,7 @@ fn tell_sent(rt: &impl Print, world: &World, sent: Sent) -> io::Result<()> {
 }
 
 fn refuse(rt: &impl Print, fault: WorldFault) -> io::Result<()> {
-    println!(rt; " refused {} {}", fault.number(), fault.name())
+    println!(rt; " refused {}", fault.reason())
 }
 
 fn step(rt: &impl Print, world: &mut World, event: Event) -> io::Result<()> {

@@ -1,5 +1,5 @@
 -- A tree of numbers, seen as a finite set.
-use Rattle.std.proofs.Common.{◌≡◌, ℕ, ◌+◌, Bool, true, false, not, ◌&&◌, ◌||◌, cond, List, [], ◌∷◌, map, length, Option, Some, None, refl, sym, ap, subst, ◌∙◌, T, arith, ◌<◌, ◌≤◌, ◌==◌, MatchOption, Bor, true≢false}
+use Rattle.std.proofs.Common.{◌≡◌, ℕ, ◌+◌, Bool, true, false, not, ◌&&◌, ◌||◌, cond, List, [], ◌∷◌, map, length, Option, Some, None, refl, sym, ap, subst, ◌∙◌, T, arith, ◌<◌, ◌≤◌, ◌==◌, MatchOption, Bor, true≢false, IsTrue, ◌↔◌}
 use Rattle.std.specs.declared.cmp.Ordering.TheVariants.{Less}
 use Rattle.std.specs.Ordering.{nat_cmp, is_lt, is_eq, eq_by_cmp}
 use Rattle.std.specs.Cmp.{nat_cmp_total, eq_by_cmp_equiv, ranked, unsigned_tied}
@@ -154,3 +154,41 @@ module _ (s t : Ids) (ks : List ℕ) (rising : IsStrictlySortedBy nat_cmp ks) (s
 -- what a step of a set's iterator copies
 pub first_copied : (ks : List ℕ) (r : Option (Bor ℕ)) (rest : List ℕ) (o : Option ℕ) → TakesFirst deref ks r rest → o ≡ option_copied r → MatchOption o (ks ≡ []) (λ id. ks ≡ id ∷ rest)
 first_copied ks r rest o step is = subst (λ (p : Option ℕ). MatchOption p (ks ≡ []) (λ id. ks ≡ id ∷ rest)) (sym is) (elim r as (λ (r : Option (Bor ℕ)). TakesFirst deref ks r rest → MatchOption (option_copied r) (ks ≡ []) (λ id. ks ≡ id ∷ rest)) [ None ↦ λ s. s.0 | Some x ↦ λ s. s ] step)
+
+-- ---- what is there already
+
+or_first : (a b : Bool) → (b ≡ true → a ≡ true) → (a || b) ≡ a
+or_first true b h = refl
+or_first false true h = sym (h refl)
+or_first false false h = refl
+
+or_last : (a b : Bool) → (a ≡ true → b ≡ true) → (a || b) ≡ b
+or_last true b h = sym (h refl)
+or_last false b h = refl
+
+or_true : (a b : Bool) → b ≡ true → (a || b) ≡ true
+or_true true b is = refl
+or_true false b is = is
+
+-- a set that has the id is as it was once it has it
+pub insert_known : (s : Ids) (id : ℕ) → set.contains s id ≡ true → set.insert s id ≡ s
+insert_known s id is = same (set.insert s id) s (λ q. set.contains-insert nat_cmp_total s id q ∙ or_last _ _ (λ tie. subst (λ (x : ℕ). set.contains s x ≡ true) (sym (eqb-true q id (sym (unsigned_tied q id) ∙ tie))) is))
+
+pub known_insert : (s : Ids) (id : ℕ) → set.insert s id ≡ s → set.contains s id ≡ true
+known_insert s id is = sym (ap (λ (t : Ids). set.contains t id) is) ∙ set.contains-insert nat_cmp_total s id id ∙ ap (λ r. is_eq r || set.contains s id) (tied_itself nat_cmp_total id)
+
+pub union_known : (s t : Ids) → set.is_subset t s ≡ true → set.union s t ≡ s
+union_known s t is = same (set.union s t) s (λ q. set.contains-union nat_cmp_total s t q ∙ or_first _ _ (set.is_subset-contains nat_cmp_total t s is q))
+
+pub known_union : (s t : Ids) → set.union s t ≡ s → set.is_subset t s ≡ true
+known_union s t is = set.contains-is_subset nat_cmp_total t s (λ q there. sym (ap (λ (u : Ids). set.contains u q) is) ∙ set.contains-union nat_cmp_total s t q ∙ or_true _ _ there)
+
+alike : (a b : Bool) → (a ≡ true → b ≡ true) → (b ≡ true → a ≡ true) → a ≡ b
+alike true b f g = sym (f refl)
+alike false true f g = g refl
+alike false false f g = refl
+
+pub subset_is : (r : Bool) (ks js : List ℕ) (s t : Ids) → set.from_list ks ≡ s → set.from_list js ≡ t → (IsTrue r ↔ ((q : ℕ) → IsTrue (has ks q) → IsTrue (has js q))) → r ≡ set.is_subset s t
+subset_is r ks js s t is is_other h =
+    alike r (set.is_subset s t) (λ yes. set.contains-is_subset nat_cmp_total s t (λ q there. contains-view js t is_other q ∙ h.0 yes q (sym (contains-view ks s is q) ∙ there)))
+    (λ yes. h.1 (λ q there. sym (contains-view js t is_other q) ∙ set.is_subset-contains nat_cmp_total s t yes q (contains-view ks s is q ∙ there)))

@@ -1,12 +1,9 @@
--- The numbers and names by which refusals are reported.
-use Rattle.std.specs.Prelude.{ℕ, List, codes}
+-- The reasons by which refusals are told.
+use Rattle.reasons.specs.declared.Reason.{Reason}
+use Rattle.reasons.specs.declared.Reason.TheVariants as reasons
 use Rattle.sc_members.specs.declared.facts.FactsFault.{FactsFault}
 use Rattle.sc_members.specs.declared.facts.FactsFault.TheVariants.{Full, OutOfMemory}
 
-abbrev pub fault_number : FactsFault → ℕ
-fault_number Full = 47
-fault_number OutOfMemory = 99
-
-abbrev pub fault_name : FactsFault → List ℕ
-fault_name Full = codes "FactsFull"
-fault_name OutOfMemory = codes "OutOfMemory"
+abbrev pub reason : FactsFault → Reason
+reason Full = reasons.FactsFull
+reason OutOfMemory = reasons.OutOfMemory

@@ -1,7 +1,8 @@
 -- Finite sets of ids.
-use Rattle.std.specs.Prelude.{◌≡◌, ℕ, ◌≤◌, true, List, map, Option, IfSome, IfNone}
+use Rattle.std.specs.Prelude.{◌≡◌, ℕ, ◌≤◌, Bool, true, false, List, map, Option, IfSome, IfNone}
 use Rattle.std.specs.Ordering.{nat_cmp}
 use Rattle.std.specs.Coded.{Coded, coded_ℕ}
+use Rattle.std.specs.BTreeSet.{BTreeSet}
 use Rattle.std.specs.FinSet as set
 use Rattle.std.specs.FinMap as fin
 
@@ -10,6 +11,10 @@ Ids = set.FinSet nat_cmp
 
 abbrev pub ids_code : Coded Ids
 ids_code = set.code coded_ℕ
+
+-- the ids of a tree
+abbrev pub ids_in : BTreeSet ℕ → Ids
+ids_in tree = set.from_list tree.keys
 
 -- the id is in the set
 abbrev pub Has : Ids → ℕ → Type 0
@@ -28,3 +33,8 @@ as_map s = fin.from_entries (map (λ id. (id, tt)) (set.items s))
 -- the ids in rising order
 abbrev pub rising : Ids → List ℕ
 rising s = fin.keys (as_map s)
+
+-- what a set has once it was asked to take an id in place, by whether it did
+abbrev pub Learns : Ids → ℕ → Ids → Bool → Type 0
+Learns old id new true = new ≡ set.insert old id
+Learns old id new false = new ≡ old

@@ -1,6 +1,7 @@
-ghost use Rattle.std.specs.Prelude.{◌≡◌, ◌≤◌, ◌↔◌, IsTrue, IsOk, IfOk, codes};
+ghost use Rattle.std.specs.Prelude.{◌≡◌, ◌≤◌, ◌↔◌, IsTrue, IsOk, IfOk};
 ghost use Rattle.sc_members.specs.Members.{IsFraction, IsConfig, threshold};
 
+use reasons::Reason;
 use std::marker::Model;
 
 /// The two fractions of a cluster: beta for the phases of operations, gamma for joining.
@@ -30,18 +31,11 @@ impl Model for Config {
 pub struct BadFraction;
 
 impl BadFraction {
-    /// The number by which the fault is reported, 45.
-    pub fn number(&self) -> u8
-        ensures { result ≡ 45 }
+    /// The reason by which the fault is told, 45.
+    pub fn reason(&self) -> Reason
+        ensures { result ≡ Reason.BadFraction }
     {
-        45
-    }
-
-    /// The name by which the fault is reported.
-    pub fn name(&self) -> &'static str
-        ensures { result.now ≡ codes "BadFraction" }
-    {
-        "BadFraction"
+        Reason::BadFraction
     }
 }
 

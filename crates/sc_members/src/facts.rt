@@ -1,9 +1,10 @@
-ghost use Rattle.std.specs.Prelude.{◌≡◌, ◌≤◌, ◌↔◌, length, IsTrue, IfOk, OnOk, OnErr, IsErrOf};
+ghost use Rattle.std.specs.Prelude.{◌≡◌, ◌≤◌, ◌↔◌, length, IsTrue, IsOk, IfOk, OnOk, OnErr, IsErrOf};
 ghost use Rattle.std.specs.FinSet as set;
-ghost use Rattle.sc_members.specs.Faults.{fault_number, fault_name};
+ghost use Rattle.sc_members.specs.Faults.{reason};
 ghost use Rattle.sc_members.specs.Members.{Facts as KnownFacts, IsFacts, most_facts, is_overfull, no_facts, founding, present, members, union_facts, with_entered, with_joined, with_left};
 
 use crate::ids::IdSet;
+use reasons::Reason;
 use std::alloc::{AllocError, AllocFailed, Global};
 use std::marker::Model;
 
@@ -42,23 +43,13 @@ pub enum FactsFault {
 }
 
 impl FactsFault {
-    /// The number by which the fault is reported, 47 or 99.
-    pub fn number(&self) -> u8
-        ensures { result ≡ fault_number self.now }
+    /// The reason by which the fault is told, 47 or 99.
+    pub fn reason(&self) -> Reason
+        ensures { result ≡ reason self.now }
     {
         match self {
-            FactsFault::Full => 47,
-            FactsFault::OutOfMemory => 99,
-        }
-    }
-
-    /// The name by which the fault is reported.
-    pub fn name(&self) -> &'static str
-        ensures { result.now ≡ fault_name self.now }
-    {
-        match self {
-            FactsFault::Full => "FactsFull",
-            FactsFault::OutOfMemory => "OutOfMemory",
+            FactsFault::Full => Reason::FactsFull,
+            FactsFault::OutOfMemory => Reason::OutOfMemory,
         }
     }
 }
@@ -174,7 +165,7 @@ impl Facts {
         ensures few { IfOk result IsFacts }
         ensures full { IsErrOf result FactsFault.Full ↔ IsTrue (is_overfull (with_entered self.now id)) }
     {
-        if self.entered.len_with(id) > MOST_FACTS {
+        if !has_room(&self.entered, id) {
             return Err(FactsFault::Full);
         }
         Ok(Facts {
@@ -206,7 +197,7 @@ impl Facts {
         ensures few { IfOk result IsFacts }
         ensures full { IsErrOf result FactsFault.Full ↔ IsTrue (is_overfull (with_left self.now id)) }
     {
-        if self.left.len_with(id) > MOST_FACTS {
+        if !has_room(&self.left, id) {
             return Err(FactsFault::Full);
         }
         Ok(Facts {
@@ -236,7 +227,7 @@ impl Facts {
     }
 }
 
-// The same in place. At Err the facts are as they were.
+// The same in place. At Err the facts are as they were. What is known takes no memory.
 impl Facts {
     /// Learns that the node has entered.
     pub fn add_entered(&mut self, id: u64) -> Result<(), FactsFault>
@@ -244,8 +235,12 @@ impl Facts {
         ensures few { OnOk result (IsFacts self.new) }
         ensures full { IsErrOf result FactsFault.Full ↔ IsTrue (is_overfull (with_entered self.old id)) }
         ensures err { OnErr result (self.new ≡ self.old) }
+        ensures known { with_entered self.old id ≡ self.old → IsOk result }
     {
-        *self = self.with_entered(id)?;
+        if !has_room(&self.entered, id) {
+            return Err(FactsFault::Full);
+        }
+        self.entered.insert(id)?;
         Ok(())
     }
 
@@ -255,7 +250,11 @@ impl Facts {
         ensures few { OnOk result (IsFacts self.new) }
         ensures full { IsErrOf result FactsFault.Full ↔ IsTrue (is_overfull (with_joined self.old id)) }
         ensures err { OnErr result (self.new ≡ self.old) }
+        ensures known { with_joined self.old id ≡ self.old → IsOk result }
     {
+        if self.knows_joined(id) {
+            return Ok(());
+        }
         *self = self.with_joined(id)?;
         Ok(())
     }
@@ -266,8 +265,12 @@ impl Facts {
         ensures few { OnOk result (IsFacts self.new) }
         ensures full { IsErrOf result FactsFault.Full ↔ IsTrue (is_overfull (with_left self.old id)) }
         ensures err { OnErr result (self.new ≡ self.old) }
+        ensures known { with_left self.old id ≡ self.old → IsOk result }
     {
-        *self = self.with_left(id)?;
+        if !has_room(&self.left, id) {
+            return Err(FactsFault::Full);
+        }
+        self.left.insert(id)?;
         Ok(())
     }
 
@@ -277,10 +280,39 @@ impl Facts {
         ensures few { OnOk result (IsFacts self.new) }
         ensures full { IsErrOf result FactsFault.Full ↔ IsTrue (is_overfull (union_facts self.old other.now)) }
         ensures err { OnErr result (self.new ≡ self.old) }
+        ensures known { union_facts self.old other.now ≡ self.old → IsOk result }
     {
+        if self.knows(other) {
+            return Ok(());
+        }
         *self = self.united(other)?;
         Ok(())
     }
+
+    // Whether it is known that the node has joined.
+    fn knows_joined(&self, id: u64) -> bool
+        ensures known { IsTrue result ↔ (with_joined self.now id ≡ self.now) }
+        ensures valid { IsFacts self.now }
+    {
+        self.entered.contains(id) && self.joined.contains(id)
+    }
+
+    // Whether the others say nothing new.
+    fn knows(&self, other: &Facts) -> bool
+        ensures known { IsTrue result ↔ (union_facts self.now other.now ≡ self.now) }
+        ensures valid { IsFacts self.now }
+    {
+        other.entered.is_subset(&self.entered)
+            && other.joined.is_subset(&self.joined)
+            && other.left.is_subset(&self.left)
+    }
+}
+
+// Whether the set may get this id.
+fn has_room(ids: &IdSet, id: u64) -> bool
+    ensures { IsTrue result ↔ (set.len (set.insert ids.now id) ≤ most_facts) }
+{
+    ids.len_with(id) <= MOST_FACTS
 }
 
 impl Clone for Facts {

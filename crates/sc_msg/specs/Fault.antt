@@ -1,5 +1,7 @@
 -- The first fault of bytes that are no message.
-use Rattle.std.specs.Prelude.{ℕ, ◌≡◌, ◌≤◌, ◌<◌, ◌^◌, ◌⊎◌, Bool, not, ◌&&◌, ◌==◌, nat_lt, if◌then◌else◌, List, ◌∷◌, ◌++◌, length, slice_index, Option, Some, None, is_some, codes}
+use Rattle.std.specs.Prelude.{ℕ, ◌≡◌, ◌≤◌, ◌<◌, ◌^◌, ◌⊎◌, Bool, not, ◌&&◌, ◌==◌, nat_lt, if◌then◌else◌, List, ◌∷◌, ◌++◌, length, slice_index, Option, Some, None, is_some}
+use Rattle.reasons.specs.declared.Reason.{Reason}
+use Rattle.reasons.specs.declared.Reason.TheVariants as reasons
 use Rattle.sc_view.specs.declared.view.ViewFault.{ViewFault}
 use Rattle.sc_view.specs.declared.view.ViewFault.TheVariants as views
 use Rattle.sc_msg.specs.declared.message.Message.{Message}
@@ -53,29 +55,17 @@ IsFirstFault bytes e = (head_fault bytes ≡ Some e) ⊎ (IsBodyFault bytes e �
 abbrev pub IsFault : List ℕ → MessageFault → Type 0
 IsFault bytes e = OrMemory (IsFirstFault bytes) e
 
--- ---- the numbers by which faults are reported
+-- ---- the reasons by which faults are told
 
-abbrev pub fault_number : MessageFault → ℕ
-fault_number BadHead = 71
-fault_number Short = 72
-fault_number TooLong = 73
-fault_number BadKind = 74
-fault_number Unsorted = 75
-fault_number Extra = 76
-fault_number BadField = 77
-fault_number OutOfMemory = 99
-
--- ---- and their names
-
-abbrev pub fault_name : MessageFault → List ℕ
-fault_name BadHead = codes "BadHead"
-fault_name Short = codes "Short"
-fault_name TooLong = codes "TooLong"
-fault_name BadKind = codes "BadKind"
-fault_name Unsorted = codes "Unsorted"
-fault_name Extra = codes "Extra"
-fault_name BadField = codes "BadField"
-fault_name OutOfMemory = codes "OutOfMemory"
+abbrev pub reason : MessageFault → Reason
+reason BadHead = reasons.BadHead
+reason Short = reasons.Short
+reason TooLong = reasons.LongMessage
+reason BadKind = reasons.BadKind
+reason Unsorted = reasons.Unsorted
+reason Extra = reasons.Extra
+reason BadField = reasons.MessageField
+reason OutOfMemory = reasons.OutOfMemory
 
 -- a view that would get too many entries has a count above its limit
 abbrev pub view_fault : ViewFault → MessageFault

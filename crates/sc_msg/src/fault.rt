@@ -1,8 +1,9 @@
-//! Why bytes are no message, each reason with its number and its name.
+//! Why bytes are no message, and the reason that is told of each.
 
 ghost use Rattle.std.specs.Prelude.{◌≡◌};
-ghost use Rattle.sc_msg.specs.Fault.{fault_number, fault_name};
+ghost use Rattle.sc_msg.specs.Fault.{reason};
 
+use reasons::Reason;
 use sc_view::view::ViewFault;
 use std::alloc::{AllocError, AllocFailed};
 
@@ -28,35 +29,19 @@ pub enum MessageFault {
 }
 
 impl MessageFault {
-    /// The number by which the fault is reported, 71 to 77 or 99.
-    pub fn number(&self) -> u8
-        ensures { result ≡ fault_number self.now }
+    /// The reason by which the fault is told, 71 to 77 or 99.
+    pub fn reason(&self) -> Reason
+        ensures { result ≡ reason self.now }
     {
         match self {
-            MessageFault::BadHead => 71,
-            MessageFault::Short => 72,
-            MessageFault::TooLong => 73,
-            MessageFault::BadKind => 74,
-            MessageFault::Unsorted => 75,
-            MessageFault::Extra => 76,
-            MessageFault::BadField => 77,
-            MessageFault::OutOfMemory => 99,
-        }
-    }
-
-    /// The name by which the fault is reported.
-    pub fn name(&self) -> &'static str
-        ensures { result.now ≡ fault_name self.now }
-    {
-        match self {
-            MessageFault::BadHead => "BadHead",
-            MessageFault::Short => "Short",
-            MessageFault::TooLong => "TooLong",
-            MessageFault::BadKind => "BadKind",
-            MessageFault::Unsorted => "Unsorted",
-            MessageFault::Extra => "Extra",
-            MessageFault::BadField => "BadField",
-            MessageFault::OutOfMemory => "OutOfMemory",
+            MessageFault::BadHead => Reason::BadHead,
+            MessageFault::Short => Reason::Short,
+            MessageFault::TooLong => Reason::LongMessage,
+            MessageFault::BadKind => Reason::BadKind,
+            MessageFault::Unsorted => Reason::Unsorted,
+            MessageFault::Extra => Reason::Extra,
+            MessageFault::BadField => Reason::MessageField,
+            MessageFault::OutOfMemory => Reason::OutOfMemory,
         }
     }
 }

@@ -1,8 +1,9 @@
-//! Why a call is refused, each reason with its number and its name.
+//! Why a call is refused, and the reason that is told of each.
 
 ghost use Rattle.std.specs.Prelude.{◌≡◌};
-ghost use Rattle.sc_node.specs.Faults.{fault_number, fault_name};
+ghost use Rattle.sc_node.specs.Faults.{reason};
 
+use reasons::Reason;
 use sc_members::facts::FactsFault;
 use sc_view::view::ViewFault;
 use std::alloc::{AllocError, AllocFailed};
@@ -30,35 +31,19 @@ pub enum NodeFault {
 }
 
 impl NodeFault {
-    /// The number by which the fault is reported.
-    pub fn number(&self) -> u8
-        ensures { result ≡ fault_number self.now }
+    /// The reason by which the fault is told.
+    pub fn reason(&self) -> Reason
+        ensures { result ≡ reason self.now }
     {
         match self {
-            NodeFault::NotJoined => 41,
-            NodeFault::Gone => 42,
-            NodeFault::SessionsFull => 43,
-            NodeFault::ViewFull => 46,
-            NodeFault::FactsFull => 47,
-            NodeFault::NumbersOut => 48,
-            NodeFault::BadFounders => 49,
-            NodeFault::OutOfMemory => 99,
-        }
-    }
-
-    /// The name by which the fault is reported.
-    pub fn name(&self) -> &'static str
-        ensures { result.now ≡ fault_name self.now }
-    {
-        match self {
-            NodeFault::NotJoined => "NotJoined",
-            NodeFault::Gone => "Gone",
-            NodeFault::SessionsFull => "SessionsFull",
-            NodeFault::ViewFull => "ViewFull",
-            NodeFault::FactsFull => "FactsFull",
-            NodeFault::NumbersOut => "NumbersOut",
-            NodeFault::BadFounders => "BadFounders",
-            NodeFault::OutOfMemory => "OutOfMemory",
+            NodeFault::NotJoined => Reason::NotJoined,
+            NodeFault::Gone => Reason::Gone,
+            NodeFault::SessionsFull => Reason::SessionsFull,
+            NodeFault::ViewFull => Reason::ViewFull,
+            NodeFault::FactsFull => Reason::FactsFull,
+            NodeFault::NumbersOut => Reason::NumbersOut,
+            NodeFault::BadFounders => Reason::BadFounders,
+            NodeFault::OutOfMemory => Reason::OutOfMemory,
         }
     }
 }

@@ -84,7 +84,7 @@ fn size(world: &World) -> (usize, usize, usize) {
 fn step_again(rt: &impl Abort, world: &mut World, event: Event) -> Result<(), WorldFault> {
     let before = size(world);
     match world.step(event) {
-        Err(fault) if fault.number() == 99 => {
+        Err(fault) if fault.reason().number() == 99 => {
             assert_eq!(rt; size(world), before);
             world.step(event)?;
             Ok(())
@@ -97,7 +97,7 @@ fn step_again(rt: &impl Abort, world: &mut World, event: Event) -> Result<(), Wo
 // The world of three founders, and once more where memory is refused.
 fn founded_again(alloc: Global, config: Config) -> Result<World, WorldFault> {
     match World::new(alloc, config, &[1, 2, 3]) {
-        Err(fault) if fault.number() == 99 => World::new(alloc, config, &[1, 2, 3]),
+        Err(fault) if fault.reason().number() == 99 => World::new(alloc, config, &[1, 2, 3]),
         other => other,
     }
 }

@@ -1,12 +1,9 @@
--- The numbers and names by which refusals are reported.
-use Rattle.std.specs.Prelude.{ℕ, List, codes}
+-- The reasons by which refusals are told.
+use Rattle.reasons.specs.declared.Reason.{Reason}
+use Rattle.reasons.specs.declared.Reason.TheVariants as reasons
 use Rattle.sc_view.specs.declared.view.ViewFault.{ViewFault}
 use Rattle.sc_view.specs.declared.view.ViewFault.TheVariants.{Full, OutOfMemory}
 
-abbrev pub fault_number : ViewFault → ℕ
-fault_number Full = 46
-fault_number OutOfMemory = 99
-
-abbrev pub fault_name : ViewFault → List ℕ
-fault_name Full = codes "ViewFull"
-fault_name OutOfMemory = codes "OutOfMemory"
+abbrev pub reason : ViewFault → Reason
+reason Full = reasons.ViewFull
+reason OutOfMemory = reasons.OutOfMemory

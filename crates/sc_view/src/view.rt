@@ -3,7 +3,7 @@ ghost use Rattle.std.specs.FinMap as fin;
 ghost use Rattle.std.specs.Ordering.{nat_cmp};
 ghost use Rattle.std.specs.Map.Iter.{TakesFirst};
 ghost use Rattle.std.specs.Iterator.{at_most};
-ghost use Rattle.sc_view.specs.Faults.{fault_number, fault_name};
+ghost use Rattle.sc_view.specs.Faults.{reason};
 ghost use Rattle.sc_view.specs.Views.{IsView, is_newer, put, merge, most_entries, number_at, IsBelow, IsChunking};
 ghost use Rattle.std.specs.List.{slice_get};
 ghost use Rattle.std.specs.Option.{option_copied, SomeIff};
@@ -13,6 +13,7 @@ use crate::chunk::{Chunk, find};
 use crate::chunks::Chunks;
 use crate::row::{News, Rest, Row, merged, next_entry, place, put_entry, what_is_new};
 use arrayvec::ArrayVec;
+use reasons::Reason;
 use std::alloc::{AllocError, AllocFailed, Global};
 use std::marker::Model;
 
@@ -79,23 +80,13 @@ pub enum ViewFault {
 }
 
 impl ViewFault {
-    /// The number by which the fault is reported, 46 or 99.
-    pub fn number(&self) -> u8
-        ensures { result ≡ fault_number self.now }
+    /// The reason by which the fault is told, 46 or 99.
+    pub fn reason(&self) -> Reason
+        ensures { result ≡ reason self.now }
     {
         match self {
-            ViewFault::Full => 46,
-            ViewFault::OutOfMemory => 99,
-        }
-    }
-
-    /// The name by which the fault is reported.
-    pub fn name(&self) -> &'static str
-        ensures { result.now ≡ fault_name self.now }
-    {
-        match self {
-            ViewFault::Full => "ViewFull",
-            ViewFault::OutOfMemory => "OutOfMemory",
+            ViewFault::Full => Reason::ViewFull,
+            ViewFault::OutOfMemory => Reason::OutOfMemory,
         }
     }
 }

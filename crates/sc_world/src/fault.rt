@@ -1,8 +1,9 @@
-//! Why an event is refused, each reason with its number and its name.
+//! Why an event is refused, and the reason that is told of each.
 
 ghost use Rattle.std.specs.Prelude.{◌≡◌};
-ghost use Rattle.sc_world.specs.Faults.{fault_number, fault_name};
+ghost use Rattle.sc_world.specs.Faults.{reason};
 
+use reasons::Reason;
 use sc_node::fault::NodeFault;
 use std::alloc::AllocError;
 
@@ -21,27 +22,15 @@ pub enum WorldFault {
 }
 
 impl WorldFault {
-    /// The number by which the fault is reported.
-    pub fn number(&self) -> u8
-        ensures { result ≡ fault_number self.now }
+    /// The reason by which the fault is told.
+    pub fn reason(&self) -> Reason
+        ensures { result ≡ reason self.now }
     {
         match self {
-            WorldFault::IdUsed => 44,
-            WorldFault::NoSuchNode => 81,
-            WorldFault::NeverSent => 82,
-            WorldFault::Node(fault) => fault.number(),
-        }
-    }
-
-    /// The name by which the fault is reported.
-    pub fn name(&self) -> &'static str
-        ensures { result.now ≡ fault_name self.now }
-    {
-        match self {
-            WorldFault::IdUsed => "IdUsed",
-            WorldFault::NoSuchNode => "NoSuchNode",
-            WorldFault::NeverSent => "NeverSent",
-            WorldFault::Node(fault) => fault.name(),
+            WorldFault::IdUsed => Reason::IdUsed,
+            WorldFault::NoSuchNode => Reason::NoSuchNode,
+            WorldFault::NeverSent => Reason::NeverSent,
+            WorldFault::Node(fault) => fault.reason(),
         }
     }
 }

@@ -17,7 +17,8 @@ returns-in-Ok-Ends-clause-ok c =
     let is : c.step_checked.result ≡ Ok (Ends c.in-Ok-Ends.acc) = let a = c.in-Ok-Ends.is in let b = c.in-Ok-Ends.field-0-is in cc in
     let m = entry_machine c.args.placement.now c.args.acc c.args.«record».now c.args.frame.now in
     let run = ends_after c.args.placement.now c.args.text.now c.loop-done.done m c.loop-done.machine c.step_checked.new.machine c.in-Ok-Ends.acc c.step_checked.result c.loop-done.invariant.reached c.step_checked.ensures is in
-    subst (λ (frame : List ℕ). RunsTo c.args.placement.now c.args.text.now m (c.loop-done.done + 1) c.in-Ok-Ends.acc frame) (sym (ap (λ (x : MachineState). x.frame) c.machine.view_is)) run
+    let left = subst (λ (frame : List ℕ). RunsTo c.args.placement.now c.args.text.now m (c.loop-done.done + 1) c.in-Ok-Ends.acc frame) (sym (ap (λ (x : MachineState). x.frame) c.machine.view_is)) run in
+    record { room = omega (arith, c.told-record); whole = c.told-frame; runs = left }
 
 pub returns-in-Err-clause-err : goal.returns-in-Err-clause-err
 returns-in-Err-clause-err c =
@@ -42,18 +43,18 @@ pub returns-in-Ok-Ends-clause-complete : goal.returns-in-Ok-Ends-clause-complete
 returns-in-Ok-Ends-clause-complete c =
     let m = entry_machine c.args.placement.now c.args.acc c.args.«record».now c.args.frame.now in
     λ n answer after low run.
-    let same = same_end c.args.placement.now c.args.text.now (c.loop-done.done + 1) n m c.in-Ok-Ends.acc answer c.machine.inside.frame after (returns-in-Ok-Ends-clause-ok c) run in
+    let same = same_end c.args.placement.now c.args.text.now (c.loop-done.done + 1) n m c.in-Ok-Ends.acc answer c.machine.inside.frame after (returns-in-Ok-Ends-clause-ok c).runs run.runs in
     (ap Ok (ends_alike same.1 same.0), same.2)
 
 pub returns-in-Ok-Ends-clause-faulty : goal.returns-in-Ok-Ends-clause-faulty
 returns-in-Ok-Ends-clause-faulty c =
     let m = entry_machine c.args.placement.now c.args.acc c.args.«record».now c.args.frame.now in
-    λ f fault. absurd (no_refusal c.args.placement.now c.args.text.now (c.loop-done.done + 1) c.args.limit m c.in-Ok-Ends.acc c.machine.inside.frame f (returns-in-Ok-Ends-clause-ok c) (omega arith) fault)
+    λ f fault. absurd (no_refusal c.args.placement.now c.args.text.now (c.loop-done.done + 1) c.args.limit m c.in-Ok-Ends.acc c.machine.inside.frame f (returns-in-Ok-Ends-clause-ok c).runs (omega arith) fault)
 
 pub returns-in-Err-clause-complete : goal.returns-in-Err-clause-complete
 returns-in-Err-clause-complete c =
     let m = entry_machine c.args.placement.now c.args.acc c.args.«record».now c.args.frame.now in
-    λ n answer after low run. absurd (no_refusal c.args.placement.now c.args.text.now n c.args.limit m answer after c.in-Err.fault run low (returns-in-Err-clause-err c))
+    λ n answer after low run. absurd (no_refusal c.args.placement.now c.args.text.now n c.args.limit m answer after c.in-Err.fault run.runs low (returns-in-Err-clause-err c))
 
 pub returns-in-Err-clause-faulty : goal.returns-in-Err-clause-faulty
 returns-in-Err-clause-faulty c =
@@ -63,7 +64,7 @@ returns-in-Err-clause-faulty c =
 pub returns-clause-complete : goal.returns-clause-complete
 returns-clause-complete c =
     let m = entry_machine c.args.placement.now c.args.acc c.args.«record».now c.args.frame.now in
-    λ n answer after low run. absurd (no_refusal c.args.placement.now c.args.text.now n c.args.limit m answer after StepsOut run low (returns-clause-err c))
+    λ n answer after low run. absurd (no_refusal c.args.placement.now c.args.text.now n c.args.limit m answer after StepsOut run.runs low (returns-clause-err c))
 
 pub returns-clause-faulty : goal.returns-clause-faulty
 returns-clause-faulty c =

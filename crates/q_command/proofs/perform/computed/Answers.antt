@@ -6,11 +6,11 @@ pub returns-clause-computed : goal.returns-clause-computed
 returns-clause-computed c = λ source program. record {
   text = c.args.certified.now.text;
   view = c.in_ok-view.view;
-  acc = c.fold_checked-ran.result.acc;
-  steps = c.fold_checked-ran.result.steps;
+  acc = c.run_fold-ran.result.acc;
+  steps = c.run_fold-ran.result.steps;
   program = program;
   utf8 = c.in_ok-listed.ensures.same.1;
   is_view = subst (λ (t : List ℕ). IsView t c.in_ok-view.view) c.in_ok-listed.ensures.same.0 c.in_ok-view.ensures.read;
-  right = c.fold_checked-ran.ensures.right.meant;
+  right = c.run_fold-ran.ensures.meant;
   told = search rules;
 }

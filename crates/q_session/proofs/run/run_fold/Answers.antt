@@ -1,12 +1,11 @@
 -- One more record run goes on a fold, at every placement.
-use Rattle.std.proofs.Common.{◌≡◌, length, map, sym, subst, ap, ◌∙◌, arith, length-append, take}
+use Rattle.std.proofs.Common.{◌≡◌, length, map, sym, subst, ◌∙◌, arith, length-append, take}
 use Rattle.std.proofs.lemmas.List.{map-append, map-id}
 use Rattle.std.proofs.lemmas.Map.Iter.{iter_turn, iter_end}
 use Rattle.std.specs.FinMap as fin
 use Rattle.std.specs.FinMap.{len-entries}
 use Rattle.bq_meaning.specs.Runs.{RecordRun}
 use Rattle.bq_meaning.specs.Answers.{FoldsTo, zero_frame}
-use Rattle.bq_check.specs.Certificate.{Certificate}
 use Rattle.q_session.proofs.Records.{room, one_more}
 use Rattle.q_session.specs.Records.{record_bytes}
 use Rattle.q_session.proofs.run.run_fold.Goals as goal
@@ -14,14 +13,14 @@ use Rattle.q_session.proofs.run.run_fold.Goals as goal
 pub overflow_add-ran : goal.overflow_add-ran
 overflow_add-ran c =
     let turn = iter_turn (λ e. e) c.records-id-items.result c.loop-id.yielded c.into_iter-id-iterator.result c.loop-id.id-iterator c.next.new.self c.next.result c.into_iter-id-iterator.ensures.into_iter_gives c.loop-id.yielded_by (c.in-Some.id, c.in-Some.stored) c.in-Some.is c.next.ensures.steps in
-    room c.loop-id.ran.steps c.run-ended.result.steps c.args.lowered.now.longest (length c.loop-id.yielded) c.loop-id.invariant.within c.run-ended.ensures.within (let same : c.certified.result.now.longest ≡ c.args.lowered.now.longest = ap (λ (x : Certificate). x.longest) c.certified.ensures in omega (arith, same, c.longest-longest.ensures.value, c.longest-longest.ensures.within)) (omega (arith, turn.0, c.records-id-items.ensures.few))
+    room c.loop-id.ran.steps c.run-ended.result.steps c.args.certified.now.longest (length c.loop-id.yielded) c.loop-id.invariant.within c.run-ended.ensures.within (omega (arith, c.longest-longest.ensures.value, c.longest-longest.ensures.within)) (omega (arith, turn.0, c.records-id-items.ensures.few))
 
 pub loop-id-preserved : goal.loop-id-preserved
 loop-id-preserved c = record {
   folds = λ p is.
-      let run = subst (λ bytes. RecordRun p c.args.lowered.now.text c.loop-id.ran.acc bytes (take 512 c.loop-id.block) c.run-ended.result.steps c.run-ended.result.acc (take 512 c.run-ended.new.block)) c.record_bytes-bytes.ensures (c.run-ended.ensures.run p is) in
-      rw map-append (c.appended.ensures p c.args.lowered.now.text (map record_bytes c.loop-id.yielded) _ c.args.start zero_frame c.loop-id.ran.acc c.loop-id.ran.steps (take 512 c.loop-id.block) c.run-ended.result.steps c.run-ended.result.acc (take 512 c.run-ended.new.block) (c.loop-id.invariant.folds p is) run);
-  within = one_more c.loop-id.ran.steps c.run-ended.result.steps c.args.lowered.now.longest (length c.loop-id.yielded) _ (length-append c.loop-id.yielded _) c.loop-id.invariant.within c.run-ended.ensures.within;
+      let run = subst (λ bytes. RecordRun p c.args.certified.now.text c.loop-id.ran.acc bytes (take 512 c.loop-id.block) c.run-ended.result.steps c.run-ended.result.acc (take 512 c.run-ended.new.block)) c.record_bytes-bytes.ensures (c.run-ended.ensures.run p is) in
+      rw map-append (c.appended.ensures p c.args.certified.now.text (map record_bytes c.loop-id.yielded) _ c.args.start zero_frame c.loop-id.ran.acc c.loop-id.ran.steps (take 512 c.loop-id.block) c.run-ended.result.steps c.run-ended.result.acc (take 512 c.run-ended.new.block) (c.loop-id.invariant.folds p is) run);
+  within = one_more c.loop-id.ran.steps c.run-ended.result.steps c.args.certified.now.longest (length c.loop-id.yielded) _ (length-append c.loop-id.yielded _) c.loop-id.invariant.within c.run-ended.ensures.within;
 }
 
 pub returns : goal.returns
@@ -29,6 +28,6 @@ returns c =
     let end = iter_end (λ e. e) c.records-id-items.result c.loop-id.yielded c.into_iter-id-iterator.result c.loop-id.id-iterator c.next.new.self c.next.result c.into_iter-id-iterator.ensures.into_iter_gives c.loop-id.yielded_by c.in-None.is c.next.ensures.steps in
     let whole : c.loop-id.yielded ≡ fin.entries c.args.view.now = sym (map-id c.loop-id.yielded) ∙ end.0 ∙ c.records-id-items.ensures.all in
     record {
-      meant = λ p is. ((take 512 c.loop-id.block), subst (λ xs. FoldsTo p c.args.lowered.now.text (map record_bytes xs) c.args.start zero_frame c.loop-id.ran.acc c.loop-id.ran.steps (take 512 c.loop-id.block)) whole (c.loop-id.invariant.folds p is));
+      meant = λ p is. ((take 512 c.loop-id.block), subst (λ xs. FoldsTo p c.args.certified.now.text (map record_bytes xs) c.args.start zero_frame c.loop-id.ran.acc c.loop-id.ran.steps (take 512 c.loop-id.block)) whole (c.loop-id.invariant.folds p is));
       within = rw (len-entries, ← whole) c.loop-id.invariant.within;
     }

@@ -7,6 +7,6 @@ use Rattle.q_session.proofs.run.run_fold.Given as goal
 
 abbrev pub invariant-loop-id : goal.invariant-loop-id
 invariant-loop-id l = record {
-  folds : (p : Place) → IsPlacement p → FoldsTo p l.lowered.text (map record_bytes l.yielded) l.start zero_frame l.ran.acc l.ran.steps (take 512 l.block);
-  within : l.ran.steps ≤ l.lowered.longest * length l.yielded;
+  folds : (p : Place) → IsPlacement p → FoldsTo p l.certified.text (map record_bytes l.yielded) l.start zero_frame l.ran.acc l.ran.steps (take 512 l.block);
+  within : l.ran.steps ≤ l.certified.longest * length l.yielded;
 }

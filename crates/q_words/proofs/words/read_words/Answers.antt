@@ -4,7 +4,7 @@ use Rattle.clap.specs.Matches.{has_subcommand}
 use Rattle.clap.specs.declared.parser.matches.ArgMatches.TheViews.{out-ArgMatches}
 use Rattle.clap.proofs.CallerLemmas.{subcommand_required}
 use Rattle.q_words.specs.Words.{bqview, IsMet}
-use Rattle.q_words.specs.declared.words.Line.TheVariants.{Asm, Audit, Check, Sim}
+use Rattle.q_words.specs.declared.words.FileCommand.TheVariants.{Asm, Audit, Check, Sim}
 use Rattle.q_words.specs.declared.words.Wanted.TheVariants as wanted
 use Rattle.q_words.proofs.Commands.{was_met, run_read, other_command, free, met_rows, simple}
 use Rattle.q_words.proofs.words.read_words.Goals as goal
@@ -18,7 +18,7 @@ returns-in-Some c =
     let name : subcommand_name_of c.in_ok-matches.matches ≡ Some (codes "asm") = search rules in
     let rows = rows_of (found_of c.in-Some.found.now) in
     let met = met_rows _ (codes "asm") rows name c.in-Some.ensures.rows in
-    (none, was_met (IsMet (wanted.Line (Asm c.operand_text-file.result))) _ (codes "asm", rows) (sym said ∙ met) (refl, c.operand_text-file.ensures))
+    (none, was_met (IsMet (wanted.FileCommand (Asm c.operand_text-file.result))) _ (codes "asm", rows) (sym said ∙ met) (refl, c.operand_text-file.ensures))
 
 pub returns-in-Some-subcommand_matches : goal.returns-in-Some-subcommand_matches
 returns-in-Some-subcommand_matches c =
@@ -29,7 +29,7 @@ returns-in-Some-subcommand_matches c =
     let name : subcommand_name_of c.in_ok-matches.matches ≡ Some (codes "check") = search rules in
     let rows = rows_of (found_of c.in-Some-subcommand_matches.found.now) in
     let met = met_rows _ (codes "check") rows name c.in-Some-subcommand_matches.ensures.rows in
-    (none, was_met (IsMet (wanted.Line (Check c.operand_text-file-in-Some-subcommand_matches.result))) _ (codes "check", rows) (sym said ∙ met) (refl, c.operand_text-file-in-Some-subcommand_matches.ensures))
+    (none, was_met (IsMet (wanted.FileCommand (Check c.operand_text-file-in-Some-subcommand_matches.result))) _ (codes "check", rows) (sym said ∙ met) (refl, c.operand_text-file-in-Some-subcommand_matches.ensures))
 
 pub returns-in-Some-subcommand_matches-2 : goal.returns-in-Some-subcommand_matches-2
 returns-in-Some-subcommand_matches-2 c =
@@ -51,7 +51,7 @@ returns-in-Some-subcommand_matches-3 c =
     let name : subcommand_name_of c.in_ok-matches.matches ≡ Some (codes "sim") = search rules in
     let rows = rows_of (found_of c.in-Some-subcommand_matches-3.found.now) in
     let met = met_rows _ (codes "sim") rows name c.in-Some-subcommand_matches-3.ensures.rows in
-    (none, was_met (IsMet (wanted.Line (Sim c.operand_text-script.result))) _ (codes "sim", rows) (sym said ∙ met) (refl, c.operand_text-script.ensures))
+    (none, was_met (IsMet (wanted.FileCommand (Sim c.operand_text-script.result))) _ (codes "sim", rows) (sym said ∙ met) (refl, c.operand_text-script.ensures))
 
 pub returns-in-Some-subcommand_matches-4 : goal.returns-in-Some-subcommand_matches-4
 returns-in-Some-subcommand_matches-4 c =
@@ -73,7 +73,7 @@ returns c =
     let name : subcommand_name_of c.in_ok-matches.matches ≡ Some (codes "audit") = search rules in
     let rows = rows_of (found_of c.in-Some-subcommand_matches-5.found.now) in
     let met = met_rows _ (codes "audit") rows name c.in-Some-subcommand_matches-5.ensures.rows in
-    (none, was_met (IsMet (wanted.Line (Audit c.operand_text.result))) _ (codes "audit", rows) (sym said ∙ met) (refl, c.operand_text.ensures))
+    (none, was_met (IsMet (wanted.FileCommand (Audit c.operand_text.result))) _ (codes "audit", rows) (sym said ∙ met) (refl, c.operand_text.ensures))
 
 pub unreachable-requires : goal.unreachable-requires
 unreachable-requires c =

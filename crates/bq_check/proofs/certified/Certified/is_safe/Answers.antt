@@ -7,4 +7,4 @@ use Rattle.bq_check.proofs.certified.Certified.is_safe.Goals as goal
 pub returns : goal.returns
 returns c =
     let P : Certificate → Type 0 = λ v. IsSafe record_length v.text v.longest in
-    subst P c.self.view_is (c.passing_is_safe.ensures record_length c.self.inside.text c.self.inside.notes c.self.inside.longest (omega arith) c.self.invariant.legal c.self.invariant.passes c.self.invariant.longest)
+    subst P c.self.view_is (c.passing_is_safe.ensures record_length c.self.inside.text c.self.inside.notes c.self.inside.longest (omega arith) c.self.invariant.certified.legal c.self.invariant.certified.passes c.self.invariant.certified.longest)

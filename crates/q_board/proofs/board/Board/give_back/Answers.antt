@@ -18,11 +18,11 @@ store-requires c = let s = c.seat.inside in let j = c.args.claim.job in let i = 
     let near : i < s.lanes = slot_near s.seat.table_id s.seat.me s.number s.claims.items left (deque_len s.claims) cap s.lanes s.next i j c.seat.invariant mine in
     let board : s.seat.table_id ≡ t = ap (λ (x : RunnerModel). x.table) c.seat.view_is ∙ c.requires.board in
     let words : s.lanes ≡ t.words = c.seat.invariant.6 ∙ ap (λ (x : TableId). x.words) board in (
-      c.exchange.ensures.0 ∙ c.bring.ensures.same.0 ∙ board,
+      c.put.ensures.board ∙ c.bring.ensures.same.0 ∙ board,
       omega arith,
-      give_allowed s.seat.table_id s.seat.me s.number s.claims.items left (deque_len s.claims) cap s.lanes s.next i j c.seat.invariant mine b.table.shared.key t.slots c.exchange.new.seat.id
-          (b.sized.1 ∙ sym b.sized.2) (b.sized.2 ∙ sym b.sized.0 ∙ sym words) c.exchange.new.seat.me
-          (written s.seat.table_id s.seat.me s.number s.claims.items left (deque_len s.claims) cap s.lanes s.next i j c.seat.invariant mine c.bring.new.seat.me c.bring.ensures.same.2 c.bring.ensures.front _ c.exchange.new.seat.me c.exchange.ensures.3) c.word.result c.word.ensures.word,
+      give_allowed s.seat.table_id s.seat.me s.number s.claims.items left (deque_len s.claims) cap s.lanes s.next i j c.seat.invariant mine b.table.shared.key t.slots c.put.new.seat.id
+          (b.sized.1 ∙ sym b.sized.2) (b.sized.2 ∙ sym b.sized.0 ∙ sym words) c.put.new.seat.me
+          (written s.seat.table_id s.seat.me s.number s.claims.items left (deque_len s.claims) cap s.lanes s.next i j c.seat.invariant mine c.bring.new.seat.me c.bring.ensures.same.2 c.bring.ensures.front _ c.put.new.seat.me c.put.ensures.there) c.word.result c.word.ensures.word,
     )
 
 pub invariant_of-seat : goal.invariant_of-seat
@@ -33,11 +33,11 @@ invariant_of-seat c = let s = c.seat.inside in let j = c.args.claim.job in let i
     let words : s.lanes ≡ t.words = c.seat.invariant.6 ∙ ap (λ (x : TableId). x.words) board in
     let_go s.seat.table_id s.seat.me s.number s.claims.items left (deque_len s.claims) cap s.lanes s.next i j c.seat.invariant mine c.bring.ensures.claims (deque_len c.bring.new.claims) c.bring.ensures.room.1
     (returning (running s.seat.me.0) i) refl refl c.store.new.seat.me
-    (give_leaves s.seat.table_id s.seat.me s.number s.claims.items left (deque_len s.claims) cap s.lanes s.next i j c.seat.invariant mine b.table.shared.key t.slots c.exchange.new.seat.id
-    (b.sized.1 ∙ sym b.sized.2) (b.sized.2 ∙ sym b.sized.0 ∙ sym words) c.exchange.new.seat.me
-    (written s.seat.table_id s.seat.me s.number s.claims.items left (deque_len s.claims) cap s.lanes s.next i j c.seat.invariant mine c.bring.new.seat.me c.bring.ensures.same.2 c.bring.ensures.front _ c.exchange.new.seat.me c.exchange.ensures.3)
+    (give_leaves s.seat.table_id s.seat.me s.number s.claims.items left (deque_len s.claims) cap s.lanes s.next i j c.seat.invariant mine b.table.shared.key t.slots c.put.new.seat.id
+    (b.sized.1 ∙ sym b.sized.2) (b.sized.2 ∙ sym b.sized.0 ∙ sym words) c.put.new.seat.me
+    (written s.seat.table_id s.seat.me s.number s.claims.items left (deque_len s.claims) cap s.lanes s.next i j c.seat.invariant mine c.bring.new.seat.me c.bring.ensures.same.2 c.bring.ensures.front _ c.put.new.seat.me c.put.ensures.there)
     c.store.new.seat.me c.store.ensures.2)
-    c.store.new.seat.table_id (c.store.ensures.0 ∙ c.exchange.ensures.0 ∙ c.bring.ensures.same.0) (deque_capacity c.bring.new.claims) c.bring.ensures.room.0
+    c.store.new.seat.table_id (c.store.ensures.0 ∙ c.put.ensures.board ∙ c.bring.ensures.same.0) (deque_capacity c.bring.new.claims) c.bring.ensures.room.0
 
 pub returns-clause-back : goal.returns-clause-back
 returns-clause-back c = let s = c.seat.inside in let j = c.args.claim.job in let i = c.args.claim.slot in let b = c.args.self.now in let t = b.table.shared.table_id in
@@ -46,8 +46,8 @@ returns-clause-back c = let s = c.seat.inside in let j = c.args.claim.job in let
     let board : s.seat.table_id ≡ t = ap (λ (x : RunnerModel). x.table) c.seat.view_is ∙ c.requires.board in
     let words : s.lanes ≡ t.words = c.seat.invariant.6 ∙ ap (λ (x : TableId). x.words) board in
     give_told s.seat.table_id s.seat.me s.number s.claims.items left (deque_len s.claims) cap s.lanes s.next i j c.seat.invariant mine
-    c.store.new.seat.table_id (c.store.ensures.0 ∙ c.exchange.ensures.0 ∙ c.bring.ensures.same.0) c.args.seat.now (sym c.seat.view_is) c.store.new.seat.me
-    (give_leaves s.seat.table_id s.seat.me s.number s.claims.items left (deque_len s.claims) cap s.lanes s.next i j c.seat.invariant mine b.table.shared.key t.slots c.exchange.new.seat.id
-    (b.sized.1 ∙ sym b.sized.2) (b.sized.2 ∙ sym b.sized.0 ∙ sym words) c.exchange.new.seat.me
-    (written s.seat.table_id s.seat.me s.number s.claims.items left (deque_len s.claims) cap s.lanes s.next i j c.seat.invariant mine c.bring.new.seat.me c.bring.ensures.same.2 c.bring.ensures.front _ c.exchange.new.seat.me c.exchange.ensures.3)
+    c.store.new.seat.table_id (c.store.ensures.0 ∙ c.put.ensures.board ∙ c.bring.ensures.same.0) c.args.seat.now (sym c.seat.view_is) c.store.new.seat.me
+    (give_leaves s.seat.table_id s.seat.me s.number s.claims.items left (deque_len s.claims) cap s.lanes s.next i j c.seat.invariant mine b.table.shared.key t.slots c.put.new.seat.id
+    (b.sized.1 ∙ sym b.sized.2) (b.sized.2 ∙ sym b.sized.0 ∙ sym words) c.put.new.seat.me
+    (written s.seat.table_id s.seat.me s.number s.claims.items left (deque_len s.claims) cap s.lanes s.next i j c.seat.invariant mine c.bring.new.seat.me c.bring.ensures.same.2 c.bring.ensures.front _ c.put.new.seat.me c.put.ensures.there)
     c.store.new.seat.me c.store.ensures.2)

@@ -5,4 +5,4 @@ use Rattle.sc_members.proofs.Sets.{found}
 use Rattle.sc_members.proofs.ids.IdSet.contains.Goals as goal
 
 pub returns : goal.returns
-returns c = c.contains.ensures ∙ sym (found c.self.inside.ids.keys c.args.id) ∙ ap (λ (s : Ids). set.contains s c.args.id) c.self.view_is
+returns c = c.contains.ensures ∙ sym (found c.held.result.now.keys c.args.id) ∙ ap (λ (s : Ids). set.contains s c.args.id) c.held.ensures

@@ -8,4 +8,4 @@ pub returns : goal.returns
 returns c =
     count_from_yields_List _ c.count.result c.count.ensures.ran (YieldsList-from_rest c.difference.result refl)
     ∙ len_of c.difference.result (set.difference c.args.self.now c.args.other.now) c.difference.ensures.ordered
-    (in_difference c.self.inside.ids.keys c.other.inside.ids.keys c.difference.result _ _ c.self.view_is c.other.view_is c.difference.ensures.members)
+    (in_difference c.held.result.now.keys c.held-2.result.now.keys c.difference.result _ _ c.held.ensures c.held-2.ensures c.difference.ensures.members)

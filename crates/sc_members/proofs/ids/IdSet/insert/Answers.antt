@@ -1,5 +1,6 @@
-use Rattle.sc_members.proofs.Sets.{one_more}
+use Rattle.std.proofs.Common.{sym, ◌∙◌}
+use Rattle.sc_members.proofs.Sets.{insert_known}
 use Rattle.sc_members.proofs.ids.IdSet.insert.Goals as goal
 
-pub returns-clause-ok : goal.returns-clause-ok
-returns-clause-ok c = one_more c.self.inside.ids.keys c.insert.new.self.keys c.args.id c.args.self.now c.self.view_is c.in_ok-insert.ensures.updates.0
+pub returns-then-contains-clause-ok : goal.returns-then-contains-clause-ok
+returns-then-contains-clause-ok c = sym (insert_known c.args.self.now c.args.id (sym c.contains.ensures ∙ c.if-contains.true))

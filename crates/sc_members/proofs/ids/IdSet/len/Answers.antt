@@ -5,4 +5,4 @@ use Rattle.sc_members.proofs.Sets.{len-from_list}
 use Rattle.sc_members.proofs.ids.IdSet.len.Goals as goal
 
 pub returns-clause-count : goal.returns-clause-count
-returns-clause-count c = c.len.ensures.len ∙ sym (len-from_list _ c.len.ensures.ordered) ∙ ap (λ (s : Ids). set.len s) c.self.view_is
+returns-clause-count c = c.len.ensures.len ∙ sym (len-from_list _ c.len.ensures.ordered) ∙ ap (λ (s : Ids). set.len s) c.held.ensures

@@ -1,0 +1,200 @@
+//! How long a program takes over a view of 256 records, by the loop without tests and by the machine that tests every
+//! access.
+//!
+//! | Program | Units | What it is |
+//! |---|---|---|
+//! | `arithmetic` | 1,015 | operations of ten kinds on seven registers |
+//! | `moves` | 1,015 | moves and additions in turn |
+//! | `sum` | 4 | the accumulator and eight bytes of the record |
+//! | `branches` | 33 | ten branches on a number of the record, each over an addition |
+//!
+//! Both fold it so many times, in turn, and the least time of each is told, for each instruction that was executed.
+
+use anyhow::{Result, anyhow, bail};
+use bq_asm::assemble::assemble;
+use bq_check::certified::Certified;
+use bq_check::check::check;
+use bq_frame::block::Block;
+use bq_verify::verify::verify;
+use q_session::fold::fold_checked;
+use q_session::ran::Ran;
+use q_session::run::run_fold;
+use sc_view::view::{Stored, View};
+use std::alloc::{AllocError, Global};
+use std::time::{Clock, Duration, Instant};
+
+/// How many operations the long programs have between their first seven units and the last.
+const OPERATIONS: usize = 1007;
+
+/// The operations of the first program.
+const NAMES: [&str; 10] = [
+    "add64", "sub64", "mul64", "or64", "and64", "xor64", "add32", "xor32", "lsh64", "rsh64",
+];
+
+/// Its registers.
+const REGISTERS: [u8; 7] = [0, 4, 5, 6, 7, 8, 9];
+
+/// The next of a row of numbers that look random.
+fn next(number: u64) -> u64 {
+    number
+        .wrapping_mul(6_364_136_223_846_793_005)
+        .wrapping_add(1_442_695_040_888_963_407)
+}
+
+/// Copies of the accumulator in seven registers.
+fn copies(source: &mut String) -> Result<(), AllocError> {
+    for register in 4..10 {
+        write!(source, "mov64 r{register}, r3\n")?;
+    }
+    source.push_str("mov64 r0, r3\n")
+}
+
+fn arithmetic(source: &mut String) -> Result<(), AllocError> {
+    copies(source)?;
+    let mut number = 1;
+    for place in 0..OPERATIONS {
+        number = next(number);
+        let name = NAMES[(number >> 58) as usize % 10];
+        let dst = REGISTERS[(number >> 40) as usize % 7];
+        let src = REGISTERS[(number >> 50) as usize % 7];
+        if name == "lsh64" || name == "rsh64" {
+            write!(source, "{name} r{dst}, {}\n", 1 + (number >> 33) % 7)?;
+        } else if place % 3 == 0 {
+            write!(source, "{name} r{dst}, {}\n", (number >> 33) % 100_000_000)?;
+        } else {
+            write!(source, "{name} r{dst}, r{src}\n")?;
+        }
+    }
+    source.push_str("exit\n")
+}
+
+fn moves(source: &mut String) -> Result<(), AllocError> {
+    copies(source)?;
+    for place in 0..OPERATIONS {
+        if place % 2 == 0 {
+            write!(source, "mov64 r{}, r0\n", 4 + place % 6)?;
+        } else {
+            write!(source, "add64 r0, {place}\n")?;
+        }
+    }
+    source.push_str("exit\n")
+}
+
+fn branches(source: &mut String) -> Result<(), AllocError> {
+    source.push_str("mov64 r0, r3\nload8 r4, [r1+16]\n")?;
+    let mut number = 1;
+    for branch in 0..10 {
+        number = next(number);
+        let bound = (number >> 33) % 2_000_000_000;
+        write!(
+            source,
+            "jlt64 r4, {bound}, next_{branch}\nadd64 r0, 1\nnext_{branch}:\nadd64 r4, r0\n"
+        )?;
+    }
+    source.push_str("exit\n")
+}
+
+/// The program of this name.
+fn source_of(alloc: Global, name: &str) -> Result<String> {
+    let mut source = String::new(alloc);
+    match name {
+        "arithmetic" => arithmetic(&mut source)?,
+        "moves" => moves(&mut source)?,
+        "sum" => source.push_str("mov64 r0, r3\nload8 r4, [r1+16]\nadd64 r0, r4\nexit\n")?,
+        "branches" => branches(&mut source)?,
+        _ => bail!("{name:?} is none of arithmetic, moves, sum and branches"),
+    }
+    Ok(source)
+}
+
+fn certified(alloc: Global, source: &str) -> Result<Certified> {
+    let text = assemble(alloc, source).map_err(|fault| anyhow!("refused {}", fault.reason()))?;
+    let notes = verify(alloc, &text).map_err(|fault| anyhow!("refused {}", fault.reason()))?;
+    check(alloc, text, notes).map_err(|fault| anyhow!("refused {}", fault.reason()))
+}
+
+/// A view of 256 values of which each begins with a number below 2^31.
+fn view_of(alloc: Global) -> Result<View> {
+    let mut view = View::new(alloc);
+    let mut number = 3;
+    for id in 1..257 {
+        number = next(number);
+        let mut value = [0; 48];
+        value[..8].copy_from_slice(&(number >> 33).to_le_bytes());
+        let stored = Stored::new(1, value).ok_or(anyhow!("no value"))?;
+        view.put(id, stored).map_err(|_| anyhow!("no room"))?;
+    }
+    Ok(view)
+}
+
+/// What both folds answered and how long each took.
+#[derive(Clone, Copy)]
+struct Times {
+    ran: Ran,
+    reference: Ran,
+    loop_took: Duration,
+    checked_took: Duration,
+}
+
+fn time_once(
+    rt: &impl Clock,
+    certified: &Certified,
+    view: &View,
+    block: &mut Block,
+) -> Result<Times> {
+    let start = Instant::now(rt)?;
+    let ran = run_fold(certified, view, 3, block);
+    let loop_took = start.elapsed(rt)?;
+    let start = Instant::now(rt)?;
+    let reference = fold_checked(certified, view, 3);
+    let checked_took = start.elapsed(rt)?;
+    Ok(Times {
+        ran,
+        reference,
+        loop_took,
+        checked_took,
+    })
+}
+
+/// So many picoseconds, of so many instructions, for each of them.
+fn each(took: Duration, steps: u64) -> u128 {
+    took.as_nanos()
+        .saturating_mul(1000)
+        .checked_div(u128::from(steps))
+        .unwrap_or(0)
+}
+
+/// Times a program so many times.
+pub(crate) fn run(
+    rt: &(impl Clock + Print + Eprint + Alloc<A = Global>),
+    name: &str,
+    runs: u64,
+) -> Result<()> {
+    let alloc = rt.alloc();
+    let source = source_of(alloc, name)?;
+    let certified = certified(alloc, source.as_str())?;
+    let view = view_of(alloc)?;
+    let mut block = Block::new(alloc)?;
+    let first = time_once(rt, &certified, &view, &mut block)?;
+    println!(rt;
+        "{name} units {} steps {} acc {} same {}",
+        certified.text().units(),
+        first.ran.steps,
+        first.ran.acc,
+        first.ran == first.reference
+    )?;
+    let mut loop_took = first.loop_took;
+    let mut checked_took = first.checked_took;
+    for _ in 1..runs {
+        let times = time_once(rt, &certified, &view, &mut block)?;
+        loop_took = loop_took.min(times.loop_took);
+        checked_took = checked_took.min(times.checked_took);
+    }
+    let steps = first.ran.steps;
+    eprintln!(rt;
+        "loop {loop_took:?}, {} ps each; checked {checked_took:?}, {} ps each",
+        each(loop_took, steps),
+        each(checked_took, steps)
+    )?;
+    Ok(())
+}

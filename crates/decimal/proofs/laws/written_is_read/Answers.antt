@@ -1,0 +1,5 @@
+use Rattle.decimal.proofs.Numbers.{natural_decimal}
+use Rattle.decimal.proofs.laws.written_is_read.Goals as goal
+
+pub returns : goal.returns
+returns c = natural_decimal

@@ -1,0 +1,2 @@
+-- The one table of reasons.
+pub mod Table
