@@ -17,7 +17,7 @@ returns-in_err-_id c =
     let is : written_of (entry.Register p) ≡ written.Register c.args.text c.args.notes = λ t. written.Register (text t) (notes t) in
     let called : Calling c.args.book.now (entry.Register p) c.register.new.self c.from_residual-in_err-_id.result = search rules in
     taking c.one_longest.ensures c.args.book.now c.register.new.self (entry.Register p) (written.Register c.args.text c.args.notes) c.from_residual-in_err-_id.result c.requires
-        (subst IsCertified (sym same) c.in_ok-certified.ensures.passes) is called
+    (subst IsCertified (sym same) c.in_ok-certified.ensures.passes) is called
 
 pub returns : goal.returns
 returns c =
