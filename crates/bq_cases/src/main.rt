@@ -7,7 +7,7 @@
 //! |---|---|
 //! | `alu`, `swap`, `extend`, `relates` | [`word`]: words |
 //! | `asm`, `decode`, `opcodes`, `over`, `exits`, `register` | [`text`]: texts, their bytes and their listing |
-//! | `place`, `run` | [`run`]: what texts answer |
+//! | `place`, `records`, `run` | [`run`]: what texts answer |
 //! | `loop` | [`raw`]: what the loop over checked code answers |
 //! | `operation`, `edge`, `mapped`, `load`, `join`, `meet` | [`range`]: ranges of words |
 //! | `after`, `edges`, `offsets` | [`state`]: what is known of registers |
@@ -27,7 +27,7 @@ mod text;
 mod word;
 mod words;
 
-use bq_meaning::placement::Placement;
+use crate::run::Setting;
 use std::alloc::Global;
 use std::io;
 
@@ -35,7 +35,7 @@ use std::io;
 fn answer(
     rt: &impl Print,
     alloc: Global,
-    place: &mut Option<Placement>,
+    setting: &mut Setting,
     verb: &str,
     rest: &str,
 ) -> io::Result<()> {
@@ -44,8 +44,9 @@ fn answer(
         "asm" | "decode" | "opcodes" | "over" | "exits" | "register" => {
             text::answer(rt, alloc, verb, rest)
         }
-        "place" => run::place(rt, alloc, place, rest),
-        "run" => run::run(rt, alloc, place, rest),
+        "place" => run::place(rt, alloc, setting, rest),
+        "records" => run::records(rt, setting, rest),
+        "run" => run::run(rt, alloc, setting, rest),
         "loop" => raw::answer(rt, alloc, rest),
         "operation" | "edge" | "mapped" | "load" | "join" | "meet" => {
             range::answer(rt, alloc, verb, rest)
@@ -60,12 +61,12 @@ fn answer(
 
 fn main(rt: HostRuntime) -> io::Result<()> {
     let alloc = rt.alloc();
-    let mut place = None;
+    let mut setting = Setting::first();
     for line in rt.lines(alloc) {
         let line = line?;
         println!(rt; "{line}")?;
         if let Some((verb, rest)) = line.as_str().split_once(' ') {
-            answer(&rt, alloc, &mut place, verb, rest)?;
+            answer(&rt, alloc, &mut setting, verb, rest)?;
         }
     }
     Ok(())

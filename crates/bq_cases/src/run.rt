@@ -1,33 +1,68 @@
 //! What texts answer.
 //!
 //! - `place A B`: from here on the frame lies at A and the record at B; `placed`, or `none` where they can't.
+//! - `records LENGTH`: from here on records have so many bytes, 64 at first; `so`, or `none` and no change where they
+//!   can't.
 //! - `run LIMIT FILL ACC VALUES = SOURCE`: what the text answers, and in how many steps, over records in turn, of which
-//!   each has one of the values (bytes with commas between them) as its byte 16 and is 0 elsewhere. The frame is filled
-//!   with the byte FILL before the first of them. Or `refused NUMBER NAME`, by the fault that stopped it.
+//!   each has one of the values (bytes with commas between them) as its byte 16, if it has one, and is 0 elsewhere. The
+//!   frame is filled with the byte FILL before the first of them. Or `refused NUMBER NAME`, by the fault that stopped
+//!   it.
+
+ghost use Rattle.std.specs.Prelude.{◌≤◌};
 
 use crate::refusal::print_refusal;
 use crate::words::{number, numbers, text};
 use bq_insn::text::Text;
 use bq_meaning::fault::Fault;
-use bq_meaning::placement::Placement;
+use bq_meaning::placement::{LEAST_RECORD, Placement, RECORD_LENGTH, RECORD_ROOM};
 use bq_meaning::run::{Ended, run_checked};
 use std::alloc::{AllocError, Global};
 use std::io;
+
+/// Where frame and record lie, and how many bytes a record has.
+#[derive(Drop)]
+pub(crate) struct Setting {
+    place: Option<Placement>,
+    length: usize,
+    ghost least: { 16 ≤ length },
+    ghost room: { length ≤ 128 },
+}
+
+impl Setting {
+    /// The one at the first line.
+    pub(crate) fn first() -> Setting {
+        Setting {
+            place: None,
+            length: RECORD_LENGTH,
+        }
+    }
+}
 
 /// Sets where the frame and the record lie.
 pub(crate) fn place(
     rt: &impl Print,
     alloc: Global,
-    place: &mut Option<Placement>,
+    setting: &mut Setting,
     rest: &str,
 ) -> io::Result<()> {
-    *place = match numbers(alloc, rest)?.as_deref() {
+    setting.place = match numbers(alloc, rest)?.as_deref() {
         Some([frame, record]) => Placement::new(*frame, *record),
         _ => None,
     };
-    match place {
+    match setting.place {
         Some(_) => println!(rt; " placed"),
         None => println!(rt; " none"),
+    }
+}
+
+/// Sets how many bytes a record has.
+pub(crate) fn records(rt: &impl Print, setting: &mut Setting, rest: &str) -> io::Result<()> {
+    match rest.parse::<usize>() {
+        Ok(length) if LEAST_RECORD <= length && length <= RECORD_ROOM => {
+            setting.length = length;
+            println!(rt; " so")
+        }
+        _ => println!(rt; " none"),
     }
 }
 
@@ -42,17 +77,20 @@ pub(crate) fn record_of(value: u8) -> [u8; 64] {
 fn fold(
     text: &Text,
     place: &Placement,
-    limit: u64,
+    setting: &Setting,
     frame: &mut [u8; 512],
-    start: u64,
+    start: Start<'_>,
     values: &[u8],
 ) -> Result<Ended, Fault> {
     let mut all = Ended {
-        acc: start,
+        acc: start.acc,
         steps: 0,
     };
     for value in values {
-        let ended = run_checked(text, place, &record_of(*value), frame, all.acc, limit)?;
+        let mut record = [0; RECORD_ROOM];
+        record[LEAST_RECORD] = *value;
+        let record = &record[..setting.length];
+        let ended = run_checked(text, place, record, frame, all.acc, start.limit)?;
         all = Ended {
             acc: ended.acc,
             steps: all.steps.wrapping_add(ended.steps),
@@ -98,27 +136,23 @@ fn print_run(
     rt: &impl Print,
     text: &Text,
     place: &Placement,
+    setting: &Setting,
     start: Start<'_>,
     values: &[u8],
 ) -> io::Result<()> {
     let mut frame = [start.fill; 512];
-    match fold(text, place, start.limit, &mut frame, start.acc, values) {
+    match fold(text, place, setting, &mut frame, start, values) {
         Ok(ended) => println!(rt; " {} in {}", ended.acc, ended.steps),
         Err(fault) => print_refusal(rt, fault.reason(), None),
     }
 }
 
 /// Prints what a text answers at the placement.
-pub(crate) fn run(
-    rt: &impl Print,
-    alloc: Global,
-    place: &Option<Placement>,
-    rest: &str,
-) -> io::Result<()> {
-    if let (Some(place), Some((start, source))) = (place, rest.split_once(" = ")) {
+pub(crate) fn run(rt: &impl Print, alloc: Global, setting: &Setting, rest: &str) -> io::Result<()> {
+    if let (Some(place), Some((start, source))) = (setting.place, rest.split_once(" = ")) {
         if let (Some(start), Some(text)) = (start_of(start), text(alloc, source)?) {
             if let Some(values) = values_of(alloc, start.values)? {
-                return print_run(rt, &text, place, start, values.as_slice());
+                return print_run(rt, &text, &place, setting, start, values.as_slice());
             }
         }
     }

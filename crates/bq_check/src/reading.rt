@@ -9,6 +9,7 @@ ghost use Rattle.bq_check.specs.Spelling.{short_bytes, long_bytes, range_bytes, 
 
 use crate::fault::NotesFault;
 use crate::notes::Notes;
+use bq_insn::text::MOST_UNITS;
 use bq_range::range::Range;
 use bq_state::kind::Kind;
 use bq_state::offsets::Offsets;
@@ -132,7 +133,7 @@ impl<'a> Reader<'a> {
         let Some(count) = self.short_number() else {
             return Err(NotesFault::NoteForm);
         };
-        if count > 4096 {
+        if count as usize > MOST_UNITS {
             return Err(NotesFault::NoteForm);
         }
         let mut states = Vec::new(alloc);

@@ -1,13 +1,10 @@
 -- Legal flow, and paths from the first unit to an exit.
 use Rattle.std.specs.Prelude.{◌≡◌, ◌⊎◌, ℕ, zero, suc, ℤ, pos, ◌<◌, ◌≤◌, List, [], ◌∷◌, Some}
+pub use Rattle.forms.specs.Lists.{Among}
 use Rattle.bq_insn.specs.Slots.{insn_at}
 use Rattle.bq_insn.specs.declared.insn.Insn.{Insn}
 use Rattle.bq_insn.specs.declared.insn.Insn.TheVariants.{Exit}
 use Rattle.bq_flow.specs.Successors.{successors}
-
-abbrev pub Among : {A : Type 0} → A → List A → Type 0
-Among v [] = ⊥
-Among v (x ∷ xs) = (v ≡ x) ⊎ Among v xs
 
 -- a unit behind this one where an instruction begins
 pub record IsForward (text : List Insn) (unit : ℕ) (place : ℤ) : Type 0 where

@@ -8,11 +8,17 @@ use crate::raw;
 use std::alloc::{AllocError, Global};
 use std::marker::Model;
 
+/// How many bytes a block has.
+pub const BLOCK_LENGTH: usize = 640;
+
+/// Where the record begins: behind the frame, which has as many bytes.
+pub const RECORD_AT: usize = 512;
+
 /// 640 bytes in one allocation, which is freed when the block is dropped: a frame of 512 bytes, and behind it room for
 /// a record. Contracts see it as the list of its bytes.
 #[derive(Drop)]
 pub struct Block {
-    bytes: Box<[u8; 640]>,
+    bytes: Box<[u8; BLOCK_LENGTH]>,
 }
 
 impl Model for Block {
@@ -30,7 +36,7 @@ impl Block {
     pub fn new(alloc: Global) -> Result<Block, AllocError>
         ensures { IfOk result (λ b. b ≡ replicate 640 0) }
     {
-        let bytes = Box::new(alloc, [0; 640])?;
+        let bytes = Box::new(alloc, [0; BLOCK_LENGTH])?;
         Ok(Block { bytes })
     }
 
@@ -39,7 +45,7 @@ impl Block {
         ensures count { length self.now ≡ 640 }
         ensures each { All (λ b. b < 256) self.now }
     {
-        let bytes: &[u8; 640] = &self.bytes;
+        let bytes: &[u8; BLOCK_LENGTH] = &self.bytes;
         are_bytes(bytes);
     }
 
@@ -49,7 +55,7 @@ impl Block {
         requires { at + 1 ≤ 640 }
         ensures { result ≡ le_number (slice_range self.now at (at + 1)) }
     {
-        let bytes: &[u8; 640] = &self.bytes;
+        let bytes: &[u8; BLOCK_LENGTH] = &self.bytes;
         u64::from(unsafe { raw::load(bytes, at) })
     }
 
@@ -59,7 +65,7 @@ impl Block {
         requires { at + 2 ≤ 640 }
         ensures { result ≡ le_number (slice_range self.now at (at + 2)) }
     {
-        let bytes: &[u8; 640] = &self.bytes;
+        let bytes: &[u8; BLOCK_LENGTH] = &self.bytes;
         u64::from(u16::from_le_bytes(unsafe { [raw::load(bytes, at), raw::load(bytes, at + 1)] }))
     }
 
@@ -69,7 +75,7 @@ impl Block {
         requires { at + 4 ≤ 640 }
         ensures { result ≡ le_number (slice_range self.now at (at + 4)) }
     {
-        let bytes: &[u8; 640] = &self.bytes;
+        let bytes: &[u8; BLOCK_LENGTH] = &self.bytes;
         u64::from(u32::from_le_bytes(unsafe {
             [
                 raw::load(bytes, at),
@@ -86,7 +92,7 @@ impl Block {
         requires { at + 8 ≤ 640 }
         ensures { result ≡ le_number (slice_range self.now at (at + 8)) }
     {
-        let bytes: &[u8; 640] = &self.bytes;
+        let bytes: &[u8; BLOCK_LENGTH] = &self.bytes;
         u64::from_le_bytes(unsafe {
             [
                 raw::load(bytes, at),
@@ -107,7 +113,7 @@ impl Block {
         requires { at + 1 ≤ 640 }
         ensures { self.new ≡ splice self.old at (at + 1) (le_bytes 1 value) }
     {
-        let bytes: &mut [u8; 640] = &mut self.bytes;
+        let bytes: &mut [u8; BLOCK_LENGTH] = &mut self.bytes;
         put(bytes, at, &value.to_le_bytes()[..1]);
     }
 
@@ -117,7 +123,7 @@ impl Block {
         requires { at + 2 ≤ 640 }
         ensures { self.new ≡ splice self.old at (at + 2) (le_bytes 2 value) }
     {
-        let bytes: &mut [u8; 640] = &mut self.bytes;
+        let bytes: &mut [u8; BLOCK_LENGTH] = &mut self.bytes;
         put(bytes, at, &value.to_le_bytes()[..2]);
     }
 
@@ -127,7 +133,7 @@ impl Block {
         requires { at + 4 ≤ 640 }
         ensures { self.new ≡ splice self.old at (at + 4) (le_bytes 4 value) }
     {
-        let bytes: &mut [u8; 640] = &mut self.bytes;
+        let bytes: &mut [u8; BLOCK_LENGTH] = &mut self.bytes;
         put(bytes, at, &value.to_le_bytes()[..4]);
     }
 
@@ -137,7 +143,7 @@ impl Block {
         requires { at + 8 ≤ 640 }
         ensures { self.new ≡ splice self.old at (at + 8) (le_bytes 8 value) }
     {
-        let bytes: &mut [u8; 640] = &mut self.bytes;
+        let bytes: &mut [u8; BLOCK_LENGTH] = &mut self.bytes;
         put(bytes, at, &value.to_le_bytes());
     }
 
@@ -145,8 +151,8 @@ impl Block {
     pub fn clear_frame(&mut self)
         ensures { self.new ≡ replicate 512 0 ++ drop 512 self.old }
     {
-        let bytes: &mut [u8; 640] = &mut self.bytes;
-        put(bytes, 0, &[0; 512]);
+        let bytes: &mut [u8; BLOCK_LENGTH] = &mut self.bytes;
+        put(bytes, 0, &[0; RECORD_AT]);
     }
 
     /// Puts a record of 16 to 128 bytes behind the frame. The bytes behind it stay.
@@ -155,8 +161,8 @@ impl Block {
         requires most { length «record».now ≤ 128 }
         ensures { self.new ≡ splice self.old 512 (512 + length «record».now) «record».now }
     {
-        let bytes: &mut [u8; 640] = &mut self.bytes;
-        put(bytes, 512, record);
+        let bytes: &mut [u8; BLOCK_LENGTH] = &mut self.bytes;
+        copy(bytes, RECORD_AT, record);
     }
 }
 
@@ -165,6 +171,15 @@ fn are_bytes(bytes: &[u8])
     ensures { All (λ b. b < 256) bytes.now }
 {
     let _count = bytes.len();
+}
+
+// Puts bytes from a place on, all at once.
+#[inline(always)]
+fn copy(bytes: &mut [u8], at: usize, part: &[u8])
+    requires { at + length part.now ≤ length bytes.old }
+    ensures { bytes.new ≡ splice bytes.old at (at + length part.now) part.now }
+{
+    bytes[at..at + part.len()].copy_from_slice(part);
 }
 
 // Puts bytes from a place on, one after another.

@@ -1,5 +1,5 @@
 -- What a store leaves in the frame.
-use Rattle.std.proofs.Common.{◌≡◌, ℕ, zero, suc, ◌+◌, ◌-◌, ◌/◌, ◌%◌, ◌≤◌, arith, rules, refl, ap, ◌∙◌, List, [], ◌∷◌, ◌++◌, Some, take, drop}
+use Rattle.std.proofs.Common.{◌≡◌, ℕ, zero, suc, ◌+◌, ◌-◌, ◌/◌, ◌%◌, ◌≤◌, arith, rules, refl, ap, ◌∙◌, List, [], ◌∷◌, ◌++◌, Option, Some, take, drop}
 use Rattle.std.specs.Prelude.{Ok}
 use Rattle.std.specs.Int.{w64, to_le_bytes}
 use Rattle.std.specs.List.{splice}
@@ -10,6 +10,7 @@ use Rattle.bq_meaning.specs.Memory.{access}
 use Rattle.bq_meaning.specs.Meaning.{reading, stored}
 use Rattle.bq_meaning.specs.Runs.{StepAnswers}
 use Rattle.bq_meaning.specs.Machines.{MachineState as Machine}
+use Rattle.bq_meaning.specs.declared.machine.Location.{Location}
 use Rattle.bq_meaning.specs.declared.machine.Location.TheVariants.{Frame}
 use Rattle.bq_meaning.specs.declared.fault.Fault.TheVariants.{OutsideAccess}
 use Rattle.bq_meaning.specs.declared.step.Step.TheVariants as steps
@@ -32,6 +33,10 @@ drop_twice (suc a) (suc k) (x ∷ xs) = let e : suc a + suc k ≡ suc (a + suc k
 -- a part of a list that is written is the list with that part put in
 part_is : (a k : ℕ) (xs ys : List ℕ) → put_mid a (a + k - a) xs ys ≡ splice xs a (a + k) ys
 part_is a k xs ys = let e : a + k - a ≡ k = omega arith in rw e (ap (λ zs. take a xs ++ (ys ++ zs)) (drop_twice a k xs))
+
+-- what is found to lie in the frame
+pub lies_in_frame : (found wanted : Option Location) (l : Location) (at : ℕ) → found ≡ wanted → found ≡ Some l → l ≡ Frame at → wanted ≡ Some (Frame at)
+lies_in_frame found wanted l at a b d = cc
 
 pub stores : (p : Place) (m : Machine) (len address size v at : ℕ) (bytes ys : List ℕ) → size ≤ 8 → access p len address size ≡ Some (Frame at) → bytes ≡ to_le_bytes w64 v → ys ≡ take size bytes
     → StepAnswers (reading OutsideAccess (access p len address size) (λ l. stored m l size v)) m (Ok steps.Continues) (record { unit = m.unit + 1; registers = m.registers; frame = put_mid at (at + size - at) m.frame ys; «record» = m.record })

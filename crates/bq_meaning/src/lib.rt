@@ -1,9 +1,9 @@
 //! What programs mean: the instructions of RFC 9669 as steps of a machine that tests each access.
 //!
 //! A machine has a unit index, eleven registers that hold a word of 64 bits or nothing yet, a frame of
-//! 512 bytes and a record of 64 bytes ([`FRAME_LENGTH`], [`RECORD_LENGTH`]). The two lie at the
-//! addresses of a [`Placement`], in a space of 2^64 addresses; pointers are plain words, and memory is
-//! little-endian.
+//! 512 bytes ([`FRAME_LENGTH`]) and a record of 16 to 128 bytes ([`LEAST_RECORD`], [`RECORD_ROOM`]). The
+//! two lie at the addresses of a [`Placement`], in a space of 2^64 addresses; pointers are plain words,
+//! and memory is little-endian.
 //!
 //! - [`step_checked`] does one instruction. A wide instruction is one step; a backward jump is as good
 //!   as any, and a unit index outside the text is a fault of the next step.
@@ -25,7 +25,8 @@
 //! stand on these definitions.
 //!
 //! [`FRAME_LENGTH`]: placement::FRAME_LENGTH
-//! [`RECORD_LENGTH`]: placement::RECORD_LENGTH
+//! [`LEAST_RECORD`]: placement::LEAST_RECORD
+//! [`RECORD_ROOM`]: placement::RECORD_ROOM
 //! [`Placement`]: placement::Placement
 //! [`step_checked`]: step::step_checked
 //! [`run_checked`]: run::run_checked

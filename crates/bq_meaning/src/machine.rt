@@ -1,41 +1,40 @@
 //! Machines, and what they read without memory: registers and operands.
 
-ghost use Rattle.std.specs.Prelude.{◌≡◌, Some, None, IfOk, IfErr};
+ghost use Rattle.std.specs.Prelude.{◌≡◌, ◌≤◌, length, Some, None, IfOk, IfErr};
+ghost use Rattle.bq_meaning.specs.Place.{least_record, record_room};
 ghost use Rattle.bq_meaning.specs.Meaning.{held, value, taken};
 ghost use Rattle.bq_meaning.specs.Runs.{entry_machine};
 
 use crate::fault::Fault;
-use crate::placement::{FRAME_LENGTH, Placement, RECORD_LENGTH};
+use crate::placement::{FRAME_LENGTH, Placement};
 use bq_insn::insn::Operand;
 use bq_insn::register::Register;
 use bq_word::AluOp;
 use std::marker::Model;
 
 /// A machine. Pointers are plain words.
-#[derive(Clone, Copy, Debug, PartialEq, Eq)]
-pub struct Machine {
+#[derive(Debug, Drop)]
+pub struct Machine<'a> {
     /// Which unit of the text is next, counted from 0.
     pub unit: u64,
     /// r0 to r10: none until it is written.
     pub registers: [Option<u64>; 11],
     /// What r10 points to the end of: read and written.
     pub frame: [u8; FRAME_LENGTH],
-    /// What r1 points to: only read.
-    pub record: [u8; RECORD_LENGTH],
+    /// What r1 points to: 16 to 128 bytes, only read.
+    pub record: &'a [u8],
 }
 
-impl Model for Machine {
-    ghost use Rattle.std.specs.Prelude.{◌≡◌, length};
-    ghost use Rattle.bq_meaning.specs.Place.{record_length};
+impl<'a> Model for Machine<'a> {
+    ghost use Rattle.std.specs.Prelude.{◌≡◌, ◌≤◌, length};
+    ghost use Rattle.bq_meaning.specs.Place.{least_record, record_room};
     ghost use Rattle.bq_meaning.specs.Machines.{MachineState};
 
     ghost Value = { MachineState };
 
-    ghost view = { λ m. record { unit = m.unit; registers = m.registers; frame = m.frame; «record» = m.record } };
+    ghost view = { λ m. record { unit = m.unit; registers = m.registers; frame = m.frame; «record» = m.record.now } };
 
-    ghost invariant = { λ m. (length m.registers ≡ 11) × (length m.frame ≡ 512) × (length m.«record» ≡ record_length) };
-
-    ghost inverse = { λ m. record { unit = m.unit; registers = m.registers; frame = m.frame; «record» = m.record } };
+    ghost invariant = { λ m. (length m.registers ≡ 11) × (length m.frame ≡ 512) × (least_record ≤ length m.«record».now) × (length m.«record».now ≤ record_room) };
 }
 
 /// Where an access lies: so many bytes behind the start of the frame, or of the record.
@@ -45,14 +44,16 @@ pub enum Location {
     Record(usize),
 }
 
-impl Machine {
+impl<'a> Machine<'a> {
     /// The machine at the entry of a record run.
     pub(crate) fn at_entry(
         placement: &Placement,
         acc: u64,
-        record: &[u8; RECORD_LENGTH],
+        record: &'a [u8],
         frame: &[u8; FRAME_LENGTH],
-    ) -> Machine
+    ) -> Machine<'a>
+        requires least { least_record ≤ length «record».now }
+        requires room { length «record».now ≤ record_room }
         ensures { result ≡ entry_machine placement.now acc «record».now frame.now }
     {
         let record_start = placement.record();
@@ -62,7 +63,7 @@ impl Machine {
             registers: [
                 None,
                 Some(record_start),
-                Some(RECORD_LENGTH as u64),
+                Some(record.len() as u64),
                 Some(acc),
                 None,
                 None,
@@ -73,7 +74,7 @@ impl Machine {
                 Some(frame_end),
             ],
             frame: *frame,
-            record: *record,
+            record,
         }
     }
 

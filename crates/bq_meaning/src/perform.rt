@@ -42,7 +42,7 @@ fn ordered(order: ByteOrder, bits: SwapBits, value: u64) -> u64
     }
 }
 
-impl Machine {
+impl Machine<'_> {
     /// Writes a register, and goes to the next unit.
     fn write(&mut self, dst: Register, value: u64) -> Result<Step, Fault>
         requires { self.old.unit < 4096 }

@@ -1,18 +1,24 @@
 //! Where the frame and the record lie.
 
 ghost use Rattle.std.specs.Prelude.{◌≡◌, ◌↔◌, ◌+◌, ◌^◌, ◌<◌, IsSome, IfSome};
-ghost use Rattle.bq_meaning.specs.Place.{Place, IsPlacement, record_length};
+ghost use Rattle.bq_meaning.specs.Place.{Place, IsPlacement, record_room};
 
 use std::marker::Model;
 
 /// How many bytes a frame has.
 pub const FRAME_LENGTH: usize = 512;
 
-/// How many bytes a record has: what the entry puts into r2.
+/// The least bytes of a record.
+pub const LEAST_RECORD: usize = 16;
+
+/// The most bytes of a record: a placement keeps room for so many.
+pub const RECORD_ROOM: usize = 128;
+
+/// How many bytes a record of a view has: texts are checked for records of this length.
 pub const RECORD_LENGTH: usize = 64;
 
 /// Where a machine's memory lies: the address of the frame's first byte and that of the record's, in a space of 2^64
-/// addresses. Both regions end below 2^64, and they lie apart.
+/// addresses. The frame's 512 bytes and the 128 bytes that are kept for a record end below 2^64, and they lie apart.
 #[derive(Clone, Copy, Debug, PartialEq, Eq)]
 pub struct Placement {
     frame: u64,
@@ -32,15 +38,15 @@ impl Model for Placement {
 }
 
 impl Placement {
-    /// The placement with the frame's 512 bytes at one address and the record's 64 bytes at the other. There is none
-    /// where a region would reach 2^64 or where the two have a byte in common.
+    /// The placement with the frame's 512 bytes at one address and the 128 bytes for a record at the other. There is
+    /// none where a region would reach 2^64 or where the two have a byte in common.
     pub fn new(frame: u64, record: u64) -> Option<Placement>
         ensures some { IsSome result ↔ IsPlacement (record { frame = frame; «record» = «record» }) }
         ensures value { IfSome result (λ p. p ≡ record { frame = frame; «record» = «record» }) }
     {
-        let (frame_length, record_length) = (FRAME_LENGTH as u64, RECORD_LENGTH as u64);
-        if frame <= u64::MAX - frame_length && record <= u64::MAX - record_length {
-            if frame + frame_length <= record || record + record_length <= frame {
+        let (frame_length, record_room) = (FRAME_LENGTH as u64, RECORD_ROOM as u64);
+        if frame <= u64::MAX - frame_length && record <= u64::MAX - record_room {
+            if frame + frame_length <= record || record + record_room <= frame {
                 return Some(Placement { frame, record });
             }
         }
@@ -65,7 +71,7 @@ impl Placement {
     /// The address of the record's first byte.
     pub fn record(&self) -> u64
         ensures value { result ≡ self.now.record }
-        ensures fits { result + record_length < 2 ^ 64 }
+        ensures fits { result + record_room < 2 ^ 64 }
     {
         self.record
     }

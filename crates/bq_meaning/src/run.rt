@@ -1,11 +1,12 @@
 //! Runs over one record.
 
-ghost use Rattle.std.specs.Prelude.{◌≡◌, ◌≤◌, IfOk, IfErr, OnErr, ℕ, List};
+ghost use Rattle.std.specs.Prelude.{◌≡◌, ◌≤◌, length, IfOk, IfErr, OnErr, ℕ, List};
+ghost use Rattle.bq_meaning.specs.Place.{least_record, record_room};
 ghost use Rattle.bq_meaning.specs.Runs.{RecordRun, RunFaults, entry_machine};
 
 use crate::fault::Fault;
 use crate::machine::Machine;
-use crate::placement::{FRAME_LENGTH, Placement, RECORD_LENGTH};
+use crate::placement::{FRAME_LENGTH, Placement};
 use crate::step::{Step, step_checked};
 use bq_insn::text::Text;
 
@@ -18,16 +19,20 @@ pub struct Ended {
     pub steps: u64,
 }
 
-/// One record run, of at most `limit` steps: from the entry until an exit, or the fault that stops it (91 to 95), or
-/// 96 where `limit` steps were done without an exit. After a fault the frame is as it was.
+/// One record run over a record of 16 to 128 bytes, of at most `limit` steps: from the entry, where r2 is the record's
+/// length, until an exit, or the fault that stops it (91 to 95), or 96 where `limit` steps were done without an exit.
+/// After a fault the frame is as it was.
 pub fn run_checked(
     text: &Text,
     placement: &Placement,
-    record: &[u8; RECORD_LENGTH],
+    record: &[u8],
     frame: &mut [u8; FRAME_LENGTH],
     acc: u64,
     limit: u64,
 ) -> Result<Ended, Fault>
+    requires least { least_record ≤ length «record».now }
+    requires room { length «record».now ≤ record_room }
+
     // What ends within the limit is a record run.
     ensures ok { IfOk result (λ e. RecordRun placement.now text.now acc «record».now frame.old e.steps e.acc frame.new) }
     ensures within { IfOk result (λ e. e.steps ≤ limit) }

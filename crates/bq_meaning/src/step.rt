@@ -38,7 +38,7 @@ fn insn_at(text: &Text, unit: u64) -> Option<Insn>
 pub fn step_checked(
     text: &Text,
     placement: &Placement,
-    machine: &mut Machine,
+    machine: &mut Machine<'_>,
 ) -> Result<Step, Fault>
     ensures { StepAnswers (step placement.now text.now machine.old) machine.old result machine.new }
 {

@@ -88,25 +88,20 @@ edges width relation other false a b n m e r =
 not_back : (b c : Bool) → b ≡ not c → c ≡ not b
 not_back b c e = sym (not_not c) ∙ ap not (sym e)
 
+edges_back : (width : Width) (relation other : Relation) (taken : Bool) (a b : Interval) → (relation ≡ CommonBit → ⊥) → (other ≡ CommonBit → ⊥) → ((x y : ℕ) → relates (bits_of width) relation x y ≡ not (relates (bits_of width) other x y)) → AreRanges (bits_of width) a b → IsNarrowing (λ x y. relates (bits_of width) relation x y ≡ taken) a b (narrowed_by (bits_of width) (cond taken relation other) a b)
+edges_back width relation other taken a b n m e = edges width relation other taken a b n m (λ x y. not_back (relates (bits_of width) relation x y) (relates (bits_of width) other x y) (e x y))
+
 pub edge_narrows : (width : Width) (relation : Relation) (taken : Bool) (a b : Interval) → (relation ≡ CommonBit → ⊥) → AreRanges (bits_of width) a b → IsNarrowing (λ x y. relates (bits_of width) relation x y ≡ taken) a b (by_opposite (bits_of width) relation (opposite relation) taken a b)
 edge_narrows width Equal taken a b n r = edges width Equal NotEqual taken a b n (λ e. cc) (λ x y. refl) r
 edge_narrows width NotEqual taken a b n r = edges width NotEqual Equal taken a b n (λ e. cc) (λ x y. sym (not_not (eqb (low (bits_of width) x) (low (bits_of width) y)))) r
 edge_narrows width Less taken a b n r = edges width Less GreaterOrEqual taken a b n (λ e. cc) (λ x y. leb_not (low (bits_of width) y) (low (bits_of width) x)) r
-edge_narrows width LessOrEqual taken a b n r =
-    edges width LessOrEqual Greater taken a b n (λ e. cc)
-    (λ x y. not_back (relates (bits_of width) LessOrEqual x y) (relates (bits_of width) Greater x y) (leb_not (low (bits_of width) x) (low (bits_of width) y))) r
+edge_narrows width LessOrEqual taken a b n r = edges_back width LessOrEqual Greater taken a b n (λ e. cc) (λ x y. leb_not (low (bits_of width) x) (low (bits_of width) y)) r
 edge_narrows width Greater taken a b n r = edges width Greater LessOrEqual taken a b n (λ e. cc) (λ x y. leb_not (low (bits_of width) x) (low (bits_of width) y)) r
-edge_narrows width GreaterOrEqual taken a b n r =
-    edges width GreaterOrEqual Less taken a b n (λ e. cc)
-    (λ x y. not_back (relates (bits_of width) GreaterOrEqual x y) (relates (bits_of width) Less x y) (leb_not (low (bits_of width) y) (low (bits_of width) x))) r
+edge_narrows width GreaterOrEqual taken a b n r = edges_back width GreaterOrEqual Less taken a b n (λ e. cc) (λ x y. leb_not (low (bits_of width) y) (low (bits_of width) x)) r
 edge_narrows width SignedLess taken a b n r = edges width SignedLess SignedGreaterOrEqual taken a b n (λ e. cc) (λ x y. le_z_not (signed (bits_of width) y) (signed (bits_of width) x)) r
-edge_narrows width SignedLessOrEqual taken a b n r =
-    edges width SignedLessOrEqual SignedGreater taken a b n (λ e. cc)
-    (λ x y. not_back (relates (bits_of width) SignedLessOrEqual x y) (relates (bits_of width) SignedGreater x y) (le_z_not (signed (bits_of width) x) (signed (bits_of width) y))) r
+edge_narrows width SignedLessOrEqual taken a b n r = edges_back width SignedLessOrEqual SignedGreater taken a b n (λ e. cc) (λ x y. le_z_not (signed (bits_of width) x) (signed (bits_of width) y)) r
 edge_narrows width SignedGreater taken a b n r = edges width SignedGreater SignedLessOrEqual taken a b n (λ e. cc) (λ x y. le_z_not (signed (bits_of width) x) (signed (bits_of width) y)) r
-edge_narrows width SignedGreaterOrEqual taken a b n r =
-    edges width SignedGreaterOrEqual SignedLess taken a b n (λ e. cc)
-    (λ x y. not_back (relates (bits_of width) SignedGreaterOrEqual x y) (relates (bits_of width) SignedLess x y) (le_z_not (signed (bits_of width) y) (signed (bits_of width) x))) r
+edge_narrows width SignedGreaterOrEqual taken a b n r = edges_back width SignedGreaterOrEqual SignedLess taken a b n (λ e. cc) (λ x y. le_z_not (signed (bits_of width) y) (signed (bits_of width) x)) r
 edge_narrows width CommonBit taken a b n r = absurd (n refl)
 
 -- ---- what follows of it

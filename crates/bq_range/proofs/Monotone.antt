@@ -70,6 +70,19 @@ record Inside (w : ℕ) (a b c d : Interval) : Type 0 where
   left : Within a c
   right : Within b d
 
+left_fits : (w : ℕ) (a b c d : Interval) → Inside w a b c d → Fits w a
+left_fits w a b c d h = omega (arith, h.left.high, h.c_fits)
+
+right_fits : (w : ℕ) (a b c d : Interval) → Inside w a b c d → Fits w b
+right_fits w a b c d h = omega (arith, h.right.high, h.d_fits)
+
+-- a row that asks whether the divisor may be 0
+by_divisor : (b d u v x y : Interval) → Within b d → (1 ≤ d.lo → Within u x) → (d.lo < 1 → 1 ≤ b.lo → Within u y) → Within v y → Within (cond (leb 1 b.lo) u v) (cond (leb 1 d.lo) x y)
+by_divisor b d u v x y r never later zero =
+    large_le 1 d.lo _ _ _
+    (λ s. small_le 1 b.lo _ _ _ (λ t. never s) (λ t. absurd (omega (arith, r.low))))
+    (λ s. small_le 1 b.lo _ _ _ (λ t. later s t) (λ t. zero))
+
 sums_fit : (w : ℕ) (a b : Interval) → Fits w a → Fits w b → Fits w (sums w a b)
 sums_fit w a b h k =
     choose_le (Fits w) (a.hi + b.hi) (top w) _ _ (λ s. omega (arith, s, pow_pos w))
@@ -79,14 +92,12 @@ sums_within : (w : ℕ) (a b c d : Interval) → Inside w a b c d → Within (su
 sums_within w a b c d h =
     let l = h.left in
     let r = h.right in
-    let ah : a.hi < 2 ^ w = omega (arith, l.high, h.c_fits) in
-    let bh : b.hi < 2 ^ w = omega (arith, r.high, h.d_fits) in
     large_le (c.hi + d.hi) (top w) _ _ _
     (λ s. small_le (a.hi + b.hi) (top w) _ _ _ (λ t. record { low = omega (arith, l.low, r.low); high = omega (arith, l.high, r.high) }) (λ t. absurd (omega (arith, l.high, r.high))))
     (λ s. large_lt (top w) (c.lo + d.lo) _ _ _
     (λ t. small_le (a.hi + b.hi) (top w) _ _ _ (λ u. absurd (omega (arith, l.low, r.low, h.a_ordered, h.b_ordered)))
     (λ u. small_lt (top w) (a.lo + b.lo) _ _ _ (λ v. record { low = omega (arith, l.low, r.low); high = omega (arith, l.high, r.high) }) (λ v. absurd (omega (arith, l.low, r.low)))))
-    (λ t. in_whole w (sums w a b) (sums_fit w a b ah bh)))
+    (λ t. in_whole w (sums w a b) (sums_fit w a b (left_fits w a b c d h) (right_fits w a b c d h))))
 
 differences_fit : (w : ℕ) (a b : Interval) → Fits w a → Fits w b → Fits w (differences w a b)
 differences_fit w a b h k =
@@ -97,14 +108,13 @@ differences_within : (w : ℕ) (a b c d : Interval) → Inside w a b c d → Wit
 differences_within w a b c d h =
     let l = h.left in
     let r = h.right in
-    let ah : a.hi < 2 ^ w = omega (arith, l.high, h.c_fits) in
-    let bh : b.hi < 2 ^ w = omega (arith, r.high, h.d_fits) in
+    let bh = right_fits w a b c d h in
     large_le d.hi c.lo _ _ _
     (λ s. small_le b.hi a.lo _ _ _ (λ t. record { low = omega (arith, l.low, r.high); high = omega (arith, l.high, r.low, h.a_ordered, h.b_ordered) }) (λ t. absurd (omega (arith, l.low, r.high))))
     (λ s. large_lt c.hi d.lo _ _ _
     (λ t. small_le b.hi a.lo _ _ _ (λ u. absurd (omega (arith, l.high, r.low, h.a_ordered, h.b_ordered)))
     (λ u. small_lt a.hi b.lo _ _ _ (λ v. record { low = omega (arith, l.low, r.high, h.d_fits); high = omega (arith, l.high, r.low, h.d_fits, bh, h.b_ordered) }) (λ v. absurd (omega (arith, l.high, r.low, h.b_ordered, h.a_ordered)))))
-    (λ t. in_whole w (differences w a b) (differences_fit w a b ah bh)))
+    (λ t. in_whole w (differences w a b) (differences_fit w a b (left_fits w a b c d h) bh)))
 
 products_fit : (w : ℕ) (a b : Interval) → Fits w (products w a b)
 products_fit w a b = choose_le (Fits w) (a.hi * b.hi) (top w) _ (whole w) (λ s. omega (arith, s, pow_pos w)) (λ _. whole_fits w)
@@ -120,27 +130,20 @@ quotients_within : (w : ℕ) (a b c d : Interval) → Inside w a b c d → Withi
 quotients_within w a b c d h =
     let l = h.left in
     let r = h.right in
-    large_le 1 d.lo _ _ _
-    (λ s. small_le 1 b.lo _ _ _
-    (λ t. record { low = div_mono c.lo a.lo d.hi b.hi l.low r.high (omega (arith, h.b_ordered)); high = div_mono a.hi c.hi b.lo d.lo l.high r.low s })
-    (λ t. absurd (omega (arith, r.low))))
-    (λ s. small_le 1 b.lo _ _ _
-    (λ t. record { low = omega arith; high = omega (arith, div-le_self a.hi b.lo, l.high) })
-    (λ t. record { low = omega arith; high = l.high }))
+    by_divisor b d _ _ _ _ r
+    (λ s. record { low = div_mono c.lo a.lo d.hi b.hi l.low r.high (omega (arith, h.b_ordered)); high = div_mono a.hi c.hi b.lo d.lo l.high r.low s })
+    (λ s t. record { low = omega arith; high = omega (arith, div-le_self a.hi b.lo, l.high) }) (record { low = omega arith; high = l.high })
 
 remainders_within : (w : ℕ) (a b c d : Interval) → Inside w a b c d → Within (remainders a b) (remainders c d)
 remainders_within w a b c d h =
     let l = h.left in
     let r = h.right in
-    large_le 1 d.lo _ _ _
-    (λ s. small_le 1 b.lo _ _ _
-    (λ t. large_lt c.hi d.lo _ _ _
+    by_divisor b d _ _ _ _ r
+    (λ s. large_lt c.hi d.lo _ _ _
     (λ u. small_lt a.hi b.lo _ _ _ (λ v. l) (λ v. absurd (omega (arith, l.high, r.low))))
     (λ u. small_lt a.hi b.lo _ _ _ (λ v. record { low = omega arith; high = omega (arith, l.high, r.high, h.b_ordered) }) (λ v. record { low = omega arith; high = omega (arith, l.high, r.high) })))
-    (λ t. absurd (omega (arith, r.low))))
-    (λ s. small_le 1 b.lo _ _ _
-    (λ t. small_lt a.hi b.lo _ _ _ (λ v. record { low = omega arith; high = l.high }) (λ v. record { low = omega arith; high = omega (arith, l.high) }))
-    (λ t. record { low = omega arith; high = l.high }))
+    (λ s t. small_lt a.hi b.lo _ _ _ (λ v. record { low = omega arith; high = l.high }) (λ v. record { low = omega arith; high = omega (arith, l.high) }))
+    (record { low = omega arith; high = l.high })
 
 ones_mono : (x y : ℕ) → x ≤ y → y < 2 ^ 64 → ones x ≤ ones y
 ones_mono x y h k =

@@ -9,7 +9,7 @@ use bq_range::range::Range;
 use std::marker::Model;
 
 /// The least and the greatest offset that a pointer may have.
-const LIMIT: i128 = 65_536;
+const LIMIT: i32 = 65_536;
 
 /// Offsets from the start of a region, from `lo` to `hi`, both within -65,536 to 65,536.
 #[derive(Clone, Copy, Debug, PartialEq, Eq)]
@@ -70,7 +70,7 @@ impl Offsets {
     pub fn new(lo: i32, hi: i32) -> Option<Offsets>
         ensures { SomeIff result (IsSpan (record { lo = lo; hi = hi })) (record { lo = lo; hi = hi }) }
     {
-        if -65_536 <= lo && lo <= hi && hi <= 65_536 {
+        if -LIMIT <= lo && lo <= hi && hi <= LIMIT {
             Some(Offsets { lo, hi })
         } else {
             None
@@ -127,7 +127,7 @@ impl Offsets {
         requires { lo ≤ℤ hi }
         ensures { result ≡ limited (record { lo = lo; hi = hi }) }
     {
-        if -LIMIT <= lo && hi <= LIMIT {
+        if i128::from(-LIMIT) <= lo && hi <= i128::from(LIMIT) {
             Some(Offsets {
                 lo: lo as i32,
                 hi: hi as i32,

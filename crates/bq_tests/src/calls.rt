@@ -98,7 +98,7 @@ fn one_step(rt: HostRuntime) -> Result<(), Fail> {
         unit: 0,
         registers: [None; 11],
         frame: [0; 512],
-        record: [0; 64],
+        record: &[0; 64],
     };
     let unset = Err(Fault::ReadUnset);
     assert_eq!(rt; step_checked(&text, &near, &mut machine), unset);

@@ -4,7 +4,7 @@ ghost use Rattle.std.specs.Prelude.{◌≡◌, ◌≤◌, length, is_some, optio
 ghost use Rattle.std.specs.FinMap as fin;
 ghost use Rattle.sc_members.specs.Members.{IsConfig};
 ghost use Rattle.sc_node.specs.Nodes.{most_founders};
-ghost use Rattle.q_table.specs.Calls.{Steps, Gives, Does};
+ghost use Rattle.forms.specs.Calls.{Steps, Gives, Does};
 ghost use Rattle.q_desk.specs.Desks as desk;
 ghost use Rattle.q_desk.specs.Desks.{ends, completed_by};
 ghost use Rattle.q_desk.specs.Answers.{AnswersAreRight, ProgramsAreKnown};

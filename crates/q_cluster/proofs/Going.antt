@@ -19,7 +19,7 @@ use Rattle.sc_world.specs.Worlds.{live_at}
 use Rattle.sc_world.proofs.Finite.{get-insert}
 use Rattle.sc_world.proofs.Inverts.{no_refusal, same_answer}
 use Rattle.sc_world.proofs.Moving.{delivery_right}
-use Rattle.q_table.specs.Calls.{Steps}
+use Rattle.forms.specs.Calls.{Steps}
 use Rattle.q_desk.specs.State.{DeskState}
 use Rattle.q_desk.specs.Desks as desk
 use Rattle.q_desk.specs.declared.fault.DeskFault.{DeskFault}

@@ -1,6 +1,6 @@
 -- What an event says of the history of a cluster, and a run.
 use Rattle.std.proofs.Common.{◌≡◌, ℕ, List, take, ◌∙◌, Result, Ok, Err}
-use Rattle.q_table.specs.Calls.{Steps}
+use Rattle.forms.specs.Calls.{Steps}
 use Rattle.q_session.specs.declared.ran.Ran.{Ran}
 use Rattle.q_history.specs.declared.event.Event.{Event}
 use Rattle.q_history.specs.declared.event.Stepped.{Stepped}

@@ -9,7 +9,7 @@ use Rattle.std.specs.FinMap.Entries.{find}
 use Rattle.std.specs.BTreeMap.{is_at}
 use Rattle.sc_maps.proofs.Maps.{found, get_found, one_written}
 use Rattle.sc_world.proofs.Finite.{get-insert}
-use Rattle.q_table.specs.Calls.{Steps, Does}
+use Rattle.forms.specs.Calls.{Steps, Does}
 use Rattle.q_book.specs.State.{BookState}
 use Rattle.q_book.specs.declared.fault.BookFault.{BookFault}
 use Rattle.q_book.specs.Faults.{memory}

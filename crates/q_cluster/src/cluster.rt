@@ -5,7 +5,7 @@ ghost use Rattle.std.specs.FinMap as fin;
 ghost use Rattle.sc_world.specs.Records.{AreRecords};
 ghost use Rattle.sc_world.specs.Regular.{IsRegular};
 ghost use Rattle.sc_world.specs.Worlds as world;
-ghost use Rattle.q_table.specs.Calls.{Steps, Gives};
+ghost use Rattle.forms.specs.Calls.{Steps, Gives};
 ghost use Rattle.q_session.specs.declared.ran.Ran.{Ran};
 ghost use Rattle.q_history.specs.Faults.{memory};
 ghost use Rattle.q_history.specs.Clusters.{at, registered, asked, stored, delivered, handed_out, handed, with_job, finished, entered, left, crashed, started};

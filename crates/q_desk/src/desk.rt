@@ -2,7 +2,7 @@
 
 ghost use Rattle.std.specs.Prelude.{◌≡◌, ℕ, Ok, Some, IfOk, slice_get, position, option_map, IsTrue};
 ghost use Rattle.sc_view.specs.Views.{ViewMap};
-ghost use Rattle.q_table.specs.Calls.{Steps, Does};
+ghost use Rattle.forms.specs.Calls.{Steps, Does};
 ghost use Rattle.q_session.specs.declared.query.Query.{Query as QueryValue};
 ghost use Rattle.q_desk.specs.State.{DeskState, new_desk};
 ghost use Rattle.q_desk.specs.Desks as desk;

@@ -16,7 +16,7 @@ use Rattle.bq_check.specs.Spelling.{short_bytes, long_bytes, notes_bytes, IsNote
 use Rattle.bq_check.specs.Certificate.{Certificate, IsCertified}
 use Rattle.sc_msg.specs.declared.message.Message.{Message}
 use Rattle.sc_node.specs.declared.answer.Begun.{Begun}
-use Rattle.q_table.specs.Calls.{Steps}
+use Rattle.forms.specs.Calls.{Steps}
 use Rattle.q_session.specs.declared.ran.Ran.{Ran}
 use Rattle.q_desk.specs.declared.fault.DeskFault.{DeskFault}
 use Rattle.q_desk.specs.Faults as desk_fault

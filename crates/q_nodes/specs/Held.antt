@@ -55,6 +55,11 @@ with_one l (lost.Bytes f) = record l { bytes = sum_of l.bytes 1 }
 with_one l (lost.Book f) = record l { book = sum_of l.book 1 }
 with_one l lost.OutOfMemory = record l { memory = sum_of l.memory 1 }
 
+-- after a datagram that may have changed nothing
+abbrev pub counted : Result (Unit {0}) Lost → Losses → Losses
+counted (Ok u) l = l
+counted (Err e) l = with_one l e
+
 abbrev pub together : Losses → Losses → Losses
 together l k = record { bytes = sum_of l.bytes k.bytes; book = sum_of l.book k.book; memory = sum_of l.memory k.memory }
 

@@ -3,7 +3,7 @@
 ghost use Rattle.std.specs.Prelude.{◌≡◌, ◌≤◌, ◌+◌, [], vec_len, vec_capacity, MatchResult};
 ghost use Rattle.q_board.specs.BoardId.{board_id};
 ghost use Rattle.q_pool.specs.Pumped.{Pumped, Stopped};
-ghost use Rattle.q_nodes.specs.Held.{Asks, Delivers, Hears, Stores, no_losses};
+ghost use Rattle.q_nodes.specs.Held.{Asks, Delivers, Hears, Stores, counted, no_losses};
 
 use crate::losses::Losses;
 use q_board::board::Board;
@@ -64,9 +64,26 @@ impl<'b> Held<'b> {
     }
 
     /// Takes the bytes of a datagram: the message that they spell is delivered, and what the book gives waits behind
-    /// what waits already. Where that is refused nothing changes.
+    /// what waits already. Where that is refused the datagram counts as lost, and nothing else changes.
     pub fn hear(&mut self, alloc: Global, bytes: &[u8]) -> Result<(), Lost>
-        ensures { Hears bytes.now self.old.book self.old.waiting.items result self.new.book self.new.waiting.items }
+        ensures heard { Hears bytes.now self.old.book self.old.waiting.items result self.new.book self.new.waiting.items }
+        ensures counted { self.new.lost ≡ counted result self.old.lost }
+        ensures asker { self.new.asker ≡ self.old.asker }
+    {
+        match self.take_bytes(alloc, bytes) {
+            Ok(()) => Ok(()),
+            Err(lost) => {
+                self.lost.count(lost);
+                Err(lost)
+            }
+        }
+    }
+
+    /// The same, and nothing is counted.
+    fn take_bytes(&mut self, alloc: Global, bytes: &[u8]) -> Result<(), Lost>
+        ensures heard { Hears bytes.now self.old.book self.old.waiting.items result self.new.book self.new.waiting.items }
+        ensures lost { self.new.lost ≡ self.old.lost }
+        ensures asker { self.new.asker ≡ self.old.asker }
     {
         let message = match decode(alloc, bytes) {
             Ok(message) => message,
@@ -81,7 +98,9 @@ impl<'b> Held<'b> {
     /// Delivers a message, for whose answers there is room.
     fn take_in(&mut self, message: &Message) -> Result<(), Lost>
         requires { vec_len self.old.waiting + 2 ≤ vec_capacity self.old.waiting }
-        ensures { Delivers message.now self.old.book self.old.waiting.items result self.new.book self.new.waiting.items }
+        ensures delivered { Delivers message.now self.old.book self.old.waiting.items result self.new.book self.new.waiting.items }
+        ensures lost { self.new.lost ≡ self.old.lost }
+        ensures asker { self.new.asker ≡ self.old.asker }
     {
         match self.book.deliver(message) {
             Ok(taken) => {
@@ -94,7 +113,9 @@ impl<'b> Held<'b> {
 
     /// Begins to store a value, and answers the operation's tag. What the book gives waits.
     pub fn store(&mut self, value: &[u8; 48]) -> Result<u64, BookFault>
-        ensures { Stores value.now self.old.book self.old.waiting.items result self.new.book self.new.waiting.items }
+        ensures stored { Stores value.now self.old.book self.old.waiting.items result self.new.book self.new.waiting.items }
+        ensures lost { self.new.lost ≡ self.old.lost }
+        ensures asker { self.new.asker ≡ self.old.asker }
     {
         self.waiting.reserve(2)?;
         let begun = self.book.store(value)?;
@@ -105,7 +126,9 @@ impl<'b> Held<'b> {
 
     /// A query begins, and its number is answered. What the book gives waits.
     pub fn ask(&mut self, program: ProgramId, start: u64) -> Result<usize, BookFault>
-        ensures { Asks program start self.old.book self.old.waiting.items result self.new.book self.new.waiting.items }
+        ensures asked { Asks program start self.old.book self.old.waiting.items result self.new.book self.new.waiting.items }
+        ensures lost { self.new.lost ≡ self.old.lost }
+        ensures asker { self.new.asker ≡ self.old.asker }
     {
         self.waiting.reserve(2)?;
         let Asked { query, begun } = self.book.ask(program, start)?;
@@ -118,15 +141,20 @@ impl<'b> Held<'b> {
         ensures given { result.items ≡ self.old.waiting.items }
         ensures none { self.new.waiting.items ≡ [] }
         ensures book { self.new.book ≡ self.old.book }
+        ensures lost { self.new.lost ≡ self.old.lost }
+        ensures asker { self.new.asker ≡ self.old.asker }
     {
         std::mem::replace(&mut self.waiting, Vec::new(alloc))
     }
+
     /// Posts the results that wait for the node at the board, and offers jobs of its ready queries there. Refused as
     /// [`pump_once`] is.
     pub fn pump(&mut self) -> Result<u32, BookFault>
-        ensures { MatchResult result
+        ensures pumped { MatchResult result
             (λ posted. Pumped self.old.asker self.old.book posted self.new.asker self.new.book)
             (λ fault. Stopped self.old.asker self.old.book fault self.new.asker self.new.book) }
+        ensures waiting { self.new.waiting.items ≡ self.old.waiting.items }
+        ensures lost { self.new.lost ≡ self.old.lost }
     {
         pump_once(self.board, &mut self.asker, &mut self.book)
     }

@@ -36,10 +36,7 @@ fn receive<T: Transport>(transport: &mut T, buffer: &mut [u8]) -> Option<usize>
 
 /// Delivers what was received, or counts it as lost, under the lock.
 fn hear<R: Wait>(rt: &R, alloc: Global, held: &Mutex<Held<'_>>, bytes: &[u8]) {
-    let mut guard = held.lock(rt);
-    if let Err(lost) = guard.hear(alloc, bytes) {
-        guard.lost.count(lost);
-    }
+    let _ = held.lock(rt).hear(alloc, bytes);
 }
 
 /// The messages that wait, taken under the lock.
@@ -68,7 +65,7 @@ fn take_turn<R: Wait, T: Transport>(
 }
 
 /// Runs a node until the cluster is over: its thread hears and sends, and gives way where there is nothing to do.
-pub fn tend<R: Wait + Clock, T: Transport + Drop>(
+pub(crate) fn tend<R: Wait + Clock, T: Transport + Drop>(
     rt: &R,
     alloc: Global,
     nodes: u64,

@@ -3,7 +3,7 @@
 //! Each call takes the lock once. It names the node whose book it means, and says what it found of some book of that
 //! node which is the replay of its journal: which one it was no clause can say, since other threads go on.
 
-ghost use Rattle.std.specs.Prelude.{⊤, IfSome, IsTrue, MatchBool};
+ghost use Rattle.std.specs.Prelude.{⊤, ◌≤◌, ◌↔◌, length, IfSome, IsSome, IsTrue, MatchBool};
 ghost use Rattle.q_nodes.specs.Seats.{BeginsQuery, BeginsStore, HasEnded, IsBookOf, IsRecorded, Registers};
 
 use crate::fault::NodesFault;
@@ -14,9 +14,11 @@ use q_table::program::{Program, ProgramId};
 use std::sync::{Mutex, Wait};
 
 /// The lock of this node, which is counted from 1.
-pub fn seat<'s, 'b>(seats: &'s [Mutex<Held<'b>>], node: u64) -> Option<&'s Mutex<Held<'b>>> {
+pub(crate) fn seat<'s, 'b>(seats: &'s [Mutex<Held<'b>>], node: u64) -> Option<&'s Mutex<Held<'b>>>
+    ensures { IsSome result ↔ ((1 ≤ node) × (node ≤ length seats.now)) }
+{
     let place = node.checked_sub(1)?;
-    seats.get(usize::try_from(place).ok()?)
+    seats.get(place as usize)
 }
 
 /// Whether this is the book of the node. Every book is the replay of its journal, and its recorded answers are right.
@@ -93,7 +95,7 @@ fn answer_in(book: &Book, node: u64, query: usize) -> Option<Ran>
 }
 
 /// Registers a program at the node.
-pub fn register<R: Wait>(
+pub(crate) fn register<R: Wait>(
     rt: &R,
     held: &Mutex<Held<'_>>,
     node: u64,
@@ -105,7 +107,7 @@ pub fn register<R: Wait>(
 }
 
 /// The node begins to store a value: the tag of the operation.
-pub fn store<R: Wait>(
+pub(crate) fn store<R: Wait>(
     rt: &R,
     held: &Mutex<Held<'_>>,
     node: u64,
@@ -117,7 +119,7 @@ pub fn store<R: Wait>(
 }
 
 /// The node begins a query: its number.
-pub fn ask<R: Wait>(
+pub(crate) fn ask<R: Wait>(
     rt: &R,
     held: &Mutex<Held<'_>>,
     node: u64,
@@ -130,7 +132,7 @@ pub fn ask<R: Wait>(
 }
 
 /// Looks whether the operation with this tag has ended at the node.
-pub fn has_ended<R: Wait>(rt: &R, held: &Mutex<Held<'_>>, node: u64, tag: u64) -> bool
+pub(crate) fn has_ended<R: Wait>(rt: &R, held: &Mutex<Held<'_>>, node: u64, tag: u64) -> bool
     ensures { IsTrue result → HasEnded node tag }
 {
     let guard = held.lock(rt);
@@ -138,7 +140,12 @@ pub fn has_ended<R: Wait>(rt: &R, held: &Mutex<Held<'_>>, node: u64, tag: u64) -
 }
 
 /// Looks for the answer of a query at the node.
-pub fn answer<R: Wait>(rt: &R, held: &Mutex<Held<'_>>, node: u64, query: usize) -> Option<Ran>
+pub(crate) fn answer<R: Wait>(
+    rt: &R,
+    held: &Mutex<Held<'_>>,
+    node: u64,
+    query: usize,
+) -> Option<Ran>
     ensures { IfSome result (IsRecorded node query) }
 {
     let guard = held.lock(rt);
@@ -147,6 +154,6 @@ pub fn answer<R: Wait>(rt: &R, held: &Mutex<Held<'_>>, node: u64, query: usize) 
 
 /// Carries results from the board into the book of a node, and jobs from the book to the board. What stops the pump
 /// stops it at the next call too, and loses nothing.
-pub fn pump<R: Wait>(rt: &R, held: &Mutex<Held<'_>>) {
+pub(crate) fn pump<R: Wait>(rt: &R, held: &Mutex<Held<'_>>) {
     let _ = held.lock(rt).pump();
 }

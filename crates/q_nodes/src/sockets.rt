@@ -46,7 +46,7 @@ fn meet_all(transport: &mut UdpTransport, peers: &[Peer]) -> io::Result<()> {
 }
 
 /// A socket for each of so many nodes, at free ports of loopback, each of which knows all.
-pub fn open_sockets<R: Net>(rt: &R, alloc: Global, nodes: u64) -> io::Result<Vec<UdpTransport>> {
+fn open_sockets<R: Net>(rt: &R, alloc: Global, nodes: u64) -> io::Result<Vec<UdpTransport>> {
     let mut transports = open_all(rt, alloc, nodes)?;
     let peers = peers(alloc, transports.as_slice())?;
     for transport in transports.as_mut_slice() {

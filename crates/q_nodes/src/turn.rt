@@ -10,7 +10,7 @@ const YIELDS: u32 = 1000;
 const NAP_MICROS: u64 = 20;
 
 /// Lets other threads run, after so many turns in which there was nothing to do.
-pub fn pause<R: Clock>(rt: &R, idle: u32) {
+pub(crate) fn pause<R: Clock>(rt: &R, idle: u32) {
     if idle < YIELDS || idle % 2 == 0 {
         thread::yield_now();
     } else {

@@ -1,6 +1,7 @@
 //! The scripts, and what they print.
 
 use crate::deaf::Deaf;
+use crate::forged::{Forged, datagrams};
 use crate::noise::Noisy;
 use q_files::files::Files;
 use q_files::memory::MemoryFiles;
@@ -88,6 +89,7 @@ impl Cases {
             "memory" => self.run_over_memory(rt, 0, 0, out),
             "deaf" => self.run_over_memory(rt, number(rest).unwrap_or(0), 0, out),
             "mute" => self.run_over_memory(rt, 0, number(rest).unwrap_or(0), out),
+            "forged" => self.run_over_forged(rt, rest, out),
             "noisy" => self.run_over_noise(rt, rest.as_bytes(), out),
             _ => self.run_command(rt, words, out),
         }
@@ -182,5 +184,37 @@ impl Cases {
         }
         let mut notes = Vec::new(self.alloc);
         Ok(run_cluster(rt, self.alloc, &script, transports, out, &mut notes))
+    }
+    /// Runs the script over memory, where node 1 hears before all else what nobody sent: so many datagrams that spell no
+    /// message, that no book takes, and of a message that was never sent.
+    fn run_over_forged<R: Net + Wait + Threads + Clock + Sync, W: Write>(
+        &self,
+        rt: &R,
+        counts: &str,
+        out: &mut W,
+    ) -> io::Result<u8> {
+        let Some(script) = self.read(out)? else {
+            return Ok(1);
+        };
+        let (spelling_none, rest) = counts.split_once(' ').unwrap_or((counts, ""));
+        let (refused, never_sent) = rest.split_once(' ').unwrap_or((rest, ""));
+        let mut before = datagrams(
+            self.alloc,
+            number(spelling_none).unwrap_or(0),
+            number(refused).unwrap_or(0),
+            number(never_sent).unwrap_or(0),
+        )?;
+        let hub = Hub::open(self.alloc, script.nodes)?;
+        let mut transports = Vec::new(self.alloc);
+        for known in 0..script.nodes {
+            transports.push(Forged {
+                inner: MemoryTransport::new(rt, &hub, known + 1),
+                before: std::mem::replace(&mut before, Vec::new(self.alloc)),
+            })?;
+        }
+        let mut notes = Vec::new(self.alloc);
+        let status = run_cluster(rt, self.alloc, &script, transports, out, &mut notes);
+        out.write_all(notes.as_slice())?;
+        Ok(status)
     }
 }

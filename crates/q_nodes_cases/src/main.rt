@@ -9,6 +9,7 @@
 //! | `$ deaf NODE` | is printed, with what it prints over memory where this node hears nothing |
 //! | `$ mute NODE` | is printed, with what it prints over memory where this node sends nothing |
 //! | `$ noisy LETTERS` | is printed, with what it prints over memory where datagrams are disturbed by these letters |
+//! | `$ forged BYTES BOOK NEVER` | is printed, with what it prints over memory where node 1 first hears so many datagrams that spell no message, that no book takes, and of a message that was never sent |
 //! | `$ WORDS` | is printed, with what the command of these words prints over the one file `s`, which holds the script |
 //! | any other | is added to the script as a line |
 //!
@@ -17,6 +18,7 @@
 
 mod cases;
 mod deaf;
+mod forged;
 mod noise;
 
 use crate::cases::Cases;

@@ -7,7 +7,7 @@ ghost use Rattle.q_session.specs.Right.{IsRight};
 use crate::ran::Ran;
 use bq_check::certified::Certified;
 use bq_meaning::laws::appended;
-use bq_meaning::placement::{FRAME_LENGTH, Placement};
+use bq_meaning::placement::{FRAME_LENGTH, Placement, RECORD_LENGTH};
 use sc_view::view::{Stored, View};
 
 /// Where the frame lies in each run. The answer is the same at every placement.
@@ -16,9 +16,10 @@ const FRAME: u64 = 4096;
 /// Where the record lies.
 const RECORD: u64 = 8192;
 
-/// The reference for tests: what the record runs of a certified program come to over the entries of a view in rising order of ids: the first
-/// with the start value and a frame of zeros, each later one with the accumulator and the frame that the one before
-/// left. It is the answer at every placement, and takes at most the longest path for each entry. Takes no memory.
+/// The reference for tests: what the record runs of a certified program come to over the entries of a view in rising
+/// order of ids: the first with the start value and a frame of zeros, each later one with the accumulator and the frame
+/// that the one before left. It is the answer at every placement, and takes at most the longest path for each entry.
+/// Takes no memory.
 pub fn fold_checked(certified: &Certified, view: &View, start: u64) -> Ran
     ensures right { IsRight certified.now view.now start result }
 {
@@ -44,11 +45,11 @@ pub fn fold_checked(certified: &Certified, view: &View, start: u64) -> Ran
     ran
 }
 
-// The 64 bytes of an entry.
-pub(crate) fn record_bytes(id: u64, stored: &Stored) -> [u8; 64]
+// The bytes of an entry.
+pub(crate) fn record_bytes(id: u64, stored: &Stored) -> [u8; RECORD_LENGTH]
     ensures { result ≡ record_bytes (id, stored.now) }
 {
-    let mut bytes = [0; 64];
+    let mut bytes = [0; RECORD_LENGTH];
     bytes[..8].copy_from_slice(&id.to_le_bytes());
     bytes[8..16].copy_from_slice(&stored.number().to_le_bytes());
     bytes[16..].copy_from_slice(stored.value());

@@ -1,4 +1,3 @@
--- What calls do, the programs of a desk, and what refuses one more.
-pub mod Calls
+-- The programs of a desk, and what refuses one more.
 pub mod Programs
 pub mod Faults

@@ -6,8 +6,7 @@
 //! refused with 52 where the table is full, and 99 says that memory ran out: [`fault`]. After a refusal the table is as it
 //! was.
 //!
-//! `specs/Programs` says what registering does to the list of the certificates, and `specs/Calls` what a call that may
-//! refuse does.
+//! `specs/Programs` says what registering does to the list of the certificates.
 #![tactic(auto)]
 
 pub mod fault;

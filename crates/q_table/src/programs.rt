@@ -1,7 +1,7 @@
 //! Programs by their ids.
 
 ghost use Rattle.std.specs.Prelude.{◌≡◌, [], length, option_map, slice_get, position, Ok, IfOk};
-ghost use Rattle.q_table.specs.Calls.{Steps};
+ghost use Rattle.forms.specs.Calls.{Steps};
 ghost use Rattle.q_table.specs.declared.fault.TableFault.TheVariants as fault;
 ghost use Rattle.q_table.specs.Programs.{registered, checked, IsTable};
 

@@ -1,7 +1,8 @@
 //! Datagrams over memory, that threads share.
 
-ghost use Rattle.std.specs.Prelude.{◌≡◌, ◌≤◌, ◌↔◌, ◌++◌, ◌∷◌, [], length, IfOk, IfSome, IsSome, OnOk, OnErr, MatchOption};
+ghost use Rattle.std.specs.Prelude.{◌≡◌, ◌≤◌, ◌↔◌, ◌++◌, ◌∷◌, [], length, Err, IfOk, IfSome, IsSome, OnOk, OnErr, MatchOption};
 ghost use Rattle.q_wire.specs.Counts.{transport_count};
+ghost use Rattle.q_wire.specs.Peers.{HasMailbox};
 
 use crate::fault::TransportFault;
 use crate::transport::{Transport, count_failure, put_at_start};
@@ -83,19 +84,21 @@ impl Hub {
 
     /// The mailbox of a node.
     fn mailbox(&self, node: u64) -> Option<&Mutex<Mailbox>>
-        ensures { IsSome result ↔ ((1 ≤ node) × (node ≤ self.now)) }
+        ensures { IsSome result ↔ HasMailbox self.now node }
     {
         let place = node.checked_sub(1)?;
         self.mailboxes.get(place as usize)
     }
 }
 
-/// A node's end of a hub.
+/// A node's end of a hub. A node that has no mailbox there hears nothing, and is told nothing: such calls fail.
 #[derive(Drop)]
 pub struct MemoryTransport<'a, R: Wait> {
     rt: &'a R,
-    hub: &'a Hub,
-    node: u64,
+    /// The mailboxes of all nodes.
+    pub hub: &'a Hub,
+    /// The node whose end it is.
+    pub node: u64,
     /// How many calls failed so far.
     pub failures: u64,
 }
@@ -103,7 +106,9 @@ pub struct MemoryTransport<'a, R: Wait> {
 impl<'a, R: Wait> MemoryTransport<'a, R> {
     /// The end of this node.
     pub fn new(rt: &'a R, hub: &'a Hub, node: u64) -> Self
-        ensures { result.failures ≡ 0 }
+        ensures hub { result.hub.now ≡ hub.now }
+        ensures node { result.node ≡ node }
+        ensures failures { result.failures ≡ 0 }
     {
         MemoryTransport {
             rt,
@@ -117,7 +122,12 @@ impl<'a, R: Wait> MemoryTransport<'a, R> {
 impl<R: Wait> Transport for MemoryTransport<'_, R> {
     ghost failed = { λ t. t.failures };
 
-    fn send(&mut self, to: u64, bytes: &[u8]) -> Result<(), TransportFault> {
+    fn send(&mut self, to: u64, bytes: &[u8]) -> Result<(), TransportFault>
+        ensures counted { self.new.failures ≡ transport_count result self.old.failures }
+        ensures stranger { ¬ (HasMailbox self.old.hub.now to) → result ≡ Err TransportFault.Failed }
+        ensures hub { self.new.hub.now ≡ self.old.hub.now }
+        ensures node { self.new.node ≡ self.old.node }
+    {
         let Some(mailbox) = self.hub.mailbox(to) else {
             return Err(count_failure(&mut self.failures));
         };
@@ -125,7 +135,14 @@ impl<R: Wait> Transport for MemoryTransport<'_, R> {
         Ok(())
     }
 
-    fn receive(&mut self, into: &mut [u8]) -> Result<Option<usize>, TransportFault> {
+    fn receive(&mut self, into: &mut [u8]) -> Result<Option<usize>, TransportFault>
+        ensures counted { self.new.failures ≡ transport_count result self.old.failures }
+        ensures len { length into.new ≡ length into.old }
+        ensures fits { IfOk result (λ got. IfSome got (λ n. n ≤ length into.new)) }
+        ensures stranger { ¬ (HasMailbox self.old.hub.now self.old.node) → result ≡ Err TransportFault.Failed }
+        ensures hub { self.new.hub.now ≡ self.old.hub.now }
+        ensures node { self.new.node ≡ self.old.node }
+    {
         let Some(mailbox) = self.hub.mailbox(self.node) else {
             return Err(count_failure(&mut self.failures));
         };

@@ -1,2 +1,3 @@
 -- Lemmas on trees as maps.
+pub mod Tests
 pub mod Maps

@@ -1,9 +1,9 @@
 -- Fields one behind another, and what is first wrong in them.
-use Rattle.std.proofs.Common.{◌≡◌, ℕ, ◌<◌, true, nat_lt, List, [], ◌∷◌, ◌++◌, map, length, refl, sym, ap, ◌∙◌, append_assoc}
+use Rattle.std.proofs.Common.{◌≡◌, ℕ, ◌<◌, Bool, true, nat_lt, List, [], ◌∷◌, ◌++◌, map, length, refl, sym, ap, ◌∙◌, append_assoc}
 use Rattle.std.proofs.lemmas.Bool.{lt-ltb}
 use Rattle.sc_msg.specs.declared.fault.MessageFault.{MessageFault}
 use Rattle.sc_msg.specs.declared.fault.MessageFault.TheVariants.{Short}
-use Rattle.sc_msg.specs.Fields.{Slot, number_slot, ids_slot, ids, facts_slots, facts_fields, Field, slot_of, field_bytes, fields_bytes, IsField, IsFieldFault, IsFieldsFault, OrMemory}
+use Rattle.sc_msg.specs.Fields.{Slot, number_slot, flag_slot, ids_slot, view_slot, number, flag, ids, facts_slots, facts_fields, Field, slot_of, field_bytes, fields_bytes, IsField, IsFieldFault, IsFieldsFault, OrMemory}
 use Rattle.sc_members.specs.Members.{Facts}
 use Rattle.sc_msg.specs.Entries.{AreIds, ids_bytes}
 use Rattle.sc_msg.proofs.Lists.{or_memory, or_memory_map}
@@ -62,6 +62,16 @@ pub number_cut : (bytes : List ℕ) (e : MessageFault) → e ≡ Short → lengt
 number_cut bytes e is few =
     let short : nat_lt (length bytes) 8 ≡ true = lt-ltb _ _ few in
     or_memory (IsFieldFault number_slot bytes) e (rw (short, is) refl)
+
+-- the first of the fields is a number that is cut
+pub number_cut_first : (after : List Slot) (bytes : List ℕ) (e : MessageFault) → e ≡ Short → length bytes < 8 → MayFault (number_slot ∷ after) bytes e
+number_cut_first after bytes e is few = here_or number_slot after bytes e (number_cut bytes e is few)
+
+-- behind the two fields of an echo that stand before its facts
+pub echo_or : (to : ℕ) (joined : Bool) (bytes behind_to behind_joined : List ℕ) (e : MessageFault) → IsField (number to) → bytes ≡ field_bytes (number to) ++ behind_to → behind_to ≡ field_bytes (flag joined) ++ behind_joined
+    → MayFault (facts_slots ++ view_slot ∷ []) behind_joined e → MayFault (number_slot ∷ flag_slot ∷ facts_slots ++ view_slot ∷ []) bytes e
+echo_or to joined bytes behind_to behind_joined e fits parts behind faulty =
+    later_or (number to) (flag_slot ∷ facts_slots ++ view_slot ∷ []) bytes behind_to e fits parts (later_or (flag joined) (facts_slots ++ view_slot ∷ []) behind_to behind_joined e tt behind faulty)
 
 -- behind facts that were read
 pub facts_later : (f : Facts) (slots : List Slot) (bytes rest : List ℕ) (e : MessageFault) → AreIds f.entered → AreIds f.joined → AreIds f.left → bytes ≡ fields_bytes (facts_fields f) ++ rest → MayFault slots rest e → MayFault (facts_slots ++ slots) bytes e

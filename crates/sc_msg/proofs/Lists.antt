@@ -135,6 +135,10 @@ view_none v count bytes rest is parts =
     let nothing : fin.entries v ≡ [] = nil_from_length (fin.entries v) (sym (fin.len-entries v) ∙ none) in
     (subst (λ (es : List (ℕ × Stored)). ReadTo view_layout count bytes es rest None) (sym nothing) (read_none view_layout count bytes rest parts), none)
 
+-- what is wrong behind the records that were read
+pub view_faulty : (v : ViewMap) (count : ℕ) (bytes rest : List ℕ) (last : Option ℕ) (d : MessageFault) → ReadTo view_layout count bytes (fin.entries v) rest last → count ≤ most_entries → fin.len v < count → entry_fault view_layout last rest ≡ Some d → OrMemory (IsListFault view_layout bytes) d
+view_faulty v count bytes rest last d r few fewer = read_fault view_layout count bytes (fin.entries v) rest last d r few (omega (arith, fewer, fin.len-entries v))
+
 pub view_parts : (v : ViewMap) (count : ℕ) (bytes rest : List ℕ) (last : Option ℕ) → ReadTo view_layout count bytes (fin.entries v) rest last → fin.len v ≡ count → bytes ≡ view_bytes v ++ rest
 view_parts v count bytes rest last r len = read_all view_layout count bytes (fin.entries v) rest last r (sym (fin.len-entries v) ∙ len)
 

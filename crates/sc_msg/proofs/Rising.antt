@@ -9,6 +9,7 @@ use Rattle.std.specs.FinMap.Entries.{find, is_sorted, below_all, put as put_entr
 use Rattle.std.specs.FinSet as set
 use Rattle.std.specs.List.{AllByRecursion}
 use Rattle.std.specs.List.Sorted.{IsStrictlySortedBy}
+use Rattle.sc_maps.proofs.Tests.{first, second}
 use Rattle.sc_members.specs.Ids.{Ids, as_map, rising}
 use Rattle.sc_members.proofs.Sets.{rising-from_list, len-from_list}
 use Rattle.sc_view.specs.declared.view.Stored.{Stored}
@@ -81,21 +82,13 @@ less_of x y h = elim (nat_lt x y) as (λ b. nat_lt x y ≡ b → x < y) [ true �
     not_less false true e h = h
     not_less false false e h = h
 
-left : (a b : Bool) → T (a && b) → T a
-left true b h = tt
-left false b h = h
-
-right : (a b : Bool) → T (a && b) → T b
-right true b h = h
-right false b h = absurd h
-
 sorted_from : {X : Type 0} (x : ℕ) (es : List (ℕ × X)) → T (below_all nat_cmp x es) → T (is_sorted nat_cmp es) → IsRising (Some x) (map (λ e. e.0) es)
 sorted_from x [] h s = tt
-sorted_from x (e ∷ es) h s = (lt-ltb x e.0 (less_of x e.0 (left _ _ h)), sorted_from e.0 es (left _ _ s) (right _ _ s))
+sorted_from x (e ∷ es) h s = (lt-ltb x e.0 (less_of x e.0 (first _ _ h)), sorted_from e.0 es (first _ _ s) (second _ _ s))
 
 sorted_rising : {X : Type 0} (es : List (ℕ × X)) → T (is_sorted nat_cmp es) → IsRising None (map (λ e. e.0) es)
 sorted_rising [] s = tt
-sorted_rising (e ∷ es) s = (refl, sorted_from e.0 es (left _ _ s) (right _ _ s))
+sorted_rising (e ∷ es) s = (refl, sorted_from e.0 es (first _ _ s) (second _ _ s))
 
 pub entries_rising : {X : Type 0} (m : fin.FinMap nat_cmp X) → IsRising None (map (λ e. e.0) (fin.entries m))
 entries_rising m = sorted_rising (fin.entries m) (fin.entries_sorted m)

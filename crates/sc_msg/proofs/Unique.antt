@@ -50,19 +50,6 @@ length-head_bytes k f = omega (arith, length-number_bytes 8 f)
 
 -- ---- bodies and their fields
 
-slots_of : (b : Body) → slots (kind_of b) ≡ map slot_of (fields b)
-slots_of bodies.Enter = refl
-slots_of (bodies.EnterEcho to joined facts v) = refl
-slots_of bodies.Join = refl
-slots_of (bodies.JoinEcho about) = refl
-slots_of bodies.Leave = refl
-slots_of (bodies.LeaveEcho about) = refl
-slots_of (bodies.Store tag v) = refl
-slots_of (bodies.StoreAck to tag) = refl
-slots_of (bodies.StoreEcho v) = refl
-slots_of (bodies.CollectQuery tag) = refl
-slots_of (bodies.CollectReply to tag v) = refl
-
 -- the body of a kind that has these fields, and of others any
 back : MessageKind → List Field → Body
 back kinds.EnterEcho (number to ∷ flag joined ∷ ids entered ∷ ids members ∷ ids left ∷ view v ∷ []) = bodies.EnterEcho to joined (record { entered = entered; joined = members; left = left }) v
@@ -77,22 +64,23 @@ back kinds.CollectQuery (number tag ∷ []) = bodies.CollectQuery tag
 back kinds.CollectReply (number to ∷ number tag ∷ view v ∷ []) = bodies.CollectReply to tag v
 back _ _ = bodies.Enter
 
-back_is : (b : Body) → back (kind_of b) (fields b) ≡ b
+-- the kind of a body says which fields it has, and with these it is the body
+laid_out : (b : Body) → (slots (kind_of b) ≡ map slot_of (fields b)) × (back (kind_of b) (fields b) ≡ b)
 unfolding back
-back_is bodies.Enter = refl
-back_is (bodies.EnterEcho to joined facts v) = refl
-back_is bodies.Join = refl
-back_is (bodies.JoinEcho about) = refl
-back_is bodies.Leave = refl
-back_is (bodies.LeaveEcho about) = refl
-back_is (bodies.Store tag v) = refl
-back_is (bodies.StoreAck to tag) = refl
-back_is (bodies.StoreEcho v) = refl
-back_is (bodies.CollectQuery tag) = refl
-back_is (bodies.CollectReply to tag v) = refl
+laid_out bodies.Enter = (refl, refl)
+laid_out (bodies.EnterEcho to joined facts v) = (refl, refl)
+laid_out bodies.Join = (refl, refl)
+laid_out (bodies.JoinEcho about) = (refl, refl)
+laid_out bodies.Leave = (refl, refl)
+laid_out (bodies.LeaveEcho about) = (refl, refl)
+laid_out (bodies.Store tag v) = (refl, refl)
+laid_out (bodies.StoreAck to tag) = (refl, refl)
+laid_out (bodies.StoreEcho v) = (refl, refl)
+laid_out (bodies.CollectQuery tag) = (refl, refl)
+laid_out (bodies.CollectReply to tag v) = (refl, refl)
 
 same_body : (a b : Body) → kind_of a ≡ kind_of b → fields a ≡ fields b → a ≡ b
-same_body a b k f = sym (back_is a) ∙ ap (λ x. back x (fields a)) k ∙ ap (back (kind_of b)) f ∙ back_is b
+same_body a b k f = sym (laid_out a).1 ∙ ap (λ x. back x (fields a)) k ∙ ap (back (kind_of b)) f ∙ (laid_out b).1
 
 message_is : (m n : Message) → m.from ≡ n.from → m.body ≡ n.body → m ≡ n
 message_is m n p q = λ i. record { from = p i; body = q i }
@@ -105,7 +93,7 @@ spelled_on m x = append_assoc (head_bytes (kind_of m.body) m.from) (fields_bytes
 message_front : (m n : Message) (x y : List ℕ) → IsMessage m → IsMessage n → message_bytes m ++ x ≡ message_bytes n ++ y → (m ≡ n) × (x ≡ y)
 message_front m n x y p q e =
     let h = head_front (kind_of m.body) (kind_of n.body) m.from n.from (fields_bytes (fields m.body) ++ x) (fields_bytes (fields n.body) ++ y) p.from q.from (sym (spelled_on m x) ∙ e ∙ spelled_on n y) in
-    let f = fields_front (fields m.body) (fields n.body) x y (sym (slots_of m.body) ∙ ap slots h.0 ∙ slots_of n.body) p.fields q.fields h.2 in
+    let f = fields_front (fields m.body) (fields n.body) x y (sym (laid_out m.body).0 ∙ ap slots h.0 ∙ (laid_out n.body).0) p.fields q.fields h.2 in
     (message_is m n h.1 (same_body m.body n.body h.0 f.0), f.1)
 
 pub one_spelling : (m n : Message) → IsMessage m → IsMessage n → message_bytes m ≡ message_bytes n → m ≡ n
@@ -193,7 +181,7 @@ head_is_right bytes rest k f r small parts e h = absurd (no_head_fault bytes res
 no_body_fault : (bytes x : List ℕ) (m : Message) (e : MessageFault) → IsMessage m → bytes ≡ message_bytes m ++ x → IsBodyFault bytes e → ⊥
 no_body_fault bytes x m e p parts b =
     let h = head_front b.kind (kind_of m.body) b.from m.from b.rest (fields_bytes (fields m.body) ++ x) b.fits p.from (sym b.parts ∙ parts ∙ spelled_on m x) in
-    let wanted : slots b.kind ≡ map slot_of (fields m.body) = ap slots h.0 ∙ slots_of m.body in
+    let wanted : slots b.kind ≡ map slot_of (fields m.body) = ap slots h.0 ∙ (laid_out m.body).0 in
     no_fields_fault (fields m.body) x e p.fields (subst (λ (ss : List Slot). IsFieldsFault ss (fields_bytes (fields m.body) ++ x) e) wanted (subst (λ (l : List ℕ). IsFieldsFault (slots b.kind) l e) h.2 b.faulty))
 
 nothing_more : (n : ℕ) (x : List ℕ) → [] ≡ n ∷ x → ⊥

@@ -18,8 +18,10 @@ module _ {A : Type 0} (layout : Layout A) (count : ℕ) (entries : List A) (old 
   pub written_none : (new : List ℕ) → new ≡ old ++ number_bytes 2 count → WrittenTo layout count entries old new entries
   written_none new is = record { done = []; split = refl; legal = tt; written = is ∙ ap (λ (l : List ℕ). old ++ l) (sym (append-nil (number_bytes 2 count))) }
 
-  pub written_more : (new after : List ℕ) (e : A) (rest : List A) → WrittenTo layout count entries old new (e ∷ rest) → IsEntry layout e → after ≡ new ++ entry_bytes layout e → WrittenTo layout count entries old after rest
-  written_more new after e rest w is more =
+  -- where these entries are left
+  pub written_more : (new after : List ℕ) (e : A) (rest left : List A) → WrittenTo layout count entries old new left → left ≡ e ∷ rest → IsEntry layout e → after ≡ new ++ entry_bytes layout e → WrittenTo layout count entries old after rest
+  written_more new after e rest left so_far next is more =
+      let w = subst (WrittenTo layout count entries old new) next so_far in
       let spelled : flat_map (entry_bytes layout) (w.done ++ e ∷ []) ≡ flat_map (entry_bytes layout) w.done ++ entry_bytes layout e = flat_map-append (entry_bytes layout) w.done (e ∷ []) ∙ ap (λ (l : List ℕ). flat_map (entry_bytes layout) w.done ++ l) (append-nil (entry_bytes layout e)) in
       record {
         done = w.done ++ e ∷ [];
@@ -29,8 +31,10 @@ module _ {A : Type 0} (layout : Layout A) (count : ℕ) (entries : List A) (old 
             ∙ ap (λ (l : List ℕ). old ++ l) (append_assoc (number_bytes 2 count) (flat_map (entry_bytes layout) w.done) (entry_bytes layout e) ∙ ap (λ (l : List ℕ). number_bytes 2 count ++ l) (sym spelled));
       }
 
-  pub written_all : (new : List ℕ) → WrittenTo layout count entries old new [] → count ≡ length entries → AllByRecursion (IsEntry layout) entries × (new ≡ old ++ list_bytes layout entries)
-  written_all new w len =
+  -- where none is left
+  pub written_all : (new : List ℕ) (left : List A) → WrittenTo layout count entries old new left → left ≡ [] → count ≡ length entries → AllByRecursion (IsEntry layout) entries × (new ≡ old ++ list_bytes layout entries)
+  written_all new left so_far none len =
+      let w = subst (WrittenTo layout count entries old new) none so_far in
       let all : entries ≡ w.done = w.split ∙ append-nil w.done in (
         subst (AllByRecursion (IsEntry layout)) (sym all) w.legal,
         w.written ∙ ap (λ (l : List ℕ). old ++ l) (ap (λ n. number_bytes 2 n ++ flat_map (entry_bytes layout) w.done) len ∙ ap (λ (es : List A). number_bytes 2 (length entries) ++ flat_map (entry_bytes layout) es) (sym all)),

@@ -14,7 +14,7 @@ use Rattle.sc_node.specs.declared.answer.Delivered.{Delivered}
 use Rattle.sc_node.specs.declared.fault.NodeFault.{NodeFault}
 use Rattle.sc_node.specs.declared.fault.NodeFault.TheVariants as fault
 use Rattle.sc_node.specs.State.{NodeState}
-use Rattle.sc_node.specs.Calls.{Steps}
+use Rattle.forms.specs.Calls.{Steps}
 use Rattle.sc_node.specs.Faults.{of_facts}
 use Rattle.sc_node.specs.Nodes.{is_view_full, message_from, joins, node_after, delivery, facts_after, delivered}
 

@@ -1,5 +1,4 @@
 -- What a node does.
-pub mod Calls
 pub mod Sessions
 pub mod State
 pub mod Nodes

@@ -55,23 +55,37 @@ struct Seen {
     ids: usize,
     sum: u64,
     kept_sum: u64,
+    gathered_sum: u64,
     refused: Option<ViewFault>,
 }
 
-/// A view of 200 nodes is shared, and learns newer values of 256 nodes; then a new node is refused, and a known one not.
+/// Newer values of 256 nodes, then nothing new, then 64 values that are newer still. The answer is the sum of the
+/// numbers that an empty view has once it learned all of the second.
+fn merge_in_turn(alloc: Global, view: &mut View, known: &View) -> Result<u64, ViewFault> {
+    let mut newer = View::new(alloc);
+    learn(&mut newer, 256, 2)?;
+    merge_again(view, &newer)?;
+    merge_again(view, known)?;
+    let mut gathered = View::new(alloc);
+    merge_again(&mut gathered, view)?;
+    learn(&mut newer, 64, 3)?;
+    merge_again(view, &newer)?;
+    Ok(sum_of_numbers(&gathered))
+}
+
+/// A view of 200 nodes is shared, and learns from others; then a new node is refused, and a known one not.
 fn seen_at_the_end(alloc: Global) -> Result<Seen, ViewFault> {
     let mut view = View::new(alloc);
     learn(&mut view, 200, 1)?;
     let kept = view.share()?;
-    let mut newer = View::new(alloc);
-    learn(&mut newer, 256, 2)?;
-    merge_again(&mut view, &newer)?;
+    let gathered_sum = merge_in_turn(alloc, &mut view, &kept)?;
     let refused = put_again(&mut view, 300, 1).err();
     put_again(&mut view, 5, 3)?;
     Ok(Seen {
         ids: view.len(),
         sum: sum_of_numbers(&view),
         kept_sum: sum_of_numbers(&kept),
+        gathered_sum,
         refused,
     })
 }
@@ -81,8 +95,9 @@ fn seen_at_the_end(alloc: Global) -> Result<Seen, ViewFault> {
 fn want_of_memory_changes_nothing(rt: HostRuntime) -> Result<(), Fail> {
     let seen = seen_at_the_end(rt.alloc())?;
     assert_eq!(rt; seen.ids, 256);
-    assert_eq!(rt; seen.sum, 513);
+    assert_eq!(rt; seen.sum, 577);
     assert_eq!(rt; seen.kept_sum, 200);
+    assert_eq!(rt; seen.gathered_sum, 512);
     assert_eq!(rt; seen.refused, Some(ViewFault::Full));
     Ok(())
 }

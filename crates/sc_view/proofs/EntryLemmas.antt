@@ -7,6 +7,7 @@ use Rattle.std.specs.Ordering.{nat_cmp, is_eq, is_lt}
 use Rattle.std.specs.List.{insert}
 use Rattle.std.specs.FinMap.Entries.{put, find, by_order, below_all, is_sorted, is_sorted-put}
 use Rattle.std.specs.Cmp.{nat_cmp_total}
+use Rattle.sc_maps.proofs.Tests.{both, first, second}
 use Rattle.sc_view.specs.declared.view.Stored.{Stored}
 use Rattle.sc_view.specs.Rows.{before, without_first, from, Over, Under, Rises}
 
@@ -59,18 +60,6 @@ under_before id (e ∷ es) f fs r h = (omega (arith, (over_right e.0 es (f ∷ f
 
 pub over_from : (id : ℕ) (f : ℕ × Stored) (fs : List (ℕ × Stored)) → Rises (f ∷ fs) → id < f.0 → Over id (f ∷ fs)
 over_from id f fs r h = (h, over_lower id f.0 fs (omega (arith, h)) r.0)
-
-both : (a b : Bool) → T a → T b → T (a && b)
-both true b p q = q
-both false b p q = p
-
-first : (a b : Bool) → T (a && b) → T a
-first true b p = tt
-first false b p = p
-
-second : (a b : Bool) → T (a && b) → T b
-second true b p = p
-second false b p = absurd p
 
 below : (x : ℕ) (es : List (ℕ × Stored)) → Over x es → T (below_all nat_cmp x es)
 below x [] o = tt

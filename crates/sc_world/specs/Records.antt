@@ -3,6 +3,7 @@ use Rattle.std.specs.Prelude.{◌≡◌, ℕ, ◌+◌, ◌≤◌, ◌<◌, Bool,
 use Rattle.std.specs.List.{count_by}
 use Rattle.std.specs.FinMap as fin
 use Rattle.std.specs.FinSet as set
+pub use Rattle.forms.specs.Lists.{Among}
 use Rattle.sc_view.specs.declared.view.Stored.{Stored}
 use Rattle.sc_view.specs.Views.{ViewMap}
 use Rattle.sc_members.specs.Ids.{Ids, Has}
@@ -21,11 +22,6 @@ use Rattle.sc_world.specs.declared.event.Stepped.{Stepped}
 use Rattle.sc_world.specs.declared.op.Op.{Op}
 use Rattle.sc_world.specs.State.{WorldState}
 use Rattle.sc_world.specs.Worlds.{clock, node_of, stepped, WasBefore}
-
--- x is an element
-abbrev pub Among : {X : Type 0} → X → List X → Type 0
-Among x [] = ⊥
-Among x (y ∷ ys) = (x ≡ y) ⊎ Among x ys
 
 -- the event that begins an operation of this kind
 abbrev pub beginning_of : ℕ → OperationKind → Event

@@ -2,7 +2,7 @@
 
 ghost use Rattle.std.specs.Prelude.{◌≡◌, OnOk, OnErr, is_some, option_copied};
 ghost use Rattle.std.specs.FinMap as fin;
-ghost use Rattle.sc_node.specs.Calls.{Gives};
+ghost use Rattle.forms.specs.Calls.{Gives};
 ghost use Rattle.sc_world.specs.Acts.{ActsAt, memory};
 ghost use Rattle.sc_world.specs.Worlds.{acted, by_live, live, founded_nodes};
 

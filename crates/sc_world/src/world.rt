@@ -2,7 +2,7 @@
 
 ghost use Rattle.std.specs.Prelude.{◌≡◌, length, None, IfOk, slice_get, option_copied};
 ghost use Rattle.std.specs.FinMap as fin;
-ghost use Rattle.sc_node.specs.Calls.{Steps, Gives};
+ghost use Rattle.forms.specs.Calls.{Steps, Gives};
 ghost use Rattle.sc_world.specs.Acts.{memory, answered_at, IsReady};
 ghost use Rattle.sc_world.specs.Worlds.{enters, crashes, live_at, event_of, stepped, started, tag_of, IsHistory};
 ghost use Rattle.sc_world.specs.Records.{AreRecords};

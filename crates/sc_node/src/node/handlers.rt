@@ -2,7 +2,7 @@
 
 ghost use Rattle.std.specs.Prelude.{◌≡◌, false, ◌&&◌, is_none, [], Some, None, Ok, IfOk, OnOk, OnErr, if◌then◌else◌};
 ghost use Rattle.std.specs.FinSet as set;
-ghost use Rattle.sc_node.specs.Calls.{Steps};
+ghost use Rattle.forms.specs.Calls.{Steps};
 ghost use Rattle.sc_node.specs.declared.fault.NodeFault.TheVariants as NodeFault;
 ghost use Rattle.sc_node.specs.Nodes.{message_from, delivered, learned, joining, echo_counted, sessions_moved, saying, gamma_threshold, is_met, query_ended};
 ghost use Rattle.sc_node.specs.declared.answer.Advance.TheVariants.{Turned};

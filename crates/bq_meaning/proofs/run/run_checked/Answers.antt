@@ -18,7 +18,7 @@ returns-in-Ok-Ends-clause-ok c =
     let m = entry_machine c.args.placement.now c.args.acc c.args.«record».now c.args.frame.now in
     let run = ends_after c.args.placement.now c.args.text.now c.loop-done.done m c.loop-done.machine c.step_checked.new.machine c.in-Ok-Ends.acc c.step_checked.result c.loop-done.invariant.reached c.step_checked.ensures is in
     let left = subst (λ (frame : List ℕ). RunsTo c.args.placement.now c.args.text.now m (c.loop-done.done + 1) c.in-Ok-Ends.acc frame) (sym (ap (λ (x : MachineState). x.frame) c.machine.view_is)) run in
-    record { room = omega (arith, c.told-record); whole = c.told-frame; runs = left }
+    record { room = c.requires.room; whole = c.told-frame; runs = left }
 
 pub returns-in-Err-clause-err : goal.returns-in-Err-clause-err
 returns-in-Err-clause-err c =

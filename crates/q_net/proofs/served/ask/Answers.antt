@@ -1,6 +1,6 @@
 use Rattle.std.proofs.Common.{ℕ, [], Err, refl, sym, ap, ◌∙◌, subst, append-nil}
 use Rattle.reasons.specs.Table.{number}
-use Rattle.q_table.specs.Calls.{Steps}
+use Rattle.forms.specs.Calls.{Steps}
 use Rattle.q_book.specs.Books.{asked}
 use Rattle.q_book.specs.Faults.{memory}
 use Rattle.q_net.specs.declared.reply.Reply.TheVariants.{Refused}

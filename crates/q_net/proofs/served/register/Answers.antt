@@ -1,7 +1,7 @@
 use Rattle.std.proofs.Common.{sym, ap, ◌∙◌, subst}
 use Rattle.bq_insn.specs.Slots.{spelling}
 use Rattle.bq_check.specs.Spelling.{notes_bytes, IsNotes}
-use Rattle.q_table.specs.Calls.{Steps}
+use Rattle.forms.specs.Calls.{Steps}
 use Rattle.q_book.specs.Books.{registered}
 use Rattle.q_book.specs.Faults.{memory}
 use Rattle.bq_check.specs.Certificate.{Certificate}

@@ -19,25 +19,15 @@ loop-id-init c =
 pub loop-id-preserved : goal.loop-id-preserved
 loop-id-preserved c =
     let s = c.args.ids.now in
-    let old = c.args.out.now.items in
     let new = c.loop-id.out.items in
     let id = c.in-Some.id in
-    let before = subst (λ (rest : List ℕ). WrittenTo ids_layout (set.len s) (rising s) old new rest) c.in-Some.ensures.steps c.loop-id.invariant in
-    written_more ids_layout (set.len s) (rising s) old new c.push_number.new.out.items id c.next.new.self before (c.in_ok-push_number.ensures.fits, tt)
+    written_more ids_layout (set.len s) (rising s) c.args.out.now.items new c.push_number.new.out.items id c.next.new.self _ c.loop-id.invariant c.in-Some.ensures.steps (c.in_ok-push_number.ensures.fits, tt)
     (c.in_ok-push_number.ensures.spelled ∙ ap (λ (l : List ℕ). new ++ l) (sym (append-nil (number_bytes 8 id))))
 
 pub returns-clause-legal : goal.returns-clause-legal
 returns-clause-legal c =
     let s = c.args.ids.now in
-    let old = c.args.out.now.items in
-    let new = c.loop-id.out.items in
-    let whole = subst (λ (rest : List ℕ). WrittenTo ids_layout (set.len s) (rising s) old new rest) c.in-None.ensures.steps.0 c.loop-id.invariant in
-    record { few = c.requires; fit = (written_all ids_layout (set.len s) (rising s) old new whole (len-rising s)).0 }
+    record { few = c.requires; fit = (written_all ids_layout (set.len s) (rising s) c.args.out.now.items c.loop-id.out.items _ c.loop-id.invariant c.in-None.ensures.steps.0 (len-rising s)).0 }
 
 pub returns-clause-spelled : goal.returns-clause-spelled
-returns-clause-spelled c =
-    let s = c.args.ids.now in
-    let old = c.args.out.now.items in
-    let new = c.loop-id.out.items in
-    let whole = subst (λ (rest : List ℕ). WrittenTo ids_layout (set.len s) (rising s) old new rest) c.in-None.ensures.steps.0 c.loop-id.invariant in
-    (written_all ids_layout (set.len s) (rising s) old new whole (len-rising s)).1
+returns-clause-spelled c = let s = c.args.ids.now in (written_all ids_layout (set.len s) (rising s) c.args.out.now.items c.loop-id.out.items _ c.loop-id.invariant c.in-None.ensures.steps.0 (len-rising s)).1

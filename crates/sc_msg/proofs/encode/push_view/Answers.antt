@@ -9,18 +9,13 @@ use Rattle.sc_msg.proofs.encode.push_view.Goals as goal
 pub loop-id-preserved : goal.loop-id-preserved
 loop-id-preserved c =
     let v = c.args.view.now in
-    let old = c.args.out.now.items in
     let new = c.loop-id.out.items in
     let id = c.in-Some.id in
     let stored = c.in-Some.stored in
-    let before = subst (λ (rest : List (ℕ × Stored)). WrittenTo view_layout (fin.len v) (fin.entries v) old new rest) c.in-Some.ensures.steps c.loop-id.invariant in
-    written_more view_layout (fin.len v) (fin.entries v) old new c.push_stored.new.out.items (id, stored) c.next.new.self before (c.in_ok-push_number.ensures.fits, c.in_ok-push_stored.ensures.legal)
+    written_more view_layout (fin.len v) (fin.entries v) c.args.out.now.items new c.push_stored.new.out.items (id, stored) c.next.new.self _ c.loop-id.invariant c.in-Some.ensures.steps (c.in_ok-push_number.ensures.fits, c.in_ok-push_stored.ensures.legal)
     (c.in_ok-push_stored.ensures.spelled ∙ ap (λ (l : List ℕ). l ++ stored_bytes stored) c.in_ok-push_number.ensures.spelled ∙ append_assoc new (number_bytes 8 id) (stored_bytes stored))
 
 pub returns-clause-spelled : goal.returns-clause-spelled
 returns-clause-spelled c =
     let v = c.args.view.now in
-    let old = c.args.out.now.items in
-    let new = c.loop-id.out.items in
-    let whole = subst (λ (rest : List (ℕ × Stored)). WrittenTo view_layout (fin.len v) (fin.entries v) old new rest) c.in-None.ensures.steps.0 c.loop-id.invariant in
-    (written_all view_layout (fin.len v) (fin.entries v) old new whole (fin.len-entries v)).1
+    (written_all view_layout (fin.len v) (fin.entries v) c.args.out.now.items c.loop-id.out.items _ c.loop-id.invariant c.in-None.ensures.steps.0 (fin.len-entries v)).1

@@ -5,8 +5,8 @@ use Rattle.bq_check.proofs.reading.Reader.notes.Goals as goal
 pub returns-in_default-clause-fault : goal.returns-in_default-clause-fault
 returns-in_default-clause-fault c = λ e. no_count c.args.self.now.rest.now c.in_default.ensures.none
 
-pub returns-then-count-gt4096-clause-fault : goal.returns-then-count-gt4096-clause-fault
-returns-then-count-gt4096-clause-fault c = λ e. many c.args.self.now.rest.now c.short_number.new.self.rest.now c.in-Some.count c.in-Some.ensures.fits c.in-Some.ensures.parts (omega arith)
+pub returns-then-count-gt-MOST_UNITS-clause-fault : goal.returns-then-count-gt-MOST_UNITS-clause-fault
+returns-then-count-gt-MOST_UNITS-clause-fault c = λ e. many c.args.self.now.rest.now c.short_number.new.self.rest.now c.in-Some.count c.in-Some.ensures.fits c.in-Some.ensures.parts (omega arith)
 
 pub returns-in_default-note-clause-fault : goal.returns-in_default-note-clause-fault
 returns-in_default-note-clause-fault c =

@@ -1,30 +1,16 @@
 use Rattle.std.proofs.Common.{[], rules}
-use Rattle.sc_msg.specs.Fields.{number_slot, view_slot}
-use Rattle.sc_msg.proofs.Fields.{here_or, number_cut}
+use Rattle.sc_msg.specs.Fields.{view_slot}
+use Rattle.sc_msg.proofs.Fields.{here_or, number_cut_first}
 use Rattle.sc_msg.proofs.reader.Reader.body.Goals as goal
 
 pub returns-in_err-about-in-JoinEcho-clause-fault : goal.returns-in_err-about-in-JoinEcho-clause-fault
-returns-in_err-about-in-JoinEcho-clause-fault c =
-    let bytes = c.args.self.now.rest.now in
-    let e = c.in_err-about-in-JoinEcho.field-0.0 in
-    let fact = here_or number_slot [] bytes e (number_cut bytes e c.in_err-about-in-JoinEcho.ensures.short c.in_err-about-in-JoinEcho.ensures.few) in
-    search (rules, fact)
+returns-in_err-about-in-JoinEcho-clause-fault c = search (rules, number_cut_first [] c.args.self.now.rest.now c.in_err-about-in-JoinEcho.field-0.0 c.in_err-about-in-JoinEcho.ensures.short c.in_err-about-in-JoinEcho.ensures.few)
 
 pub returns-in_err-about-in-LeaveEcho-clause-fault : goal.returns-in_err-about-in-LeaveEcho-clause-fault
-returns-in_err-about-in-LeaveEcho-clause-fault c =
-    let bytes = c.args.self.now.rest.now in
-    let e = c.in_err-about-in-LeaveEcho.field-0.0 in
-    let fact = here_or number_slot [] bytes e (number_cut bytes e c.in_err-about-in-LeaveEcho.ensures.short c.in_err-about-in-LeaveEcho.ensures.few) in
-    search (rules, fact)
+returns-in_err-about-in-LeaveEcho-clause-fault c = search (rules, number_cut_first [] c.args.self.now.rest.now c.in_err-about-in-LeaveEcho.field-0.0 c.in_err-about-in-LeaveEcho.ensures.short c.in_err-about-in-LeaveEcho.ensures.few)
 
 pub returns-in_err-view-in-StoreEcho-clause-fault : goal.returns-in_err-view-in-StoreEcho-clause-fault
-returns-in_err-view-in-StoreEcho-clause-fault c =
-    let fact = here_or view_slot [] c.args.self.now.rest.now c.in_err-view-in-StoreEcho.field-0.0 c.in_err-view-in-StoreEcho.ensures.fault in
-    search (rules, fact)
+returns-in_err-view-in-StoreEcho-clause-fault c = search (rules, here_or view_slot [] c.args.self.now.rest.now c.in_err-view-in-StoreEcho.field-0.0 c.in_err-view-in-StoreEcho.ensures.fault)
 
 pub returns-in_err-tag-in-CollectQuery-clause-fault : goal.returns-in_err-tag-in-CollectQuery-clause-fault
-returns-in_err-tag-in-CollectQuery-clause-fault c =
-    let bytes = c.args.self.now.rest.now in
-    let e = c.in_err-tag-in-CollectQuery.field-0.0 in
-    let fact = here_or number_slot [] bytes e (number_cut bytes e c.in_err-tag-in-CollectQuery.ensures.short c.in_err-tag-in-CollectQuery.ensures.few) in
-    search (rules, fact)
+returns-in_err-tag-in-CollectQuery-clause-fault c = search (rules, number_cut_first [] c.args.self.now.rest.now c.in_err-tag-in-CollectQuery.field-0.0 c.in_err-tag-in-CollectQuery.ensures.short c.in_err-tag-in-CollectQuery.ensures.few)

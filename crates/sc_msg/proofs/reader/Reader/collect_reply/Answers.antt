@@ -1,22 +1,17 @@
 use Rattle.std.proofs.Common.{[], ◌∷◌, rules}
 use Rattle.sc_msg.specs.Fields.{number, number_slot, view_slot}
-use Rattle.sc_msg.proofs.Fields.{here_or, later_or, number_cut}
+use Rattle.sc_msg.proofs.Fields.{here_or, later_or, number_cut_first}
 use Rattle.sc_msg.proofs.reader.Reader.collect_reply.Goals as goal
 
 pub returns-in_err-to-clause-fault : goal.returns-in_err-to-clause-fault
-returns-in_err-to-clause-fault c =
-    let bytes = c.args.self.now.rest.now in
-    let e = c.in_err-to.field-0.0 in
-    let fact = here_or number_slot (number_slot ∷ view_slot ∷ []) bytes e (number_cut bytes e c.in_err-to.ensures.short c.in_err-to.ensures.few) in
-    search (rules, fact)
+returns-in_err-to-clause-fault c = search (rules, number_cut_first (number_slot ∷ view_slot ∷ []) c.args.self.now.rest.now c.in_err-to.field-0.0 c.in_err-to.ensures.short c.in_err-to.ensures.few)
 
 pub returns-in_err-tag-clause-fault : goal.returns-in_err-tag-clause-fault
 returns-in_err-tag-clause-fault c =
     let behind = c.number.new.self.rest.now in
     let e = c.in_err-tag.field-0.0 in
-    let tag = here_or number_slot (view_slot ∷ []) behind e (number_cut behind e c.in_err-tag.ensures.short c.in_err-tag.ensures.few) in
-    let fact = later_or (number c.in_ok-to.to) (number_slot ∷ view_slot ∷ []) c.args.self.now.rest.now behind e c.in_ok-to.ensures.fits c.in_ok-to.ensures.parts tag in
-    search (rules, fact)
+    let tag = number_cut_first (view_slot ∷ []) behind e c.in_err-tag.ensures.short c.in_err-tag.ensures.few in
+    search (rules, later_or (number c.in_ok-to.to) (number_slot ∷ view_slot ∷ []) c.args.self.now.rest.now behind e c.in_ok-to.ensures.fits c.in_ok-to.ensures.parts tag)
 
 pub returns-in_err-view-clause-fault : goal.returns-in_err-view-clause-fault
 returns-in_err-view-clause-fault c =
@@ -25,5 +20,4 @@ returns-in_err-view-clause-fault c =
     let e = c.in_err-view.field-0.0 in
     let view = here_or view_slot [] behind_tag e c.in_err-view.ensures.fault in
     let tag = later_or (number c.in_ok-tag.tag) (view_slot ∷ []) behind_to behind_tag e c.in_ok-tag.ensures.fits c.in_ok-tag.ensures.parts view in
-    let fact = later_or (number c.in_ok-to.to) (number_slot ∷ view_slot ∷ []) c.args.self.now.rest.now behind_to e c.in_ok-to.ensures.fits c.in_ok-to.ensures.parts tag in
-    search (rules, fact)
+    search (rules, later_or (number c.in_ok-to.to) (number_slot ∷ view_slot ∷ []) c.args.self.now.rest.now behind_to e c.in_ok-to.ensures.fits c.in_ok-to.ensures.parts tag)

@@ -1,43 +1,29 @@
 use Rattle.std.proofs.Common.{[], ◌∷◌, ◌++◌, rules}
-use Rattle.sc_msg.specs.Fields.{IsFieldFault, number, flag, number_slot, flag_slot, view_slot, facts_slots}
+use Rattle.sc_msg.specs.Fields.{IsFieldFault, number, flag_slot, view_slot, facts_slots}
 use Rattle.sc_msg.proofs.Lists.{or_memory}
-use Rattle.sc_msg.proofs.Fields.{here_or, later_or, longer_or, number_cut, facts_later}
+use Rattle.sc_msg.proofs.Fields.{here_or, later_or, longer_or, number_cut_first, echo_or, facts_later}
 use Rattle.sc_msg.proofs.reader.Reader.enter_echo.Goals as goal
 
 pub returns-in_err-to-clause-fault : goal.returns-in_err-to-clause-fault
-returns-in_err-to-clause-fault c =
-    let bytes = c.args.self.now.rest.now in
-    let e = c.in_err-to.field-0.0 in
-    let fact = here_or number_slot (flag_slot ∷ facts_slots ++ view_slot ∷ []) bytes e (number_cut bytes e c.in_err-to.ensures.short c.in_err-to.ensures.few) in
-    search (rules, fact)
+returns-in_err-to-clause-fault c = search (rules, number_cut_first (flag_slot ∷ facts_slots ++ view_slot ∷ []) c.args.self.now.rest.now c.in_err-to.field-0.0 c.in_err-to.ensures.short c.in_err-to.ensures.few)
 
 pub returns-in_err-joined-clause-fault : goal.returns-in_err-joined-clause-fault
 returns-in_err-joined-clause-fault c =
     let behind = c.number.new.self.rest.now in
     let e = c.in_err-joined.field-0.0 in
     let joined = here_or flag_slot (facts_slots ++ view_slot ∷ []) behind e (or_memory (IsFieldFault flag_slot behind) e c.in_err-joined.ensures.fault) in
-    let fact = later_or (number c.in_ok-to.to) (flag_slot ∷ facts_slots ++ view_slot ∷ []) c.args.self.now.rest.now behind e c.in_ok-to.ensures.fits c.in_ok-to.ensures.parts joined in
-    search (rules, fact)
+    search (rules, later_or (number c.in_ok-to.to) (flag_slot ∷ facts_slots ++ view_slot ∷ []) c.args.self.now.rest.now behind e c.in_ok-to.ensures.fits c.in_ok-to.ensures.parts joined)
 
 pub returns-in_err-facts-clause-fault : goal.returns-in_err-facts-clause-fault
 returns-in_err-facts-clause-fault c =
-    let behind_to = c.number.new.self.rest.now in
-    let behind_joined = c.flag.new.self.rest.now in
-    let e = c.in_err-facts.field-0.0 in
-    let facts = longer_or facts_slots (view_slot ∷ []) behind_joined e c.in_err-facts.ensures.fault in
-    let joined = later_or (flag c.in_ok-joined.joined) (facts_slots ++ view_slot ∷ []) behind_to behind_joined e tt c.in_ok-joined.ensures.parts facts in
-    let fact = later_or (number c.in_ok-to.to) (flag_slot ∷ facts_slots ++ view_slot ∷ []) c.args.self.now.rest.now behind_to e c.in_ok-to.ensures.fits c.in_ok-to.ensures.parts joined in
-    search (rules, fact)
+    let facts = longer_or facts_slots (view_slot ∷ []) c.flag.new.self.rest.now c.in_err-facts.field-0.0 c.in_err-facts.ensures.fault in
+    search (rules, echo_or c.in_ok-to.to c.in_ok-joined.joined c.args.self.now.rest.now c.number.new.self.rest.now c.flag.new.self.rest.now c.in_err-facts.field-0.0 c.in_ok-to.ensures.fits c.in_ok-to.ensures.parts c.in_ok-joined.ensures.parts facts)
 
 pub returns-in_err-view-clause-fault : goal.returns-in_err-view-clause-fault
 returns-in_err-view-clause-fault c =
-    let behind_to = c.number.new.self.rest.now in
-    let behind_joined = c.flag.new.self.rest.now in
-    let behind_facts = c.facts.new.self.rest.now in
+    let behind = c.facts.new.self.rest.now in
     let e = c.in_err-view.field-0.0 in
-    let view = here_or view_slot [] behind_facts e c.in_err-view.ensures.fault in
+    let view = here_or view_slot [] behind e c.in_err-view.ensures.fault in
     let f = c.in_ok-facts.ensures in
-    let facts = facts_later c.in_ok-facts.facts (view_slot ∷ []) behind_joined behind_facts e f.entered f.joined f.left f.parts view in
-    let joined = later_or (flag c.in_ok-joined.joined) (facts_slots ++ view_slot ∷ []) behind_to behind_joined e tt c.in_ok-joined.ensures.parts facts in
-    let fact = later_or (number c.in_ok-to.to) (flag_slot ∷ facts_slots ++ view_slot ∷ []) c.args.self.now.rest.now behind_to e c.in_ok-to.ensures.fits c.in_ok-to.ensures.parts joined in
-    search (rules, fact)
+    let facts = facts_later c.in_ok-facts.facts (view_slot ∷ []) c.flag.new.self.rest.now behind e f.entered f.joined f.left f.parts view in
+    search (rules, echo_or c.in_ok-to.to c.in_ok-joined.joined c.args.self.now.rest.now c.number.new.self.rest.now c.flag.new.self.rest.now e c.in_ok-to.ensures.fits c.in_ok-to.ensures.parts c.in_ok-joined.ensures.parts facts)

@@ -1,9 +1,9 @@
-use Rattle.std.proofs.Common.{◌≡◌, ◌<◌, Err, ap, length, arith, rules}
+use Rattle.std.proofs.Common.{◌≡◌, Err, ap, arith, rules}
 use Rattle.std.specs.FinMap as fin
 use Rattle.sc_view.specs.declared.view.ViewFault.TheVariants as views
 use Rattle.sc_msg.specs.Entries.{view_layout}
 use Rattle.sc_msg.specs.Fields.{IsListFault}
-use Rattle.sc_msg.proofs.Lists.{read_fault, id_faulty, value_faulty, put_refused, view_none, view_more, view_len, view_has_room, view_parts}
+use Rattle.sc_msg.proofs.Lists.{view_faulty, id_faulty, value_faulty, put_refused, view_none, view_more, view_len, view_has_room, view_parts}
 use Rattle.sc_msg.proofs.reader.Reader.view.Goals as goal
 
 pub loop-init : goal.loop-init
@@ -13,22 +13,14 @@ loop-init c =
 
 pub returns-in_err-id-clause-fault : goal.returns-in_err-id-clause-fault
 returns-in_err-id-clause-fault c =
-    let i = c.loop.invariant in
-    let d = c.in_err-id.field-0.0 in
-    let rest = c.loop.self.rest.now in
-    let fewer : length (fin.entries c.loop.view) < c.in_ok-count.count = omega (arith, i.len, fin.len-entries c.loop.view) in
-    let fact = read_fault view_layout c.in_ok-count.count c.args.self.now.rest.now (fin.entries c.loop.view) rest c.loop.last d i.read c.in_ok-count.ensures.few fewer (id_faulty view_layout c.loop.last rest d c.in_err-id.ensures.fault) in
-    search (rules, fact)
+    let faulty = id_faulty view_layout c.loop.last c.loop.self.rest.now c.in_err-id.field-0.0 c.in_err-id.ensures.fault in
+    search (rules, view_faulty c.loop.view c.in_ok-count.count _ _ _ _ c.loop.invariant.read c.in_ok-count.ensures.few (omega (arith, c.loop.invariant.len)) faulty)
 
 pub returns-in_err-stored-clause-fault : goal.returns-in_err-stored-clause-fault
 returns-in_err-stored-clause-fault c =
-    let i = c.loop.invariant in
-    let d = c.in_err-stored.field-0.0 in
-    let rest = c.loop.self.rest.now in
-    let fewer : length (fin.entries c.loop.view) < c.in_ok-count.count = omega (arith, i.len, fin.len-entries c.loop.view) in
-    let faulty = value_faulty view_layout c.loop.last c.in_ok-id.id rest c.id_above.new.self.rest.now d c.in_ok-id.ensures.fits c.in_ok-id.ensures.above c.in_ok-id.ensures.parts c.in_err-stored.ensures.fault in
-    let fact = read_fault view_layout c.in_ok-count.count c.args.self.now.rest.now (fin.entries c.loop.view) rest c.loop.last d i.read c.in_ok-count.ensures.few fewer faulty in
-    search (rules, fact)
+    let id = c.in_ok-id.ensures in
+    let faulty = value_faulty view_layout c.loop.last c.in_ok-id.id c.loop.self.rest.now c.id_above.new.self.rest.now c.in_err-stored.field-0.0 id.fits id.above id.parts c.in_err-stored.ensures.fault in
+    search (rules, view_faulty c.loop.view c.in_ok-count.count _ _ _ _ c.loop.invariant.read c.in_ok-count.ensures.few (omega (arith, c.loop.invariant.len)) faulty)
 
 pub returns-in_err-put-clause-fault : goal.returns-in_err-put-clause-fault
 returns-in_err-put-clause-fault c =

@@ -1,0 +1,86 @@
+//! Folds over records as they lie in memory.
+
+use crate::Folded;
+use crate::program::certified;
+use bq_check::certified::Certified;
+use bq_frame::block::Block;
+use bq_meaning::placement::{FRAME_LENGTH, Placement, RECORD_LENGTH};
+use bq_run::run::run;
+use std::alloc::Global;
+
+/// Where the frame lies for the machine.
+const FRAME: u64 = 4096;
+
+/// Where the record lies for it.
+const RECORD: u64 = 8192;
+
+/// One fold by the loop.
+fn fold_by_loop(certified: &Certified, records: &[u8], folded: &mut Folded, block: &mut Block) {
+    block.clear_frame();
+    let (records, _) = records.as_chunks::<RECORD_LENGTH>();
+    for record in records {
+        let ended = run(certified, record, folded.acc, block);
+        folded.acc = ended.acc;
+        folded.steps = folded.steps.wrapping_add(ended.steps);
+    }
+}
+
+/// So many folds by the loop.
+pub(crate) fn by_loop(
+    alloc: Global,
+    program: &[u8],
+    records: &[u8],
+    start: u64,
+    folds: u64,
+) -> Option<Folded> {
+    let certified = certified(alloc, program)?;
+    let mut block = Block::new(alloc).ok()?;
+    let mut folded = Folded {
+        acc: start,
+        steps: 0,
+        is_done: true,
+    };
+    for _ in 0..folds {
+        folded.acc = start;
+        fold_by_loop(&certified, records, &mut folded, &mut block);
+    }
+    Some(folded)
+}
+
+/// One fold by the machine.
+fn fold_by_machine(
+    certified: &Certified,
+    placement: &Placement,
+    records: &[u8],
+    folded: &mut Folded,
+) {
+    let mut frame = [0; FRAME_LENGTH];
+    let (records, _) = records.as_chunks::<RECORD_LENGTH>();
+    for record in records {
+        let ended = certified.run_certified(placement, record, &mut frame, folded.acc);
+        folded.acc = ended.acc;
+        folded.steps = folded.steps.wrapping_add(ended.steps);
+    }
+}
+
+/// So many folds by the machine.
+pub(crate) fn by_machine(
+    alloc: Global,
+    program: &[u8],
+    records: &[u8],
+    start: u64,
+    folds: u64,
+) -> Option<Folded> {
+    let certified = certified(alloc, program)?;
+    let placement = Placement::new(FRAME, RECORD)?;
+    let mut folded = Folded {
+        acc: start,
+        steps: 0,
+        is_done: true,
+    };
+    for _ in 0..folds {
+        folded.acc = start;
+        fold_by_machine(&certified, &placement, records, &mut folded);
+    }
+    Some(folded)
+}
