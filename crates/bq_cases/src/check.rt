@@ -8,7 +8,7 @@
 //! - `known UNIT R = SOURCE`: what is known of register R where the instruction at a unit begins.
 
 use crate::refusal::print_refusal;
-use crate::state::print_kind;
+use crate::state::print_register;
 use crate::words::{bytes, number, text};
 use bq_check::certified::Certified;
 use bq_check::check::check;
@@ -115,7 +115,7 @@ fn certify(rt: &impl Print, alloc: Global, acc: u64, text: Text) -> io::Result<(
 fn known(rt: &impl Print, alloc: Global, unit: u64, register: &str, text: &Text) -> io::Result<()> {
     let register = register.parse::<u8>().unwrap_or(11);
     match state_at(alloc, text, usize::try_from(unit).unwrap_or(4096)) {
-        Ok(Some(state)) => print_kind(rt, state.kind(register)),
+        Ok(Some(state)) => print_register(rt, &state, register),
         Ok(None) => println!(rt; " none"),
         Err(fault) => print_fault(rt, fault),
     }

@@ -1,15 +1,17 @@
 //! What is known of registers.
 //!
 //! - `after R INSN`: what is known of register R after an instruction at the entry, or the rule that it breaks.
-//! - `after R KIND = INSN`: the same where of r0 this is known and nothing else: `unset`, `number A B`, `record A B` or
-//!   `frame A B`.
+//! - `after R KIND = INSN`: the same where of r0 this is known and nothing else: `unset`, `number A B`, `record A B`,
+//!   `frame A B`, or `length A B` for the length of a record of A to B bytes.
 //! - `edges UNIT INSN`: where an instruction at a unit leads in the state of the entry.
+//! - `edges UNIT KIND = INSN`: the same where of r0 this is known and nothing else.
 //! - `offsets A B`: the offsets from A to B.
 
 use crate::refusal::print_refusal;
 use crate::words::{insn, number, numbers};
 use bq_insn::insn::Insn;
 use bq_range::range::Range;
+use bq_state::bounds::Bounds;
 use bq_state::edges::Edge;
 use bq_state::kind::Kind;
 use bq_state::offsets::Offsets;
@@ -21,11 +23,15 @@ use std::io;
 /// The most units of a text.
 const MOST_UNITS: u64 = 4096;
 
-pub(crate) fn print_kind(rt: &impl Print, kind: Kind) -> io::Result<()> {
-    match kind {
+pub(crate) fn print_register(rt: &impl Print, state: &State, register: u8) -> io::Result<()> {
+    match state.kind(register) {
         Kind::Unset => println!(rt; " unset"),
         Kind::Number(range) => println!(rt; " number {} {}", range.lo(), range.hi()),
         Kind::Pointer(region, at) => { println!(rt; " {} {} {}", region.name(), at.lo(), at.hi()) }
+        Kind::Length => {
+            let lengths = state.lengths();
+            println!(rt; " length {} {}", lengths.least(), lengths.most())
+        }
     }
 }
 
@@ -44,39 +50,54 @@ fn pointer(region: Region, first: u64, last: u64) -> Option<Kind> {
     Some(Kind::Pointer(region, offsets(first, last)?))
 }
 
-fn kind_of(alloc: Global, words: &str) -> Option<Kind> {
+/// The state in which this is known of r0 and nothing else.
+fn nothing_but(kind: Kind, lengths: Bounds) -> State {
+    let mut kinds = [Kind::Unset; 11];
+    kinds[0] = kind;
+    State::new(kinds, lengths)
+}
+
+fn of_views(kind: Kind) -> State {
+    nothing_but(kind, Bounds::of_views())
+}
+
+fn of_lengths(least: u64, most: u64) -> Option<State> {
+    let lengths = Bounds::new(u8::try_from(least).ok()?, u8::try_from(most).ok()?)?;
+    Some(nothing_but(Kind::Length, lengths))
+}
+
+fn state_of(alloc: Global, words: &str) -> Option<State> {
     let (name, ends) = words.split_once(' ')?;
     let ends = numbers(alloc, ends).ok()??;
     match (name, ends.as_slice()) {
-        ("number", [a, b]) => Range::new(*a, *b).map(Kind::Number),
-        ("record", [a, b]) => pointer(Region::Record, *a, *b),
-        ("frame", [a, b]) => pointer(Region::Frame, *a, *b),
+        ("number", [a, b]) => Range::new(*a, *b).map(Kind::Number).map(of_views),
+        ("record", [a, b]) => pointer(Region::Record, *a, *b).map(of_views),
+        ("frame", [a, b]) => pointer(Region::Frame, *a, *b).map(of_views),
+        ("length", [a, b]) => of_lengths(*a, *b),
         _ => None,
     }
 }
 
-/// The state in which this is known of r0 and nothing else.
-fn nothing_but(kind: Kind) -> State {
-    let mut kinds = [Kind::Unset; 11];
-    kinds[0] = kind;
-    State::new(kinds)
+/// The state that is told before ` = `, else that of the entry, and the instruction's text.
+fn told(alloc: Global, rest: &str) -> (State, &str) {
+    match rest.split_once(" = ") {
+        Some((words, source)) => match state_of(alloc, words) {
+            Some(state) => (state, source),
+            None => (of_views(Kind::Unset), source),
+        },
+        None => (State::entry(Bounds::of_views()), rest),
+    }
 }
 
 fn print_after(rt: &impl Print, state: &State, insn: &Insn, register: u64) -> io::Result<()> {
     match state.transfer(insn) {
-        Ok(state) => print_kind(rt, state.kind(u8::try_from(register).unwrap_or(11))),
+        Ok(state) => print_register(rt, &state, u8::try_from(register).unwrap_or(11)),
         Err(rule) => print_refusal(rt, rule.reason(), None),
     }
 }
 
 fn after(rt: &impl Print, alloc: Global, register: u64, rest: &str) -> io::Result<()> {
-    let (state, source) = match rest.split_once(" = ") {
-        Some((words, source)) => match kind_of(alloc, words) {
-            Some(kind) => (nothing_but(kind), source),
-            None => (nothing_but(Kind::Unset), source),
-        },
-        None => (State::entry(), rest),
-    };
+    let (state, source) = told(alloc, rest);
     match insn(alloc, source)? {
         Some(insn) => print_after(rt, &state, &insn, register),
         None => println!(rt; " ?"),
@@ -98,14 +119,15 @@ fn print_edge(rt: &impl Print, way: &str, unit: Option<u64>) -> io::Result<()> {
     }
 }
 
-fn edges(rt: &impl Print, alloc: Global, unit: u64, source: &str) -> io::Result<()> {
+fn edges(rt: &impl Print, alloc: Global, unit: u64, rest: &str) -> io::Result<()> {
+    let (state, source) = told(alloc, rest);
     let Some(insn) = insn(alloc, source)? else {
         return println!(rt; " ?");
     };
     if MOST_UNITS <= unit {
         return println!(rt; " ?");
     }
-    let edges = State::entry().edges(unit, &insn);
+    let edges = state.edges(unit, &insn);
     print_edge(rt, "behind", unit_of(&edges.behind))?;
     print_edge(rt, "jump", unit_of(&edges.jump))
 }

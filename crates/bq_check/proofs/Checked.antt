@@ -6,7 +6,6 @@ use Rattle.bq_insn.specs.declared.insn.Insn.{Insn}
 use Rattle.bq_flow.specs.declared.fault.FlowFault.{FlowFault}
 use Rattle.bq_flow.specs.declared.fault.FlowFault.TheVariants as flows
 use Rattle.bq_flow.specs.Faults.{IsFlowFault}
-use Rattle.bq_meaning.specs.Place.{record_length}
 use Rattle.bq_state.specs.Kinds.{StateKinds}
 use Rattle.bq_sound.specs.Passes.{note_at, NoHalves, IsFine, AllFine}
 use Rattle.bq_check.specs.declared.fault.CheckFault.{CheckFault}
@@ -31,15 +30,15 @@ module _ (text : List Insn) (notes : List (Option StateKinds)) where
 
   -- ---- units
 
-  pub fine_more : (unit : ℕ) → AllFine record_length text notes unit → ((state : StateKinds) (i : Insn) → note_at notes unit ≡ Some state → insn_at text unit ≡ Some i → IsFine record_length notes unit i state) → AllFine record_length text notes (unit + 1)
+  pub fine_more : (unit : ℕ) → AllFine text notes unit → ((state : StateKinds) (i : Insn) → note_at notes unit ≡ Some state → insn_at text unit ≡ Some i → IsFine notes unit i state) → AllFine text notes (unit + 1)
   fine_more unit h here = record { each = λ u state i l noted there. each u state i l noted there }
     where
-      each : (u : ℕ) (state : StateKinds) (i : Insn) → u < unit + 1 → note_at notes u ≡ Some state → insn_at text u ≡ Some i → IsFine record_length notes u i state
+      each : (u : ℕ) (state : StateKinds) (i : Insn) → u < unit + 1 → note_at notes u ≡ Some state → insn_at text u ≡ Some i → IsFine notes u i state
       each u state i l noted there = elim (cases_lt u unit) [
         | inl m ↦ h.each u state i m noted there
         | inr g ↦
             let e : u ≡ unit = omega (arith, l, g) in
-            subst (λ n. IsFine record_length notes n i state) (sym e) (here state i (ap (note_at notes) (sym e) ∙ noted) (ap (insn_at text) (sym e) ∙ there))
+            subst (λ n. IsFine notes n i state) (sym e) (here state i (ap (note_at notes) (sym e) ∙ noted) (ap (insn_at text) (sym e) ∙ there))
       ]
 
   same_state : (a b : StateKinds) (o : Option StateKinds) → o ≡ Some a → o ≡ Some b → a ≡ b
@@ -48,12 +47,12 @@ module _ (text : List Insn) (notes : List (Option StateKinds)) where
   same_insn : (i j : Insn) (o : Option Insn) → o ≡ Some i → o ≡ Some j → i ≡ j
   same_insn i j o p q = let e : Some i ≡ Some j = sym p ∙ q in cc
 
-  pub fine_here : (unit : ℕ) (state : StateKinds) (i : Insn) → note_at notes unit ≡ Some state → insn_at text unit ≡ Some i → IsFine record_length notes unit i state → (s : StateKinds) (j : Insn) → note_at notes unit ≡ Some s → insn_at text unit ≡ Some j → IsFine record_length notes unit j s
+  pub fine_here : (unit : ℕ) (state : StateKinds) (i : Insn) → note_at notes unit ≡ Some state → insn_at text unit ≡ Some i → IsFine notes unit i state → (s : StateKinds) (j : Insn) → note_at notes unit ≡ Some s → insn_at text unit ≡ Some j → IsFine notes unit j s
   fine_here unit state i noted there fine s j noted_too there_too =
-      subst (λ x. IsFine record_length notes unit x s) (same_insn i j (insn_at text unit) there there_too)
-      (subst (λ x. IsFine record_length notes unit i x) (same_state state s (note_at notes unit) noted noted_too) fine)
+      subst (λ x. IsFine notes unit x s) (same_insn i j (insn_at text unit) there there_too)
+      (subst (λ x. IsFine notes unit i x) (same_state state s (note_at notes unit) noted noted_too) fine)
 
-  pub first_fault : (unit : ℕ) (state : StateKinds) (i : Insn) (f : CheckFault) → IsOpened text notes → AllFine record_length text notes unit → note_at notes unit ≡ Some state → insn_at text unit ≡ Some i → IsUnitFault notes unit i state f → IsFirstFault text notes f
+  pub first_fault : (unit : ℕ) (state : StateKinds) (i : Insn) (f : CheckFault) → IsOpened text notes → AllFine text notes unit → note_at notes unit ≡ Some state → insn_at text unit ≡ Some i → IsUnitFault notes unit i state f → IsFirstFault text notes f
   first_fault unit state i WrongCount opened below noted there fault = absurd fault
   first_fault unit state i (Flow at rule) opened below noted there fault = absurd fault
   first_fault unit state i (NoteForm at) opened below noted there fault = absurd fault

@@ -7,8 +7,8 @@ use Rattle.std.specs.Int.{w32, w64, cast_unsigned, from_le_bytes}
 use Rattle.bq_range.specs.Interval.{Interval, IsInterval}
 use Rattle.bq_state.specs.Offsets.{Span, IsSpan}
 use Rattle.bq_state.specs.declared.kind.Kind.{Kind}
-use Rattle.bq_state.specs.Kinds.{StateKinds}
-use Rattle.bq_state.specs.declared.kind.Kind.TheVariants.{Unset, Number, Pointer}
+use Rattle.bq_state.specs.Kinds.{StateKinds, state_of}
+use Rattle.bq_state.specs.declared.kind.Kind.TheVariants.{Unset, Number, Pointer, Length}
 use Rattle.bq_state.specs.declared.region.Region.{Region}
 use Rattle.bq_state.specs.declared.region.Region.TheVariants.{Frame, Record}
 use Rattle.bq_check.specs.Spelling.{short_bytes, long_bytes, range_bytes, offset_bytes, span_bytes, region_byte, kind_bytes, state_bytes, note_bytes, notes_bytes, IsKind, IsState, IsNote, IsNotes}
@@ -145,6 +145,10 @@ one_kind (Pointer r a) (Pointer t b) x y p q e =
     let h = one_byte (region_byte r) (region_byte t) (span_bytes a ++ x) (span_bytes b ++ y) e in
     let s = spans_are_code.one a b x y p q h.1 in
     (ap (λ z. Pointer z a) (one_region r t h.0) ∙ ap (Pointer t) s.0, s.1)
+one_kind Length b x y p q e = absurd p
+one_kind Unset Length x y p q e = absurd q
+one_kind (Number a) Length x y p q e = absurd q
+one_kind (Pointer r a) Length x y p q e = absurd q
 
 pub kinds_are_code : IsCode kind_bytes IsKind
 kinds_are_code = record { one = λ a b x y p q e. one_kind a b x y p q e }
@@ -152,7 +156,12 @@ kinds_are_code = record { one = λ a b x y p q e. one_kind a b x y p q e }
 -- ---- states and notes
 
 pub states_are_code : IsCode state_bytes IsState
-states_are_code = record { one = λ a b x y p q e. once kind_bytes IsKind kinds_are_code a b x y p.kinds q.kinds (p.count ∙ sym q.count) e }
+states_are_code = record { one = λ a b x y p q e. one a b x y p q e }
+  where
+    one : (a b : StateKinds) (x y : List ℕ) → IsState a → IsState b → state_bytes a ++ x ≡ state_bytes b ++ y → (a ≡ b) × (x ≡ y)
+    one a b x y p q e =
+        let s = once kind_bytes IsKind kinds_are_code a.kinds b.kinds x y p.kinds q.kinds (p.count ∙ sym q.count) e in
+        (ap (λ ks. state_of ks a.lengths) s.0 ∙ ap (state_of b.kinds) (p.lengths ∙ sym q.lengths), s.1)
 
 one_note : (a b : Option StateKinds) (x y : List ℕ) → IsNote a → IsNote b → note_bytes a ++ x ≡ note_bytes b ++ y → (a ≡ b) × (x ≡ y)
 one_note None None x y p q e = (refl, (one_byte 0 0 x y e).1)

@@ -7,8 +7,7 @@ use Rattle.bq_insn.specs.Slots.{units, insn_at}
 use Rattle.bq_insn.specs.declared.insn.Insn.{Insn}
 use Rattle.bq_flow.proofs.Units.{insn_within}
 use Rattle.bq_flow.proofs.Legal.{not_legal, one_first}
-use Rattle.bq_meaning.specs.Place.{record_length}
-use Rattle.bq_state.specs.Kinds.{StateKinds}
+use Rattle.bq_state.specs.Kinds.{StateKinds, view_lengths}
 use Rattle.bq_state.specs.declared.rule.Rule.{Rule as Broken}
 use Rattle.bq_state.specs.Rules.{transfer}
 use Rattle.bq_state.specs.Edges.{edges}
@@ -55,30 +54,30 @@ module _ (text : List Insn) (notes : List (Option StateKinds)) where
   -- the first unit that is not fine
   record IsFirstBad (unit : ℕ) (i : Insn) (state : StateKinds) : Type 0 where
     reached : IsReached text notes unit i state
-    bad : IsFine record_length notes unit i state → ⊥
+    bad : IsFine notes unit i state → ⊥
 
-  broken_is_bad : (unit : ℕ) (i : Insn) (state : StateKinds) (rule : Broken) → IsReached text notes unit i state → transfer record_length i state ≡ Err rule → IsFirstBad unit i state
+  broken_is_bad : (unit : ℕ) (i : Insn) (state : StateKinds) (rule : Broken) → IsReached text notes unit i state → transfer i state ≡ Err rule → IsFirstBad unit i state
   broken_is_bad unit i state rule reached e = record { reached = reached; bad = λ fine. bad fine }
     where
       differ : (after : StateKinds) (r : Result StateKinds Broken) → r ≡ Ok after → r ≡ Err rule → ⊥
       differ after r p q = let no_way : Ok after ≡ Err rule = sym p ∙ q in cc
 
-      bad : IsFine record_length notes unit i state → ⊥
-      bad fine = differ fine.after (transfer record_length i state) fine.rules e
+      bad : IsFine notes unit i state → ⊥
+      bad fine = differ fine.after (transfer i state) fine.rules e
 
-  uncovered_is_bad : (unit : ℕ) (i : Insn) (state after : StateKinds) → IsReached text notes unit i state → transfer record_length i state ≡ Ok after → (AllCovered notes (edges unit i after) → ⊥) → IsFirstBad unit i state
+  uncovered_is_bad : (unit : ℕ) (i : Insn) (state after : StateKinds) → IsReached text notes unit i state → transfer i state ≡ Ok after → (AllCovered notes (edges unit i after) → ⊥) → IsFirstBad unit i state
   uncovered_is_bad unit i state after reached e uncovered = record { reached = reached; bad = λ fine. bad fine }
     where
       same : (a b : StateKinds) (r : Result StateKinds Broken) → r ≡ Ok a → r ≡ Ok b → a ≡ b
       same a b r p q = let both : Ok a ≡ Ok b = sym p ∙ q in cc
 
-      bad : IsFine record_length notes unit i state → ⊥
-      bad fine = uncovered (subst (λ s. AllCovered notes (edges unit i s)) (same fine.after after (transfer record_length i state) fine.rules e) fine.covered)
+      bad : IsFine notes unit i state → ⊥
+      bad fine = uncovered (subst (λ s. AllCovered notes (edges unit i s)) (same fine.after after (transfer i state) fine.rules e) fine.covered)
 
-  bad_before : (unit n : ℕ) (i : Insn) (state : StateKinds) → IsFirstBad unit i state → AllFine record_length text notes n → unit < n → ⊥
+  bad_before : (unit n : ℕ) (i : Insn) (state : StateKinds) → IsFirstBad unit i state → AllFine text notes n → unit < n → ⊥
   bad_before unit n i state b fine l = b.bad (fine.each unit state i l b.reached.noted b.reached.there)
 
-  not_all_fine : (unit : ℕ) (i : Insn) (state : StateKinds) → IsFirstBad unit i state → AllFine record_length text notes (units text) → ⊥
+  not_all_fine : (unit : ℕ) (i : Insn) (state : StateKinds) → IsFirstBad unit i state → AllFine text notes (units text) → ⊥
   not_all_fine unit i state b fine = bad_before unit (units text) i state b fine (insn_within text unit i b.reached.there)
 
   one_bad : (unit other : ℕ) (i j : Insn) (state old : StateKinds) → IsFirstBad unit i state → IsFirstBad other j old → unit ≡ other
@@ -96,9 +95,9 @@ module _ (text : List Insn) (notes : List (Option StateKinds)) where
   same_insn : (unit other : ℕ) (i j : Insn) → unit ≡ other → insn_at text unit ≡ Some i → insn_at text other ≡ Some j → i ≡ j
   same_insn unit other i j e p q = let h : Some i ≡ Some j = sym p ∙ ap (insn_at text) e ∙ q in cc
 
-  same_transfer : (unit other : ℕ) (i j : Insn) (state old : StateKinds) → unit ≡ other → IsReached text notes unit i state → IsReached text notes other j old → transfer record_length i state ≡ transfer record_length j old
+  same_transfer : (unit other : ℕ) (i j : Insn) (state old : StateKinds) → unit ≡ other → IsReached text notes unit i state → IsReached text notes other j old → transfer i state ≡ transfer j old
   same_transfer unit other i j state old e r s =
-      ap (λ x. transfer record_length x state) (same_insn unit other i j e r.there s.there) ∙ ap (transfer record_length j) (same_state unit other state old e r.noted s.noted)
+      ap (λ x. transfer x state) (same_insn unit other i j e r.there s.there) ∙ ap (transfer j) (same_state unit other state old e r.noted s.noted)
 
   one_rule : (rule wrong : Broken) (r s : Result StateKinds Broken) → r ≡ s → r ≡ Err rule → s ≡ Err wrong → rule ≡ wrong
   one_rule rule wrong r s e p q = let h : Err rule ≡ Err wrong = sym p ∙ e ∙ q in cc
@@ -112,11 +111,11 @@ module _ (text : List Insn) (notes : List (Option StateKinds)) where
       let b = uncovered_is_bad other g.1.0 g.1.1 g.1.2 g.1.3 g.1.4 g.1.5 in
       let e = one_bad unit other f.1.0 g.1.0 f.1.1 g.1.1 a b in
       let t = same_transfer unit other f.1.0 g.1.0 f.1.1 g.1.1 e f.1.2 g.1.3 in
-      broken_or_not rule g.1.2 (transfer record_length f.1.0 f.1.1) (transfer record_length g.1.0 g.1.1) t f.1.3 g.1.4
+      broken_or_not rule g.1.2 (transfer f.1.0 f.1.1) (transfer g.1.0 g.1.1) t f.1.3 g.1.4
 
   -- ---- no fault where the notes pass
 
-  pub only_memory : (f : CheckFault) → IsFirstFault text notes f → Passes record_length text notes → f ≡ OutOfMemory
+  pub only_memory : (f : CheckFault) → IsFirstFault text notes f → Passes view_lengths text notes → f ≡ OutOfMemory
   only_memory WrongCount f p = absurd (f p.count)
   only_memory (Flow unit rule) f p = absurd (not_legal text unit rule f.1 p.flow)
   only_memory (NoteForm unit) f p = absurd (no_half unit f.2 f.0 p.halves)
@@ -125,7 +124,7 @@ module _ (text : List Insn) (notes : List (Option StateKinds)) where
   only_memory (NotCovered unit) f p = absurd (not_all_fine unit f.1.0 f.1.1 (uncovered_is_bad unit f.1.0 f.1.1 f.1.2 f.1.3 f.1.4 f.1.5) p.fine)
   only_memory OutOfMemory f p = refl
 
-  pub accepts : (r : Result Certificate CheckFault) → IfErr r (IsFirstFault text notes) → Passes record_length text notes → MatchResult r (λ c. ⊤) (λ e. e ≡ OutOfMemory)
+  pub accepts : (r : Result Certificate CheckFault) → IfErr r (IsFirstFault text notes) → Passes view_lengths text notes → MatchResult r (λ c. ⊤) (λ e. e ≡ OutOfMemory)
   accepts (Ok c) fault p = tt
   accepts (Err f) fault p = only_memory f fault p
 
@@ -173,7 +172,7 @@ module _ (text : List Insn) (notes : List (Option StateKinds)) where
       let b = broken_is_bad v q.1.0 q.1.1 s q.1.2 q.1.3 in
       let e = one_bad u v p.1.0 q.1.0 p.1.1 q.1.1 a b in
       let t = same_transfer u v p.1.0 q.1.0 p.1.1 q.1.1 e p.1.2 q.1.2 in
-      ap (λ n. Rule n r) e ∙ ap (λ n. Rule v n) (one_rule r s (transfer record_length p.1.0 p.1.1) (transfer record_length q.1.0 q.1.1) t p.1.3 q.1.3)
+      ap (λ n. Rule n r) e ∙ ap (λ n. Rule v n) (one_rule r s (transfer p.1.0 p.1.1) (transfer q.1.0 q.1.1) t p.1.3 q.1.3)
   one_fault (Rule u r) (NotCovered v) p q no_f no_g = absurd (rule_or_uncovered u v r p q)
   one_fault (NotCovered u) OutOfMemory p q no_f no_g = absurd (no_g refl)
   one_fault (NotCovered u) WrongCount p q no_f no_g = absurd (q p.0.count)

@@ -9,12 +9,12 @@ use mir.Val.{to_z, of_z}
 use Rattle.bq_range.specs.Interval.{Interval, IsInterval}
 use Rattle.bq_state.specs.Offsets.{Span, IsSpan}
 use Rattle.bq_state.specs.declared.kind.Kind.{Kind}
-use Rattle.bq_state.specs.Kinds.{StateKinds}
-use Rattle.bq_state.specs.declared.kind.Kind.TheVariants.{Unset, Number, Pointer}
+use Rattle.bq_state.specs.Kinds.{StateKinds, state_of, view_lengths}
+use Rattle.bq_state.specs.declared.kind.Kind.TheVariants.{Unset, Number, Pointer, Length}
 use Rattle.bq_state.specs.declared.region.Region.TheVariants.{Frame, Record}
 use Rattle.bq_check.specs.declared.fault.NotesFault.{NotesFault}
 use Rattle.bq_check.specs.declared.fault.NotesFault.TheVariants.{NoteForm, OutOfMemory}
-use Rattle.bq_check.specs.Spelling.{short_bytes, long_bytes, range_bytes, offset_bytes, span_bytes, kind_bytes, state_bytes, note_bytes, notes_bytes, IsKind, IsState, IsNote, IsNotes, BeginsNone}
+use Rattle.bq_check.specs.Spelling.{short_bytes, long_bytes, range_bytes, offset_bytes, span_bytes, kind_bytes, kinds_bytes, state_bytes, note_bytes, notes_bytes, IsKind, IsState, IsNote, IsNotes, BeginsNone}
 use Rattle.bq_check.proofs.Codes.{flat_map_push, all_push, stops}
 use Rattle.bq_check.proofs.Fields.{length-short, length-long, short_front, long_front, kinds_are_code, note_is_code, notes_are_code, one_byte, counted, AreLimited, are_limited, offset_small}
 
@@ -80,12 +80,13 @@ no_span_order bytes middle rest m n x y l h first second lo hi apart = record { 
 -- ---- kinds
 
 pub no_kind_left : (bytes : List ℕ) → bytes ≡ [] → BeginsNone kind_bytes IsKind bytes
-no_kind_left bytes empty = record { none = λ k more l e. none k more (sym empty ∙ e) }
+no_kind_left bytes empty = record { none = λ k more l e. none k more l (sym empty ∙ e) }
   where
-    none : (k : Kind) (more : List ℕ) → [] ≡ kind_bytes k ++ more → ⊥
-    none Unset more e = cc
-    none (Number a) more e = cc
-    none (Pointer region s) more e = cc
+    none : (k : Kind) (more : List ℕ) → IsKind k → [] ≡ kind_bytes k ++ more → ⊥
+    none Unset more l e = cc
+    none (Number a) more l e = cc
+    none (Pointer region s) more l e = cc
+    none Length more l e = l
 
 pub no_kind : (bytes rest : List ℕ) (b : ℕ) → bytes ≡ b ∷ rest → (b ≡ 0 → ⊥) → (b ≡ 1 → BeginsNone range_bytes IsInterval rest) → (b ≡ 2 → BeginsNone span_bytes IsSpan rest) → (b ≡ 3 → BeginsNone span_bytes IsSpan rest) → BeginsNone kind_bytes IsKind bytes
 no_kind bytes rest b parts zeroth first second third = record { none = λ k more l e. none k more l (sym parts ∙ e) }
@@ -101,34 +102,35 @@ no_kind bytes rest b parts zeroth first second third = record { none = λ k more
     none (Pointer Record a) more l e =
         let s = one_byte b 3 rest (span_bytes a ++ more) e in
         (third s.0).none a more l s.1
+    none Length more l e = l
 
 -- ---- states
 
 -- the first n of eleven kinds were read, and rest is what is left of the bytes
-pub record ReadKinds (bytes : List ℕ) (kinds : StateKinds) (n : ℕ) (rest : List ℕ) : Type 0 where
+pub record ReadKinds (bytes : List ℕ) (kinds : List Kind) (n : ℕ) (rest : List ℕ) : Type 0 where
   pub count : length kinds ≡ 11
   pub legal : AllByRecursion IsKind (take n kinds)
-  pub parts : bytes ≡ state_bytes (take n kinds) ++ rest
+  pub parts : bytes ≡ kinds_bytes (take n kinds) ++ rest
 
-pub kinds_none : (bytes : List ℕ) (kinds : StateKinds) → length kinds ≡ 11 → ReadKinds bytes kinds 0 bytes
+pub kinds_none : (bytes : List ℕ) (kinds : List Kind) → length kinds ≡ 11 → ReadKinds bytes kinds 0 bytes
 kinds_none bytes kinds count = record { count = count; legal = tt; parts = refl }
 
-pub kinds_more : (bytes : List ℕ) (kinds : StateKinds) (n : ℕ) (rest after : List ℕ) (k : Kind) → ReadKinds bytes kinds n rest → n < 11 → IsKind k → rest ≡ kind_bytes k ++ after → length (set kinds n k) ≡ length kinds → ReadKinds bytes (set kinds n k) (n + 1) after
+pub kinds_more : (bytes : List ℕ) (kinds : List Kind) (n : ℕ) (rest after : List ℕ) (k : Kind) → ReadKinds bytes kinds n rest → n < 11 → IsKind k → rest ≡ kind_bytes k ++ after → length (set kinds n k) ≡ length kinds → ReadKinds bytes (set kinds n k) (n + 1) after
 kinds_more bytes kinds n rest after k read lt is parts same =
     let t : take (n + 1) (set kinds n k) ≡ take n kinds ++ k ∷ [] = take_more_set kinds n k (omega (arith, lt, read.count)) in
     record {
       count = same ∙ read.count;
       legal = subst (AllByRecursion IsKind) (sym t) (all_push IsKind (take n kinds) k read.legal is);
-      parts = read.parts ∙ ap (λ l. state_bytes (take n kinds) ++ l) parts ∙ sym (append_assoc (state_bytes (take n kinds)) (kind_bytes k) after) ∙ ap (λ l. l ++ after) (sym (flat_map_push kind_bytes (take n kinds) k)) ∙ ap (λ l. state_bytes l ++ after) (sym t);
+      parts = read.parts ∙ ap (λ l. kinds_bytes (take n kinds) ++ l) parts ∙ sym (append_assoc (kinds_bytes (take n kinds)) (kind_bytes k) after) ∙ ap (λ l. l ++ after) (sym (flat_map_push kind_bytes (take n kinds) k)) ∙ ap (λ l. kinds_bytes l ++ after) (sym t);
     }
 
-pub kinds_all : (bytes : List ℕ) (kinds : StateKinds) (n : ℕ) (rest : List ℕ) → ReadKinds bytes kinds n rest → 11 ≤ n → IsState kinds × (bytes ≡ state_bytes kinds ++ rest)
+pub kinds_all : (bytes : List ℕ) (kinds : List Kind) (n : ℕ) (rest : List ℕ) → ReadKinds bytes kinds n rest → 11 ≤ n → IsState (state_of kinds view_lengths) × (bytes ≡ kinds_bytes kinds ++ rest)
 kinds_all bytes kinds n rest read all =
     let t : take n kinds ≡ kinds = take_all n kinds (omega (arith, read.count, all)) in
-    (record { count = read.count; kinds = subst (AllByRecursion IsKind) t read.legal }, read.parts ∙ ap (λ l. state_bytes l ++ rest) t)
+    (record { count = read.count; kinds = subst (AllByRecursion IsKind) t read.legal; lengths = refl }, read.parts ∙ ap (λ l. kinds_bytes l ++ rest) t)
 
-pub no_state : (bytes : List ℕ) (kinds : StateKinds) (n : ℕ) (rest : List ℕ) → ReadKinds bytes kinds n rest → n < 11 → BeginsNone kind_bytes IsKind rest → BeginsNone state_bytes IsState bytes
-no_state bytes kinds n rest read lt none = record { none = λ s more is e. stops kind_bytes IsKind kinds_are_code (take n kinds) s rest more none read.legal is.kinds (omega (arith, lt, is.count, length-take n kinds)) (sym read.parts ∙ e) }
+pub no_state : (bytes : List ℕ) (kinds : List Kind) (n : ℕ) (rest : List ℕ) → ReadKinds bytes kinds n rest → n < 11 → BeginsNone kind_bytes IsKind rest → BeginsNone state_bytes IsState bytes
+no_state bytes kinds n rest read lt none = record { none = λ s more is e. stops kind_bytes IsKind kinds_are_code (take n kinds) s.kinds rest more none read.legal is.kinds (omega (arith, lt, is.count, length-take n kinds)) (sym read.parts ∙ e) }
 
 -- ---- notes
 

@@ -5,8 +5,7 @@ use Rattle.bq_code.specs.declared.code.Code.{Code}
 use Rattle.bq_insn.specs.Slots.{IsText}
 use Rattle.bq_insn.specs.declared.insn.Insn.{Insn}
 use Rattle.bq_flow.specs.Paths.{IsLongest}
-use Rattle.bq_meaning.specs.Place.{record_length}
-use Rattle.bq_state.specs.Kinds.{StateKinds}
+use Rattle.bq_state.specs.Kinds.{StateKinds, view_lengths}
 use Rattle.bq_sound.specs.Passes.{Passes}
 
 -- a text, its notes, and the greatest number of instructions on a path
@@ -18,7 +17,7 @@ pub record Certificate : Type 0 where
 -- a legal text, its notes pass, and that is the longest path
 pub record IsCertified (c : Certificate) : Type 0 where
   pub legal : IsText c.text
-  pub passes : Passes record_length c.text c.notes
+  pub passes : Passes view_lengths c.text c.notes
   pub longest : IsLongest c.text c.longest
 
 -- it is kept with the codes that the loop runs in place of its text

@@ -4,8 +4,7 @@ use Rattle.bq_insn.specs.Slots.{units, insn_at}
 use Rattle.bq_insn.specs.declared.insn.Insn.{Insn}
 use Rattle.bq_flow.specs.Paths.{IsLegalFlow}
 use Rattle.bq_flow.specs.Faults.{IsFirstFlowFault}
-use Rattle.bq_meaning.specs.Place.{record_length}
-use Rattle.bq_state.specs.Kinds.{StateKinds, entry_state}
+use Rattle.bq_state.specs.Kinds.{StateKinds, entry_state, view_lengths}
 use Rattle.bq_state.specs.Rules.{transfer}
 use Rattle.bq_state.specs.Edges.{edges}
 use Rattle.bq_check.specs.declared.fault.CheckFault.{CheckFault}
@@ -14,7 +13,7 @@ use Rattle.bq_sound.specs.Passes.{note_at, NoteCovers, AllCovered, NoHalves, All
 
 -- a unit below which all is fine, with a state and an instruction
 pub record IsReached (text : List Insn) (notes : List (Option StateKinds)) (unit : ℕ) (i : Insn) (state : StateKinds) : Type 0 where
-  pub below : AllFine record_length text notes unit
+  pub below : AllFine text notes unit
   pub noted : note_at notes unit ≡ Some state
   pub there : insn_at text unit ≡ Some i
 
@@ -30,12 +29,12 @@ pub record IsOpened (text : List Insn) (notes : List (Option StateKinds)) : Type
   pub count : length notes ≡ units text
   pub flow : IsLegalFlow text
   pub halves : NoHalves text notes (units text)
-  pub entry : NoteCovers notes (0, entry_state record_length)
+  pub entry : NoteCovers notes (0, entry_state view_lengths)
 
 -- what is wrong with the instruction at a unit with a state
 abbrev pub IsUnitFault : List (Option StateKinds) → ℕ → Insn → StateKinds → CheckFault → Type 0
-IsUnitFault notes unit i state (Rule at rule) = (at ≡ unit) × (transfer record_length i state ≡ Err rule)
-IsUnitFault notes unit i state (NotCovered at) = (at ≡ unit) × ((after : StateKinds) × (transfer record_length i state ≡ Ok after) × (AllCovered notes (edges unit i after) → ⊥))
+IsUnitFault notes unit i state (Rule at rule) = (at ≡ unit) × (transfer i state ≡ Err rule)
+IsUnitFault notes unit i state (NotCovered at) = (at ≡ unit) × ((after : StateKinds) × (transfer i state ≡ Ok after) × (AllCovered notes (edges unit i after) → ⊥))
 IsUnitFault notes unit i state f = ⊥
 
 abbrev pub IsFirstFault : List Insn → List (Option StateKinds) → CheckFault → Type 0
@@ -43,10 +42,10 @@ IsFirstFault text notes WrongCount = length notes ≢ units text
 IsFirstFault text notes (Flow unit rule) = (length notes ≡ units text) × IsFirstFlowFault text unit rule
 IsFirstFault text notes (NoteForm unit) = (length notes ≡ units text) × IsLegalFlow text × IsFirstHalf text notes unit
 IsFirstFault text notes Entry =
-    (length notes ≡ units text) × IsLegalFlow text × NoHalves text notes (units text) × (NoteCovers notes (0, entry_state record_length) → ⊥)
+    (length notes ≡ units text) × IsLegalFlow text × NoHalves text notes (units text) × (NoteCovers notes (0, entry_state view_lengths) → ⊥)
 IsFirstFault text notes (Rule unit rule) =
-    IsOpened text notes × ((i : Insn) × (state : StateKinds) × IsReached text notes unit i state × (transfer record_length i state ≡ Err rule))
+    IsOpened text notes × ((i : Insn) × (state : StateKinds) × IsReached text notes unit i state × (transfer i state ≡ Err rule))
 IsFirstFault text notes (NotCovered unit) =
-    IsOpened text notes × ((i : Insn) × (state : StateKinds) × (after : StateKinds) × IsReached text notes unit i state × (transfer record_length i state ≡ Ok after)
+    IsOpened text notes × ((i : Insn) × (state : StateKinds) × (after : StateKinds) × IsReached text notes unit i state × (transfer i state ≡ Ok after)
     × (AllCovered notes (edges unit i after) → ⊥))
 IsFirstFault text notes OutOfMemory = Unit {0}

@@ -1,12 +1,13 @@
--- The bytes of notes: a count, and then for each unit nothing, or the kinds of the eleven registers.
+-- The bytes of notes for the records of views: a count, and then for each unit nothing, or the kinds of the eleven
+-- registers. The lengths of the record are not told.
 use Rattle.std.specs.Prelude.{◌≡◌, ℕ, ◌≤◌, ℤ, List, [], ◌∷◌, ◌++◌, length, Option, Some, None}
 use Rattle.std.specs.List.{flat_map, AllByRecursion}
 use Rattle.std.specs.Int.{w32, w64, cast_unsigned, to_le_bytes}
 use Rattle.bq_range.specs.Interval.{Interval, IsInterval}
 use Rattle.bq_state.specs.Offsets.{Span, IsSpan}
 use Rattle.bq_state.specs.declared.kind.Kind.{Kind}
-use Rattle.bq_state.specs.Kinds.{StateKinds}
-use Rattle.bq_state.specs.declared.kind.Kind.TheVariants.{Unset, Number, Pointer}
+use Rattle.bq_state.specs.Kinds.{StateKinds, view_lengths}
+use Rattle.bq_state.specs.declared.kind.Kind.TheVariants.{Unset, Number, Pointer, Length}
 use Rattle.bq_state.specs.declared.region.Region.{Region}
 use Rattle.bq_state.specs.declared.region.Region.TheVariants.{Frame, Record}
 
@@ -32,13 +33,18 @@ abbrev pub region_byte : Region → ℕ
 region_byte Frame = 2
 region_byte Record = 3
 
+-- a length, which such notes do not have, has no bytes
 abbrev pub kind_bytes : Kind → List ℕ
 kind_bytes Unset = 0 ∷ []
 kind_bytes (Number a) = 1 ∷ range_bytes a
 kind_bytes (Pointer region s) = region_byte region ∷ span_bytes s
+kind_bytes Length = []
+
+abbrev pub kinds_bytes : List Kind → List ℕ
+kinds_bytes kinds = flat_map kind_bytes kinds
 
 abbrev pub state_bytes : StateKinds → List ℕ
-state_bytes state = flat_map kind_bytes state
+state_bytes state = kinds_bytes state.kinds
 
 abbrev pub note_bytes : Option StateKinds → List ℕ
 note_bytes None = 0 ∷ []
@@ -53,11 +59,13 @@ abbrev pub IsKind : Kind → Type 0
 IsKind Unset = Unit {0}
 IsKind (Number a) = IsInterval a
 IsKind (Pointer region s) = IsSpan s
+IsKind Length = ⊥
 
--- eleven kinds
+-- eleven kinds, for the records of views
 pub record IsState (state : StateKinds) : Type 0 where
-  pub count : length state ≡ 11
-  pub kinds : AllByRecursion IsKind state
+  pub count : length state.kinds ≡ 11
+  pub kinds : AllByRecursion IsKind state.kinds
+  pub lengths : state.lengths ≡ view_lengths
 
 abbrev pub IsNote : Option StateKinds → Type 0
 IsNote None = Unit {0}

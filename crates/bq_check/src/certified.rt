@@ -4,6 +4,7 @@ ghost use Rattle.std.specs.Prelude.{◌≡◌, ◌≤◌};
 ghost use Rattle.bq_code.specs.Lowered.{IsLowered};
 ghost use Rattle.bq_flow.specs.Paths.{IsLongest};
 ghost use Rattle.bq_meaning.specs.Place.{record_length};
+ghost use Rattle.bq_state.specs.Kinds.{view_lengths};
 ghost use Rattle.bq_sound.specs.Passes.{Passes};
 ghost use Rattle.bq_sound.specs.Safe.{IsSafe};
 
@@ -44,7 +45,7 @@ impl Certified {
     /// The notes, which pass for the text.
     pub fn notes(&self) -> &Notes
         ensures value { result.now ≡ self.now.notes }
-        ensures passes { Passes record_length self.now.text self.now.notes }
+        ensures passes { Passes view_lengths self.now.text self.now.notes }
     {
         &self.notes
     }

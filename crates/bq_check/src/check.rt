@@ -3,8 +3,8 @@
 ghost use Rattle.std.specs.Prelude.{◌≡◌, ◌<◌, ◌≤◌, ◌↔◌, ℕ, length, IsTrue, IfSome, IfNone, IfOk, IfErr, OnOk, MatchResult, ⊤};
 ghost use Rattle.bq_insn.specs.Slots.{units, IsText};
 ghost use Rattle.bq_flow.specs.Paths.{IsLongest};
-ghost use Rattle.bq_meaning.specs.Place.{record_length};
 ghost use Rattle.bq_state.specs.Listed.{edge_list, listed};
+ghost use Rattle.bq_state.specs.Kinds.{view_lengths};
 ghost use Rattle.bq_sound.specs.Passes.{NoteCovers, AllCovered, NoHalves, IsFine, AllFine, Passes};
 ghost use Rattle.bq_check.specs.Certificate.{IsCertified};
 ghost use Rattle.bq_check.specs.Faults.{IsFirstHalf, IsOpened, IsUnitFault, IsFirstFault};
@@ -16,6 +16,7 @@ use bq_code::lower::lower;
 use bq_flow::flow::Flow;
 use bq_insn::insn::Insn;
 use bq_insn::text::Text;
+use bq_state::bounds::Bounds;
 use bq_state::edges::{Edge, Edges};
 use bq_state::state::State;
 use std::alloc::Global;
@@ -63,7 +64,7 @@ fn first_half(text: &Text, notes: &Notes) -> Option<usize>
 /// Whether the instruction at a unit with a state is fine.
 fn check_unit(notes: &Notes, unit: usize, insn: &Insn, state: &State) -> Result<(), CheckFault>
     requires { unit < 4096 }
-    ensures fine { OnOk result (IsFine record_length notes.now unit insn.now state.now) }
+    ensures fine { OnOk result (IsFine notes.now unit insn.now state.now) }
     ensures fault { IfErr result (IsUnitFault notes.now unit insn.now state.now) }
 {
     match state.transfer(insn) {
@@ -79,7 +80,7 @@ fn check_unit(notes: &Notes, unit: usize, insn: &Insn, state: &State) -> Result<
 /// Whether all units with a state are fine, in rising order.
 fn check_units(text: &Text, notes: &Notes) -> Result<(), CheckFault>
     requires { IsOpened text.now notes.now }
-    ensures fine { OnOk result (AllFine record_length text.now notes.now (units text.now)) }
+    ensures fine { OnOk result (AllFine text.now notes.now (units text.now)) }
     ensures fault { IfErr result (IsFirstFault text.now notes.now) }
 {
     for unit in 0..text.units() {
@@ -107,7 +108,7 @@ fn open(alloc: Global, text: &Text, notes: &Notes) -> Result<u32, CheckFault>
     if let Some(unit) = first_half(text, notes) {
         return Err(CheckFault::NoteForm { unit });
     }
-    if !notes.cover(0, &State::entry()) {
+    if !notes.cover(0, &State::entry(Bounds::of_views())) {
         return Err(CheckFault::Entry);
     }
     Ok(longest)
@@ -144,7 +145,7 @@ pub fn check(alloc: Global, text: Text, notes: Notes) -> Result<Certified, Check
     ensures passes { IfOk result IsCertified }
 
     // What passes is refused for want of memory alone.
-    ensures all { Passes record_length text notes → MatchResult result (λ c. ⊤) (λ e. e ≡ CheckFault.OutOfMemory) }
+    ensures all { Passes view_lengths text notes → MatchResult result (λ c. ⊤) (λ e. e ≡ CheckFault.OutOfMemory) }
 
     // Which fault it is.
     ensures fault { IfErr result (IsFirstFault text notes) }

@@ -2,6 +2,9 @@
 
 ghost use Rattle.bq_range.specs.Interval.{IsInterval};
 ghost use Rattle.bq_state.specs.Offsets.{IsSpan};
+ghost use Rattle.bq_meaning.specs.Place.{record_length};
+ghost use Rattle.bq_state.specs.Plain.{IsPlain, IsPlainKind};
+ghost use Rattle.bq_check.specs.ForViews.{IsForViews};
 ghost use Rattle.bq_check.specs.Spelling.{IsKind, IsState, IsNote, IsNotes};
 
 use crate::notes::Notes;
@@ -23,16 +26,19 @@ pub(crate) fn is_span(offsets: Offsets)
 }
 
 fn is_kind(kind: Kind)
+    requires { IsPlainKind kind }
     ensures { IsKind kind }
 {
     match kind {
         Kind::Unset => {}
         Kind::Number(range) => is_interval(range),
         Kind::Pointer(_, offsets) => is_span(offsets),
+        Kind::Length => unreachable!(),
     }
 }
 
 fn is_state(state: &State)
+    requires { IsPlain record_length state.now }
     ensures { IsState state.now }
 {
     for kind in state.kinds() {
@@ -41,6 +47,7 @@ fn is_state(state: &State)
 }
 
 fn is_note(note: &Option<State>)
+    requires { IsForViews note.now }
     ensures { IsNote note.now }
 {
     if let Some(state) = note {

@@ -3,8 +3,7 @@
 
 ghost use Rattle.std.specs.Prelude.{◌≡◌, List, Option};
 ghost use Rattle.bq_insn.specs.declared.insn.Insn.{Insn};
-ghost use Rattle.bq_meaning.specs.Place.{record_length};
-ghost use Rattle.bq_state.specs.Kinds.{StateKinds};
+ghost use Rattle.bq_state.specs.Kinds.{StateKinds, view_lengths};
 ghost use Rattle.bq_sound.specs.Passes.{Passes};
 ghost use Rattle.bq_check.specs.declared.fault.CheckFault.{CheckFault};
 ghost use Rattle.bq_check.specs.declared.fault.CheckFault.TheVariants.{OutOfMemory};
@@ -13,7 +12,7 @@ ghost use Rattle.bq_check.specs.Spelling.{notes_bytes, IsNotes};
 
 /// Notes that pass have no fault but want of memory.
 pub fn passing_has_no_fault()
-    ensures { (text : List Insn) (notes : List (Option StateKinds)) (fault : CheckFault) → Passes record_length text notes → IsFirstFault text notes fault → fault ≡ OutOfMemory }
+    ensures { (text : List Insn) (notes : List (Option StateKinds)) (fault : CheckFault) → Passes view_lengths text notes → IsFirstFault text notes fault → fault ≡ OutOfMemory }
 {}
 
 /// A text with notes has one first fault at most, want of memory aside.

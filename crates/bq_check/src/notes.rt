@@ -1,33 +1,36 @@
 //! Notes: for each unit of a text a state, or none.
 
-ghost use Rattle.std.specs.Prelude.{◌≡◌, ◌≤◌, length, vec_len};
+ghost use Rattle.std.specs.Prelude.{◌≡◌, ◌≤◌, length};
 ghost use Rattle.bq_sound.specs.Passes.{note_at};
+ghost use Rattle.bq_check.specs.ForViews.{AreForViews};
 
 use bq_state::state::State;
 use std::marker::Model;
 
-/// For each unit of a text the state there, or none: at most 4,096. Contracts see it as the list of
-/// these.
+/// For each unit of a text the state there, or none: at most 4,096, for the records of views. Contracts see it as the
+/// list of these.
 #[derive(Drop)]
 pub struct Notes {
     pub(crate) states: Vec<Option<State>>,
 }
 
 impl Model for Notes {
-    ghost use Rattle.std.specs.Prelude.{◌≤◌, List, Option, length};
+    ghost use Rattle.std.specs.Prelude.{List, Option};
     ghost use Rattle.bq_state.specs.Kinds.{StateKinds};
+    ghost use Rattle.bq_check.specs.ForViews.{AreForViews};
 
     ghost Value = { List (Option StateKinds) };
 
     ghost view = { λ n. n.states.items };
 
-    ghost invariant = { λ n. length n.states.items ≤ 4096 };
+    ghost invariant = { λ n. AreForViews n.states.items };
 }
 
 impl Notes {
-    /// These notes, in the order of the units. There may be as many as a text may have units.
+    /// These notes, in the order of the units. There may be as many as a text may have units, and each is for the
+    /// records of views.
     pub fn new(states: Vec<Option<State>>) -> Notes
-        requires { vec_len states ≤ 4096 }
+        requires { AreForViews states.items }
         ensures { result ≡ states.items }
     {
         Notes { states }

@@ -11,6 +11,7 @@ use crate::fault::NotesFault;
 use crate::notes::Notes;
 use bq_insn::text::MOST_UNITS;
 use bq_range::range::Range;
+use bq_state::bounds::Bounds;
 use bq_state::kind::Kind;
 use bq_state::offsets::Offsets;
 use bq_state::region::Region;
@@ -109,7 +110,7 @@ impl<'a> Reader<'a> {
             };
             kinds[register] = kind;
         }
-        Some(State::new(kinds))
+        Some(State::new(kinds, Bounds::of_views()))
     }
 
     /// The state of one unit, or none.

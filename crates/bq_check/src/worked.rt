@@ -6,6 +6,7 @@ ghost use Rattle.bq_range.specs.Interval.{between};
 ghost use Rattle.bq_flow.specs.declared.fault.FlowRule.TheVariants.{FallsOff};
 ghost use Rattle.bq_flow.specs.declared.fault.FlowFault.TheVariants as flow;
 ghost use Rattle.bq_sound.specs.Passes.{note_at};
+ghost use Rattle.bq_state.specs.Kinds.{state_of, view_lengths};
 ghost use Rattle.bq_state.specs.declared.kind.Kind.TheVariants as kind;
 ghost use Rattle.bq_state.specs.declared.region.Region.TheVariants as region;
 ghost use Rattle.bq_state.specs.declared.rule.Rule.TheVariants.{AnswerKind};
@@ -32,9 +33,9 @@ pub fn worked()
     ensures refused { flow_refusal (flow.At 7 FallsOff) ≡ fault.Flow 7 FallsOff }
 
     // The state at a unit.
-    ensures at_a_unit { note_at (None ∷ Some (kind.Unset ∷ []) ∷ []) 1 ≡ Some (kind.Unset ∷ []) }
-    ensures none { note_at (None ∷ Some (kind.Unset ∷ []) ∷ []) 0 ≡ None }
-    ensures behind_the_end { note_at (Some (kind.Unset ∷ []) ∷ []) 1 ≡ None }
+    ensures at_a_unit { note_at (None ∷ Some (state_of (kind.Unset ∷ []) view_lengths) ∷ []) 1 ≡ Some (state_of (kind.Unset ∷ []) view_lengths) }
+    ensures none { note_at (None ∷ Some (state_of (kind.Unset ∷ []) view_lengths) ∷ []) 0 ≡ None }
+    ensures behind_the_end { note_at (Some (state_of (kind.Unset ∷ []) view_lengths) ∷ []) 1 ≡ None }
 
     // The bytes of notes, those of a number from the lowest.
     ensures short { short_bytes 258 ≡ 2 ∷ 1 ∷ 0 ∷ 0 ∷ [] }
@@ -44,5 +45,5 @@ pub fn worked()
     ensures frame { kind_bytes (kind.Pointer region.Frame (record { lo = negsuc 1; hi = pos 512 })) ≡ 2 ∷ 254 ∷ 255 ∷ 255 ∷ 255 ∷ 0 ∷ 2 ∷ 0 ∷ 0 ∷ [] }
     ensures into_the_record { kind_bytes (kind.Pointer region.Record (record { lo = pos 0; hi = pos 3 })) ≡ 3 ∷ 0 ∷ 0 ∷ 0 ∷ 0 ∷ 3 ∷ 0 ∷ 0 ∷ 0 ∷ [] }
     ensures no_state { note_bytes None ≡ 0 ∷ [] }
-    ensures two_notes { notes_bytes (None ∷ Some (kind.Unset ∷ []) ∷ []) ≡ 2 ∷ 0 ∷ 0 ∷ 0 ∷ 0 ∷ 1 ∷ 0 ∷ [] }
+    ensures two_notes { notes_bytes (None ∷ Some (state_of (kind.Unset ∷ []) view_lengths) ∷ []) ≡ 2 ∷ 0 ∷ 0 ∷ 0 ∷ 0 ∷ 1 ∷ 0 ∷ [] }
 {}

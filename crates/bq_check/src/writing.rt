@@ -3,6 +3,9 @@
 ghost use Rattle.std.specs.Prelude.{◌≡◌, ◌<◌, ◌^◌, ◌++◌, IfOk, OnOk};
 ghost use Rattle.bq_range.specs.Interval.{IsInterval};
 ghost use Rattle.bq_state.specs.Offsets.{IsSpan};
+ghost use Rattle.bq_meaning.specs.Place.{record_length};
+ghost use Rattle.bq_state.specs.Plain.{IsPlain, IsPlainKind};
+ghost use Rattle.bq_check.specs.ForViews.{IsForViews};
 ghost use Rattle.bq_check.specs.Spelling.{short_bytes, long_bytes, range_bytes, span_bytes, region_byte, kind_bytes, note_bytes, state_bytes, notes_bytes, IsKind, IsState, IsNote, IsNotes};
 
 use crate::notes::Notes;
@@ -55,6 +58,7 @@ fn region_byte(region: Region) -> u8
 }
 
 fn push_kind(out: &mut Vec<u8>, kind: Kind) -> Result<(), AllocError>
+    requires { IsPlainKind kind }
     ensures legal { OnOk result (IsKind kind) }
     ensures spelled { OnOk result (out.new.items ≡ out.old.items ++ kind_bytes kind) }
 {
@@ -68,10 +72,12 @@ fn push_kind(out: &mut Vec<u8>, kind: Kind) -> Result<(), AllocError>
             out.push(region_byte(region))?;
             push_offsets(out, offsets)
         }
+        Kind::Length => unreachable!(),
     }
 }
 
 fn push_state(out: &mut Vec<u8>, state: &State) -> Result<(), AllocError>
+    requires { IsPlain record_length state.now }
     ensures legal { OnOk result (IsState state.now) }
     ensures spelled { OnOk result (out.new.items ≡ out.old.items ++ state_bytes state.now) }
 {
@@ -82,6 +88,7 @@ fn push_state(out: &mut Vec<u8>, state: &State) -> Result<(), AllocError>
 }
 
 fn push_note(out: &mut Vec<u8>, note: &Option<State>) -> Result<(), AllocError>
+    requires { IsForViews note.now }
     ensures legal { OnOk result (IsNote note.now) }
     ensures spelled { OnOk result (out.new.items ≡ out.old.items ++ note_bytes note.now) }
 {

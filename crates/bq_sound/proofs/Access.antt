@@ -9,9 +9,10 @@ use Rattle.bq_meaning.specs.Memory.{is_inside, access}
 use Rattle.bq_meaning.specs.Meaning.{moved}
 use Rattle.bq_meaning.specs.declared.machine.Location.{Location}
 use Rattle.bq_meaning.specs.declared.machine.Location.TheVariants.{Frame, Record}
+use Rattle.bq_range.specs.Interval.{Interval, IsIn, single}
 use Rattle.bq_state.specs.Offsets.{Span, IsOffset, fits}
 use Rattle.bq_state.specs.declared.kind.Kind.{Kind}
-use Rattle.bq_state.specs.declared.kind.Kind.TheVariants.{Unset, Number, Pointer}
+use Rattle.bq_state.specs.declared.kind.Kind.TheVariants.{Unset, Number, Pointer, Length}
 use Rattle.bq_state.specs.declared.region.Region.{Region}
 use Rattle.bq_state.specs.declared.region.Region.TheVariants as regions
 use Rattle.bq_state.specs.Covers.{start}
@@ -25,23 +26,31 @@ abbrev pub location : Region → ℕ → Location
 location regions.Frame at = Frame at
 location regions.Record at = Record at
 
--- so many bytes at a distance from an offset lie in the region, at a place; a record has len bytes
+-- the bytes of a region, where the record has len bytes
+abbrev pub room_of : ℕ → Region → ℕ
+room_of len region = extent (single len) region
+
+-- so many bytes at a distance from an offset lie in the region, at a place
 pub record Inside (len : ℕ) (region : Region) (z distance : ℤ) (size : ℕ) : Type 0 where
   pub at : ℕ
   pub is : z +ℤ distance ≡ pos at
-  pub room : at + size ≤ extent len region
+  pub room : at + size ≤ room_of len region
 
 natural : (z : ℤ) → pos 0 ≤ℤ z → (n : ℕ) × (z ≡ pos n)
 natural (pos n) h = (n, refl)
 natural (negsuc n) h = absurd (omega (arith, ints))
 
-pub inside : (len : ℕ) (region : Region) (s : Span) (distance z : ℤ) (size : ℕ) → fits s distance size (extent len region) ≡ true → IsOffset z s → Inside len region z distance size
-inside len region s distance z size e h =
-    let b = and_parts (int_le (pos 0) (s.lo +ℤ distance)) (int_le (s.hi +ℤ distance +ℤ pos size) (pos (extent len region))) e in
-    let n = natural (z +ℤ distance) (omega (arith, ints, b.0, h.low)) in
-    record { at = n.0; is = n.1; room = omega (arith, ints, b.1, n.1, h.high) }
+has_room : (len : ℕ) (l : Interval) → IsIn len l → (region : Region) → extent l region ≤ room_of len region
+has_room len l i regions.Frame = omega arith
+has_room len l i regions.Record = i.low
 
-region_fits : (p : Place) → IsPlacement p → (len : ℕ) → len ≤ record_room → (region : Region) → start p region + extent len region < 2 ^ 64
+inside : (len : ℕ) (region : Region) (s : Span) (distance z : ℤ) (size least : ℕ) → least ≤ room_of len region → fits s distance size least ≡ true → IsOffset z s → Inside len region z distance size
+inside len region s distance z size least few e h =
+    let b = and_parts (int_le (pos 0) (s.lo +ℤ distance)) (int_le (s.hi +ℤ distance +ℤ pos size) (pos least)) e in
+    let n = natural (z +ℤ distance) (omega (arith, ints, b.0, h.low)) in
+    record { at = n.0; is = n.1; room = omega (arith, ints, b.1, n.1, h.high, few) }
+
+region_fits : (p : Place) → IsPlacement p → (len : ℕ) → len ≤ record_room → (region : Region) → start p region + room_of len region < 2 ^ 64
 region_fits p place len few regions.Frame = place.frame_fits
 region_fits p place len few regions.Record = omega (arith, place.record_fits, few)
 
@@ -84,15 +93,16 @@ pub record Reads (len : ℕ) (v : Tagged) (distance : ℤ) (size : ℕ) : Type 0
   pub is : v ≡ Ptr region z
   pub inside : Inside len region z distance size
 
-reads_within : (len : ℕ) (region : Region) (s : Span) (distance : ℤ) (size : ℕ) (v : Tagged) → HoldsPointer region s (Some v) → fits s distance size (extent len region) ≡ true → Reads len v distance size
-reads_within len region s distance size v h e = record { region = region; z = h.offset; is = cc; inside = inside len region s distance h.offset size e h.within }
+reads_within : (len : ℕ) (l : Interval) → IsIn len l → (region : Region) (s : Span) (distance : ℤ) (size : ℕ) (v : Tagged) → HoldsPointer region s (Some v) → fits s distance size (extent l region) ≡ true → Reads len v distance size
+reads_within len l i region s distance size v h e = record { region = region; z = h.offset; is = cc; inside = inside len region s distance h.offset size (extent l region) (has_room len l i region) e h.within }
 
-pub allows : {B : Type 0} (len : ℕ) (k : Kind) (distance : ℤ) (size : ℕ) (go : Unit {0} → Result B Rule) (after : B) (v : Tagged) → TagHolds k (Some v) → and_then (readable len k distance size) go ≡ Ok after
+pub allows : {B : Type 0} (len : ℕ) (l : Interval) → IsIn len l → (k : Kind) (distance : ℤ) (size : ℕ) (go : Unit {0} → Result B Rule) (after : B) (v : Tagged) → TagHolds len k (Some v) → and_then (readable l k distance size) go ≡ Ok after
     → Reads len v distance size × (go tt ≡ Ok after)
-allows len Unset distance size go after v h e = cc
-allows len (Number a) distance size go after v h e = cc
-allows len (Pointer region s) distance size go after v h e =
-    elim (cases_Bool (fits s distance size (extent len region))) [ inl t ↦ (reads_within len region s distance size v h t, rw t at e) | inr f ↦ let no : Err (outside region) ≡ Ok after = rw f at e in cc ]
+allows len l i Unset distance size go after v h e = cc
+allows len l i (Number a) distance size go after v h e = cc
+allows len l i (Pointer region s) distance size go after v h e =
+    elim (cases_Bool (fits s distance size (extent l region))) [ inl t ↦ (reads_within len l i region s distance size v h t, rw t at e) | inr f ↦ let no : Err (outside region) ≡ Ok after = rw f at e in cc ]
+allows len l i Length distance size go after v h e = cc
 
 -- a pointer into the frame and a number that may be written there
 pub record Writes (len : ℕ) (u v : Tagged) (distance : ℤ) (size : ℕ) : Type 0 where
@@ -102,14 +112,15 @@ pub record Writes (len : ℕ) (u v : Tagged) (distance : ℤ) (size : ℕ) : Typ
   pub word : ℕ
   pub number : v ≡ Num word
 
-pub stores : {B : Type 0} (len : ℕ) (k l : Kind) (distance : ℤ) (size : ℕ) (go : Unit {0} → Result B Rule) (after : B) (u v : Tagged) → TagHolds k (Some u) → TagHolds l (Some v)
+pub stores : {B : Type 0} (len : ℕ) (k l : Kind) (distance : ℤ) (size : ℕ) (go : Unit {0} → Result B Rule) (after : B) (u v : Tagged) → TagHolds len k (Some u) → TagHolds len l (Some v)
     → and_then (storable k l distance size) go ≡ Ok after → Writes len u v distance size × (go tt ≡ Ok after)
 stores len (Pointer regions.Frame s) (Number a) distance size go after u v h i e =
     elim (cases_Bool (fits s distance size 512)) [
-      | inl t ↦ (record { z = h.offset; is = same_pointer u regions.Frame h.offset h.is; inside = inside len regions.Frame s distance h.offset size t h.within; word = i.word; number = same_word v i.word i.is }, rw t at e)
+      | inl t ↦ (record { z = h.offset; is = same_pointer u regions.Frame h.offset h.is; inside = inside len regions.Frame s distance h.offset size 512 (omega arith) t h.within; word = i.word; number = same_word v i.word i.is }, rw t at e)
       | inr f ↦ let no : Err OutsideFrame ≡ Ok after = rw f at e in cc
     ]
 stores len (Pointer regions.Record s) Unset distance size go after u v h i e = cc
 stores len (Pointer regions.Record s) (Number a) distance size go after u v h i e = cc
 stores len (Pointer regions.Record s) (Pointer region t) distance size go after u v h i e = cc
+stores len (Pointer regions.Record s) Length distance size go after u v h i e = cc
 stores len k l distance size go after u v h i e = cc

@@ -12,7 +12,7 @@ use Rattle.bq_state.specs.Edges.{edges}
 use Rattle.bq_state.specs.Kinds.{StateKinds, kind_of}
 use Rattle.bq_state.specs.Rules.{transfer}
 use Rattle.bq_state.specs.declared.kind.Kind.{Kind}
-use Rattle.bq_state.specs.declared.kind.Kind.TheVariants.{Unset, Number, Pointer}
+use Rattle.bq_state.specs.declared.kind.Kind.TheVariants.{Unset, Number, Pointer, Length}
 use Rattle.bq_sound.specs.Steps.{IsMachine, IsCovered}
 use Rattle.bq_sound.proofs.Tags.{Tagged, Num, Ptr, image, image_small, images, held_image, IsWord, word_of, tag_at, TagHolds, TagsHold}
 use Rattle.bq_sound.proofs.Machine.{Common, machine, IsWhole, Stands}
@@ -20,10 +20,10 @@ use Rattle.bq_sound.proofs.Progress.{progress}
 
 -- ---- from a placement
 
-record OneTag (p : Place) (k : Kind) (register : Option ℕ) : Type 0 where
+record OneTag (len : ℕ) (p : Place) (k : Kind) (register : Option ℕ) : Type 0 where
   tag : Option Tagged
   is : option_map (image p) tag ≡ register
-  holds : TagHolds k tag
+  holds : TagHolds len k tag
   word : (v : Tagged) → tag ≡ Some v → IsWord v
 
 pointer_word : (u v : Tagged) → IsWord u → Some u ≡ Some v → IsWord v
@@ -32,48 +32,50 @@ pointer_word u v h e = let is : u ≡ v = cc in subst IsWord is h
 no_word : (v : Tagged) → ◌≡◌ {A = Option Tagged} None (Some v) → IsWord v
 no_word v e = cc
 
-one_tag : (p : Place) (k : Kind) (register : Option ℕ) → KindHolds p k register → ((n : ℕ) → register ≡ Some n → n < 2 ^ 64) → OneTag p k register
-one_tag p Unset None h w = record { tag = None; is = refl; holds = tt; word = no_word }
-one_tag p Unset (Some n) h w = record { tag = Some (Num n); is = refl; holds = tt; word = λ v e. word_of n v (w n refl) e }
-one_tag p (Number a) register h w = record {
+one_tag : (len : ℕ) (p : Place) (k : Kind) (register : Option ℕ) → KindHolds p len k register → ((n : ℕ) → register ≡ Some n → n < 2 ^ 64) → OneTag len p k register
+one_tag len p Unset None h w = record { tag = None; is = refl; holds = tt; word = no_word }
+one_tag len p Unset (Some n) h w = record { tag = Some (Num n); is = refl; holds = tt; word = λ v e. word_of n v (w n refl) e }
+one_tag len p (Number a) register h w = record {
   tag = Some (Num h.word);
   is = sym h.held;
   holds = record { word = h.word; is = refl; within = h.within };
   word = λ v e. word_of h.word v (w h.word h.held) e;
 }
-one_tag p (Pointer region s) register h w = record {
+one_tag len p (Pointer region s) register h w = record {
   tag = Some (Ptr region h.offset);
   is = sym h.held;
   holds = record { offset = h.offset; is = refl; within = h.within };
   word = λ v e. pointer_word (Ptr region h.offset) v tt e;
 }
+one_tag len p Length register h w = record { tag = Some (Num len); is = sym h; holds = refl; word = λ v e. word_of len v (w len h) e }
 
-record ManyTags (p : Place) (kinds : ℕ → Kind) (registers : List (Option ℕ)) : Type 0 where
+record ManyTags (len : ℕ) (p : Place) (kinds : ℕ → Kind) (registers : List (Option ℕ)) : Type 0 where
   tags : List (Option Tagged)
   is : images p tags ≡ registers
-  holds : (r : ℕ) → TagHolds (kinds r) (tag_at tags r)
+  holds : (r : ℕ) → TagHolds len (kinds r) (tag_at tags r)
   words : (r : ℕ) (v : Tagged) → tag_at tags r ≡ Some v → IsWord v
 
-none_held : (p : Place) (k : Kind) → KindHolds p k None → TagHolds k None
-none_held p Unset h = tt
-none_held p (Number a) h = let e = h.held in cc
-none_held p (Pointer region s) h = let e = h.held in cc
+none_held : (len : ℕ) (p : Place) (k : Kind) → KindHolds p len k None → TagHolds len k None
+none_held len p Unset h = tt
+none_held len p (Number a) h = let e = h.held in cc
+none_held len p (Pointer region s) h = let e = h.held in cc
+none_held len p Length h = cc
 
-many_tags : (p : Place) (kinds : ℕ → Kind) (registers : List (Option ℕ)) → ((r : ℕ) → KindHolds p (kinds r) (held registers r)) → ((r n : ℕ) → held registers r ≡ Some n → n < 2 ^ 64) → ManyTags p kinds registers
-many_tags p kinds [] h w = record { tags = []; is = refl; holds = λ r. none_held p (kinds r) (h r); words = λ r v e. no_word v e }
-many_tags p kinds (x ∷ xs) h w =
-    let one = one_tag p (kinds 0) x (h 0) (w 0) in
-    let rest = many_tags p (λ r. kinds (suc r)) xs (λ r. h (suc r)) (λ r n e. w (suc r) n e) in
+many_tags : (len : ℕ) (p : Place) (kinds : ℕ → Kind) (registers : List (Option ℕ)) → ((r : ℕ) → KindHolds p len (kinds r) (held registers r)) → ((r n : ℕ) → held registers r ≡ Some n → n < 2 ^ 64) → ManyTags len p kinds registers
+many_tags len p kinds [] h w = record { tags = []; is = refl; holds = λ r. none_held len p (kinds r) (h r); words = λ r v e. no_word v e }
+many_tags len p kinds (x ∷ xs) h w =
+    let one = one_tag len p (kinds 0) x (h 0) (w 0) in
+    let rest = many_tags len p (λ r. kinds (suc r)) xs (λ r. h (suc r)) (λ r n e. w (suc r) n e) in
     record {
       tags = one.tag ∷ rest.tags;
       is = ap (λ y. y ∷ images p rest.tags) one.is ∙ ap (λ ys. x ∷ ys) rest.is;
-      holds = holds_each kinds one.tag rest.tags one.holds rest.holds;
+      holds = holds_each len kinds one.tag rest.tags one.holds rest.holds;
       words = words_each one.tag rest.tags one.word rest.words;
     }
   where
-    holds_each : (kinds : ℕ → Kind) (t : Option Tagged) (ts : List (Option Tagged)) → TagHolds (kinds 0) t → ((r : ℕ) → TagHolds (kinds (suc r)) (tag_at ts r)) → (r : ℕ) → TagHolds (kinds r) (tag_at (t ∷ ts) r)
-    holds_each kinds t ts a b zero = a
-    holds_each kinds t ts a b (suc r) = b r
+    holds_each : (len : ℕ) (kinds : ℕ → Kind) (t : Option Tagged) (ts : List (Option Tagged)) → TagHolds len (kinds 0) t → ((r : ℕ) → TagHolds len (kinds (suc r)) (tag_at ts r)) → (r : ℕ) → TagHolds len (kinds r) (tag_at (t ∷ ts) r)
+    holds_each len kinds t ts a b zero = a
+    holds_each len kinds t ts a b (suc r) = b r
 
     words_each : (t : Option Tagged) (ts : List (Option Tagged)) → ((v : Tagged) → t ≡ Some v → IsWord v) → ((r : ℕ) (v : Tagged) → tag_at ts r ≡ Some v → IsWord v) → (r : ℕ) (v : Tagged) → tag_at (t ∷ ts) r ≡ Some v → IsWord v
     words_each t ts a b zero v e = a v e
@@ -84,25 +86,26 @@ record Lifted (len : ℕ) (p : Place) (state : StateKinds) (m : Machine) : Type 
   is : machine p common ≡ m
   stands : Stands len common state
 
-lifted : (len : ℕ) (p : Place) (state : StateKinds) (m : Machine) → len ≤ record_room → IsMachine len m → StateHolds p state m.registers → Lifted len p state m
+lifted : (len : ℕ) (p : Place) (state : StateKinds) (m : Machine) → len ≤ record_room → IsMachine len m → StateHolds p len state m.registers → Lifted len p state m
 lifted len p state m few whole holds =
-    let t = many_tags p (kind_of state) m.registers holds.each whole.words in
+    let t = many_tags len p (kind_of state) m.registers holds.each whole.words in
     let count : length t.tags ≡ 11 = sym (length-map t.tags (option_map (image p))) ∙ ap length t.is ∙ whole.count in
     record {
       common = record { unit = m.unit; tags = t.tags; frame = m.frame; «record» = m.record };
       is = ap (λ (rs : List (Option ℕ)). record { unit = m.unit; registers = rs; frame = m.frame; «record» = m.record }) t.is;
-      stands = record { whole = record { words = record { count = count; each = t.words }; frame = whole.frame; «record» = whole.record; fits = few }; holds = record { each = t.holds } };
+      stands = record { whole = record { words = record { count = count; each = t.words }; frame = whole.frame; «record» = whole.record; fits = few }; holds = record { within = holds.within; each = t.holds } };
     }
 
 -- ---- back to it
 
-lowered_kind : (p : Place) (k : Kind) (t : Option Tagged) → TagHolds k t → KindHolds p k (option_map (image p) t)
-lowered_kind p Unset t h = tt
-lowered_kind p (Number a) t h = record { word = h.word; held = ap (option_map (image p)) h.is; within = h.within }
-lowered_kind p (Pointer region s) t h = record { offset = h.offset; held = ap (option_map (image p)) h.is; within = h.within }
+lowered_kind : (len : ℕ) (p : Place) (k : Kind) (t : Option Tagged) → TagHolds len k t → KindHolds p len k (option_map (image p) t)
+lowered_kind len p Unset t h = tt
+lowered_kind len p (Number a) t h = record { word = h.word; held = ap (option_map (image p)) h.is; within = h.within }
+lowered_kind len p (Pointer region s) t h = record { offset = h.offset; held = ap (option_map (image p)) h.is; within = h.within }
+lowered_kind len p Length t h = ap (option_map (image p)) h
 
-lowered : (p : Place) (state : StateKinds) (tags : List (Option Tagged)) → TagsHold state tags → StateHolds p state (images p tags)
-lowered p state tags h = record { each = λ r. subst (KindHolds p (kind_of state r)) (sym (held_image p tags r)) (lowered_kind p (kind_of state r) (tag_at tags r) (h.each r)) }
+lowered : (len : ℕ) (p : Place) (state : StateKinds) (tags : List (Option Tagged)) → TagsHold len state tags → StateHolds p len state (images p tags)
+lowered len p state tags h = record { within = h.within; each = λ r. subst (KindHolds p len (kind_of state r)) (sym (held_image p tags r)) (lowered_kind len p (kind_of state r) (tag_at tags r) (h.each r)) }
 
 small_image : (p : Place) (t : Option Tagged) (w : ℕ) → ((v : Tagged) → t ≡ Some v → IsWord v) → option_map (image p) t ≡ Some w → w < 2 ^ 64
 small_image p None w h e = cc
@@ -118,13 +121,13 @@ whole_machine len p m h = record {
 
 -- ---- a step
 
-pub covered : (len : ℕ) (p : Place) (i : Insn) (state after : StateKinds) (m : Machine) → len ≤ record_room → IsPlacement p → IsInsn i → IsMachine len m → StateHolds p state m.registers → transfer len i state ≡ Ok after
+pub covered : (len : ℕ) (p : Place) (i : Insn) (state after : StateKinds) (m : Machine) → len ≤ record_room → IsPlacement p → IsInsn i → IsMachine len m → StateHolds p len state m.registers → transfer i state ≡ Ok after
     → IsCovered len p (edges m.unit i after) (perform p i m)
 covered len p i state after m few place legal whole holds rules =
     let l = lifted len p state m few whole holds in
     subst (λ x. IsCovered len p (edges x.unit i after) (perform p i x)) l.is
     (elim (progress l.common i state after legal l.stands rules) [
       | inl on ↦ subst (IsCovered len p (edges l.common.unit i after)) (sym (on.steps p place))
-          (record { state = on.left; edge = on.edge; covers = lowered p on.left on.next.tags on.stands.holds; whole = whole_machine len p on.next on.stands.whole })
+          (record { state = on.left; edge = on.edge; covers = lowered len p on.left on.next.tags on.stands.holds; whole = whole_machine len p on.next on.stands.whole })
       | inr stop ↦ subst (IsCovered len p (edges l.common.unit i after)) (sym (stop.steps p place)) stop.word
     ])

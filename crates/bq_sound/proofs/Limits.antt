@@ -4,12 +4,13 @@ use Rattle.std.specs.Prelude.{Result, Ok, Err}
 use Rattle.bq_insn.specs.Slots.{IsText}
 use Rattle.bq_insn.specs.declared.insn.Insn.{Insn}
 use Rattle.bq_flow.specs.Paths.{IsLongest}
-use Rattle.bq_meaning.specs.Place.{Place, record_room}
+use Rattle.bq_meaning.specs.Place.{Place}
 use Rattle.bq_meaning.specs.Runs.{RecordRun, RunAnswers, entry_machine}
 use Rattle.bq_meaning.specs.declared.fault.Fault.{Fault}
 use Rattle.bq_meaning.specs.declared.run.Ended.{Ended}
 use Rattle.bq_meaning.proofs.Once.{same_end, no_refusal}
-use Rattle.bq_state.specs.Kinds.{StateKinds}
+use Rattle.bq_range.specs.Interval.{Interval, IsIn}
+use Rattle.bq_state.specs.Kinds.{StateKinds, AreLengths}
 use Rattle.bq_sound.specs.Passes.{Passes}
 use Rattle.bq_sound.specs.Safe.{IsSafe, LimitIsFree}
 use Rattle.bq_sound.proofs.Runs.{safe}
@@ -34,5 +35,5 @@ free len text longest is p acc bytes frame limit place word whole full high resu
       moved_limit p text acc bytes frame r.steps r.answer r.after longest limit run within below result after,
     )
 
-pub any_limit : (len : ℕ) (text : List Insn) (notes : List (Option StateKinds)) (longest : ℕ) → len ≤ record_room → IsText text → Passes len text notes → IsLongest text longest → LimitIsFree len text longest
-any_limit len text notes longest room legal passes is = free len text longest (safe len text notes longest room legal passes is)
+pub any_limit : (l : Interval) (text : List Insn) (notes : List (Option StateKinds)) (longest len : ℕ) → AreLengths l → IsText text → Passes l text notes → IsLongest text longest → IsIn len l → LimitIsFree len text longest
+any_limit l text notes longest len lengths legal passes is i = free len text longest (safe l text notes longest len lengths legal passes is i)

@@ -10,7 +10,7 @@ use Rattle.bq_meaning.specs.Place.{Place, IsPlacement, record_room}
 use Rattle.bq_meaning.specs.Meaning.{Continues, Ends, at_unit, with_register, perform}
 use Rattle.bq_meaning.specs.Machines.{MachineState as Machine}
 use Rattle.bq_state.specs.declared.kind.Kind.{Kind}
-use Rattle.bq_state.specs.Kinds.{StateKinds}
+use Rattle.bq_state.specs.Kinds.{StateKinds, with_kind}
 use Rattle.bq_state.specs.Edges.{edges}
 use Rattle.bq_sound.specs.Safe.{AreBytes}
 use Rattle.bq_sound.proofs.Tags.{Tagged, image, images, images_set, IsWord, tag_at, tag_set_same, tag_set_other, TagHolds, TagsHold, written_holds}
@@ -37,7 +37,7 @@ pub record IsWhole (len : ℕ) (m : Common) : Type 0 where
 -- what is known before an instruction: the state holds of the machine
 pub record Stands (len : ℕ) (m : Common) (state : StateKinds) : Type 0 where
   pub whole : IsWhole len m
-  pub holds : TagsHold state m.tags
+  pub holds : TagsHold len state m.tags
 
 -- it goes on, alike at every placement, along an edge whose state holds
 pub record GoesOn (len : ℕ) (m : Common) (i : Insn) (after : StateKinds) : Type 0 where
@@ -54,7 +54,7 @@ pub record Stops (m : Common) (i : Insn) : Type 0 where
   pub exits : i ≡ Exit
   pub steps : (p : Place) → IsPlacement p → perform p i (machine p m) ≡ Ends answer
 
-pub goes_on : {len : ℕ} (m next : Common) (i : Insn) (after left : StateKinds) → IsWhole len next → TagsHold left next.tags → Among (next.unit, left) (edges m.unit i after)
+pub goes_on : {len : ℕ} (m next : Common) (i : Insn) (after left : StateKinds) → IsWhole len next → TagsHold len left next.tags → Among (next.unit, left) (edges m.unit i after)
     → ((p : Place) → IsPlacement p → perform p i (machine p m) ≡ Continues (machine p next)) → GoesOn len m i after
 goes_on m next i after left whole holds among does = record { next = next; left = left; edge = among; stands = record { whole = whole; holds = holds }; steps = does }
 
@@ -76,12 +76,12 @@ put_words tags d v h low small = record {
 }
 
 pub puts : {len : ℕ} (m : Common) (i : Insn) (unit d : ℕ) (state after : StateKinds) (k : Kind) (v : Tagged) → Stands len m state → d < 10
-    → TagHolds k (Some v) → IsWord v → slice_set state d k ≡ after → Among (unit, after) (edges m.unit i after)
+    → TagHolds len k (Some v) → IsWord v → with_kind state d k ≡ after → Among (unit, after) (edges m.unit i after)
     → ((p : Place) → IsPlacement p → perform p i (machine p m) ≡ Continues (at_unit (with_register (machine p m) d (image p v)) unit))
     → GoesOn len m i after
-puts m i unit d state after k v s low here small is among does =
+puts {len} m i unit d state after k v s low here small is among does =
     goes_on m (put m unit d v) i after after
     (record { words = put_words m.tags d v s.whole.words low small; frame = s.whole.frame; «record» = s.whole.record; fits = s.whole.fits })
-    (subst (λ q. TagsHold q (slice_set m.tags d (Some v))) is (written_holds state m.tags d k v s.holds (omega (arith, s.whole.words.count)) here))
+    (subst (λ q. TagsHold len q (slice_set m.tags d (Some v))) is (written_holds len state m.tags d k v s.holds (omega (arith, s.whole.words.count)) here))
     among
     (λ p place. does p place ∙ ap (λ (rs : List (Option ℕ)). Continues (record { unit = unit; registers = rs; frame = m.frame; «record» = m.record })) (images_set p m.tags d v))

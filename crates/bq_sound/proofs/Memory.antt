@@ -1,6 +1,6 @@
 -- Loads and stores.
 use Rattle.std.proofs.Common.{◌≡◌, ℕ, ◌+◌, ◌*◌, ◌^◌, ◌<◌, ◌≤◌, refl, ap, ◌∙◌, subst, inl, arith, List, length, Option, Some, Ok}
-use Rattle.std.specs.Prelude.{ℤ, slice_set, slice_range}
+use Rattle.std.specs.Prelude.{ℤ, slice_range}
 use Rattle.std.specs.List.{splice}
 use Rattle.std.proofs.lemmas.Bool.{lt-ltb}
 use Rattle.bq_word.specs.Word.{le_bytes, le_number, sign_bits, extended, signed_bytes}
@@ -21,16 +21,16 @@ use Rattle.bq_range.specs.Interval.{Interval, IsIn, whole, all_words}
 use Rattle.bq_state.specs.declared.kind.Kind.TheVariants.{Number}
 use Rattle.bq_state.specs.declared.region.Region.{Region}
 use Rattle.bq_state.specs.declared.region.Region.TheVariants as regions
-use Rattle.bq_state.specs.Kinds.{StateKinds, kind_of}
-use Rattle.bq_state.specs.Rules.{extent, transfer, and_then, known, writable, readable, storable, operand_kind, loaded_state}
+use Rattle.bq_state.specs.Kinds.{StateKinds, read_kind, with_kind}
+use Rattle.bq_state.specs.Rules.{transfer, and_then, known, writable, readable, storable, read_operand, loaded_state}
 use Rattle.bq_state.specs.Edges.{edges}
 use Rattle.bq_sound.specs.Safe.{AreBytes}
-use Rattle.bq_sound.proofs.Tags.{Tagged, Num, Ptr, tag_at, holds_word, TagHolds, TagsHold}
+use Rattle.bq_sound.proofs.Tags.{Tagged, Num, Ptr, tag_at, holds_word, TagHolds, TagsHold, register_holds}
 use Rattle.bq_sound.proofs.Rules.{same_state, read, wrote}
 use Rattle.bq_sound.proofs.Machine.{Common, machine, IsWhole, GoesOn, Stands, goes_on, puts}
-use Rattle.bq_sound.proofs.Operands.{operand_tag, held_is, value_is, operand_holds}
+use Rattle.bq_sound.proofs.Operands.{operand_tag, held_is, value_is, number_holds}
 use Rattle.bq_sound.proofs.Bytes.{read_below, written_bytes}
-use Rattle.bq_sound.proofs.Access.{location, Inside, accesses, allows, stores}
+use Rattle.bq_sound.proofs.Access.{location, room_of, Inside, accesses, allows, stores}
 
 known_pointer : (t : Option Tagged) (u v : Tagged) → t ≡ Some u → u ≡ v → t ≡ Some v
 known_pointer t u v e f = e ∙ ap Some f
@@ -47,7 +47,7 @@ abbrev region_bytes : Common → Region → List ℕ
 region_bytes m regions.Frame = m.frame
 region_bytes m regions.Record = m.record
 
-region_whole : (len : ℕ) (m : Common) → IsWhole len m → (region : Region) → AreBytes (extent len region) (region_bytes m region)
+region_whole : (len : ℕ) (m : Common) → IsWhole len m → (region : Region) → AreBytes (room_of len region) (region_bytes m region)
 region_whole len m h regions.Frame = h.frame
 region_whole len m h regions.Record = h.record
 
@@ -62,17 +62,18 @@ load_performs p place len few m full d base distance size f region z some h e lo
     rw (is, held_is p m.tags base (Ptr region z) e, lt-ltb d 10 low, full, accesses p place len few region z distance size some h, loaded_is p m region h.at size) refl
 
 does_loading : (len : ℕ) (m : Common) (i : Insn) (d base : ℕ) (distance : ℤ) (size : ℕ) (f : ℕ → ℕ) (range : Interval) (state after : StateKinds)
-    → Loads size f range → Stands len m state → loaded_state len state d base distance size range ≡ Ok after → Among (m.unit + 1, after) (edges m.unit i after)
+    → Loads size f range → Stands len m state → loaded_state state d base distance size range ≡ Ok after → Among (m.unit + 1, after) (edges m.unit i after)
     → ((p : Place) → perform p i (machine p m) ≡ loading p (machine p m) d base distance size f) → GoesOn len m i after
 does_loading len m i d base distance size f range state after l s rules among does =
-    let k = kind_of state base in
-    let r = read k (tag_at m.tags base) (λ k'. and_then (writable d) (λ _. and_then (readable len k' distance size) (λ _. Ok (slice_set state d (Number range))))) after (s.holds.each base) rules in
-    let low = wrote d (λ _. and_then (readable len k distance size) (λ _. Ok (slice_set state d (Number range)))) after r.2 in
-    let from = allows len k distance size (λ _. Ok (slice_set state d (Number range))) after r.0 (subst (TagHolds k) r.1 (s.holds.each base)) low.1 in
+    let k = read_kind state base in
+    let here = register_holds len state m.tags base s.holds in
+    let r = read len k (tag_at m.tags base) (λ k'. and_then (writable d) (λ _. and_then (readable state.lengths k' distance size) (λ _. Ok (with_kind state d (Number range))))) after here rules in
+    let low = wrote d (λ _. and_then (readable state.lengths k distance size) (λ _. Ok (with_kind state d (Number range)))) after r.2 in
+    let from = allows len state.lengths s.holds.within k distance size (λ _. Ok (with_kind state d (Number range))) after r.0 (subst (TagHolds len k) r.1 here) low.1 in
     let region = from.0.region in
     let at : tag_at m.tags base ≡ Some (Ptr region from.0.z) = known_pointer (tag_at m.tags base) r.0 (Ptr region from.0.z) r.1 from.0.is in
     let n = le_number (slice_range (region_bytes m region) from.0.inside.at (from.0.inside.at + size)) in
-    let below : n < 256 ^ size = read_below (extent len region) (region_bytes m region) from.0.inside.at size (region_whole len m s.whole region) from.0.inside.room in
+    let below : n < 256 ^ size = read_below (room_of len region) (region_bytes m region) from.0.inside.at size (region_whole len m s.whole region) from.0.inside.room in
     puts m i (m.unit + 1) d state after (Number range) (Num (f n)) s low.0 (holds_word range (f n) (l.within n below)) (l.small n below) (same_state _ _ from.1) among
     (λ p place. load_performs p place len s.whole.fits m s.whole.record.count d base distance size f region from.0.z l.some from.0.inside at low.0 (perform p i (machine p m)) (does p))
 
@@ -98,12 +99,12 @@ signed_loads bits = record {
 }
 
 pub does_load : {len : ℕ} (m : Common) (size : Size) (d base : ℕ) (distance : ℤ) (state after : StateKinds)
-    → Stands len m state → transfer len (insns.Load size d base distance) state ≡ Ok after → GoesOn len m (insns.Load size d base distance) after
+    → Stands len m state → transfer (insns.Load size d base distance) state ≡ Ok after → GoesOn len m (insns.Load size d base distance) after
 does_load {len} m size d base distance state after s rules =
     does_loading len m (insns.Load size d base distance) d base distance (size_bytes size) (λ n. n) (whole (8 * size_bytes size)) state after (plain_loads size) s rules (inl refl) (λ p. refl)
 
 pub does_load_signed : {len : ℕ} (m : Common) (bits : SignBits) (d base : ℕ) (distance : ℤ) (state after : StateKinds)
-    → Stands len m state → transfer len (insns.LoadSigned bits d base distance) state ≡ Ok after → GoesOn len m (insns.LoadSigned bits d base distance) after
+    → Stands len m state → transfer (insns.LoadSigned bits d base distance) state ≡ Ok after → GoesOn len m (insns.LoadSigned bits d base distance) after
 does_load_signed {len} m bits d base distance state after s rules =
     does_loading len m (insns.LoadSigned bits d base distance) d base distance (signed_bytes bits) (extended (sign_bits bits) 64) all_words state after (signed_loads bits) s rules (inl refl) (λ p. refl)
 
@@ -129,18 +130,19 @@ does_storing : (len : ℕ) (m : Common) (size : Size) (base : ℕ) (distance : �
 does_storing len m size base distance x state after z w h e f s is =
     goes_on m (with_bytes m h.at (size_bytes size) w) (insns.Store size base distance x) after after
     (record { words = s.whole.words; frame = written_bytes 512 m.frame h.at (size_bytes size) w s.whole.frame h.room; «record» = s.whole.record; fits = s.whole.fits })
-    (subst (λ q. TagsHold q m.tags) is s.holds) (inl refl) (λ p place. store_performs p place len s.whole.fits m s.whole.record.count size base distance x z w h e f)
+    (subst (λ q. TagsHold len q m.tags) is s.holds) (inl refl) (λ p place. store_performs p place len s.whole.fits m s.whole.record.count size base distance x z w h e f)
 
 pub does_store : {len : ℕ} (m : Common) (size : Size) (base : ℕ) (distance : ℤ) (x : Operand) (state after : StateKinds)
-    → Stands len m state → transfer len (insns.Store size base distance x) state ≡ Ok after → GoesOn len m (insns.Store size base distance x) after
+    → Stands len m state → transfer (insns.Store size base distance x) state ≡ Ok after → GoesOn len m (insns.Store size base distance x) after
 does_store {len} m size base distance x state after s rules =
-    let k = kind_of state base in
-    let l = operand_kind state x in
+    let k = read_kind state base in
+    let here = register_holds len state m.tags base s.holds in
+    let l = read_operand state x in
     let n = size_bytes size in
-    let hv = operand_holds state m.tags x s.holds in
-    let ru = read k (tag_at m.tags base) (λ k'. and_then (known l) (λ l'. and_then (storable k' l' distance n) (λ _. Ok state))) after (s.holds.each base) rules in
-    let rv = read l (operand_tag m.tags x) (λ l'. and_then (storable k l' distance n) (λ _. Ok state)) after hv ru.2 in
-    let to = stores len k l distance n (λ _. Ok state) after ru.0 rv.0 (subst (TagHolds k) ru.1 (s.holds.each base)) (subst (TagHolds l) rv.1 hv) rv.2 in
+    let hv = number_holds len state m.tags x s.holds in
+    let ru = read len k (tag_at m.tags base) (λ k'. and_then (known l) (λ l'. and_then (storable k' l' distance n) (λ _. Ok state))) after here rules in
+    let rv = read len l (operand_tag m.tags x) (λ l'. and_then (storable k l' distance n) (λ _. Ok state)) after hv ru.2 in
+    let to = stores len k l distance n (λ _. Ok state) after ru.0 rv.0 (subst (TagHolds len k) ru.1 here) (subst (TagHolds len l) rv.1 hv) rv.2 in
     let at_base : tag_at m.tags base ≡ Some (Ptr regions.Frame to.0.z) = known_pointer (tag_at m.tags base) ru.0 (Ptr regions.Frame to.0.z) ru.1 to.0.is in
     let at_value : operand_tag m.tags x ≡ Some (Num to.0.word) = known_pointer (operand_tag m.tags x) rv.0 (Num to.0.word) rv.1 to.0.number in
     does_storing len m size base distance x state after to.0.z to.0.word to.0.inside at_base at_value s (same_state state after to.1)

@@ -11,8 +11,8 @@ use Rattle.bq_meaning.specs.Place.{Place}
 use Rattle.bq_meaning.specs.Meaning.{held, value, taken}
 use Rattle.bq_range.specs.Interval.{single}
 use Rattle.bq_state.specs.Kinds.{StateKinds}
-use Rattle.bq_state.specs.Rules.{operand_kind, taken_kind}
-use Rattle.bq_sound.proofs.Tags.{Tagged, Num, image, images, held_image, IsWord, word_of, tag_at, HoldsNumber, holds_word, TagHolds, TagsHold}
+use Rattle.bq_state.specs.Rules.{operand_kind, read_operand, taken_kind}
+use Rattle.bq_sound.proofs.Tags.{Tagged, Num, image, images, held_image, IsWord, word_of, tag_at, HoldsNumber, holds_word, TagHolds, TagsHold, read_holds, register_holds}
 use Rattle.bq_sound.proofs.Machine.{AreWords}
 
 abbrev pub operand_tag : List (Option Tagged) → Operand → Option Tagged
@@ -39,13 +39,16 @@ taken_is p tags op d v e = held_is p tags d v e
 number_of : (n : ℕ) → HoldsNumber (single n) (Some (Num n))
 number_of n = holds_word (single n) n (record { low = omega arith; high = omega arith })
 
-pub operand_holds : (state : StateKinds) (tags : List (Option Tagged)) (x : Operand) → TagsHold state tags → TagHolds (operand_kind state x) (operand_tag tags x)
-operand_holds state tags (operands.Register r) h = h.each r
-operand_holds state tags (operands.Number z) h = number_of (modulo 64 z)
+pub operand_holds : (len : ℕ) (state : StateKinds) (tags : List (Option Tagged)) (x : Operand) → TagsHold len state tags → TagHolds len (operand_kind state x) (operand_tag tags x)
+operand_holds len state tags (operands.Register r) h = h.each r
+operand_holds len state tags (operands.Number z) h = number_of (modulo 64 z)
 
-pub taken_holds : (state : StateKinds) (tags : List (Option Tagged)) (op : AluOp) (d : ℕ) → TagsHold state tags → TagHolds (taken_kind state op d) (taken_tag tags op d)
-taken_holds state tags ops.Mov d h = number_of 0
-taken_holds state tags op d h = h.each d
+pub number_holds : (len : ℕ) (state : StateKinds) (tags : List (Option Tagged)) (x : Operand) → TagsHold len state tags → TagHolds len (read_operand state x) (operand_tag tags x)
+number_holds len state tags x h = read_holds len state.lengths (operand_kind state x) (operand_tag tags x) h.within (operand_holds len state tags x h)
+
+pub taken_holds : (len : ℕ) (state : StateKinds) (tags : List (Option Tagged)) (op : AluOp) (d : ℕ) → TagsHold len state tags → TagHolds len (taken_kind state op d) (taken_tag tags op d)
+taken_holds len state tags ops.Mov d h = number_of 0
+taken_holds len state tags op d h = register_holds len state tags d h
 
 pub operand_word : (tags : List (Option Tagged)) (x : Operand) (v : Tagged) → AreWords tags → operand_tag tags x ≡ Some v → IsWord v
 operand_word tags (operands.Register r) v h e = h.each r v e

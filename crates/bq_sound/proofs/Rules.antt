@@ -5,7 +5,7 @@ use Rattle.std.proofs.lemmas.Bool.Decides.{nat_tests}
 use Rattle.bq_range.specs.Interval.{Interval}
 use Rattle.bq_state.specs.declared.kind.Kind.{Kind}
 use Rattle.bq_state.specs.Kinds.{StateKinds}
-use Rattle.bq_state.specs.declared.kind.Kind.TheVariants.{Unset, Number, Pointer}
+use Rattle.bq_state.specs.declared.kind.Kind.TheVariants.{Unset, Number, Pointer, Length}
 use Rattle.bq_state.specs.declared.rule.Rule.{Rule}
 use Rattle.bq_state.specs.Rules.{and_then, known, writable, number, allowed}
 use Rattle.bq_sound.proofs.Tags.{Tagged, Num, Ptr, TagHolds}
@@ -14,10 +14,11 @@ pub same_state : (a b : StateKinds) → ◌≡◌ {A = Result StateKinds Rule} (
 same_state a b e = cc
 
 -- a register that may be read holds a value
-pub read : {B : Type 0} (k : Kind) (t : Option Tagged) (go : Kind → Result B Rule) (after : B) → TagHolds k t → and_then (known k) go ≡ Ok after → (v : Tagged) × (t ≡ Some v) × (go k ≡ Ok after)
-read Unset t go after h e = cc
-read (Number a) t go after h e = (Num h.word, h.is, e)
-read (Pointer region s) t go after h e = (Ptr region h.offset, h.is, e)
+pub read : {B : Type 0} (len : ℕ) (k : Kind) (t : Option Tagged) (go : Kind → Result B Rule) (after : B) → TagHolds len k t → and_then (known k) go ≡ Ok after → (v : Tagged) × (t ≡ Some v) × (go k ≡ Ok after)
+read len Unset t go after h e = cc
+read len (Number a) t go after h e = (Num h.word, h.is, e)
+read len (Pointer region s) t go after h e = (Ptr region h.offset, h.is, e)
+read len Length t go after h e = (Num len, h, e)
 
 -- one that may be written is none past r9
 pub wrote : {B : Type 0} (d : ℕ) (go : Unit {0} → Result B Rule) (after : B) → and_then (writable d) go ≡ Ok after → (d < 10) × (go tt ≡ Ok after)
@@ -31,3 +32,4 @@ pub numbered : {B : Type 0} (rule : Rule) (k : Kind) (go : Interval → Result B
 numbered rule Unset go after e = cc
 numbered rule (Number a) go after e = (a, refl, e)
 numbered rule (Pointer region s) go after e = cc
+numbered rule Length go after e = cc

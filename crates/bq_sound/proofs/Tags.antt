@@ -9,10 +9,10 @@ use Rattle.bq_meaning.specs.Meaning.{held, moved}
 use Rattle.bq_range.specs.Interval.{Interval, IsIn, Within}
 use Rattle.bq_state.specs.Offsets.{Span, SpanWithin, IsOffset}
 use Rattle.bq_state.specs.declared.kind.Kind.{Kind}
-use Rattle.bq_state.specs.declared.kind.Kind.TheVariants.{Unset, Number, Pointer}
+use Rattle.bq_state.specs.declared.kind.Kind.TheVariants.{Unset, Number, Pointer, Length}
 use Rattle.bq_state.specs.declared.region.Region.{Region}
 use Rattle.bq_state.specs.Covers.{start}
-use Rattle.bq_state.specs.Kinds.{StateKinds, kind_of, KindCovers, StateCovers}
+use Rattle.bq_state.specs.Kinds.{StateKinds, state_of, kind_of, as_number, read_kind, with_kind, with_lengths, KindCovers, StateCovers}
 use Rattle.bq_sound.proofs.Words.{moved_small}
 
 -- a word, or a region's start and an offset from it
@@ -62,7 +62,7 @@ tag_set_same tags d v h = get_or-set_same tags d (Some v) None h
 pub tag_set_other : (tags : List (Option Tagged)) (d r : ℕ) (v : Tagged) → (r ≡ d → ⊥) → tag_at (slice_set tags d (Some v)) r ≡ tag_at tags r
 tag_set_other tags d r v h = get_or-set_other tags d r (Some v) None h
 
--- ---- what a kind says of a register
+-- ---- what a kind says of a register, where the record has len bytes
 
 pub record HoldsNumber (a : Interval) (t : Option Tagged) : Type 0 where
   pub word : ℕ
@@ -77,13 +77,23 @@ pub record HoldsPointer (region : Region) (s : Span) (t : Option Tagged) : Type 
 pub holds_word : (a : Interval) (w : ℕ) → IsIn w a → HoldsNumber a (Some (Num w))
 holds_word a w h = record { word = w; is = refl; within = h }
 
-abbrev pub TagHolds : Kind → Option Tagged → Type 0
-TagHolds Unset t = ⊤
-TagHolds (Number a) t = HoldsNumber a t
-TagHolds (Pointer region s) t = HoldsPointer region s t
+abbrev pub TagHolds : ℕ → Kind → Option Tagged → Type 0
+TagHolds len Unset t = ⊤
+TagHolds len (Number a) t = HoldsNumber a t
+TagHolds len (Pointer region s) t = HoldsPointer region s t
+TagHolds len Length t = t ≡ Some (Num len)
 
-pub record TagsHold (state : StateKinds) (tags : List (Option Tagged)) : Type 0 where
-  pub each : (r : ℕ) → TagHolds (kind_of state r) (tag_at tags r)
+pub record TagsHold (len : ℕ) (state : StateKinds) (tags : List (Option Tagged)) : Type 0 where
+  pub within : IsIn len state.lengths
+  pub each : (r : ℕ) → TagHolds len (kind_of state r) (tag_at tags r)
+
+-- a length that is read is one of the lengths
+pub read_holds : (len : ℕ) (l : Interval) (k : Kind) (t : Option Tagged) → IsIn len l → TagHolds len k t → TagHolds len (as_number l k) t
+read_holds len l Length t i h = record { word = len; is = h; within = i }
+read_holds len l k t i h = h
+
+pub register_holds : (len : ℕ) (state : StateKinds) (tags : List (Option Tagged)) (r : ℕ) → TagsHold len state tags → TagHolds len (read_kind state r) (tag_at tags r)
+register_holds len state tags r h = read_holds len state.lengths (kind_of state r) (tag_at tags r) h.within (h.each r)
 
 number_held : (a b : Interval) (t : Option Tagged) → Within b a → HoldsNumber b t → HoldsNumber a t
 number_held a b t c h = record { word = h.word; is = h.is; within = record { low = omega arith; high = omega arith } }
@@ -91,43 +101,50 @@ number_held a b t c h = record { word = h.word; is = h.is; within = record { low
 pointer_held : (region : Region) (a b : Span) (t : Option Tagged) → SpanWithin b a → HoldsPointer region b t → HoldsPointer region a t
 pointer_held region a b t c h = record { offset = h.offset; is = h.is; within = record { low = omega (arith, ints); high = omega (arith, ints) } }
 
-covered_tag : (a b : Kind) (t : Option Tagged) → KindCovers a b → TagHolds b t → TagHolds a t
-covered_tag Unset b t c h = tt
-covered_tag (Number a) Unset t c h = absurd c
-covered_tag (Number a) (Number b) t c h = number_held a b t c h
-covered_tag (Number a) (Pointer q b) t c h = absurd c
-covered_tag (Pointer r a) Unset t c h = absurd c
-covered_tag (Pointer r a) (Number b) t c h = absurd c
-covered_tag (Pointer r a) (Pointer q b) t c h = pointer_held r a b t c.1 (subst (λ x. HoldsPointer x b t) (sym c.0) h)
+covered_tag : (len : ℕ) (l : Interval) (a b : Kind) (t : Option Tagged) → IsIn len l → KindCovers l a b → TagHolds len b t → TagHolds len a t
+covered_tag len l Unset b t i c h = tt
+covered_tag len l (Number a) (Number b) t i c h = number_held a b t c h
+covered_tag len l (Number a) Length t i c h = number_held a l t c (read_holds len l Length t i h)
+covered_tag len l (Pointer r a) (Pointer q b) t i c h = pointer_held r a b t c.1 (subst (λ x. HoldsPointer x b t) (sym c.0) h)
+covered_tag len l Length Length t i c h = h
+covered_tag len l a b t i c h = absurd c
 
-pub covered_tags : (a b : StateKinds) (tags : List (Option Tagged)) → StateCovers a b → TagsHold b tags → TagsHold a tags
-covered_tags a b tags c h = record { each = λ r. covered_tag (kind_of a r) (kind_of b r) (tag_at tags r) (c.each r) (h.each r) }
+pub covered_tags : (len : ℕ) (a b : StateKinds) (tags : List (Option Tagged)) → StateCovers a b → TagsHold len b tags → TagsHold len a tags
+covered_tags len a b tags c h = record {
+  within = record { low = omega (arith, c.lengths.low, h.within.low); high = omega (arith, c.lengths.high, h.within.high) };
+  each = λ r. covered_tag len b.lengths (kind_of a r) (kind_of b r) (tag_at tags r) h.within (c.each r) (h.each r);
+}
 
--- ---- a register that is written, and one that more is known of
+-- ---- a register that is written, and a register and a length that more is known of
 
-kind_set_same : (state : StateKinds) (d : ℕ) (k : Kind) (t : Option Tagged) → TagHolds k t → TagHolds (kind_of (slice_set state d k) d) t
-kind_set_same [] d k t h = tt
-kind_set_same (x ∷ xs) zero k t h = h
-kind_set_same (x ∷ xs) (suc d) k t h = kind_set_same xs d k t h
+kind_set_same : (len : ℕ) (kinds : List Kind) (l : Interval) (d : ℕ) (k : Kind) (t : Option Tagged) → TagHolds len k t → TagHolds len (kind_of (with_kind (state_of kinds l) d k) d) t
+kind_set_same len [] l d k t h = tt
+kind_set_same len (x ∷ xs) l zero k t h = h
+kind_set_same len (x ∷ xs) l (suc d) k t h = kind_set_same len xs l d k t h
 
-kind_set_other : (state : StateKinds) (d r : ℕ) (k : Kind) → (r ≡ d → ⊥) → kind_of (slice_set state d k) r ≡ kind_of state r
-kind_set_other state d r k h = get_or-set_other state d r k Unset h
+kind_set_other : (state : StateKinds) (d r : ℕ) (k : Kind) → (r ≡ d → ⊥) → kind_of (with_kind state d k) r ≡ kind_of state r
+kind_set_other state d r k h = get_or-set_other state.kinds d r k Unset h
 
-pub written_holds : (state : StateKinds) (tags : List (Option Tagged)) (d : ℕ) (k : Kind) (v : Tagged) → TagsHold state tags → d < length tags → TagHolds k (Some v)
-    → TagsHold (slice_set state d k) (slice_set tags d (Some v))
-written_holds state tags d k v h low here = record {
+pub written_holds : (len : ℕ) (state : StateKinds) (tags : List (Option Tagged)) (d : ℕ) (k : Kind) (v : Tagged) → TagsHold len state tags → d < length tags → TagHolds len k (Some v)
+    → TagsHold len (with_kind state d k) (slice_set tags d (Some v))
+written_holds len state tags d k v h low here = record {
+  within = h.within;
   each = λ r. elim (cases_eq r d) [
-    | inl e ↦ subst (λ q. TagHolds (kind_of (slice_set state d k) q) (tag_at (slice_set tags d (Some v)) q)) (sym e)
-        (subst (TagHolds (kind_of (slice_set state d k) d)) (sym (tag_set_same tags d v low)) (kind_set_same state d k (Some v) here))
-    | inr ne ↦ subst (λ t. TagHolds (kind_of (slice_set state d k) r) t) (sym (tag_set_other tags d r v ne))
-        (subst (λ q. TagHolds q (tag_at tags r)) (sym (kind_set_other state d r k ne)) (h.each r))
+    | inl e ↦ subst (λ q. TagHolds len (kind_of (with_kind state d k) q) (tag_at (slice_set tags d (Some v)) q)) (sym e)
+        (subst (TagHolds len (kind_of (with_kind state d k) d)) (sym (tag_set_same tags d v low)) (kind_set_same len state.kinds state.lengths d k (Some v) here))
+    | inr ne ↦ subst (λ t. TagHolds len (kind_of (with_kind state d k) r) t) (sym (tag_set_other tags d r v ne))
+        (subst (λ q. TagHolds len q (tag_at tags r)) (sym (kind_set_other state d r k ne)) (h.each r))
   ];
 }
 
-pub narrowed_holds : (state : StateKinds) (tags : List (Option Tagged)) (d : ℕ) (k : Kind) → TagsHold state tags → TagHolds k (tag_at tags d) → TagsHold (slice_set state d k) tags
-narrowed_holds state tags d k h here = record {
+pub narrowed_holds : (len : ℕ) (state : StateKinds) (tags : List (Option Tagged)) (d : ℕ) (k : Kind) → TagsHold len state tags → TagHolds len k (tag_at tags d) → TagsHold len (with_kind state d k) tags
+narrowed_holds len state tags d k h here = record {
+  within = h.within;
   each = λ r. elim (cases_eq r d) [
-    | inl e ↦ subst (λ q. TagHolds (kind_of (slice_set state d k) q) (tag_at tags q)) (sym e) (kind_set_same state d k (tag_at tags d) here)
-    | inr ne ↦ subst (λ q. TagHolds q (tag_at tags r)) (sym (kind_set_other state d r k ne)) (h.each r)
+    | inl e ↦ subst (λ q. TagHolds len (kind_of (with_kind state d k) q) (tag_at tags q)) (sym e) (kind_set_same len state.kinds state.lengths d k (tag_at tags d) here)
+    | inr ne ↦ subst (λ q. TagHolds len q (tag_at tags r)) (sym (kind_set_other state d r k ne)) (h.each r)
   ];
 }
+
+pub lengths_hold : (len : ℕ) (state : StateKinds) (tags : List (Option Tagged)) (l : Interval) → TagsHold len state tags → IsIn len l → TagsHold len (with_lengths state l) tags
+lengths_hold len state tags l h i = record { within = i; each = h.each }

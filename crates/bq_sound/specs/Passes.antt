@@ -1,8 +1,9 @@
--- Which notes pass for a text, where records have len bytes.
+-- Which notes pass for a text, where records have one of the lengths l.
 use Rattle.std.specs.Prelude.{◌≡◌, ℕ, ◌<◌, ⊤, List, [], ◌∷◌, length, Option, Some, None, Ok, slice_index_or}
 use Rattle.bq_insn.specs.Slots.{units, insn_at}
 use Rattle.bq_insn.specs.declared.insn.Insn.{Insn}
 use Rattle.bq_flow.specs.Paths.{IsLegalFlow}
+use Rattle.bq_range.specs.Interval.{Interval}
 use Rattle.bq_state.specs.Kinds.{StateKinds, StateCovers, entry_state}
 use Rattle.bq_state.specs.Rules.{transfer}
 use Rattle.bq_state.specs.Edges.{edges}
@@ -26,19 +27,19 @@ pub record NoHalves (text : List Insn) (notes : List (Option StateKinds)) (n : �
   pub each : (unit : ℕ) (state : StateKinds) → unit < n → note_at notes unit ≡ Some state → (i : Insn) × (insn_at text unit ≡ Some i)
 
 -- at a unit with a state the instruction breaks no rule, and each feasible successor's state covers what it leaves
-pub record IsFine (len : ℕ) (notes : List (Option StateKinds)) (unit : ℕ) (i : Insn) (state : StateKinds) : Type 0 where
+pub record IsFine (notes : List (Option StateKinds)) (unit : ℕ) (i : Insn) (state : StateKinds) : Type 0 where
   pub after : StateKinds
-  pub rules : transfer len i state ≡ Ok after
+  pub rules : transfer i state ≡ Ok after
   pub covered : AllCovered notes (edges unit i after)
 
 -- all units below this one that have a state are fine
-pub record AllFine (len : ℕ) (text : List Insn) (notes : List (Option StateKinds)) (n : ℕ) : Type 0 where
-  pub each : (unit : ℕ) (state : StateKinds) (i : Insn) → unit < n → note_at notes unit ≡ Some state → insn_at text unit ≡ Some i → IsFine len notes unit i state
+pub record AllFine (text : List Insn) (notes : List (Option StateKinds)) (n : ℕ) : Type 0 where
+  pub each : (unit : ℕ) (state : StateKinds) (i : Insn) → unit < n → note_at notes unit ≡ Some state → insn_at text unit ≡ Some i → IsFine notes unit i state
 
 -- one note for each unit, none at a second half; the flow is legal; the note at 0 covers the entry; all units are fine
-pub record Passes (len : ℕ) (text : List Insn) (notes : List (Option StateKinds)) : Type 0 where
+pub record Passes (l : Interval) (text : List Insn) (notes : List (Option StateKinds)) : Type 0 where
   pub count : length notes ≡ units text
   pub flow : IsLegalFlow text
   pub halves : NoHalves text notes (units text)
-  pub entry : NoteCovers notes (0, entry_state len)
-  pub fine : AllFine len text notes (units text)
+  pub entry : NoteCovers notes (0, entry_state l)
+  pub fine : AllFine text notes (units text)

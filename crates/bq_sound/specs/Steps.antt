@@ -1,4 +1,4 @@
--- What an instruction does to a machine that a state covers, where records have len bytes.
+-- What an instruction does to a machine that a state covers, whose record has len bytes.
 use Rattle.std.specs.Prelude.{◌≡◌, ℕ, ◌^◌, ◌<◌, List, length, Some}
 use Rattle.bq_flow.specs.Paths.{Among}
 use Rattle.bq_meaning.specs.Place.{Place}
@@ -19,7 +19,7 @@ pub record IsMachine (len : ℕ) (m : Machine) : Type 0 where
 pub record IsOnEdge (len : ℕ) (p : Place) (edges : List (ℕ × StateKinds)) (m : Machine) : Type 0 where
   pub state : StateKinds
   pub edge : Among (m.unit, state) edges
-  pub covers : StateHolds p state m.registers
+  pub covers : StateHolds p len state m.registers
   pub whole : IsMachine len m
 
 -- no fault: the machine goes on along one of the edges, or ends with a word

@@ -1,14 +1,14 @@
 -- What covers what.
-use Rattle.std.proofs.Common.{◌≡◌, true, inl, inr, ℕ, zero, suc, ◌<◌, arith, [], ◌∷◌, length, refl, ap, sym, ◌∙◌, ◌+◌, get_or, set}
+use Rattle.std.proofs.Common.{◌≡◌, true, inl, inr, ℕ, zero, suc, ◌<◌, arith, List, [], ◌∷◌, length, refl, ap, sym, ◌∙◌, ◌+◌, get_or, set}
 use Rattle.std.proofs.lemmas.Int.{ints, clamps}
 use Rattle.std.proofs.lemmas.Bool.{cases_Bool}
 use Rattle.std.proofs.lemmas.List.{ext_get_or, get_or_default}
 use Rattle.std.proofs.lemmas.List.Edits.{fill_by_more}
-use Rattle.bq_range.specs.Interval.{Interval, Within}
+use Rattle.bq_range.specs.Interval.{Interval, Within, join}
 use Rattle.bq_state.specs.Offsets.{Span, SpanWithin, join_spans}
-use Rattle.bq_state.specs.Kinds.{StateKinds, kind_of, KindCovers, StateCovers, is_same, join_kinds, join_states}
+use Rattle.bq_state.specs.Kinds.{StateKinds, kind_of, KindCovers, StateCovers, is_same, join_kinds, join_lists, join_states}
 use Rattle.bq_state.specs.declared.kind.Kind.{Kind}
-use Rattle.bq_state.specs.declared.kind.Kind.TheVariants.{Unset, Number, Pointer}
+use Rattle.bq_state.specs.declared.kind.Kind.TheVariants.{Unset, Number, Pointer, Length}
 use Rattle.bq_state.specs.declared.region.Region.{Region}
 use Rattle.bq_state.specs.declared.region.Region.TheVariants.{Frame, Record}
 
@@ -17,7 +17,7 @@ use Rattle.bq_state.specs.declared.region.Region.TheVariants.{Frame, Record}
 within_itself : (a : Interval) → Within a a
 within_itself a = record { low = omega arith; high = omega arith }
 
-within_through : (a b c : Interval) → Within b a → Within c b → Within c a
+pub within_through : (a b c : Interval) → Within b a → Within c b → Within c a
 within_through a b c h k = record { low = omega arith; high = omega arith }
 
 span_in_itself : (a : Span) → SpanWithin a a
@@ -47,90 +47,142 @@ same_is Record Record e = refl
 same_is Frame Record e = cc
 same_is Record Frame e = cc
 
-pub kind_covers_itself : (a : Kind) → KindCovers a a
-kind_covers_itself Unset = tt
-kind_covers_itself (Number a) = within_itself a
-kind_covers_itself (Pointer r a) = (refl, span_in_itself a)
+pub kind_covers_itself : (l : Interval) (a : Kind) → KindCovers l a a
+kind_covers_itself l Unset = tt
+kind_covers_itself l (Number a) = within_itself a
+kind_covers_itself l (Pointer r a) = (refl, span_in_itself a)
+kind_covers_itself l Length = tt
 
-pub kind_covers_through : (a b c : Kind) → KindCovers a b → KindCovers b c → KindCovers a c
-kind_covers_through Unset b c h k = tt
-kind_covers_through (Number x) (Number y) (Number z) h k = within_through x y z h k
-kind_covers_through (Pointer r x) (Pointer s y) (Pointer t z) h k = (h.0 ∙ k.0, span_through x y z h.1 k.1)
-kind_covers_through (Number x) (Number y) c h k = absurd k
-kind_covers_through (Pointer r x) (Pointer s y) c h k = absurd k
-kind_covers_through a b c h k = absurd h
+-- the lengths of the second state's records, and of the third's
+pub kind_covers_through : (l m : Interval) (a b c : Kind) → Within m l → KindCovers l a b → KindCovers m b c → KindCovers m a c
+kind_covers_through l m Unset b c w h k = tt
+kind_covers_through l m (Number x) (Number y) (Number z) w h k = within_through x y z h k
+kind_covers_through l m (Number x) (Number y) Length w h k = within_through x y m h k
+kind_covers_through l m (Number x) Length Length w h k = within_through x l m h w
+kind_covers_through l m (Pointer r x) (Pointer s y) (Pointer t z) w h k = (h.0 ∙ k.0, span_through x y z h.1 k.1)
+kind_covers_through l m Length Length Length w h k = tt
+kind_covers_through l m (Number x) (Number y) c w h k = absurd k
+kind_covers_through l m (Number x) Length c w h k = absurd k
+kind_covers_through l m (Pointer r x) (Pointer s y) c w h k = absurd k
+kind_covers_through l m Length Length c w h k = absurd k
+kind_covers_through l m a b c w h k = absurd h
 
-pub kind_join_left : (a b : Kind) → KindCovers (join_kinds a b) a
-kind_join_left (Number x) (Number y) = record { low = omega arith; high = omega arith }
-kind_join_left (Pointer r x) (Pointer s y) = elim (cases_Bool (is_same r s)) [ inl e ↦ rw e (refl, span_left x y) | inr e ↦ rw e tt ]
-kind_join_left a b = tt
+join_left : (a b : Interval) → Within a (join a b)
+join_left a b = record { low = omega arith; high = omega arith }
 
-pub kind_join_right : (a b : Kind) → KindCovers (join_kinds a b) b
-kind_join_right (Number x) (Number y) = record { low = omega arith; high = omega arith }
-kind_join_right (Pointer r x) (Pointer s y) = elim (cases_Bool (is_same r s)) [ inl e ↦ rw e (same_is r s e, span_right x y) | inr e ↦ rw e tt ]
-kind_join_right a b = tt
+join_right : (a b : Interval) → Within b (join a b)
+join_right a b = record { low = omega arith; high = omega arith }
 
-pub kind_join_least : (c a b : Kind) → KindCovers c a → KindCovers c b → KindCovers c (join_kinds a b)
-kind_join_least Unset a b h k = tt
-kind_join_least (Number z) (Number x) (Number y) h k = record { low = omega arith; high = omega arith }
-kind_join_least (Pointer t z) (Pointer r x) (Pointer s y) h k = rw (← h.0, ← k.0, same_itself t) (refl, span_least z x y h.1 k.1)
-kind_join_least (Number z) (Number x) b h k = absurd k
-kind_join_least (Pointer t z) (Pointer r x) b h k = absurd k
-kind_join_least c a b h k = absurd h
+range_least : (c a b : Interval) → Within a c → Within b c → Within (join a b) c
+range_least c a b h k = record { low = omega arith; high = omega arith }
+
+pub kind_join_left : (l m : Interval) (a b : Kind) → KindCovers l (join_kinds l m a b) a
+kind_join_left l m (Number x) (Number y) = join_left x y
+kind_join_left l m (Number x) Length = join_left x m
+kind_join_left l m Length (Number y) = join_left l y
+kind_join_left l m Length Length = tt
+kind_join_left l m (Pointer r x) (Pointer s y) = elim (cases_Bool (is_same r s)) [ inl e ↦ rw e (refl, span_left x y) | inr e ↦ rw e tt ]
+kind_join_left l m a b = tt
+
+pub kind_join_right : (l m : Interval) (a b : Kind) → KindCovers m (join_kinds l m a b) b
+kind_join_right l m (Number x) (Number y) = join_right x y
+kind_join_right l m (Number x) Length = join_right x m
+kind_join_right l m Length (Number y) = join_right l y
+kind_join_right l m Length Length = tt
+kind_join_right l m (Pointer r x) (Pointer s y) = elim (cases_Bool (is_same r s)) [ inl e ↦ rw e (same_is r s e, span_right x y) | inr e ↦ rw e tt ]
+kind_join_right l m a b = tt
+
+pub kind_join_least : (l m : Interval) (c a b : Kind) → KindCovers l c a → KindCovers m c b → KindCovers (join l m) c (join_kinds l m a b)
+kind_join_least l m Unset a b h k = tt
+kind_join_least l m (Number z) (Number x) (Number y) h k = range_least z x y h k
+kind_join_least l m (Number z) (Number x) Length h k = range_least z x m h k
+kind_join_least l m (Number z) Length (Number y) h k = range_least z l y h k
+kind_join_least l m (Number z) Length Length h k = range_least z l m h k
+kind_join_least l m Length Length Length h k = tt
+kind_join_least l m (Pointer t z) (Pointer r x) (Pointer s y) h k = rw (← h.0, ← k.0, same_itself t) (refl, span_least z x y h.1 k.1)
+kind_join_least l m (Number z) (Number x) b h k = absurd k
+kind_join_least l m (Number z) Length b h k = absurd k
+kind_join_least l m (Pointer t z) (Pointer r x) b h k = absurd k
+kind_join_least l m Length Length b h k = absurd k
+kind_join_least l m c a b h k = absurd h
 
 -- ---- states
 
 pub state_covers_itself : (a : StateKinds) → StateCovers a a
-state_covers_itself a = record { each = λ r. kind_covers_itself (kind_of a r) }
+state_covers_itself a = record { lengths = within_itself a.lengths; each = λ r. kind_covers_itself a.lengths (kind_of a r) }
 
 pub state_covers_through : (a b c : StateKinds) → StateCovers a b → StateCovers b c → StateCovers a c
-state_covers_through a b c h k = record { each = λ r. kind_covers_through (kind_of a r) (kind_of b r) (kind_of c r) (h.each r) (k.each r) }
+state_covers_through a b c h k = record {
+  lengths = within_through a.lengths b.lengths c.lengths h.lengths k.lengths;
+  each = λ r. kind_covers_through b.lengths c.lengths (kind_of a r) (kind_of b r) (kind_of c r) k.lengths (h.each r) (k.each r);
+}
 
-joined_left : (a b : StateKinds) (r : ℕ) → KindCovers (kind_of (join_states a b) r) (kind_of a r)
-joined_left [] b r = tt
-joined_left (x ∷ xs) [] r = tt
-joined_left (x ∷ xs) (y ∷ ys) zero = kind_join_left x y
-joined_left (x ∷ xs) (y ∷ ys) (suc r) = joined_left xs ys r
+-- the kind of a register in a list
+abbrev kind_in : List Kind → ℕ → Kind
+kind_in kinds r = get_or kinds r Unset
 
-joined_right : (a b : StateKinds) (r : ℕ) → KindCovers (kind_of (join_states a b) r) (kind_of b r)
-joined_right [] b r = tt
-joined_right (x ∷ xs) [] r = tt
-joined_right (x ∷ xs) (y ∷ ys) zero = kind_join_right x y
-joined_right (x ∷ xs) (y ∷ ys) (suc r) = joined_right xs ys r
+module _ (l m : Interval) where
+  joined_left : (a b : List Kind) (r : ℕ) → KindCovers l (kind_in (join_lists l m a b) r) (kind_in a r)
+  joined_left [] b r = tt
+  joined_left (x ∷ xs) [] r = tt
+  joined_left (x ∷ xs) (y ∷ ys) zero = kind_join_left l m x y
+  joined_left (x ∷ xs) (y ∷ ys) (suc r) = joined_left xs ys r
+
+  joined_right : (a b : List Kind) (r : ℕ) → KindCovers m (kind_in (join_lists l m a b) r) (kind_in b r)
+  joined_right [] b r = tt
+  joined_right (x ∷ xs) [] r = tt
+  joined_right (x ∷ xs) (y ∷ ys) zero = kind_join_right l m x y
+  joined_right (x ∷ xs) (y ∷ ys) (suc r) = joined_right xs ys r
+
+  least_at : (k : Kind) (a b : List Kind) (r : ℕ) → length a ≡ length b → KindCovers l k (kind_in a r) → KindCovers m k (kind_in b r) → KindCovers (join l m) k (kind_in (join_lists l m a b) r)
+  least_at k [] b r e h i = unset_least k h
+    where
+      unset_least : (k : Kind) → KindCovers l k Unset → KindCovers (join l m) k Unset
+      unset_least Unset h = tt
+      unset_least k h = absurd h
+  least_at k (x ∷ xs) [] r e h i = absurd (omega arith)
+  least_at k (x ∷ xs) (y ∷ ys) zero e h i = kind_join_least l m k x y h i
+  least_at k (x ∷ xs) (y ∷ ys) (suc r) e h i = let same : length xs ≡ length ys = omega arith in least_at k xs ys r same h i
+
+  lists_count : (a b : List Kind) → length a ≡ length b → length (join_lists l m a b) ≡ length a
+  lists_count [] b e = refl
+  lists_count (x ∷ xs) [] e = absurd (omega arith)
+  lists_count (x ∷ xs) (y ∷ ys) e = let same : length xs ≡ length ys = omega arith in ap suc (lists_count xs ys same)
+
+  kind_at : (a b : List Kind) (r : ℕ) → r < length a → r < length b → kind_in (join_lists l m a b) r ≡ join_kinds l m (kind_in a r) (kind_in b r)
+  kind_at [] b r h k = absurd (omega arith)
+  kind_at (x ∷ xs) [] r h k = absurd (omega arith)
+  kind_at (x ∷ xs) (y ∷ ys) zero h k = refl
+  kind_at (x ∷ xs) (y ∷ ys) (suc r) h k = kind_at xs ys r (omega arith) (omega arith)
+
+  -- a list that holds, for each register, the join of both
+  pub joined_lists : (a b s : List Kind) (n : ℕ) → length a ≡ n → length b ≡ n → length s ≡ n → ((r : ℕ) → r < n → kind_in s r ≡ join_kinds l m (kind_in a r) (kind_in b r)) → s ≡ join_lists l m a b
+  joined_lists a b s n e f g h =
+      let count : length (join_lists l m a b) ≡ length a = lists_count a b (omega arith) in
+      ext_get_or Unset s (join_lists l m a b) (omega arith) (λ r k. h r (omega arith) ∙ sym (kind_at a b r (omega arith) (omega arith)))
+
+  pub joined_more : (a b s : List Kind) (n i : ℕ) (k x y : Kind) → length a ≡ n → length b ≡ n → length s ≡ n → i < n → x ≡ get_or a i x → y ≡ get_or b i y → k ≡ join_kinds l m (get_or a i x) (get_or b i y)
+      → ((r : ℕ) → r < i → kind_in s r ≡ join_kinds l m (kind_in a r) (kind_in b r)) → (r : ℕ) → r < i + 1 → kind_in (set s i k) r ≡ join_kinds l m (kind_in a r) (kind_in b r)
+  joined_more a b s n i k x y e f g h p q j before =
+      let u : get_or a i x ≡ kind_in a i = get_or_default a i x Unset (omega arith) in
+      let v : get_or b i y ≡ kind_in b i = get_or_default b i y Unset (omega arith) in
+      let w : k ≡ join_kinds l m (kind_in a i) (kind_in b i) = rw (← u, ← v) j in
+      rw w (fill_by_more (λ (r : ℕ). join_kinds l m (kind_in a r) (kind_in b r)) s i Unset (omega arith) before)
 
 pub join_covers : (a b : StateKinds) → StateCovers (join_states a b) a × StateCovers (join_states a b) b
-join_covers a b = (record { each = joined_left a b }, record { each = joined_right a b })
+join_covers a b = (
+  record { lengths = join_left a.lengths b.lengths; each = joined_left a.lengths b.lengths a.kinds b.kinds },
+  record { lengths = join_right a.lengths b.lengths; each = joined_right a.lengths b.lengths a.kinds b.kinds },
+)
 
-join_least_at : (k : Kind) (a b : StateKinds) (r : ℕ) → length a ≡ length b → KindCovers k (kind_of a r) → KindCovers k (kind_of b r) → KindCovers k (kind_of (join_states a b) r)
-join_least_at k [] b r e h i = h
-join_least_at k (x ∷ xs) [] r e h i = absurd (omega arith)
-join_least_at k (x ∷ xs) (y ∷ ys) zero e h i = kind_join_least k x y h i
-join_least_at k (x ∷ xs) (y ∷ ys) (suc r) e h i = let same : length xs ≡ length ys = omega arith in join_least_at k xs ys r same h i
+pub join_least : (a b c : StateKinds) → length a.kinds ≡ length b.kinds → StateCovers c a → StateCovers c b → StateCovers c (join_states a b)
+join_least a b c e h i = record {
+  lengths = range_least c.lengths a.lengths b.lengths h.lengths i.lengths;
+  each = λ r. least_at a.lengths b.lengths (kind_of c r) a.kinds b.kinds r e (h.each r) (i.each r);
+}
 
-pub join_least : (a b c : StateKinds) → length a ≡ length b → StateCovers c a → StateCovers c b → StateCovers c (join_states a b)
-join_least a b c e h i = record { each = λ r. join_least_at (kind_of c r) a b r e (h.each r) (i.each r) }
+pub joined_count : (a b : StateKinds) → length a.kinds ≡ length b.kinds → length (join_states a b).kinds ≡ length a.kinds
+joined_count a b e = lists_count a.lengths b.lengths a.kinds b.kinds e
 
-pub joined_count : (a b : StateKinds) → length a ≡ length b → length (join_states a b) ≡ length a
-joined_count [] b e = refl
-joined_count (x ∷ xs) [] e = absurd (omega arith)
-joined_count (x ∷ xs) (y ∷ ys) e = let same : length xs ≡ length ys = omega arith in ap suc (joined_count xs ys same)
-
-pub joined_kind : (a b : StateKinds) (r : ℕ) → r < length a → r < length b → kind_of (join_states a b) r ≡ join_kinds (kind_of a r) (kind_of b r)
-joined_kind [] b r h k = absurd (omega arith)
-joined_kind (x ∷ xs) [] r h k = absurd (omega arith)
-joined_kind (x ∷ xs) (y ∷ ys) zero h k = refl
-joined_kind (x ∷ xs) (y ∷ ys) (suc r) h k = joined_kind xs ys r (omega arith) (omega arith)
-
--- a list that holds, for each register, the join of both
-pub joined_lists : (a b l : StateKinds) (n : ℕ) → length a ≡ n → length b ≡ n → length l ≡ n → ((r : ℕ) → r < n → kind_of l r ≡ join_kinds (kind_of a r) (kind_of b r)) → l ≡ join_states a b
-joined_lists a b l n e f g h =
-    let count : length (join_states a b) ≡ length a = joined_count a b (omega arith) in
-    ext_get_or Unset l (join_states a b) (omega arith) (λ r k. h r (omega arith) ∙ sym (joined_kind a b r (omega arith) (omega arith)))
-
-pub joined_more : (a b l : StateKinds) (n i : ℕ) (k x y : Kind) → length a ≡ n → length b ≡ n → length l ≡ n → i < n → x ≡ get_or a i x → y ≡ get_or b i y → k ≡ join_kinds (get_or a i x) (get_or b i y)
-    → ((r : ℕ) → r < i → kind_of l r ≡ join_kinds (kind_of a r) (kind_of b r)) → (r : ℕ) → r < i + 1 → kind_of (set l i k) r ≡ join_kinds (kind_of a r) (kind_of b r)
-joined_more a b l n i k x y e f g h p q j before =
-    let u : get_or a i x ≡ kind_of a i = get_or_default a i x Unset (omega arith) in
-    let v : get_or b i y ≡ kind_of b i = get_or_default b i y Unset (omega arith) in
-    let w : k ≡ join_kinds (kind_of a i) (kind_of b i) = rw (← u, ← v) j in
-    rw w (fill_by_more (λ (r : ℕ). join_kinds (kind_of a r) (kind_of b r)) l i Unset (omega arith) before)
+pub joined_kind : (a b : StateKinds) (r : ℕ) → r < length a.kinds → r < length b.kinds → kind_of (join_states a b) r ≡ join_kinds a.lengths b.lengths (kind_of a r) (kind_of b r)
+joined_kind a b r h k = kind_at a.lengths b.lengths a.kinds b.kinds r h k

@@ -1,5 +1,7 @@
 pub mod Spans
 pub mod Covering
+pub mod Keeps
 pub mod Counts
+pub mod Plain
 pub mod Ways
 pub mod Monotone

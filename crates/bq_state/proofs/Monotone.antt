@@ -3,10 +3,11 @@
 -- unit that covers it (`edges_less`). Both are said of states of eleven kinds whose ranges are of words, as the entry's is
 -- (`entry_full`) and the joins of such states are (`joined_full`). They rest on the law that the rows of ranges are
 -- monotone.
-use Rattle.std.proofs.Common.{◌≡◌, ℕ, zero, suc, ◌+◌, ◌*◌, ◌^◌, ◌<◌, ◌≤◌, List, [], ◌∷◌, ◌++◌, length, Option, Some, None, Bool, true, false, cond, arith, refl, sym, ap, subst, ◌∙◌, inl, inr}
-use Rattle.std.specs.Prelude.{⊤, ℤ, pos, negsuc, ◌+ℤ◌, ◌-ℤ◌, int_le, Result, Ok, Err, slice_set, option_map}
+use Rattle.std.proofs.Common.{◌≡◌, ℕ, zero, suc, ◌+◌, ◌*◌, ◌^◌, ◌<◌, ◌≤◌, List, [], ◌∷◌, ◌++◌, length, Option, Some, None, Bool, true, false, cond, arith, refl, sym, ap, subst, ◌∙◌, inl, inr, get_or}
+use Rattle.std.specs.Prelude.{⊤, min, max, ℤ, pos, negsuc, ◌+ℤ◌, ◌-ℤ◌, int_le, Result, Ok, Err, option_map}
+use Rattle.std.specs.Option.{option_and_then}
 use Rattle.std.proofs.lemmas.Int.{ints}
-use Rattle.std.proofs.lemmas.Bool.{cond_both, cases_eq, cases_lt, cases_Bool, eq-eqb, ne_eqb, lt-ltb, le-ltb, and_parts}
+use Rattle.std.proofs.lemmas.Bool.{cond_both, cases_eq, cases_lt, cases_Bool, eq-eqb, ne_eqb, lt-ltb, le-ltb, le-leb, lt-leb, and_parts}
 use Rattle.std.proofs.lemmas.List.{get_or-set_same, get_or-set_other, get_or_past, set_past, length-set}
 use Rattle.bq_word.specs.Word.{bits_of, low, modulo, swap_bits, signed_bytes}
 use Rattle.bq_word.specs.declared.Width.{Width}
@@ -28,19 +29,19 @@ use Rattle.bq_insn.specs.declared.insn.Extension.{Extension}
 use Rattle.bq_insn.specs.declared.insn.Extension.TheVariants as extensions
 use Rattle.bq_word.specs.declared.SwapBits.{SwapBits}
 use Rattle.bq_word.specs.declared.SignBits.TheVariants.{B8, B16, B32}
-use Rattle.bq_range.specs.Interval.{Interval, IsInterval, Within, single, whole, all_words}
+use Rattle.bq_range.specs.Interval.{Interval, IsInterval, Within, between, single, is_single, whole, all_words, join, meet}
 use Rattle.bq_range.specs.Table.{negated, sign_extended}
 use Rattle.bq_range.specs.Narrow.{branched}
 use Rattle.bq_range.specs.Monotone.{IsPart, LeavesLess, RowsAreMonotone}
 use Rattle.bq_state.specs.Offsets.{Span, SpanWithin, signed_of, limited, is_limited, moved_on, moved_back, fits}
-use Rattle.bq_state.specs.Kinds.{StateKinds, kind_of, KindCovers, is_same, join_kinds, join_states, entry_state}
+use Rattle.bq_state.specs.Kinds.{StateKinds, AreLengths, kind_of, as_number, read_kind, with_kind, with_lengths, KindCovers, StateCovers, is_same, join_kinds, join_states, length_kind, entry_state}
 use Rattle.bq_state.specs.Monotone.{IsFullKind, IsFullState, IsAbove, IsRefinedAbove, SomeCovers, AreEdgesAbove, StatesAreOrdered, StatesAreMonotone}
-use Rattle.bq_state.proofs.Covering.{kind_covers_through, state_covers_itself, state_covers_through, join_covers, join_least, joined_count, joined_kind}
-use Rattle.bq_state.specs.Rules.{and_then, known, writable, number, allowed, extent, outside, readable, storable, sum_kind, difference_kind, pointer_kind, alu_kind, ordered_range, operand_kind, taken_kind, mapped, loaded_state, transfer}
-use Rattle.bq_state.specs.Edges.{with_number, with_numbers, refined_by_number, refined_by_register, refined, along, edges}
+use Rattle.bq_state.proofs.Covering.{kind_covers_itself, kind_covers_through, within_through, state_covers_itself, state_covers_through, join_covers, join_least, joined_count, joined_kind}
+use Rattle.bq_state.specs.Rules.{and_then, known, writable, number, allowed, extent, outside, readable, storable, sum_kind, difference_kind, pointer_kind, operated_kind, is_copy, alu_kind, ordered_range, operand_kind, read_operand, taken_kind, mapped, loaded_state, transfer}
+use Rattle.bq_state.specs.Edges.{narrowed, with_number, with_numbers, refined_by_number, refined_by_register, refined, along, edges}
 use Rattle.bq_meaning.specs.Meaning.{target}
 use Rattle.bq_state.specs.declared.kind.Kind.{Kind}
-use Rattle.bq_state.specs.declared.kind.Kind.TheVariants.{Unset, Number, Pointer}
+use Rattle.bq_state.specs.declared.kind.Kind.TheVariants.{Unset, Number, Pointer, Length}
 use Rattle.bq_state.specs.declared.region.Region.{Region}
 use Rattle.bq_state.specs.declared.region.Region.TheVariants.{Frame, Record}
 use Rattle.bq_state.specs.declared.rule.Rule.{Rule}
@@ -84,11 +85,12 @@ moved_back_less s t a b h p =
     limited_less (record { lo = s.lo -ℤ (signed_of a).hi; hi = s.hi -ℤ (signed_of a).lo }) (record { lo = t.lo -ℤ (signed_of b).hi; hi = t.hi -ℤ (signed_of b).lo })
     (record { low = omega (arith, ints, h.low, n.high); high = omega (arith, ints, h.high, n.low) })
 
-fits_less : (s t : Span) (offset : ℤ) (size len : ℕ) → SpanWithin t s → fits s offset size len ≡ true → fits t offset size len ≡ true
-fits_less s t offset size len h e =
+-- they fit into as many bytes, or more
+fits_less : (s t : Span) (offset : ℤ) (size len more : ℕ) → SpanWithin t s → len ≤ more → fits s offset size len ≡ true → fits t offset size more ≡ true
+fits_less s t offset size len more h l e =
     let (i, j) = and_parts (int_le (pos 0) (s.lo +ℤ offset)) (int_le (s.hi +ℤ offset +ℤ pos size) (pos len)) e in
     let x : int_le (pos 0) (t.lo +ℤ offset) ≡ true = grind (arith, ints, i, h.low) in
-    let y : int_le (t.hi +ℤ offset +ℤ pos size) (pos len) ≡ true = grind (arith, ints, j, h.high) in
+    let y : int_le (t.hi +ℤ offset +ℤ pos size) (pos more) ≡ true = grind (arith, ints, j, h.high, l) in
     rw (x, y) refl
 
 -- ---- kinds
@@ -103,18 +105,30 @@ data Less : Kind → Kind → Type 0 where
   unset : {l : Kind} → Less Unset l
   both : {k l : Kind} → Both k l → Less k l
 
-less_is : (k l : Kind) → KindCovers k l → IsFullKind l → Less k l
-less_is Unset l h f = unset
-less_is (Number a) (Number b) h f = both (numbers (record { words = f; within = h }))
-less_is (Pointer r s) (Pointer q t) h f = both (subst (λ x. Both (Pointer r s) (Pointer x t)) h.0 (pointers h.1))
-less_is k l h f = absurd h
+abbrev Results : Interval → Kind → Kind → Type 0
+Results j k l = KindCovers j k l × IsFullKind l
 
-abbrev Results : Kind → Kind → Type 0
-Results k l = KindCovers k l × IsFullKind l
+both_cover : (j : Interval) {k l : Kind} → Both k l → Results j k l
+both_cover j (numbers h) = (h.within, h.words)
+both_cover j (pointers h) = ((refl, h), tt)
 
-both_cover : {k l : Kind} → Both k l → Results k l
-both_cover (numbers h) = (h.within, h.words)
-both_cover (pointers h) = ((refl, h), tt)
+-- lengths are words
+length_words : (l : Interval) → AreLengths l → IsInterval l
+length_words l h = record { ordered = h.ordered; words = omega (arith, h.most) }
+
+-- kinds whose numbers are asked for, the first of a record of the lengths m and the second of one of the lengths j
+read_less : (m j : Interval) (k l : Kind) → IsPart j m → KindCovers j k l → IsFullKind l → Less (as_number m k) (as_number j l)
+read_less m j Unset l p h f = unset
+read_less m j (Number a) (Number b) p h f = both (numbers (record { words = f; within = h }))
+read_less m j (Number a) Length p h f = both (numbers (record { words = p.words; within = h }))
+read_less m j (Pointer r s) (Pointer q t) p h f = both (subst (λ x. Both (Pointer r s) (Pointer x t)) h.0 (pointers h.1))
+read_less m j Length Length p h f = both (numbers p)
+read_less m j k l p h f = absurd h
+
+-- operands: what a move copies, and what other operations read
+record Operands (m j : Interval) (k l : Kind) : Type 0 where
+  covers : Results j k l
+  read : Both (as_number m k) (as_number j l)
 
 -- ---- results: where the first is there so is the second, and they stand so
 
@@ -132,6 +146,14 @@ known_follows : {k l : Kind} → Less k l → Follows Both (known k) (known l)
 known_follows unset = tt
 known_follows (both (numbers h)) = numbers h
 known_follows (both (pointers h)) = pointers h
+
+operands_follow : (m j : Interval) (k l : Kind) → IsPart j m → KindCovers j k l → IsFullKind l → Follows (Operands m j) (known k) (known l)
+operands_follow m j Unset l p h f = tt
+operands_follow m j (Number a) (Number b) p h f = record { covers = (h, f); read = numbers (record { words = f; within = h }) }
+operands_follow m j (Number a) Length p h f = record { covers = (h, f); read = numbers (record { words = p.words; within = h }) }
+operands_follow m j (Pointer r s) (Pointer q t) p h f = record { covers = (h, f); read = subst (λ x. Both (Pointer r s) (Pointer x t)) h.0 (pointers h.1) }
+operands_follow m j Length Length p h f = record { covers = (h, f); read = numbers p }
+operands_follow m j k l p h f = absurd h
 
 abbrev IsLow : ℕ → Unit {0} → Unit {0} → Type 0
 IsLow d a b = d < 10
@@ -152,91 +174,119 @@ number_follows rule (pointers h) = tt
 abbrev Any : Unit {0} → Unit {0} → Type 0
 Any a b = ⊤
 
-fits_follows : (s t : Span) (offset : ℤ) (size len : ℕ) (rule : Rule) → SpanWithin t s → Follows Any (cond (fits s offset size len) (Ok tt) (Err rule)) (cond (fits t offset size len) (Ok tt) (Err rule))
-fits_follows s t offset size len rule h = elim (cases_Bool (fits s offset size len)) [
-  | inl e ↦ rw (e, fits_less s t offset size len h e) tt
+fits_follows : (s t : Span) (offset : ℤ) (size len more : ℕ) (rule : Rule) → SpanWithin t s → len ≤ more → Follows Any (cond (fits s offset size len) (Ok tt) (Err rule)) (cond (fits t offset size more) (Ok tt) (Err rule))
+fits_follows s t offset size len more rule h l = elim (cases_Bool (fits s offset size len)) [
+  | inl e ↦ rw (e, fits_less s t offset size len more h l e) tt
   | inr e ↦ rw e tt
 ]
 
-readable_follows : (len : ℕ) (offset : ℤ) (size : ℕ) {k l : Kind} → Both k l → Follows Any (readable len k offset size) (readable len l offset size)
-readable_follows len offset size (numbers h) = tt
-readable_follows len offset size (pointers {r = r} {s = s} {t = t} h) = fits_follows s t offset size (extent len r) (outside r) h
+extent_less : (m j : Interval) (r : Region) → Within j m → extent m r ≤ extent j r
+extent_less m j Frame h = omega arith
+extent_less m j Record h = h.low
+
+readable_follows : (m j : Interval) (offset : ℤ) (size : ℕ) {k l : Kind} → Within j m → Both k l → Follows Any (readable m k offset size) (readable j l offset size)
+readable_follows m j offset size w (numbers h) = tt
+readable_follows m j offset size w (pointers {r = r} {s = s} {t = t} h) = fits_follows s t offset size (extent m r) (extent j r) (outside r) h (extent_less m j r w)
 
 storable_follows : (offset : ℤ) (size : ℕ) {k l u v : Kind} → Both k l → Both u v → Follows Any (storable k u offset size) (storable l v offset size)
-storable_follows offset size (pointers {r = Frame} {s = s} {t = t} h) (numbers i) = fits_follows s t offset size 512 OutsideFrame h
+storable_follows offset size (pointers {r = Frame} {s = s} {t = t} h) (numbers i) = fits_follows s t offset size 512 512 OutsideFrame h (omega arith)
 storable_follows offset size (pointers {r = Record} h) (numbers i) = tt
 storable_follows offset size h i = tt
 
 -- ---- operations
 
-abbrev MayFollow : Option Kind → Option Kind → Type 0
-MayFollow None o = ⊤
-MayFollow (Some k) None = ⊥
-MayFollow (Some k) (Some l) = Results k l
+abbrev MayFollow : Interval → Option Kind → Option Kind → Type 0
+MayFollow j None o = ⊤
+MayFollow j (Some k) None = ⊥
+MayFollow j (Some k) (Some l) = Results j k l
 
-allowed_follows : (o p : Option Kind) → MayFollow o p → Follows Results (allowed o) (allowed p)
-allowed_follows None p h = tt
-allowed_follows (Some k) (Some l) h = h
-allowed_follows (Some k) None h = absurd h
+allowed_follows : (j : Interval) (o p : Option Kind) → MayFollow j o p → Follows (Results j) (allowed o) (allowed p)
+allowed_follows j None p h = tt
+allowed_follows j (Some k) (Some l) h = h
+allowed_follows j (Some k) None h = absurd h
 
-moves : (r : Region) (o p : Option Span) → SpansLess o p → MayFollow (option_map (Pointer r) o) (option_map (Pointer r) p)
-moves r None p h = tt
-moves r (Some s) (Some t) h = ((refl, h), tt)
-moves r (Some s) None h = absurd h
+moves : (j : Interval) (r : Region) (o p : Option Span) → SpansLess o p → MayFollow j (option_map (Pointer r) o) (option_map (Pointer r) p)
+moves j r None p h = tt
+moves j r (Some s) (Some t) h = ((refl, h), tt)
+moves j r (Some s) None h = absurd h
 
-sum_follows : {k l u v : Kind} → Both k l → Both u v → MayFollow (sum_kind k u) (sum_kind l v)
-sum_follows (pointers {r = r} {s = s} {t = t} h) (numbers {a = a} {b = b} i) = moves r (moved_on s a) (moved_on t b) (moved_on_less s t a b h i)
-sum_follows (numbers {a = a} {b = b} i) (pointers {r = r} {s = s} {t = t} h) = moves r (moved_on s a) (moved_on t b) (moved_on_less s t a b h i)
-sum_follows h i = tt
+sum_follows : (j : Interval) {k l u v : Kind} → Both k l → Both u v → MayFollow j (sum_kind k u) (sum_kind l v)
+sum_follows j (pointers {r = r} {s = s} {t = t} h) (numbers {a = a} {b = b} i) = moves j r (moved_on s a) (moved_on t b) (moved_on_less s t a b h i)
+sum_follows j (numbers {a = a} {b = b} i) (pointers {r = r} {s = s} {t = t} h) = moves j r (moved_on s a) (moved_on t b) (moved_on_less s t a b h i)
+sum_follows j h i = tt
 
-difference_follows : {k l u v : Kind} → Both k l → Both u v → MayFollow (difference_kind k u) (difference_kind l v)
-difference_follows (pointers {r = r} {s = s} {t = t} h) (numbers {a = a} {b = b} i) = moves r (moved_back s a) (moved_back t b) (moved_back_less s t a b h i)
-difference_follows h i = tt
+difference_follows : (j : Interval) {k l u v : Kind} → Both k l → Both u v → MayFollow j (difference_kind k u) (difference_kind l v)
+difference_follows j (pointers {r = r} {s = s} {t = t} h) (numbers {a = a} {b = b} i) = moves j r (moved_back s a) (moved_back t b) (moved_back_less s t a b h i)
+difference_follows j h i = tt
 
-pointer_follows : (w : Width) (op : AluOp) {k l u v : Kind} → Both k l → Both u v → MayFollow (pointer_kind w op k u) (pointer_kind w op l v)
-pointer_follows W64 ops.Mov h i = both_cover i
-pointer_follows W64 ops.Add h i = sum_follows h i
-pointer_follows W64 ops.Sub h i = difference_follows h i
-pointer_follows w op h i = tt
+pointer_follows : (j : Interval) (w : Width) (op : AluOp) {k l u v : Kind} → Both k l → Both u v → MayFollow j (pointer_kind w op k u) (pointer_kind w op l v)
+pointer_follows j W64 ops.Add h i = sum_follows j h i
+pointer_follows j W64 ops.Sub h i = difference_follows j h i
+pointer_follows j w op h i = tt
 
 -- ---- states
 
-past : (s : StateKinds) (r : ℕ) → length s ≤ r → kind_of s r ≡ Unset
-past s r h = get_or_past s r Unset h
+past : (s : StateKinds) (r : ℕ) → length s.kinds ≤ r → kind_of s r ≡ Unset
+past s r h = get_or_past s.kinds r Unset h
 
 -- what holds of a kind that is set and of the others holds of all
-set_each : (P : ℕ → Kind → Type 0) (s : StateKinds) (d : ℕ) (l : Kind) → d < length s → P d l → ((r : ℕ) → (r ≡ d → ⊥) → P r (kind_of s r)) → (r : ℕ) → P r (kind_of (slice_set s d l) r)
+set_each : (P : ℕ → Kind → Type 0) (s : StateKinds) (d : ℕ) (l : Kind) → d < length s.kinds → P d l → ((r : ℕ) → (r ≡ d → ⊥) → P r (kind_of s r)) → (r : ℕ) → P r (kind_of (with_kind s d l) r)
 set_each P s d l low here others r = elim (cases_eq r d) [
-  | inl e ↦ subst (λ x. P x (kind_of (slice_set s d l) x)) (sym e) (subst (P d) (sym (get_or-set_same s d l Unset low)) here)
-  | inr ne ↦ subst (P r) (sym (get_or-set_other s d r l Unset ne)) (others r ne)
+  | inl e ↦ subst (λ x. P x (kind_of (with_kind s d l) x)) (sym e) (subst (P d) (sym (get_or-set_same s.kinds d l Unset low)) here)
+  | inr ne ↦ subst (P r) (sym (get_or-set_other s.kinds d r l Unset ne)) (others r ne)
 ]
 
-full_put : (s : StateKinds) (d : ℕ) (l : Kind) → d < 11 → IsFullState s → IsFullKind l → IsFullState (slice_set s d l)
+full_put : (s : StateKinds) (d : ℕ) (l : Kind) → d < 11 → IsFullState s → IsFullKind l → IsFullState (with_kind s d l)
 full_put s d l low h f = record {
-  count = length-set s d l ∙ h.count;
+  count = length-set s.kinds d l ∙ h.count;
   kinds = set_each (λ r. IsFullKind) s d l (omega (arith, low, h.count)) f (λ r ne. h.kinds r);
+  lengths = h.lengths;
 }
 
-put : (n s : StateKinds) (d : ℕ) (k l : Kind) → d < 11 → IsAbove n s → Results k l → IsAbove (slice_set n d k) (slice_set s d l)
-put n s d k l low h i = (record { each = set_each (λ r. KindCovers (kind_of (slice_set n d k) r)) s d l (omega (arith, low, h.1.count)) here others }, full_put s d l low h.1 i.1)
+-- with a kind that covers what the smaller state has there
+cover_put : (n s : StateKinds) (d : ℕ) (k : Kind) → StateCovers n s → KindCovers s.lengths k (kind_of s d) → StateCovers (with_kind n d k) s
+cover_put n s d k h c = record { lengths = h.lengths; each = at }
   where
-    here : KindCovers (kind_of (slice_set n d k) d) l
-    here = elim (cases_lt d (length n)) [
-      | inl t ↦ subst (λ x. KindCovers x l) (sym (get_or-set_same n d k Unset t)) i.0
-      | inr g ↦
-          let u : kind_of (slice_set n d k) d ≡ Unset = ap (λ x. kind_of x d) (set_past n d k g) ∙ past n d g in
-          subst (λ x. KindCovers x l) (sym u) tt
+    at : (r : ℕ) → KindCovers s.lengths (kind_of (with_kind n d k) r) (kind_of s r)
+    at r = elim (cases_eq r d) [
+      | inl e ↦ elim (cases_lt d (length n.kinds)) [
+        | inl t ↦
+            let here : KindCovers s.lengths (kind_of (with_kind n d k) d) (kind_of s d) = subst (λ x. KindCovers s.lengths x (kind_of s d)) (sym (get_or-set_same n.kinds d k Unset t)) c in
+            subst (λ x. KindCovers s.lengths (kind_of (with_kind n d k) x) (kind_of s x)) (sym e) here
+        | inr g ↦
+            let u : kind_of (with_kind n d k) r ≡ Unset = ap (λ x. get_or x r Unset) (set_past n.kinds d k g) ∙ past n r (omega (arith, e, g)) in
+            subst (λ x. KindCovers s.lengths x (kind_of s r)) (sym u) tt
+      ]
+      | inr ne ↦ subst (λ x. KindCovers s.lengths x (kind_of s r)) (sym (get_or-set_other n.kinds d r k Unset ne)) (h.each r)
     ]
 
-    others : (r : ℕ) → (r ≡ d → ⊥) → KindCovers (kind_of (slice_set n d k) r) (kind_of s r)
-    others r ne = subst (λ x. KindCovers x (kind_of s r)) (sym (get_or-set_other n d r k Unset ne)) (h.0.each r)
+-- with less in the smaller state
+covered_put : (n s : StateKinds) (d : ℕ) (l : Kind) → d < length s.kinds → StateCovers n s → KindCovers s.lengths (kind_of n d) l → StateCovers n (with_kind s d l)
+covered_put n s d l low h c = record { lengths = h.lengths; each = set_each (λ r. KindCovers s.lengths (kind_of n r)) s d l low c (λ r ne. h.each r) }
+
+put : (n s : StateKinds) (d : ℕ) (k l : Kind) → d < 11 → IsAbove n s → Results s.lengths k l → IsAbove (with_kind n d k) (with_kind s d l)
+put n s d k l low h i = (record { lengths = h.0.lengths; each = set_each (λ r. KindCovers s.lengths (kind_of (with_kind n d k) r)) s d l (omega (arith, low, h.1.count)) here others }, full_put s d l low h.1 i.1)
+  where
+    here : KindCovers s.lengths (kind_of (with_kind n d k) d) l
+    here = elim (cases_lt d (length n.kinds)) [
+      | inl t ↦ subst (λ x. KindCovers s.lengths x l) (sym (get_or-set_same n.kinds d k Unset t)) i.0
+      | inr g ↦
+          let u : kind_of (with_kind n d k) d ≡ Unset = ap (λ x. get_or x d Unset) (set_past n.kinds d k g) ∙ past n d g in
+          subst (λ x. KindCovers s.lengths x l) (sym u) tt
+    ]
+
+    others : (r : ℕ) → (r ≡ d → ⊥) → KindCovers s.lengths (kind_of (with_kind n d k) r) (kind_of s r)
+    others r ne = subst (λ x. KindCovers s.lengths x (kind_of s r)) (sym (get_or-set_other n.kinds d r k Unset ne)) (h.0.each r)
 
 -- ---- instructions
 
-less_at : (n s : StateKinds) (r : ℕ) → IsAbove n s → Less (kind_of n r) (kind_of s r)
-less_at n s r h = less_is (kind_of n r) (kind_of s r) (h.0.each r) (h.1.kinds r)
+lengths_part : (n s : StateKinds) → IsAbove n s → IsPart s.lengths n.lengths
+lengths_part n s h = record { words = length_words s.lengths h.1.lengths; within = h.0.lengths }
 
-register_follows : (n s : StateKinds) (r : ℕ) → IsAbove n s → Follows Both (known (kind_of n r)) (known (kind_of s r))
+less_at : (n s : StateKinds) (r : ℕ) → IsAbove n s → Less (read_kind n r) (read_kind s r)
+less_at n s r h = read_less n.lengths s.lengths (kind_of n r) (kind_of s r) (lengths_part n s h) (h.0.each r) (h.1.kinds r)
+
+register_follows : (n s : StateKinds) (r : ℕ) → IsAbove n s → Follows Both (known (read_kind n r)) (known (read_kind s r))
 register_follows n s r h = known_follows (less_at n s r h)
 
 -- a word is part of itself
@@ -246,9 +296,15 @@ itself x h = record { words = record { ordered = omega arith; words = h }; withi
 one_number : (x : ℕ) → x < 2 ^ 64 → Both (Number (single x)) (Number (single x))
 one_number x h = numbers (itself x h)
 
-operand_follows : (n s : StateKinds) (x : Operand) → IsAbove n s → Follows Both (known (operand_kind n x)) (known (operand_kind s x))
-operand_follows n s (operands.Register r) h = register_follows n s r h
-operand_follows n s (operands.Number z) h = one_number (modulo 64 z) (modulo_bound 64 z)
+operand_follows : (n s : StateKinds) (x : Operand) → IsAbove n s → Follows (Operands n.lengths s.lengths) (known (operand_kind n x)) (known (operand_kind s x))
+operand_follows n s (operands.Register r) h = operands_follow n.lengths s.lengths (kind_of n r) (kind_of s r) (lengths_part n s h) (h.0.each r) (h.1.kinds r)
+operand_follows n s (operands.Number z) h =
+    let p = itself (modulo 64 z) (modulo_bound 64 z) in
+    record { covers = (p.within, p.words); read = numbers p }
+
+read_follows : (n s : StateKinds) (x : Operand) → IsAbove n s → Follows Both (known (read_operand n x)) (known (read_operand s x))
+read_follows n s (operands.Register r) h = register_follows n s r h
+read_follows n s (operands.Number z) h = one_number (modulo 64 z) (modulo_bound 64 z)
 
 taken_follows : (n s : StateKinds) (op : AluOp) (d : ℕ) → IsAbove n s → Follows Both (known (taken_kind n op d)) (known (taken_kind s op d))
 taken_follows n s ops.Mov d h = one_number 0 (omega arith)
@@ -256,22 +312,28 @@ taken_follows n s op d h = register_follows n s d h
 
 mapped_follows : (n s : StateKinds) (d b : ℕ) (f : Interval → Interval) → ((a c : Interval) → IsPart a c → IsPart (f a) (f c)) → IsAbove n s → Follows IsAbove (mapped n d b f) (mapped s d b f)
 mapped_follows n s d b f g h =
-    then_follows Both IsAbove (known (kind_of n b)) (known (kind_of s b)) _ _ (register_follows n s b h) (λ k l kl.
+    then_follows Both IsAbove (known (read_kind n b)) (known (read_kind s b)) _ _ (register_follows n s b h) (λ k l kl.
     then_follows (IsLow d) IsAbove (writable d) (writable d) _ _ (writable_follows d) (λ _ _ low.
     then_follows Ranges IsAbove (number WrongKind k) (number WrongKind l) _ _ (number_follows WrongKind kl) (λ c a r. put n s d (Number (f c)) (Number (f a)) (omega (arith, low)) h (let p = g a c r in (p.within, p.words)))))
 
-loaded_follows : (len : ℕ) (n s : StateKinds) (d base : ℕ) (offset : ℤ) (size : ℕ) (range : Interval) → IsInterval range → IsAbove n s → Follows IsAbove (loaded_state len n d base offset size range) (loaded_state len s d base offset size range)
-loaded_follows len n s d base offset size range f h =
-    then_follows Both IsAbove (known (kind_of n base)) (known (kind_of s base)) _ _ (register_follows n s base h) (λ k l kl.
+loaded_follows : (n s : StateKinds) (d base : ℕ) (offset : ℤ) (size : ℕ) (range : Interval) → IsInterval range → IsAbove n s → Follows IsAbove (loaded_state n d base offset size range) (loaded_state s d base offset size range)
+loaded_follows n s d base offset size range f h =
+    then_follows Both IsAbove (known (read_kind n base)) (known (read_kind s base)) _ _ (register_follows n s base h) (λ k l kl.
     then_follows (IsLow d) IsAbove (writable d) (writable d) _ _ (writable_follows d) (λ _ _ low.
-    then_follows Any IsAbove (readable len k offset size) (readable len l offset size) _ _ (readable_follows len offset size kl) (λ _ _ _. put n s d (Number range) (Number range) (omega (arith, low)) h (record { low = omega arith; high = omega arith }, f))))
+    then_follows Any IsAbove (readable n.lengths k offset size) (readable s.lengths l offset size) _ _ (readable_follows n.lengths s.lengths offset size h.0.lengths kl) (λ _ _ _. put n s d (Number range) (Number range) (omega (arith, low)) h (record { low = omega arith; high = omega arith }, f))))
 
 -- ---- what rests on the rows
 
 module _ (rows : RowsAreMonotone) where
-  alu_follows : (w : Width) (op : AluOp) {k l u v : Kind} → Both k l → Both u v → MayFollow (alu_kind w op k u) (alu_kind w op l v)
-  alu_follows w op (numbers {a = a} {b = b} h) (numbers {a = c} {b = d} i) = let p = rows.operations w op b d a c h i in (p.within, p.words)
-  alu_follows w op h i = pointer_follows w op h i
+  operated_follows : (j : Interval) (w : Width) (op : AluOp) {k l u v : Kind} → Both k l → Both u v → MayFollow j (operated_kind w op k u) (operated_kind w op l v)
+  operated_follows j w op (numbers {a = a} {b = b} h) (numbers {a = c} {b = d} i) = let p = rows.operations w op b d a c h i in (p.within, p.words)
+  operated_follows j w op h i = pointer_follows j w op h i
+
+  alu_follows : (m j : Interval) (w : Width) (op : AluOp) {k l u v : Kind} → Both k l → Operands m j u v → MayFollow j (alu_kind m w op k u) (alu_kind j w op l v)
+  alu_follows m j w op h i = elim (cases_Bool (is_copy w op)) [
+    | inl e ↦ rw e i.covers
+    | inr e ↦ rw e (operated_follows j w op h i.read)
+  ]
 
   order_follows : (o : ByteOrder) (bits : SwapBits) (a c : Interval) → IsPart a c → IsPart (ordered_range o (swap_bits bits) a) (ordered_range o (swap_bits bits) c)
   order_follows orders.Little bits a c h = rows.low_bits bits a c h
@@ -291,32 +353,33 @@ module _ (rows : RowsAreMonotone) where
   load_full sizes.B4 = record { ordered = omega arith; words = omega arith }
   load_full sizes.B8 = record { ordered = omega arith; words = omega arith }
 
-  transfer_follows : (len : ℕ) (i : Insn) (n s : StateKinds) → IsInsn i → IsAbove n s → Follows IsAbove (transfer len i n) (transfer len i s)
-  transfer_follows len (insns.Alu w op d x) n s legal h =
+  transfer_follows : (i : Insn) (n s : StateKinds) → IsInsn i → IsAbove n s → Follows IsAbove (transfer i n) (transfer i s)
+  transfer_follows (insns.Alu w op d x) n s legal h =
       then_follows Both IsAbove (known (taken_kind n op d)) (known (taken_kind s op d)) _ _ (taken_follows n s op d h) (λ a b ab.
-      then_follows Both IsAbove (known (operand_kind n x)) (known (operand_kind s x)) _ _ (operand_follows n s x h) (λ k l kl.
+      then_follows (Operands n.lengths s.lengths) IsAbove (known (operand_kind n x)) (known (operand_kind s x)) _ _ (operand_follows n s x h) (λ k l kl.
       then_follows (IsLow d) IsAbove (writable d) (writable d) _ _ (writable_follows d) (λ _ _ low.
-      then_follows Results IsAbove (allowed (alu_kind w op a k)) (allowed (alu_kind w op b l)) _ _ (allowed_follows (alu_kind w op a k) (alu_kind w op b l) (alu_follows w op ab kl)) (λ y z yz. put n s d y z (omega (arith, low)) h yz))))
-  transfer_follows len (insns.Negate w d) n s legal h = mapped_follows n s d d (negated (bits_of w)) (rows.negations w) h
-  transfer_follows len (insns.Extend e d b) n s legal h = mapped_follows n s d b (sign_extended (extension_bits e) (bits_of (extension_width e))) (extend_follows e) h
-  transfer_follows len (insns.Order o bits d) n s legal h = mapped_follows n s d d (ordered_range o (swap_bits bits)) (order_follows o bits) h
-  transfer_follows len (insns.Jump offset) n s legal h = h
-  transfer_follows len (insns.JumpFar distance) n s legal h = h
-  transfer_follows len (insns.Branch w r d x offset) n s legal h =
-      then_follows Both IsAbove (known (kind_of n d)) (known (kind_of s d)) _ _ (register_follows n s d h) (λ a b ab.
-      then_follows Both IsAbove (known (operand_kind n x)) (known (operand_kind s x)) _ _ (operand_follows n s x h) (λ k l kl.
+      then_follows (Results s.lengths) IsAbove (allowed (alu_kind n.lengths w op a k)) (allowed (alu_kind s.lengths w op b l)) _ _
+      (allowed_follows s.lengths (alu_kind n.lengths w op a k) (alu_kind s.lengths w op b l) (alu_follows n.lengths s.lengths w op ab kl)) (λ y z yz. put n s d y z (omega (arith, low)) h yz))))
+  transfer_follows (insns.Negate w d) n s legal h = mapped_follows n s d d (negated (bits_of w)) (rows.negations w) h
+  transfer_follows (insns.Extend e d b) n s legal h = mapped_follows n s d b (sign_extended (extension_bits e) (bits_of (extension_width e))) (extend_follows e) h
+  transfer_follows (insns.Order o bits d) n s legal h = mapped_follows n s d d (ordered_range o (swap_bits bits)) (order_follows o bits) h
+  transfer_follows (insns.Jump offset) n s legal h = h
+  transfer_follows (insns.JumpFar distance) n s legal h = h
+  transfer_follows (insns.Branch w r d x offset) n s legal h =
+      then_follows Both IsAbove (known (read_kind n d)) (known (read_kind s d)) _ _ (register_follows n s d h) (λ a b ab.
+      then_follows Both IsAbove (known (read_operand n x)) (known (read_operand s x)) _ _ (read_follows n s x h) (λ k l kl.
       then_follows Ranges IsAbove (number WrongKind a) (number WrongKind b) _ _ (number_follows WrongKind ab) (λ _ _ _.
       then_follows Ranges IsAbove (number WrongKind k) (number WrongKind l) _ _ (number_follows WrongKind kl) (λ _ _ _. h))))
-  transfer_follows len insns.Exit n s legal h =
-      then_follows Both IsAbove (known (kind_of n 0)) (known (kind_of s 0)) _ _ (register_follows n s 0 h) (λ k l kl.
+  transfer_follows insns.Exit n s legal h =
+      then_follows Both IsAbove (known (read_kind n 0)) (known (read_kind s 0)) _ _ (register_follows n s 0 h) (λ k l kl.
       then_follows Ranges IsAbove (number AnswerKind k) (number AnswerKind l) _ _ (number_follows AnswerKind kl) (λ _ _ _. h))
-  transfer_follows len (insns.Load size d base offset) n s legal h = loaded_follows len n s d base offset (size_bytes size) (whole (8 * size_bytes size)) (load_full size) h
-  transfer_follows len (insns.LoadSigned bits d base offset) n s legal h = loaded_follows len n s d base offset (signed_bytes bits) all_words (record { ordered = omega arith; words = omega arith }) h
-  transfer_follows len (insns.Store size base offset x) n s legal h =
-      then_follows Both IsAbove (known (kind_of n base)) (known (kind_of s base)) _ _ (register_follows n s base h) (λ k l kl.
-      then_follows Both IsAbove (known (operand_kind n x)) (known (operand_kind s x)) _ _ (operand_follows n s x h) (λ u v uv.
+  transfer_follows (insns.Load size d base offset) n s legal h = loaded_follows n s d base offset (size_bytes size) (whole (8 * size_bytes size)) (load_full size) h
+  transfer_follows (insns.LoadSigned bits d base offset) n s legal h = loaded_follows n s d base offset (signed_bytes bits) all_words (record { ordered = omega arith; words = omega arith }) h
+  transfer_follows (insns.Store size base offset x) n s legal h =
+      then_follows Both IsAbove (known (read_kind n base)) (known (read_kind s base)) _ _ (register_follows n s base h) (λ k l kl.
+      then_follows Both IsAbove (known (read_operand n x)) (known (read_operand s x)) _ _ (read_follows n s x h) (λ u v uv.
       then_follows Any IsAbove (storable k u offset (size_bytes size)) (storable l v offset (size_bytes size)) _ _ (storable_follows offset (size_bytes size) kl uv) (λ _ _ _. h)))
-  transfer_follows len (insns.Wide d v) n s legal h =
+  transfer_follows (insns.Wide d v) n s legal h =
       then_follows (IsLow d) IsAbove (writable d) (writable d) _ _ (writable_follows d) (λ _ _ low.
       put n s d (Number (single v)) (Number (single v)) (omega (arith, low)) h (let p = itself v legal.1 in (p.within, p.words)))
 
@@ -326,82 +389,212 @@ module _ (rows : RowsAreMonotone) where
   follows_ok (Ok a) (Err rule) after h e = absurd h
   follows_ok (Ok a) (Ok b) after h e = let is : a ≡ after = cc in (b, refl, subst (λ x. IsAbove x b) is h)
 
-  transfer_less : (len : ℕ) (i : Insn) (n s after : StateKinds) → IsInsn i → IsAbove n s → transfer len i n ≡ Ok after → (left : StateKinds) × (transfer len i s ≡ Ok left) × IsAbove after left
-  transfer_less len i n s after legal h e = follows_ok (transfer len i n) (transfer len i s) after (transfer_follows len i n s legal h) e
+  transfer_less : (i : Insn) (n s after : StateKinds) → IsInsn i → IsAbove n s → transfer i n ≡ Ok after → (left : StateKinds) × (transfer i s ≡ Ok left) × IsAbove after left
+  transfer_less i n s after legal h e = follows_ok (transfer i n) (transfer i s) after (transfer_follows i n s legal h) e
 
   -- ---- edges: each of the smaller state's has one of the larger state's that covers it
 
-  is_set : (s : StateKinds) (d : ℕ) (a : Interval) → length s ≡ 11 → kind_of s d ≡ Number a → d < 11
-  is_set s d a count e = elim (cases_lt d 11) [
+  -- a kind whose number a branch may narrow
+  abbrev IsNumeral : Kind → Type 0
+  IsNumeral (Number a) = ⊤
+  IsNumeral Length = ⊤
+  IsNumeral k = ⊥
+
+  numeral : (l : Interval) (k : Kind) (a : Interval) → as_number l k ≡ Number a → IsNumeral k
+  numeral l (Number b) a e = tt
+  numeral l Length a e = tt
+  numeral l Unset a e = absurd cc
+  numeral l (Pointer r t) a e = absurd cc
+
+  is_set : (s : StateKinds) (d : ℕ) → length s.kinds ≡ 11 → IsNumeral (kind_of s d) → d < 11
+  is_set s d count h = elim (cases_lt d 11) [
     | inl l ↦ l
-    | inr g ↦ let u : kind_of s d ≡ Unset = past s d (omega (arith, g, count)) in let bad : Unset ≡ Number a = sym u ∙ e in absurd cc
+    | inr g ↦ absurd (subst IsNumeral (past s d (omega (arith, g, count))) h)
   ]
 
-  full_at : (s : StateKinds) (d : ℕ) (a : Interval) → IsFullState s → kind_of s d ≡ Number a → IsInterval a
-  full_at s d a h e = subst IsFullKind e (h.kinds d)
+  full_read : (s : StateKinds) (d : ℕ) (a : Interval) → IsFullState s → read_kind s d ≡ Number a → IsInterval a
+  full_read s d a h e = full_as s.lengths (kind_of s d) (length_words s.lengths h.lengths) (h.kinds d) e
+    where
+      full_as : (l : Interval) (k : Kind) → IsInterval l → IsFullKind k → as_number l k ≡ Number a → IsInterval a
+      full_as l (Number b) p f e = subst IsFullKind e f
+      full_as l Length p f e = subst IsFullKind e p
+      full_as l Unset p f e = absurd cc
+      full_as l (Pointer r t) p f e = absurd cc
 
-  -- with less in a register of the smaller state
-  less_put : (n s : StateKinds) (d : ℕ) (a p : Interval) → IsAbove n s → kind_of s d ≡ Number a → IsPart p a → IsAbove n (slice_set s d (Number p))
-  less_put n s d a p h e l =
-      let low = is_set s d a h.1.count e in
-      let here : KindCovers (kind_of n d) (Number p) = kind_covers_through (kind_of n d) (Number a) (Number p) (subst (KindCovers (kind_of n d)) e (h.0.each d)) l.within in
-      (record { each = set_each (λ r. KindCovers (kind_of n r)) s d (Number p) (omega (arith, low, h.1.count)) here (λ r ne. h.0.each r) }, full_put s d (Number p) low h.1 l.words)
+  -- ---- lengths that a branch narrows
 
-  one_leads : (n s : StateKinds) (d : ℕ) (a : Interval) (o p : Option (Interval × Interval)) → IsAbove n s → kind_of s d ≡ Number a → LeavesLess p o → IsRefinedAbove (with_number n d o) (with_number s d p)
-  one_leads n s d a o None h e l = tt
-  one_leads n s d a None (Some p) h e l = absurd l
-  one_leads n s d a (Some o) (Some p) h e l = put n s d (Number o.0) (Number p.0) (is_set s d a h.1.count e) h (l.0.within, l.0.words)
+  -- what two ranges have in common lies in both
+  record Meets (a b j : Interval) : Type 0 where
+    left : Within j a
+    right : Within j b
+    ordered : j.lo ≤ j.hi
 
-  one_stays : (n s : StateKinds) (d : ℕ) (a b : Interval) (p : Option (Interval × Interval)) → IsAbove n s → kind_of s d ≡ Number a → LeavesLess p (Some (a, b)) → IsRefinedAbove (Some n) (with_number s d p)
-  one_stays n s d a b None h e i = tt
-  one_stays n s d a b (Some p) h e i = less_put n s d a p.0 h e i.0
+  met : (a b : Interval) (j : Interval) → meet a b ≡ Some j → Meets a b j
+  met a b j e = elim (cases_lt (min a.hi b.hi) (max a.lo b.lo)) [
+    | inr l ↦
+        let is : Some (between (max a.lo b.lo) (min a.hi b.hi)) ≡ Some j = sym (rw (le-leb (max a.lo b.lo) (min a.hi b.hi) l) refl) ∙ e in
+        let same : between (max a.lo b.lo) (min a.hi b.hi) ≡ j = cc in
+        subst (Meets a b) same (record { left = record { low = omega arith; high = omega arith }; right = record { low = omega arith; high = omega arith }; ordered = l })
+    | inl g ↦
+        let none : None ≡ Some j = sym (rw (lt-leb (max a.lo b.lo) (min a.hi b.hi) g) refl) ∙ e in
+        absurd cc
+  ]
 
-  by_number : (n s : StateKinds) (w : Width) (r : Relation) (taken : Bool) (d x : ℕ) {k l : Kind} → IsAbove n s → low (bits_of w) x < 2 ^ 64 → kind_of s d ≡ l → Less k l → IsRefinedAbove (refined_by_number n w r taken d x k) (refined_by_number s w r taken d x l)
-  by_number n s w r taken d x h q j (both (numbers {a = c} {b = a} i)) =
+  -- where two smaller ranges have something in common so have the larger ones
+  meets_more : (a b c d j : Interval) → Within a c → Within b d → Meets a b j → (i : Interval) × (meet c d ≡ Some i) × Within j i
+  meets_more a b c d j h k m =
+      let some : max c.lo d.lo ≤ min c.hi d.hi = omega (arith, h.low, h.high, k.low, k.high, m.left.low, m.left.high, m.right.low, m.right.high, m.ordered) in
+      (between (max c.lo d.lo) (min c.hi d.hi), rw (le-leb (max c.lo d.lo) (min c.hi d.hi) some) refl, record { low = omega (arith, h.low, k.low, m.left.low, m.right.low); high = omega (arith, h.high, k.high, m.left.high, m.right.high) })
+
+  -- with fewer lengths in the smaller state
+  fewer : (n s : StateKinds) (j : Interval) → IsAbove n s → Within j s.lengths → j.lo ≤ j.hi → IsAbove n (with_lengths s j)
+  fewer n s j h w o = (
+    record {
+      lengths = within_through n.lengths s.lengths j h.0.lengths w;
+      each = λ r. kind_covers_through s.lengths j (kind_of n r) (kind_of s r) (kind_of s r) w (h.0.each r) (kind_covers_itself j (kind_of s r));
+    },
+    record { count = h.1.count; kinds = h.1.kinds; lengths = record { least = omega (arith, h.1.lengths.least, w.low); ordered = o; most = omega (arith, h.1.lengths.most, w.high) } },
+  )
+
+  -- ---- one register
+
+  -- a range that a branch leaves of a kind's numbers
+  abbrev Narrows : Interval → Kind → Type 0
+  Narrows p (Number a) = IsPart p a
+  Narrows p Length = ⊤
+  Narrows p k = ⊥
+
+  narrows_as : (l : Interval) (k : Kind) (a p : Interval) → as_number l k ≡ Number a → IsPart p a → Narrows p k
+  narrows_as l (Number b) a p e h = let same : b ≡ a = cc in subst (IsPart p) (sym same) h
+  narrows_as l Length a p e h = tt
+  narrows_as l Unset a p e h = absurd cc
+  narrows_as l (Pointer r t) a p e h = absurd cc
+
+  lengths_stay : (n s : StateKinds) (p : Interval) (o : Option Interval) → IsAbove n s → meet s.lengths p ≡ o → IsRefinedAbove (Some n) (option_map (with_lengths s) o)
+  lengths_stay n s p None h e = tt
+  lengths_stay n s p (Some j) h e = let m = met s.lengths p j e in fewer n s j h m.left m.ordered
+
+  narrow_stays : (n s : StateKinds) (d : ℕ) (p : Interval) (l : Kind) → IsAbove n s → l ≡ kind_of s d → Narrows p l → IsRefinedAbove (Some n) (narrowed s d p l)
+  narrow_stays n s d p (Number a) h e i =
+      let low = is_set s d h.1.count (subst IsNumeral e tt) in
+      let was : KindCovers s.lengths (kind_of n d) (Number a) = subst (KindCovers s.lengths (kind_of n d)) (sym e) (h.0.each d) in
+      let is : KindCovers s.lengths (kind_of n d) (Number p) = kind_covers_through s.lengths s.lengths (kind_of n d) (Number a) (Number p) (record { low = omega arith; high = omega arith }) was i.within in
+      (covered_put n s d (Number p) (omega (arith, low, h.1.count)) h.0 is, full_put s d (Number p) low h.1 i.words)
+  narrow_stays n s d p Length h e i = lengths_stay n s p (meet s.lengths p) h refl
+  narrow_stays n s d p Unset h e i = absurd i
+  narrow_stays n s d p (Pointer r t) h e i = absurd i
+
+  number_leads : (n s : StateKinds) (d : ℕ) (q p : Interval) (o : Option Interval) → IsAbove n s → Length ≡ kind_of s d → IsPart p q → meet s.lengths p ≡ o → IsRefinedAbove (Some (with_kind n d (Number q))) (option_map (with_lengths s) o)
+  number_leads n s d q p None h e i is = tt
+  number_leads n s d q p (Some j) h e i is =
+      let m = met s.lengths p j is in
+      let f = fewer n s j h m.left m.ordered in
+      let here : KindCovers j (Number q) (kind_of s d) = subst (KindCovers j (Number q)) e (within_through q p j i.within m.right) in
+      (cover_put n (with_lengths s j) d (Number q) f.0 here, f.1)
+
+  lengths_lead : (n s : StateKinds) (q p : Interval) (o : Option Interval) → IsAbove n s → IsPart p q → meet s.lengths p ≡ o → IsRefinedAbove (option_map (with_lengths n) (meet n.lengths q)) (option_map (with_lengths s) o)
+  lengths_lead n s q p None h i is = tt
+  lengths_lead n s q p (Some j) h i is =
+      let m = met s.lengths p j is in
+      let f = fewer n s j h m.left m.ordered in
+      let more = meets_more s.lengths p n.lengths q j h.0.lengths i.within m in
+      rw more.1 (record { lengths = more.2; each = f.0.each }, f.1)
+
+  narrow_leads : (n s : StateKinds) (d : ℕ) (q p : Interval) (k l : Kind) → IsAbove n s → k ≡ kind_of n d → l ≡ kind_of s d → IsNumeral k → IsNumeral l → KindCovers s.lengths k l → IsPart p q → IsRefinedAbove (narrowed n d q k) (narrowed s d p l)
+  narrow_leads n s d q p (Number a) (Number b) h e f x y c i = put n s d (Number q) (Number p) (is_set s d h.1.count (subst IsNumeral f tt)) h (i.within, i.words)
+  narrow_leads n s d q p (Number a) Length h e f x y c i = number_leads n s d q p (meet s.lengths p) h f i refl
+  narrow_leads n s d q p Length Length h e f x y c i = lengths_lead n s q p (meet s.lengths p) h i refl
+  narrow_leads n s d q p Length (Number b) h e f x y c i = absurd c
+  narrow_leads n s d q p (Number a) l h e f x y c i = absurd y
+  narrow_leads n s d q p Length l h e f x y c i = absurd y
+  narrow_leads n s d q p k l h e f x y c i = absurd x
+
+  -- the other registers stay as they are
+  same_other : (s t : StateKinds) (d e : ℕ) (k : Kind) → (d ≡ e → ⊥) → Some (with_kind s d k) ≡ Some t → kind_of t e ≡ kind_of s e
+  same_other s t d e k ne h = let is : with_kind s d k ≡ t = cc in rw (← is) (get_or-set_other s.kinds d e k Unset (λ q. ne (sym q)))
+
+  with_lengths_same : (s t : StateKinds) (e : ℕ) (o : Option Interval) → option_map (with_lengths s) o ≡ Some t → kind_of t e ≡ kind_of s e
+  with_lengths_same s t e None h = absurd cc
+  with_lengths_same s t e (Some j) h = let is : with_lengths s j ≡ t = cc in rw (← is) refl
+
+  narrowed_other : (s t : StateKinds) (d e : ℕ) (p : Interval) (k : Kind) → (d ≡ e → ⊥) → narrowed s d p k ≡ Some t → kind_of t e ≡ kind_of s e
+  narrowed_other s t d e p Length ne h = with_lengths_same s t e (meet s.lengths p) h
+  narrowed_other s t d e p Unset ne h = same_other s t d e (Number p) ne h
+  narrowed_other s t d e p (Number a) ne h = same_other s t d e (Number p) ne h
+  narrowed_other s t d e p (Pointer r a) ne h = same_other s t d e (Number p) ne h
+
+  -- ---- branches
+
+  one_leads : (n s : StateKinds) (d : ℕ) (c a : Interval) (o p : Option (Interval × Interval)) → IsAbove n s → read_kind n d ≡ Number c → read_kind s d ≡ Number a → LeavesLess p o → IsRefinedAbove (with_number n d o) (with_number s d p)
+  one_leads n s d c a o None h i j l = tt
+  one_leads n s d c a None (Some p) h i j l = absurd l
+  one_leads n s d c a (Some o) (Some p) h i j l =
+      narrow_leads n s d o.0 p.0 (kind_of n d) (kind_of s d) h refl refl (numeral n.lengths (kind_of n d) c i) (numeral s.lengths (kind_of s d) a j) (h.0.each d) l.0
+
+  one_stays : (n s : StateKinds) (d : ℕ) (a b : Interval) (p : Option (Interval × Interval)) → IsAbove n s → read_kind s d ≡ Number a → LeavesLess p (Some (a, b)) → IsRefinedAbove (Some n) (with_number s d p)
+  one_stays n s d a b None h j l = tt
+  one_stays n s d a b (Some p) h j l = narrow_stays n s d p.0 (kind_of s d) h refl (narrows_as s.lengths (kind_of s d) a p.0 j l.0)
+
+  by_number : (n s : StateKinds) (w : Width) (r : Relation) (taken : Bool) (d x : ℕ) {k l : Kind} → IsAbove n s → low (bits_of w) x < 2 ^ 64 → read_kind n d ≡ k → read_kind s d ≡ l → Less k l
+      → IsRefinedAbove (refined_by_number n w r taken d x k) (refined_by_number s w r taken d x l)
+  by_number n s w r taken d x h q i j (both (numbers {a = c} {b = a} part)) =
       let one = single (low (bits_of w) x) in
-      one_leads n s d a (branched (bits_of w) r taken c one) (branched (bits_of w) r taken a one) h j (rows.branches w r taken a one c one i (itself (low (bits_of w) x) q))
-  by_number n s w r taken d x h q j (unset {l = Number a}) =
+      one_leads n s d c a (branched (bits_of w) r taken c one) (branched (bits_of w) r taken a one) h i j (rows.branches w r taken a one c one part (itself (low (bits_of w) x) q))
+  by_number n s w r taken d x h q i j (unset {l = Number a}) =
       let one = single (low (bits_of w) x) in
       let word = itself (low (bits_of w) x) q in
-      one_stays n s d a one (branched (bits_of w) r taken a one) h j (rows.narrows w r taken a one (full_at s d a h.1 j) word.words)
-  by_number n s w r taken d x h q j less = h
+      one_stays n s d a one (branched (bits_of w) r taken a one) h j (rows.narrows w r taken a one (full_read s d a h.1 j) word.words)
+  by_number n s w r taken d x h q i j less = h
 
-  two_lead : (n s : StateKinds) (d e : ℕ) (a b : Interval) (o p : Option (Interval × Interval)) → IsAbove n s → kind_of s d ≡ Number a → kind_of s e ≡ Number b → LeavesLess p o → IsRefinedAbove (with_numbers n d e o) (with_numbers s d e p)
-  two_lead n s d e a b o None h i j l = tt
-  two_lead n s d e a b None (Some p) h i j l = absurd l
-  two_lead n s d e a b (Some o) (Some p) h i j l =
-      put (slice_set n d (Number o.0)) (slice_set s d (Number p.0)) e (Number o.1) (Number p.1) (is_set s e b h.1.count j)
-      (put n s d (Number o.0) (Number p.0) (is_set s d a h.1.count i) h (l.0.within, l.0.words))
-      (l.1.within, l.1.words)
+  then_leads : (e : ℕ) (q p : Interval) (o m : Option StateKinds) → IsRefinedAbove o m → ((u : StateKinds) → o ≡ Some u → IsNumeral (kind_of u e)) → ((t : StateKinds) → m ≡ Some t → IsNumeral (kind_of t e)) → IsPart p q
+      → IsRefinedAbove (option_and_then (λ (t : StateKinds). narrowed t e q (kind_of t e)) o) (option_and_then (λ (t : StateKinds). narrowed t e p (kind_of t e)) m)
+  then_leads e q p o None h x y i = tt
+  then_leads e q p None (Some t) h x y i = absurd h
+  then_leads e q p (Some u) (Some t) h x y i = narrow_leads u t e q p (kind_of u e) (kind_of t e) h refl refl (x u refl) (y t refl) (h.0.each e) i
 
-  two_stay : (n s : StateKinds) (d e : ℕ) (a b : Interval) (p : Option (Interval × Interval)) → (d ≡ e → ⊥) → IsAbove n s → kind_of s d ≡ Number a → kind_of s e ≡ Number b → LeavesLess p (Some (a, b)) → IsRefinedAbove (Some n) (with_numbers s d e p)
+  two_lead : (n s : StateKinds) (d e : ℕ) (c a m b : Interval) (o p : Option (Interval × Interval)) → (d ≡ e → ⊥) → IsAbove n s → read_kind n d ≡ Number c → read_kind s d ≡ Number a → read_kind n e ≡ Number m → read_kind s e ≡ Number b → LeavesLess p o
+      → IsRefinedAbove (with_numbers n d e o) (with_numbers s d e p)
+  two_lead n s d e c a m b o None ne h i j x y l = tt
+  two_lead n s d e c a m b None (Some p) ne h i j x y l = absurd l
+  two_lead n s d e c a m b (Some o) (Some p) ne h i j x y l =
+      then_leads e o.1 p.1 (narrowed n d o.0 (kind_of n d)) (narrowed s d p.0 (kind_of s d))
+      (one_leads n s d c a (Some o) (Some p) h i j l)
+      (λ u is. subst IsNumeral (sym (narrowed_other n u d e o.0 (kind_of n d) ne is)) (numeral n.lengths (kind_of n e) m x))
+      (λ t is. subst IsNumeral (sym (narrowed_other s t d e p.0 (kind_of s d) ne is)) (numeral s.lengths (kind_of s e) b y))
+      l.1
+
+  then_stays : (n : StateKinds) (e : ℕ) (p : Interval) (m : Option StateKinds) → IsRefinedAbove (Some n) m → ((t : StateKinds) → m ≡ Some t → Narrows p (kind_of t e)) → IsRefinedAbove (Some n) (option_and_then (λ (t : StateKinds). narrowed t e p (kind_of t e)) m)
+  then_stays n e p None h x = tt
+  then_stays n e p (Some t) h x = narrow_stays n t e p (kind_of t e) h refl (x t refl)
+
+  two_stay : (n s : StateKinds) (d e : ℕ) (a b : Interval) (p : Option (Interval × Interval)) → (d ≡ e → ⊥) → IsAbove n s → read_kind s d ≡ Number a → read_kind s e ≡ Number b → LeavesLess p (Some (a, b)) → IsRefinedAbove (Some n) (with_numbers s d e p)
   two_stay n s d e a b None ne h i j k = tt
   two_stay n s d e a b (Some p) ne h i j k =
-      let other : kind_of (slice_set s d (Number p.0)) e ≡ Number b = get_or-set_other s d e (Number p.0) Unset (λ q. ne (sym q)) ∙ j in
-      less_put n (slice_set s d (Number p.0)) e b p.1 (less_put n s d a p.0 h i k.0) other k.1
+      then_stays n e p.1 (narrowed s d p.0 (kind_of s d)) (one_stays n s d a b (Some p) h i k)
+      (λ t is. subst (Narrows p.1) (sym (narrowed_other s t d e p.0 (kind_of s d) ne is)) (narrows_as s.lengths (kind_of s e) b p.1 j k.1))
 
   -- where one of the larger state's kinds is no number
-  two_less : (n s : StateKinds) (w : Width) (r : Relation) (taken : Bool) (d e : ℕ) (a b : Interval) → (d ≡ e → ⊥) → IsAbove n s → kind_of s d ≡ Number a → kind_of s e ≡ Number b → IsRefinedAbove (Some n) (with_numbers s d e (branched (bits_of w) r taken a b))
-  two_less n s w r taken d e a b ne h i j = two_stay n s d e a b (branched (bits_of w) r taken a b) ne h i j (rows.narrows w r taken a b (full_at s d a h.1 i) (full_at s e b h.1 j))
+  two_less : (n s : StateKinds) (w : Width) (r : Relation) (taken : Bool) (d e : ℕ) (a b : Interval) → (d ≡ e → ⊥) → IsAbove n s → read_kind s d ≡ Number a → read_kind s e ≡ Number b → IsRefinedAbove (Some n) (with_numbers s d e (branched (bits_of w) r taken a b))
+  two_less n s w r taken d e a b ne h i j = two_stay n s d e a b (branched (bits_of w) r taken a b) ne h i j (rows.narrows w r taken a b (full_read s d a h.1 i) (full_read s e b h.1 j))
 
-  by_register : (n s : StateKinds) (w : Width) (r : Relation) (taken : Bool) (d e : ℕ) {k l u v : Kind} → (d ≡ e → ⊥) → IsAbove n s → kind_of s d ≡ l → kind_of s e ≡ v → Less k l → Less u v
+  by_register : (n s : StateKinds) (w : Width) (r : Relation) (taken : Bool) (d e : ℕ) {k l u v : Kind} → (d ≡ e → ⊥) → IsAbove n s → read_kind n d ≡ k → read_kind s d ≡ l → read_kind n e ≡ u → read_kind s e ≡ v → Less k l → Less u v
       → IsRefinedAbove (refined_by_register n w r taken d e k u) (refined_by_register s w r taken d e l v)
-  by_register n s w r taken d e ne h i j (both (numbers {a = c} {b = a} x)) (both (numbers {a = m} {b = b} y)) =
-      two_lead n s d e a b (branched (bits_of w) r taken c m) (branched (bits_of w) r taken a b) h i j (rows.branches w r taken a b c m x y)
-  by_register n s w r taken d e ne h i j (unset {l = Number a}) (both (numbers {b = b} y)) = two_less n s w r taken d e a b ne h i j
-  by_register n s w r taken d e ne h i j (unset {l = Number a}) (unset {l = Number b}) = two_less n s w r taken d e a b ne h i j
-  by_register n s w r taken d e ne h i j (both (numbers {b = a} x)) (unset {l = Number b}) = two_less n s w r taken d e a b ne h i j
-  by_register n s w r taken d e ne h i j less other = h
+  by_register n s w r taken d e ne h x i y j (both (numbers {a = c} {b = a} f)) (both (numbers {a = m} {b = b} g)) =
+      two_lead n s d e c a m b (branched (bits_of w) r taken c m) (branched (bits_of w) r taken a b) ne h x i y j (rows.branches w r taken a b c m f g)
+  by_register n s w r taken d e ne h x i y j (unset {l = Number a}) (both (numbers {b = b} g)) = two_less n s w r taken d e a b ne h i j
+  by_register n s w r taken d e ne h x i y j (unset {l = Number a}) (unset {l = Number b}) = two_less n s w r taken d e a b ne h i j
+  by_register n s w r taken d e ne h x i y j (both (numbers {b = a} f)) (unset {l = Number b}) = two_less n s w r taken d e a b ne h i j
+  by_register n s w r taken d e ne h x i y j less other = h
 
   low_word : (w : Width) (x : ℕ) → low (bits_of w) x < 2 ^ 64
   low_word W32 x = let h : low 32 x < 2 ^ 32 = low_bound 32 x in omega (arith, h)
   low_word W64 x = low_bound 64 x
 
   refined_less : (w : Width) (r : Relation) (taken : Bool) (d : ℕ) (x : Operand) (n s : StateKinds) → IsAbove n s → IsRefinedAbove (refined n w r taken d x) (refined s w r taken d x)
-  refined_less w r taken d (operands.Number z) n s h = by_number n s w r taken d (modulo 64 z) h (low_word w (modulo 64 z)) refl (less_at n s d h)
+  refined_less w r taken d (operands.Number z) n s h = by_number n s w r taken d (modulo 64 z) h (low_word w (modulo 64 z)) refl refl (less_at n s d h)
   refined_less w r taken d (operands.Register e) n s h = elim (cases_eq d e) [
     | inl q ↦ rw (eq-eqb d e q) h
-    | inr ne ↦ rw (ne_eqb d e ne) (by_register n s w r taken d e ne h refl refl (less_at n s d h) (less_at n s e h))
+    | inr ne ↦ rw (ne_eqb d e ne) (by_register n s w r taken d e ne h refl refl refl refl (less_at n s d h) (less_at n s e h))
   ]
 
   some_left : (es fs : List (ℕ × StateKinds)) (e : ℕ × StateKinds) → SomeCovers es e → SomeCovers (es ++ fs) e
@@ -451,13 +644,16 @@ module _ (rows : RowsAreMonotone) where
 
 -- ---- the entry, and joins
 
-entry_full : (len : ℕ) → len < 2 ^ 64 → IsFullState (entry_state len)
-entry_full len h = record { count = refl; kinds = at }
+entry_full : (l : Interval) → AreLengths l → IsFullState (entry_state l)
+entry_full l h = record { count = refl; kinds = at; lengths = h }
   where
-    at : (r : ℕ) → IsFullKind (kind_of (entry_state len) r)
+    length_full : IsFullKind (length_kind l)
+    length_full = elim (cases_Bool (is_single l)) [ inl e ↦ rw e (length_words l h) | inr e ↦ rw e tt ]
+
+    at : (r : ℕ) → IsFullKind (kind_of (entry_state l) r)
     at zero = tt
     at (suc zero) = tt
-    at (suc (suc zero)) = record { ordered = omega arith; words = h }
+    at (suc (suc zero)) = length_full
     at (suc (suc (suc zero))) = record { ordered = omega arith; words = omega arith }
     at (suc (suc (suc (suc zero)))) = tt
     at (suc (suc (suc (suc (suc zero))))) = tt
@@ -468,17 +664,29 @@ entry_full len h = record { count = refl; kinds = at }
     at (suc (suc (suc (suc (suc (suc (suc (suc (suc (suc zero)))))))))) = tt
     at (suc (suc (suc (suc (suc (suc (suc (suc (suc (suc (suc r))))))))))) = tt
 
-join_full : (k l : Kind) → IsFullKind k → IsFullKind l → IsFullKind (join_kinds k l)
-join_full (Number a) (Number b) h i = record { ordered = omega (arith, h.ordered, i.ordered); words = omega (arith, h.words, i.words) }
-join_full (Pointer r s) (Pointer q t) h i = elim (cases_Bool (is_same r q)) [ inl e ↦ rw e tt | inr e ↦ rw e tt ]
-join_full k l h i = tt
+joined_words : (a b : Interval) → IsInterval a → IsInterval b → IsInterval (join a b)
+joined_words a b h i = record { ordered = omega (arith, h.ordered, i.ordered); words = omega (arith, h.words, i.words) }
+
+join_full : (l m : Interval) (j k : Kind) → IsInterval l → IsInterval m → IsFullKind j → IsFullKind k → IsFullKind (join_kinds l m j k)
+join_full l m (Number a) (Number b) x y h i = joined_words a b h i
+join_full l m (Number a) Length x y h i = joined_words a m h y
+join_full l m Length (Number b) x y h i = joined_words l b x i
+join_full l m Length Length x y h i = tt
+join_full l m (Pointer r s) (Pointer q t) x y h i = elim (cases_Bool (is_same r q)) [ inl e ↦ rw e tt | inr e ↦ rw e tt ]
+join_full l m j k x y h i = tt
 
 joined_full : (a b : StateKinds) → IsFullState a → IsFullState b → IsFullState (join_states a b)
-joined_full a b h i = record { count = joined_count a b (h.count ∙ sym i.count) ∙ h.count; kinds = at }
+joined_full a b h i = record {
+  count = joined_count a b (h.count ∙ sym i.count) ∙ h.count;
+  kinds = at;
+  lengths = record { least = omega (arith, h.lengths.least, i.lengths.least); ordered = omega (arith, h.lengths.ordered, i.lengths.ordered); most = omega (arith, h.lengths.most, i.lengths.most) };
+}
   where
     at : (r : ℕ) → IsFullKind (kind_of (join_states a b) r)
     at r = elim (cases_lt r 11) [
-      | inl l ↦ subst IsFullKind (sym (joined_kind a b r (omega (arith, l, h.count)) (omega (arith, l, i.count)))) (join_full (kind_of a r) (kind_of b r) (h.kinds r) (i.kinds r))
+      | inl l ↦
+          subst IsFullKind (sym (joined_kind a b r (omega (arith, l, h.count)) (omega (arith, l, i.count))))
+          (join_full a.lengths b.lengths (kind_of a r) (kind_of b r) (length_words a.lengths h.lengths) (length_words b.lengths i.lengths) (h.kinds r) (i.kinds r))
       | inr g ↦ subst IsFullKind (sym (past (join_states a b) r (omega (arith, g, joined_count a b (h.count ∙ sym i.count), h.count)))) tt
     ]
 

@@ -1,5 +1,6 @@
 -- Where an instruction may lead, each feasible way with its state.
-use Rattle.std.specs.Prelude.{ℕ, ◌+◌, ◌==◌, Bool, true, false, List, [], ◌∷◌, ◌++◌, Option, Some, None, if◌then◌else◌, slice_set, option_map, option_to_list}
+use Rattle.std.specs.Prelude.{ℕ, ◌+◌, ◌==◌, Bool, true, false, List, [], ◌∷◌, ◌++◌, Option, Some, None, if◌then◌else◌, option_map, option_to_list}
+use Rattle.std.specs.Option.{option_and_then}
 use Rattle.bq_word.specs.Word.{bits_of, low, modulo}
 use Rattle.bq_word.specs.declared.Width.{Width}
 use Rattle.bq_word.specs.declared.Relation.{Relation}
@@ -8,21 +9,28 @@ use Rattle.bq_insn.specs.declared.insn.Insn.TheVariants as insns
 use Rattle.bq_insn.specs.declared.insn.Operand.{Operand}
 use Rattle.bq_insn.specs.declared.insn.Operand.TheVariants as operands
 use Rattle.bq_meaning.specs.Meaning.{target}
-use Rattle.bq_range.specs.Interval.{Interval, single}
+use Rattle.bq_range.specs.Interval.{Interval, single, meet}
 use Rattle.bq_range.specs.Narrow.{branched}
-use Rattle.bq_state.specs.Kinds.{StateKinds, kind_of}
+use Rattle.bq_state.specs.Kinds.{StateKinds, kind_of, read_kind, with_kind, with_lengths}
 use Rattle.bq_state.specs.declared.kind.Kind.{Kind}
-use Rattle.bq_state.specs.declared.kind.Kind.TheVariants.{Number}
+use Rattle.bq_state.specs.declared.kind.Kind.TheVariants.{Number, Length}
+
+-- the state where the number in a register of this kind is in a range; a register that holds the record's length still
+-- does, and it is the record that has a length in the range
+abbrev pub narrowed : StateKinds → ℕ → Interval → Kind → Option StateKinds
+narrowed state r a Length = option_map (with_lengths state) (meet state.lengths a)
+narrowed state r a k = Some (with_kind state r (Number a))
 
 -- the state on an edge of a comparison of a register with a number
 abbrev pub with_number : StateKinds → ℕ → Option (Interval × Interval) → Option StateKinds
 with_number state d None = None
-with_number state d (Some p) = Some (slice_set state d (Number p.0))
+with_number state d (Some p) = narrowed state d p.0 (kind_of state d)
 
 -- the same of two registers
 abbrev pub with_numbers : StateKinds → ℕ → ℕ → Option (Interval × Interval) → Option StateKinds
 with_numbers state d s None = None
-with_numbers state d s (Some p) = Some (slice_set (slice_set state d (Number p.0)) s (Number p.1))
+with_numbers state d s (Some p) =
+    option_and_then (λ (t : StateKinds). narrowed t s p.1 (kind_of t s)) (narrowed state d p.0 (kind_of state d))
 
 abbrev pub refined_by_number : StateKinds → Width → Relation → Bool → ℕ → ℕ → Kind → Option StateKinds
 refined_by_number state w r taken d n (Number a) = with_number state d (branched (bits_of w) r taken a (single (low (bits_of w) n)))
@@ -35,9 +43,9 @@ refined_by_register state w r taken d s k l = Some state
 -- the state of a branch on the edge that is taken or the one that is not; None where that edge is not feasible.
 -- One register compared with itself tells nothing
 abbrev pub refined : StateKinds → Width → Relation → Bool → ℕ → Operand → Option StateKinds
-refined state w r taken d (operands.Number z) = refined_by_number state w r taken d (modulo 64 z) (kind_of state d)
+refined state w r taken d (operands.Number z) = refined_by_number state w r taken d (modulo 64 z) (read_kind state d)
 refined state w r taken d (operands.Register s) =
-    if d == s then Some state else refined_by_register state w r taken d s (kind_of state d) (kind_of state s)
+    if d == s then Some state else refined_by_register state w r taken d s (read_kind state d) (read_kind state s)
 
 -- one edge, if it is feasible
 abbrev pub along : ℕ → Option StateKinds → List (ℕ × StateKinds)

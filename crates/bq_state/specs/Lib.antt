@@ -8,3 +8,4 @@ pub mod Listed
 pub mod Reasons
 pub mod Regions
 pub mod Monotone
+pub mod Plain

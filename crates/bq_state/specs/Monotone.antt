@@ -1,12 +1,12 @@
 -- Of less an instruction leaves less, and so does each edge: what covers a state before covers it after.
-use Rattle.std.specs.Prelude.{◌≡◌, ◌⊎◌, ⊤, ℕ, ◌<◌, ◌^◌, List, [], ◌∷◌, length, Bool, Option, Some, None, Ok}
+use Rattle.std.specs.Prelude.{◌≡◌, ◌⊎◌, ⊤, ℕ, List, [], ◌∷◌, length, Bool, Option, Some, None, Ok}
 use Rattle.bq_word.specs.declared.Width.{Width}
 use Rattle.bq_word.specs.declared.Relation.{Relation}
 use Rattle.bq_insn.specs.Insn.{IsInsn}
 use Rattle.bq_insn.specs.declared.insn.Insn.{Insn}
 use Rattle.bq_insn.specs.declared.insn.Operand.{Operand}
-use Rattle.bq_range.specs.Interval.{IsInterval}
-use Rattle.bq_state.specs.Kinds.{StateKinds, kind_of, StateCovers, join_states, entry_state}
+use Rattle.bq_range.specs.Interval.{Interval, IsInterval}
+use Rattle.bq_state.specs.Kinds.{StateKinds, AreLengths, kind_of, StateCovers, join_states, entry_state}
 use Rattle.bq_state.specs.Rules.{transfer}
 use Rattle.bq_state.specs.Edges.{refined, edges}
 use Rattle.bq_state.specs.declared.kind.Kind.{Kind}
@@ -17,10 +17,11 @@ abbrev pub IsFullKind : Kind → Type 0
 IsFullKind (Number a) = IsInterval a
 IsFullKind k = ⊤
 
--- eleven kinds, whose ranges are of words
+-- eleven kinds, whose ranges are of words, and lengths of records
 pub record IsFullState (s : StateKinds) : Type 0 where
-  pub count : length s ≡ 11
+  pub count : length s.kinds ≡ 11
   pub kinds : (r : ℕ) → IsFullKind (kind_of s r)
+  pub lengths : AreLengths s.lengths
 
 -- the second state is full, and the first covers it
 abbrev pub IsAbove : StateKinds → StateKinds → Type 0
@@ -47,13 +48,13 @@ pub record StatesAreOrdered : Type 0 where
   pub itself : (a : StateKinds) → StateCovers a a
   pub through : (a b c : StateKinds) → StateCovers a b → StateCovers b c → StateCovers a c
   pub joined : (a b : StateKinds) → StateCovers (join_states a b) a × StateCovers (join_states a b) b
-  pub least : (a b c : StateKinds) → length a ≡ length b → StateCovers c a → StateCovers c b → StateCovers c (join_states a b)
+  pub least : (a b c : StateKinds) → length a.kinds ≡ length b.kinds → StateCovers c a → StateCovers c b → StateCovers c (join_states a b)
 
 -- where an instruction breaks no rule of a state it breaks none of a state below, and what it leaves, each edge of a
 -- branch, the edges of an instruction and the join of two states stay above; the entry is full
 pub record StatesAreMonotone : Type 0 where
-  pub entry : (len : ℕ) → len < 2 ^ 64 → IsFullState (entry_state len)
+  pub entry : (l : Interval) → AreLengths l → IsFullState (entry_state l)
   pub joins : (n m a b : StateKinds) → IsAbove n a → IsAbove m b → IsAbove (join_states n m) (join_states a b)
-  pub transfers : (len : ℕ) (i : Insn) (n s after : StateKinds) → IsInsn i → IsAbove n s → transfer len i n ≡ Ok after → (left : StateKinds) × (transfer len i s ≡ Ok left) × IsAbove after left
+  pub transfers : (i : Insn) (n s after : StateKinds) → IsInsn i → IsAbove n s → transfer i n ≡ Ok after → (left : StateKinds) × (transfer i s ≡ Ok left) × IsAbove after left
   pub refinements : (w : Width) (r : Relation) (taken : Bool) (d : ℕ) (x : Operand) (n s : StateKinds) → IsAbove n s → IsRefinedAbove (refined n w r taken d x) (refined s w r taken d x)
   pub leads : (unit : ℕ) (i : Insn) (n s : StateKinds) → IsAbove n s → AreEdgesAbove (edges unit i n) (edges unit i s)

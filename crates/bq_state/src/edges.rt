@@ -4,8 +4,8 @@ ghost use Rattle.std.specs.Prelude.{◌≡◌, ◌<◌, [], ◌∷◌};
 ghost use Rattle.bq_word.specs.Word.{bits_of, low, modulo};
 ghost use Rattle.bq_meaning.specs.Meaning.{target};
 ghost use Rattle.bq_range.specs.Interval.{Interval};
-ghost use Rattle.bq_state.specs.Kinds.{kind_of};
-ghost use Rattle.bq_state.specs.Edges.{refined, refined_by_number, refined_by_register, along, edges};
+ghost use Rattle.bq_state.specs.Kinds.{kind_of, read_kind};
+ghost use Rattle.bq_state.specs.Edges.{narrowed, with_number, with_numbers, refined, refined_by_number, refined_by_register, along, edges};
 ghost use Rattle.bq_state.specs.Listed.{edge_list, listed};
 
 use crate::kind::Kind;
@@ -53,6 +53,16 @@ fn target(unit: u64, distance: i32) -> u64
 }
 
 impl State {
+    // The state where the number in a register is in a range: one that holds the record's length says so of the record.
+    fn narrow(&self, register: Register, range: Range) -> Option<State>
+        ensures { result ≡ narrowed self.now register range (kind_of self.now register) }
+    {
+        match self.kind(register.number()) {
+            Kind::Length => Some(self.with_lengths(self.lengths().meet(range)?)),
+            _ => Some(self.with(register, Kind::Number(range))),
+        }
+    }
+
     fn refine_by_number(
         &self,
         width: Width,
@@ -61,14 +71,14 @@ impl State {
         dst: Register,
         word: u64,
     ) -> Option<State>
-        ensures { result ≡ refined_by_number self.now width relation taken dst word (kind_of self.now dst) }
+        ensures { result ≡ refined_by_number self.now width relation taken dst word (read_kind self.now dst) }
     {
-        let Kind::Number(a) = self.kind(dst.number()) else {
+        let Kind::Number(a) = self.read(dst) else {
             return Some(*self);
         };
         let b = Range::single(low(width, word));
         let (a, _) = Range::narrow(width, relation, taken, a, b)?;
-        Some(self.with(dst, Kind::Number(a)))
+        self.narrow(dst, a)
     }
 
     fn refine_by_register(
@@ -79,16 +89,16 @@ impl State {
         dst: Register,
         src: Register,
     ) -> Option<State>
-        ensures { result ≡ refined_by_register self.now width relation taken dst src (kind_of self.now dst) (kind_of self.now src) }
+        ensures { result ≡ refined_by_register self.now width relation taken dst src (read_kind self.now dst) (read_kind self.now src) }
     {
-        let Kind::Number(a) = self.kind(dst.number()) else {
+        let Kind::Number(a) = self.read(dst) else {
             return Some(*self);
         };
-        let Kind::Number(b) = self.kind(src.number()) else {
+        let Kind::Number(b) = self.read(src) else {
             return Some(*self);
         };
         let (a, b) = Range::narrow(width, relation, taken, a, b)?;
-        Some(self.with(dst, Kind::Number(a)).with(src, Kind::Number(b)))
+        self.narrow(dst, a)?.narrow(src, b)
     }
 
     /// What is known on an edge of a branch on a relation: the edge where it holds, with `taken`, or

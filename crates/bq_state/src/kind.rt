@@ -1,14 +1,15 @@
 //! Kinds: what is known of one register.
 
-ghost use Rattle.std.specs.Prelude.{◌≡◌, ◌↔◌, IsTrue};
-ghost use Rattle.bq_meaning.specs.Place.{record_length};
-ghost use Rattle.bq_state.specs.Kinds.{KindCovers, join_kinds};
-ghost use Rattle.bq_state.specs.Rules.{inside, known, number, readable, storable, sum_kind, difference_kind, pointer_kind, alu_kind};
-ghost use Rattle.bq_range.specs.Interval.{Interval};
+ghost use Rattle.std.specs.Prelude.{◌≡◌, ◌↔◌, IsTrue, Ok, Err, if◌then◌else◌};
+ghost use Rattle.bq_state.specs.Kinds.{KindCovers, as_number, join_kinds};
+ghost use Rattle.bq_state.specs.Offsets.{fits};
+ghost use Rattle.bq_state.specs.Rules.{inside, known, number, readable, storable, sum_kind, difference_kind, pointer_kind, operated_kind, alu_kind};
 
+use crate::bounds::Bounds;
 use crate::offsets::Offsets;
 use crate::region::Region;
 use crate::rule::Rule;
+use bq_meaning::placement::FRAME_LENGTH;
 use bq_range::range::Range;
 use bq_word::{AluOp, Width};
 
@@ -21,45 +22,75 @@ pub enum Kind {
     Number(Range),
     /// The start of a region plus one of these offsets.
     Pointer(Region, Offsets),
+    /// The number of the record's bytes.
+    Length,
 }
 
 // Whether so many bytes at a distance from there lie in the region.
-fn in_region(region: Region, at: Offsets, offset: i16, size: u32) -> Result<(), Rule>
-    ensures { result ≡ inside record_length region at offset size }
+fn in_region(
+    lengths: Bounds,
+    region: Region,
+    at: Offsets,
+    offset: i16,
+    size: u32,
+) -> Result<(), Rule>
+    ensures { result ≡ inside lengths region at offset size }
 {
-    if at.fits(offset, size, region.length()) {
+    if at.fits(offset, size, region.length(lengths)) {
         Ok(())
     } else {
         Err(region.outside())
     }
 }
 
+// Whether so many bytes at a distance from there lie in the frame.
+fn in_frame(at: Offsets, offset: i16, size: u32) -> Result<(), Rule>
+    ensures { result ≡ (if fits at offset size 512 then Ok tt else Err Rule.OutsideFrame) }
+{
+    if at.fits(offset, size, FRAME_LENGTH as u32) {
+        Ok(())
+    } else {
+        Err(Rule::OutsideFrame)
+    }
+}
+
 impl Kind {
-    // Whether what holds of the other holds of this one.
-    pub(crate) fn covers(self, other: Kind) -> bool
-        ensures { IsTrue result ↔ KindCovers self other }
+    // Whether what holds of the other, where records have these lengths, holds of this one.
+    pub(crate) fn covers(self, other: Kind, lengths: Bounds) -> bool
+        ensures { IsTrue result ↔ KindCovers lengths self other }
     {
         match self {
             Kind::Unset => true,
             Kind::Number(a) => match other {
                 Kind::Number(b) => a.covers(b),
+                Kind::Length => a.covers(lengths.range()),
                 _ => false,
             },
             Kind::Pointer(region, a) => match other {
                 Kind::Pointer(into, b) => region == into && a.covers(b),
                 _ => false,
             },
+            Kind::Length => match other {
+                Kind::Length => true,
+                _ => false,
+            },
         }
     }
 
-    // The least kind that covers both.
-    pub(crate) fn join(self, other: Kind) -> Kind
-        ensures { result ≡ join_kinds self other }
+    // The least kind that covers both, each where records have its lengths.
+    pub(crate) fn join(self, lengths: Bounds, other: Kind, others: Bounds) -> Kind
+        ensures { result ≡ join_kinds lengths others self other }
     {
         match self {
             Kind::Unset => Kind::Unset,
             Kind::Number(a) => match other {
                 Kind::Number(b) => Kind::Number(a.join(b)),
+                Kind::Length => Kind::Number(a.join(others.range())),
+                _ => Kind::Unset,
+            },
+            Kind::Length => match other {
+                Kind::Number(b) => Kind::Number(lengths.range().join(b)),
+                Kind::Length => Kind::Length,
                 _ => Kind::Unset,
             },
             Kind::Pointer(region, a) => match other {
@@ -72,6 +103,16 @@ impl Kind {
                 }
                 _ => Kind::Unset,
             },
+        }
+    }
+
+    // What it is where its number is asked for: a length is one of these.
+    pub(crate) fn as_number(self, lengths: Bounds) -> Kind
+        ensures { result ≡ as_number lengths self }
+    {
+        match self {
+            Kind::Length => Kind::Number(lengths.range()),
+            kind => kind,
         }
     }
 
@@ -96,11 +137,11 @@ impl Kind {
     }
 
     // Whether so many bytes may be read at a distance from there.
-    pub(crate) fn readable(self, offset: i16, size: u32) -> Result<(), Rule>
-        ensures { result ≡ readable record_length self offset size }
+    pub(crate) fn readable(self, lengths: Bounds, offset: i16, size: u32) -> Result<(), Rule>
+        ensures { result ≡ readable lengths self offset size }
     {
         match self {
-            Kind::Pointer(region, at) => in_region(region, at, offset, size),
+            Kind::Pointer(region, at) => in_region(lengths, region, at, offset, size),
             _ => Err(Rule::WrongKind),
         }
     }
@@ -114,7 +155,7 @@ impl Kind {
         };
         match self {
             Kind::Pointer(region, at) => match region {
-                Region::Frame => in_region(region, at, offset, size),
+                Region::Frame => in_frame(at, offset, size),
                 Region::Record => Err(Rule::RecordWritten),
             },
             _ => Err(Rule::WrongKind),
@@ -126,7 +167,6 @@ impl Kind {
         ensures { result ≡ sum_kind self other }
     {
         match self {
-            Kind::Unset => None,
             Kind::Number(by) => match other {
                 Kind::Pointer(region, at) => Some(Kind::Pointer(region, at.moved_on(by)?)),
                 _ => None,
@@ -135,6 +175,7 @@ impl Kind {
                 Kind::Number(by) => Some(Kind::Pointer(region, at.moved_on(by)?)),
                 _ => None,
             },
+            _ => None,
         }
     }
 
@@ -158,7 +199,6 @@ impl Kind {
         match width {
             Width::W32 => None,
             Width::W64 => match op {
-                AluOp::Mov => Some(b),
                 AluOp::Add => a.sum(b),
                 AluOp::Sub => a.difference(b),
                 _ => None,
@@ -166,9 +206,9 @@ impl Kind {
         }
     }
 
-    // What an operation makes of two kinds, where it is allowed.
-    pub(crate) fn alu(width: Width, op: AluOp, a: Kind, b: Kind) -> Option<Kind>
-        ensures { result ≡ alu_kind width op a b }
+    // What an operation makes of two kinds whose numbers it takes, where it is allowed.
+    fn operated(width: Width, op: AluOp, a: Kind, b: Kind) -> Option<Kind>
+        ensures { result ≡ operated_kind width op a b }
     {
         match a {
             Kind::Number(x) => match b {
@@ -176,6 +216,16 @@ impl Kind {
                 _ => Kind::pointer(width, op, a, b),
             },
             _ => Kind::pointer(width, op, a, b),
+        }
+    }
+
+    // What an operation makes of two kinds, where it is allowed: a move of 64 bits copies the second.
+    pub(crate) fn alu(lengths: Bounds, width: Width, op: AluOp, a: Kind, b: Kind) -> Option<Kind>
+        ensures { result ≡ alu_kind lengths width op a b }
+    {
+        match (width, op) {
+            (Width::W64, AluOp::Mov) => Some(b),
+            _ => Kind::operated(width, op, a, b.as_number(lengths)),
         }
     }
 }

@@ -7,10 +7,12 @@ ghost use Rattle.bq_word.specs.declared.Width.{Width};
 ghost use Rattle.bq_word.specs.declared.Relation.{Relation};
 ghost use Rattle.bq_insn.specs.declared.insn.Insn.{Insn};
 ghost use Rattle.bq_insn.specs.declared.insn.Operand.{Operand};
+ghost use Rattle.bq_range.specs.Interval.{Interval};
 ghost use Rattle.bq_state.specs.Kinds.{StateKinds, join_states, entry_state};
 ghost use Rattle.bq_state.specs.Rules.{transfer};
 ghost use Rattle.bq_state.specs.Edges.{refined, edges};
 ghost use Rattle.bq_state.specs.Monotone.{StatesAreOrdered, StatesAreMonotone};
+ghost use Rattle.bq_state.specs.Plain.{StaysPlain};
 
 use bq_range::laws::rows_are_monotone;
 
@@ -29,27 +31,33 @@ pub fn states_are_monotone()
     rows_are_monotone();
 }
 
+/// Where records have one length, the state at the entry knows no register as that length, and so does what comes of
+/// such states: it tells the length by its number.
+pub fn states_stay_plain()
+    ensures { (n : ℕ) → StaysPlain n }
+{}
+
 /// The state at the entry has eleven kinds.
 pub fn entry_has_eleven()
-    ensures { (len : ℕ) → length (entry_state len) ≡ 11 }
+    ensures { (l : Interval) → length (entry_state l).kinds ≡ 11 }
 {}
 
 /// The join of two states of as many registers has as many.
 pub fn join_keeps_count()
-    ensures { (a b : StateKinds) → length a ≡ length b → length (join_states a b) ≡ length a }
+    ensures { (a b : StateKinds) → length a.kinds ≡ length b.kinds → length (join_states a b).kinds ≡ length a.kinds }
 {}
 
 /// An instruction leaves a state of as many registers.
 pub fn transfer_keeps_count()
-    ensures { (len : ℕ) (i : Insn) (a b : StateKinds) → transfer len i a ≡ Ok b → length b ≡ length a }
+    ensures { (i : Insn) (a b : StateKinds) → transfer i a ≡ Ok b → length b.kinds ≡ length a.kinds }
 {}
 
 /// So does each edge of a branch.
 pub fn refined_keeps_count()
-    ensures { (a b : StateKinds) (w : Width) (r : Relation) (taken : Bool) (d : ℕ) (x : Operand) → refined a w r taken d x ≡ Some b → length b ≡ length a }
+    ensures { (a b : StateKinds) (w : Width) (r : Relation) (taken : Bool) (d : ℕ) (x : Operand) → refined a w r taken d x ≡ Some b → length b.kinds ≡ length a.kinds }
 {}
 
 /// So does each edge of an instruction.
 pub fn edges_keep_count()
-    ensures { (unit : ℕ) (i : Insn) (a : StateKinds) → All (λ e. length e.1 ≡ length a) (edges unit i a) }
+    ensures { (unit : ℕ) (i : Insn) (a : StateKinds) → All (λ e. length e.1.kinds ≡ length a.kinds) (edges unit i a) }
 {}

@@ -1,9 +1,10 @@
 //! What is known of a machine at a unit of a program, and the rules of the checker.
 //!
-//! A [`State`] says of each of the eleven registers what is known of it, its [`Kind`]: nothing, a
-//! number in a range, or a pointer to a [`Region`], the frame or the record, plus one of a range of
-//! [`Offsets`].
-//! Offsets lie within -65,536 to 65,536.
+//! A [`State`] says which lengths the record may have, its [`Bounds`], and of each of the eleven registers what is known
+//! of it, its [`Kind`]: nothing, a number in a range, a pointer to a [`Region`], the frame or the record, plus one of a
+//! range of [`Offsets`], or that it holds the record's length. Offsets lie within -65,536 to 65,536, lengths within 16 to
+//! 128. A length is a number wherever a number is allowed, a move of 64 bits copies it, and a branch on it narrows the
+//! lengths that the record may have.
 //!
 //! - [`State::entry`] is the state at the entry of a run over a record.
 //! - [`State::transfer`] gives the state that an instruction leaves, or the first [`Rule`] that it
@@ -11,7 +12,7 @@
 //!   that is written is not r10 (28 FramePointerWritten), operands have the kinds that the operation
 //!   takes (24 WrongKind, and 30 AnswerKind for the answer), a store's region is the frame (27
 //!   RecordWritten), and the bytes of an access lie in its region (25 OutsideFrame, 26
-//!   OutsideRecord).
+//!   OutsideRecord); the record has as many bytes as its least length.
 //! - [`State::edges`] gives the units where control may go on, each with its state: a branch narrows
 //!   the ranges that it compares, and an edge that no numbers lead to is left out.
 //! - [`State::covers`] compares states, and [`State::join`] gives the least that covers two.
@@ -32,12 +33,14 @@
 //! [`State::edges`]: state::State::edges
 //! [`State::covers`]: state::State::covers
 //! [`State::join`]: state::State::join
+//! [`Bounds`]: bounds::Bounds
 //! [`Kind`]: kind::Kind
 //! [`Offsets`]: offsets::Offsets
 //! [`Region`]: region::Region
 //! [`Rule`]: rule::Rule
 #![tactic(auto)]
 
+pub mod bounds;
 pub mod edges;
 pub mod kind;
 pub mod laws;

@@ -1,12 +1,12 @@
 //! Regions of memory.
 
 ghost use Rattle.std.specs.Prelude.{◌≡◌};
-ghost use Rattle.bq_meaning.specs.Place.{record_length};
 ghost use Rattle.bq_state.specs.Regions.{region_name};
 ghost use Rattle.bq_state.specs.Rules.{extent, outside};
 
+use crate::bounds::Bounds;
 use crate::rule::Rule;
-use bq_meaning::placement::{FRAME_LENGTH, RECORD_LENGTH};
+use bq_meaning::placement::FRAME_LENGTH;
 
 /// What a pointer points into.
 #[derive(Clone, Copy, Debug, PartialEq, Eq)]
@@ -28,13 +28,13 @@ impl Region {
         }
     }
 
-    // How many bytes it has.
-    pub(crate) fn length(self) -> u32
-        ensures { result ≡ extent record_length self }
+    // How many bytes it has at least, where records have these lengths.
+    pub(crate) fn length(self, lengths: Bounds) -> u32
+        ensures { result ≡ extent lengths self }
     {
         match self {
             Region::Frame => FRAME_LENGTH as u32,
-            Region::Record => RECORD_LENGTH as u32,
+            Region::Record => u32::from(lengths.least()),
         }
     }
 

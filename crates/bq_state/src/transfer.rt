@@ -2,9 +2,8 @@
 
 ghost use Rattle.std.specs.Prelude.{◌≡◌, ℤ};
 ghost use Rattle.bq_word.specs.Word.{swap_bits, modulo};
-ghost use Rattle.bq_meaning.specs.Place.{record_length};
-ghost use Rattle.bq_state.specs.Kinds.{kind_of};
-ghost use Rattle.bq_state.specs.Rules.{and_then, known, number, writable, allowed, ordered_range, operand_kind, taken_kind, loaded_state, transfer};
+ghost use Rattle.bq_state.specs.Kinds.{read_kind};
+ghost use Rattle.bq_state.specs.Rules.{and_then, known, number, writable, allowed, ordered_range, operand_kind, read_operand, taken_kind, loaded_state, transfer};
 
 use crate::kind::Kind;
 use crate::rule::Rule;
@@ -57,13 +56,20 @@ impl State {
         }
     }
 
+    // An operand whose number is asked for.
+    fn read_operand(&self, operand: Operand) -> Kind
+        ensures { result ≡ read_operand self.now operand }
+    {
+        self.operand(operand).as_number(self.lengths())
+    }
+
     // What an operation reads of its destination; a move reads nothing there.
     fn taken(&self, op: AluOp, dst: Register) -> Kind
         ensures { result ≡ taken_kind self.now op dst }
     {
         match op {
             AluOp::Mov => Kind::Number(Range::single(0)),
-            _ => self.kind(dst.number()),
+            _ => self.read(dst),
         }
     }
 
@@ -74,33 +80,33 @@ impl State {
         dst: Register,
         operand: Operand,
     ) -> Result<State, Rule>
-        ensures { result ≡ transfer record_length (Insn.Alu width op dst operand) self.now }
+        ensures { result ≡ transfer (Insn.Alu width op dst operand) self.now }
     {
         let a = self.taken(op, dst).known()?;
         let b = self.operand(operand).known()?;
         writable(dst)?;
-        let kind = allowed(Kind::alu(width, op, a, b))?;
+        let kind = allowed(Kind::alu(self.lengths(), width, op, a, b))?;
         Ok(self.with(dst, kind))
     }
 
     // The number in a register from which an instruction makes one in `dst`.
     fn source(&self, dst: Register, src: Register) -> Result<Range, Rule>
-        ensures { result ≡ and_then (known (kind_of self.now src)) (λ k. and_then (writable dst) (λ _. number Rule.WrongKind k)) }
+        ensures { result ≡ and_then (known (read_kind self.now src)) (λ k. and_then (writable dst) (λ _. number Rule.WrongKind k)) }
     {
-        let kind = self.kind(src.number()).known()?;
+        let kind = self.read(src).known()?;
         writable(dst)?;
         kind.number(Rule::WrongKind)
     }
 
     fn negate(&self, width: Width, dst: Register) -> Result<State, Rule>
-        ensures { result ≡ transfer record_length (Insn.Negate width dst) self.now }
+        ensures { result ≡ transfer (Insn.Negate width dst) self.now }
     {
         let range = self.source(dst, dst)?;
         Ok(self.with(dst, Kind::Number(Range::negate(width, range))))
     }
 
     fn extend(&self, extension: Extension, dst: Register, src: Register) -> Result<State, Rule>
-        ensures { result ≡ transfer record_length (Insn.Extend extension dst src) self.now }
+        ensures { result ≡ transfer (Insn.Extend extension dst src) self.now }
     {
         let range = self.source(dst, src)?;
         Ok(self.with(
@@ -110,26 +116,29 @@ impl State {
     }
 
     fn order(&self, order: ByteOrder, bits: SwapBits, dst: Register) -> Result<State, Rule>
-        ensures { result ≡ transfer record_length (Insn.Order order bits dst) self.now }
+        ensures { result ≡ transfer (Insn.Order order bits dst) self.now }
     {
         let range = self.source(dst, dst)?;
         Ok(self.with(dst, Kind::Number(ordered(order, bits, range))))
     }
 
     fn branch(&self, dst: Register, operand: Operand) -> Result<State, Rule>
-        ensures { (w : Width) (r : Relation) (z : ℤ) → result ≡ transfer record_length (Insn.Branch w r dst operand z) self.now }
+        ensures { (w : Width) (r : Relation) (z : ℤ) → result ≡ transfer (Insn.Branch w r dst operand z) self.now }
     {
-        let a = self.kind(dst.number()).known()?;
-        let b = self.operand(operand).known()?;
+        let a = self.read(dst).known()?;
+        let b = self.read_operand(operand).known()?;
         a.number(Rule::WrongKind)?;
         b.number(Rule::WrongKind)?;
         Ok(*self)
     }
 
     fn exit(&self) -> Result<State, Rule>
-        ensures { result ≡ transfer record_length Insn.Exit self.now }
+        ensures { result ≡ transfer Insn.Exit self.now }
     {
-        self.kind(0).known()?.number(Rule::AnswerKind)?;
+        self.kind(0)
+            .as_number(self.lengths())
+            .known()?
+            .number(Rule::AnswerKind)?;
         Ok(*self)
     }
 
@@ -142,25 +151,25 @@ impl State {
         size: u32,
         range: Range,
     ) -> Result<State, Rule>
-        ensures { result ≡ loaded_state record_length self.now dst base offset size range }
+        ensures { result ≡ loaded_state self.now dst base offset size range }
     {
-        let from = self.kind(base.number()).known()?;
+        let from = self.read(base).known()?;
         writable(dst)?;
-        from.readable(offset, size)?;
+        from.readable(self.lengths(), offset, size)?;
         Ok(self.with(dst, Kind::Number(range)))
     }
 
     fn store(&self, size: Size, base: Register, offset: i16, value: Operand) -> Result<State, Rule>
-        ensures { result ≡ transfer record_length (Insn.Store size base offset value) self.now }
+        ensures { result ≡ transfer (Insn.Store size base offset value) self.now }
     {
-        let to = self.kind(base.number()).known()?;
-        let value = self.operand(value).known()?;
+        let to = self.read(base).known()?;
+        let value = self.read_operand(value).known()?;
         to.storable(value, offset, size.bytes())?;
         Ok(*self)
     }
 
     fn wide(&self, dst: Register, value: u64) -> Result<State, Rule>
-        ensures { result ≡ transfer record_length (Insn.Wide dst value) self.now }
+        ensures { result ≡ transfer (Insn.Wide dst value) self.now }
     {
         writable(dst)?;
         Ok(self.with(dst, Kind::Number(Range::single(value))))
@@ -168,7 +177,7 @@ impl State {
 
     /// The state after an instruction, or the first rule that it breaks.
     pub fn transfer(&self, insn: &Insn) -> Result<State, Rule>
-        ensures { result ≡ transfer record_length insn.now self.now }
+        ensures { result ≡ transfer insn.now self.now }
     {
         match *insn {
             Insn::Alu {

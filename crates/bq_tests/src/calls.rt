@@ -24,6 +24,7 @@ use bq_meaning::machine::Machine;
 use bq_meaning::placement::Placement;
 use bq_meaning::step::{Step, step_checked};
 use bq_range::range::Range;
+use bq_state::bounds::Bounds;
 use bq_state::kind::Kind;
 use bq_state::offsets::Offsets;
 use bq_state::region::Region;
@@ -119,7 +120,7 @@ fn ranges_and_offsets_cover(rt: HostRuntime) {
 fn nothing_but(kind: Kind) -> State {
     let mut kinds = [Kind::Unset; 11];
     kinds[0] = kind;
-    State::new(kinds)
+    State::new(kinds, Bounds::of_views())
 }
 
 #[test]
@@ -141,7 +142,10 @@ fn certificates_keep_text_and_notes(rt: HostRuntime) -> Result<(), Fail> {
     notes.are_notes();
     let certified = check(rt.alloc(), text, notes)?;
     assert_eq!(rt; certified.text().units(), 2);
-    assert_eq!(rt; certified.notes().at(0), Some(State::entry()));
+    assert_eq!(rt;
+        certified.notes().at(0),
+        Some(State::entry(Bounds::of_views()))
+    );
     Ok(())
 }
 

@@ -7,8 +7,7 @@ use Rattle.bq_insn.specs.Slots.{units, IsText, insn_at}
 use Rattle.bq_insn.specs.declared.insn.Insn.{Insn}
 use Rattle.bq_flow.specs.Paths.{IsLegalFlow}
 use Rattle.bq_flow.proofs.Units.{insn_within}
-use Rattle.bq_meaning.specs.Place.{record_length}
-use Rattle.bq_state.specs.Kinds.{StateKinds, entry_state}
+use Rattle.bq_state.specs.Kinds.{StateKinds, entry_state, view_lengths}
 use Rattle.bq_state.specs.Rules.{transfer}
 use Rattle.bq_state.specs.Edges.{edges}
 use Rattle.bq_sound.specs.Passes.{note_at}
@@ -81,7 +80,7 @@ kept text unit v notes es count l before =
 
 -- ---- one more unit
 
-pub filled_on : (text : List Insn) (notes : Notes) (n : ℕ) (i : Insn) (state after : StateKinds) → IsText text → IsFilled text notes n → insn_at text n ≡ Some i → note_at notes n ≡ Some state → transfer record_length i state ≡ Ok after
+pub filled_on : (text : List Insn) (notes : Notes) (n : ℕ) (i : Insn) (state after : StateKinds) → IsText text → IsFilled text notes n → insn_at text n ≡ Some i → note_at notes n ≡ Some state → transfer i state ≡ Ok after
     → IsFilled text (with_arrivals notes (edges n i after)) (n + 1)
 filled_on text notes n i state after text_is h there here passed = record {
   legal = h.legal;
@@ -105,7 +104,7 @@ filled_on text notes n i state after text_is h there here passed = record {
     more unit within =
         arrivals_at notes es unit (all_within text n notes es h.states.count lead) ∙ ap (λ edges. extended (note_at notes unit) (leading_to unit edges)) (sym are)
 
-    unbroken : (unit : ℕ) (j : Insn) (s : StateKinds) → unit < n + 1 → insn_at text unit ≡ Some j → note_at (with_arrivals notes es) unit ≡ Some s → (a : StateKinds) × (transfer record_length j s ≡ Ok a)
+    unbroken : (unit : ℕ) (j : Insn) (s : StateKinds) → unit < n + 1 → insn_at text unit ≡ Some j → note_at (with_arrivals notes es) unit ≡ Some s → (a : StateKinds) × (transfer j s ≡ Ok a)
     unbroken unit j s l begins noted = elim (cases_lt unit n) [
       | inl k ↦ h.unbroken.each unit j s k begins (sym (same unit l) ∙ noted)
       | inr g ↦
@@ -114,7 +113,7 @@ filled_on text notes n i state after text_is h there here passed = record {
           let second : Some state ≡ Some s = sym here ∙ (sym (same n (omega arith)) ∙ subst (λ u. note_at (with_arrivals notes es) u ≡ Some s) e noted) in
           let is : i ≡ j = cc in
           let was : state ≡ s = cc in
-          (after, subst (λ k. transfer record_length k s ≡ Ok after) is (subst (λ k. transfer record_length i k ≡ Ok after) was passed))
+          (after, subst (λ k. transfer k s ≡ Ok after) is (subst (λ k. transfer i k ≡ Ok after) was passed))
     ]
 
 -- a unit where no instruction begins, or that nothing reaches
@@ -127,7 +126,7 @@ filled_past text notes n h empty never = record {
   unbroken = record { each = unbroken };
 }
   where
-    unbroken : (unit : ℕ) (j : Insn) (s : StateKinds) → unit < n + 1 → insn_at text unit ≡ Some j → note_at notes unit ≡ Some s → (a : StateKinds) × (transfer record_length j s ≡ Ok a)
+    unbroken : (unit : ℕ) (j : Insn) (s : StateKinds) → unit < n + 1 → insn_at text unit ≡ Some j → note_at notes unit ≡ Some s → (a : StateKinds) × (transfer j s ≡ Ok a)
     unbroken unit j s l begins noted = elim (cases_lt unit n) [
       | inl k ↦ h.unbroken.each unit j s k begins noted
       | inr g ↦
@@ -137,23 +136,23 @@ filled_past text notes n h empty never = record {
 
 -- ---- the table before the first unit
 
-pub filled_first : (text : List Insn) (notes : Notes) → IsText text → IsLegalFlow text → length notes ≡ units text → ((v : ℕ) → note_at notes v ≡ None) → IsFilled text (slice_set notes 0 (Some (entry_state record_length))) 0
+pub filled_first : (text : List Insn) (notes : Notes) → IsText text → IsLegalFlow text → length notes ≡ units text → ((v : ℕ) → note_at notes v ≡ None) → IsFilled text (slice_set notes 0 (Some (entry_state view_lengths))) 0
 filled_first text notes text_is legal count empty = record {
   legal = legal;
-  states = record { count = length-set notes 0 (Some (entry_state record_length)) ∙ count; each = λ unit within. at unit };
+  states = record { count = length-set notes 0 (Some (entry_state view_lengths)) ∙ count; each = λ unit within. at unit };
   unbroken = record { each = λ unit i s l. absurd (omega (arith, l)) };
 }
   where
-    at : (unit : ℕ) → note_at (slice_set notes 0 (Some (entry_state record_length))) unit ≡ joined (if unit == 0 then entry_state record_length ∷ [] else [])
+    at : (unit : ℕ) → note_at (slice_set notes 0 (Some (entry_state view_lengths))) unit ≡ joined (if unit == 0 then entry_state view_lengths ∷ [] else [])
     at unit = elim (cases_Bool (unit == 0)) [
       | inl t ↦
           let e : unit ≡ 0 = eqb-true unit 0 t in
           let some = text_is.some in
-          let first : note_at (slice_set notes 0 (Some (entry_state record_length))) 0 ≡ Some (entry_state record_length) = get_or-set_same notes 0 (Some (entry_state record_length)) None (omega (arith, some, count)) in
-          rw t (subst (λ u. note_at (slice_set notes 0 (Some (entry_state record_length))) u ≡ Some (entry_state record_length)) (sym e) first)
+          let first : note_at (slice_set notes 0 (Some (entry_state view_lengths))) 0 ≡ Some (entry_state view_lengths) = get_or-set_same notes 0 (Some (entry_state view_lengths)) None (omega (arith, some, count)) in
+          rw t (subst (λ u. note_at (slice_set notes 0 (Some (entry_state view_lengths))) u ≡ Some (entry_state view_lengths)) (sym e) first)
       | inr f ↦
           let n : unit ≡ 0 → ⊥ = eqb-false unit 0 f in
-          rw f (get_or-set_other notes 0 unit (Some (entry_state record_length)) None n ∙ empty unit)
+          rw f (get_or-set_other notes 0 unit (Some (entry_state view_lengths)) None n ∙ empty unit)
     ]
 
 -- ---- as the pass needs it
@@ -162,7 +161,7 @@ pub edges_within : (text : List Insn) (notes : Notes) (n : ℕ) (i : Insn) (afte
 edges_within text notes n i after text_is h there = all_within text n notes (edges n i after) h.states.count (edges_lead text n i after text_is.few h.legal there)
 
 pub filled_by : (text : List Insn) (notes new : Notes) (n : ℕ) (i : Insn) (state : StateKinds) → IsText text → IsFilled text notes n → insn_at text n ≡ Some i → note_at notes n ≡ Some state
-    → (after : StateKinds) × (transfer record_length i state ≡ Ok after) × (new ≡ with_arrivals notes (edges n i after)) → IsFilled text new (n + 1)
+    → (after : StateKinds) × (transfer i state ≡ Ok after) × (new ≡ with_arrivals notes (edges n i after)) → IsFilled text new (n + 1)
 filled_by text notes new n i state text_is h there here done =
     subst (λ table. IsFilled text table (n + 1)) (sym done.2) (filled_on text notes n i state done.0 text_is h there here done.1)
 
@@ -178,7 +177,7 @@ filled_unreached text notes n h none = filled_past text notes n h (rw none (from
 
 -- a rule that the pass meets is the first that is broken
 pub broken_first : (text : List Insn) (notes : Notes) (n : ℕ) (i : Insn) (state : StateKinds) (fault : CheckFault) → IsFilled text notes n → insn_at text n ≡ Some i → note_at notes n ≡ Some state
-    → (rule : BrokenRule) × (fault ≡ CheckRule n rule) × (transfer record_length i state ≡ Err rule) → IsRefused text fault
+    → (rule : BrokenRule) × (fault ≡ CheckRule n rule) × (transfer i state ≡ Err rule) → IsRefused text fault
 broken_first text notes n i state fault h there here broken =
     subst (IsRefused text) (sym broken.1) (h.legal, record { notes = notes; states = h.states; below = h.unbroken; insn = i; there = there; state = state; noted = here; broken = broken.2 })
 

@@ -11,9 +11,8 @@ use Rattle.bq_insn.specs.declared.insn.Insn.{Insn}
 use Rattle.bq_flow.specs.Paths.{Among}
 use Rattle.bq_flow.proofs.Units.{insn_within}
 use Rattle.bq_flow.proofs.Legal.{not_legal}
-use Rattle.bq_meaning.specs.Place.{record_length}
 use Rattle.bq_state.specs.declared.rule.Rule.{Rule}
-use Rattle.bq_state.specs.Kinds.{StateKinds, StateCovers, join_states, entry_state}
+use Rattle.bq_state.specs.Kinds.{StateKinds, StateCovers, join_states, entry_state, view_lengths}
 use Rattle.bq_state.specs.Rules.{transfer}
 use Rattle.bq_state.specs.Edges.{edges}
 use Rattle.bq_state.specs.Monotone.{IsFullState, IsAbove, SomeCovers, AreEdgesAbove, StatesAreOrdered, StatesAreMonotone}
@@ -42,7 +41,7 @@ no_note a e = cc
 no_rule : (a : StateKinds) (rule : Rule) → Ok a ≡ Err rule → ⊥
 no_rule a rule e = cc
 
-module _ (order : StatesAreOrdered) (monotone : StatesAreMonotone) (text : List Insn) (others : Notes) (text_is : IsText text) (passes : Passes record_length text others) where
+module _ (order : StatesAreOrdered) (monotone : StatesAreMonotone) (text : List Insn) (others : Notes) (text_is : IsText text) (passes : Passes view_lengths text others) where
   -- a state that the note at a unit covers
   record Below (unit : ℕ) (state : StateKinds) : Type 0 where
     note : StateKinds
@@ -89,22 +88,22 @@ module _ (order : StatesAreOrdered) (monotone : StatesAreMonotone) (text : List 
   ]
 
   -- what an instruction leaves of a state below a note is below the notes where it leads
-  led_below : (n unit : ℕ) (i : Insn) (s after x : StateKinds) → insn_at text n ≡ Some i → Below n s → transfer record_length i s ≡ Ok after → Among x (leading_to unit (edges n i after)) → Below unit x
+  led_below : (n unit : ℕ) (i : Insn) (s after x : StateKinds) → insn_at text n ≡ Some i → Below n s → transfer i s ≡ Ok after → Among x (leading_to unit (edges n i after)) → Below unit x
   led_below n unit i s after x there h is a =
       let fine = passes.fine.each n h.note i (insn_within text n i there) h.there there in
-      let less = monotone.transfers record_length i h.note s fine.after (is_insn text n i text_is there) (h.covers, h.full) fine.rules in
+      let less = monotone.transfers i h.note s fine.after (is_insn text n i text_is there) (h.covers, h.full) fine.rules in
       let same : less.0 ≡ after = same_state less.0 after (sym less.1 ∙ is) in
       let above : IsAbove fine.after after = subst (IsAbove fine.after) same less.2 in
       brought_below unit x (edges n i after) (edges n i fine.after) (monotone.leads n i fine.after after above) fine.covered a
 
-  entry_below : Below 0 (entry_state record_length)
-  entry_below = record { note = passes.entry.note; there = passes.entry.there; covers = passes.entry.covers; full = monotone.entry record_length (omega arith) }
+  entry_below : Below 0 (entry_state view_lengths)
+  entry_below = record { note = passes.entry.note; there = passes.entry.there; covers = passes.entry.covers; full = monotone.entry view_lengths (record { least = omega arith; ordered = omega arith; most = omega arith }) }
 
   arrived_below : (notes : Notes) (unit n : ℕ) → ((v : ℕ) (s : StateKinds) → v < unit → note_at notes v ≡ Some s → Below v s) → (x : StateKinds) → Among x (arriving text notes unit n) → Below unit x
   arrived_below notes unit zero below x a = elim (cases_Bool (unit == 0)) [
     | inl t ↦
-        let b : Among x (entry_state record_length ∷ []) = rw t at a in
-        elim b [ inl is ↦ subst (Below unit) (sym is) (subst (λ u. Below u (entry_state record_length)) (sym (eqb-true unit 0 t)) entry_below) | inr never ↦ absurd never ]
+        let b : Among x (entry_state view_lengths ∷ []) = rw t at a in
+        elim b [ inl is ↦ subst (Below unit) (sym is) (subst (λ u. Below u (entry_state view_lengths)) (sym (eqb-true unit 0 t)) entry_below) | inr never ↦ absurd never ]
     | inr f ↦ absurd (rw f at a)
   ]
   arrived_below notes unit (suc n) below x a =
@@ -113,7 +112,7 @@ module _ (order : StatesAreOrdered) (monotone : StatesAreMonotone) (text : List 
         | inr r ↦ by_edge (insn_at text n) (note_at notes n) refl refl r
       ]
     where
-      by_rule : (i : Insn) (s : StateKinds) (r : Result StateKinds Rule) → insn_at text n ≡ Some i → note_at notes n ≡ Some s → transfer record_length i s ≡ r → Among x (leading_to unit (edges_after n i r)) → Below unit x
+      by_rule : (i : Insn) (s : StateKinds) (r : Result StateKinds Rule) → insn_at text n ≡ Some i → note_at notes n ≡ Some s → transfer i s ≡ r → Among x (leading_to unit (edges_after n i r)) → Below unit x
       by_rule i s (Ok after) there noted is b =
           let forward = (came text n unit x (edges n i after) (edges_lead text n i after text_is.few passes.flow there) b).forward in
           led_below n unit i s after x there (below n s forward noted) is b
@@ -122,7 +121,7 @@ module _ (order : StatesAreOrdered) (monotone : StatesAreMonotone) (text : List 
       by_edge : (o : Option Insn) (note : Option StateKinds) → insn_at text n ≡ o → note_at notes n ≡ note → Among x (leading_to unit (edges_from n o note)) → Below unit x
       by_edge None _ there noted b = absurd b
       by_edge (Some i) None there noted b = absurd b
-      by_edge (Some i) (Some s) there noted b = by_rule i s (transfer record_length i s) there noted refl b
+      by_edge (Some i) (Some s) there noted b = by_rule i s (transfer i s) there noted refl b
 
   states_below : (notes : Notes) (end fuel : ℕ) → AreStates text notes end → (unit : ℕ) (s : StateKinds) → unit < fuel → note_at notes unit ≡ Some s → Below unit s
   states_below notes end zero are unit s l noted = absurd (omega (arith, l))
@@ -142,7 +141,7 @@ module _ (order : StatesAreOrdered) (monotone : StatesAreMonotone) (text : List 
   none_broken unit rule h =
       let b = states_below h.notes unit (suc unit) h.states unit h.state (omega arith) h.noted in
       let fine = passes.fine.each unit b.note h.insn (insn_within text unit h.insn h.there) b.there h.there in
-      let less = monotone.transfers record_length h.insn b.note h.state fine.after (is_insn text unit h.insn text_is h.there) (b.covers, b.full) fine.rules in
+      let less = monotone.transfers h.insn b.note h.state fine.after (is_insn text unit h.insn text_is h.there) (b.covers, b.full) fine.rules in
       no_rule less.0 rule (sym less.1 ∙ h.broken)
 
   none_refused : (fault : CheckFault) → IsRefused text fault → fault ≢ OutOfMemory → ⊥

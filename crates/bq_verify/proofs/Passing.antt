@@ -7,9 +7,8 @@ use Rattle.bq_insn.specs.Slots.{units, IsText, insn_at}
 use Rattle.bq_insn.specs.declared.insn.Insn.{Insn}
 use Rattle.bq_flow.specs.Paths.{Among, IsLegalFlow}
 use Rattle.bq_flow.proofs.Units.{first_begins, insn_within}
-use Rattle.bq_meaning.specs.Place.{record_length}
 use Rattle.bq_state.specs.declared.rule.Rule.{Rule}
-use Rattle.bq_state.specs.Kinds.{StateKinds, StateCovers, join_states, entry_state}
+use Rattle.bq_state.specs.Kinds.{StateKinds, StateCovers, join_states, entry_state, view_lengths}
 use Rattle.bq_state.specs.Rules.{transfer}
 use Rattle.bq_state.specs.Edges.{edges}
 use Rattle.bq_state.specs.Monotone.{StatesAreOrdered}
@@ -55,9 +54,9 @@ arrives text notes unit from (suc n) x l a =
       | inr g ↦ inr (omega (arith, l, g))
     ]
 
-entry_arrives : (text : List Insn) (notes : List (Option StateKinds)) (n : ℕ) → Among (entry_state record_length) (arriving text notes 0 n)
+entry_arrives : (text : List Insn) (notes : List (Option StateKinds)) (n : ℕ) → Among (entry_state view_lengths) (arriving text notes 0 n)
 entry_arrives text notes zero = inl refl
-entry_arrives text notes (suc n) = among_left (entry_state record_length) (arriving text notes 0 n) (leading_to 0 (edges_from n (insn_at text n) (note_at notes n))) (entry_arrives text notes n)
+entry_arrives text notes (suc n) = among_left (entry_state view_lengths) (arriving text notes 0 n) (leading_to 0 (edges_from n (insn_at text n) (note_at notes n))) (entry_arrives text notes n)
 
 -- at a unit where something arrives an instruction begins
 begins : (text : List Insn) (notes : List (Option StateKinds)) (unit n : ℕ) (x : StateKinds) → IsText text → IsLegalFlow text → Among x (arriving text notes unit n) → (i : Insn) × (insn_at text unit ≡ Some i)
@@ -78,7 +77,7 @@ begins text notes unit (suc n) x text_is legal a =
     by_edge : (o : Option Insn) (note : Option StateKinds) → insn_at text n ≡ o → Among x (leading_to unit (edges_from n o note)) → Leads text n unit
     by_edge None _ there b = absurd b
     by_edge (Some i) None there b = absurd b
-    by_edge (Some i) (Some s) there b = by_rule i (transfer record_length i s) there b
+    by_edge (Some i) (Some s) there b = by_rule i (transfer i s) there b
 
 -- ---- notes
 
@@ -110,12 +109,12 @@ module _ (order : StatesAreOrdered) where
   led text unit edge (f ∷ es) l (inr a) = led text unit edge es l.1 a
 
   fine : (text : List Insn) (notes : List (Option StateKinds)) (unit : ℕ) (state : StateKinds) (i : Insn) → IsText text → IsLegalFlow text → AreStates text notes (units text) → NoRuleBroken text notes (units text)
-      → unit < units text → note_at notes unit ≡ Some state → insn_at text unit ≡ Some i → IsFine record_length notes unit i state
+      → unit < units text → note_at notes unit ≡ Some state → insn_at text unit ≡ Some i → IsFine notes unit i state
   fine text notes unit state i text_is legal a unbroken within here there =
       let ok = unbroken.each unit i state within there here in
       record { after = ok.0; rules = ok.1; covered = all_of notes (edges unit i ok.0) (λ edge among. covered ok.0 ok.1 edge among) }
     where
-      covered : (after : StateKinds) → transfer record_length i state ≡ Ok after → (edge : ℕ × StateKinds) → Among edge (edges unit i after) → NoteCovers notes edge
+      covered : (after : StateKinds) → transfer i state ≡ Ok after → (edge : ℕ × StateKinds) → Among edge (edges unit i after) → NoteCovers notes edge
       covered after passed edge among =
           let leads : Leads text unit edge.0 = led text unit edge (edges unit i after) (edges_lead text unit i after text_is.few legal there) among in
           let are : edges_from unit (insn_at text unit) (note_at notes unit) ≡ edges unit i after = rw (there, here, passed) refl in
@@ -123,7 +122,7 @@ module _ (order : StatesAreOrdered) where
           subst (λ es. Among edge.1 (leading_to edge.0 es)) (sym are) (brought edge.0 edge (edges unit i after) refl among) in
           noted text notes edge a (insn_within text edge.0 leads.insn leads.begins) (arrives text notes edge.0 unit (units text) edge.1 within to)
 
-  pub states_pass : (text : List Insn) (notes : List (Option StateKinds)) → IsText text → IsLegalFlow text → AreStates text notes (units text) → NoRuleBroken text notes (units text) → Passes record_length text notes
+  pub states_pass : (text : List Insn) (notes : List (Option StateKinds)) → IsText text → IsLegalFlow text → AreStates text notes (units text) → NoRuleBroken text notes (units text) → Passes view_lengths text notes
   states_pass text notes text_is legal a unbroken = record {
     count = a.count;
     flow = legal;
@@ -133,6 +132,6 @@ module _ (order : StatesAreOrdered) where
           let x = some_among (arriving text notes unit (units text)) state e in
           begins text notes unit (units text) x.0 text_is legal x.1;
     };
-    entry = noted text notes (0, entry_state record_length) a (omega (arith, text_is.some)) (entry_arrives text notes (units text));
+    entry = noted text notes (0, entry_state view_lengths) a (omega (arith, text_is.some)) (entry_arrives text notes (units text));
     fine = record { each = λ unit state i within here there. fine text notes unit state i text_is legal a unbroken within here there };
   }

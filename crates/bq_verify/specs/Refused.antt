@@ -4,7 +4,6 @@ use Rattle.bq_insn.specs.declared.insn.Insn.{Insn}
 use Rattle.bq_insn.specs.Slots.{insn_at}
 use Rattle.bq_flow.specs.Paths.{IsLegalFlow}
 use Rattle.bq_flow.specs.Faults.{IsFirstFlowFault}
-use Rattle.bq_meaning.specs.Place.{record_length}
 use Rattle.bq_state.specs.Kinds.{StateKinds}
 use Rattle.bq_state.specs.declared.rule.Rule.{Rule as BrokenRule}
 use Rattle.bq_state.specs.Rules.{transfer}
@@ -22,7 +21,7 @@ pub record IsFirstBroken (text : List Insn) (unit : ℕ) (rule : BrokenRule) : T
   pub there : insn_at text unit ≡ Some insn
   pub state : StateKinds
   pub noted : note_at notes unit ≡ Some state
-  pub broken : transfer record_length insn state ≡ Err rule
+  pub broken : transfer insn state ≡ Err rule
 
 abbrev pub IsRefused : List Insn → CheckFault → Type 0
 IsRefused text (Flow unit rule) = IsFirstFlowFault text unit rule

@@ -3,9 +3,8 @@ use Rattle.std.specs.Prelude.{◌≡◌, ℕ, zero, suc, ◌<◌, ◌==◌, List
 use Rattle.std.specs.List.{fold}
 use Rattle.bq_insn.specs.Slots.{units, insn_at}
 use Rattle.bq_insn.specs.declared.insn.Insn.{Insn}
-use Rattle.bq_meaning.specs.Place.{record_length}
 use Rattle.bq_state.specs.declared.rule.Rule.{Rule}
-use Rattle.bq_state.specs.Kinds.{StateKinds, join_states, entry_state}
+use Rattle.bq_state.specs.Kinds.{StateKinds, join_states, entry_state, view_lengths}
 use Rattle.bq_state.specs.Rules.{transfer}
 use Rattle.bq_state.specs.Edges.{edges}
 use Rattle.bq_sound.specs.Passes.{note_at}
@@ -24,7 +23,7 @@ edges_after unit i (Err rule) = []
 abbrev pub edges_from : ℕ → Option Insn → Option StateKinds → List (ℕ × StateKinds)
 edges_from unit None _ = []
 edges_from unit (Some i) None = []
-edges_from unit (Some i) (Some state) = edges_after unit i (transfer record_length i state)
+edges_from unit (Some i) (Some state) = edges_after unit i (transfer i state)
 
 -- the states on those edges that lead to a unit
 abbrev pub leading_to : ℕ → List (ℕ × StateKinds) → List StateKinds
@@ -33,7 +32,7 @@ leading_to unit (edge ∷ others) = (if edge.0 == unit then edge.1 ∷ [] else [
 
 -- the states that arrive at a unit from the units below n in rising order; at the first unit the entry's comes before
 abbrev pub arriving : List Insn → List (Option StateKinds) → ℕ → ℕ → List StateKinds
-arriving text notes unit zero = if unit == 0 then entry_state record_length ∷ [] else []
+arriving text notes unit zero = if unit == 0 then entry_state view_lengths ∷ [] else []
 arriving text notes unit (suc n) = arriving text notes unit n ++ leading_to unit (edges_from n (insn_at text n) (note_at notes n))
 
 -- each unit's state is the join of what arrives at it from the units below n
@@ -44,4 +43,4 @@ pub record AreStates (text : List Insn) (notes : List (Option StateKinds)) (n : 
 -- no instruction below n breaks a rule where it has a state
 pub record NoRuleBroken (text : List Insn) (notes : List (Option StateKinds)) (n : ℕ) : Type 0 where
   pub each : (unit : ℕ) (i : Insn) (state : StateKinds) → unit < n → insn_at text unit ≡ Some i → note_at notes unit ≡ Some state
-      → (after : StateKinds) × (transfer record_length i state ≡ Ok after)
+      → (after : StateKinds) × (transfer i state ≡ Ok after)

@@ -5,8 +5,7 @@ ghost use Rattle.std.specs.Prelude.{◌≢◌, List, Option};
 ghost use Rattle.bq_insn.specs.Slots.{units, IsText};
 ghost use Rattle.bq_insn.specs.declared.insn.Insn.{Insn};
 ghost use Rattle.bq_flow.specs.Paths.{IsLegalFlow};
-ghost use Rattle.bq_meaning.specs.Place.{record_length};
-ghost use Rattle.bq_state.specs.Kinds.{StateKinds};
+ghost use Rattle.bq_state.specs.Kinds.{StateKinds, view_lengths};
 ghost use Rattle.bq_check.specs.declared.fault.CheckFault.{CheckFault};
 ghost use Rattle.bq_check.specs.declared.fault.CheckFault.TheVariants.{OutOfMemory};
 ghost use Rattle.bq_verify.specs.States.{AreStates, NoRuleBroken};
@@ -18,7 +17,7 @@ use bq_state::laws::{states_are_monotone, states_are_ordered};
 
 /// The states of a text in which no instruction breaks a rule pass, where its flow is legal.
 pub fn states_pass()
-    ensures { (text : List Insn) (notes : List (Option StateKinds)) → IsText text → IsLegalFlow text → AreStates text notes (units text) → NoRuleBroken text notes (units text) → Passes record_length text notes }
+    ensures { (text : List Insn) (notes : List (Option StateKinds)) → IsText text → IsLegalFlow text → AreStates text notes (units text) → NoRuleBroken text notes (units text) → Passes view_lengths text notes }
 {
     states_are_ordered();
 }

@@ -2,13 +2,13 @@
 
 ghost use Rattle.std.specs.Prelude.{◌≡◌, ◌≢◌, ℕ, ◌<◌, ◌≤◌, IfOk, IfErr, List, Option, Some, None, Ok, Err, length};
 ghost use Rattle.bq_insn.specs.Slots.{units};
-ghost use Rattle.bq_meaning.specs.Place.{record_length};
 ghost use Rattle.bq_state.specs.declared.rule.Rule.{Rule};
-ghost use Rattle.bq_state.specs.Kinds.{StateKinds, entry_state};
+ghost use Rattle.bq_state.specs.Kinds.{StateKinds, entry_state, view_lengths};
 ghost use Rattle.bq_state.specs.Rules.{transfer};
 ghost use Rattle.bq_state.specs.Edges.{edges};
 ghost use Rattle.bq_state.specs.Listed.{edge_list};
 ghost use Rattle.bq_sound.specs.Passes.{Passes, note_at};
+ghost use Rattle.bq_check.specs.ForViews.{AreForViews};
 ghost use Rattle.bq_verify.specs.States.{AreStates};
 ghost use Rattle.bq_verify.specs.Refused.{IsRefused, IsBelow};
 ghost use Rattle.bq_verify.specs.Least.{AreLeast, NonePass};
@@ -20,7 +20,9 @@ use bq_check::notes::Notes;
 use bq_flow::flow::Flow;
 use bq_insn::insn::Insn;
 use bq_insn::text::Text;
+use bq_state::bounds::Bounds;
 use bq_state::edges::Edge;
+use bq_state::laws::states_stay_plain;
 use bq_state::state::State;
 use std::alloc::{AllocError, Global};
 
@@ -28,11 +30,11 @@ use std::alloc::{AllocError, Global};
 fn entered(alloc: Global, units: usize) -> Result<Vec<Option<State>>, AllocError>
     requires { 0 < units }
     ensures count { IfOk result (λ states. length states.items ≡ units) }
-    ensures first { IfOk result (λ states. note_at states.items 0 ≡ Some (entry_state record_length)) }
+    ensures first { IfOk result (λ states. note_at states.items 0 ≡ Some (entry_state view_lengths)) }
     ensures others { IfOk result (λ states. (unit : ℕ) → 0 < unit → note_at states.items unit ≡ None) }
 {
     let mut states = vec![in alloc; None; units]?;
-    states[0] = Some(State::entry());
+    states[0] = Some(State::entry(Bounds::of_views()));
     Ok(states)
 }
 
@@ -60,9 +62,9 @@ fn lead_on(
     state: State,
 ) -> Result<(), CheckFault>
     requires within { unit < 4096 }
-    requires edges { (after : StateKinds) → transfer record_length insn.now state ≡ Ok after → AllWithin states.old.items (edges unit insn.now after) }
-    ensures ok { IfOk result (λ _. (after : StateKinds) × (transfer record_length insn.now state ≡ Ok after) × (states.new.items ≡ with_arrivals states.old.items (edges unit insn.now after))) }
-    ensures err { IfErr result (λ fault. (rule : Rule) × (fault ≡ CheckFault.Rule unit rule) × (transfer record_length insn.now state ≡ Err rule)) }
+    requires edges { (after : StateKinds) → transfer insn.now state ≡ Ok after → AllWithin states.old.items (edges unit insn.now after) }
+    ensures ok { IfOk result (λ _. (after : StateKinds) × (transfer insn.now state ≡ Ok after) × (states.new.items ≡ with_arrivals states.old.items (edges unit insn.now after))) }
+    ensures err { IfErr result (λ fault. (rule : Rule) × (fault ≡ CheckFault.Rule unit rule) × (transfer insn.now state ≡ Err rule)) }
 {
     let after = match state.transfer(insn) {
         Ok(after) => after,
@@ -78,9 +80,11 @@ fn lead_on(
 fn fill(alloc: Global, text: &Text, end: usize) -> Result<Vec<Option<State>>, CheckFault>
     requires { end ≤ units text.now }
     ensures filled { IfOk result (λ states. IsFilled text.now states.items end) }
+    ensures views { IfOk result (λ states. AreForViews states.items) }
     ensures refused { IfErr result (IsRefused text.now) }
     ensures below { IfErr result (IsBelow end) }
 {
+    states_stay_plain();
     Flow::of(alloc, text)?;
     let Ok(mut states) = entered(alloc, text.units()) else {
         return Err(CheckFault::OutOfMemory);
@@ -104,7 +108,7 @@ fn fill(alloc: Global, text: &Text, end: usize) -> Result<Vec<Option<State>>, Ch
 pub fn verify(alloc: Global, text: &Text) -> Result<Notes, CheckFault>
     // The states of the text. They pass, and say the most of all notes that pass.
     ensures states { IfOk result (λ notes. AreStates text.now notes (units text.now)) }
-    ensures passes { IfOk result (Passes record_length text.now) }
+    ensures passes { IfOk result (Passes view_lengths text.now) }
     ensures least { IfOk result (AreLeast text.now) }
 
     // What is refused, and no notes pass for it, unless memory ran out.

@@ -44,7 +44,7 @@ fn one(alloc: Global) -> Result<Job> {
         start: 0,
         phase: Phase::Ready(view),
     };
-    Job::of(1, 0, &query, &program)?.ok_or(anyhow!("not ready"))
+    Job::of(alloc, 1, 0, &query, &program)?.ok_or(anyhow!("not ready"))
 }
 
 /// So many jobs, which share their program and their view.

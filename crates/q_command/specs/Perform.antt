@@ -7,9 +7,8 @@ use Rattle.bq_insn.specs.Slots.{spelling, IsText}
 use Rattle.bq_asm.specs.Source as assembler
 use Rattle.bq_asm.specs.Source.{IsSource}
 use Rattle.bq_flow.specs.Paths.{IsLongest}
-use Rattle.bq_state.specs.Kinds.{StateKinds}
+use Rattle.bq_state.specs.Kinds.{StateKinds, view_lengths}
 use Rattle.bq_sound.specs.Passes.{Passes}
-use Rattle.bq_meaning.specs.Place.{record_length}
 use Rattle.bq_meaning.specs.Answers.{IsAnswer}
 use Rattle.sc_view.specs.Views.{ViewMap}
 use Rattle.q_session.specs.Records.{view_records}
@@ -46,7 +45,7 @@ pub record IsAccepted (source : List ℕ) : Type 0 where
   pub text : List Insn
   pub notes : List (Option StateKinds)
   pub program : IsProgram source text
-  pub passes : Passes record_length text notes
+  pub passes : Passes view_lengths text notes
 
 -- why bytes spell no program: they are not UTF-8, or what is first wrong with the text
 abbrev pub IsUnassembled : List ℕ → Refusal → Type 0
@@ -74,7 +73,7 @@ pub record Accepts (source lines : List ℕ) : Type 0 where
   pub notes : List (Option StateKinds)
   pub longest : ℕ
   pub program : IsProgram source text
-  pub passes : Passes record_length text notes
+  pub passes : Passes view_lengths text notes
   pub is_longest : IsLongest text longest
   pub told : lines ≡ codes "accepted longest " ++ (decimal longest ++ 10 ∷ [])
 

@@ -231,7 +231,8 @@ impl Desk {
     pub fn hand_out(&mut self, node: u64) -> Result<Option<Job>, DeskFault>
         ensures { Steps DeskFault.OutOfMemory (desk.handed_out self.old node) self.old self.new result }
     {
-        let Some(job) = next_job(&self.programs, &self.queries, node)? else {
+        let alloc = *self.queries.allocator();
+        let Some(job) = next_job(alloc, &self.programs, &self.queries, node)? else {
             return Ok(None);
         };
         if !self.has_room() {
@@ -260,7 +261,7 @@ impl Desk {
             return Ok(None);
         };
         let program = Program::share(program)?;
-        Job::of(node, query, asked, &program)
+        Job::of(*self.queries.allocator(), node, query, asked, &program)
     }
 
     /// Records the result of a job as its query's answer, as desk of this node. Refused with 56, 55, 53. Takes no memory.
@@ -374,7 +375,12 @@ fn set_phase(queries: &mut Vec<Query>, number: usize, phase: Phase)
 }
 
 // The job of the ready query with the least number.
-fn next_job(programs: &Programs, queries: &[Query], node: u64) -> Result<Option<Job>, AllocError>
+fn next_job(
+    alloc: Global,
+    programs: &Programs,
+    queries: &[Query],
+    node: u64,
+) -> Result<Option<Job>, AllocError>
     ensures { (s : DeskState) → s.programs ≡ programs.now → s.queries ≡ queries.now → IfOk result (λ job. job ≡ desk.next_job s node) }
 {
     let Some(number) = first_ready(queries) else {
@@ -387,7 +393,7 @@ fn next_job(programs: &Programs, queries: &[Query], node: u64) -> Result<Option<
         return Ok(None);
     };
     let program = Program::share(program)?;
-    Job::of(node, number, query, &program)
+    Job::of(alloc, node, number, query, &program)
 }
 
 // A ready query runs over its view.

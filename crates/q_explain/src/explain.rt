@@ -8,6 +8,7 @@ use bq_asm::disassemble::disassemble;
 use bq_check::fault::CheckFault;
 use bq_insn::text::Text;
 use bq_range::range::Range;
+use bq_state::bounds::Bounds;
 use bq_state::kind::Kind;
 use bq_state::offsets::Offsets;
 use bq_state::region::Region;
@@ -57,8 +58,14 @@ fn write_pointer(out: &mut String, region: Region, offsets: Offsets) -> Result<(
     }
 }
 
+fn write_length(out: &mut String, lengths: Bounds) -> Result<(), AllocError> {
+    let (least, most) = (lengths.least(), lengths.most());
+    write!(out, "the record's length, {least} to {most}")
+}
+
 /// What is known of a register; nothing is written where nothing is.
-fn write_register(out: &mut String, register: u8, kind: Kind) -> Result<(), AllocError> {
+fn write_register(out: &mut String, register: u8, state: &State) -> Result<(), AllocError> {
+    let kind = state.kind(register);
     if let Kind::Unset = kind {
         return Ok(());
     }
@@ -67,6 +74,7 @@ fn write_register(out: &mut String, register: u8, kind: Kind) -> Result<(), Allo
         Kind::Unset => {}
         Kind::Number(range) => write_range(out, range)?,
         Kind::Pointer(region, offsets) => write_pointer(out, region, offsets)?,
+        Kind::Length => write_length(out, state.lengths())?,
     }
     out.push('\n')
 }
@@ -75,7 +83,7 @@ fn write_register(out: &mut String, register: u8, kind: Kind) -> Result<(), Allo
 fn write_state(out: &mut String, state: &State) -> Result<(), AllocError> {
     out.push_str("known of the registers there (of the others nothing):\n")?;
     for register in 0..11_u8 {
-        write_register(out, register, state.kind(register))?;
+        write_register(out, register, state)?;
     }
     Ok(())
 }

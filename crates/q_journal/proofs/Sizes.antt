@@ -8,8 +8,8 @@ use Rattle.bq_insn.specs.Slots.{slots_of, slots, units, spelling, IsText}
 use Rattle.bq_insn.proofs.Reading.{length-insn_bytes}
 use Rattle.bq_state.specs.declared.kind.Kind.{Kind}
 use Rattle.bq_state.specs.Kinds.{StateKinds}
-use Rattle.bq_state.specs.declared.kind.Kind.TheVariants.{Unset, Number, Pointer}
-use Rattle.bq_check.specs.Spelling.{short_bytes, long_bytes, offset_bytes, kind_bytes, state_bytes, note_bytes, notes_bytes, IsNote, IsNotes}
+use Rattle.bq_state.specs.declared.kind.Kind.TheVariants.{Unset, Number, Pointer, Length}
+use Rattle.bq_check.specs.Spelling.{short_bytes, long_bytes, offset_bytes, kind_bytes, kinds_bytes, note_bytes, notes_bytes, IsNote, IsNotes}
 use Rattle.bq_check.proofs.Fields.{length-short, length-long}
 use Rattle.sc_members.specs.Members.{Config}
 use Rattle.sc_msg.specs.Numbers.{number_bytes}
@@ -53,14 +53,15 @@ kind_small : (k : Kind) → length (kind_bytes k) ≤ 17
 kind_small Unset = omega arith
 kind_small (Number a) = omega (arith, length-append (long_bytes a.lo) (long_bytes a.hi), length-long a.lo, length-long a.hi)
 kind_small (Pointer region s) = omega (arith, length-append (offset_bytes s.lo) (offset_bytes s.hi), length-short (cast_unsigned w32 s.lo), length-short (cast_unsigned w32 s.hi))
+kind_small Length = omega arith
 
-state_small : (ks : StateKinds) → length (state_bytes ks) ≤ 17 * length ks
-state_small [] = omega arith
-state_small (k ∷ ks) = omega (arith, length-append (kind_bytes k) (state_bytes ks), kind_small k, state_small ks)
+kinds_small : (ks : List Kind) → length (kinds_bytes ks) ≤ 17 * length ks
+kinds_small [] = omega arith
+kinds_small (k ∷ ks) = omega (arith, length-append (kind_bytes k) (kinds_bytes ks), kind_small k, kinds_small ks)
 
 note_small : (o : Option StateKinds) → IsNote o → length (note_bytes o) ≤ 188
 note_small None p = omega arith
-note_small (Some s) p = omega (arith, state_small s, p.count)
+note_small (Some s) p = omega (arith, kinds_small s.kinds, p.count)
 
 all_small : (ns : List (Option StateKinds)) → AllByRecursion IsNote ns → length (flat_map note_bytes ns) ≤ 188 * length ns
 all_small [] p = omega arith

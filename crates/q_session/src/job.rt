@@ -4,9 +4,10 @@ ghost use Rattle.std.specs.Prelude.{◌≡◌, IfOk, option_copied};
 ghost use Rattle.q_session.specs.Jobs.{job_of, view_in};
 
 use crate::query::{Phase, Query};
+use crate::shared_view::SharedView;
 use q_table::program::{Program, ProgramId};
 use sc_view::view::View;
-use std::alloc::AllocError;
+use std::alloc::{AllocError, Global};
 
 /// What is run to answer a query: its program over the view that its collect returned, from its start value. Contracts
 /// see it as the record of these. [`Job::of`] alone makes one, so it is that of a query with a returned view.
@@ -17,13 +18,14 @@ pub struct Job {
     program: ProgramId,
     start: u64,
     certified: Program,
-    view: View,
+    view: SharedView,
 }
 
 impl Job {
     /// The job of the query of this number at this node, which names this program: there is one where the query is
     /// ready or runs. The one error is that memory ran out (99 OutOfMemory).
     pub fn of(
+        alloc: Global,
         node: u64,
         number: usize,
         query: &Query,
@@ -40,7 +42,7 @@ impl Job {
             program: query.program,
             start: query.start,
             certified: program.clone()?,
-            view: view.clone()?,
+            view: SharedView::of(alloc, view.clone()?)?,
         }))
     }
 
@@ -83,7 +85,7 @@ impl Job {
     pub fn view(&self) -> &View
         ensures { result.now ≡ self.now.view }
     {
-        &self.view
+        self.view.view()
     }
 }
 

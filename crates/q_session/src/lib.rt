@@ -14,3 +14,4 @@ pub mod job;
 pub mod query;
 pub mod ran;
 pub mod run;
+pub mod shared_view;

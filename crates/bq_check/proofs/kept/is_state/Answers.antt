@@ -9,4 +9,4 @@ returns c =
     let is = c.kinds-kind-items.ensures.kinds in
     let few : length c.kinds-kind-items.result.now ≤ c.loop-kind.kind-index = omega (arith, ap length is, c.kinds-kind-items.ensures.count, c.loop-kind-test.false) in
     let all = seen_all IsKind c.kinds-kind-items.result.now c.loop-kind.kind-index c.loop-kind.invariant few in
-    record { count = c.kinds-kind-items.ensures.count; kinds = subst (AllByRecursion IsKind) is all }
+    record { count = c.kinds-kind-items.ensures.count; kinds = subst (AllByRecursion IsKind) is all; lengths = c.requires.lengths }

@@ -1,6 +1,6 @@
 use Rattle.std.proofs.Common.{rules, ◌≡◌, sym, subst}
 use Rattle.bq_insn.specs.Slots.{units}
-use Rattle.bq_meaning.specs.Place.{record_length}
+use Rattle.bq_state.specs.Kinds.{view_lengths}
 use Rattle.bq_sound.specs.Passes.{Passes}
 use Rattle.bq_verify.specs.Table.{IsFilled}
 use Rattle.bq_verify.proofs.verify.verify.Goals as goal
@@ -11,4 +11,4 @@ returns-clause-passes c =
     let notes = c.in_ok-states.states.items in
     let h : IsFilled text notes (units text) = search rules in
     let is : c.new.result ≡ notes = search rules in
-    subst (Passes record_length text) (sym is) (c.states_pass.ensures text notes c.units.ensures.legal h.legal h.states h.unbroken)
+    subst (Passes view_lengths text) (sym is) (c.states_pass.ensures text notes c.units.ensures.legal h.legal h.states h.unbroken)

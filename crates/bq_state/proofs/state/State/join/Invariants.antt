@@ -1,6 +1,10 @@
 use Rattle.std.proofs.Common.{ℕ, ◌<◌, ◌≡◌, length}
-use Rattle.bq_state.specs.Kinds.{join_kinds, kind_of}
+use Rattle.std.specs.Prelude.{slice_index_or}
+use Rattle.bq_state.specs.Kinds.{join_kinds}
+use Rattle.bq_state.specs.declared.kind.Kind.TheVariants.{Unset}
 use Rattle.bq_state.proofs.state.State.join.Given as goal
 
 abbrev pub invariant-loop-register : goal.invariant-loop-register
-invariant-loop-register l = (length l.kinds ≡ 11) × ((k : ℕ) → k < l.register → kind_of l.kinds k ≡ join_kinds (kind_of l.self-inside.kinds k) (kind_of l.other-inside.kinds k))
+invariant-loop-register l =
+    (length l.kinds ≡ 11)
+    × ((k : ℕ) → k < l.register → slice_index_or l.kinds k Unset ≡ join_kinds l.self-inside.lengths l.other-inside.lengths (slice_index_or l.self-inside.kinds k Unset) (slice_index_or l.other-inside.kinds k Unset))
