@@ -1,6 +1,7 @@
 //! A world under load.
 
 use sc_members::config::Config;
+use sc_view::value::{VALUE_LENGTH, Value};
 use sc_world::event::Event;
 use sc_world::fault::WorldFault;
 use sc_world::world::World;
@@ -23,8 +24,8 @@ pub(crate) struct Cluster {
 }
 
 /// A value to store.
-fn value(number: u64) -> [u8; 48] {
-    let mut value = [0; 48];
+fn value(number: u64) -> Value {
+    let mut value = [0; VALUE_LENGTH];
     value[..8].copy_from_slice(&number.to_le_bytes());
     value
 }

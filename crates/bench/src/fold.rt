@@ -10,15 +10,21 @@
 //!
 //! Both fold it so many times, in turn, and the least time of each is told, for each instruction that was executed.
 
+ghost use Rattle.std.specs.Prelude.{IfOk};
+ghost use Rattle.bq_meaning.specs.Place.{record_length};
+ghost use Rattle.bq_range.specs.Interval.{IsIn};
+
 use anyhow::{Result, anyhow, bail};
 use bq_asm::assemble::assemble;
 use bq_check::certified::Certified;
-use bq_check::check::check;
+use bq_check::check::check_within;
 use bq_frame::block::Block;
-use bq_verify::verify::verify;
+use bq_state::bounds::Bounds;
+use bq_verify::verify::verify_within;
 use q_session::fold::fold_checked;
 use q_session::ran::Ran;
 use q_session::run::run_fold;
+use sc_view::value::VALUE_LENGTH;
 use sc_view::view::{Stored, View};
 use std::alloc::{AllocError, Global};
 use std::time::{Clock, Duration, Instant};
@@ -107,10 +113,18 @@ fn source_of(alloc: Global, name: &str) -> Result<String> {
     Ok(source)
 }
 
-fn certified(alloc: Global, source: &str) -> Result<Certified> {
+fn certified(alloc: Global, source: &str) -> Result<Certified>
+    ensures { IfOk result (λ certified. IsIn record_length certified.lengths) }
+{
     let text = assemble(alloc, source).map_err(|fault| anyhow!("refused {}", fault.reason()))?;
-    let notes = verify(alloc, &text).map_err(|fault| anyhow!("refused {}", fault.reason()))?;
-    check(alloc, text, notes).map_err(|fault| anyhow!("refused {}", fault.reason()))
+    let notes = verify_within(alloc, &text, Bounds::of_views()).map_err(|fault| anyhow!(
+        "refused {}",
+        fault.reason()
+    ))?;
+    check_within(alloc, text, notes, Bounds::of_views()).map_err(|fault| anyhow!(
+        "refused {}",
+        fault.reason()
+    ))
 }
 
 /// A view of 256 values of which each begins with a number below 2^31.
@@ -119,7 +133,7 @@ fn view_of(alloc: Global) -> Result<View> {
     let mut number = 3;
     for id in 1..257 {
         number = next(number);
-        let mut value = [0; 48];
+        let mut value = [0; VALUE_LENGTH];
         value[..8].copy_from_slice(&(number >> 33).to_le_bytes());
         let stored = Stored::new(1, value).ok_or(anyhow!("no value"))?;
         view.put(id, stored).map_err(|_| anyhow!("no room"))?;
@@ -141,7 +155,9 @@ fn time_once(
     certified: &Certified,
     view: &View,
     block: &mut Block,
-) -> Result<Times> {
+) -> Result<Times>
+    requires { IsIn record_length certified.now.lengths }
+{
     let start = Instant::now(rt)?;
     let ran = run_fold(certified, view, 3, block);
     let loop_took = start.elapsed(rt)?;

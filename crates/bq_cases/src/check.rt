@@ -4,24 +4,73 @@
 //! - `verify SOURCE`: the notes of a text in hexadecimal digits, and the longest path of its certificate.
 //! - `check HEX = SOURCE`: the longest path of the certificate of a text with these notes.
 //! - `certify ACC = SOURCE`: what a text that is verified and checked answers from an accumulator, and in how many
-//!   steps.
+//!   steps, over a record of zeros that has as many bytes as may be.
 //! - `known UNIT R = SOURCE`: what is known of register R where the instruction at a unit begins.
+//! - `accept SOURCE`: the longest path of a text that is verified and checked.
+//! - `size SOURCE`: how many bytes the notes of a text have.
+//! - `within LEAST MOST` and one of these: the same for records of these lengths, with notes in the second form, and
+//!   with `certify ACC LENGTH` over a record of so many bytes. The lines without it are for records of 64 bytes, and
+//!   their notes are in the first form.
+//! - `within LEAST MOST first` and one of these: the same with notes in the first form.
 
 use crate::refusal::print_refusal;
 use crate::state::print_register;
 use crate::words::{bytes, number, text};
 use bq_check::certified::Certified;
-use bq_check::check::check;
-use bq_check::fault::CheckFault;
+use bq_check::check::check_within;
+use bq_check::fault::{CheckFault, NotesFault};
+use bq_check::form::Form;
 use bq_check::notes::Notes;
 use bq_flow::fault::FlowFault;
 use bq_flow::flow::Flow;
 use bq_flow::successors::Successors;
 use bq_insn::text::Text;
 use bq_meaning::placement::Placement;
-use bq_verify::verify::{state_at, verify};
+use bq_state::bounds::Bounds;
+use bq_verify::verify::{state_at, verify_within};
 use std::alloc::Global;
 use std::io;
+
+/// What a line is about: records of which lengths, and notes in which form.
+#[derive(Clone, Copy)]
+pub(crate) struct Asked {
+    bounds: Bounds,
+    form: Form,
+}
+
+impl Asked {
+    /// Records of 64 bytes, and notes in the first form.
+    pub(crate) fn of_views() -> Asked {
+        Asked {
+            bounds: Bounds::of_views(),
+            form: Form::First,
+        }
+    }
+
+    /// Records of so many bytes, and notes in the second form.
+    fn within(least: &str, most: &str) -> Option<Asked> {
+        let least = least.parse::<u8>().ok()?;
+        let most = most.parse::<u8>().ok()?;
+        Some(Asked {
+            bounds: Bounds::new(least, most)?,
+            form: Form::Second,
+        })
+    }
+
+    fn read(self, alloc: Global, bytes: &[u8]) -> Result<Notes, NotesFault> {
+        match self.form {
+            Form::First => Notes::read_v1(alloc, bytes),
+            Form::Second => Notes::read(alloc, bytes),
+        }
+    }
+
+    fn bytes(self, alloc: Global, notes: &Notes) -> Result<Vec<u8>, NotesFault> {
+        match self.form {
+            Form::First => notes.bytes_v1(alloc),
+            Form::Second => Ok(notes.bytes(alloc)?),
+        }
+    }
+}
 
 fn print_flow_fault(rt: &impl Print, fault: FlowFault) -> io::Result<()> {
     let unit = match fault {
@@ -62,59 +111,98 @@ fn print_longest(rt: &impl Print, answer: Result<Certified, CheckFault>) -> io::
     }
 }
 
-fn print_notes(rt: &impl Print, alloc: Global, text: Text) -> io::Result<()> {
-    let notes = match verify(alloc, &text) {
+fn print_notes(rt: &impl Print, alloc: Global, asked: Asked, text: Text) -> io::Result<()> {
+    let notes = match verify_within(alloc, &text, asked.bounds) {
         Ok(notes) => notes,
         Err(fault) => return print_fault(rt, fault),
     };
-    let digits = hex::encode(alloc, notes.bytes(alloc)?.as_slice())?;
-    println!(rt; " {digits}")?;
-    print_longest(rt, check(alloc, text, notes))
+    match asked.bytes(alloc, &notes) {
+        Ok(bytes) => println!(rt; " {}", hex::encode(alloc, bytes.as_slice())?)?,
+        Err(fault) => print_refusal(rt, fault.reason(), None)?,
+    }
+    print_longest(rt, check_within(alloc, text, notes, asked.bounds))
 }
 
-fn check_with(rt: &impl Print, alloc: Global, digits: &str, text: Text) -> io::Result<()> {
-    let Some(bytes) = bytes(alloc, digits) else {
-        return println!(rt; " ?");
+/// Prints how many bytes the notes of a text have.
+fn print_size(rt: &impl Print, alloc: Global, asked: Asked, text: &Text) -> io::Result<()> {
+    let notes = match verify_within(alloc, text, asked.bounds) {
+        Ok(notes) => notes,
+        Err(fault) => return print_fault(rt, fault),
     };
-    match Notes::read(alloc, bytes.as_slice()) {
-        Ok(notes) => print_longest(rt, check(alloc, text, notes)),
+    match asked.bytes(alloc, &notes) {
+        Ok(bytes) => println!(rt; " {} bytes", bytes.len()),
         Err(fault) => print_refusal(rt, fault.reason(), None),
     }
 }
 
-/// Prints what a certified text answers from an accumulator.
-fn print_run(rt: &impl Print, certified: &Certified, acc: u64) -> io::Result<()> {
+fn check_with(
+    rt: &impl Print,
+    alloc: Global,
+    asked: Asked,
+    digits: &str,
+    text: Text,
+) -> io::Result<()> {
+    let Some(bytes) = bytes(alloc, digits) else {
+        return println!(rt; " ?");
+    };
+    match asked.read(alloc, bytes.as_slice()) {
+        Ok(notes) => print_longest(rt, check_within(alloc, text, notes, asked.bounds)),
+        Err(fault) => print_refusal(rt, fault.reason(), None),
+    }
+}
+
+/// Prints what a certified text answers from an accumulator over a record of so many zeros.
+fn print_run(rt: &impl Print, certified: &Certified, acc: u64, length: u8) -> io::Result<()> {
+    let bounds = certified.lengths();
     let Some(place) = Placement::new(4096, 8192) else {
         return println!(rt; " ?");
     };
-    let ended = certified.run_certified(&place, &[0; 64], &mut [0; 512], acc);
+    if length < bounds.least() || bounds.most() < length {
+        return println!(rt; " ?");
+    }
+    let ended = certified.run_certified(
+        &place,
+        &[0; 128][..usize::from(length)],
+        &mut [0; 512],
+        acc,
+    );
     println!(rt; " {} in {}", ended.acc, ended.steps)
 }
 
-/// Prints what a text answers with these notes.
-fn run_checked(
+fn certified(alloc: Global, bounds: Bounds, text: Text) -> Result<Certified, CheckFault> {
+    let notes = verify_within(alloc, &text, bounds)?;
+    check_within(alloc, text, notes, bounds)
+}
+
+fn certify(
     rt: &impl Print,
     alloc: Global,
+    asked: Asked,
     acc: u64,
+    length: u8,
     text: Text,
-    notes: Notes,
 ) -> io::Result<()> {
-    match check(alloc, text, notes) {
-        Ok(certified) => print_run(rt, &certified, acc),
+    match certified(alloc, asked.bounds, text) {
+        Ok(certified) => print_run(rt, &certified, acc, length),
         Err(fault) => print_fault(rt, fault),
     }
 }
 
-fn certify(rt: &impl Print, alloc: Global, acc: u64, text: Text) -> io::Result<()> {
-    match verify(alloc, &text) {
-        Ok(notes) => run_checked(rt, alloc, acc, text, notes),
-        Err(fault) => print_fault(rt, fault),
-    }
-}
-
-fn known(rt: &impl Print, alloc: Global, unit: u64, register: &str, text: &Text) -> io::Result<()> {
+fn known(
+    rt: &impl Print,
+    alloc: Global,
+    asked: Asked,
+    unit: u64,
+    register: &str,
+    text: &Text,
+) -> io::Result<()> {
     let register = register.parse::<u8>().unwrap_or(11);
-    match state_at(alloc, text, usize::try_from(unit).unwrap_or(4096)) {
+    match state_at(
+        alloc,
+        text,
+        asked.bounds,
+        usize::try_from(unit).unwrap_or(4096),
+    ) {
         Ok(Some(state)) => print_register(rt, &state, register),
         Ok(None) => println!(rt; " none"),
         Err(fault) => print_fault(rt, fault),
@@ -122,26 +210,69 @@ fn known(rt: &impl Print, alloc: Global, unit: u64, register: &str, text: &Text)
 }
 
 /// Prints what comes of a text and the words before it.
-fn of_words(rt: &impl Print, alloc: Global, verb: &str, words: &str, text: Text) -> io::Result<()> {
-    match (verb, number(words), words.split_once(' ')) {
-        ("certify", Some(acc), _) => certify(rt, alloc, acc, text),
-        ("known", _, Some((unit, register))) => match number(unit) {
-            Some(unit) => known(rt, alloc, unit, register, &text),
-            None => println!(rt; " ?"),
-        },
-        _ => check_with(rt, alloc, words, text),
+fn of_words(
+    rt: &impl Print,
+    alloc: Global,
+    asked: Asked,
+    verb: &str,
+    words: &str,
+    text: Text,
+) -> io::Result<()> {
+    let (first, second) = words.split_once(' ').unwrap_or((words, ""));
+    match (verb, number(first)) {
+        ("certify", Some(acc)) => {
+            let length = second.parse::<u8>().unwrap_or(asked.bounds.most());
+            certify(rt, alloc, asked, acc, length, text)
+        }
+        ("known", Some(unit)) => known(rt, alloc, asked, unit, second, &text),
+        ("certify" | "known", None) => println!(rt; " ?"),
+        _ => check_with(rt, alloc, asked, words, text),
     }
 }
 
-/// Prints what comes of a line about flow and notes.
-pub(crate) fn answer(rt: &impl Print, alloc: Global, verb: &str, rest: &str) -> io::Result<()> {
+/// Prints what comes of a line that asks for these lengths.
+fn answer_within(rt: &impl Print, alloc: Global, rest: &str) -> io::Result<()> {
+    let (least, others) = rest.split_once(' ').unwrap_or((rest, ""));
+    let (most, others) = others.split_once(' ').unwrap_or((others, ""));
+    let (verb, rest) = others.split_once(' ').unwrap_or((others, ""));
+    let Some(asked) = Asked::within(least, most) else {
+        return println!(rt; " ?");
+    };
+    if verb != "first" {
+        return answer_to(rt, alloc, asked, verb, rest);
+    }
+    let first = Asked {
+        bounds: asked.bounds,
+        form: Form::First,
+    };
+    let (verb, rest) = rest.split_once(' ').unwrap_or((rest, ""));
+    answer_to(rt, alloc, first, verb, rest)
+}
+
+fn answer_to(
+    rt: &impl Print,
+    alloc: Global,
+    asked: Asked,
+    verb: &str,
+    rest: &str,
+) -> io::Result<()> {
     let (words, source) = rest.split_once(" = ").unwrap_or(("", rest));
     let Some(text) = text(alloc, source)? else {
         return println!(rt; " ?");
     };
     match verb {
         "flow" => flow(rt, alloc, &text),
-        "verify" => print_notes(rt, alloc, text),
-        _ => of_words(rt, alloc, verb, words, text),
+        "verify" => print_notes(rt, alloc, asked, text),
+        "accept" => print_longest(rt, certified(alloc, asked.bounds, text)),
+        "size" => print_size(rt, alloc, asked, &text),
+        _ => of_words(rt, alloc, asked, verb, words, text),
+    }
+}
+
+/// Prints what comes of a line about flow and notes.
+pub(crate) fn answer(rt: &impl Print, alloc: Global, verb: &str, rest: &str) -> io::Result<()> {
+    match verb {
+        "within" => answer_within(rt, alloc, rest),
+        _ => answer_to(rt, alloc, Asked::of_views(), verb, rest),
     }
 }

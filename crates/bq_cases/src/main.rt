@@ -11,7 +11,7 @@
 //! | `loop` | [`raw`]: what the loop over checked code answers |
 //! | `operation`, `edge`, `mapped`, `load`, `join`, `meet` | [`range`]: ranges of words |
 //! | `after`, `edges`, `offsets` | [`state`]: what is known of registers |
-//! | `flow`, `verify`, `check`, `certify`, `known` | [`check`]: flow, notes and certificates |
+//! | `flow`, `verify`, `check`, `accept`, `certify`, `known`, `size`, `within` | [`check`]: flow, notes, certificates |
 //!
 //! In a source `/` stands for a line feed and `~` for a carriage return. Numbers are words in decimal digits, with `-`
 //! for what they are below 2^64. A line that asks for nothing of these is a comment.
@@ -52,7 +52,7 @@ fn answer(
             range::answer(rt, alloc, verb, rest)
         }
         "after" | "edges" | "offsets" => state::answer(rt, alloc, verb, rest),
-        "flow" | "verify" | "check" | "certify" | "known" => {
+        "flow" | "verify" | "check" | "accept" | "certify" | "known" | "size" | "within" => {
             check::answer(rt, alloc, verb, rest)
         }
         _ => Ok(()),

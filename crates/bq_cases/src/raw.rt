@@ -7,19 +7,20 @@ use crate::check::print_fault;
 use crate::run::{record_of, values_of};
 use crate::words::{number, text};
 use bq_check::certified::Certified;
-use bq_check::check::check;
+use bq_check::check::check_within;
 use bq_check::fault::CheckFault;
 use bq_frame::block::Block;
 use bq_insn::text::Text;
 use bq_meaning::run::Ended;
 use bq_run::run::run;
-use bq_verify::verify::verify;
+use bq_state::bounds::Bounds;
+use bq_verify::verify::verify_within;
 use std::alloc::{AllocError, Global};
 use std::io;
 
 fn certified(alloc: Global, text: Text) -> Result<Certified, CheckFault> {
-    let notes = verify(alloc, &text)?;
-    check(alloc, text, notes)
+    let notes = verify_within(alloc, &text, Bounds::of_views())?;
+    check_within(alloc, text, notes, Bounds::of_views())
 }
 
 /// What the loop answers over records with these values.

@@ -6,28 +6,15 @@ use Rattle.bq_insn.specs.declared.insn.Insn.{Insn}
 use Rattle.bq_flow.specs.declared.fault.FlowFault.{FlowFault}
 use Rattle.bq_flow.specs.declared.fault.FlowFault.TheVariants as flows
 use Rattle.bq_flow.specs.Faults.{IsFlowFault}
+use Rattle.bq_range.specs.Interval.{Interval}
 use Rattle.bq_state.specs.Kinds.{StateKinds}
-use Rattle.bq_sound.specs.Passes.{note_at, NoHalves, IsFine, AllFine}
+use Rattle.bq_sound.specs.Passes.{note_at, IsFine, AllFine}
 use Rattle.bq_check.specs.declared.fault.CheckFault.{CheckFault}
 use Rattle.bq_check.specs.declared.fault.CheckFault.TheVariants.{WrongCount, Flow, NoteForm, Entry, Rule, NotCovered, OutOfMemory}
 use Rattle.bq_check.specs.Reasons.{flow_refusal}
-use Rattle.bq_check.specs.Faults.{IsOpened, IsUnitFault, IsFirstFault}
+use Rattle.bq_check.specs.Faults.{MayStand, AllMayStand, IsOpened, IsUnitFault, IsFirstFault}
 
 module _ (text : List Insn) (notes : List (Option StateKinds)) where
-  -- ---- second halves
-
-  pub halves_more : (unit : ℕ) → NoHalves text notes unit → ((state : StateKinds) → note_at notes unit ≡ Some state → (i : Insn) × (insn_at text unit ≡ Some i)) → NoHalves text notes (unit + 1)
-  halves_more unit h here = record { each = λ u state l noted. each u state l noted }
-    where
-      each : (u : ℕ) (state : StateKinds) → u < unit + 1 → note_at notes u ≡ Some state → (i : Insn) × (insn_at text u ≡ Some i)
-      each u state l noted = elim (cases_lt u unit) [
-        | inl m ↦ h.each u state m noted
-        | inr g ↦
-            let e : u ≡ unit = omega (arith, l, g) in
-            let i = here state (ap (note_at notes) (sym e) ∙ noted) in
-            (i.0, ap (insn_at text) e ∙ i.1)
-      ]
-
   -- ---- units
 
   pub fine_more : (unit : ℕ) → AllFine text notes unit → ((state : StateKinds) (i : Insn) → note_at notes unit ≡ Some state → insn_at text unit ≡ Some i → IsFine notes unit i state) → AllFine text notes (unit + 1)
@@ -52,21 +39,33 @@ module _ (text : List Insn) (notes : List (Option StateKinds)) where
       subst (λ x. IsFine notes unit x s) (same_insn i j (insn_at text unit) there there_too)
       (subst (λ x. IsFine notes unit i x) (same_state state s (note_at notes unit) noted noted_too) fine)
 
-  pub first_fault : (unit : ℕ) (state : StateKinds) (i : Insn) (f : CheckFault) → IsOpened text notes → AllFine text notes unit → note_at notes unit ≡ Some state → insn_at text unit ≡ Some i → IsUnitFault notes unit i state f → IsFirstFault text notes f
-  first_fault unit state i WrongCount opened below noted there fault = absurd fault
-  first_fault unit state i (Flow at rule) opened below noted there fault = absurd fault
-  first_fault unit state i (NoteForm at) opened below noted there fault = absurd fault
-  first_fault unit state i Entry opened below noted there fault = absurd fault
-  first_fault unit state i (Rule at rule) opened below noted there fault =
-      subst (λ u. IsFirstFault text notes (Rule u rule)) (sym fault.0)
+  pub first_fault : (l : Interval) (unit : ℕ) (state : StateKinds) (i : Insn) (f : CheckFault) → IsOpened l text notes → AllFine text notes unit → note_at notes unit ≡ Some state → insn_at text unit ≡ Some i → IsUnitFault notes unit i state f → IsFirstFault l text notes f
+  first_fault l unit state i WrongCount opened below noted there fault = absurd fault
+  first_fault l unit state i (Flow at rule) opened below noted there fault = absurd fault
+  first_fault l unit state i (NoteForm at) opened below noted there fault = absurd fault
+  first_fault l unit state i Entry opened below noted there fault = absurd fault
+  first_fault l unit state i (Rule at rule) opened below noted there fault =
+      subst (λ u. IsFirstFault l text notes (Rule u rule)) (sym fault.0)
       (opened, (i, state, record { below = below; noted = noted; there = there }, fault.1))
-  first_fault unit state i (NotCovered at) opened below noted there fault =
-      subst (λ u. IsFirstFault text notes (NotCovered u)) (sym fault.0)
+  first_fault l unit state i (NotCovered at) opened below noted there fault =
+      subst (λ u. IsFirstFault l text notes (NotCovered u)) (sym fault.0)
       (opened, (i, state, fault.1.0, record { below = below; noted = noted; there = there }, fault.1.1, fault.1.2))
-  first_fault unit state i OutOfMemory opened below noted there fault = absurd fault
+  first_fault l unit state i OutOfMemory opened below noted there fault = absurd fault
 
   -- ---- the flow
 
-  pub flow_fault : (f : FlowFault) → length notes ≡ units text → IsFlowFault text f → IsFirstFault text notes (flow_refusal f)
-  flow_fault (flows.At unit rule) count fault = (count, fault)
-  flow_fault flows.OutOfMemory count fault = tt
+  pub flow_fault : (l : Interval) (f : FlowFault) → length notes ≡ units text → IsFlowFault text f → IsFirstFault l text notes (flow_refusal f)
+  flow_fault l (flows.At unit rule) count fault = (count, fault)
+  flow_fault l flows.OutOfMemory count fault = tt
+
+module _ (bounds : Interval) (text : List Insn) (notes : List (Option StateKinds)) where
+  pub stand_more : (unit : ℕ) → AllMayStand bounds text notes unit → ((state : StateKinds) → note_at notes unit ≡ Some state → MayStand bounds text unit state) → AllMayStand bounds text notes (unit + 1)
+  stand_more unit h here = record { each = λ u state l noted. each u state l noted }
+    where
+      each : (u : ℕ) (state : StateKinds) → u < unit + 1 → note_at notes u ≡ Some state → MayStand bounds text u state
+      each u state l noted = elim (cases_lt u unit) [
+        | inl m ↦ h.each u state m noted
+        | inr g ↦
+            let e : u ≡ unit = omega (arith, l, g) in
+            subst (λ n. MayStand bounds text n state) (sym e) (here state (ap (note_at notes) (sym e) ∙ noted))
+      ]

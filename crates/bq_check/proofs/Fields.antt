@@ -11,7 +11,9 @@ use Rattle.bq_state.specs.Kinds.{StateKinds, state_of}
 use Rattle.bq_state.specs.declared.kind.Kind.TheVariants.{Unset, Number, Pointer, Length}
 use Rattle.bq_state.specs.declared.region.Region.{Region}
 use Rattle.bq_state.specs.declared.region.Region.TheVariants.{Frame, Record}
-use Rattle.bq_check.specs.Spelling.{short_bytes, long_bytes, range_bytes, offset_bytes, span_bytes, region_byte, kind_bytes, state_bytes, note_bytes, notes_bytes, IsKind, IsState, IsNote, IsNotes}
+use Rattle.bq_check.specs.declared.form.Form.{Form}
+use Rattle.bq_check.specs.declared.form.Form.TheVariants.{First, Second}
+use Rattle.bq_check.specs.Spelling.{short_bytes, long_bytes, range_bytes, offset_bytes, span_bytes, region_byte, kind_bytes, kinds_bytes, lengths_bytes, state_bytes, note_bytes, notes_bytes, IsKind, IsKinds, HasLengths, IsState, IsNote, IsNotes}
 use Rattle.bq_check.proofs.Codes.{IsCode, once}
 
 -- ---- fronts of one length
@@ -124,63 +126,90 @@ region_above : (n : ℕ) (r : Region) → n < 2 → n ≡ region_byte r → ⊥
 region_above n Frame l e = omega (arith, l, e)
 region_above n Record l e = omega (arith, l, e)
 
+region_below : (r : Region) → 4 ≡ region_byte r → ⊥
+region_below Frame e = omega (arith, e)
+region_below Record e = omega (arith, e)
+
 one_region : (r t : Region) → region_byte r ≡ region_byte t → r ≡ t
 one_region Frame Frame e = refl
 one_region Record Record e = refl
 one_region Frame Record e = absurd (omega (arith, e))
 one_region Record Frame e = absurd (omega (arith, e))
 
-one_kind : (a b : Kind) (x y : List ℕ) → IsKind a → IsKind b → kind_bytes a ++ x ≡ kind_bytes b ++ y → (a ≡ b) × (x ≡ y)
-one_kind Unset Unset x y p q e = (refl, (one_byte 0 0 x y e).1)
-one_kind Unset (Number b) x y p q e = absurd (other 0 1 _ _ (λ h. omega (arith, h)) e)
-one_kind Unset (Pointer r b) x y p q e = absurd (region_above 0 r (omega arith) (one_byte 0 (region_byte r) _ _ e).0)
-one_kind (Number a) Unset x y p q e = absurd (other 1 0 _ _ (λ h. omega (arith, h)) e)
-one_kind (Number a) (Number b) x y p q e =
+one_kind : (form : Form) (a b : Kind) (x y : List ℕ) → IsKind form a → IsKind form b → kind_bytes a ++ x ≡ kind_bytes b ++ y → (a ≡ b) × (x ≡ y)
+one_kind form Unset Unset x y p q e = (refl, (one_byte 0 0 x y e).1)
+one_kind form Unset (Number b) x y p q e = absurd (other 0 1 _ _ (λ h. omega (arith, h)) e)
+one_kind form Unset (Pointer r b) x y p q e = absurd (region_above 0 r (omega arith) (one_byte 0 (region_byte r) _ _ e).0)
+one_kind form Unset Length x y p q e = absurd (other 0 4 _ _ (λ h. omega (arith, h)) e)
+one_kind form (Number a) Unset x y p q e = absurd (other 1 0 _ _ (λ h. omega (arith, h)) e)
+one_kind form (Number a) (Number b) x y p q e =
     let s = ranges_are_code.one a b x y p q (one_byte 1 1 (range_bytes a ++ x) (range_bytes b ++ y) e).1 in
     (ap Number s.0, s.1)
-one_kind (Number a) (Pointer r b) x y p q e = absurd (region_above 1 r (omega arith) (one_byte 1 (region_byte r) _ _ e).0)
-one_kind (Pointer r a) Unset x y p q e = absurd (region_above 0 r (omega arith) (sym (one_byte (region_byte r) 0 _ _ e).0))
-one_kind (Pointer r a) (Number b) x y p q e = absurd (region_above 1 r (omega arith) (sym (one_byte (region_byte r) 1 _ _ e).0))
-one_kind (Pointer r a) (Pointer t b) x y p q e =
+one_kind form (Number a) (Pointer r b) x y p q e = absurd (region_above 1 r (omega arith) (one_byte 1 (region_byte r) _ _ e).0)
+one_kind form (Number a) Length x y p q e = absurd (other 1 4 _ _ (λ h. omega (arith, h)) e)
+one_kind form (Pointer r a) Unset x y p q e = absurd (region_above 0 r (omega arith) (sym (one_byte (region_byte r) 0 _ _ e).0))
+one_kind form (Pointer r a) (Number b) x y p q e = absurd (region_above 1 r (omega arith) (sym (one_byte (region_byte r) 1 _ _ e).0))
+one_kind form (Pointer r a) (Pointer t b) x y p q e =
     let h = one_byte (region_byte r) (region_byte t) (span_bytes a ++ x) (span_bytes b ++ y) e in
     let s = spans_are_code.one a b x y p q h.1 in
     (ap (λ z. Pointer z a) (one_region r t h.0) ∙ ap (Pointer t) s.0, s.1)
-one_kind Length b x y p q e = absurd p
-one_kind Unset Length x y p q e = absurd q
-one_kind (Number a) Length x y p q e = absurd q
-one_kind (Pointer r a) Length x y p q e = absurd q
+one_kind form (Pointer r a) Length x y p q e = absurd (region_below r (sym (one_byte (region_byte r) 4 _ _ e).0))
+one_kind form Length Unset x y p q e = absurd (other 4 0 _ _ (λ h. omega (arith, h)) e)
+one_kind form Length (Number b) x y p q e = absurd (other 4 1 _ _ (λ h. omega (arith, h)) e)
+one_kind form Length (Pointer r b) x y p q e = absurd (region_below r (one_byte 4 (region_byte r) _ _ e).0)
+one_kind form Length Length x y p q e = (refl, (one_byte 4 4 x y e).1)
 
-pub kinds_are_code : IsCode kind_bytes IsKind
-kinds_are_code = record { one = λ a b x y p q e. one_kind a b x y p q e }
+-- ---- lengths
 
--- ---- states and notes
+one_lengths : (form : Form) (a b : Interval) (x y : List ℕ) → HasLengths form a → HasLengths form b → lengths_bytes form a ++ x ≡ lengths_bytes form b ++ y → (a ≡ b) × (x ≡ y)
+one_lengths First a b x y p q e = (p ∙ sym q, e)
+one_lengths Second a b x y p q e =
+    let s = one_byte a.lo b.lo (a.hi ∷ x) (b.hi ∷ y) e in
+    let t = one_byte a.hi b.hi x y s.1 in
+    (range_is a b s.0 t.0, t.1)
 
-pub states_are_code : IsCode state_bytes IsState
-states_are_code = record { one = λ a b x y p q e. one a b x y p q e }
-  where
-    one : (a b : StateKinds) (x y : List ℕ) → IsState a → IsState b → state_bytes a ++ x ≡ state_bytes b ++ y → (a ≡ b) × (x ≡ y)
-    one a b x y p q e =
-        let s = once kind_bytes IsKind kinds_are_code a.kinds b.kinds x y p.kinds q.kinds (p.count ∙ sym q.count) e in
-        (ap (λ ks. state_of ks a.lengths) s.0 ∙ ap (state_of b.kinds) (p.lengths ∙ sym q.lengths), s.1)
+module _ (form : Form) where
+  pub kind_is_code : IsCode kind_bytes (IsKind form)
+  kind_is_code = record { one = λ a b x y p q e. one_kind form a b x y p q e }
 
-one_note : (a b : Option StateKinds) (x y : List ℕ) → IsNote a → IsNote b → note_bytes a ++ x ≡ note_bytes b ++ y → (a ≡ b) × (x ≡ y)
-one_note None None x y p q e = (refl, (one_byte 0 0 x y e).1)
-one_note None (Some b) x y p q e = absurd (other 0 1 _ _ (λ h. omega (arith, h)) e)
-one_note (Some a) None x y p q e = absurd (other 1 0 _ _ (λ h. omega (arith, h)) e)
-one_note (Some a) (Some b) x y p q e =
-    let s = states_are_code.one a b x y p q (one_byte 1 1 (state_bytes a ++ x) (state_bytes b ++ y) e).1 in
-    (ap Some s.0, s.1)
+  pub kinds_are_code : IsCode kinds_bytes (IsKinds form)
+  kinds_are_code = record { one = λ a b x y p q e. once kind_bytes (IsKind form) kind_is_code a b x y p.each q.each (p.count ∙ sym q.count) e }
 
-pub note_is_code : IsCode note_bytes IsNote
-note_is_code = record { one = λ a b x y p q e. one_note a b x y p q e }
+  pub lengths_are_code : IsCode (lengths_bytes form) (HasLengths form)
+  lengths_are_code = record { one = λ a b x y p q e. one_lengths form a b x y p q e }
 
-pub counted : (n : List (Option StateKinds)) (x : List ℕ) → notes_bytes n ++ x ≡ short_bytes (length n) ++ (flat_map note_bytes n ++ x)
-counted n x = append_assoc (short_bytes (length n)) (flat_map note_bytes n) x
+  -- ---- states and notes
 
-pub notes_are_code : IsCode notes_bytes IsNotes
-notes_are_code = record { one = λ a b x y p q e. one a b x y p q e }
-  where
-    one : (a b : List (Option StateKinds)) (x y : List ℕ) → IsNotes a → IsNotes b → notes_bytes a ++ x ≡ notes_bytes b ++ y → (a ≡ b) × (x ≡ y)
-    one a b x y p q e =
-        let s = short_front (length a) (length b) (flat_map note_bytes a ++ x) (flat_map note_bytes b ++ y) (omega (arith, p.few)) (omega (arith, q.few)) (sym (counted a x) ∙ e ∙ counted b y) in
-        once note_bytes IsNote note_is_code a b x y p.each q.each s.0 s.1
+  pub headed : (s : StateKinds) (x : List ℕ) → state_bytes form s ++ x ≡ lengths_bytes form s.lengths ++ (kinds_bytes s.kinds ++ x)
+  headed s x = append_assoc (lengths_bytes form s.lengths) (kinds_bytes s.kinds) x
+
+  pub state_is_code : IsCode (state_bytes form) (IsState form)
+  state_is_code = record { one = λ a b x y p q e. one a b x y p q e }
+    where
+      one : (a b : StateKinds) (x y : List ℕ) → IsState form a → IsState form b → state_bytes form a ++ x ≡ state_bytes form b ++ y → (a ≡ b) × (x ≡ y)
+      one a b x y p q e =
+          let s = lengths_are_code.one a.lengths b.lengths (kinds_bytes a.kinds ++ x) (kinds_bytes b.kinds ++ y) p.lengths q.lengths (sym (headed a x) ∙ e ∙ headed b y) in
+          let t = kinds_are_code.one a.kinds b.kinds x y p.kinds q.kinds s.1 in
+          (ap (λ ks. state_of ks a.lengths) t.0 ∙ ap (state_of b.kinds) s.0, t.1)
+
+  one_note : (a b : Option StateKinds) (x y : List ℕ) → IsNote form a → IsNote form b → note_bytes form a ++ x ≡ note_bytes form b ++ y → (a ≡ b) × (x ≡ y)
+  one_note None None x y p q e = (refl, (one_byte 0 0 x y e).1)
+  one_note None (Some b) x y p q e = absurd (other 0 1 _ _ (λ h. omega (arith, h)) e)
+  one_note (Some a) None x y p q e = absurd (other 1 0 _ _ (λ h. omega (arith, h)) e)
+  one_note (Some a) (Some b) x y p q e =
+      let s = state_is_code.one a b x y p q (one_byte 1 1 (state_bytes form a ++ x) (state_bytes form b ++ y) e).1 in
+      (ap Some s.0, s.1)
+
+  pub note_is_code : IsCode (note_bytes form) (IsNote form)
+  note_is_code = record { one = λ a b x y p q e. one_note a b x y p q e }
+
+  pub counted : (n : List (Option StateKinds)) (x : List ℕ) → notes_bytes form n ++ x ≡ short_bytes (length n) ++ (flat_map (note_bytes form) n ++ x)
+  counted n x = append_assoc (short_bytes (length n)) (flat_map (note_bytes form) n) x
+
+  pub notes_are_code : IsCode (notes_bytes form) (IsNotes form)
+  notes_are_code = record { one = λ a b x y p q e. one a b x y p q e }
+    where
+      one : (a b : List (Option StateKinds)) (x y : List ℕ) → IsNotes form a → IsNotes form b → notes_bytes form a ++ x ≡ notes_bytes form b ++ y → (a ≡ b) × (x ≡ y)
+      one a b x y p q e =
+          let s = short_front (length a) (length b) (flat_map (note_bytes form) a ++ x) (flat_map (note_bytes form) b ++ y) (omega (arith, p.few)) (omega (arith, q.few)) (sym (counted a x) ∙ e ∙ counted b y) in
+          once (note_bytes form) (IsNote form) note_is_code a b x y p.each q.each s.0 s.1

@@ -6,4 +6,4 @@ pub mod Once
 pub mod Read
 pub mod Written
 mod Seen
-pub mod Views
+pub mod FirstForm

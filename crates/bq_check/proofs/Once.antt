@@ -7,44 +7,60 @@ use Rattle.bq_insn.specs.Slots.{units, insn_at}
 use Rattle.bq_insn.specs.declared.insn.Insn.{Insn}
 use Rattle.bq_flow.proofs.Units.{insn_within}
 use Rattle.bq_flow.proofs.Legal.{not_legal, one_first}
-use Rattle.bq_state.specs.Kinds.{StateKinds, view_lengths}
+use Rattle.bq_range.specs.Interval.{Interval}
+use Rattle.bq_state.specs.Kinds.{StateKinds}
 use Rattle.bq_state.specs.declared.rule.Rule.{Rule as Broken}
 use Rattle.bq_state.specs.Rules.{transfer}
 use Rattle.bq_state.specs.Edges.{edges}
-use Rattle.bq_sound.specs.Passes.{note_at, AllCovered, NoHalves, IsFine, AllFine, Passes}
+use Rattle.bq_sound.specs.Passes.{note_at, AllCovered, NoHalves, AreSuited, IsFine, AllFine, Passes}
 use Rattle.bq_check.specs.Certificate.{Certificate}
 use Rattle.bq_check.specs.declared.fault.CheckFault.{CheckFault}
 use Rattle.bq_check.specs.declared.fault.CheckFault.TheVariants.{WrongCount, Flow, NoteForm, Entry, Rule, NotCovered, OutOfMemory}
-use Rattle.bq_check.specs.Faults.{IsReached, IsFirstHalf, IsFirstFault}
+use Rattle.bq_check.specs.Faults.{IsReached, AllMayStand, IsFirstWrongState, IsOpened, IsFirstFault}
 
-module _ (text : List Insn) (notes : List (Option StateKinds)) where
-  -- ---- second halves
+module _ (l : Interval) (text : List Insn) (notes : List (Option StateKinds)) where
+  -- ---- where states stand
 
   no_state : (state : StateKinds) (o : Option StateKinds) → o ≡ None → o ≡ Some state → ⊥
   no_state state o e f = let bad : Some state ≡ None = sym f ∙ e in cc
 
-  no_insn : (i : Insn) (o : Option Insn) → o ≡ None → o ≡ Some i → ⊥
-  no_insn i o e f = let bad : Some i ≡ None = sym f ∙ e in cc
-
   note_within : (unit : ℕ) (state : StateKinds) → note_at notes unit ≡ Some state → unit < length notes
   note_within unit state noted = elim (cases_lt unit (length notes)) [
-    | inl l ↦ l
+    | inl low ↦ low
     | inr g ↦ absurd (no_state state (note_at notes unit) (get_or_past notes unit None g) noted)
   ]
 
-  half_before : (unit n : ℕ) → IsFirstHalf text notes unit → NoHalves text notes n → unit < n → ⊥
-  half_before unit n f h l =
-      let i = h.each unit f.state l f.noted in
-      no_insn i.0 (insn_at text unit) f.second i.1
+  -- states that may stand where they do are none at a second half, and are suited
+  no_halves : AllMayStand l text notes (units text) → NoHalves text notes (units text)
+  no_halves h = record { each = λ unit state low noted. (h.each unit state low noted).begins }
 
-  no_half : (unit : ℕ) → IsFirstHalf text notes unit → length notes ≡ units text → NoHalves text notes (units text) → ⊥
-  no_half unit f count h = half_before unit (units text) f h (let l = note_within unit f.state f.noted in omega (arith, l, count))
+  are_suited : length notes ≡ units text → AllMayStand l text notes (units text) → AreSuited l notes
+  are_suited count h = record { each = λ unit state noted. (h.each unit state (let low = note_within unit state noted in omega (arith, low, count)) noted).suited }
 
-  one_half : (unit other : ℕ) → IsFirstHalf text notes unit → IsFirstHalf text notes other → unit ≡ other
-  one_half unit other f g = elim (cases_lt unit other) [
-    | inl l ↦ absurd (half_before unit other f g.below l)
+  pub opened_passes : IsOpened l text notes → AllFine text notes (units text) → Passes l text notes
+  opened_passes opened fine = record {
+    count = opened.count;
+    flow = opened.flow;
+    halves = no_halves opened.standing;
+    suited = are_suited opened.count opened.standing;
+    entry = opened.entry;
+    fine = fine;
+  }
+
+  all_stand : NoHalves text notes (units text) → AreSuited l notes → AllMayStand l text notes (units text)
+  all_stand halves suited = record { each = λ unit state low noted. record { begins = halves.each unit state low noted; suited = suited.each unit state noted } }
+
+  wrong_before : (unit n : ℕ) → IsFirstWrongState l text notes unit → AllMayStand l text notes n → unit < n → ⊥
+  wrong_before unit n f h low = f.wrong (h.each unit f.state low f.noted)
+
+  none_wrong : (unit : ℕ) → IsFirstWrongState l text notes unit → length notes ≡ units text → AllMayStand l text notes (units text) → ⊥
+  none_wrong unit f count h = wrong_before unit (units text) f h (let low = note_within unit f.state f.noted in omega (arith, low, count))
+
+  one_wrong : (unit other : ℕ) → IsFirstWrongState l text notes unit → IsFirstWrongState l text notes other → unit ≡ other
+  one_wrong unit other f g = elim (cases_lt unit other) [
+    | inl low ↦ absurd (wrong_before unit other f g.below low)
     | inr m ↦ elim (cases_lt other unit) [
-      | inl l ↦ absurd (half_before other unit g f.below l)
+      | inl low ↦ absurd (wrong_before other unit g f.below low)
       | inr n ↦ omega (arith, m, n)
     ]
   ]
@@ -75,16 +91,16 @@ module _ (text : List Insn) (notes : List (Option StateKinds)) where
       bad fine = uncovered (subst (λ s. AllCovered notes (edges unit i s)) (same fine.after after (transfer i state) fine.rules e) fine.covered)
 
   bad_before : (unit n : ℕ) (i : Insn) (state : StateKinds) → IsFirstBad unit i state → AllFine text notes n → unit < n → ⊥
-  bad_before unit n i state b fine l = b.bad (fine.each unit state i l b.reached.noted b.reached.there)
+  bad_before unit n i state b fine low = b.bad (fine.each unit state i low b.reached.noted b.reached.there)
 
   not_all_fine : (unit : ℕ) (i : Insn) (state : StateKinds) → IsFirstBad unit i state → AllFine text notes (units text) → ⊥
   not_all_fine unit i state b fine = bad_before unit (units text) i state b fine (insn_within text unit i b.reached.there)
 
   one_bad : (unit other : ℕ) (i j : Insn) (state old : StateKinds) → IsFirstBad unit i state → IsFirstBad other j old → unit ≡ other
   one_bad unit other i j state old f g = elim (cases_lt unit other) [
-    | inl l ↦ absurd (bad_before unit other i state f g.reached.below l)
+    | inl low ↦ absurd (bad_before unit other i state f g.reached.below low)
     | inr m ↦ elim (cases_lt other unit) [
-      | inl l ↦ absurd (bad_before other unit j old g f.reached.below l)
+      | inl low ↦ absurd (bad_before other unit j old g f.reached.below low)
       | inr n ↦ omega (arith, m, n)
     ]
   ]
@@ -105,7 +121,7 @@ module _ (text : List Insn) (notes : List (Option StateKinds)) where
   broken_or_not : (rule : Broken) (after : StateKinds) (r s : Result StateKinds Broken) → r ≡ s → r ≡ Err rule → s ≡ Ok after → ⊥
   broken_or_not rule after r s e p q = let h : Err rule ≡ Ok after = sym p ∙ e ∙ q in cc
 
-  rule_or_uncovered : (unit other : ℕ) (rule : Broken) → IsFirstFault text notes (Rule unit rule) → IsFirstFault text notes (NotCovered other) → ⊥
+  rule_or_uncovered : (unit other : ℕ) (rule : Broken) → IsFirstFault l text notes (Rule unit rule) → IsFirstFault l text notes (NotCovered other) → ⊥
   rule_or_uncovered unit other rule f g =
       let a = broken_is_bad unit f.1.0 f.1.1 rule f.1.2 f.1.3 in
       let b = uncovered_is_bad other g.1.0 g.1.1 g.1.2 g.1.3 g.1.4 g.1.5 in
@@ -115,22 +131,22 @@ module _ (text : List Insn) (notes : List (Option StateKinds)) where
 
   -- ---- no fault where the notes pass
 
-  pub only_memory : (f : CheckFault) → IsFirstFault text notes f → Passes view_lengths text notes → f ≡ OutOfMemory
+  pub only_memory : (f : CheckFault) → IsFirstFault l text notes f → Passes l text notes → f ≡ OutOfMemory
   only_memory WrongCount f p = absurd (f p.count)
   only_memory (Flow unit rule) f p = absurd (not_legal text unit rule f.1 p.flow)
-  only_memory (NoteForm unit) f p = absurd (no_half unit f.2 f.0 p.halves)
+  only_memory (NoteForm unit) f p = absurd (none_wrong unit f.2 f.0 (all_stand p.halves p.suited))
   only_memory Entry f p = absurd (f.3 p.entry)
   only_memory (Rule unit rule) f p = absurd (not_all_fine unit f.1.0 f.1.1 (broken_is_bad unit f.1.0 f.1.1 rule f.1.2 f.1.3) p.fine)
   only_memory (NotCovered unit) f p = absurd (not_all_fine unit f.1.0 f.1.1 (uncovered_is_bad unit f.1.0 f.1.1 f.1.2 f.1.3 f.1.4 f.1.5) p.fine)
   only_memory OutOfMemory f p = refl
 
-  pub accepts : (r : Result Certificate CheckFault) → IfErr r (IsFirstFault text notes) → Passes view_lengths text notes → MatchResult r (λ c. ⊤) (λ e. e ≡ OutOfMemory)
+  pub accepts : (r : Result Certificate CheckFault) → IfErr r (IsFirstFault l text notes) → Passes l text notes → MatchResult r (λ c. ⊤) (λ e. e ≡ OutOfMemory)
   accepts (Ok c) fault p = tt
   accepts (Err f) fault p = only_memory f fault p
 
   -- ---- one first fault
 
-  pub one_fault : (f g : CheckFault) → IsFirstFault text notes f → IsFirstFault text notes g → (f ≡ OutOfMemory → ⊥) → (g ≡ OutOfMemory → ⊥) → f ≡ g
+  pub one_fault : (f g : CheckFault) → IsFirstFault l text notes f → IsFirstFault l text notes g → (f ≡ OutOfMemory → ⊥) → (g ≡ OutOfMemory → ⊥) → f ≡ g
   one_fault OutOfMemory g p q no_f no_g = absurd (no_f refl)
   one_fault WrongCount OutOfMemory p q no_f no_g = absurd (no_g refl)
   one_fault WrongCount WrongCount p q no_f no_g = refl
@@ -151,21 +167,21 @@ module _ (text : List Insn) (notes : List (Option StateKinds)) where
   one_fault (NoteForm u) OutOfMemory p q no_f no_g = absurd (no_g refl)
   one_fault (NoteForm u) WrongCount p q no_f no_g = absurd (q p.0)
   one_fault (NoteForm u) (Flow v s) p q no_f no_g = absurd (not_legal text v s q.1 p.1)
-  one_fault (NoteForm u) (NoteForm v) p q no_f no_g = ap NoteForm (one_half u v p.2 q.2)
-  one_fault (NoteForm u) Entry p q no_f no_g = absurd (no_half u p.2 p.0 q.2)
-  one_fault (NoteForm u) (Rule v s) p q no_f no_g = absurd (no_half u p.2 p.0 q.0.halves)
-  one_fault (NoteForm u) (NotCovered v) p q no_f no_g = absurd (no_half u p.2 p.0 q.0.halves)
+  one_fault (NoteForm u) (NoteForm v) p q no_f no_g = ap NoteForm (one_wrong u v p.2 q.2)
+  one_fault (NoteForm u) Entry p q no_f no_g = absurd (none_wrong u p.2 p.0 q.2)
+  one_fault (NoteForm u) (Rule v s) p q no_f no_g = absurd (none_wrong u p.2 p.0 q.0.standing)
+  one_fault (NoteForm u) (NotCovered v) p q no_f no_g = absurd (none_wrong u p.2 p.0 q.0.standing)
   one_fault Entry OutOfMemory p q no_f no_g = absurd (no_g refl)
   one_fault Entry WrongCount p q no_f no_g = absurd (q p.0)
   one_fault Entry (Flow v s) p q no_f no_g = absurd (not_legal text v s q.1 p.1)
-  one_fault Entry (NoteForm v) p q no_f no_g = absurd (no_half v q.2 q.0 p.2)
+  one_fault Entry (NoteForm v) p q no_f no_g = absurd (none_wrong v q.2 q.0 p.2)
   one_fault Entry Entry p q no_f no_g = refl
   one_fault Entry (Rule v s) p q no_f no_g = absurd (p.3 q.0.entry)
   one_fault Entry (NotCovered v) p q no_f no_g = absurd (p.3 q.0.entry)
   one_fault (Rule u r) OutOfMemory p q no_f no_g = absurd (no_g refl)
   one_fault (Rule u r) WrongCount p q no_f no_g = absurd (q p.0.count)
   one_fault (Rule u r) (Flow v s) p q no_f no_g = absurd (not_legal text v s q.1 p.0.flow)
-  one_fault (Rule u r) (NoteForm v) p q no_f no_g = absurd (no_half v q.2 q.0 p.0.halves)
+  one_fault (Rule u r) (NoteForm v) p q no_f no_g = absurd (none_wrong v q.2 q.0 p.0.standing)
   one_fault (Rule u r) Entry p q no_f no_g = absurd (q.3 p.0.entry)
   one_fault (Rule u r) (Rule v s) p q no_f no_g =
       let a = broken_is_bad u p.1.0 p.1.1 r p.1.2 p.1.3 in
@@ -177,7 +193,7 @@ module _ (text : List Insn) (notes : List (Option StateKinds)) where
   one_fault (NotCovered u) OutOfMemory p q no_f no_g = absurd (no_g refl)
   one_fault (NotCovered u) WrongCount p q no_f no_g = absurd (q p.0.count)
   one_fault (NotCovered u) (Flow v s) p q no_f no_g = absurd (not_legal text v s q.1 p.0.flow)
-  one_fault (NotCovered u) (NoteForm v) p q no_f no_g = absurd (no_half v q.2 q.0 p.0.halves)
+  one_fault (NotCovered u) (NoteForm v) p q no_f no_g = absurd (none_wrong v q.2 q.0 p.0.standing)
   one_fault (NotCovered u) Entry p q no_f no_g = absurd (q.3 p.0.entry)
   one_fault (NotCovered u) (Rule v s) p q no_f no_g = absurd (rule_or_uncovered v u s q p)
   one_fault (NotCovered u) (NotCovered v) p q no_f no_g =

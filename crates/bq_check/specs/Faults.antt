@@ -1,15 +1,17 @@
--- The first fault of notes that do not pass: 21, the flow's, 31, 22, and then the units with a state in rising order.
-use Rattle.std.specs.Prelude.{◌≡◌, ◌≢◌, ℕ, List, length, Option, Some, None, Ok, Err}
+-- The first fault of notes that do not pass for records of the lengths l: 21, the flow's, 31, 22, and then the units
+-- with a state in rising order.
+use Rattle.std.specs.Prelude.{◌≡◌, ◌≢◌, ℕ, ◌<◌, List, length, Option, Some, Ok, Err}
 use Rattle.bq_insn.specs.Slots.{units, insn_at}
 use Rattle.bq_insn.specs.declared.insn.Insn.{Insn}
 use Rattle.bq_flow.specs.Paths.{IsLegalFlow}
 use Rattle.bq_flow.specs.Faults.{IsFirstFlowFault}
-use Rattle.bq_state.specs.Kinds.{StateKinds, entry_state, view_lengths}
+use Rattle.bq_range.specs.Interval.{Interval}
+use Rattle.bq_state.specs.Kinds.{StateKinds, entry_state}
 use Rattle.bq_state.specs.Rules.{transfer}
 use Rattle.bq_state.specs.Edges.{edges}
 use Rattle.bq_check.specs.declared.fault.CheckFault.{CheckFault}
 use Rattle.bq_check.specs.declared.fault.CheckFault.TheVariants.{WrongCount, Flow, NoteForm, Entry, Rule, NotCovered, OutOfMemory}
-use Rattle.bq_sound.specs.Passes.{note_at, NoteCovers, AllCovered, NoHalves, AllFine}
+use Rattle.bq_sound.specs.Passes.{note_at, NoteCovers, AllCovered, IsSuited, AllFine}
 
 -- a unit below which all is fine, with a state and an instruction
 pub record IsReached (text : List Insn) (notes : List (Option StateKinds)) (unit : ℕ) (i : Insn) (state : StateKinds) : Type 0 where
@@ -17,19 +19,28 @@ pub record IsReached (text : List Insn) (notes : List (Option StateKinds)) (unit
   pub noted : note_at notes unit ≡ Some state
   pub there : insn_at text unit ≡ Some i
 
--- a unit with a state where no instruction begins, and none below it
-pub record IsFirstHalf (text : List Insn) (notes : List (Option StateKinds)) (unit : ℕ) : Type 0 where
-  pub below : NoHalves text notes unit
+-- a state may stand at a unit: an instruction begins there, and the state is suited to the lengths
+pub record MayStand (l : Interval) (text : List Insn) (unit : ℕ) (state : StateKinds) : Type 0 where
+  pub begins : (i : Insn) × (insn_at text unit ≡ Some i)
+  pub suited : IsSuited l state
+
+-- all states below this unit may stand where they do
+pub record AllMayStand (l : Interval) (text : List Insn) (notes : List (Option StateKinds)) (n : ℕ) : Type 0 where
+  pub each : (unit : ℕ) (state : StateKinds) → unit < n → note_at notes unit ≡ Some state → MayStand l text unit state
+
+-- a unit with a state that may not stand there, and none below it
+pub record IsFirstWrongState (l : Interval) (text : List Insn) (notes : List (Option StateKinds)) (unit : ℕ) : Type 0 where
+  pub below : AllMayStand l text notes unit
   pub state : StateKinds
   pub noted : note_at notes unit ≡ Some state
-  pub second : insn_at text unit ≡ None
+  pub wrong : MayStand l text unit state → ⊥
 
 -- what holds where the units are looked at one by one
-pub record IsOpened (text : List Insn) (notes : List (Option StateKinds)) : Type 0 where
+pub record IsOpened (l : Interval) (text : List Insn) (notes : List (Option StateKinds)) : Type 0 where
   pub count : length notes ≡ units text
   pub flow : IsLegalFlow text
-  pub halves : NoHalves text notes (units text)
-  pub entry : NoteCovers notes (0, entry_state view_lengths)
+  pub standing : AllMayStand l text notes (units text)
+  pub entry : NoteCovers notes (0, entry_state l)
 
 -- what is wrong with the instruction at a unit with a state
 abbrev pub IsUnitFault : List (Option StateKinds) → ℕ → Insn → StateKinds → CheckFault → Type 0
@@ -37,15 +48,15 @@ IsUnitFault notes unit i state (Rule at rule) = (at ≡ unit) × (transfer i sta
 IsUnitFault notes unit i state (NotCovered at) = (at ≡ unit) × ((after : StateKinds) × (transfer i state ≡ Ok after) × (AllCovered notes (edges unit i after) → ⊥))
 IsUnitFault notes unit i state f = ⊥
 
-abbrev pub IsFirstFault : List Insn → List (Option StateKinds) → CheckFault → Type 0
-IsFirstFault text notes WrongCount = length notes ≢ units text
-IsFirstFault text notes (Flow unit rule) = (length notes ≡ units text) × IsFirstFlowFault text unit rule
-IsFirstFault text notes (NoteForm unit) = (length notes ≡ units text) × IsLegalFlow text × IsFirstHalf text notes unit
-IsFirstFault text notes Entry =
-    (length notes ≡ units text) × IsLegalFlow text × NoHalves text notes (units text) × (NoteCovers notes (0, entry_state view_lengths) → ⊥)
-IsFirstFault text notes (Rule unit rule) =
-    IsOpened text notes × ((i : Insn) × (state : StateKinds) × IsReached text notes unit i state × (transfer i state ≡ Err rule))
-IsFirstFault text notes (NotCovered unit) =
-    IsOpened text notes × ((i : Insn) × (state : StateKinds) × (after : StateKinds) × IsReached text notes unit i state × (transfer i state ≡ Ok after)
+abbrev pub IsFirstFault : Interval → List Insn → List (Option StateKinds) → CheckFault → Type 0
+IsFirstFault l text notes WrongCount = length notes ≢ units text
+IsFirstFault l text notes (Flow unit rule) = (length notes ≡ units text) × IsFirstFlowFault text unit rule
+IsFirstFault l text notes (NoteForm unit) = (length notes ≡ units text) × IsLegalFlow text × IsFirstWrongState l text notes unit
+IsFirstFault l text notes Entry =
+    (length notes ≡ units text) × IsLegalFlow text × AllMayStand l text notes (units text) × (NoteCovers notes (0, entry_state l) → ⊥)
+IsFirstFault l text notes (Rule unit rule) =
+    IsOpened l text notes × ((i : Insn) × (state : StateKinds) × IsReached text notes unit i state × (transfer i state ≡ Err rule))
+IsFirstFault l text notes (NotCovered unit) =
+    IsOpened l text notes × ((i : Insn) × (state : StateKinds) × (after : StateKinds) × IsReached text notes unit i state × (transfer i state ≡ Ok after)
     × (AllCovered notes (edges unit i after) → ⊥))
-IsFirstFault text notes OutOfMemory = Unit {0}
+IsFirstFault l text notes OutOfMemory = Unit {0}

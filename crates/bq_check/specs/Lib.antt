@@ -3,4 +3,3 @@ pub mod Faults
 pub mod Reasons
 pub mod Certificate
 pub mod Spelling
-pub mod ForViews

@@ -1,15 +1,17 @@
--- The bytes of notes for the records of views: a count, and then for each unit nothing, or the kinds of the eleven
--- registers. The lengths of the record are not told.
+-- The bytes of notes in two forms: a count, and then for each unit nothing, or the kinds of the eleven registers, in the
+-- second form behind the lengths that records may have. The first form is for the records of views alone.
 use Rattle.std.specs.Prelude.{◌≡◌, ℕ, ◌≤◌, ℤ, List, [], ◌∷◌, ◌++◌, length, Option, Some, None}
 use Rattle.std.specs.List.{flat_map, AllByRecursion}
 use Rattle.std.specs.Int.{w32, w64, cast_unsigned, to_le_bytes}
 use Rattle.bq_range.specs.Interval.{Interval, IsInterval}
 use Rattle.bq_state.specs.Offsets.{Span, IsSpan}
 use Rattle.bq_state.specs.declared.kind.Kind.{Kind}
-use Rattle.bq_state.specs.Kinds.{StateKinds, view_lengths}
+use Rattle.bq_state.specs.Kinds.{StateKinds, AreLengths, view_lengths}
 use Rattle.bq_state.specs.declared.kind.Kind.TheVariants.{Unset, Number, Pointer, Length}
 use Rattle.bq_state.specs.declared.region.Region.{Region}
 use Rattle.bq_state.specs.declared.region.Region.TheVariants.{Frame, Record}
+use Rattle.bq_check.specs.declared.form.Form.{Form}
+use Rattle.bq_check.specs.declared.form.Form.TheVariants.{First, Second}
 
 -- ---- the bytes, those of a number from the lowest
 
@@ -33,48 +35,64 @@ abbrev pub region_byte : Region → ℕ
 region_byte Frame = 2
 region_byte Record = 3
 
--- a length, which such notes do not have, has no bytes
 abbrev pub kind_bytes : Kind → List ℕ
 kind_bytes Unset = 0 ∷ []
 kind_bytes (Number a) = 1 ∷ range_bytes a
 kind_bytes (Pointer region s) = region_byte region ∷ span_bytes s
-kind_bytes Length = []
+kind_bytes Length = 4 ∷ []
 
 abbrev pub kinds_bytes : List Kind → List ℕ
 kinds_bytes kinds = flat_map kind_bytes kinds
 
-abbrev pub state_bytes : StateKinds → List ℕ
-state_bytes state = kinds_bytes state.kinds
+-- the first form does not tell the lengths that records may have
+abbrev pub lengths_bytes : Form → Interval → List ℕ
+lengths_bytes First l = []
+lengths_bytes Second l = l.lo ∷ l.hi ∷ []
 
-abbrev pub note_bytes : Option StateKinds → List ℕ
-note_bytes None = 0 ∷ []
-note_bytes (Some state) = 1 ∷ state_bytes state
+abbrev pub state_bytes : Form → StateKinds → List ℕ
+state_bytes form state = lengths_bytes form state.lengths ++ kinds_bytes state.kinds
 
-abbrev pub notes_bytes : List (Option StateKinds) → List ℕ
-notes_bytes notes = short_bytes (length notes) ++ flat_map note_bytes notes
+abbrev pub note_bytes : Form → Option StateKinds → List ℕ
+note_bytes form None = 0 ∷ []
+note_bytes form (Some state) = 1 ∷ state_bytes form state
+
+abbrev pub notes_bytes : Form → List (Option StateKinds) → List ℕ
+notes_bytes form notes = short_bytes (length notes) ++ flat_map (note_bytes form) notes
 
 -- ---- the notes that have bytes
 
-abbrev pub IsKind : Kind → Type 0
-IsKind Unset = Unit {0}
-IsKind (Number a) = IsInterval a
-IsKind (Pointer region s) = IsSpan s
-IsKind Length = ⊥
+-- a register may be known as the record's length
+abbrev pub TellsLengths : Form → Type 0
+TellsLengths First = ⊥
+TellsLengths Second = Unit {0}
 
--- eleven kinds, for the records of views
-pub record IsState (state : StateKinds) : Type 0 where
-  pub count : length state.kinds ≡ 11
-  pub kinds : AllByRecursion IsKind state.kinds
-  pub lengths : state.lengths ≡ view_lengths
+abbrev pub IsKind : Form → Kind → Type 0
+IsKind form Unset = Unit {0}
+IsKind form (Number a) = IsInterval a
+IsKind form (Pointer region s) = IsSpan s
+IsKind form Length = TellsLengths form
 
-abbrev pub IsNote : Option StateKinds → Type 0
-IsNote None = Unit {0}
-IsNote (Some state) = IsState state
+abbrev pub HasLengths : Form → Interval → Type 0
+HasLengths First l = l ≡ view_lengths
+HasLengths Second l = AreLengths l
+
+-- the kinds of eleven registers
+pub record IsKinds (form : Form) (kinds : List Kind) : Type 0 where
+  pub count : length kinds ≡ 11
+  pub each : AllByRecursion (IsKind form) kinds
+
+pub record IsState (form : Form) (state : StateKinds) : Type 0 where
+  pub lengths : HasLengths form state.lengths
+  pub kinds : IsKinds form state.kinds
+
+abbrev pub IsNote : Form → Option StateKinds → Type 0
+IsNote form None = Unit {0}
+IsNote form (Some state) = IsState form state
 
 -- at most 4,096 notes
-pub record IsNotes (notes : List (Option StateKinds)) : Type 0 where
+pub record IsNotes (form : Form) (notes : List (Option StateKinds)) : Type 0 where
   pub few : length notes ≤ 4096
-  pub each : AllByRecursion IsNote notes
+  pub each : AllByRecursion (IsNote form) notes
 
 -- ---- bytes that are no notes
 

@@ -1,10 +1,10 @@
 //! A text that was checked.
 
-ghost use Rattle.std.specs.Prelude.{◌≡◌, ◌≤◌};
+ghost use Rattle.std.specs.Prelude.{◌≡◌, ◌≤◌, ℕ};
 ghost use Rattle.bq_code.specs.Lowered.{IsLowered};
 ghost use Rattle.bq_flow.specs.Paths.{IsLongest};
-ghost use Rattle.bq_meaning.specs.Place.{record_length};
-ghost use Rattle.bq_state.specs.Kinds.{view_lengths};
+ghost use Rattle.bq_range.specs.Interval.{IsIn};
+ghost use Rattle.bq_state.specs.Kinds.{AreLengths};
 ghost use Rattle.bq_sound.specs.Passes.{Passes};
 ghost use Rattle.bq_sound.specs.Safe.{IsSafe};
 
@@ -12,14 +12,17 @@ use crate::notes::Notes;
 use bq_code::code::Code;
 use bq_insn::text::Text;
 use bq_sound::laws::passing_is_safe;
+use bq_state::bounds::Bounds;
 use std::marker::Model;
 
-/// A text whose notes pass, with these notes, its longest path and its codes, which follow from the text. Contracts see
-/// the first three. [`check`](crate::check::check) alone makes one.
+/// A text whose notes pass for records of some lengths, with these notes and lengths, its longest path and its codes,
+/// which follow from the text. Contracts see the first four. [`check_within`](crate::check::check_within) alone makes
+/// one.
 #[derive(Drop)]
 pub struct Certified {
     pub(crate) text: Text,
     pub(crate) notes: Notes,
+    pub(crate) lengths: Bounds,
     pub(crate) longest: u32,
     pub(crate) codes: Vec<Code>,
 }
@@ -29,9 +32,9 @@ impl Model for Certified {
 
     ghost Value = { Certificate };
 
-    ghost view = { λ c. record { text = c.text; notes = c.notes; longest = c.longest } };
+    ghost view = { λ c. record { text = c.text; notes = c.notes; lengths = c.lengths; longest = c.longest } };
 
-    ghost invariant = { λ c. HasCodes (record { text = c.text; notes = c.notes; longest = c.longest }) c.codes.items };
+    ghost invariant = { λ c. HasCodes (record { text = c.text; notes = c.notes; lengths = c.lengths; longest = c.longest }) c.codes.items };
 }
 
 impl Certified {
@@ -42,12 +45,20 @@ impl Certified {
         &self.text
     }
 
-    /// The notes, which pass for the text.
+    /// The notes, which pass for the text and records of these lengths.
     pub fn notes(&self) -> &Notes
         ensures value { result.now ≡ self.now.notes }
-        ensures passes { Passes view_lengths self.now.text self.now.notes }
+        ensures passes { Passes self.now.lengths self.now.text self.now.notes }
     {
         &self.notes
+    }
+
+    /// The lengths that records may have.
+    pub fn lengths(&self) -> Bounds
+        ensures value { result ≡ self.now.lengths }
+        ensures lengths { AreLengths self.now.lengths }
+    {
+        self.lengths
     }
 
     /// The greatest number of instructions on a path from unit 0 to an EXIT, from 1 to 4,096. A wide
@@ -68,10 +79,10 @@ impl Certified {
         self.codes.as_slice()
     }
 
-    /// From every accumulator, record and frame a record run of the text ends within the longest path,
-    /// with no fault, and with one answer and one frame that are the same at every placement.
+    /// From every accumulator, record of one of these lengths and frame a record run of the text ends within the
+    /// longest path, with no fault, and with one answer and one frame that are the same at every placement.
     pub fn is_safe(&self)
-        ensures { IsSafe record_length self.now.text self.now.longest }
+        ensures { (len : ℕ) → IsIn len self.now.lengths → IsSafe len self.now.text self.now.longest }
     {
         passing_is_safe();
         let _text = &self.text;

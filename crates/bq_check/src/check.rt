@@ -4,14 +4,15 @@ ghost use Rattle.std.specs.Prelude.{◌≡◌, ◌<◌, ◌≤◌, ◌↔◌, �
 ghost use Rattle.bq_insn.specs.Slots.{units, IsText};
 ghost use Rattle.bq_flow.specs.Paths.{IsLongest};
 ghost use Rattle.bq_state.specs.Listed.{edge_list, listed};
-ghost use Rattle.bq_state.specs.Kinds.{view_lengths};
-ghost use Rattle.bq_sound.specs.Passes.{NoteCovers, AllCovered, NoHalves, IsFine, AllFine, Passes};
+ghost use Rattle.bq_state.specs.Kinds.{all_lengths};
+ghost use Rattle.bq_sound.specs.Passes.{NoteCovers, AllCovered, IsFine, AllFine, Passes};
 ghost use Rattle.bq_check.specs.Certificate.{IsCertified};
-ghost use Rattle.bq_check.specs.Faults.{IsFirstHalf, IsOpened, IsUnitFault, IsFirstFault};
+ghost use Rattle.bq_check.specs.Faults.{MayStand, AllMayStand, IsFirstWrongState, IsOpened, IsUnitFault, IsFirstFault};
 
 use crate::certified::Certified;
 use crate::fault::CheckFault;
 use crate::notes::Notes;
+use crate::suited::is_suited;
 use bq_code::lower::lower;
 use bq_flow::flow::Flow;
 use bq_insn::insn::Insn;
@@ -48,14 +49,23 @@ impl Notes {
     }
 }
 
-/// The first unit with a state where no instruction begins.
-fn first_half(text: &Text, notes: &Notes) -> Option<usize>
-    ensures found { IfSome result (IsFirstHalf text.now notes.now) }
-    ensures none { IfNone result (NoHalves text.now notes.now (units text.now)) }
+/// Whether a state may stand at a unit: an instruction begins there, and the state is suited to the lengths.
+fn may_stand(text: &Text, bounds: Bounds, unit: usize, state: &State) -> bool
+    ensures { IsTrue result ↔ MayStand bounds text.now unit state.now }
+{
+    text.at(unit).is_some() && is_suited(bounds, state)
+}
+
+/// The first unit with a state that may not stand there.
+fn first_wrong_state(text: &Text, notes: &Notes, bounds: Bounds) -> Option<usize>
+    ensures found { IfSome result (IsFirstWrongState bounds text.now notes.now) }
+    ensures none { IfNone result (AllMayStand bounds text.now notes.now (units text.now)) }
 {
     for unit in 0..text.units() {
-        if notes.at(unit).is_some() && text.at(unit).is_none() {
-            return Some(unit);
+        if let Some(state) = notes.at(unit) {
+            if !may_stand(text, bounds, unit, &state) {
+                return Some(unit);
+            }
         }
     }
     None
@@ -78,10 +88,10 @@ fn check_unit(notes: &Notes, unit: usize, insn: &Insn, state: &State) -> Result<
 }
 
 /// Whether all units with a state are fine, in rising order.
-fn check_units(text: &Text, notes: &Notes) -> Result<(), CheckFault>
-    requires { IsOpened text.now notes.now }
+fn check_units(text: &Text, notes: &Notes, bounds: Bounds) -> Result<(), CheckFault>
+    requires { IsOpened bounds text.now notes.now }
     ensures fine { OnOk result (AllFine text.now notes.now (units text.now)) }
-    ensures fault { IfErr result (IsFirstFault text.now notes.now) }
+    ensures fault { IfErr result (IsFirstFault bounds text.now notes.now) }
 {
     for unit in 0..text.units() {
         if let Some(state) = notes.at(unit) {
@@ -93,39 +103,41 @@ fn check_units(text: &Text, notes: &Notes) -> Result<(), CheckFault>
     Ok(())
 }
 
-/// What is looked at before the units: the count, the flow, second halves and the entry. The longest
+/// What is looked at before the units: the count, the flow, where states stand and the entry. The longest
 /// path is answered.
-fn open(alloc: Global, text: &Text, notes: &Notes) -> Result<u32, CheckFault>
+fn open(alloc: Global, text: &Text, notes: &Notes, bounds: Bounds) -> Result<u32, CheckFault>
     ensures legal { OnOk result (IsText text.now) }
-    ensures opened { OnOk result (IsOpened text.now notes.now) }
+    ensures opened { OnOk result (IsOpened bounds text.now notes.now) }
     ensures longest { IfOk result (IsLongest text.now) }
-    ensures fault { IfErr result (IsFirstFault text.now notes.now) }
+    ensures fault { IfErr result (IsFirstFault bounds text.now notes.now) }
 {
     if notes.len() != text.units() {
         return Err(CheckFault::WrongCount);
     }
     let longest = Flow::of(alloc, text)?.longest();
-    if let Some(unit) = first_half(text, notes) {
+    if let Some(unit) = first_wrong_state(text, notes, bounds) {
         return Err(CheckFault::NoteForm { unit });
     }
-    if !notes.cover(0, &State::entry(Bounds::of_views())) {
+    if !notes.cover(0, &State::entry(bounds)) {
         return Err(CheckFault::Entry);
     }
     Ok(longest)
 }
 
-/// What [`check`] answers.
-fn certify(alloc: Global, text: Text, notes: Notes) -> Result<Certified, CheckFault>
-    ensures same { IfOk result (λ c. (c.text ≡ text) × (c.notes ≡ notes)) }
+/// What [`check_within`] answers.
+fn certify(alloc: Global, text: Text, notes: Notes, bounds: Bounds) -> Result<Certified, CheckFault>
+    ensures same { IfOk result (λ c. (c.text ≡ text) × (c.notes ≡ notes) × (c.lengths ≡ bounds)) }
     ensures passes { IfOk result IsCertified }
-    ensures fault { IfErr result (IsFirstFault text notes) }
+    ensures fault { IfErr result (IsFirstFault bounds text notes) }
 {
-    let longest = open(alloc, &text, &notes)?;
-    check_units(&text, &notes)?;
+    let longest = open(alloc, &text, &notes, bounds)?;
+    check_units(&text, &notes, bounds)?;
+    let _least = bounds.least();
     match lower(alloc, &text) {
         Ok(codes) => Ok(Certified {
             text,
             notes,
+            lengths: bounds,
             longest,
             codes,
         }),
@@ -133,22 +145,38 @@ fn certify(alloc: Global, text: Text, notes: Notes) -> Result<Certified, CheckFa
     }
 }
 
-/// The text with these notes as a certificate, where they pass; else the first fault: 21 WrongCount,
-/// the flow's first fault, 11 to 14, 31 NoteForm at the first second half of a wide instruction that
-/// has a state, 22 Entry, and then the units with a state in rising order. At one unit that is the
-/// first rule that the instruction breaks, 23 to 28 or 30, and then 29 NotCovered.
+/// The text with these notes as a certificate for records of these lengths, where the notes pass; else the first fault:
+/// 21 WrongCount, the flow's first fault, 11 to 14, 31 NoteForm at the first unit whose state may not stand there, 22
+/// Entry, and then the units with a state in rising order. At one unit that is the first rule that the instruction
+/// breaks, 23 to 28 or 30, and then 29 NotCovered. A state may not stand at a second half of a wide instruction, and,
+/// where records have one length alone, where it is for other lengths or knows a register as the record's length.
 ///
 /// 99 OutOfMemory may stand in place of any of these answers.
-pub fn check(alloc: Global, text: Text, notes: Notes) -> Result<Certified, CheckFault>
-    // A certificate is of this very text and these notes, and they pass.
-    ensures same { IfOk result (λ c. (c.text ≡ text) × (c.notes ≡ notes)) }
+pub fn check_within(
+    alloc: Global,
+    text: Text,
+    notes: Notes,
+    bounds: Bounds,
+) -> Result<Certified, CheckFault>
+    // A certificate is of this very text, these notes and these lengths, and they pass.
+    ensures same { IfOk result (λ c. (c.text ≡ text) × (c.notes ≡ notes) × (c.lengths ≡ bounds)) }
     ensures passes { IfOk result IsCertified }
 
     // What passes is refused for want of memory alone.
-    ensures all { Passes view_lengths text notes → MatchResult result (λ c. ⊤) (λ e. e ≡ CheckFault.OutOfMemory) }
+    ensures all { Passes bounds text notes → MatchResult result (λ c. ⊤) (λ e. e ≡ CheckFault.OutOfMemory) }
 
     // Which fault it is.
-    ensures fault { IfErr result (IsFirstFault text notes) }
+    ensures fault { IfErr result (IsFirstFault bounds text notes) }
 {
-    certify(alloc, text, notes)
+    certify(alloc, text, notes, bounds)
+}
+
+/// As [`check_within`] of records of all lengths, from 16 to 128 bytes.
+pub fn check(alloc: Global, text: Text, notes: Notes) -> Result<Certified, CheckFault>
+    ensures same { IfOk result (λ c. (c.text ≡ text) × (c.notes ≡ notes) × (c.lengths ≡ all_lengths)) }
+    ensures passes { IfOk result IsCertified }
+    ensures all { Passes all_lengths text notes → MatchResult result (λ c. ⊤) (λ e. e ≡ CheckFault.OutOfMemory) }
+    ensures fault { IfErr result (IsFirstFault all_lengths text notes) }
+{
+    check_within(alloc, text, notes, Bounds::all())
 }

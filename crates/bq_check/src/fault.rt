@@ -1,4 +1,5 @@
-//! Why a text with notes is refused, and why bytes are no notes, and the reason that is told of each.
+//! Why a text with notes is refused, and why bytes are no notes or notes have no bytes, and the reason that is told of
+//! each.
 
 ghost use Rattle.std.specs.Prelude.{◌≡◌};
 ghost use Rattle.bq_check.specs.Reasons.{reason, fault_unit, notes_reason};
@@ -20,7 +21,8 @@ pub enum CheckFault {
         /// The first rule of the flow that it breaks.
         rule: FlowRule,
     },
-    /// 31: a second half of a wide instruction has a state.
+    /// 31: a second half of a wide instruction has a state; or records have one length alone, and a state is for other
+    /// lengths or knows a register as the record's length.
     NoteForm {
         /// Its unit, counted from 0.
         unit: usize,
@@ -87,10 +89,10 @@ impl From<FlowFault> for CheckFault {
     }
 }
 
-/// Why bytes are not read as notes.
+/// Why bytes are not read as notes, and why notes have no bytes in the first form.
 #[derive(Clone, Copy, Debug, PartialEq, Eq)]
 pub enum NotesFault {
-    /// 31: they spell no notes.
+    /// 31: the bytes spell no notes; or a state is not for the records of views alone.
     NoteForm,
     /// 99: memory ran out. It may stand in place of the other answer.
     OutOfMemory,

@@ -2,11 +2,9 @@
 
 ghost use Rattle.bq_range.specs.Interval.{IsInterval};
 ghost use Rattle.bq_state.specs.Offsets.{IsSpan};
-ghost use Rattle.bq_meaning.specs.Place.{record_length};
-ghost use Rattle.bq_state.specs.Plain.{IsPlain, IsPlainKind};
-ghost use Rattle.bq_check.specs.ForViews.{IsForViews};
 ghost use Rattle.bq_check.specs.Spelling.{IsKind, IsState, IsNote, IsNotes};
 
+use crate::form::Form;
 use crate::notes::Notes;
 use bq_range::range::Range;
 use bq_state::kind::Kind;
@@ -26,29 +24,26 @@ pub(crate) fn is_span(offsets: Offsets)
 }
 
 fn is_kind(kind: Kind)
-    requires { IsPlainKind kind }
-    ensures { IsKind kind }
+    ensures { IsKind Form.Second kind }
 {
     match kind {
-        Kind::Unset => {}
+        Kind::Unset | Kind::Length => {}
         Kind::Number(range) => is_interval(range),
         Kind::Pointer(_, offsets) => is_span(offsets),
-        Kind::Length => unreachable!(),
     }
 }
 
 fn is_state(state: &State)
-    requires { IsPlain record_length state.now }
-    ensures { IsState state.now }
+    ensures { IsState Form.Second state.now }
 {
+    let _least = state.lengths().least();
     for kind in state.kinds() {
         is_kind(*kind);
     }
 }
 
 fn is_note(note: &Option<State>)
-    requires { IsForViews note.now }
-    ensures { IsNote note.now }
+    ensures { IsNote Form.Second note.now }
 {
     if let Some(state) = note {
         is_state(state);
@@ -56,10 +51,11 @@ fn is_note(note: &Option<State>)
 }
 
 impl Notes {
-    /// At most 4,096 notes. In each state there are eleven kinds, of which each range is of words and each offset
-    /// within -65,536 to 65,536, the least first. Its time is that of reading the notes; it takes no memory.
+    /// At most 4,096 notes. In each state the record has lengths within 16 to 128, and there are eleven kinds, of which
+    /// each range is of words and each offset within -65,536 to 65,536, the least first. Its time is that of reading the
+    /// notes; it takes no memory.
     pub fn are_notes(&self)
-        ensures { IsNotes self.now }
+        ensures { IsNotes Form.Second self.now }
     {
         for note in &self.states {
             is_note(note);

@@ -2,35 +2,31 @@
 
 ghost use Rattle.std.specs.Prelude.{◌≡◌, ◌≤◌, length};
 ghost use Rattle.bq_sound.specs.Passes.{note_at};
-ghost use Rattle.bq_check.specs.ForViews.{AreForViews};
 
 use bq_state::state::State;
 use std::marker::Model;
 
-/// For each unit of a text the state there, or none: at most 4,096, for the records of views. Contracts see it as the
-/// list of these.
+/// For each unit of a text the state there, or none: at most 4,096. Contracts see it as the list of these.
 #[derive(Drop)]
 pub struct Notes {
     pub(crate) states: Vec<Option<State>>,
 }
 
 impl Model for Notes {
-    ghost use Rattle.std.specs.Prelude.{List, Option};
+    ghost use Rattle.std.specs.Prelude.{◌≤◌, List, Option, length};
     ghost use Rattle.bq_state.specs.Kinds.{StateKinds};
-    ghost use Rattle.bq_check.specs.ForViews.{AreForViews};
 
     ghost Value = { List (Option StateKinds) };
 
     ghost view = { λ n. n.states.items };
 
-    ghost invariant = { λ n. AreForViews n.states.items };
+    ghost invariant = { λ n. length n.states.items ≤ 4096 };
 }
 
 impl Notes {
-    /// These notes, in the order of the units. There may be as many as a text may have units, and each is for the
-    /// records of views.
+    /// These notes, in the order of the units. There may be as many as a text may have units.
     pub fn new(states: Vec<Option<State>>) -> Notes
-        requires { AreForViews states.items }
+        requires { length states.items ≤ 4096 }
         ensures { result ≡ states.items }
     {
         Notes { states }

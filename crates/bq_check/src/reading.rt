@@ -5,9 +5,10 @@ ghost use Rattle.bq_range.specs.Interval.{IsInterval};
 ghost use Rattle.bq_state.specs.Offsets.{IsSpan};
 ghost use Rattle.bq_state.specs.declared.kind.Kind.{Kind};
 ghost use Rattle.bq_state.specs.Kinds.{StateKinds};
-ghost use Rattle.bq_check.specs.Spelling.{short_bytes, long_bytes, range_bytes, span_bytes, kind_bytes, note_bytes, state_bytes, notes_bytes, IsKind, IsState, IsNote, IsNotes, BeginsNone};
+ghost use Rattle.bq_check.specs.Spelling.{short_bytes, long_bytes, range_bytes, span_bytes, kind_bytes, kinds_bytes, lengths_bytes, note_bytes, state_bytes, notes_bytes, IsKind, IsKinds, HasLengths, IsState, IsNote, IsNotes, BeginsNone};
 
 use crate::fault::NotesFault;
+use crate::form::Form;
 use crate::notes::Notes;
 use bq_insn::text::MOST_UNITS;
 use bq_range::range::Range;
@@ -84,52 +85,83 @@ impl<'a> Reader<'a> {
         Offsets::new(lo, hi)
     }
 
-    fn kind(&mut self) -> Option<Kind>
-        ensures legal { IfSome result IsKind }
+    fn kind(&mut self, form: Form) -> Option<Kind>
+        ensures legal { IfSome result (IsKind form) }
         ensures parts { IfSome result (λ k. self.old.rest.now ≡ kind_bytes k ++ self.new.rest.now) }
-        ensures none { IfNone result (BeginsNone kind_bytes IsKind self.old.rest.now) }
+        ensures none { IfNone result (BeginsNone kind_bytes (IsKind form) self.old.rest.now) }
     {
         match self.byte()? {
             0 => Some(Kind::Unset),
             1 => Some(Kind::Number(self.range()?)),
             2 => Some(Kind::Pointer(Region::Frame, self.offsets()?)),
             3 => Some(Kind::Pointer(Region::Record, self.offsets()?)),
+            4 => match form {
+                Form::First => None,
+                Form::Second => Some(Kind::Length),
+            },
             _ => None,
         }
     }
 
-    fn state(&mut self) -> Option<State>
-        ensures legal { IfSome result IsState }
-        ensures parts { IfSome result (λ s. self.old.rest.now ≡ state_bytes s ++ self.new.rest.now) }
-        ensures none { IfNone result (BeginsNone state_bytes IsState self.old.rest.now) }
+    /// The kinds of the eleven registers.
+    fn kinds(&mut self, form: Form) -> Option<[Kind; 11]>
+        ensures legal { IfSome result (IsKinds form) }
+        ensures parts { IfSome result (λ ks. self.old.rest.now ≡ kinds_bytes ks ++ self.new.rest.now) }
+        ensures none { IfNone result (BeginsNone kinds_bytes (IsKinds form) self.old.rest.now) }
     {
         let mut kinds = [Kind::Unset; 11];
         for register in 0..11 {
-            let Some(kind) = self.kind() else {
+            let Some(kind) = self.kind(form) else {
                 return None;
             };
             kinds[register] = kind;
         }
-        Some(State::new(kinds, Bounds::of_views()))
+        Some(kinds)
+    }
+
+    /// The lengths that the record may have.
+    fn lengths(&mut self, form: Form) -> Option<Bounds>
+        ensures legal { IfSome result (HasLengths form) }
+        ensures parts { IfSome result (λ l. self.old.rest.now ≡ lengths_bytes form l ++ self.new.rest.now) }
+        ensures none { IfNone result (BeginsNone (lengths_bytes form) (HasLengths form) self.old.rest.now) }
+    {
+        match form {
+            Form::First => Some(Bounds::of_views()),
+            Form::Second => {
+                let least = self.byte()?;
+                let most = self.byte()?;
+                Bounds::new(least, most)
+            }
+        }
+    }
+
+    fn state(&mut self, form: Form) -> Option<State>
+        ensures legal { IfSome result (IsState form) }
+        ensures parts { IfSome result (λ s. self.old.rest.now ≡ state_bytes form s ++ self.new.rest.now) }
+        ensures none { IfNone result (BeginsNone (state_bytes form) (IsState form) self.old.rest.now) }
+    {
+        let lengths = self.lengths(form)?;
+        let kinds = self.kinds(form)?;
+        Some(State::new(kinds, lengths))
     }
 
     /// The state of one unit, or none.
-    fn note(&mut self) -> Option<Option<State>>
-        ensures legal { IfSome result IsNote }
-        ensures parts { IfSome result (λ s. self.old.rest.now ≡ note_bytes s ++ self.new.rest.now) }
-        ensures none { IfNone result (BeginsNone note_bytes IsNote self.old.rest.now) }
+    fn note(&mut self, form: Form) -> Option<Option<State>>
+        ensures legal { IfSome result (IsNote form) }
+        ensures parts { IfSome result (λ s. self.old.rest.now ≡ note_bytes form s ++ self.new.rest.now) }
+        ensures none { IfNone result (BeginsNone (note_bytes form) (IsNote form) self.old.rest.now) }
     {
         match self.byte()? {
             0 => Some(None),
-            1 => Some(Some(self.state()?)),
+            1 => Some(Some(self.state(form)?)),
             _ => None,
         }
     }
 
-    fn notes(&mut self, alloc: Global) -> Result<Notes, NotesFault>
-        ensures legal { IfOk result IsNotes }
-        ensures parts { IfOk result (λ n. self.old.rest.now ≡ notes_bytes n ++ self.new.rest.now) }
-        ensures fault { IfErr result (λ e. e ≡ NotesFault.NoteForm → BeginsNone notes_bytes IsNotes self.old.rest.now) }
+    fn notes(&mut self, alloc: Global, form: Form) -> Result<Notes, NotesFault>
+        ensures legal { IfOk result (IsNotes form) }
+        ensures parts { IfOk result (λ n. self.old.rest.now ≡ notes_bytes form n ++ self.new.rest.now) }
+        ensures fault { IfErr result (λ e. e ≡ NotesFault.NoteForm → BeginsNone (notes_bytes form) (IsNotes form) self.old.rest.now) }
     {
         let Some(count) = self.short_number() else {
             return Err(NotesFault::NoteForm);
@@ -139,7 +171,7 @@ impl<'a> Reader<'a> {
         }
         let mut states = Vec::new(alloc);
         for _ in 0..count {
-            let Some(note) = self.note() else {
+            let Some(note) = self.note(form) else {
                 return Err(NotesFault::NoteForm);
             };
             states.push(note)?;
@@ -148,14 +180,14 @@ impl<'a> Reader<'a> {
     }
 }
 
-/// What [`Notes::read`] answers.
-fn notes_of(alloc: Global, bytes: &[u8]) -> Result<Notes, NotesFault>
-    ensures legal { IfOk result IsNotes }
-    ensures spelled { IfOk result (λ n. bytes.now ≡ notes_bytes n) }
-    ensures refused { IfErr result (λ e. e ≡ NotesFault.NoteForm → (n : List (Option StateKinds)) → IsNotes n → bytes.now ≡ notes_bytes n → ⊥) }
+/// The notes that the bytes spell in a form.
+fn notes_of(alloc: Global, form: Form, bytes: &[u8]) -> Result<Notes, NotesFault>
+    ensures legal { IfOk result (IsNotes form) }
+    ensures spelled { IfOk result (λ n. bytes.now ≡ notes_bytes form n) }
+    ensures refused { IfErr result (λ e. e ≡ NotesFault.NoteForm → (n : List (Option StateKinds)) → IsNotes form n → bytes.now ≡ notes_bytes form n → ⊥) }
 {
     let mut reader = Reader { rest: bytes };
-    let notes = reader.notes(alloc)?;
+    let notes = reader.notes(alloc, form)?;
     if !reader.rest.is_empty() {
         return Err(NotesFault::NoteForm);
     }
@@ -164,21 +196,38 @@ fn notes_of(alloc: Global, bytes: &[u8]) -> Result<Notes, NotesFault>
 
 impl Notes {
     /// The notes that the bytes spell, or 31 NoteForm where they spell none: a count of four bytes,
-    /// at most 4,096, and for each unit a byte 0, or a byte 1 and the kinds of r0 to r10. A kind is a
-    /// byte 0 for a register of which nothing is known; 1 and the least and the greatest of its
-    /// numbers, eight bytes each; or 2 for a pointer into the frame or 3 into the record, and the
+    /// at most 4,096, and for each unit a byte 0, or a byte 1, the least and the greatest length that
+    /// the record may have, one byte each, in order and within 16 to 128, and the kinds of r0 to r10.
+    /// A kind is a byte 0 for a register of which nothing is known; 1 and the least and the greatest of
+    /// its numbers, eight bytes each; 2 for a pointer into the frame or 3 into the record, and the
     /// least and the greatest of its offsets, four bytes each in two's complement and within -65,536
-    /// to 65,536. Numbers have their lowest byte first, and nothing follows the last note.
+    /// to 65,536; or 4 for the record's length. Numbers have their lowest byte first, and nothing
+    /// follows the last note.
     ///
     /// 99 OutOfMemory may stand in place of either answer.
     pub fn read(alloc: Global, bytes: &[u8]) -> Result<Notes, NotesFault>
         // What is read are notes that are spelled so.
-        ensures legal { IfOk result IsNotes }
-        ensures spelled { IfOk result (λ n. bytes.now ≡ notes_bytes n) }
+        ensures legal { IfOk result (IsNotes Form.Second) }
+        ensures spelled { IfOk result (λ n. bytes.now ≡ notes_bytes Form.Second n) }
 
         // What spells notes is read as these, unless memory runs out.
-        ensures all { (n : List (Option StateKinds)) → IsNotes n → bytes.now ≡ notes_bytes n → MatchResult result (λ m. m ≡ n) (λ e. e ≡ NotesFault.OutOfMemory) }
+        ensures all { (n : List (Option StateKinds)) → IsNotes Form.Second n → bytes.now ≡ notes_bytes Form.Second n → MatchResult result (λ m. m ≡ n) (λ e. e ≡ NotesFault.OutOfMemory) }
     {
-        notes_of(alloc, bytes)
+        notes_of(alloc, Form::Second, bytes)
+    }
+
+    /// The notes that the bytes spell in the first form, or 31 NoteForm where they spell none so: as those that
+    /// [`Notes::read`] takes, but without the two lengths, and with no kind 4. Each state is for records of 64 bytes.
+    ///
+    /// 99 OutOfMemory may stand in place of either answer.
+    pub fn read_v1(alloc: Global, bytes: &[u8]) -> Result<Notes, NotesFault>
+        // What is read are notes that are spelled so.
+        ensures legal { IfOk result (IsNotes Form.First) }
+        ensures spelled { IfOk result (λ n. bytes.now ≡ notes_bytes Form.First n) }
+
+        // What spells notes is read as these, unless memory runs out.
+        ensures all { (n : List (Option StateKinds)) → IsNotes Form.First n → bytes.now ≡ notes_bytes Form.First n → MatchResult result (λ m. m ≡ n) (λ e. e ≡ NotesFault.OutOfMemory) }
+    {
+        notes_of(alloc, Form::First, bytes)
     }
 }

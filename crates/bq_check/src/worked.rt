@@ -12,6 +12,7 @@ ghost use Rattle.bq_state.specs.declared.region.Region.TheVariants as region;
 ghost use Rattle.bq_state.specs.declared.rule.Rule.TheVariants.{AnswerKind};
 ghost use Rattle.bq_check.specs.declared.fault.CheckFault.TheVariants as fault;
 ghost use Rattle.bq_check.specs.declared.fault.NotesFault.TheVariants as notes;
+ghost use Rattle.bq_check.specs.declared.form.Form.TheVariants.{First, Second};
 ghost use Rattle.bq_check.specs.Reasons.{reason, fault_unit, flow_refusal, notes_reason};
 ghost use Rattle.bq_check.specs.Spelling.{short_bytes, long_bytes, kind_bytes, note_bytes, notes_bytes};
 
@@ -44,6 +45,10 @@ pub fn worked()
     ensures number { kind_bytes (kind.Number (between 5 258)) ≡ 1 ∷ 5 ∷ 0 ∷ 0 ∷ 0 ∷ 0 ∷ 0 ∷ 0 ∷ 0 ∷ 2 ∷ 1 ∷ 0 ∷ 0 ∷ 0 ∷ 0 ∷ 0 ∷ 0 ∷ [] }
     ensures frame { kind_bytes (kind.Pointer region.Frame (record { lo = negsuc 1; hi = pos 512 })) ≡ 2 ∷ 254 ∷ 255 ∷ 255 ∷ 255 ∷ 0 ∷ 2 ∷ 0 ∷ 0 ∷ [] }
     ensures into_the_record { kind_bytes (kind.Pointer region.Record (record { lo = pos 0; hi = pos 3 })) ≡ 3 ∷ 0 ∷ 0 ∷ 0 ∷ 0 ∷ 3 ∷ 0 ∷ 0 ∷ 0 ∷ [] }
-    ensures no_state { note_bytes None ≡ 0 ∷ [] }
-    ensures two_notes { notes_bytes (None ∷ Some (state_of (kind.Unset ∷ []) view_lengths) ∷ []) ≡ 2 ∷ 0 ∷ 0 ∷ 0 ∷ 0 ∷ 1 ∷ 0 ∷ [] }
+    ensures length { kind_bytes kind.Length ≡ 4 ∷ [] }
+    ensures no_state { note_bytes Second None ≡ 0 ∷ [] }
+    ensures state { note_bytes Second (Some (state_of (kind.Unset ∷ kind.Length ∷ []) (between 16 128))) ≡ 1 ∷ 16 ∷ 128 ∷ 0 ∷ 4 ∷ [] }
+    ensures first_state { note_bytes First (Some (state_of (kind.Unset ∷ []) view_lengths)) ≡ 1 ∷ 0 ∷ [] }
+    ensures two_notes { notes_bytes Second (None ∷ Some (state_of (kind.Unset ∷ []) view_lengths) ∷ []) ≡ 2 ∷ 0 ∷ 0 ∷ 0 ∷ 0 ∷ 1 ∷ 64 ∷ 64 ∷ 0 ∷ [] }
+    ensures first_notes { notes_bytes First (None ∷ Some (state_of (kind.Unset ∷ []) view_lengths) ∷ []) ≡ 2 ∷ 0 ∷ 0 ∷ 0 ∷ 0 ∷ 1 ∷ 0 ∷ [] }
 {}

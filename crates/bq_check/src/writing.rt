@@ -1,15 +1,15 @@
 //! Notes to bytes.
 
-ghost use Rattle.std.specs.Prelude.{◌≡◌, ◌<◌, ◌^◌, ◌++◌, IfOk, OnOk};
-ghost use Rattle.bq_range.specs.Interval.{IsInterval};
-ghost use Rattle.bq_state.specs.Offsets.{IsSpan};
-ghost use Rattle.bq_meaning.specs.Place.{record_length};
-ghost use Rattle.bq_state.specs.Plain.{IsPlain, IsPlainKind};
-ghost use Rattle.bq_check.specs.ForViews.{IsForViews};
-ghost use Rattle.bq_check.specs.Spelling.{short_bytes, long_bytes, range_bytes, span_bytes, region_byte, kind_bytes, note_bytes, state_bytes, notes_bytes, IsKind, IsState, IsNote, IsNotes};
+ghost use Rattle.std.specs.Prelude.{◌≡◌, ◌↔◌, ◌<◌, ◌^◌, ◌++◌, Err, IfOk, OnOk};
+ghost use Rattle.bq_state.specs.Kinds.{view_lengths};
+ghost use Rattle.bq_sound.specs.Passes.{AreSuited};
+ghost use Rattle.bq_check.specs.Spelling.{short_bytes, long_bytes, range_bytes, span_bytes, region_byte, kind_bytes, lengths_bytes, note_bytes, state_bytes, notes_bytes, IsNotes};
 
+use crate::fault::NotesFault;
+use crate::form::Form;
 use crate::notes::Notes;
 use bq_range::range::Range;
+use bq_state::bounds::Bounds;
 use bq_state::kind::Kind;
 use bq_state::offsets::Offsets;
 use bq_state::region::Region;
@@ -33,16 +33,14 @@ fn push_long(out: &mut Vec<u8>, number: u64) -> Result<(), AllocError>
 }
 
 fn push_range(out: &mut Vec<u8>, range: Range) -> Result<(), AllocError>
-    ensures legal { IsInterval range }
-    ensures spelled { OnOk result (out.new.items ≡ out.old.items ++ range_bytes range) }
+    ensures { OnOk result (out.new.items ≡ out.old.items ++ range_bytes range) }
 {
     push_long(out, range.lo())?;
     push_long(out, range.hi())
 }
 
 fn push_offsets(out: &mut Vec<u8>, offsets: Offsets) -> Result<(), AllocError>
-    ensures legal { IsSpan offsets }
-    ensures spelled { OnOk result (out.new.items ≡ out.old.items ++ span_bytes offsets) }
+    ensures { OnOk result (out.new.items ≡ out.old.items ++ span_bytes offsets) }
 {
     push_short(out, offsets.lo().cast_unsigned())?;
     push_short(out, offsets.hi().cast_unsigned())
@@ -58,9 +56,7 @@ fn region_byte(region: Region) -> u8
 }
 
 fn push_kind(out: &mut Vec<u8>, kind: Kind) -> Result<(), AllocError>
-    requires { IsPlainKind kind }
-    ensures legal { OnOk result (IsKind kind) }
-    ensures spelled { OnOk result (out.new.items ≡ out.old.items ++ kind_bytes kind) }
+    ensures { OnOk result (out.new.items ≡ out.old.items ++ kind_bytes kind) }
 {
     match kind {
         Kind::Unset => Ok(out.push(0)?),
@@ -72,48 +68,85 @@ fn push_kind(out: &mut Vec<u8>, kind: Kind) -> Result<(), AllocError>
             out.push(region_byte(region))?;
             push_offsets(out, offsets)
         }
-        Kind::Length => unreachable!(),
+        Kind::Length => Ok(out.push(4)?),
     }
 }
 
-fn push_state(out: &mut Vec<u8>, state: &State) -> Result<(), AllocError>
-    requires { IsPlain record_length state.now }
-    ensures legal { OnOk result (IsState state.now) }
-    ensures spelled { OnOk result (out.new.items ≡ out.old.items ++ state_bytes state.now) }
+fn push_lengths(out: &mut Vec<u8>, form: Form, lengths: Bounds) -> Result<(), AllocError>
+    ensures { OnOk result (out.new.items ≡ out.old.items ++ lengths_bytes form lengths) }
 {
+    match form {
+        Form::First => Ok(()),
+        Form::Second => {
+            out.push(lengths.least())?;
+            Ok(out.push(lengths.most())?)
+        }
+    }
+}
+
+fn push_state(out: &mut Vec<u8>, form: Form, state: &State) -> Result<(), AllocError>
+    ensures { OnOk result (out.new.items ≡ out.old.items ++ state_bytes form state.now) }
+{
+    push_lengths(out, form, state.lengths())?;
     for kind in state.kinds() {
         push_kind(out, *kind)?;
     }
     Ok(())
 }
 
-fn push_note(out: &mut Vec<u8>, note: &Option<State>) -> Result<(), AllocError>
-    requires { IsForViews note.now }
-    ensures legal { OnOk result (IsNote note.now) }
-    ensures spelled { OnOk result (out.new.items ≡ out.old.items ++ note_bytes note.now) }
+fn push_note(out: &mut Vec<u8>, form: Form, note: &Option<State>) -> Result<(), AllocError>
+    ensures { OnOk result (out.new.items ≡ out.old.items ++ note_bytes form note.now) }
 {
     match note {
         None => Ok(out.push(0)?),
         Some(state) => {
             out.push(1)?;
-            push_state(out, state)
+            push_state(out, form, state)
         }
     }
 }
 
 impl Notes {
-    /// The bytes of the notes. They are the only bytes that [`Notes::read`] reads as these.
-    ///
-    /// The one error is that memory ran out (99 OutOfMemory).
-    pub fn bytes(&self, alloc: Global) -> Result<Vec<u8>, AllocError>
-        ensures legal { IfOk result (λ bytes. IsNotes self.now) }
-        ensures spelled { IfOk result (λ bytes. bytes.items ≡ notes_bytes self.now) }
+    // The bytes of the notes in a form.
+    fn spelled(&self, alloc: Global, form: Form) -> Result<Vec<u8>, AllocError>
+        ensures { IfOk result (λ bytes. bytes.items ≡ notes_bytes form self.now) }
     {
         let mut out = Vec::new(alloc);
         push_short(&mut out, self.states.len() as u32)?;
         for note in &self.states {
-            push_note(&mut out, note)?;
+            push_note(&mut out, form, note)?;
         }
         Ok(out)
+    }
+
+    /// The bytes of the notes. They are the only bytes that [`Notes::read`] reads as these.
+    ///
+    /// The one error is that memory ran out (99 OutOfMemory).
+    pub fn bytes(&self, alloc: Global) -> Result<Vec<u8>, AllocError>
+        ensures legal { IfOk result (λ bytes. IsNotes Form.Second self.now) }
+        ensures spelled { IfOk result (λ bytes. bytes.items ≡ notes_bytes Form.Second self.now) }
+    {
+        self.are_notes();
+        self.spelled(alloc, Form::Second)
+    }
+
+    /// The bytes of the notes in the first form, or 31 NoteForm where a state is not for the records of views alone: it
+    /// knows a register as the record's length, or the record may have another length than 64. They are the only bytes
+    /// that [`Notes::read_v1`] reads as these.
+    ///
+    /// The other error is that memory ran out (99 OutOfMemory).
+    pub fn bytes_v1(&self, alloc: Global) -> Result<Vec<u8>, NotesFault>
+        ensures legal { IfOk result (λ bytes. IsNotes Form.First self.now) }
+        ensures spelled { IfOk result (λ bytes. bytes.items ≡ notes_bytes Form.First self.now) }
+
+        // What is refused.
+        ensures suited { IfOk result (λ bytes. AreSuited view_lengths self.now) }
+        ensures refused { (result ≡ Err NotesFault.NoteForm) ↔ (AreSuited view_lengths self.now → ⊥) }
+    {
+        self.are_notes();
+        if !self.are_suited(Bounds::of_views()) {
+            return Err(NotesFault::NoteForm);
+        }
+        Ok(self.spelled(alloc, Form::First)?)
     }
 }

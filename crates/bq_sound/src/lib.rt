@@ -2,7 +2,8 @@
 //!
 //! Notes give a state to each unit of a text that a run may reach: what is known there of each register.
 //! They pass where the flow is legal, the state at unit 0 covers the entry, the instruction at each unit
-//! with a state breaks no rule, and the state at each feasible successor covers what it leaves.
+//! with a state breaks no rule, and the state at each feasible successor covers what it leaves. Where records
+//! have one length alone, each state knows that length, and no register as a length.
 //!
 //! [`laws`] has what follows. An instruction that breaks no rule of a state does not fault in a machine
 //! that the state covers, and what it leaves is covered by the state of a feasible edge. A text whose

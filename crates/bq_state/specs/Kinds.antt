@@ -1,7 +1,7 @@
 -- What is known of a register, and of the eleven registers and the record's length.
 use Rattle.std.specs.Prelude.{◌≡◌, ◌≤◌, ℕ, pos, ⊤, Bool, true, false, if◌then◌else◌, List, [], ◌∷◌, slice_index_or, slice_set}
 use Rattle.bq_meaning.specs.Place.{least_record, record_room, record_length}
-use Rattle.bq_range.specs.Interval.{Interval, Within, single, is_single, all_words, join}
+use Rattle.bq_range.specs.Interval.{Interval, Within, between, single, is_single, all_words, join}
 use Rattle.bq_state.specs.Offsets.{SpanWithin, at_offset, join_spans}
 use Rattle.bq_state.specs.declared.kind.Kind.{Kind}
 use Rattle.bq_state.specs.declared.kind.Kind.TheVariants.{Unset, Number, Pointer, Length}
@@ -25,6 +25,10 @@ pub record AreLengths (l : Interval) : Type 0 where
 -- the length of a view's records alone
 abbrev pub view_lengths : Interval
 view_lengths = single record_length
+
+-- all lengths that records may have
+abbrev pub all_lengths : Interval
+all_lengths = between least_record record_room
 
 -- the kind of a register
 abbrev pub kind_of : StateKinds → ℕ → Kind

@@ -3,7 +3,7 @@
 ghost use Rattle.std.specs.Prelude.{◌≡◌, ◌↔◌, IsTrue};
 ghost use Rattle.std.specs.Option.{SomeIff};
 ghost use Rattle.bq_range.specs.Interval.{Within, between, join, meet};
-ghost use Rattle.bq_state.specs.Kinds.{AreLengths, length_kind, view_lengths};
+ghost use Rattle.bq_state.specs.Kinds.{AreLengths, all_lengths, length_kind, view_lengths};
 
 use crate::kind::Kind;
 use bq_meaning::placement::{LEAST_RECORD, RECORD_LENGTH, RECORD_ROOM};
@@ -39,6 +39,15 @@ impl Bounds {
             Some(Bounds { range })
         } else {
             None
+        }
+    }
+
+    /// 16 to 128 bytes: all lengths that records may have.
+    pub fn all() -> Bounds
+        ensures { result ≡ all_lengths }
+    {
+        Bounds {
+            range: Range::single(LEAST_RECORD as u64).join(Range::single(RECORD_ROOM as u64)),
         }
     }
 

@@ -3,6 +3,7 @@
 ghost use Rattle.std.specs.Prelude.{◌≡◌, ◌↔◌, IsTrue, Ok, Err, if◌then◌else◌};
 ghost use Rattle.bq_state.specs.Kinds.{KindCovers, as_number, join_kinds};
 ghost use Rattle.bq_state.specs.Offsets.{fits};
+ghost use Rattle.bq_state.specs.Plain.{IsPlainKind};
 ghost use Rattle.bq_state.specs.Rules.{inside, known, number, readable, storable, sum_kind, difference_kind, pointer_kind, operated_kind, alu_kind};
 
 use crate::bounds::Bounds;
@@ -103,6 +104,16 @@ impl Kind {
                 }
                 _ => Kind::Unset,
             },
+        }
+    }
+
+    // Whether it is known by more than being the record's length.
+    pub(crate) fn is_plain(self) -> bool
+        ensures { IsTrue result ↔ IsPlainKind self }
+    {
+        match self {
+            Kind::Length => false,
+            _ => true,
         }
     }
 

@@ -2,6 +2,7 @@
 
 ghost use Rattle.std.specs.Prelude.{◌≡◌, ◌↔◌, ◌<◌, ℕ, IsTrue, List, length};
 ghost use Rattle.bq_state.specs.Kinds.{StateKinds, StateCovers, kind_of, read_kind, with_kind, with_lengths, join_states, entry_state};
+ghost use Rattle.bq_state.specs.Plain.{IsPlain};
 
 use crate::bounds::Bounds;
 use crate::kind::Kind;
@@ -89,6 +90,21 @@ impl State {
         } else {
             Kind::Unset
         }
+    }
+
+    /// Whether the record has so many bytes, and no register is known as their number but by the number itself.
+    pub fn is_plain(&self, length: u8) -> bool
+        ensures { IsTrue result ↔ IsPlain length self.now }
+    {
+        if self.lengths.least() != length || self.lengths.most() != length {
+            return false;
+        }
+        for register in 0..11 {
+            if !self.kinds[register].is_plain() {
+                return false;
+            }
+        }
+        true
     }
 
     // What is known of a register whose number is asked for.

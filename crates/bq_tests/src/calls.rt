@@ -142,10 +142,8 @@ fn certificates_keep_text_and_notes(rt: HostRuntime) -> Result<(), Fail> {
     notes.are_notes();
     let certified = check(rt.alloc(), text, notes)?;
     assert_eq!(rt; certified.text().units(), 2);
-    assert_eq!(rt;
-        certified.notes().at(0),
-        Some(State::entry(Bounds::of_views()))
-    );
+    assert_eq!(rt; certified.lengths(), Bounds::all());
+    assert_eq!(rt; certified.notes().at(0), Some(State::entry(Bounds::all())));
     Ok(())
 }
 

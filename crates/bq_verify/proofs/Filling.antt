@@ -7,7 +7,8 @@ use Rattle.bq_insn.specs.Slots.{units, IsText, insn_at}
 use Rattle.bq_insn.specs.declared.insn.Insn.{Insn}
 use Rattle.bq_flow.specs.Paths.{IsLegalFlow}
 use Rattle.bq_flow.proofs.Units.{insn_within}
-use Rattle.bq_state.specs.Kinds.{StateKinds, entry_state, view_lengths}
+use Rattle.bq_range.specs.Interval.{Interval}
+use Rattle.bq_state.specs.Kinds.{StateKinds, entry_state}
 use Rattle.bq_state.specs.Rules.{transfer}
 use Rattle.bq_state.specs.Edges.{edges}
 use Rattle.bq_sound.specs.Passes.{note_at}
@@ -80,11 +81,11 @@ kept text unit v notes es count l before =
 
 -- ---- one more unit
 
-pub filled_on : (text : List Insn) (notes : Notes) (n : ℕ) (i : Insn) (state after : StateKinds) → IsText text → IsFilled text notes n → insn_at text n ≡ Some i → note_at notes n ≡ Some state → transfer i state ≡ Ok after
-    → IsFilled text (with_arrivals notes (edges n i after)) (n + 1)
-filled_on text notes n i state after text_is h there here passed = record {
+pub filled_on : (bounds : Interval) (text : List Insn) (notes : Notes) (n : ℕ) (i : Insn) (state after : StateKinds) → IsText text → IsFilled bounds text notes n → insn_at text n ≡ Some i → note_at notes n ≡ Some state → transfer i state ≡ Ok after
+    → IsFilled bounds text (with_arrivals notes (edges n i after)) (n + 1)
+filled_on bounds text notes n i state after text_is h there here passed = record {
   legal = h.legal;
-  states = states_more text notes (with_arrivals notes es) n h.states (arrivals_count notes es ∙ h.states.count) same more;
+  states = states_more bounds text notes (with_arrivals notes es) n h.states (arrivals_count notes es ∙ h.states.count) same more;
   unbroken = record { each = unbroken };
 }
   where
@@ -117,11 +118,11 @@ filled_on text notes n i state after text_is h there here passed = record {
     ]
 
 -- a unit where no instruction begins, or that nothing reaches
-pub filled_past : (text : List Insn) (notes : Notes) (n : ℕ) → IsFilled text notes n → edges_from n (insn_at text n) (note_at notes n) ≡ []
-    → ((i : Insn) (state : StateKinds) → insn_at text n ≡ Some i → note_at notes n ≡ Some state → ⊥) → IsFilled text notes (n + 1)
-filled_past text notes n h empty never = record {
+pub filled_past : (bounds : Interval) (text : List Insn) (notes : Notes) (n : ℕ) → IsFilled bounds text notes n → edges_from n (insn_at text n) (note_at notes n) ≡ []
+    → ((i : Insn) (state : StateKinds) → insn_at text n ≡ Some i → note_at notes n ≡ Some state → ⊥) → IsFilled bounds text notes (n + 1)
+filled_past bounds text notes n h empty never = record {
   legal = h.legal;
-  states = states_more text notes notes n h.states h.states.count (λ v l. refl) (λ unit within.
+  states = states_more bounds text notes notes n h.states h.states.count (λ v l. refl) (λ unit within.
       sym (extended_none (note_at notes unit)) ∙ ap (λ es. extended (note_at notes unit) (leading_to unit es)) (sym empty));
   unbroken = record { each = unbroken };
 }
@@ -136,50 +137,50 @@ filled_past text notes n h empty never = record {
 
 -- ---- the table before the first unit
 
-pub filled_first : (text : List Insn) (notes : Notes) → IsText text → IsLegalFlow text → length notes ≡ units text → ((v : ℕ) → note_at notes v ≡ None) → IsFilled text (slice_set notes 0 (Some (entry_state view_lengths))) 0
-filled_first text notes text_is legal count empty = record {
+pub filled_first : (bounds : Interval) (text : List Insn) (notes : Notes) → IsText text → IsLegalFlow text → length notes ≡ units text → ((v : ℕ) → note_at notes v ≡ None) → IsFilled bounds text (slice_set notes 0 (Some (entry_state bounds))) 0
+filled_first bounds text notes text_is legal count empty = record {
   legal = legal;
-  states = record { count = length-set notes 0 (Some (entry_state view_lengths)) ∙ count; each = λ unit within. at unit };
+  states = record { count = length-set notes 0 (Some (entry_state bounds)) ∙ count; each = λ unit within. at unit };
   unbroken = record { each = λ unit i s l. absurd (omega (arith, l)) };
 }
   where
-    at : (unit : ℕ) → note_at (slice_set notes 0 (Some (entry_state view_lengths))) unit ≡ joined (if unit == 0 then entry_state view_lengths ∷ [] else [])
+    at : (unit : ℕ) → note_at (slice_set notes 0 (Some (entry_state bounds))) unit ≡ joined (if unit == 0 then entry_state bounds ∷ [] else [])
     at unit = elim (cases_Bool (unit == 0)) [
       | inl t ↦
           let e : unit ≡ 0 = eqb-true unit 0 t in
           let some = text_is.some in
-          let first : note_at (slice_set notes 0 (Some (entry_state view_lengths))) 0 ≡ Some (entry_state view_lengths) = get_or-set_same notes 0 (Some (entry_state view_lengths)) None (omega (arith, some, count)) in
-          rw t (subst (λ u. note_at (slice_set notes 0 (Some (entry_state view_lengths))) u ≡ Some (entry_state view_lengths)) (sym e) first)
+          let first : note_at (slice_set notes 0 (Some (entry_state bounds))) 0 ≡ Some (entry_state bounds) = get_or-set_same notes 0 (Some (entry_state bounds)) None (omega (arith, some, count)) in
+          rw t (subst (λ u. note_at (slice_set notes 0 (Some (entry_state bounds))) u ≡ Some (entry_state bounds)) (sym e) first)
       | inr f ↦
           let n : unit ≡ 0 → ⊥ = eqb-false unit 0 f in
-          rw f (get_or-set_other notes 0 unit (Some (entry_state view_lengths)) None n ∙ empty unit)
+          rw f (get_or-set_other notes 0 unit (Some (entry_state bounds)) None n ∙ empty unit)
     ]
 
 -- ---- as the pass needs it
 
-pub edges_within : (text : List Insn) (notes : Notes) (n : ℕ) (i : Insn) (after : StateKinds) → IsText text → IsFilled text notes n → insn_at text n ≡ Some i → AllWithin notes (edges n i after)
-edges_within text notes n i after text_is h there = all_within text n notes (edges n i after) h.states.count (edges_lead text n i after text_is.few h.legal there)
+pub edges_within : (bounds : Interval) (text : List Insn) (notes : Notes) (n : ℕ) (i : Insn) (after : StateKinds) → IsText text → IsFilled bounds text notes n → insn_at text n ≡ Some i → AllWithin notes (edges n i after)
+edges_within bounds text notes n i after text_is h there = all_within text n notes (edges n i after) h.states.count (edges_lead text n i after text_is.few h.legal there)
 
-pub filled_by : (text : List Insn) (notes new : Notes) (n : ℕ) (i : Insn) (state : StateKinds) → IsText text → IsFilled text notes n → insn_at text n ≡ Some i → note_at notes n ≡ Some state
-    → (after : StateKinds) × (transfer i state ≡ Ok after) × (new ≡ with_arrivals notes (edges n i after)) → IsFilled text new (n + 1)
-filled_by text notes new n i state text_is h there here done =
-    subst (λ table. IsFilled text table (n + 1)) (sym done.2) (filled_on text notes n i state done.0 text_is h there here done.1)
+pub filled_by : (bounds : Interval) (text : List Insn) (notes new : Notes) (n : ℕ) (i : Insn) (state : StateKinds) → IsText text → IsFilled bounds text notes n → insn_at text n ≡ Some i → note_at notes n ≡ Some state
+    → (after : StateKinds) × (transfer i state ≡ Ok after) × (new ≡ with_arrivals notes (edges n i after)) → IsFilled bounds text new (n + 1)
+filled_by bounds text notes new n i state text_is h there here done =
+    subst (λ table. IsFilled bounds text table (n + 1)) (sym done.2) (filled_on bounds text notes n i state done.0 text_is h there here done.1)
 
-pub filled_half : (text : List Insn) (notes : Notes) (n : ℕ) → IsFilled text notes n → insn_at text n ≡ None → IsFilled text notes (n + 1)
-filled_half text notes n h none = filled_past text notes n h (rw none refl) (λ i state there here. let bad : Some i ≡ None = sym there ∙ none in absurd (cc))
+pub filled_half : (bounds : Interval) (text : List Insn) (notes : Notes) (n : ℕ) → IsFilled bounds text notes n → insn_at text n ≡ None → IsFilled bounds text notes (n + 1)
+filled_half bounds text notes n h none = filled_past bounds text notes n h (rw none refl) (λ i state there here. let bad : Some i ≡ None = sym there ∙ none in absurd (cc))
 
 from_none : (n : ℕ) (o : Option Insn) → edges_from n o None ≡ []
 from_none n None = refl
 from_none n (Some i) = refl
 
-pub filled_unreached : (text : List Insn) (notes : Notes) (n : ℕ) → IsFilled text notes n → note_at notes n ≡ None → IsFilled text notes (n + 1)
-filled_unreached text notes n h none = filled_past text notes n h (rw none (from_none n (insn_at text n))) (λ i state there here. let bad : Some state ≡ None = sym here ∙ none in absurd (cc))
+pub filled_unreached : (bounds : Interval) (text : List Insn) (notes : Notes) (n : ℕ) → IsFilled bounds text notes n → note_at notes n ≡ None → IsFilled bounds text notes (n + 1)
+filled_unreached bounds text notes n h none = filled_past bounds text notes n h (rw none (from_none n (insn_at text n))) (λ i state there here. let bad : Some state ≡ None = sym here ∙ none in absurd (cc))
 
 -- a rule that the pass meets is the first that is broken
-pub broken_first : (text : List Insn) (notes : Notes) (n : ℕ) (i : Insn) (state : StateKinds) (fault : CheckFault) → IsFilled text notes n → insn_at text n ≡ Some i → note_at notes n ≡ Some state
-    → (rule : BrokenRule) × (fault ≡ CheckRule n rule) × (transfer i state ≡ Err rule) → IsRefused text fault
-broken_first text notes n i state fault h there here broken =
-    subst (IsRefused text) (sym broken.1) (h.legal, record { notes = notes; states = h.states; below = h.unbroken; insn = i; there = there; state = state; noted = here; broken = broken.2 })
+pub broken_first : (bounds : Interval) (text : List Insn) (notes : Notes) (n : ℕ) (i : Insn) (state : StateKinds) (fault : CheckFault) → IsFilled bounds text notes n → insn_at text n ≡ Some i → note_at notes n ≡ Some state
+    → (rule : BrokenRule) × (fault ≡ CheckRule n rule) × (transfer i state ≡ Err rule) → IsRefused bounds text fault
+broken_first bounds text notes n i state fault h there here broken =
+    subst (IsRefused bounds text) (sym broken.1) (h.legal, record { notes = notes; states = h.states; below = h.unbroken; insn = i; there = there; state = state; noted = here; broken = broken.2 })
 
 pub passed_on : {A : Type 0} (P : CheckFault → Type 0) (result : Result A CheckFault) (x fault : CheckFault) → result ≡ Err x → x ≡ fault → P fault → IfErr result P
 passed_on P result x fault is same holds = subst (λ r. IfErr r P) (sym is) (subst P (sym same) holds)

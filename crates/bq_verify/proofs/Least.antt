@@ -11,8 +11,9 @@ use Rattle.bq_insn.specs.declared.insn.Insn.{Insn}
 use Rattle.bq_flow.specs.Paths.{Among}
 use Rattle.bq_flow.proofs.Units.{insn_within}
 use Rattle.bq_flow.proofs.Legal.{not_legal}
+use Rattle.bq_range.specs.Interval.{Interval}
 use Rattle.bq_state.specs.declared.rule.Rule.{Rule}
-use Rattle.bq_state.specs.Kinds.{StateKinds, StateCovers, join_states, entry_state, view_lengths}
+use Rattle.bq_state.specs.Kinds.{StateKinds, AreLengths, StateCovers, join_states, entry_state}
 use Rattle.bq_state.specs.Rules.{transfer}
 use Rattle.bq_state.specs.Edges.{edges}
 use Rattle.bq_state.specs.Monotone.{IsFullState, IsAbove, SomeCovers, AreEdgesAbove, StatesAreOrdered, StatesAreMonotone}
@@ -41,7 +42,7 @@ no_note a e = cc
 no_rule : (a : StateKinds) (rule : Rule) → Ok a ≡ Err rule → ⊥
 no_rule a rule e = cc
 
-module _ (order : StatesAreOrdered) (monotone : StatesAreMonotone) (text : List Insn) (others : Notes) (text_is : IsText text) (passes : Passes view_lengths text others) where
+module _ (order : StatesAreOrdered) (monotone : StatesAreMonotone) (bounds : Interval) (lengths : AreLengths bounds) (text : List Insn) (others : Notes) (text_is : IsText text) (passes : Passes bounds text others) where
   -- a state that the note at a unit covers
   record Below (unit : ℕ) (state : StateKinds) : Type 0 where
     note : StateKinds
@@ -96,18 +97,18 @@ module _ (order : StatesAreOrdered) (monotone : StatesAreMonotone) (text : List 
       let above : IsAbove fine.after after = subst (IsAbove fine.after) same less.2 in
       brought_below unit x (edges n i after) (edges n i fine.after) (monotone.leads n i fine.after after above) fine.covered a
 
-  entry_below : Below 0 (entry_state view_lengths)
-  entry_below = record { note = passes.entry.note; there = passes.entry.there; covers = passes.entry.covers; full = monotone.entry view_lengths (record { least = omega arith; ordered = omega arith; most = omega arith }) }
+  entry_below : Below 0 (entry_state bounds)
+  entry_below = record { note = passes.entry.note; there = passes.entry.there; covers = passes.entry.covers; full = monotone.entry bounds lengths }
 
-  arrived_below : (notes : Notes) (unit n : ℕ) → ((v : ℕ) (s : StateKinds) → v < unit → note_at notes v ≡ Some s → Below v s) → (x : StateKinds) → Among x (arriving text notes unit n) → Below unit x
+  arrived_below : (notes : Notes) (unit n : ℕ) → ((v : ℕ) (s : StateKinds) → v < unit → note_at notes v ≡ Some s → Below v s) → (x : StateKinds) → Among x (arriving bounds text notes unit n) → Below unit x
   arrived_below notes unit zero below x a = elim (cases_Bool (unit == 0)) [
     | inl t ↦
-        let b : Among x (entry_state view_lengths ∷ []) = rw t at a in
-        elim b [ inl is ↦ subst (Below unit) (sym is) (subst (λ u. Below u (entry_state view_lengths)) (sym (eqb-true unit 0 t)) entry_below) | inr never ↦ absurd never ]
+        let b : Among x (entry_state bounds ∷ []) = rw t at a in
+        elim b [ inl is ↦ subst (Below unit) (sym is) (subst (λ u. Below u (entry_state bounds)) (sym (eqb-true unit 0 t)) entry_below) | inr never ↦ absurd never ]
     | inr f ↦ absurd (rw f at a)
   ]
   arrived_below notes unit (suc n) below x a =
-      elim (among_either x (arriving text notes unit n) (leading_to unit (edges_from n (insn_at text n) (note_at notes n))) a) [
+      elim (among_either x (arriving bounds text notes unit n) (leading_to unit (edges_from n (insn_at text n) (note_at notes n))) a) [
         | inl l ↦ arrived_below notes unit n below x l
         | inr r ↦ by_edge (insn_at text n) (note_at notes n) refl refl r
       ]
@@ -123,28 +124,28 @@ module _ (order : StatesAreOrdered) (monotone : StatesAreMonotone) (text : List 
       by_edge (Some i) None there noted b = absurd b
       by_edge (Some i) (Some s) there noted b = by_rule i s (transfer i s) there noted refl b
 
-  states_below : (notes : Notes) (end fuel : ℕ) → AreStates text notes end → (unit : ℕ) (s : StateKinds) → unit < fuel → note_at notes unit ≡ Some s → Below unit s
+  states_below : (notes : Notes) (end fuel : ℕ) → AreStates bounds text notes end → (unit : ℕ) (s : StateKinds) → unit < fuel → note_at notes unit ≡ Some s → Below unit s
   states_below notes end zero are unit s l noted = absurd (omega (arith, l))
   states_below notes end (suc fuel) are unit s l noted =
       let within : unit < units text = omega (arith, note_within notes unit s noted, are.count) in
-      joined_below unit s (arriving text notes unit end) (sym (are.each unit within) ∙ noted)
+      joined_below unit s (arriving bounds text notes unit end) (sym (are.each unit within) ∙ noted)
       (arrived_below notes unit end (λ v t k e. states_below notes end fuel are v t (omega (arith, k, l)) e))
 
   -- each of the states is covered by the note there of any notes that pass
-  state_below : (notes : Notes) (unit : ℕ) (state : StateKinds) → AreStates text notes (units text) → note_at notes unit ≡ Some state → NoteCovers others (unit, state)
+  state_below : (notes : Notes) (unit : ℕ) (state : StateKinds) → AreStates bounds text notes (units text) → note_at notes unit ≡ Some state → NoteCovers others (unit, state)
   state_below notes unit state are noted =
       let b = states_below notes (units text) (suc unit) are unit state (omega arith) noted in
       record { note = b.note; there = b.there; covers = b.covers }
 
   -- what breaks a rule in its state breaks one in the state of any notes
-  none_broken : (unit : ℕ) (rule : Rule) → IsFirstBroken text unit rule → ⊥
+  none_broken : (unit : ℕ) (rule : Rule) → IsFirstBroken bounds text unit rule → ⊥
   none_broken unit rule h =
       let b = states_below h.notes unit (suc unit) h.states unit h.state (omega arith) h.noted in
       let fine = passes.fine.each unit b.note h.insn (insn_within text unit h.insn h.there) b.there h.there in
       let less = monotone.transfers h.insn b.note h.state fine.after (is_insn text unit h.insn text_is h.there) (b.covers, b.full) fine.rules in
       no_rule less.0 rule (sym less.1 ∙ h.broken)
 
-  none_refused : (fault : CheckFault) → IsRefused text fault → fault ≢ OutOfMemory → ⊥
+  none_refused : (fault : CheckFault) → IsRefused bounds text fault → fault ≢ OutOfMemory → ⊥
   none_refused (Flow unit rule) h other = not_legal text unit rule h passes.flow
   none_refused (BrokenAt unit rule) h other = none_broken unit rule h.1
   none_refused OutOfMemory h other = other refl
@@ -153,8 +154,8 @@ module _ (order : StatesAreOrdered) (monotone : StatesAreMonotone) (text : List 
   none_refused Entry h other = h
   none_refused (NotCovered unit) h other = h
 
-pub are_least : StatesAreOrdered → StatesAreMonotone → (text : List Insn) (notes : Notes) → IsText text → AreStates text notes (units text) → AreLeast text notes
-are_least order monotone text notes text_is are = record { each = λ others unit state passes noted. state_below order monotone text others text_is passes notes unit state are noted }
+pub are_least : StatesAreOrdered → StatesAreMonotone → (bounds : Interval) (text : List Insn) (notes : Notes) → AreLengths bounds → IsText text → AreStates bounds text notes (units text) → AreLeast bounds text notes
+are_least order monotone bounds text notes lengths text_is are = record { each = λ others unit state passes noted. state_below order monotone bounds lengths text others text_is passes notes unit state are noted }
 
-pub none_pass : StatesAreOrdered → StatesAreMonotone → (text : List Insn) (fault : CheckFault) → IsText text → IsRefused text fault → fault ≢ OutOfMemory → NonePass text
-none_pass order monotone text fault text_is refused other = λ notes passes. none_refused order monotone text notes text_is passes fault refused other
+pub none_pass : StatesAreOrdered → StatesAreMonotone → (bounds : Interval) (text : List Insn) (fault : CheckFault) → AreLengths bounds → IsText text → IsRefused bounds text fault → fault ≢ OutOfMemory → NonePass bounds text
+none_pass order monotone bounds text fault lengths text_is refused other = λ notes passes. none_refused order monotone bounds lengths text notes text_is passes fault refused other

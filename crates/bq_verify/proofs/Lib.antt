@@ -4,4 +4,4 @@ pub mod Arrivals
 pub mod Passing
 pub mod Filling
 mod Least
-pub mod Views
+mod Suits

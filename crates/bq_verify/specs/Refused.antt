@@ -1,9 +1,10 @@
--- What the verifier refuses: the first fault of the flow, or the first rule that is broken, in rising order of units.
+-- What the verifier refuses, where records have one of the lengths l: the first fault of the flow, or the first rule that is broken, in rising order of units.
 use Rattle.std.specs.Prelude.{◌≡◌, ℕ, ◌<◌, List, Option, Some, Err}
 use Rattle.bq_insn.specs.declared.insn.Insn.{Insn}
 use Rattle.bq_insn.specs.Slots.{insn_at}
 use Rattle.bq_flow.specs.Paths.{IsLegalFlow}
 use Rattle.bq_flow.specs.Faults.{IsFirstFlowFault}
+use Rattle.bq_range.specs.Interval.{Interval}
 use Rattle.bq_state.specs.Kinds.{StateKinds}
 use Rattle.bq_state.specs.declared.rule.Rule.{Rule as BrokenRule}
 use Rattle.bq_state.specs.Rules.{transfer}
@@ -13,9 +14,9 @@ use Rattle.bq_check.specs.declared.fault.CheckFault.TheVariants.{Flow, Rule, Out
 use Rattle.bq_verify.specs.States.{AreStates, NoRuleBroken}
 
 -- the instruction at this unit breaks this rule in the state that arrives there, and none below breaks one
-pub record IsFirstBroken (text : List Insn) (unit : ℕ) (rule : BrokenRule) : Type 0 where
+pub record IsFirstBroken (l : Interval) (text : List Insn) (unit : ℕ) (rule : BrokenRule) : Type 0 where
   pub notes : List (Option StateKinds)
-  pub states : AreStates text notes unit
+  pub states : AreStates l text notes unit
   pub below : NoRuleBroken text notes unit
   pub insn : Insn
   pub there : insn_at text unit ≡ Some insn
@@ -23,11 +24,11 @@ pub record IsFirstBroken (text : List Insn) (unit : ℕ) (rule : BrokenRule) : T
   pub noted : note_at notes unit ≡ Some state
   pub broken : transfer insn state ≡ Err rule
 
-abbrev pub IsRefused : List Insn → CheckFault → Type 0
-IsRefused text (Flow unit rule) = IsFirstFlowFault text unit rule
-IsRefused text (Rule unit rule) = IsLegalFlow text × IsFirstBroken text unit rule
-IsRefused text OutOfMemory = Unit {0}
-IsRefused text fault = ⊥
+abbrev pub IsRefused : Interval → List Insn → CheckFault → Type 0
+IsRefused l text (Flow unit rule) = IsFirstFlowFault text unit rule
+IsRefused l text (Rule unit rule) = IsLegalFlow text × IsFirstBroken l text unit rule
+IsRefused l text OutOfMemory = Unit {0}
+IsRefused l text fault = ⊥
 
 -- where a rule is broken, the instruction that breaks it stands below this unit
 abbrev pub IsBelow : ℕ → CheckFault → Type 0

@@ -1,10 +1,12 @@
--- The states of a text: at each unit the join of what its feasible predecessors leave.
+-- The states of a text, where records have one of the lengths l: at each unit the join of what its feasible predecessors
+-- leave.
 use Rattle.std.specs.Prelude.{◌≡◌, ℕ, zero, suc, ◌<◌, ◌==◌, List, [], ◌∷◌, ◌++◌, length, Option, Some, None, Result, Ok, Err, if◌then◌else◌}
 use Rattle.std.specs.List.{fold}
 use Rattle.bq_insn.specs.Slots.{units, insn_at}
 use Rattle.bq_insn.specs.declared.insn.Insn.{Insn}
 use Rattle.bq_state.specs.declared.rule.Rule.{Rule}
-use Rattle.bq_state.specs.Kinds.{StateKinds, join_states, entry_state, view_lengths}
+use Rattle.bq_range.specs.Interval.{Interval}
+use Rattle.bq_state.specs.Kinds.{StateKinds, join_states, entry_state}
 use Rattle.bq_state.specs.Rules.{transfer}
 use Rattle.bq_state.specs.Edges.{edges}
 use Rattle.bq_sound.specs.Passes.{note_at}
@@ -31,14 +33,14 @@ leading_to unit [] = []
 leading_to unit (edge ∷ others) = (if edge.0 == unit then edge.1 ∷ [] else []) ++ leading_to unit others
 
 -- the states that arrive at a unit from the units below n in rising order; at the first unit the entry's comes before
-abbrev pub arriving : List Insn → List (Option StateKinds) → ℕ → ℕ → List StateKinds
-arriving text notes unit zero = if unit == 0 then entry_state view_lengths ∷ [] else []
-arriving text notes unit (suc n) = arriving text notes unit n ++ leading_to unit (edges_from n (insn_at text n) (note_at notes n))
+abbrev pub arriving : Interval → List Insn → List (Option StateKinds) → ℕ → ℕ → List StateKinds
+arriving l text notes unit zero = if unit == 0 then entry_state l ∷ [] else []
+arriving l text notes unit (suc n) = arriving l text notes unit n ++ leading_to unit (edges_from n (insn_at text n) (note_at notes n))
 
 -- each unit's state is the join of what arrives at it from the units below n
-pub record AreStates (text : List Insn) (notes : List (Option StateKinds)) (n : ℕ) : Type 0 where
+pub record AreStates (l : Interval) (text : List Insn) (notes : List (Option StateKinds)) (n : ℕ) : Type 0 where
   pub count : length notes ≡ units text
-  pub each : (unit : ℕ) → unit < units text → note_at notes unit ≡ joined (arriving text notes unit n)
+  pub each : (unit : ℕ) → unit < units text → note_at notes unit ≡ joined (arriving l text notes unit n)
 
 -- no instruction below n breaks a rule where it has a state
 pub record NoRuleBroken (text : List Insn) (notes : List (Option StateKinds)) (n : ℕ) : Type 0 where

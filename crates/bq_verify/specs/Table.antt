@@ -3,6 +3,7 @@ use Rattle.std.specs.Prelude.{ℕ, ◌<◌, length, List, [], ◌∷◌, Option,
 use Rattle.std.specs.List.{fold}
 use Rattle.bq_insn.specs.declared.insn.Insn.{Insn}
 use Rattle.bq_flow.specs.Paths.{IsLegalFlow}
+use Rattle.bq_range.specs.Interval.{Interval}
 use Rattle.bq_state.specs.Kinds.{StateKinds, join_states}
 use Rattle.bq_sound.specs.Passes.{note_at}
 use Rattle.bq_verify.specs.States.{joined, AreStates, NoRuleBroken}
@@ -27,7 +28,7 @@ AllWithin notes [] = Unit {0}
 AllWithin notes (edge ∷ others) = (edge.0 < length notes) × AllWithin notes others
 
 -- the table is right for the units below n, and none of these breaks a rule
-pub record IsFilled (text : List Insn) (notes : List (Option StateKinds)) (n : ℕ) : Type 0 where
+pub record IsFilled (l : Interval) (text : List Insn) (notes : List (Option StateKinds)) (n : ℕ) : Type 0 where
   pub legal : IsLegalFlow text
-  pub states : AreStates text notes n
+  pub states : AreStates l text notes n
   pub unbroken : NoRuleBroken text notes n

@@ -1,10 +1,11 @@
 //! The states of a program, found by one pass.
 //!
-//! [`verify`] gives the notes of a text that needs no jump back: in rising order of the units, the
-//! state of each is the join of what its feasible predecessors leave (at the first unit, of the entry
-//! too), and a unit that none of them reaches has none. Where it gives notes, they pass the checker,
-//! so that `bq_check::check` certifies the text with them. Else it names the first fault of the flow,
-//! or the first rule that an instruction breaks in its state.
+//! [`verify_within`] gives the notes of a text that needs no jump back, for records of some lengths: in
+//! rising order of the units, the state of each is the join of what its feasible predecessors leave (at
+//! the first unit, of the entry too), and a unit that none of them reaches has none. Where it gives notes,
+//! they pass the checker, so that `bq_check::check_within` certifies the text with them. Else it names the
+//! first fault of the flow, or the first rule that an instruction breaks in its state. [`verify`] is for
+//! records of all lengths, 16 to 128 bytes.
 //!
 //! The notes are the best that there are: each state is covered by the state there of all notes that
 //! pass, and for a text that is refused, want of memory aside, no notes pass.
@@ -15,6 +16,7 @@
 //! The definitions are in `specs/`: `States` has the states of a text, `Refused` what is refused and
 //! `Least` what makes the states the best. `laws` has that they are, for all texts.
 //!
+//! [`verify_within`]: verify::verify_within
 //! [`verify`]: verify::verify
 //! [`state_at`]: verify::state_at
 #![tactic(auto)]

@@ -3,12 +3,11 @@
 ghost use Rattle.std.specs.Prelude.{◌≡◌, ◌≢◌, ℕ, ◌<◌, ◌≤◌, IfOk, IfErr, List, Option, Some, None, Ok, Err, length};
 ghost use Rattle.bq_insn.specs.Slots.{units};
 ghost use Rattle.bq_state.specs.declared.rule.Rule.{Rule};
-ghost use Rattle.bq_state.specs.Kinds.{StateKinds, entry_state, view_lengths};
+ghost use Rattle.bq_state.specs.Kinds.{StateKinds, entry_state, all_lengths};
 ghost use Rattle.bq_state.specs.Rules.{transfer};
 ghost use Rattle.bq_state.specs.Edges.{edges};
 ghost use Rattle.bq_state.specs.Listed.{edge_list};
 ghost use Rattle.bq_sound.specs.Passes.{Passes, note_at};
-ghost use Rattle.bq_check.specs.ForViews.{AreForViews};
 ghost use Rattle.bq_verify.specs.States.{AreStates};
 ghost use Rattle.bq_verify.specs.Refused.{IsRefused, IsBelow};
 ghost use Rattle.bq_verify.specs.Least.{AreLeast, NonePass};
@@ -22,19 +21,18 @@ use bq_insn::insn::Insn;
 use bq_insn::text::Text;
 use bq_state::bounds::Bounds;
 use bq_state::edges::Edge;
-use bq_state::laws::states_stay_plain;
 use bq_state::state::State;
 use std::alloc::{AllocError, Global};
 
 /// The states of so many units, of which the first alone has one: that of the entry.
-fn entered(alloc: Global, units: usize) -> Result<Vec<Option<State>>, AllocError>
+fn entered(alloc: Global, units: usize, bounds: Bounds) -> Result<Vec<Option<State>>, AllocError>
     requires { 0 < units }
     ensures count { IfOk result (λ states. length states.items ≡ units) }
-    ensures first { IfOk result (λ states. note_at states.items 0 ≡ Some (entry_state view_lengths)) }
+    ensures first { IfOk result (λ states. note_at states.items 0 ≡ Some (entry_state bounds)) }
     ensures others { IfOk result (λ states. (unit : ℕ) → 0 < unit → note_at states.items unit ≡ None) }
 {
     let mut states = vec![in alloc; None; units]?;
-    states[0] = Some(State::entry(Bounds::of_views()));
+    states[0] = Some(State::entry(bounds));
     Ok(states)
 }
 
@@ -77,16 +75,19 @@ fn lead_on(
 }
 
 /// The states that the units below `end` lead to: those of the units up to `end` are done.
-fn fill(alloc: Global, text: &Text, end: usize) -> Result<Vec<Option<State>>, CheckFault>
+fn fill(
+    alloc: Global,
+    text: &Text,
+    bounds: Bounds,
+    end: usize,
+) -> Result<Vec<Option<State>>, CheckFault>
     requires { end ≤ units text.now }
-    ensures filled { IfOk result (λ states. IsFilled text.now states.items end) }
-    ensures views { IfOk result (λ states. AreForViews states.items) }
-    ensures refused { IfErr result (IsRefused text.now) }
+    ensures filled { IfOk result (λ states. IsFilled bounds text.now states.items end) }
+    ensures refused { IfErr result (IsRefused bounds text.now) }
     ensures below { IfErr result (IsBelow end) }
 {
-    states_stay_plain();
     Flow::of(alloc, text)?;
-    let Ok(mut states) = entered(alloc, text.units()) else {
+    let Ok(mut states) = entered(alloc, text.units(), bounds) else {
         return Err(CheckFault::OutOfMemory);
     };
     for unit in 0..end {
@@ -97,45 +98,62 @@ fn fill(alloc: Global, text: &Text, end: usize) -> Result<Vec<Option<State>>, Ch
     Ok(states)
 }
 
-/// The notes of a text: in rising order of the units the state of each is the join of what its feasible
-/// predecessors leave, that of unit 0 of the entry too, and a unit that none of them reaches has none.
+/// The notes of a text for records of these lengths: in rising order of the units the state of each is the join of what
+/// its feasible predecessors leave, that of unit 0 of the entry too, and a unit that none of them reaches has none.
 /// They pass the checker, and each is covered by the state there of all notes that pass: none say more.
 ///
 /// Refused with the first fault of the flow (11 Backward, 12 OutsideText, 13 IntoWide, 14 FallsOff), or
 /// with the first rule, in rising order of the units, that an instruction breaks in its state (23 to 28
 /// and 30): for such a text no notes pass. Else with 99 OutOfMemory. One pass: its time is linear in the number of
 /// units.
-pub fn verify(alloc: Global, text: &Text) -> Result<Notes, CheckFault>
+pub fn verify_within(alloc: Global, text: &Text, bounds: Bounds) -> Result<Notes, CheckFault>
     // The states of the text. They pass, and say the most of all notes that pass.
-    ensures states { IfOk result (λ notes. AreStates text.now notes (units text.now)) }
-    ensures passes { IfOk result (Passes view_lengths text.now) }
-    ensures least { IfOk result (AreLeast text.now) }
+    ensures states { IfOk result (λ notes. AreStates bounds text.now notes (units text.now)) }
+    ensures passes { IfOk result (Passes bounds text.now) }
+    ensures least { IfOk result (AreLeast bounds text.now) }
 
     // What is refused, and no notes pass for it, unless memory ran out.
-    ensures refused { IfErr result (IsRefused text.now) }
-    ensures none { IfErr result (λ fault. fault ≢ CheckFault.OutOfMemory → NonePass text.now) }
+    ensures refused { IfErr result (IsRefused bounds text.now) }
+    ensures none { IfErr result (λ fault. fault ≢ CheckFault.OutOfMemory → NonePass bounds text.now) }
 {
     states_pass();
     states_are_least();
     refused_has_no_notes();
-    let states = fill(alloc, text, text.units())?;
+    let _least = bounds.least();
+    let states = fill(alloc, text, bounds, text.units())?;
     Ok(Notes::new(states))
 }
 
-/// What is known where the instruction at a unit begins, from the units below it; none where nothing
-/// reaches it. It tells why `verify` refuses a text at that unit. Behind the text it is none of every text.
+/// As [`verify_within`] for records of all lengths, from 16 to 128 bytes.
+pub fn verify(alloc: Global, text: &Text) -> Result<Notes, CheckFault>
+    ensures states { IfOk result (λ notes. AreStates all_lengths text.now notes (units text.now)) }
+    ensures passes { IfOk result (Passes all_lengths text.now) }
+    ensures least { IfOk result (AreLeast all_lengths text.now) }
+    ensures refused { IfErr result (IsRefused all_lengths text.now) }
+    ensures none { IfErr result (λ fault. fault ≢ CheckFault.OutOfMemory → NonePass all_lengths text.now) }
+{
+    verify_within(alloc, text, Bounds::all())
+}
+
+/// What is known where the instruction at a unit begins, from the units below it, for records of these lengths; none where
+/// nothing reaches it. It tells why `verify_within` refuses a text at that unit. Behind the text it is none of every text.
 ///
-/// Refused as by `verify` where the flow is refused, or where an instruction below the unit breaks a rule: where it
+/// Refused as by `verify_within` where the flow is refused, or where an instruction below the unit breaks a rule: where it
 /// answers, neither is so. 99 OutOfMemory may stand in place of any answer at a unit of the text.
-pub fn state_at(alloc: Global, text: &Text, unit: usize) -> Result<Option<State>, CheckFault>
-    ensures state { IfOk result (λ state. unit < units text.now → (notes : List (Option StateKinds)) × IsFilled text.now notes unit × (state ≡ note_at notes unit)) }
+pub fn state_at(
+    alloc: Global,
+    text: &Text,
+    bounds: Bounds,
+    unit: usize,
+) -> Result<Option<State>, CheckFault>
+    ensures state { IfOk result (λ state. unit < units text.now → (notes : List (Option StateKinds)) × IsFilled bounds text.now notes unit × (state ≡ note_at notes unit)) }
     ensures behind { units text.now ≤ unit → result ≡ Ok None }
-    ensures refused { IfErr result (IsRefused text.now) }
+    ensures refused { IfErr result (IsRefused bounds text.now) }
     ensures below { IfErr result (IsBelow unit) }
 {
     if text.units() <= unit {
         return Ok(None);
     }
-    let states = fill(alloc, text, unit)?;
+    let states = fill(alloc, text, bounds, unit)?;
     Ok(states[unit])
 }

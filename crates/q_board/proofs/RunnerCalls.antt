@@ -22,7 +22,6 @@ use Rattle.q_slots.specs.declared.cell.Cell.{Cell}
 use Rattle.q_slots.specs.declared.cell.Cell.TheVariants as cell
 use Rattle.q_slots.specs.declared.found.Found.TheVariants as found
 use Rattle.q_slots.specs.declared.view.Running.{Running}
-use Rattle.q_slots.specs.declared.view.View.{View}
 use Rattle.q_slots.specs.declared.view.View.TheVariants.{Runner}
 use Rattle.q_slots.proofs.Moves.{at_lt}
 use Rattle.q_slots.proofs.RunnerSteps.{tries, finishes, gives_back}
@@ -37,75 +36,96 @@ not_ready x n = dite (ℕ_discrete x 0) (λ e h. let z : found.Empty ≡ found.R
 pub claimed_at : (r q : RunnerModel) (i : ℕ) (j : Job) → Claims r i j q → is_at q.held i (Some j)
 claimed_at r q i j t = ap (λ (x : RunnerModel). get_elem? x.held i) t.1 ∙ set_here r.held i (Some j) (at_lt r.held i None t.0)
 
--- the end of a claim: the slot is brought to the front, written, and given back by a store
+-- The end of a claim: its slot is filled, and given back by a store
 module _ (z : TableId) (me : Sat) (n : ℕ) (claims left : List ℕ) (count cap lanes next slot : ℕ) (j : Job) (inv : IsRunner z me n claims count cap lanes next)
-    (mine : get_elem? (running me.0).held slot ≡ some (Some j)) where
+    (old : RunnerModel) (old_is : old ≡ runner_model z me.0 lanes next) (own : is_at old.held slot (Some j)) where
   abbrev r : Running
   r = running me.0
 
-  pub bring_asks : (me.1 ≡ bare 0 claims) × (0 < times slot claims)
-  bring_asks = (ap (λ (x : Sat). x.1) inv.0, omega (arith, inv.4 slot, has_at r.held slot j mine))
+  mine : get_elem? r.held slot ≡ some (Some j)
+  mine = subst (λ (x : RunnerModel). is_at x.held slot (Some j)) old_is own
 
-  pub slot_near : slot < lanes
-  slot_near = omega (arith, at_lt r.held slot (Some j) mine, inv.2)
+  filled : (c : Cell) (w : Sat) → w ≡ (me.0, (slot, c) ∷ bare 0 left) → w ≡ (Runner r, (slot, c) ∷ bare 0 left)
+  filled c w is = is ∙ ap (λ (x : Sat). (x.0, (slot, c) ∷ bare 0 left)) inv.0
 
-  module _ (m : Sat) (same_view : m.0 ≡ me.0) (brought : m.1 ≡ bare 0 (slot ∷ left)) (c : Cell) (w : Sat) (w_is : w ≡ (m.0, (slot, c) ∷ rest m.1)) where
-    pub written : w ≡ (Runner r, (slot, c) ∷ bare 0 left)
-    written = w_is ∙ ap (λ (v : View). (v, (slot, c) ∷ rest m.1)) (same_view ∙ ap (λ (x : Sat). x.0) inv.0) ∙ ap (λ (l : List (ℕ × Cell)). (Runner r, (slot, c) ∷ rest l)) brought
+  module _ (t : TableId) (on : old.table ≡ t) where
+    board : z ≡ t
+    board = sym (ap (λ (x : RunnerModel). x.table) old_is) ∙ on
 
-  module _ (old_times : (k : ℕ) → times k claims ≡ times k (slot ∷ left)) (count' : ℕ) (fewer : count' + 1 ≡ count) (r' : Running)
-      (number_is : r'.number ≡ r.number) (held_is : r'.held ≡ set r.held slot None) (u : Sat) (u_is : u ≡ (Runner r', bare 0 left)) where
-    pub let_go : (z' : TableId) → z' ≡ z → (cap' : ℕ) → cap' ≡ cap → IsRunner z' u n left count' cap' lanes next
-    let_go z' same cap' as_large = let now : running u.0 ≡ r' = ap (λ (x : Sat). running x.0) u_is in
-        let held_now = ap (λ (x : Running). x.held) now ∙ held_is in (
-          u_is ∙ ap (λ (x : Running). (Runner x, bare 0 left)) (sym now),
-          ap (λ (x : Running). x.number) now ∙ number_is ∙ inv.1,
-          ap length held_now ∙ length-set r.held slot None ∙ inv.2,
-          omega (arith, ap jobs held_now, jobs_set r.held slot (Some j) None mine, inv.3),
-          (λ k. omega (arith, ap (λ (l : List (Option Job)). has l k) held_now, has_set_none r.held slot k j mine, inv.4 k, old_times k)),
-          omega (arith, inv.5),
-          omega (arith, inv.6, ap (λ (x : TableId). x.words) same),
-          inv.7,
-          inv.8,
-        )
+    pub fill_asks : (z ≡ t) × (me.1 ≡ bare 0 claims) × (0 < times slot claims)
+    fill_asks = (board, ap (λ (x : Sat). x.1) inv.0, omega (arith, inv.4 slot, has_at r.held slot j mine))
 
-  pub finish_keeps : ((k : ℕ) → times k claims ≡ times k (slot ∷ left)) → (count' : ℕ) → count' + 1 ≡ count → (d : Finished) (v : Sat) → v ≡ (Runner (finishing r slot (cell.Finished d)), bare 0 left)
-      → (z' : TableId) → z' ≡ z → (cap' : ℕ) → cap' ≡ cap → IsRunner z' v n left count' cap' lanes next
-  finish_keeps times_are count' fewer d v is = let_go times_are count' fewer (finishing r slot (cell.Finished d)) refl refl v is
+    module _ (l key : ℕ) (sized : (t.words ≡ l) × (t.slots ≡ l) × (key ≡ l)) (y : TableId) (same : y ≡ z) (id : ℕ) (w : Sat) where
+      near : slot < t.words
+      near = omega (arith, at_lt r.held slot (Some j) mine, inv.2, inv.6, ap (λ (x : TableId). x.words) board)
 
-  module _ (key slots id : ℕ) (sized : slots ≡ key) (wide : key ≡ lanes) (w : Sat) where
-    pub finish_allowed : (d : Finished) → d.job ≡ j → w ≡ (Runner r, (slot, cell.Finished d) ∷ bare 0 left) → (word : ℕ) → word ≡ 2
-        → Allows (Orderly key) slots id w slot (λ _. word) (λ _. ended (step slots slot word 0 none) w word)
-    finish_allowed d job_is is word word_is =
-        subst (λ (x : ℕ). Allows (Orderly key) slots id w slot (λ _. x) (λ _. ended (step slots slot x 0 none) w x)) (sym word_is)
-        (subst (λ (x : ℕ). Allows (Orderly key) x id w slot (λ _. 2) (λ _. ended (step x slot 2 0 none) w 2)) (sym sized)
-        (subst (λ (y : Sat). Allows (Orderly key) key id y slot (λ _. 2) (λ _. ended (step key slot 2 0 none) y 2)) (sym is)
-        (finishes key id r slot (let near = slot_near in omega arith) (bare 0 left) d (mine ∙ ap (λ (x : Job). some (Some x)) (sym job_is)))))
+      near_key : slot < key
+      near_key = let s₀ = sized.0 in let s₂ = sized.2 in let h = near in omega arith
 
-    pub give_allowed : w ≡ (Runner r, (slot, cell.Offered j) ∷ bare 0 left) → (word : ℕ) → word ≡ 1
-        → Allows (Orderly key) slots id w slot (λ _. word) (λ _. given_back (step slots slot word 0 none) w word)
-    give_allowed is word word_is =
-        subst (λ (x : ℕ). Allows (Orderly key) slots id w slot (λ _. x) (λ _. given_back (step slots slot x 0 none) w x)) (sym word_is)
-        (subst (λ (x : ℕ). Allows (Orderly key) x id w slot (λ _. 1) (λ _. given_back (step x slot 1 0 none) w 1)) (sym sized)
-        (subst (λ (y : Sat). Allows (Orderly key) key id y slot (λ _. 1) (λ _. given_back (step key slot 1 0 none) y 1)) (sym is)
-        (gives_back key id r slot (let near = slot_near in omega arith) (bare 0 left) j mine)))
+      slots_are : t.slots ≡ key
+      slots_are = sized.1 ∙ sym sized.2
 
-    pub finish_leaves : (d : Finished) → w ≡ (Runner r, (slot, cell.Finished d) ∷ bare 0 left) → (u : Sat) → ended (step slots slot 2 0 none) w 2 u → u ≡ (Runner (finishing r slot (cell.Finished d)), bare 0 left)
-    finish_leaves d is u told = told ∙ ap (λ (x : Sat). (Runner (finishing (running x.0) slot (front x.1)), rest x.1)) is
+      pub finish_asks : (d : Finished) → d.job ≡ j → w ≡ (me.0, (slot, cell.Finished d) ∷ bare 0 left) → (word : ℕ) → word ≡ 2
+          → (y ≡ t) × (slot < t.words) × Allows (Orderly key) t.slots id w slot (λ _. word) (λ _. ended (step t.slots slot word 0 none) w word)
+      finish_asks d job_is is word word_is = (
+        same ∙ board,
+        near,
+        subst (λ (x : ℕ). Allows (Orderly key) t.slots id w slot (λ _. x) (λ _. ended (step t.slots slot x 0 none) w x)) (sym word_is)
+            (subst (λ (x : ℕ). Allows (Orderly key) x id w slot (λ _. 2) (λ _. ended (step x slot 2 0 none) w 2)) (sym slots_are)
+            (subst (λ (x : Sat). Allows (Orderly key) key id x slot (λ _. 2) (λ _. ended (step key slot 2 0 none) x 2)) (sym (filled (cell.Finished d) w is))
+            (finishes key id r slot near_key (bare 0 left) d (mine ∙ ap (λ (x : Job). some (Some x)) (sym job_is))))),
+      )
 
-    pub give_leaves : w ≡ (Runner r, (slot, cell.Offered j) ∷ bare 0 left) → (u : Sat) → given_back (step slots slot 1 0 none) w 1 u → u ≡ (Runner (returning r slot), bare 0 left)
-    give_leaves is u told = told ∙ ap (λ (x : Sat). (Runner (returning (running x.0) slot), rest x.1)) is
+      pub give_asks : w ≡ (me.0, (slot, cell.Offered j) ∷ bare 0 left) → (word : ℕ) → word ≡ 1
+          → (y ≡ t) × (slot < t.words) × Allows (Orderly key) t.slots id w slot (λ _. word) (λ _. given_back (step t.slots slot word 0 none) w word)
+      give_asks is word word_is = (
+        same ∙ board,
+        near,
+        subst (λ (x : ℕ). Allows (Orderly key) t.slots id w slot (λ _. x) (λ _. given_back (step t.slots slot x 0 none) w x)) (sym word_is)
+            (subst (λ (x : ℕ). Allows (Orderly key) x id w slot (λ _. 1) (λ _. given_back (step x slot 1 0 none) w 1)) (sym slots_are)
+            (subst (λ (x : Sat). Allows (Orderly key) key id x slot (λ _. 1) (λ _. given_back (step key slot 1 0 none) x 1)) (sym (filled (cell.Offered j) w is))
+            (gives_back key id r slot near_key (bare 0 left) j mine))),
+      )
 
-  module _ (z' : TableId) (same : z' ≡ z) (old : RunnerModel) (old_is : old ≡ runner_model z me.0 lanes next) (u : Sat) where
-    pub finish_told : (d : Finished) (ran : Ran) → d.job ≡ j → d.ran ≡ ran → u ≡ (Runner (finishing r slot (cell.Finished d)), bare 0 left) → Finishes old slot j ran (runner_model z' u.0 lanes next)
-    finish_told d ran job_is ran_is is = let done_is : d ≡ record { job = j; ran = ran } = λ i. record { job = job_is i; ran = ran_is i } in
-        subst (λ (x : RunnerModel). Finishes x slot j ran (runner_model z' u.0 lanes next)) (sym old_is)
-        (ap (λ (x : TableId). runner_model x u.0 lanes next) same ∙ ap (λ (x : Sat). runner_model z x.0 lanes next) is
+  -- after the store the seat has the claims that are left
+  module _ (w u : Sat) (y : TableId) (same : y ≡ z) where
+    finish_leaves : (d : Finished) → w ≡ (me.0, (slot, cell.Finished d) ∷ bare 0 left) → u ≡ (Runner (finishing (running w.0) slot (front w.1)), rest w.1) → u ≡ (Runner (finishing r slot (cell.Finished d)), bare 0 left)
+    finish_leaves d is told = told ∙ ap (λ (x : Sat). (Runner (finishing (running x.0) slot (front x.1)), rest x.1)) is
+
+    give_leaves : w ≡ (me.0, (slot, cell.Offered j) ∷ bare 0 left) → u ≡ (Runner (returning (running w.0) slot), rest w.1) → u ≡ (Runner (returning r slot), bare 0 left)
+    give_leaves is told = told ∙ ap (λ (x : Sat). (Runner (returning (running x.0) slot), rest x.1)) is
+
+    pub finish_told : (d : Finished) (ran : Ran) → d.job ≡ j → d.ran ≡ ran → w ≡ (me.0, (slot, cell.Finished d) ∷ bare 0 left) → u ≡ (Runner (finishing (running w.0) slot (front w.1)), rest w.1)
+        → Finishes old slot j ran (runner_model y u.0 lanes next)
+    finish_told d ran job_is ran_is is told = let done_is : d ≡ record { job = j; ran = ran } = λ i. record { job = job_is i; ran = ran_is i } in
+        subst (λ (x : RunnerModel). Finishes x slot j ran (runner_model y u.0 lanes next)) (sym old_is)
+        (ap (λ (x : TableId). runner_model x u.0 lanes next) same ∙ ap (λ (x : Sat). runner_model z x.0 lanes next) (finish_leaves d is told)
         ∙ ap (λ (x : Finished). runner_model z (Runner (finishing r slot (cell.Finished x))) lanes next) done_is)
 
-    pub give_told : u ≡ (Runner (returning r slot), bare 0 left) → GivesBack old slot (runner_model z' u.0 lanes next)
-    give_told is = subst (λ (x : RunnerModel). GivesBack x slot (runner_model z' u.0 lanes next)) (sym old_is)
-        (ap (λ (x : TableId). runner_model x u.0 lanes next) same ∙ ap (λ (x : Sat). runner_model z x.0 lanes next) is)
+    pub give_told : w ≡ (me.0, (slot, cell.Offered j) ∷ bare 0 left) → u ≡ (Runner (returning (running w.0) slot), rest w.1) → GivesBack old slot (runner_model y u.0 lanes next)
+    give_told is told = subst (λ (x : RunnerModel). GivesBack x slot (runner_model y u.0 lanes next)) (sym old_is)
+        (ap (λ (x : TableId). runner_model x u.0 lanes next) same ∙ ap (λ (x : Sat). runner_model z x.0 lanes next) (give_leaves is told))
+
+    module _ (fewer_times : (k : ℕ) → times k claims ≡ times k (slot ∷ left)) (count' : ℕ) (fewer : count' + 1 ≡ count) (cap' : ℕ) (as_large : cap' ≡ cap) where
+      let_go : (r' : Running) → r'.number ≡ r.number → r'.held ≡ set r.held slot None → u ≡ (Runner r', bare 0 left) → IsRunner y u n left count' cap' lanes next
+      let_go r' number_is held_is u_is = let now : running u.0 ≡ r' = ap (λ (x : Sat). running x.0) u_is in
+          let held_now = ap (λ (x : Running). x.held) now ∙ held_is in (
+            u_is ∙ ap (λ (x : Running). (Runner x, bare 0 left)) (sym now),
+            ap (λ (x : Running). x.number) now ∙ number_is ∙ inv.1,
+            ap length held_now ∙ length-set r.held slot None ∙ inv.2,
+            omega (arith, ap jobs held_now, jobs_set r.held slot (Some j) None mine, inv.3),
+            (λ k. omega (arith, ap (λ (l : List (Option Job)). has l k) held_now, has_set_none r.held slot k j mine, inv.4 k, fewer_times k)),
+            omega (arith, inv.5),
+            omega (arith, inv.6, ap (λ (x : TableId). x.words) same),
+            inv.7,
+            inv.8,
+          )
+
+      pub finish_keeps : (d : Finished) → w ≡ (me.0, (slot, cell.Finished d) ∷ bare 0 left) → u ≡ (Runner (finishing (running w.0) slot (front w.1)), rest w.1) → IsRunner y u n left count' cap' lanes next
+      finish_keeps d is told = let_go (finishing r slot (cell.Finished d)) refl refl (finish_leaves d is told)
+
+      pub give_keeps : w ≡ (me.0, (slot, cell.Offered j) ∷ bare 0 left) → u ≡ (Runner (returning (running w.0) slot), rest w.1) → IsRunner y u n left count' cap' lanes next
+      give_keeps is told = let_go (returning r slot) refl refl (give_leaves is told)
 
 -- One try at a slot
 module _ (z : TableId) (me : Sat) (n : ℕ) (claims : List ℕ) (count cap lanes next i : ℕ) (inv : IsRunner z me n claims count cap lanes next) where

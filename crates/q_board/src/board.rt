@@ -158,9 +158,9 @@ impl Board {
     {
         let Claim { slot, job } = claim;
         let done = Done::of(job, ran);
+        let cell = Cell::Finished(done);
         let shared = &self.table.shared;
-        bring(&mut seat.seat, &mut seat.claims, slot);
-        put(&mut seat.seat, shared, slot, Cell::Finished(done));
+        fill(&mut seat.seat, &mut seat.claims, shared, slot, cell);
         shared.store::<Finish>(&mut seat.seat, slot, Found::Finished.word());
     }
 
@@ -172,9 +172,9 @@ impl Board {
         ensures same { SameRunner seat.old seat.new }
     {
         let Claim { slot, job } = claim;
+        let cell = Cell::Offered(job);
         let shared = &self.table.shared;
-        bring(&mut seat.seat, &mut seat.claims, slot);
-        put(&mut seat.seat, shared, slot, Cell::Offered(job));
+        fill(&mut seat.seat, &mut seat.claims, shared, slot, cell);
         shared.store::<GiveBack>(&mut seat.seat, slot, Found::Ready.word());
     }
 }
@@ -261,6 +261,25 @@ fn put(
     ensures there { seat.new.me ≡ (seat.old.me.0, (slot, cell) ∷ rest seat.old.me.1) }
 {
     *seat.slot_mut(shared, slot) = cell;
+}
+
+// Takes a claimed slot off the claims and puts something into it; the seat has it before all others.
+#[inline(always)]
+fn fill(
+    seat: &mut Seat<Cell, View>,
+    claims: &mut VecDeque<usize>,
+    shared: &Shared<Cell, View, u64, Order>,
+    slot: usize,
+    cell: Cell,
+)
+    requires { (seat.old.table_id ≡ shared.now.table_id) × (seat.old.me.1 ≡ bare 0 claims.old.items) × (0 < times slot claims.old.items) }
+    ensures same { (seat.new.table_id ≡ seat.old.table_id) × (seat.new.id ≡ seat.old.id) }
+    ensures there { seat.new.me ≡ (seat.old.me.0, (slot, cell) ∷ bare 0 claims.new.items) }
+    ensures claims { (k : ℕ) → times k claims.old.items ≡ times k (slot ∷ claims.new.items) }
+    ensures room { (deque_capacity claims.new ≡ deque_capacity claims.old) × (deque_len claims.new + 1 ≡ deque_len claims.old) }
+{
+    bring(seat, claims, slot);
+    put(seat, shared, slot, cell);
 }
 
 // Brings a claimed slot to the front of the seat, and takes it off the claims.

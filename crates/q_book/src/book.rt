@@ -28,6 +28,7 @@ use sc_node::answer::{Begun, Delivered};
 use sc_node::fault::NodeFault;
 use sc_node::node::{MOST_OPEN, Node};
 use sc_node::outs::Outs;
+use sc_view::value::Value;
 use std::alloc::{AllocError, Global};
 use std::marker::Model;
 
@@ -100,7 +101,7 @@ impl Book {
         ensures { Steps memory (registered self.old program.now) self.old self.new result }
     {
         self.check_here()?;
-        let id = self.desk.register(program.shared())?;
+        let id = self.desk.register(program)?;
         Ok(id)
     }
 
@@ -123,7 +124,7 @@ impl Book {
     }
 
     /// Begins to store a value. Refused with 42, 41, 43, 53, 48, 46, 99.
-    pub fn store(&mut self, value: &[u8; 48]) -> Result<Begun, BookFault>
+    pub fn store(&mut self, value: &Value) -> Result<Begun, BookFault>
         ensures { Steps memory (stored self.old value.now) self.old self.new result }
     {
         self.check_storing()?;

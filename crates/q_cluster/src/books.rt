@@ -18,6 +18,7 @@ use sc_msg::message::Message;
 use sc_node::answer::Begun;
 use sc_node::fault::NodeFault;
 use sc_node::outs::Outs;
+use sc_view::value::Value;
 use std::alloc::{AllocError, Global};
 use std::collections::BTreeMap;
 use std::marker::Model;
@@ -92,7 +93,7 @@ impl Books {
     }
 
     /// A store begins at this node, which is there.
-    pub(crate) fn store(&mut self, id: u64, value: &[u8; 48]) -> Result<Begun, BookFault>
+    pub(crate) fn store(&mut self, id: u64, value: &Value) -> Result<Begun, BookFault>
         ensures { (b : BookState) → fin.get self.old id ≡ Some b → StepsAt (book.stored b value.now) self.old self.new id result }
     {
         let Some(book) = self.entries.get_mut(&id) else {

@@ -27,6 +27,7 @@ use q_table::program::{Program, ProgramId};
 use sc_members::config::Config;
 use sc_msg::message::Message;
 use sc_node::answer::Begun;
+use sc_view::value::Value;
 use sc_world::act::Opened;
 use sc_world::event::{Event as WorldEvent, Sent};
 use sc_world::fault::WorldFault;
@@ -274,7 +275,7 @@ impl Cluster {
         Ok(told(Told::Asked(query), sent))
     }
 
-    fn store(&mut self, id: u64, value: &[u8; 48]) -> Result<Stepped, ClusterFault>
+    fn store(&mut self, id: u64, value: &Value) -> Result<Stepped, ClusterFault>
         ensures { Steps memory (at self.old id (stored self.old id value.now)) self.old self.new result }
     {
         self.check_live(id)?;

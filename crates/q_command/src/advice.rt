@@ -7,6 +7,7 @@ use crate::denied::Denied;
 use crate::program::program;
 use bq_asm::fault::AsmFault;
 use bq_check::fault::CheckFault;
+use bq_state::bounds::Bounds;
 use q_explain::explain::explain;
 use q_explain::lines::{assembler_line, script_line};
 use q_replay::fault::ReplayFault;
@@ -103,7 +104,7 @@ fn write_program(
     let Ok(text) = program(alloc, denied.bytes.as_slice()) else {
         return Err(AllocError);
     };
-    match explain(alloc, &text, fault)? {
+    match explain(alloc, &text, Bounds::of_views(), fault)? {
         Some(told) => out.push_str(told.as_str()),
         None => out.push('\n'),
     }

@@ -7,7 +7,6 @@
 //!   the writer took exactly the line of the refusal, whose reason holds of the files. It gives up only where a write
 //!   failed, which the writer counted.
 //!   It hands out what was read and refused ([`Denied`]), and gives the exit status.
-//! - [`put_refusal`] writes the line of a refusal without taking memory.
 //! - [`program`] has programs from assembler text, with their certificates.
 //! - [`listing`] is the text that `asm` prints.
 //! - [`audit`] is the text that `audit` prints: the answers of a journal that is replayed.
@@ -20,7 +19,6 @@
 //! [`carry_out`]: perform::carry_out
 //! [`Denied`]: denied::Denied
 //! [`program`]: program::certified
-//! [`put_refusal`]: refusal_line::put_refusal
 //! [`Files`]: q_files::files::Files
 //! [`simulate`]: q_sim::simulation::simulate
 //! [`listing`]: listing::listing
@@ -34,4 +32,3 @@ pub mod denied;
 pub mod listing;
 pub mod perform;
 pub mod program;
-pub mod refusal_line;

@@ -1,6 +1,8 @@
 //! Commands, run over files and a writer.
 
 ghost use Rattle.std.specs.Prelude.{◌≡◌, ◌≢◌, ℕ, List, false, Ok, Err, IfOk, IfErr, string_bytes};
+ghost use Rattle.bq_meaning.specs.Place.{record_length};
+ghost use Rattle.bq_range.specs.Interval.{IsIn};
 ghost use Rattle.q_command.specs.Audit.{Audits, IsUnaudited};
 ghost use Rattle.q_command.specs.Perform.{Accepts, Answers, AnswersFile, AnswersRun, AnswersScript, Computes, Ends, IsProgram, IsSimulated, IsUnaccepted, IsUnassembled, IsUnlisted, IsUnread, IsUnsimulated, Lists, Refuses, RefusesFile, RefusesRun, RefusesScript, failures_after, status_of};
 
@@ -8,10 +10,10 @@ use crate::audit::audit;
 use crate::denied::Denied;
 use crate::listing::listing;
 use crate::program::{certified, program, utf8};
-use crate::refusal_line::put_refusal;
 use bq_check::certified::Certified;
 use bq_frame::block::Block;
 use q_files::files::Files;
+use q_refused::line::put_refusal;
 use q_script::records::read_records;
 use q_script::script::Script;
 use q_session::run::run_fold;
@@ -74,6 +76,7 @@ fn computed(
     start: u64,
     listed: &[u8],
 ) -> Result<String, Refusal>
+    requires { IsIn record_length certified.now.lengths }
     ensures computed { IfOk result (λ lines. (source : List ℕ) → IsProgram source certified.now.text → Computes source start listed.now (string_bytes lines)) }
     ensures refused { IfErr result (IsUnlisted listed.now) }
 {
@@ -184,6 +187,7 @@ fn certified_file<'a, F: Files>(
     files: &mut F,
 ) -> Result<Certified, Denied<'a>>
     ensures certified { IfOk result (λ c. (source : List ℕ) × F.read_gives files.old file.now (Ok source) files.new × IsProgram source c.text) }
+    ensures length { IfOk result (λ c. IsIn record_length c.lengths) }
     ensures refused { IfErr result (λ denied. RefusesFile F.read_gives IsUnaccepted file.now files.old denied files.new) }
 {
     let source = read(alloc, file, files)?;
@@ -205,6 +209,7 @@ fn computed_file<'a, F: Files>(
     records: &'a str,
     files: &mut F,
 ) -> Result<Printed, Denied<'a>>
+    requires { IsIn record_length certified.now.lengths }
     ensures answered { IfOk result (λ p. (source : List ℕ) → IsProgram source certified.now.text → AnswersFile F.read_gives (Computes source start) records.now files.old (string_bytes p.lines) p.unwritten files.new) }
     ensures refused { IfErr result (λ denied. RefusesFile F.read_gives IsUnlisted records.now files.old denied files.new) }
 {

@@ -1,6 +1,8 @@
 //! Programs from assembler text, and their certificates.
 
 ghost use Rattle.std.specs.Prelude.{◌≡◌, IfOk, IfErr, IsUtf8};
+ghost use Rattle.bq_meaning.specs.Place.{record_length};
+ghost use Rattle.bq_range.specs.Interval.{IsIn};
 ghost use Rattle.q_command.specs.Perform.{IsProgram, IsUnaccepted, IsUnassembled};
 
 use bq_asm::assemble::assemble;
@@ -36,6 +38,7 @@ pub fn program(alloc: Global, source: &[u8]) -> Result<Text, Refusal>
 /// [`certified_text`].
 pub fn certified(alloc: Global, source: &[u8]) -> Result<Certified, Refusal>
     ensures spelled { IfOk result (λ certified. IsProgram source.now certified.text) }
+    ensures length { IfOk result (λ certified. IsIn record_length certified.lengths) }
     ensures refused { IfErr result (IsUnaccepted source.now) }
 {
     let text = program(alloc, source)?;

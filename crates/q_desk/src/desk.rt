@@ -13,7 +13,6 @@ use crate::completed::Completed;
 use crate::fault::DeskFault;
 use crate::journal::Entry;
 use crate::same::is_job_of;
-use bq_check::certified::Certified;
 use q_session::done::Done;
 use q_session::job::Job;
 use q_session::query::{Phase, Query};
@@ -25,7 +24,6 @@ use sc_view::view::View;
 use std::alloc::{AllocError, Global};
 use std::marker::Model;
 use std::mem;
-use std::sync::Arc;
 
 /// The most queries of a desk.
 pub const MOST_QUERIES: usize = 4096;
@@ -118,19 +116,19 @@ impl Desk {
     }
 
     /// Registers a program; a text that is there keeps its id. Refused with 52, 53, 99.
-    pub fn register(&mut self, certified: &Arc<Certified>) -> Result<ProgramId, DeskFault>
-        ensures { Steps DeskFault.OutOfMemory (desk.registered self.old certified.now.value) self.old self.new result }
+    pub fn register(&mut self, program: &Program) -> Result<ProgramId, DeskFault>
+        ensures { Steps DeskFault.OutOfMemory (desk.registered self.old program.now) self.old self.new result }
     {
-        let keyed = self.programs.keyed(certified)?;
+        let keyed = self.programs.keyed(program)?;
         self.programs.check(&keyed)?;
         if !self.has_room() {
             return Err(DeskFault::BookFull);
         }
         self.journal.reserve(self.running + 1)?;
-        let program = Program::share(certified)?;
+        let registered = program.clone()?;
         let id = self.programs.take(keyed)?;
         let _count = self.programs.len();
-        self.journal.push_reserved(Entry::Register(program));
+        self.journal.push_reserved(Entry::Register(registered));
         self.ended = None;
         Ok(id)
     }
@@ -142,9 +140,9 @@ impl Desk {
         (program.number() as usize) < self.programs.len()
     }
 
-    /// The certificate of the program with this id, to share.
-    pub fn program(&self, id: ProgramId) -> Option<&Arc<Certified>>
-        ensures { option_map (λ p. p.now.value) result ≡ slice_get self.now.programs id }
+    /// The program with this id.
+    pub fn program(&self, id: ProgramId) -> Option<&Program>
+        ensures { option_map (λ p. p.now) result ≡ slice_get self.now.programs id }
     {
         self.programs.get(id)
     }
@@ -260,8 +258,7 @@ impl Desk {
         let Some(program) = self.programs.get(asked.program) else {
             return Ok(None);
         };
-        let program = Program::share(program)?;
-        Job::of(*self.queries.allocator(), node, query, asked, &program)
+        Job::of(*self.queries.allocator(), node, query, asked, program)
     }
 
     /// Records the result of a job as its query's answer, as desk of this node. Refused with 56, 55, 53. Takes no memory.
@@ -392,8 +389,7 @@ fn next_job(
     let Some(program) = programs.get(query.program) else {
         return Ok(None);
     };
-    let program = Program::share(program)?;
-    Job::of(alloc, node, number, query, &program)
+    Job::of(alloc, node, number, query, program)
 }
 
 // A ready query runs over its view.

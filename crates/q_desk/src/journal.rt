@@ -3,6 +3,7 @@
 use q_session::ran::Ran;
 use q_table::program::{Program, ProgramId};
 use sc_msg::message::Message;
+use sc_view::value::Value;
 
 /// An entry of a node's journal: a call that the node accepted and that changed it.
 #[derive(Drop)]
@@ -14,7 +15,7 @@ pub enum Entry {
     /// A query began, and with it a collect.
     Ask { program: ProgramId, start: u64 },
     /// A store of this value began.
-    Store([u8; 48]),
+    Store(Value),
     /// A message was delivered, also one that told nothing new.
     Deliver(Message),
     /// The job of the ready query with the least number was handed out.

@@ -28,7 +28,7 @@ pub(crate) fn is_job_of(programs: &Programs, job: &Job, query: &Query, view: &Vi
     job.program() == query.program
         && job.start() == query.start
         && is_same_view(job.view(), view)
-        && is_same_program(job.certified().certified(), program)
+        && is_same_program(job.certified().certified(), program.certified())
 }
 
 fn is_same_program(program: &Certified, other: &Certified) -> bool

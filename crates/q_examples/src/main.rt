@@ -145,7 +145,9 @@ fn is_printed(reason: Reason) -> bool {
             | Reason::Entry
             | Reason::NotCovered
             | Reason::NoteForm
+            | Reason::BadValue
             | Reason::NoSuchQuery
+            | Reason::WrongBounds
             | Reason::RowFull
             | Reason::BadHead
             | Reason::Short

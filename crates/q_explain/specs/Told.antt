@@ -1,7 +1,9 @@
--- Of which faults a person is told something, and what is known of the registers there.
+-- Of which faults a person is told something, and what is known of the registers there, where records have one of the
+-- lengths l.
 use Rattle.std.specs.Prelude.{◌≡◌, ◌≢◌, ◌<◌, ◌⊎◌, ℕ, List, Option, Some, None}
 use Rattle.bq_insn.specs.declared.insn.Insn.{Insn}
 use Rattle.bq_insn.specs.Slots.{units}
+use Rattle.bq_range.specs.Interval.{Interval}
 use Rattle.bq_state.specs.Kinds.{StateKinds}
 use Rattle.bq_sound.specs.Passes.{note_at}
 use Rattle.bq_check.specs.declared.fault.CheckFault.{CheckFault}
@@ -10,17 +12,17 @@ use Rattle.bq_verify.specs.Refused.{IsRefused, IsBelow}
 use Rattle.bq_verify.specs.Table.{IsFilled}
 
 -- what reaches the unit from those below it
-abbrev pub IsReaching : List Insn → ℕ → Option StateKinds → Type 0
-IsReaching text unit state = unit < units text → (notes : List (Option StateKinds)) × IsFilled text notes unit × (state ≡ note_at notes unit)
+abbrev pub IsReaching : Interval → List Insn → ℕ → Option StateKinds → Type 0
+IsReaching l text unit state = unit < units text → (notes : List (Option StateKinds)) × IsFilled l text notes unit × (state ≡ note_at notes unit)
 
 -- the flow is refused, or an instruction below the unit breaks a rule
-abbrev pub IsCutOff : List Insn → ℕ → Type 0
-IsCutOff text unit = (fault : CheckFault) × IsRefused text fault × IsBelow unit fault × (fault ≢ OutOfMemory)
+abbrev pub IsCutOff : Interval → List Insn → ℕ → Type 0
+IsCutOff l text unit = (fault : CheckFault) × IsRefused l text fault × IsBelow unit fault × (fault ≢ OutOfMemory)
 
 -- what is known of the registers at a unit: want of memory leaves nothing out
-abbrev pub IsKnown : List Insn → ℕ → Option StateKinds → Type 0
-IsKnown text unit (Some state) = IsReaching text unit (Some state)
-IsKnown text unit None = IsReaching text unit None ⊎ IsCutOff text unit
+abbrev pub IsKnown : Interval → List Insn → ℕ → Option StateKinds → Type 0
+IsKnown l text unit (Some state) = IsReaching l text unit (Some state)
+IsKnown l text unit None = IsReaching l text unit None ⊎ IsCutOff l text unit
 
 -- the fault is of an instruction, which leads where it may not or breaks a rule
 abbrev pub IsAtInstruction : CheckFault → Type 0

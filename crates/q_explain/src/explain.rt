@@ -90,10 +90,15 @@ fn write_state(out: &mut String, state: &State) -> Result<(), AllocError> {
 
 /// What is known of the registers at a unit; none where nothing reaches it, and where the flow or a
 /// unit below is refused.
-fn known(alloc: Global, text: &Text, unit: usize) -> Result<Option<State>, AllocError>
-    ensures { IfOk result (IsKnown text.now unit) }
+fn known(
+    alloc: Global,
+    text: &Text,
+    bounds: Bounds,
+    unit: usize,
+) -> Result<Option<State>, AllocError>
+    ensures { IfOk result (IsKnown bounds text.now unit) }
 {
-    match state_at(alloc, text, unit) {
+    match state_at(alloc, text, bounds, unit) {
         Ok(state) => Ok(state),
         Err(CheckFault::Flow { .. } | CheckFault::Rule { .. }) => Ok(None),
         Err(_) => Err(AllocError),
@@ -101,10 +106,16 @@ fn known(alloc: Global, text: &Text, unit: usize) -> Result<Option<State>, Alloc
 }
 
 /// Why a text is refused at a unit, with this advice.
-fn told(alloc: Global, text: &Text, unit: usize, advice: &str) -> Result<String, AllocError> {
+fn told(
+    alloc: Global,
+    text: &Text,
+    bounds: Bounds,
+    unit: usize,
+    advice: &str,
+) -> Result<String, AllocError> {
     let mut out = String::new(alloc);
     write_instruction(alloc, &mut out, text, unit)?;
-    if let Some(state) = known(alloc, text, unit)? {
+    if let Some(state) = known(alloc, text, bounds, unit)? {
         write_state(&mut out, &state)?;
     }
     out.push_str(advice)?;
@@ -112,15 +123,31 @@ fn told(alloc: Global, text: &Text, unit: usize, advice: &str) -> Result<String,
     Ok(out)
 }
 
-/// Why the verifier refuses a text for this fault, in a few lines; none where the fault is of no instruction.
-///
-/// The one error is that memory ran out (99 OutOfMemory).
-pub fn explain(alloc: Global, text: &Text, fault: CheckFault) -> Result<Option<String>, AllocError>
-    ensures { IfOk result (IsTold fault) }
+/// The unit of a fault of an instruction, and what would satisfy the rule that it breaks.
+fn advice(fault: CheckFault) -> Option<(usize, &'static str)>
+    ensures { IsTold fault result }
 {
     match fault {
-        CheckFault::Rule { unit, rule } => Ok(Some(told(alloc, text, unit, of_rule(rule))?)),
-        CheckFault::Flow { unit, rule } => Ok(Some(told(alloc, text, unit, of_flow(rule))?)),
-        _ => Ok(None),
+        CheckFault::Rule { unit, rule } => Some((unit, of_rule(rule))),
+        CheckFault::Flow { unit, rule } => Some((unit, of_flow(rule))),
+        _ => None,
+    }
+}
+
+/// Why the verifier refuses a text for records of these lengths for this fault, in a few lines; none where the fault is
+/// of no instruction.
+///
+/// The one error is that memory ran out (99 OutOfMemory).
+pub fn explain(
+    alloc: Global,
+    text: &Text,
+    bounds: Bounds,
+    fault: CheckFault,
+) -> Result<Option<String>, AllocError>
+    ensures { IfOk result (IsTold fault) }
+{
+    match advice(fault) {
+        Some((unit, advice)) => Ok(Some(told(alloc, text, bounds, unit, advice)?)),
+        None => Ok(None),
     }
 }

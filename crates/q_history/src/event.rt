@@ -3,6 +3,7 @@
 use q_desk::completed::Completed;
 use q_session::ran::Ran;
 use q_table::program::{Program, ProgramId};
+use sc_view::value::Value;
 use sc_world::event::Sent;
 
 /// What happens to a cluster.
@@ -28,7 +29,7 @@ pub enum Event {
     /// A node begins to store a value.
     Store {
         node: u64,
-        value: [u8; 48],
+        value: Value,
     },
     /// A message that was sent, by its number, reaches a node.
     Deliver {

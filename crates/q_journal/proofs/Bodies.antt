@@ -7,6 +7,7 @@ use Rattle.bq_insn.specs.declared.fault.DecodeFault.{DecodeFault}
 use Rattle.bq_insn.specs.declared.fault.DecodeFault.TheVariants as texts
 use Rattle.bq_state.specs.Kinds.{StateKinds}
 use Rattle.bq_check.specs.Spelling.{notes_bytes, IsNotes}
+use Rattle.bq_check.specs.declared.form.Form.TheVariants.{First}
 use Rattle.bq_check.specs.declared.fault.NotesFault.{NotesFault}
 use Rattle.bq_check.specs.declared.fault.NotesFault.TheVariants as notes
 use Rattle.sc_msg.specs.Numbers.{number_bytes}
@@ -65,7 +66,7 @@ no_deliver body other = record { none = λ w h. none w h }
 
 -- ---- a text and its notes
 
-no_register : (body : List ℕ) → ((t : List Insn) (ns : List (Option StateKinds)) → IsText t → IsNotes ns → body ≡ number_bytes 4 (length (spelling t)) ++ (spelling t ++ notes_bytes ns) → ⊥) → IsNoBody 2 body
+no_register : (body : List ℕ) → ((t : List Insn) (ns : List (Option StateKinds)) → IsText t → IsNotes First ns → body ≡ number_bytes 4 (length (spelling t)) ++ (spelling t ++ notes_bytes First ns) → ⊥) → IsNoBody 2 body
 no_register body other = record { none = λ w h. none w h }
   where
     none : (w : Written) → IsBody 2 body w → ⊥
@@ -80,34 +81,34 @@ pub record ReadLength (body rest : List ℕ) (n : ℕ) : Type 0 where
   pub fits : n < 2 ^ 32
   pub parts : body ≡ number_bytes 4 n ++ rest
 
-text_follows : (body rest : List ℕ) (n : ℕ) (t : List Insn) (ns : List (Option StateKinds)) → ReadLength body rest n → IsText t → body ≡ number_bytes 4 (length (spelling t)) ++ (spelling t ++ notes_bytes ns) → (n ≡ length (spelling t)) × (rest ≡ spelling t ++ notes_bytes ns)
-text_follows body rest n t ns read p e = number_front 4 n (length (spelling t)) rest (spelling t ++ notes_bytes ns) read.fits (omega (arith, text_small t p)) (sym read.parts ∙ e)
+text_follows : (body rest : List ℕ) (n : ℕ) (t : List Insn) (ns : List (Option StateKinds)) → ReadLength body rest n → IsText t → body ≡ number_bytes 4 (length (spelling t)) ++ (spelling t ++ notes_bytes First ns) → (n ≡ length (spelling t)) × (rest ≡ spelling t ++ notes_bytes First ns)
+text_follows body rest n t ns read p e = number_front 4 n (length (spelling t)) rest (spelling t ++ notes_bytes First ns) read.fits (omega (arith, text_small t p)) (sym read.parts ∙ e)
 
 pub text_cut : (body rest : List ℕ) (n : ℕ) → ReadLength body rest n → length rest < n → IsNoBody 2 body
 text_cut body rest n read short =
     no_register body
     (λ t ns p q e. let f = text_follows body rest n t ns read p e in
-    omega (arith, short, f.0, ap length f.1, length-append (spelling t) (notes_bytes ns)))
+    omega (arith, short, f.0, ap length f.1, length-append (spelling t) (notes_bytes First ns)))
 
 -- so many bytes stand behind the length, and others behind these
 pub record ReadText (rest front behind : List ℕ) (n : ℕ) : Type 0 where
   pub long : length front ≡ n
   pub parts : rest ≡ front ++ behind
 
-notes_follow : (body rest front behind : List ℕ) (n : ℕ) (t : List Insn) (ns : List (Option StateKinds)) → ReadLength body rest n → ReadText rest front behind n → IsText t → body ≡ number_bytes 4 (length (spelling t)) ++ (spelling t ++ notes_bytes ns) → (front ≡ spelling t) × (behind ≡ notes_bytes ns)
+notes_follow : (body rest front behind : List ℕ) (n : ℕ) (t : List Insn) (ns : List (Option StateKinds)) → ReadLength body rest n → ReadText rest front behind n → IsText t → body ≡ number_bytes 4 (length (spelling t)) ++ (spelling t ++ notes_bytes First ns) → (front ≡ spelling t) × (behind ≡ notes_bytes First ns)
 notes_follow body rest front behind n t ns read text p e =
     let f = text_follows body rest n t ns read p e in
-    same_front front (spelling t) behind (notes_bytes ns) n text.long (sym f.0) (sym text.parts ∙ f.1)
+    same_front front (spelling t) behind (notes_bytes First ns) n text.long (sym f.0) (sym text.parts ∙ f.1)
 
 pub no_text : (body rest front behind : List ℕ) (n : ℕ) → ReadLength body rest n → ReadText rest front behind n → ((t : List Insn) → IsText t → front ≡ spelling t → ⊥) → IsNoBody 2 body
 no_text body rest front behind n read text none =
     no_register body (λ t ns p q e. none t p (notes_follow body rest front behind n t ns read text p e).0)
 
-pub no_notes : (body rest front behind : List ℕ) (n : ℕ) → ReadLength body rest n → ReadText rest front behind n → ((ns : List (Option StateKinds)) → IsNotes ns → behind ≡ notes_bytes ns → ⊥) → IsNoBody 2 body
+pub no_notes : (body rest front behind : List ℕ) (n : ℕ) → ReadLength body rest n → ReadText rest front behind n → ((ns : List (Option StateKinds)) → IsNotes First ns → behind ≡ notes_bytes First ns → ⊥) → IsNoBody 2 body
 no_notes body rest front behind n read text none =
     no_register body (λ t ns p q e. none ns q (notes_follow body rest front behind n t ns read text p e).1)
 
-pub registered : (body rest front behind : List ℕ) (n : ℕ) (t : List Insn) (ns : List (Option StateKinds)) → ReadLength body rest n → ReadText rest front behind n → front ≡ spelling t → behind ≡ notes_bytes ns → body ≡ body_bytes (Register t ns)
+pub registered : (body rest front behind : List ℕ) (n : ℕ) (t : List Insn) (ns : List (Option StateKinds)) → ReadLength body rest n → ReadText rest front behind n → front ≡ spelling t → behind ≡ notes_bytes First ns → body ≡ body_bytes (Register t ns)
 registered body rest front behind n t ns read text is others =
     read.parts ∙ ap (λ (k : ℕ). number_bytes 4 k ++ rest) (sym text.long ∙ ap length is)
     ∙ ap (λ (l : List ℕ). number_bytes 4 (length (spelling t)) ++ l) (text.parts ∙ ap (λ (l : List ℕ). l ++ behind) is ∙ ap (λ (l : List ℕ). spelling t ++ l) others)

@@ -4,6 +4,7 @@ use Rattle.std.specs.List.{flat_map}
 use Rattle.bq_insn.proofs.Unique.{one_text}
 use Rattle.bq_insn.specs.Slots.{spelling}
 use Rattle.bq_check.specs.Spelling.{notes_bytes}
+use Rattle.bq_check.specs.declared.form.Form.TheVariants.{First}
 use Rattle.bq_check.proofs.Codes.{IsCode, once}
 use Rattle.bq_check.proofs.Fields.{one_byte}
 use Rattle.bq_check.proofs.Read.{one_notes}
@@ -99,10 +100,10 @@ event_on w x = ap (λ (l : List ℕ). code w ∷ l) (append_assoc (number_bytes 
 same_event : (w v : Written) → IsWritten w → IsWritten v → code w ≡ code v → body_bytes w ≡ body_bytes v → w ≡ v
 same_event Leave Leave p q c b = refl
 same_event (Register t ns) (Register u ms) p q c b =
-    let n = number_front 4 (length (spelling t)) (length (spelling u)) (spelling t ++ notes_bytes ns) (spelling u ++ notes_bytes ms) (omega (arith, text_small t p.0)) (omega (arith, text_small u q.0)) b in
-    let s = same_front (spelling t) (spelling u) (notes_bytes ns) (notes_bytes ms) (length (spelling t)) refl (sym n.0) n.1 in
+    let n = number_front 4 (length (spelling t)) (length (spelling u)) (spelling t ++ notes_bytes First ns) (spelling u ++ notes_bytes First ms) (omega (arith, text_small t p.0)) (omega (arith, text_small u q.0)) b in
+    let s = same_front (spelling t) (spelling u) (notes_bytes First ns) (notes_bytes First ms) (length (spelling t)) refl (sym n.0) n.1 in
     let text = one_text t u p.0.insns q.0.insns s.0 in
-    let notes = one_notes ns ms p.1 q.1 s.1 in
+    let notes = one_notes First ns ms p.1 q.1 s.1 in
     λ i. Register (text i) (notes i)
 same_event (Ask g s) (Ask h t) p q c b =
     let n = number_front 4 g h (number_bytes 8 s) (number_bytes 8 t) p.0 q.0 b in

@@ -10,6 +10,7 @@ use Rattle.bq_state.specs.declared.kind.Kind.{Kind}
 use Rattle.bq_state.specs.Kinds.{StateKinds}
 use Rattle.bq_state.specs.declared.kind.Kind.TheVariants.{Unset, Number, Pointer, Length}
 use Rattle.bq_check.specs.Spelling.{short_bytes, long_bytes, offset_bytes, kind_bytes, kinds_bytes, note_bytes, notes_bytes, IsNote, IsNotes}
+use Rattle.bq_check.specs.declared.form.Form.TheVariants.{First}
 use Rattle.bq_check.proofs.Fields.{length-short, length-long}
 use Rattle.sc_members.specs.Members.{Config}
 use Rattle.sc_msg.specs.Numbers.{number_bytes}
@@ -59,22 +60,22 @@ kinds_small : (ks : List Kind) → length (kinds_bytes ks) ≤ 17 * length ks
 kinds_small [] = omega arith
 kinds_small (k ∷ ks) = omega (arith, length-append (kind_bytes k) (kinds_bytes ks), kind_small k, kinds_small ks)
 
-note_small : (o : Option StateKinds) → IsNote o → length (note_bytes o) ≤ 188
+note_small : (o : Option StateKinds) → IsNote First o → length (note_bytes First o) ≤ 188
 note_small None p = omega arith
-note_small (Some s) p = omega (arith, kinds_small s.kinds, p.count)
+note_small (Some s) p = omega (arith, kinds_small s.kinds, p.kinds.count)
 
-all_small : (ns : List (Option StateKinds)) → AllByRecursion IsNote ns → length (flat_map note_bytes ns) ≤ 188 * length ns
+all_small : (ns : List (Option StateKinds)) → AllByRecursion (IsNote First) ns → length (flat_map (note_bytes First) ns) ≤ 188 * length ns
 all_small [] p = omega arith
-all_small (o ∷ ns) p = omega (arith, length-append (note_bytes o) (flat_map note_bytes ns), note_small o p.0, all_small ns p.1)
+all_small (o ∷ ns) p = omega (arith, length-append (note_bytes First o) (flat_map (note_bytes First) ns), note_small o p.0, all_small ns p.1)
 
-pub notes_small : (ns : List (Option StateKinds)) → IsNotes ns → length (notes_bytes ns) ≤ 770052
-notes_small ns p = omega (arith, length-append (short_bytes (length ns)) (flat_map note_bytes ns), length-short (length ns), all_small ns p.each, p.few)
+pub notes_small : (ns : List (Option StateKinds)) → IsNotes First ns → length (notes_bytes First ns) ≤ 770052
+notes_small ns p = omega (arith, length-append (short_bytes (length ns)) (flat_map (note_bytes First) ns), length-short (length ns), all_small ns p.each, p.few)
 
 -- ---- bodies
 
-pub length-registered : (t : List Insn) (ns : List (Option StateKinds)) → length (body_bytes (Register t ns)) ≡ 4 + length (spelling t) + length (notes_bytes ns)
+pub length-registered : (t : List Insn) (ns : List (Option StateKinds)) → length (body_bytes (Register t ns)) ≡ 4 + length (spelling t) + length (notes_bytes First ns)
 length-registered t ns =
-    omega (arith, length-append (number_bytes 4 (length (spelling t))) (spelling t ++ notes_bytes ns), length-append (spelling t) (notes_bytes ns), length-number_bytes 4 (length (spelling t)))
+    omega (arith, length-append (number_bytes 4 (length (spelling t))) (spelling t ++ notes_bytes First ns), length-append (spelling t) (notes_bytes First ns), length-number_bytes 4 (length (spelling t)))
 
 -- each length fits four bytes
 pub body_small : (w : Written) → IsWritten w → length (body_bytes w) < 2 ^ 32

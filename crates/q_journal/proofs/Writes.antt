@@ -4,6 +4,7 @@ use Rattle.bq_insn.specs.declared.insn.Insn.{Insn}
 use Rattle.bq_insn.specs.Slots.{spelling}
 use Rattle.bq_state.specs.Kinds.{StateKinds}
 use Rattle.bq_check.specs.Spelling.{notes_bytes}
+use Rattle.bq_check.specs.declared.form.Form.TheVariants.{First}
 use Rattle.sc_msg.specs.Numbers.{number_bytes}
 use Rattle.q_journal.specs.declared.written.Written.{Written}
 use Rattle.q_journal.specs.declared.written.Written.TheVariants.{Register}
@@ -21,7 +22,7 @@ event_written w old front new n is first second =
     two old front new (code w ∷ number_bytes 4 (length (body_bytes w))) (body_bytes w) (first ∙ ap (λ (k : ℕ). old ++ (code w ∷ number_bytes 4 k)) is) second
 
 -- s is how the text is spelled and m the notes, and k and n are what is said of lengths
-pub registered_written : (old front a b new s m : List ℕ) (t : List Insn) (ns : List (Option StateKinds)) (n k : ℕ) → s ≡ spelling t → m ≡ notes_bytes ns → n ≡ 4 + length s + length m → k ≡ length s → front ≡ old ++ (2 ∷ number_bytes 4 n) → a ≡ front ++ number_bytes 4 k → b ≡ a ++ s → new ≡ b ++ m → new ≡ old ++ event_bytes (Register t ns)
+pub registered_written : (old front a b new s m : List ℕ) (t : List Insn) (ns : List (Option StateKinds)) (n k : ℕ) → s ≡ spelling t → m ≡ notes_bytes First ns → n ≡ 4 + length s + length m → k ≡ length s → front ≡ old ++ (2 ∷ number_bytes 4 n) → a ≡ front ++ number_bytes 4 k → b ≡ a ++ s → new ≡ b ++ m → new ≡ old ++ event_bytes (Register t ns)
 registered_written old front a b new s m t ns n k text notes total long first second third fourth =
     event_written (Register t ns) old front new n (omega (arith, total, ap length text, ap length notes, length-registered t ns)) first
     (three front a b new (number_bytes 4 k) s m second third fourth ∙ ap (λ (j : ℕ). front ++ (number_bytes 4 j ++ (s ++ m))) (long ∙ ap length text)

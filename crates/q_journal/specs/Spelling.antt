@@ -3,7 +3,9 @@ use Rattle.std.specs.Prelude.{◌≡◌, ℕ, ◌<◌, ◌^◌, List, [], ◌∷
 use Rattle.std.specs.List.{flat_map, AllByRecursion}
 use Rattle.bq_insn.specs.Slots.{IsText, spelling}
 use Rattle.bq_check.specs.Spelling.{notes_bytes, IsNotes}
+use Rattle.bq_check.specs.declared.form.Form.TheVariants.{First}
 use Rattle.sc_members.specs.Members.{Config}
+use Rattle.sc_view.specs.Values.{value_length}
 use Rattle.sc_msg.specs.Numbers.{number_bytes}
 use Rattle.sc_msg.specs.Messages.{message_bytes, IsMessage}
 use Rattle.q_journal.specs.declared.written.Written.{Written}
@@ -52,7 +54,7 @@ code (Post query acc steps) = 7
 -- a text stands behind its length, and the notes behind it
 abbrev pub body_bytes : Written → List ℕ
 body_bytes Leave = []
-body_bytes (Register text notes) = number_bytes 4 (length (spelling text)) ++ (spelling text ++ notes_bytes notes)
+body_bytes (Register text notes) = number_bytes 4 (length (spelling text)) ++ (spelling text ++ notes_bytes First notes)
 body_bytes (Ask program start) = number_bytes 4 program ++ number_bytes 8 start
 body_bytes (Store value) = value
 body_bytes (Deliver m) = message_bytes m
@@ -66,9 +68,9 @@ event_bytes w = code w ∷ number_bytes 4 (length (body_bytes w)) ++ body_bytes 
 -- which events have a spelling
 abbrev pub IsWritten : Written → Type 0
 IsWritten Leave = Unit {0}
-IsWritten (Register text notes) = IsText text × IsNotes notes
+IsWritten (Register text notes) = IsText text × IsNotes First notes
 IsWritten (Ask program start) = (program < 2 ^ 32) × (start < 2 ^ 64)
-IsWritten (Store value) = (length value ≡ 48) × All (λ b. b < 256) value
+IsWritten (Store value) = (length value ≡ value_length) × All (λ b. b < 256) value
 IsWritten (Deliver m) = IsMessage m
 IsWritten HandOut = Unit {0}
 IsWritten (Post query acc steps) = (query < 2 ^ 64) × (acc < 2 ^ 64) × (steps < 2 ^ 64)

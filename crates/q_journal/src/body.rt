@@ -7,6 +7,7 @@ use crate::read::ReadFault;
 use crate::reader::Reader;
 use crate::written::Written;
 use bq_check::notes::Notes;
+use sc_view::value::VALUE_LENGTH;
 use std::alloc::Global;
 
 fn leave(body: &[u8]) -> Result<Written, ReadFault>
@@ -26,7 +27,7 @@ fn register(alloc: Global, body: &[u8]) -> Result<Written, ReadFault>
     let length = reader.word()?;
     let spelling = reader.take(length as usize)?;
     let text = bq_insn::decode::decode(alloc, spelling)?;
-    let notes = Notes::read(alloc, reader.rest)?;
+    let notes = Notes::read_v1(alloc, reader.rest)?;
     Ok(Written::Register { text, notes })
 }
 
@@ -45,10 +46,10 @@ fn store(body: &[u8]) -> Result<Written, ReadFault>
     ensures body { IfOk result (IsBody 4 body.now) }
     ensures none { IfErr result (λ e. e ≡ ReadFault.Form → IsNoBody 4 body.now) }
 {
-    if body.len() != 48 {
+    if body.len() != VALUE_LENGTH {
         return Err(ReadFault::Form);
     }
-    let mut value = [0; 48];
+    let mut value = [0; VALUE_LENGTH];
     value.copy_from_slice(body);
     Ok(Written::Store(value))
 }

@@ -2,6 +2,8 @@
 
 ghost use Rattle.std.specs.Prelude.{◌≡◌, ◌<◌, ◌^◌, ◌++◌, ◌∷◌, [], length, option_map, IfSome, OnOk};
 ghost use Rattle.std.specs.List.{flat_map, AllByRecursion};
+ghost use Rattle.bq_state.specs.Kinds.{view_lengths};
+ghost use Rattle.bq_sound.specs.Passes.{AreSuited};
 ghost use Rattle.sc_msg.specs.Numbers.{number_bytes};
 ghost use Rattle.q_journal.specs.Spelling.{config_bytes, head_bytes, event_bytes, AreShort, IsHead, IsWritten};
 ghost use Rattle.q_journal.specs.Reading.{ids_bytes};
@@ -11,6 +13,7 @@ use bq_check::notes::Notes;
 use bq_insn::text::Text;
 use sc_members::config::Config;
 use sc_msg::message::Message;
+use sc_view::value::{VALUE_LENGTH, Value};
 use std::alloc::{AllocError, Global};
 use std::marker::Model;
 
@@ -147,13 +150,16 @@ impl Writer {
         self.front(1, 0)
     }
 
-    /// That a program was registered, with these notes.
+    /// That a program was registered, with these notes, which are for the records of views.
     pub fn register(&mut self, text: &Text, notes: &Notes) -> Result<(), AllocError>
+        requires { AreSuited view_lengths notes.now }
         ensures legal { OnOk result (IsWritten (written.Register text.now notes.now)) }
         ensures spelled { OnOk result (self.new ≡ self.old ++ event_bytes (written.Register text.now notes.now)) }
     {
         let spelling = bq_insn::encode::encode(self.alloc, text)?;
-        let notes = notes.bytes(self.alloc)?;
+        let Ok(notes) = notes.bytes_v1(self.alloc) else {
+            return Err(AllocError);
+        };
         self.front(2, 4 + spelling.len() + notes.len())?;
         self.word(spelling.len() as u32)?;
         self.append(&spelling)?;
@@ -171,11 +177,11 @@ impl Writer {
     }
 
     /// That a store of this value began.
-    pub fn store(&mut self, value: &[u8; 48]) -> Result<(), AllocError>
+    pub fn store(&mut self, value: &Value) -> Result<(), AllocError>
         ensures legal { OnOk result (IsWritten (written.Store value.now)) }
         ensures spelled { OnOk result (self.new ≡ self.old ++ event_bytes (written.Store value.now)) }
     {
-        self.front(4, 48)?;
+        self.front(4, VALUE_LENGTH)?;
         self.append(value)
     }
 

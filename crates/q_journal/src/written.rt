@@ -3,6 +3,7 @@
 use bq_check::notes::Notes;
 use bq_insn::text::Text;
 use sc_msg::message::Message;
+use sc_view::value::Value;
 
 /// An event of a node as a journal holds it.
 #[derive(Drop)]
@@ -14,7 +15,7 @@ pub enum Written {
     /// A query of this program began.
     Ask { program: u32, start: u64 },
     /// A store of this value began.
-    Store([u8; 48]),
+    Store(Value),
     /// A message was delivered.
     Deliver(Message),
     /// A job was handed out.

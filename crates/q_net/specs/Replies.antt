@@ -13,6 +13,9 @@ use Rattle.bq_check.specs.declared.fault.NotesFault.TheVariants as notes_fault
 use Rattle.bq_check.specs.Reasons as check
 use Rattle.bq_check.specs.Faults.{IsFirstFault}
 use Rattle.bq_check.specs.Spelling.{short_bytes, long_bytes, notes_bytes, IsNotes}
+use Rattle.bq_check.specs.declared.form.Form.TheVariants.{First}
+use Rattle.bq_state.specs.Kinds.{view_lengths}
+use Rattle.q_table.specs.Programs.{IsForViews}
 use Rattle.bq_check.specs.Certificate.{Certificate, IsCertified}
 use Rattle.sc_msg.specs.declared.message.Message.{Message}
 use Rattle.sc_node.specs.declared.answer.Begun.{Begun}
@@ -45,17 +48,19 @@ reply_bytes (reply.Refused why) = why ∷ []
 -- ---- registrations
 
 -- what comes of the bytes of a text and of notes: the first fault of the text, then of the notes, then of the check, and
--- only then the book's answer. Each may be that memory ran out, and then the book is as it was.
+-- only then the book's answer. Notes are in their first form, and for the records of views. Each may be that memory ran
+-- out, and then the book is as it was.
 abbrev pub Registers : BookState → List ℕ → List ℕ → Registered → BookState → Type 0
 Registers b bytes notes (registered.Text f) c = (c ≡ b) × (f ≢ decode_fault.OutOfMemory → decode.IsFault bytes f)
 Registers b bytes notes (registered.Notes f) c =
     (c ≡ b) × ((t : List Insn) × IsText t × (bytes ≡ text.spelling t))
-    × (f ≢ notes_fault.OutOfMemory → (n : List (Option StateKinds)) → IsNotes n → notes ≡ notes_bytes n → ⊥)
+    × (f ≢ notes_fault.OutOfMemory → (n : List (Option StateKinds)) → IsNotes First n → notes ≡ notes_bytes First n → ⊥)
 Registers b bytes notes (registered.Check f) c =
-    (c ≡ b) × ((t : List Insn) × (n : List (Option StateKinds)) × IsText t × (bytes ≡ text.spelling t) × IsNotes n × (notes ≡ notes_bytes n)
-    × IsFirstFault t n f)
+    (c ≡ b) × ((t : List Insn) × (n : List (Option StateKinds)) × IsText t × (bytes ≡ text.spelling t) × IsNotes First n × (notes ≡ notes_bytes First n)
+    × IsFirstFault view_lengths t n f)
 Registers b bytes notes (registered.Book r) c =
-    (program : Certificate) × IsCertified program × (bytes ≡ text.spelling program.text) × IsNotes program.notes × (notes ≡ notes_bytes program.notes)
+    (program : Certificate) × (IsCertified program × IsForViews program) × (bytes ≡ text.spelling program.text)
+    × IsNotes First program.notes × (notes ≡ notes_bytes First program.notes)
     × Steps memory (book.registered b program) b c r
 
 abbrev pub of_register : Result ℕ BookFault → Reply

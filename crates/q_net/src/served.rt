@@ -8,19 +8,18 @@ ghost use Rattle.q_net.specs.declared.request.Request.TheVariants.{Ask, Store};
 
 use crate::reply::Reply;
 use crate::request::Request;
-use bq_check::certified::Certified;
-use bq_check::check::check;
+use bq_check::check::check_within;
 use bq_check::fault::{CheckFault, NotesFault};
 use bq_check::notes::Notes;
 use bq_insn::decode::decode;
 use bq_insn::fault::DecodeFault;
+use bq_state::bounds::Bounds;
 use q_book::answer::Asked;
 use q_book::book::Book;
 use q_book::fault::BookFault;
 use q_table::program::{Program, ProgramId};
 use sc_msg::message::Message;
-use std::alloc::{AllocError, Global};
-use std::sync::Arc;
+use std::alloc::Global;
 
 /// What comes of a registration.
 #[derive(Drop)]
@@ -43,26 +42,18 @@ fn register(alloc: Global, book: &mut Book, text: &[u8], notes: &[u8]) -> Regist
         Ok(text) => text,
         Err(fault) => return Registered::Text(fault),
     };
-    let notes = match Notes::read(alloc, notes) {
+    let notes = match Notes::read_v1(alloc, notes) {
         Ok(notes) => notes,
         Err(fault) => return Registered::Notes(fault),
     };
-    let certified = match check(alloc, text, notes) {
+    let certified = match check_within(alloc, text, notes, Bounds::of_views()) {
         Ok(certified) => certified,
         Err(fault) => return Registered::Check(fault),
     };
-    match shared(alloc, certified) {
+    match Program::of_views(alloc, certified) {
         Ok(program) => Registered::Book(book.register(&program)),
         Err(_) => Registered::Check(CheckFault::OutOfMemory),
     }
-}
-
-/// The certificate, to be shared.
-fn shared(alloc: Global, certified: Certified) -> Result<Program, AllocError>
-    ensures { IfOk result (λ program. program ≡ certified) }
-{
-    let shared = Arc::new(alloc, certified).map_err(AllocError::from)?;
-    Program::share(&shared)
 }
 
 /// What a registration is replied to.

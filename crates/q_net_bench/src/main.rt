@@ -7,9 +7,10 @@
 //! | `answers COUNT` | so many requests for an answer, read and replied to |
 //! | `registrations COUNT` | so many registrations of a program of three units, each decoded and checked |
 //!
-//! The counts go to the standard output and are the same at each run; the times, with the start and the end of the nodes,
-//! go to the standard error. With no words it does a small run of each. To give the parts work is all that its functions do,
-//! so they promise nothing more than that they are safe.
+//! Each is done five times, and the least time is told. The counts go to the standard output: what ended in each of the
+//! five, so that a store or a query that was left unanswered is missing there. The times, with the start and the end of
+//! the nodes, go to the standard error. With no words it does a little of each. To give the parts work is all that its
+//! functions do, so they promise nothing more than that they are safe.
 #![tactic(auto)]
 
 mod cluster;
@@ -19,11 +20,28 @@ use anyhow::{Context, Result, bail};
 use std::env;
 use std::time::Duration;
 
+/// How often each is done.
+pub const RUNS: u32 = 5;
+
 /// How many of what was wanted were done, and how long all took.
 #[derive(Clone, Copy)]
 pub struct Times {
     pub done: u64,
     pub taken: Duration,
+}
+
+impl Times {
+    /// The least count and the least time of two runs.
+    pub fn least(self, other: Times) -> Times {
+        Times {
+            done: self.done.min(other.done),
+            taken: if other.taken < self.taken {
+                other.taken
+            } else {
+                self.taken
+            },
+        }
+    }
 }
 
 /// A number of the command line.

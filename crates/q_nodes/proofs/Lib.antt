@@ -2,3 +2,4 @@
 mod Telling
 mod Reading
 mod Endings
+mod Founding

@@ -1,6 +1,7 @@
 -- Why nodes are not run, or a line of their script is refused.
 use Rattle.std.specs.Prelude.{ℕ, List, ◌++◌, codes}
 use Rattle.reasons.specs.Table as table
+use Rattle.reasons.specs.declared.Reason.{Reason}
 use Rattle.reasons.specs.declared.Reason.TheVariants as reasons
 use Rattle.q_board.specs.declared.fault.OpenFault.{OpenFault}
 use Rattle.q_board.specs.declared.fault.OpenFault.TheVariants as opening
@@ -11,6 +12,8 @@ use Rattle.q_history.specs.Faults.{of_book}
 use Rattle.q_history.specs.declared.fault.ClusterFault.TheVariants as cluster
 use Rattle.q_sim.specs.Refusal as refusal_text
 use Rattle.q_sim.specs.declared.refusal.Refusal.TheVariants as refusal
+use Rattle.q_sim.specs.declared.refusal.Place.{Place}
+use Rattle.q_sim.specs.declared.refusal.Place.TheVariants.{Untold}
 use Rattle.sc_node.specs.declared.fault.NodeFault.TheVariants as node
 use Rattle.sc_world.specs.declared.fault.WorldFault.{WorldFault}
 use Rattle.sc_world.specs.declared.fault.WorldFault.TheVariants as world
@@ -48,6 +51,17 @@ of_gather gather.IdUsed = of_world world.IdUsed
 of_gather gather.BadFounders = bad_founders
 of_gather gather.NeverSent = of_world world.NeverSent
 of_gather gather.OutOfMemory = memory
+
+-- the reason by which it is told
+abbrev pub reason : NodesFault → Reason
+reason BadCount = reasons.BadCount
+reason TransportFailed = reasons.TransportFailed
+reason (Script r) = refusal_text.reason r
+
+-- where it arose, as its line tells it
+abbrev pub place : NodesFault → Place
+place (Script r) = refusal_text.place r
+place f = Untold
 
 -- the line that is printed, without the line feed
 abbrev pub text : NodesFault → List ℕ

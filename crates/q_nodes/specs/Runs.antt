@@ -1,13 +1,17 @@
 -- What a run of a script writes, by how it ends.
-use Rattle.std.specs.Prelude.{◌≡◌, ◌⊎◌, ⊤, ℕ, List, [], ◌++◌, Option, Result, Ok, Err, IsUtf8}
+use Rattle.std.specs.Prelude.{◌≡◌, ◌⊎◌, ℕ, ◌≤◌, List, ◌++◌, Option, Result, Ok, Err, IsUtf8}
 use Rattle.std.specs.Io.KnownBytes.{Appends}
+use Rattle.reasons.specs.declared.Reason.TheVariants.{OutOfMemory}
 use Rattle.q_files.specs.declared.files.FileFault.{FileFault}
+use Rattle.q_gather.specs.declared.fault.GatherFault.{GatherFault}
 use Rattle.q_sim.specs.Refusal.{refusal_of}
 use Rattle.q_sim.specs.declared.refusal.Refusal.TheVariants as refusal
+use Rattle.q_wire.specs.Counts.{one_more}
+use Rattle.q_nodes.specs.Faults.{of_gather, reason}
 use Rattle.q_nodes.specs.Lines.{Prints, TellsAll, refused_line}
 use Rattle.q_nodes.specs.Scripts.{IsClusterScript, IsRefused}
 use Rattle.q_nodes.specs.declared.fault.NodesFault.{NodesFault}
-use Rattle.q_nodes.specs.declared.fault.NodesFault.TheVariants.{Script}
+use Rattle.q_nodes.specs.declared.fault.NodesFault.TheVariants.{BadCount, TransportFailed, Script}
 use Rattle.q_nodes.specs.declared.run.Ending.{Ending}
 use Rattle.q_nodes.specs.declared.run.Ending.TheVariants as ending
 use Rattle.q_nodes.specs.declared.script.ClusterLine.{ClusterLine}
@@ -23,30 +27,51 @@ status_of ending.Gathered = 0
 status_of (ending.Refused f) = 1
 status_of ending.Unwritten = 1
 
--- a run ends with this exit status
-abbrev pub Ends : Writing → ℕ → Option (List ℕ) → Option (List ℕ) → Type 0
-Ends P status before after = (e : Ending) × P e before after × (status ≡ status_of e)
+-- How many calls of the writer failed so far, of which this many failed before the run: one more where it gave up, and
+-- else as many.
+abbrev pub failures_after : Ending → ℕ → ℕ
+failures_after ending.Unwritten before = one_more before
+failures_after e before = before
+
+-- a run ends with this exit status, and the writer, of which so many calls had failed, has so many that failed
+abbrev pub Ends : Writing → ℕ → Option (List ℕ) → Option (List ℕ) → ℕ → ℕ → Type 0
+Ends P status before after had has =
+    (e : Ending) × P e before after × (status ≡ status_of e) × (has ≡ failures_after e had)
+
+-- the writer failed behind some bytes that it took, and lost none that it held
+abbrev pub IsUnwritten : Option (List ℕ) → Option (List ℕ) → Type 0
+IsUnwritten before after = (part : List ℕ) × Appends before after part
 
 -- this refusal is all that is written; or the writer failed
 abbrev pub IsRefusedAlone : NodesFault → Writing
 IsRefusedAlone f ending.Gathered before after = ⊥
 IsRefusedAlone f (ending.Refused g) before after = (g ≡ f) × Appends before after (refused_line f)
-IsRefusedAlone f ending.Unwritten before after = ⊤
+IsRefusedAlone f ending.Unwritten before after = IsUnwritten before after
 
--- the refusal is last: behind what the lines tell, or alone
-abbrev pub TellsRefusal : List ClusterLine → NodesFault → List ℕ → Type 0
-TellsRefusal ls f text = (told : List ℕ) × ((told ≡ []) ⊎ TellsAll ls told) × (text ≡ told ++ refused_line f)
+-- why no line of a script of so many nodes is told: memory ran out; or there are not 1 to 16 nodes
+abbrev pub IsUntold : ℕ → NodesFault → Type 0
+IsUntold nodes f = (reason f ≡ OutOfMemory) ⊎ ((f ≡ BadCount) × ¬ ((1 ≤ nodes) × (nodes ≤ 16)))
 
--- What the lines tell is written, and nothing else where the journals of the nodes gather; or the writer failed.
-abbrev pub IsWritten : List ClusterLine → Writing
-IsWritten ls ending.Gathered before after = Prints (TellsAll ls) before after
-IsWritten ls (ending.Refused f) before after = Prints (TellsRefusal ls f) before after
-IsWritten ls ending.Unwritten before after = ⊤
+-- the refusal with which the journals of the nodes do not gather, behind what the lines tell
+abbrev pub TellsUngathered : List ClusterLine → NodesFault → List ℕ → Type 0
+TellsUngathered ls f text =
+    (told : List ℕ) × (g : GatherFault) × TellsAll ls told × (f ≡ of_gather g)
+    × (text ≡ told ++ refused_line f)
 
--- the same of the script that a text spells; or the text is refused
+-- What the lines tell is written, and nothing else where the journals of the nodes gather; or a refusal alone; or the
+-- writer failed.
+abbrev pub IsWritten : ClusterScript → Writing
+IsWritten script ending.Gathered before after = Prints (TellsAll script.lines.items) before after
+IsWritten script (ending.Refused f) before after =
+    (IsUntold script.nodes f × Appends before after (refused_line f))
+    ⊎ Prints (TellsUngathered script.lines.items f) before after
+IsWritten script ending.Unwritten before after = IsUnwritten before after
+
+-- the same of the script that a text spells, or that there is no socket for a node; or the text is refused
 abbrev pub IsWrittenOf : List ℕ → Writing
 IsWrittenOf source e before after =
-    ((script : ClusterScript) × IsClusterScript source script × IsWritten script.lines.items e before after)
+    ((script : ClusterScript) × IsClusterScript source script
+    × (IsWritten script e before after ⊎ IsRefusedAlone TransportFailed e before after))
     ⊎ ((f : NodesFault) × IsRefused source f × IsRefusedAlone f e before after)
 
 -- the same of the text of a file; or the file fails, or it is no text

@@ -1,14 +1,14 @@
 //! Why nodes are not run, or a line of their script is refused.
 
 ghost use Rattle.std.specs.Prelude.{◌≡◌};
-ghost use Rattle.q_nodes.specs.Faults.{bad_founders, no_such_node, of_world};
+ghost use Rattle.q_nodes.specs.Faults.{bad_founders, no_such_node, of_world, place, reason};
 
 use q_board::fault::OpenFault;
 use q_book::fault::BookFault;
 use q_files::files::FileFault;
 use q_gather::fault::GatherFault;
 use q_history::fault::ClusterFault;
-use q_sim::refusal::Refusal;
+use q_sim::refusal::{Place, Refusal};
 use reasons::Reason;
 use sc_node::fault::NodeFault;
 use sc_world::fault::WorldFault;
@@ -39,6 +39,27 @@ impl NodesFault {
         ensures { result ≡ bad_founders }
     {
         NodesFault::of_world(WorldFault::Node(NodeFault::BadFounders))
+    }
+
+    /// The reason by which the refusal is told.
+    pub fn reason(&self) -> Reason
+        ensures { result ≡ reason self.now }
+    {
+        match self {
+            NodesFault::BadCount => Reason::BadCount,
+            NodesFault::TransportFailed => Reason::TransportFailed,
+            NodesFault::Script(refusal) => refusal.reason(),
+        }
+    }
+
+    /// Where the refusal arose, as its line tells it.
+    pub fn place(&self) -> Place
+        ensures { result ≡ place self.now }
+    {
+        match self {
+            NodesFault::BadCount | NodesFault::TransportFailed => Place::Untold,
+            NodesFault::Script(refusal) => refusal.place(),
+        }
     }
 
     fn of_world(fault: WorldFault) -> NodesFault

@@ -1,25 +1,31 @@
 //! A whole cluster, run by threads.
 
-ghost use Rattle.std.specs.Prelude.{◌≡◌, List, All, IfOk, IfErr};
+ghost use Rattle.std.specs.Prelude.{◌≡◌, ◌≤◌, All, IfOk, IfErr, IsTrue, slice_get, Some};
+ghost use Rattle.reasons.specs.declared.Reason.TheVariants as reasons;
+ghost use Rattle.sc_node.specs.Nodes.{are_founders};
 ghost use Rattle.q_board.specs.BoardId.{board_id};
-ghost use Rattle.q_nodes.specs.Faults.{memory};
+ghost use Rattle.q_nodes.specs.Faults.{memory, reason};
 ghost use Rattle.q_nodes.specs.Lines.{TellsAll};
-ghost use Rattle.q_nodes.specs.Runs.{Ends, IsRefusedAlone, IsWritten, status_of};
+ghost use Rattle.q_nodes.specs.Runs.{Ends, IsRefusedAlone, IsUntold, IsWritten, failures_after, status_of};
 
 use crate::fault::NodesFault;
 use crate::held::Held;
-use crate::line::{refuse, run_lines};
+use crate::line::run_lines;
 use crate::losses::Losses;
 use crate::node::tend;
 use crate::script::{ClusterLine, ClusterScript};
 use q_board::board::Board;
+use q_board::fault::OpenFault;
 use q_board::seats::{AskerSeat, RunnerSeat};
 use q_book::book::Book;
 use q_cluster::cluster::Cluster;
+use q_gather::fault::GatherFault;
 use q_gather::gather::gather;
 use q_pool::gate::Open;
 use q_pool::runners::with_runners;
+use q_refused::line::put_line;
 use q_replay::write::journal_bytes;
+use q_wire::counted::Counted;
 use q_wire::transport::Transport;
 use sc_members::config::Config;
 use std::alloc::{AllocError, Global};
@@ -57,7 +63,11 @@ impl Ending {
 }
 
 /// The ids 1 to this number.
-fn ids(alloc: Global, nodes: u64) -> Result<Vec<u64>, AllocError> {
+fn ids(alloc: Global, nodes: u64) -> Result<Vec<u64>, AllocError>
+    requires some { 1 ≤ nodes }
+    requires few { nodes ≤ 16 }
+    ensures { IfOk result (λ ids. IsTrue (are_founders ids.items)) }
+{
     let mut ids = Vec::new(alloc);
     for known in 0..nodes {
         ids.push(known + 1)?;
@@ -65,23 +75,47 @@ fn ids(alloc: Global, nodes: u64) -> Result<Vec<u64>, AllocError> {
     Ok(ids)
 }
 
-/// The book of each founder with its seat at the board, behind its lock; nothing waits.
+/// The book of the founder at this place with its seat at the board, behind its lock; nothing waits. Refused with 99
+/// alone.
+fn found_one<'b>(
+    alloc: Global,
+    board: &'b Board,
+    asker: AskerSeat,
+    config: Config,
+    ids: &[u64],
+    place: usize,
+    id: u64,
+) -> Result<Mutex<Held<'b>>, NodesFault>
+    requires seated { asker.table ≡ board_id board.now }
+    requires founders { IsTrue (are_founders ids.now) }
+    requires among { slice_get ids.now place ≡ Some id }
+    ensures { IfErr result (λ fault. reason fault ≡ reasons.OutOfMemory) }
+{
+    let book = match Book::founder(alloc, config, id, ids) {
+        Ok(book) => book,
+        Err(fault) => return Err(NodesFault::from(fault)),
+    };
+    Ok(Mutex::new(Held::new(alloc, book, board, asker)))
+}
+
+/// The same of each founder. There are as many seats as ids.
 fn found<'b>(
     alloc: Global,
     board: &'b Board,
     askers: Vec<AskerSeat>,
     config: Config,
-    nodes: u64,
+    ids: &[u64],
 ) -> Result<Vec<Mutex<Held<'b>>>, NodesFault>
-    requires { All (λ s. s.table ≡ board_id board.now) askers.items }
+    requires seated { All (λ s. s.table ≡ board_id board.now) askers.items }
+    requires founders { IsTrue (are_founders ids.now) }
+    ensures { IfErr result (λ fault. reason fault ≡ reasons.OutOfMemory) }
 {
-    let ids = ids(alloc, nodes)?;
     let mut seats = Vec::new(alloc);
     for asker in askers {
-        let id = (seats.len() as u64).saturating_add(1);
-        let book = Book::founder(alloc, config, id, ids.as_slice())?;
-        let held = Held::new(alloc, book, board, asker);
-        if seats.push(Mutex::new(held)).is_err() {
+        let place = seats.len();
+        let Some(id) = ids.get(place) else { break };
+        let seat = found_one(alloc, board, asker, config, ids, place, *id)?;
+        if seats.push(seat).is_err() {
             return Err(NodesFault::from(AllocError));
         }
     }
@@ -225,22 +259,21 @@ fn journals(alloc: Global, nodes: &[Held<'_>]) -> Result<Vec<Vec<u8>>, AllocErro
 }
 
 /// The cluster of the nodes, out of their journals.
-fn gather_all(alloc: Global, nodes: &[Held<'_>]) -> Result<Cluster, NodesFault> {
+fn gather_all(alloc: Global, nodes: &[Held<'_>]) -> Result<Cluster, GatherFault> {
     let journals = journals(alloc, nodes)?;
     let mut slices: Vec<&[u8]> = Vec::new(alloc);
     for journal in &journals {
-        if slices.push(journal.as_slice()).is_err() {
-            return Err(NodesFault::from(AllocError));
-        }
+        slices.push(journal.as_slice())?;
     }
-    Ok(gather(alloc, slices.as_slice())?)
+    gather(alloc, slices.as_slice())
 }
 
 /// Prints a refusal, with which a run ends.
-pub fn print_refusal<W: Write>(fault: NodesFault, out: &mut W) -> Ending
-    ensures { IsRefusedAlone fault result (W.contents out.old) (W.contents out.new) }
+pub fn print_refusal<W: Write>(fault: NodesFault, out: &mut Counted<W>) -> Ending
+    ensures written { IsRefusedAlone fault result (W.contents out.old.inner) (W.contents out.new.inner) }
+    ensures counted { out.new.failures ≡ failures_after result out.old.failures }
 {
-    match refuse(fault, out) {
+    match put_line(out, fault.reason(), fault.place()) {
         Ok(()) => Ending::Refused(fault),
         Err(_) => Ending::Unwritten,
     }
@@ -251,41 +284,77 @@ fn gather_seats<N: Write>(
     alloc: Global,
     seats: Vec<Mutex<Held<'_>>>,
     notes: &mut N,
-) -> Result<(), NodesFault> {
-    let nodes = match unlocked(alloc, seats) {
-        Ok(nodes) => nodes,
-        Err(fault) => return Err(NodesFault::from(fault)),
-    };
+) -> Result<(), GatherFault> {
+    let nodes = unlocked(alloc, seats)?;
     let losses = losses(nodes.as_slice());
     let _ = writeln!(notes, "{losses}");
-    match gather_all(alloc, nodes.as_slice()) {
-        Ok(_cluster) => Ok(()),
-        Err(fault) => Err(fault),
-    }
+    let _cluster = gather_all(alloc, nodes.as_slice())?;
+    Ok(())
 }
 
-/// Prints what the lines told, and then the refusal of a cluster that is not gathered.
-fn print_all<W: Write>(told: &[u8], gathered: Result<(), NodesFault>, out: &mut W) -> Ending
-    ensures { (lines : List ClusterLine) → TellsAll lines told.now → IsWritten lines result (W.contents out.old) (W.contents out.new) }
+/// Prints what the lines of a script told, and then the refusal of a cluster that is not gathered.
+fn print_all<W: Write>(
+    script: &ClusterScript,
+    told: &[u8],
+    gathered: Result<(), GatherFault>,
+    out: &mut Counted<W>,
+) -> Ending
+    requires { TellsAll script.now.lines.items told.now }
+    ensures written { IsWritten script.now result (W.contents out.old.inner) (W.contents out.new.inner) }
+    ensures counted { out.new.failures ≡ failures_after result out.old.failures }
 {
-    match out.write_all(told) {
+    match out.put(told) {
         Ok(()) => match gathered {
             Ok(()) => Ending::Gathered,
-            Err(fault) => print_refusal(fault, out),
+            Err(fault) => print_refusal(NodesFault::from(fault), out),
         },
         Err(_) => Ending::Unwritten,
     }
 }
 
+/// Prints a refusal where no line is told.
+fn print_untold<W: Write>(script: &ClusterScript, fault: NodesFault, out: &mut Counted<W>) -> Ending
+    requires { IsUntold script.now.nodes fault }
+    ensures written { IsWritten script.now result (W.contents out.old.inner) (W.contents out.new.inner) }
+    ensures counted { out.new.failures ≡ failures_after result out.old.failures }
+{
+    print_refusal(fault, out)
+}
+
+/// Why there is no board of jobs, and no line is told.
+fn untold(fault: OpenFault, nodes: u64) -> NodesFault
+    requires { fault ≡ OpenFault.BadCount → ¬ ((1 ≤ nodes) × (nodes ≤ 16)) }
+    ensures { IsUntold nodes result }
+{
+    NodesFault::from(fault)
+}
+
+/// The seats of the founders of a script. Refused with 99 alone.
+fn seats_of<'b>(
+    alloc: Global,
+    board: &'b Board,
+    askers: Vec<AskerSeat>,
+    script: &ClusterScript,
+) -> Result<Vec<Mutex<Held<'b>>>, NodesFault>
+    requires seated { All (λ s. s.table ≡ board_id board.now) askers.items }
+    requires some { 1 ≤ script.now.nodes }
+    requires few { script.now.nodes ≤ 16 }
+    ensures { IfErr result (λ fault. reason fault ≡ reasons.OutOfMemory) }
+{
+    match ids(alloc, script.nodes) {
+        Ok(ids) => found(alloc, board, askers, script.config, ids.as_slice()),
+        Err(fault) => Err(NodesFault::from(fault)),
+    }
+}
+
 /// Runs a script by a thread for each node, over these transports, and by four runners, and prints what its lines tell,
 /// all at the end. How many datagrams changed nothing goes to the notes.
-#[tactic(auto, using(crate::proofs::Endings::alone))]
 pub fn run_script<R, T, W, N>(
     rt: &R,
     alloc: Global,
     script: &ClusterScript,
     transports: Vec<T>,
-    out: &mut W,
+    out: &mut Counted<W>,
     notes: &mut N,
 ) -> Ending
 where
@@ -293,15 +362,16 @@ where
     T: Transport + Send + Drop,
     W: Write,
     N: Write,
-    ensures { IsWritten script.now.lines.items result (W.contents out.old) (W.contents out.new) }
+    ensures written { IsWritten script.now result (W.contents out.old.inner) (W.contents out.new.inner) }
+    ensures counted { out.new.failures ≡ failures_after result out.old.failures }
 {
     let (board, askers, runners) = match Board::open(alloc, script.nodes as usize, RUNNERS) {
         Ok(opened) => opened,
-        Err(fault) => return print_refusal(NodesFault::from(fault), out),
+        Err(fault) => return print_untold(script, untold(fault, script.nodes), out),
     };
-    let seats = match found(alloc, &board, askers, script.config, script.nodes) {
+    let seats = match seats_of(alloc, &board, askers, script) {
         Ok(seats) => seats,
-        Err(fault) => return print_refusal(fault, out),
+        Err(fault) => return print_untold(script, fault, out),
     };
     match run_with_runners(
         rt,
@@ -314,9 +384,9 @@ where
     ) {
         Ok(told) => {
             let gathered = gather_seats(alloc, seats, notes);
-            print_all(told.as_slice(), gathered, out)
+            print_all(script, told.as_slice(), gathered, out)
         }
-        Err(fault) => print_refusal(fault, out),
+        Err(fault) => print_untold(script, fault, out),
     }
 }
 
@@ -326,7 +396,7 @@ pub fn run_cluster<R, T, W, N>(
     alloc: Global,
     script: &ClusterScript,
     transports: Vec<T>,
-    out: &mut W,
+    out: &mut Counted<W>,
     notes: &mut N,
 ) -> u8
 where
@@ -334,7 +404,8 @@ where
     T: Transport + Send + Drop,
     W: Write,
     N: Write,
-    ensures { Ends (IsWritten script.now.lines.items) result (W.contents out.old) (W.contents out.new) }
+    ensures { Ends (IsWritten script.now) result
+        (W.contents out.old.inner) (W.contents out.new.inner) out.old.failures out.new.failures }
 {
     run_script(rt, alloc, script, transports, out, notes).status()
 }

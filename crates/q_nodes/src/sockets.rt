@@ -1,12 +1,14 @@
 //! Clusters whose nodes have a socket each.
 
-ghost use Rattle.q_nodes.specs.Runs.{Ends, IsWrittenFile, IsWrittenOf};
+ghost use Rattle.std.specs.Prelude.{◌≡◌};
+ghost use Rattle.q_nodes.specs.Runs.{Ends, IsWrittenFile, IsWrittenOf, failures_after};
 
 use crate::fault::NodesFault;
 use crate::run::{Ending, print_refusal, run_script};
 use crate::script::ClusterScript;
 use q_files::files::Files;
 use q_sim::refusal::Refusal;
+use q_wire::counted::Counted;
 use q_wire::udp::{Peer, UdpTransport};
 use std::alloc::Global;
 use std::io::Write;
@@ -62,10 +64,11 @@ fn run_source<R: Net + Wait + Threads + Clock + Sync, W: Write, N: Write>(
     rt: &R,
     alloc: Global,
     source: &str,
-    out: &mut W,
+    out: &mut Counted<W>,
     notes: &mut N,
 ) -> Ending
-    ensures { IsWrittenOf source.now result (W.contents out.old) (W.contents out.new) }
+    ensures written { IsWrittenOf source.now result (W.contents out.old.inner) (W.contents out.new.inner) }
+    ensures counted { out.new.failures ≡ failures_after result out.old.failures }
 {
     let script = match ClusterScript::read(alloc, source) {
         Ok(script) => script,
@@ -84,10 +87,11 @@ pub fn run_over_sockets<R: Net + Wait + Threads + Clock + Sync, W: Write, N: Wri
     rt: &R,
     alloc: Global,
     source: &str,
-    out: &mut W,
+    out: &mut Counted<W>,
     notes: &mut N,
 ) -> u8
-    ensures { Ends (IsWrittenOf source.now) result (W.contents out.old) (W.contents out.new) }
+    ensures { Ends (IsWrittenOf source.now) result
+        (W.contents out.old.inner) (W.contents out.new.inner) out.old.failures out.new.failures }
 {
     run_source(rt, alloc, source, out, notes).status()
 }
@@ -98,10 +102,12 @@ fn run_named<R: Net + Wait + Threads + Clock + Sync, F: Files, W: Write, N: Writ
     alloc: Global,
     name: &str,
     files: &mut F,
-    out: &mut W,
+    out: &mut Counted<W>,
     notes: &mut N,
 ) -> Ending
-    ensures { IsWrittenFile F.read_gives name.now files.old files.new result (W.contents out.old) (W.contents out.new) }
+    ensures written { IsWrittenFile F.read_gives name.now files.old files.new result
+        (W.contents out.old.inner) (W.contents out.new.inner) }
+    ensures counted { out.new.failures ≡ failures_after result out.old.failures }
 {
     let bytes = match files.read(alloc, name) {
         Ok(bytes) => bytes,
@@ -120,10 +126,11 @@ pub fn run_file<R: Net + Wait + Threads + Clock + Sync, F: Files, W: Write, N: W
     alloc: Global,
     name: &str,
     files: &mut F,
-    out: &mut W,
+    out: &mut Counted<W>,
     notes: &mut N,
 ) -> u8
-    ensures { Ends (IsWrittenFile F.read_gives name.now files.old files.new) result (W.contents out.old) (W.contents out.new) }
+    ensures { Ends (IsWrittenFile F.read_gives name.now files.old files.new) result
+        (W.contents out.old.inner) (W.contents out.new.inner) out.old.failures out.new.failures }
 {
     run_named(rt, alloc, name, files, out, notes).status()
 }

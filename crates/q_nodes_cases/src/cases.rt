@@ -9,6 +9,7 @@ use q_nodes::run::run_cluster;
 use q_nodes::script::ClusterScript;
 use q_nodes::sockets::{run_file, run_over_sockets};
 use q_script::number::number;
+use q_wire::counted::Counted;
 use q_wire::memory::{Hub, MemoryTransport};
 use q_words::words::{Wanted, read_words};
 use std::alloc::{AllocError, Global};
@@ -40,7 +41,7 @@ impl Cases {
         &mut self,
         rt: &R,
         text: &str,
-        out: &mut W,
+        out: &mut Counted<W>,
     ) -> io::Result<()> {
         match text.split_once(' ') {
             Some(("--", _)) => {
@@ -75,7 +76,7 @@ impl Cases {
         &self,
         rt: &R,
         words: &str,
-        out: &mut W,
+        out: &mut Counted<W>,
     ) -> io::Result<u8> {
         let (word, rest) = words.split_once(' ').unwrap_or((words, ""));
         match word {
@@ -100,7 +101,7 @@ impl Cases {
         &self,
         rt: &R,
         words: &str,
-        out: &mut W,
+        out: &mut Counted<W>,
     ) -> io::Result<u8> {
         let words: Vec<&str> = words.split(' ').collect(self.alloc)?;
         let name = match read_words(self.alloc, words.as_slice()) {
@@ -124,7 +125,7 @@ impl Cases {
     }
 
     /// The script, or its refusal, which is printed.
-    fn read<W: Write>(&self, out: &mut W) -> io::Result<Option<ClusterScript>> {
+    fn read<W: Write>(&self, out: &mut Counted<W>) -> io::Result<Option<ClusterScript>> {
         match ClusterScript::read(self.alloc, self.script.as_str()) {
             Ok(script) => Ok(Some(script)),
             Err(fault) => {
@@ -140,7 +141,7 @@ impl Cases {
         rt: &R,
         deaf: u64,
         mute: u64,
-        out: &mut W,
+        out: &mut Counted<W>,
     ) -> io::Result<u8> {
         let Some(script) = self.read(out)? else {
             return Ok(1);
@@ -166,7 +167,7 @@ impl Cases {
         &self,
         rt: &R,
         letters: &[u8],
-        out: &mut W,
+        out: &mut Counted<W>,
     ) -> io::Result<u8> {
         let Some(script) = self.read(out)? else {
             return Ok(1);
@@ -185,13 +186,14 @@ impl Cases {
         let mut notes = Vec::new(self.alloc);
         Ok(run_cluster(rt, self.alloc, &script, transports, out, &mut notes))
     }
+
     /// Runs the script over memory, where node 1 hears before all else what nobody sent: so many datagrams that spell no
     /// message, that no book takes, and of a message that was never sent.
     fn run_over_forged<R: Net + Wait + Threads + Clock + Sync, W: Write>(
         &self,
         rt: &R,
         counts: &str,
-        out: &mut W,
+        out: &mut Counted<W>,
     ) -> io::Result<u8> {
         let Some(script) = self.read(out)? else {
             return Ok(1);

@@ -1,3 +1,4 @@
 mod Rounds
 mod Turning
 mod Pumping
+mod Looks

@@ -1,5 +1,5 @@
 -- What the pump has done, out of its two halves.
-use Rattle.std.proofs.Common.{◌≡◌, ◌≢◌, ℕ, ◌+◌, ◌*◌, ◌≤◌, List, [], ◌∷◌, ◌++◌, map, length, take, replicate, refl, sym, ap, ◌∙◌, arith, None, Ok, Err, ◌⊎◌, inl, inr, append_assoc, append-nil}
+use Rattle.std.proofs.Common.{◌≡◌, ℕ, ◌*◌, List, [], ◌++◌, map, length, take, replicate, refl, sym, ap, ◌∙◌, arith, inl, inr, append_assoc, append-nil}
 use Rattle.std.proofs.lemmas.List.{take_all}
 use Rattle.q_session.specs.declared.job.Job.{Job}
 use Rattle.q_slots.specs.declared.found.Look.{Look}
@@ -8,7 +8,8 @@ use Rattle.q_desk.specs.declared.journal.Entry.{Entry}
 use Rattle.q_desk.specs.declared.journal.Entry.TheVariants as entry
 use Rattle.q_book.specs.declared.fault.BookFault.{BookFault}
 use Rattle.q_book.specs.State.{BookState}
-use Rattle.q_pool.specs.Pumped.{open_slots, slots_of, post_of, Carries, Pumped, Stopped}
+use Rattle.q_pool.specs.Looks.{slots_of}
+use Rattle.q_pool.specs.Pumped.{open_slots, post_of, Carries, Pumped, Stopped}
 use Rattle.q_pool.specs.Turns.{Receiving, NoRoomPast, Offering, OfferedAll, StopsOffering}
 
 module _ (a a₁ a₂ : AskerModel) (b b₁ b₂ : BookState) (n m : ℕ) (r : Receiving a b 8 n a₁ b₁) (o : Offering a₁ b₁ m a₂ b₂) where

@@ -1,6 +1,6 @@
 -- One look more of a runner's round.
-use Rattle.std.proofs.Common.{◌≡◌, ◌≢◌, ℕ, zero, suc, ◌+◌, ◌%◌, ◌<◌, List, [], ◌∷◌, ◌++◌, map, length, set, refl, sym, ap, ◌∙◌, subst, arith, Option, Some, None, length-append, append_assoc, append-nil, add-one}
-use Rattle.std.proofs.lemmas.List.{set-set}
+use Rattle.std.proofs.Common.{◌≡◌, ◌≢◌, ℕ, suc, ◌+◌, ◌%◌, List, [], ◌∷◌, ◌++◌, set, refl, sym, ap, ◌∙◌, subst, arith, Some, None, length-append, append_assoc, append-nil, add-one}
+use Rattle.std.proofs.lemmas.List.{map-append, set-set}
 use Rattle.atomic_table.proofs.Lists.{set_again}
 use Rattle.q_session.specs.declared.job.Job.{Job}
 use Rattle.q_session.specs.declared.ran.Ran.{Ran}
@@ -11,18 +11,9 @@ use Rattle.q_slots.specs.declared.found.Found.TheVariants as found
 use Rattle.q_slots.specs.Plays.{look}
 use Rattle.q_board.specs.RunnerModel.{RunnerModel}
 use Rattle.q_board.specs.Calls.{Misses, Claims, Finishes}
-use Rattle.q_pool.specs.Served.{after, turns, is_ready, ready, Served}
-
-abbrev slot_of : Look → ℕ
-slot_of l = l.slot
-
-ready-append : (xs ys : List Look) → ready (xs ++ ys) ≡ ready xs + ready ys
-ready-append [] ys = omega arith
-ready-append (x ∷ xs) ys = omega (arith, ready-append xs ys)
-
-map-slots : (xs ys : List Look) → map slot_of (xs ++ ys) ≡ map slot_of xs ++ map slot_of ys
-map-slots [] ys = refl
-map-slots (x ∷ xs) ys = ap (λ (l : List ℕ). x.slot ∷ l) (map-slots xs ys)
+use Rattle.q_pool.specs.Looks.{slots_of, is_ready}
+use Rattle.q_pool.specs.Served.{after, turns, Served}
+use Rattle.q_pool.proofs.Looks.{showing-append}
 
 not_counted : (f : Found) → f ≢ found.Ready → is_ready f ≡ 0
 not_counted found.Empty n = refl
@@ -37,8 +28,8 @@ module _ (old r₀ r₁ : RunnerModel) (n k i : ℕ) (s : Served old n k r₀) (
   step_looks : (f : Found) (q : RunnerModel) → q.looks ≡ r₁.looks ++ look i f ∷ [] → q.looks ≡ old.looks ++ (s.looks ++ look i f ∷ [])
   step_looks f q e = e ∙ ap (λ (x : RunnerModel). x.looks ++ look i f ∷ []) turned ∙ ap (λ (l : List Look). l ++ look i f ∷ []) s.looked ∙ append_assoc old.looks s.looks (look i f ∷ [])
 
-  step_turns : (f : Found) → map slot_of (s.looks ++ look i f ∷ []) ≡ turns old.lanes old.next (suc n)
-  step_turns f = map-slots s.looks (look i f ∷ []) ∙ ap (λ (l : List ℕ). l ++ i ∷ []) s.in_turn ∙ ap (λ (x : ℕ). turns old.lanes old.next n ++ x ∷ []) (here ∙ s.next)
+  step_turns : (f : Found) → slots_of (s.looks ++ look i f ∷ []) ≡ turns old.lanes old.next (suc n)
+  step_turns f = map-append (λ l. l.slot) s.looks (look i f ∷ []) ∙ ap (λ (l : List ℕ). l ++ i ∷ []) s.in_turn ∙ ap (λ (x : ℕ). turns old.lanes old.next n ++ x ∷ []) (here ∙ s.next)
 
   step_next : r₁.next ≡ after old.lanes old.next (suc n)
   step_next = ap (λ (x : RunnerModel). x.next) turned ∙ ap (λ (x : ℕ). (x + 1) % r₀.lanes) s.next ∙ ap (λ (x : ℕ). (after old.lanes old.next n + 1) % x) s.lanes
@@ -49,7 +40,7 @@ module _ (old r₀ r₁ : RunnerModel) (n k i : ℕ) (s : Served old n k r₀) (
     done = s.done;
     looked = step_looks f q (ap (λ (x : RunnerModel). x.looks) t.2);
     in_turn = step_turns f;
-    won = omega (arith, ready-append s.looks (look i f ∷ []), not_counted f t.1, s.won);
+    won = omega (arith, showing-append is_ready s.looks (look i f ∷ []), not_counted f t.1, s.won);
     finished = ap (λ (x : RunnerModel). x.finished) t.2 ∙ ap (λ (x : RunnerModel). x.finished) turned ∙ s.finished;
     as_many = s.as_many;
     held = ap (λ (x : RunnerModel). x.held) t.2 ∙ ap (λ (x : RunnerModel). x.held) turned ∙ s.held;
@@ -66,7 +57,7 @@ module _ (old r₀ r₁ : RunnerModel) (n k i : ℕ) (s : Served old n k r₀) (
         done = s.done ++ d ∷ [];
         looked = step_looks found.Ready u (ap (λ (x : RunnerModel). x.looks) u_is);
         in_turn = step_turns found.Ready;
-        won = omega (arith, ready-append s.looks (look i found.Ready ∷ []), s.won);
+        won = omega (arith, showing-append is_ready s.looks (look i found.Ready ∷ []), s.won);
         finished = ap (λ (x : RunnerModel). x.finished) u_is ∙ ap (λ (x : RunnerModel). x.finished ++ d ∷ []) turned ∙ ap (λ (l : List Finished). l ++ d ∷ []) s.finished ∙ append_assoc old.finished s.done (d ∷ []);
         as_many = omega (arith, length-append s.done (d ∷ []), s.as_many);
         held = ap (λ (x : RunnerModel). x.held) u_is ∙ set-set r₁.held i (Some j) None ∙ set_again r₁.held i None t.0 ∙ ap (λ (x : RunnerModel). x.held) turned ∙ s.held;

@@ -1,8 +1,8 @@
 -- One turn more of the pump.
-use Rattle.std.proofs.Common.{◌≡◌, ◌≢◌, ℕ, zero, suc, ◌+◌, ◌-◌, ◌*◌, ◌<◌, ◌≤◌, Bool, true, false, List, [], ◌∷◌, ◌++◌, map, length, take, set, replicate, refl, sym, ap, ◌∙◌, subst, arith, Option, Some, None, Ok, Err, ◌⊎◌, inl, inr, length-append, append_assoc, append-nil, add-one}
+use Rattle.std.proofs.Common.{◌≡◌, ◌≢◌, ℕ, zero, suc, ◌+◌, ◌*◌, ◌≤◌, Bool, true, false, List, [], ◌∷◌, ◌++◌, map, length, take, replicate, refl, sym, ap, ◌∙◌, subst, arith, Option, Some, None, Ok, Err, inl, inr, length-append, append_assoc, append-nil, add-one}
 use Rattle.std.proofs.lemmas.List.{map-append, replicate-append-replicate}
 use Rattle.std.specs.Int.{from_bool}
-use mathlib.Core.Option.{some, some-injective, some-ne-none}
+use mathlib.Core.Option.{some-injective, some-ne-none}
 use lib.ListN.{get_elem?}
 use Rattle.atomic_table.proofs.Lists.{set_else}
 use Rattle.q_session.specs.declared.job.Job.{Job}
@@ -13,21 +13,18 @@ use Rattle.q_slots.specs.declared.found.Found.TheVariants as found
 use Rattle.q_slots.specs.Plays.{look}
 use Rattle.q_board.specs.AskerModel.{AskerModel}
 use Rattle.q_board.specs.Places.{jobs}
-use Rattle.q_board.specs.Calls.{SameAsker, is_at, row_place, Offers, LooksOnly, Receives}
+use Rattle.q_board.specs.Calls.{is_at, row_place, LooksOnly, Receives}
 use Rattle.q_desk.specs.declared.journal.Entry.{Entry}
 use Rattle.q_desk.specs.declared.journal.Entry.TheVariants as entry
-use Rattle.q_book.specs.declared.fault.BookFault.{BookFault}
 use Rattle.q_book.specs.State.{BookState}
 use Rattle.q_book.specs.Books.{handed_out, posted}
-use Rattle.q_book.specs.Noted.{IsResultFault, PostsAreNoted, HandOutsAreNoted}
-use Rattle.q_pool.specs.Pumped.{open_slots, slots_of, is_finished, finished, Posts, HandsOut, post_of}
+use Rattle.q_book.specs.Noted.{PostsAreNoted, HandOutsAreNoted}
+use Rattle.q_pool.specs.Looks.{slots_of, is_finished}
+use Rattle.q_pool.specs.Pumped.{open_slots, Posts, HandsOut, post_of}
 use Rattle.q_pool.specs.Turns.{IsOpenAt, PostsOne, Polls, Receiving, OffersNext, Offering}
+use Rattle.q_pool.proofs.Looks.{showing-append}
 
 -- ---- lists
-
-finished-append : (xs ys : List Look) → finished (xs ++ ys) ≡ finished xs + finished ys
-finished-append [] ys = omega arith
-finished-append (x ∷ xs) ys = omega (arith, finished-append xs ys)
 
 not_shown : (f : Found) → f ≢ found.Finished → is_finished f ≡ 0
 not_shown found.Empty n = refl
@@ -139,7 +136,7 @@ module _ (a a₁ : AskerModel) (b b₁ : BookState) (k n : ℕ) (r : Receiving a
     offered = ap (λ (x : AskerModel). x.offered) is ∙ r.offered;
     slots = slot_more i f None o.0 refl o.1;
     behind = λ x h. ap (λ (y : AskerModel). get_elem? y.row x) is ∙ later x h;
-    shown = omega (arith, finished-append r.looks (look i f ∷ []), not_shown f l.1, r.shown);
+    shown = omega (arith, showing-append is_finished r.looks (look i f ∷ []), not_shown f l.1, r.shown);
     posts = r.posts;
     journal = r.journal;
     balance = omega (arith, ap (λ (x : AskerModel). jobs x.row) is, r.balance);
@@ -160,7 +157,7 @@ module _ (a a₁ : AskerModel) (b b₁ : BookState) (k n : ℕ) (r : Receiving a
     offered = ap (λ (x : AskerModel). x.offered) now ∙ r.offered;
     slots = slot_more i found.Finished None d.job refl (subst (λ (x : ℕ). is_at a₁.row x (Some d.job)) at t.0);
     behind = λ x h. ap (λ (y : AskerModel). get_elem? y.row x) now ∙ set_else a₁.row p x None (λ e. omega (arith, at, h, e)) ∙ later x h;
-    shown = omega (arith, finished-append r.looks (look i found.Finished ∷ []), r.shown, length-append r.results (d ∷ []));
+    shown = omega (arith, showing-append is_finished r.looks (look i found.Finished ∷ []), r.shown, length-append r.results (d ∷ []));
     posts = posts_more b b₁ b₂ r.results r.accepted d is r.posts q;
     journal = noted_one b₂ d is q;
     balance = omega (arith, fewer, r.balance, length-append r.results (d ∷ []));

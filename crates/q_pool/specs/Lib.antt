@@ -1,3 +1,4 @@
+pub mod Looks
 pub mod Served
 pub mod Pumped
 pub mod Turns

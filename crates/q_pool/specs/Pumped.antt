@@ -1,10 +1,8 @@
 -- What the pump carries between an asker's row and a book.
-use Rattle.std.specs.Prelude.{◌≡◌, ◌≢◌, ℕ, zero, suc, ◌+◌, ◌*◌, ◌<◌, List, [], ◌∷◌, ◌++◌, map, length, take, replicate, Option, Some, None, Ok, Err, ◌⊎◌}
+use Rattle.std.specs.Prelude.{◌≡◌, ◌≢◌, ℕ, ◌+◌, ◌*◌, ◌<◌, List, [], ◌∷◌, ◌++◌, map, length, take, replicate, Option, Some, None, Ok, Err, ◌⊎◌}
 use Rattle.q_session.specs.declared.job.Job.{Job}
 use Rattle.q_session.specs.Done.{Finished}
 use Rattle.q_slots.specs.declared.found.Look.{Look}
-use Rattle.q_slots.specs.declared.found.Found.{Found}
-use Rattle.q_slots.specs.declared.found.Found.TheVariants.{Empty, Ready, Finished as Ended, Claimed}
 use Rattle.q_board.specs.AskerModel.{AskerModel}
 use Rattle.q_board.specs.Places.{jobs}
 use Rattle.q_board.specs.Calls.{SameAsker}
@@ -15,26 +13,13 @@ use Rattle.q_book.specs.Faults.{memory}
 use Rattle.q_book.specs.State.{BookState}
 use Rattle.q_book.specs.Books.{handed_out, posted, room_for_post}
 use Rattle.q_book.specs.Noted.{IsResultFault}
+use Rattle.q_pool.specs.Looks.{slots_of, is_finished, showing}
 
 -- the slots of a row, from this one on, in which a job is open
 abbrev pub open_slots : ℕ → List (Option Job) → List ℕ
 open_slots i [] = []
 open_slots i (None ∷ row) = open_slots (i + 1) row
 open_slots i (Some j ∷ row) = i ∷ open_slots (i + 1) row
-
-abbrev pub slots_of : List Look → List ℕ
-slots_of looks = map (λ l. l.slot) looks
-
-abbrev pub is_finished : Found → ℕ
-is_finished Empty = 0
-is_finished Ready = 0
-is_finished Ended = 1
-is_finished (Claimed r) = 0
-
--- how many looks showed a finished job
-abbrev pub finished : List Look → ℕ
-finished [] = 0
-finished (x ∷ xs) = is_finished x.found + finished xs
 
 -- These results are posted in turn. The book accepts these of them, and refuses the others with 55 or 56.
 abbrev pub Posts : BookState → List Finished → List Finished → BookState → Type 0
@@ -62,7 +47,7 @@ pub record Carries (a : AskerModel) (b : BookState) (a' : AskerModel) (b' : Book
   pub looked : a'.looks ≡ a.looks ++ looks
   pub received : a'.received ≡ a.received ++ results
   pub offered : a'.offered ≡ a.offered ++ handed
-  pub shown : finished looks ≡ length results
+  pub shown : showing is_finished looks ≡ length results
   pub posts : Posts b results accepted between
   pub hands : HandsOut between handed b'
   pub journal : b'.desk.journal ≡ b.desk.journal ++ (map post_of accepted ++ replicate (length handed) entry.HandOut)

@@ -1,10 +1,9 @@
 -- What a runner's seat has done after some looks at slots in turn.
-use Rattle.std.specs.Prelude.{◌≡◌, ℕ, zero, suc, ◌+◌, ◌%◌, List, [], ◌∷◌, ◌++◌, map, length}
+use Rattle.std.specs.Prelude.{◌≡◌, ℕ, zero, suc, ◌+◌, ◌%◌, List, [], ◌∷◌, ◌++◌, length}
 use Rattle.q_session.specs.Done.{Finished}
 use Rattle.q_slots.specs.declared.found.Look.{Look}
-use Rattle.q_slots.specs.declared.found.Found.{Found}
-use Rattle.q_slots.specs.declared.found.Found.TheVariants.{Empty, Ready, Finished as Ended, Claimed}
 use Rattle.q_board.specs.RunnerModel.{RunnerModel}
+use Rattle.q_pool.specs.Looks.{slots_of, is_ready, showing}
 
 -- the slot whose turn it is after n looks
 abbrev pub after : ℕ → ℕ → ℕ → ℕ
@@ -16,24 +15,13 @@ abbrev pub turns : ℕ → ℕ → ℕ → List ℕ
 turns lanes next zero = []
 turns lanes next (suc n) = turns lanes next n ++ after lanes next n ∷ []
 
-abbrev pub is_ready : Found → ℕ
-is_ready Empty = 0
-is_ready Ready = 1
-is_ready Ended = 0
-is_ready (Claimed r) = 0
-
--- how many looks found a ready slot
-abbrev pub ready : List Look → ℕ
-ready [] = 0
-ready (x ∷ xs) = is_ready x.found + ready xs
-
 -- n looks, at the board's slots in turn. Each that found a ready slot was finished, and no claim is left or given back
 pub record Served (old : RunnerModel) (n : ℕ) (count : ℕ) (new : RunnerModel) : Type 0 where
   pub looks : List Look
   pub done : List Finished
   pub looked : new.looks ≡ old.looks ++ looks
-  pub in_turn : map (λ l. l.slot) looks ≡ turns old.lanes old.next n
-  pub won : ready looks ≡ count
+  pub in_turn : slots_of looks ≡ turns old.lanes old.next n
+  pub won : showing is_ready looks ≡ count
   pub finished : new.finished ≡ old.finished ++ done
   pub as_many : length done ≡ count
   pub held : new.held ≡ old.held

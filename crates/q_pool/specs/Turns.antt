@@ -1,5 +1,5 @@
 -- What the pump has done after some of its turns.
-use Rattle.std.specs.Prelude.{◌≡◌, ◌≢◌, ℕ, ◌+◌, ◌*◌, ◌<◌, ◌≤◌, Bool, true, false, List, [], ◌∷◌, ◌++◌, map, length, take, replicate, Option, Some, None, Ok, Err, ◌⊎◌}
+use Rattle.std.specs.Prelude.{◌≡◌, ◌≢◌, ℕ, ◌+◌, ◌*◌, ◌<◌, ◌≤◌, Bool, true, false, List, ◌++◌, map, length, take, replicate, Some, None, Ok, Err, ◌⊎◌}
 use lib.ListN.{get_elem?}
 use Rattle.q_session.specs.declared.job.Job.{Job}
 use Rattle.q_session.specs.Done.{Finished}
@@ -13,7 +13,8 @@ use Rattle.q_book.specs.Faults.{memory}
 use Rattle.q_book.specs.State.{BookState}
 use Rattle.q_book.specs.Books.{handed_out, posted, room_for_post}
 use Rattle.q_book.specs.Noted.{IsResultFault}
-use Rattle.q_pool.specs.Pumped.{open_slots, slots_of, finished, Posts, HandsOut, post_of}
+use Rattle.q_pool.specs.Looks.{slots_of, is_finished, showing}
+use Rattle.q_pool.specs.Pumped.{open_slots, Posts, HandsOut, post_of}
 
 -- ---- results in
 
@@ -42,7 +43,7 @@ pub record Receiving (a : AskerModel) (b : BookState) (places : ℕ) (n : ℕ) (
   pub offered : a'.offered ≡ a.offered
   pub slots : slots_of looks ≡ open_slots (8 * a.number) (take places a.row)
   pub behind : (i : ℕ) → places ≤ i → get_elem? a'.row i ≡ get_elem? a.row i
-  pub shown : finished looks ≡ length results
+  pub shown : showing is_finished looks ≡ length results
   pub posts : Posts b results accepted b'
   pub journal : b'.desk.journal ≡ b.desk.journal ++ map post_of accepted
   pub balance : jobs a'.row + length results ≡ jobs a.row

@@ -18,6 +18,7 @@ use Rattle.q_book.specs.Replays.{Follows}
 use Rattle.q_journal.specs.declared.written.Written.{Written}
 use Rattle.q_journal.specs.declared.written.Written.TheVariants as written
 use Rattle.q_desk.specs.Desks.{running_job}
+use Rattle.q_table.specs.Programs.{IsForViews}
 use Rattle.q_replay.specs.Journal.{written_of, IsCertifiedEntry, IsEntry}
 use Rattle.q_replay.specs.Replayed.{IsAnswering, Takes}
 use Rattle.q_replay.proofs.Lists.{same_some}
@@ -41,10 +42,11 @@ right_one one j ran other a b =
 
 -- ---- which entry it is
 
-same_certificate : OneLongest → (c d : Certificate) → IsCertified c → IsCertified d → c.text ≡ d.text → c.notes ≡ d.notes → c ≡ d
+same_certificate : OneLongest → (c d : Certificate) → IsCertified c × IsForViews c → IsCertified d × IsForViews d → c.text ≡ d.text → c.notes ≡ d.notes → c ≡ d
 same_certificate one c d a b text notes =
-    let longest : c.longest ≡ d.longest = one c.text c.longest d.longest a.longest (subst (λ (t : List Insn). IsLongest t d.longest) (sym text) b.longest) in
-    λ i. record { text = text i; notes = notes i; longest = longest i }
+    let longest : c.longest ≡ d.longest = one c.text c.longest d.longest a.0.longest (subst (λ (t : List Insn). IsLongest t d.longest) (sym text) b.0.longest) in
+    let lengths : c.lengths ≡ d.lengths = a.1 ∙ sym b.1 in
+    λ i. record { text = text i; notes = notes i; lengths = lengths i; longest = longest i }
 
 same_post : (query other : ℕ) (ran gone : Ran) → written.Post query ran.acc ran.steps ≡ written.Post other gone.acc gone.steps → entry.Post query ran ≡ entry.Post other gone
 same_post query other ran gone h =

@@ -2,6 +2,7 @@
 use Rattle.std.specs.Prelude.{ℕ, List, ◌++◌}
 use Rattle.std.specs.List.{flat_map, AllByRecursion}
 use Rattle.bq_check.specs.Certificate.{IsCertified}
+use Rattle.q_table.specs.Programs.{IsForViews}
 use Rattle.sc_members.specs.Members.{IsConfig}
 use Rattle.q_desk.specs.Answers.{AnswersAreRight}
 use Rattle.q_desk.specs.declared.journal.Entry.{Entry}
@@ -35,7 +36,7 @@ journal_of b = head_bytes (head_of b) ++ entries_bytes b.desk.journal
 
 -- an entry that a book may hold: it has a spelling, and the notes of a program pass
 abbrev pub IsCertifiedEntry : Entry → Type 0
-IsCertifiedEntry (entry.Register program) = IsCertified program
+IsCertifiedEntry (entry.Register program) = IsCertified program × IsForViews program
 IsCertifiedEntry e = Unit {0}
 
 abbrev pub IsEntry : Entry → Type 0

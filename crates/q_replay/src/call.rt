@@ -6,19 +6,20 @@ ghost use Rattle.q_journal.specs.declared.written.Written.TheVariants as written
 ghost use Rattle.q_replay.specs.Taking.{Taking, Calling};
 
 use crate::refusal::Refusal;
-use bq_check::check::check;
+use bq_check::check::check_within;
 use bq_check::notes::Notes;
 use bq_flow::laws::one_longest;
 use bq_frame::block::Block;
 use bq_insn::text::Text;
 use bq_meaning::laws::one_answer;
+use bq_state::bounds::Bounds;
 use q_book::book::Book;
 use q_journal::written::Written;
 use q_session::done::Done;
 use q_table::program::{Program, ProgramId};
 use sc_msg::message::Message;
+use sc_view::value::Value;
 use std::alloc::Global;
-use std::sync::Arc;
 
 fn leave(book: &mut Book) -> Result<(), Refusal>
     ensures { Calling book.old entry.Leave book.new result }
@@ -33,9 +34,8 @@ fn register(alloc: Global, book: &mut Book, text: Text, notes: Notes) -> Result<
     ensures { Taking book.old (written.Register text notes) book.new result }
 {
     one_longest();
-    let certified = check(alloc, text, notes)?;
-    let shared = Arc::new(alloc, certified)?;
-    let program = Program::share(&shared)?;
+    let certified = check_within(alloc, text, notes, Bounds::of_views())?;
+    let program = Program::of_views(alloc, certified)?;
     let _id = book.register(&program)?;
     Ok(())
 }
@@ -47,7 +47,7 @@ fn ask(book: &mut Book, program: u32, start: u64) -> Result<(), Refusal>
     Ok(())
 }
 
-fn store(book: &mut Book, value: &[u8; 48]) -> Result<(), Refusal>
+fn store(book: &mut Book, value: &Value) -> Result<(), Refusal>
     ensures { Calling book.old (entry.Store value.now) book.new result }
 {
     let _begun = book.store(value)?;

@@ -8,6 +8,7 @@ ghost use Rattle.q_script.specs.Records.{IsRecord, IsAbove, HasFault, IsView, Is
 use crate::number::{leading, pair};
 use crate::text::without_last_feed;
 use reasons::Reason;
+use sc_view::value::{VALUE_LENGTH, Value};
 use sc_view::view::{Stored, View, ViewFault};
 use std::alloc::Global;
 
@@ -63,11 +64,11 @@ pub enum RecordsFault {
     OutOfMemory,
 }
 
-/// The 48 bytes of a number that is stored: its eight bytes, little-endian, and then zeros.
-pub fn value_bytes(number: u64) -> [u8; 48]
+/// The value for a number: its eight bytes, little-endian, and then zeros.
+pub fn value_bytes(number: u64) -> Value
     ensures { result ≡ value_bytes number }
 {
-    let mut bytes = [0; 48];
+    let mut bytes = [0; VALUE_LENGTH];
     bytes[..8].copy_from_slice(&number.to_le_bytes());
     bytes
 }

@@ -1,6 +1,8 @@
 //! The fold of a program over a view.
 
 ghost use Rattle.std.specs.Prelude.{◌≡◌};
+ghost use Rattle.bq_meaning.specs.Place.{record_length};
+ghost use Rattle.bq_range.specs.Interval.{IsIn};
 ghost use Rattle.q_session.specs.Records.{record_bytes};
 ghost use Rattle.q_session.specs.Right.{IsRight};
 
@@ -19,8 +21,9 @@ const RECORD: u64 = 8192;
 /// The reference for tests: what the record runs of a certified program come to over the entries of a view in rising
 /// order of ids: the first with the start value and a frame of zeros, each later one with the accumulator and the frame
 /// that the one before left. It is the answer at every placement, and takes at most the longest path for each entry.
-/// Takes no memory.
+/// The program was checked for the records of views, among others. Takes no memory.
 pub fn fold_checked(certified: &Certified, view: &View, start: u64) -> Ran
+    requires { IsIn record_length certified.now.lengths }
     ensures right { IsRight certified.now view.now start result }
 {
     let Some(placement) = Placement::new(FRAME, RECORD) else {

@@ -1,5 +1,7 @@
 //! The fold of a program over a view by the loop without tests.
 
+ghost use Rattle.bq_meaning.specs.Place.{record_length};
+ghost use Rattle.bq_range.specs.Interval.{IsIn};
 ghost use Rattle.q_session.specs.Right.{IsRight};
 
 use crate::fold::record_bytes;
@@ -11,8 +13,9 @@ use bq_run::run::run;
 use sc_view::view::View;
 
 /// What [`fold_checked`](crate::fold::fold_checked) answers, by the loop without tests over a block, whose frame it
-/// clears first. Takes no memory, and has no failure.
+/// clears first. The program was checked for the records of views, among others. Takes no memory, and has no failure.
 pub fn run_fold(certified: &Certified, view: &View, start: u64, block: &mut Block) -> Ran
+    requires { IsIn record_length certified.now.lengths }
     ensures { IsRight certified.now view.now start result }
 {
     // A record run takes at most 4,096 steps.

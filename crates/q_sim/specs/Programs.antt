@@ -3,27 +3,31 @@ use Rattle.std.specs.Prelude.{◌≡◌, ℕ, List}
 use Rattle.bq_insn.specs.declared.insn.Insn.{Insn}
 use Rattle.bq_insn.specs.Slots.{IsText, spelling}
 use Rattle.bq_insn.specs.Fault as bytes
+use Rattle.bq_state.specs.Kinds.{view_lengths}
 use Rattle.bq_check.specs.Certificate.{Certificate, IsCertified}
 use Rattle.bq_verify.specs.Least.{AreLeast}
 use Rattle.bq_verify.specs.Refused as verify
+use Rattle.q_table.specs.Programs.{IsForViews}
 use Rattle.q_sim.specs.declared.refusal.Refusal.{Refusal}
 use Rattle.q_sim.specs.declared.refusal.Refusal.TheVariants.{Bytes, Program, OutOfMemory}
 
 -- why a text gets no certificate: the verifier refuses it, or memory was refused
 abbrev pub IsUncertified : List Insn → Refusal → Type 0
-IsUncertified text (Program f) = verify.IsRefused text f
+IsUncertified text (Program f) = verify.IsRefused view_lengths text f
 IsUncertified text OutOfMemory = Unit {0}
 IsUncertified text r = ⊥
 
--- the certificate is of the text that the bytes spell, with the verifier's notes: no notes that pass say more
+-- the certificate is of the text that the bytes spell, for the records of views, with the verifier's notes: no notes
+-- that pass say more
 pub record IsProgram (code : List ℕ) (certificate : Certificate) : Type 0 where
   pub spelled : code ≡ spelling certificate.text
   pub certified : IsCertified certificate
-  pub least : AreLeast certificate.text certificate.notes
+  pub views : IsForViews certificate
+  pub least : AreLeast view_lengths certificate.text certificate.notes
 
 -- why bytes give no program: they spell no text, or the text that they spell gets no certificate
 abbrev pub IsRefusal : List ℕ → Refusal → Type 0
 IsRefusal code (Bytes f) = bytes.IsFault code f
-IsRefusal code (Program f) = (text : List Insn) × IsText text × (code ≡ spelling text) × verify.IsRefused text f
+IsRefusal code (Program f) = (text : List Insn) × IsText text × (code ≡ spelling text) × verify.IsRefused view_lengths text f
 IsRefusal code OutOfMemory = Unit {0}
 IsRefusal code r = ⊥

@@ -1,5 +1,8 @@
 //! Folds over records as they lie in memory.
 
+ghost use Rattle.bq_meaning.specs.Place.{record_length};
+ghost use Rattle.bq_range.specs.Interval.{IsIn};
+
 use crate::Folded;
 use crate::program::certified;
 use bq_check::certified::Certified;
@@ -15,7 +18,9 @@ const FRAME: u64 = 4096;
 const RECORD: u64 = 8192;
 
 /// One fold by the loop.
-fn fold_by_loop(certified: &Certified, records: &[u8], folded: &mut Folded, block: &mut Block) {
+fn fold_by_loop(certified: &Certified, records: &[u8], folded: &mut Folded, block: &mut Block)
+    requires { IsIn record_length certified.now.lengths }
+{
     block.clear_frame();
     let (records, _) = records.as_chunks::<RECORD_LENGTH>();
     for record in records {
@@ -53,7 +58,9 @@ fn fold_by_machine(
     placement: &Placement,
     records: &[u8],
     folded: &mut Folded,
-) {
+)
+    requires { IsIn record_length certified.now.lengths }
+{
     let mut frame = [0; FRAME_LENGTH];
     let (records, _) = records.as_chunks::<RECORD_LENGTH>();
     for record in records {

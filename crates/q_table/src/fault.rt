@@ -1,10 +1,42 @@
-//! Why a program is not registered.
+//! Why a program is not taken, and why it is not registered.
 
 ghost use Rattle.std.specs.Prelude.{◌≡◌};
-ghost use Rattle.q_table.specs.Faults.{reason};
+ghost use Rattle.q_table.specs.Faults.{program_reason, reason};
 
 use reasons::Reason;
 use std::alloc::AllocError;
+
+/// Why a certificate is no program of a view.
+#[derive(Clone, Copy, Debug, PartialEq, Eq)]
+pub enum ProgramFault {
+    /// 59: it was checked for records of other lengths.
+    WrongBounds,
+    /// 99.
+    OutOfMemory,
+}
+
+impl ProgramFault {
+    /// The reason by which the fault is told.
+    pub fn reason(&self) -> Reason
+        ensures { result ≡ program_reason self.now }
+    {
+        match self {
+            ProgramFault::WrongBounds => Reason::WrongBounds,
+            ProgramFault::OutOfMemory => Reason::OutOfMemory,
+        }
+    }
+}
+
+impl From<AllocError> for ProgramFault {
+    ghost use Rattle.std.specs.Prelude.{◌≡◌};
+    ghost use Rattle.q_table.specs.declared.fault.ProgramFault.TheVariants.{OutOfMemory};
+
+    ghost from_gives = { λ _ e. e ≡ OutOfMemory };
+
+    fn from(_: AllocError) -> ProgramFault {
+        ProgramFault::OutOfMemory
+    }
+}
 
 /// Why a program is not registered. After a refusal the table is as it was.
 #[derive(Clone, Copy, Debug, PartialEq, Eq)]

@@ -3,11 +3,9 @@
 ghost use Rattle.std.specs.Prelude.{◌≡◌, IfOk};
 
 use crate::program::Program;
-use bq_check::certified::Certified;
 use bq_insn::encode::encode;
 use std::alloc::{AllocError, Global};
 use std::marker::Model;
-use std::sync::Arc;
 
 /// A program with the bytes of its text, by which a table finds it: they are written once, however many calls then ask
 /// for the program. Contracts see it as the certificate.
@@ -30,12 +28,13 @@ impl Model for Keyed {
 }
 
 impl Keyed {
-    /// A certified program, shared, with the bytes of its text. The one error is that memory ran out (99 OutOfMemory).
-    pub fn of(alloc: Global, certified: &Arc<Certified>) -> Result<Keyed, AllocError>
-        ensures { IfOk result (λ k. k ≡ certified.now.value) }
+    /// A program, with the bytes of its text. The one error is that memory ran out (99 OutOfMemory).
+    pub fn of(alloc: Global, program: &Program) -> Result<Keyed, AllocError>
+        ensures { IfOk result (λ k. k ≡ program.now) }
     {
-        let bytes = encode(alloc, certified.text())?;
-        let program = Program::share(certified)?;
-        Ok(Keyed { bytes, program })
+        Ok(Keyed {
+            bytes: encode(alloc, program.certified().text())?,
+            program: program.clone()?,
+        })
     }
 }

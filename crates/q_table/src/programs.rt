@@ -8,11 +8,9 @@ ghost use Rattle.q_table.specs.Programs.{registered, checked, IsTable};
 use crate::fault::TableFault;
 use crate::keyed::Keyed;
 use crate::program::{Program, ProgramId};
-use bq_check::certified::Certified;
 use indexmap::IndexMap;
 use std::alloc::{AllocError, Global};
 use std::marker::Model;
-use std::sync::Arc;
 
 /// The most programs of a table.
 pub const MOST_PROGRAMS: usize = 1024;
@@ -50,19 +48,19 @@ impl Programs {
 
     /// Registers a program: a text that is there keeps its id and its first certificate, a new one gets the next id.
     /// Refused with 52 where a new text would be the 1,025th; else 99.
-    pub fn register(&mut self, certified: &Arc<Certified>) -> Result<ProgramId, TableFault>
-        ensures { Steps fault.OutOfMemory (registered self.old certified.now.value) self.old self.new result }
+    pub fn register(&mut self, program: &Program) -> Result<ProgramId, TableFault>
+        ensures { Steps fault.OutOfMemory (registered self.old program.now) self.old self.new result }
     {
-        let keyed = self.keyed(certified)?;
+        let keyed = self.keyed(program)?;
         self.take(keyed)
     }
 
     /// A program with the bytes of its text, to be asked for and then taken. The one error is that memory ran out (99
     /// OutOfMemory).
-    pub fn keyed(&self, certified: &Arc<Certified>) -> Result<Keyed, AllocError>
-        ensures { IfOk result (λ k. k ≡ certified.now.value) }
+    pub fn keyed(&self, program: &Program) -> Result<Keyed, AllocError>
+        ensures { IfOk result (λ k. k ≡ program.now) }
     {
-        Keyed::of(self.alloc, certified)
+        Keyed::of(self.alloc, program)
     }
 
     /// Whether `take` would refuse the program for another cause than memory: with 52. Takes no memory.
@@ -95,12 +93,12 @@ impl Programs {
         }
     }
 
-    /// The certificate of the program with this id, to share. Takes no memory.
-    pub fn get(&self, id: ProgramId) -> Option<&Arc<Certified>>
-        ensures { option_map (λ p. p.now.value) result ≡ slice_get self.now id }
+    /// The program with this id. Takes no memory.
+    pub fn get(&self, id: ProgramId) -> Option<&Program>
+        ensures { option_map (λ p. p.now) result ≡ slice_get self.now id }
     {
         let (_, program) = self.by_text.get_index(id.number() as usize)?;
-        Some(program.shared())
+        Some(program)
     }
 
     /// How many programs there are.

@@ -15,3 +15,5 @@ mod command;
 mod gather;
 #[cfg(test)]
 mod sim;
+#[cfg(test)]
+mod table;

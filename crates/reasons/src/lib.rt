@@ -88,6 +88,8 @@ pub enum Reason {
     /// 49.
     BadFounders,
     // Programs, queries and journals.
+    /// 50.
+    BadValue,
     /// 51.
     UnknownProgram,
     /// 52.
@@ -104,6 +106,8 @@ pub enum Reason {
     JournalForm,
     /// 58.
     JournalMismatch,
+    /// 59.
+    WrongBounds,
     // Job boards.
     /// 61.
     RowFull,
@@ -159,7 +163,7 @@ pub enum Reason {
 
 impl Reason {
     /// Each reason, in the order of numbers.
-    pub fn all() -> [Reason; 65]
+    pub fn all() -> [Reason; 67]
         ensures each { (reason : Why) → Contains result reason }
         ensures rising { IsStrictlyIncreasing (map number result) }
     {
@@ -198,6 +202,7 @@ impl Reason {
             Reason::FactsFull,
             Reason::NumbersOut,
             Reason::BadFounders,
+            Reason::BadValue,
             Reason::UnknownProgram,
             Reason::TableFull,
             Reason::BookFull,
@@ -206,6 +211,7 @@ impl Reason {
             Reason::AlreadyAnswered,
             Reason::JournalForm,
             Reason::JournalMismatch,
+            Reason::WrongBounds,
             Reason::RowFull,
             Reason::BadCount,
             Reason::BadHead,
@@ -271,6 +277,7 @@ impl Reason {
             Reason::FactsFull => (47, "FactsFull"),
             Reason::NumbersOut => (48, "NumbersOut"),
             Reason::BadFounders => (49, "BadFounders"),
+            Reason::BadValue => (50, "BadValue"),
             Reason::UnknownProgram => (51, "UnknownProgram"),
             Reason::TableFull => (52, "TableFull"),
             Reason::BookFull => (53, "BookFull"),
@@ -279,6 +286,7 @@ impl Reason {
             Reason::AlreadyAnswered => (56, "AlreadyAnswered"),
             Reason::JournalForm => (57, "JournalForm"),
             Reason::JournalMismatch => (58, "JournalMismatch"),
+            Reason::WrongBounds => (59, "WrongBounds"),
             Reason::RowFull => (61, "RowFull"),
             Reason::BadCount => (62, "BadCount"),
             Reason::BadHead => (71, "BadHead"),

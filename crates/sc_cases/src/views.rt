@@ -1,6 +1,7 @@
 //! Lines about views.
 
 use crate::words::number;
+use sc_view::value::VALUE_LENGTH;
 use sc_view::view::{Stored, View, ViewFault};
 use std::alloc::Global;
 use std::io;
@@ -18,7 +19,7 @@ fn value_of(words: &[&str]) -> Option<(u64, Stored)> {
 fn stored_of(count: &str, byte: &str) -> Option<Stored> {
     let number = number(count)?;
     let byte = byte.parse::<u8>().ok()?;
-    Stored::new(number, [byte; 48])
+    Stored::new(number, [byte; VALUE_LENGTH])
 }
 
 /// Learns the value that these words spell, if they do.

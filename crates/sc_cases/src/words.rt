@@ -1,5 +1,6 @@
 //! What a line of a case asks for.
 
+use sc_view::value::VALUE_LENGTH;
 use sc_world::event::Event;
 
 /// A fraction, by its two numbers.
@@ -91,7 +92,7 @@ fn store(node: &str, byte: &str) -> Option<Event> {
     let byte = byte.parse::<u8>().ok()?;
     Some(Event::Store {
         node,
-        value: [byte; 48],
+        value: [byte; VALUE_LENGTH],
     })
 }
 

@@ -3,6 +3,7 @@ use Rattle.std.proofs.Common.{◌≡◌, ℕ, ◌+◌, ◌<◌, ◌≤◌, ◌^�
 use Rattle.std.proofs.lemmas.Bool.{le-ltb, ne_eqb}
 use Rattle.std.proofs.lemmas.List.{take_at, drop_at}
 use Rattle.std.specs.List.{flat_map, AllByRecursion}
+use Rattle.sc_view.specs.Values.{value_length}
 use Rattle.sc_view.specs.declared.view.Stored.{Stored}
 use Rattle.sc_msg.specs.declared.fault.MessageFault.{MessageFault}
 use Rattle.sc_msg.specs.Numbers.{number_bytes, first_number}
@@ -127,7 +128,7 @@ stored_is d e p q = λ i. record { number = p i; value = q i }
 stored_front : (d e : Stored) (x y : List ℕ) → IsStored d → IsStored e → stored_bytes d ++ x ≡ stored_bytes e ++ y → (d ≡ e) × (x ≡ y)
 stored_front d e x y p q same =
     let n = number_front 8 d.number e.number (d.value ++ x) (e.value ++ y) p.fits q.fits (sym (append_assoc (number_bytes 8 d.number) d.value x) ∙ same ∙ append_assoc (number_bytes 8 e.number) e.value y) in
-    let v = same_front d.value e.value x y 48 p.whole q.whole n.1 in
+    let v = same_front d.value e.value x y value_length p.whole q.whole n.1 in
     (stored_is d e n.0 v.0, v.1)
 
 stored_sound : (e : Stored) (x : List ℕ) → IsStored e → stored_fault (stored_bytes e ++ x) ≡ None

@@ -1,10 +1,11 @@
 -- Sets of ids and views as bytes: a count, and the entries in rising order of their ids.
-use Rattle.std.specs.Prelude.{ℕ, ◌≤◌, ◌<◌, ◌^◌, ◌≡◌, Bool, true, List, [], ◌∷◌, ◌++◌, length, map, drop, All, Option, Some, None, nat_lt, ◌==◌, if◌then◌else◌}
+use Rattle.std.specs.Prelude.{ℕ, ◌+◌, ◌≤◌, ◌<◌, ◌^◌, ◌≡◌, Bool, true, List, [], ◌∷◌, ◌++◌, length, map, drop, All, Option, Some, None, nat_lt, ◌==◌, if◌then◌else◌}
 use Rattle.std.specs.List.{flat_map, AllByRecursion}
 use Rattle.std.specs.FinMap as fin
 use Rattle.std.specs.FinSet as set
 use Rattle.sc_members.specs.Ids.{Ids, rising}
 use Rattle.sc_members.specs.Members.{most_facts}
+use Rattle.sc_view.specs.Values.{value_length}
 use Rattle.sc_view.specs.Views.{ViewMap, most_entries}
 use Rattle.sc_view.specs.declared.view.Stored.{Stored}
 use Rattle.sc_msg.specs.declared.fault.MessageFault.{MessageFault}
@@ -24,11 +25,11 @@ pub record Layout (A : Type 0) : Type 1 where
 abbrev pub ids_layout : Layout ℕ
 ids_layout = record { most = most_facts; id_of = λ id. id; value_bytes = λ id. []; IsValue = λ id. Unit {0}; value_fault = λ bytes. None }
 
--- a sequence number from 1, and 48 bytes
+-- a sequence number from 1, and a value
 pub record IsStored (e : Stored) : Type 0 where
   pub positive : 1 ≤ e.number
   pub fits : e.number < 2 ^ 64
-  pub whole : length e.value ≡ 48
+  pub whole : length e.value ≡ value_length
   pub bytes : All (λ b. b < 256) e.value
 
 abbrev pub stored_bytes : Stored → List ℕ
@@ -38,7 +39,7 @@ abbrev pub stored_fault : List ℕ → Option MessageFault
 stored_fault bytes =
     if nat_lt (length bytes) 8 then Some Short
     else (if first_number 8 bytes == 0 then Some BadField
-    else (if nat_lt (length bytes) 56 then Some Short else None))
+    else (if nat_lt (length bytes) (8 + value_length) then Some Short else None))
 
 abbrev pub view_layout : Layout (ℕ × Stored)
 view_layout = record { most = most_entries; id_of = λ e. e.0; value_bytes = λ e. stored_bytes e.1; IsValue = λ e. IsStored e.1; value_fault = stored_fault }

@@ -4,6 +4,7 @@ ghost use Rattle.std.specs.Prelude.{◌≡◌, ◌≤◌, ◌<◌, ◌^◌, ◌+
 ghost use Rattle.std.specs.List.{AllByRecursion};
 ghost use Rattle.std.specs.FinSet as set;
 ghost use Rattle.sc_members.specs.Members.{most_facts};
+ghost use Rattle.sc_view.specs.Values.{value_length};
 ghost use Rattle.sc_msg.specs.Numbers.{number_bytes};
 ghost use Rattle.sc_msg.specs.Entries.{ids_bytes, stored_bytes, view_bytes, AreIds, AreRecords, IsStored};
 ghost use Rattle.sc_msg.specs.Fields.{fields, fields_bytes, facts_fields, IsField};
@@ -14,6 +15,7 @@ use crate::message::{Body, Message};
 use byteorder::{ByteOrder, LittleEndian};
 use sc_members::facts::Facts;
 use sc_members::ids::IdSet;
+use sc_view::value::Value;
 use sc_view::view::{Stored, View};
 use std::alloc::{AllocError, Global};
 
@@ -51,8 +53,8 @@ fn push_ids(out: &mut Vec<u8>, ids: &IdSet) -> Result<(), AllocError>
     Ok(())
 }
 
-fn push_value(out: &mut Vec<u8>, value: &[u8; 48]) -> Result<(), AllocError>
-    ensures whole { length value.now ≡ 48 }
+fn push_value(out: &mut Vec<u8>, value: &Value) -> Result<(), AllocError>
+    ensures whole { length value.now ≡ value_length }
     ensures bytes { All (λ b. b < 256) value.now }
     ensures spelled { OnOk result (out.new.items ≡ out.old.items ++ value.now) }
 {

@@ -5,7 +5,7 @@
 //! Numbers have their lowest byte first. A truth is one byte, 0 or 1. A set of ids is a count of two bytes,
 //! at most 1,024, and the ids in strictly rising order. A view is a count of two bytes, at most 256, and for
 //! each node, in strictly rising order, a record of 64 bytes: its id, the sequence number from 1, and the
-//! 48 bytes that it stored. A message has at most 60,000 bytes.
+//! value that it stored. A message has at most 60,000 bytes.
 //!
 //! Promised, for all bytes and all messages:
 //!

@@ -9,6 +9,7 @@ use crate::fault::MessageFault;
 use byteorder::{ByteOrder, LittleEndian};
 use sc_members::facts::{Facts, MOST_FACTS};
 use sc_members::ids::IdSet;
+use sc_view::value::VALUE_LENGTH;
 use sc_view::view::{MOST_ENTRIES, Stored, View};
 use std::alloc::Global;
 
@@ -117,7 +118,7 @@ impl<'a> Reader<'a> {
         }
     }
 
-    /// A sequence number from 1 and 48 bytes.
+    /// A sequence number from 1 and a value.
     fn stored(&mut self) -> Result<Stored, MessageFault>
         ensures stored { IfOk result IsStored }
         ensures parts { IfOk result (λ e. self.old.rest.now ≡ stored_bytes e ++ self.new.rest.now) }
@@ -127,8 +128,8 @@ impl<'a> Reader<'a> {
         if number == 0 {
             return Err(MessageFault::BadField);
         }
-        let bytes = self.take(48)?;
-        let mut value = [0; 48];
+        let bytes = self.take(VALUE_LENGTH)?;
+        let mut value = [0; VALUE_LENGTH];
         value.copy_from_slice(bytes);
         let Some(stored) = Stored::new(number, value) else {
             unreachable!()

@@ -5,6 +5,7 @@ use sc_msg::encode::encode;
 use sc_msg::fault::MessageFault;
 use sc_msg::laws::{one_fault, one_spelling, read_and_written, written_and_read};
 use sc_msg::message::{Body, Message};
+use sc_view::value::VALUE_LENGTH;
 use sc_view::view::{Stored, View, ViewFault};
 use std::alloc::Global;
 use std::test::Fail;
@@ -25,7 +26,7 @@ const ENTER_ECHO: [u8; 53] = [
 fn stored(byte: u8) -> Stored
     ensures { result.number ≡ 1 }
 {
-    let mut value = [0; 48];
+    let mut value = [0; VALUE_LENGTH];
     value[0] = byte;
     let Some(stored) = Stored::new(1, value) else {
         unreachable!()

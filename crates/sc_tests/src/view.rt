@@ -4,6 +4,7 @@ use sc_view::laws::{
     order_is_partial,
 };
 use sc_view::sorted::SortedView;
+use sc_view::value::VALUE_LENGTH;
 use sc_view::view::{Stored, View, ViewFault};
 use std::alloc::Global;
 use std::test::Fail;
@@ -18,7 +19,7 @@ fn laws_can_be_cited() {
 
 fn stored(number: u64) -> Result<Stored, ViewFault> {
     // No number here is 0.
-    Stored::new(number, [7; 48]).ok_or(ViewFault::Full)
+    Stored::new(number, [7; VALUE_LENGTH]).ok_or(ViewFault::Full)
 }
 
 /// Learns a value, and once more where memory is refused.

@@ -1,4 +1,5 @@
 use sc_members::config::Config;
+use sc_view::value::VALUE_LENGTH;
 use sc_world::event::Event;
 use sc_world::fault::WorldFault;
 use sc_world::laws::regular;
@@ -11,7 +12,7 @@ use std::test::Fail;
 const fn store(node: u64, byte: u8) -> Event {
     Event::Store {
         node,
-        value: [byte; 48],
+        value: [byte; VALUE_LENGTH],
     }
 }
 

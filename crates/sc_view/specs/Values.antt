@@ -1,6 +1,10 @@
 -- What a node stored: a number and bytes.
 use Rattle.std.specs.Prelude.{ℕ, List}
 
+-- how many bytes a value has
+abbrev pub value_length : ℕ
+value_length = 48
+
 -- the sequence number of a store, and the bytes that were stored
 pub record StoredValue : Type 0 where
   pub number : ℕ

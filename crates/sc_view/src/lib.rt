@@ -20,4 +20,5 @@ pub mod form;
 pub mod laws;
 mod row;
 pub mod sorted;
+pub mod value;
 pub mod view;

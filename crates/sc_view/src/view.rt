@@ -12,6 +12,7 @@ ghost use Rattle.sc_view.specs.declared.view.Stored.{Stored as StoredValue};
 use crate::chunk::{Chunk, find};
 use crate::chunks::Chunks;
 use crate::row::{News, Rest, Row, merged, next_entry, place, put_entry, what_is_new};
+use crate::value::Value;
 use arrayvec::ArrayVec;
 use reasons::Reason;
 use std::alloc::{AllocError, AllocFailed, Global};
@@ -24,7 +25,7 @@ pub const MOST_ENTRIES: usize = 256;
 #[derive(Clone, Copy, Debug, PartialEq, Eq)]
 pub struct Stored {
     number: u64,
-    value: [u8; 48],
+    value: Value,
 }
 
 impl Model for Stored {
@@ -42,7 +43,7 @@ impl Model for Stored {
 
 impl Stored {
     /// The value under its number; none where the number is 0, since nodes count their stores from 1.
-    pub fn new(number: u64, value: [u8; 48]) -> Option<Stored>
+    pub fn new(number: u64, value: Value) -> Option<Stored>
         ensures { SomeIff result (1 ≤ number) (record { number = number; value = value }) }
     {
         if number == 0 {
@@ -60,7 +61,7 @@ impl Stored {
     }
 
     /// The bytes that were stored.
-    pub fn value(&self) -> &[u8; 48]
+    pub fn value(&self) -> &Value
         ensures { result.now ≡ self.now.value }
     {
         &self.value

@@ -10,12 +10,13 @@ use sc_node::answer::{Begun, Delivered, Ended, Progress};
 use sc_node::node::Node;
 use sc_node::outs::Outs;
 use sc_node::session::Session;
+use sc_view::value::Value;
 
 /// What a node that is there does at an event.
 #[derive(Clone, Copy)]
 pub(crate) enum Act {
     Leave,
-    Store([u8; 48]),
+    Store(Value),
     Collect,
     /// It takes the message of that number.
     Deliver(usize),
@@ -65,7 +66,7 @@ fn leave(node: &mut Node) -> Result<Report, WorldFault>
     })
 }
 
-fn store(node: &mut Node, value: &[u8; 48]) -> Result<Report, WorldFault>
+fn store(node: &mut Node, value: &Value) -> Result<Report, WorldFault>
     ensures { Acts (stores value.now node.old) node.old node.new result }
 {
     let begun = node.begin_store(value)?;

@@ -1,6 +1,7 @@
 //! What happens to a world, and what it tells.
 
 use sc_node::answer::Ended;
+use sc_view::value::Value;
 
 /// What happens to a world.
 #[derive(Clone, Copy, Debug, PartialEq, Eq)]
@@ -12,7 +13,7 @@ pub enum Event {
     /// A node stops for good, and tells nobody.
     Crash(u64),
     /// A node begins to store a value.
-    Store { node: u64, value: [u8; 48] },
+    Store { node: u64, value: Value },
     /// A node begins to collect.
     Collect(u64),
     /// A message that was sent, by its number, reaches a node.

@@ -1,5 +1,7 @@
 use Rattle.std.proofs.Common.{◌≤◌, length, ap, subst, arith}
 use Rattle.std.specs.List.{AllByRecursion}
+use Rattle.bq_state.specs.Kinds.{AreLengths}
+use Rattle.bq_check.specs.declared.form.Form.TheVariants.{Second}
 use Rattle.bq_check.specs.Spelling.{IsKind}
 use Rattle.bq_check.proofs.Seen.{seen_all}
 use Rattle.bq_check.proofs.kept.is_state.Goals as goal
@@ -8,5 +10,5 @@ pub returns : goal.returns
 returns c =
     let is = c.kinds-kind-items.ensures.kinds in
     let few : length c.kinds-kind-items.result.now ≤ c.loop-kind.kind-index = omega (arith, ap length is, c.kinds-kind-items.ensures.count, c.loop-kind-test.false) in
-    let all = seen_all IsKind c.kinds-kind-items.result.now c.loop-kind.kind-index c.loop-kind.invariant few in
-    record { count = c.kinds-kind-items.ensures.count; kinds = subst (AllByRecursion IsKind) is all; lengths = c.requires.lengths }
+    let all = seen_all (IsKind Second) c.kinds-kind-items.result.now c.loop-kind.kind-index c.loop-kind.invariant few in
+    record { lengths = subst AreLengths c.lengths.ensures c.least-least.ensures.lengths; kinds = record { count = c.kinds-kind-items.ensures.count; each = subst (AllByRecursion (IsKind Second)) is all } }

@@ -2,4 +2,4 @@ use Rattle.bq_check.proofs.Once.{only_memory}
 use Rattle.bq_check.proofs.laws.passing_has_no_fault.Goals as goal
 
 pub returns : goal.returns
-returns c = λ text notes fault passes first. only_memory text notes fault first passes
+returns c = λ l text notes fault passes first. only_memory l text notes fault first passes

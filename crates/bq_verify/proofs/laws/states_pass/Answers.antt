@@ -1,5 +1,7 @@
 use Rattle.bq_verify.proofs.Passing as passing
+use Rattle.bq_verify.proofs.Suits.{are_suited}
 use Rattle.bq_verify.proofs.laws.states_pass.Goals as goal
 
 pub returns : goal.returns
-returns c = passing.states_pass c.states_are_ordered.ensures
+returns c = λ l text notes text_is legal states unbroken.
+    passing.states_pass c.states_are_ordered.ensures l text notes (are_suited c.states_stay_plain.ensures l text notes text_is legal states) text_is legal states unbroken

@@ -1,6 +1,5 @@
 use Rattle.bq_verify.specs.Table.{IsFilled}
-use Rattle.bq_verify.proofs.Views.{IsPlainTable}
 use Rattle.bq_verify.proofs.verify.fill.Given as goal
 
 abbrev pub invariant-loop-unit : goal.invariant-loop-unit
-invariant-loop-unit l = IsFilled l.text l.states.items l.unit × IsPlainTable l.states.items
+invariant-loop-unit l = IsFilled l.fn.bounds l.text l.states.items l.unit

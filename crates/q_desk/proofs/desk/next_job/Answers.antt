@@ -22,9 +22,9 @@ pub returns : goal.returns
 returns c = λ s programs queries.
     let at = c.in-Some-get.ensures.lookup in
     let q = c.in-Some-get.query.now in
-    let program = c.in-Some-get-2.program.now.value in
+    let program = c.in-Some-get-2.program.now in
     let first = ap (position (λ (x : Query). is_ready x.phase)) queries ∙ sym c.in-Some.ensures in
     let there = ap (λ (xs : List Query). slice_get xs c.in-Some.number) queries ∙ slice_get_read c.args.queries.now _ c.in-Some.number q refl at.3.0 at.1 in
     let named = ap (λ (ps : List Certificate). slice_get ps q.program) programs ∙ sym c.in-Some-get-2.ensures in
-    let same : job_of c.args.node c.in-Some.number q c.in_ok-program.program ≡ next_job s c.args.node = ap (job_of c.args.node c.in-Some.number q) c.in_ok-program.ensures ∙ next-some s c.args.node c.in-Some.number q program first there named in
+    let same : job_of c.args.node c.in-Some.number q program ≡ next_job s c.args.node = next-some s c.args.node c.in-Some.number q program first there named in
     subst (λ (o : Option Job). IfOk c.of.result (λ job. job ≡ o)) same c.of.ensures

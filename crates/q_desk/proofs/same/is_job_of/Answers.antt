@@ -7,7 +7,7 @@ use Rattle.q_desk.proofs.same.is_job_of.Goals as goal
 pub returns-then-is_same_view-clause-right : goal.returns-then-is_same_view-clause-right
 returns-then-is_same_view-clause-right c = λ s ran told programs right.
     let job = c.args.job.now in
-    let program = c.in-Some.program.now.value in
+    let program = c.in-Some.program.now in
     let there : slice_get c.args.programs.now c.args.query.now.program ≡ Some program = search rules in
     let fits : c.is_same_program.result ≡ is_job_of c.args.programs.now job c.args.query.now c.args.view.now = search rules in
     let t = c.is_same_program.ensures.text told in

@@ -1,4 +1,4 @@
-use Rattle.std.proofs.Common.{◌≡◌, ℕ, Bool, true, sym, subst, add-one}
+use Rattle.std.proofs.Common.{ℕ, Bool, sym, subst, add-one}
 use Rattle.q_pool.specs.Turns.{OffersNext, Offering}
 use Rattle.q_pool.proofs.Turning.{offers_one}
 use Rattle.q_pool.proofs.pump.offer_all.Goals as goal

@@ -1,4 +1,4 @@
-use Rattle.std.proofs.Common.{◌≡◌, ◌≤◌}
+use Rattle.std.proofs.Common.{◌≤◌}
 use Rattle.q_pool.specs.Turns.{Receiving}
 use Rattle.q_pool.proofs.pump.receive_all.Given as goal
 

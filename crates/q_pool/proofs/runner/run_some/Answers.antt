@@ -1,6 +1,6 @@
-use Rattle.std.proofs.Common.{rules, ◌≡◌, ◌+◌, ◌≤◌, ℕ, ap, ◌∙◌, arith, sym, subst}
+use Rattle.std.proofs.Common.{◌+◌, ℕ, ap, arith, subst}
 use Rattle.q_board.specs.RunnerModel.{RunnerModel}
-use Rattle.q_board.specs.Calls.{Finishes, Claims, Misses}
+use Rattle.q_board.specs.Calls.{Finishes}
 use Rattle.q_pool.specs.Served.{Served}
 use Rattle.q_pool.proofs.Rounds.{starts, misses_one, serves_one}
 use Rattle.q_pool.proofs.runner.run_some.Goals.{in-Some, in_default}

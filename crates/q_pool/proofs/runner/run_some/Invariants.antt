@@ -1,4 +1,4 @@
-use Rattle.std.proofs.Common.{◌≡◌, ◌≤◌}
+use Rattle.std.proofs.Common.{◌≤◌}
 use Rattle.q_pool.specs.Served.{Served}
 use Rattle.q_pool.proofs.runner.run_some.Given as goal
 

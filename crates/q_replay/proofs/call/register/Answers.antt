@@ -1,5 +1,6 @@
 use Rattle.std.proofs.Common.{rules, ◌≡◌, sym, ap, ◌∙◌, subst}
 use Rattle.bq_check.specs.Certificate.{Certificate, IsCertified}
+use Rattle.q_table.specs.Programs.{IsForViews}
 use Rattle.q_desk.specs.declared.journal.Entry.TheVariants as entry
 use Rattle.q_journal.specs.Spelling.{IsWritten}
 use Rattle.q_journal.specs.declared.written.Written.TheVariants as written
@@ -8,27 +9,32 @@ use Rattle.q_replay.specs.Taking.{Calling}
 use Rattle.q_replay.proofs.Calling.{taking}
 use Rattle.q_replay.proofs.call.register.Goals as goal
 
+abbrev IsProgram : Certificate → Type 0
+IsProgram p = IsCertified p × IsForViews p
+
 pub returns-in_err-_id : goal.returns-in_err-_id
 returns-in_err-_id c =
     let p = c.in_ok-program.program in
-    let same : p ≡ c.in_ok-certified.certified = c.in_ok-program.ensures ∙ c.in_ok-shared.ensures.ok in
+    let same : p ≡ c.in_ok-certified.certified = c.in_ok-program.ensures in
     let text = ap (λ (x : Certificate). x.text) same ∙ c.in_ok-certified.ensures.same.0 in
     let notes = ap (λ (x : Certificate). x.notes) same ∙ c.in_ok-certified.ensures.same.1 in
+    let views : IsForViews c.in_ok-certified.certified = c.in_ok-certified.ensures.same.2 ∙ c.of_views.ensures in
     let is : written_of (entry.Register p) ≡ written.Register c.args.text c.args.notes = λ t. written.Register (text t) (notes t) in
     let called : Calling c.args.book.now (entry.Register p) c.register.new.self c.from_residual-in_err-_id.result = search rules in
     taking c.one_longest.ensures c.args.book.now c.register.new.self (entry.Register p) (written.Register c.args.text c.args.notes) c.from_residual-in_err-_id.result c.requires
-    (subst IsCertified (sym same) c.in_ok-certified.ensures.passes) is called
+    (subst IsProgram (sym same) (c.in_ok-certified.ensures.passes, views)) is called
 
 pub returns : goal.returns
 returns c =
     let p = c.in_ok-program.program in
-    let same : p ≡ c.in_ok-certified.certified = c.in_ok-program.ensures ∙ c.in_ok-shared.ensures.ok in
+    let same : p ≡ c.in_ok-certified.certified = c.in_ok-program.ensures in
     let text = ap (λ (x : Certificate). x.text) same ∙ c.in_ok-certified.ensures.same.0 in
     let notes = ap (λ (x : Certificate). x.notes) same ∙ c.in_ok-certified.ensures.same.1 in
+    let views : IsForViews c.in_ok-certified.certified = c.in_ok-certified.ensures.same.2 ∙ c.of_views.ensures in
     let is : written_of (entry.Register p) ≡ written.Register c.args.text c.args.notes = λ t. written.Register (text t) (notes t) in
     record {
       called = entry.Register p;
-      legal = (subst IsWritten (sym is) c.requires, subst IsCertified (sym same) c.in_ok-certified.ensures.passes);
+      legal = (subst IsWritten (sym is) c.requires, subst IsProgram (sym same) (c.in_ok-certified.ensures.passes, views));
       is = is;
       answers = tt;
       follows = (c.in_ok-_id._id, c.in_ok-_id.ensures);

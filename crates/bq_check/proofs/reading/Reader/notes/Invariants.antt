@@ -4,6 +4,6 @@ use Rattle.bq_check.proofs.reading.Reader.notes.Given as goal
 
 abbrev pub invariant-loop : goal.invariant-loop
 invariant-loop l = record {
-  read : ReadNotes l.fn.self.rest.now l.count l.states.items l.self.rest.now;
+  read : ReadNotes l.form l.fn.self.rest.now l.count l.states.items l.self.rest.now;
   len : length l.states.items ≡ l.counter;
 }

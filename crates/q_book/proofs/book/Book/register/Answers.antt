@@ -9,4 +9,4 @@ pub invariant_of-self-2 : goal.invariant_of-self-2
 invariant_of-self-2 c =
     let b : BookState = book.the_view c.self.inside in
     let passed : (let t : Test = Ok c.in_ok-check_here.field-0 in t) ≡ here b (Ok tt) = c.in_ok-check_here.ensures ∙ ap (λ (x : BookState). let t : Test = here x (Ok tt) in t) (sym c.self.view_is) in
-    registered_replay b c.shared.result.now.value c.in_ok-check_here.field-0 c.in_ok-id.id c.register.new.self passed c.in_ok-id.ensures c.self.invariant
+    registered_replay b c.args.program.now c.in_ok-check_here.field-0 c.in_ok-id.id c.register.new.self passed c.in_ok-id.ensures c.self.invariant

@@ -1,0 +1,7 @@
+use Rattle.std.proofs.Common.{arith}
+use Rattle.bq_check.proofs.Read.{no_kinds}
+use Rattle.bq_check.proofs.reading.Reader.kinds.Goals as goal
+
+pub returns-in_default-clause-none : goal.returns-in_default-clause-none
+returns-in_default-clause-none c =
+    no_kinds c.args.form c.args.self.now.rest.now c.loop-register.kinds c.loop-register.register c.loop-register.self.rest.now c.loop-register.invariant (omega arith) c.in_default.ensures.none

@@ -1,5 +1,0 @@
-use Rattle.bq_check.proofs.Read.{ReadKinds}
-use Rattle.bq_check.proofs.reading.Reader.state.Given as goal
-
-abbrev pub invariant-loop-register : goal.invariant-loop-register
-invariant-loop-register l = ReadKinds l.fn.self.rest.now l.kinds l.register l.self.rest.now

@@ -1,0 +1,8 @@
+use Rattle.std.proofs.Common.{ℕ, ◌<◌}
+use Rattle.std.specs.Prelude.{slice_index_or}
+use Rattle.bq_state.specs.Plain.{IsPlainKind}
+use Rattle.bq_state.specs.declared.kind.Kind.TheVariants.{Unset}
+use Rattle.bq_state.proofs.state.State.is_plain.Given as goal
+
+abbrev pub invariant-loop-register : goal.invariant-loop-register
+invariant-loop-register l = (k : ℕ) → k < l.register → IsPlainKind (slice_index_or l.self-inside.kinds k Unset)

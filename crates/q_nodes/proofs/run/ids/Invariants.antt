@@ -1,0 +1,6 @@
+use Rattle.std.proofs.Common.{◌≡◌}
+use Rattle.q_nodes.proofs.Founding.{ids_to}
+use Rattle.q_nodes.proofs.run.ids.Given as goal
+
+abbrev pub invariant-loop-known : goal.invariant-loop-known
+invariant-loop-known l = l.ids.items ≡ ids_to l.known

@@ -1,0 +1,2 @@
+-- Proofs of the line of a refusal.
+mod Parts

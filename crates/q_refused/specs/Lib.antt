@@ -1,0 +1,2 @@
+-- The line that tells a refusal.
+pub mod Line
