@@ -145,8 +145,10 @@ fn check_with(
     let Some(bytes) = bytes(alloc, digits) else {
         return println!(rt; " ?");
     };
-    match asked.read(alloc, bytes.as_slice()) {
-        Ok(notes) => print_longest(rt, check_within(alloc, text, notes, asked.bounds)),
+    let bounds = asked.bounds;
+    let read = asked.read(alloc, bytes.as_slice());
+    match read {
+        Ok(notes) => print_longest(rt, check_within(alloc, text, notes, bounds)),
         Err(fault) => print_refusal(rt, fault.reason(), None),
     }
 }

@@ -3,6 +3,10 @@
 //! - `loop ACC VALUES = SOURCE`: what the text answers once it is verified and checked, and in how many steps, over a
 //!   block whose frame is cleared first, and over records as `run` has them. Or `refused NUMBER NAME` and the unit.
 
+ghost use Rattle.std.specs.Prelude.{IfOk};
+ghost use Rattle.bq_meaning.specs.Place.{record_length};
+ghost use Rattle.bq_range.specs.Interval.{IsIn};
+
 use crate::check::print_fault;
 use crate::run::{record_of, values_of};
 use crate::words::{number, text};
@@ -18,7 +22,9 @@ use bq_verify::verify::verify_within;
 use std::alloc::{AllocError, Global};
 use std::io;
 
-fn certified(alloc: Global, text: Text) -> Result<Certified, CheckFault> {
+fn certified(alloc: Global, text: Text) -> Result<Certified, CheckFault>
+    ensures { IfOk result (λ certified. IsIn record_length certified.lengths) }
+{
     let notes = verify_within(alloc, &text, Bounds::of_views())?;
     check_within(alloc, text, notes, Bounds::of_views())
 }
@@ -29,7 +35,9 @@ fn fold(
     certified: &Certified,
     start: u64,
     values: &[u8],
-) -> Result<Ended, AllocError> {
+) -> Result<Ended, AllocError>
+    requires { IsIn record_length certified.now.lengths }
+{
     let mut block = Block::new(alloc)?;
     block.set_record(&[0xff; 64]);
     block.clear_frame();

@@ -61,7 +61,7 @@ fn notes_are_read(rt: HostRuntime) {
 fn notes_are_spelled_in_the_first_form(rt: HostRuntime) {
     match Notes::read_v1(rt.alloc(), &[1, 0, 0, 0, 0]) {
         Ok(notes) => match notes.bytes_v1(rt.alloc()) {
-            Ok(bytes) => assert!(rt; bytes.as_slice() == &[1, 0, 0, 0, 0]),
+            Ok(bytes) => assert!(rt; bytes.as_slice() == [1, 0, 0, 0, 0].as_slice()),
             Err(fault) => assert_eq!(rt; fault, NotesFault::OutOfMemory),
         },
         Err(fault) => assert_eq!(rt; fault, NotesFault::OutOfMemory),
