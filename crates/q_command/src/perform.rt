@@ -3,6 +3,8 @@
 ghost use Rattle.std.specs.Prelude.{◌≡◌, ◌≢◌, ℕ, List, false, Ok, Err, IfOk, IfErr, string_bytes};
 ghost use Rattle.bq_meaning.specs.Place.{record_length};
 ghost use Rattle.bq_range.specs.Interval.{IsIn};
+ghost use Rattle.bq_state.specs.Kinds.{view_lengths};
+ghost use Rattle.bq_sound.specs.Passes.{Passes};
 ghost use Rattle.q_command.specs.Audit.{Audits, IsUnaudited};
 ghost use Rattle.q_command.specs.Perform.{Accepts, Answers, AnswersFile, AnswersRun, AnswersScript, Computes, Ends, IsProgram, IsSimulated, IsUnaccepted, IsUnassembled, IsUnlisted, IsUnread, IsUnsimulated, Lists, Refuses, RefusesFile, RefusesRun, RefusesScript, failures_after, status_of};
 
@@ -188,6 +190,7 @@ fn certified_file<'a, F: Files>(
 ) -> Result<Certified, Denied<'a>>
     ensures certified { IfOk result (λ c. (source : List ℕ) × F.read_gives files.old file.now (Ok source) files.new × IsProgram source c.text) }
     ensures length { IfOk result (λ c. IsIn record_length c.lengths) }
+    ensures passes { IfOk result (λ c. Passes view_lengths c.text c.notes) }
     ensures refused { IfErr result (λ denied. RefusesFile F.read_gives IsUnaccepted file.now files.old denied files.new) }
 {
     let source = read(alloc, file, files)?;

@@ -3,6 +3,8 @@
 ghost use Rattle.std.specs.Prelude.{◌≡◌, IfOk, IfErr, IsUtf8};
 ghost use Rattle.bq_meaning.specs.Place.{record_length};
 ghost use Rattle.bq_range.specs.Interval.{IsIn};
+ghost use Rattle.bq_state.specs.Kinds.{view_lengths};
+ghost use Rattle.bq_sound.specs.Passes.{Passes};
 ghost use Rattle.q_command.specs.Perform.{IsProgram, IsUnaccepted, IsUnassembled};
 
 use bq_asm::assemble::assemble;
@@ -39,8 +41,11 @@ pub fn program(alloc: Global, source: &[u8]) -> Result<Text, Refusal>
 pub fn certified(alloc: Global, source: &[u8]) -> Result<Certified, Refusal>
     ensures spelled { IfOk result (λ certified. IsProgram source.now certified.text) }
     ensures length { IfOk result (λ certified. IsIn record_length certified.lengths) }
+    ensures passes { IfOk result (λ certified. Passes view_lengths certified.text certified.notes) }
     ensures refused { IfErr result (IsUnaccepted source.now) }
 {
     let text = program(alloc, source)?;
-    certified_text(alloc, text)
+    let certified = certified_text(alloc, text)?;
+    let _notes = certified.notes();
+    Ok(certified)
 }
