@@ -10,10 +10,6 @@
 //!
 //! Both fold it so many times, in turn, and the least time of each is told, for each instruction that was executed.
 
-ghost use Rattle.std.specs.Prelude.{IfOk};
-ghost use Rattle.bq_meaning.specs.Place.{record_length};
-ghost use Rattle.bq_range.specs.Interval.{IsIn};
-
 use anyhow::{Result, anyhow, bail};
 use bq_asm::assemble::assemble;
 use bq_check::certified::Certified;
@@ -24,6 +20,7 @@ use bq_verify::verify::verify_within;
 use q_session::fold::fold_checked;
 use q_session::ran::Ran;
 use q_session::run::run_fold;
+use q_table::program::Program;
 use sc_view::value::VALUE_LENGTH;
 use sc_view::view::{Stored, View};
 use std::alloc::{AllocError, Global};
@@ -113,18 +110,20 @@ fn source_of(alloc: Global, name: &str) -> Result<String> {
     Ok(source)
 }
 
-fn certified(alloc: Global, source: &str) -> Result<Certified>
-    ensures { IfOk result (λ certified. IsIn record_length certified.lengths) }
-{
+fn certified(alloc: Global, source: &str) -> Result<Certified> {
     let text = assemble(alloc, source).map_err(|fault| anyhow!("refused {}", fault.reason()))?;
-    let notes = verify_within(alloc, &text, Bounds::of_views()).map_err(|fault| anyhow!(
+    let views = Bounds::of_views();
+    let notes = verify_within(alloc, &text, views).map_err(|fault| anyhow!(
         "refused {}",
         fault.reason()
     ))?;
-    check_within(alloc, text, notes, Bounds::of_views()).map_err(|fault| anyhow!(
-        "refused {}",
-        fault.reason()
-    ))
+    check_within(alloc, text, notes, views).map_err(|fault| anyhow!("refused {}", fault.reason()))
+}
+
+/// The program of a source, for the records of views.
+fn program(alloc: Global, source: &str) -> Result<Program> {
+    let certified = certified(alloc, source)?;
+    Program::new(alloc, certified).map_err(|fault| anyhow!("refused {}", fault.reason()))
 }
 
 /// A view of 256 values of which each begins with a number below 2^31.
@@ -150,19 +149,12 @@ struct Times {
     checked_took: Duration,
 }
 
-fn time_once(
-    rt: &impl Clock,
-    certified: &Certified,
-    view: &View,
-    block: &mut Block,
-) -> Result<Times>
-    requires { IsIn record_length certified.now.lengths }
-{
+fn time_once(rt: &impl Clock, program: &Program, view: &View, block: &mut Block) -> Result<Times> {
     let start = Instant::now(rt)?;
-    let ran = run_fold(certified, view, 3, block);
+    let ran = run_fold(program.certified(), view, 3, block);
     let loop_took = start.elapsed(rt)?;
     let start = Instant::now(rt)?;
-    let reference = fold_checked(certified, view, 3);
+    let reference = fold_checked(program.certified(), view, 3);
     let checked_took = start.elapsed(rt)?;
     Ok(Times {
         ran,
@@ -188,13 +180,13 @@ pub(crate) fn run(
 ) -> Result<()> {
     let alloc = rt.alloc();
     let source = source_of(alloc, name)?;
-    let certified = certified(alloc, source.as_str())?;
+    let program = program(alloc, source.as_str())?;
     let view = view_of(alloc)?;
     let mut block = Block::new(alloc)?;
-    let first = time_once(rt, &certified, &view, &mut block)?;
+    let first = time_once(rt, &program, &view, &mut block)?;
     println!(rt;
         "{name} units {} steps {} acc {} same {}",
-        certified.text().units(),
+        program.certified().text().units(),
         first.ran.steps,
         first.ran.acc,
         first.ran == first.reference
@@ -202,7 +194,7 @@ pub(crate) fn run(
     let mut loop_took = first.loop_took;
     let mut checked_took = first.checked_took;
     for _ in 1..runs {
-        let times = time_once(rt, &certified, &view, &mut block)?;
+        let times = time_once(rt, &program, &view, &mut block)?;
         loop_took = loop_took.min(times.loop_took);
         checked_took = checked_took.min(times.checked_took);
     }
