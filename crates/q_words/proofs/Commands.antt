@@ -15,8 +15,8 @@ use Rattle.clap.specs.declared.parser.matches.ArgMatches.TheViews.{out-SubComman
 use Rattle.clap.proofs.OnLiterals.{clap_on_literals}
 use Rattle.q_words.specs.declared.words.Wanted.{Wanted}
 use Rattle.q_words.specs.declared.words.WordsFault.{WordsFault}
-use Rattle.q_words.specs.declared.words.WordsFault.TheVariants.{BadStart}
-use Rattle.q_words.specs.Words.{bqview, IsMet, HasBadStart, Reads}
+use Rattle.q_words.specs.declared.words.WordsFault.TheVariants.{Help, Wrong, BadStart, BadLengths, OutOfMemory}
+use Rattle.q_words.specs.Words.{bqview, IsMet, HasLineFault, Reads}
 
 pub simple : is_simple bqview ≡ true
 unfolding clap_on_literals
@@ -123,8 +123,12 @@ pub made : {E : Type 0} (r : Result Command E) (x y : App) (g : Bool) → IfOk r
 made (Ok c) x y g h k e f = (h ∙ e, k ∙ f)
 made (Err d) x y g h k e f = tt
 
--- what is read of `run`
-pub run_read : (words : List Text) (r : Result Wanted WordsFault) (rows : List Row) → fault_of bqview words ≡ [] → subcommand_of bqview words ≡ Some (codes "run", rows)
-    → MatchResult r (λ asked. IsMet asked (codes "run", rows)) (λ e. (e ≡ BadStart) × HasBadStart (codes "run", rows)) → Reads words r
-run_read words (Ok asked) rows n s h = (n, was_met (IsMet asked) _ (codes "run", rows) s h)
-run_read words (Err e) rows n s h = subst (λ d. Reads words (Err d)) (sym h.0) (n, was_met HasBadStart _ (codes "run", rows) s h.1)
+-- what is read of `check` or `run`
+pub line_read : (words : List Text) (r : Result Wanted WordsFault) (met : Text × List Row) → fault_of bqview words ≡ [] → subcommand_of bqview words ≡ Some met
+    → MatchResult r (λ asked. IsMet asked met) (λ e. HasLineFault e met) → Reads words r
+line_read words (Ok asked) met n s h = (n, was_met (IsMet asked) _ met s h)
+line_read words (Err BadStart) met n s h = (n, was_met (HasLineFault BadStart) _ met s h)
+line_read words (Err BadLengths) met n s h = (n, was_met (HasLineFault BadLengths) _ met s h)
+line_read words (Err (Help e)) met n s h = absurd h
+line_read words (Err (Wrong e)) met n s h = absurd h
+line_read words (Err OutOfMemory) met n s h = absurd h

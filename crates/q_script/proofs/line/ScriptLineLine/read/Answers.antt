@@ -1,5 +1,5 @@
 use Rattle.q_script.proofs.Events.{alone_judged, no_command, line_judged}
-use Rattle.q_script.proofs.line.ScriptLine.read.Goals as goal
+use Rattle.q_script.proofs.line.ScriptLineLine.read.Goals as goal
 
 pub returns-in_default : goal.returns-in_default
 returns-in_default c = alone_judged c.args.text.now c.alone.result c.in_default.ensures c.alone.ensures

@@ -1,5 +1,5 @@
 use Rattle.q_nodes.proofs.Reading.{judged_fault, judged_other}
-use Rattle.q_nodes.proofs.script.read_line.Goals as goal
+use Rattle.q_nodes.proofs.script.ClusterLineLine.read.Goals as goal
 
 pub returns-in-None : goal.returns-in-None
 returns-in-None c = judged_other c.args.text.now c.in-Ok.line c.in-Ok.ensures c.in-None.ensures
