@@ -173,14 +173,14 @@ fn with_lengths<'a>(alloc: Global, command: Command<'a>) -> Result<Command<'a>, 
         alloc,
         command,
         "least",
-        "The fewest bytes that a record may have, from 16",
+        "The fewest bytes of a record, from 16",
         "16",
     )?;
     with_option(
         alloc,
         command,
         "most",
-        "The most bytes that a record may have, to 128",
+        "The most bytes of a record, to 128",
         "128",
     )
 }
