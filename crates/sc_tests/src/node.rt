@@ -1,12 +1,12 @@
 use sc_members::config::Config;
 use sc_node::fault::NodeFault;
 use sc_node::node::Node;
-use sc_view::value::VALUE_LENGTH;
+use sc_view::value::{VALUE_LENGTH, Value};
 use std::alloc::Global;
 
 // The tag under which the node begins its next store.
 fn next_store(node: &mut Node) -> Result<u64, NodeFault> {
-    let begun = node.begin_store(&[7; VALUE_LENGTH])?;
+    let begun = node.begin_store(&Value::from(&[7; VALUE_LENGTH]))?;
     Ok(begun.tag)
 }
 

@@ -1,5 +1,5 @@
 use sc_members::config::Config;
-use sc_view::value::VALUE_LENGTH;
+use sc_view::value::{VALUE_LENGTH, Value};
 use sc_world::event::Event;
 use sc_world::fault::WorldFault;
 use sc_world::laws::regular;
@@ -9,10 +9,10 @@ use std::alloc::Global;
 use std::process::Abort;
 use std::test::Fail;
 
-const fn store(node: u64, byte: u8) -> Event {
+fn store(node: u64, byte: u8) -> Event {
     Event::Store {
         node,
-        value: [byte; VALUE_LENGTH],
+        value: Value::from(&[byte; VALUE_LENGTH]),
     }
 }
 

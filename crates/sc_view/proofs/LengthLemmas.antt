@@ -4,7 +4,6 @@ use Rattle.std.specs.List.{All, AllByRecursion}
 use Rattle.std.proofs.lemmas.List.Elements.{All-from_recursion, recursion_from_All}
 use Rattle.std.specs.Ordering.{nat_cmp, is_eq}
 use Rattle.std.specs.FinMap as fin
-use Rattle.std.specs.Cmp.{nat_cmp_total}
 use Rattle.std.specs.FinMap.Entries.{find}
 use Rattle.sc_view.specs.declared.view.Stored.{Stored}
 use Rattle.sc_view.specs.Views.{ViewMap, HasValuesOf, newer, put, merge, joined}
@@ -85,7 +84,7 @@ of_length_by_chunks n cs v r is all =
 -- ---- what keeps lengths
 
 pub empty_of_length : (n : ℕ) → HasValuesOf n fin.empty
-empty_of_length n = record { at = λ id x has. absurd (no_entry x (sym (fin.get-empty {R = nat_cmp} id) ∙ has)) }
+empty_of_length n = record { at = λ id x has. absurd (no_entry x (sym (fin.get-empty nat_cmp id) ∙ has)) }
 
 newer_of_length : (n : ℕ) (o : Option Stored) (e : Stored) → ((d : Stored) → o ≡ Some d → length d.value ≡ n) → length e.value ≡ n → length (newer o e).value ≡ n
 newer_of_length n None e old new = new

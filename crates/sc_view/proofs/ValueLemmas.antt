@@ -1,8 +1,7 @@
 -- A value's bytes, as they are copied in front of zeros.
-use Rattle.std.proofs.Common.{◌≡◌, ℕ, ◌+◌, ◌-◌, ◌≤◌, List, ◌++◌, length, take, drop, replicate, sym, ap, ◌∙◌, subst}
+use Rattle.std.proofs.Common.{◌≡◌, ℕ, ◌-◌, ◌≤◌, List, ◌++◌, length, drop, replicate, sym, ap, ◌∙◌, subst}
 use Rattle.std.proofs.Math.Seq.{take-append_seam}
 use Rattle.std.proofs.lemmas.List.{drop-replicate}
-use Rattle.sc_view.specs.Values.{most_bytes}
 use Rattle.sc_view.specs.Padded.{padded, IsPadded}
 
 front_padded : (v rest : List ℕ) → length v ≤ 112 → rest ≡ replicate (112 - length v) 0 → IsPadded (length v) (v ++ rest)

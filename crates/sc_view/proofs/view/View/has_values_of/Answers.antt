@@ -1,4 +1,4 @@
-use Rattle.std.proofs.Common.{ap, subst, sym, ◌∙◌, List, ◌≡◌, length, ℕ}
+use Rattle.std.proofs.Common.{subst, sym, List, ◌≡◌, length, ℕ}
 use Rattle.std.specs.List.{All}
 use Rattle.sc_view.specs.declared.view.Stored.{Stored}
 use Rattle.sc_view.proofs.LengthLemmas.{chunks_of_length, of_length_by_chunks}
