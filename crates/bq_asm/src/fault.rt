@@ -3,7 +3,7 @@
 ghost use Rattle.std.specs.Prelude.{◌≡◌};
 ghost use Rattle.bq_asm.specs.Source.{reason};
 
-use reasons::Reason;
+use reasons::{Reason, told};
 use std::alloc::{AllocError, AllocFailed};
 
 /// Why a source is not assembled. Lines are counted from 1, and end at line feeds.
@@ -30,24 +30,15 @@ pub enum AsmFault {
 
 impl AsmFault {
     /// The reason by which the fault is told.
-    pub fn reason(&self) -> Reason
-        ensures { result ≡ reason self.now }
+    pub fn reason(self) -> Reason
+        ensures { result ≡ reason self }
     {
-        match self {
-            AsmFault::Syntax { .. } => Reason::Syntax,
-            AsmFault::Label { .. } => Reason::Label,
-            AsmFault::BadLength => Reason::BadLength,
-            AsmFault::TooLong => Reason::TooLong,
-            AsmFault::OutOfMemory => Reason::OutOfMemory,
-        }
+        told!(self, AsmFault: Syntax { .. }, Label { .. }, BadLength, TooLong, OutOfMemory)
     }
 }
 
 impl From<AllocError> for AsmFault {
-    ghost use Rattle.std.specs.Prelude.{◌≡◌};
-    ghost use Rattle.bq_asm.specs.declared.fault.AsmFault.TheVariants.{OutOfMemory};
-
-    ghost from_gives = { λ _ e. e ≡ OutOfMemory };
+    ghost from_gives = { λ _ e. e ≡ AsmFault.OutOfMemory };
 
     fn from(_error: AllocError) -> Self {
         AsmFault::OutOfMemory
@@ -55,10 +46,7 @@ impl From<AllocError> for AsmFault {
 }
 
 impl<T: Drop> From<AllocFailed<T>> for AsmFault {
-    ghost use Rattle.std.specs.Prelude.{◌≡◌};
-    ghost use Rattle.bq_asm.specs.declared.fault.AsmFault.TheVariants.{OutOfMemory};
-
-    ghost from_gives = { λ _ e. e ≡ OutOfMemory };
+    ghost from_gives = { λ _ e. e ≡ AsmFault.OutOfMemory };
 
     fn from(_error: AllocFailed<T>) -> Self {
         AsmFault::OutOfMemory

@@ -1,7 +1,10 @@
 //! Why an event is not taken.
+ghost use Rattle.std.specs.Prelude.{◌≡◌};
+ghost use Rattle.q_replay.specs.Taking.{of_book, of_check};
 
 use bq_check::fault::CheckFault;
 use q_book::fault::BookFault;
+use reasons::passed_on;
 use sc_members::config::BadFraction;
 use sc_node::fault::NodeFault;
 use std::alloc::{AllocError, AllocFailed};
@@ -16,9 +19,6 @@ pub(crate) enum Refusal {
 }
 
 impl From<BookFault> for Refusal {
-    ghost use Rattle.std.specs.Prelude.{◌≡◌};
-    ghost use Rattle.q_replay.specs.Taking.{of_book};
-
     ghost from_gives = { λ fault e. e ≡ of_book fault };
 
     fn from(fault: BookFault) -> Refusal {
@@ -30,24 +30,15 @@ impl From<BookFault> for Refusal {
 }
 
 impl From<CheckFault> for Refusal {
-    ghost use Rattle.std.specs.Prelude.{◌≡◌};
-    ghost use Rattle.q_replay.specs.Taking.{of_check};
-
     ghost from_gives = { λ fault e. e ≡ of_check fault };
 
     fn from(fault: CheckFault) -> Refusal {
-        match fault {
-            CheckFault::OutOfMemory => Refusal::OutOfMemory,
-            _ => Refusal::Mismatch,
-        }
+        passed_on!(fault, CheckFault as Refusal: OutOfMemory; else Mismatch)
     }
 }
 
 impl From<BadFraction> for Refusal {
-    ghost use Rattle.std.specs.Prelude.{◌≡◌};
-    ghost use Rattle.q_replay.specs.declared.refusal.Refusal.TheVariants.{Mismatch};
-
-    ghost from_gives = { λ _ e. e ≡ Mismatch };
+    ghost from_gives = { λ _ e. e ≡ Refusal.Mismatch };
 
     fn from(_: BadFraction) -> Refusal {
         Refusal::Mismatch
@@ -55,10 +46,7 @@ impl From<BadFraction> for Refusal {
 }
 
 impl From<AllocError> for Refusal {
-    ghost use Rattle.std.specs.Prelude.{◌≡◌};
-    ghost use Rattle.q_replay.specs.declared.refusal.Refusal.TheVariants.{OutOfMemory};
-
-    ghost from_gives = { λ _ e. e ≡ OutOfMemory };
+    ghost from_gives = { λ _ e. e ≡ Refusal.OutOfMemory };
 
     fn from(_: AllocError) -> Refusal {
         Refusal::OutOfMemory
@@ -66,10 +54,7 @@ impl From<AllocError> for Refusal {
 }
 
 impl<T: Drop> From<AllocFailed<T>> for Refusal {
-    ghost use Rattle.std.specs.Prelude.{◌≡◌};
-    ghost use Rattle.q_replay.specs.declared.refusal.Refusal.TheVariants.{OutOfMemory};
-
-    ghost from_gives = { λ _ e. e ≡ OutOfMemory };
+    ghost from_gives = { λ _ e. e ≡ Refusal.OutOfMemory };
 
     fn from(_: AllocFailed<T>) -> Refusal {
         Refusal::OutOfMemory

@@ -7,7 +7,7 @@ ghost use Rattle.q_script.specs.Records.{IsRecord, IsAbove, HasFault, IsView, Is
 
 use crate::number::{leading, pair};
 use crate::text::without_last_feed;
-use reasons::Reason;
+use reasons::{Reason, told};
 use sc_view::value::{VALUE_LENGTH, Value};
 use sc_view::view::{Stored, View, ViewFault};
 use std::alloc::Global;
@@ -38,15 +38,10 @@ pub enum RecordFault {
 
 impl RecordFault {
     /// The reason by which the fault is told.
-    pub fn reason(&self) -> Reason
-        ensures { result ≡ reason self.now }
+    pub fn reason(self) -> Reason
+        ensures { result ≡ reason self }
     {
-        match self {
-            RecordFault::Syntax => Reason::Syntax,
-            RecordFault::Unsorted => Reason::Unsorted,
-            RecordFault::BadField => Reason::MessageField,
-            RecordFault::Full => Reason::ViewFull,
-        }
+        told!(self, RecordFault: Syntax, Unsorted, BadField => MessageField, Full => ViewFull)
     }
 }
 

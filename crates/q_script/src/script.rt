@@ -7,7 +7,7 @@ ghost use Rattle.q_script.specs.Script.{IsScript, IsFault, AreLines, IsLaterFaul
 use crate::founding::Founding;
 use crate::line::{LineFault, ScriptLine};
 use crate::text::{cut, without_last_feed};
-use reasons::Reason;
+use reasons::{Reason, told};
 use std::alloc::Global;
 
 /// A script: how its cluster is founded, and its events in turn.
@@ -33,13 +33,10 @@ pub enum ScriptFault {
 
 impl ScriptFault {
     /// The reason by which the fault is told, 9 or 99.
-    pub fn reason(&self) -> Reason
-        ensures { result ≡ reason self.now }
+    pub fn reason(self) -> Reason
+        ensures { result ≡ reason self }
     {
-        match self {
-            ScriptFault::Syntax { .. } => Reason::Syntax,
-            ScriptFault::OutOfMemory => Reason::OutOfMemory,
-        }
+        told!(self, ScriptFault: Syntax { .. }, OutOfMemory)
     }
 }
 

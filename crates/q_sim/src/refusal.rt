@@ -2,6 +2,7 @@
 
 ghost use Rattle.std.specs.Prelude.{◌≡◌};
 ghost use Rattle.q_sim.specs.Refusal as refusal;
+ghost use Rattle.q_sim.specs.Refusal.{refusal_of};
 
 use bq_asm::fault::AsmFault;
 use bq_check::fault::CheckFault;
@@ -11,7 +12,7 @@ use q_history::fault::ClusterFault;
 use q_replay::fault::ReplayFault;
 use q_script::records::RecordsFault;
 use q_script::script::ScriptFault;
-use reasons::Reason;
+use reasons::{Reason, passed_on};
 use sc_members::config::BadFraction;
 use std::alloc::AllocError;
 use std::error::Error;
@@ -73,8 +74,8 @@ impl fmt::Display for Place {
 
 impl Refusal {
     /// The reason by which the refusal is told.
-    pub fn reason(&self) -> Reason
-        ensures { result ≡ refusal.reason self.now }
+    pub fn reason(self) -> Reason
+        ensures { result ≡ refusal.reason self }
     {
         match self {
             Refusal::FileFailed => Reason::FileFailed,
@@ -133,10 +134,7 @@ impl fmt::Display for Refusal {
 impl Error for Refusal {}
 
 impl From<AsmFault> for Refusal {
-    ghost use Rattle.std.specs.Prelude.{◌≡◌};
-    ghost use Rattle.q_sim.specs.declared.refusal.Refusal.TheVariants.{Assembler};
-
-    ghost from_gives = { λ fault refusal. refusal ≡ Assembler fault };
+    ghost from_gives = { λ fault refusal. refusal ≡ Refusal.Assembler fault };
 
     fn from(fault: AsmFault) -> Self {
         Refusal::Assembler(fault)
@@ -144,10 +142,7 @@ impl From<AsmFault> for Refusal {
 }
 
 impl From<DecodeFault> for Refusal {
-    ghost use Rattle.std.specs.Prelude.{◌≡◌};
-    ghost use Rattle.q_sim.specs.declared.refusal.Refusal.TheVariants.{Bytes};
-
-    ghost from_gives = { λ fault refusal. refusal ≡ Bytes fault };
+    ghost from_gives = { λ fault refusal. refusal ≡ Refusal.Bytes fault };
 
     fn from(fault: DecodeFault) -> Self {
         Refusal::Bytes(fault)
@@ -155,10 +150,7 @@ impl From<DecodeFault> for Refusal {
 }
 
 impl From<CheckFault> for Refusal {
-    ghost use Rattle.std.specs.Prelude.{◌≡◌};
-    ghost use Rattle.q_sim.specs.declared.refusal.Refusal.TheVariants.{Program};
-
-    ghost from_gives = { λ fault refusal. refusal ≡ Program fault };
+    ghost from_gives = { λ fault refusal. refusal ≡ Refusal.Program fault };
 
     fn from(fault: CheckFault) -> Self {
         Refusal::Program(fault)
@@ -166,10 +158,7 @@ impl From<CheckFault> for Refusal {
 }
 
 impl From<RecordsFault> for Refusal {
-    ghost use Rattle.std.specs.Prelude.{◌≡◌};
-    ghost use Rattle.q_sim.specs.declared.refusal.Refusal.TheVariants.{Records};
-
-    ghost from_gives = { λ fault refusal. refusal ≡ Records fault };
+    ghost from_gives = { λ fault refusal. refusal ≡ Refusal.Records fault };
 
     fn from(fault: RecordsFault) -> Self {
         Refusal::Records(fault)
@@ -177,10 +166,7 @@ impl From<RecordsFault> for Refusal {
 }
 
 impl From<ScriptFault> for Refusal {
-    ghost use Rattle.std.specs.Prelude.{◌≡◌};
-    ghost use Rattle.q_sim.specs.declared.refusal.Refusal.TheVariants.{Script};
-
-    ghost from_gives = { λ fault refusal. refusal ≡ Script fault };
+    ghost from_gives = { λ fault refusal. refusal ≡ Refusal.Script fault };
 
     fn from(fault: ScriptFault) -> Self {
         Refusal::Script(fault)
@@ -188,10 +174,7 @@ impl From<ScriptFault> for Refusal {
 }
 
 impl From<BadFraction> for Refusal {
-    ghost use Rattle.std.specs.Prelude.{◌≡◌};
-    ghost use Rattle.q_sim.specs.declared.refusal.Refusal.TheVariants.{Fraction};
-
-    ghost from_gives = { λ fault refusal. refusal ≡ Fraction fault };
+    ghost from_gives = { λ fault refusal. refusal ≡ Refusal.Fraction fault };
 
     fn from(fault: BadFraction) -> Self {
         Refusal::Fraction(fault)
@@ -199,10 +182,7 @@ impl From<BadFraction> for Refusal {
 }
 
 impl From<ClusterFault> for Refusal {
-    ghost use Rattle.std.specs.Prelude.{◌≡◌};
-    ghost use Rattle.q_sim.specs.declared.refusal.Refusal.TheVariants.{Cluster};
-
-    ghost from_gives = { λ fault refusal. refusal ≡ Cluster fault };
+    ghost from_gives = { λ fault refusal. refusal ≡ Refusal.Cluster fault };
 
     fn from(fault: ClusterFault) -> Self {
         Refusal::Cluster(fault)
@@ -210,10 +190,7 @@ impl From<ClusterFault> for Refusal {
 }
 
 impl From<ReplayFault> for Refusal {
-    ghost use Rattle.std.specs.Prelude.{◌≡◌};
-    ghost use Rattle.q_sim.specs.declared.refusal.Refusal.TheVariants.{Journal};
-
-    ghost from_gives = { λ fault refusal. refusal ≡ Journal fault };
+    ghost from_gives = { λ fault refusal. refusal ≡ Refusal.Journal fault };
 
     fn from(fault: ReplayFault) -> Self {
         Refusal::Journal(fault)
@@ -221,10 +198,7 @@ impl From<ReplayFault> for Refusal {
 }
 
 impl From<AllocError> for Refusal {
-    ghost use Rattle.std.specs.Prelude.{◌≡◌};
-    ghost use Rattle.q_sim.specs.declared.refusal.Refusal.TheVariants.{OutOfMemory};
-
-    ghost from_gives = { λ _ refusal. refusal ≡ OutOfMemory };
+    ghost from_gives = { λ _ refusal. refusal ≡ Refusal.OutOfMemory };
 
     fn from(_error: AllocError) -> Self {
         Refusal::OutOfMemory
@@ -232,15 +206,9 @@ impl From<AllocError> for Refusal {
 }
 
 impl From<FileFault> for Refusal {
-    ghost use Rattle.std.specs.Prelude.{◌≡◌};
-    ghost use Rattle.q_sim.specs.Refusal.{refusal_of};
-
     ghost from_gives = { λ fault refusal. refusal ≡ refusal_of fault };
 
     fn from(fault: FileFault) -> Self {
-        match fault {
-            FileFault::Failed => Refusal::FileFailed,
-            FileFault::OutOfMemory => Refusal::OutOfMemory,
-        }
+        passed_on!(fault, FileFault as Refusal: Failed => FileFailed, OutOfMemory)
     }
 }

@@ -4,7 +4,7 @@ ghost use Rattle.sc_members.specs.Faults.{reason};
 ghost use Rattle.sc_members.specs.Members.{Facts as KnownFacts, IsFacts, most_facts, is_overfull, no_facts, founding, present, members, union_facts, with_entered, with_joined, with_left};
 
 use crate::ids::IdSet;
-use reasons::Reason;
+use reasons::{Reason, told};
 use std::alloc::{AllocError, AllocFailed, Global};
 use std::marker::Model;
 
@@ -44,21 +44,15 @@ pub enum FactsFault {
 
 impl FactsFault {
     /// The reason by which the fault is told, 47 or 99.
-    pub fn reason(&self) -> Reason
-        ensures { result ≡ reason self.now }
+    pub fn reason(self) -> Reason
+        ensures { result ≡ reason self }
     {
-        match self {
-            FactsFault::Full => Reason::FactsFull,
-            FactsFault::OutOfMemory => Reason::OutOfMemory,
-        }
+        told!(self, FactsFault: Full => FactsFull, OutOfMemory)
     }
 }
 
 impl From<AllocError> for FactsFault {
-    ghost use Rattle.std.specs.Prelude.{◌≡◌};
-    ghost use Rattle.sc_members.specs.declared.facts.FactsFault.TheVariants.{OutOfMemory};
-
-    ghost from_gives = { λ _ e. e ≡ OutOfMemory };
+    ghost from_gives = { λ _ e. e ≡ FactsFault.OutOfMemory };
 
     fn from(_: AllocError) -> FactsFault {
         FactsFault::OutOfMemory
@@ -66,10 +60,7 @@ impl From<AllocError> for FactsFault {
 }
 
 impl<T: Drop> From<AllocFailed<T>> for FactsFault {
-    ghost use Rattle.std.specs.Prelude.{◌≡◌};
-    ghost use Rattle.sc_members.specs.declared.facts.FactsFault.TheVariants.{OutOfMemory};
-
-    ghost from_gives = { λ _ e. e ≡ OutOfMemory };
+    ghost from_gives = { λ _ e. e ≡ FactsFault.OutOfMemory };
 
     fn from(_: AllocFailed<T>) -> FactsFault {
         FactsFault::OutOfMemory

@@ -14,7 +14,7 @@ use crate::chunks::Chunks;
 use crate::row::{News, Rest, Row, merged, next_entry, place, put_entry, what_is_new};
 use crate::value::Value;
 use arrayvec::ArrayVec;
-use reasons::Reason;
+use reasons::{Reason, told};
 use std::alloc::{AllocError, AllocFailed, Global};
 use std::marker::Model;
 
@@ -82,21 +82,15 @@ pub enum ViewFault {
 
 impl ViewFault {
     /// The reason by which the fault is told, 46 or 99.
-    pub fn reason(&self) -> Reason
-        ensures { result ≡ reason self.now }
+    pub fn reason(self) -> Reason
+        ensures { result ≡ reason self }
     {
-        match self {
-            ViewFault::Full => Reason::ViewFull,
-            ViewFault::OutOfMemory => Reason::OutOfMemory,
-        }
+        told!(self, ViewFault: Full => ViewFull, OutOfMemory)
     }
 }
 
 impl From<AllocError> for ViewFault {
-    ghost use Rattle.std.specs.Prelude.{◌≡◌};
-    ghost use Rattle.sc_view.specs.declared.view.ViewFault.TheVariants.{OutOfMemory};
-
-    ghost from_gives = { λ _ e. e ≡ OutOfMemory };
+    ghost from_gives = { λ _ e. e ≡ ViewFault.OutOfMemory };
 
     fn from(_: AllocError) -> ViewFault {
         ViewFault::OutOfMemory
@@ -104,10 +98,7 @@ impl From<AllocError> for ViewFault {
 }
 
 impl<T: Drop> From<AllocFailed<T>> for ViewFault {
-    ghost use Rattle.std.specs.Prelude.{◌≡◌};
-    ghost use Rattle.sc_view.specs.declared.view.ViewFault.TheVariants.{OutOfMemory};
-
-    ghost from_gives = { λ _ e. e ≡ OutOfMemory };
+    ghost from_gives = { λ _ e. e ≡ ViewFault.OutOfMemory };
 
     fn from(_: AllocFailed<T>) -> ViewFault {
         ViewFault::OutOfMemory

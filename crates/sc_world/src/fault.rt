@@ -3,7 +3,7 @@
 ghost use Rattle.std.specs.Prelude.{◌≡◌};
 ghost use Rattle.sc_world.specs.Faults.{reason};
 
-use reasons::Reason;
+use reasons::{Reason, told};
 use sc_node::fault::NodeFault;
 use std::alloc::AllocError;
 
@@ -23,23 +23,15 @@ pub enum WorldFault {
 
 impl WorldFault {
     /// The reason by which the fault is told.
-    pub fn reason(&self) -> Reason
-        ensures { result ≡ reason self.now }
+    pub fn reason(self) -> Reason
+        ensures { result ≡ reason self }
     {
-        match self {
-            WorldFault::IdUsed => Reason::IdUsed,
-            WorldFault::NoSuchNode => Reason::NoSuchNode,
-            WorldFault::NeverSent => Reason::NeverSent,
-            WorldFault::Node(fault) => fault.reason(),
-        }
+        told!(self, WorldFault: IdUsed, NoSuchNode, NeverSent, Node(fault))
     }
 }
 
 impl From<NodeFault> for WorldFault {
-    ghost use Rattle.std.specs.Prelude.{◌≡◌};
-    ghost use Rattle.sc_world.specs.declared.fault.WorldFault.TheVariants as fault;
-
-    ghost from_gives = { λ refusal e. e ≡ fault.Node refusal };
+    ghost from_gives = { λ refusal e. e ≡ WorldFault.Node refusal };
 
     fn from(refusal: NodeFault) -> WorldFault {
         WorldFault::Node(refusal)
@@ -47,11 +39,7 @@ impl From<NodeFault> for WorldFault {
 }
 
 impl From<AllocError> for WorldFault {
-    ghost use Rattle.std.specs.Prelude.{◌≡◌};
-    ghost use Rattle.sc_node.specs.declared.fault.NodeFault.TheVariants as node_fault;
-    ghost use Rattle.sc_world.specs.declared.fault.WorldFault.TheVariants as fault;
-
-    ghost from_gives = { λ _ e. e ≡ fault.Node node_fault.OutOfMemory };
+    ghost from_gives = { λ _ e. e ≡ WorldFault.Node NodeFault.OutOfMemory };
 
     fn from(_: AllocError) -> WorldFault {
         WorldFault::Node(NodeFault::OutOfMemory)
