@@ -2,6 +2,7 @@
 
 ghost use Rattle.std.specs.Prelude.{◌≡◌};
 ghost use Rattle.bq_asm.specs.Source.{reason};
+ghost use Rattle.bq_asm.specs.declared.fault.AsmFault.TheVariants.{OutOfMemory};
 
 use reasons::{Reason, told};
 use std::alloc::{AllocError, AllocFailed};
@@ -38,7 +39,7 @@ impl AsmFault {
 }
 
 impl From<AllocError> for AsmFault {
-    ghost from_gives = { λ _ e. e ≡ AsmFault.OutOfMemory };
+    ghost from_gives = { λ _ e. e ≡ OutOfMemory };
 
     fn from(_error: AllocError) -> Self {
         AsmFault::OutOfMemory
@@ -46,7 +47,7 @@ impl From<AllocError> for AsmFault {
 }
 
 impl<T: Drop> From<AllocFailed<T>> for AsmFault {
-    ghost from_gives = { λ _ e. e ≡ AsmFault.OutOfMemory };
+    ghost from_gives = { λ _ e. e ≡ OutOfMemory };
 
     fn from(_error: AllocFailed<T>) -> Self {
         AsmFault::OutOfMemory

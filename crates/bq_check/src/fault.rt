@@ -3,6 +3,7 @@
 
 ghost use Rattle.std.specs.Prelude.{◌≡◌};
 ghost use Rattle.bq_check.specs.Reasons.{reason, fault_unit, notes_reason, flow_refusal};
+ghost use Rattle.bq_check.specs.declared.fault.NotesFault.TheVariants.{OutOfMemory};
 
 use bq_flow::fault::{FlowFault, FlowRule};
 use bq_state::rule::Rule;
@@ -97,7 +98,7 @@ impl NotesFault {
 }
 
 impl From<AllocError> for NotesFault {
-    ghost from_gives = { λ _ e. e ≡ NotesFault.OutOfMemory };
+    ghost from_gives = { λ _ e. e ≡ OutOfMemory };
 
     fn from(_error: AllocError) -> Self {
         NotesFault::OutOfMemory
@@ -105,7 +106,7 @@ impl From<AllocError> for NotesFault {
 }
 
 impl<T: Drop> From<AllocFailed<T>> for NotesFault {
-    ghost from_gives = { λ _ e. e ≡ NotesFault.OutOfMemory };
+    ghost from_gives = { λ _ e. e ≡ OutOfMemory };
 
     fn from(_error: AllocFailed<T>) -> Self {
         NotesFault::OutOfMemory

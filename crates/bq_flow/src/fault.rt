@@ -2,6 +2,7 @@
 
 ghost use Rattle.std.specs.Prelude.{◌≡◌};
 ghost use Rattle.bq_flow.specs.Faults.{rule_reason, reason};
+ghost use Rattle.bq_flow.specs.declared.fault.FlowFault.TheVariants.{OutOfMemory};
 
 use reasons::{Reason, told};
 use std::alloc::AllocError;
@@ -52,7 +53,7 @@ impl FlowFault {
 }
 
 impl From<AllocError> for FlowFault {
-    ghost from_gives = { λ _ e. e ≡ FlowFault.OutOfMemory };
+    ghost from_gives = { λ _ e. e ≡ OutOfMemory };
 
     fn from(_error: AllocError) -> Self {
         FlowFault::OutOfMemory

@@ -2,6 +2,7 @@
 
 ghost use Rattle.std.specs.Prelude.{◌≡◌};
 ghost use Rattle.q_book.specs.Faults.{reason, of_desk, memory};
+ghost use Rattle.q_book.specs.declared.fault.BookFault.TheVariants.{Node};
 
 use q_desk::fault::DeskFault;
 use reasons::{Reason, told};
@@ -28,7 +29,7 @@ impl BookFault {
 }
 
 impl From<NodeFault> for BookFault {
-    ghost from_gives = { λ refusal e. e ≡ BookFault.Node refusal };
+    ghost from_gives = { λ refusal e. e ≡ Node refusal };
 
     fn from(refusal: NodeFault) -> BookFault {
         BookFault::Node(refusal)

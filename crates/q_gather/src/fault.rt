@@ -2,6 +2,7 @@
 
 ghost use Rattle.std.specs.Prelude.{◌≡◌};
 ghost use Rattle.q_gather.specs.Faults.{reason};
+ghost use Rattle.q_gather.specs.declared.fault.GatherFault.TheVariants.{OutOfMemory};
 
 use q_replay::fault::ReplayFault;
 use reasons::{Reason, told};
@@ -32,7 +33,7 @@ impl GatherFault {
 }
 
 impl From<AllocError> for GatherFault {
-    ghost from_gives = { λ _ e. e ≡ GatherFault.OutOfMemory };
+    ghost from_gives = { λ _ e. e ≡ OutOfMemory };
 
     fn from(_: AllocError) -> GatherFault {
         GatherFault::OutOfMemory
@@ -40,7 +41,7 @@ impl From<AllocError> for GatherFault {
 }
 
 impl<T: Drop> From<AllocFailed<T>> for GatherFault {
-    ghost from_gives = { λ _ e. e ≡ GatherFault.OutOfMemory };
+    ghost from_gives = { λ _ e. e ≡ OutOfMemory };
 
     fn from(_: AllocFailed<T>) -> GatherFault {
         GatherFault::OutOfMemory

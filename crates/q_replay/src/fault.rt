@@ -2,6 +2,7 @@
 
 ghost use Rattle.std.specs.Prelude.{◌≡◌};
 ghost use Rattle.q_replay.specs.Faults.{reason, fault_event};
+ghost use Rattle.q_replay.specs.declared.fault.ReplayFault.TheVariants.{OutOfMemory};
 
 use reasons::{Reason, told};
 use std::alloc::AllocError;
@@ -38,7 +39,7 @@ impl ReplayFault {
 }
 
 impl From<AllocError> for ReplayFault {
-    ghost from_gives = { λ _ e. e ≡ ReplayFault.OutOfMemory };
+    ghost from_gives = { λ _ e. e ≡ OutOfMemory };
 
     fn from(_: AllocError) -> ReplayFault {
         ReplayFault::OutOfMemory

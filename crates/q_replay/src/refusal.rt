@@ -1,6 +1,7 @@
 //! Why an event is not taken.
 ghost use Rattle.std.specs.Prelude.{◌≡◌};
 ghost use Rattle.q_replay.specs.Taking.{of_book, of_check};
+ghost use Rattle.q_replay.specs.declared.refusal.Refusal.TheVariants.{Mismatch, OutOfMemory};
 
 use bq_check::fault::CheckFault;
 use q_book::fault::BookFault;
@@ -38,7 +39,7 @@ impl From<CheckFault> for Refusal {
 }
 
 impl From<BadFraction> for Refusal {
-    ghost from_gives = { λ _ e. e ≡ Refusal.Mismatch };
+    ghost from_gives = { λ _ e. e ≡ Mismatch };
 
     fn from(_: BadFraction) -> Refusal {
         Refusal::Mismatch
@@ -46,7 +47,7 @@ impl From<BadFraction> for Refusal {
 }
 
 impl From<AllocError> for Refusal {
-    ghost from_gives = { λ _ e. e ≡ Refusal.OutOfMemory };
+    ghost from_gives = { λ _ e. e ≡ OutOfMemory };
 
     fn from(_: AllocError) -> Refusal {
         Refusal::OutOfMemory
@@ -54,7 +55,7 @@ impl From<AllocError> for Refusal {
 }
 
 impl<T: Drop> From<AllocFailed<T>> for Refusal {
-    ghost from_gives = { λ _ e. e ≡ Refusal.OutOfMemory };
+    ghost from_gives = { λ _ e. e ≡ OutOfMemory };
 
     fn from(_: AllocFailed<T>) -> Refusal {
         Refusal::OutOfMemory

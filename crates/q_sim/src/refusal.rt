@@ -3,6 +3,7 @@
 ghost use Rattle.std.specs.Prelude.{◌≡◌};
 ghost use Rattle.q_sim.specs.Refusal as refusal;
 ghost use Rattle.q_sim.specs.Refusal.{refusal_of};
+ghost use Rattle.q_sim.specs.declared.refusal.Refusal.TheVariants.{Assembler, Bytes, Program, Records, Script, Fraction, Cluster, Journal, OutOfMemory};
 
 use bq_asm::fault::AsmFault;
 use bq_check::fault::CheckFault;
@@ -134,7 +135,7 @@ impl fmt::Display for Refusal {
 impl Error for Refusal {}
 
 impl From<AsmFault> for Refusal {
-    ghost from_gives = { λ fault refusal. refusal ≡ Refusal.Assembler fault };
+    ghost from_gives = { λ fault refusal. refusal ≡ Assembler fault };
 
     fn from(fault: AsmFault) -> Self {
         Refusal::Assembler(fault)
@@ -142,7 +143,7 @@ impl From<AsmFault> for Refusal {
 }
 
 impl From<DecodeFault> for Refusal {
-    ghost from_gives = { λ fault refusal. refusal ≡ Refusal.Bytes fault };
+    ghost from_gives = { λ fault refusal. refusal ≡ Bytes fault };
 
     fn from(fault: DecodeFault) -> Self {
         Refusal::Bytes(fault)
@@ -150,7 +151,7 @@ impl From<DecodeFault> for Refusal {
 }
 
 impl From<CheckFault> for Refusal {
-    ghost from_gives = { λ fault refusal. refusal ≡ Refusal.Program fault };
+    ghost from_gives = { λ fault refusal. refusal ≡ Program fault };
 
     fn from(fault: CheckFault) -> Self {
         Refusal::Program(fault)
@@ -158,7 +159,7 @@ impl From<CheckFault> for Refusal {
 }
 
 impl From<RecordsFault> for Refusal {
-    ghost from_gives = { λ fault refusal. refusal ≡ Refusal.Records fault };
+    ghost from_gives = { λ fault refusal. refusal ≡ Records fault };
 
     fn from(fault: RecordsFault) -> Self {
         Refusal::Records(fault)
@@ -166,7 +167,7 @@ impl From<RecordsFault> for Refusal {
 }
 
 impl From<ScriptFault> for Refusal {
-    ghost from_gives = { λ fault refusal. refusal ≡ Refusal.Script fault };
+    ghost from_gives = { λ fault refusal. refusal ≡ Script fault };
 
     fn from(fault: ScriptFault) -> Self {
         Refusal::Script(fault)
@@ -174,7 +175,7 @@ impl From<ScriptFault> for Refusal {
 }
 
 impl From<BadFraction> for Refusal {
-    ghost from_gives = { λ fault refusal. refusal ≡ Refusal.Fraction fault };
+    ghost from_gives = { λ fault refusal. refusal ≡ Fraction fault };
 
     fn from(fault: BadFraction) -> Self {
         Refusal::Fraction(fault)
@@ -182,7 +183,7 @@ impl From<BadFraction> for Refusal {
 }
 
 impl From<ClusterFault> for Refusal {
-    ghost from_gives = { λ fault refusal. refusal ≡ Refusal.Cluster fault };
+    ghost from_gives = { λ fault refusal. refusal ≡ Cluster fault };
 
     fn from(fault: ClusterFault) -> Self {
         Refusal::Cluster(fault)
@@ -190,7 +191,7 @@ impl From<ClusterFault> for Refusal {
 }
 
 impl From<ReplayFault> for Refusal {
-    ghost from_gives = { λ fault refusal. refusal ≡ Refusal.Journal fault };
+    ghost from_gives = { λ fault refusal. refusal ≡ Journal fault };
 
     fn from(fault: ReplayFault) -> Self {
         Refusal::Journal(fault)
@@ -198,7 +199,7 @@ impl From<ReplayFault> for Refusal {
 }
 
 impl From<AllocError> for Refusal {
-    ghost from_gives = { λ _ refusal. refusal ≡ Refusal.OutOfMemory };
+    ghost from_gives = { λ _ refusal. refusal ≡ OutOfMemory };
 
     fn from(_error: AllocError) -> Self {
         Refusal::OutOfMemory

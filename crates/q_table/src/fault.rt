@@ -2,6 +2,8 @@
 
 ghost use Rattle.std.specs.Prelude.{◌≡◌};
 ghost use Rattle.q_table.specs.Faults.{program_reason, reason};
+ghost use Rattle.q_table.specs.declared.fault.ProgramFault.TheVariants as program_fault;
+ghost use Rattle.q_table.specs.declared.fault.TableFault.TheVariants as table_fault;
 
 use reasons::{Reason, told};
 use std::alloc::AllocError;
@@ -25,7 +27,7 @@ impl ProgramFault {
 }
 
 impl From<AllocError> for ProgramFault {
-    ghost from_gives = { λ _ e. e ≡ ProgramFault.OutOfMemory };
+    ghost from_gives = { λ _ e. e ≡ program_fault.OutOfMemory };
 
     fn from(_: AllocError) -> ProgramFault {
         ProgramFault::OutOfMemory
@@ -51,7 +53,7 @@ impl TableFault {
 }
 
 impl From<AllocError> for TableFault {
-    ghost from_gives = { λ _ e. e ≡ TableFault.OutOfMemory };
+    ghost from_gives = { λ _ e. e ≡ table_fault.OutOfMemory };
 
     fn from(_: AllocError) -> TableFault {
         TableFault::OutOfMemory

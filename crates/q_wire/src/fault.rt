@@ -2,6 +2,7 @@
 
 ghost use Rattle.std.specs.Prelude.{◌≡◌};
 ghost use Rattle.q_wire.specs.Faults.{reason};
+ghost use Rattle.q_wire.specs.declared.fault.TransportFault.TheVariants.{OutOfMemory};
 
 use reasons::{Reason, told};
 use std::alloc::AllocError;
@@ -29,7 +30,7 @@ impl TransportFault {
 }
 
 impl From<AllocError> for TransportFault {
-    ghost from_gives = { λ _ e. e ≡ TransportFault.OutOfMemory };
+    ghost from_gives = { λ _ e. e ≡ OutOfMemory };
 
     fn from(_error: AllocError) -> Self {
         TransportFault::OutOfMemory

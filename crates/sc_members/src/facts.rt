@@ -2,6 +2,7 @@ ghost use Rattle.std.specs.Prelude.{◌≡◌, ◌≤◌, ◌↔◌, length, IsT
 ghost use Rattle.std.specs.FinSet as set;
 ghost use Rattle.sc_members.specs.Faults.{reason};
 ghost use Rattle.sc_members.specs.Members.{Facts as KnownFacts, IsFacts, most_facts, is_overfull, no_facts, founding, present, members, union_facts, with_entered, with_joined, with_left};
+ghost use Rattle.sc_members.specs.declared.facts.FactsFault.TheVariants.{OutOfMemory};
 
 use crate::ids::IdSet;
 use reasons::{Reason, told};
@@ -52,7 +53,7 @@ impl FactsFault {
 }
 
 impl From<AllocError> for FactsFault {
-    ghost from_gives = { λ _ e. e ≡ FactsFault.OutOfMemory };
+    ghost from_gives = { λ _ e. e ≡ OutOfMemory };
 
     fn from(_: AllocError) -> FactsFault {
         FactsFault::OutOfMemory
@@ -60,7 +61,7 @@ impl From<AllocError> for FactsFault {
 }
 
 impl<T: Drop> From<AllocFailed<T>> for FactsFault {
-    ghost from_gives = { λ _ e. e ≡ FactsFault.OutOfMemory };
+    ghost from_gives = { λ _ e. e ≡ OutOfMemory };
 
     fn from(_: AllocFailed<T>) -> FactsFault {
         FactsFault::OutOfMemory

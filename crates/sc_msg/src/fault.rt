@@ -2,6 +2,7 @@
 
 ghost use Rattle.std.specs.Prelude.{◌≡◌};
 ghost use Rattle.sc_msg.specs.Fault.{reason, view_fault};
+ghost use Rattle.sc_msg.specs.declared.fault.MessageFault.TheVariants.{OutOfMemory};
 
 use reasons::{Reason, passed_on, told};
 use sc_view::view::ViewFault;
@@ -38,7 +39,7 @@ impl MessageFault {
 }
 
 impl From<AllocError> for MessageFault {
-    ghost from_gives = { λ _ e. e ≡ MessageFault.OutOfMemory };
+    ghost from_gives = { λ _ e. e ≡ OutOfMemory };
 
     fn from(_error: AllocError) -> Self {
         MessageFault::OutOfMemory
@@ -46,7 +47,7 @@ impl From<AllocError> for MessageFault {
 }
 
 impl<T: Drop> From<AllocFailed<T>> for MessageFault {
-    ghost from_gives = { λ _ e. e ≡ MessageFault.OutOfMemory };
+    ghost from_gives = { λ _ e. e ≡ OutOfMemory };
 
     fn from(_error: AllocFailed<T>) -> Self {
         MessageFault::OutOfMemory

@@ -2,6 +2,7 @@
 
 ghost use Rattle.std.specs.Prelude.{◌≡◌};
 ghost use Rattle.sc_node.specs.Faults.{reason, of_view, of_facts};
+ghost use Rattle.sc_node.specs.declared.fault.NodeFault.TheVariants.{OutOfMemory};
 
 use reasons::{Reason, passed_on, told};
 use sc_members::facts::FactsFault;
@@ -40,7 +41,7 @@ impl NodeFault {
 }
 
 impl From<AllocError> for NodeFault {
-    ghost from_gives = { λ _ e. e ≡ NodeFault.OutOfMemory };
+    ghost from_gives = { λ _ e. e ≡ OutOfMemory };
 
     fn from(_: AllocError) -> NodeFault {
         NodeFault::OutOfMemory
@@ -48,7 +49,7 @@ impl From<AllocError> for NodeFault {
 }
 
 impl<T: Drop> From<AllocFailed<T>> for NodeFault {
-    ghost from_gives = { λ _ e. e ≡ NodeFault.OutOfMemory };
+    ghost from_gives = { λ _ e. e ≡ OutOfMemory };
 
     fn from(_: AllocFailed<T>) -> NodeFault {
         NodeFault::OutOfMemory

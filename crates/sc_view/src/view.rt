@@ -8,6 +8,7 @@ ghost use Rattle.sc_view.specs.Views.{IsView, is_newer, put, merge, most_entries
 ghost use Rattle.std.specs.List.{slice_get};
 ghost use Rattle.std.specs.Option.{option_copied, SomeIff};
 ghost use Rattle.sc_view.specs.declared.view.Stored.{Stored as StoredValue};
+ghost use Rattle.sc_view.specs.declared.view.ViewFault.TheVariants.{OutOfMemory};
 
 use crate::chunk::{Chunk, find};
 use crate::chunks::Chunks;
@@ -90,7 +91,7 @@ impl ViewFault {
 }
 
 impl From<AllocError> for ViewFault {
-    ghost from_gives = { λ _ e. e ≡ ViewFault.OutOfMemory };
+    ghost from_gives = { λ _ e. e ≡ OutOfMemory };
 
     fn from(_: AllocError) -> ViewFault {
         ViewFault::OutOfMemory
@@ -98,7 +99,7 @@ impl From<AllocError> for ViewFault {
 }
 
 impl<T: Drop> From<AllocFailed<T>> for ViewFault {
-    ghost from_gives = { λ _ e. e ≡ ViewFault.OutOfMemory };
+    ghost from_gives = { λ _ e. e ≡ OutOfMemory };
 
     fn from(_: AllocFailed<T>) -> ViewFault {
         ViewFault::OutOfMemory

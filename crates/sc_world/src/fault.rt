@@ -2,6 +2,8 @@
 
 ghost use Rattle.std.specs.Prelude.{◌≡◌};
 ghost use Rattle.sc_world.specs.Faults.{reason};
+ghost use Rattle.sc_node.specs.declared.fault.NodeFault.TheVariants as node_fault;
+ghost use Rattle.sc_world.specs.declared.fault.WorldFault.TheVariants as fault;
 
 use reasons::{Reason, told};
 use sc_node::fault::NodeFault;
@@ -31,7 +33,7 @@ impl WorldFault {
 }
 
 impl From<NodeFault> for WorldFault {
-    ghost from_gives = { λ refusal e. e ≡ WorldFault.Node refusal };
+    ghost from_gives = { λ refusal e. e ≡ fault.Node refusal };
 
     fn from(refusal: NodeFault) -> WorldFault {
         WorldFault::Node(refusal)
@@ -39,7 +41,7 @@ impl From<NodeFault> for WorldFault {
 }
 
 impl From<AllocError> for WorldFault {
-    ghost from_gives = { λ _ e. e ≡ WorldFault.Node NodeFault.OutOfMemory };
+    ghost from_gives = { λ _ e. e ≡ fault.Node node_fault.OutOfMemory };
 
     fn from(_: AllocError) -> WorldFault {
         WorldFault::Node(NodeFault::OutOfMemory)
