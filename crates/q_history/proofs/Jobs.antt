@@ -20,7 +20,7 @@ use Rattle.q_desk.specs.Answers.{IsAnswered}
 use Rattle.q_desk.specs.Desks as desk
 use Rattle.q_desk.specs.declared.journal.Entry.TheVariants as entry
 use Rattle.q_desk.specs.declared.fault.DeskFault.TheVariants as fault
-use Rattle.q_desk.proofs.Accepted.{ready_has_none, running_has_none, IsReadyJob, next_is, posted_is}
+use Rattle.q_desk.proofs.Accepted.{ready_has_none, running_has_none, next_is, posted_is}
 pub use Rattle.q_desk.proofs.Accepted.{IsReadyJob}
 use Rattle.q_history.proofs.Lists.{same_some, passed}
 use Rattle.q_history.proofs.Moves.{Moves, GoesOn, IsRephased, phase_moves}

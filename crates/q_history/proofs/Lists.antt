@@ -1,6 +1,5 @@
 -- Reads of lists that were appended to or written, and answers that were accepted.
 use Rattle.std.proofs.Common.{◌≡◌, ℕ, zero, suc, List, [], ◌∷◌, ◌++◌, Some, ◌⊎◌, inl, inr, slice_get, slice_set}
-use Rattle.q_desk.proofs.Accepted.{same_some}
 pub use Rattle.q_desk.proofs.Accepted.{same_some, no_some, passed, get_elsewhere, found}
 
 pub get_snoc : {X : Type 0} (xs : List X) (y : X) (k : ℕ) (x : X) → slice_get (xs ++ y ∷ []) k ≡ Some x → (slice_get xs k ≡ Some x) ⊎ (y ≡ x)

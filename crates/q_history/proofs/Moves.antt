@@ -21,7 +21,7 @@ use Rattle.q_desk.specs.declared.completed.Completed.{Completed}
 use Rattle.q_desk.specs.declared.journal.Entry.{Entry}
 use Rattle.q_desk.specs.declared.journal.Entry.TheVariants as entry
 use Rattle.q_desk.specs.declared.fault.DeskFault.TheVariants as fault
-use Rattle.q_desk.proofs.Accepted.{HasNone, Keeps, keeps_itself, collecting_has_none}
+use Rattle.q_desk.proofs.Accepted.{collecting_has_none}
 pub use Rattle.q_desk.proofs.Accepted.{HasNone, Keeps, keeps_itself, keeps_on}
 use Rattle.q_history.proofs.Lists.{passed, get_snoc, get_written, get_elsewhere, found}
 

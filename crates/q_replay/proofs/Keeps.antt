@@ -19,7 +19,7 @@ use Rattle.q_desk.specs.declared.completed.Completed.{Completed}
 use Rattle.q_desk.specs.declared.journal.Entry.{Entry}
 use Rattle.q_desk.specs.declared.journal.Entry.TheVariants as entry
 use Rattle.q_desk.specs.declared.fault.DeskFault.TheVariants as fault
-use Rattle.q_desk.proofs.Accepted.{HasNone, Keeps, keeps_itself, keeps_on, collecting_has_none, ready_has_none, IsReadyJob, next_is}
+use Rattle.q_desk.proofs.Accepted.{HasNone, collecting_has_none, ready_has_none, IsReadyJob, next_is}
 pub use Rattle.q_desk.proofs.Accepted.{Keeps, keeps_itself, keeps_on, running_has_none}
 use Rattle.q_replay.proofs.Lists.{same_some, no_some, same_answer, no_refusal, passed, and_right, get_front, get_elsewhere, found}
 
