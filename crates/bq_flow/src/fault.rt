@@ -2,7 +2,6 @@
 
 ghost use Rattle.std.specs.Prelude.{◌≡◌};
 ghost use Rattle.bq_flow.specs.Faults.{rule_reason, reason};
-ghost use Rattle.bq_flow.specs.declared.fault.FlowFault.TheVariants.{OutOfMemory};
 
 use reasons::{Reason, told};
 use std::alloc::AllocError;
@@ -53,6 +52,8 @@ impl FlowFault {
 }
 
 impl From<AllocError> for FlowFault {
+    ghost use Rattle.bq_flow.specs.declared.fault.FlowFault.TheVariants.{OutOfMemory};
+
     ghost from_gives = { λ _ e. e ≡ OutOfMemory };
 
     fn from(_error: AllocError) -> Self {

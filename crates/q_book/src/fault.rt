@@ -2,7 +2,6 @@
 
 ghost use Rattle.std.specs.Prelude.{◌≡◌};
 ghost use Rattle.q_book.specs.Faults.{reason, of_desk, memory};
-ghost use Rattle.q_book.specs.declared.fault.BookFault.TheVariants.{Node};
 
 use q_desk::fault::DeskFault;
 use reasons::{Reason, told};
@@ -29,6 +28,8 @@ impl BookFault {
 }
 
 impl From<NodeFault> for BookFault {
+    ghost use Rattle.q_book.specs.declared.fault.BookFault.TheVariants.{Node};
+
     ghost from_gives = { λ refusal e. e ≡ Node refusal };
 
     fn from(refusal: NodeFault) -> BookFault {

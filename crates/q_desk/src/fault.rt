@@ -2,7 +2,6 @@
 
 ghost use Rattle.std.specs.Prelude.{◌≡◌};
 ghost use Rattle.q_desk.specs.Faults.{of_table, reason};
-ghost use Rattle.q_desk.specs.declared.fault.DeskFault.TheVariants.{OutOfMemory};
 
 use q_table::fault::TableFault;
 use reasons::{Reason, passed_on, told};
@@ -46,6 +45,8 @@ impl From<TableFault> for DeskFault {
 }
 
 impl From<AllocError> for DeskFault {
+    ghost use Rattle.q_desk.specs.declared.fault.DeskFault.TheVariants.{OutOfMemory};
+
     ghost from_gives = { λ _ e. e ≡ OutOfMemory };
 
     fn from(_: AllocError) -> DeskFault {

@@ -2,7 +2,6 @@
 
 ghost use Rattle.std.specs.Prelude.{◌≡◌};
 ghost use Rattle.q_history.specs.Faults.{reason, of_desk, of_book, memory};
-ghost use Rattle.q_history.specs.declared.fault.ClusterFault.TheVariants.{World};
 
 use q_book::fault::BookFault;
 use q_desk::fault::DeskFault;
@@ -33,6 +32,8 @@ impl ClusterFault {
 }
 
 impl From<WorldFault> for ClusterFault {
+    ghost use Rattle.q_history.specs.declared.fault.ClusterFault.TheVariants.{World};
+
     ghost from_gives = { λ refusal e. e ≡ World refusal };
 
     fn from(refusal: WorldFault) -> ClusterFault {

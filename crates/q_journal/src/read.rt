@@ -4,7 +4,6 @@ ghost use Rattle.std.specs.Prelude.{◌≡◌, ◌++◌, IfOk, IfErr};
 ghost use Rattle.bq_check.specs.Spelling.{BeginsNone};
 ghost use Rattle.q_journal.specs.Spelling.{head_bytes, event_bytes, IsHead, IsWritten};
 ghost use Rattle.q_journal.specs.Reading.{of_text, of_notes, of_message};
-ghost use Rattle.q_journal.specs.declared.read.ReadFault.TheVariants.{OutOfMemory};
 
 use crate::body::body_of;
 use crate::head::Head;
@@ -50,6 +49,8 @@ impl From<MessageFault> for ReadFault {
 }
 
 impl<T: Drop> From<AllocFailed<T>> for ReadFault {
+    ghost use Rattle.q_journal.specs.declared.read.ReadFault.TheVariants.{OutOfMemory};
+
     ghost from_gives = { λ _ e. e ≡ OutOfMemory };
 
     fn from(_error: AllocFailed<T>) -> Self {

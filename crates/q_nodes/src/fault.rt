@@ -3,7 +3,6 @@
 ghost use Rattle.std.specs.Prelude.{◌≡◌};
 ghost use Rattle.q_nodes.specs.Faults.{bad_founders, no_such_node, of_world, place, reason, of_fault, of_open, memory, of_gather};
 ghost use Rattle.q_sim.specs.Refusal.{refusal_of};
-ghost use Rattle.q_nodes.specs.declared.fault.NodesFault.TheVariants.{Script};
 
 use q_board::fault::OpenFault;
 use q_book::fault::BookFault;
@@ -102,6 +101,8 @@ impl From<OpenFault> for NodesFault {
 }
 
 impl From<FileFault> for NodesFault {
+    ghost use Rattle.q_nodes.specs.declared.fault.NodesFault.TheVariants.{Script};
+
     ghost from_gives = { λ fault e. e ≡ Script (refusal_of fault) };
 
     fn from(fault: FileFault) -> NodesFault {

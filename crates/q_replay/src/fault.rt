@@ -2,7 +2,6 @@
 
 ghost use Rattle.std.specs.Prelude.{◌≡◌};
 ghost use Rattle.q_replay.specs.Faults.{reason, fault_event};
-ghost use Rattle.q_replay.specs.declared.fault.ReplayFault.TheVariants.{OutOfMemory};
 
 use reasons::{Reason, told};
 use std::alloc::AllocError;
@@ -39,6 +38,8 @@ impl ReplayFault {
 }
 
 impl From<AllocError> for ReplayFault {
+    ghost use Rattle.q_replay.specs.declared.fault.ReplayFault.TheVariants.{OutOfMemory};
+
     ghost from_gives = { λ _ e. e ≡ OutOfMemory };
 
     fn from(_: AllocError) -> ReplayFault {

@@ -2,7 +2,6 @@
 
 ghost use Rattle.std.specs.Prelude.{◌≡◌};
 ghost use Rattle.q_wire.specs.Faults.{reason};
-ghost use Rattle.q_wire.specs.declared.fault.TransportFault.TheVariants.{OutOfMemory};
 
 use reasons::{Reason, told};
 use std::alloc::AllocError;
@@ -30,6 +29,8 @@ impl TransportFault {
 }
 
 impl From<AllocError> for TransportFault {
+    ghost use Rattle.q_wire.specs.declared.fault.TransportFault.TheVariants.{OutOfMemory};
+
     ghost from_gives = { λ _ e. e ≡ OutOfMemory };
 
     fn from(_error: AllocError) -> Self {
