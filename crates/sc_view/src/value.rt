@@ -1,5 +1,5 @@
 //! What a node stores: 0 to 112 bytes.
-ghost use Rattle.std.specs.Prelude.{◌≡◌, ◌≤◌, ◌<◌, ◌↔◌, length, IfOk, IsErrOf};
+ghost use Rattle.std.specs.Prelude.{◌≡◌, ◌≤◌, ◌<◌, ◌↔◌, length, take, All, IfOk, IsErrOf};
 ghost use Rattle.sc_view.specs.Faults.{value_reason};
 ghost use Rattle.sc_view.specs.Values.{most_bytes};
 
@@ -82,9 +82,20 @@ impl Value {
     pub fn bytes(&self) -> &[u8]
         ensures exact { result.now ≡ self.now }
         ensures few { length result.now ≤ most_bytes }
+        ensures fit { All (λ b. b < 256) result.now }
     {
-        &self.bytes[..usize::from(self.len)]
+        first(&self.bytes, usize::from(self.len))
     }
+}
+
+// The first bytes, so many.
+#[inline]
+fn first(bytes: &[u8], len: usize) -> &[u8]
+    requires { len ≤ length bytes.now }
+    ensures front { result.now ≡ take len bytes.now }
+    ensures fit { All (λ b. b < 256) result.now }
+{
+    &bytes[..len]
 }
 
 impl From<&[u8; VALUE_LENGTH]> for Value {
