@@ -27,6 +27,34 @@ pub struct Folded {
     pub is_done: bool,
 }
 
+impl Folded {
+    // Where nothing was folded yet.
+    fn new(start: u64) -> Folded {
+        Folded {
+            acc: start,
+            steps: 0,
+            is_done: true,
+        }
+    }
+}
+
+// What is folded: a program over records, from a start, so many times.
+struct Asked<'a> {
+    program: &'a [u8],
+    records: &'a [u8],
+    start: u64,
+    folds: u64,
+}
+
+fn asked<'a>(program: &'a [u8], records: &'a [u8], start: u64, folds: u64) -> Asked<'a> {
+    Asked {
+        program,
+        records,
+        start,
+        folds,
+    }
+}
+
 /// Where nothing was folded.
 const REFUSED: Folded = Folded {
     acc: 0,
@@ -60,7 +88,7 @@ pub extern "C" fn q_speed_loop(
     start: u64,
     folds: u64,
 ) -> Folded {
-    direct::by_loop(alloc, program, records, start, folds).unwrap_or(REFUSED)
+    direct::by_loop(alloc, &asked(program, records, start, folds)).unwrap_or(REFUSED)
 }
 
 /// Folds by the machine that tests every access, over the records as they lie there.
@@ -72,7 +100,7 @@ pub extern "C" fn q_speed_machine(
     start: u64,
     folds: u64,
 ) -> Folded {
-    direct::by_machine(alloc, program, records, start, folds).unwrap_or(REFUSED)
+    direct::by_machine(alloc, &asked(program, records, start, folds)).unwrap_or(REFUSED)
 }
 
 /// Folds by the loop without tests, over a view.
@@ -84,7 +112,7 @@ pub extern "C" fn q_speed_run_fold(
     start: u64,
     folds: u64,
 ) -> Folded {
-    viewed::by_loop(alloc, program, records, start, folds).unwrap_or(REFUSED)
+    viewed::by_loop(alloc, &asked(program, records, start, folds)).unwrap_or(REFUSED)
 }
 
 /// Folds by the machine that tests every access, over a view.
@@ -96,5 +124,5 @@ pub extern "C" fn q_speed_fold_checked(
     start: u64,
     folds: u64,
 ) -> Folded {
-    viewed::by_machine(alloc, program, records, start, folds).unwrap_or(REFUSED)
+    viewed::by_machine(alloc, &asked(program, records, start, folds)).unwrap_or(REFUSED)
 }

@@ -2,8 +2,8 @@
 
 ghost use Rattle.std.specs.Prelude.{◌≤◌};
 
-use crate::Folded;
 use crate::program::certified;
+use crate::{Asked, Folded};
 use bq_frame::block::Block;
 use bq_meaning::placement::RECORD_LENGTH;
 use q_session::fold::fold_checked;
@@ -34,23 +34,13 @@ fn view_of(alloc: Global, records: &[u8]) -> Option<View> {
 }
 
 /// So many folds by the loop.
-pub(crate) fn by_loop(
-    alloc: Global,
-    program: &[u8],
-    records: &[u8],
-    start: u64,
-    folds: u64,
-) -> Option<Folded> {
-    let certified = certified(alloc, program)?;
-    let view = view_of(alloc, records)?;
+pub(crate) fn by_loop(alloc: Global, asked: &Asked<'_>) -> Option<Folded> {
+    let certified = certified(alloc, asked.program)?;
+    let view = view_of(alloc, asked.records)?;
     let mut block = Block::new(alloc).ok()?;
-    let mut folded = Folded {
-        acc: start,
-        steps: 0,
-        is_done: true,
-    };
-    for _ in 0..folds {
-        let ran = run_fold(&certified, &view, start, &mut block);
+    let mut folded = Folded::new(asked.start);
+    for _ in 0..asked.folds {
+        let ran = run_fold(&certified, &view, asked.start, &mut block);
         folded.acc = ran.acc;
         folded.steps = folded.steps.wrapping_add(ran.steps);
     }
@@ -58,22 +48,12 @@ pub(crate) fn by_loop(
 }
 
 /// So many folds by the machine.
-pub(crate) fn by_machine(
-    alloc: Global,
-    program: &[u8],
-    records: &[u8],
-    start: u64,
-    folds: u64,
-) -> Option<Folded> {
-    let certified = certified(alloc, program)?;
-    let view = view_of(alloc, records)?;
-    let mut folded = Folded {
-        acc: start,
-        steps: 0,
-        is_done: true,
-    };
-    for _ in 0..folds {
-        let ran = fold_checked(&certified, &view, start);
+pub(crate) fn by_machine(alloc: Global, asked: &Asked<'_>) -> Option<Folded> {
+    let certified = certified(alloc, asked.program)?;
+    let view = view_of(alloc, asked.records)?;
+    let mut folded = Folded::new(asked.start);
+    for _ in 0..asked.folds {
+        let ran = fold_checked(&certified, &view, asked.start);
         folded.acc = ran.acc;
         folded.steps = folded.steps.wrapping_add(ran.steps);
     }
