@@ -20,7 +20,7 @@ use Rattle.q_desk.specs.Answers.{IsAnswered}
 use Rattle.q_desk.specs.Desks as desk
 use Rattle.q_desk.specs.declared.journal.Entry.TheVariants as entry
 use Rattle.q_desk.specs.declared.fault.DeskFault.TheVariants as fault
-use Rattle.q_desk.proofs.Accepted.{ready_has_none, running_has_none, next_is, posted_is}
+use Rattle.q_desk.proofs.Accepted.{ready_has_none, running_has_none, next_is, posted_is, IsPosted as Recorded}
 pub use Rattle.q_desk.proofs.Accepted.{IsReadyJob}
 use Rattle.q_history.proofs.Lists.{same_some, passed}
 use Rattle.q_history.proofs.Moves.{Moves, GoesOn, IsRephased, phase_moves}
@@ -43,23 +43,15 @@ module _ (d : DeskState) (node : ℕ) where
 
 -- the answer of a job is recorded
 pub record IsPosted (d : DeskState) (j : Job) (ran : Ran) (e : DeskState) : Type 0 where
-  pub query : Query
-  pub view : ViewMap
-  pub at : slice_get d.queries j.query ≡ Some query
-  pub phase : query.phase ≡ Running view
-  pub fits : desk.is_job_of d.programs j query view ≡ true
-  pub moves : Moves d e (IsRephased d j.query (Answered view ran))
+  pub recorded : Recorded d j ran e
+  pub moves : Moves d e (IsRephased d j.query (Answered recorded.view ran))
   pub goes : GoesOn d (entry.Post j.query ran) e
 
 pub posted-ok : (d : DeskState) (j : Job) (ran : Ran) (y : Unit {0} × DeskState) (node : ℕ) → desk.posted d node j ran ≡ Ok y → IsPosted d j ran y.1
 posted-ok d j ran y node h =
     let p = (posted_is d j ran y node h).1 in
     record {
-      query = p.query;
-      view = p.view;
-      at = p.at;
-      phase = p.phase;
-      fits = p.fits;
+      recorded = p;
       moves =
           subst (λ (z : DeskState). Moves d z (IsRephased d j.query (Answered p.view ran))) p.is
           (phase_moves d j.query (Answered p.view ran) (d.journal ++ entry.Post j.query ran ∷ []) None (λ x here. running_has_none x.phase p.view (ap (λ (z : Query). z.phase) (same_some x p.query (sym here ∙ p.at)) ∙ p.phase)));
