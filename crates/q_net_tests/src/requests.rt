@@ -61,14 +61,8 @@ enum Reply {
     Right,
     /// 99, and no message was given.
     NoMemory,
-}
-
-/// Whether the first try of a call was refused with 99.
-fn lacks_memory<T>(tried: &Result<T, BookFault>) -> bool {
-    match tried {
-        Ok(_) => false,
-        Err(fault) => fault.reason().number() == NO_MEMORY,
-    }
+    /// Another reply, or none.
+    Wrong,
 }
 
 /// A book of a founder that is alone.
@@ -112,14 +106,31 @@ fn replies<R: Wait>(
     sent: &mut Vec<Message>,
     bytes: &[u8],
 ) -> Option<Vec<u8>> {
-    let mut input = Counted::new(bytes);
     let mut out = Counted::new(output(alloc)?);
-    serve(rt, alloc, book, &mut input, &mut out, sent).ok()?;
-    Some(out.inner)
+    let mut input = Counted::new(bytes);
+    match serve(rt, alloc, book, &mut input, &mut out, sent) {
+        Ok(()) => Some(out.inner),
+        Err(_) => None,
+    }
 }
 
-/// Serves a stream of a request and of a question for query 9, which is answered in any case. What came of the request;
-/// none where the replies are others than the right one, or 99, and then 54.
+/// What these replies to a request and to a question for query 9 say of the request.
+fn judged(replies: &[u8], right: &[u8], gave_none: bool) -> Reply {
+    match replies.split_last() {
+        Some((last, first)) if *last == NO_QUERY => {
+            if first == right {
+                Reply::Right
+            } else if first == [NO_MEMORY].as_slice() && gave_none {
+                Reply::NoMemory
+            } else {
+                Reply::Wrong
+            }
+        }
+        _ => Reply::Wrong,
+    }
+}
+
+/// Serves a stream of a request and of a question for query 9, which is answered in any case.
 fn request_once<R: Wait>(
     rt: &R,
     alloc: Global,
@@ -127,22 +138,31 @@ fn request_once<R: Wait>(
     sent: &mut Vec<Message>,
     bytes: &[u8],
     right: &[u8],
-) -> Option<Reply> {
+) -> Reply {
     let before = sent.len();
-    let replies = replies(rt, alloc, book, sent, bytes)?;
-    let (last, first) = replies.as_slice().split_last()?;
-    if *last != NO_QUERY {
-        None
-    } else if first == right {
-        Some(Reply::Right)
-    } else if first == [NO_MEMORY].as_slice() && sent.len() == before {
-        Some(Reply::NoMemory)
-    } else {
-        None
+    match replies(rt, alloc, book, sent, bytes) {
+        Some(replies) => judged(replies.as_slice(), right, sent.len() == before),
+        None => Reply::Wrong,
     }
 }
 
-/// Serves a stream, and once more where its request was answered 99. Whether the request has its right reply then.
+/// The same, and once more where the request was answered 99. Whether it has its right reply then.
+fn request_again<R: Wait>(
+    rt: &R,
+    alloc: Global,
+    book: &mut Book,
+    sent: &mut Vec<Message>,
+    bytes: &[u8],
+    right: &[u8],
+) -> bool {
+    match request_once(rt, alloc, book, sent, bytes, right) {
+        Reply::Right => true,
+        Reply::NoMemory => request_once(rt, alloc, book, sent, bytes, right) == Reply::Right,
+        Reply::Wrong => false,
+    }
+}
+
+/// The same with the stream that these digits spell.
 fn request<R: Wait>(
     rt: &R,
     alloc: Global,
@@ -150,75 +170,97 @@ fn request<R: Wait>(
     sent: &mut Vec<Message>,
     digits: &str,
     right: &[u8],
-) -> Option<bool> {
-    let bytes = stream(alloc, digits)?;
-    let mut reply = request_once(rt, alloc, book, sent, bytes.as_slice(), right)?;
-    if reply == Reply::NoMemory {
-        reply = request_once(rt, alloc, book, sent, bytes.as_slice(), right)?;
+) -> bool {
+    match stream(alloc, digits) {
+        Some(bytes) => request_again(rt, alloc, book, sent, bytes.as_slice(), right),
+        None => false,
     }
-    Some(reply == Reply::Right)
 }
 
-/// The book hears a message.
-fn hear(book: &mut Book, sent: &mut Vec<Message>, message: &Message) -> Result<(), BookFault> {
-    sent.reserve(2)?;
-    book.deliver(message)?.outs.append_to(sent);
-    Ok(())
+/// The number with which a call was refused; 0 where it was not.
+fn refusal(tried: Result<(), BookFault>) -> u8 {
+    match tried {
+        Ok(()) => 0,
+        Err(fault) => fault.reason().number(),
+    }
+}
+
+/// The book hears a message. The number with which it is refused, or 0.
+fn hear(book: &mut Book, sent: &mut Vec<Message>, message: &Message) -> u8 {
+    if sent.reserve(2).is_err() {
+        return NO_MEMORY;
+    }
+    match book.deliver(message) {
+        Ok(taken) => {
+            taken.outs.append_to(sent);
+            0
+        }
+        Err(fault) => fault.reason().number(),
+    }
 }
 
 /// The same, and once more where memory is refused.
-fn hear_again(book: &mut Book, sent: &mut Vec<Message>, message: &Message) -> Option<()> {
-    let heard = hear(book, sent, message);
-    if lacks_memory(&heard) {
-        return hear(book, sent, message).ok();
+fn hear_again(book: &mut Book, sent: &mut Vec<Message>, message: Message) -> bool {
+    match hear(book, sent, &message) {
+        NO_MEMORY => hear(book, sent, &message) == 0,
+        number => number == 0,
     }
-    heard.ok()
 }
 
-/// The book hears what it gave until it gives nothing more.
-fn settle(book: &mut Book, sent: &mut Vec<Message>) -> Option<()> {
+/// The book hears what it gave until it gives nothing more. Whether it took all.
+fn settle(book: &mut Book, sent: &mut Vec<Message>) -> bool {
+    let mut took = true;
     for _ in 0..MOST_DELIVERIES {
-        let Some(message) = sent.pop() else {
-            return Some(());
-        };
-        hear_again(book, sent, &message)?;
+        if let Some(message) = sent.pop() {
+            took = hear_again(book, sent, message) && took;
+        }
     }
-    None
+    took && sent.is_empty()
 }
 
-/// Hands out the job of the ready query, runs it and posts its result.
-fn run_job(book: &mut Book, block: &mut Block) -> Result<(), BookFault> {
-    match book.hand_out()? {
-        Some(job) => book.post(&Done::run(job, block)),
-        None => Ok(()),
+/// Hands out the job of the ready query, runs it and posts its result. The number with which that is refused, or 0.
+fn run_job(book: &mut Book, block: &mut Block) -> u8 {
+    match book.hand_out() {
+        Ok(Some(job)) => refusal(book.post(&Done::run(job, block))),
+        Ok(None) => 0,
+        Err(fault) => fault.reason().number(),
     }
 }
 
 /// The same, and once more where memory is refused.
-fn run_job_again(book: &mut Book, block: &mut Block) -> Option<()> {
-    let ran = run_job(book, block);
-    if lacks_memory(&ran) {
-        return run_job(book, block).ok();
+fn run_job_again(book: &mut Book, block: &mut Block) -> bool {
+    match run_job(book, block) {
+        NO_MEMORY => run_job(book, block) == 0,
+        number => number == 0,
     }
-    ran.ok()
 }
 
 /// Whether each request has its right reply: a program, a store, a query, and the answer of that query, which counts
 /// one record in three steps.
+fn are_right<R: Wait>(
+    rt: &R,
+    alloc: Global,
+    book: &mut Book,
+    block: &mut Block,
+    sent: &mut Vec<Message>,
+) -> bool {
+    let counted = [0, 1, 8, 0, 0, 0, 0, 0, 0, 0, 3, 0, 0, 0, 0, 0, 0, 0];
+    request(rt, alloc, book, sent, REGISTER, &[0; 5])
+        && request(rt, alloc, book, sent, STORE, &[0; 9])
+        && settle(book, sent)
+        && request(rt, alloc, book, sent, ASK, &[0; 9])
+        && request(rt, alloc, book, sent, ANSWER, &[0, 0])
+        && settle(book, sent)
+        && run_job_again(book, block)
+        && request(rt, alloc, book, sent, ANSWER, &counted)
+}
+
+/// The same of a book of its own; none where there is none.
 fn all_right<R: Wait>(rt: &R, alloc: Global) -> Option<bool> {
     let mut block = block(alloc)?;
     let mut book = alone(alloc)?;
     let mut sent: Vec<Message> = Vec::new(alloc);
-    let registered = request(rt, alloc, &mut book, &mut sent, REGISTER, &[0; 5])?;
-    let stored = request(rt, alloc, &mut book, &mut sent, STORE, &[0; 9])?;
-    settle(&mut book, &mut sent)?;
-    let asked = request(rt, alloc, &mut book, &mut sent, ASK, &[0; 9])?;
-    let open = request(rt, alloc, &mut book, &mut sent, ANSWER, &[0, 0])?;
-    settle(&mut book, &mut sent)?;
-    run_job_again(&mut book, &mut block)?;
-    let counted = [0, 1, 8, 0, 0, 0, 0, 0, 0, 0, 3, 0, 0, 0, 0, 0, 0, 0];
-    let answered = request(rt, alloc, &mut book, &mut sent, ANSWER, &counted)?;
-    Some(registered && stored && asked && open && answered)
+    Some(are_right(rt, alloc, &mut book, &mut block, &mut sent))
 }
 
 /// Run with any one allocation refused, each request has its right reply, or is answered 99, gives no message and then
