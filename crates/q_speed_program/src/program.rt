@@ -15,13 +15,13 @@ use std::alloc::Global;
 use std::str;
 
 /// The text of a source.
-pub(crate) fn assembled(alloc: Global, source: &[u8]) -> Option<Text> {
+pub fn assembled(alloc: Global, source: &[u8]) -> Option<Text> {
     let source = str::from_utf8(source).ok()?;
     assemble(alloc, source).ok()
 }
 
 /// The certificate of a program for records of 64 bytes.
-pub(crate) fn certified(alloc: Global, program: &[u8]) -> Option<Certified>
+pub fn certified(alloc: Global, program: &[u8]) -> Option<Certified>
     ensures { IfSome result (λ certified. IsIn record_length certified.lengths) }
 {
     let text = decode(alloc, program).ok()?;

@@ -2,8 +2,8 @@
 
 ghost use Rattle.std.specs.Prelude.{◌≤◌};
 
-use crate::Folded;
-use crate::program::certified;
+use q_speed_program::folded::Folded;
+use q_speed_program::program::certified;
 use bq_frame::block::Block;
 use bq_meaning::placement::RECORD_LENGTH;
 use q_session::fold::fold_checked;
