@@ -1,5 +1,5 @@
 -- What a node keeps and tells has values of one length, where what it is given has.
-use Rattle.std.proofs.Common.{◌≡◌, ℕ, Bool, true, false, not, cond, ◌==◌, ◌&&◌, List, [], ◌∷◌, map, length, Option, Some, None, is_some, Result, Ok, Err, refl, sym, ap, subst, ◌∙◌, true≢false}
+use Rattle.std.proofs.Common.{◌≡◌, ℕ, Bool, true, false, not, cond, ◌==◌, ◌&&◌, ◌+◌, nat_le, List, [], ◌∷◌, map, length, Option, Some, None, is_some, Result, Ok, Err, refl, sym, ap, subst, ◌∙◌, true≢false}
 use Rattle.std.specs.List.{All, AllByRecursion}
 use Rattle.std.specs.Option.{IfSome}
 use Rattle.std.proofs.lemmas.List.Elements.{All-from_recursion}
@@ -10,11 +10,12 @@ use Rattle.std.specs.FinSet as set
 use Rattle.sc_view.specs.declared.view.Stored.{Stored}
 use Rattle.sc_view.specs.Views.{ViewMap, HasValuesOf, put, merge}
 use Rattle.sc_view.proofs.LengthLemmas.{empty_of_length, put_of_length, merge_of_length}
-use Rattle.sc_members.specs.Members.{Config, Facts, is_overfull, with_left}
+use Rattle.sc_members.specs.Members.{Config, Facts, is_overfull, no_facts, founding, with_entered, with_left}
 use Rattle.sc_msg.specs.declared.message.Body.{Body}
 use Rattle.sc_msg.specs.declared.message.Body.TheVariants.{Enter, EnterEcho, Join, JoinEcho, Leave, LeaveEcho, Store, StoreAck, StoreEcho, CollectQuery, CollectReply}
 use Rattle.sc_msg.specs.declared.message.Message.{Message}
 use Rattle.sc_msg.specs.Lengths.{BodyHasValuesOf, MessageHasValuesOf}
+use Rattle.sc_node.specs.declared.session.OperationKind.{OperationKind}
 use Rattle.sc_node.specs.declared.session.OperationKind.TheVariants as kind
 use Rattle.sc_node.specs.declared.session.Phase.{Phase}
 use Rattle.sc_node.specs.declared.session.StoreBack.{StoreBack}
@@ -29,7 +30,7 @@ use Rattle.sc_node.specs.declared.fault.NodeFault.{NodeFault}
 use Rattle.sc_node.specs.declared.fault.NodeFault.TheVariants as fault
 use Rattle.sc_node.specs.Sessions.{apply, advanced_by, session_with, ends, ended_by, ended_at, ended_with, completed, querying, storing, count_sender, is_reached, view_in}
 use Rattle.sc_node.specs.State.{NodeState}
-use Rattle.sc_node.specs.Nodes.{fresh, founded, entered, entering, store_begun, collect_begun, left, delivered, delivery, node_after, view_after, is_reply, sessions_after, session_moved, ended_session, progress_of, ack_progress, reply_progress, answers, store_back, joins, message_from, beta_threshold, beginning, is_view_full, stored_view, store_session, collect_session, next_stored, begun, opened, tells_view, tells_facts, facts_after}
+use Rattle.sc_node.specs.Nodes.{fresh, founded, entered, entering, store_begun, collect_begun, left, delivered, delivery, node_after, view_after, is_reply, sessions_after, session_moved, ended_session, progress_of, ack_progress, reply_progress, answers, store_of, store_back, joins, message_from, beta_threshold, beginning, is_view_full, stored_view, store_session, collect_session, next_stored, begun, opened, tells_view, tells_facts, facts_after, are_founders, most_open, most_operations}
 use Rattle.sc_lengths.specs.Lengths.{KindHasValuesOf, SessionHasValuesOf, TableHasValuesOf, NodeHasValuesOf, BegunHasValuesOf, AdvanceHasValuesOf, ProgressHasValuesOf, EndedHasValuesOf, DeliveryHasValuesOf}
 
 -- ---- what an accepted call answers
@@ -46,7 +47,7 @@ module _ {A E : Type 0} where
   pub same_answer : (x y : A) → ◌≡◌ {A = Result A E} (Ok x) (Ok y) → x ≡ y
   same_answer x y is = ap (answered x) is
 
-  pub not_accepted : (e : E) (x : A) → Err e ≡ Ok x → ⊥
+  pub not_accepted : (e : E) (x : A) → ◌≡◌ {A = Result A E} (Err e) (Ok x) → ⊥
   not_accepted e x is = true≢false (sym (ap accepts is))
 
   -- what is asked first did not refuse
@@ -56,19 +57,19 @@ module _ {A E : Type 0} where
 
 -- ---- the open operations
 
+abbrev session_or : Session → Option Session → Session
+session_or o (Some p) = p
+session_or o None = o
+
+not_some : (o : Session) → None ≡ Some o → ⊥
+not_some o is = true≢false (sym (ap (λ (x : Option Session). is_some x) is))
+
 module _ (n : ℕ) where
   no_session : TableHasValuesOf n fin.empty
   no_session = record { at = λ tag o has. absurd (not_some o (sym (fin.get-empty nat_cmp tag) ∙ has)) }
-    where
-      not_some : (o : Session) → None ≡ Some o → ⊥
-      not_some o is = true≢false (sym (ap (λ (x : Option Session). is_some x) is))
 
   same_session : (o p : Session) → Some o ≡ Some p → o ≡ p
-  same_session o p is = ap (or_else o) is
-    where
-      abbrev or_else : Session → Option Session → Session
-      or_else o (Some p) = p
-      or_else o None = o
+  same_session o p is = ap (session_or o) is
 
   inserted : (b : Bool) (m : fin.FinMap nat_cmp Session) (q : ℕ) (o p : Session) → TableHasValuesOf n m → SessionHasValuesOf n o → cond b (Some o) (fin.get m q) ≡ Some p → SessionHasValuesOf n p
   inserted true m q o p table new is = subst (SessionHasValuesOf n) (same_session o p is) new
@@ -78,7 +79,7 @@ module _ (n : ℕ) where
   table_with m tag o table new = record { at = λ q p has. inserted (eq_by_cmp nat_cmp q tag) m q o p table new (sym (fin.get-insert nat_cmp_total m tag o q) ∙ has) }
 
   removed : (b : Bool) (m : fin.FinMap nat_cmp Session) (q : ℕ) (p : Session) → TableHasValuesOf n m → cond b None (fin.get m q) ≡ Some p → SessionHasValuesOf n p
-  removed true m q p table is = absurd (true≢false (sym (ap (λ (x : Option Session). is_some x) is)))
+  removed true m q p table is = absurd (not_some p is)
   removed false m q p table is = table.at q p is
 
   table_without : (m : fin.FinMap nat_cmp Session) (tag : ℕ) → TableHasValuesOf n m → TableHasValuesOf n (fin.remove m tag)
@@ -109,7 +110,7 @@ module _ (n : ℕ) where
   completed_view tag o None view = tt
   completed_view tag o (Some b) view = by_kind o.kind
     where
-      by_kind : (k : _) → IfSome (ended_with tag k (Some b)) (EndedHasValuesOf n)
+      by_kind : (k : OperationKind) → IfSome (ended_with tag k (Some b)) (EndedHasValuesOf n)
       by_kind (kind.Store e) = tt
       by_kind kind.Collect = view
 
@@ -167,7 +168,7 @@ module _ (n : ℕ) where
   stored_back None h = tt
   stored_back (Some p) h = by_advance p.tag p.advance h
     where
-      by_advance : (tag : ℕ) (a : Advance) → AdvanceHasValuesOf n a → AllByRecursion (BodyHasValuesOf n) (store_back (Some (record { tag = tag; sender = p.sender; advance = a })))
+      by_advance : (tag : ℕ) (a : Advance) → AdvanceHasValuesOf n a → AllByRecursion (BodyHasValuesOf n) (store_of tag a)
       by_advance tag (advance.Turned next view) h = (h, tt)
       by_advance tag advance.Counted h = tt
       by_advance tag advance.Ended h = tt
@@ -208,10 +209,13 @@ module _ (n : ℕ) where
 
   pub delivery_kept : (s t : NodeState) (m : Message) (d : Delivered) → NodeHasValuesOf n s → MessageHasValuesOf n m → delivered s m ≡ Ok (d, t) → NodeHasValuesOf n t × DeliveryHasValuesOf n d
   delivery_kept s t m d h told is =
-      let answer = same_answer (delivery s m.from m.body, node_after s m.from m.body) (d, t)
-      (past (tells_facts m.body && is_overfull (facts_after s m.from m.body)) fault.FactsFull (Ok (delivery s m.from m.body, node_after s m.from m.body)) (d, t)
-      (past (tells_view s m.body && is_view_full (view_after s m.body)) fault.ViewFull _ (d, t)
-      (past s.gone fault.Gone _ (d, t) is))) in (
+      let all : Delivered × NodeState = (delivery s m.from m.body, node_after s m.from m.body) in
+      let told_facts : Bool = tells_facts m.body && is_overfull (facts_after s m.from m.body) in
+      let told_view : Bool = tells_view s m.body && is_view_full (view_after s m.body) in
+      let last : Result (Delivered × NodeState) NodeFault = cond told_facts (Err fault.FactsFull) (Ok all) in
+      let middle : Result (Delivered × NodeState) NodeFault = cond told_view (Err fault.ViewFull) last in
+      let answer : all ≡ (d, t) = same_answer {A = Delivered × NodeState} {E = NodeFault} all (d, t)
+      (past told_facts fault.FactsFull (Ok all) (d, t) (past told_view fault.ViewFull last (d, t) (past s.gone fault.Gone middle (d, t) is))) in (
         subst (NodeHasValuesOf n) (ap (λ (a : Delivered × NodeState). a.1) answer) (node_kept s m.from m.body h told),
         subst (DeliveryHasValuesOf n) (ap (λ (a : Delivered × NodeState). a.0) answer) (delivery_told s m.from m.body h told),
       )
@@ -219,7 +223,13 @@ module _ (n : ℕ) where
   -- ---- the other calls
 
   begins : {A : Type 0} (s : NodeState) (rest : Result A NodeFault) (x : A) → beginning s rest ≡ Ok x → rest ≡ Ok x
-  begins s rest x is = past _ fault.NumbersOut rest x (past _ fault.SessionsFull _ x (past _ fault.NotJoined _ x (past s.gone fault.Gone _ x is)))
+  begins {A} s rest x is =
+      let out : Bool = nat_le most_operations s.operations in
+      let full : Bool = nat_le most_open (fin.len s.sessions) in
+      let last : Result A NodeFault = cond out (Err fault.NumbersOut) rest in
+      let third : Result A NodeFault = cond full (Err fault.SessionsFull) last in
+      let second : Result A NodeFault = cond (not s.joined) (Err fault.NotJoined) third in
+      past out fault.NumbersOut rest x (past full fault.SessionsFull last x (past (not s.joined) fault.NotJoined third x (past s.gone fault.Gone second x is)))
 
   stored_of_length : (s : NodeState) (value : List ℕ) → NodeHasValuesOf n s → length value ≡ n → HasValuesOf n (stored_view s value)
   stored_of_length s value h new = put_of_length n s.view s.id (next_stored s value) h.view new
@@ -228,8 +238,9 @@ module _ (n : ℕ) where
   store_kept s t value b h new is =
       let view = stored_of_length s value h new in
       let session : SessionHasValuesOf n (store_session s value) = record { kind = new; view = view } in
-      let answer = same_answer (begun s (store_session s value) (Store s.operations (stored_view s value)), opened s (stored_view s value) (s.stores + 1) (store_session s value)) (b, t)
-      (past (is_view_full (stored_view s value)) fault.ViewFull _ (b, t) (begins s _ (b, t) is)) in (
+      let all : Begun × NodeState = (begun s (store_session s value) (Store s.operations (stored_view s value)), opened s (stored_view s value) (s.stores + 1) (store_session s value)) in
+      let rest : Result (Begun × NodeState) NodeFault = cond (is_view_full (stored_view s value)) (Err fault.ViewFull) (Ok all) in
+      let answer : all ≡ (b, t) = same_answer {A = Begun × NodeState} {E = NodeFault} all (b, t) (past (is_view_full (stored_view s value)) fault.ViewFull (Ok all) (b, t) (begins s rest (b, t) is)) in (
         subst (NodeHasValuesOf n) (ap (λ (a : Begun × NodeState). a.1) answer) (record { view = view; sessions = table_with s.sessions s.operations (store_session s value) h.sessions session }),
         subst (BegunHasValuesOf n) (ap (λ (a : Begun × NodeState). a.0) answer) (record { session = session; outs = outs_of s.id (Store s.operations (stored_view s value) ∷ []) (view, tt) }),
       )
@@ -237,15 +248,18 @@ module _ (n : ℕ) where
   pub collect_kept : (s t : NodeState) (b : Begun) → NodeHasValuesOf n s → collect_begun s ≡ Ok (b, t) → NodeHasValuesOf n t × BegunHasValuesOf n b
   collect_kept s t b h is =
       let session : SessionHasValuesOf n (collect_session s) = record { kind = tt; view = tt } in
-      let answer = same_answer (begun s (collect_session s) (CollectQuery s.operations), opened s s.view s.stores (collect_session s)) (b, t) (begins s _ (b, t) is) in (
+      let all : Begun × NodeState = (begun s (collect_session s) (CollectQuery s.operations), opened s s.view s.stores (collect_session s)) in
+      let answer : all ≡ (b, t) = same_answer {A = Begun × NodeState} {E = NodeFault} all (b, t) (begins s (Ok all) (b, t) is) in (
         subst (NodeHasValuesOf n) (ap (λ (a : Begun × NodeState). a.1) answer) (record { view = h.view; sessions = table_with s.sessions s.operations (collect_session s) h.sessions session }),
         subst (BegunHasValuesOf n) (ap (λ (a : Begun × NodeState). a.0) answer) (record { session = session; outs = outs_of s.id (CollectQuery s.operations ∷ []) (tt, tt) }),
       )
 
   pub leave_kept : (s t : NodeState) (outs : List Message) → NodeHasValuesOf n s → left s ≡ Ok (outs, t) → NodeHasValuesOf n t × All (MessageHasValuesOf n) outs
   leave_kept s t outs h is =
-      let gone : NodeState = record s { facts = with_left s.facts s.id; gone = true } in
-      let answer = same_answer (message_from s.id Leave ∷ [], gone) (outs, t) (past (is_overfull (with_left s.facts s.id)) fault.FactsFull _ (outs, t) (past s.gone fault.Gone _ (outs, t) is)) in (
+      let all : List Message × NodeState = (message_from s.id Leave ∷ [], record s { facts = with_left s.facts s.id; gone = true }) in
+      let full : Bool = is_overfull (with_left s.facts s.id) in
+      let rest : Result (List Message × NodeState) NodeFault = cond full (Err fault.FactsFull) (Ok all) in
+      let answer : all ≡ (outs, t) = same_answer {A = List Message × NodeState} {E = NodeFault} all (outs, t) (past full fault.FactsFull (Ok all) (outs, t) (past s.gone fault.Gone rest (outs, t) is)) in (
         subst (NodeHasValuesOf n) (ap (λ (a : List Message × NodeState). a.1) answer) (record { view = h.view; sessions = h.sessions }),
         subst (All (MessageHasValuesOf n)) (ap (λ (a : List Message × NodeState). a.0) answer) (outs_of s.id (Leave ∷ []) (tt, tt)),
       )
@@ -258,10 +272,10 @@ module _ (n : ℕ) where
   founded_by false c id f s is = absurd (not_accepted fault.BadFounders s is)
 
   pub founder_kept : (c : Config) (id : ℕ) (ids : List ℕ) (s : NodeState) → founded c id ids ≡ Ok s → NodeHasValuesOf n s
-  founder_kept c id ids s is = founded_by _ c id _ s is
+  founder_kept c id ids s is = founded_by (are_founders ids && set.contains (set.from_list {R = nat_cmp} ids) id) c id (founding ids) s is
 
   pub entered_kept : (c : Config) (id : ℕ) → NodeHasValuesOf n (entered c id).0
-  entered_kept c id = fresh_kept c id _ false
+  entered_kept c id = fresh_kept c id (with_entered no_facts id) false
 
   pub entered_told : (c : Config) (id : ℕ) → All (MessageHasValuesOf n) (entered c id).1
   entered_told c id = outs_of id (Enter ∷ []) (tt, tt)
