@@ -19,9 +19,10 @@ use Rattle.q_desk.specs.declared.completed.Completed.{Completed}
 use Rattle.q_desk.specs.declared.journal.Entry.{Entry}
 use Rattle.q_desk.specs.declared.journal.Entry.TheVariants as entry
 use Rattle.q_desk.specs.declared.fault.DeskFault.TheVariants as fault
+use Rattle.std.specs.Cmp.{second_so}
 use Rattle.q_desk.proofs.Accepted.{HasNone, collecting_has_none, ready_has_none, IsReadyJob, next_is}
 pub use Rattle.q_desk.proofs.Accepted.{Keeps, keeps_itself, keeps_on, running_has_none}
-use Rattle.q_replay.proofs.Lists.{same_some, no_some, same_answer, no_refusal, passed, and_right, get_front, get_elsewhere, found}
+use Rattle.q_replay.proofs.Lists.{same_some, no_some, same_answer, no_refusal, passed, get_front, get_elsewhere, found}
 
 -- the desk keeps these, and its journal goes on with one entry
 pub record Goes (d : DeskState) (x : Entry) (e : DeskState) : Type 0 where
@@ -93,7 +94,7 @@ module _ (d : DeskState) (tag : ℕ) (view : ViewMap) where
   returned_by None is = keeps_itself d
   returned_by (Some k) is =
       phase_keeps d k (Ready view) d.journal d.ended (λ q at.
-      collecting_has_none q.phase (and_right (q.tag == tag) (desk.is_collecting q.phase) (found (desk.waits tag) d.queries k q is at)))
+      collecting_has_none q.phase (second_so (q.tag == tag) (desk.is_collecting q.phase) (found (desk.waits tag) d.queries k q is at)))
 
   returned_adds : (o : Option ℕ) → (desk.returned_to d view o).1.journal ≡ d.journal
   returned_adds None = refl

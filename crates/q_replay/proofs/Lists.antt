@@ -8,14 +8,6 @@ pub spared : {A E : Type 0} (b : Bool) (e : E) (r : Result A E) (y : A) → cond
 spared true e r y h = absurd (no_refusal e y h)
 spared false e r y h = (refl, h)
 
-pub and_left : (a b : Bool) → (a && b) ≡ true → a ≡ true
-and_left true b h = refl
-and_left false b h = h
-
-pub and_right : (a b : Bool) → (a && b) ≡ true → b ≡ true
-and_right true b h = h
-and_right false b h = cc
-
 pub and_both : (a b : Bool) → a ≡ true → b ≡ true → (a && b) ≡ true
 and_both true b h k = k
 and_both false b h k = h

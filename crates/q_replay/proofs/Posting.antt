@@ -21,8 +21,9 @@ use Rattle.q_desk.specs.Desks.{running_job_of, running_job_at, running_job}
 use Rattle.q_desk.specs.declared.journal.Entry.TheVariants as entry
 use Rattle.q_desk.specs.declared.fault.DeskFault.{DeskFault}
 use Rattle.q_desk.specs.declared.fault.DeskFault.TheVariants as fault
+use Rattle.std.specs.Cmp.{second_so}
 use Rattle.q_desk.proofs.Accepted.{answered, IsPosted}
-use Rattle.q_replay.proofs.Lists.{same_some, no_some, same_answer, no_refusal, passed, and_right, and_both, get_written}
+use Rattle.q_replay.proofs.Lists.{same_some, no_some, same_answer, no_refusal, passed, and_both, get_written}
 use Rattle.q_replay.proofs.Keeps.{Goes, phase_keeps, running_has_none}
 
 -- ---- what a post did
@@ -93,9 +94,9 @@ pub record IsRun (d : DeskState) (node : ℕ) (j : Job) (q : Query) (view : View
 
 pub posted_runs : (d : DeskState) (node : ℕ) (j : Job) (ran : Ran) (e : DeskState) (p : IsPosted d j ran e) → IsRun d node j p.query p.view
 posted_runs d node j ran e p =
-    let a = and_right (j.program == p.query.program) _ p.fits in
-    let b = and_right (j.start == p.query.start) _ a in
-    let c = some_program j.certified (slice_get d.programs p.query.program) (and_right (desk.is_same_view j.view p.view) _ b) in
+    let a = second_so (j.program == p.query.program) _ p.fits in
+    let b = second_so (j.start == p.query.start) _ a in
+    let c = some_program j.certified (slice_get d.programs p.query.program) (second_so (desk.is_same_view j.view p.view) _ b) in
     record { program = c.0; named = c.1; is = runs_job d node j.query p.query p.view c.0 p.at p.phase c.1 }
 
 same_bytes : (xs : List ℕ) → bytes_eq xs xs ≡ true
