@@ -51,7 +51,10 @@ impl CheckFault {
     pub fn reason(self) -> Reason
         ensures { result ≡ reason self }
     {
-        told!(self, CheckFault: WrongCount, Flow { rule, .. }, NoteForm { .. }, Entry, Rule { rule, .. }, NotCovered { .. }, OutOfMemory)
+        told!(self, CheckFault:
+            WrongCount, Flow { rule, .. }, NoteForm { .. }, Entry, Rule { rule, .. },
+            NotCovered { .. }, OutOfMemory
+        )
     }
 
     /// The unit where the fault is, counted from 0; none of 21, 22 and 99.

@@ -27,6 +27,8 @@ impl Fault {
     pub fn reason(self) -> Reason
         ensures { result ≡ reason self }
     {
-        told!(self, Fault: ReadUnset, WroteFramePointer, OutsideAccess, WroteRecord, BadPlace, StepsOut)
+        told!(self, Fault:
+            ReadUnset, WroteFramePointer, OutsideAccess, WroteRecord, BadPlace, StepsOut
+        )
     }
 }

@@ -29,6 +29,9 @@ impl Rule {
     pub fn reason(self) -> Reason
         ensures { result ≡ reason self }
     {
-        told!(self, Rule: UnsetRegister, WrongKind, OutsideFrame, OutsideRecord, RecordWritten, FramePointerWritten, AnswerKind)
+        told!(self, Rule:
+            UnsetRegister, WrongKind, OutsideFrame, OutsideRecord, RecordWritten,
+            FramePointerWritten, AnswerKind
+        )
     }
 }

@@ -32,7 +32,10 @@ impl DeskFault {
     pub fn reason(self) -> Reason
         ensures { result ≡ reason self }
     {
-        told!(self, DeskFault: UnknownProgram, TableFull, BookFull, NoSuchQuery, Stranger, AlreadyAnswered, OutOfMemory)
+        told!(self, DeskFault:
+            UnknownProgram, TableFull, BookFull, NoSuchQuery, Stranger, AlreadyAnswered,
+            OutOfMemory
+        )
     }
 }
 

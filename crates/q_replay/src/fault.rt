@@ -23,7 +23,9 @@ impl ReplayFault {
     pub fn reason(self) -> Reason
         ensures { result ≡ reason self }
     {
-        told!(self, ReplayFault: Form { .. } => JournalForm, Mismatch { .. } => JournalMismatch, OutOfMemory)
+        told!(self, ReplayFault:
+            Form { .. } => JournalForm, Mismatch { .. } => JournalMismatch, OutOfMemory
+        )
     }
 
     /// The event at which the fault stands, counted from 1; the head is event 0.

@@ -22,7 +22,10 @@ macro_rules! told {
     (@ $name:ident { } => $reason:ident) => { $crate::Reason::$reason };
     (@ $name:ident { $carried:ident }) => { $carried.reason() };
     (@ $name:ident ($carried:ident)) => { $carried.reason() };
-    ($told:expr, $fault:ident: $($name:ident $(($carried:ident))? $({ $($field:ident,)? .. })? $(=> $reason:ident)?),+) => {
+    (
+        $told:expr,
+        $fault:ident: $($name:ident $(($carried:ident))? $({ $($field:ident,)? .. })? $(=> $reason:ident)?),+
+    ) => {
         match $told {
             $($fault::$name $(($carried))? $({ $($field,)? .. })? =>
                 $crate::told!(@ $name $(($carried))? $({ $($field)? })? $(=> $reason)?),)+

@@ -34,7 +34,10 @@ impl MessageFault {
     pub fn reason(self) -> Reason
         ensures { result ≡ reason self }
     {
-        told!(self, MessageFault: BadHead, Short, TooLong => LongMessage, BadKind, Unsorted, Extra, BadField => MessageField, OutOfMemory)
+        told!(self, MessageFault:
+            BadHead, Short, TooLong => LongMessage, BadKind, Unsorted, Extra,
+            BadField => MessageField, OutOfMemory
+        )
     }
 }
 

@@ -36,7 +36,10 @@ impl NodeFault {
     pub fn reason(self) -> Reason
         ensures { result ≡ reason self }
     {
-        told!(self, NodeFault: NotJoined, Gone, SessionsFull, ViewFull, FactsFull, NumbersOut, BadFounders, OutOfMemory)
+        told!(self, NodeFault:
+            NotJoined, Gone, SessionsFull, ViewFull, FactsFull, NumbersOut, BadFounders,
+            OutOfMemory
+        )
     }
 }
 
