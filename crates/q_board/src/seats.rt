@@ -1,10 +1,6 @@
 //! What a thread needs to use a board.
 
 ghost use Rattle.std.specs.Prelude.{◌≡◌, ◌+◌, ◌*◌, ◌%◌, ◌<◌, length, MatchOption, Some, None};
-ghost use Rattle.std.specs.VecDeque.{deque_len, deque_capacity};
-ghost use Rattle.std.specs.Coded.{codes};
-ghost use Rattle.q_session.specs.contracts.job.Job as job;
-ghost use Rattle.q_session.specs.contracts.done.Done as done;
 ghost use Rattle.q_board.specs.Places.{jobs};
 ghost use Rattle.q_board.specs.Calls.{is_at};
 ghost use Rattle.q_session.specs.declared.job.Job.{Job};
@@ -35,6 +31,10 @@ pub struct AskerSeat {
 }
 
 impl Model for AskerSeat {
+    ghost use Rattle.std.specs.VecDeque.{deque_len, deque_capacity};
+    ghost use Rattle.std.specs.Coded.{codes};
+    ghost use Rattle.q_session.specs.contracts.job.Job as job;
+    ghost use Rattle.q_session.specs.contracts.done.Done as done;
     ghost use Rattle.q_board.specs.AskerModel.{AskerModel, asker_model, IsAsker};
 
     ghost Value = { AskerModel };
@@ -82,6 +82,10 @@ pub struct RunnerSeat {
 }
 
 impl Model for RunnerSeat {
+    ghost use Rattle.std.specs.VecDeque.{deque_len, deque_capacity};
+    ghost use Rattle.std.specs.Coded.{codes};
+    ghost use Rattle.q_session.specs.contracts.job.Job as job;
+    ghost use Rattle.q_session.specs.contracts.done.Done as done;
     ghost use Rattle.q_board.specs.RunnerModel.{RunnerModel, runner_model, IsRunner};
 
     ghost Value = { RunnerModel };
