@@ -121,7 +121,9 @@ fn echo_of(alloc: Global, value: Value) -> Result<Message, ViewFault> {
 /// How a message with a value of so many bytes is refused.
 fn refusal_of(alloc: Global, count: usize) -> Result<Option<EncodeFault>, Fail> {
     let bytes = [7; 112];
-    let value = Value::new(bytes.get(..count).unwrap_or_default()).ok().ok_or(ViewFault::Full)?;
+    let value = Value::new(bytes.get(..count).unwrap_or_default())
+        .ok()
+        .ok_or(ViewFault::Full)?;
     let message = echo_of(alloc, value)?;
     Ok(encode(alloc, &message).err())
 }

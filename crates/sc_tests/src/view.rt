@@ -166,7 +166,10 @@ fn values_have_their_length(rt: HostRuntime) -> Result<(), Fail> {
     let long = Value::new(&bytes[..112]).ok().ok_or(ViewFault::Full)?;
     let empty = Value::new(&[]).ok().ok_or(ViewFault::Full)?;
     let view = long_values(rt.alloc(), long, empty).ok_or(ViewFault::Full)?;
-    let lengths = view.records().fold(0, |sum: usize, (_, stored)| sum.wrapping_add(stored.value().bytes().len()));
+    let lengths = view.records().fold(
+        0,
+        |sum: usize, (_, stored)| sum.wrapping_add(stored.value().bytes().len()),
+    );
     assert_eq!(rt; lengths, 224);
     Ok(())
 }

@@ -82,12 +82,12 @@ fn size(world: &World) -> (usize, usize, usize) {
 }
 
 // Takes an event, and once more where memory is refused: the world is then as it was.
-fn step_again(rt: &impl Abort, world: &mut World, event: Event) -> Result<(), WorldFault> {
+fn step_again(rt: &impl Abort, world: &mut World, event: &Event) -> Result<(), WorldFault> {
     let before = size(world);
-    match world.step(event) {
+    match world.step(*event) {
         Err(fault) if fault.reason().number() == 99 => {
             assert_eq!(rt; size(world), before);
-            world.step(event)?;
+            world.step(*event)?;
             Ok(())
         }
         Err(fault) => Err(fault),
@@ -105,7 +105,7 @@ fn founded_again(alloc: Global, config: Config) -> Result<World, WorldFault> {
 
 fn run_again(rt: &impl Abort, world: &mut World, events: &[Event]) -> Result<(), WorldFault> {
     for event in events {
-        step_again(rt, world, *event)?;
+        step_again(rt, world, event)?;
     }
     Ok(())
 }
