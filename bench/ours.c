@@ -1,8 +1,8 @@
-// The folds of this repository, from the static library of crates/q_speed.
+// The folds of this repository, from the static libraries of crates/q_speed and crates/q_speed_view.
 //
 // A call of the library decodes the program, finds and checks its notes and makes a block or a view before it folds.
 // All that takes memory, and a fold takes none. So the folds lie between the last allocation and the first release
-// behind it: the linker gives malloc, realloc and free of the library to the functions below, which note the time.
+// behind it: the linker gives malloc, realloc and free of the libraries to the functions below, which note the time.
 #include "bench.h"
 #include <stdlib.h>
 

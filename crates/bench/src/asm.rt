@@ -3,6 +3,7 @@
 //! A source of so many units, 1 to 4,096, with a label and a jump for each four of them, is assembled so many times,
 //! one behind the other, and then its text is disassembled as often.
 
+use crate::Size;
 use anyhow::{Result, anyhow};
 use bq_asm::assemble::assemble;
 use bq_asm::disassemble::disassemble;
@@ -60,12 +61,11 @@ fn time_disassembling(
 /// Times these units so many times.
 pub(crate) fn run(
     rt: &(impl Clock + Print + Eprint + Alloc<A = Global>),
-    units: u64,
-    runs: u64,
+    size: Size,
 ) -> Result<()> {
-    let alloc = rt.alloc();
-    let source = source_of(alloc, units)?;
-    let text = assemble(alloc, source.as_str()).map_err(refused)?;
+    let Size { count, runs } = size;
+    let source = source_of(rt.alloc(), count)?;
+    let text = assemble(rt.alloc(), source.as_str()).map_err(refused)?;
     println!(rt;
         "units {} characters {} runs {runs}",
         text.units(),

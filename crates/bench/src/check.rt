@@ -3,6 +3,7 @@
 //! Of a text of so many units, 2 to 4,096, of which every second one is a branch, the notes are found and checked, so
 //! many times, one behind the other.
 
+use crate::Size;
 use anyhow::{Result, anyhow};
 use bq_check::check::check;
 use bq_check::fault::CheckFault;
@@ -90,20 +91,19 @@ fn time_once(rt: &(impl Clock + Alloc<A = Global>), bytes: &[u8]) -> Result<Time
 /// Times these units so many times.
 pub(crate) fn run(
     rt: &(impl Clock + Print + Eprint + Alloc<A = Global>),
-    units: u64,
-    runs: u64,
+    size: Size,
 ) -> Result<()> {
-    let alloc = rt.alloc();
-    let bytes = bytes_of(alloc, units)?;
+    let bytes = bytes_of(rt.alloc(), size.count)?;
     let first = time_once(rt, &bytes)?;
     println!(rt;
-        "units {} longest {} runs {runs}",
+        "units {} longest {} runs {}",
         bytes.len() / 8,
-        first.longest
+        first.longest,
+        size.runs
     )?;
     let mut verifying = first.verifying;
     let mut checking = first.checking;
-    for _ in 1..runs {
+    for _ in 1..size.runs {
         let times = time_once(rt, &bytes)?;
         verifying = verifying.min(times.verifying);
         checking = checking.min(times.checking);

@@ -18,37 +18,43 @@ mod cluster;
 mod fold;
 mod store;
 
-use anyhow::{Context, Result, bail};
+use anyhow::{Result, bail};
+use sizes::size;
 use std::env;
 
-/// A number of the command line, or another where it is not given.
-fn size(words: &[String], index: usize, usual: u64) -> Result<u64> {
-    match words.get(index) {
-        Some(word) => word
-            .parse::<u64>()
-            .context(format_args!("reading {word:?}")),
-        None => Ok(usual),
-    }
+/// How large what is measured is, and how often it is done.
+#[derive(Clone, Copy)]
+struct Size {
+    count: u64,
+    runs: u64,
+}
+
+/// The size that the words give, or the usual one.
+fn size_of(words: &[String], count: u64, runs: u64) -> Result<Size> {
+    Ok(Size {
+        count: size(words, 2, count)?,
+        runs: size(words, 3, runs)?,
+    })
 }
 
 fn main(rt: HostRuntime) -> Result<()> {
     let words: Vec<String> = env::args(&rt)?.collect(rt.alloc())?;
     match words.get(1).map(|word| word.as_str()) {
-        Some("asm") => asm::run(&rt, size(&words, 2, 64)?, size(&words, 3, 1)?),
-        Some("check") => check::run(&rt, size(&words, 2, 64)?, size(&words, 3, 1)?),
+        Some("asm") => asm::run(&rt, size_of(&words, 64, 1)?),
+        Some("check") => check::run(&rt, size_of(&words, 64, 1)?),
         Some("fold") => {
             let name = words.get(2).map_or("sum", |word| word.as_str());
             fold::run(&rt, name, size(&words, 3, 1)?)
         }
-        Some("store") => store::run(&rt, size(&words, 2, 32)?, size(&words, 3, 4)?),
+        Some("store") => store::run(&rt, size_of(&words, 32, 4)?),
         Some(word) => bail!("{word:?} is none of asm, check, fold and store"),
         None => {
-            asm::run(&rt, 64, 1)?;
-            check::run(&rt, 64, 1)?;
+            asm::run(&rt, size_of(&[], 64, 1)?)?;
+            check::run(&rt, size_of(&[], 64, 1)?)?;
             for name in ["arithmetic", "moves", "sum", "branches"] {
                 fold::run(&rt, name, 1)?;
             }
-            store::run(&rt, 32, 4)
+            store::run(&rt, size_of(&[], 32, 4)?)
         }
     }
 }

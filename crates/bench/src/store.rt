@@ -4,6 +4,7 @@
 //! them stores and one collects, each until its operation ends, and in each fourth round a node enters and joins while
 //! another leaves. Every message is the real one and is delivered by the world's own step.
 
+use crate::Size;
 use crate::cluster::Cluster;
 use anyhow::{Result, anyhow};
 use sc_world::fault::WorldFault;
@@ -26,12 +27,10 @@ fn refused(fault: WorldFault) -> anyhow::Error {
 /// Times so many rounds.
 pub(crate) fn run(
     rt: &(impl Clock + Print + Eprint + Alloc<A = Global>),
-    ids: u64,
-    rounds: u64,
+    size: Size,
 ) -> Result<()> {
-    let alloc = rt.alloc();
-    let mut cluster = Cluster::new(alloc, ids).map_err(refused)?;
-    let (took, delivered) = measure(rt, &mut cluster, rounds)?;
+    let mut cluster = Cluster::new(rt.alloc(), size.count).map_err(refused)?;
+    let (took, delivered) = measure(rt, &mut cluster, size.runs)?;
     println!(rt;
         "ids {} deliveries {delivered} operations {} ended {}",
         cluster.ids(),

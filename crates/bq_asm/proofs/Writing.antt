@@ -58,35 +58,29 @@ spaced_lacks (x ∷ xs) w = (refl, listed_lacks (x ∷ xs) w)
 text_lacks : (i : Insn) → IsInsn i → Lacks 10 (text_of i)
 text_lacks i h = lacks_append 10 (name (mnemonic_of i)) (spaced (operands_of i)) (clean_lacks 10 _ no_line_feed (name_clean (mnemonic_of i))) (spaced_lacks (operands_of i) (operands_words (Complete i) h))
 
+-- a line with nothing before its instruction and nothing behind it
+bare : (i : Insn) (line gap list : List ℕ) → IsInsn i → IsGap (operands_of i) gap → AreListed (operands_of i) list → line ≡ name (mnemonic_of i) ++ (gap ++ (list ++ [])) → Spells line (Instruction (Complete i))
+bare i line gap list h before_list listed_so parts = record {
+  before = [];
+  gap = gap;
+  list = list;
+  after = [];
+  comment = [];
+  spaces_before = tt;
+  is_gap = before_list;
+  are_listed = listed_so;
+  spaces_after = tt;
+  is_comment = tt;
+  legal = h;
+  parts = parts;
+}
+
 spells_by : (i : Insn) (xs : List (List ℕ)) → xs ≡ operands_of i → IsInsn i → Spells (name (mnemonic_of i) ++ spaced xs) (Instruction (Complete i))
-spells_by i [] e h = record {
-  before = [];
-  gap = [];
-  list = [];
-  after = [];
-  comment = [];
-  spaces_before = tt;
-  spaces_after = tt;
-  is_comment = tt;
-  legal = h;
-  is_gap = subst (λ ys. IsGap ys []) e refl;
-  are_listed = subst (λ ys. AreListed ys []) e refl;
-  parts = refl;
-}
-spells_by i (x ∷ xs) e h = record {
-  before = [];
-  gap = 32 ∷ [];
-  list = listed (x ∷ xs);
-  after = [];
-  comment = [];
-  spaces_before = tt;
-  spaces_after = tt;
-  is_comment = tt;
-  legal = h;
-  is_gap = subst (λ ys. IsGap ys (32 ∷ [])) e ((refl, tt), omega arith);
-  are_listed = subst (λ ys. AreListed ys (listed (x ∷ xs))) e (are_listed (x ∷ xs));
-  parts = ap (λ (u : List ℕ). name (mnemonic_of i) ++ (32 ∷ u)) (sym (append-nil (listed (x ∷ xs))));
-}
+spells_by i [] e h = bare i (name (mnemonic_of i) ++ spaced []) [] [] h (subst (λ ys. IsGap ys []) e refl) (subst (λ ys. AreListed ys []) e refl) refl
+spells_by i (x ∷ xs) e h =
+    bare i (name (mnemonic_of i) ++ spaced (x ∷ xs)) (32 ∷ []) (listed (x ∷ xs)) h (subst (λ ys. IsGap ys (32 ∷ [])) e ((refl, tt), omega arith))
+    (subst (λ ys. AreListed ys (listed (x ∷ xs))) e (are_listed (x ∷ xs)))
+    (ap (λ (u : List ℕ). name (mnemonic_of i) ++ (32 ∷ u)) (sym (append-nil (listed (x ∷ xs)))))
 
 -- ---- the whole
 

@@ -2,8 +2,9 @@
 
 ghost use Rattle.std.specs.Prelude.{◌≡◌};
 ghost use Rattle.bq_asm.specs.Source.{reason};
+ghost use Rattle.bq_asm.specs.declared.fault.AsmFault.TheVariants.{OutOfMemory};
 
-use reasons::Reason;
+use reasons::{Reason, told};
 use std::alloc::{AllocError, AllocFailed};
 
 /// Why a source is not assembled. Lines are counted from 1, and end at line feeds.
@@ -30,23 +31,14 @@ pub enum AsmFault {
 
 impl AsmFault {
     /// The reason by which the fault is told.
-    pub fn reason(&self) -> Reason
-        ensures { result ≡ reason self.now }
+    pub fn reason(self) -> Reason
+        ensures { result ≡ reason self }
     {
-        match self {
-            AsmFault::Syntax { .. } => Reason::Syntax,
-            AsmFault::Label { .. } => Reason::Label,
-            AsmFault::BadLength => Reason::BadLength,
-            AsmFault::TooLong => Reason::TooLong,
-            AsmFault::OutOfMemory => Reason::OutOfMemory,
-        }
+        told!(self, AsmFault: Syntax { .. }, Label { .. }, BadLength, TooLong, OutOfMemory)
     }
 }
 
 impl From<AllocError> for AsmFault {
-    ghost use Rattle.std.specs.Prelude.{◌≡◌};
-    ghost use Rattle.bq_asm.specs.declared.fault.AsmFault.TheVariants.{OutOfMemory};
-
     ghost from_gives = { λ _ e. e ≡ OutOfMemory };
 
     fn from(_error: AllocError) -> Self {
@@ -55,9 +47,6 @@ impl From<AllocError> for AsmFault {
 }
 
 impl<T: Drop> From<AllocFailed<T>> for AsmFault {
-    ghost use Rattle.std.specs.Prelude.{◌≡◌};
-    ghost use Rattle.bq_asm.specs.declared.fault.AsmFault.TheVariants.{OutOfMemory};
-
     ghost from_gives = { λ _ e. e ≡ OutOfMemory };
 
     fn from(_error: AllocFailed<T>) -> Self {

@@ -2,11 +2,12 @@
 //! each.
 
 ghost use Rattle.std.specs.Prelude.{◌≡◌};
-ghost use Rattle.bq_check.specs.Reasons.{reason, fault_unit, notes_reason};
+ghost use Rattle.bq_check.specs.Reasons.{reason, fault_unit, notes_reason, flow_refusal};
+ghost use Rattle.bq_check.specs.declared.fault.NotesFault.TheVariants.{OutOfMemory};
 
 use bq_flow::fault::{FlowFault, FlowRule};
 use bq_state::rule::Rule;
-use reasons::Reason;
+use reasons::{Reason, told};
 use std::alloc::{AllocError, AllocFailed};
 
 /// Why a text with notes is refused: the first fault, in the order in which they stand here.
@@ -47,18 +48,10 @@ pub enum CheckFault {
 
 impl CheckFault {
     /// The reason by which the fault is told: 11 to 14, 21 to 31 or 99.
-    pub fn reason(&self) -> Reason
-        ensures { result ≡ reason self.now }
+    pub fn reason(self) -> Reason
+        ensures { result ≡ reason self }
     {
-        match self {
-            CheckFault::WrongCount => Reason::WrongCount,
-            CheckFault::Flow { rule, .. } => rule.reason(),
-            CheckFault::NoteForm { .. } => Reason::NoteForm,
-            CheckFault::Entry => Reason::Entry,
-            CheckFault::Rule { rule, .. } => rule.reason(),
-            CheckFault::NotCovered { .. } => Reason::NotCovered,
-            CheckFault::OutOfMemory => Reason::OutOfMemory,
-        }
+        told!(self, CheckFault: WrongCount, Flow { rule, .. }, NoteForm { .. }, Entry, Rule { rule, .. }, NotCovered { .. }, OutOfMemory)
     }
 
     /// The unit where the fault is, counted from 0; none of 21, 22 and 99.
@@ -76,9 +69,6 @@ impl CheckFault {
 }
 
 impl From<FlowFault> for CheckFault {
-    ghost use Rattle.std.specs.Prelude.{◌≡◌};
-    ghost use Rattle.bq_check.specs.Reasons.{flow_refusal};
-
     ghost from_gives = { λ fault e. e ≡ flow_refusal fault };
 
     fn from(fault: FlowFault) -> Self {
@@ -100,20 +90,14 @@ pub enum NotesFault {
 
 impl NotesFault {
     /// The reason by which the fault is told, 31 or 99.
-    pub fn reason(&self) -> Reason
-        ensures { result ≡ notes_reason self.now }
+    pub fn reason(self) -> Reason
+        ensures { result ≡ notes_reason self }
     {
-        match self {
-            NotesFault::NoteForm => Reason::NoteForm,
-            NotesFault::OutOfMemory => Reason::OutOfMemory,
-        }
+        told!(self, NotesFault: NoteForm, OutOfMemory)
     }
 }
 
 impl From<AllocError> for NotesFault {
-    ghost use Rattle.std.specs.Prelude.{◌≡◌};
-    ghost use Rattle.bq_check.specs.declared.fault.NotesFault.TheVariants.{OutOfMemory};
-
     ghost from_gives = { λ _ e. e ≡ OutOfMemory };
 
     fn from(_error: AllocError) -> Self {
@@ -122,9 +106,6 @@ impl From<AllocError> for NotesFault {
 }
 
 impl<T: Drop> From<AllocFailed<T>> for NotesFault {
-    ghost use Rattle.std.specs.Prelude.{◌≡◌};
-    ghost use Rattle.bq_check.specs.declared.fault.NotesFault.TheVariants.{OutOfMemory};
-
     ghost from_gives = { λ _ e. e ≡ OutOfMemory };
 
     fn from(_error: AllocFailed<T>) -> Self {

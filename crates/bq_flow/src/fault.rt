@@ -3,7 +3,7 @@
 ghost use Rattle.std.specs.Prelude.{◌≡◌};
 ghost use Rattle.bq_flow.specs.Faults.{rule_reason, reason};
 
-use reasons::Reason;
+use reasons::{Reason, told};
 use std::alloc::AllocError;
 
 /// What is wrong with the flow at an instruction.
@@ -35,32 +35,23 @@ pub enum FlowFault {
 
 impl FlowRule {
     /// The reason by which the fault is told, 11 to 14.
-    pub fn reason(&self) -> Reason
-        ensures { result ≡ rule_reason self.now }
+    pub fn reason(self) -> Reason
+        ensures { result ≡ rule_reason self }
     {
-        match self {
-            FlowRule::Backward => Reason::Backward,
-            FlowRule::OutsideText => Reason::OutsideText,
-            FlowRule::IntoWide => Reason::IntoWide,
-            FlowRule::FallsOff => Reason::FallsOff,
-        }
+        told!(self, FlowRule: Backward, OutsideText, IntoWide, FallsOff)
     }
 }
 
 impl FlowFault {
     /// The reason by which the fault is told, 11 to 14 or 99.
-    pub fn reason(&self) -> Reason
-        ensures { result ≡ reason self.now }
+    pub fn reason(self) -> Reason
+        ensures { result ≡ reason self }
     {
-        match self {
-            FlowFault::At { rule, .. } => rule.reason(),
-            FlowFault::OutOfMemory => Reason::OutOfMemory,
-        }
+        told!(self, FlowFault: At { rule, .. }, OutOfMemory)
     }
 }
 
 impl From<AllocError> for FlowFault {
-    ghost use Rattle.std.specs.Prelude.{◌≡◌};
     ghost use Rattle.bq_flow.specs.declared.fault.FlowFault.TheVariants.{OutOfMemory};
 
     ghost from_gives = { λ _ e. e ≡ OutOfMemory };

@@ -2,6 +2,7 @@
 use Rattle.std.proofs.Common.{◌≡◌, ℕ, zero, suc, ◌+◌, ◌-◌, ◌/◌, ◌%◌, ◌≤◌, arith, rules, refl, ap, ◌∙◌, List, [], ◌∷◌, ◌++◌, Option, Some, take, drop}
 use Rattle.std.specs.Prelude.{Ok}
 use Rattle.std.specs.Int.{w64, to_le_bytes}
+use Rattle.std.proofs.lemmas.List.{drop-drop}
 use Rattle.std.specs.List.{splice}
 use borrow.Rule.Slice.PartMut.{put_mid}
 use Rattle.bq_word.specs.Word.{le_bytes}
@@ -23,16 +24,9 @@ take_le_bytes (suc k) (suc m) n h = ap (λ bs. (n % 256) ∷ bs) (take_le_bytes 
 eight_bytes : (n : ℕ) → to_le_bytes w64 n ≡ le_bytes 8 n
 eight_bytes n = search rules
 
-drop_twice : (a k : ℕ) (xs : List ℕ) → drop k (drop a xs) ≡ drop (a + k) xs
-drop_twice zero k xs = let e : 0 + k ≡ k = omega arith in rw e refl
-drop_twice (suc a) zero [] = let e : suc a + 0 ≡ suc (a + 0) = omega arith in rw e refl
-drop_twice (suc a) (suc k) [] = let e : suc a + suc k ≡ suc (a + suc k) = omega arith in rw e refl
-drop_twice (suc a) zero (x ∷ xs) = let e : suc a + 0 ≡ suc (a + 0) = omega arith in rw e (drop_twice a zero xs)
-drop_twice (suc a) (suc k) (x ∷ xs) = let e : suc a + suc k ≡ suc (a + suc k) = omega arith in rw e (drop_twice a (suc k) xs)
-
 -- a part of a list that is written is the list with that part put in
 part_is : (a k : ℕ) (xs ys : List ℕ) → put_mid a (a + k - a) xs ys ≡ splice xs a (a + k) ys
-part_is a k xs ys = let e : a + k - a ≡ k = omega arith in rw e (ap (λ zs. take a xs ++ (ys ++ zs)) (drop_twice a k xs))
+part_is a k xs ys = let e : a + k - a ≡ k = omega arith in rw e (ap (λ zs. take a xs ++ (ys ++ zs)) (drop-drop k a xs))
 
 -- what is found to lie in the frame
 pub lies_in_frame : (found wanted : Option Location) (l : Location) (at : ℕ) → found ≡ wanted → found ≡ Some l → l ≡ Frame at → wanted ≡ Some (Frame at)

@@ -3,7 +3,7 @@
 ghost use Rattle.std.specs.Prelude.{◌≡◌};
 ghost use Rattle.bq_meaning.specs.Faults.{reason};
 
-use reasons::Reason;
+use reasons::{Reason, told};
 
 /// Why an instruction can't be done. Where several of these hold, the one with the least number is answered.
 #[derive(Clone, Copy, Debug, PartialEq, Eq, Drop)]
@@ -24,16 +24,9 @@ pub enum Fault {
 
 impl Fault {
     /// The reason by which the fault is told, 91 to 96.
-    pub fn reason(&self) -> Reason
-        ensures { result ≡ reason self.now }
+    pub fn reason(self) -> Reason
+        ensures { result ≡ reason self }
     {
-        match self {
-            Fault::ReadUnset => Reason::ReadUnset,
-            Fault::WroteFramePointer => Reason::WroteFramePointer,
-            Fault::OutsideAccess => Reason::OutsideAccess,
-            Fault::WroteRecord => Reason::WroteRecord,
-            Fault::BadPlace => Reason::BadPlace,
-            Fault::StepsOut => Reason::StepsOut,
-        }
+        told!(self, Fault: ReadUnset, WroteFramePointer, OutsideAccess, WroteRecord, BadPlace, StepsOut)
     }
 }

@@ -65,23 +65,25 @@ made_like len k l f e m = subst (λ q. Made len q f) e m
 held_word : (v : Tagged) (w : ℕ) → v ≡ Num w → IsWord v → w < 2 ^ 64
 held_word v w e h = subst IsWord e h
 
+-- a pointer that an operation with a number moves
+moved_by : (len : ℕ) (region : Region) (op : AluOp) (s t : Span) (a : Interval) (u v : Tagged) (hu : HoldsPointer region s (Some u)) (hv : HoldsNumber a (Some v))
+    → Moved region t (λ p. operation 64 op (moved (start p region) hu.offset) hv.word) → Made len (Pointer region t) (λ p. operation 64 op (image p u) (image p v))
+moved_by len region op s t a u v hu hv to =
+    let eu = same_pointer u region hu.offset hu.is in
+    let ev = same_word v hv.word hv.is in
+    moved_made len region t (λ p. operation 64 op (moved (start p region) hu.offset) hv.word) (λ p. operation 64 op (image p u) (image p v))
+    (λ p. ap (λ (x : ℕ). operation 64 op x (image p v)) (ap (image p) eu) ∙ ap (operation 64 op (image p (Ptr region hu.offset))) (ap (image p) ev))
+    to
+
 made_on : (len : ℕ) (region : Region) (s t : Span) (a : Interval) (u v : Tagged)
     → HoldsPointer region s (Some u) → HoldsNumber a (Some v) → IsWord v → moved_on s a ≡ Some t → Made len (Pointer region t) (λ p. operation 64 Add (image p u) (image p v))
 made_on len region s t a u v hu hv small e =
-    let eu = same_pointer u region hu.offset hu.is in
-    let ev = same_word v hv.word hv.is in
-    moved_made len region t (λ p. operation 64 Add (moved (start p region) hu.offset) hv.word) (λ p. operation 64 Add (image p u) (image p v))
-    (λ p. ap (λ (x : ℕ). operation 64 Add x (image p v)) (ap (image p) eu) ∙ ap (operation 64 Add (image p (Ptr region hu.offset))) (ap (image p) ev))
-    (on region s t a hu.offset hv.word hu.within hv.within (held_word v hv.word ev small) e)
+    moved_by len region Add s t a u v hu hv (on region s t a hu.offset hv.word hu.within hv.within (held_word v hv.word (same_word v hv.word hv.is) small) e)
 
 made_back : (len : ℕ) (region : Region) (s t : Span) (a : Interval) (u v : Tagged)
     → HoldsPointer region s (Some u) → HoldsNumber a (Some v) → IsWord v → moved_back s a ≡ Some t → Made len (Pointer region t) (λ p. operation 64 Sub (image p u) (image p v))
 made_back len region s t a u v hu hv small e =
-    let eu = same_pointer u region hu.offset hu.is in
-    let ev = same_word v hv.word hv.is in
-    moved_made len region t (λ p. operation 64 Sub (moved (start p region) hu.offset) hv.word) (λ p. operation 64 Sub (image p u) (image p v))
-    (λ p. ap (λ (x : ℕ). operation 64 Sub x (image p v)) (ap (image p) eu) ∙ ap (operation 64 Sub (image p (Ptr region hu.offset))) (ap (image p) ev))
-    (back region s t a hu.offset hv.word hu.within hv.within (held_word v hv.word ev small) e)
+    moved_by len region Sub s t a u v hu hv (back region s t a hu.offset hv.word hu.within hv.within (held_word v hv.word (same_word v hv.word hv.is) small) e)
 
 turned : (len : ℕ) (k : Kind) (u v : Tagged) → Made len k (λ p. operation 64 Add (image p v) (image p u)) → Made len k (λ p. operation 64 Add (image p u) (image p v))
 turned len k u v m = record { value = m.value; holds = m.holds; word = m.word; is = λ p. swap (image p u) (image p v) ∙ m.is p }

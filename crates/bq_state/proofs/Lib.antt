@@ -1,6 +1,7 @@
 pub mod Spans
 pub mod Covering
 pub mod Keeps
+mod Entering
 pub mod Counts
 pub mod Plain
 pub mod Ways

@@ -36,6 +36,7 @@ use Rattle.bq_range.specs.Monotone.{IsPart, LeavesLess, RowsAreMonotone}
 use Rattle.bq_state.specs.Offsets.{Span, SpanWithin, signed_of, limited, is_limited, moved_on, moved_back, fits}
 use Rattle.bq_state.specs.Kinds.{StateKinds, AreLengths, kind_of, as_number, read_kind, with_kind, with_lengths, KindCovers, StateCovers, is_same, join_kinds, join_states, length_kind, entry_state}
 use Rattle.bq_state.specs.Monotone.{IsFullKind, IsFullState, IsAbove, IsRefinedAbove, SomeCovers, AreEdgesAbove, StatesAreOrdered, StatesAreMonotone}
+use Rattle.bq_state.proofs.Entering.{each_entry}
 use Rattle.bq_state.proofs.Covering.{kind_covers_itself, kind_covers_through, within_through, state_covers_itself, state_covers_through, join_covers, join_least, joined_count, joined_kind}
 use Rattle.bq_state.specs.Rules.{and_then, known, writable, number, allowed, extent, outside, readable, storable, sum_kind, difference_kind, pointer_kind, operated_kind, is_copy, alu_kind, ordered_range, operand_kind, read_operand, taken_kind, mapped, loaded_state, transfer}
 use Rattle.bq_state.specs.Edges.{narrowed, with_number, with_numbers, refined_by_number, refined_by_register, refined, along, edges}
@@ -645,24 +646,13 @@ module _ (rows : RowsAreMonotone) where
 -- ---- the entry, and joins
 
 entry_full : (l : Interval) → AreLengths l → IsFullState (entry_state l)
-entry_full l h = record { count = refl; kinds = at; lengths = h }
+entry_full l h = record { count = refl; kinds = each_entry IsFullKind l tt tt length_full words_full tt; lengths = h }
   where
     length_full : IsFullKind (length_kind l)
     length_full = elim (cases_Bool (is_single l)) [ inl e ↦ rw e (length_words l h) | inr e ↦ rw e tt ]
 
-    at : (r : ℕ) → IsFullKind (kind_of (entry_state l) r)
-    at zero = tt
-    at (suc zero) = tt
-    at (suc (suc zero)) = length_full
-    at (suc (suc (suc zero))) = record { ordered = omega arith; words = omega arith }
-    at (suc (suc (suc (suc zero)))) = tt
-    at (suc (suc (suc (suc (suc zero))))) = tt
-    at (suc (suc (suc (suc (suc (suc zero)))))) = tt
-    at (suc (suc (suc (suc (suc (suc (suc zero))))))) = tt
-    at (suc (suc (suc (suc (suc (suc (suc (suc zero)))))))) = tt
-    at (suc (suc (suc (suc (suc (suc (suc (suc (suc zero))))))))) = tt
-    at (suc (suc (suc (suc (suc (suc (suc (suc (suc (suc zero)))))))))) = tt
-    at (suc (suc (suc (suc (suc (suc (suc (suc (suc (suc (suc r))))))))))) = tt
+    words_full : IsFullKind (kind_of (entry_state l) 3)
+    words_full = record { ordered = omega arith; words = omega arith }
 
 joined_words : (a b : Interval) → IsInterval a → IsInterval b → IsInterval (join a b)
 joined_words a b h i = record { ordered = omega (arith, h.ordered, i.ordered); words = omega (arith, h.words, i.words) }

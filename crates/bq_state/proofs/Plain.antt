@@ -8,6 +8,7 @@ use Rattle.bq_state.specs.Kinds.{StateKinds, kind_of, with_kind, with_lengths, i
 use Rattle.bq_state.specs.Plain.{IsPlainKind, IsPlain, StaysPlain}
 use Rattle.bq_state.specs.declared.kind.Kind.{Kind}
 use Rattle.bq_state.specs.declared.kind.Kind.TheVariants.{Unset, Number, Pointer, Length}
+use Rattle.bq_state.proofs.Entering.{each_entry}
 use Rattle.bq_state.proofs.Keeps.{Comes, transfer_keeps, edges_keep}
 
 module _ (n : ℕ) where
@@ -57,24 +58,13 @@ module _ (n : ℕ) where
       one = let low : min n n ≡ n = omega arith in let high : max n n ≡ n = omega arith in rw (low, high) refl
 
   entry : IsPlain n (entry_state (single n))
-  entry = record { lengths = refl; kinds = at }
+  entry = record { lengths = refl; kinds = each_entry IsPlainKind (single n) tt tt length_plain tt tt }
     where
       is_one : (n == n) ≡ true
       is_one = eq-eqb n n refl
 
-      at : (r : ℕ) → IsPlainKind (kind_of (entry_state (single n)) r)
-      at zero = tt
-      at (suc zero) = tt
-      at (suc (suc zero)) = rw is_one tt
-      at (suc (suc (suc zero))) = tt
-      at (suc (suc (suc (suc zero)))) = tt
-      at (suc (suc (suc (suc (suc zero))))) = tt
-      at (suc (suc (suc (suc (suc (suc zero)))))) = tt
-      at (suc (suc (suc (suc (suc (suc (suc zero))))))) = tt
-      at (suc (suc (suc (suc (suc (suc (suc (suc zero)))))))) = tt
-      at (suc (suc (suc (suc (suc (suc (suc (suc (suc zero))))))))) = tt
-      at (suc (suc (suc (suc (suc (suc (suc (suc (suc (suc zero)))))))))) = tt
-      at (suc (suc (suc (suc (suc (suc (suc (suc (suc (suc (suc r))))))))))) = tt
+      length_plain : IsPlainKind (kind_of (entry_state (single n)) 2)
+      length_plain = rw is_one tt
 
   pub stays : StaysPlain n
   stays = record {

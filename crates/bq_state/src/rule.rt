@@ -3,7 +3,7 @@
 ghost use Rattle.std.specs.Prelude.{◌≡◌};
 ghost use Rattle.bq_state.specs.Reasons.{reason};
 
-use reasons::Reason;
+use reasons::{Reason, told};
 
 /// A rule of the checker that an instruction breaks.
 #[derive(Clone, Copy, Debug, PartialEq, Eq)]
@@ -26,17 +26,9 @@ pub enum Rule {
 
 impl Rule {
     /// The reason by which it is told: 23 to 28, or 30.
-    pub fn reason(&self) -> Reason
-        ensures { result ≡ reason self.now }
+    pub fn reason(self) -> Reason
+        ensures { result ≡ reason self }
     {
-        match self {
-            Rule::UnsetRegister => Reason::UnsetRegister,
-            Rule::WrongKind => Reason::WrongKind,
-            Rule::OutsideFrame => Reason::OutsideFrame,
-            Rule::OutsideRecord => Reason::OutsideRecord,
-            Rule::RecordWritten => Reason::RecordWritten,
-            Rule::FramePointerWritten => Reason::FramePointerWritten,
-            Rule::AnswerKind => Reason::AnswerKind,
-        }
+        told!(self, Rule: UnsetRegister, WrongKind, OutsideFrame, OutsideRecord, RecordWritten, FramePointerWritten, AnswerKind)
     }
 }

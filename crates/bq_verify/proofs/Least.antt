@@ -27,17 +27,9 @@ use Rattle.bq_check.specs.declared.fault.CheckFault.TheVariants.{WrongCount, Flo
 use Rattle.bq_verify.specs.States.{joined, edges_after, edges_from, leading_to, arriving, AreStates}
 use Rattle.bq_verify.specs.Refused.{IsFirstBroken, IsRefused}
 use Rattle.bq_verify.specs.Least.{AreLeast, NonePass}
+use Rattle.bq_verify.proofs.Notes.{Notes, same_note, no_note}
 use Rattle.bq_verify.proofs.Forward.{edges_lead}
 use Rattle.bq_verify.proofs.Passing.{came}
-
-abbrev Notes : Type 0
-Notes = List (Option StateKinds)
-
-same_note : (a b : StateKinds) → Some a ≡ Some b → a ≡ b
-same_note a b e = cc
-
-no_note : (a : StateKinds) → ◌≡◌ {A = Option StateKinds} None (Some a) → ⊥
-no_note a e = cc
 
 no_rule : (a : StateKinds) (rule : Rule) → Ok a ≡ Err rule → ⊥
 no_rule a rule e = cc

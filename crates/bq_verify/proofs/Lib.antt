@@ -3,5 +3,6 @@ pub mod Joins
 pub mod Arrivals
 pub mod Passing
 pub mod Filling
+mod Notes
 mod Least
 mod Suits

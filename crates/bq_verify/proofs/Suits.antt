@@ -18,17 +18,9 @@ use Rattle.bq_sound.specs.Passes.{note_at, AreSuited}
 use Rattle.bq_sound.proofs.Among.{among_either}
 use Rattle.bq_sound.proofs.Along.{note_within}
 use Rattle.bq_verify.specs.States.{joined, edges_after, edges_from, leading_to, arriving, AreStates}
+use Rattle.bq_verify.proofs.Notes.{Notes, same_note, no_note}
 use Rattle.bq_verify.proofs.Forward.{edges_lead}
 use Rattle.bq_verify.proofs.Passing.{came}
-
-abbrev Notes : Type 0
-Notes = List (Option StateKinds)
-
-same_note : (a b : StateKinds) → Some a ≡ Some b → a ≡ b
-same_note a b e = cc
-
-no_note : (a : StateKinds) → ◌≡◌ {A = Option StateKinds} None (Some a) → ⊥
-no_note a e = cc
 
 module _ (len : ℕ) (law : StaysPlain len) where
   fold_plain : (s : StateKinds) (xs : List StateKinds) → IsPlain len s → ((x : StateKinds) → Among x xs → IsPlain len x) → IsPlain len (fold join_states s xs)

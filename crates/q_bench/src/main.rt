@@ -16,31 +16,26 @@ mod jobs;
 mod queues;
 
 use crate::jobs::Times;
-use anyhow::{Context, Result, bail};
+use anyhow::{Result, bail};
+use sizes::size;
 use std::alloc::Global;
 use std::env;
 use std::sync::Wait;
 use std::thread::Threads;
 use std::time::Clock;
 
-/// A number of the command line, or another where it is not given.
-fn size(words: &[String], index: usize, usual: usize) -> Result<usize> {
-    match words.get(index) {
-        Some(word) => word
-            .parse::<usize>()
-            .context(format_args!("reading {word:?}")),
-        None => Ok(usual),
-    }
-}
-
 fn main(rt: HostRuntime) -> Result<()> {
     let words: Vec<String> = env::args(&rt)?.collect(rt.alloc())?;
     match words.get(1).map(|word| word.as_str()) {
-        Some("hand") => tell_hand(&rt, hand(&rt, size(&words, 2, 64)?)?),
+        Some("hand") => tell_hand(&rt, hand(&rt, size(&words, 2, 64)? as usize)?),
         Some("run") => tell(
             &rt,
             "run",
-            run(&rt, size(&words, 2, 64)?, size(&words, 3, 2)?)?,
+            run(
+                &rt,
+                size(&words, 2, 64)? as usize,
+                size(&words, 3, 2)? as usize,
+            )?,
         ),
         Some(word) => bail!("{word:?} is none of hand and run"),
         None => {

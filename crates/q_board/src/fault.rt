@@ -4,7 +4,7 @@ ghost use Rattle.std.specs.Prelude.{◌≡◌};
 ghost use Rattle.q_board.specs.Faults.{reason};
 ghost use Rattle.q_board.specs.declared.fault.OpenFault.TheVariants.{OutOfMemory};
 
-use reasons::Reason;
+use reasons::{Reason, told};
 use std::alloc::AllocError;
 
 /// 61: eight jobs of the seat are open.
@@ -22,7 +22,7 @@ pub enum OpenFault {
 
 impl RowFull {
     /// The reason by which the fault is told.
-    pub fn reason(&self) -> Reason
+    pub fn reason(self) -> Reason
         ensures { result ≡ Reason.RowFull }
     {
         Reason::RowFull
@@ -31,13 +31,10 @@ impl RowFull {
 
 impl OpenFault {
     /// The reason by which the fault is told.
-    pub fn reason(&self) -> Reason
-        ensures { result ≡ reason self.now }
+    pub fn reason(self) -> Reason
+        ensures { result ≡ reason self }
     {
-        match self {
-            OpenFault::BadCount => Reason::BadCount,
-            OpenFault::OutOfMemory => Reason::OutOfMemory,
-        }
+        told!(self, OpenFault: BadCount, OutOfMemory)
     }
 }
 

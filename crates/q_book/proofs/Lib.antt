@@ -3,3 +3,4 @@ mod Replays
 mod Journals
 mod Calls
 mod Noted
+pub mod Parts

@@ -1,10 +1,10 @@
 //! Why a book refuses a call, and the reason that is told of each.
 
 ghost use Rattle.std.specs.Prelude.{◌≡◌};
-ghost use Rattle.q_book.specs.Faults.{reason};
+ghost use Rattle.q_book.specs.Faults.{reason, of_desk, memory};
 
 use q_desk::fault::DeskFault;
-use reasons::Reason;
+use reasons::{Reason, told};
 use sc_node::fault::NodeFault;
 use std::alloc::AllocError;
 
@@ -20,18 +20,14 @@ pub enum BookFault {
 
 impl BookFault {
     /// The reason by which the fault is told.
-    pub fn reason(&self) -> Reason
-        ensures { result ≡ reason self.now }
+    pub fn reason(self) -> Reason
+        ensures { result ≡ reason self }
     {
-        match self {
-            BookFault::Node(fault) => fault.reason(),
-            BookFault::Desk(fault) => fault.reason(),
-        }
+        told!(self, BookFault: Node(fault), Desk(fault))
     }
 }
 
 impl From<NodeFault> for BookFault {
-    ghost use Rattle.std.specs.Prelude.{◌≡◌};
     ghost use Rattle.q_book.specs.declared.fault.BookFault.TheVariants.{Node};
 
     ghost from_gives = { λ refusal e. e ≡ Node refusal };
@@ -42,9 +38,6 @@ impl From<NodeFault> for BookFault {
 }
 
 impl From<DeskFault> for BookFault {
-    ghost use Rattle.std.specs.Prelude.{◌≡◌};
-    ghost use Rattle.q_book.specs.Faults.{of_desk};
-
     ghost from_gives = { λ refusal e. e ≡ of_desk refusal };
 
     fn from(refusal: DeskFault) -> BookFault {
@@ -56,9 +49,6 @@ impl From<DeskFault> for BookFault {
 }
 
 impl From<AllocError> for BookFault {
-    ghost use Rattle.std.specs.Prelude.{◌≡◌};
-    ghost use Rattle.q_book.specs.Faults.{memory};
-
     ghost from_gives = { λ _ e. e ≡ memory };
 
     fn from(_: AllocError) -> BookFault {

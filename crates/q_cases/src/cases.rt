@@ -157,7 +157,7 @@ impl Cases {
         let Outcome::Refused(denied) = &outcome else {
             return writeln!(out, "nothing to explain");
         };
-        match advice(self.alloc, denied) {
+        match advice(self.alloc, &line, denied) {
             Ok(Some(text)) => write!(out, "{text}"),
             Ok(None) => writeln!(out, "nothing to explain"),
             Err(_) => writeln!(out, "no memory"),

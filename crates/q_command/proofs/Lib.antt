@@ -1,3 +1,4 @@
 mod Auditing
 mod Lines
+mod Lists
 mod Refused

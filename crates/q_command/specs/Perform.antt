@@ -7,7 +7,8 @@ use Rattle.bq_insn.specs.Slots.{spelling, IsText}
 use Rattle.bq_asm.specs.Source as assembler
 use Rattle.bq_asm.specs.Source.{IsSource}
 use Rattle.bq_flow.specs.Paths.{IsLongest}
-use Rattle.bq_state.specs.Kinds.{StateKinds, view_lengths}
+use Rattle.bq_range.specs.Interval.{Interval}
+use Rattle.bq_state.specs.Kinds.{StateKinds}
 use Rattle.bq_sound.specs.Passes.{Passes}
 use Rattle.bq_meaning.specs.Answers.{IsAnswer}
 use Rattle.sc_view.specs.Views.{ViewMap}
@@ -40,12 +41,12 @@ pub record IsProgram (source : List ℕ) (text : List Insn) : Type 0 where
   pub legal : IsText text
   pub spelled : IsSource source text
 
--- the bytes spell a program whose notes pass
-pub record IsAccepted (source : List ℕ) : Type 0 where
+-- the bytes spell a program whose notes pass for records of these lengths
+pub record IsAccepted (lengths : Interval) (source : List ℕ) : Type 0 where
   pub text : List Insn
   pub notes : List (Option StateKinds)
   pub program : IsProgram source text
-  pub passes : Passes view_lengths text notes
+  pub passes : Passes lengths text notes
 
 -- why bytes spell no program: they are not UTF-8, or what is first wrong with the text
 abbrev pub IsUnassembled : List ℕ → Refusal → Type 0
@@ -54,10 +55,10 @@ IsUnassembled source (refusal.Assembler f) = IsUtf8 source × assembler.IsFault 
 IsUnassembled source refusal.OutOfMemory = IsUtf8 source
 IsUnassembled source r = ⊥
 
--- why bytes spell no program that the verifier accepts
-abbrev pub IsUnaccepted : List ℕ → Refusal → Type 0
-IsUnaccepted source (refusal.Program f) = (text : List Insn) × IsProgram source text × IsUncertified text (refusal.Program f)
-IsUnaccepted source r = IsUnassembled source r
+-- why bytes spell no program that the verifier accepts for records of these lengths
+abbrev pub IsUnaccepted : Interval → List ℕ → Refusal → Type 0
+IsUnaccepted lengths source (refusal.Program f) = (text : List Insn) × IsProgram source text × IsUncertified lengths text (refusal.Program f)
+IsUnaccepted lengths source r = IsUnassembled source r
 
 -- ---- answers
 
@@ -67,25 +68,26 @@ pub record Lists (source lines : List ℕ) : Type 0 where
   pub program : IsProgram source text
   pub listed : lines ≡ listing_of (spelling text)
 
--- the lines say how long the longest path of the program is, whose notes pass
-pub record Accepts (source lines : List ℕ) : Type 0 where
+-- the lines say how long the longest path of the program is, whose notes pass for records of these lengths
+pub record Accepts (lengths : Interval) (source lines : List ℕ) : Type 0 where
   pub text : List Insn
   pub notes : List (Option StateKinds)
   pub longest : ℕ
   pub program : IsProgram source text
-  pub passes : Passes view_lengths text notes
+  pub passes : Passes lengths text notes
   pub is_longest : IsLongest text longest
   pub told : lines ≡ codes "accepted longest " ++ (decimal longest ++ 10 ∷ [])
 
--- the lines say what the program comes to over the records that are listed, from the start value
-pub record Computes (source : List ℕ) (start : ℕ) (listed lines : List ℕ) : Type 0 where
+-- the lines say what the program comes to over the records that are listed, each of one of the lengths, from the start
+-- value
+pub record Computes (lengths : Interval) (source : List ℕ) (start : ℕ) (listed lines : List ℕ) : Type 0 where
   pub text : List Insn
   pub view : ViewMap
   pub acc : ℕ
   pub steps : ℕ
   pub program : IsProgram source text
   pub utf8 : IsUtf8 listed
-  pub is_view : IsView listed view
+  pub is_view : IsView lengths listed view
   pub right : IsAnswer text (view_records view) start acc steps
   pub told : lines ≡ codes "acc " ++ (decimal acc ++ (codes " steps " ++ (decimal steps ++ 10 ∷ [])))
 
@@ -101,9 +103,9 @@ abbrev pub AnswersFile : {F : Type 0} → (F → List ℕ → Result (List ℕ) 
 AnswersFile reads gives name old lines unwritten new = (bytes : List ℕ) × reads old name (Ok bytes) new × gives bytes lines × (unwritten ≡ false)
 
 -- a program is read, and then records, and what it computes over them is these lines
-abbrev pub AnswersRun : {F : Type 0} → (F → List ℕ → Result (List ℕ) FileFault → F → Type 0) → List ℕ → ℕ → List ℕ → F → List ℕ → Bool → F → Type 0
-AnswersRun {F} reads name start records old lines unwritten new =
-    (source : List ℕ) × (between : F) × reads old name (Ok source) between × AnswersFile reads (Computes source start) records between lines unwritten new
+abbrev pub AnswersRun : {F : Type 0} → (F → List ℕ → Result (List ℕ) FileFault → F → Type 0) → Interval → List ℕ → ℕ → List ℕ → F → List ℕ → Bool → F → Type 0
+AnswersRun {F} reads lengths name start records old lines unwritten new =
+    (source : List ℕ) × (between : F) × reads old name (Ok source) between × AnswersFile reads (Computes lengths source start) records between lines unwritten new
 
 -- a script is read, and prints these lines
 abbrev pub AnswersScript : {F : Type 0} → (F → List ℕ → Result (List ℕ) FileFault → F → Type 0) → Writing F → List ℕ → F → List ℕ → Bool → F → Type 0
@@ -113,19 +115,19 @@ AnswersScript {F} reads writes name old lines unwritten new =
 -- the command answers these lines, over files that stand thus before and after
 abbrev pub Answers : {F : Type 0} → (F → List ℕ → Result (List ℕ) FileFault → F → Type 0) → Writing F → FileCommand → F → List ℕ → Bool → F → Type 0
 Answers reads writes (Asm file) old lines unwritten new = AnswersFile reads Lists file.now old lines unwritten new
-Answers reads writes (Check file) old lines unwritten new = AnswersFile reads Accepts file.now old lines unwritten new
-Answers reads writes (Run file start records) old lines unwritten new = AnswersRun reads file.now start records.now old lines unwritten new
+Answers reads writes (Check file lengths) old lines unwritten new = AnswersFile reads (Accepts lengths) file.now old lines unwritten new
+Answers reads writes (Run file start records lengths) old lines unwritten new = AnswersRun reads lengths file.now start records.now old lines unwritten new
 Answers reads writes (Sim script) old lines unwritten new = AnswersScript reads writes script.now old lines unwritten new
 Answers reads writes (Audit journal) old lines unwritten new = AnswersFile reads Audits journal.now old lines unwritten new
 
 -- ---- refusals
 
--- why bytes list no records
-abbrev pub IsUnlisted : List ℕ → Refusal → Type 0
-IsUnlisted listed refusal.FileFailed = ¬ (IsUtf8 listed)
-IsUnlisted listed (refusal.Records f) = IsUtf8 listed × record_lists.IsRefusal listed f
-IsUnlisted listed refusal.OutOfMemory = IsUtf8 listed
-IsUnlisted listed r = ⊥
+-- why bytes list no records of these lengths
+abbrev pub IsUnlisted : Interval → List ℕ → Refusal → Type 0
+IsUnlisted lengths listed refusal.FileFailed = ¬ (IsUtf8 listed)
+IsUnlisted lengths listed (refusal.Records f) = IsUtf8 listed × record_lists.IsRefusal lengths listed f
+IsUnlisted lengths listed refusal.OutOfMemory = IsUtf8 listed
+IsUnlisted lengths listed r = ⊥
 
 -- why the script is not run that these bytes spell, or why they spell none
 abbrev pub IsUnsimulated : List ℕ → Refusal → Type 0
@@ -145,10 +147,10 @@ RefusesFile reads refuses name old denied new =
     ⊎ ((denied.file.now ≡ name) × reads old name (Ok denied.bytes.items) new × refuses denied.bytes.items denied.refusal)
 
 -- the program is refused, or it is accepted and the records are refused
-abbrev pub RefusesRun : {F : Type 0} → (F → List ℕ → Result (List ℕ) FileFault → F → Type 0) → List ℕ → List ℕ → F → Denied → F → Type 0
-RefusesRun {F} reads name records old denied new =
-    RefusesFile reads IsUnaccepted name old denied new
-    ⊎ ((source : List ℕ) × (between : F) × reads old name (Ok source) between × IsAccepted source × RefusesFile reads IsUnlisted records between denied new)
+abbrev pub RefusesRun : {F : Type 0} → (F → List ℕ → Result (List ℕ) FileFault → F → Type 0) → Interval → List ℕ → List ℕ → F → Denied → F → Type 0
+RefusesRun {F} reads lengths name records old denied new =
+    RefusesFile reads (IsUnaccepted lengths) name old denied new
+    ⊎ ((source : List ℕ) × (between : F) × reads old name (Ok source) between × IsAccepted lengths source × RefusesFile reads (IsUnlisted lengths) records between denied new)
 
 -- The script is not read, or it is not run. Unless memory ran out, nothing is written.
 abbrev pub RefusesScript : {F : Type 0} → (F → List ℕ → Result (List ℕ) FileFault → F → Type 0) → List ℕ → F → Denied → F → Type 0
@@ -160,8 +162,8 @@ RefusesScript {F} reads name old denied new =
 -- the command is refused for this reason, over files that stand thus before and after
 abbrev pub Refuses : {F : Type 0} → (F → List ℕ → Result (List ℕ) FileFault → F → Type 0) → FileCommand → F → Denied → F → Type 0
 Refuses reads (Asm file) old denied new = RefusesFile reads IsUnassembled file.now old denied new
-Refuses reads (Check file) old denied new = RefusesFile reads IsUnaccepted file.now old denied new
-Refuses reads (Run file start records) old denied new = RefusesRun reads file.now records.now old denied new
+Refuses reads (Check file lengths) old denied new = RefusesFile reads (IsUnaccepted lengths) file.now old denied new
+Refuses reads (Run file start records lengths) old denied new = RefusesRun reads lengths file.now records.now old denied new
 Refuses reads (Sim script) old denied new = RefusesScript reads script.now old denied new
 Refuses reads (Audit journal) old denied new = RefusesFile reads IsUnaudited journal.now old denied new
 

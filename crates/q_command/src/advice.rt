@@ -14,6 +14,7 @@ use q_replay::fault::ReplayFault;
 use q_script::records::{RecordFault, RecordsFault};
 use q_script::script::ScriptFault;
 use q_sim::refusal::Refusal;
+use q_words::words::FileCommand;
 use std::alloc::{AllocError, Global};
 use std::str;
 
@@ -57,6 +58,7 @@ fn of_record(fault: RecordFault) -> &'static str {
             "A line is ID SEQ VALUE, three numbers below 2^64 with one space between: 1 1 5.",
         RecordFault::Unsorted => "Its id is not above the one before. Ids rise from line to line.",
         RecordFault::BadField => "Its second number is 0. A node's stores are numbered from 1.",
+        RecordFault::BadValue => "Its record has 64 bytes, which --least and --most leave out.",
         RecordFault::Full => "A list has 256 records at most.",
     }
 }
@@ -92,11 +94,20 @@ fn write_assembler(
     }
 }
 
-/// What is told of a program that the verifier refuses.
+/// How many bytes a record may have of which a command asks.
+fn lengths_of(line: &FileCommand<'_>) -> Bounds {
+    match line {
+        FileCommand::Check { lengths, .. } | FileCommand::Run { lengths, .. } => *lengths,
+        _ => Bounds::of_views(),
+    }
+}
+
+/// What is told of a program that the verifier refuses for records of these lengths.
 fn write_program(
     alloc: Global,
     out: &mut String,
     denied: &Denied<'_>,
+    lengths: Bounds,
     fault: CheckFault,
 ) -> Result<(), AllocError> {
     let file = denied.file;
@@ -104,7 +115,7 @@ fn write_program(
     let Ok(text) = program(alloc, denied.bytes.as_slice()) else {
         return Err(AllocError);
     };
-    match explain(alloc, &text, Bounds::of_views(), fault)? {
+    match explain(alloc, &text, lengths, fault)? {
         Some(told) => out.push_str(told.as_str()),
         None => out.push('\n'),
     }
@@ -150,13 +161,18 @@ fn of_journal(fault: ReplayFault) -> &'static str {
     }
 }
 
-/// What is told of a refusal.
-fn write_reason(alloc: Global, out: &mut String, denied: &Denied<'_>) -> Result<(), AllocError> {
+/// What is told of a command's refusal.
+fn write_reason(
+    alloc: Global,
+    out: &mut String,
+    line: &FileCommand<'_>,
+    denied: &Denied<'_>,
+) -> Result<(), AllocError> {
     let file = denied.file;
     match denied.refusal {
         Refusal::FileFailed => writeln!(out, "{file}: It is not UTF-8, which text files are."),
         Refusal::Assembler(fault) => write_assembler(out, denied, fault),
-        Refusal::Program(fault) => write_program(alloc, out, denied, fault),
+        Refusal::Program(fault) => write_program(alloc, out, denied, lengths_of(line), fault),
         Refusal::Records(fault) => write_records(out, denied, fault),
         Refusal::Script(fault) => write_script(out, denied, fault),
         Refusal::Fraction(_) => writeln!(
@@ -182,19 +198,23 @@ fn is_explained(denied: &Denied<'_>) -> bool
     }
 }
 
-/// What explains a refusal, from the bytes that are refused; none of want of memory, and of a file that was not read, of
+/// What explains a command's refusal, from the bytes that are refused; none of want of memory, and of a file that was not read, of
 /// which [`Folder`] tells.
 ///
 /// The one error is that memory ran out (99 OutOfMemory).
 ///
 /// [`Folder`]: q_files::folder::Folder
-pub fn advice(alloc: Global, denied: &Denied<'_>) -> Result<Option<String>, AllocError>
+pub fn advice(
+    alloc: Global,
+    line: &FileCommand<'_>,
+    denied: &Denied<'_>,
+) -> Result<Option<String>, AllocError>
     ensures told { IfOk result (IsToldOf denied.now.refusal denied.now.bytes.items) }
 {
     if !is_explained(denied) {
         return Ok(None);
     }
     let mut out = String::new(alloc);
-    write_reason(alloc, &mut out, denied)?;
+    write_reason(alloc, &mut out, line, denied)?;
     Ok(Some(out))
 }

@@ -1,10 +1,12 @@
 //! Commands, run over files and a writer.
 
-ghost use Rattle.std.specs.Prelude.{◌≡◌, ◌≢◌, ℕ, List, false, Ok, Err, IfOk, IfErr, string_bytes};
+ghost use Rattle.std.specs.Prelude.{◌≡◌, ◌≢◌, ◌⊎◌, ℕ, List, false, Ok, Err, IfOk, IfErr, string_bytes};
+ghost use Rattle.std.specs.FinMap as fin;
+ghost use Rattle.bq_meaning.specs.Answers.{IsAnswer};
 ghost use Rattle.bq_meaning.specs.Place.{record_length};
 ghost use Rattle.bq_range.specs.Interval.{IsIn};
-ghost use Rattle.bq_state.specs.Kinds.{view_lengths};
 ghost use Rattle.bq_sound.specs.Passes.{Passes};
+ghost use Rattle.q_session.specs.Records.{view_records};
 ghost use Rattle.q_command.specs.Audit.{Audits, IsUnaudited};
 ghost use Rattle.q_command.specs.Perform.{Accepts, Answers, AnswersFile, AnswersRun, AnswersScript, Computes, Ends, IsProgram, IsSimulated, IsUnaccepted, IsUnassembled, IsUnlisted, IsUnread, IsUnsimulated, Lists, Refuses, RefusesFile, RefusesRun, RefusesScript, failures_after, status_of};
 
@@ -14,16 +16,19 @@ use crate::listing::listing;
 use crate::program::{certified, program, utf8};
 use bq_check::certified::Certified;
 use bq_frame::block::Block;
+use bq_state::bounds::Bounds;
 use q_files::files::Files;
 use q_refused::line::put_refusal;
 use q_script::records::read_records;
 use q_script::script::Script;
+use q_session::ran::Ran;
 use q_session::run::run_fold;
 use q_sim::refusal::Refusal;
 use q_sim::simulation::{Printed, simulate};
 use q_wire::counted::Counted;
 use q_words::words::FileCommand;
-use std::alloc::Global;
+use sc_view::view::View;
+use std::alloc::{AllocError, Global};
 use std::io::Write;
 
 /// How a command ended.
@@ -61,14 +66,29 @@ fn assembled(alloc: Global, source: &[u8]) -> Result<String, Refusal>
 }
 
 /// What `check` prints of assembler text.
-fn accepted(alloc: Global, source: &[u8]) -> Result<String, Refusal>
-    ensures accepted { IfOk result (λ lines. Accepts source.now (string_bytes lines)) }
-    ensures refused { IfErr result (IsUnaccepted source.now) }
+fn accepted(alloc: Global, source: &[u8], lengths: Bounds) -> Result<String, Refusal>
+    ensures accepted { IfOk result (λ lines. Accepts lengths source.now (string_bytes lines)) }
+    ensures refused { IfErr result (IsUnaccepted lengths source.now) }
 {
-    let certified = certified(alloc, source)?;
+    let certified = certified(alloc, source, lengths)?;
     let longest = certified.longest();
     let _notes = certified.notes();
     Ok(format!(in alloc; "accepted longest {longest}\n")?)
+}
+
+/// What a program answers over a view, whose records, where there are any, have a length that the program was checked for.
+fn folded(alloc: Global, certified: &Certified, start: u64, view: &View) -> Result<Ran, AllocError>
+    requires { (fin.len view.now ≡ 0) ⊎ IsIn record_length certified.now.lengths }
+    ensures { IfOk result (λ ran. IsAnswer certified.now.text (view_records view.now) start ran.acc ran.steps) }
+{
+    if view.len() == 0 {
+        return Ok(Ran {
+            acc: start,
+            steps: 0,
+        });
+    }
+    let mut block = Block::new(alloc)?;
+    Ok(run_fold(certified, view, start, &mut block))
 }
 
 /// What `run` prints of a program over the records that a text lists.
@@ -78,14 +98,12 @@ fn computed(
     start: u64,
     listed: &[u8],
 ) -> Result<String, Refusal>
-    requires { IsIn record_length certified.now.lengths }
-    ensures computed { IfOk result (λ lines. (source : List ℕ) → IsProgram source certified.now.text → Computes source start listed.now (string_bytes lines)) }
-    ensures refused { IfErr result (IsUnlisted listed.now) }
+    ensures computed { IfOk result (λ lines. (source : List ℕ) → IsProgram source certified.now.text → Computes certified.now.lengths source start listed.now (string_bytes lines)) }
+    ensures refused { IfErr result (IsUnlisted certified.now.lengths listed.now) }
 {
     let listed = utf8(listed)?;
-    let view = read_records(alloc, listed)?;
-    let mut block = Block::new(alloc)?;
-    let ran = run_fold(certified, &view, start, &mut block);
+    let view = read_records(alloc, listed, certified.lengths())?;
+    let ran = folded(alloc, certified, start, &view)?;
     let acc = ran.acc;
     let steps = ran.steps;
     Ok(format!(in alloc; "acc {acc} steps {steps}\n")?)
@@ -158,13 +176,14 @@ fn asm_answer<'a, F: Files>(
 fn check_answer<'a, F: Files>(
     alloc: Global,
     file: &'a str,
+    lengths: Bounds,
     files: &mut F,
 ) -> Result<Printed, Denied<'a>>
-    ensures answered { IfOk result (λ p. AnswersFile F.read_gives Accepts file.now files.old (string_bytes p.lines) p.unwritten files.new) }
-    ensures refused { IfErr result (λ denied. RefusesFile F.read_gives IsUnaccepted file.now files.old denied files.new) }
+    ensures answered { IfOk result (λ p. AnswersFile F.read_gives (Accepts lengths) file.now files.old (string_bytes p.lines) p.unwritten files.new) }
+    ensures refused { IfErr result (λ denied. RefusesFile F.read_gives (IsUnaccepted lengths) file.now files.old denied files.new) }
 {
     let source = read(alloc, file, files)?;
-    let lines = accepted(alloc, source.as_slice());
+    let lines = accepted(alloc, source.as_slice(), lengths);
     told(lines, file, source)
 }
 
@@ -182,19 +201,20 @@ fn audit_answer<'a, F: Files>(
     told(lines, journal, bytes)
 }
 
-/// The program of a file, with its certificate.
+/// The program of a file, with its certificate for records of these lengths.
 fn certified_file<'a, F: Files>(
     alloc: Global,
     file: &'a str,
+    lengths: Bounds,
     files: &mut F,
 ) -> Result<Certified, Denied<'a>>
     ensures certified { IfOk result (λ c. (source : List ℕ) × F.read_gives files.old file.now (Ok source) files.new × IsProgram source c.text) }
-    ensures length { IfOk result (λ c. IsIn record_length c.lengths) }
-    ensures passes { IfOk result (λ c. Passes view_lengths c.text c.notes) }
-    ensures refused { IfErr result (λ denied. RefusesFile F.read_gives IsUnaccepted file.now files.old denied files.new) }
+    ensures lengths { IfOk result (λ c. c.lengths ≡ lengths) }
+    ensures passes { IfOk result (λ c. Passes lengths c.text c.notes) }
+    ensures refused { IfErr result (λ denied. RefusesFile F.read_gives (IsUnaccepted lengths) file.now files.old denied files.new) }
 {
     let source = read(alloc, file, files)?;
-    match certified(alloc, source.as_slice()) {
+    match certified(alloc, source.as_slice(), lengths) {
         Ok(certified) => Ok(certified),
         Err(refusal) => Err(Denied {
             refusal,
@@ -212,9 +232,8 @@ fn computed_file<'a, F: Files>(
     records: &'a str,
     files: &mut F,
 ) -> Result<Printed, Denied<'a>>
-    requires { IsIn record_length certified.now.lengths }
-    ensures answered { IfOk result (λ p. (source : List ℕ) → IsProgram source certified.now.text → AnswersFile F.read_gives (Computes source start) records.now files.old (string_bytes p.lines) p.unwritten files.new) }
-    ensures refused { IfErr result (λ denied. RefusesFile F.read_gives IsUnlisted records.now files.old denied files.new) }
+    ensures answered { IfOk result (λ p. (source : List ℕ) → IsProgram source certified.now.text → AnswersFile F.read_gives (Computes certified.now.lengths source start) records.now files.old (string_bytes p.lines) p.unwritten files.new) }
+    ensures refused { IfErr result (λ denied. RefusesFile F.read_gives (IsUnlisted certified.now.lengths) records.now files.old denied files.new) }
 {
     let listed = read(alloc, records, files)?;
     let lines = computed(alloc, certified, start, listed.as_slice());
@@ -227,12 +246,13 @@ fn run_answer<'a, F: Files>(
     file: &'a str,
     start: u64,
     records: &'a str,
+    lengths: Bounds,
     files: &mut F,
 ) -> Result<Printed, Denied<'a>>
-    ensures answered { IfOk result (λ p. AnswersRun F.read_gives file.now start records.now files.old (string_bytes p.lines) p.unwritten files.new) }
-    ensures refused { IfErr result (λ denied. RefusesRun F.read_gives file.now records.now files.old denied files.new) }
+    ensures answered { IfOk result (λ p. AnswersRun F.read_gives lengths file.now start records.now files.old (string_bytes p.lines) p.unwritten files.new) }
+    ensures refused { IfErr result (λ denied. RefusesRun F.read_gives lengths file.now records.now files.old denied files.new) }
 {
-    let certified = certified_file(alloc, file, files)?;
+    let certified = certified_file(alloc, file, lengths, files)?;
     computed_file(alloc, &certified, start, records, files)
 }
 
@@ -267,12 +287,13 @@ fn answer<'a, F: Files>(
 {
     match line {
         FileCommand::Asm { file } => asm_answer(alloc, file, files),
-        FileCommand::Check { file } => check_answer(alloc, file, files),
+        FileCommand::Check { file, lengths } => check_answer(alloc, file, *lengths, files),
         FileCommand::Run {
             file,
             start,
             records,
-        } => run_answer(alloc, file, *start, records, files),
+            lengths,
+        } => run_answer(alloc, file, *start, records, *lengths, files),
         FileCommand::Sim { script } => sim_answer(alloc, script, files),
         FileCommand::Audit { journal } => audit_answer(alloc, journal, files),
     }

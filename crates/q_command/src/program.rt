@@ -1,15 +1,13 @@
 //! Programs from assembler text, and their certificates.
 
 ghost use Rattle.std.specs.Prelude.{◌≡◌, IfOk, IfErr, IsUtf8};
-ghost use Rattle.bq_meaning.specs.Place.{record_length};
-ghost use Rattle.bq_range.specs.Interval.{IsIn};
-ghost use Rattle.bq_state.specs.Kinds.{view_lengths};
 ghost use Rattle.bq_sound.specs.Passes.{Passes};
 ghost use Rattle.q_command.specs.Perform.{IsProgram, IsUnaccepted, IsUnassembled};
 
 use bq_asm::assemble::assemble;
 use bq_check::certified::Certified;
 use bq_insn::text::Text;
+use bq_state::bounds::Bounds;
 use q_sim::program::certified_text;
 use q_sim::refusal::Refusal;
 use std::alloc::Global;
@@ -36,16 +34,16 @@ pub fn program(alloc: Global, source: &[u8]) -> Result<Text, Refusal>
     Ok(assemble(alloc, source)?)
 }
 
-/// The program that assembler text spells, with its certificate. Refused as [`program`], and then as
-/// [`certified_text`].
-pub fn certified(alloc: Global, source: &[u8]) -> Result<Certified, Refusal>
+/// The program that assembler text spells, with its certificate for records of these lengths. Refused as [`program`],
+/// and then as [`certified_text`].
+pub fn certified(alloc: Global, source: &[u8], lengths: Bounds) -> Result<Certified, Refusal>
     ensures spelled { IfOk result (λ certified. IsProgram source.now certified.text) }
-    ensures length { IfOk result (λ certified. IsIn record_length certified.lengths) }
-    ensures passes { IfOk result (λ certified. Passes view_lengths certified.text certified.notes) }
-    ensures refused { IfErr result (IsUnaccepted source.now) }
+    ensures lengths { IfOk result (λ certified. certified.lengths ≡ lengths) }
+    ensures passes { IfOk result (λ certified. Passes lengths certified.text certified.notes) }
+    ensures refused { IfErr result (IsUnaccepted lengths source.now) }
 {
     let text = program(alloc, source)?;
-    let certified = certified_text(alloc, text)?;
+    let certified = certified_text(alloc, text, lengths)?;
     let _notes = certified.notes();
     Ok(certified)
 }

@@ -6,3 +6,4 @@ mod Views
 mod Jobs
 mod Phases
 mod Running
+pub mod Accepted

@@ -4,7 +4,7 @@ ghost use Rattle.std.specs.Prelude.{◌≡◌};
 ghost use Rattle.q_desk.specs.Faults.{of_table, reason};
 
 use q_table::fault::TableFault;
-use reasons::Reason;
+use reasons::{Reason, passed_on, told};
 use std::alloc::AllocError;
 
 /// Why a desk refuses a call. After a refusal the desk is as it was. Where several hold, the first of 51, 52, 56, 55
@@ -29,37 +29,22 @@ pub enum DeskFault {
 
 impl DeskFault {
     /// The reason by which the fault is told.
-    pub fn reason(&self) -> Reason
-        ensures { result ≡ reason self.now }
+    pub fn reason(self) -> Reason
+        ensures { result ≡ reason self }
     {
-        match self {
-            DeskFault::UnknownProgram => Reason::UnknownProgram,
-            DeskFault::TableFull => Reason::TableFull,
-            DeskFault::BookFull => Reason::BookFull,
-            DeskFault::NoSuchQuery => Reason::NoSuchQuery,
-            DeskFault::Stranger => Reason::Stranger,
-            DeskFault::AlreadyAnswered => Reason::AlreadyAnswered,
-            DeskFault::OutOfMemory => Reason::OutOfMemory,
-        }
+        told!(self, DeskFault: UnknownProgram, TableFull, BookFull, NoSuchQuery, Stranger, AlreadyAnswered, OutOfMemory)
     }
 }
 
 impl From<TableFault> for DeskFault {
-    ghost use Rattle.std.specs.Prelude.{◌≡◌};
-    ghost use Rattle.q_desk.specs.Faults.{of_table};
-
     ghost from_gives = { λ refusal e. e ≡ of_table refusal };
 
     fn from(refusal: TableFault) -> DeskFault {
-        match refusal {
-            TableFault::Full => DeskFault::TableFull,
-            TableFault::OutOfMemory => DeskFault::OutOfMemory,
-        }
+        passed_on!(refusal, TableFault as DeskFault: Full => TableFull, OutOfMemory)
     }
 }
 
 impl From<AllocError> for DeskFault {
-    ghost use Rattle.std.specs.Prelude.{◌≡◌};
     ghost use Rattle.q_desk.specs.declared.fault.DeskFault.TheVariants.{OutOfMemory};
 
     ghost from_gives = { λ _ e. e ≡ OutOfMemory };

@@ -39,7 +39,7 @@ fn printed<F: Files>(alloc: Global, command: &str, files: &mut F) -> io::Result<
         Ok(Wanted::FileCommand(line)) => {
             let outcome = carry_out(alloc, &line, files, &mut out);
             if let Outcome::Refused(denied) = &outcome {
-                if let Some(text) = advice(alloc, denied)? {
+                if let Some(text) = advice(alloc, &line, denied)? {
                     write!(out, "{text}")?;
                 }
             }
@@ -145,7 +145,6 @@ fn is_printed(reason: Reason) -> bool {
             | Reason::Entry
             | Reason::NotCovered
             | Reason::NoteForm
-            | Reason::BadValue
             | Reason::NoSuchQuery
             | Reason::WrongBounds
             | Reason::RowFull

@@ -16,7 +16,7 @@ pub(crate) fn of_rule(rule: Rule) -> &'static str {
             "It may access bytes outside the frame. The pointer's least offset plus the\ndistance must be at least 0, and its greatest offset plus the distance plus the\nsize at most 512. r10 has offset 512: load8 r0, [r10-8] reads the last bytes."
         }
         Rule::OutsideRecord => {
-            "It may access bytes outside the record. The pointer's least offset plus the\ndistance must be at least 0, and its greatest offset plus the distance plus the\nsize at most 64. Narrow an index first, by and64 or by a jump around the access."
+            "It may access bytes outside the record. The pointer's least offset plus the\ndistance must be at least 0, and its greatest offset plus the distance plus the\nsize at most the fewest bytes that a record has. Narrow an index first, by and64\nor by a jump around the access."
         }
         Rule::RecordWritten =>
             "It writes into the record, which is read only. Store into the frame.",

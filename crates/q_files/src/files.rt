@@ -16,7 +16,6 @@ pub enum FileFault {
 }
 
 impl From<AllocError> for FileFault {
-    ghost use Rattle.std.specs.Prelude.{◌≡◌};
     ghost use Rattle.q_files.specs.declared.files.FileFault.TheVariants.{OutOfMemory};
 
     ghost from_gives = { λ _ e. e ≡ OutOfMemory };

@@ -2,9 +2,10 @@
 
 ghost use Rattle.std.specs.Prelude.{◌≡◌};
 ghost use Rattle.q_gather.specs.Faults.{reason};
+ghost use Rattle.q_gather.specs.declared.fault.GatherFault.TheVariants.{OutOfMemory};
 
 use q_replay::fault::ReplayFault;
-use reasons::Reason;
+use reasons::{Reason, told};
 use std::alloc::{AllocError, AllocFailed};
 
 /// Why journals are not gathered. Where several hold, the first of these is answered.
@@ -24,23 +25,14 @@ pub enum GatherFault {
 
 impl GatherFault {
     /// The reason by which the fault is told.
-    pub fn reason(&self) -> Reason
-        ensures { result ≡ reason self.now }
+    pub fn reason(self) -> Reason
+        ensures { result ≡ reason self }
     {
-        match self {
-            GatherFault::Journal { fault, .. } => fault.reason(),
-            GatherFault::IdUsed => Reason::IdUsed,
-            GatherFault::BadFounders => Reason::BadFounders,
-            GatherFault::NeverSent => Reason::NeverSent,
-            GatherFault::OutOfMemory => Reason::OutOfMemory,
-        }
+        told!(self, GatherFault: Journal { fault, .. }, IdUsed, BadFounders, NeverSent, OutOfMemory)
     }
 }
 
 impl From<AllocError> for GatherFault {
-    ghost use Rattle.std.specs.Prelude.{◌≡◌};
-    ghost use Rattle.q_gather.specs.declared.fault.GatherFault.TheVariants.{OutOfMemory};
-
     ghost from_gives = { λ _ e. e ≡ OutOfMemory };
 
     fn from(_: AllocError) -> GatherFault {
@@ -49,9 +41,6 @@ impl From<AllocError> for GatherFault {
 }
 
 impl<T: Drop> From<AllocFailed<T>> for GatherFault {
-    ghost use Rattle.std.specs.Prelude.{◌≡◌};
-    ghost use Rattle.q_gather.specs.declared.fault.GatherFault.TheVariants.{OutOfMemory};
-
     ghost from_gives = { λ _ e. e ≡ OutOfMemory };
 
     fn from(_: AllocFailed<T>) -> GatherFault {

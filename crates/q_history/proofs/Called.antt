@@ -22,6 +22,7 @@ use Rattle.q_book.specs.declared.answer.Asked.{Asked}
 use Rattle.q_book.specs.declared.answer.Taken.{Taken}
 use Rattle.q_book.specs.declared.fault.BookFault.{BookFault}
 use Rattle.q_book.specs.declared.fault.BookFault.TheVariants as fault
+use Rattle.q_book.proofs.Parts.{by_node-ok, by_desk-ok, noted-ok}
 use Rattle.q_history.specs.declared.event.Stepped.{Stepped}
 use Rattle.q_history.specs.State.{ClusterState}
 use Rattle.q_history.specs.Heads.{book_of}
@@ -74,22 +75,6 @@ pub led : {A : Type 0} {x z : A × BookState} (next : A → BookState → Steppe
 led {A} next d same is = ap (λ (v : A × BookState). (next v.0 v.1).1) same ∙ is
 
 -- ---- what a book's node and its desk did
-
-by_node-ok : {A B : Type 0} (f : A → NodeState → B) (r : Result (A × NodeState) NodeFault) (z : B) → book.by_node f r ≡ Ok z → (a : A × NodeState) × (r ≡ Ok a) × (f a.0 a.1 ≡ z)
-by_node-ok f (Ok a) z h = (a, refl, same_answer _ z h)
-by_node-ok f (Err e) z h = absurd (no_refusal _ z h)
-
-by_desk-ok : {A B : Type 0} (f : A → DeskState → Result B BookFault) (r : Result (A × DeskState) DeskFault) (z : B) → book.by_desk f r ≡ Ok z → (a : A × DeskState) × (r ≡ Ok a) × (f a.0 a.1 ≡ Ok z)
-by_desk-ok f (Ok a) z h = (a, refl, h)
-by_desk-ok f (Err e) z h = absurd (no_refusal _ z h)
-
--- the desk had room for the entry
-noted-ok : {B : Type 0} (f : Unit {0} → DeskState → Result B BookFault) (d : DeskState) (e : Entry) (z : B) → book.by_desk f (desk.noted d e) ≡ Ok z → f tt (desk.with_entry d e) ≡ Ok z
-noted-ok {B} f d e z h = go (desk.has_room d) h
-  where
-    go : (b : Bool) → (let r : Result (Unit {0} × DeskState) DeskFault = cond b (Ok (tt, desk.with_entry d e)) (Err desk_fault.BookFull) in book.by_desk f r) ≡ Ok z → f tt (desk.with_entry d e) ≡ Ok z
-    go true k = k
-    go false k = absurd (no_refusal _ z k)
 
 module _ (b : BookState) where
   here-ok : {B : Type 0} (r : Result B BookFault) (z : B) → book.here b r ≡ Ok z → r ≡ Ok z

@@ -60,9 +60,9 @@ among_rest p ids id in' = contains-insert (set.from_list ids) p id ∙ ap (λ (b
 
 module _ (config : Config) (ids : List ℕ) where
   -- a node before any event
-  record IsFounder (id : ℕ) (n : NodeState) : Type 0 where
-    listed : IsAmong ids id
-    is : founder config ids id ≡ n
+  pub record IsFounder (id : ℕ) (n : NodeState) : Type 0 where
+    pub listed : IsAmong ids id
+    pub is : founder config ids id ≡ n
 
   founder_by : (nodes : fin.FinMap nat_cmp NodeState) (p id : ℕ) (n : NodeState) (b : Bool) → (id == p) ≡ b → IsAmong ids p → (fin.get nodes id ≡ Some n → IsFounder id n)
       → cond b (Some (founder config ids p)) (fin.get nodes id) ≡ Some n → IsFounder id n
@@ -71,7 +71,7 @@ module _ (config : Config) (ids : List ℕ) where
   founder_by nodes p id n false is listed old h = old h
 
   -- each node is a founder
-  all_founders : (qs : List ℕ) (nodes : fin.FinMap nat_cmp NodeState) → ((id : ℕ) → IsAmong qs id → IsAmong ids id) → ((id : ℕ) (n : NodeState) → fin.get nodes id ≡ Some n → IsFounder id n)
+  pub all_founders : (qs : List ℕ) (nodes : fin.FinMap nat_cmp NodeState) → ((id : ℕ) → IsAmong qs id → IsAmong ids id) → ((id : ℕ) (n : NodeState) → fin.get nodes id ≡ Some n → IsFounder id n)
       → (id : ℕ) (n : NodeState) → fin.get (nodes_with config ids nodes qs) id ≡ Some n → IsFounder id n
   all_founders [] nodes listed old id n at = old id n at
   all_founders (p ∷ qs) nodes listed old id n at =
@@ -100,7 +100,7 @@ module _ (config : Config) (ids : List ℕ) where
   new_by desks p id d false old h = old h
 
   -- each desk is new
-  all_new : (qs : List ℕ) (desks : Desks) → ((id : ℕ) (d : DeskState) → fin.get desks id ≡ Some d → new_desk ≡ d) → (id : ℕ) (d : DeskState) → fin.get (desks_with desks qs) id ≡ Some d → new_desk ≡ d
+  pub all_new : (qs : List ℕ) (desks : Desks) → ((id : ℕ) (d : DeskState) → fin.get desks id ≡ Some d → new_desk ≡ d) → (id : ℕ) (d : DeskState) → fin.get (desks_with desks qs) id ≡ Some d → new_desk ≡ d
   all_new [] desks old id d at = old id d at
   all_new (p ∷ qs) desks old id d at =
       all_new qs (fin.insert desks p new_desk) (λ i x here. new_by desks p i x (i == p) (old i x) (sym (get-insert desks p new_desk i) ∙ here)) id d at

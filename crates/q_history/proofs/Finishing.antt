@@ -87,11 +87,11 @@ module _ (c : ClusterState) (kept : IsKept c) where
   finished-kept j d e ran known at p right =
       let named : slice_get d.programs j.program ≡ Some j.certified = ap (λ (x : DeskState). slice_get x.programs j.program) (same_some d known.desk (sym at ∙ known.at)) ∙ known.certified in
       put_desk c kept c.world j.node e kept.world (onward_itself c.world)
-      (desk_moved c.world c.world (onward_itself c.world) j.node d e (IsRephased d j.query (Answered p.view ran)) p.moves (kept.desks j.node d at)
-      (rephased_tied c.world j.node d j.query (Answered p.view ran) p.view (kept.desks j.node d at) (λ o is. is)
-      (λ old here o has. subst (HasView o) (ap (λ (x : Query). x.phase) (same_some old p.query (sym here ∙ p.at)) ∙ p.phase) has))
-      (λ q r v x is. posted_right d e j ran p named right p.view q r
-      (subst (λ (z : Query). desk.is_job_of d.programs j z p.view ≡ true) r.is (ap (λ (z : Query). desk.is_job_of d.programs j z p.view) (same_some r.old p.query (sym r.at ∙ p.at)) ∙ p.fits)) v x is))
+      (desk_moved c.world c.world (onward_itself c.world) j.node d e (IsRephased d j.query (Answered p.recorded.view ran)) p.moves (kept.desks j.node d at)
+      (rephased_tied c.world j.node d j.query (Answered p.recorded.view ran) p.recorded.view (kept.desks j.node d at) (λ o is. is)
+      (λ old here o has. subst (HasView o) (ap (λ (x : Query). x.phase) (same_some old p.recorded.query (sym here ∙ p.recorded.at)) ∙ p.recorded.phase) has))
+      (λ q r v x is. posted_right d e j ran p named right p.recorded.view q r
+      (subst (λ (z : Query). desk.is_job_of d.programs j z p.recorded.view ≡ true) r.is (ap (λ (z : Query). desk.is_job_of d.programs j z p.recorded.view) (same_some r.old p.recorded.query (sym r.at ∙ p.recorded.at)) ∙ p.recorded.fits)) v x is))
       (keeps_here c kept j.node d e at p.moves.keeps)
 
   pub finish_step : (number : ℕ) (ran : Ran) (o : Option Job) (y : Stepped × ClusterState) → slice_get c.jobs number ≡ o → IfSome o (λ j. Answers j ran) → finished c ran o ≡ Ok y → IsStep c y.1

@@ -20,43 +20,16 @@ use Rattle.q_desk.specs.Answers.{IsAnswered}
 use Rattle.q_desk.specs.Desks as desk
 use Rattle.q_desk.specs.declared.journal.Entry.TheVariants as entry
 use Rattle.q_desk.specs.declared.fault.DeskFault.TheVariants as fault
-use Rattle.q_history.proofs.Lists.{same_some, no_some, passed}
-use Rattle.q_history.proofs.Moves.{HasNone, Moves, GoesOn, IsRephased, phase_moves}
-
--- the job of a ready query of this node
-pub record IsReadyJob (d : DeskState) (node : ℕ) (j : Job) : Type 0 where
-  pub query : Query
-  pub at : slice_get d.queries j.query ≡ Some query
-  pub phase : query.phase ≡ Ready j.view
-  pub by : j.node ≡ node
-  pub certified : slice_get d.programs j.program ≡ Some j.certified
+use Rattle.q_desk.proofs.Accepted.{ready_has_none, running_has_none, next_is, posted_is, IsPosted as Recorded}
+pub use Rattle.q_desk.proofs.Accepted.{IsReadyJob}
+use Rattle.q_history.proofs.Lists.{same_some, passed}
+use Rattle.q_history.proofs.Moves.{Moves, GoesOn, IsRephased, phase_moves}
 
 abbrev pub IsHanded : DeskState → ℕ → DeskState → Option Job → Type 0
 IsHanded d node e None = d ≡ e
 IsHanded d node e (Some j) = IsReadyJob d node j × Moves d e (IsRephased d j.query (Running j.view)) × GoesOn d entry.HandOut e
 
-ready_has_none : (p : Phase) (v : ViewMap) → p ≡ Ready v → HasNone p
-ready_has_none p v is view ran answered = let h : Ready v ≡ Answered view ran = sym is ∙ answered in absurd (cc)
-
-running_has_none : (p : Phase) (v : ViewMap) → p ≡ Running v → HasNone p
-running_has_none p v is view ran answered = let h : Running v ≡ Answered view ran = sym is ∙ answered in absurd (cc)
-
 module _ (d : DeskState) (node : ℕ) where
-  job_is : (k : ℕ) (q : Query) (p : Phase) (c : Option Certificate) (j : Job) → slice_get d.queries k ≡ Some q → q.phase ≡ p → slice_get d.programs q.program ≡ c → desk.job_of node k q p c ≡ Some j → IsReadyJob d node j
-  job_is k q (Ready view) (Some c) j at is named h = subst (IsReadyJob d node) (same_some _ j h) (record { query = q; at = at; phase = is; by = refl; certified = named })
-  job_is k q (Ready view) None j at is named h = absurd (no_some j h)
-  job_is k q Collecting c j at is named h = absurd (no_some j h)
-  job_is k q (Running view) c j at is named h = absurd (no_some j h)
-  job_is k q (Answered view ran) c j at is named h = absurd (no_some j h)
-
-  job_at-is : (k : ℕ) (o : Option Query) (j : Job) → slice_get d.queries k ≡ o → desk.job_at d node k o ≡ Some j → IsReadyJob d node j
-  job_at-is k None j at h = absurd (no_some j h)
-  job_at-is k (Some q) j at h = job_is k q q.phase (slice_get d.programs q.program) j at refl refl h
-
-  job_from-is : (o : Option ℕ) (j : Job) → desk.job_from d node o ≡ Some j → IsReadyJob d node j
-  job_from-is None j h = absurd (no_some j h)
-  job_from-is (Some k) j h = job_at-is k (slice_get d.queries k) j refl h
-
   hands-ok : (o : Option Job) (y : Option Job × DeskState) → ((j : Job) → o ≡ Some j → IsReadyJob d node j) → desk.hands d o ≡ Ok y → IsHanded d node y.1 y.0
   hands-ok None y ready h = subst (λ (z : Option Job × DeskState). IsHanded d node z.1 z.0) (same_answer _ y h) refl
   hands-ok (Some j) y ready h =
@@ -66,44 +39,24 @@ module _ (d : DeskState) (node : ℕ) where
       (r, phase_moves d j.query (Running j.view) (d.journal ++ entry.HandOut ∷ []) None (λ q at. ready_has_none q.phase j.view (ap (λ (x : Query). x.phase) (same_some q r.query (sym at ∙ r.at)) ∙ r.phase)), refl)
 
   pub handed_out-ok : (y : Option Job × DeskState) → desk.handed_out d node ≡ Ok y → IsHanded d node y.1 y.0
-  handed_out-ok y h = hands-ok (desk.next_job d node) y (λ j is. job_from-is (position (λ (q : Query). desk.is_ready q.phase) d.queries) j is) h
+  handed_out-ok y h = hands-ok (desk.next_job d node) y (next_is d node) h
 
 -- the answer of a job is recorded
 pub record IsPosted (d : DeskState) (j : Job) (ran : Ran) (e : DeskState) : Type 0 where
-  pub query : Query
-  pub view : ViewMap
-  pub at : slice_get d.queries j.query ≡ Some query
-  pub phase : query.phase ≡ Running view
-  pub fits : desk.is_job_of d.programs j query view ≡ true
-  pub moves : Moves d e (IsRephased d j.query (Answered view ran))
+  pub recorded : Recorded d j ran e
+  pub moves : Moves d e (IsRephased d j.query (Answered recorded.view ran))
   pub goes : GoesOn d (entry.Post j.query ran) e
 
-module _ (d : DeskState) (j : Job) (ran : Ran) (y : Unit {0} × DeskState) where
-  posted_to-ok : (q : Query) (p : Phase) → slice_get d.queries j.query ≡ Some q → q.phase ≡ p → desk.posted_to d j ran q p ≡ Ok y → IsPosted d j ran y.1
-  posted_to-ok q Collecting at is h = absurd (no_refusal _ y h)
-  posted_to-ok q (Ready view) at is h = absurd (no_refusal _ y h)
-  posted_to-ok q (Answered view old) at is h = absurd (no_refusal _ y h)
-  posted_to-ok q (Running view) at is h =
-      let a = passed (desk.is_job_of d.programs j q view) fault.Stranger _ y h in
-      let b = passed (desk.has_room d) fault.BookFull _ y a.1 in
-      record {
-        query = q;
-        view = view;
-        at = at;
-        phase = is;
-        fits = a.0;
-        moves =
-            subst (λ (z : Unit {0} × DeskState). Moves d z.1 (IsRephased d j.query (Answered view ran))) (same_answer _ y b.1)
-            (phase_moves d j.query (Answered view ran) (d.journal ++ entry.Post j.query ran ∷ []) None (λ x here. running_has_none x.phase view (ap (λ (z : Query). z.phase) (same_some x q (sym here ∙ at)) ∙ is)));
-        goes = ap (λ (z : Unit {0} × DeskState). z.1.journal) (sym (same_answer _ y b.1));
-      }
-
-  posted_at-ok : (o : Option Query) → slice_get d.queries j.query ≡ o → desk.posted_at d j ran o ≡ Ok y → IsPosted d j ran y.1
-  posted_at-ok None at h = absurd (no_refusal _ y h)
-  posted_at-ok (Some q) at h = posted_to-ok q q.phase at refl h
-
-  pub posted-ok : (node : ℕ) → desk.posted d node j ran ≡ Ok y → IsPosted d j ran y.1
-  posted-ok node h = posted_at-ok (slice_get d.queries j.query) refl (passed (j.node == node) fault.Stranger _ y h).1
+pub posted-ok : (d : DeskState) (j : Job) (ran : Ran) (y : Unit {0} × DeskState) (node : ℕ) → desk.posted d node j ran ≡ Ok y → IsPosted d j ran y.1
+posted-ok d j ran y node h =
+    let p = (posted_is d j ran y node h).1 in
+    record {
+      recorded = p;
+      moves =
+          subst (λ (z : DeskState). Moves d z (IsRephased d j.query (Answered p.view ran))) p.is
+          (phase_moves d j.query (Answered p.view ran) (d.journal ++ entry.Post j.query ran ∷ []) None (λ x here. running_has_none x.phase p.view (ap (λ (z : Query). z.phase) (same_some x p.query (sym here ∙ p.at)) ∙ p.phase)));
+      goes = ap (λ (z : DeskState). z.journal) (sym p.is);
+    }
 
 -- ---- right answers
 

@@ -21,16 +21,9 @@ use Rattle.q_desk.specs.declared.completed.Completed.{Completed}
 use Rattle.q_desk.specs.declared.journal.Entry.{Entry}
 use Rattle.q_desk.specs.declared.journal.Entry.TheVariants as entry
 use Rattle.q_desk.specs.declared.fault.DeskFault.TheVariants as fault
+use Rattle.q_desk.proofs.Accepted.{collecting_has_none}
+pub use Rattle.q_desk.proofs.Accepted.{HasNone, Keeps, keeps_itself, keeps_on}
 use Rattle.q_history.proofs.Lists.{passed, get_snoc, get_written, get_elsewhere, found}
-
--- a phase with no answer
-abbrev pub HasNone : Phase → Type 0
-HasNone p = (view : ViewMap) (ran : Ran) → p ≡ Answered view ran → ⊥
-
--- the desk keeps its programs, and the answers that it recorded
-pub record Keeps (d e : DeskState) : Type 0 where
-  pub programs : (i : ℕ) (p : Certificate) → slice_get d.programs i ≡ Some p → slice_get e.programs i ≡ Some p
-  pub answers : (k : ℕ) (q : Query) (view : ViewMap) (ran : Ran) → slice_get d.queries k ≡ Some q → q.phase ≡ Answered view ran → slice_get e.queries k ≡ Some q
 
 -- one desk comes from another, and of each query that is not as it was, this is known
 pub record Moves (d e : DeskState) (New : Query → Type 0) : Type 0 where
@@ -55,15 +48,6 @@ pub record IsReadied (d : DeskState) (tag : ℕ) (view : ViewMap) (q : Query) : 
   pub number : ℕ
   pub rephased : IsRephased d number (Ready view) q
   pub waits : desk.waits tag rephased.old ≡ true
-
-pub keeps_itself : (d : DeskState) → Keeps d d
-keeps_itself d = record { programs = λ i p h. h; answers = λ k q view ran h a. h }
-
-pub keeps_on : (d e f : DeskState) → Keeps d e → Keeps e f → Keeps d f
-keeps_on d e f a b = record {
-  programs = λ i p h. b.programs i p (a.programs i p h);
-  answers = λ k q view ran h is. b.answers k q view ran (a.answers k q view ran h is) is;
-}
 
 pub noted_moves : (d : DeskState) (e : Entry) (x : Option Completed) → Moves d (desk.with_ended (desk.with_entry d e) x) Nothing
 noted_moves d e x = record { keeps = record { programs = λ i p h. h; answers = λ k q view ran h a. h }; queries = λ k q h. inl h }
@@ -128,12 +112,6 @@ module _ (d : DeskState) (k : ℕ) (p : Phase) (m : List Entry) (x : Option Comp
   -- a query that has no answer is put into another phase
   pub phase_moves : ((q : Query) → slice_get d.queries k ≡ Some q → HasNone q.phase) → Moves d (record d { queries = desk.with_phase d.queries k p; journal = m; ended = x }) (IsRephased d k p)
   phase_moves none = phase_by (slice_get d.queries k) refl none
-
-collecting_has_none : (p : Phase) → desk.is_collecting p ≡ true → HasNone p
-collecting_has_none Collecting h view ran is = absurd (cc)
-collecting_has_none (Ready v) h view ran is = absurd (cc)
-collecting_has_none (Running v) h view ran is = absurd (cc)
-collecting_has_none (Answered v a) h view ran is = absurd (cc)
 
 module _ (d : DeskState) (tag : ℕ) (view : ViewMap) where
   returned_by : (o : Option ℕ) → position (desk.waits tag) d.queries ≡ o → Moves d (desk.returned_to d view o).1 (IsReadied d tag view)

@@ -1,11 +1,11 @@
 //! Why an event is refused, and the reason that is told of each.
 
 ghost use Rattle.std.specs.Prelude.{◌≡◌};
-ghost use Rattle.q_history.specs.Faults.{reason};
+ghost use Rattle.q_history.specs.Faults.{reason, of_desk, of_book, memory};
 
 use q_book::fault::BookFault;
 use q_desk::fault::DeskFault;
-use reasons::Reason;
+use reasons::{Reason, told};
 use sc_node::fault::NodeFault;
 use sc_world::fault::WorldFault;
 use std::alloc::AllocError;
@@ -24,19 +24,14 @@ pub enum ClusterFault {
 
 impl ClusterFault {
     /// The reason by which the fault is told.
-    pub fn reason(&self) -> Reason
-        ensures { result ≡ reason self.now }
+    pub fn reason(self) -> Reason
+        ensures { result ≡ reason self }
     {
-        match self {
-            ClusterFault::NoSuchJob => Reason::NoSuchJob,
-            ClusterFault::World(fault) => fault.reason(),
-            ClusterFault::Desk(fault) => fault.reason(),
-        }
+        told!(self, ClusterFault: NoSuchJob, World(fault), Desk(fault))
     }
 }
 
 impl From<WorldFault> for ClusterFault {
-    ghost use Rattle.std.specs.Prelude.{◌≡◌};
     ghost use Rattle.q_history.specs.declared.fault.ClusterFault.TheVariants.{World};
 
     ghost from_gives = { λ refusal e. e ≡ World refusal };
@@ -47,9 +42,6 @@ impl From<WorldFault> for ClusterFault {
 }
 
 impl From<DeskFault> for ClusterFault {
-    ghost use Rattle.std.specs.Prelude.{◌≡◌};
-    ghost use Rattle.q_history.specs.Faults.{of_desk};
-
     ghost from_gives = { λ refusal e. e ≡ of_desk refusal };
 
     fn from(refusal: DeskFault) -> ClusterFault {
@@ -61,9 +53,6 @@ impl From<DeskFault> for ClusterFault {
 }
 
 impl From<BookFault> for ClusterFault {
-    ghost use Rattle.std.specs.Prelude.{◌≡◌};
-    ghost use Rattle.q_history.specs.Faults.{of_book};
-
     ghost from_gives = { λ refusal e. e ≡ of_book refusal };
 
     fn from(refusal: BookFault) -> ClusterFault {
@@ -75,9 +64,6 @@ impl From<BookFault> for ClusterFault {
 }
 
 impl From<AllocError> for ClusterFault {
-    ghost use Rattle.std.specs.Prelude.{◌≡◌};
-    ghost use Rattle.q_history.specs.Faults.{memory};
-
     ghost from_gives = { λ _ e. e ≡ memory };
 
     fn from(_: AllocError) -> ClusterFault {

@@ -3,6 +3,7 @@
 ghost use Rattle.std.specs.Prelude.{◌≡◌, ◌++◌, IfOk, IfErr};
 ghost use Rattle.bq_check.specs.Spelling.{BeginsNone};
 ghost use Rattle.q_journal.specs.Spelling.{head_bytes, event_bytes, IsHead, IsWritten};
+ghost use Rattle.q_journal.specs.Reading.{of_text, of_notes, of_message};
 
 use crate::body::body_of;
 use crate::head::Head;
@@ -10,6 +11,7 @@ use crate::reader::Reader;
 use crate::written::Written;
 use bq_check::fault::NotesFault;
 use bq_insn::fault::DecodeFault;
+use reasons::passed_on;
 use sc_msg::fault::MessageFault;
 use std::alloc::{AllocError, AllocFailed, Global};
 
@@ -23,49 +25,30 @@ pub enum ReadFault {
 }
 
 impl From<DecodeFault> for ReadFault {
-    ghost use Rattle.std.specs.Prelude.{◌≡◌};
-    ghost use Rattle.q_journal.specs.Reading.{of_text};
-
     ghost from_gives = { λ fault e. e ≡ of_text fault };
 
     fn from(fault: DecodeFault) -> Self {
-        match fault {
-            DecodeFault::OutOfMemory => ReadFault::OutOfMemory,
-            _ => ReadFault::Form,
-        }
+        passed_on!(fault, DecodeFault as ReadFault: OutOfMemory; else Form)
     }
 }
 
 impl From<NotesFault> for ReadFault {
-    ghost use Rattle.std.specs.Prelude.{◌≡◌};
-    ghost use Rattle.q_journal.specs.Reading.{of_notes};
-
     ghost from_gives = { λ fault e. e ≡ of_notes fault };
 
     fn from(fault: NotesFault) -> Self {
-        match fault {
-            NotesFault::OutOfMemory => ReadFault::OutOfMemory,
-            NotesFault::NoteForm => ReadFault::Form,
-        }
+        passed_on!(fault, NotesFault as ReadFault: OutOfMemory, NoteForm => Form)
     }
 }
 
 impl From<MessageFault> for ReadFault {
-    ghost use Rattle.std.specs.Prelude.{◌≡◌};
-    ghost use Rattle.q_journal.specs.Reading.{of_message};
-
     ghost from_gives = { λ fault e. e ≡ of_message fault };
 
     fn from(fault: MessageFault) -> Self {
-        match fault {
-            MessageFault::OutOfMemory => ReadFault::OutOfMemory,
-            _ => ReadFault::Form,
-        }
+        passed_on!(fault, MessageFault as ReadFault: OutOfMemory; else Form)
     }
 }
 
 impl<T: Drop> From<AllocFailed<T>> for ReadFault {
-    ghost use Rattle.std.specs.Prelude.{◌≡◌};
     ghost use Rattle.q_journal.specs.declared.read.ReadFault.TheVariants.{OutOfMemory};
 
     ghost from_gives = { λ _ e. e ≡ OutOfMemory };

@@ -22,7 +22,7 @@ use Rattle.q_history.specs.Heads.{founders_for, book_of}
 use Rattle.q_history.specs.Clusters.{start}
 use Rattle.q_history.specs.Calls.{IsHistory}
 use Rattle.q_history.proofs.Lists.{no_some}
-use Rattle.q_history.proofs.EveryBook.{IsAmong, among_first, among_rest, history_are, history_books}
+use Rattle.q_history.proofs.EveryBook.{IsAmong, all_founders, history_are, history_books}
 use Rattle.q_cluster.specs.Acts.{booked}
 use Rattle.q_merge.specs.Merging.{Step, CanGo, Merges}
 use Rattle.q_merge.specs.Merging.Merges.{Over, Takes}
@@ -33,21 +33,8 @@ use Rattle.q_merge.proofs.EveryJob.{history_jobs, start_new}
 use Rattle.q_merge.proofs.Gathering.{step_goes, gathered}
 
 module _ (config : Config) (ids : List ℕ) where
-  listed_by : (nodes : fin.FinMap nat_cmp NodeState) (p i : ℕ) (n : NodeState) (b : Bool) → (i == p) ≡ b → IsAmong ids p → (fin.get nodes i ≡ Some n → IsAmong ids i) → cond b (Some (founder config ids p)) (fin.get nodes i) ≡ Some n
-      → IsAmong ids i
-  listed_by nodes p i n true is listed old at = subst (IsAmong ids) (sym (eqb-true i p is)) listed
-  listed_by nodes p i n false is listed old at = old at
-
-  -- each node of the founders is one
-  all_listed : (qs : List ℕ) (nodes : fin.FinMap nat_cmp NodeState) → ((i : ℕ) → IsAmong qs i → IsAmong ids i) → ((i : ℕ) (n : NodeState) → fin.get nodes i ≡ Some n → IsAmong ids i)
-      → (i : ℕ) (n : NodeState) → fin.get (nodes_with config ids nodes qs) i ≡ Some n → IsAmong ids i
-  all_listed [] nodes listed old i n at = old i n at
-  all_listed (p ∷ qs) nodes listed old i n at =
-      all_listed qs (fin.insert nodes p (founder config ids p)) (λ q in'. listed q (among_rest p qs q in'))
-      (λ q m here. listed_by nodes p q m (q == p) refl (listed p (among_first p qs)) (old q m) (sym (get-insert nodes p (founder config ids p) q) ∙ here)) i n at
-
   is_listed : (i : ℕ) (n : NodeState) → fin.get (start config ids).world.nodes i ≡ Some n → IsAmong ids i
-  is_listed i n at = all_listed ids fin.empty (λ q in'. in') (λ q m none. absurd (no_some m (sym (fin.get-empty nat_cmp q) ∙ none))) i n at
+  is_listed i n at = (all_founders config ids ids fin.empty (λ q in'. in') (λ q m none. absurd (no_some m (sym (fin.get-empty nat_cmp q) ∙ none))) i n at).listed
 
   has_node : (c : ClusterState) (i : ℕ) (b : BookState) (o : Option NodeState) (p : Option DeskState) → booked c i o p ≡ Some b → (n : NodeState) × (o ≡ Some n)
   has_node c i b None p h = absurd (no_some b h)

@@ -26,6 +26,7 @@ use Rattle.q_history.specs.Clusters.{Desks, at as at_node, registers, registered
 use Rattle.q_history.specs.Calls.{Follows, Reaches, IsHistory}
 use Rattle.q_history.proofs.Lists.{same_some, no_some}
 use Rattle.q_history.proofs.Kept.{IsKept}
+use Rattle.q_history.proofs.EveryBook.{all_new}
 use Rattle.q_history.proofs.Called.{at-ok, call-ok, led, left-parts, stored-parts, asked-parts, delivered-parts, desk-parts}
 use Rattle.q_history.proofs.EveryHistory.{step_kept, start_kept}
 use Rattle.q_merge.proofs.Jobs.{JobsAre, put_jobs, quiet_jobs, quiet_on, same_quiet, registered_quiet, asked_quiet, ended_on, ends_quiet, HandsOut, handed_is, handed_jobs, posted_is, posted_quiet}
@@ -144,18 +145,9 @@ jobs_run (e ∷ es) c d kept are r = jobs_run es r.1 d (step_kept c r.1 e r.0 ke
 
 -- ---- founders
 
-new_by : (desks : Desks) (p id : ℕ) (d : DeskState) (b : Bool) → (fin.get desks id ≡ Some d → new_desk ≡ d) → cond b (Some new_desk) (fin.get desks id) ≡ Some d → new_desk ≡ d
-new_by desks p id d true old h = same_some new_desk d h
-new_by desks p id d false old h = old h
-
-all_new : (ids : List ℕ) (desks : Desks) → ((id : ℕ) (d : DeskState) → fin.get desks id ≡ Some d → new_desk ≡ d) → (id : ℕ) (d : DeskState) → fin.get (desks_with desks ids) id ≡ Some d → new_desk ≡ d
-all_new [] desks old id d at = old id d at
-all_new (p ∷ ids) desks old id d at =
-    all_new ids (fin.insert desks p new_desk) (λ i x here. new_by desks p i x (i == p) (old i x) (sym (get-insert desks p new_desk i) ∙ here)) id d at
-
 -- the desks of founders are new
 pub start_new : (config : Config) (ids : List ℕ) (id : ℕ) (d : DeskState) → fin.get (start config ids).desks id ≡ Some d → new_desk ≡ d
-start_new config ids id d at = all_new ids fin.empty (λ i x none. absurd (no_some x (sym (fin.get-empty nat_cmp i) ∙ none))) id d at
+start_new config ids id d at = all_new config ids ids fin.empty (λ i x none. absurd (no_some x (sym (fin.get-empty nat_cmp i) ∙ none))) id d at
 
 all_there : (config : Config) (ids qs : List ℕ) (nodes : fin.FinMap nat_cmp NodeState) (desks : Desks) → HasDesks nodes desks → HasDesks (world.nodes_with config ids nodes qs) (desks_with desks qs)
 all_there config ids [] nodes desks has = has

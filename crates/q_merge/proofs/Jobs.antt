@@ -22,6 +22,7 @@ use Rattle.q_desk.specs.State.{DeskState}
 use Rattle.q_desk.specs.Desks as desk
 use Rattle.q_desk.specs.declared.completed.Completed.{Completed}
 use Rattle.q_desk.specs.declared.fault.DeskFault.TheVariants as fault
+use Rattle.q_desk.proofs.Accepted.{IsReadyJob, next_is, posted_is as recorded}
 use Rattle.q_history.specs.Clusters.{Desks}
 use Rattle.q_history.proofs.Lists.{same_some, no_some, passed, get_snoc, get_elsewhere, found}
 use Rattle.q_history.proofs.Moves.{registered_moves}
@@ -218,35 +219,9 @@ ends_quiet d x = let g = desk.gives x d in ended_on d g.1 (desk.completed_by x g
 
 -- ---- a job is handed out
 
--- the job of a ready query of this node
-pub record IsReadyFor (d : DeskState) (node : ℕ) (j : Job) : Type 0 where
-  pub query : Query
-  pub at : slice_get d.queries j.query ≡ Some query
-  pub phase : query.phase ≡ Ready j.view
-  pub by : j.node ≡ node
-  pub program : query.program ≡ j.program
-  pub start : query.start ≡ j.start
-  pub certified : slice_get d.programs j.program ≡ Some j.certified
-
-module _ (d : DeskState) (node : ℕ) where
-  job_is : (k : ℕ) (q : Query) (p : Phase) (c : Option Certificate) (j : Job) → slice_get d.queries k ≡ Some q → q.phase ≡ p → slice_get d.programs q.program ≡ c → desk.job_of node k q p c ≡ Some j → IsReadyFor d node j
-  job_is k q (Ready view) (Some c) j at is named h = subst (IsReadyFor d node) (same_some _ j h) (record { query = q; at = at; phase = is; by = refl; program = refl; start = refl; certified = named })
-  job_is k q (Ready view) None j at is named h = absurd (no_some j h)
-  job_is k q Collecting c j at is named h = absurd (no_some j h)
-  job_is k q (Running view) c j at is named h = absurd (no_some j h)
-  job_is k q (Answered view ran) c j at is named h = absurd (no_some j h)
-
-  job_at-is : (k : ℕ) (o : Option Query) (j : Job) → slice_get d.queries k ≡ o → desk.job_at d node k o ≡ Some j → IsReadyFor d node j
-  job_at-is k None j at h = absurd (no_some j h)
-  job_at-is k (Some q) j at h = job_is k q q.phase (slice_get d.programs q.program) j at refl refl h
-
-  job_from-is : (o : Option ℕ) (j : Job) → desk.job_from d node o ≡ Some j → IsReadyFor d node j
-  job_from-is None j h = absurd (no_some j h)
-  job_from-is (Some k) j h = job_at-is k (slice_get d.queries k) j refl h
-
 -- a hand-out that finds a job
 pub record IsHandedOut (d : DeskState) (node : ℕ) (j : Job) (e : DeskState) : Type 0 where
-  pub ready : IsReadyFor d node j
+  pub ready : IsReadyJob d node j
   pub programs : e.programs ≡ d.programs
   pub queries : e.queries ≡ desk.with_phase d.queries j.query (Running j.view)
 
@@ -255,13 +230,13 @@ abbrev pub HandsOut : DeskState → ℕ → Option Job → DeskState → Type 0
 HandsOut d node None e = e ≡ d
 HandsOut d node (Some j) e = IsHandedOut d node j e
 
-hands_is : (d : DeskState) (node : ℕ) (o : Option Job) (y : Option Job × DeskState) → ((j : Job) → o ≡ Some j → IsReadyFor d node j) → desk.hands d o ≡ Ok y → HandsOut d node y.0 y.1
+hands_is : (d : DeskState) (node : ℕ) (o : Option Job) (y : Option Job × DeskState) → ((j : Job) → o ≡ Some j → IsReadyJob d node j) → desk.hands d o ≡ Ok y → HandsOut d node y.0 y.1
 hands_is d node None y ready h = subst (λ (z : Option Job × DeskState). HandsOut d node z.0 z.1) (same_answer _ y h) refl
 hands_is d node (Some j) y ready h =
     subst (λ (z : Option Job × DeskState). HandsOut d node z.0 z.1) (same_answer _ y (passed (desk.has_room d) fault.BookFull _ y h).1) (record { ready = ready j refl; programs = refl; queries = refl })
 
 pub handed_is : (d : DeskState) (node : ℕ) (y : Option Job × DeskState) → desk.handed_out d node ≡ Ok y → HandsOut d node y.0 y.1
-handed_is d node y h = hands_is d node (desk.next_job d node) y (λ j is. job_from-is d node (position (λ (q : Query). desk.is_ready q.phase) d.queries) j is) h
+handed_is d node y h = hands_is d node (desk.next_job d node) y (next_is d node) h
 
 ready_none : (p : Phase) (view v : ViewMap) → p ≡ Ready view → RunsOver p v → ⊥
 ready_none p view v is r = subst (λ (x : Phase). RunsOver x v) is r
@@ -311,34 +286,20 @@ pub record IsAnsweredBy (d : DeskState) (node : ℕ) (j : Job) (ran : Ran) (e : 
   pub programs : e.programs ≡ d.programs
   pub queries : e.queries ≡ desk.with_phase d.queries j.query (Answered view ran)
 
-module _ (d : DeskState) (node : ℕ) (j : Job) (ran : Ran) (y : Unit {0} × DeskState) (own : (j.node == node) ≡ true) where
-  posted_to-is : (q : Query) (p : Phase) → slice_get d.queries j.query ≡ Some q → q.phase ≡ p → desk.posted_to d j ran q p ≡ Ok y → IsAnsweredBy d node j ran y.1
-  posted_to-is q Collecting at is h = absurd (no_refusal _ y h)
-  posted_to-is q (Ready view) at is h = absurd (no_refusal _ y h)
-  posted_to-is q (Answered view old) at is h = absurd (no_refusal _ y h)
-  posted_to-is q (Running view) at is h =
-      let a = passed (desk.is_job_of d.programs j q view) fault.Stranger _ y h in
-      let b = passed (desk.has_room d) fault.BookFull _ y a.1 in
-      let same = same_answer _ y b.1 in
-      record {
-        own = own;
-        query = q;
-        view = view;
-        at = at;
-        phase = is;
-        fits = a.0;
-        programs = ap (λ (z : Unit {0} × DeskState). z.1.programs) (sym same);
-        queries = ap (λ (z : Unit {0} × DeskState). z.1.queries) (sym same);
-      }
-
-  posted_at-is : (o : Option Query) → slice_get d.queries j.query ≡ o → desk.posted_at d j ran o ≡ Ok y → IsAnsweredBy d node j ran y.1
-  posted_at-is None at h = absurd (no_refusal _ y h)
-  posted_at-is (Some q) at h = posted_to-is q q.phase at refl h
-
 pub posted_is : (d : DeskState) (node : ℕ) (j : Job) (ran : Ran) (y : Unit {0} × DeskState) → desk.posted d node j ran ≡ Ok y → IsAnsweredBy d node j ran y.1
 posted_is d node j ran y h =
-    let a = passed (j.node == node) fault.Stranger _ y h in
-    posted_at-is d node j ran y a.0 (slice_get d.queries j.query) refl a.1
+    let a = recorded d j ran y node h in
+    let p = a.1 in
+    record {
+      own = a.0;
+      query = p.query;
+      view = p.view;
+      at = p.at;
+      phase = p.phase;
+      fits = p.fits;
+      programs = ap (λ (z : DeskState). z.programs) (sym p.is);
+      queries = ap (λ (z : DeskState). z.queries) (sym p.is);
+    }
 
 pub posted_quiet : (d : DeskState) (node : ℕ) (j : Job) (ran : Ran) (e : DeskState) → IsAnsweredBy d node j ran e → IsQuiet d e
 posted_quiet d node j ran e h =

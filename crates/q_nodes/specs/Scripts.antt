@@ -1,14 +1,11 @@
 -- Which texts are scripts of nodes in threads, and what is first wrong with a text that is none.
-use Rattle.std.specs.Prelude.{◌≡◌, ◌⊎◌, ℕ, zero, suc, ◌<◌, ◌≤◌, List, ◌∷◌}
-use Rattle.std.specs.List.{AllZip}
+use Rattle.std.specs.Prelude.{◌≡◌, ◌⊎◌, ℕ, ◌<◌, ◌≤◌, List}
 use Rattle.q_script.specs.declared.founding.Founding.{Founding}
 use Rattle.q_script.specs.declared.line.ScriptLine.{ScriptLine}
 use Rattle.q_script.specs.declared.line.ScriptLine.TheVariants as event
 use Rattle.q_script.specs.declared.script.ScriptFault.{ScriptFault}
-use Rattle.q_script.specs.declared.script.ScriptFault.TheVariants.{Syntax, OutOfMemory}
-use Rattle.q_script.specs.Founding.{SpellsFounding}
 use Rattle.q_script.specs.Line.{Spells}
-use Rattle.q_script.specs.Lines.{parts_of, lines_of, IsFirst}
+use Rattle.q_script.specs.Script.{IsFaultOf, IsScriptOf}
 use Rattle.q_sim.specs.Simulates.{HasFractions, config_of}
 use Rattle.q_sim.specs.declared.refusal.Refusal.TheVariants as refusal
 use Rattle.q_nodes.specs.Faults.{bad_founders}
@@ -28,18 +25,6 @@ event_of (line.Ask node program start) = event.Ask node program start
 abbrev pub SpellsLine : List ℕ → ClusterLine → Type 0
 SpellsLine text l = Spells text (event_of l)
 
--- these lines spell these
-abbrev pub AreLines : List ℕ → List ClusterLine → Type 0
-AreLines text ls = AllZip SpellsLine (parts_of text) ls
-
--- the first line of the text founds, and the others spell these
-pub record AreParts (source : List ℕ) (founding : Founding) (ls : List ClusterLine) : Type 0 where
-  pub first : List ℕ
-  pub others : List (List ℕ)
-  pub parts : lines_of source ≡ first ∷ others
-  pub founds : SpellsFounding first founding
-  pub each : AllZip SpellsLine others ls
-
 -- the founding has good fractions and 1 to 16 nodes, and the script has them
 pub record Fits (founding : Founding) (script : ClusterScript) : Type 0 where
   pub fractions : HasFractions founding
@@ -51,25 +36,10 @@ pub record Fits (founding : Founding) (script : ClusterScript) : Type 0 where
 -- the text spells the script
 pub record IsClusterScript (source : List ℕ) (script : ClusterScript) : Type 0 where
   pub founding : Founding
-  pub parts : AreParts source founding script.lines.items
+  pub parts : IsScriptOf SpellsLine source founding script.lines.items
   pub fits : Fits founding script
 
 -- ---- faults
-
--- the line that has so many lines before it is of another form: the first must found, and each other be a line
-abbrev pub IsOther : ℕ → List ℕ → Type 0
-IsOther zero text = (f : Founding) → SpellsFounding text f → ⊥
-IsOther (suc before) text = (l : ClusterLine) → SpellsLine text l → ⊥
-
--- what is first wrong with the lines of a text
-abbrev pub IsPartsFault : List ℕ → ScriptFault → Type 0
-IsPartsFault source (Syntax n) = IsFirst IsOther 0 (lines_of source) n
-IsPartsFault source OutOfMemory = Unit {0}
-
--- what is first wrong with the lines behind the first
-abbrev pub IsLaterFault : List ℕ → ScriptFault → Type 0
-IsLaterFault text (Syntax n) = IsFirst IsOther 1 (parts_of text) n
-IsLaterFault text OutOfMemory = Unit {0}
 
 -- 45
 abbrev pub bad_fraction : NodesFault
@@ -85,5 +55,5 @@ IsUnfit f e =
 -- what is first wrong with a text: one of its lines, and then its founding
 abbrev pub IsRefused : List ℕ → NodesFault → Type 0
 IsRefused source e =
-    ((f : ScriptFault) × (e ≡ Script (refusal.Script f)) × IsPartsFault source f)
-    ⊎ ((founding : Founding) × (ls : List ClusterLine) × AreParts source founding ls × IsUnfit founding e)
+    ((f : ScriptFault) × (e ≡ Script (refusal.Script f)) × IsFaultOf SpellsLine source f)
+    ⊎ ((founding : Founding) × (ls : List ClusterLine) × IsScriptOf SpellsLine source founding ls × IsUnfit founding e)

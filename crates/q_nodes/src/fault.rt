@@ -1,7 +1,8 @@
 //! Why nodes are not run, or a line of their script is refused.
 
 ghost use Rattle.std.specs.Prelude.{◌≡◌};
-ghost use Rattle.q_nodes.specs.Faults.{bad_founders, no_such_node, of_world, place, reason};
+ghost use Rattle.q_nodes.specs.Faults.{bad_founders, no_such_node, of_world, place, reason, of_fault, of_open, memory, of_gather};
+ghost use Rattle.q_sim.specs.Refusal.{refusal_of};
 
 use q_board::fault::OpenFault;
 use q_book::fault::BookFault;
@@ -9,7 +10,7 @@ use q_files::files::FileFault;
 use q_gather::fault::GatherFault;
 use q_history::fault::ClusterFault;
 use q_sim::refusal::{Place, Refusal};
-use reasons::Reason;
+use reasons::{Reason, told};
 use sc_node::fault::NodeFault;
 use sc_world::fault::WorldFault;
 use std::alloc::AllocError;
@@ -42,14 +43,10 @@ impl NodesFault {
     }
 
     /// The reason by which the refusal is told.
-    pub fn reason(&self) -> Reason
-        ensures { result ≡ reason self.now }
+    pub fn reason(self) -> Reason
+        ensures { result ≡ reason self }
     {
-        match self {
-            NodesFault::BadCount => Reason::BadCount,
-            NodesFault::TransportFailed => Reason::TransportFailed,
-            NodesFault::Script(refusal) => refusal.reason(),
-        }
+        told!(self, NodesFault: BadCount, TransportFailed, Script(refusal))
     }
 
     /// Where the refusal arose, as its line tells it.
@@ -85,9 +82,6 @@ impl fmt::Display for NodesFault {
 }
 
 impl From<BookFault> for NodesFault {
-    ghost use Rattle.std.specs.Prelude.{◌≡◌};
-    ghost use Rattle.q_nodes.specs.Faults.{of_fault};
-
     ghost from_gives = { λ refusal e. e ≡ of_fault refusal };
 
     fn from(fault: BookFault) -> NodesFault {
@@ -96,9 +90,6 @@ impl From<BookFault> for NodesFault {
 }
 
 impl From<OpenFault> for NodesFault {
-    ghost use Rattle.std.specs.Prelude.{◌≡◌};
-    ghost use Rattle.q_nodes.specs.Faults.{of_open};
-
     ghost from_gives = { λ fault e. e ≡ of_open fault };
 
     fn from(fault: OpenFault) -> NodesFault {
@@ -110,8 +101,6 @@ impl From<OpenFault> for NodesFault {
 }
 
 impl From<FileFault> for NodesFault {
-    ghost use Rattle.std.specs.Prelude.{◌≡◌};
-    ghost use Rattle.q_sim.specs.Refusal.{refusal_of};
     ghost use Rattle.q_nodes.specs.declared.fault.NodesFault.TheVariants.{Script};
 
     ghost from_gives = { λ fault e. e ≡ Script (refusal_of fault) };
@@ -122,9 +111,6 @@ impl From<FileFault> for NodesFault {
 }
 
 impl From<AllocError> for NodesFault {
-    ghost use Rattle.std.specs.Prelude.{◌≡◌};
-    ghost use Rattle.q_nodes.specs.Faults.{memory};
-
     ghost from_gives = { λ _ e. e ≡ memory };
 
     fn from(_: AllocError) -> NodesFault {
@@ -133,9 +119,6 @@ impl From<AllocError> for NodesFault {
 }
 
 impl From<GatherFault> for NodesFault {
-    ghost use Rattle.std.specs.Prelude.{◌≡◌};
-    ghost use Rattle.q_nodes.specs.Faults.{of_gather};
-
     ghost from_gives = { λ refusal e. e ≡ of_gather refusal };
 
     fn from(fault: GatherFault) -> NodesFault {

@@ -1,17 +1,13 @@
 //! The scripts of nodes in threads.
 
-ghost use Rattle.std.specs.Prelude.{◌≡◌, ◌∷◌, ◌++◌, IfOk, IfErr, MatchOption, MatchResult};
-ghost use Rattle.q_script.specs.Founding.{SpellsFounding};
-ghost use Rattle.q_script.specs.Line.{Judges};
-ghost use Rattle.q_script.specs.Lines.{without_last_feed};
-ghost use Rattle.q_script.specs.Words.{Lacks};
+ghost use Rattle.std.specs.Prelude.{◌≡◌, IfOk, IfErr, MatchOption, MatchResult};
 ghost use Rattle.q_sim.specs.Simulates.{HasFractions, config_of};
-ghost use Rattle.q_nodes.specs.Scripts.{AreLines, AreParts, Fits, IsClusterScript, IsLaterFault, IsOther, IsPartsFault, IsRefused, IsUnfit, SpellsLine, bad_fraction, event_of};
+ghost use Rattle.q_nodes.specs.Scripts.{Fits, IsClusterScript, IsRefused, IsUnfit, bad_fraction, event_of};
 
 use crate::fault::NodesFault;
 use q_script::founding::Founding;
-use q_script::line::{LineFault, ScriptLine};
-use q_script::script::ScriptFault;
+use q_script::line::{Line, LineFault, ScriptLine};
+use q_script::script::read_script;
 use q_sim::refusal::Refusal;
 use sc_members::config::Config;
 use std::alloc::Global;
@@ -78,79 +74,20 @@ fn taken(line: ScriptLine) -> Option<ClusterLine>
     }
 }
 
-/// The line that a text spells.
-fn read_line(alloc: Global, text: &str) -> Result<ClusterLine, LineFault>
-    ensures { Judges SpellsLine text.now result }
-{
-    match ScriptLine::read(alloc, text) {
-        Ok(line) => match taken(line) {
-            Some(line) => Ok(line),
-            None => Err(LineFault::Form),
-        },
-        Err(fault) => Err(fault),
-    }
-}
+impl Line for ClusterLine {
+    ghost use Rattle.q_nodes.specs.Scripts.{SpellsLine};
 
-/// The lines of these lines, of which the first is line 2 of a script.
-fn read_lines(alloc: Global, text: &str) -> Result<Vec<ClusterLine>, ScriptFault>
-    ensures read { IfOk result (λ lines. AreLines text.now lines.items) }
-    ensures fault { IfErr result (IsLaterFault text.now) }
-{
-    let mut lines = Vec::new(alloc);
-    for part in text.split('\n') {
-        let line = match read_line(alloc, part) {
-            Ok(line) => line,
-            Err(LineFault::Form) => {
-                return Err(ScriptFault::Syntax {
-                    line: lines.len() + 2,
-                });
-            }
-            Err(LineFault::OutOfMemory) => return Err(ScriptFault::OutOfMemory),
-        };
-        if lines.push(line).is_err() {
-            return Err(ScriptFault::OutOfMemory);
+    ghost spells = { SpellsLine };
+
+    fn read(alloc: Global, text: &str) -> Result<ClusterLine, LineFault> {
+        match ScriptLine::read(alloc, text) {
+            Ok(line) => match taken(line) {
+                Some(line) => Ok(line),
+                None => Err(LineFault::Form),
+            },
+            Err(fault) => Err(fault),
         }
     }
-    Ok(lines)
-}
-
-/// The founding of line 1.
-fn found(text: &str) -> Result<Founding, ScriptFault>
-    ensures { MatchResult result (SpellsFounding text.now) (λ fault. (fault ≡ ScriptFault.Syntax 1) × IsOther 0 text.now) }
-{
-    match Founding::read(text) {
-        Some(founding) => Ok(founding),
-        None => Err(ScriptFault::Syntax { line: 1 }),
-    }
-}
-
-/// The text without a line feed at its end.
-fn without_last_feed(text: &str) -> &str
-    ensures { result.now ≡ without_last_feed text.now }
-{
-    text.strip_suffix('\n').unwrap_or(text)
-}
-
-/// The first line, and what stands behind its line feed, where there is one.
-fn first_line(text: &str) -> Option<(&str, &str)>
-    ensures { MatchOption result (Lacks 10 text.now) (λ p. Lacks 10 p.0.now × (text.now ≡ p.0.now ++ (10 ∷ p.1.now))) }
-{
-    text.split_once('\n')
-}
-
-/// The founding that a text spells on its first line, and the lines behind it.
-fn read_parts(alloc: Global, source: &str) -> Result<(Founding, Vec<ClusterLine>), ScriptFault>
-    ensures read { IfOk result (λ parts. AreParts source.now parts.0 parts.1.items) }
-    ensures fault { IfErr result (IsPartsFault source.now) }
-{
-    let body = without_last_feed(source);
-    let Some((first, rest)) = first_line(body) else {
-        let founding = found(body)?;
-        return Ok((founding, Vec::new(alloc)));
-    };
-    let founding = found(first)?;
-    let lines = read_lines(alloc, rest)?;
-    Ok((founding, lines))
 }
 
 /// The fractions of a founding. Refused with 45.
@@ -198,7 +135,7 @@ impl ClusterScript {
         ensures read { IfOk result (IsClusterScript source.now) }
         ensures fault { IfErr result (IsRefused source.now) }
     {
-        match read_parts(alloc, source) {
+        match read_script(alloc, source) {
             Ok((founding, lines)) => fitting(founding, lines),
             Err(fault) => Err(NodesFault::Script(Refusal::Script(fault))),
         }

@@ -26,25 +26,9 @@ use Rattle.q_book.specs.declared.fault.BookFault.{BookFault}
 use Rattle.q_book.specs.declared.fault.BookFault.TheVariants as fault
 use Rattle.q_replay.proofs.Lists.{same_answer, no_refusal, passed, spared}
 use Rattle.q_replay.proofs.Keeps.{Keeps, Goes, keeps_itself, keeps_on, silent_goes, ended_on, registered_goes, asked_goes, ended_goes, handed_out_goes}
-use Rattle.q_replay.proofs.Posting.{IsPosted, posted_is, posted_goes, posted_one}
-
--- ---- what the parts of a book did
-
-by_node-ok : {A B : Type 0} (f : A → NodeState → B) (r : Result (A × NodeState) NodeFault) (z : B) → book.by_node f r ≡ Ok z → (a : A × NodeState) × (r ≡ Ok a) × (f a.0 a.1 ≡ z)
-by_node-ok f (Ok a) z h = (a, refl, same_answer _ z h)
-by_node-ok f (Err e) z h = absurd (no_refusal _ z h)
-
-by_desk-ok : {A B : Type 0} (f : A → DeskState → Result B BookFault) (r : Result (A × DeskState) DeskFault) (z : B) → book.by_desk f r ≡ Ok z → (a : A × DeskState) × (r ≡ Ok a) × (f a.0 a.1 ≡ Ok z)
-by_desk-ok f (Ok a) z h = (a, refl, h)
-by_desk-ok f (Err e) z h = absurd (no_refusal _ z h)
-
--- the desk had room for the entry
-noted-ok : {B : Type 0} (f : Unit {0} → DeskState → Result B BookFault) (d : DeskState) (e : Entry) (z : B) → book.by_desk f (desk.noted d e) ≡ Ok z → f tt (desk.with_entry d e) ≡ Ok z
-noted-ok {B} f d e z h = go (desk.has_room d) h
-  where
-    go : (b : Bool) → (let r : Result (Unit {0} × DeskState) DeskFault = cond b (Ok (tt, desk.with_entry d e)) (Err desk_fault.BookFull) in book.by_desk f r) ≡ Ok z → f tt (desk.with_entry d e) ≡ Ok z
-    go true k = k
-    go false k = absurd (no_refusal _ z k)
+use Rattle.q_desk.proofs.Accepted.{IsPosted, posted_is}
+use Rattle.q_book.proofs.Parts.{by_node-ok, by_desk-ok, noted-ok}
+use Rattle.q_replay.proofs.Posting.{posted_goes, posted_one}
 
 -- a later book of the same node, whose journal goes on with an entry
 pub record IsNext (b : BookState) (e : Entry) (c : BookState) : Type 0 where
@@ -123,7 +107,7 @@ module _ (b : BookState) where
       record {
         desk = a.0.1;
         there = (here-ok _ (tt, c) h).0;
-        posted = posted_is b.desk j ran a.0 b.id a.1;
+        posted = (posted_is b.desk j ran a.0 b.id a.1).1;
         is = ap (λ (x : Unit {0} × BookState). x.1) a.2;
       }
 

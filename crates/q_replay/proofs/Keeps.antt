@@ -19,30 +19,15 @@ use Rattle.q_desk.specs.declared.completed.Completed.{Completed}
 use Rattle.q_desk.specs.declared.journal.Entry.{Entry}
 use Rattle.q_desk.specs.declared.journal.Entry.TheVariants as entry
 use Rattle.q_desk.specs.declared.fault.DeskFault.TheVariants as fault
-use Rattle.q_replay.proofs.Lists.{same_some, no_some, same_answer, no_refusal, passed, and_right, get_front, get_elsewhere, found}
-
--- a phase with no answer
-abbrev pub HasNone : Phase → Type 0
-HasNone p = (view : ViewMap) (ran : Ran) → p ≡ Answered view ran → ⊥
-
--- the desk keeps its programs, and the answers that it recorded
-pub record Keeps (d e : DeskState) : Type 0 where
-  pub programs : (i : ℕ) (p : Certificate) → slice_get d.programs i ≡ Some p → slice_get e.programs i ≡ Some p
-  pub answers : (k : ℕ) (q : Query) (view : ViewMap) (ran : Ran) → slice_get d.queries k ≡ Some q → q.phase ≡ Answered view ran → slice_get e.queries k ≡ Some q
+use Rattle.std.specs.Cmp.{second_so}
+use Rattle.q_desk.proofs.Accepted.{HasNone, collecting_has_none, ready_has_none, IsReadyJob, next_is}
+pub use Rattle.q_desk.proofs.Accepted.{Keeps, keeps_itself, keeps_on, running_has_none}
+use Rattle.q_replay.proofs.Lists.{same_some, no_some, same_answer, no_refusal, passed, get_front, get_elsewhere, found}
 
 -- the desk keeps these, and its journal goes on with one entry
 pub record Goes (d : DeskState) (x : Entry) (e : DeskState) : Type 0 where
   pub keeps : Keeps d e
   pub adds : e.journal ≡ d.journal ++ x ∷ []
-
-pub keeps_itself : (d : DeskState) → Keeps d d
-keeps_itself d = record { programs = λ i p h. h; answers = λ k q view ran h a. h }
-
-pub keeps_on : (d e f : DeskState) → Keeps d e → Keeps e f → Keeps d f
-keeps_on d e f a b = record {
-  programs = λ i p h. b.programs i p (a.programs i p h);
-  answers = λ k q view ran h is. b.answers k q view ran (a.answers k q view ran h is) is;
-}
 
 -- also where it then keeps what ended
 pub ended_keeps : (d e : DeskState) (x : Option Completed) → Keeps d e → Keeps d (desk.with_ended e x)
@@ -102,18 +87,6 @@ module _ (d : DeskState) (k : ℕ) (p : Phase) (m : List Entry) (x : Option Comp
   pub phase_keeps : ((q : Query) → slice_get d.queries k ≡ Some q → HasNone q.phase) → Keeps d (record d { queries = desk.with_phase d.queries k p; journal = m; ended = x })
   phase_keeps none = phase_by (slice_get d.queries k) refl none
 
-collecting_has_none : (p : Phase) → desk.is_collecting p ≡ true → HasNone p
-collecting_has_none Collecting h view ran is = absurd (cc)
-collecting_has_none (Ready v) h view ran is = absurd (cc)
-collecting_has_none (Running v) h view ran is = absurd (cc)
-collecting_has_none (Answered v a) h view ran is = absurd (cc)
-
-ready_has_none : (p : Phase) (v : ViewMap) → p ≡ Ready v → HasNone p
-ready_has_none p v is view ran answered = let h : Ready v ≡ Answered view ran = sym is ∙ answered in absurd (cc)
-
-pub running_has_none : (p : Phase) (v : ViewMap) → p ≡ Running v → HasNone p
-running_has_none p v is view ran answered = let h : Running v ≡ Answered view ran = sym is ∙ answered in absurd (cc)
-
 -- ---- operations that end
 
 module _ (d : DeskState) (tag : ℕ) (view : ViewMap) where
@@ -121,7 +94,7 @@ module _ (d : DeskState) (tag : ℕ) (view : ViewMap) where
   returned_by None is = keeps_itself d
   returned_by (Some k) is =
       phase_keeps d k (Ready view) d.journal d.ended (λ q at.
-      collecting_has_none q.phase (and_right (q.tag == tag) (desk.is_collecting q.phase) (found (desk.waits tag) d.queries k q is at)))
+      collecting_has_none q.phase (second_so (q.tag == tag) (desk.is_collecting q.phase) (found (desk.waits tag) d.queries k q is at)))
 
   returned_adds : (o : Option ℕ) → (desk.returned_to d view o).1.journal ≡ d.journal
   returned_adds None = refl
@@ -152,34 +125,13 @@ ended_goes d x o =
 
 -- ---- jobs
 
--- a ready query of the desk whose job this is
-record IsReady (d : DeskState) (j : Job) : Type 0 where
-  query : Query
-  at : slice_get d.queries j.query ≡ Some query
-  phase : query.phase ≡ Ready j.view
-
 module _ (d : DeskState) (node : ℕ) where
-  job_of-ready : (k : ℕ) (q : Query) (p : Phase) (c : Option Certificate) (j : Job) → slice_get d.queries k ≡ Some q → q.phase ≡ p → desk.job_of node k q p c ≡ Some j → IsReady d j
-  job_of-ready k q (Ready view) (Some c) j at is h = subst (IsReady d) (same_some _ j h) (record { query = q; at = at; phase = is })
-  job_of-ready k q (Ready view) None j at is h = absurd (no_some j h)
-  job_of-ready k q Collecting c j at is h = absurd (no_some j h)
-  job_of-ready k q (Running view) c j at is h = absurd (no_some j h)
-  job_of-ready k q (Answered view ran) c j at is h = absurd (no_some j h)
-
-  job_at-ready : (k : ℕ) (o : Option Query) (j : Job) → slice_get d.queries k ≡ o → desk.job_at d node k o ≡ Some j → IsReady d j
-  job_at-ready k None j at h = absurd (no_some j h)
-  job_at-ready k (Some q) j at h = job_of-ready k q q.phase (slice_get d.programs q.program) j at refl h
-
-  job_from-ready : (o : Option ℕ) (j : Job) → desk.job_from d node o ≡ Some j → IsReady d j
-  job_from-ready None j h = absurd (no_some j h)
-  job_from-ready (Some k) j h = job_at-ready k (slice_get d.queries k) j refl h
-
   -- what a job that is handed out makes of the desk
   abbrev HandsOut : Option Job → DeskState → Type 0
   HandsOut None e = Unit {0}
   HandsOut (Some j) e = Goes d entry.HandOut e
 
-  hands_goes : (o : Option Job) (y : Option Job × DeskState) → ((j : Job) → o ≡ Some j → IsReady d j) → desk.hands d o ≡ Ok y → HandsOut y.0 y.1
+  hands_goes : (o : Option Job) (y : Option Job × DeskState) → ((j : Job) → o ≡ Some j → IsReadyJob d node j) → desk.hands d o ≡ Ok y → HandsOut y.0 y.1
   hands_goes None y ready h = subst (λ (z : Option Job × DeskState). HandsOut z.0 z.1) (same_answer _ y h) tt
   hands_goes (Some j) y ready h =
       let k = passed (desk.has_room d) fault.BookFull _ y h in
@@ -191,4 +143,4 @@ module _ (d : DeskState) (node : ℕ) where
       })
 
   pub handed_out_goes : (j : Job) (e : DeskState) → desk.handed_out d node ≡ Ok (Some j, e) → Goes d entry.HandOut e
-  handed_out_goes j e h = hands_goes (desk.next_job d node) (Some j, e) (λ i is. job_from-ready (position (λ (q : Query). desk.is_ready q.phase) d.queries) i is) h
+  handed_out_goes j e h = hands_goes (desk.next_job d node) (Some j, e) (next_is d node) h

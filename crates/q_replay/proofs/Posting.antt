@@ -21,41 +21,12 @@ use Rattle.q_desk.specs.Desks.{running_job_of, running_job_at, running_job}
 use Rattle.q_desk.specs.declared.journal.Entry.TheVariants as entry
 use Rattle.q_desk.specs.declared.fault.DeskFault.{DeskFault}
 use Rattle.q_desk.specs.declared.fault.DeskFault.TheVariants as fault
-use Rattle.q_replay.proofs.Lists.{same_some, no_some, same_answer, no_refusal, passed, and_right, and_both, get_written}
+use Rattle.std.specs.Cmp.{second_so}
+use Rattle.q_desk.proofs.Accepted.{answered, IsPosted}
+use Rattle.q_replay.proofs.Lists.{same_some, no_some, same_answer, no_refusal, passed, and_both, get_written}
 use Rattle.q_replay.proofs.Keeps.{Goes, phase_keeps, running_has_none}
 
 -- ---- what a post did
-
--- the desk with this answer recorded
-abbrev pub answered : DeskState → ℕ → ViewMap → Ran → DeskState
-answered d k view ran = desk.with_entry (record d { queries = desk.with_phase d.queries k (Answered view ran); ended = None }) (entry.Post k ran)
-
--- the query runs over this view, the job is its, and there was room
-pub record IsPosted (d : DeskState) (j : Job) (ran : Ran) (e : DeskState) : Type 0 where
-  pub query : Query
-  pub view : ViewMap
-  pub at : slice_get d.queries j.query ≡ Some query
-  pub phase : query.phase ≡ Running view
-  pub fits : desk.is_job_of d.programs j query view ≡ true
-  pub room : desk.has_room d ≡ true
-  pub is : answered d j.query view ran ≡ e
-
-module _ (d : DeskState) (j : Job) (ran : Ran) (y : Unit {0} × DeskState) where
-  posted_to-is : (q : Query) (p : Phase) → slice_get d.queries j.query ≡ Some q → q.phase ≡ p → desk.posted_to d j ran q p ≡ Ok y → IsPosted d j ran y.1
-  posted_to-is q Collecting at is h = absurd (no_refusal _ y h)
-  posted_to-is q (Ready view) at is h = absurd (no_refusal _ y h)
-  posted_to-is q (Answered view old) at is h = absurd (no_refusal _ y h)
-  posted_to-is q (Running view) at is h =
-      let a = passed (desk.is_job_of d.programs j q view) fault.Stranger _ y h in
-      let b = passed (desk.has_room d) fault.BookFull _ y a.1 in
-      record { query = q; view = view; at = at; phase = is; fits = a.0; room = b.0; is = ap (λ (z : Unit {0} × DeskState). z.1) (same_answer _ y b.1) }
-
-  posted_at-is : (o : Option Query) → slice_get d.queries j.query ≡ o → desk.posted_at d j ran o ≡ Ok y → IsPosted d j ran y.1
-  posted_at-is None at h = absurd (no_refusal _ y h)
-  posted_at-is (Some q) at h = posted_to-is q q.phase at refl h
-
-  pub posted_is : (node : ℕ) → desk.posted d node j ran ≡ Ok y → IsPosted d j ran y.1
-  posted_is node h = posted_at-is (slice_get d.queries j.query) refl (passed (j.node == node) fault.Stranger _ y h).1
 
 pub posted_goes : (d : DeskState) (j : Job) (ran : Ran) (e : DeskState) → IsPosted d j ran e → Goes d (entry.Post j.query ran) e
 posted_goes d j ran e p =
@@ -123,9 +94,9 @@ pub record IsRun (d : DeskState) (node : ℕ) (j : Job) (q : Query) (view : View
 
 pub posted_runs : (d : DeskState) (node : ℕ) (j : Job) (ran : Ran) (e : DeskState) (p : IsPosted d j ran e) → IsRun d node j p.query p.view
 posted_runs d node j ran e p =
-    let a = and_right (j.program == p.query.program) _ p.fits in
-    let b = and_right (j.start == p.query.start) _ a in
-    let c = some_program j.certified (slice_get d.programs p.query.program) (and_right (desk.is_same_view j.view p.view) _ b) in
+    let a = second_so (j.program == p.query.program) _ p.fits in
+    let b = second_so (j.start == p.query.start) _ a in
+    let c = some_program j.certified (slice_get d.programs p.query.program) (second_so (desk.is_same_view j.view p.view) _ b) in
     record { program = c.0; named = c.1; is = runs_job d node j.query p.query p.view c.0 p.at p.phase c.1 }
 
 same_bytes : (xs : List ℕ) → bytes_eq xs xs ≡ true

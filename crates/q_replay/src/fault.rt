@@ -3,7 +3,7 @@
 ghost use Rattle.std.specs.Prelude.{◌≡◌};
 ghost use Rattle.q_replay.specs.Faults.{reason, fault_event};
 
-use reasons::Reason;
+use reasons::{Reason, told};
 use std::alloc::AllocError;
 
 /// What is first wrong with bytes that are no journal of a book. Events are counted from 1, and the head is event 0. At
@@ -20,14 +20,10 @@ pub enum ReplayFault {
 
 impl ReplayFault {
     /// The reason by which the fault is told.
-    pub fn reason(&self) -> Reason
-        ensures { result ≡ reason self.now }
+    pub fn reason(self) -> Reason
+        ensures { result ≡ reason self }
     {
-        match self {
-            ReplayFault::Form { .. } => Reason::JournalForm,
-            ReplayFault::Mismatch { .. } => Reason::JournalMismatch,
-            ReplayFault::OutOfMemory => Reason::OutOfMemory,
-        }
+        told!(self, ReplayFault: Form { .. } => JournalForm, Mismatch { .. } => JournalMismatch, OutOfMemory)
     }
 
     /// The event at which the fault stands, counted from 1; the head is event 0.
@@ -42,7 +38,6 @@ impl ReplayFault {
 }
 
 impl From<AllocError> for ReplayFault {
-    ghost use Rattle.std.specs.Prelude.{◌≡◌};
     ghost use Rattle.q_replay.specs.declared.fault.ReplayFault.TheVariants.{OutOfMemory};
 
     ghost from_gives = { λ _ e. e ≡ OutOfMemory };

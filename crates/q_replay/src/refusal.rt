@@ -1,7 +1,11 @@
 //! Why an event is not taken.
+ghost use Rattle.std.specs.Prelude.{◌≡◌};
+ghost use Rattle.q_replay.specs.Taking.{of_book, of_check};
+ghost use Rattle.q_replay.specs.declared.refusal.Refusal.TheVariants.{Mismatch, OutOfMemory};
 
 use bq_check::fault::CheckFault;
 use q_book::fault::BookFault;
+use reasons::passed_on;
 use sc_members::config::BadFraction;
 use sc_node::fault::NodeFault;
 use std::alloc::{AllocError, AllocFailed};
@@ -16,9 +20,6 @@ pub(crate) enum Refusal {
 }
 
 impl From<BookFault> for Refusal {
-    ghost use Rattle.std.specs.Prelude.{◌≡◌};
-    ghost use Rattle.q_replay.specs.Taking.{of_book};
-
     ghost from_gives = { λ fault e. e ≡ of_book fault };
 
     fn from(fault: BookFault) -> Refusal {
@@ -30,23 +31,14 @@ impl From<BookFault> for Refusal {
 }
 
 impl From<CheckFault> for Refusal {
-    ghost use Rattle.std.specs.Prelude.{◌≡◌};
-    ghost use Rattle.q_replay.specs.Taking.{of_check};
-
     ghost from_gives = { λ fault e. e ≡ of_check fault };
 
     fn from(fault: CheckFault) -> Refusal {
-        match fault {
-            CheckFault::OutOfMemory => Refusal::OutOfMemory,
-            _ => Refusal::Mismatch,
-        }
+        passed_on!(fault, CheckFault as Refusal: OutOfMemory; else Mismatch)
     }
 }
 
 impl From<BadFraction> for Refusal {
-    ghost use Rattle.std.specs.Prelude.{◌≡◌};
-    ghost use Rattle.q_replay.specs.declared.refusal.Refusal.TheVariants.{Mismatch};
-
     ghost from_gives = { λ _ e. e ≡ Mismatch };
 
     fn from(_: BadFraction) -> Refusal {
@@ -55,9 +47,6 @@ impl From<BadFraction> for Refusal {
 }
 
 impl From<AllocError> for Refusal {
-    ghost use Rattle.std.specs.Prelude.{◌≡◌};
-    ghost use Rattle.q_replay.specs.declared.refusal.Refusal.TheVariants.{OutOfMemory};
-
     ghost from_gives = { λ _ e. e ≡ OutOfMemory };
 
     fn from(_: AllocError) -> Refusal {
@@ -66,9 +55,6 @@ impl From<AllocError> for Refusal {
 }
 
 impl<T: Drop> From<AllocFailed<T>> for Refusal {
-    ghost use Rattle.std.specs.Prelude.{◌≡◌};
-    ghost use Rattle.q_replay.specs.declared.refusal.Refusal.TheVariants.{OutOfMemory};
-
     ghost from_gives = { λ _ e. e ≡ OutOfMemory };
 
     fn from(_: AllocFailed<T>) -> Refusal {

@@ -2,13 +2,14 @@
 use Rattle.std.proofs.Common.{◌≡◌, ℕ, ◌+◌, ◌≤◌, ◌<◌, ◌==◌, Bool, true, false, List, [], ◌∷◌, ◌++◌, length, take, drop, get_or, Option, Some, None, ap, sym, ◌∙◌, subst, arith, refl}
 use Rattle.std.specs.FinMap as fin
 use Rattle.std.proofs.lemmas.Bool.{eq-eqb}
+use Rattle.bq_range.specs.Interval.{Interval}
 use Rattle.sc_view.specs.declared.view.Stored.{Stored}
 use Rattle.sc_view.specs.Views.{ViewMap, put, most_entries}
 use Rattle.q_script.specs.declared.records.Record.{Record}
 use Rattle.q_script.specs.declared.records.RecordFault.{RecordFault}
 use Rattle.q_script.specs.declared.records.RecordFault.TheVariants.{Full}
 use Rattle.q_script.specs.Lines.{without_last_feed, parts_of}
-use Rattle.q_script.specs.Records.{IsRecord, IsAbove, HasFault, IsReading, IsFaultAt, last_id, learned, stored_of, record_lines}
+use Rattle.q_script.specs.Records.{IsRecord, IsAbove, IsGood, HasFault, IsReading, IsFaultAt, last_id, learned, stored_of, record_lines}
 use Rattle.q_script.proofs.Lines.{pieces_at}
 use Rattle.q_script.proofs.Learning.{len_learned, len_more, zip_length, learned_push, last_push, reading_push}
 
@@ -20,35 +21,35 @@ lines_there [] body n e = absurd (n refl)
 lines_there (c ∷ cs) body n e = ap parts_of (sym e)
 
 -- what is known where some lines are read
-pub record Read (done : List (List ℕ)) (last : Option ℕ) (view : ViewMap) (records : List Record) : Type 0 where
-  pub reading : IsReading done records
+pub record Read (l : Interval) (done : List (List ℕ)) (last : Option ℕ) (view : ViewMap) (records : List Record) : Type 0 where
+  pub reading : IsReading l done records
   pub learnt : view ≡ learned fin.empty records
   pub ends : last ≡ last_id None records
 
-pub fault_at : (texts done : List (List ℕ)) (t : List ℕ) (i n : ℕ) (last : Option ℕ) (view : ViewMap) (records : List Record) (fault : RecordFault) → done ≡ take i texts → i < length texts → t ≡ get_or texts i t
-    → Read done last view records → n ≡ fin.len view → HasFault last (length records) t fault → IsFaultAt texts (n + 1) fault
-fault_at texts done t i n last view records fault f l e k c h = record {
+pub fault_at : (l : Interval) (texts done : List (List ℕ)) (t : List ℕ) (i n : ℕ) (last : Option ℕ) (view : ViewMap) (records : List Record) (fault : RecordFault) → done ≡ take i texts → i < length texts → t ≡ get_or texts i t
+    → Read l done last view records → n ≡ fin.len view → HasFault l last (length records) t fault → IsFaultAt l texts (n + 1) fault
+fault_at l texts done t i n last view records fault f less e k c h = record {
   before = done;
   text = t;
   after = drop (i + 1) texts;
-  parts = pieces_at texts done i t f l e;
-  number = omega (arith, c, ap fin.len k.learnt, len_learned records k.reading.good, zip_length IsRecord done records k.reading.spelled);
+  parts = pieces_at texts done i t f less e;
+  number = omega (arith, c, ap fin.len k.learnt, len_learned l records k.reading.good, zip_length IsRecord done records k.reading.spelled);
   records = records;
   read = k.reading;
-  has_fault = subst (λ o. HasFault o (length records) t fault) k.ends h;
+  has_fault = subst (λ o. HasFault l o (length records) t fault) k.ends h;
 }
 
 -- a full view has 256 entries
-pub full_fault : (done : List (List ℕ)) (t : List ℕ) (last : Option ℕ) (view : ViewMap) (records : List Record) (r : Record) (s : Stored) → Read done last view records → fin.len view ≤ most_entries
-    → IsRecord t r → IsAbove last r.id → 1 ≤ r.number → s ≡ stored_of r → most_entries < fin.len (put view r.id s) → HasFault last (length records) t Full
-full_fault done t last view records r s k few is a n e over =
-    let more : fin.len (put view r.id s) ≡ length records + 1 = ap fin.len (ap (λ v. put v r.id s) k.learnt ∙ ap (put (learned fin.empty records) r.id) e) ∙ len_more records r k.reading.good (subst (λ o. IsAbove o r.id) k.ends a) in
-    (r, is, a, n, omega (arith, more, over, few, ap fin.len k.learnt, len_learned records k.reading.good))
+pub full_fault : (l : Interval) (done : List (List ℕ)) (t : List ℕ) (last : Option ℕ) (view : ViewMap) (records : List Record) (r : Record) (s : Stored) → Read l done last view records → fin.len view ≤ most_entries
+    → IsRecord t r → IsGood l last r → s ≡ stored_of r → most_entries < fin.len (put view r.id s) → HasFault l last (length records) t Full
+full_fault l done t last view records r s k few is g e over =
+    let more : fin.len (put view r.id s) ≡ length records + 1 = ap fin.len (ap (λ v. put v r.id s) k.learnt ∙ ap (put (learned fin.empty records) r.id) e) ∙ len_more l records r k.reading.good (subst (λ o. IsAbove o r.id) k.ends g.0) in
+    (r, is, g, omega (arith, more, over, few, ap fin.len k.learnt, len_learned l records k.reading.good))
 
-pub read_more : (done : List (List ℕ)) (t : List ℕ) (last : Option ℕ) (view new : ViewMap) (records : List Record) (r : Record) (s : Stored) → Read done last view records
-    → IsRecord t r → IsAbove last r.id → 1 ≤ r.number → s ≡ stored_of r → new ≡ put view r.id s → Read (done ++ (t ∷ [])) (Some r.id) new (records ++ (r ∷ []))
-read_more done t last view new records r s k is a n e p = record {
-  reading = reading_push done records t r k.reading is (subst (λ o. IsAbove o r.id) k.ends a) n;
+pub read_more : (l : Interval) (done : List (List ℕ)) (t : List ℕ) (last : Option ℕ) (view new : ViewMap) (records : List Record) (r : Record) (s : Stored) → Read l done last view records
+    → IsRecord t r → IsGood l last r → s ≡ stored_of r → new ≡ put view r.id s → Read l (done ++ (t ∷ [])) (Some r.id) new (records ++ (r ∷ []))
+read_more l done t last view new records r s k is g e p = record {
+  reading = reading_push l done records t r k.reading is (subst (λ o. IsGood l o r) k.ends g);
   learnt = p ∙ ap (λ v. put v r.id s) k.learnt ∙ ap (put (learned fin.empty records) r.id) e ∙ sym (learned_push fin.empty records r);
   ends = sym (last_push None records r);
 }

@@ -4,12 +4,13 @@ use Rattle.std.specs.List.{AllZip}
 use Rattle.std.specs.FinMap as fin
 use Rattle.std.specs.Ordering.{nat_cmp}
 use Rattle.std.proofs.lemmas.Bool.{ne_eqb}
+use Rattle.bq_range.specs.Interval.{Interval}
 use Rattle.sc_view.specs.declared.view.Stored.{Stored}
 use Rattle.sc_view.specs.Views.{ViewMap, put, newer}
 use Rattle.sc_view.proofs.ViewLemmas.{get-put, len-put}
 use Rattle.q_script.specs.declared.records.Record.{Record}
 use Rattle.q_script.specs.Words.{IsFollowed, IsPair}
-use Rattle.q_script.specs.Records.{IsRecord, IsAbove, AreGood, IsReading, last_id, learned, stored_of}
+use Rattle.q_script.specs.Records.{IsRecord, IsAbove, IsGood, AreGood, IsReading, last_id, learned, stored_of}
 use Rattle.q_script.proofs.Pairs.{followed_once}
 use Rattle.q_script.proofs.Lines.{zip_push}
 
@@ -33,12 +34,12 @@ pub last_push : (last : Option ℕ) (rs : List Record) (r : Record) → last_id 
 last_push last [] r = refl
 last_push last (x ∷ rs) r = last_push (Some x.id) rs r
 
-good_push : (last : Option ℕ) (rs : List Record) (r : Record) → AreGood last rs → IsAbove (last_id last rs) r.id → 1 ≤ r.number → AreGood last (rs ++ (r ∷ []))
-good_push last [] r h a n = (a, n, tt)
-good_push last (x ∷ rs) r h a n = (h.0, h.1, good_push (Some x.id) rs r h.2 a n)
+good_push : (l : Interval) (last : Option ℕ) (rs : List Record) (r : Record) → AreGood l last rs → IsGood l (last_id last rs) r → AreGood l last (rs ++ (r ∷ []))
+good_push l last [] r h g = (g, tt)
+good_push l last (x ∷ rs) r h g = (h.0, good_push l (Some x.id) rs r h.1 g)
 
-pub reading_push : (lines : List (List ℕ)) (rs : List Record) (text : List ℕ) (r : Record) → IsReading lines rs → IsRecord text r → IsAbove (last_id None rs) r.id → 1 ≤ r.number → IsReading (lines ++ (text ∷ [])) (rs ++ (r ∷ []))
-reading_push lines rs text r h s a n = record { spelled = zip_push IsRecord lines rs text r h.spelled s; good = good_push None rs r h.good a n }
+pub reading_push : (l : Interval) (lines : List (List ℕ)) (rs : List Record) (text : List ℕ) (r : Record) → IsReading l lines rs → IsRecord text r → IsGood l (last_id None rs) r → IsReading l (lines ++ (text ∷ [])) (rs ++ (r ∷ []))
+reading_push l lines rs text r h s g = record { spelled = zip_push IsRecord lines rs text r h.spelled s; good = good_push l None rs r h.good g }
 
 -- ---- how many
 
@@ -62,19 +63,19 @@ pub record Learned (last : Option ℕ) (v : ViewMap) (rs : List Record) : Type 0
   pub count : fin.len (learned v rs) ≡ fin.len v + length rs
   pub fresh : Fresh (last_id last rs) (learned v rs)
 
-learned_all : (last : Option ℕ) (v : ViewMap) (rs : List Record) → Fresh last v → AreGood last rs → Learned last v rs
-learned_all last v [] f h = record { count = omega arith; fresh = f }
-learned_all last v (r ∷ rs) f h =
-    let more = learned_all (Some r.id) (put v r.id (stored_of r)) rs (fresh_put last v r.id (stored_of r) f h.0) h.2 in
-    let one = len_fresh last v r.id (stored_of r) f h.0 in
+learned_all : (l : Interval) (last : Option ℕ) (v : ViewMap) (rs : List Record) → Fresh last v → AreGood l last rs → Learned last v rs
+learned_all l last v [] f h = record { count = omega arith; fresh = f }
+learned_all l last v (r ∷ rs) f h =
+    let more = learned_all l (Some r.id) (put v r.id (stored_of r)) rs (fresh_put last v r.id (stored_of r) f h.0.0) h.1 in
+    let one = len_fresh last v r.id (stored_of r) f h.0.0 in
     record { count = omega (arith, more.count, one); fresh = more.fresh }
 
-pub len_learned : (rs : List Record) → AreGood None rs → fin.len (learned fin.empty rs) ≡ length rs
-len_learned rs h = let all = learned_all None fin.empty rs (λ q a. fin.get-empty nat_cmp q) h in omega (arith, all.count, fin.len-empty nat_cmp Stored)
+pub len_learned : (l : Interval) (rs : List Record) → AreGood l None rs → fin.len (learned fin.empty rs) ≡ length rs
+len_learned l rs h = let all = learned_all l None fin.empty rs (λ q a. fin.get-empty nat_cmp q) h in omega (arith, all.count, fin.len-empty nat_cmp Stored)
 
-pub len_more : (rs : List Record) (r : Record) → AreGood None rs → IsAbove (last_id None rs) r.id → fin.len (put (learned fin.empty rs) r.id (stored_of r)) ≡ length rs + 1
-len_more rs r h a =
-    let all = learned_all None fin.empty rs (λ q b. fin.get-empty nat_cmp q) h in
+pub len_more : (l : Interval) (rs : List Record) (r : Record) → AreGood l None rs → IsAbove (last_id None rs) r.id → fin.len (put (learned fin.empty rs) r.id (stored_of r)) ≡ length rs + 1
+len_more l rs r h a =
+    let all = learned_all l None fin.empty rs (λ q b. fin.get-empty nat_cmp q) h in
     let one = len_fresh (last_id None rs) (learned fin.empty rs) r.id (stored_of r) all.fresh a in
     omega (arith, all.count, one, fin.len-empty nat_cmp Stored)
 

@@ -6,10 +6,8 @@ use Rattle.std.specs.List.{AllZip, onto_first}
 use Rattle.std.proofs.lemmas.Bool.{ne_eqb}
 use Rattle.std.proofs.lemmas.List.{take-append-drop, drop_more}
 use Rattle.std.proofs.lemmas.List.Splits.{slice_split-cons_no, slice_split-cons_yes}
-use Rattle.q_script.specs.declared.line.ScriptLine.{ScriptLine}
 use Rattle.q_script.specs.Words.{Lacks}
 use Rattle.q_script.specs.Lines.{parts_of, IsFirst}
-use Rattle.q_script.specs.Line.{Spells}
 use Rattle.q_script.specs.Script.{IsOther}
 
 -- ---- parts between line feeds
@@ -35,26 +33,26 @@ pieces_at all front i x f l e =
     sym (take-append-drop i all) ∙ ap (λ u. u ++ drop i all) (sym f)
     ∙ ap (λ u. front ++ u) (drop_more all i x l ∙ ap (λ y. y ∷ drop (i + 1) all) (sym e))
 
-first_from : (b : ℕ) (done : List (List ℕ)) (v : List ScriptLine) (t : List ℕ) (rest : List (List ℕ)) → AllZip Spells done v → ((w : ScriptLine) → Spells t w → ⊥) → IsFirst IsOther (suc b) (done ++ t ∷ rest) (b + length v + 2)
-first_from b [] [] t rest h n = inl (n, omega arith)
-first_from b [] (y ∷ v) t rest h n = absurd h
-first_from b (x ∷ done) [] t rest h n = absurd h
-first_from b (x ∷ done) (y ∷ v) t rest h n =
-    inr (λ f. f y h.0, subst (IsFirst IsOther (suc (suc b)) (done ++ t ∷ rest)) (omega arith) (first_from (suc b) done v t rest h.1 n))
+first_from : {L : Type 0} (spells : List ℕ → L → Type 0) (b : ℕ) (done : List (List ℕ)) (v : List L) (t : List ℕ) (rest : List (List ℕ)) → AllZip spells done v → ((w : L) → spells t w → ⊥) → IsFirst (IsOther spells) (suc b) (done ++ t ∷ rest) (b + length v + 2)
+first_from spells b [] [] t rest h n = inl (n, omega arith)
+first_from spells b [] (y ∷ v) t rest h n = absurd h
+first_from spells b (x ∷ done) [] t rest h n = absurd h
+first_from spells b (x ∷ done) (y ∷ v) t rest h n =
+    inr (λ f. f y h.0, subst (IsFirst (IsOther spells) (suc (suc b)) (done ++ t ∷ rest)) (omega arith) (first_from spells (suc b) done v t rest h.1 n))
 
-pub first_other : (texts done : List (List ℕ)) (items : List ScriptLine) (t : List ℕ) (i k : ℕ) → done ≡ take i texts → i < length texts → t ≡ get_or texts i t
-    → AllZip Spells done items → ((w : ScriptLine) → Spells t w → ⊥) → k ≡ length items → IsFirst IsOther 1 texts (k + 2)
-first_other texts done items t i k f l e h n d =
-    let here = first_from 0 done items t (drop (i + 1) texts) h n in
-    subst (λ u. IsFirst IsOther 1 u (k + 2)) (sym (pieces_at texts done i t f l e)) (subst (IsFirst IsOther 1 (done ++ t ∷ drop (i + 1) texts)) (omega (arith, d)) here)
+pub first_other : {L : Type 0} (spells : List ℕ → L → Type 0) (texts done : List (List ℕ)) (items : List L) (t : List ℕ) (i k : ℕ) → done ≡ take i texts → i < length texts → t ≡ get_or texts i t
+    → AllZip spells done items → ((w : L) → spells t w → ⊥) → k ≡ length items → IsFirst (IsOther spells) 1 texts (k + 2)
+first_other spells texts done items t i k f l e h n d =
+    let here = first_from spells 0 done items t (drop (i + 1) texts) h n in
+    subst (λ u. IsFirst (IsOther spells) 1 u (k + 2)) (sym (pieces_at texts done i t f l e)) (subst (IsFirst (IsOther spells) 1 (done ++ t ∷ drop (i + 1) texts)) (omega (arith, d)) here)
 
 pushed : {X E : Type 0} (items new : List X) (x : X) (r : Result (Unit {0}) E) → new ≡ cond (is_ok r) (items ++ x ∷ []) items → is_err r ≡ false → new ≡ items ++ x ∷ []
 pushed items new x (Ok u) e f = e
 pushed items new x (Err d) e f = absurd cc
 
-pub all_read : (texts done : List (List ℕ)) (items : List ScriptLine) → done ≡ texts → AllZip Spells done items → AllZip Spells texts items
-all_read texts done items e h = subst (λ u. AllZip Spells u items) e h
+pub all_read : {L : Type 0} (spells : List ℕ → L → Type 0) (texts done : List (List ℕ)) (items : List L) → done ≡ texts → AllZip spells done items → AllZip spells texts items
+all_read spells texts done items e h = subst (λ u. AllZip spells u items) e h
 
-pub read_more : {E : Type 0} (done : List (List ℕ)) (t : List ℕ) (items new : List ScriptLine) (x : ScriptLine) (r : Result (Unit {0}) E) → AllZip Spells done items → Spells t x
-    → new ≡ cond (is_ok r) (items ++ x ∷ []) items → is_err r ≡ false → AllZip Spells (done ++ t ∷ []) new
-read_more done t items new x r h s p f = subst (AllZip Spells (done ++ t ∷ [])) (sym (pushed items new x r p f)) (zip_push Spells done items t x h s)
+pub read_more : {E L : Type 0} (spells : List ℕ → L → Type 0) (done : List (List ℕ)) (t : List ℕ) (items new : List L) (x : L) (r : Result (Unit {0}) E) → AllZip spells done items → spells t x
+    → new ≡ cond (is_ok r) (items ++ x ∷ []) items → is_err r ≡ false → AllZip spells (done ++ t ∷ []) new
+read_more spells done t items new x r h s p f = subst (AllZip spells (done ++ t ∷ [])) (sym (pushed items new x r p f)) (zip_push spells done items t x h s)

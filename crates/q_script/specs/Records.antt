@@ -5,11 +5,13 @@ use Rattle.std.specs.Int.{w64, to_le_bytes}
 use Rattle.std.specs.FinMap as fin
 use Rattle.reasons.specs.declared.Reason.{Reason}
 use Rattle.reasons.specs.declared.Reason.TheVariants as reasons
+use Rattle.bq_meaning.specs.Place.{record_length}
+use Rattle.bq_range.specs.Interval.{Interval, IsIn}
 use Rattle.sc_view.specs.declared.view.Stored.{Stored}
 use Rattle.sc_view.specs.Views.{ViewMap, put, most_entries}
 use Rattle.q_script.specs.declared.records.Record.{Record}
 use Rattle.q_script.specs.declared.records.RecordFault.{RecordFault}
-use Rattle.q_script.specs.declared.records.RecordFault.TheVariants.{Syntax, Unsorted, BadField, Full}
+use Rattle.q_script.specs.declared.records.RecordFault.TheVariants.{Syntax, Unsorted, BadField, BadValue, Full}
 use Rattle.q_script.specs.declared.records.RecordsFault.{RecordsFault}
 use Rattle.q_script.specs.declared.records.RecordsFault.TheVariants.{Line, OutOfMemory}
 use Rattle.q_script.specs.Words.{IsFollowed, IsPair}
@@ -26,12 +28,18 @@ abbrev pub IsAbove : Option ℕ → ℕ → Type 0
 IsAbove None id = Unit {0}
 IsAbove (Some last) id = last < id
 
+-- the record may stand behind the last one: its id is above, its sequence number counts from 1, and it has one of the
+-- lengths (each record of a list has 64 bytes)
+abbrev pub IsGood : Interval → Option ℕ → Record → Type 0
+IsGood lengths last r = IsAbove last r.id × (1 ≤ r.number) × IsIn record_length lengths
+
 -- what is wrong with a line that stands behind so many records, of which the last has this id
-abbrev pub HasFault : Option ℕ → ℕ → List ℕ → RecordFault → Type 0
-HasFault last count text Syntax = (r : Record) → IsRecord text r → ⊥
-HasFault last count text Unsorted = (r : Record) × IsRecord text r × (IsAbove last r.id → ⊥)
-HasFault last count text BadField = (r : Record) × IsRecord text r × IsAbove last r.id × (r.number ≡ 0)
-HasFault last count text Full = (r : Record) × IsRecord text r × IsAbove last r.id × (1 ≤ r.number) × (count ≡ most_entries)
+abbrev pub HasFault : Interval → Option ℕ → ℕ → List ℕ → RecordFault → Type 0
+HasFault lengths last count text Syntax = (r : Record) → IsRecord text r → ⊥
+HasFault lengths last count text Unsorted = (r : Record) × IsRecord text r × (IsAbove last r.id → ⊥)
+HasFault lengths last count text BadField = (r : Record) × IsRecord text r × IsAbove last r.id × (r.number ≡ 0)
+HasFault lengths last count text BadValue = (r : Record) × IsRecord text r × IsAbove last r.id × (1 ≤ r.number) × (IsIn record_length lengths → ⊥)
+HasFault lengths last count text Full = (r : Record) × IsRecord text r × IsGood lengths last r × (count ≡ most_entries)
 
 -- ---- the view
 
@@ -49,10 +57,10 @@ learned v (r ∷ rs) = learned (put v r.id (stored_of r)) rs
 
 -- ---- all lines
 
--- behind this id the ids rise strictly, and the sequence numbers count from 1
-abbrev pub AreGood : Option ℕ → List Record → Type 0
-AreGood last [] = Unit {0}
-AreGood last (r ∷ rs) = IsAbove last r.id × (1 ≤ r.number) × AreGood (Some r.id) rs
+-- each of these may stand behind the one before, and the first behind this id
+abbrev pub AreGood : Interval → Option ℕ → List Record → Type 0
+AreGood lengths last [] = Unit {0}
+AreGood lengths last (r ∷ rs) = IsGood lengths last r × AreGood lengths (Some r.id) rs
 
 -- the last id
 abbrev pub last_id : Option ℕ → List Record → Option ℕ
@@ -60,34 +68,34 @@ last_id last [] = last
 last_id last (r ∷ rs) = last_id (Some r.id) rs
 
 -- the lines spell these records, and none has a fault
-pub record IsReading (lines : List (List ℕ)) (records : List Record) : Type 0 where
+pub record IsReading (lengths : Interval) (lines : List (List ℕ)) (records : List Record) : Type 0 where
   pub spelled : AllZip IsRecord lines records
-  pub good : AreGood None records
+  pub good : AreGood lengths None records
 
 -- the lines of a list: an empty text has none
 abbrev pub record_lines : List ℕ → List (List ℕ)
 record_lines [] = []
 record_lines (c ∷ cs) = lines_of (c ∷ cs)
 
--- the view of the records that a text lists
-abbrev pub IsView : List ℕ → ViewMap → Type 0
-IsView source view = (records : List Record) × IsReading (record_lines source) records × (view ≡ learned fin.empty records)
+-- the view of the records that a text lists, each of one of the lengths
+abbrev pub IsView : Interval → List ℕ → ViewMap → Type 0
+IsView lengths source view = (records : List Record) × IsReading lengths (record_lines source) records × (view ≡ learned fin.empty records)
 
 -- the line with this number, counted from 1, has this fault, and no line before it has one
-pub record IsFaultAt (lines : List (List ℕ)) (line : ℕ) (fault : RecordFault) : Type 0 where
+pub record IsFaultAt (lengths : Interval) (lines : List (List ℕ)) (line : ℕ) (fault : RecordFault) : Type 0 where
   pub before : List (List ℕ)
   pub text : List ℕ
   pub after : List (List ℕ)
   pub parts : lines ≡ before ++ (text ∷ after)
   pub number : line ≡ length before + 1
   pub records : List Record
-  pub read : IsReading before records
-  pub has_fault : HasFault (last_id None records) (length records) text fault
+  pub read : IsReading lengths before records
+  pub has_fault : HasFault lengths (last_id None records) (length records) text fault
 
 -- why a list is refused
-abbrev pub IsRefusal : List ℕ → RecordsFault → Type 0
-IsRefusal source (Line line fault) = IsFaultAt (record_lines source) line fault
-IsRefusal source OutOfMemory = Unit {0}
+abbrev pub IsRefusal : Interval → List ℕ → RecordsFault → Type 0
+IsRefusal lengths source (Line line fault) = IsFaultAt lengths (record_lines source) line fault
+IsRefusal lengths source OutOfMemory = Unit {0}
 
 -- ---- the reasons by which faults are told
 
@@ -95,4 +103,5 @@ abbrev pub reason : RecordFault → Reason
 reason Syntax = reasons.Syntax
 reason Unsorted = reasons.Unsorted
 reason BadField = reasons.MessageField
+reason BadValue = reasons.BadValue
 reason Full = reasons.ViewFull

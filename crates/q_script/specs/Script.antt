@@ -3,7 +3,6 @@ use Rattle.std.specs.Prelude.{◌≡◌, ℕ, zero, suc, List, ◌∷◌}
 use Rattle.std.specs.List.{AllZip}
 use Rattle.reasons.specs.declared.Reason.{Reason}
 use Rattle.reasons.specs.declared.Reason.TheVariants as reasons
-use Rattle.q_script.specs.declared.line.ScriptLine.{ScriptLine}
 use Rattle.q_script.specs.declared.founding.Founding.{Founding}
 use Rattle.q_script.specs.declared.script.Script.{Script}
 use Rattle.q_script.specs.declared.script.ScriptFault.{ScriptFault}
@@ -12,32 +11,44 @@ use Rattle.q_script.specs.Line.{Spells}
 use Rattle.q_script.specs.Lines.{parts_of, lines_of, IsFirst}
 use Rattle.q_script.specs.Founding.{SpellsFounding}
 
--- these lines spell these events
-abbrev pub AreLines : List ℕ → List ScriptLine → Type 0
-AreLines text lines = AllZip Spells (parts_of text) lines
+-- these lines spell these
+abbrev pub AreLines : {L : Type 0} → (List ℕ → L → Type 0) → List ℕ → List L → Type 0
+AreLines spells text lines = AllZip spells (parts_of text) lines
 
--- the text spells the script: its first line founds the cluster, and each other line is an event
-pub record IsScript (source : List ℕ) (script : Script) : Type 0 where
+-- the first line of the text founds a cluster, and the others spell these lines
+pub record IsScriptOf {L : Type 0} (spells : List ℕ → L → Type 0) (source : List ℕ) (founding : Founding) (lines : List L) : Type 0 where
   pub first : List ℕ
   pub others : List (List ℕ)
-  pub lines : lines_of source ≡ first ∷ others
-  pub founds : SpellsFounding first script.founding
-  pub events : AllZip Spells others script.lines.items
+  pub parts : lines_of source ≡ first ∷ others
+  pub founds : SpellsFounding first founding
+  pub each : AllZip spells others lines
 
--- the line that has so many lines before it is of another form: the first must found, and each other be an event
-abbrev pub IsOther : ℕ → List ℕ → Type 0
-IsOther zero text = (f : Founding) → SpellsFounding text f → ⊥
-IsOther (suc before) text = (line : ScriptLine) → Spells text line → ⊥
+-- the text spells the script: its first line founds the cluster, and each other line is an event
+abbrev pub IsScript : List ℕ → Script → Type 0
+IsScript source script = IsScriptOf Spells source script.founding script.lines.items
+
+-- a first line of another form
+abbrev pub IsNoFounding : List ℕ → Type 0
+IsNoFounding text = (f : Founding) → SpellsFounding text f → ⊥
+
+-- the line that has so many lines before it is of another form: the first must found, and each other spell a line
+abbrev pub IsOther : {L : Type 0} → (List ℕ → L → Type 0) → ℕ → List ℕ → Type 0
+IsOther spells zero text = IsNoFounding text
+IsOther {L} spells (suc before) text = (line : L) → spells text line → ⊥
 
 -- what is first wrong with a text
+abbrev pub IsFaultOf : {L : Type 0} → (List ℕ → L → Type 0) → List ℕ → ScriptFault → Type 0
+IsFaultOf spells source (Syntax line) = IsFirst (IsOther spells) 0 (lines_of source) line
+IsFaultOf spells source OutOfMemory = Unit {0}
+
+-- what is first wrong with a text that is no script
 abbrev pub IsFault : List ℕ → ScriptFault → Type 0
-IsFault source (Syntax line) = IsFirst IsOther 0 (lines_of source) line
-IsFault source OutOfMemory = Unit {0}
+IsFault source fault = IsFaultOf Spells source fault
 
 -- what is first wrong with the lines behind the first
-abbrev pub IsLaterFault : List ℕ → ScriptFault → Type 0
-IsLaterFault text (Syntax line) = IsFirst IsOther 1 (parts_of text) line
-IsLaterFault text OutOfMemory = Unit {0}
+abbrev pub IsLaterFault : {L : Type 0} → (List ℕ → L → Type 0) → List ℕ → ScriptFault → Type 0
+IsLaterFault spells text (Syntax line) = IsFirst (IsOther spells) 1 (parts_of text) line
+IsLaterFault spells text OutOfMemory = Unit {0}
 
 -- ---- the reasons by which faults are told
 

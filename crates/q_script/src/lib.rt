@@ -6,9 +6,11 @@
 //! - [`Script::read`] reads a script. Its first line founds the cluster, as `nodes 3 4/5 4/5`: founders 1 to 3 and the
 //!   fractions beta and gamma. Each other line is an event ([`ScriptLine`]). Refused is 9 Syntax, with the least line
 //!   that is of another form; an empty text is one empty line.
+//! - [`read_script`] reads the first line and then lines of any other kind ([`Line`]).
 //! - [`read_records`] reads lines `ID SEQ VALUE`, one for each record of a view, and gives the view. An empty text has
 //!   no line. Refused is what is wrong with the least faulty line, with its number: in this order 9 Syntax, 75 Unsorted
-//!   for an id not above the one before, 77 BadField for a sequence number 0, 46 ViewFull for a 257th record.
+//!   for an id not above the one before, 77 BadField for a sequence number 0, 50 BadValue for a record whose 64 bytes are
+//!   not among the lengths that the caller allows, 46 ViewFull for a 257th record.
 //! - [`number`] reads a number.
 //!
 //! Lines are counted from 1, and all are judged before anything runs. 99 OutOfMemory may stand in place of any other
@@ -16,6 +18,8 @@
 //! good is not judged here. The program that runs scripts stands on this crate.
 //!
 //! [`Script::read`]: script::Script::read
+//! [`read_script`]: script::read_script
+//! [`Line`]: line::Line
 //! [`ScriptLine`]: line::ScriptLine
 //! [`read_records`]: records::read_records
 //! [`number`]: number::number

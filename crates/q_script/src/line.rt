@@ -1,7 +1,7 @@
 //! The lines of a script behind its first.
 
-ghost use Rattle.std.specs.Prelude.{◌≡◌};
-ghost use Rattle.q_script.specs.Line.{IsAlone, Spells, Judges};
+ghost use Rattle.std.specs.Prelude.{◌≡◌, ℕ, List};
+ghost use Rattle.q_script.specs.Line.{IsAlone, Judges};
 
 use crate::command::Command;
 use crate::operands::operands;
@@ -91,11 +91,22 @@ pub enum LineFault {
     OutOfMemory,
 }
 
-impl ScriptLine {
-    /// The event that a line spells.
-    pub fn read(alloc: Global, text: &str) -> Result<ScriptLine, LineFault>
-        ensures { Judges Spells text.now result }
-    {
+/// A line of a script behind its first.
+pub trait Line: Drop {
+    // The text spells the line.
+    ghost spells: { List ℕ → Self → Type 0 };
+
+    /// The line that a text spells.
+    fn read(alloc: Global, text: &str) -> Result<Self, LineFault>
+        ensures { Judges spells text.now result };
+}
+
+impl Line for ScriptLine {
+    ghost use Rattle.q_script.specs.Line.{Spells};
+
+    ghost spells = { Spells };
+
+    fn read(alloc: Global, text: &str) -> Result<ScriptLine, LineFault> {
         let Some((word, rest)) = cut(text, ' ') else {
             return alone(text);
         };

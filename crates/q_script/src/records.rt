@@ -1,13 +1,17 @@
 //! Lists of records.
 
-ghost use Rattle.std.specs.Prelude.{◌≡◌, ℕ, ◌≤◌, ◌∷◌, ◌++◌, codes, IfOk, IfErr, MatchResult, replicate};
+ghost use Rattle.std.specs.Prelude.{◌≡◌, ◌↔◌, ℕ, ◌≤◌, ◌∷◌, ◌++◌, codes, IfOk, IfErr, IsTrue, MatchResult, replicate};
+ghost use Rattle.bq_meaning.specs.Place.{record_length};
+ghost use Rattle.bq_range.specs.Interval.{IsIn};
 ghost use Rattle.reasons.specs.Table as table;
 ghost use Rattle.q_script.specs.Words.{Reads};
-ghost use Rattle.q_script.specs.Records.{IsRecord, IsAbove, HasFault, IsView, IsRefusal, value_bytes, stored_of, reason};
+ghost use Rattle.q_script.specs.Records.{IsRecord, IsGood, HasFault, IsView, IsRefusal, value_bytes, stored_of, reason};
 
 use crate::number::{leading, pair};
 use crate::text::without_last_feed;
-use reasons::Reason;
+use bq_meaning::placement::RECORD_LENGTH;
+use bq_state::bounds::Bounds;
+use reasons::{Reason, told};
 use sc_view::value::{VALUE_LENGTH, Value};
 use sc_view::view::{Stored, View, ViewFault};
 use std::alloc::Global;
@@ -32,21 +36,18 @@ pub enum RecordFault {
     Unsorted,
     /// 77: the sequence number is 0.
     BadField,
+    /// 50: the record has another number of bytes than records may have.
+    BadValue,
     /// 46: a 257th record would come.
     Full,
 }
 
 impl RecordFault {
     /// The reason by which the fault is told.
-    pub fn reason(&self) -> Reason
-        ensures { result ≡ reason self.now }
+    pub fn reason(self) -> Reason
+        ensures { result ≡ reason self }
     {
-        match self {
-            RecordFault::Syntax => Reason::Syntax,
-            RecordFault::Unsorted => Reason::Unsorted,
-            RecordFault::BadField => Reason::MessageField,
-            RecordFault::Full => Reason::ViewFull,
-        }
+        told!(self, RecordFault: Syntax, Unsorted, BadField => MessageField, BadValue, Full => ViewFull)
     }
 }
 
@@ -95,9 +96,16 @@ impl Record {
     }
 }
 
+/// Whether a line's record, which has 64 bytes, has one of the lengths.
+fn is_of_length(lengths: Bounds) -> bool
+    ensures { IsTrue result ↔ IsIn record_length lengths }
+{
+    usize::from(lengths.least()) <= RECORD_LENGTH && RECORD_LENGTH <= usize::from(lengths.most())
+}
+
 /// The record of a line behind the record with this id, or behind none.
-fn judged(text: &str, last: Option<u64>) -> Result<Record, RecordFault>
-    ensures { MatchResult result (λ r. IsRecord text.now r × IsAbove last r.id × (1 ≤ r.number)) (λ fault. (count : ℕ) → HasFault last count text.now fault) }
+fn judged(text: &str, last: Option<u64>, lengths: Bounds) -> Result<Record, RecordFault>
+    ensures { MatchResult result (λ r. IsRecord text.now r × IsGood lengths last r) (λ fault. (count : ℕ) → HasFault lengths last count text.now fault) }
 {
     let Some(record) = Record::read(text) else {
         return Err(RecordFault::Syntax);
@@ -110,14 +118,18 @@ fn judged(text: &str, last: Option<u64>) -> Result<Record, RecordFault>
     if record.number == 0 {
         return Err(RecordFault::BadField);
     }
+    if !is_of_length(lengths) {
+        return Err(RecordFault::BadValue);
+    }
     Ok(record)
 }
 
-/// The view of the records that a text lists, each value in the first eight bytes, little-endian, before zeros.
-/// Refused is what is wrong with the least faulty line, in the order of [`RecordFault`], and 99.
-pub fn read_records(alloc: Global, source: &str) -> Result<View, RecordsFault>
-    ensures read { IfOk result (IsView source.now) }
-    ensures fault { IfErr result (IsRefusal source.now) }
+/// The view of the records that a text lists, each value in the first eight bytes, little-endian, before zeros; a record
+/// has 64 bytes, which must be one of the lengths. Refused is what is wrong with the least faulty line, in the order of
+/// [`RecordFault`], and 99.
+pub fn read_records(alloc: Global, source: &str, lengths: Bounds) -> Result<View, RecordsFault>
+    ensures read { IfOk result (IsView lengths source.now) }
+    ensures fault { IfErr result (IsRefusal lengths source.now) }
 {
     let mut view = View::new(alloc);
     if source.is_empty() {
@@ -125,7 +137,7 @@ pub fn read_records(alloc: Global, source: &str) -> Result<View, RecordsFault>
     }
     let mut last = None;
     for text in without_last_feed(source).split('\n') {
-        let record = match judged(text, last) {
+        let record = match judged(text, last, lengths) {
             Ok(record) => record,
             Err(fault) => {
                 return Err(RecordsFault::Line {
@@ -153,6 +165,7 @@ pub fn worked()
     ensures little_endian { value_bytes 258 ≡ 2 ∷ 1 ∷ replicate 46 0 }
     ensures unsorted { table.number (reason RecordFault.Unsorted) ≡ 75 }
     ensures bad_field { table.number (reason RecordFault.BadField) ≡ 77 }
+    ensures bad_value { table.number (reason RecordFault.BadValue) ≡ 50 }
     ensures full { table.number (reason RecordFault.Full) ≡ 46 }
     ensures full_name { table.name (reason RecordFault.Full) ≡ codes "ViewFull" }
 {}

@@ -2,12 +2,12 @@
 
 ghost use Rattle.std.specs.Prelude.{◌≡◌, IfOk, IfErr, MatchResult};
 ghost use Rattle.q_script.specs.Founding.{SpellsFounding};
-ghost use Rattle.q_script.specs.Script.{IsScript, IsFault, AreLines, IsLaterFault, IsOther, reason};
+ghost use Rattle.q_script.specs.Script.{AreLines, IsFault, IsFaultOf, IsLaterFault, IsNoFounding, IsScript, IsScriptOf, reason};
 
 use crate::founding::Founding;
-use crate::line::{LineFault, ScriptLine};
+use crate::line::{Line, LineFault, ScriptLine};
 use crate::text::{cut, without_last_feed};
-use reasons::Reason;
+use reasons::{Reason, told};
 use std::alloc::Global;
 
 /// A script: how its cluster is founded, and its events in turn.
@@ -33,19 +33,16 @@ pub enum ScriptFault {
 
 impl ScriptFault {
     /// The reason by which the fault is told, 9 or 99.
-    pub fn reason(&self) -> Reason
-        ensures { result ≡ reason self.now }
+    pub fn reason(self) -> Reason
+        ensures { result ≡ reason self }
     {
-        match self {
-            ScriptFault::Syntax { .. } => Reason::Syntax,
-            ScriptFault::OutOfMemory => Reason::OutOfMemory,
-        }
+        told!(self, ScriptFault: Syntax { .. }, OutOfMemory)
     }
 }
 
 /// The founding of line 1.
 fn found(text: &str) -> Result<Founding, ScriptFault>
-    ensures { MatchResult result (SpellsFounding text.now) (λ fault. (fault ≡ ScriptFault.Syntax 1) × IsOther 0 text.now) }
+    ensures { MatchResult result (SpellsFounding text.now) (λ fault. (fault ≡ ScriptFault.Syntax 1) × IsNoFounding text.now) }
 {
     match Founding::read(text) {
         Some(founding) => Ok(founding),
@@ -53,14 +50,14 @@ fn found(text: &str) -> Result<Founding, ScriptFault>
     }
 }
 
-/// The events of these lines, of which the first is line 2 of a script.
-fn read_lines(alloc: Global, text: &str) -> Result<Vec<ScriptLine>, ScriptFault>
-    ensures read { IfOk result (λ lines. AreLines text.now lines.items) }
-    ensures fault { IfErr result (IsLaterFault text.now) }
+/// What these lines spell, of which the first is line 2 of a script.
+fn read_lines<L: Line>(alloc: Global, text: &str) -> Result<Vec<L>, ScriptFault>
+    ensures read { IfOk result (λ lines. AreLines L.spells text.now lines.items) }
+    ensures fault { IfErr result (IsLaterFault L.spells text.now) }
 {
     let mut lines = Vec::new(alloc);
     for part in text.split('\n') {
-        let line = match ScriptLine::read(alloc, part) {
+        let line = match L::read(alloc, part) {
             Ok(line) => line,
             Err(LineFault::Form) => {
                 return Err(ScriptFault::Syntax {
@@ -76,22 +73,29 @@ fn read_lines(alloc: Global, text: &str) -> Result<Vec<ScriptLine>, ScriptFault>
     Ok(lines)
 }
 
+/// The founding that a text spells on its first line, and the lines behind it. Refused are 9 Syntax, with the least line
+/// that is of another form, and 99.
+pub fn read_script<L: Line>(alloc: Global, source: &str) -> Result<(Founding, Vec<L>), ScriptFault>
+    ensures read { IfOk result (λ script. IsScriptOf L.spells source.now script.0 script.1.items) }
+    ensures fault { IfErr result (IsFaultOf L.spells source.now) }
+{
+    let body = without_last_feed(source);
+    let Some((first, rest)) = cut(body, '\n') else {
+        let founding = found(body)?;
+        return Ok((founding, Vec::new(alloc)));
+    };
+    let founding = found(first)?;
+    let lines = read_lines(alloc, rest)?;
+    Ok((founding, lines))
+}
+
 impl Script {
     /// The script that a text spells. Refused are 9 Syntax, with the least line that is of another form, and 99.
     pub fn read(alloc: Global, source: &str) -> Result<Script, ScriptFault>
         ensures read { IfOk result (IsScript source.now) }
         ensures fault { IfErr result (IsFault source.now) }
     {
-        let body = without_last_feed(source);
-        let Some((first, rest)) = cut(body, '\n') else {
-            let founding = found(body)?;
-            return Ok(Script {
-                founding,
-                lines: Vec::new(alloc),
-            });
-        };
-        let founding = found(first)?;
-        let lines = read_lines(alloc, rest)?;
+        let (founding, lines) = read_script(alloc, source)?;
         Ok(Script { founding, lines })
     }
 }

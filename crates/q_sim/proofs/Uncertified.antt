@@ -2,11 +2,12 @@
 use Rattle.std.proofs.Common.{◌≡◌, ℕ, List}
 use Rattle.bq_insn.specs.declared.insn.Insn.{Insn}
 use Rattle.bq_insn.specs.Slots.{IsText, spelling}
+use Rattle.bq_state.specs.Kinds.{view_lengths}
 use Rattle.q_sim.specs.declared.refusal.Refusal.{Refusal}
 use Rattle.q_sim.specs.declared.refusal.Refusal.TheVariants.{FileFailed, Assembler, Bytes, Program, Records, Script, Fraction, Cluster, Journal, OutOfMemory}
 use Rattle.q_sim.specs.Programs.{IsUncertified, IsRefusal}
 
-pub of_bytes : (code : List ℕ) (text : List Insn) (r : Refusal) → IsText text → code ≡ spelling text → IsUncertified text r → IsRefusal code r
+pub of_bytes : (code : List ℕ) (text : List Insn) (r : Refusal) → IsText text → code ≡ spelling text → IsUncertified view_lengths text r → IsRefusal code r
 of_bytes code text FileFailed legal is h = absurd h
 of_bytes code text (Assembler f) legal is h = absurd h
 of_bytes code text (Bytes f) legal is h = absurd h

@@ -3,6 +3,7 @@ use Rattle.std.specs.Prelude.{◌≡◌, ℕ, List}
 use Rattle.bq_insn.specs.declared.insn.Insn.{Insn}
 use Rattle.bq_insn.specs.Slots.{IsText, spelling}
 use Rattle.bq_insn.specs.Fault as bytes
+use Rattle.bq_range.specs.Interval.{Interval}
 use Rattle.bq_state.specs.Kinds.{view_lengths}
 use Rattle.bq_check.specs.Certificate.{Certificate, IsCertified}
 use Rattle.bq_verify.specs.Least.{AreLeast}
@@ -11,11 +12,11 @@ use Rattle.q_table.specs.Programs.{IsForViews}
 use Rattle.q_sim.specs.declared.refusal.Refusal.{Refusal}
 use Rattle.q_sim.specs.declared.refusal.Refusal.TheVariants.{Bytes, Program, OutOfMemory}
 
--- why a text gets no certificate: the verifier refuses it, or memory was refused
-abbrev pub IsUncertified : List Insn → Refusal → Type 0
-IsUncertified text (Program f) = verify.IsRefused view_lengths text f
-IsUncertified text OutOfMemory = Unit {0}
-IsUncertified text r = ⊥
+-- why a text gets no certificate for records of these lengths: the verifier refuses it, or memory was refused
+abbrev pub IsUncertified : Interval → List Insn → Refusal → Type 0
+IsUncertified lengths text (Program f) = verify.IsRefused lengths text f
+IsUncertified lengths text OutOfMemory = Unit {0}
+IsUncertified lengths text r = ⊥
 
 -- the certificate is of the text that the bytes spell, for the records of views, with the verifier's notes: no notes
 -- that pass say more

@@ -2,6 +2,8 @@
 
 ghost use Rattle.std.specs.Prelude.{◌≡◌};
 ghost use Rattle.q_sim.specs.Refusal as refusal;
+ghost use Rattle.q_sim.specs.Refusal.{refusal_of};
+ghost use Rattle.q_sim.specs.declared.refusal.Refusal.TheVariants.{Assembler, Bytes, Program, Records, Script, Fraction, Cluster, Journal, OutOfMemory};
 
 use bq_asm::fault::AsmFault;
 use bq_check::fault::CheckFault;
@@ -11,7 +13,7 @@ use q_history::fault::ClusterFault;
 use q_replay::fault::ReplayFault;
 use q_script::records::RecordsFault;
 use q_script::script::ScriptFault;
-use reasons::Reason;
+use reasons::{Reason, passed_on};
 use sc_members::config::BadFraction;
 use std::alloc::AllocError;
 use std::error::Error;
@@ -73,8 +75,8 @@ impl fmt::Display for Place {
 
 impl Refusal {
     /// The reason by which the refusal is told.
-    pub fn reason(&self) -> Reason
-        ensures { result ≡ refusal.reason self.now }
+    pub fn reason(self) -> Reason
+        ensures { result ≡ refusal.reason self }
     {
         match self {
             Refusal::FileFailed => Reason::FileFailed,
@@ -133,9 +135,6 @@ impl fmt::Display for Refusal {
 impl Error for Refusal {}
 
 impl From<AsmFault> for Refusal {
-    ghost use Rattle.std.specs.Prelude.{◌≡◌};
-    ghost use Rattle.q_sim.specs.declared.refusal.Refusal.TheVariants.{Assembler};
-
     ghost from_gives = { λ fault refusal. refusal ≡ Assembler fault };
 
     fn from(fault: AsmFault) -> Self {
@@ -144,9 +143,6 @@ impl From<AsmFault> for Refusal {
 }
 
 impl From<DecodeFault> for Refusal {
-    ghost use Rattle.std.specs.Prelude.{◌≡◌};
-    ghost use Rattle.q_sim.specs.declared.refusal.Refusal.TheVariants.{Bytes};
-
     ghost from_gives = { λ fault refusal. refusal ≡ Bytes fault };
 
     fn from(fault: DecodeFault) -> Self {
@@ -155,9 +151,6 @@ impl From<DecodeFault> for Refusal {
 }
 
 impl From<CheckFault> for Refusal {
-    ghost use Rattle.std.specs.Prelude.{◌≡◌};
-    ghost use Rattle.q_sim.specs.declared.refusal.Refusal.TheVariants.{Program};
-
     ghost from_gives = { λ fault refusal. refusal ≡ Program fault };
 
     fn from(fault: CheckFault) -> Self {
@@ -166,9 +159,6 @@ impl From<CheckFault> for Refusal {
 }
 
 impl From<RecordsFault> for Refusal {
-    ghost use Rattle.std.specs.Prelude.{◌≡◌};
-    ghost use Rattle.q_sim.specs.declared.refusal.Refusal.TheVariants.{Records};
-
     ghost from_gives = { λ fault refusal. refusal ≡ Records fault };
 
     fn from(fault: RecordsFault) -> Self {
@@ -177,9 +167,6 @@ impl From<RecordsFault> for Refusal {
 }
 
 impl From<ScriptFault> for Refusal {
-    ghost use Rattle.std.specs.Prelude.{◌≡◌};
-    ghost use Rattle.q_sim.specs.declared.refusal.Refusal.TheVariants.{Script};
-
     ghost from_gives = { λ fault refusal. refusal ≡ Script fault };
 
     fn from(fault: ScriptFault) -> Self {
@@ -188,9 +175,6 @@ impl From<ScriptFault> for Refusal {
 }
 
 impl From<BadFraction> for Refusal {
-    ghost use Rattle.std.specs.Prelude.{◌≡◌};
-    ghost use Rattle.q_sim.specs.declared.refusal.Refusal.TheVariants.{Fraction};
-
     ghost from_gives = { λ fault refusal. refusal ≡ Fraction fault };
 
     fn from(fault: BadFraction) -> Self {
@@ -199,9 +183,6 @@ impl From<BadFraction> for Refusal {
 }
 
 impl From<ClusterFault> for Refusal {
-    ghost use Rattle.std.specs.Prelude.{◌≡◌};
-    ghost use Rattle.q_sim.specs.declared.refusal.Refusal.TheVariants.{Cluster};
-
     ghost from_gives = { λ fault refusal. refusal ≡ Cluster fault };
 
     fn from(fault: ClusterFault) -> Self {
@@ -210,9 +191,6 @@ impl From<ClusterFault> for Refusal {
 }
 
 impl From<ReplayFault> for Refusal {
-    ghost use Rattle.std.specs.Prelude.{◌≡◌};
-    ghost use Rattle.q_sim.specs.declared.refusal.Refusal.TheVariants.{Journal};
-
     ghost from_gives = { λ fault refusal. refusal ≡ Journal fault };
 
     fn from(fault: ReplayFault) -> Self {
@@ -221,9 +199,6 @@ impl From<ReplayFault> for Refusal {
 }
 
 impl From<AllocError> for Refusal {
-    ghost use Rattle.std.specs.Prelude.{◌≡◌};
-    ghost use Rattle.q_sim.specs.declared.refusal.Refusal.TheVariants.{OutOfMemory};
-
     ghost from_gives = { λ _ refusal. refusal ≡ OutOfMemory };
 
     fn from(_error: AllocError) -> Self {
@@ -232,15 +207,9 @@ impl From<AllocError> for Refusal {
 }
 
 impl From<FileFault> for Refusal {
-    ghost use Rattle.std.specs.Prelude.{◌≡◌};
-    ghost use Rattle.q_sim.specs.Refusal.{refusal_of};
-
     ghost from_gives = { λ fault refusal. refusal ≡ refusal_of fault };
 
     fn from(fault: FileFault) -> Self {
-        match fault {
-            FileFault::Failed => Refusal::FileFailed,
-            FileFault::OutOfMemory => Refusal::OutOfMemory,
-        }
+        passed_on!(fault, FileFault as Refusal: Failed => FileFailed, OutOfMemory)
     }
 }

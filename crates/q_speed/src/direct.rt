@@ -3,12 +3,12 @@
 ghost use Rattle.bq_meaning.specs.Place.{record_length};
 ghost use Rattle.bq_range.specs.Interval.{IsIn};
 
-use crate::Folded;
-use crate::program::certified;
 use bq_check::certified::Certified;
 use bq_frame::block::Block;
 use bq_meaning::placement::{FRAME_LENGTH, Placement, RECORD_LENGTH};
 use bq_run::run::run;
+use q_speed_program::folded::Folded;
+use q_speed_program::program::certified;
 use std::alloc::Global;
 
 /// Where the frame lies for the machine.

@@ -1,38 +1,21 @@
-//! The folds of checked code as a C program calls them: the static library of the harness in bench/.
+//! The folds of checked code over records as they lie in memory, as a C program calls them: a static library of the
+//! harness in bench/.
 //!
 //! Each call takes a program's bytes and records of 64 bytes each, finds and checks the program's notes, and folds it
 //! over the records so many times, one fold behind the other: by the loop without tests or by the machine that tests
-//! every access, and over the records as they lie there or over a view that has them. The harness takes the time of
-//! the folds alone: what is prepared takes memory, and a fold takes none. To give the folds work is all that the
-//! functions do, so they promise nothing more than that they end and are safe.
+//! every access. The harness takes the time of the folds alone: what is prepared takes memory, and a fold takes none.
+//! To give the folds work is all that the functions do, so they promise nothing more than that they end and are safe.
+//!
+//! The folds over a view are a library of their own (`q_speed_view`): each library calls the loop from one place, as
+//! the program does, so LLVM builds it into its caller in each.
 #![tactic(auto)]
 
 mod direct;
-mod program;
-mod viewed;
 
 use bq_insn::encode::encode;
-use program::assembled;
+use q_speed_program::folded::{Folded, REFUSED};
+use q_speed_program::program::assembled;
 use std::alloc::Global;
-
-/// What the folds came to.
-#[repr(C)]
-#[derive(Clone, Copy)]
-pub struct Folded {
-    /// The accumulator behind the last record of the last fold.
-    pub acc: u64,
-    /// How many instructions all folds executed.
-    pub steps: u64,
-    /// False where the program was refused, or memory ran out.
-    pub is_done: bool,
-}
-
-/// Where nothing was folded.
-const REFUSED: Folded = Folded {
-    acc: 0,
-    steps: 0,
-    is_done: false,
-};
 
 /// Puts the bytes of a source into a buffer and answers their number; 0 where the source is refused or too long.
 #[unsafe(no_mangle)]
@@ -73,28 +56,4 @@ pub extern "C" fn q_speed_machine(
     folds: u64,
 ) -> Folded {
     direct::by_machine(alloc, program, records, start, folds).unwrap_or(REFUSED)
-}
-
-/// Folds by the loop without tests, over a view.
-#[unsafe(no_mangle)]
-pub extern "C" fn q_speed_run_fold(
-    alloc: Global,
-    program: &[u8],
-    records: &[u8],
-    start: u64,
-    folds: u64,
-) -> Folded {
-    viewed::by_loop(alloc, program, records, start, folds).unwrap_or(REFUSED)
-}
-
-/// Folds by the machine that tests every access, over a view.
-#[unsafe(no_mangle)]
-pub extern "C" fn q_speed_fold_checked(
-    alloc: Global,
-    program: &[u8],
-    records: &[u8],
-    start: u64,
-    folds: u64,
-) -> Folded {
-    viewed::by_machine(alloc, program, records, start, folds).unwrap_or(REFUSED)
 }

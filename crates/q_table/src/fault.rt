@@ -2,8 +2,10 @@
 
 ghost use Rattle.std.specs.Prelude.{◌≡◌};
 ghost use Rattle.q_table.specs.Faults.{program_reason, reason};
+ghost use Rattle.q_table.specs.declared.fault.ProgramFault.TheVariants as program_fault;
+ghost use Rattle.q_table.specs.declared.fault.TableFault.TheVariants as table_fault;
 
-use reasons::Reason;
+use reasons::{Reason, told};
 use std::alloc::AllocError;
 
 /// Why a certificate is no program of a view.
@@ -17,21 +19,15 @@ pub enum ProgramFault {
 
 impl ProgramFault {
     /// The reason by which the fault is told.
-    pub fn reason(&self) -> Reason
-        ensures { result ≡ program_reason self.now }
+    pub fn reason(self) -> Reason
+        ensures { result ≡ program_reason self }
     {
-        match self {
-            ProgramFault::WrongBounds => Reason::WrongBounds,
-            ProgramFault::OutOfMemory => Reason::OutOfMemory,
-        }
+        told!(self, ProgramFault: WrongBounds, OutOfMemory)
     }
 }
 
 impl From<AllocError> for ProgramFault {
-    ghost use Rattle.std.specs.Prelude.{◌≡◌};
-    ghost use Rattle.q_table.specs.declared.fault.ProgramFault.TheVariants.{OutOfMemory};
-
-    ghost from_gives = { λ _ e. e ≡ OutOfMemory };
+    ghost from_gives = { λ _ e. e ≡ program_fault.OutOfMemory };
 
     fn from(_: AllocError) -> ProgramFault {
         ProgramFault::OutOfMemory
@@ -49,21 +45,15 @@ pub enum TableFault {
 
 impl TableFault {
     /// The reason by which the fault is told.
-    pub fn reason(&self) -> Reason
-        ensures { result ≡ reason self.now }
+    pub fn reason(self) -> Reason
+        ensures { result ≡ reason self }
     {
-        match self {
-            TableFault::Full => Reason::TableFull,
-            TableFault::OutOfMemory => Reason::OutOfMemory,
-        }
+        told!(self, TableFault: Full => TableFull, OutOfMemory)
     }
 }
 
 impl From<AllocError> for TableFault {
-    ghost use Rattle.std.specs.Prelude.{◌≡◌};
-    ghost use Rattle.q_table.specs.declared.fault.TableFault.TheVariants.{OutOfMemory};
-
-    ghost from_gives = { λ _ e. e ≡ OutOfMemory };
+    ghost from_gives = { λ _ e. e ≡ table_fault.OutOfMemory };
 
     fn from(_: AllocError) -> TableFault {
         TableFault::OutOfMemory

@@ -13,6 +13,11 @@
 //! rising ids: the node, the sequence number of its store, and the number that it stored, whose eight bytes are the first
 //! of the value's 48.
 //!
+//! `check` and `run` take `--least` and `--most`, the fewest and the most bytes that a record may have: 16 and 128 where
+//! they are not given, and a wrong command line unless 16 <= least <= most <= 128. A program that is accepted runs over
+//! records of each of these lengths, and finds a record's in r2. The records of a node's view, and so those of `sim` and
+//! `cluster`, have 64 bytes, as those of RECORDS have.
+//!
 //! SCRIPT of `sim` holds one event a line. Words have one space between, numbers are below 2^64 in decimal.
 //!
 //! | Line | Prints |
@@ -81,7 +86,7 @@ use std::{env, io};
 fn explain(rt: &(impl Print + Eprint), fault: &WordsFault) -> io::Result<()> {
     match fault {
         WordsFault::Help(_) => rt.print(fault),
-        WordsFault::Wrong(_) | WordsFault::BadStart => rt.eprint(fault),
+        WordsFault::Wrong(_) | WordsFault::BadStart | WordsFault::BadLengths => rt.eprint(fault),
         WordsFault::OutOfMemory => rt.println(fault),
     }
 }
@@ -98,7 +103,7 @@ fn run_line<R: SystemFiles + Alloc<A = Global> + Print + Eprint + Clock>(
     let mut out = Counted::new(io::writer(rt));
     let outcome = carry_out(alloc, line, &mut Folder::new(rt, is_watched), &mut out);
     if let Outcome::Refused(denied) = &outcome {
-        if let Ok(Some(text)) = advice(alloc, denied) {
+        if let Ok(Some(text)) = advice(alloc, line, denied) {
             rt.eprint(text)?;
         }
     }

@@ -3,7 +3,7 @@
 ghost use Rattle.std.specs.Prelude.{◌≡◌};
 ghost use Rattle.q_wire.specs.Faults.{reason};
 
-use reasons::Reason;
+use reasons::{Reason, told};
 use std::alloc::AllocError;
 
 /// 86 TransportFailed: a read or a write failed, and was counted.
@@ -21,18 +21,14 @@ pub enum TransportFault {
 
 impl TransportFault {
     /// The reason by which the fault is told, 86 or 99.
-    pub fn reason(&self) -> Reason
-        ensures { result ≡ reason self.now }
+    pub fn reason(self) -> Reason
+        ensures { result ≡ reason self }
     {
-        match self {
-            TransportFault::Failed => Reason::TransportFailed,
-            TransportFault::OutOfMemory => Reason::OutOfMemory,
-        }
+        told!(self, TransportFault: Failed => TransportFailed, OutOfMemory)
     }
 }
 
 impl From<AllocError> for TransportFault {
-    ghost use Rattle.std.specs.Prelude.{◌≡◌};
     ghost use Rattle.q_wire.specs.declared.fault.TransportFault.TheVariants.{OutOfMemory};
 
     ghost from_gives = { λ _ e. e ≡ OutOfMemory };

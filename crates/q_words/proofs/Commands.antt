@@ -1,7 +1,12 @@
 -- The command that the words name.
-use Rattle.std.proofs.Common.{◌≡◌, ◌∙◌, Bool, true, false, List, [], ◌∷◌, Option, Some, None, ap, ap₂, refl, sym, codes, Bor, option_map, unwrap_or, IsSomeAnd, is_some, map, cond, ◌⊎◌, inl, inr, subst, true≢false}
+use Rattle.std.proofs.Common.{◌≡◌, ℕ, ◌∙◌, Bool, true, false, List, [], ◌∷◌, Option, Some, None, ap, ap₂, refl, sym, codes, Bor, option_map, unwrap_or, IsSomeAnd, is_some, map, cond, ◌⊎◌, inl, inr, subst, true≢false}
 use Rattle.std.specs.Prelude.{Box, find, Result, Ok, Err, IfOk, MatchResult, ◌||◌}
 use Rattle.std.specs.Box.{box_value}
+use Rattle.std.specs.Option.{SomeIff, ok_or}
+use Rattle.std.proofs.lemmas.Fmt.{decimal_injective}
+use Rattle.bq_range.specs.Interval.{Interval, between}
+use Rattle.bq_state.specs.Kinds.{AreLengths}
+use Rattle.q_script.specs.Words as words
 use Rattle.clap.specs.Words.{App, fault_of, subcommand_of, Row, Shape, Text, found_of, is_simple, is_simple_and_free, rows_of, subcommand_rows}
 use Rattle.clap.specs.Simple.{argument_words, built, entered, label_of, names_of, rows_at}
 use Rattle.clap.specs.Walk.{answers_to, stop_after}
@@ -15,8 +20,8 @@ use Rattle.clap.specs.declared.parser.matches.ArgMatches.TheViews.{out-SubComman
 use Rattle.clap.proofs.OnLiterals.{clap_on_literals}
 use Rattle.q_words.specs.declared.words.Wanted.{Wanted}
 use Rattle.q_words.specs.declared.words.WordsFault.{WordsFault}
-use Rattle.q_words.specs.declared.words.WordsFault.TheVariants.{BadStart}
-use Rattle.q_words.specs.Words.{bqview, IsMet, HasBadStart, Reads}
+use Rattle.q_words.specs.declared.words.WordsFault.TheVariants.{Help, Wrong, BadStart, BadLengths, OutOfMemory}
+use Rattle.q_words.specs.Words.{bqview, operand_of, AreBad, AreGiven, AreGivenFor, IsMet, HasLineFault, Reads}
 
 pub simple : is_simple bqview ≡ true
 unfolding clap_on_literals
@@ -123,8 +128,40 @@ pub made : {E : Type 0} (r : Result Command E) (x y : App) (g : Bool) → IfOk r
 made (Ok c) x y g h k e f = (h ∙ e, k ∙ f)
 made (Err d) x y g h k e f = tt
 
--- what is read of `run`
-pub run_read : (words : List Text) (r : Result Wanted WordsFault) (rows : List Row) → fault_of bqview words ≡ [] → subcommand_of bqview words ≡ Some (codes "run", rows)
-    → MatchResult r (λ asked. IsMet asked (codes "run", rows)) (λ e. (e ≡ BadStart) × HasBadStart (codes "run", rows)) → Reads words r
-run_read words (Ok asked) rows n s h = (n, was_met (IsMet asked) _ (codes "run", rows) s h)
-run_read words (Err e) rows n s h = subst (λ d. Reads words (Err d)) (sym h.0) (n, was_met HasBadStart _ (codes "run", rows) s h.1)
+-- what is read of `check` or `run`
+pub line_read : (words : List Text) (r : Result Wanted WordsFault) (met : Text × List Row) → fault_of bqview words ≡ [] → subcommand_of bqview words ≡ Some met
+    → MatchResult r (λ asked. IsMet asked met) (λ e. HasLineFault e met) → Reads words r
+line_read words (Ok asked) met n s h = (n, was_met (IsMet asked) _ met s h)
+line_read words (Err BadStart) met n s h = (n, was_met (HasLineFault BadStart) _ met s h)
+line_read words (Err BadLengths) met n s h = (n, was_met (HasLineFault BadLengths) _ met s h)
+line_read words (Err (Help e)) met n s h = absurd h
+line_read words (Err (Wrong e)) met n s h = absurd h
+line_read words (Err OutOfMemory) met n s h = absurd h
+
+-- ---- lengths of records
+
+some_of : (o : Option ℕ) (n : ℕ) → Ok n ≡ ok_or o BadLengths → o ≡ Some n
+some_of None n h = absurd cc
+some_of (Some x) n h = cc
+
+-- a text spells one number
+same_number : (t : Text) (n m : ℕ) → words.IsNumeral t n → words.IsNumeral t m → n ≡ m
+same_number t n m h k = decimal_injective n m h.0 k.0 (sym h.1 ∙ k.1)
+
+given : (rows : List Row) (a b : Option ℕ) (n m : ℕ) → words.Reads words.IsNumeral (operand_of (codes "least") rows) a → words.Reads words.IsNumeral (operand_of (codes "most") rows) b → a ≡ Some n → b ≡ Some m
+    → AreGivenFor rows n m
+given rows a b n m h k e f = (subst (λ o. words.Reads words.IsNumeral (operand_of (codes "least") rows) o) e h, subst (λ o. words.Reads words.IsNumeral (operand_of (codes "most") rows) o) f k)
+
+bounded : (rows : List Row) (n m : ℕ) (o : Option Interval) → AreGivenFor rows n m → SomeIff o (AreLengths (between n m)) (between n m)
+    → MatchResult {E = WordsFault} (ok_or o BadLengths) (AreGiven rows) (λ e. (e ≡ BadLengths) × AreBad rows)
+bounded rows n m (Some l) g h = subst (AreGiven rows) (sym h.1) (h.0, g)
+bounded rows n m None g h = (
+  refl,
+  λ l k. h (subst AreLengths (ap₂ between (same_number (operand_of (codes "least") rows) l.lo n k.1.0 g.0) (same_number (operand_of (codes "most") rows) l.hi m k.1.1 g.1)) k.0),
+)
+
+-- what is read of two numbers
+pub lengths_read : (rows : List Row) (a b : Option ℕ) (n m : ℕ) (o : Option Interval) (r : Result Interval WordsFault) → words.Reads words.IsNumeral (operand_of (codes "least") rows) a → words.Reads words.IsNumeral (operand_of (codes "most") rows) b
+    → Ok n ≡ ok_or a BadLengths → Ok m ≡ ok_or b BadLengths → SomeIff o (AreLengths (between n m)) (between n m) → r ≡ ok_or o BadLengths
+    → MatchResult r (AreGiven rows) (λ e. (e ≡ BadLengths) × AreBad rows)
+lengths_read rows a b n m o r h k e f i is = subst (λ r. MatchResult r (AreGiven rows) (λ e. (e ≡ BadLengths) × AreBad rows)) (sym is) (bounded rows n m o (given rows a b n m h k (some_of a n e) (some_of b m f)) i)

@@ -1,16 +1,18 @@
 -- The command line of the program, and what its words say.
-use Rattle.std.specs.Prelude.{◌≡◌, ℕ, List, [], Some, IsSomeAnd, unwrap_or, codes, true, Result, Ok, Err, ⊤}
+use Rattle.std.specs.Prelude.{◌≡◌, ◌⊎◌, ℕ, List, [], ◌∷◌, Some, IsSomeAnd, unwrap_or, codes, true, Result, Ok, Err, ⊤}
 use Rattle.clap.specs.Words.{App, IsAmong, Row, Rule, Text, fault_of, first_of, kind_of, new_app, new_rule, subcommand_of, with_rule, with_subcommand}
 use Rattle.clap.specs.declared.error.Error.{Error}
 use Rattle.clap.specs.declared.error.kind.ErrorKind.TheVariants.{DisplayHelp}
 use Rattle.clap.specs.declared.error.kind.ErrorKind.TheVariants as kind
 use Rattle.clap.specs.declared.builder.action.ArgAction.TheVariants.{Set}
+use Rattle.bq_range.specs.Interval.{Interval}
+use Rattle.bq_state.specs.Kinds.{AreLengths}
 use Rattle.q_words.specs.declared.words.FileCommand.{FileCommand}
 use Rattle.q_words.specs.declared.words.FileCommand.TheVariants.{Asm, Check, Run, Sim, Audit}
 use Rattle.q_words.specs.declared.words.Wanted.{Wanted}
 use Rattle.q_words.specs.declared.words.Wanted.TheVariants as wanted
 use Rattle.q_words.specs.declared.words.WordsFault.{WordsFault}
-use Rattle.q_words.specs.declared.words.WordsFault.TheVariants.{Help, Wrong, BadStart, OutOfMemory}
+use Rattle.q_words.specs.declared.words.WordsFault.TheVariants.{Help, Wrong, BadStart, BadLengths, OutOfMemory}
 use Rattle.q_script.specs.Words.{IsNumeral}
 
 -- ---- the command line
@@ -19,17 +21,25 @@ use Rattle.q_script.specs.Words.{IsNumeral}
 abbrev pub operand : Text → Rule
 operand name = record (new_rule name) { required = true; action = Some Set }
 
+-- an option that stands for a default where it is not given
+abbrev pub option : Text → Text → Rule
+option name default = record (new_rule name) { long = Some name; value_names = 1; defaults = default ∷ []; action = Some Set }
+
+-- a command with `--least` and `--most`
+abbrev pub with_lengths : App → App
+with_lengths app = with_rule (with_rule app (option (codes "least") (codes "16"))) (option (codes "most") (codes "128"))
+
 -- `asm FILE`
 abbrev pub asm_app : App
 asm_app = with_rule (new_app (codes "asm")) (operand (codes "FILE"))
 
 -- `check FILE`
 abbrev pub check_app : App
-check_app = with_rule (new_app (codes "check")) (operand (codes "FILE"))
+check_app = with_lengths (with_rule (new_app (codes "check")) (operand (codes "FILE")))
 
 -- `run FILE START RECORDS`
 abbrev pub run_app : App
-run_app = with_rule (with_rule (with_rule (new_app (codes "run")) (operand (codes "FILE"))) (operand (codes "START"))) (operand (codes "RECORDS"))
+run_app = with_lengths (with_rule (with_rule (with_rule (new_app (codes "run")) (operand (codes "FILE"))) (operand (codes "START"))) (operand (codes "RECORDS")))
 
 -- `sim SCRIPT`
 abbrev pub sim_app : App
@@ -57,17 +67,29 @@ bqview =
 
 -- ---- what the words say
 
--- the text of an operand
+-- the text of an operand or an option
 abbrev pub operand_of : Text → List Row → Text
 operand_of name rows = unwrap_or (first_of name rows) []
+
+-- these numbers were given for `--least` and `--most`
+abbrev pub AreGivenFor : List Row → ℕ → ℕ → Type 0
+AreGivenFor rows least most = IsNumeral (operand_of (codes "least") rows) least × IsNumeral (operand_of (codes "most") rows) most
+
+-- these lengths of records were given
+abbrev pub AreGiven : List Row → Interval → Type 0
+AreGiven rows lengths = AreLengths lengths × AreGivenFor rows lengths.lo lengths.hi
+
+-- what was given for `--least` and `--most` is no lengths of records
+abbrev pub AreBad : List Row → Type 0
+AreBad rows = (lengths : Interval) → AreGiven rows lengths → ⊥
 
 -- the command over files that was met, by its name and what was found for its operands
 abbrev pub HasCommand : FileCommand → Text × List Row → Type 0
 HasCommand (Asm file) met = (met.0 ≡ codes "asm") × (file.now ≡ operand_of (codes "FILE") met.1)
-HasCommand (Check file) met = (met.0 ≡ codes "check") × (file.now ≡ operand_of (codes "FILE") met.1)
-HasCommand (Run file start records) met =
+HasCommand (Check file lengths) met = (met.0 ≡ codes "check") × (file.now ≡ operand_of (codes "FILE") met.1) × AreGiven met.1 lengths
+HasCommand (Run file start records lengths) met =
     (met.0 ≡ codes "run") × (file.now ≡ operand_of (codes "FILE") met.1) × IsNumeral (operand_of (codes "START") met.1) start
-    × (records.now ≡ operand_of (codes "RECORDS") met.1)
+    × (records.now ≡ operand_of (codes "RECORDS") met.1) × AreGiven met.1 lengths
 HasCommand (Sim script) met = (met.0 ≡ codes "sim") × (script.now ≡ operand_of (codes "SCRIPT") met.1)
 HasCommand (Audit journal) met = (met.0 ≡ codes "audit") × (journal.now ≡ operand_of (codes "JOURNAL") met.1)
 
@@ -80,21 +102,33 @@ IsMet (wanted.Cluster script) met = (met.0 ≡ codes "cluster") × (script.now �
 abbrev pub HasBadStart : Text × List Row → Type 0
 HasBadStart met = (met.0 ≡ codes "run") × ((n : ℕ) → IsNumeral (operand_of (codes "START") met.1) n → ⊥)
 
+-- the command `check` was met, or `run` with a START that is a number
+abbrev pub HasLengths : Text × List Row → Type 0
+HasLengths met = (met.0 ≡ codes "check") ⊎ ((met.0 ≡ codes "run") × ((n : ℕ) × IsNumeral (operand_of (codes "START") met.1) n))
+
+-- a command was met, and what `clap` lets pass is wrong with its operands
+abbrev pub HasLineFault : WordsFault → Text × List Row → Type 0
+HasLineFault BadStart met = HasBadStart met
+HasLineFault BadLengths met = HasLengths met × AreBad met.1
+HasLineFault e met = ⊥
+
 -- the fault tells what the error of `clap` says
 abbrev pub Tells : Error → WordsFault → Type 0
 Tells error (Help e) = (e ≡ error) × (kind_of error ≡ DisplayHelp)
 Tells error (Wrong e) = (e ≡ error) × (kind_of error ≡ DisplayHelp → ⊥) × (kind_of error ≡ kind.OutOfMemory → ⊥)
 Tells error OutOfMemory = kind_of error ≡ kind.OutOfMemory
-Tells error BadStart = ⊥
+Tells error e = ⊥
 
--- help is asked for, the words have a mistake of one of the kinds, the START of `run` is no number, or memory ran out
+-- help is asked for, the words have a mistake of one of the kinds, a number among them is none or out of bounds, or
+-- memory ran out
 abbrev pub HasFault : List Text → WordsFault → Type 0
 HasFault words (Help e) = (kind_of e ≡ DisplayHelp) × IsAmong DisplayHelp (fault_of bqview words)
 HasFault words (Wrong e) = (kind_of e ≡ DisplayHelp → ⊥) × IsAmong (kind_of e) (fault_of bqview words)
-HasFault words BadStart = (fault_of bqview words ≡ []) × IsSomeAnd (subcommand_of bqview words) HasBadStart
 HasFault words OutOfMemory = ⊤
+HasFault words e = (fault_of bqview words ≡ []) × IsSomeAnd (subcommand_of bqview words) (HasLineFault e)
 
--- a command is read exactly where the words have no fault by the rules of `clap`, and the START of `run` is a number
+-- a command is read exactly where the words have no fault by the rules of `clap`, START is a number, and the lengths are
+-- in order and within bounds
 abbrev pub Reads : List Text → Result Wanted WordsFault → Type 0
 Reads words (Ok asked) = (fault_of bqview words ≡ []) × IsSomeAnd (subcommand_of bqview words) (IsMet asked)
 Reads words (Err e) = HasFault words e
@@ -105,3 +139,4 @@ exit_status (Help e) = 0
 exit_status OutOfMemory = 1
 exit_status (Wrong e) = 2
 exit_status BadStart = 2
+exit_status BadLengths = 2

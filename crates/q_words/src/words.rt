@@ -1,10 +1,14 @@
 //! The words of the command line.
 
 ghost use Rattle.std.specs.Prelude.{◌≡◌, codes, IfOk, MatchResult, map, false, true};
+ghost use Rattle.std.specs.Option.{SomeIff};
+ghost use Rattle.bq_range.specs.Interval.{between};
+ghost use Rattle.bq_state.specs.Kinds.{AreLengths};
 ghost use Rattle.clap.specs.Words.{app_of, found_of, rows_of, with_rule, with_subcommand};
 ghost use Rattle.clap.specs.declared.builder.command.Command.TheViews.{out-Command};
-ghost use Rattle.q_words.specs.Words.{asm_app, check_app, run_app, sim_app, cluster_app, audit_app, bare_app, bqview, operand, operand_of, IsMet, HasBadStart, Reads, exit_status};
+ghost use Rattle.q_words.specs.Words.{asm_app, check_app, run_app, sim_app, cluster_app, audit_app, bare_app, bqview, operand, option, with_lengths, operand_of, AreGiven, AreBad, HasLineFault, IsMet, Reads, exit_status};
 
+use bq_state::bounds::Bounds;
 use clap::error::ErrorKind;
 use clap::{Arg, ArgAction, ArgMatches, Command, Error};
 use q_script::number::number;
@@ -22,6 +26,8 @@ pub enum FileCommand<'a> {
     Check {
         /// The name of the file.
         file: &'a str,
+        /// How many bytes a record may have.
+        lengths: Bounds,
     },
     /// `run FILE START RECORDS`: run the program that a file of assembler text spells over records.
     Run {
@@ -31,6 +37,8 @@ pub enum FileCommand<'a> {
         start: u64,
         /// The name of the file that lists the records.
         records: &'a str,
+        /// How many bytes a record may have.
+        lengths: Bounds,
     },
     /// `sim SCRIPT`: run a script over a cluster.
     Sim {
@@ -69,6 +77,9 @@ pub enum WordsFault {
     /// The START of `run` is no number. The text belongs to the standard error.
     #[error("error: START is the accumulator to begin with: a number from 0 to 18446744073709551615 in decimal, with no zero in front of other digits and no sign\n\nFor more information, try 'bqview run --help'.\n")]
     BadStart,
+    /// The lengths of records are none. The text belongs to the standard error.
+    #[error("error: --least and --most are the fewest and the most bytes that a record may have: numbers in decimal with 16 <= least <= most <= 128\n\nFor more information, try 'bqview check --help'.\n")]
+    BadLengths,
     /// 99: memory ran out. The text is that of a refusal, and belongs to the standard output.
     #[error("refused 99 OutOfMemory")]
     OutOfMemory,
@@ -83,7 +94,7 @@ impl WordsFault {
         match self {
             WordsFault::Help(_) => 0,
             WordsFault::OutOfMemory => 1,
-            WordsFault::Wrong(_) | WordsFault::BadStart => 2,
+            WordsFault::Wrong(_) | WordsFault::BadStart | WordsFault::BadLengths => 2,
         }
     }
 }
@@ -133,6 +144,47 @@ fn with_operand<'a>(
     command.arg(operand)
 }
 
+/// The command with one more option, which stands for `default` where it is not given.
+fn with_option<'a>(
+    alloc: Global,
+    command: Command<'a>,
+    name: &'a str,
+    help: &'a str,
+    default: &'a str,
+) -> Result<Command<'a>, AllocError>
+    ensures app { IfOk result (λ c. app_of c ≡ with_rule (app_of command.entry) (option name.entry.now default.entry.now)) }
+    ensures local { IfOk result (λ c. (out-Command c).has_globals ≡ (out-Command command.entry).has_globals) }
+{
+    let option = Arg::new(alloc, name)
+        .long(name)
+        .value_name("BYTES")
+        .help(help)
+        .default_value(default)
+        .action(ArgAction::Set);
+    command.arg(option)
+}
+
+/// The command with the options `--least` and `--most`.
+fn with_lengths<'a>(alloc: Global, command: Command<'a>) -> Result<Command<'a>, AllocError>
+    ensures app { IfOk result (λ c. app_of c ≡ with_lengths (app_of command.entry)) }
+    ensures local { IfOk result (λ c. (out-Command c).has_globals ≡ (out-Command command.entry).has_globals) }
+{
+    let command = with_option(
+        alloc,
+        command,
+        "least",
+        "The fewest bytes of a record, from 16",
+        "16",
+    )?;
+    with_option(
+        alloc,
+        command,
+        "most",
+        "The most bytes of a record, to 128",
+        "128",
+    )
+}
+
 /// The command `asm`.
 fn asm_command<'a>(alloc: Global) -> Result<Command<'a>, AllocError>
     ensures { IfOk result (λ c. (app_of c ≡ asm_app) × ((out-Command c).has_globals ≡ false)) }
@@ -150,7 +202,8 @@ fn check_command<'a>(alloc: Global) -> Result<Command<'a>, AllocError>
     let command = Command::new(alloc, "check")
         .about("Proves that a program never faults, and prints its most steps")
         .after_help("Example: bqview check examples/count.bpf\nFormats: docs/FORMATS.md");
-    with_operand(alloc, command, "FILE", ASSEMBLER)
+    let command = with_operand(alloc, command, "FILE", ASSEMBLER)?;
+    with_lengths(alloc, command)
 }
 
 /// The command `run`.
@@ -160,7 +213,7 @@ fn run_command<'a>(alloc: Global) -> Result<Command<'a>, AllocError>
     let command = Command::new(alloc, "run")
         .about("Runs a program over records, and prints the answer and the steps")
         .after_help(
-            "Example: bqview run examples/sum.bpf 0 examples/three.records\nFormats: docs/FORMATS.md",
+            "Example: bqview run --least 64 examples/sum.bpf 0 examples/three.records\nFormats: docs/FORMATS.md",
         );
     let command = with_operand(alloc, command, "FILE", ASSEMBLER)?;
     let command = with_operand(
@@ -169,12 +222,13 @@ fn run_command<'a>(alloc: Global) -> Result<Command<'a>, AllocError>
         "START",
         "The accumulator to begin with, a number below 2^64 in decimal",
     )?;
-    with_operand(
+    let command = with_operand(
         alloc,
         command,
         "RECORDS",
         "A file of lines `ID SEQ VALUE`, one for each record, by rising ids",
-    )
+    )?;
+    with_lengths(alloc, command)
 }
 
 /// The command `sim`.
@@ -261,18 +315,47 @@ fn operand_text<'a>(found: &ArgMatches<'a>, name: &str) -> &'a str
     found.get_str(name).unwrap_or("")
 }
 
+/// The lengths from `least` to `most`, if they are in order and within 16 to 128.
+fn bounds(least: u64, most: u64) -> Option<Bounds>
+    ensures { SomeIff result (AreLengths (between least most)) (between least most) }
+{
+    let least = u8::try_from(least).ok()?;
+    let most = u8::try_from(most).ok()?;
+    Bounds::new(least, most)
+}
+
+/// The lengths of records that were given.
+fn lengths<'a>(found: &ArgMatches<'a>) -> Result<Bounds, WordsFault>
+    ensures { MatchResult result (AreGiven (rows_of (found_of found.now))) (λ e. (e ≡ WordsFault.BadLengths) × AreBad (rows_of (found_of found.now))) }
+{
+    let least = number(operand_text(found, "least")).ok_or(WordsFault::BadLengths)?;
+    let most = number(operand_text(found, "most")).ok_or(WordsFault::BadLengths)?;
+    bounds(least, most).ok_or(WordsFault::BadLengths)
+}
+
+/// The command `check` with what was found for its operands.
+fn check_line<'a>(found: &ArgMatches<'a>) -> Result<Wanted<'a>, WordsFault>
+    ensures { MatchResult result (λ wanted. IsMet wanted (codes "check", rows_of (found_of found.now))) (λ e. HasLineFault e (codes "check", rows_of (found_of found.now))) }
+{
+    let lengths = lengths(found)?;
+    Ok(Wanted::FileCommand(FileCommand::Check {
+        file: operand_text(found, "FILE"),
+        lengths,
+    }))
+}
+
 /// The command `run` with what was found for its operands.
 fn run_line<'a>(found: &ArgMatches<'a>) -> Result<Wanted<'a>, WordsFault>
-    ensures { MatchResult result (λ wanted. IsMet wanted (codes "run", rows_of (found_of found.now))) (λ e. (e ≡ WordsFault.BadStart) × HasBadStart (codes "run", rows_of (found_of found.now))) }
+    ensures { MatchResult result (λ wanted. IsMet wanted (codes "run", rows_of (found_of found.now))) (λ e. HasLineFault e (codes "run", rows_of (found_of found.now))) }
 {
-    match number(operand_text(found, "START")) {
-        Some(start) => Ok(Wanted::FileCommand(FileCommand::Run {
-            file: operand_text(found, "FILE"),
-            start,
-            records: operand_text(found, "RECORDS"),
-        })),
-        None => Err(WordsFault::BadStart),
-    }
+    let start = number(operand_text(found, "START")).ok_or(WordsFault::BadStart)?;
+    let lengths = lengths(found)?;
+    Ok(Wanted::FileCommand(FileCommand::Run {
+        file: operand_text(found, "FILE"),
+        start,
+        records: operand_text(found, "RECORDS"),
+        lengths,
+    }))
 }
 
 /// Reads the words of the command line, of which the first is the program's name.
@@ -285,8 +368,7 @@ pub fn read_words<'a>(alloc: Global, words: &'a [&'a str]) -> Result<Wanted<'a>,
         return Ok(Wanted::FileCommand(FileCommand::Asm { file }));
     }
     if let Some(found) = matches.subcommand_matches("check") {
-        let file = operand_text(found, "FILE");
-        return Ok(Wanted::FileCommand(FileCommand::Check { file }));
+        return check_line(found);
     }
     if let Some(found) = matches.subcommand_matches("run") {
         return run_line(found);

@@ -12,6 +12,38 @@ ghost use Rattle.reasons.specs.Table.{number, name};
 
 use std::fmt;
 
+/// The reason of each variant of a fault: that of its own name, that of the name behind `=>`, or that of the fault that
+/// it carries. `Name { .. }` is a variant whose fields say nothing of the reason.
+#[macro_export]
+macro_rules! told {
+    (@ $name:ident) => { $crate::Reason::$name };
+    (@ $name:ident => $reason:ident) => { $crate::Reason::$reason };
+    (@ $name:ident { }) => { $crate::Reason::$name };
+    (@ $name:ident { } => $reason:ident) => { $crate::Reason::$reason };
+    (@ $name:ident { $carried:ident }) => { $carried.reason() };
+    (@ $name:ident ($carried:ident)) => { $carried.reason() };
+    ($told:expr, $fault:ident: $($name:ident $(($carried:ident))? $({ $($field:ident,)? .. })? $(=> $reason:ident)?),+) => {
+        match $told {
+            $($fault::$name $(($carried))? $({ $($field,)? .. })? =>
+                $crate::told!(@ $name $(($carried))? $({ $($field)? })? $(=> $reason)?),)+
+        }
+    };
+}
+
+/// The fault of another type that stands for a fault of this one: the variant of the same name, or of the name behind
+/// `=>`; `else` names the one of all others.
+#[macro_export]
+macro_rules! passed_on {
+    (@ $to:ident $name:ident) => { $to::$name };
+    (@ $to:ident $name:ident => $other:ident) => { $to::$other };
+    ($fault:expr, $from:ident as $to:ident: $($name:ident $(=> $other:ident)?),+ $(; else $rest:ident)?) => {
+        match $fault {
+            $($from::$name => $crate::passed_on!(@ $to $name $(=> $other)?),)+
+            $(_ => $to::$rest,)?
+        }
+    };
+}
+
 /// Why something is refused, in the order of numbers.
 #[derive(Clone, Copy, Debug, PartialEq, Eq)]
 pub enum Reason {

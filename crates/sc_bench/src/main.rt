@@ -16,18 +16,9 @@ mod merge;
 mod put;
 mod values;
 
-use anyhow::{Context, Result, bail};
+use anyhow::{Result, bail};
+use sizes::size;
 use std::env;
-
-/// A number of the command line, or another where it is not given.
-fn size(words: &[String], index: usize, usual: u64) -> Result<u64> {
-    match words.get(index) {
-        Some(word) => word
-            .parse::<u64>()
-            .context(format_args!("reading {word:?}")),
-        None => Ok(usual),
-    }
-}
 
 fn main(rt: HostRuntime) -> Result<()> {
     let words: Vec<String> = env::args(&rt)?.collect(rt.alloc())?;

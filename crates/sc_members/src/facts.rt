@@ -2,9 +2,10 @@ ghost use Rattle.std.specs.Prelude.{◌≡◌, ◌≤◌, ◌↔◌, length, IsT
 ghost use Rattle.std.specs.FinSet as set;
 ghost use Rattle.sc_members.specs.Faults.{reason};
 ghost use Rattle.sc_members.specs.Members.{Facts as KnownFacts, IsFacts, most_facts, is_overfull, no_facts, founding, present, members, union_facts, with_entered, with_joined, with_left};
+ghost use Rattle.sc_members.specs.declared.facts.FactsFault.TheVariants.{OutOfMemory};
 
 use crate::ids::IdSet;
-use reasons::Reason;
+use reasons::{Reason, told};
 use std::alloc::{AllocError, AllocFailed, Global};
 use std::marker::Model;
 
@@ -44,20 +45,14 @@ pub enum FactsFault {
 
 impl FactsFault {
     /// The reason by which the fault is told, 47 or 99.
-    pub fn reason(&self) -> Reason
-        ensures { result ≡ reason self.now }
+    pub fn reason(self) -> Reason
+        ensures { result ≡ reason self }
     {
-        match self {
-            FactsFault::Full => Reason::FactsFull,
-            FactsFault::OutOfMemory => Reason::OutOfMemory,
-        }
+        told!(self, FactsFault: Full => FactsFull, OutOfMemory)
     }
 }
 
 impl From<AllocError> for FactsFault {
-    ghost use Rattle.std.specs.Prelude.{◌≡◌};
-    ghost use Rattle.sc_members.specs.declared.facts.FactsFault.TheVariants.{OutOfMemory};
-
     ghost from_gives = { λ _ e. e ≡ OutOfMemory };
 
     fn from(_: AllocError) -> FactsFault {
@@ -66,9 +61,6 @@ impl From<AllocError> for FactsFault {
 }
 
 impl<T: Drop> From<AllocFailed<T>> for FactsFault {
-    ghost use Rattle.std.specs.Prelude.{◌≡◌};
-    ghost use Rattle.sc_members.specs.declared.facts.FactsFault.TheVariants.{OutOfMemory};
-
     ghost from_gives = { λ _ e. e ≡ OutOfMemory };
 
     fn from(_: AllocFailed<T>) -> FactsFault {

@@ -1,9 +1,10 @@
 //! Why bytes are no message, and the reason that is told of each.
 
 ghost use Rattle.std.specs.Prelude.{◌≡◌};
-ghost use Rattle.sc_msg.specs.Fault.{reason};
+ghost use Rattle.sc_msg.specs.Fault.{reason, view_fault};
+ghost use Rattle.sc_msg.specs.declared.fault.MessageFault.TheVariants.{OutOfMemory};
 
-use reasons::Reason;
+use reasons::{Reason, passed_on, told};
 use sc_view::view::ViewFault;
 use std::alloc::{AllocError, AllocFailed};
 
@@ -30,26 +31,14 @@ pub enum MessageFault {
 
 impl MessageFault {
     /// The reason by which the fault is told, 71 to 77 or 99.
-    pub fn reason(&self) -> Reason
-        ensures { result ≡ reason self.now }
+    pub fn reason(self) -> Reason
+        ensures { result ≡ reason self }
     {
-        match self {
-            MessageFault::BadHead => Reason::BadHead,
-            MessageFault::Short => Reason::Short,
-            MessageFault::TooLong => Reason::LongMessage,
-            MessageFault::BadKind => Reason::BadKind,
-            MessageFault::Unsorted => Reason::Unsorted,
-            MessageFault::Extra => Reason::Extra,
-            MessageFault::BadField => Reason::MessageField,
-            MessageFault::OutOfMemory => Reason::OutOfMemory,
-        }
+        told!(self, MessageFault: BadHead, Short, TooLong => LongMessage, BadKind, Unsorted, Extra, BadField => MessageField, OutOfMemory)
     }
 }
 
 impl From<AllocError> for MessageFault {
-    ghost use Rattle.std.specs.Prelude.{◌≡◌};
-    ghost use Rattle.sc_msg.specs.declared.fault.MessageFault.TheVariants.{OutOfMemory};
-
     ghost from_gives = { λ _ e. e ≡ OutOfMemory };
 
     fn from(_error: AllocError) -> Self {
@@ -58,9 +47,6 @@ impl From<AllocError> for MessageFault {
 }
 
 impl<T: Drop> From<AllocFailed<T>> for MessageFault {
-    ghost use Rattle.std.specs.Prelude.{◌≡◌};
-    ghost use Rattle.sc_msg.specs.declared.fault.MessageFault.TheVariants.{OutOfMemory};
-
     ghost from_gives = { λ _ e. e ≡ OutOfMemory };
 
     fn from(_error: AllocFailed<T>) -> Self {
@@ -69,15 +55,9 @@ impl<T: Drop> From<AllocFailed<T>> for MessageFault {
 }
 
 impl From<ViewFault> for MessageFault {
-    ghost use Rattle.std.specs.Prelude.{◌≡◌};
-    ghost use Rattle.sc_msg.specs.Fault.{view_fault};
-
     ghost from_gives = { λ fault e. e ≡ view_fault fault };
 
     fn from(fault: ViewFault) -> Self {
-        match fault {
-            ViewFault::Full => MessageFault::BadField,
-            ViewFault::OutOfMemory => MessageFault::OutOfMemory,
-        }
+        passed_on!(fault, ViewFault as MessageFault: Full => BadField, OutOfMemory)
     }
 }

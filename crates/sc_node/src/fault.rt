@@ -1,9 +1,10 @@
 //! Why a call is refused, and the reason that is told of each.
 
 ghost use Rattle.std.specs.Prelude.{◌≡◌};
-ghost use Rattle.sc_node.specs.Faults.{reason};
+ghost use Rattle.sc_node.specs.Faults.{reason, of_view, of_facts};
+ghost use Rattle.sc_node.specs.declared.fault.NodeFault.TheVariants.{OutOfMemory};
 
-use reasons::Reason;
+use reasons::{Reason, passed_on, told};
 use sc_members::facts::FactsFault;
 use sc_view::view::ViewFault;
 use std::alloc::{AllocError, AllocFailed};
@@ -32,26 +33,14 @@ pub enum NodeFault {
 
 impl NodeFault {
     /// The reason by which the fault is told.
-    pub fn reason(&self) -> Reason
-        ensures { result ≡ reason self.now }
+    pub fn reason(self) -> Reason
+        ensures { result ≡ reason self }
     {
-        match self {
-            NodeFault::NotJoined => Reason::NotJoined,
-            NodeFault::Gone => Reason::Gone,
-            NodeFault::SessionsFull => Reason::SessionsFull,
-            NodeFault::ViewFull => Reason::ViewFull,
-            NodeFault::FactsFull => Reason::FactsFull,
-            NodeFault::NumbersOut => Reason::NumbersOut,
-            NodeFault::BadFounders => Reason::BadFounders,
-            NodeFault::OutOfMemory => Reason::OutOfMemory,
-        }
+        told!(self, NodeFault: NotJoined, Gone, SessionsFull, ViewFull, FactsFull, NumbersOut, BadFounders, OutOfMemory)
     }
 }
 
 impl From<AllocError> for NodeFault {
-    ghost use Rattle.std.specs.Prelude.{◌≡◌};
-    ghost use Rattle.sc_node.specs.declared.fault.NodeFault.TheVariants.{OutOfMemory};
-
     ghost from_gives = { λ _ e. e ≡ OutOfMemory };
 
     fn from(_: AllocError) -> NodeFault {
@@ -60,9 +49,6 @@ impl From<AllocError> for NodeFault {
 }
 
 impl<T: Drop> From<AllocFailed<T>> for NodeFault {
-    ghost use Rattle.std.specs.Prelude.{◌≡◌};
-    ghost use Rattle.sc_node.specs.declared.fault.NodeFault.TheVariants.{OutOfMemory};
-
     ghost from_gives = { λ _ e. e ≡ OutOfMemory };
 
     fn from(_: AllocFailed<T>) -> NodeFault {
@@ -71,29 +57,17 @@ impl<T: Drop> From<AllocFailed<T>> for NodeFault {
 }
 
 impl From<ViewFault> for NodeFault {
-    ghost use Rattle.std.specs.Prelude.{◌≡◌};
-    ghost use Rattle.sc_node.specs.Faults.{of_view};
-
     ghost from_gives = { λ fault e. e ≡ of_view fault };
 
     fn from(fault: ViewFault) -> NodeFault {
-        match fault {
-            ViewFault::Full => NodeFault::ViewFull,
-            ViewFault::OutOfMemory => NodeFault::OutOfMemory,
-        }
+        passed_on!(fault, ViewFault as NodeFault: Full => ViewFull, OutOfMemory)
     }
 }
 
 impl From<FactsFault> for NodeFault {
-    ghost use Rattle.std.specs.Prelude.{◌≡◌};
-    ghost use Rattle.sc_node.specs.Faults.{of_facts};
-
     ghost from_gives = { λ fault e. e ≡ of_facts fault };
 
     fn from(fault: FactsFault) -> NodeFault {
-        match fault {
-            FactsFault::Full => NodeFault::FactsFull,
-            FactsFault::OutOfMemory => NodeFault::OutOfMemory,
-        }
+        passed_on!(fault, FactsFault as NodeFault: Full => FactsFull, OutOfMemory)
     }
 }

@@ -8,13 +8,14 @@ ghost use Rattle.sc_view.specs.Views.{IsView, is_newer, put, merge, most_entries
 ghost use Rattle.std.specs.List.{slice_get};
 ghost use Rattle.std.specs.Option.{option_copied, SomeIff};
 ghost use Rattle.sc_view.specs.declared.view.Stored.{Stored as StoredValue};
+ghost use Rattle.sc_view.specs.declared.view.ViewFault.TheVariants.{OutOfMemory};
 
 use crate::chunk::{Chunk, find};
 use crate::chunks::Chunks;
 use crate::row::{News, Rest, Row, merged, next_entry, place, put_entry, what_is_new};
 use crate::value::Value;
 use arrayvec::ArrayVec;
-use reasons::Reason;
+use reasons::{Reason, told};
 use std::alloc::{AllocError, AllocFailed, Global};
 use std::marker::Model;
 
@@ -82,20 +83,14 @@ pub enum ViewFault {
 
 impl ViewFault {
     /// The reason by which the fault is told, 46 or 99.
-    pub fn reason(&self) -> Reason
-        ensures { result ≡ reason self.now }
+    pub fn reason(self) -> Reason
+        ensures { result ≡ reason self }
     {
-        match self {
-            ViewFault::Full => Reason::ViewFull,
-            ViewFault::OutOfMemory => Reason::OutOfMemory,
-        }
+        told!(self, ViewFault: Full => ViewFull, OutOfMemory)
     }
 }
 
 impl From<AllocError> for ViewFault {
-    ghost use Rattle.std.specs.Prelude.{◌≡◌};
-    ghost use Rattle.sc_view.specs.declared.view.ViewFault.TheVariants.{OutOfMemory};
-
     ghost from_gives = { λ _ e. e ≡ OutOfMemory };
 
     fn from(_: AllocError) -> ViewFault {
@@ -104,9 +99,6 @@ impl From<AllocError> for ViewFault {
 }
 
 impl<T: Drop> From<AllocFailed<T>> for ViewFault {
-    ghost use Rattle.std.specs.Prelude.{◌≡◌};
-    ghost use Rattle.sc_view.specs.declared.view.ViewFault.TheVariants.{OutOfMemory};
-
     ghost from_gives = { λ _ e. e ≡ OutOfMemory };
 
     fn from(_: AllocFailed<T>) -> ViewFault {

@@ -2,8 +2,10 @@
 
 ghost use Rattle.std.specs.Prelude.{◌≡◌};
 ghost use Rattle.sc_world.specs.Faults.{reason};
+ghost use Rattle.sc_node.specs.declared.fault.NodeFault.TheVariants as node_fault;
+ghost use Rattle.sc_world.specs.declared.fault.WorldFault.TheVariants as fault;
 
-use reasons::Reason;
+use reasons::{Reason, told};
 use sc_node::fault::NodeFault;
 use std::alloc::AllocError;
 
@@ -23,22 +25,14 @@ pub enum WorldFault {
 
 impl WorldFault {
     /// The reason by which the fault is told.
-    pub fn reason(&self) -> Reason
-        ensures { result ≡ reason self.now }
+    pub fn reason(self) -> Reason
+        ensures { result ≡ reason self }
     {
-        match self {
-            WorldFault::IdUsed => Reason::IdUsed,
-            WorldFault::NoSuchNode => Reason::NoSuchNode,
-            WorldFault::NeverSent => Reason::NeverSent,
-            WorldFault::Node(fault) => fault.reason(),
-        }
+        told!(self, WorldFault: IdUsed, NoSuchNode, NeverSent, Node(fault))
     }
 }
 
 impl From<NodeFault> for WorldFault {
-    ghost use Rattle.std.specs.Prelude.{◌≡◌};
-    ghost use Rattle.sc_world.specs.declared.fault.WorldFault.TheVariants as fault;
-
     ghost from_gives = { λ refusal e. e ≡ fault.Node refusal };
 
     fn from(refusal: NodeFault) -> WorldFault {
@@ -47,10 +41,6 @@ impl From<NodeFault> for WorldFault {
 }
 
 impl From<AllocError> for WorldFault {
-    ghost use Rattle.std.specs.Prelude.{◌≡◌};
-    ghost use Rattle.sc_node.specs.declared.fault.NodeFault.TheVariants as node_fault;
-    ghost use Rattle.sc_world.specs.declared.fault.WorldFault.TheVariants as fault;
-
     ghost from_gives = { λ _ e. e ≡ fault.Node node_fault.OutOfMemory };
 
     fn from(_: AllocError) -> WorldFault {

@@ -16,10 +16,9 @@ pub returns-in_err-_id : goal.returns-in_err-_id
 returns-in_err-_id c =
     let p = c.in_ok-program.program in
     let same : p ≡ c.in_ok-certified.certified = c.in_ok-program.ensures in
-    let text = ap (λ (x : Certificate). x.text) same ∙ c.in_ok-certified.ensures.same.0 in
-    let notes = ap (λ (x : Certificate). x.notes) same ∙ c.in_ok-certified.ensures.same.1 in
     let views : IsForViews c.in_ok-certified.certified = c.in_ok-certified.ensures.same.2 ∙ c.of_views.ensures in
-    let is : written_of (entry.Register p) ≡ written.Register c.args.text c.args.notes = λ t. written.Register (text t) (notes t) in
+    let is : written_of (entry.Register p) ≡ written.Register c.args.text c.args.notes =
+    ap (λ (x : Certificate). written_of (entry.Register x)) same ∙ (λ t. written.Register (c.in_ok-certified.ensures.same.0 t) (c.in_ok-certified.ensures.same.1 t)) in
     let called : Calling c.args.book.now (entry.Register p) c.register.new.self c.from_residual-in_err-_id.result = search rules in
     taking c.one_longest.ensures c.args.book.now c.register.new.self (entry.Register p) (written.Register c.args.text c.args.notes) c.from_residual-in_err-_id.result c.requires
     (subst IsProgram (sym same) (c.in_ok-certified.ensures.passes, views)) is called
@@ -28,10 +27,9 @@ pub returns : goal.returns
 returns c =
     let p = c.in_ok-program.program in
     let same : p ≡ c.in_ok-certified.certified = c.in_ok-program.ensures in
-    let text = ap (λ (x : Certificate). x.text) same ∙ c.in_ok-certified.ensures.same.0 in
-    let notes = ap (λ (x : Certificate). x.notes) same ∙ c.in_ok-certified.ensures.same.1 in
     let views : IsForViews c.in_ok-certified.certified = c.in_ok-certified.ensures.same.2 ∙ c.of_views.ensures in
-    let is : written_of (entry.Register p) ≡ written.Register c.args.text c.args.notes = λ t. written.Register (text t) (notes t) in
+    let is : written_of (entry.Register p) ≡ written.Register c.args.text c.args.notes =
+    ap (λ (x : Certificate). written_of (entry.Register x)) same ∙ (λ t. written.Register (c.in_ok-certified.ensures.same.0 t) (c.in_ok-certified.ensures.same.1 t)) in
     record {
       called = entry.Register p;
       legal = (subst IsWritten (sym is) c.requires, subst IsProgram (sym same) (c.in_ok-certified.ensures.passes, views));

@@ -19,8 +19,8 @@ loop-text-preserved c =
     let r = c.in-Ok.record in
     let e = map_push (λ (x : Bor (List ℕ)). x.now) c.loop-text.yielded c.in-Some.text in (
       k.0 ++ (r ∷ []),
-      subst (λ u. Read u (Some r.id) c.put.new.self (k.0 ++ (r ∷ []))) (sym e)
-          (read_more (map (λ (x : Bor (List ℕ)). x.now) c.loop-text.yielded) c.in-Some.text.now c.loop-text.last c.loop-text.view c.put.new.self k.0 r c.stored.result k.1 c.in-Ok.ensures.0 c.in-Ok.ensures.1 c.in-Ok.ensures.2 c.stored.ensures c.in-Ok-put.ensures.ok),
+      subst (λ u. Read c.args.lengths u (Some r.id) c.put.new.self (k.0 ++ (r ∷ []))) (sym e)
+          (read_more c.args.lengths (map (λ (x : Bor (List ℕ)). x.now) c.loop-text.yielded) c.in-Some.text.now c.loop-text.last c.loop-text.view c.put.new.self k.0 r c.stored.result k.1 c.in-Ok.ensures.0 c.in-Ok.ensures.1 c.stored.ensures c.in-Ok-put.ensures.ok),
     )
 
 pub returns-in-Err-clause-fault : goal.returns-in-Err-clause-fault
@@ -31,8 +31,8 @@ returns-in-Err-clause-fault c =
     let t = YieldsList-turn road c.loop-text.yielded _ c.loop-text.yielded_by _ _ c.in-Some.text c.in-Some.is c.next.ensures.steps in
     let f = YieldsList-so_far road c.loop-text.yielded _ c.loop-text.yielded_by in
     let k = c.loop-text.invariant in
-    subst (λ u. IsFaultAt u (c.len.result + 1) c.in-Err.fault) (sym (lines_there c.args.source.now body (not_empty (length c.args.source.now) c.is_empty.result c.is_empty.ensures c.if-is_empty.false) c.without_last_feed.ensures))
-    (fault_at (parts_of body) (map (λ (x : Bor (List ℕ)). x.now) c.loop-text.yielded) c.in-Some.text.now _ c.len.result c.loop-text.last c.loop-text.view k.0 c.in-Err.fault f t.0 t.1 k.1 c.len.ensures.count (c.in-Err.ensures (length k.0)))
+    subst (λ u. IsFaultAt c.args.lengths u (c.len.result + 1) c.in-Err.fault) (sym (lines_there c.args.source.now body (not_empty (length c.args.source.now) c.is_empty.result c.is_empty.ensures c.if-is_empty.false) c.without_last_feed.ensures))
+    (fault_at c.args.lengths (parts_of body) (map (λ (x : Bor (List ℕ)). x.now) c.loop-text.yielded) c.in-Some.text.now _ c.len.result c.loop-text.last c.loop-text.view k.0 c.in-Err.fault f t.0 t.1 k.1 c.len.ensures.count (c.in-Err.ensures (length k.0)))
 
 pub returns-in-Err-Full-clause-fault : goal.returns-in-Err-Full-clause-fault
 returns-in-Err-Full-clause-fault c =
@@ -43,9 +43,9 @@ returns-in-Err-Full-clause-fault c =
     let f = YieldsList-so_far road c.loop-text.yielded _ c.loop-text.yielded_by in
     let k = c.loop-text.invariant in
     let r = c.in-Ok.record in
-    let full = full_fault (map (λ (x : Bor (List ℕ)). x.now) c.loop-text.yielded) c.in-Some.text.now c.loop-text.last c.loop-text.view k.0 r c.stored.result k.1 (omega (arith, c.len-in-Err-Full.ensures.valid.few, ap fin.len c.in-Err-Full.ensures.err)) c.in-Ok.ensures.0 c.in-Ok.ensures.1 c.in-Ok.ensures.2 c.stored.ensures (c.in-Err-Full.ensures.full.0 (search rules)) in
-    subst (λ u. IsFaultAt u (c.len-in-Err-Full.result + 1) Full) (sym (lines_there c.args.source.now body (not_empty (length c.args.source.now) c.is_empty.result c.is_empty.ensures c.if-is_empty.false) c.without_last_feed.ensures))
-    (fault_at (parts_of body) (map (λ (x : Bor (List ℕ)). x.now) c.loop-text.yielded) c.in-Some.text.now _ c.len-in-Err-Full.result c.loop-text.last c.loop-text.view k.0 Full f t.0 t.1 k.1 (c.len-in-Err-Full.ensures.count ∙ ap fin.len c.in-Err-Full.ensures.err) full)
+    let full = full_fault c.args.lengths (map (λ (x : Bor (List ℕ)). x.now) c.loop-text.yielded) c.in-Some.text.now c.loop-text.last c.loop-text.view k.0 r c.stored.result k.1 (omega (arith, c.len-in-Err-Full.ensures.valid.few, ap fin.len c.in-Err-Full.ensures.err)) c.in-Ok.ensures.0 c.in-Ok.ensures.1 c.stored.ensures (c.in-Err-Full.ensures.full.0 (search rules)) in
+    subst (λ u. IsFaultAt c.args.lengths u (c.len-in-Err-Full.result + 1) Full) (sym (lines_there c.args.source.now body (not_empty (length c.args.source.now) c.is_empty.result c.is_empty.ensures c.if-is_empty.false) c.without_last_feed.ensures))
+    (fault_at c.args.lengths (parts_of body) (map (λ (x : Bor (List ℕ)). x.now) c.loop-text.yielded) c.in-Some.text.now _ c.len-in-Err-Full.result c.loop-text.last c.loop-text.view k.0 Full f t.0 t.1 k.1 (c.len-in-Err-Full.ensures.count ∙ ap fin.len c.in-Err-Full.ensures.err) full)
 
 pub returns-clause-read : goal.returns-clause-read
 returns-clause-read c =
@@ -55,4 +55,4 @@ returns-clause-read c =
     let t = YieldsList-end road c.loop-text.yielded _ c.loop-text.yielded_by _ _ c.in-None.is c.next.ensures.steps in
     let k = c.loop-text.invariant in
     let there = lines_there c.args.source.now body (not_empty (length c.args.source.now) c.is_empty.result c.is_empty.ensures c.if-is_empty.false) c.without_last_feed.ensures in
-    (k.0, subst (λ u. IsReading u k.0) (t.0 ∙ sym there) k.1.reading, k.1.learnt)
+    (k.0, subst (λ u. IsReading c.args.lengths u k.0) (t.0 ∙ sym there) k.1.reading, k.1.learnt)

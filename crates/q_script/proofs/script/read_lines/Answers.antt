@@ -6,28 +6,28 @@ use Rattle.std.proofs.lemmas.Iterator.Consumers.{YieldsList-turn, YieldsList-so_
 use Rattle.std.proofs.lemmas.Iterator.Splits.{YieldsList-from_str_split}
 use Rattle.std.specs.Prelude.{Err}
 use Rattle.q_script.specs.declared.line.LineFault.{LineFault}
-use Rattle.q_script.specs.Line.{Spells, Judges}
+use Rattle.q_script.specs.Line.{Judges}
 use Rattle.q_script.specs.Lines.{parts_of}
 use Rattle.q_script.proofs.Lines.{first_other, read_more, all_read}
 use Rattle.q_script.proofs.script.read_lines.Goals as goal
 
 pub returns-in-Err-Form-clause-fault : goal.returns-in-Err-Form-clause-fault
-returns-in-Err-Form-clause-fault c =
+returns-in-Err-Form-clause-fault g c =
     let i = c.into_iter-part-iterator.ensures.into_iter_gives in
     let road = YieldsList-from_str_split 10 c.args.text.now (lit< tt) (ap split_text i ∙ c.split-part-items.ensures.text) (ap split_has_more i ∙ c.split-part-items.ensures.has_more) (ap split_pattern i ∙ c.split-part-items.ensures.pattern) in
     let t = YieldsList-turn road c.loop-part.yielded _ c.loop-part.yielded_by _ _ c.in-Some.part c.in-Some.is c.next.ensures.steps in
     let f = YieldsList-so_far road c.loop-part.yielded _ c.loop-part.yielded_by in
-    first_other (parts_of c.args.text.now) (map (λ (x : Bor (List ℕ)). x.now) c.loop-part.yielded) c.loop-part.lines.items c.in-Some.part.now _ c.len.result f t.0 t.1 c.loop-part.invariant (subst (λ (f : LineFault). Judges Spells c.in-Some.part.now (Err f)) c.in-Err-Form.field-0-is c.in-Err-Form.ensures) (omega (arith, c.len.ensures, c.loop-part.lines.ok.0))
+    first_other g.L.Line.spells (parts_of c.args.text.now) (map (λ (x : Bor (List ℕ)). x.now) c.loop-part.yielded) c.loop-part.lines.items c.in-Some.part.now _ c.len.result f t.0 t.1 c.loop-part.invariant (subst (λ (f : LineFault). Judges g.L.Line.spells c.in-Some.part.now (Err f)) c.in-Err-Form.field-0-is c.in-Err-Form.ensures) (omega (arith, c.len.ensures, c.loop-part.lines.ok.0))
 
 pub loop-part-preserved : goal.loop-part-preserved
-loop-part-preserved c =
+loop-part-preserved g c =
     let e = map_push (λ (x : Bor (List ℕ)). x.now) c.loop-part.yielded c.in-Some.part in
-    subst (λ u. AllZip Spells u c.push.new.self.items) (sym e)
-    (read_more (map (λ (x : Bor (List ℕ)). x.now) c.loop-part.yielded) c.in-Some.part.now c.loop-part.lines.items c.push.new.self.items c.in-Ok.line c.push.result c.loop-part.invariant c.in-Ok.ensures c.push.ensures.items (sym c.is_err.ensures.value ∙ c.if-is_err.false))
+    subst (λ u. AllZip g.L.Line.spells u c.push.new.self.items) (sym e)
+    (read_more g.L.Line.spells (map (λ (x : Bor (List ℕ)). x.now) c.loop-part.yielded) c.in-Some.part.now c.loop-part.lines.items c.push.new.self.items c.in-Ok.line c.push.result c.loop-part.invariant c.in-Ok.ensures c.push.ensures.items (sym c.is_err.ensures.value ∙ c.if-is_err.false))
 
 pub returns-clause-read : goal.returns-clause-read
-returns-clause-read c =
+returns-clause-read g c =
     let i = c.into_iter-part-iterator.ensures.into_iter_gives in
     let road = YieldsList-from_str_split 10 c.args.text.now (lit< tt) (ap split_text i ∙ c.split-part-items.ensures.text) (ap split_has_more i ∙ c.split-part-items.ensures.has_more) (ap split_pattern i ∙ c.split-part-items.ensures.pattern) in
     let t = YieldsList-end road c.loop-part.yielded _ c.loop-part.yielded_by _ _ c.in-None.is c.next.ensures.steps in
-    all_read (parts_of c.args.text.now) (map (λ (x : Bor (List ℕ)). x.now) c.loop-part.yielded) c.loop-part.lines.items t.0 c.loop-part.invariant
+    all_read g.L.Line.spells (parts_of c.args.text.now) (map (λ (x : Bor (List ℕ)). x.now) c.loop-part.yielded) c.loop-part.lines.items t.0 c.loop-part.invariant

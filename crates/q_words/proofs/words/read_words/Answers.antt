@@ -4,9 +4,9 @@ use Rattle.clap.specs.Matches.{has_subcommand}
 use Rattle.clap.specs.declared.parser.matches.ArgMatches.TheViews.{out-ArgMatches}
 use Rattle.clap.proofs.CallerLemmas.{subcommand_required}
 use Rattle.q_words.specs.Words.{bqview, IsMet}
-use Rattle.q_words.specs.declared.words.FileCommand.TheVariants.{Asm, Audit, Check, Sim}
+use Rattle.q_words.specs.declared.words.FileCommand.TheVariants.{Asm, Audit, Sim}
 use Rattle.q_words.specs.declared.words.Wanted.TheVariants as wanted
-use Rattle.q_words.proofs.Commands.{was_met, run_read, other_command, free, met_rows, simple}
+use Rattle.q_words.proofs.Commands.{was_met, line_read, other_command, free, met_rows, simple}
 use Rattle.q_words.proofs.words.read_words.Goals as goal
 
 pub returns-in-Some : goal.returns-in-Some
@@ -29,7 +29,7 @@ returns-in-Some-subcommand_matches c =
     let name : subcommand_name_of c.in_ok-matches.matches ≡ Some (codes "check") = search rules in
     let rows = rows_of (found_of c.in-Some-subcommand_matches.found.now) in
     let met = met_rows _ (codes "check") rows name c.in-Some-subcommand_matches.ensures.rows in
-    (none, was_met (IsMet (wanted.FileCommand (Check c.operand_text-file-in-Some-subcommand_matches.result))) _ (codes "check", rows) (sym said ∙ met) (refl, c.operand_text-file-in-Some-subcommand_matches.ensures))
+    line_read words c.check_line.result _ none (sym said ∙ met) c.check_line.ensures
 
 pub returns-in-Some-subcommand_matches-2 : goal.returns-in-Some-subcommand_matches-2
 returns-in-Some-subcommand_matches-2 c =
@@ -40,7 +40,7 @@ returns-in-Some-subcommand_matches-2 c =
     let name : subcommand_name_of c.in_ok-matches.matches ≡ Some (codes "run") = search rules in
     let rows = rows_of (found_of c.in-Some-subcommand_matches-2.found.now) in
     let met = met_rows _ (codes "run") rows name c.in-Some-subcommand_matches-2.ensures.rows in
-    run_read words c.run_line.result rows none (sym said ∙ met) c.run_line.ensures
+    line_read words c.run_line.result _ none (sym said ∙ met) c.run_line.ensures
 
 pub returns-in-Some-subcommand_matches-3 : goal.returns-in-Some-subcommand_matches-3
 returns-in-Some-subcommand_matches-3 c =

@@ -1,0 +1,144 @@
+-- What a call that a desk accepted was: what it keeps, whose job it hands out, and whose answer it records.
+use Rattle.std.proofs.Common.{◌≡◌, ℕ, zero, suc, ◌==◌, Bool, true, false, cond, List, [], ◌∷◌, Option, Some, None, refl, sym, ap, ◌∙◌, subst, slice_get, slice_set, position, Result, Ok, Err}
+use Rattle.std.proofs.lemmas.List.Quantifiers.{position-Some}
+use Rattle.std.proofs.lemmas.Option.{get_or_from_slice_get}
+use Rattle.sc_view.specs.Views.{ViewMap}
+use Rattle.bq_check.specs.Certificate.{Certificate}
+use Rattle.q_session.specs.declared.ran.Ran.{Ran}
+use Rattle.q_session.specs.declared.query.Phase.{Phase}
+use Rattle.q_session.specs.declared.query.Phase.TheVariants.{Collecting, Ready, Running, Answered}
+use Rattle.q_session.specs.declared.query.Query.{Query}
+use Rattle.q_session.specs.declared.job.Job.{Job}
+use Rattle.q_desk.specs.State.{DeskState}
+use Rattle.q_desk.specs.Desks as desk
+use Rattle.q_desk.specs.declared.journal.Entry.TheVariants as entry
+use Rattle.q_desk.specs.declared.fault.DeskFault.TheVariants as fault
+
+-- ---- answers that were accepted, and reads of lists
+
+pub same_some : {X : Type 0} (x y : X) → Some x ≡ Some y → x ≡ y
+same_some x y h = cc
+
+pub no_some : {X : Type 0} (x : X) → None ≡ Some x → ⊥
+no_some x h = absurd (cc)
+
+pub same_answer : {A E : Type 0} (x y : A) → (let r : Result A E = Ok x in r) ≡ Ok y → x ≡ y
+same_answer x y h = cc
+
+pub no_refusal : {A E : Type 0} (e : E) (y : A) → (let r : Result A E = Err e in r) ≡ Ok y → ⊥
+no_refusal e y h = absurd (cc)
+
+-- what comes before a refusal
+pub passed : {A E : Type 0} (b : Bool) (e : E) (r : Result A E) (y : A) → cond b r (Err e) ≡ Ok y → (b ≡ true) × (r ≡ Ok y)
+passed true e r y h = (refl, h)
+passed false e r y h = absurd (no_refusal e y h)
+
+pub get_elsewhere : {X : Type 0} (xs : List X) (i : ℕ) (y : X) (k : ℕ) (x : X) → (k ≡ i → ⊥) → slice_get xs k ≡ Some x → slice_get (slice_set xs i y) k ≡ Some x
+get_elsewhere [] i y k x away h = absurd (cc)
+get_elsewhere (z ∷ xs) zero y zero x away h = absurd (away refl)
+get_elsewhere (z ∷ xs) zero y (suc k) x away h = h
+get_elsewhere (z ∷ xs) (suc i) y zero x away h = h
+get_elsewhere (z ∷ xs) (suc i) y (suc k) x away h = get_elsewhere xs i y k x (λ e. away (ap suc e)) h
+
+-- what stands at the first place that passes, passes
+pub found : {X : Type 0} (test : X → Bool) (xs : List X) (k : ℕ) (x : X) → position test xs ≡ Some k → slice_get xs k ≡ Some x → test x ≡ true
+found test xs k x is at = sym (ap test (get_or_from_slice_get xs k x x at)) ∙ (position-Some test xs k x is).1
+
+-- ---- what a desk keeps
+
+-- a phase with no answer
+abbrev pub HasNone : Phase → Type 0
+HasNone p = (view : ViewMap) (ran : Ran) → p ≡ Answered view ran → ⊥
+
+-- the desk keeps its programs, and the answers that it recorded
+pub record Keeps (d e : DeskState) : Type 0 where
+  pub programs : (i : ℕ) (p : Certificate) → slice_get d.programs i ≡ Some p → slice_get e.programs i ≡ Some p
+  pub answers : (k : ℕ) (q : Query) (view : ViewMap) (ran : Ran) → slice_get d.queries k ≡ Some q → q.phase ≡ Answered view ran → slice_get e.queries k ≡ Some q
+
+pub keeps_itself : (d : DeskState) → Keeps d d
+keeps_itself d = record { programs = λ i p h. h; answers = λ k q view ran h a. h }
+
+pub keeps_on : (d e f : DeskState) → Keeps d e → Keeps e f → Keeps d f
+keeps_on d e f a b = record {
+  programs = λ i p h. b.programs i p (a.programs i p h);
+  answers = λ k q view ran h is. b.answers k q view ran (a.answers k q view ran h is) is;
+}
+
+pub collecting_has_none : (p : Phase) → desk.is_collecting p ≡ true → HasNone p
+collecting_has_none Collecting h view ran is = absurd (cc)
+collecting_has_none (Ready v) h view ran is = absurd (cc)
+collecting_has_none (Running v) h view ran is = absurd (cc)
+collecting_has_none (Answered v a) h view ran is = absurd (cc)
+
+pub ready_has_none : (p : Phase) (v : ViewMap) → p ≡ Ready v → HasNone p
+ready_has_none p v is view ran answered = let h : Ready v ≡ Answered view ran = sym is ∙ answered in absurd (cc)
+
+pub running_has_none : (p : Phase) (v : ViewMap) → p ≡ Running v → HasNone p
+running_has_none p v is view ran answered = let h : Running v ≡ Answered view ran = sym is ∙ answered in absurd (cc)
+
+-- ---- the job that is handed out
+
+-- the job of a ready query of this node
+pub record IsReadyJob (d : DeskState) (node : ℕ) (j : Job) : Type 0 where
+  pub query : Query
+  pub at : slice_get d.queries j.query ≡ Some query
+  pub phase : query.phase ≡ Ready j.view
+  pub by : j.node ≡ node
+  pub program : query.program ≡ j.program
+  pub start : query.start ≡ j.start
+  pub certified : slice_get d.programs j.program ≡ Some j.certified
+
+module _ (d : DeskState) (node : ℕ) where
+  job_is : (k : ℕ) (q : Query) (p : Phase) (c : Option Certificate) (j : Job) → slice_get d.queries k ≡ Some q → q.phase ≡ p → slice_get d.programs q.program ≡ c → desk.job_of node k q p c ≡ Some j → IsReadyJob d node j
+  job_is k q (Ready view) (Some c) j at is named h = subst (IsReadyJob d node) (same_some _ j h) (record { query = q; at = at; phase = is; by = refl; program = refl; start = refl; certified = named })
+  job_is k q (Ready view) None j at is named h = absurd (no_some j h)
+  job_is k q Collecting c j at is named h = absurd (no_some j h)
+  job_is k q (Running view) c j at is named h = absurd (no_some j h)
+  job_is k q (Answered view ran) c j at is named h = absurd (no_some j h)
+
+  job_at-is : (k : ℕ) (o : Option Query) (j : Job) → slice_get d.queries k ≡ o → desk.job_at d node k o ≡ Some j → IsReadyJob d node j
+  job_at-is k None j at h = absurd (no_some j h)
+  job_at-is k (Some q) j at h = job_is k q q.phase (slice_get d.programs q.program) j at refl refl h
+
+  job_from-is : (o : Option ℕ) (j : Job) → desk.job_from d node o ≡ Some j → IsReadyJob d node j
+  job_from-is None j h = absurd (no_some j h)
+  job_from-is (Some k) j h = job_at-is k (slice_get d.queries k) j refl h
+
+  pub next_is : (j : Job) → desk.next_job d node ≡ Some j → IsReadyJob d node j
+  next_is j h = job_from-is (position (λ (q : Query). desk.is_ready q.phase) d.queries) j h
+
+-- ---- the answer that is recorded
+
+-- the desk with this answer recorded
+abbrev pub answered : DeskState → ℕ → ViewMap → Ran → DeskState
+answered d k view ran = desk.with_entry (record d { queries = desk.with_phase d.queries k (Answered view ran); ended = None }) (entry.Post k ran)
+
+-- the query runs over this view, the job is its, and there was room
+pub record IsPosted (d : DeskState) (j : Job) (ran : Ran) (e : DeskState) : Type 0 where
+  pub query : Query
+  pub view : ViewMap
+  pub at : slice_get d.queries j.query ≡ Some query
+  pub phase : query.phase ≡ Running view
+  pub fits : desk.is_job_of d.programs j query view ≡ true
+  pub room : desk.has_room d ≡ true
+  pub is : answered d j.query view ran ≡ e
+
+module _ (d : DeskState) (j : Job) (ran : Ran) (y : Unit {0} × DeskState) where
+  posted_to-is : (q : Query) (p : Phase) → slice_get d.queries j.query ≡ Some q → q.phase ≡ p → desk.posted_to d j ran q p ≡ Ok y → IsPosted d j ran y.1
+  posted_to-is q Collecting at is h = absurd (no_refusal _ y h)
+  posted_to-is q (Ready view) at is h = absurd (no_refusal _ y h)
+  posted_to-is q (Answered view old) at is h = absurd (no_refusal _ y h)
+  posted_to-is q (Running view) at is h =
+      let a = passed (desk.is_job_of d.programs j q view) fault.Stranger _ y h in
+      let b = passed (desk.has_room d) fault.BookFull _ y a.1 in
+      record { query = q; view = view; at = at; phase = is; fits = a.0; room = b.0; is = ap (λ (z : Unit {0} × DeskState). z.1) (same_answer _ y b.1) }
+
+  posted_at-is : (o : Option Query) → slice_get d.queries j.query ≡ o → desk.posted_at d j ran o ≡ Ok y → IsPosted d j ran y.1
+  posted_at-is None at h = absurd (no_refusal _ y h)
+  posted_at-is (Some q) at h = posted_to-is q q.phase at refl h
+
+  -- the job is this node's, and its answer is recorded
+  pub posted_is : (node : ℕ) → desk.posted d node j ran ≡ Ok y → ((j.node == node) ≡ true) × IsPosted d j ran y.1
+  posted_is node h =
+      let own = passed (j.node == node) fault.Stranger _ y h in
+      (own.0, posted_at-is (slice_get d.queries j.query) refl own.1)

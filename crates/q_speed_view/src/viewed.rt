@@ -1,0 +1,81 @@
+//! Folds over a view, as a query is answered.
+
+ghost use Rattle.std.specs.Prelude.{◌≤◌};
+
+use bq_frame::block::Block;
+use bq_meaning::placement::RECORD_LENGTH;
+use q_session::fold::fold_checked;
+use q_session::run::run_fold;
+use q_speed_program::folded::Folded;
+use q_speed_program::program::certified;
+use sc_view::view::{Stored, View};
+use std::alloc::Global;
+
+/// The number in eight bytes.
+fn number(bytes: &[u8; RECORD_LENGTH], at: usize) -> u64
+    requires { at ≤ 56 }
+{
+    let mut word = [0; 8];
+    word.copy_from_slice(&bytes[at..at + 8]);
+    u64::from_le_bytes(word)
+}
+
+/// A view with the entries that these records spell.
+fn view_of(alloc: Global, records: &[u8]) -> Option<View> {
+    let mut view = View::new(alloc);
+    let (records, _) = records.as_chunks::<RECORD_LENGTH>();
+    for record in records {
+        let mut value = [0; 48];
+        value.copy_from_slice(&record[16..]);
+        let stored = Stored::new(number(record, 8), value)?;
+        view.put(number(record, 0), stored).ok()?;
+    }
+    Some(view)
+}
+
+/// So many folds by the loop.
+pub(crate) fn by_loop(
+    alloc: Global,
+    program: &[u8],
+    records: &[u8],
+    start: u64,
+    folds: u64,
+) -> Option<Folded> {
+    let certified = certified(alloc, program)?;
+    let view = view_of(alloc, records)?;
+    let mut block = Block::new(alloc).ok()?;
+    let mut folded = Folded {
+        acc: start,
+        steps: 0,
+        is_done: true,
+    };
+    for _ in 0..folds {
+        let ran = run_fold(&certified, &view, start, &mut block);
+        folded.acc = ran.acc;
+        folded.steps = folded.steps.wrapping_add(ran.steps);
+    }
+    Some(folded)
+}
+
+/// So many folds by the machine.
+pub(crate) fn by_machine(
+    alloc: Global,
+    program: &[u8],
+    records: &[u8],
+    start: u64,
+    folds: u64,
+) -> Option<Folded> {
+    let certified = certified(alloc, program)?;
+    let view = view_of(alloc, records)?;
+    let mut folded = Folded {
+        acc: start,
+        steps: 0,
+        is_done: true,
+    };
+    for _ in 0..folds {
+        let ran = fold_checked(&certified, &view, start);
+        folded.acc = ran.acc;
+        folded.steps = folded.steps.wrapping_add(ran.steps);
+    }
+    Some(folded)
+}
