@@ -61,6 +61,10 @@ abbrev pub Agree : ViewMap → ViewMap → Type 0
 Agree v w =
     (id : ℕ) (d e : Stored) → fin.get v id ≡ Some d → fin.get w id ≡ Some e → d.number ≡ e.number → d ≡ e
 
+-- each value of the view has so many bytes
+pub record HasValuesOf (bytes : ℕ) (v : ViewMap) : Type 0 where
+  pub at : (id : ℕ) (e : Stored) → fin.get v id ≡ Some e → length e.value ≡ bytes
+
 -- lists joined in turn
 abbrev pub joined : List (List (ℕ × Stored)) → List (ℕ × Stored)
 joined [] = []
