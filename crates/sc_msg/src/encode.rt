@@ -165,8 +165,9 @@ fn push_body(out: &mut Vec<u8>, body: &Body) -> Result<(), AllocError>
     }
 }
 
-// The bytes of a message, whose values have the length that they have in messages.
-fn written(alloc: Global, message: &Message) -> Result<Vec<u8>, AllocError>
+/// The bytes that [`encode`] gives, of a message whose values are known to have 48 bytes. The one error is that memory ran
+/// out (99 OutOfMemory).
+pub fn encode_fitting(alloc: Global, message: &Message) -> Result<Vec<u8>, AllocError>
     requires { MessageHasValuesOf value_length message.now }
     ensures message { IfOk result (λ bytes. IsMessage message.now) }
     ensures spelled { IfOk result (λ bytes. bytes.items ≡ message_bytes message.now) }
@@ -192,5 +193,5 @@ pub fn encode(alloc: Global, message: &Message) -> Result<Vec<u8>, EncodeFault>
     if !message.has_values_of(VALUE_LENGTH) {
         return Err(EncodeFault::BadValue);
     }
-    Ok(written(alloc, message)?)
+    Ok(encode_fitting(alloc, message)?)
 }

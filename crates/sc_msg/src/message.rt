@@ -1,5 +1,5 @@
 ghost use Rattle.std.specs.Prelude.{◌≡◌, ◌↔◌, IsTrue, option_copied};
-ghost use Rattle.sc_msg.specs.Lengths.{view_of, MessageHasValuesOf};
+ghost use Rattle.sc_msg.specs.Lengths.{view_of, has_values_of, MessageHasValuesOf};
 
 use sc_members::facts::Facts;
 use sc_view::view::View;
@@ -85,7 +85,8 @@ impl Body {
 impl Message {
     /// Whether each value that the message tells has so many bytes. Takes no memory.
     pub fn has_values_of(&self, bytes: usize) -> bool
-        ensures { IsTrue result ↔ MessageHasValuesOf bytes self.now }
+        ensures told { result ≡ has_values_of bytes self.now }
+        ensures each { IsTrue result ↔ MessageHasValuesOf bytes self.now }
     {
         match self.body.view() {
             Some(view) => view.has_values_of(bytes),

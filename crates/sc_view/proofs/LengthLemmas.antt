@@ -1,12 +1,13 @@
 -- The lengths of a view's values, by its entries and by its chunks.
-use Rattle.std.proofs.Common.{◌≡◌, ◌==◌, nat_lt, ℕ, Bool, true, false, cond, List, [], ◌∷◌, ◌++◌, length, Some, None, Option, is_some, refl, sym, ap, subst, ◌∙◌, arith, true≢false}
-use Rattle.std.specs.List.{All, AllByRecursion}
+use Rattle.std.proofs.Common.{◌≡◌, ◌↔◌, ◌==◌, nat_lt, ℕ, Bool, IsTrue, true, false, cond, List, [], ◌∷◌, ◌++◌, length, Some, None, Option, is_some, refl, sym, ap, subst, ◌∙◌, arith, true≢false, eq-eqb}
+use Rattle.std.specs.Cmp.{first_so, second_so, unsigned_Decides}
+use Rattle.std.specs.List.{All, AllByRecursion, list_all}
 use Rattle.std.proofs.lemmas.List.Elements.{All-from_recursion, recursion_from_All}
 use Rattle.std.specs.Ordering.{nat_cmp, is_eq}
 use Rattle.std.specs.FinMap as fin
 use Rattle.std.specs.FinMap.Entries.{find}
 use Rattle.sc_view.specs.declared.view.Stored.{Stored}
-use Rattle.sc_view.specs.Views.{ViewMap, HasValuesOf, newer, put, merge, joined}
+use Rattle.sc_view.specs.Views.{ViewMap, HasValuesOf, has_values_of, newer, put, merge, joined}
 use Rattle.sc_view.specs.Rows.{Rises}
 use Rattle.sc_view.proofs.EntryLemmas.{find_here, rises_from}
 use Rattle.sc_view.proofs.ViewLemmas.{get-put, get-merge, from_either, by_cases}
@@ -37,17 +38,45 @@ found_of n (e ∷ es) id x all is =
     (λ here. subst (λ (y : Stored). length y.value ≡ n) (unpacked e.1 x here) all.0)
     (λ there. found_of n es id x all.1 there)
 
-each_of : (n : ℕ) (all es : List (ℕ × Stored)) → Rises es → Tells es es all → ((q : ℕ) (x : Stored) → find nat_cmp q all ≡ Some x → length x.value ≡ n) → AllByRecursion (OfLength n) es
-each_of n all [] r t of = tt
-each_of n all (e ∷ es) r t of = (of e.0 e.1 (sym (t e.0 (omega arith)) ∙ find_here e.0 e es refl), each_of n all es r.1 (from_tail e es all r t) of)
+each_of : (P : ℕ × Stored → Type 0) (all es : List (ℕ × Stored)) → Rises es → Tells es es all → ((q : ℕ) (x : Stored) → find nat_cmp q all ≡ Some x → P (q, x)) → AllByRecursion P es
+each_of P all [] r t of = tt
+each_of P all (e ∷ es) r t of = (of e.0 e.1 (sym (t e.0 (omega arith)) ∙ find_here e.0 e es refl), each_of P all es r.1 (from_tail e es all r t) of)
 
 -- ---- by the entries
 
+-- what is true of what is at each id is true of each entry
+pub each_entry : (P : ℕ × Stored → Type 0) (v : ViewMap) → ((id : ℕ) (x : Stored) → fin.get v id ≡ Some x → P (id, x)) → AllByRecursion P (fin.entries v)
+each_entry P v h = each_of P (fin.entries v) (fin.entries v) (rises_from (fin.entries v) (fin.entries_sorted v)) (tells_all (fin.entries v) (fin.entries v)) (λ q x has. h q x (fin.get-entries v q ∙ has))
+
 pub entries_of_length : (n : ℕ) (v : ViewMap) → HasValuesOf n v → AllByRecursion (OfLength n) (fin.entries v)
-entries_of_length n v h = each_of n (fin.entries v) (fin.entries v) (rises_from (fin.entries v) (fin.entries_sorted v)) (tells_all (fin.entries v) (fin.entries v)) (λ q x has. h.at q x (fin.get-entries v q ∙ has))
+entries_of_length n v h = each_entry (OfLength n) v h.at
 
 pub of_length_by_entries : (n : ℕ) (v : ViewMap) → AllByRecursion (OfLength n) (fin.entries v) → HasValuesOf n v
 of_length_by_entries n v all = record { at = λ id x has. found_of n (fin.entries v) id x all (sym (fin.get-entries v id) ∙ has) }
+
+passes_all : (n : ℕ) (es : List (ℕ × Stored)) → AllByRecursion (OfLength n) es → list_all (λ e. length e.1.value == n) es ≡ true
+passes_all n [] h = refl
+passes_all n (e ∷ es) h = rw (eq-eqb (length e.1.value) n h.0) (passes_all n es h.1)
+
+all_pass : (n : ℕ) (es : List (ℕ × Stored)) → list_all (λ e. length e.1.value == n) es ≡ true → AllByRecursion (OfLength n) es
+all_pass n [] h = tt
+all_pass n (e ∷ es) h = ((unsigned_Decides (length e.1.value) n).0 (first_so (length e.1.value == n) _ h), all_pass n es (second_so (length e.1.value == n) _ h))
+
+-- the test finds each value to have so many bytes just where each has
+pub told_of_length : (n : ℕ) (v : ViewMap) → HasValuesOf n v → has_values_of n v ≡ true
+told_of_length n v h = passes_all n (fin.entries v) (entries_of_length n v h)
+
+pub of_length_told : (n : ℕ) (v : ViewMap) → has_values_of n v ≡ true → HasValuesOf n v
+of_length_told n v h = of_length_by_entries n v (all_pass n (fin.entries v) h)
+
+-- an answer that is true just where each has is what the test finds
+pub told_by : (n : ℕ) (v : ViewMap) (b : Bool) → (IsTrue b ↔ HasValuesOf n v) → b ≡ has_values_of n v
+told_by n v true h = sym (told_of_length n v (h.0 refl))
+told_by n v false h = by_test (has_values_of n v) (λ yes. h.1 (of_length_told n v yes))
+  where
+    by_test : (t : Bool) → (t ≡ true → IsTrue false) → false ≡ t
+    by_test false never = refl
+    by_test true never = absurd (true≢false (sym (never refl)))
 
 -- ---- by the chunks
 

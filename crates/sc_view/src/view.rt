@@ -4,7 +4,7 @@ ghost use Rattle.std.specs.Ordering.{nat_cmp};
 ghost use Rattle.std.specs.Map.Iter.{TakesFirst};
 ghost use Rattle.std.specs.Iterator.{at_most};
 ghost use Rattle.sc_view.specs.Faults.{reason};
-ghost use Rattle.sc_view.specs.Views.{IsView, is_newer, put, merge, most_entries, number_at, IsBelow, IsChunking, HasValuesOf};
+ghost use Rattle.sc_view.specs.Views.{IsView, is_newer, put, merge, most_entries, number_at, IsBelow, IsChunking, HasValuesOf, has_values_of};
 ghost use Rattle.std.specs.List.{slice_get};
 ghost use Rattle.std.specs.Option.{option_copied, SomeIff};
 ghost use Rattle.sc_view.specs.declared.view.Stored.{Stored as StoredValue};
@@ -199,7 +199,8 @@ impl View {
 
     /// Whether each value has so many bytes. Takes no memory.
     pub fn has_values_of(&self, bytes: usize) -> bool
-        ensures { IsTrue result ↔ HasValuesOf bytes self.now }
+        ensures told { result ≡ has_values_of bytes self.now }
+        ensures each { IsTrue result ↔ HasValuesOf bytes self.now }
     {
         have_values_of(self.row.as_slice(), bytes)
     }
