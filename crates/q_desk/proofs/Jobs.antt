@@ -3,10 +3,12 @@ use Rattle.std.proofs.Common.{◌≡◌, ◌+◌, ℕ, true, List, length, get_o
 use Rattle.std.proofs.lemmas.Bool.{false≢true}
 use Rattle.std.proofs.lemmas.List.Quantifiers.{position-Some}
 use Rattle.std.proofs.lemmas.Option.{get_or_from_slice_get}
-use Rattle.std.specs.Prelude.{slice_get, position, nat_lt, option_map, ◌==◌}
+use Rattle.std.specs.Prelude.{slice_get, position, nat_lt, option_map, ◌==◌, IfSome}
 use Rattle.std.specs.Cmp.{first_so, second_so, unsigned_Decides}
 use Rattle.sc_view.specs.Values.{value_length}
 use Rattle.sc_view.specs.Views.{ViewMap, HasValuesOf}
+use Rattle.bq_meaning.specs.Place.{record_length}
+use Rattle.bq_range.specs.Interval.{Interval, IsIn}
 use Rattle.bq_check.specs.Certificate.{Certificate}
 use Rattle.q_session.specs.Right.{IsRight}
 use Rattle.q_session.specs.declared.ran.Ran.{Ran}
@@ -18,11 +20,20 @@ use Rattle.q_desk.specs.State.{DeskState}
 use Rattle.q_desk.specs.declared.journal.Entry.{Entry}
 use Rattle.q_desk.specs.declared.journal.Entry.TheVariants as entry
 use Rattle.q_desk.specs.Desks.{most_events, how_many_run, with_phase, is_ready, is_same_view, is_job_of, job_of, job_at, job_from, next_job, handed_out, posted}
-use Rattle.q_session.specs.Jobs.{view_in, job_over}
+use Rattle.q_session.specs.Jobs.{view_in, job_over, MayRun}
+use Rattle.q_session.specs.Records.{HasRecordsWithin}
 use Rattle.q_desk.specs.Answers.{IsDesk, IsAnswered}
 use Rattle.q_desk.proofs.Running.{run-handed}
 use Rattle.q_desk.proofs.Views.{same-view, right-of_same}
 use Rattle.q_desk.proofs.Keeps.{IsAppended, PhaseFits, desk-appended, desk-ended, desk-running, desk-with_phase}
+
+-- a program for records of 64 bytes may run over a view with values of 48
+pub may_run : (q : Query) (c : Certificate) → ((n : ℕ) (lengths : Interval) (v : ViewMap) → HasValuesOf n v → IsIn (16 + n) lengths → HasRecordsWithin lengths v) → IfSome (view_in q.phase) (HasValuesOf value_length) → IsIn record_length c.lengths → MayRun q c
+may_run q c law fits lengths = over (view_in q.phase) fits
+  where
+    over : (o : Option ViewMap) → IfSome o (HasValuesOf value_length) → IfSome o (HasRecordsWithin c.lengths)
+    over None f = tt
+    over (Some v) f = law value_length c.lengths v f lengths
 
 -- a ready query has its job
 job-ready : (node k : ℕ) (q : Query) (p : Phase) (c : Certificate) → is_ready p ≡ true → option_map (job_over node k q c) (view_in p) ≡ job_of node k q p (Some c)

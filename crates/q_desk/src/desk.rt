@@ -266,6 +266,7 @@ impl Desk {
         let Some(program) = self.programs.get(asked.program) else {
             return Ok(None);
         };
+        let _length = program.certified();
         Job::of(*self.queries.allocator(), node, query, asked, program)
     }
 
@@ -401,6 +402,7 @@ fn next_job(
     let Some(program) = programs.get(query.program) else {
         return Ok(None);
     };
+    let _length = program.certified();
     Job::of(alloc, node, number, query, program)
 }
 

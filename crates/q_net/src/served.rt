@@ -19,6 +19,7 @@ use q_book::book::Book;
 use q_book::fault::BookFault;
 use q_table::program::{Program, ProgramId};
 use sc_msg::message::Message;
+use sc_view::value::Value;
 use std::alloc::Global;
 
 /// What comes of a registration.
@@ -93,7 +94,7 @@ fn store(book: &mut Book, value: &[u8; 48], sent: &mut Vec<Message>) -> Reply
     requires { vec_len sent.old + 2 ≤ vec_capacity sent.old }
     ensures { (outs : List Sent) × Replies book.old (Store value.now) result outs book.new × (sent.new.items ≡ sent.old.items ++ outs) }
 {
-    match book.store(value) {
+    match book.store(&Value::from(value)) {
         Ok(begun) => {
             begun.outs.append_to(sent);
             Reply::Number(begun.tag)

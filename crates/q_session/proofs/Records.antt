@@ -10,9 +10,14 @@ use Rattle.bq_word.specs.Word.{le_bytes}
 pub eight_bytes : (n : ℕ) → to_le_bytes w64 n ≡ le_bytes 8 n
 eight_bytes n = search rules
 
--- two numbers and the bytes behind them, each written to its place
-pub written : (a b v : List ℕ) (m n : ℕ) → a ≡ le_bytes 8 m → b ≡ le_bytes 8 n → put_mid 16 48 (put_mid 8 8 (a ++ replicate 56 0) b) v ≡ le_bytes 8 m ++ (le_bytes 8 n ++ v)
-written a b v m n p q = rw (p, q) (ap (λ x. le_bytes 8 m ++ (le_bytes 8 n ++ x)) (append-nil v))
+-- the entry at a place of a view's entries is what is known of its node
+pub lengths_at : (lengths : Interval) (v : ViewMap) (k id : ℕ) (e : Stored) → HasRecordsWithin lengths v → slice_get (fin.entries v) k ≡ Some (id, e) → IsIn (16 + length e.value) lengths
+lengths_at lengths v k id e h at = all_get (λ x. IsIn (16 + length x.1.value) lengths) (fin.entries v) k (id, e) (each_entry (λ x. IsIn (16 + length x.1.value) lengths) v h.at) at
+  where
+    all_get : (P : ℕ × Stored → Type 0) (xs : List (ℕ × Stored)) (k : ℕ) (x : ℕ × Stored) → AllByRecursion P xs → slice_get xs k ≡ Some x → P x
+    all_get P [] k x h at = absurd (cc)
+    all_get P (y ∷ ys) zero x h at = let same : y ≡ x = cc in subst P same h.0
+    all_get P (y ∷ ys) (suc k) x h at = all_get P ys k x h.1 at
 
 -- the steps of a view's records fit 64 bits
 pub room : (steps more longest n : ℕ) → steps ≤ longest * n → more ≤ longest → longest ≤ 4096 → n < 256 → Fits w64 (steps + more)
