@@ -139,6 +139,7 @@ desk-grown s c d is_table =
       table = is_table;
       few = d.few;
       brief = d.brief;
+      fit = d.fit;
       known = λ k q e. omega (arith, d.known k q e, length-append s.programs (c ∷ []));
       right = λ k q view ran e f. kept s t q view ran (λ p h. get-front s.programs (c ∷ []) q.program p h) (d.right k q view ran e f);
     }

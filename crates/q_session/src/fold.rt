@@ -1,6 +1,6 @@
 //! The fold of a program over a view.
 
-ghost use Rattle.std.specs.Prelude.{◌≡◌, ◌≤◌, take, length};
+ghost use Rattle.std.specs.Prelude.{◌≡◌, ◌≤◌, ◌+◌, take, length};
 ghost use Rattle.q_session.specs.Records.{record_bytes, HasRecordsWithin};
 ghost use Rattle.q_session.specs.Right.{IsRight};
 

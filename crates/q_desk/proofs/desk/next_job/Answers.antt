@@ -13,7 +13,7 @@ pub of-requires : goal.of-requires
 of-requires c =
     let at = c.in-Some-get.ensures.lookup in
     let q = c.in-Some-get.query.now in
-    may_run q c.in-Some-get-2.program.now c.records_of_values.ensures (c.requires c.in-Some.number q (slice_get_read c.args.queries.now _ c.in-Some.number q refl at.3.0 at.1)) c.certified-_length.ensures.length
+    may_run q c.in-Some-get-2.program.now c.records_of_values.ensures (c.requires c.in-Some.number q (slice_get_read c.args.queries.now _ c.in-Some.number q refl at.3.0 at.1)) c.certified-length.ensures.length
 
 pub returns-in_default-get-2 : goal.returns-in_default-get-2
 returns-in_default-get-2 c = λ s programs queries.
