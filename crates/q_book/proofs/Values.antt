@@ -57,8 +57,8 @@ follows_keeps b entry.Leave c h fits =
 follows_keeps b (entry.Register program) c h fits = by_desk_fits b c (desk.registered b.desk program) h.0 h.1 fits
 follows_keeps b (entry.Ask program start) c h fits =
     let p = asked-parts b program start (h.0, c) h.1 in
-    let kept = collect_kept value_length b.node p.2.0.1 p.2.0.0 fits p.2.1 in
-    subst (λ (x : BookState). Fits x) (ap (λ z. z.1) p.2.2) kept.0
+    let kept = collect_kept value_length b.node p.2.1 p.2.0 fits p.3 in
+    subst (λ (x : BookState). Fits x) (ap (λ z. z.1) p.4) kept.0
 follows_keeps b (entry.Store value) c h fits =
     let a = stored-parts b value (h.0, c) h.1 in
     let kept = store_kept value_length b.node a.0.1 value a.0.0 fits (value_fits value (stored-fits b value (h.0, c) h.1)) a.1 in
