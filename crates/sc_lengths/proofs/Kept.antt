@@ -7,12 +7,11 @@ use Rattle.std.specs.Ordering.{nat_cmp, eq_by_cmp}
 use Rattle.std.specs.Cmp.{nat_cmp_total}
 use Rattle.std.specs.FinMap as fin
 use Rattle.std.specs.FinSet as set
-use Rattle.sc_view.specs.declared.view.Stored.{Stored}
-use Rattle.sc_view.specs.Views.{ViewMap, HasValuesOf, put, merge}
+use Rattle.sc_view.specs.Views.{ViewMap, HasValuesOf, merge}
 use Rattle.sc_view.proofs.LengthLemmas.{empty_of_length, put_of_length, merge_of_length}
 use Rattle.sc_members.specs.Members.{Config, Facts, is_overfull, no_facts, founding, with_entered, with_left}
 use Rattle.sc_msg.specs.declared.message.Body.{Body}
-use Rattle.sc_msg.specs.declared.message.Body.TheVariants.{Enter, EnterEcho, Join, JoinEcho, Leave, LeaveEcho, Store, StoreAck, StoreEcho, CollectQuery, CollectReply}
+use Rattle.sc_msg.specs.declared.message.Body.TheVariants.{Enter, EnterEcho, Join, Leave, Store, StoreAck, StoreEcho, CollectQuery, CollectReply}
 use Rattle.sc_msg.specs.declared.message.Message.{Message}
 use Rattle.sc_msg.specs.Lengths.{BodyHasValuesOf, MessageHasValuesOf}
 use Rattle.sc_node.specs.declared.session.OperationKind.{OperationKind}
@@ -23,14 +22,13 @@ use Rattle.sc_node.specs.declared.session.Session.{Session}
 use Rattle.sc_node.specs.declared.answer.Advance.{Advance}
 use Rattle.sc_node.specs.declared.answer.Advance.TheVariants as advance
 use Rattle.sc_node.specs.declared.answer.Progress.{Progress}
-use Rattle.sc_node.specs.declared.answer.Ended.{Ended}
 use Rattle.sc_node.specs.declared.answer.Begun.{Begun}
 use Rattle.sc_node.specs.declared.answer.Delivered.{Delivered}
 use Rattle.sc_node.specs.declared.fault.NodeFault.{NodeFault}
 use Rattle.sc_node.specs.declared.fault.NodeFault.TheVariants as fault
-use Rattle.sc_node.specs.Sessions.{apply, advanced_by, session_with, ends, ended_by, ended_at, ended_with, completed, querying, storing, count_sender, is_reached, view_in}
+use Rattle.sc_node.specs.Sessions.{apply, advanced_by, session_with, ends, ended_by, ended_at, ended_with, querying, storing, count_sender, is_reached, view_in}
 use Rattle.sc_node.specs.State.{NodeState}
-use Rattle.sc_node.specs.Nodes.{fresh, founded, entered, entering, store_begun, collect_begun, left, delivered, delivery, node_after, view_after, is_reply, sessions_after, session_moved, ended_session, progress_of, ack_progress, reply_progress, answers, store_of, store_back, joins, message_from, beta_threshold, beginning, is_view_full, stored_view, store_session, collect_session, next_stored, begun, opened, tells_view, tells_facts, facts_after, are_founders, most_open, most_operations}
+use Rattle.sc_node.specs.Nodes.{fresh, founded, entered, store_begun, collect_begun, left, delivered, delivery, node_after, view_after, is_reply, sessions_after, session_moved, ended_session, progress_of, ack_progress, reply_progress, answers, store_of, store_back, joins, message_from, beta_threshold, beginning, is_view_full, stored_view, store_session, collect_session, next_stored, begun, opened, tells_view, tells_facts, facts_after, are_founders, most_open, most_operations}
 use Rattle.sc_lengths.specs.Lengths.{KindHasValuesOf, SessionHasValuesOf, TableHasValuesOf, NodeHasValuesOf, BegunHasValuesOf, AdvanceHasValuesOf, ProgressHasValuesOf, EndedHasValuesOf, DeliveryHasValuesOf}
 
 -- ---- what an accepted call answers

@@ -1,5 +1,5 @@
 -- The lengths of the values that a node keeps, and of those that it tells.
-use Rattle.std.specs.Prelude.{◌≡◌, ℕ, length, All, Option, Some, IfSome}
+use Rattle.std.specs.Prelude.{◌≡◌, ℕ, length, All, Some, IfSome}
 use Rattle.std.specs.Ordering.{nat_cmp}
 use Rattle.std.specs.FinMap as fin
 use Rattle.sc_view.specs.Views.{HasValuesOf}

@@ -15,7 +15,7 @@ ghost use Rattle.sc_msg.specs.Lengths.{BodyHasValuesOf, MessageHasValuesOf};
 
 use crate::message::{Body, Message};
 use byteorder::{ByteOrder, LittleEndian};
-use reasons::Reason;
+use reasons::{Reason, told};
 use sc_members::facts::Facts;
 use sc_members::ids::IdSet;
 use sc_view::value::{VALUE_LENGTH, Value};
@@ -33,13 +33,10 @@ pub enum EncodeFault {
 
 impl EncodeFault {
     /// The reason by which the fault is told, 50 or 99.
-    pub fn reason(&self) -> Reason
-        ensures { result ≡ encode_reason self.now }
+    pub fn reason(self) -> Reason
+        ensures { result ≡ encode_reason self }
     {
-        match self {
-            EncodeFault::BadValue => Reason::BadValue,
-            EncodeFault::OutOfMemory => Reason::OutOfMemory,
-        }
+        told!(self, EncodeFault: BadValue, OutOfMemory)
     }
 }
 

@@ -3,7 +3,7 @@ ghost use Rattle.std.specs.Prelude.{◌≡◌, ◌≤◌, ◌<◌, ◌↔◌, le
 ghost use Rattle.sc_view.specs.Faults.{value_reason};
 ghost use Rattle.sc_view.specs.Values.{most_bytes};
 
-use reasons::Reason;
+use reasons::{Reason, told};
 use std::marker::Model;
 
 /// The most bytes of a value.
@@ -43,12 +43,10 @@ pub enum ValueFault {
 
 impl ValueFault {
     /// The reason by which the fault is told, 50.
-    pub fn reason(&self) -> Reason
-        ensures { result ≡ value_reason self.now }
+    pub fn reason(self) -> Reason
+        ensures { result ≡ value_reason self }
     {
-        match self {
-            ValueFault::BadValue => Reason::BadValue,
-        }
+        told!(self, ValueFault: BadValue)
     }
 }
 

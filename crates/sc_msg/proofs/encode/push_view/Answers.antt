@@ -1,10 +1,10 @@
-use Rattle.std.proofs.Common.{ℕ, List, ◌++◌, ap, subst, ◌∙◌, append_assoc}
+use Rattle.std.proofs.Common.{ℕ, List, ◌++◌, ap, ◌∙◌, append_assoc}
 use Rattle.std.specs.FinMap as fin
 use Rattle.sc_view.specs.declared.view.Stored.{Stored}
 use Rattle.sc_msg.specs.Numbers.{number_bytes}
 use Rattle.sc_msg.specs.Entries.{view_layout, stored_bytes}
 use Rattle.sc_view.proofs.LengthLemmas.{OfLength, entries_of_length}
-use Rattle.sc_msg.proofs.Writing.{WrittenTo, written_more, written_all, all_at}
+use Rattle.sc_msg.proofs.Writing.{written_more, written_all, all_at}
 use Rattle.sc_msg.proofs.encode.push_view.Goals as goal
 
 pub loop-id-preserved : goal.loop-id-preserved
