@@ -210,7 +210,6 @@ impl Cluster {
         ensures values { IfSome result (λ m. MessageHasValuesOf value_length m.now) }
     {
         every_message_fits();
-        self.comes_of_events();
         self.ledger.sent().get(number)
     }
 
