@@ -8,6 +8,7 @@ ghost use Rattle.q_wire.specs.Counts.{count_after};
 use crate::request::Blob;
 use q_wire::counted::Counted;
 use q_wire::fault::TransportFailed;
+use sc_view::value::{VALUE_LENGTH, Value};
 use std::alloc::Global;
 use std::io::Read;
 
@@ -83,15 +84,15 @@ pub fn read_long<R: Read>(input: &mut Counted<R>) -> Result<Option<u64>, Transpo
 }
 
 /// The value of the next 48 bytes; none where the input ends before them.
-pub fn read_value<R: Read>(input: &mut Counted<R>) -> Result<Option<[u8; 48]>, TransportFailed>
+pub fn read_value<R: Read>(input: &mut Counted<R>) -> Result<Option<Value>, TransportFailed>
     ensures read { Gets (λ v. v) 48 (R.remaining input.old.inner) (R.remaining input.new.inner) result }
     ensures counted { input.new.failures ≡ count_after result input.old.failures }
 {
-    let mut bytes = [0u8; 48];
-    if input.fill(&mut bytes)? < 48 {
+    let mut bytes = [0u8; VALUE_LENGTH];
+    if input.fill(&mut bytes)? < VALUE_LENGTH {
         return Ok(None);
     }
-    Ok(Some(bytes))
+    Ok(Some(Value::from(&bytes)))
 }
 
 /// So many bytes, passed over.
