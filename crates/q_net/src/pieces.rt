@@ -1,6 +1,6 @@
 //! The parts of a request, read from left to right.
 
-ghost use Rattle.std.specs.Prelude.{◌≡◌, [], ◌∷◌, length};
+ghost use Rattle.std.specs.Prelude.{◌≡◌, [], ◌∷◌, length, IfOk, IfSome};
 ghost use Rattle.bq_check.specs.Spelling.{short_bytes, long_bytes};
 ghost use Rattle.q_net.specs.Requests.{Gets, GetsBlob};
 ghost use Rattle.q_wire.specs.Counts.{count_after};
@@ -86,6 +86,7 @@ pub fn read_long<R: Read>(input: &mut Counted<R>) -> Result<Option<u64>, Transpo
 /// The value of the next 48 bytes; none where the input ends before them.
 pub fn read_value<R: Read>(input: &mut Counted<R>) -> Result<Option<Value>, TransportFailed>
     ensures read { Gets (λ v. v) 48 (R.remaining input.old.inner) (R.remaining input.new.inner) result }
+    ensures length { IfOk result (λ got. IfSome got (λ v. length v ≡ 48)) }
     ensures counted { input.new.failures ≡ count_after result input.old.failures }
 {
     let mut bytes = [0u8; VALUE_LENGTH];
