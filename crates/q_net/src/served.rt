@@ -90,11 +90,11 @@ fn ask(book: &mut Book, program: u32, start: u64, sent: &mut Vec<Message>) -> Re
 }
 
 /// A store. There is room for the messages of one event.
-fn store(book: &mut Book, value: &[u8; 48], sent: &mut Vec<Message>) -> Reply
+fn store(book: &mut Book, value: &Value, sent: &mut Vec<Message>) -> Reply
     requires { vec_len sent.old + 2 ≤ vec_capacity sent.old }
     ensures { (outs : List Sent) × Replies book.old (Store value.now) result outs book.new × (sent.new.items ≡ sent.old.items ++ outs) }
 {
-    match book.store(&Value::from(value)) {
+    match book.store(value) {
         Ok(begun) => {
             begun.outs.append_to(sent);
             Reply::Number(begun.tag)
