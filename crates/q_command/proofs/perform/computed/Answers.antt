@@ -4,8 +4,8 @@ use Rattle.q_script.specs.Records.{IsView}
 use Rattle.q_session.specs.Records.{HasRecordsWithin}
 use Rattle.q_command.proofs.perform.computed.Goals as goal
 
-pub run_fold-requires : goal.run_fold-requires
-run_fold-requires c = subst (λ (l : Interval). HasRecordsWithin l c.in_ok-view.view) c.lengths.ensures.value (record { at = c.in_ok-view.ensures.lengths })
+pub run_fold-ran-requires : goal.run_fold-ran-requires
+run_fold-ran-requires c = subst (λ (l : Interval). HasRecordsWithin l c.in_ok-view.view) c.lengths.ensures.value (record { at = c.in_ok-view.ensures.lengths })
 
 pub returns-clause-computed : goal.returns-clause-computed
 returns-clause-computed c =
