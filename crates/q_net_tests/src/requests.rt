@@ -98,22 +98,6 @@ fn output(alloc: Global) -> Option<Vec<u8>> {
     }
 }
 
-/// The replies to a stream; none where it is not served to its end.
-fn replies<R: Wait>(
-    rt: &R,
-    alloc: Global,
-    book: &mut Book,
-    sent: &mut Vec<Message>,
-    bytes: &[u8],
-) -> Option<Vec<u8>> {
-    let mut out = Counted::new(output(alloc)?);
-    let mut input = Counted::new(bytes);
-    match serve(rt, alloc, book, &mut input, &mut out, sent) {
-        Ok(()) => Some(out.inner),
-        Err(_) => None,
-    }
-}
-
 /// What these replies to a request and to a question for query 9 say of the request.
 fn judged(replies: &[u8], right: &[u8], gave_none: bool) -> Reply {
     match replies.split_last() {
@@ -130,53 +114,6 @@ fn judged(replies: &[u8], right: &[u8], gave_none: bool) -> Reply {
     }
 }
 
-/// Serves a stream of a request and of a question for query 9, which is answered in any case.
-fn request_once<R: Wait>(
-    rt: &R,
-    alloc: Global,
-    book: &mut Book,
-    sent: &mut Vec<Message>,
-    bytes: &[u8],
-    right: &[u8],
-) -> Reply {
-    let before = sent.len();
-    match replies(rt, alloc, book, sent, bytes) {
-        Some(replies) => judged(replies.as_slice(), right, sent.len() == before),
-        None => Reply::Wrong,
-    }
-}
-
-/// The same, and once more where the request was answered 99. Whether it has its right reply then.
-fn request_again<R: Wait>(
-    rt: &R,
-    alloc: Global,
-    book: &mut Book,
-    sent: &mut Vec<Message>,
-    bytes: &[u8],
-    right: &[u8],
-) -> bool {
-    match request_once(rt, alloc, book, sent, bytes, right) {
-        Reply::Right => true,
-        Reply::NoMemory => request_once(rt, alloc, book, sent, bytes, right) == Reply::Right,
-        Reply::Wrong => false,
-    }
-}
-
-/// The same with the stream that these digits spell.
-fn request<R: Wait>(
-    rt: &R,
-    alloc: Global,
-    book: &mut Book,
-    sent: &mut Vec<Message>,
-    digits: &str,
-    right: &[u8],
-) -> bool {
-    match stream(alloc, digits) {
-        Some(bytes) => request_again(rt, alloc, book, sent, bytes.as_slice(), right),
-        None => false,
-    }
-}
-
 /// The number with which a call was refused; 0 where it was not.
 fn refusal(tried: Result<(), BookFault>) -> u8 {
     match tried {
@@ -185,82 +122,136 @@ fn refusal(tried: Result<(), BookFault>) -> u8 {
     }
 }
 
-/// The book hears a message. The number with which it is refused, or 0.
-fn hear(book: &mut Book, sent: &mut Vec<Message>, message: &Message) -> u8 {
-    if sent.reserve(2).is_err() {
-        return NO_MEMORY;
-    }
-    match book.deliver(message) {
-        Ok(taken) => {
-            taken.outs.append_to(sent);
-            0
-        }
-        Err(fault) => fault.reason().number(),
-    }
-}
-
-/// The same, and once more where memory is refused.
-fn hear_again(book: &mut Book, sent: &mut Vec<Message>, message: Message) -> bool {
-    match hear(book, sent, &message) {
-        NO_MEMORY => hear(book, sent, &message) == 0,
-        number => number == 0,
-    }
-}
-
-/// The book hears what it gave until it gives nothing more. Whether it took all.
-fn settle(book: &mut Book, sent: &mut Vec<Message>) -> bool {
-    let mut took = true;
-    for _ in 0..MOST_DELIVERIES {
-        if let Some(message) = sent.pop() {
-            took = hear_again(book, sent, message) && took;
-        }
-    }
-    took && sent.is_empty()
-}
-
-/// Hands out the job of the ready query, runs it and posts its result. The number with which that is refused, or 0.
-fn run_job(book: &mut Book, block: &mut Block) -> u8 {
-    match book.hand_out() {
-        Ok(Some(job)) => refusal(book.post(&Done::run(job, block))),
-        Ok(None) => 0,
-        Err(fault) => fault.reason().number(),
-    }
-}
-
-/// The same, and once more where memory is refused.
-fn run_job_again(book: &mut Book, block: &mut Block) -> bool {
-    match run_job(book, block) {
-        NO_MEMORY => run_job(book, block) == 0,
-        number => number == 0,
-    }
-}
-
-/// Whether each request has its right reply: a program, a store, a query, and the answer of that query, which counts
-/// one record in three steps.
-fn are_right<R: Wait>(
-    rt: &R,
+/// A node that serves a client, and what its calls gave and was not heard yet.
+#[derive(Drop)]
+struct Served<'a, R> {
+    rt: &'a R,
     alloc: Global,
-    book: &mut Book,
-    block: &mut Block,
-    sent: &mut Vec<Message>,
-) -> bool {
-    let counted = [0, 1, 8, 0, 0, 0, 0, 0, 0, 0, 3, 0, 0, 0, 0, 0, 0, 0];
-    request(rt, alloc, book, sent, REGISTER, &[0; 5])
-        && request(rt, alloc, book, sent, STORE, &[0; 9])
-        && settle(book, sent)
-        && request(rt, alloc, book, sent, ASK, &[0; 9])
-        && request(rt, alloc, book, sent, ANSWER, &[0, 0])
-        && settle(book, sent)
-        && run_job_again(book, block)
-        && request(rt, alloc, book, sent, ANSWER, &counted)
+    book: Book,
+    block: Block,
+    sent: Vec<Message>,
 }
 
-/// The same of a book of its own; none where there is none.
+impl<R: Wait> Served<'_, R> {
+    /// The replies to a stream; none where it is not served to its end.
+    fn replies(&mut self, bytes: &[u8]) -> Option<Vec<u8>> {
+        let mut out = Counted::new(output(self.alloc)?);
+        let mut input = Counted::new(bytes);
+        match serve(
+            self.rt,
+            self.alloc,
+            &mut self.book,
+            &mut input,
+            &mut out,
+            &mut self.sent,
+        ) {
+            Ok(()) => Some(out.inner),
+            Err(_) => None,
+        }
+    }
+
+    /// Serves a stream of a request and of a question for query 9, which is answered in any case.
+    fn request_once(&mut self, bytes: &[u8], right: &[u8]) -> Reply {
+        let before = self.sent.len();
+        match self.replies(bytes) {
+            Some(replies) => judged(replies.as_slice(), right, self.sent.len() == before),
+            None => Reply::Wrong,
+        }
+    }
+
+    /// The same, and once more where the request was answered 99. Whether it has its right reply then.
+    fn request_again(&mut self, bytes: &[u8], right: &[u8]) -> bool {
+        match self.request_once(bytes, right) {
+            Reply::Right => true,
+            Reply::NoMemory => self.request_once(bytes, right) == Reply::Right,
+            Reply::Wrong => false,
+        }
+    }
+
+    /// The same with the stream that these digits spell.
+    fn request(&mut self, digits: &str, right: &[u8]) -> bool {
+        match stream(self.alloc, digits) {
+            Some(bytes) => self.request_again(bytes.as_slice(), right),
+            None => false,
+        }
+    }
+
+    /// The book hears a message. The number with which it is refused, or 0.
+    fn hear(&mut self, message: &Message) -> u8 {
+        if self.sent.reserve(2).is_err() {
+            return NO_MEMORY;
+        }
+        match self.book.deliver(message) {
+            Ok(taken) => {
+                taken.outs.append_to(&mut self.sent);
+                0
+            }
+            Err(fault) => fault.reason().number(),
+        }
+    }
+
+    /// The same, and once more where memory is refused.
+    fn hear_again(&mut self, message: Message) -> bool {
+        match self.hear(&message) {
+            NO_MEMORY => self.hear(&message) == 0,
+            number => number == 0,
+        }
+    }
+
+    /// The book hears what it gave until it gives nothing more. Whether it took all.
+    fn settle(&mut self) -> bool {
+        let mut took = true;
+        for _ in 0..MOST_DELIVERIES {
+            if let Some(message) = self.sent.pop() {
+                took = self.hear_again(message) && took;
+            }
+        }
+        took && self.sent.is_empty()
+    }
+
+    /// Hands out the job of the ready query, runs it and posts its result. The number with which that is refused, or 0.
+    fn run_job(&mut self) -> u8 {
+        match self.book.hand_out() {
+            Ok(Some(job)) => refusal(self.book.post(&Done::run(job, &mut self.block))),
+            Ok(None) => 0,
+            Err(fault) => fault.reason().number(),
+        }
+    }
+
+    /// The same, and once more where memory is refused.
+    fn run_job_again(&mut self) -> bool {
+        match self.run_job() {
+            NO_MEMORY => self.run_job() == 0,
+            number => number == 0,
+        }
+    }
+
+    /// Whether each request has its right reply: a program, a store, a query, and the answer of that query, which counts
+    /// one record in three steps.
+    fn are_right(&mut self) -> bool {
+        let counted = [0, 1, 8, 0, 0, 0, 0, 0, 0, 0, 3, 0, 0, 0, 0, 0, 0, 0];
+        self.request(REGISTER, &[0; 5])
+            && self.request(STORE, &[0; 9])
+            && self.settle()
+            && self.request(ASK, &[0; 9])
+            && self.request(ANSWER, &[0, 0])
+            && self.settle()
+            && self.run_job_again()
+            && self.request(ANSWER, &counted)
+    }
+}
+
+/// Whether a node of its own has all requests right; none where there is none.
 fn all_right<R: Wait>(rt: &R, alloc: Global) -> Option<bool> {
-    let mut block = block(alloc)?;
-    let mut book = alone(alloc)?;
-    let mut sent: Vec<Message> = Vec::new(alloc);
-    Some(are_right(rt, alloc, &mut book, &mut block, &mut sent))
+    let block = block(alloc)?;
+    let mut served = Served {
+        rt,
+        alloc,
+        book: alone(alloc)?,
+        block,
+        sent: Vec::new(alloc),
+    };
+    Some(served.are_right())
 }
 
 /// Run with any one allocation refused, each request has its right reply, or is answered 99, gives no message and then

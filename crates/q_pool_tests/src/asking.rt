@@ -1,5 +1,10 @@
-//! Nodes that are alone, which ask.
+//! Nodes that are alone, which ask, and a board of theirs.
 
+ghost use Rattle.std.specs.Prelude.{◌≡◌, IfSome};
+ghost use Rattle.q_board.specs.BoardId.{board_id};
+
+use q_board::board::Board;
+use q_board::seats::{AskerSeat, RunnerSeat};
 use q_book::book::Book;
 use q_session::ran::Ran;
 use q_sim::program::certified_code;
@@ -60,4 +65,15 @@ pub fn is_right(book: &Book, query: usize, start: u64) -> bool {
         steps: 3,
     };
     answer(book, query) == Some(right)
+}
+
+/// A board of its own, with the seats of its one asker and its one runner.
+pub fn board_of_one(alloc: Global) -> Option<(Board, AskerSeat, RunnerSeat)>
+    ensures asker { IfSome result (λ made. made.1.table ≡ board_id made.0) }
+    ensures runner { IfSome result (λ made. made.2.table ≡ board_id made.0) }
+{
+    let Ok((board, mut askers, mut runners)) = Board::open(alloc, 1, 1) else {
+        return None;
+    };
+    Some((board, askers.pop()?, runners.pop()?))
 }

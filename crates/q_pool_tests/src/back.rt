@@ -4,7 +4,7 @@ ghost use Rattle.std.specs.Prelude.{◌≡◌};
 ghost use Rattle.q_board.specs.BoardId.{board_id};
 ghost use Rattle.q_board.specs.Calls.{SameAsker};
 
-use crate::asking::{ask, founded, is_right};
+use crate::asking::{ask, board_of_one, founded, is_right};
 use bq_frame::block::Block;
 use q_board::board::Board;
 use q_board::seats::{AskerSeat, RunnerSeat};
@@ -89,75 +89,36 @@ fn asked(alloc: Global) -> Option<Book> {
 }
 
 /// Whether the seat that gives the job back finds it, and runs it once; none where there is no memory.
-fn found_by_its_giver(
-    alloc: Global,
-    board: &Board,
-    mut asker: AskerSeat,
-    mut runner: RunnerSeat,
-) -> Option<bool>
-    requires asker { asker.table ≡ board_id board.now }
-    requires runner { runner.table ≡ board_id board.now }
-{
+fn found_by_its_giver(alloc: Global) -> Option<bool> {
+    let (board, mut asker, mut runner) = board_of_one(alloc)?;
     let mut book = asked(alloc)?;
     let mut block = Block::new(alloc).ok()?;
-    let waits = waits_on(board, &mut asker, &mut runner, &mut book);
-    let runs = is_run_once(board, &mut asker, &mut runner, &mut block, &mut book);
+    let waits = waits_on(&board, &mut asker, &mut runner, &mut book);
+    let runs = is_run_once(&board, &mut asker, &mut runner, &mut block, &mut book);
     Some(waits && runs)
 }
 
 /// Whether a second seat finds the job that the first gives back, and runs it once; none where there is no memory.
-fn found_by_another(
-    alloc: Global,
-    board: &Board,
-    mut asker: AskerSeat,
-    mut giver: RunnerSeat,
-    mut runner: RunnerSeat,
-) -> Option<bool>
-    requires asker { asker.table ≡ board_id board.now }
-    requires giver { giver.table ≡ board_id board.now }
-    requires runner { runner.table ≡ board_id board.now }
-{
+fn found_by_another(alloc: Global) -> Option<bool> {
+    let Ok((board, mut askers, mut runners)) = Board::open(alloc, 1, 2) else {
+        return None;
+    };
+    let (mut asker, mut giver, mut runner) = (askers.pop()?, runners.pop()?, runners.pop()?);
     let mut book = asked(alloc)?;
     let mut block = Block::new(alloc).ok()?;
-    let waits = waits_on(board, &mut asker, &mut giver, &mut book);
-    let runs = is_run_once(board, &mut asker, &mut runner, &mut block, &mut book);
-    Some(waits && runs && give_one_back(board, &mut giver) == None)
-}
-
-/// The same over a board of its own, with one runner.
-fn with_one_seat(alloc: Global) -> Option<bool> {
-    match Board::open(alloc, 1, 1) {
-        Ok((board, mut askers, mut runners)) => match (askers.pop(), runners.pop()) {
-            (Some(asker), Some(runner)) => found_by_its_giver(alloc, &board, asker, runner),
-            _ => None,
-        },
-        Err(_) => None,
-    }
-}
-
-/// The same over a board of its own, with two runners.
-fn with_two_seats(alloc: Global) -> Option<bool> {
-    match Board::open(alloc, 1, 2) {
-        Ok((board, mut askers, mut runners)) => {
-            match (askers.pop(), runners.pop(), runners.pop()) {
-                (Some(asker), Some(giver), Some(runner)) => {
-                    found_by_another(alloc, &board, asker, giver, runner)
-                }
-                _ => None,
-            }
-        }
-        Err(_) => None,
-    }
+    let waits = waits_on(&board, &mut asker, &mut giver, &mut book);
+    let runs = is_run_once(&board, &mut asker, &mut runner, &mut block, &mut book);
+    Some(waits && runs && give_one_back(&board, &mut giver) == None)
 }
 
 #[test]
 fn a_job_that_is_given_back_is_run_once(rt: HostRuntime) -> Result<(), Fail> {
-    assert!(rt; with_one_seat(rt.alloc()) == Some(true));
+    assert!(rt; found_by_its_giver(rt.alloc()) == Some(true));
     Ok(())
 }
 
 #[test]
 fn a_job_that_is_given_back_goes_to_another_runner(rt: HostRuntime) -> Result<(), Fail> {
-    assert!(rt; with_two_seats(rt.alloc()) == Some(true));
+    assert!(rt; found_by_another(rt.alloc()) == Some(true));
     Ok(())
 }

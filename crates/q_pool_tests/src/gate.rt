@@ -60,41 +60,21 @@ impl<R: Clock> Gate for Held<'_, R> {
     fn after(&self, _query: usize) {}
 }
 
-/// Pumps until the query is answered.
-fn pump_until_answered<R: Clock>(
+/// Pumps until it is enough.
+fn pump_until<R: Clock, F: Fn(&Book) -> bool>(
     rt: &R,
     board: &Board,
     seat: &mut AskerSeat,
     book: &mut Book,
-    query: usize,
+    is_enough: F,
 ) -> Option<()>
-    requires { seat.old.table ≡ board_id board.now }
+    requires seat { seat.old.table ≡ board_id board.now }
+    requires test { F.IsAlwaysCallable is_enough }
     ensures { seat.new.table ≡ seat.old.table }
 {
     for _ in 0..LOOKS {
         pump_once(board, seat, book).ok()?;
-        if answer(book, query).is_some() {
-            return Some(());
-        }
-        thread::sleep(rt, Duration::from_micros(NAP_MICROS));
-    }
-    None
-}
-
-/// Pumps until the sign is given.
-fn pump_until_told<R: Clock>(
-    rt: &R,
-    board: &Board,
-    seat: &mut AskerSeat,
-    book: &mut Book,
-    sign: &AtomicBool,
-) -> Option<()>
-    requires { seat.old.table ≡ board_id board.now }
-    ensures { seat.new.table ≡ seat.old.table }
-{
-    for _ in 0..LOOKS {
-        pump_once(board, seat, book).ok()?;
-        if sign.load(SeqCst) {
+        if is_enough(book) {
             return Some(());
         }
         thread::sleep(rt, Duration::from_micros(NAP_MICROS));
@@ -114,13 +94,13 @@ fn ask_three<R: Clock>(
     requires { seat.old.table ≡ board_id board.now }
 {
     ask(alloc, book, 10)?;
-    pump_until_answered(rt, board, seat, book, 0)?;
+    pump_until(rt, board, seat, book, |book| answer(book, 0).is_some())?;
     ask(alloc, book, 20)?;
-    pump_until_told(rt, board, seat, book, &signs.began)?;
+    pump_until(rt, board, seat, book, |_| signs.began.load(SeqCst))?;
     ask(alloc, book, 30)?;
-    pump_until_answered(rt, board, seat, book, 2)?;
+    pump_until(rt, board, seat, book, |book| answer(book, 2).is_some())?;
     signs.answered.store(true, SeqCst);
-    pump_until_answered(rt, board, seat, book, 1)
+    pump_until(rt, board, seat, book, |book| answer(book, 1).is_some())
 }
 
 /// Whether the three answers are right.

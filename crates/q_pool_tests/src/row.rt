@@ -4,7 +4,7 @@ ghost use Rattle.std.specs.Prelude.{◌≡◌};
 ghost use Rattle.q_board.specs.BoardId.{board_id};
 ghost use Rattle.q_board.specs.Calls.{SameAsker};
 
-use crate::asking::{ask, founded, is_right};
+use crate::asking::{ask, board_of_one, founded, is_right};
 use bq_frame::block::Block;
 use q_board::board::Board;
 use q_board::seats::{AskerSeat, RunnerSeat};
@@ -97,47 +97,14 @@ fn are_right(book: &Book) -> bool {
     (0..8).all(|query| is_right(book, query, query as u64))
 }
 
-/// The same with a book of its own.
-fn row_over(
-    alloc: Global,
-    board: &Board,
-    asker: &mut AskerSeat,
-    runner: &mut RunnerSeat,
-    block: &mut Block,
-) -> bool
-    requires asker { asker.old.table ≡ board_id board.now }
-    requires runner { runner.old.table ≡ board_id board.now }
-{
-    match founded(alloc) {
-        Some(mut book) => {
-            let asked = ask_each(alloc, &mut book, 10);
-            let gives = gives_back_the_ninth(board, asker, runner, block, &mut book);
-            asked.is_some() && gives && are_right(&book)
-        }
-        None => false,
-    }
-}
-
-/// The same over a block of its own.
-fn row_of_eight(alloc: Global, board: &Board, mut asker: AskerSeat, mut runner: RunnerSeat) -> bool
-    requires asker { asker.table ≡ board_id board.now }
-    requires runner { runner.table ≡ board_id board.now }
-{
-    match Block::new(alloc) {
-        Ok(mut block) => row_over(alloc, board, &mut asker, &mut runner, &mut block),
-        Err(_) => false,
-    }
-}
-
-/// Whether a row has eight places; none where there is no board.
+/// Whether a row has eight places, and each job in it is answered right; none where there is no memory.
 fn has_eight(alloc: Global) -> Option<bool> {
-    match Board::open(alloc, 1, 1) {
-        Ok((board, mut askers, mut runners)) => match (askers.pop(), runners.pop()) {
-            (Some(asker), Some(runner)) => Some(row_of_eight(alloc, &board, asker, runner)),
-            _ => None,
-        },
-        Err(_) => None,
-    }
+    let (board, mut asker, mut runner) = board_of_one(alloc)?;
+    let mut block = Block::new(alloc).ok()?;
+    let mut book = founded(alloc)?;
+    ask_each(alloc, &mut book, 10)?;
+    let gives = gives_back_the_ninth(&board, &mut asker, &mut runner, &mut block, &mut book);
+    Some(gives && are_right(&book))
 }
 
 #[test]
