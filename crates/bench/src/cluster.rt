@@ -27,7 +27,7 @@ pub(crate) struct Cluster {
 fn value(number: u64) -> Value {
     let mut value = [0; VALUE_LENGTH];
     value[..8].copy_from_slice(&number.to_le_bytes());
-    value
+    Value::from(&value)
 }
 
 /// An event. Gives the number of the first message that it sent.

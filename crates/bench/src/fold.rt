@@ -10,6 +10,8 @@
 //!
 //! Both fold it so many times, in turn, and the least time of each is told, for each instruction that was executed.
 
+ghost use Rattle.q_session.specs.Records.{HasRecordsWithin};
+
 use anyhow::{Result, anyhow, bail};
 use bq_asm::assemble::assemble;
 use bq_check::certified::Certified;
@@ -18,10 +20,11 @@ use bq_frame::block::Block;
 use bq_state::bounds::Bounds;
 use bq_verify::verify::verify_within;
 use q_session::fold::fold_checked;
+use q_session::laws::records_of_values;
 use q_session::ran::Ran;
 use q_session::run::run_fold;
 use q_table::program::Program;
-use sc_view::value::VALUE_LENGTH;
+use sc_view::value::{VALUE_LENGTH, Value};
 use sc_view::view::{Stored, View};
 use std::alloc::{AllocError, Global};
 use std::time::{Clock, Duration, Instant};
@@ -134,7 +137,7 @@ fn view_of(alloc: Global) -> Result<View> {
         number = next(number);
         let mut value = [0; VALUE_LENGTH];
         value[..8].copy_from_slice(&(number >> 33).to_le_bytes());
-        let stored = Stored::new(1, value).ok_or(anyhow!("no value"))?;
+        let stored = Stored::new(1, Value::from(&value)).ok_or(anyhow!("no value"))?;
         view.put(id, stored).map_err(|_| anyhow!("no room"))?;
     }
     Ok(view)
@@ -149,7 +152,9 @@ struct Times {
     checked_took: Duration,
 }
 
-fn time_once(rt: &impl Clock, program: &Program, view: &View, block: &mut Block) -> Result<Times> {
+fn time_once(rt: &impl Clock, program: &Program, view: &View, block: &mut Block) -> Result<Times>
+    requires { HasRecordsWithin program.now.lengths view.now }
+{
     let start = Instant::now(rt)?;
     let ran = run_fold(program.certified(), view, 3, block);
     let loop_took = start.elapsed(rt)?;
@@ -182,6 +187,10 @@ pub(crate) fn run(
     let source = source_of(alloc, name)?;
     let program = program(alloc, source.as_str())?;
     let view = view_of(alloc)?;
+    records_of_values();
+    if !view.has_values_of(VALUE_LENGTH) {
+        bail!("a value has another length");
+    }
     let mut block = Block::new(alloc)?;
     let first = time_once(rt, &program, &view, &mut block)?;
     println!(rt;

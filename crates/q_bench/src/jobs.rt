@@ -1,10 +1,12 @@
 //! Jobs to be run, and how long they took.
 
-use anyhow::{Result, anyhow};
+use anyhow::{Result, anyhow, bail};
 use q_session::job::Job;
+use q_session::laws::records_of_values;
 use q_session::query::{Phase, Query};
 use q_sim::program::certified_code;
 use q_table::program::ProgramId;
+use sc_view::value::{VALUE_LENGTH, Value};
 use sc_view::view::{Stored, View};
 use std::alloc::Global;
 use std::time::Duration;
@@ -36,8 +38,13 @@ impl Times {
 fn one(alloc: Global) -> Result<Job> {
     let program = certified_code(alloc, &COUNT).map_err(|_| anyhow!("refused"))?;
     let mut view = View::new(alloc);
-    let stored = Stored::new(1, [7; 48]).ok_or(anyhow!("no value"))?;
+    let stored = Stored::new(1, Value::from(&[7; VALUE_LENGTH])).ok_or(anyhow!("no value"))?;
     view.put(1, stored).map_err(|_| anyhow!("no room"))?;
+    records_of_values();
+    let _length = program.certified();
+    if !view.has_values_of(VALUE_LENGTH) {
+        bail!("a value has another length");
+    }
     let query = Query {
         tag: 0,
         program: ProgramId::new(0),

@@ -1,9 +1,11 @@
 -- That a book stays the replay of its journal at each of its calls.
-use Rattle.std.proofs.Common.{◌≡◌, ℕ, Bool, true, false, List, Option, Some, None, Result, Ok, Err, refl, sym, ap, subst, ◌∙◌, if◌then◌else◌}
+use Rattle.std.proofs.Common.{◌≡◌, ◌==◌, ℕ, Bool, true, false, length, List, Option, Some, None, Result, Ok, Err, refl, sym, ap, subst, ◌∙◌, if◌then◌else◌}
 use Rattle.std.specs.Prelude.{position, nat_le}
 use Rattle.std.specs.FinMap as fin
 use Rattle.sc_members.specs.Members.{Config}
+use Rattle.sc_view.specs.Values.{value_length}
 use Rattle.sc_msg.specs.declared.message.Message.{Message}
+use Rattle.sc_msg.specs.Lengths as message
 use Rattle.sc_node.specs.State.{NodeState}
 use Rattle.sc_node.specs.Nodes as node
 use Rattle.sc_node.specs.declared.answer.Begun.{Begun}
@@ -25,7 +27,7 @@ use Rattle.q_desk.specs.declared.fault.DeskFault.TheVariants as desk_fault
 use Rattle.q_book.specs.declared.fault.BookFault.{BookFault}
 use Rattle.q_book.specs.declared.fault.BookFault.TheVariants as fault
 use Rattle.q_book.specs.State.{BookState}
-use Rattle.q_book.specs.Books.{by_desk, by_node, here, joined, known, free, with_desk, asks, asks_node, stores, stores_node, delivers, delivers_node, leaves, leaves_node}
+use Rattle.q_book.specs.Books.{by_desk, by_node, here, joined, known, fitting, free, with_desk, asks, asks_node, stores, stores_node, delivers, delivers_node, leaves, leaves_node}
 use Rattle.q_book.specs.Replays.{IsReplay}
 use Rattle.q_book.proofs.Journals.{noted-adds, registered-adds, asked-adds, handed_out-adds, handed_out-same, posted-adds}
 use Rattle.q_book.proofs.Replays.{with, replay_next}
@@ -44,16 +46,29 @@ here-flag true u rest h = absurd (cc)
 pub passes-here : {A : Type 0} (b : BookState) (u : Unit {0}) (rest : Result A BookFault) → (let t : Test = Ok u in t) ≡ here b (Ok tt) → here b rest ≡ rest
 passes-here b u rest h = here-flag b.node.gone u rest h
 
-storing-flags : {A : Type 0} (gone joins full : Bool) (u : Unit {0}) (rest : Result A BookFault)
-    → (let t : Test = Ok u in t) ≡ (if gone then Err (fault.Node node_fault.Gone) else (if joins then (if full then Err (fault.Node node_fault.SessionsFull) else Ok tt) else Err (fault.Node node_fault.NotJoined)))
-    → (if gone then Err (fault.Node node_fault.Gone) else (if joins then (if full then Err (fault.Node node_fault.SessionsFull) else rest) else Err (fault.Node node_fault.NotJoined))) ≡ rest
-storing-flags false true false u rest h = refl
-storing-flags true joins full u rest h = absurd (cc)
-storing-flags false false full u rest h = absurd (cc)
-storing-flags false true true u rest h = absurd (cc)
+storing-flags : {A : Type 0} (gone joins fits full : Bool) (u : Unit {0}) (rest : Result A BookFault)
+    → (let t : Test = Ok u in t) ≡ (if gone then Err (fault.Node node_fault.Gone) else (if joins then (if fits then (if full then Err (fault.Node node_fault.SessionsFull) else Ok tt) else Err fault.BadValue) else Err (fault.Node node_fault.NotJoined)))
+    → (fits ≡ true) × ((if gone then Err (fault.Node node_fault.Gone) else (if joins then (if fits then (if full then Err (fault.Node node_fault.SessionsFull) else rest) else Err fault.BadValue) else Err (fault.Node node_fault.NotJoined))) ≡ rest)
+storing-flags false true true false u rest h = (refl, refl)
+storing-flags true joins fits full u rest h = absurd (cc)
+storing-flags false false fits full u rest h = absurd (cc)
+storing-flags false true false full u rest h = absurd (cc)
+storing-flags false true true true u rest h = absurd (cc)
 
-pub passes-storing : {A : Type 0} (b : BookState) (u : Unit {0}) (rest : Result A BookFault) → (let t : Test = Ok u in t) ≡ here b (joined b (free b (Ok tt))) → here b (joined b (free b rest)) ≡ rest
-passes-storing b u rest h = storing-flags b.node.gone b.node.joined (nat_le node.most_open (fin.len b.node.sessions)) u rest h
+-- the value has the length that journals hold, and the rest follows
+pub passes-storing : {A : Type 0} (b : BookState) (fits : Bool) (u : Unit {0}) (rest : Result A BookFault) → (let t : Test = Ok u in t) ≡ here b (joined b (fitting fits (free b (Ok tt)))) → (fits ≡ true) × (here b (joined b (fitting fits (free b rest))) ≡ rest)
+passes-storing b fits u rest h = storing-flags b.node.gone b.node.joined fits (nat_le node.most_open (fin.len b.node.sessions)) u rest h
+
+taking-flags : {A : Type 0} (gone fits : Bool) (u : Unit {0}) (rest : Result A BookFault)
+    → (let t : Test = Ok u in t) ≡ (if gone then Err (fault.Node node_fault.Gone) else (if fits then Ok tt else Err fault.BadValue))
+    → (fits ≡ true) × ((if gone then Err (fault.Node node_fault.Gone) else (if fits then rest else Err fault.BadValue)) ≡ rest)
+taking-flags false true u rest h = (refl, refl)
+taking-flags true fits u rest h = absurd (cc)
+taking-flags false false u rest h = absurd (cc)
+
+-- the values of a message have the length that journals hold, and the rest follows
+pub passes-taking : {A : Type 0} (b : BookState) (fits : Bool) (u : Unit {0}) (rest : Result A BookFault) → (let t : Test = Ok u in t) ≡ here b (fitting fits (Ok tt)) → (fits ≡ true) × (here b (fitting fits rest) ≡ rest)
+passes-taking b fits u rest h = taking-flags b.node.gone fits u rest h
 
 asking-flags : {A : Type 0} (gone joins knows full : Bool) (u : Unit {0}) (rest : Result A BookFault)
     → (let t : Test = Ok u in t) ≡ (if gone then Err (fault.Node node_fault.Gone) else (if joins then (if knows then (if full then Err (fault.Node node_fault.SessionsFull) else Ok tt) else Err (fault.Desk desk_fault.UnknownProgram)) else Err (fault.Node node_fault.NotJoined)))
@@ -105,13 +120,13 @@ asked_replay b program start tag k u begun n d after passed next h g ends r =
       passes-asking b program u (by_desk (asks_node b) (desk.asked b.desk b.node.operations program start)) passed ∙ ap (by_desk (asks_node b)) now ∙ ap (by_node (asks b k d)) g,
     ))
 
-pub stored_replay : (b : BookState) (value : List ℕ) (u w : Unit {0}) (begun : Begun) (n : NodeState) (d after : DeskState) → (let t : Test = Ok u in t) ≡ here b (joined b (free b (Ok tt)))
+pub stored_replay : (b : BookState) (value : List ℕ) (u w : Unit {0}) (begun : Begun) (n : NodeState) (d after : DeskState) → (let t : Test = Ok u in t) ≡ here b (joined b (fitting (length value == value_length) (free b (Ok tt))))
     → desk.noted b.desk (entry.Store value) ≡ Ok (w, d) → node.store_begun b.node value ≡ Ok (begun, n) → after ≡ desk.with_ended d None → IsReplay b → IsReplay (with b n after)
 stored_replay b value u w begun n d after passed h g ends r =
     subst (λ (x : DeskState). IsReplay (with b n x)) (sym ends)
     (replay_next b (entry.Store value) n (desk.with_ended d None) r (noted-adds b.desk (entry.Store value) d h) (
       begun,
-      passes-storing b u (by_desk (stores_node b value) (desk.noted b.desk (entry.Store value))) passed ∙ ap (by_desk (stores_node b value)) h ∙ ap (by_node (stores b d)) g,
+      (passes-storing b (length value == value_length) u (by_desk (stores_node b value) (desk.noted b.desk (entry.Store value))) passed).1 ∙ ap (by_desk (stores_node b value)) h ∙ ap (by_node (stores b d)) g,
     ))
 
 pub left_replay : (b : BookState) (u w : Unit {0}) (outs : List Message) (n : NodeState) (d after : DeskState) → (let t : Test = Ok u in t) ≡ here b (Ok tt)
@@ -134,15 +149,15 @@ ends-quiet : (d : DeskState) (o : Option Ended) → (desk.ends o d).1.journal �
 ends-quiet d None = refl
 ends-quiet d (Some e) = returns-quiet d e.tag e.what
 
-delivered_ended : (b : BookState) (m : Message) (u w : Unit {0}) (told : Delivered) (n : NodeState) (d : DeskState) → (let t : Test = Ok u in t) ≡ here b (Ok tt)
+delivered_ended : (b : BookState) (m : Message) (u w : Unit {0}) (told : Delivered) (n : NodeState) (d : DeskState) → (let t : Test = Ok u in t) ≡ here b (fitting (message.has_values_of value_length m) (Ok tt))
     → desk.noted b.desk (entry.Deliver m) ≡ Ok (w, d) → node.delivered b.node m ≡ Ok (told, n) → IsReplay b → IsReplay (with b n (desk.ends told.ended d).1)
 delivered_ended b m u w told n d passed h g r =
     replay_next b (entry.Deliver m) n (desk.ends told.ended d).1 r (ends-quiet d told.ended ∙ noted-adds b.desk (entry.Deliver m) d h) (
       record { outs = told.outs; progress = told.progress; completed = desk.completed_by told.ended (desk.ends told.ended d).0 },
-      passes-here b u (by_desk (delivers_node b m) (desk.noted b.desk (entry.Deliver m))) passed ∙ ap (by_desk (delivers_node b m)) h ∙ ap (by_node (delivers b d)) g,
+      (passes-taking b (message.has_values_of value_length m) u (by_desk (delivers_node b m) (desk.noted b.desk (entry.Deliver m))) passed).1 ∙ ap (by_desk (delivers_node b m)) h ∙ ap (by_node (delivers b d)) g,
     )
 
-pub delivered_replay : (b : BookState) (m copy : Message) (u w : Unit {0}) (told : Delivered) (n : NodeState) (d after : DeskState) → (let t : Test = Ok u in t) ≡ here b (Ok tt)
+pub delivered_replay : (b : BookState) (m copy : Message) (u w : Unit {0}) (told : Delivered) (n : NodeState) (d after : DeskState) → (let t : Test = Ok u in t) ≡ here b (fitting (message.has_values_of value_length m) (Ok tt))
     → copy ≡ m → desk.noted b.desk (entry.Deliver copy) ≡ Ok (w, d) → node.delivered b.node m ≡ Ok (told, n) → after ≡ (desk.ends told.ended d).1 → IsReplay b → IsReplay (with b n after)
 delivered_replay b m copy u w told n d after passed same h g ends r =
     subst (λ (x : DeskState). IsReplay (with b n x)) (sym ends)

@@ -4,3 +4,4 @@ mod Journals
 mod Calls
 mod Noted
 pub mod Parts
+pub mod Values

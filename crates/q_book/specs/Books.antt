@@ -1,11 +1,13 @@
 -- What each call of a book answers and makes of it, or why it is refused: the node's part is said by the node's
 -- definitions, the desk's by the desk's. Refusals stand in this order: the node has left, has not joined; unknown
--- program, the table is full, already answered, a stranger; too many operations open, the book is full; then the node's
--- own.
-use Rattle.std.specs.Prelude.{ℕ, nat_le, List, Option, Some, None, Result, Ok, Err, if◌then◌else◌}
+-- program, a value of another length, the table is full, already answered, a stranger; too many operations open, the
+-- book is full; then the node's own.
+use Rattle.std.specs.Prelude.{ℕ, ◌==◌, nat_le, Bool, List, length, Option, Some, None, Result, Ok, Err, if◌then◌else◌}
 use Rattle.std.specs.FinMap as fin
 use Rattle.sc_members.specs.Members.{Config}
+use Rattle.sc_view.specs.Values.{value_length}
 use Rattle.sc_msg.specs.declared.message.Message.{Message}
+use Rattle.sc_msg.specs.Lengths as message
 use Rattle.sc_node.specs.declared.answer.Begun.{Begun}
 use Rattle.sc_node.specs.declared.answer.Delivered.{Delivered}
 use Rattle.sc_node.specs.declared.fault.NodeFault.{NodeFault}
@@ -51,6 +53,10 @@ free b rest = if nat_le node.most_open (fin.len b.node.sessions) then Err (fault
 abbrev pub known : {A : Type 0} → BookState → ℕ → Result A BookFault → Result A BookFault
 known b program rest = if desk.knows b.desk program then rest else Err (fault.Desk desk_fault.UnknownProgram)
 
+-- values have the length that journals hold
+abbrev pub fitting : {A : Type 0} → Bool → Result A BookFault → Result A BookFault
+fitting fits rest = if fits then rest else Err fault.BadValue
+
 -- ---- the desk's calls
 
 abbrev pub with_desk : {A : Type 0} → BookState → A → DeskState → Result (A × BookState) BookFault
@@ -89,7 +95,7 @@ abbrev pub stores_node : BookState → List ℕ → Unit {0} → DeskState → R
 stores_node b value u d = by_node (stores b d) (node.store_begun b.node value)
 
 abbrev pub stored : BookState → List ℕ → Result (Begun × BookState) BookFault
-stored b value = here b (joined b (free b (by_desk (stores_node b value) (desk.noted b.desk (entry.Store value)))))
+stored b value = here b (joined b (fitting (length value == value_length) (free b (by_desk (stores_node b value) (desk.noted b.desk (entry.Store value))))))
 
 -- ---- messages
 
@@ -104,7 +110,7 @@ abbrev pub delivers_node : BookState → Message → Unit {0} → DeskState → 
 delivers_node b m u d = by_node (delivers b d) (node.delivered b.node m)
 
 abbrev pub delivered : BookState → Message → Result (Taken × BookState) BookFault
-delivered b m = here b (by_desk (delivers_node b m) (desk.noted b.desk (entry.Deliver m)))
+delivered b m = here b (fitting (message.has_values_of value_length m) (by_desk (delivers_node b m) (desk.noted b.desk (entry.Deliver m))))
 
 abbrev pub leaves : BookState → DeskState → List Message → NodeState → List Message × BookState
 leaves b d outs n = (outs, record b { node = n; desk = desk.with_ended d None })

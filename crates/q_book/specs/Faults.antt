@@ -1,5 +1,6 @@
 -- The refusals of nodes and desks as a book's, and the reasons by which refusals are told.
 use Rattle.reasons.specs.declared.Reason.{Reason}
+use Rattle.reasons.specs.declared.Reason.TheVariants as reasons
 use Rattle.sc_node.specs.Faults as node
 use Rattle.sc_node.specs.declared.fault.NodeFault.TheVariants as node_fault
 use Rattle.q_desk.specs.Faults as desk
@@ -19,3 +20,4 @@ of_desk f = fault.Desk f
 abbrev pub reason : BookFault → Reason
 reason (fault.Node f) = node.reason f
 reason (fault.Desk f) = desk.reason f
+reason fault.BadValue = reasons.BadValue

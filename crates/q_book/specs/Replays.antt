@@ -1,6 +1,8 @@
 -- That a book is the replay of its journal.
-use Rattle.std.specs.Prelude.{◌≡◌, ℕ, List, [], ◌∷◌, Option, Some, None, Ok}
+use Rattle.std.specs.Prelude.{◌≡◌, ℕ, length, List, [], ◌∷◌, Option, Some, None, Ok}
+use Rattle.sc_view.specs.Values.{value_length}
 use Rattle.sc_msg.specs.declared.message.Message.{Message}
+use Rattle.sc_msg.specs.Lengths.{MessageHasValuesOf}
 use Rattle.sc_node.specs.declared.answer.Begun.{Begun}
 use Rattle.sc_node.specs.State.{NodeState}
 use Rattle.sc_node.specs.Nodes as node
@@ -32,6 +34,12 @@ Replays b (e ∷ es) c = (between : BookState) × Follows b e between × Replays
 abbrev pub IsFirst : BookState → NodeState → Option (List ℕ) → Type 0
 IsFirst b n (Some ids) = node.founded b.config b.id ids ≡ Ok n
 IsFirst b n None = n ≡ (node.entered b.config b.id).0
+
+-- each value of an entry has the length that journals hold
+abbrev pub EntryFits : Entry → Type 0
+EntryFits (entry.Store value) = length value ≡ value_length
+EntryFits (entry.Deliver m) = MessageHasValuesOf value_length m
+EntryFits e = Unit {0}
 
 -- the book is what its journal makes of its first state
 pub record IsReplay (b : BookState) : Type 0 where

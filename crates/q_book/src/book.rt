@@ -1,16 +1,19 @@
 //! A book: a node with its desk.
 
-ghost use Rattle.std.specs.Prelude.{◌≡◌, ◌≤◌, length, is_some, option_map, Ok, IfOk, IfSome};
+ghost use Rattle.std.specs.Prelude.{◌≡◌, ◌≤◌, ◌==◌, length, is_some, option_map, All, Ok, IfOk, IfSome};
 ghost use Rattle.std.specs.FinMap as fin;
 ghost use Rattle.sc_members.specs.Members.{IsConfig};
+ghost use Rattle.sc_view.specs.Values.{value_length};
+ghost use Rattle.sc_msg.specs.Lengths.{has_values_of};
 ghost use Rattle.sc_node.specs.Nodes.{most_founders};
+ghost use Rattle.sc_lengths.specs.Lengths.{EndedHasValuesOf};
 ghost use Rattle.forms.specs.Calls.{Steps, Gives, Does};
 ghost use Rattle.q_desk.specs.Desks as desk;
 ghost use Rattle.q_desk.specs.Desks.{ends, completed_by};
 ghost use Rattle.q_desk.specs.Answers.{AnswersAreRight, ProgramsAreKnown};
 ghost use Rattle.q_book.specs.Faults.{memory};
-ghost use Rattle.q_book.specs.Books.{here, joined, known, free, registered, asked, stored, delivered, left, handed_out, posted, room_for_post, founded, entered};
-ghost use Rattle.q_book.specs.Replays.{IsReplay};
+ghost use Rattle.q_book.specs.Books.{here, joined, known, fitting, free, registered, asked, stored, delivered, left, handed_out, posted, room_for_post, founded, entered};
+ghost use Rattle.q_book.specs.Replays.{IsReplay, EntryFits};
 
 use crate::answer::{Asked, Taken};
 use crate::fault::BookFault;
@@ -22,13 +25,14 @@ use q_session::done::Done;
 use q_session::job::Job;
 use q_session::ran::Ran;
 use q_table::program::{Program, ProgramId};
+use sc_lengths::laws::delivery_keeps_lengths;
 use sc_members::config::Config;
 use sc_msg::message::Message;
 use sc_node::answer::{Begun, Delivered};
 use sc_node::fault::NodeFault;
 use sc_node::node::{MOST_OPEN, Node};
 use sc_node::outs::Outs;
-use sc_view::value::Value;
+use sc_view::value::{VALUE_LENGTH, Value};
 use std::alloc::{AllocError, Global};
 use std::marker::Model;
 
@@ -123,11 +127,11 @@ impl Book {
         }
     }
 
-    /// Begins to store a value. Refused with 42, 41, 43, 53, 48, 46, 99.
+    /// Begins to store a value. Refused with 42, 41, 50, 43, 53, 48, 46, 99.
     pub fn store(&mut self, value: &Value) -> Result<Begun, BookFault>
         ensures { Steps memory (stored self.old value.now) self.old self.new result }
     {
-        self.check_storing()?;
+        self.check_storing(value)?;
         self.desk.note(Entry::Store(*value))?;
         match self.node.begin_store(value) {
             Ok(begun) => {
@@ -142,11 +146,12 @@ impl Book {
     }
 
     /// Takes a message, also one that it took before, and its own. The view of a collect that ends goes to its query.
-    /// Refused with 42, 53, 46, 47, 99.
+    /// Refused with 42, 50, 53, 46, 47, 99.
     pub fn deliver(&mut self, message: &Message) -> Result<Taken, BookFault>
         ensures { Steps memory (delivered self.old message.now) self.old self.new result }
     {
-        self.check_here()?;
+        delivery_keeps_lengths();
+        self.check_taking(message)?;
         self.desk.note(Entry::Deliver(message.clone()?))?;
         match self.node.deliver(message) {
             Ok(delivered) => Ok(take(&mut self.desk, delivered)),
@@ -272,10 +277,12 @@ impl Book {
         &self.desk
     }
 
-    /// The journal: each call that was accepted and changed something, in turn. The book is its replay.
+    /// The journal: each call that was accepted and changed something, in turn. The book is its replay, and each value
+    /// of its entries has 48 bytes.
     pub fn journal(&self) -> &[Entry]
         ensures journal { result.now ≡ self.now.desk.journal }
         ensures replay { IsReplay self.now }
+        ensures values { All EntryFits result.now }
     {
         self.desk.journal()
     }
@@ -339,17 +346,38 @@ impl Book {
         self.check_free()
     }
 
-    // Whether a store may begin, as far as the book's room is not asked.
-    fn check_storing(&self) -> Result<(), BookFault>
-        ensures { result ≡ here self.now (joined self.now (free self.now (Ok tt))) }
+    // Whether a store of this value may begin, as far as the book's room is not asked.
+    fn check_storing(&self, value: &Value) -> Result<(), BookFault>
+        ensures { result ≡ here self.now (joined self.now (fitting (length value.now == value_length) (free self.now (Ok tt)))) }
     {
         self.check_joined()?;
+        check_fitting(value.bytes().len() == VALUE_LENGTH)?;
         self.check_free()
+    }
+
+    // Whether a message may be taken, as far as the book's room is not asked.
+    fn check_taking(&self, message: &Message) -> Result<(), BookFault>
+        ensures { result ≡ here self.now (fitting (has_values_of value_length message.now) (Ok tt)) }
+    {
+        self.check_here()?;
+        check_fitting(message.has_values_of(VALUE_LENGTH))
+    }
+}
+
+// Whether values have the length that journals hold.
+fn check_fitting(fits: bool) -> Result<(), BookFault>
+    ensures { result ≡ fitting fits (Ok tt) }
+{
+    if fits {
+        Ok(())
+    } else {
+        Err(BookFault::BadValue)
     }
 }
 
 // What is told of a message that the node took; the view of a collect that ended goes to its query.
 fn take(desk: &mut Desk, delivered: Delivered) -> Taken
+    requires { IfSome delivered.ended (EndedHasValuesOf value_length) }
     ensures told { result ≡ record { outs = delivered.outs; progress = delivered.progress; completed = completed_by delivered.ended (ends delivered.ended desk.old).0 } }
     ensures new { desk.new ≡ (ends delivered.ended desk.old).1 }
 {

@@ -8,7 +8,7 @@ use reasons::{Reason, told};
 use sc_node::fault::NodeFault;
 use std::alloc::AllocError;
 
-/// Why a book refuses a call. After a refusal the book is as it was. Where several hold, the first of 42, 41, 51, 52,
+/// Why a book refuses a call. After a refusal the book is as it was. Where several hold, the first of 42, 41, 51, 50, 52,
 /// 56, 55, 43, 53, 48, 46, 47 is answered; 49 is the founders' alone, 54 that of a question for an answer.
 #[derive(Clone, Copy, Debug, PartialEq, Eq)]
 pub enum BookFault {
@@ -16,6 +16,8 @@ pub enum BookFault {
     Node(NodeFault),
     /// The desk's own refusal.
     Desk(DeskFault),
+    /// 50: a value has another length than the 48 bytes that journals hold.
+    BadValue,
 }
 
 impl BookFault {
@@ -23,7 +25,7 @@ impl BookFault {
     pub fn reason(self) -> Reason
         ensures { result ≡ reason self }
     {
-        told!(self, BookFault: Node(fault), Desk(fault))
+        told!(self, BookFault: Node(fault), Desk(fault), BadValue)
     }
 }
 

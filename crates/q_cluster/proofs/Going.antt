@@ -7,8 +7,6 @@ use Rattle.sc_node.specs.State.{NodeState}
 use Rattle.sc_node.specs.Nodes as node
 use Rattle.sc_node.specs.declared.answer.Delivered.{Delivered}
 use Rattle.sc_node.specs.declared.answer.Progress.{Progress}
-use Rattle.sc_node.specs.declared.fault.NodeFault.{NodeFault}
-use Rattle.sc_node.specs.declared.fault.NodeFault.TheVariants as node_fault
 use Rattle.sc_msg.specs.declared.message.Message.{Message}
 use Rattle.sc_world.specs.declared.counting.Counting.{Counting}
 use Rattle.sc_world.specs.declared.event.Sent.{Sent}
@@ -17,20 +15,16 @@ use Rattle.sc_world.specs.Ledgers.{recorded, numbered, IsRight}
 use Rattle.sc_world.specs.State.{Past, world_of}
 use Rattle.sc_world.specs.Worlds.{live_at}
 use Rattle.sc_world.proofs.Finite.{get-insert}
-use Rattle.sc_world.proofs.Inverts.{no_refusal, same_answer}
 use Rattle.sc_world.proofs.Moving.{delivery_right}
 use Rattle.forms.specs.Calls.{Steps}
 use Rattle.q_desk.specs.State.{DeskState}
-use Rattle.q_desk.specs.Desks as desk
-use Rattle.q_desk.specs.declared.fault.DeskFault.{DeskFault}
-use Rattle.q_desk.specs.declared.journal.Entry.TheVariants as entry
 use Rattle.q_session.specs.declared.job.Job.{Job}
 use Rattle.q_session.specs.declared.ran.Ran.{Ran}
 use Rattle.q_book.specs.State.{BookState}
 use Rattle.q_book.specs.Books as book
+use Rattle.q_book.proofs.Parts.{delivered-parts}
 use Rattle.q_book.specs.declared.answer.Taken.{Taken}
 use Rattle.q_book.specs.declared.fault.BookFault.{BookFault}
-use Rattle.q_book.specs.declared.fault.BookFault.TheVariants as book_fault
 use Rattle.q_history.specs.declared.event.Stepped.{Stepped}
 use Rattle.q_history.specs.declared.event.Told.{Told}
 use Rattle.q_history.specs.declared.fault.ClusterFault.{ClusterFault}
@@ -217,19 +211,17 @@ module _ (books : BookMap) (past : Past) (jobs : List Job) (filed : AreFiled boo
       ∙ (λ i. booked (cluster_of books past jobs) id (sym (get-each node_of books id) i) (sym (get-each desk_of books id) i))
 
 -- what a book told of a message is what its node did
-told_by : (b : BookState) (m : Message) (a : Taken) (b' : BookState) (gone : Bool) (r : Result (Unit {0} × DeskState) DeskFault) (q : Result (Delivered × NodeState) NodeFault) → node.delivered b.node m ≡ q
-    → cond gone (Err (book_fault.Node node_fault.Gone)) (book.by_desk (λ u d. book.by_node (book.delivers b d) q) r) ≡ Ok (a, b') → (t : Delivered) × (n : NodeState) × (node.delivered b.node m ≡ Ok (t, n)) × (t.progress ≡ a.progress)
-told_by b m a b' true r q is h = absurd (no_refusal _ (a, b') h)
-told_by b m a b' false (Err e) q is h = absurd (no_refusal _ (a, b') h)
-told_by b m a b' false (Ok x) (Err e) is h = absurd (no_refusal _ (a, b') h)
-told_by b m a b' false (Ok x) (Ok y) is h = (y.0, y.1, is, ap (λ (p : Taken × BookState). p.0.progress) (same_answer (book.delivers b x.1 y.0 y.1) (a, b') h))
+told_by : (b : BookState) (m : Message) (a : Taken) (b' : BookState) → book.delivered b m ≡ Ok (a, b') → (t : Delivered) × (n : NodeState) × (node.delivered b.node m ≡ Ok (t, n)) × (t.progress ≡ a.progress)
+told_by b m a b' h =
+    let p = delivered-parts b m (a, b') h in
+    (p.0.0, p.0.1, p.1, ap (λ (x : Taken × BookState). x.0.progress) p.2)
 
 -- so what was made ready for it is right
 pub counted_right : {books : BookMap} {past : Past} {jobs : List Job} {x : ClusterState} {id : ℕ} (s : Stands books past jobs x id) (m : Message) (a : Taken) (b' : BookState) → book.delivered s.book m ≡ Ok (a, b')
     → (counting : Option Counting) (reserved : Past) → reserved ≡ past → IsReady reserved.ops id (answered id m.from m.body) counting → IsRight reserved.ops id (length reserved.events) a.progress counting
 counted_right {books} {past} {jobs} {x} {id} s m a b' h counting reserved kept ready =
     let c : ClusterState = cluster_of books past jobs in
-    let t = told_by s.book m a b' s.book.node.gone (desk.noted s.book.desk (entry.Deliver m)) (node.delivered s.book.node m) refl h in
+    let t = told_by s.book m a b' h in
     subst (λ (p : Past). IsRight p.ops id (length p.events) a.progress counting) (sym kept)
     (subst (λ (p : Option Progress). IsRight past.ops id (length past.events) p counting) t.3
     (delivery_right c.world (history_kept c s.old.history).world.history id s.book.node t.1 m t.0 counting (at_live c.world id s.book.node s.live) t.2

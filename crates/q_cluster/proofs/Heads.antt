@@ -1,8 +1,10 @@
 -- No call of a book changes its head.
-use Rattle.std.proofs.Common.{◌≡◌, ℕ, Bool, true, false, cond, List, refl, sym, ap, ◌∙◌, Result, Ok, Err}
+use Rattle.std.proofs.Common.{◌≡◌, ◌==◌, ℕ, Bool, true, false, cond, List, length, refl, sym, ap, ◌∙◌, Result, Ok, Err}
 use Rattle.std.specs.Prelude.{nat_le}
 use Rattle.std.specs.FinMap as fin
+use Rattle.sc_view.specs.Values.{value_length}
 use Rattle.sc_msg.specs.declared.message.Message.{Message}
+use Rattle.sc_msg.specs.Lengths as message
 use Rattle.sc_node.specs.State.{NodeState}
 use Rattle.sc_node.specs.Nodes as node
 use Rattle.sc_node.specs.declared.fault.NodeFault.{NodeFault}
@@ -68,13 +70,13 @@ module _ (b : BookState) where
 
   pub stored_keeps : (value : List ℕ) → Keeps b (book.stored b value)
   stored_keeps value =
-      unless b b.node.gone _ _ (where_ b b.node.joined _ _ (unless b (nat_le node.most_open (fin.len b.node.sessions)) _ _
-      (by_desk b (book.stores_node b value) (desk.noted b.desk (entry.Store value)) (λ u d. by_node b (book.stores b d) (node.store_begun b.node value) (λ x n. (refl, refl, refl))))))
+      unless b b.node.gone _ _ (where_ b b.node.joined _ _ (where_ b (length value == value_length) _ _ (unless b (nat_le node.most_open (fin.len b.node.sessions)) _ _
+      (by_desk b (book.stores_node b value) (desk.noted b.desk (entry.Store value)) (λ u d. by_node b (book.stores b d) (node.store_begun b.node value) (λ x n. (refl, refl, refl)))))))
 
   pub delivered_keeps : (m : Message) → Keeps b (book.delivered b m)
   delivered_keeps m =
-      unless b b.node.gone _ _
-      (by_desk b (book.delivers_node b m) (desk.noted b.desk (entry.Deliver m)) (λ u d. by_node b (book.delivers b d) (node.delivered b.node m) (λ x n. (refl, refl, refl))))
+      unless b b.node.gone _ _ (where_ b (message.has_values_of value_length m) _ _
+      (by_desk b (book.delivers_node b m) (desk.noted b.desk (entry.Deliver m)) (λ u d. by_node b (book.delivers b d) (node.delivered b.node m) (λ x n. (refl, refl, refl)))))
 
   pub left_keeps : Keeps b (book.left b)
   left_keeps =

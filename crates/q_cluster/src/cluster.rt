@@ -1,7 +1,9 @@
 //! A cluster: what each event makes of it, and what its answers are.
 
-ghost use Rattle.std.specs.Prelude.{◌≡◌, ◌≢◌, ◌<◌, ℕ, List, Ok, Err, IfOk, IfErr, is_some, option_copied, slice_get, length, vec_len, vec_capacity};
+ghost use Rattle.std.specs.Prelude.{◌≡◌, ◌≢◌, ◌<◌, ℕ, List, Ok, Err, IfOk, IfErr, IfSome, is_some, option_copied, slice_get, length, vec_len, vec_capacity};
 ghost use Rattle.std.specs.FinMap as fin;
+ghost use Rattle.sc_view.specs.Values.{value_length};
+ghost use Rattle.sc_msg.specs.Lengths.{MessageHasValuesOf};
 ghost use Rattle.sc_world.specs.Records.{AreRecords};
 ghost use Rattle.sc_world.specs.Regular.{IsRegular};
 ghost use Rattle.sc_world.specs.Worlds as world;
@@ -20,7 +22,9 @@ use q_book::answer::{Asked, Taken};
 use q_book::book::Book;
 use q_history::event::{Answer, Event, Handed, Stepped, Told};
 use q_history::fault::ClusterFault;
-use q_history::laws::{answers_stay, every_answer_is_true, every_book_is_a_replay};
+use q_history::laws::{
+    answers_stay, every_answer_is_true, every_book_is_a_replay, every_message_fits,
+};
 use q_session::done::Done;
 use q_session::job::Job;
 use q_table::program::{Program, ProgramId};
@@ -79,8 +83,8 @@ impl Cluster {
         })
     }
 
-    /// Takes an event, or refuses it with the first of 83, 81, 82, 42, 41, 51, 52, 56, 55, 43, 53, 48, 46 and 47, with
-    /// 44, or with 99; then the cluster is as it was. Whether accepted or refused, each recorded answer is true, and each
+    /// Takes an event, or refuses it with the first of 83, 81, 82, 42, 41, 51, 50, 52, 56, 55, 43, 53, 48, 46 and 47,
+    /// with 44, or with 99; then the cluster is as it was. Whether accepted or refused, each recorded answer is true, and each
     /// node with its desk is the replay of its own journal.
     pub fn step(&mut self, event: &Event) -> Result<Stepped, ClusterFault>
         ensures takes { Takes self.old event.now self.new result }
@@ -200,10 +204,12 @@ impl Cluster {
         self.ledger.sent().len()
     }
 
-    /// The message of that number, which counts from 0.
+    /// The message of that number, which counts from 0. Its values have 48 bytes.
     pub fn message(&self, number: usize) -> Option<&Message>
-        ensures { option_copied result ≡ slice_get self.now.world.sent number }
+        ensures message { option_copied result ≡ slice_get self.now.world.sent number }
+        ensures values { IfSome result (λ m. MessageHasValuesOf value_length m.now) }
     {
+        every_message_fits();
         self.ledger.sent().get(number)
     }
 

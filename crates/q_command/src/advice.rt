@@ -55,10 +55,11 @@ fn write_form(
 fn of_record(fault: RecordFault) -> &'static str {
     match fault {
         RecordFault::Syntax =>
-            "A line is ID SEQ VALUE, three numbers below 2^64 with one space between: 1 1 5.",
+            "A line is ID SEQ VALUE, three numbers below 2^64 with one space between: 1 1 5.\nVALUE may also be x and two hexadecimal digits for each of its bytes: 1 1 x05ff.",
         RecordFault::Unsorted => "Its id is not above the one before. Ids rise from line to line.",
         RecordFault::BadField => "Its second number is 0. A node's stores are numbered from 1.",
-        RecordFault::BadValue => "Its record has 64 bytes, which --least and --most leave out.",
+        RecordFault::BadValue =>
+            "A record has 16 bytes and those of its value, 48 where that is a number. This one\nhas fewer than --least, 16 if not given, or more than --most, 128 if not given.",
         RecordFault::Full => "A list has 256 records at most.",
     }
 }

@@ -1,12 +1,7 @@
 //! Commands, run over files and a writer.
 
-ghost use Rattle.std.specs.Prelude.{◌≡◌, ◌≢◌, ◌⊎◌, ℕ, List, false, Ok, Err, IfOk, IfErr, string_bytes};
-ghost use Rattle.std.specs.FinMap as fin;
-ghost use Rattle.bq_meaning.specs.Answers.{IsAnswer};
-ghost use Rattle.bq_meaning.specs.Place.{record_length};
-ghost use Rattle.bq_range.specs.Interval.{IsIn};
+ghost use Rattle.std.specs.Prelude.{◌≡◌, ◌≢◌, ℕ, List, false, Ok, Err, IfOk, IfErr, string_bytes};
 ghost use Rattle.bq_sound.specs.Passes.{Passes};
-ghost use Rattle.q_session.specs.Records.{view_records};
 ghost use Rattle.q_command.specs.Audit.{Audits, IsUnaudited};
 ghost use Rattle.q_command.specs.Perform.{Accepts, Answers, AnswersFile, AnswersRun, AnswersScript, Computes, Ends, IsProgram, IsSimulated, IsUnaccepted, IsUnassembled, IsUnlisted, IsUnread, IsUnsimulated, Lists, Refuses, RefusesFile, RefusesRun, RefusesScript, failures_after, status_of};
 
@@ -21,14 +16,12 @@ use q_files::files::Files;
 use q_refused::line::put_refusal;
 use q_script::records::read_records;
 use q_script::script::Script;
-use q_session::ran::Ran;
 use q_session::run::run_fold;
 use q_sim::refusal::Refusal;
 use q_sim::simulation::{Printed, simulate};
 use q_wire::counted::Counted;
 use q_words::words::FileCommand;
-use sc_view::view::View;
-use std::alloc::{AllocError, Global};
+use std::alloc::Global;
 use std::io::Write;
 
 /// How a command ended.
@@ -76,21 +69,6 @@ fn accepted(alloc: Global, source: &[u8], lengths: Bounds) -> Result<String, Ref
     Ok(format!(in alloc; "accepted longest {longest}\n")?)
 }
 
-/// What a program answers over a view, whose records, where there are any, have a length that the program was checked for.
-fn folded(alloc: Global, certified: &Certified, start: u64, view: &View) -> Result<Ran, AllocError>
-    requires { (fin.len view.now ≡ 0) ⊎ IsIn record_length certified.now.lengths }
-    ensures { IfOk result (λ ran. IsAnswer certified.now.text (view_records view.now) start ran.acc ran.steps) }
-{
-    if view.len() == 0 {
-        return Ok(Ran {
-            acc: start,
-            steps: 0,
-        });
-    }
-    let mut block = Block::new(alloc)?;
-    Ok(run_fold(certified, view, start, &mut block))
-}
-
 /// What `run` prints of a program over the records that a text lists.
 fn computed(
     alloc: Global,
@@ -103,7 +81,8 @@ fn computed(
 {
     let listed = utf8(listed)?;
     let view = read_records(alloc, listed, certified.lengths())?;
-    let ran = folded(alloc, certified, start, &view)?;
+    let mut block = Block::new(alloc)?;
+    let ran = run_fold(certified, &view, start, &mut block);
     let acc = ran.acc;
     let steps = ran.steps;
     Ok(format!(in alloc; "acc {acc} steps {steps}\n")?)

@@ -3,9 +3,12 @@ use Rattle.std.proofs.Common.{◌≡◌, ◌+◌, ℕ, true, List, length, get_o
 use Rattle.std.proofs.lemmas.Bool.{false≢true}
 use Rattle.std.proofs.lemmas.List.Quantifiers.{position-Some}
 use Rattle.std.proofs.lemmas.Option.{get_or_from_slice_get}
-use Rattle.std.specs.Prelude.{slice_get, position, nat_lt, option_map, ◌==◌}
+use Rattle.std.specs.Prelude.{slice_get, position, nat_lt, option_map, ◌==◌, IfSome}
 use Rattle.std.specs.Cmp.{first_so, second_so, unsigned_Decides}
-use Rattle.sc_view.specs.Views.{ViewMap}
+use Rattle.sc_view.specs.Values.{value_length}
+use Rattle.sc_view.specs.Views.{ViewMap, HasValuesOf}
+use Rattle.bq_meaning.specs.Place.{record_length}
+use Rattle.bq_range.specs.Interval.{Interval, IsIn}
 use Rattle.bq_check.specs.Certificate.{Certificate}
 use Rattle.q_session.specs.Right.{IsRight}
 use Rattle.q_session.specs.declared.ran.Ran.{Ran}
@@ -17,11 +20,20 @@ use Rattle.q_desk.specs.State.{DeskState}
 use Rattle.q_desk.specs.declared.journal.Entry.{Entry}
 use Rattle.q_desk.specs.declared.journal.Entry.TheVariants as entry
 use Rattle.q_desk.specs.Desks.{most_events, how_many_run, with_phase, is_ready, is_same_view, is_job_of, job_of, job_at, job_from, next_job, handed_out, posted}
-use Rattle.q_session.specs.Jobs.{view_in, job_over}
+use Rattle.q_session.specs.Jobs.{view_in, job_over, MayRun}
+use Rattle.q_session.specs.Records.{HasRecordsWithin}
 use Rattle.q_desk.specs.Answers.{IsDesk, IsAnswered}
 use Rattle.q_desk.proofs.Running.{run-handed}
 use Rattle.q_desk.proofs.Views.{same-view, right-of_same}
-use Rattle.q_desk.proofs.Keeps.{IsAppended, desk-appended, desk-ended, desk-running, desk-with_phase}
+use Rattle.q_desk.proofs.Keeps.{IsAppended, PhaseFits, desk-appended, desk-ended, desk-running, desk-with_phase}
+
+-- a program for records of 64 bytes may run over a view with values of 48
+pub may_run : (q : Query) (c : Certificate) → ((n : ℕ) (lengths : Interval) (v : ViewMap) → HasValuesOf n v → IsIn (16 + n) lengths → HasRecordsWithin lengths v) → IfSome (view_in q.phase) (HasValuesOf value_length) → IsIn record_length c.lengths → MayRun q c
+may_run q c law fits lengths = over (view_in q.phase) fits
+  where
+    over : (o : Option ViewMap) → IfSome o (HasValuesOf value_length) → IfSome o (HasRecordsWithin c.lengths)
+    over None f = tt
+    over (Some v) f = law value_length c.lengths v f lengths
 
 -- a ready query has its job
 job-ready : (node k : ℕ) (q : Query) (p : Phase) (c : Certificate) → is_ready p ≡ true → option_map (job_over node k q c) (view_in p) ≡ job_of node k q p (Some c)
@@ -83,12 +95,16 @@ found s node j e = found-from s node (position (λ q. is_ready q.phase) s.querie
 abbrev pub Moves : List Query → List Query → ℕ → Phase → Phase → Type 0
 Moves queries after k from to = (q : Query) → slice_get queries k ≡ Some q → q.phase ≡ from → after ≡ with_phase queries k to
 
+-- its view has values of the length that journals hold
+ready-fits : (s : DeskState) (j : Job) → IsFound s j → IsDesk s → HasValuesOf value_length j.view
+ready-fits s j f d = subst (λ (p : Phase). PhaseFits p) f.ready (d.fit j.query f.query f.there)
+
 pub desk-handed : (s : DeskState) (node : ℕ) (j : Job) (queries : List Query) (journal : List Entry) → IsDesk s → Some j ≡ next_job s node → IsAppended s entry.HandOut journal → ((view : ViewMap) → Moves s.queries queries j.query (Ready view) (Running view)) → IsDesk (record s { queries = queries; journal = journal; ended = None })
 desk-handed s node j queries journal d next a moves =
     let f = found s node j next in
     subst (λ (x : List Query). IsDesk (record s { queries = x; journal = journal; ended = None })) (sym (moves j.view f.query f.there f.ready))
     (desk-ended (record s { queries = with_phase s.queries j.query (Running j.view); journal = journal }) None
-    (desk-appended (record s { queries = with_phase s.queries j.query (Running j.view) }) entry.HandOut journal (record { room = a.room; is = a.is }) (desk-running s j.query j.view d)))
+    (desk-appended (record s { queries = with_phase s.queries j.query (Running j.view) }) entry.HandOut journal (record { room = a.room; is = a.is }) (desk-running s j.query j.view d (ready-fits s j f d))))
 
 pub handed : (s : DeskState) (node : ℕ) (j : Job) (queries : List Query) (journal : List Entry) → Some j ≡ next_job s node → IsAppended s entry.HandOut journal → ((view : ViewMap) → Moves s.queries queries j.query (Ready view) (Running view)) → handed_out s node ≡ Ok (Some j, record s { queries = queries; journal = journal; ended = None })
 handed s node j queries journal next a moves =
@@ -104,7 +120,7 @@ jobs-handed s node j queries next moves =
 
 pub desk-posted : (s : DeskState) (j : Job) (ran : Ran) (q : Query) (view : ViewMap) (queries : List Query) (journal : List Entry) → IsDesk s → slice_get s.queries j.query ≡ Some q → IsAnswered s q view ran → IsAppended s (entry.Post j.query ran) journal → queries ≡ with_phase s.queries j.query (Answered view ran) → IsDesk (record s { queries = queries; journal = journal; ended = None })
 desk-posted s j ran q view queries journal d there right a after =
-    let kept = desk-with_phase s j.query (Answered view ran) d (λ p here v r e.
+    let kept = desk-with_phase s j.query (Answered view ran) d tt (λ p here v r e.
     let same : q ≡ p = cc in
     let program = right.program in
     let named : slice_get s.programs p.program ≡ Some program = ap (λ (x : Query). slice_get s.programs x.program) (sym same) ∙ right.named in

@@ -1,8 +1,9 @@
 -- What keeps a desk a desk.
 use Rattle.std.proofs.Common.{◌≡◌, ◌⊎◌, ◌<◌, ◌≤◌, ℕ, Bool, true, false, List, [], ◌∷◌, ◌++◌, length, take, Option, Some, None, Result, Ok, Err, refl, sym, ap, subst, ◌∙◌, inl, inr, ⊎_elim, arith, length-append, if◌then◌else◌}
 use Rattle.std.proofs.lemmas.List.{length-set, length-take, length_push}
-use Rattle.std.specs.Prelude.{slice_get, slice_set, nat_lt}
-use Rattle.sc_view.specs.Views.{ViewMap}
+use Rattle.std.specs.Prelude.{slice_get, slice_set, nat_lt, IfSome}
+use Rattle.sc_view.specs.Values.{value_length}
+use Rattle.sc_view.specs.Views.{ViewMap, HasValuesOf}
 use Rattle.bq_check.specs.Certificate.{Certificate}
 use Rattle.q_table.specs.declared.fault.TableFault.{TableFault}
 use Rattle.q_table.specs.declared.fault.TableFault.TheVariants as table
@@ -11,6 +12,7 @@ use Rattle.q_session.specs.declared.ran.Ran.{Ran}
 use Rattle.q_session.specs.declared.query.Phase.{Phase}
 use Rattle.q_session.specs.declared.query.Phase.TheVariants.{Collecting, Ready, Running, Answered}
 use Rattle.q_session.specs.declared.query.Query.{Query}
+use Rattle.q_session.specs.Jobs.{view_in}
 use Rattle.q_desk.specs.State.{DeskState}
 use Rattle.q_desk.specs.Desks.{most_queries, most_events, in_phase, with_phase}
 use Rattle.q_desk.specs.declared.completed.Completed.{Completed}
@@ -29,6 +31,7 @@ desk-journal s journal d few = record {
   few = d.few;
   brief = few;
   known = d.known;
+  fit = d.fit;
   right = λ k q view ran e f. kept s (record s { journal = journal }) q view ran (λ c h. h) (d.right k q view ran e f);
 }
 
@@ -39,6 +42,7 @@ desk-ended s e d = record {
   few = d.few;
   brief = d.brief;
   known = d.known;
+  fit = d.fit;
   right = λ k q view ran h f. kept s (record s { ended = e }) q view ran (λ c h. h) (d.right k q view ran h f);
 }
 
@@ -54,6 +58,10 @@ desk-appended s e journal a d = desk-journal s journal d (omega (arith, a.room, 
 pub desk-cut : (s : DeskState) (m : ℕ) → IsDesk s → IsDesk (record s { journal = take m s.journal })
 desk-cut s m d = desk-journal s (take m s.journal) d (omega (arith, length-take m s.journal, d.brief))
 
+-- the view over which a query in this phase is to run has values of the length that journals hold
+abbrev pub PhaseFits : Phase → Type 0
+PhaseFits p = IfSome (view_in p) (HasValuesOf value_length)
+
 -- a query begins
 pub desk-begun : (s : DeskState) (q : Query) → IsDesk s → length s.queries < most_queries → q.program < length s.programs → q.phase ≡ Collecting → IsDesk (record s { queries = s.queries ++ q ∷ [] })
 desk-begun s q d few known phase = record {
@@ -61,6 +69,7 @@ desk-begun s q d few known phase = record {
   few = omega (arith, length-append s.queries (q ∷ []));
   brief = d.brief;
   known = λ k p e. ⊎_elim (λ a. d.known k p a) (λ b. subst (λ (x : Query). x.program < length s.programs) b.1 known) (get-snoc s.queries q k p e);
+  fit = λ k p e. ⊎_elim (λ a. d.fit k p a) (λ b. subst (λ (x : Phase). PhaseFits x) (sym phase ∙ ap (λ (x : Query). x.phase) b.1) tt) (get-snoc s.queries q k p e);
   right = λ k p view ran e f. ⊎_elim (λ a. kept s (record s { queries = s.queries ++ q ∷ [] }) p view ran (λ c h. h) (d.right k p view ran a f)) (λ b. let other : Collecting ≡ Answered view ran = sym phase ∙ ap (λ (x : Query). x.phase) b.1 ∙ f in absurd (cc)) (get-snoc s.queries q k p e);
 }
 
@@ -71,6 +80,7 @@ desk-taken s m d = record {
   few = omega (arith, length-take m s.queries, d.few);
   brief = d.brief;
   known = λ k p e. d.known k p (get-taken s.queries m k p e);
+  fit = λ k p e. d.fit k p (get-taken s.queries m k p e);
   right = λ k p view ran e f. kept s (record s { queries = take m s.queries }) p view ran (λ c h. h) (d.right k p view ran (get-taken s.queries m k p e) f);
 }
 
@@ -78,8 +88,8 @@ desk-taken s m d = record {
 abbrev pub PhaseIsRight : DeskState → Query → Phase → Type 0
 PhaseIsRight s q p = (view : ViewMap) (ran : Ran) → p ≡ Answered view ran → IsAnswered s q view ran
 
-desk-written : (s : DeskState) (i : ℕ) (q : Query) (p : Phase) → IsDesk s → slice_get s.queries i ≡ Some q → PhaseIsRight s q p → IsDesk (record s { queries = slice_set s.queries i (record q { phase = p }) })
-desk-written s i q p d there right =
+desk-written : (s : DeskState) (i : ℕ) (q : Query) (p : Phase) → IsDesk s → slice_get s.queries i ≡ Some q → PhaseFits p → PhaseIsRight s q p → IsDesk (record s { queries = slice_set s.queries i (record q { phase = p }) })
+desk-written s i q p d there fits right =
     let new : Query = record q { phase = p } in
     let t : DeskState = record s { queries = slice_set s.queries i new } in
     record {
@@ -87,22 +97,23 @@ desk-written s i q p d there right =
       few = rw length-set d.few;
       brief = d.brief;
       known = λ k x e. ⊎_elim (λ a. d.known k x a.1) (λ b. subst (λ (y : Query). y.program < length s.programs) b.1 (d.known i q there)) (get-written s.queries i new k x e);
+      fit = λ k x e. ⊎_elim (λ a. d.fit k x a.1) (λ b. subst (λ (y : Query). PhaseFits y.phase) b.1 fits) (get-written s.queries i new k x e);
       right = λ k x view ran e f. ⊎_elim (λ a. kept s t x view ran (λ c h. h) (d.right k x view ran a.1 f)) (λ b. subst (λ (y : Query). IsAnswered t y view ran) b.1 (let a = right view ran (ap (λ (y : Query). y.phase) b.1 ∙ f) in record { program = a.program; named = a.named; right = a.right })) (get-written s.queries i new k x e);
     }
 
-desk-in_phase : (s : DeskState) (i : ℕ) (p : Phase) (o : Option Query) → slice_get s.queries i ≡ o → IsDesk s → ((q : Query) → slice_get s.queries i ≡ Some q → PhaseIsRight s q p) → IsDesk (record s { queries = in_phase s.queries i p o })
-desk-in_phase s i p None there d right = d
-desk-in_phase s i p (Some q) there d right = desk-written s i q p d there (right q there)
+desk-in_phase : (s : DeskState) (i : ℕ) (p : Phase) (o : Option Query) → slice_get s.queries i ≡ o → IsDesk s → PhaseFits p → ((q : Query) → slice_get s.queries i ≡ Some q → PhaseIsRight s q p) → IsDesk (record s { queries = in_phase s.queries i p o })
+desk-in_phase s i p None there d fits right = d
+desk-in_phase s i p (Some q) there d fits right = desk-written s i q p d there fits (right q there)
 
 -- a query comes into another phase
-pub desk-with_phase : (s : DeskState) (i : ℕ) (p : Phase) → IsDesk s → ((q : Query) → slice_get s.queries i ≡ Some q → PhaseIsRight s q p) → IsDesk (record s { queries = with_phase s.queries i p })
-desk-with_phase s i p d right = desk-in_phase s i p (slice_get s.queries i) refl d right
+pub desk-with_phase : (s : DeskState) (i : ℕ) (p : Phase) → IsDesk s → PhaseFits p → ((q : Query) → slice_get s.queries i ≡ Some q → PhaseIsRight s q p) → IsDesk (record s { queries = with_phase s.queries i p })
+desk-with_phase s i p d fits right = desk-in_phase s i p (slice_get s.queries i) refl d fits right
 
-pub desk-ready : (s : DeskState) (i : ℕ) (view : ViewMap) → IsDesk s → IsDesk (record s { queries = with_phase s.queries i (Ready view) })
-desk-ready s i view d = desk-with_phase s i (Ready view) d (λ q there v r e. absurd (cc))
+pub desk-ready : (s : DeskState) (i : ℕ) (view : ViewMap) → IsDesk s → HasValuesOf value_length view → IsDesk (record s { queries = with_phase s.queries i (Ready view) })
+desk-ready s i view d fits = desk-with_phase s i (Ready view) d fits (λ q there v r e. absurd (cc))
 
-pub desk-running : (s : DeskState) (i : ℕ) (view : ViewMap) → IsDesk s → IsDesk (record s { queries = with_phase s.queries i (Running view) })
-desk-running s i view d = desk-with_phase s i (Running view) d (λ q there v r e. absurd (cc))
+pub desk-running : (s : DeskState) (i : ℕ) (view : ViewMap) → IsDesk s → HasValuesOf value_length view → IsDesk (record s { queries = with_phase s.queries i (Running view) })
+desk-running s i view d fits = desk-with_phase s i (Running view) d fits (λ q there v r e. absurd (cc))
 
 -- ---- programs
 
@@ -128,6 +139,7 @@ desk-grown s c d is_table =
       table = is_table;
       few = d.few;
       brief = d.brief;
+      fit = d.fit;
       known = λ k q e. omega (arith, d.known k q e, length-append s.programs (c ∷ []));
       right = λ k q view ran e f. kept s t q view ran (λ p h. get-front s.programs (c ∷ []) q.program p h) (d.right k q view ran e f);
     }

@@ -1,8 +1,10 @@
 -- What each desk keeps.
-use Rattle.std.specs.Prelude.{◌≡◌, ℕ, ◌+◌, ◌≤◌, ◌<◌, List, length, slice_get, Some}
-use Rattle.sc_view.specs.Views.{ViewMap}
+use Rattle.std.specs.Prelude.{◌≡◌, ℕ, ◌+◌, ◌≤◌, ◌<◌, List, length, slice_get, Some, IfSome}
+use Rattle.sc_view.specs.Values.{value_length}
+use Rattle.sc_view.specs.Views.{ViewMap, HasValuesOf}
 use Rattle.bq_check.specs.Certificate.{Certificate}
 use Rattle.q_table.specs.Programs.{IsTable}
+use Rattle.q_session.specs.Jobs.{view_in}
 use Rattle.q_session.specs.Right.{IsRight}
 use Rattle.q_desk.specs.State.{DeskState}
 use Rattle.q_desk.specs.Desks.{most_queries, most_events, how_many_run}
@@ -24,11 +26,16 @@ AnswersAreRight s = (k : ℕ) (q : Query) (view : ViewMap) (ran : Ran) → slice
 abbrev pub ProgramsAreKnown : DeskState → Type 0
 ProgramsAreKnown s = (k : ℕ) (q : Query) → slice_get s.queries k ≡ Some q → q.program < length s.programs
 
+-- each view over which a query is to run has values of the length that journals hold
+abbrev pub ViewsFit : List Query → Type 0
+ViewsFit queries = (k : ℕ) (q : Query) → slice_get queries k ≡ Some q → IfSome (view_in q.phase) (HasValuesOf value_length)
+
 pub record IsDesk (s : DeskState) : Type 0 where
   pub table : IsTable s.programs
   pub few : length s.queries ≤ most_queries
   pub brief : length s.journal ≤ most_events
   pub known : ProgramsAreKnown s
+  pub fit : ViewsFit s.queries
   pub right : AnswersAreRight s
 
 -- so many queries run, and there is room for the answer of each behind so many entries

@@ -1,13 +1,15 @@
 //! A desk: the programs and queries of one node.
 
-ghost use Rattle.std.specs.Prelude.{◌≡◌, ℕ, Ok, Some, IfOk, slice_get, position, option_map, IsTrue};
-ghost use Rattle.sc_view.specs.Views.{ViewMap};
+ghost use Rattle.std.specs.Prelude.{◌≡◌, ℕ, Ok, Some, IfOk, IfSome, slice_get, position, option_map, IsTrue};
+ghost use Rattle.sc_view.specs.Values.{value_length};
+ghost use Rattle.sc_view.specs.Views.{ViewMap, HasValuesOf};
+ghost use Rattle.sc_lengths.specs.Lengths.{EndedHasValuesOf};
 ghost use Rattle.forms.specs.Calls.{Steps, Does};
 ghost use Rattle.q_session.specs.declared.query.Query.{Query as QueryValue};
 ghost use Rattle.q_desk.specs.State.{DeskState, new_desk};
 ghost use Rattle.q_desk.specs.Desks as desk;
 ghost use Rattle.q_desk.specs.declared.journal.Entry.{Entry as EntryValue};
-ghost use Rattle.q_desk.specs.Answers.{IsDesk, AnswersAreRight, ProgramsAreKnown};
+ghost use Rattle.q_desk.specs.Answers.{IsDesk, AnswersAreRight, ProgramsAreKnown, ViewsFit};
 
 use crate::completed::Completed;
 use crate::fault::DeskFault;
@@ -15,6 +17,7 @@ use crate::journal::Entry;
 use crate::same::is_job_of;
 use q_session::done::Done;
 use q_session::job::Job;
+use q_session::laws::records_of_values;
 use q_session::query::{Phase, Query};
 use q_session::ran::Ran;
 use q_table::program::{Program, ProgramId};
@@ -189,9 +192,10 @@ impl Desk {
         self.journal.truncate(self.journal.len().saturating_sub(1));
     }
 
-    /// The collect with this tag returned a view: the query that waits for it is ready. Its number is answered. Takes
-    /// no memory.
+    /// The collect with this tag returned a view, with values of the length that journals hold: the query that waits for
+    /// it is ready. Its number is answered. Takes no memory.
     pub fn returned(&mut self, tag: u64, view: View) -> Option<usize>
+        requires { HasValuesOf value_length view }
         ensures { (result, self.new) ≡ desk.returned self.old tag view }
     {
         let number = waiting(&self.queries, tag)?;
@@ -199,9 +203,11 @@ impl Desk {
         Some(number)
     }
 
-    /// The node accepted a call at which this operation ended, or none: the view of a collect goes to the query that
-    /// waits for it. What ended is answered, and kept until the next accepted call. Takes no memory.
+    /// The node accepted a call at which this operation ended, or none: the view of a collect, with values of the length
+    /// that journals hold, goes to the query that waits for it. What ended is answered, and kept until the next accepted
+    /// call. Takes no memory.
     pub fn end(&mut self, ended: Option<Ended>) -> Option<Completed>
+        requires { IfSome ended (EndedHasValuesOf value_length) }
         ensures told { result ≡ desk.completed_by ended (desk.ends ended self.old).0 }
         ensures new { self.new ≡ (desk.ends ended self.old).1 }
     {
@@ -212,6 +218,7 @@ impl Desk {
 
     // The view of a collect that ended goes to the query that waits for it. What ended is answered.
     fn give(&mut self, ended: Option<Ended>) -> Option<Completed>
+        requires { IfSome ended (EndedHasValuesOf value_length) }
         ensures told { result ≡ desk.completed_by ended (desk.gives ended self.old).0 }
         ensures new { self.new ≡ (desk.gives ended self.old).1 }
     {
@@ -249,6 +256,7 @@ impl Desk {
     pub fn running_job(&self, node: u64, query: usize) -> Result<Option<Job>, AllocError>
         ensures { IfOk result (λ job. job ≡ desk.running_job self.now node query) }
     {
+        records_of_values();
         let Some(asked) = self.queries.get(query) else {
             return Ok(None);
         };
@@ -258,6 +266,7 @@ impl Desk {
         let Some(program) = self.programs.get(asked.program) else {
             return Ok(None);
         };
+        let _length = program.certified();
         Job::of(*self.queries.allocator(), node, query, asked, program)
     }
 
@@ -305,10 +314,12 @@ impl Desk {
         }
     }
 
-    /// The queries, by their numbers. Each names a program of the desk, and each recorded answer is right.
+    /// The queries, by their numbers. Each names a program of the desk, each recorded answer is right, and each view over
+    /// which a query is to run has values of the length that journals hold.
     pub fn queries(&self) -> &[Query]
         ensures queries { result.now ≡ self.now.queries }
         ensures known { ProgramsAreKnown self.now }
+        ensures fit { ViewsFit self.now.queries }
         ensures right { AnswersAreRight self.now }
     {
         self.queries.as_slice()
@@ -378,8 +389,10 @@ fn next_job(
     queries: &[Query],
     node: u64,
 ) -> Result<Option<Job>, AllocError>
+    requires { ViewsFit queries.now }
     ensures { (s : DeskState) → s.programs ≡ programs.now → s.queries ≡ queries.now → IfOk result (λ job. job ≡ desk.next_job s node) }
 {
+    records_of_values();
     let Some(number) = first_ready(queries) else {
         return Ok(None);
     };
@@ -389,6 +402,7 @@ fn next_job(
     let Some(program) = programs.get(query.program) else {
         return Ok(None);
     };
+    let _length = program.certified();
     Job::of(alloc, node, number, query, program)
 }
 

@@ -14,7 +14,7 @@ use Rattle.q_book.specs.declared.answer.Taken.{Taken}
 use Rattle.q_history.proofs.Lists.{no_some}
 use Rattle.q_history.proofs.Moves.{GoesOn, registered_moves, asked_moves, ends_stays}
 use Rattle.q_history.proofs.Jobs.{IsHanded, handed_out-ok, posted-ok}
-use Rattle.q_history.proofs.Called.{left-parts, stored-parts, asked-parts, delivered-parts, desk-parts}
+use Rattle.q_book.proofs.Parts.{left-parts, stored-parts, asked-parts, delivered-parts, desk-parts}
 use Rattle.q_merge.specs.Merging.{Step}
 use Rattle.q_merge.specs.Traces.{IsTraceFrom}
 

@@ -1,13 +1,21 @@
--- Each accepted event keeps that each node's book is the replay of its journal.
+-- Each accepted event keeps that each node's book is the replay of its journal, and that the values of all messages have
+-- the length that journals hold.
 use Rattle.std.proofs.Common.{◌≡◌, ℕ, Bool, true, false, cond, ◌==◌, List, [], ◌∷◌, ◌++◌, Option, Some, None, IfSome, refl, sym, ap, ◌∙◌, subst, slice_get, Result, Ok}
 use Rattle.std.proofs.lemmas.Bool.{eqb-true}
+use Rattle.std.specs.List.{All}
+use Rattle.std.proofs.lemmas.List.Elements.{All-append}
 use Rattle.std.specs.Ordering.{nat_cmp}
 use Rattle.std.specs.FinMap as fin
 use Rattle.std.specs.FinSet as set
+use Rattle.sc_view.specs.Values.{value_length}
 use Rattle.sc_msg.specs.declared.message.Message.{Message}
+use Rattle.sc_msg.specs.Lengths.{MessageHasValuesOf}
+use Rattle.sc_msg.proofs.Lengths.{message_told}
 use Rattle.sc_node.specs.State.{NodeState}
 use Rattle.sc_node.specs.Nodes as node
 use Rattle.sc_node.specs.declared.answer.Begun.{Begun}
+use Rattle.sc_lengths.specs.Lengths.{NodeHasValuesOf}
+use Rattle.sc_lengths.proofs.Kept.{entered_told, store_kept, collect_kept, leave_kept, delivery_kept}
 use Rattle.sc_world.specs.declared.event.Event.TheVariants as world_event
 use Rattle.sc_world.specs.State.{Past, past_of}
 use Rattle.sc_world.specs.Ledgers.{recorded}
@@ -36,14 +44,21 @@ use Rattle.q_history.specs.Books.{BooksAreReplays}
 use Rattle.q_history.proofs.Lists.{same_some, no_some}
 use Rattle.q_history.proofs.Ops.{insert_has}
 use Rattle.q_history.proofs.Accepted.{at_live}
-use Rattle.q_history.proofs.Called.{at-ok, call-ok, led, left-parts, stored-parts, asked-parts, delivered-parts, desk-parts}
+use Rattle.q_book.proofs.Parts.{left-parts, stored-parts, asked-parts, delivered-parts, desk-parts, stored-fits, delivered-fits}
+use Rattle.q_book.proofs.Values.{value_fits, replay_values}
+use Rattle.q_history.proofs.Called.{at-ok, call-ok, led}
 use Rattle.q_history.proofs.Moves.{registered_moves, asked_moves, ends_stays}
 use Rattle.q_history.proofs.Jobs.{IsHanded, handed_out-ok, posted-ok}
 use Rattle.q_history.proofs.Replays.{IsOn, replay_next}
 
--- each node's book is a replay, and each founder is there
+-- each value that these messages tell has the length that journals hold
+abbrev pub Fit : List Message → Type 0
+Fit messages = All (MessageHasValuesOf value_length) messages
+
+-- each node's book is a replay, each founder is there, and each value that was sent has the length that journals hold
 pub record AreBooks (c : ClusterState) : Type 0 where
   pub replays : BooksAreReplays c
+  pub messages : Fit c.world.sent
   pub founders : (id : ℕ) → set.contains (set.from_list {R = nat_cmp} c.world.founders) id ≡ true → (n : NodeState) × (fin.get c.world.nodes id ≡ Some n)
 
 module _ (c : ClusterState) (books : AreBooks c) where
@@ -60,17 +75,26 @@ module _ (c : ClusterState) (books : AreBooks c) where
   abbrev With : Past → List Job → ℕ → BookState → ClusterState
   With p jobs id b = put c (record p { config = c.world.config; founders = c.world.founders }) jobs id b
 
-  put_book : (p : Past) (jobs : List Job) (id : ℕ) (b : BookState) → IsReplay (book_of c id b.node b.desk) → AreBooks (With p jobs id b)
-  put_book p jobs id b new = record {
+  put_book : (p : Past) (jobs : List Job) (id : ℕ) (b : BookState) → Fit p.sent → IsReplay (book_of c id b.node b.desk) → AreBooks (With p jobs id b)
+  put_book p jobs id b fit new = record {
+    messages = fit;
     replays = λ q m x at here. book_by id b.node b.desk q m x (q == id) refl new (sym (get-insert c.world.nodes id b.node q) ∙ at) (sym (get-insert c.desks id b.desk q) ∙ here);
     founders = λ q known. let k = books.founders q known in insert_has c.world.nodes id b.node q k.0 (q == id) refl k.1;
   }
 
   -- a call that puts an entry into the journal
-  put_next : (p : Past) (jobs : List Job) (id : ℕ) (n : NodeState) (d : DeskState) (b : BookState) (e : Entry) → world.live_at c.world id ≡ Some n → fin.get c.desks id ≡ Some d
+  put_next : (p : Past) (jobs : List Job) (id : ℕ) (n : NodeState) (d : DeskState) (b : BookState) (e : Entry) → Fit p.sent → world.live_at c.world id ≡ Some n → fin.get c.desks id ≡ Some d
       → Follows (book_of c id n d) e b → IsOn (book_of c id n d) e b → AreBooks (With p jobs id b)
-  put_next p jobs id n d b e live at f on =
-      put_book p jobs id b (replay_next (book_of c id n d) b e (books.replays id n d (at_live c.world id n live) at) f on)
+  put_next p jobs id n d b e fit live at f on =
+      put_book p jobs id b fit (replay_next (book_of c id n d) b e (books.replays id n d (at_live c.world id n live) at) f on)
+
+  -- the values of a live node
+  values_of : (id : ℕ) (n : NodeState) (d : DeskState) → world.live_at c.world id ≡ Some n → fin.get c.desks id ≡ Some d → NodeHasValuesOf value_length n
+  values_of id n d live at = replay_values (book_of c id n d) (books.replays id n d (at_live c.world id n live) at)
+
+  -- what was sent, and what a node sends
+  sends : (outs : List Message) → Fit outs → Fit (c.world.sent ++ outs)
+  sends outs fit = All-append (MessageHasValuesOf value_length) c.world.sent outs books.messages fit
 
   -- ---- nodes that come and go
 
@@ -84,21 +108,23 @@ module _ (c : ClusterState) (books : AreBooks c) where
   enter_books id None y is h =
       let e = book.entered c.world.config id in
       subst AreBooks (ap (λ (z : Stepped × ClusterState). z.1) (same_answer _ y h))
-      (put_book (recorded (past_of c.world) (world_event.Enter id) id e.1 None None) c.jobs id e.0
+      (put_book (recorded (past_of c.world) (world_event.Enter id) id e.1 None None) c.jobs id e.0 (sends e.1 (entered_told value_length c.world.config id))
       (record { first = e.0.node; begun = first_by id (set.contains (set.from_list {R = nat_cmp} c.world.founders) id) refl is; replayed = refl }))
 
   pub crash_books : (id : ℕ) (o : Option NodeState) (y : Stepped × ClusterState) → crashed c id o ≡ Ok y → AreBooks y.1
   crash_books id None y h = absurd (no_refusal _ y h)
   crash_books id (Some n) y h =
-      subst (λ (z : Stepped × ClusterState). AreBooks z.1) (same_answer _ y h) (record { replays = books.replays; founders = books.founders })
+      subst (λ (z : Stepped × ClusterState). AreBooks z.1) (same_answer _ y h) (record { replays = books.replays; messages = books.messages; founders = books.founders })
 
   pub leave_books : (id : ℕ) (y : Stepped × ClusterState) → at_node c id (left c id) ≡ Ok y → AreBooks y.1
   leave_books id y h =
       let k = call-ok c id (leaves c id) book.left y h in
       let b = book_of c id k.node k.desk in
       let a = left-parts b k.answer k.called in
+      let kept = leave_kept value_length k.node a.0.1 a.0.0 (values_of id k.node k.desk k.live k.at) a.1 in
+      let fit = subst (λ (z : List Message × BookState). Fit z.0) a.2 kept.1 in
       subst AreBooks k.is
-      (put_next (recorded (past_of c.world) (world_event.Leave id) id k.answer.0 None None) c.jobs id k.node k.desk k.answer.1 entry.Leave k.live k.at (k.answer.0, k.called)
+      (put_next (recorded (past_of c.world) (world_event.Leave id) id k.answer.0 None None) c.jobs id k.node k.desk k.answer.1 entry.Leave (sends k.answer.0 fit) k.live k.at (k.answer.0, k.called)
       (subst (λ (z : List Message × BookState). IsOn b entry.Leave z.1) a.2 (record { same = refl; goes = refl })))
 
   -- ---- operations and messages
@@ -108,8 +134,10 @@ module _ (c : ClusterState) (books : AreBooks c) where
       let k = call-ok c id (stores c id value) (λ b. book.stored b value) y h in
       let b = book_of c id k.node k.desk in
       let a = stored-parts b value k.answer k.called in
+      let kept = store_kept value_length k.node a.0.1 value a.0.0 (values_of id k.node k.desk k.live k.at) (value_fits value (stored-fits b value k.answer k.called)) a.1 in
+      let fit = subst (λ (z : Begun × BookState). Fit z.0.outs) a.2 kept.1.outs in
       subst AreBooks k.is
-      (put_next (recorded (past_of c.world) (world_event.Store id value) id k.answer.0.outs None (opened k.answer.0)) c.jobs id k.node k.desk k.answer.1 (entry.Store value) k.live k.at (k.answer.0, k.called)
+      (put_next (recorded (past_of c.world) (world_event.Store id value) id k.answer.0.outs None (opened k.answer.0)) c.jobs id k.node k.desk k.answer.1 (entry.Store value) (sends k.answer.0.outs fit) k.live k.at (k.answer.0, k.called)
       (subst (λ (z : Begun × BookState). IsOn b (entry.Store value) z.1) a.2 (record { same = refl; goes = refl })))
 
   pub ask_books : (id program start : ℕ) (y : Stepped × ClusterState) → at_node c id (asked c id program start) ≡ Ok y → AreBooks y.1
@@ -118,8 +146,10 @@ module _ (c : ClusterState) (books : AreBooks c) where
       let b = book_of c id k.node k.desk in
       let a = asked-parts b program start k.answer k.called in
       let begun = k.answer.0.begun in
+      let kept = collect_kept value_length k.node a.2.1 a.2.0 (values_of id k.node k.desk k.live k.at) a.3 in
+      let fit = subst (λ (z : Asked × BookState). Fit z.0.begun.outs) a.4 kept.1.outs in
       subst AreBooks k.is
-      (put_next (recorded (past_of c.world) (world_event.Collect id) id begun.outs None (opened begun)) c.jobs id k.node k.desk k.answer.1 (entry.Ask program start) k.live k.at (k.answer.0, k.called)
+      (put_next (recorded (past_of c.world) (world_event.Collect id) id begun.outs None (opened begun)) c.jobs id k.node k.desk k.answer.1 (entry.Ask program start) (sends begun.outs fit) k.live k.at (k.answer.0, k.called)
       (subst (λ (z : Asked × BookState). IsOn b (entry.Ask program start) z.1) a.4 (record { same = refl; goes = (asked_moves k.desk k.node.operations program start a.0 a.1).1 })))
 
   deliver_by : (number id : ℕ) (o : Option Message) (y : Stepped × ClusterState) → at_node c id (λ b. delivered_as c number id b o) ≡ Ok y → AreBooks y.1
@@ -129,8 +159,10 @@ module _ (c : ClusterState) (books : AreBooks c) where
       let b = book_of c id k.node k.desk in
       let a = delivered-parts b m k.answer k.called in
       let t = k.answer.0 in
+      let kept = delivery_kept value_length k.node a.0.1 m a.0.0 (values_of id k.node k.desk k.live k.at) (message_told value_length m (delivered-fits b m k.answer k.called)) a.1 in
+      let fit = subst (λ (z : Taken × BookState). Fit z.0.outs) a.2 kept.1.outs in
       subst AreBooks k.is
-      (put_next (recorded (past_of c.world) (world_event.Deliver number id) id t.outs t.progress None) c.jobs id k.node k.desk k.answer.1 (entry.Deliver m) k.live k.at (t, k.called)
+      (put_next (recorded (past_of c.world) (world_event.Deliver number id) id t.outs t.progress None) c.jobs id k.node k.desk k.answer.1 (entry.Deliver m) (sends t.outs fit) k.live k.at (t, k.called)
       (subst (λ (z : Taken × BookState). IsOn b (entry.Deliver m) z.1) a.2 (record { same = refl; goes = ends_stays (desk.with_entry k.desk (entry.Deliver m)) a.0.0.ended })))
 
   pub deliver_books : (number id : ℕ) (y : Stepped × ClusterState) → at_node c id (delivered c number id) ≡ Ok y → AreBooks y.1
@@ -144,16 +176,16 @@ module _ (c : ClusterState) (books : AreBooks c) where
       let b = book_of c id k.node k.desk in
       let a = desk-parts b (desk.registered k.desk program) k.answer k.called in
       subst AreBooks k.is
-      (put_next (past_of c.world) c.jobs id k.node k.desk k.answer.1 (entry.Register program) k.live k.at (k.answer.0, k.called)
+      (put_next (past_of c.world) c.jobs id k.node k.desk k.answer.1 (entry.Register program) books.messages k.live k.at (k.answer.0, k.called)
       (subst (λ (z : ℕ × BookState). IsOn b (entry.Register program) z.1) a.2 (record { same = refl; goes = (registered_moves k.desk program a.0 a.1).1 })))
 
   -- where no query is ready, nothing changes
   hand_out_by : (id : ℕ) (n : NodeState) (d : DeskState) (o : Option Job) (e : DeskState) → world.live_at c.world id ≡ Some n → fin.get c.desks id ≡ Some d
       → book.handed_out (book_of c id n d) ≡ Ok (o, book_of c id n e) → IsHanded d id e o → AreBooks (With (past_of c.world) (with_job c.jobs o) id (book_of c id n e))
   hand_out_by id n d None e live at is same =
-      put_book (past_of c.world) c.jobs id (book_of c id n e) (subst (λ (x : DeskState). IsReplay (book_of c id n x)) same (books.replays id n d (at_live c.world id n live) at))
+      put_book (past_of c.world) c.jobs id (book_of c id n e) books.messages (subst (λ (x : DeskState). IsReplay (book_of c id n x)) same (books.replays id n d (at_live c.world id n live) at))
   hand_out_by id n d (Some j) e live at is h =
-      put_next (past_of c.world) (c.jobs ++ j ∷ []) id n d (book_of c id n e) entry.HandOut live at (j, is) (record { same = refl; goes = h.2 })
+      put_next (past_of c.world) (c.jobs ++ j ∷ []) id n d (book_of c id n e) entry.HandOut books.messages live at (j, is) (record { same = refl; goes = h.2 })
 
   pub hand_out_books : (id : ℕ) (y : Stepped × ClusterState) → at_node c id (handed_out c id) ≡ Ok y → AreBooks y.1
   hand_out_books id y h =
@@ -171,5 +203,5 @@ module _ (c : ClusterState) (books : AreBooks c) where
       let b = book_of c j.node k.node k.desk in
       let a = desk-parts b (desk.posted k.desk j.node j ran) k.answer k.called in
       subst AreBooks k.is
-      (put_next (past_of c.world) c.jobs j.node k.node k.desk k.answer.1 (entry.Post j.query ran) k.live k.at (j, refl, right, k.called)
+      (put_next (past_of c.world) c.jobs j.node k.node k.desk k.answer.1 (entry.Post j.query ran) books.messages k.live k.at (j, refl, right, k.called)
       (subst (λ (z : Unit {0} × BookState). IsOn b (entry.Post j.query ran) z.1) a.2 (record { same = refl; goes = (posted-ok k.desk j ran a.0 j.node a.1).goes })))

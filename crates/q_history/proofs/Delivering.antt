@@ -32,7 +32,8 @@ use Rattle.q_history.proofs.Moves.{Keeps, Nothing, IsReadied, noted_moves, retur
 use Rattle.q_history.proofs.Ops.{IsOnward}
 use Rattle.q_history.proofs.Kept.{IsTied, IsDeskOf, IsKept, IsStep, desk_moved, put_desk}
 use Rattle.q_history.proofs.Accepted.{at_live, acts-ok, delivery_onward}
-use Rattle.q_history.proofs.Called.{at-ok, call-ok, led, delivered-parts}
+use Rattle.q_book.proofs.Parts.{delivered-parts}
+use Rattle.q_history.proofs.Called.{at-ok, call-ok, led}
 use Rattle.q_history.proofs.Events.{keeps_here, lawful_next}
 
 module _ (w w' : WorldState) (place id : ℕ) (d : DeskState) (made : Entry) (onward : IsOnward w w') (k : IsDeskOf w id d) where

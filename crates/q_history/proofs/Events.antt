@@ -33,7 +33,8 @@ use Rattle.q_history.proofs.Moves.{Keeps, Moves, Nothing, noted_moves, ended_mov
 use Rattle.q_history.proofs.Ops.{IsOnward, onward_itself, insert_same}
 use Rattle.q_history.proofs.Accepted.{at_live, acts-ok, still_onward, collect_began}
 use Rattle.q_history.proofs.Kept.{IsTied, IsKept, IsStep, stays_itself, desk_on, desk_moved, put_desk}
-use Rattle.q_history.proofs.Called.{call-ok, led, left-parts, stored-parts, desk-parts, asked-parts}
+use Rattle.q_book.proofs.Parts.{left-parts, stored-parts, desk-parts, asked-parts}
+use Rattle.q_history.proofs.Called.{call-ok, led}
 
 module _ (c : ClusterState) (kept : IsKept c) where
   -- the desk that is there keeps what another keeps

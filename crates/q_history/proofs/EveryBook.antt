@@ -2,6 +2,9 @@
 use Rattle.std.proofs.Common.{◌≡◌, ℕ, Bool, true, false, cond, ◌==◌, ◌&&◌, ◌||◌, List, [], ◌∷◌, Some, None, refl, sym, ap, ◌∙◌, subst, ◌⊎◌, inl, inr, slice_get, Result, Ok, Err}
 use Rattle.std.proofs.lemmas.Bool.{eqb-true, eq-eqb}
 use Rattle.std.specs.Ordering.{nat_cmp}
+use Rattle.std.proofs.lemmas.List.Elements.{All-from_recursion}
+use Rattle.sc_view.specs.Values.{value_length}
+use Rattle.sc_msg.specs.Lengths.{MessageHasValuesOf}
 use Rattle.std.specs.FinMap as fin
 use Rattle.std.specs.FinSet as set
 use Rattle.sc_members.specs.Members.{Config}
@@ -26,7 +29,7 @@ use Rattle.q_history.specs.Heads.{founders_for, book_of}
 use Rattle.q_history.specs.Books.{BooksAreReplays}
 use Rattle.q_history.proofs.Lists.{same_some, no_some}
 use Rattle.q_history.proofs.Ops.{insert_has}
-use Rattle.q_history.proofs.Booked.{AreBooks, enter_books, crash_books, leave_books, register_books, store_books, ask_books, deliver_books, hand_out_books, finish_books}
+use Rattle.q_history.proofs.Booked.{AreBooks, Fit, enter_books, crash_books, leave_books, register_books, store_books, ask_books, deliver_books, hand_out_books, finish_books}
 
 step_books : (c d : ClusterState) (e : Event) (told : Stepped) → AreBooks c → Follows c e told d → AreBooks d
 step_books c d (event.Enter id) told books f = enter_books c books id (fin.get c.world.nodes id) (told, d) refl f.stepped
@@ -126,6 +129,7 @@ module _ (config : Config) (ids : List ℕ) where
         founder_book id n d are
         (all_founders ids fin.empty (λ i in'. in') (λ i m none. absurd (nowhere i m none)) id n at)
         (all_new ids fin.empty (λ i x none. absurd (nowhere i x none)) id d here);
+    messages = All-from_recursion (MessageHasValuesOf value_length) [] tt;
     founders = λ id listed. founder_there ids fin.empty id (inr listed);
   }
 
@@ -144,3 +148,9 @@ history_are c h = every_are c.world.config c.world.founders h.0 c h.2 h.1
 
 pub history_books : (c : ClusterState) → IsHistory c → BooksAreReplays c
 history_books c h = every_book c.world.config c.world.founders h.0 c h.2 h.1
+
+pub every_message : (config : Config) (ids : List ℕ) (es : List Event) (c : ClusterState) → started config ids ≡ Ok (start config ids) → Reaches (start config ids) es c → Fit c.world.sent
+every_message config ids es c begun r = (every_are config ids es c begun r).messages
+
+pub history_messages : (c : ClusterState) → IsHistory c → Fit c.world.sent
+history_messages c h = (history_are c h).messages

@@ -26,7 +26,8 @@ use Rattle.q_history.proofs.Moves.{Keeps, keeps_itself, Moves, Nothing, IsRephas
 use Rattle.q_history.proofs.Jobs.{IsReadyJob, IsHanded, IsPosted, handed_out-ok, posted-ok, right_of_job}
 use Rattle.q_history.proofs.Ops.{onward_itself}
 use Rattle.q_history.proofs.Kept.{HasView, IsTied, IsDeskOf, IsKnown, IsKept, IsStep, known_on, desk_moved, put_stays, put, put_desk}
-use Rattle.q_history.proofs.Called.{call-ok, led, desk-parts}
+use Rattle.q_book.proofs.Parts.{desk-parts}
+use Rattle.q_history.proofs.Called.{call-ok, led}
 use Rattle.q_history.proofs.Events.{keeps_here, quiet, put_same}
 
 -- a query of the desk that had this view, and still has it

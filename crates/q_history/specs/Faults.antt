@@ -23,8 +23,10 @@ of_desk f = fault.Desk f
 abbrev pub of_book : BookFault → ClusterFault
 of_book (book_fault.Node f) = fault.World (world_fault.Node f)
 of_book (book_fault.Desk f) = fault.Desk f
+of_book book_fault.BadValue = fault.BadValue
 
 abbrev pub reason : ClusterFault → Reason
 reason fault.NoSuchJob = reasons.NoSuchJob
 reason (fault.World f) = world.reason f
 reason (fault.Desk f) = desk.reason f
+reason fault.BadValue = reasons.BadValue

@@ -1,7 +1,9 @@
 //! What is true of every history.
 
-ghost use Rattle.std.specs.Prelude.{◌≡◌, ℕ, List, Ok};
+ghost use Rattle.std.specs.Prelude.{◌≡◌, ℕ, List, All, Ok};
 ghost use Rattle.sc_members.specs.Members.{Config};
+ghost use Rattle.sc_view.specs.Values.{value_length};
+ghost use Rattle.sc_msg.specs.Lengths.{MessageHasValuesOf};
 ghost use Rattle.q_history.specs.declared.event.Event.{Event};
 ghost use Rattle.q_history.specs.State.{ClusterState};
 ghost use Rattle.q_history.specs.Clusters.{start, started};
@@ -28,4 +30,10 @@ pub fn answers_stay()
 /// node and this desk.
 pub fn every_book_is_a_replay()
     ensures { (config : Config) (founders : List ℕ) (events : List Event) (c : ClusterState) → started config founders ≡ Ok (start config founders) → Reaches (start config founders) events c → BooksAreReplays c }
+{}
+
+/// A law: in every history of founders that are not refused, each value of each message that was sent has the 48 bytes
+/// that journals hold, so no delivery is refused with 50.
+pub fn every_message_fits()
+    ensures { (config : Config) (founders : List ℕ) (events : List Event) (c : ClusterState) → started config founders ≡ Ok (start config founders) → Reaches (start config founders) events c → All (MessageHasValuesOf value_length) c.world.sent }
 {}

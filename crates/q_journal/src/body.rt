@@ -7,7 +7,7 @@ use crate::read::ReadFault;
 use crate::reader::Reader;
 use crate::written::Written;
 use bq_check::notes::Notes;
-use sc_view::value::VALUE_LENGTH;
+use sc_view::value::{VALUE_LENGTH, Value};
 use std::alloc::Global;
 
 fn leave(body: &[u8]) -> Result<Written, ReadFault>
@@ -49,9 +49,9 @@ fn store(body: &[u8]) -> Result<Written, ReadFault>
     if body.len() != VALUE_LENGTH {
         return Err(ReadFault::Form);
     }
-    let mut value = [0; VALUE_LENGTH];
-    value.copy_from_slice(body);
-    Ok(Written::Store(value))
+    let mut bytes = [0; VALUE_LENGTH];
+    bytes.copy_from_slice(body);
+    Ok(Written::Store(Value::from(&bytes)))
 }
 
 fn deliver(alloc: Global, body: &[u8]) -> Result<Written, ReadFault>

@@ -4,7 +4,9 @@ ghost use Rattle.std.specs.Prelude.{◌≡◌, ◌<◌, ◌^◌, ◌++◌, ◌�
 ghost use Rattle.std.specs.List.{flat_map, AllByRecursion};
 ghost use Rattle.bq_state.specs.Kinds.{view_lengths};
 ghost use Rattle.bq_sound.specs.Passes.{AreSuited};
+ghost use Rattle.sc_view.specs.Values.{value_length};
 ghost use Rattle.sc_msg.specs.Numbers.{number_bytes};
+ghost use Rattle.sc_msg.specs.Lengths.{MessageHasValuesOf};
 ghost use Rattle.q_journal.specs.Spelling.{config_bytes, head_bytes, event_bytes, AreShort, IsHead, IsWritten};
 ghost use Rattle.q_journal.specs.Reading.{ids_bytes};
 ghost use Rattle.q_journal.specs.declared.written.Written.TheVariants as written;
@@ -12,6 +14,7 @@ ghost use Rattle.q_journal.specs.declared.written.Written.TheVariants as written
 use bq_check::notes::Notes;
 use bq_insn::text::Text;
 use sc_members::config::Config;
+use sc_msg::encode::encode_fitting;
 use sc_msg::message::Message;
 use sc_view::value::{VALUE_LENGTH, Value};
 use std::alloc::{AllocError, Global};
@@ -176,21 +179,23 @@ impl Writer {
         self.number(start)
     }
 
-    /// That a store of this value began.
+    /// That a store of this value began, which has 48 bytes.
     pub fn store(&mut self, value: &Value) -> Result<(), AllocError>
+        requires { length value.now ≡ value_length }
         ensures legal { OnOk result (IsWritten (written.Store value.now)) }
         ensures spelled { OnOk result (self.new ≡ self.old ++ event_bytes (written.Store value.now)) }
     {
         self.front(4, VALUE_LENGTH)?;
-        self.append(value)
+        self.append(value.bytes())
     }
 
-    /// That a message was delivered.
+    /// That a message was delivered, whose values have 48 bytes.
     pub fn deliver(&mut self, message: &Message) -> Result<(), AllocError>
+        requires { MessageHasValuesOf value_length message.now }
         ensures legal { OnOk result (IsWritten (written.Deliver message.now)) }
         ensures spelled { OnOk result (self.new ≡ self.old ++ event_bytes (written.Deliver message.now)) }
     {
-        let body = sc_msg::encode::encode(self.alloc, message)?;
+        let body = encode_fitting(self.alloc, message)?;
         self.front(5, body.len())?;
         self.append(&body)
     }

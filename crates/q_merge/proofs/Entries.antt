@@ -48,7 +48,7 @@ use Rattle.q_history.specs.Clusters.{at as at_node, enters, entered, registers, 
 use Rattle.q_history.specs.Calls.{Answers, IsHistory}
 use Rattle.q_history.proofs.Lists.{same_some, no_some}
 use Rattle.q_history.proofs.Moves.{Keeps, keeps_itself}
-use Rattle.q_history.proofs.Called.{desk-parts}
+use Rattle.q_book.proofs.Parts.{desk-parts}
 use Rattle.q_history.proofs.EveryBook.{history_are}
 use Rattle.q_cluster.specs.Acts.{booked, book_at}
 use Rattle.q_cluster.proofs.Heads.{registered_keeps, handed_keeps, posted_keeps, asked_keeps, stored_keeps, delivered_keeps, left_keeps}

@@ -27,7 +27,8 @@ use Rattle.q_history.specs.Calls.{Follows, Reaches, IsHistory}
 use Rattle.q_history.proofs.Lists.{same_some, no_some}
 use Rattle.q_history.proofs.Kept.{IsKept}
 use Rattle.q_history.proofs.EveryBook.{all_new}
-use Rattle.q_history.proofs.Called.{at-ok, call-ok, led, left-parts, stored-parts, asked-parts, delivered-parts, desk-parts}
+use Rattle.q_book.proofs.Parts.{left-parts, stored-parts, asked-parts, delivered-parts, desk-parts}
+use Rattle.q_history.proofs.Called.{at-ok, call-ok, led}
 use Rattle.q_history.proofs.EveryHistory.{step_kept, start_kept}
 use Rattle.q_merge.proofs.Jobs.{JobsAre, put_jobs, quiet_jobs, quiet_on, same_quiet, registered_quiet, asked_quiet, ended_on, ends_quiet, HandsOut, handed_is, handed_jobs, posted_is, posted_quiet}
 

@@ -17,7 +17,7 @@ use Rattle.q_book.specs.declared.answer.Taken.{Taken}
 use Rattle.q_book.specs.Replays.{Follows}
 use Rattle.q_history.proofs.Moves.{Keeps, keeps_itself, keeps_on, noted_moves, registered_moves, asked_moves, returned_moves}
 use Rattle.q_history.proofs.Jobs.{IsHanded, handed_out-ok, posted-ok}
-use Rattle.q_history.proofs.Called.{left-parts, stored-parts, asked-parts, delivered-parts, desk-parts}
+use Rattle.q_book.proofs.Parts.{left-parts, stored-parts, asked-parts, delivered-parts, desk-parts}
 use Rattle.q_merge.specs.Merging.{Step}
 use Rattle.q_merge.specs.Traces.{IsTraceFrom}
 

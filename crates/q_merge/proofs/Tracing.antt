@@ -17,7 +17,7 @@ use Rattle.q_book.specs.Books as book
 use Rattle.q_book.specs.Replays.{Follows, Replays, IsFirst, IsReplay}
 use Rattle.q_book.specs.declared.fault.BookFault.{BookFault}
 use Rattle.q_history.proofs.Lists.{same_some, no_some}
-use Rattle.q_history.proofs.Called.{desk-parts}
+use Rattle.q_book.proofs.Parts.{desk-parts}
 use Rattle.q_merge.specs.Merging.{Step}
 use Rattle.q_merge.specs.Traces.{step_of, IsTraceFrom, entering, IsTrace}
 use Rattle.q_merge.specs.Gathered.{AreTraces}

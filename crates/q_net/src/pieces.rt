@@ -1,6 +1,6 @@
 //! The parts of a request, read from left to right.
 
-ghost use Rattle.std.specs.Prelude.{◌≡◌, [], ◌∷◌, length};
+ghost use Rattle.std.specs.Prelude.{◌≡◌, [], ◌∷◌, length, IfOk, IfSome};
 ghost use Rattle.bq_check.specs.Spelling.{short_bytes, long_bytes};
 ghost use Rattle.q_net.specs.Requests.{Gets, GetsBlob};
 ghost use Rattle.q_wire.specs.Counts.{count_after};
@@ -8,6 +8,7 @@ ghost use Rattle.q_wire.specs.Counts.{count_after};
 use crate::request::Blob;
 use q_wire::counted::Counted;
 use q_wire::fault::TransportFailed;
+use sc_view::value::{VALUE_LENGTH, Value};
 use std::alloc::Global;
 use std::io::Read;
 
@@ -83,15 +84,16 @@ pub fn read_long<R: Read>(input: &mut Counted<R>) -> Result<Option<u64>, Transpo
 }
 
 /// The value of the next 48 bytes; none where the input ends before them.
-pub fn read_value<R: Read>(input: &mut Counted<R>) -> Result<Option<[u8; 48]>, TransportFailed>
+pub fn read_value<R: Read>(input: &mut Counted<R>) -> Result<Option<Value>, TransportFailed>
     ensures read { Gets (λ v. v) 48 (R.remaining input.old.inner) (R.remaining input.new.inner) result }
+    ensures length { IfOk result (λ got. IfSome got (λ v. length v ≡ 48)) }
     ensures counted { input.new.failures ≡ count_after result input.old.failures }
 {
-    let mut bytes = [0u8; 48];
-    if input.fill(&mut bytes)? < 48 {
+    let mut bytes = [0u8; VALUE_LENGTH];
+    if input.fill(&mut bytes)? < VALUE_LENGTH {
         return Ok(None);
     }
-    Ok(Some(bytes))
+    Ok(Some(Value::from(&bytes)))
 }
 
 /// So many bytes, passed over.

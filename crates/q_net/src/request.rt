@@ -2,6 +2,7 @@
 
 ghost use Rattle.std.specs.Prelude.{◌≡◌};
 
+use sc_view::value::Value;
 use std::marker::Model;
 
 /// Bytes. Contracts see them as their list.
@@ -41,8 +42,8 @@ pub enum Request {
     Register { text: Blob, notes: Blob },
     /// 2: a query of a program, by its number, from this start.
     Ask { program: u32, start: u64 },
-    /// 3: a store of a value.
-    Store([u8; 48]),
+    /// 3: a store of a value, which has 48 bytes.
+    Store(Value),
     /// 4: the answer of a query.
     Answer(u64),
 }

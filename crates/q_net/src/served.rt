@@ -19,6 +19,7 @@ use q_book::book::Book;
 use q_book::fault::BookFault;
 use q_table::program::{Program, ProgramId};
 use sc_msg::message::Message;
+use sc_view::value::Value;
 use std::alloc::Global;
 
 /// What comes of a registration.
@@ -89,7 +90,7 @@ fn ask(book: &mut Book, program: u32, start: u64, sent: &mut Vec<Message>) -> Re
 }
 
 /// A store. There is room for the messages of one event.
-fn store(book: &mut Book, value: &[u8; 48], sent: &mut Vec<Message>) -> Reply
+fn store(book: &mut Book, value: &Value, sent: &mut Vec<Message>) -> Reply
     requires { vec_len sent.old + 2 ≤ vec_capacity sent.old }
     ensures { (outs : List Sent) × Replies book.old (Store value.now) result outs book.new × (sent.new.items ≡ sent.old.items ++ outs) }
 {

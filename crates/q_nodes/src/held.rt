@@ -16,6 +16,7 @@ use q_table::program::ProgramId;
 use sc_msg::decode::decode;
 use sc_msg::fault::MessageFault;
 use sc_msg::message::Message;
+use sc_view::value::Value;
 use std::alloc::Global;
 
 /// A node's book, the messages that its thread has still to send, and its seat at the board of jobs.
@@ -112,7 +113,7 @@ impl<'b> Held<'b> {
     }
 
     /// Begins to store a value, and answers the operation's tag. What the book gives waits.
-    pub fn store(&mut self, value: &[u8; 48]) -> Result<u64, BookFault>
+    pub fn store(&mut self, value: &Value) -> Result<u64, BookFault>
         ensures stored { Stores value.now self.old.book self.old.waiting.items result self.new.book self.new.waiting.items }
         ensures lost { self.new.lost ≡ self.old.lost }
         ensures asker { self.new.asker ≡ self.old.asker }

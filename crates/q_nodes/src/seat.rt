@@ -11,6 +11,7 @@ use crate::held::Held;
 use q_book::book::Book;
 use q_session::ran::Ran;
 use q_table::program::{Program, ProgramId};
+use sc_view::value::Value;
 use std::sync::{Mutex, Wait};
 
 /// The lock of this node, which is counted from 1.
@@ -44,7 +45,7 @@ fn register_in(held: &mut Held<'_>, node: u64, program: &Program) -> Result<Prog
 }
 
 /// Begins to store a value in the book of the node.
-fn store_in(held: &mut Held<'_>, node: u64, value: &[u8; 48]) -> Result<u64, NodesFault>
+fn store_in(held: &mut Held<'_>, node: u64, value: &Value) -> Result<u64, NodesFault>
     ensures { BeginsStore node value.now result }
 {
     if !is_of(&held.book, node) {
@@ -111,7 +112,7 @@ pub(crate) fn store<R: Wait>(
     rt: &R,
     held: &Mutex<Held<'_>>,
     node: u64,
-    value: &[u8; 48],
+    value: &Value,
 ) -> Result<u64, NodesFault>
     ensures { BeginsStore node value.now result }
 {

@@ -7,6 +7,7 @@ use q_table::program::ProgramId;
 use sc_members::config::Config;
 use sc_msg::message::Message;
 use sc_node::outs::Outs;
+use sc_view::value::{VALUE_LENGTH, Value};
 use std::alloc::Global;
 
 /// `mov64 r0, r3 / add64 r0, 1 / exit`: it counts the records of a view, from the start value on.
@@ -36,7 +37,7 @@ pub fn founded(alloc: Global) -> Option<Book> {
     let config = Config::new(1, 1, 1, 1).ok()?;
     let mut book = Book::founder(alloc, config, 1, &[1]).ok()?;
     book.register(&program).ok()?;
-    let begun = book.store(&[7; 48]).ok()?;
+    let begun = book.store(&Value::from(&[7; VALUE_LENGTH])).ok()?;
     settle(alloc, &mut book, begun.outs)?;
     Some(book)
 }

@@ -1,12 +1,8 @@
 -- What the call of an entry makes of a book.
-use Rattle.std.proofs.Common.{None, ◌≡◌, ℕ, Bool, true, false, cond, nat_le, List, [], ◌∷◌, ◌++◌, Option, Some, refl, sym, ap, ◌∙◌, subst, Result, Ok, Err}
+use Rattle.std.proofs.Common.{None, ◌≡◌, ℕ, false, List, [], ◌∷◌, ◌++◌, Option, Some, refl, sym, ap, ◌∙◌, subst, Result, Ok}
 use Rattle.std.proofs.lemmas.List.{append_assoc}
-use Rattle.std.specs.FinMap as fin
 use Rattle.sc_msg.specs.declared.message.Message.{Message}
-use Rattle.sc_node.specs.State.{NodeState}
-use Rattle.sc_node.specs.Nodes as node
 use Rattle.sc_node.specs.declared.answer.Begun.{Begun}
-use Rattle.sc_node.specs.declared.fault.NodeFault.{NodeFault}
 use Rattle.sc_node.specs.declared.fault.NodeFault.TheVariants as node_fault
 use Rattle.bq_check.specs.Certificate.{Certificate}
 use Rattle.q_session.specs.declared.ran.Ran.{Ran}
@@ -16,7 +12,6 @@ use Rattle.q_desk.specs.Desks as desk
 use Rattle.q_desk.specs.declared.journal.Entry.{Entry}
 use Rattle.q_desk.specs.declared.journal.Entry.TheVariants as entry
 use Rattle.q_desk.specs.declared.fault.DeskFault.{DeskFault}
-use Rattle.q_desk.specs.declared.fault.DeskFault.TheVariants as desk_fault
 use Rattle.q_book.specs.State.{BookState}
 use Rattle.q_book.specs.Books as book
 use Rattle.q_book.specs.Replays.{Follows, Replays}
@@ -24,10 +19,10 @@ use Rattle.q_book.specs.declared.answer.Asked.{Asked}
 use Rattle.q_book.specs.declared.answer.Taken.{Taken}
 use Rattle.q_book.specs.declared.fault.BookFault.{BookFault}
 use Rattle.q_book.specs.declared.fault.BookFault.TheVariants as fault
-use Rattle.q_replay.proofs.Lists.{same_answer, no_refusal, passed, spared}
+use Rattle.q_replay.proofs.Lists.{same_answer, spared}
 use Rattle.q_replay.proofs.Keeps.{Keeps, Goes, keeps_itself, keeps_on, silent_goes, ended_on, registered_goes, asked_goes, ended_goes, handed_out_goes}
 use Rattle.q_desk.proofs.Accepted.{IsPosted, posted_is}
-use Rattle.q_book.proofs.Parts.{by_node-ok, by_desk-ok, noted-ok}
+use Rattle.q_book.proofs.Parts.{left-parts, stored-parts, asked-parts, delivered-parts, desk-parts}
 use Rattle.q_replay.proofs.Posting.{posted_goes, posted_one}
 
 -- a later book of the same node, whose journal goes on with an entry
@@ -39,48 +34,29 @@ module _ (b : BookState) where
   pub here-ok : {B : Type 0} (r : Result B BookFault) (z : B) → book.here b r ≡ Ok z → (b.node.gone ≡ false) × (r ≡ Ok z)
   here-ok r z h = spared b.node.gone (fault.Node node_fault.Gone) r z h
 
-  joined-ok : {B : Type 0} (r : Result B BookFault) (z : B) → book.joined b r ≡ Ok z → r ≡ Ok z
-  joined-ok r z h = (passed b.node.joined (fault.Node node_fault.NotJoined) r z h).1
-
-  free-ok : {B : Type 0} (r : Result B BookFault) (z : B) → book.free b r ≡ Ok z → r ≡ Ok z
-  free-ok r z h = (spared (nat_le node.most_open (fin.len b.node.sessions)) (fault.Node node_fault.SessionsFull) r z h).1
-
-  known-ok : {B : Type 0} (program : ℕ) (r : Result B BookFault) (z : B) → book.known b program r ≡ Ok z → r ≡ Ok z
-  known-ok program r z h = (passed (desk.knows b.desk program) (fault.Desk desk_fault.UnknownProgram) r z h).1
-
-  -- a call of the desk alone
-  pub desk-parts : {A : Type 0} (r : Result (A × DeskState) DeskFault) (z : A × BookState) → book.here b (book.by_desk (book.with_desk b) r) ≡ Ok z
-      → (d : A × DeskState) × (r ≡ Ok d) × ((d.0, record b { desk = d.1 }) ≡ z)
-  desk-parts r z h =
-      let d = by_desk-ok (book.with_desk b) r z (here-ok _ z h).1 in
-      (d.0, d.1, same_answer _ z d.2)
-
   left-next : (z : List Message × BookState) → book.left b ≡ Ok z → IsNext b entry.Leave z.1
   left-next z h =
-      let a = by_node-ok (book.leaves b (desk.with_entry b.desk entry.Leave)) (node.left b.node) z (noted-ok (book.leaves_node b) b.desk entry.Leave z (here-ok _ z h).1) in
+      let a = left-parts b z h in
       subst (λ (x : List Message × BookState). IsNext b entry.Leave x.1) a.2 (record { same = refl; goes = silent_goes b.desk entry.Leave })
 
   stored-next : (value : List ℕ) (z : Begun × BookState) → book.stored b value ≡ Ok z → IsNext b (entry.Store value) z.1
   stored-next value z h =
-      let a = by_node-ok (book.stores b (desk.with_entry b.desk (entry.Store value))) (node.store_begun b.node value) z
-      (noted-ok (book.stores_node b value) b.desk (entry.Store value) z (free-ok _ z (joined-ok _ z (here-ok _ z h).1))) in
+      let a = stored-parts b value z h in
       subst (λ (x : Begun × BookState). IsNext b (entry.Store value) x.1) a.2 (record { same = refl; goes = silent_goes b.desk (entry.Store value) })
 
   delivered-next : (m : Message) (z : Taken × BookState) → book.delivered b m ≡ Ok z → IsNext b (entry.Deliver m) z.1
   delivered-next m z h =
-      let a = by_node-ok (book.delivers b (desk.with_entry b.desk (entry.Deliver m))) (node.delivered b.node m) z
-      (noted-ok (book.delivers_node b m) b.desk (entry.Deliver m) z (here-ok _ z h).1) in
+      let a = delivered-parts b m z h in
       subst (λ (x : Taken × BookState). IsNext b (entry.Deliver m) x.1) a.2 (record { same = refl; goes = ended_goes b.desk (entry.Deliver m) a.0.0.ended })
 
   asked-next : (program start : ℕ) (z : Asked × BookState) → book.asked b program start ≡ Ok z → IsNext b (entry.Ask program start) z.1
   asked-next program start z h =
-      let d = by_desk-ok (book.asks_node b) (desk.asked b.desk b.node.operations program start) z (free-ok _ z (known-ok program _ z (joined-ok _ z (here-ok _ z h).1))) in
-      let a = by_node-ok (book.asks b d.0.0 d.0.1) (node.collect_begun b.node) z d.2 in
-      subst (λ (x : Asked × BookState). IsNext b (entry.Ask program start) x.1) a.2 (record { same = refl; goes = ended_on b.desk d.0.1 (entry.Ask program start) None (asked_goes b.desk b.node.operations program start d.0 d.1) })
+      let a = asked-parts b program start z h in
+      subst (λ (x : Asked × BookState). IsNext b (entry.Ask program start) x.1) a.4 (record { same = refl; goes = ended_on b.desk a.0.1 (entry.Ask program start) None (asked_goes b.desk b.node.operations program start a.0 a.1) })
 
   registered-next : (program : Certificate) (z : ℕ × BookState) → book.registered b program ≡ Ok z → IsNext b (entry.Register program) z.1
   registered-next program z h =
-      let a = desk-parts (desk.registered b.desk program) z h in
+      let a = desk-parts b (desk.registered b.desk program) z h in
       subst (λ (x : ℕ × BookState). IsNext b (entry.Register program) x.1) a.2 (record { same = refl; goes = registered_goes b.desk program a.0 a.1 })
 
   abbrev Handed : Type 0
@@ -88,7 +64,7 @@ module _ (b : BookState) where
 
   handed-next : (j : Job) (c : BookState) → book.handed_out b ≡ Ok (Some j, c) → IsNext b entry.HandOut c
   handed-next j c h =
-      let a = desk-parts (desk.handed_out b.desk b.id) (Some j, c) h in
+      let a = desk-parts b (desk.handed_out b.desk b.id) (Some j, c) h in
       let first : a.0.0 ≡ Some j = ap (λ (x : Option Job × BookState). x.0) a.2 in
       let was : desk.handed_out b.desk b.id ≡ Ok (Some j, a.0.1) =
       a.1 ∙ ap (λ (o : Option Job). let r : Result Handed DeskFault = Ok (o, a.0.1) in r) first in
@@ -103,7 +79,7 @@ module _ (b : BookState) where
 
   pub posted-post : (j : Job) (ran : Ran) (c : BookState) → book.posted b j ran ≡ Ok (tt, c) → IsPost j ran c
   posted-post j ran c h =
-      let a = desk-parts (desk.posted b.desk b.id j ran) (tt, c) h in
+      let a = desk-parts b (desk.posted b.desk b.id j ran) (tt, c) h in
       record {
         desk = a.0.1;
         there = (here-ok _ (tt, c) h).0;

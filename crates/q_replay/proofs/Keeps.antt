@@ -1,5 +1,5 @@
 -- What each accepted call of a desk keeps, and what it puts into the journal.
-use Rattle.std.proofs.Common.{◌≡◌, ℕ, ◌==◌, true, nat_lt, List, [], ◌∷◌, ◌++◌, length, Option, Some, None, refl, sym, ap, ◌∙◌, subst, slice_get, position, Result, Ok, Err}
+use Rattle.std.proofs.Common.{◌≡◌, ℕ, ◌==◌, nat_lt, List, [], ◌∷◌, ◌++◌, length, Option, Some, None, refl, sym, ap, ◌∙◌, subst, slice_get, position, Result, Ok, Err}
 use Rattle.sc_view.specs.Views.{ViewMap}
 use Rattle.sc_node.specs.declared.answer.Completion.{Completion}
 use Rattle.sc_node.specs.declared.answer.Completion.TheVariants as completion
@@ -8,9 +8,8 @@ use Rattle.bq_check.specs.Certificate.{Certificate}
 use Rattle.q_table.specs.declared.fault.TableFault.{TableFault}
 use Rattle.q_table.specs.declared.fault.TableFault.TheVariants as table_fault
 use Rattle.q_table.specs.Programs as table
-use Rattle.q_session.specs.declared.ran.Ran.{Ran}
 use Rattle.q_session.specs.declared.query.Phase.{Phase}
-use Rattle.q_session.specs.declared.query.Phase.TheVariants.{Collecting, Ready, Running, Answered}
+use Rattle.q_session.specs.declared.query.Phase.TheVariants.{Ready, Running}
 use Rattle.q_session.specs.declared.query.Query.{Query}
 use Rattle.q_session.specs.declared.job.Job.{Job}
 use Rattle.q_desk.specs.State.{DeskState}
@@ -22,7 +21,7 @@ use Rattle.q_desk.specs.declared.fault.DeskFault.TheVariants as fault
 use Rattle.std.specs.Cmp.{second_so}
 use Rattle.q_desk.proofs.Accepted.{HasNone, collecting_has_none, ready_has_none, IsReadyJob, next_is}
 pub use Rattle.q_desk.proofs.Accepted.{Keeps, keeps_itself, keeps_on, running_has_none}
-use Rattle.q_replay.proofs.Lists.{same_some, no_some, same_answer, no_refusal, passed, get_front, get_elsewhere, found}
+use Rattle.q_replay.proofs.Lists.{same_some, same_answer, no_refusal, passed, get_front, get_elsewhere, found}
 
 -- the desk keeps these, and its journal goes on with one entry
 pub record Goes (d : DeskState) (x : Entry) (e : DeskState) : Type 0 where

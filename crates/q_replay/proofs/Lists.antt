@@ -1,5 +1,5 @@
 -- Reads of lists that were appended to or written, and answers that were accepted.
-use Rattle.std.proofs.Common.{◌≡◌, ◌≢◌, ◌≤◌, ℕ, zero, suc, length, arith, Bool, true, false, cond, ◌&&◌, List, [], ◌∷◌, ◌++◌, Some, None, refl, sym, ap, ◌∙◌, slice_get, slice_set, position, Result, Ok, Err}
+use Rattle.std.proofs.Common.{◌≡◌, ◌≢◌, ◌≤◌, ℕ, zero, suc, length, arith, Bool, true, false, cond, ◌&&◌, List, [], ◌∷◌, ◌++◌, Some, refl, slice_get, slice_set, Result, Ok, Err}
 use Rattle.std.specs.List.{AllByRecursion}
 pub use Rattle.q_desk.proofs.Accepted.{same_some, no_some, same_answer, no_refusal, passed, get_elsewhere, found}
 

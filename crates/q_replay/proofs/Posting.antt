@@ -23,7 +23,7 @@ use Rattle.q_desk.specs.declared.fault.DeskFault.{DeskFault}
 use Rattle.q_desk.specs.declared.fault.DeskFault.TheVariants as fault
 use Rattle.std.specs.Cmp.{second_so}
 use Rattle.q_desk.proofs.Accepted.{answered, IsPosted}
-use Rattle.q_replay.proofs.Lists.{same_some, no_some, same_answer, no_refusal, passed, and_both, get_written}
+use Rattle.q_replay.proofs.Lists.{same_some, no_some, and_both, get_written}
 use Rattle.q_replay.proofs.Keeps.{Goes, phase_keeps, running_has_none}
 
 -- ---- what a post did

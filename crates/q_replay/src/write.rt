@@ -1,6 +1,7 @@
 //! Books to journals.
 
 ghost use Rattle.std.specs.Prelude.{◌≡◌, ◌++◌, IfOk, OnOk};
+ghost use Rattle.q_book.specs.Replays.{EntryFits};
 ghost use Rattle.q_journal.specs.Spelling.{event_bytes};
 ghost use Rattle.q_replay.specs.Journal.{written_of, journal_of, IsEntry, IsJournalled};
 
@@ -25,6 +26,7 @@ pub fn journal_bytes(alloc: Global, book: &Book) -> Result<Vec<u8>, AllocError>
 }
 
 fn write_entry(writer: &mut Writer, entry: &Entry) -> Result<(), AllocError>
+    requires { EntryFits entry.now }
     ensures legal { OnOk result (IsEntry entry.now) }
     ensures spelled { OnOk result (writer.new ≡ writer.old ++ event_bytes (written_of entry.now)) }
 {

@@ -5,11 +5,10 @@ use Rattle.std.proofs.lemmas.Bool.{eq-eqb}
 use Rattle.bq_range.specs.Interval.{Interval}
 use Rattle.sc_view.specs.declared.view.Stored.{Stored}
 use Rattle.sc_view.specs.Views.{ViewMap, put, most_entries}
-use Rattle.q_script.specs.declared.records.Record.{Record}
 use Rattle.q_script.specs.declared.records.RecordFault.{RecordFault}
 use Rattle.q_script.specs.declared.records.RecordFault.TheVariants.{Full}
 use Rattle.q_script.specs.Lines.{without_last_feed, parts_of}
-use Rattle.q_script.specs.Records.{IsRecord, IsAbove, IsGood, HasFault, IsReading, IsFaultAt, last_id, learned, stored_of, record_lines}
+use Rattle.q_script.specs.Records.{Record, IsRecord, IsAbove, IsEntry, IsGood, HasFault, IsReading, IsFaultAt, last_id, learned, stored_of, record_lines}
 use Rattle.q_script.proofs.Lines.{pieces_at}
 use Rattle.q_script.proofs.Learning.{len_learned, len_more, zip_length, learned_push, last_push, reading_push}
 
@@ -40,18 +39,20 @@ fault_at l texts done t i n last view records fault f less e k c h = record {
 }
 
 -- a full view has 256 entries
-pub full_fault : (l : Interval) (done : List (List ℕ)) (t : List ℕ) (last : Option ℕ) (view : ViewMap) (records : List Record) (r : Record) (s : Stored) → Read l done last view records → fin.len view ≤ most_entries
-    → IsRecord t r → IsGood l last r → s ≡ stored_of r → most_entries < fin.len (put view r.id s) → HasFault l last (length records) t Full
-full_fault l done t last view records r s k few is g e over =
-    let more : fin.len (put view r.id s) ≡ length records + 1 = ap fin.len (ap (λ v. put v r.id s) k.learnt ∙ ap (put (learned fin.empty records) r.id) e) ∙ len_more l records r k.reading.good (subst (λ o. IsAbove o r.id) k.ends g.0) in
-    (r, is, g, omega (arith, more, over, few, ap fin.len k.learnt, len_learned l records k.reading.good))
+pub full_fault : (l : Interval) (done : List (List ℕ)) (t : List ℕ) (last : Option ℕ) (view : ViewMap) (records : List Record) (entry : ℕ × Stored) → Read l done last view records → fin.len view ≤ most_entries
+    → IsEntry l last t entry → most_entries < fin.len (put view entry.0 entry.1) → HasFault l last (length records) t Full
+full_fault l done t last view records entry k few h over =
+    let r = h.0 in
+    let is = ap (λ (e : ℕ × Stored). fin.len (put view e.0 e.1)) h.3 ∙ ap (λ v. fin.len (put v r.id (stored_of r))) k.learnt in
+    let more = len_more l records r k.reading.good (subst (λ o. IsAbove o r.id) k.ends h.2.0) in
+    (r, h.1, h.2, omega (arith, is, more, over, few, ap fin.len k.learnt, len_learned l records k.reading.good))
 
-pub read_more : (l : Interval) (done : List (List ℕ)) (t : List ℕ) (last : Option ℕ) (view new : ViewMap) (records : List Record) (r : Record) (s : Stored) → Read l done last view records
-    → IsRecord t r → IsGood l last r → s ≡ stored_of r → new ≡ put view r.id s → Read l (done ++ (t ∷ [])) (Some r.id) new (records ++ (r ∷ []))
-read_more l done t last view new records r s k is g e p = record {
-  reading = reading_push l done records t r k.reading is (subst (λ o. IsGood l o r) k.ends g);
-  learnt = p ∙ ap (λ v. put v r.id s) k.learnt ∙ ap (put (learned fin.empty records) r.id) e ∙ sym (learned_push fin.empty records r);
-  ends = sym (last_push None records r);
+pub read_more : (l : Interval) (done : List (List ℕ)) (t : List ℕ) (last : Option ℕ) (view new : ViewMap) (records : List Record) (entry : ℕ × Stored) → Read l done last view records
+    → (h : IsEntry l last t entry) → new ≡ put view entry.0 entry.1 → Read l (done ++ (t ∷ [])) (Some entry.0) new (records ++ (h.0 ∷ []))
+read_more l done t last view new records entry k h p = record {
+  reading = reading_push l done records t h.0 k.reading h.1 (subst (λ o. IsGood l o h.0) k.ends h.2);
+  learnt = p ∙ ap (λ (e : ℕ × Stored). put view e.0 e.1) h.3 ∙ ap (λ v. put v h.0.id (stored_of h.0)) k.learnt ∙ sym (learned_push fin.empty records h.0);
+  ends = ap (λ (e : ℕ × Stored). Some e.0) h.3 ∙ sym (last_push None records h.0);
 }
 
 pub not_empty : (n : ℕ) (b : Bool) → b ≡ (n == 0) → b ≡ false → n ≡ 0 → ⊥

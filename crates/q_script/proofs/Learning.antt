@@ -1,28 +1,37 @@
 -- Records read one after another, and the view that has learnt them.
-use Rattle.std.proofs.Common.{◌≡◌, ℕ, suc, ◌+◌, ◌≤◌, ◌<◌, cond, List, [], ◌∷◌, ◌++◌, length, Option, Some, None, is_some, refl, ap, sym, ◌∙◌, subst, arith}
+use Rattle.std.proofs.Common.{◌≡◌, ◌==◌, ℕ, suc, ◌+◌, ◌<◌, Bool, true, false, MatchOption, cond, List, [], ◌∷◌, ◌++◌, length, Option, Some, None, is_some, refl, ap, sym, ◌∙◌, subst, arith}
 use Rattle.std.specs.List.{AllZip}
 use Rattle.std.specs.FinMap as fin
 use Rattle.std.specs.Ordering.{nat_cmp}
 use Rattle.std.proofs.lemmas.Bool.{ne_eqb}
-use Rattle.bq_range.specs.Interval.{Interval}
+use Rattle.bq_range.specs.Interval.{Interval, IsIn}
 use Rattle.sc_view.specs.declared.view.Stored.{Stored}
 use Rattle.sc_view.specs.Views.{ViewMap, put, newer}
 use Rattle.sc_view.proofs.ViewLemmas.{get-put, len-put}
-use Rattle.q_script.specs.declared.records.Record.{Record}
-use Rattle.q_script.specs.Words.{IsFollowed, IsPair}
-use Rattle.q_script.specs.Records.{IsRecord, IsAbove, IsGood, AreGood, IsReading, last_id, learned, stored_of}
+use Rattle.q_script.specs.Words.{IsFollowed}
+use Rattle.q_script.specs.Records.{Record, IsValue, IsRecord, IsAbove, IsGood, AreGood, IsReading, last_id, learned, stored_of}
 use Rattle.q_script.proofs.Pairs.{followed_once}
 use Rattle.q_script.proofs.Lines.{zip_push}
 
 -- ---- one line
 
-pub no_id : (s : List ℕ) → ((p : ℕ × List ℕ) → IsFollowed 32 s p → ⊥) → (r : Record) → IsRecord s r → ⊥
-no_id s n r h = n (r.id, h.0) h.1
+-- a test of a line that found nothing
+pub none_read : {X : Type 0} (No : Type 0) (Yes : X → Type 0) (r : Option X) → r ≡ None → No → MatchOption r No Yes
+none_read No Yes r e h = subst (λ o. MatchOption o No Yes) (sym e) h
 
-pub no_others : (s : List ℕ) (p : ℕ × List ℕ) → IsFollowed 32 s p → ((q : ℕ × ℕ) → IsPair 32 p.1 q → ⊥) → (r : Record) → IsRecord s r → ⊥
-no_others s p f n r h =
-    let same = followed_once 32 s p (r.id, h.0) (omega arith) f h.1 in
-    n (r.number, r.value) (subst (λ x. IsPair 32 x (r.number, r.value)) (sym same) h.2)
+pub no_id : (s : List ℕ) → ((p : ℕ × List ℕ) → IsFollowed 32 s p → ⊥) → (r : Record) → IsRecord s r → ⊥
+no_id s n r h = n (r.id, h.0) h.2
+
+-- what stands behind the id, and behind the number
+behind_id : (s : List ℕ) (p : ℕ × List ℕ) (r : Record) (h : IsRecord s r) → IsFollowed 32 s p → IsFollowed 32 p.1 (r.number, h.1)
+behind_id s p r h f = subst (λ x. IsFollowed 32 x (r.number, h.1)) (sym (followed_once 32 s p (r.id, h.0) (omega arith) f h.2)) h.3
+
+pub no_number : (s : List ℕ) (p : ℕ × List ℕ) → IsFollowed 32 s p → ((q : ℕ × List ℕ) → IsFollowed 32 p.1 q → ⊥) → (r : Record) → IsRecord s r → ⊥
+no_number s p f n r h = n (r.number, h.1) (behind_id s p r h f)
+
+pub no_value_behind : (s : List ℕ) (p q : ℕ × List ℕ) → IsFollowed 32 s p → IsFollowed 32 p.1 q → ((bytes : List ℕ) → IsValue q.1 bytes → ⊥) → (r : Record) → IsRecord s r → ⊥
+no_value_behind s p q f g n r h =
+    n r.value (subst (λ x. IsValue x r.value) (sym (followed_once 32 p.1 q (r.number, h.1) (omega arith) g (behind_id s p r h f))) h.4)
 
 -- ---- one record more
 
@@ -58,17 +67,45 @@ fresh_put last v id e f a q h =
 len_fresh : (last : Option ℕ) (v : ViewMap) (id : ℕ) (e : Stored) → Fresh last v → IsAbove last id → fin.len (put v id e) ≡ fin.len v + 1
 len_fresh last v id e f a = len-put v id e ∙ ap (λ (o : Option Stored). cond (is_some o) (fin.len v) (fin.len v + 1)) (f id a)
 
--- each good record is one entry more
-pub record Learned (last : Option ℕ) (v : ViewMap) (rs : List Record) : Type 0 where
+-- each record of the view has one of the lengths
+abbrev pub IsWithin : Interval → ViewMap → Type 0
+IsWithin l v = (id : ℕ) (e : Stored) → fin.get v id ≡ Some e → IsIn (16 + length e.value) l
+
+same_entry : (d e : Stored) → Some d ≡ Some e → d ≡ e
+same_entry d e h = cc
+
+within_put : (l : Interval) (last : Option ℕ) (v : ViewMap) (id : ℕ) (e : Stored) → Fresh last v → IsAbove last id → IsIn (16 + length e.value) l → IsWithin l v → IsWithin l (put v id e)
+within_put l last v id e f a new old q x has = at_either (q == id) q x (sym (get-put v id e q ∙ ap (λ o. cond (q == id) (Some (newer o e)) (fin.get v q)) (f id a)) ∙ has)
+  where
+    at_either : (b : Bool) (q : ℕ) (x : Stored) → cond b (Some e) (fin.get v q) ≡ Some x → IsIn (16 + length x.value) l
+    at_either true q x is = subst (λ (y : Stored). IsIn (16 + length y.value) l) (same_entry e x is) new
+    at_either false q x is = old q x is
+
+-- each good record is one entry more, of one of the lengths
+pub record Learned (l : Interval) (last : Option ℕ) (v : ViewMap) (rs : List Record) : Type 0 where
   pub count : fin.len (learned v rs) ≡ fin.len v + length rs
   pub fresh : Fresh (last_id last rs) (learned v rs)
+  pub within : IsWithin l v → IsWithin l (learned v rs)
 
-learned_all : (l : Interval) (last : Option ℕ) (v : ViewMap) (rs : List Record) → Fresh last v → AreGood l last rs → Learned last v rs
-learned_all l last v [] f h = record { count = omega arith; fresh = f }
+learned_all : (l : Interval) (last : Option ℕ) (v : ViewMap) (rs : List Record) → Fresh last v → AreGood l last rs → Learned l last v rs
+learned_all l last v [] f h = record { count = omega arith; fresh = f; within = λ w. w }
 learned_all l last v (r ∷ rs) f h =
     let more = learned_all l (Some r.id) (put v r.id (stored_of r)) rs (fresh_put last v r.id (stored_of r) f h.0.0) h.1 in
     let one = len_fresh last v r.id (stored_of r) f h.0.0 in
-    record { count = omega (arith, more.count, one); fresh = more.fresh }
+    record {
+      count = omega (arith, more.count, one);
+      fresh = more.fresh;
+      within = λ w. more.within (within_put l last v r.id (stored_of r) f h.0.0 h.0.2 w);
+    }
+
+no_entry : (e : Stored) → None ≡ Some e → ⊥
+no_entry e h = absurd cc
+
+pub within_empty : (l : Interval) → IsWithin l fin.empty
+within_empty l q e has = absurd (no_entry e (sym (fin.get-empty nat_cmp q) ∙ has))
+
+pub within_learned : (l : Interval) (rs : List Record) → AreGood l None rs → IsWithin l (learned fin.empty rs)
+within_learned l rs h = (learned_all l None fin.empty rs (λ q a. fin.get-empty nat_cmp q) h).within (within_empty l)
 
 pub len_learned : (l : Interval) (rs : List Record) → AreGood l None rs → fin.len (learned fin.empty rs) ≡ length rs
 len_learned l rs h = let all = learned_all l None fin.empty rs (λ q a. fin.get-empty nat_cmp q) h in omega (arith, all.count, fin.len-empty nat_cmp Stored)

@@ -6,5 +6,6 @@ pub mod Events
 pub mod Foundings
 pub mod Lines
 pub mod Scripts
+pub mod Values
 pub mod Learning
 pub mod Faults

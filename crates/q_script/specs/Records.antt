@@ -1,27 +1,54 @@
 -- Lists of records, the view that they make, and what is first wrong with a list.
-use Rattle.std.specs.Prelude.{◌≡◌, ℕ, ◌+◌, ◌≤◌, ◌<◌, List, [], ◌∷◌, ◌++◌, length, Option, Some, None, replicate}
+use Rattle.std.specs.Prelude.{◌≡◌, ◌⊎◌, ℕ, ◌+◌, ◌≤◌, ◌<◌, List, [], ◌∷◌, ◌++◌, length, Option, Some, None, Result, Ok, Err, replicate}
 use Rattle.std.specs.List.{AllZip}
 use Rattle.std.specs.Int.{w64, to_le_bytes}
 use Rattle.std.specs.FinMap as fin
 use Rattle.reasons.specs.declared.Reason.{Reason}
 use Rattle.reasons.specs.declared.Reason.TheVariants as reasons
-use Rattle.bq_meaning.specs.Place.{record_length}
+use Rattle.hex.specs.Hex.{decode_of}
 use Rattle.bq_range.specs.Interval.{Interval, IsIn}
+use Rattle.sc_view.specs.declared.value.ValueFault.{ValueFault}
 use Rattle.sc_view.specs.declared.view.Stored.{Stored}
+use Rattle.sc_view.specs.Values.{most_bytes}
 use Rattle.sc_view.specs.Views.{ViewMap, put, most_entries}
-use Rattle.q_script.specs.declared.records.Record.{Record}
 use Rattle.q_script.specs.declared.records.RecordFault.{RecordFault}
 use Rattle.q_script.specs.declared.records.RecordFault.TheVariants.{Syntax, Unsorted, BadField, BadValue, Full}
 use Rattle.q_script.specs.declared.records.RecordsFault.{RecordsFault}
 use Rattle.q_script.specs.declared.records.RecordsFault.TheVariants.{Line, OutOfMemory}
-use Rattle.q_script.specs.Words.{IsFollowed, IsPair}
+use Rattle.q_script.specs.Words.{IsNumeral, IsFollowed}
 use Rattle.q_script.specs.Lines.{lines_of}
 
 -- ---- one line
 
+-- what a line lists: an id, a sequence number and the bytes of a value, however many
+pub record Record : Type 0 where
+  pub id : ℕ
+  pub number : ℕ
+  pub value : List ℕ
+
+-- the bytes of a number that is stored: little-endian, before zeros
+abbrev pub value_bytes : ℕ → List ℕ
+value_bytes n = to_le_bytes w64 n ++ replicate 40 0
+
+-- a number, whose bytes these are
+abbrev pub IsNumber : List ℕ → List ℕ → Type 0
+IsNumber text bytes = (n : ℕ) × IsNumeral text n × (bytes ≡ value_bytes n)
+
+-- each of these bytes as two hexadecimal digits, small or capital
+abbrev pub AreDigits : List ℕ → List ℕ → Type 0
+AreDigits digits bytes = decode_of digits ≡ Ok bytes
+
+-- x, and digits of these bytes
+abbrev pub IsHex : List ℕ → List ℕ → Type 0
+IsHex text bytes = (digits : List ℕ) × (text ≡ 120 ∷ digits) × AreDigits digits bytes
+
+-- the text spells a value of these bytes
+abbrev pub IsValue : List ℕ → List ℕ → Type 0
+IsValue text bytes = IsNumber text bytes ⊎ IsHex text bytes
+
 -- `ID SEQ VALUE`
 abbrev pub IsRecord : List ℕ → Record → Type 0
-IsRecord text r = (rest : List ℕ) × IsFollowed 32 text (r.id, rest) × IsPair 32 rest (r.number, r.value)
+IsRecord text r = (rest : List ℕ) × (value : List ℕ) × IsFollowed 32 text (r.id, rest) × IsFollowed 32 rest (r.number, value) × IsValue value r.value
 
 -- the id is above the last one, if there is one
 abbrev pub IsAbove : Option ℕ → ℕ → Type 0
@@ -29,26 +56,36 @@ IsAbove None id = Unit {0}
 IsAbove (Some last) id = last < id
 
 -- the record may stand behind the last one: its id is above, its sequence number counts from 1, and it has one of the
--- lengths (each record of a list has 64 bytes)
+-- lengths (16 bytes stand before the value)
 abbrev pub IsGood : Interval → Option ℕ → Record → Type 0
-IsGood lengths last r = IsAbove last r.id × (1 ≤ r.number) × IsIn record_length lengths
+IsGood lengths last r = IsAbove last r.id × (1 ≤ r.number) × IsIn (16 + length r.value) lengths
 
 -- what is wrong with a line that stands behind so many records, of which the last has this id
 abbrev pub HasFault : Interval → Option ℕ → ℕ → List ℕ → RecordFault → Type 0
 HasFault lengths last count text Syntax = (r : Record) → IsRecord text r → ⊥
 HasFault lengths last count text Unsorted = (r : Record) × IsRecord text r × (IsAbove last r.id → ⊥)
 HasFault lengths last count text BadField = (r : Record) × IsRecord text r × IsAbove last r.id × (r.number ≡ 0)
-HasFault lengths last count text BadValue = (r : Record) × IsRecord text r × IsAbove last r.id × (1 ≤ r.number) × (IsIn record_length lengths → ⊥)
+HasFault lengths last count text BadValue = (r : Record) × IsRecord text r × IsAbove last r.id × (1 ≤ r.number) × (IsIn (16 + length r.value) lengths → ⊥)
 HasFault lengths last count text Full = (r : Record) × IsRecord text r × IsGood lengths last r × (count ≡ most_entries)
+
+-- what is read of a text that spells these bytes: their value, unless they are too many
+abbrev pub IsReadAs : List ℕ → Result (List ℕ) ValueFault → Type 0
+IsReadAs bytes (Ok value) = value ≡ bytes
+IsReadAs bytes (Err fault) = most_bytes < length bytes
+
+-- what is read is what the text spells, and nothing is read only where the text spells no bytes
+abbrev pub ReadsValue : (List ℕ → List ℕ → Type 0) → List ℕ → Option (Result (List ℕ) ValueFault) → Type 0
+ReadsValue spells text (Some value) = (bytes : List ℕ) × spells text bytes × IsReadAs bytes value
+ReadsValue spells text None = (bytes : List ℕ) → spells text bytes → ⊥
 
 -- ---- the view
 
--- the bytes of a number that is stored: little-endian, before zeros
-abbrev pub value_bytes : ℕ → List ℕ
-value_bytes n = to_le_bytes w64 n ++ replicate 40 0
-
 abbrev pub stored_of : Record → Stored
-stored_of r = record { number = r.number; value = value_bytes r.value }
+stored_of r = record { number = r.number; value = r.value }
+
+-- the line lists this entry, which may stand behind the last one
+abbrev pub IsEntry : Interval → Option ℕ → List ℕ → ℕ × Stored → Type 0
+IsEntry lengths last text entry = (r : Record) × IsRecord text r × IsGood lengths last r × (entry ≡ (r.id, stored_of r))
 
 -- a view that has learnt these records in turn
 abbrev pub learned : ViewMap → List Record → ViewMap

@@ -1,30 +1,32 @@
 //! Lists of records.
 
-ghost use Rattle.std.specs.Prelude.{◌≡◌, ◌↔◌, ℕ, ◌≤◌, ◌∷◌, ◌++◌, codes, IfOk, IfErr, IsTrue, MatchResult, replicate};
-ghost use Rattle.bq_meaning.specs.Place.{record_length};
+ghost use Rattle.std.specs.Prelude.{◌≡◌, ◌↔◌, ℕ, List, ◌≤◌, ◌+◌, [], ◌∷◌, ◌++◌, length, codes, ◌%◌, Some, Ok, IfOk, IfErr, IsTrue, MatchOption, MatchResult, replicate};
+ghost use Rattle.std.specs.FinMap as fin;
+ghost use Rattle.std.specs.List.{AllPass};
 ghost use Rattle.bq_range.specs.Interval.{IsIn};
+ghost use Rattle.hex.specs.Hex.{is_hex_digit};
+ghost use Rattle.sc_view.specs.declared.view.Stored.{Stored as StoredValue};
 ghost use Rattle.reasons.specs.Table as table;
-ghost use Rattle.q_script.specs.Words.{Reads};
-ghost use Rattle.q_script.specs.Records.{IsRecord, IsGood, HasFault, IsView, IsRefusal, value_bytes, stored_of, reason};
+ghost use Rattle.q_script.specs.Records.{Record, AreDigits, IsValue, ReadsValue, IsRecord, IsReadAs, IsEntry, HasFault, IsView, IsRefusal, value_bytes, reason};
 
-use crate::number::{leading, pair};
+use crate::number::{leading, number};
 use crate::text::without_last_feed;
-use bq_meaning::placement::RECORD_LENGTH;
+use bq_meaning::placement::LEAST_RECORD;
 use bq_state::bounds::Bounds;
 use reasons::{Reason, told};
-use sc_view::value::{VALUE_LENGTH, Value};
-use sc_view::view::{Stored, View, ViewFault};
+use sc_view::value::{MOST_BYTES, VALUE_LENGTH, Value, ValueFault};
+use sc_view::view::{Entry, Stored, View, ViewFault};
 use std::alloc::Global;
 
 /// The line of a record, `ID SEQ VALUE`.
 #[derive(Clone, Copy)]
-pub struct Record {
+struct RecordLine {
     /// The id of the node.
-    pub id: u64,
+    id: u64,
     /// The sequence number of its store.
-    pub number: u64,
-    /// The value that it stored.
-    pub value: u64,
+    number: u64,
+    /// The value that it stored, unless it has more than 112 bytes.
+    value: Result<Value, ValueFault>,
 }
 
 /// What is wrong with a line.
@@ -36,7 +38,7 @@ pub enum RecordFault {
     Unsorted,
     /// 77: the sequence number is 0.
     BadField,
-    /// 50: the record has another number of bytes than records may have.
+    /// 50: the record has another number of bytes than records may have; 16 bytes stand before its value.
     BadValue,
     /// 46: a 257th record would come.
     Full,
@@ -71,64 +73,103 @@ pub fn value_bytes(number: u64) -> Value
 {
     let mut bytes = [0; VALUE_LENGTH];
     bytes[..8].copy_from_slice(&number.to_le_bytes());
-    bytes
+    Value::from(&bytes)
 }
 
-impl Record {
-    /// The record that a line spells.
-    fn read(text: &str) -> Option<Record>
-        ensures { Reads IsRecord text.now result }
+/// Whether these are hexadecimal digits, two for each byte.
+fn are_digits(text: &str) -> bool
+    ensures { IsTrue result ↔ ((length text.now % 2 ≡ 0) × AllPass is_hex_digit text.now) }
+{
+    text.len() % 2 == 0
+        && text
+            .as_bytes()
+            .iter()
+            .all(|digit| digit.is_ascii_hexdigit())
+}
+
+/// The value of the bytes that hexadecimal digits spell.
+fn decoded(digits: &str) -> Option<Result<Value, ValueFault>>
+    ensures { ReadsValue AreDigits digits.now result }
+{
+    let len = digits.len() / 2;
+    if len > MOST_BYTES {
+        return are_digits(digits).then_some(Err(ValueFault::BadValue));
+    }
+    let mut room = [0; MOST_BYTES];
+    let bytes = &mut room[..len];
+    match hex::decode_to_slice(digits, bytes) {
+        Ok(()) => Some(Value::new(bytes)),
+        Err(_) => None,
+    }
+}
+
+/// The value that a text spells.
+fn value(text: &str) -> Option<Result<Value, ValueFault>>
+    ensures { ReadsValue IsValue text.now result }
+{
+    match text.strip_prefix('x') {
+        Some(digits) => decoded(digits),
+        None => Some(Ok(value_bytes(number(text)?))),
+    }
+}
+
+impl RecordLine {
+    /// What a line spells.
+    fn read(text: &str) -> Option<RecordLine>
+        ensures { MatchOption result ((r : Record) → IsRecord text.now r → ⊥) (λ line. (bytes : List ℕ) × IsRecord text.now (record { id = line.id; number = line.number; value = bytes }) × IsReadAs bytes line.value) }
     {
         let (id, rest) = leading(text, ' ')?;
-        let (number, value) = pair(rest, ' ')?;
-        Some(Record { id, number, value })
-    }
-
-    /// What the node stored.
-    fn stored(&self) -> Stored
-        requires { 1 ≤ self.now.number }
-        ensures { result ≡ stored_of self.now }
-    {
-        let Some(stored) = Stored::new(self.number, value_bytes(self.value)) else {
-            unreachable!()
-        };
-        stored
+        let (number, rest) = leading(rest, ' ')?;
+        let value = value(rest)?;
+        Some(RecordLine { id, number, value })
     }
 }
 
-/// Whether a line's record, which has 64 bytes, has one of the lengths.
-fn is_of_length(lengths: Bounds) -> bool
-    ensures { IsTrue result ↔ IsIn record_length lengths }
+/// The value of a record that has one of the lengths.
+fn suited(value: Result<Value, ValueFault>, lengths: Bounds) -> Option<Value>
+    ensures { MatchOption result ((bytes : List ℕ) → IsReadAs bytes value → IsIn (16 + length bytes) lengths → ⊥) (λ v. (value ≡ Ok v) × IsIn (16 + length v) lengths) }
 {
-    usize::from(lengths.least()) <= RECORD_LENGTH && RECORD_LENGTH <= usize::from(lengths.most())
+    let least = usize::from(lengths.least());
+    let most = usize::from(lengths.most());
+    let value = value.ok()?;
+    let length = LEAST_RECORD + value.bytes().len();
+    if least <= length && length <= most {
+        Some(value)
+    } else {
+        None
+    }
 }
 
 /// The record of a line behind the record with this id, or behind none.
-fn judged(text: &str, last: Option<u64>, lengths: Bounds) -> Result<Record, RecordFault>
-    ensures { MatchResult result (λ r. IsRecord text.now r × IsGood lengths last r) (λ fault. (count : ℕ) → HasFault lengths last count text.now fault) }
+fn judged(text: &str, last: Option<u64>, lengths: Bounds) -> Result<Entry, RecordFault>
+    ensures { MatchResult result (IsEntry lengths last text.now) (λ fault. (count : ℕ) → HasFault lengths last count text.now fault) }
 {
-    let Some(record) = Record::read(text) else {
+    let Some(line) = RecordLine::read(text) else {
         return Err(RecordFault::Syntax);
     };
     if let Some(last) = last
-        && record.id <= last
+        && line.id <= last
     {
         return Err(RecordFault::Unsorted);
     }
-    if record.number == 0 {
+    if line.number == 0 {
         return Err(RecordFault::BadField);
     }
-    if !is_of_length(lengths) {
+    let Some(value) = suited(line.value, lengths) else {
         return Err(RecordFault::BadValue);
-    }
-    Ok(record)
+    };
+    let Some(stored) = Stored::new(line.number, value) else {
+        unreachable!()
+    };
+    Ok((line.id, stored))
 }
 
-/// The view of the records that a text lists, each value in the first eight bytes, little-endian, before zeros; a record
-/// has 64 bytes, which must be one of the lengths. Refused is what is wrong with the least faulty line, in the order of
-/// [`RecordFault`], and 99.
+/// The view of the records that a text lists. A value is a number, whose eight bytes stand little-endian before 40 zeros,
+/// or `x` and two hexadecimal digits for each of its bytes; a record has 16 bytes more, and must have one of the lengths.
+/// Refused is what is wrong with the least faulty line, in the order of [`RecordFault`], and 99.
 pub fn read_records(alloc: Global, source: &str, lengths: Bounds) -> Result<View, RecordsFault>
     ensures read { IfOk result (IsView lengths source.now) }
+    ensures lengths { IfOk result (λ view. (id : ℕ) (e : StoredValue) → fin.get view id ≡ Some e → IsIn (16 + length e.value) lengths) }
     ensures fault { IfErr result (IsRefusal lengths source.now) }
 {
     let mut view = View::new(alloc);
@@ -137,8 +178,8 @@ pub fn read_records(alloc: Global, source: &str, lengths: Bounds) -> Result<View
     }
     let mut last = None;
     for text in without_last_feed(source).split('\n') {
-        let record = match judged(text, last, lengths) {
-            Ok(record) => record,
+        let (id, stored) = match judged(text, last, lengths) {
+            Ok(entry) => entry,
             Err(fault) => {
                 return Err(RecordsFault::Line {
                     line: view.len() + 1,
@@ -146,8 +187,8 @@ pub fn read_records(alloc: Global, source: &str, lengths: Bounds) -> Result<View
                 });
             }
         };
-        match view.put(record.id, record.stored()) {
-            Ok(()) => last = Some(record.id),
+        match view.put(id, stored) {
+            Ok(()) => last = Some(id),
             Err(ViewFault::Full) => {
                 return Err(RecordsFault::Line {
                     line: view.len() + 1,
@@ -163,6 +204,9 @@ pub fn read_records(alloc: Global, source: &str, lengths: Bounds) -> Result<View
 /// What the definitions say of telling records.
 pub fn worked()
     ensures little_endian { value_bytes 258 ≡ 2 ∷ 1 ∷ replicate 46 0 }
+    ensures digits { IsValue (codes "x05ff00") (5 ∷ 255 ∷ 0 ∷ []) }
+    ensures capital { IsValue (codes "xFf") (255 ∷ []) }
+    ensures no_byte { IsValue (codes "x") [] }
     ensures unsorted { table.number (reason RecordFault.Unsorted) ≡ 75 }
     ensures bad_field { table.number (reason RecordFault.BadField) ≡ 77 }
     ensures bad_value { table.number (reason RecordFault.BadValue) ≡ 50 }

@@ -1,14 +1,19 @@
 -- A view as the records that a program reads.
-use Rattle.std.specs.Prelude.{ℕ, ◌++◌, List, map}
+use Rattle.std.specs.Prelude.{◌≡◌, ℕ, ◌+◌, ◌++◌, List, length, map, Some}
 use Rattle.std.specs.FinMap as fin
 use Rattle.bq_word.specs.Word.{le_bytes}
+use Rattle.bq_range.specs.Interval.{Interval, IsIn}
 use Rattle.sc_view.specs.declared.view.Stored.{Stored}
 use Rattle.sc_view.specs.Views.{ViewMap}
 
--- the 64 bytes of an entry: the id, the sequence number and the value that was stored
+-- the bytes of an entry: the id, the sequence number and the value that was stored
 abbrev pub record_bytes : ℕ × Stored → List ℕ
 record_bytes entry = le_bytes 8 entry.0 ++ (le_bytes 8 entry.1.number ++ entry.1.value)
 
 -- the records of a view, in rising order of ids
 abbrev pub view_records : ViewMap → List (List ℕ)
 view_records v = map record_bytes (fin.entries v)
+
+-- each record of the view has one of these lengths: 16 bytes stand before a value
+pub record HasRecordsWithin (lengths : Interval) (v : ViewMap) : Type 0 where
+  pub at : (id : ℕ) (e : Stored) → fin.get v id ≡ Some e → IsIn (16 + length e.value) lengths

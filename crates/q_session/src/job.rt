@@ -1,16 +1,18 @@
 //! Jobs.
 
 ghost use Rattle.std.specs.Prelude.{◌≡◌, IfOk, option_copied};
-ghost use Rattle.q_session.specs.Jobs.{job_of, view_in};
+ghost use Rattle.q_session.specs.Jobs.{job_of, view_in, IsJob, MayRun};
 
 use crate::query::{Phase, Query};
 use crate::shared_view::SharedView;
 use q_table::program::{Program, ProgramId};
 use sc_view::view::View;
 use std::alloc::{AllocError, Global};
+use std::marker::Model;
 
 /// What is run to answer a query: its program over the view that its collect returned, from its start value. Contracts
-/// see it as the record of these. [`Job::of`] alone makes one, so it is that of a query with a returned view.
+/// see it as the record of these. [`Job::of`] alone makes one, so it is that of a query with a returned view. Its program
+/// was checked for records of the lengths that its view has.
 #[derive(Drop)]
 pub struct Job {
     node: u64,
@@ -21,9 +23,24 @@ pub struct Job {
     view: SharedView,
 }
 
+impl Model for Job {
+    ghost use Rattle.std.specs.Coded.{codes};
+    ghost use Rattle.sc_view.specs.Views.{view_code};
+    ghost use Rattle.q_session.specs.Jobs.{JobValue, IsJob};
+
+    ghost Value = { JobValue };
+
+    ghost coded = { Prim.hlevel (codes, view_code) };
+
+    ghost view = { λ j. record { node = j.node; query = j.query; program = j.program; start = j.start; certified = j.certified; view = j.view } };
+
+    ghost invariant = { λ j. IsJob (record { node = j.node; query = j.query; program = j.program; start = j.start; certified = j.certified; view = j.view }) };
+}
+
 impl Job {
     /// The job of the query of this number at this node, which names this program: there is one where the query is
-    /// ready or runs. The one error is that memory ran out (99 OutOfMemory).
+    /// ready or runs, and then the program was checked for records of the lengths that its view has. The one error is that
+    /// memory ran out (99 OutOfMemory).
     pub fn of(
         alloc: Global,
         node: u64,
@@ -31,6 +48,7 @@ impl Job {
         query: &Query,
         program: &Program,
     ) -> Result<Option<Job>, AllocError>
+        requires { MayRun query.now program.now }
         ensures { IfOk result (λ job. job ≡ job_of node number query.now program.now) }
     {
         let Some(view) = view_in(&query.phase) else {
@@ -83,7 +101,8 @@ impl Job {
 
     /// The view that the query's collect returned.
     pub fn view(&self) -> &View
-        ensures { result.now ≡ self.now.view }
+        ensures view { result.now ≡ self.now.view }
+        ensures lengths { IsJob self.now }
     {
         self.view.view()
     }

@@ -11,6 +11,7 @@
 pub mod done;
 pub mod fold;
 pub mod job;
+pub mod laws;
 pub mod query;
 pub mod ran;
 pub mod run;

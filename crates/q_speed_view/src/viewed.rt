@@ -1,13 +1,17 @@
 //! Folds over a view, as a query is answered.
 
-ghost use Rattle.std.specs.Prelude.{◌≤◌};
+ghost use Rattle.std.specs.Prelude.{◌≤◌, IfSome};
+ghost use Rattle.sc_view.specs.Values.{value_length};
+ghost use Rattle.sc_view.specs.Views.{HasValuesOf};
 
 use bq_frame::block::Block;
 use bq_meaning::placement::RECORD_LENGTH;
 use q_session::fold::fold_checked;
+use q_session::laws::records_of_values;
 use q_session::run::run_fold;
-use q_speed_program::folded::Folded;
+use q_speed_program::folded::{Folded, Work};
 use q_speed_program::program::certified;
+use sc_view::value::{VALUE_LENGTH, Value};
 use sc_view::view::{Stored, View};
 use std::alloc::Global;
 
@@ -21,36 +25,31 @@ fn number(bytes: &[u8; RECORD_LENGTH], at: usize) -> u64
 }
 
 /// A view with the entries that these records spell.
-fn view_of(alloc: Global, records: &[u8]) -> Option<View> {
+fn view_of(alloc: Global, records: &[u8]) -> Option<View>
+    ensures { IfSome result (HasValuesOf value_length) }
+{
     let mut view = View::new(alloc);
     let (records, _) = records.as_chunks::<RECORD_LENGTH>();
     for record in records {
-        let mut value = [0; 48];
-        value.copy_from_slice(&record[16..]);
+        let value = Value::new(&record[16..]).ok()?;
         let stored = Stored::new(number(record, 8), value)?;
         view.put(number(record, 0), stored).ok()?;
+    }
+    if !view.has_values_of(VALUE_LENGTH) {
+        return None;
     }
     Some(view)
 }
 
 /// So many folds by the loop.
-pub(crate) fn by_loop(
-    alloc: Global,
-    program: &[u8],
-    records: &[u8],
-    start: u64,
-    folds: u64,
-) -> Option<Folded> {
-    let certified = certified(alloc, program)?;
-    let view = view_of(alloc, records)?;
+pub(crate) fn by_loop(alloc: Global, work: &Work) -> Option<Folded> {
+    let certified = certified(alloc, work.program)?;
+    let view = view_of(alloc, work.records)?;
+    records_of_values();
     let mut block = Block::new(alloc).ok()?;
-    let mut folded = Folded {
-        acc: start,
-        steps: 0,
-        is_done: true,
-    };
-    for _ in 0..folds {
-        let ran = run_fold(&certified, &view, start, &mut block);
+    let mut folded = Folded::from_start(work.start);
+    for _ in 0..work.folds {
+        let ran = run_fold(&certified, &view, work.start, &mut block);
         folded.acc = ran.acc;
         folded.steps = folded.steps.wrapping_add(ran.steps);
     }
@@ -58,22 +57,13 @@ pub(crate) fn by_loop(
 }
 
 /// So many folds by the machine.
-pub(crate) fn by_machine(
-    alloc: Global,
-    program: &[u8],
-    records: &[u8],
-    start: u64,
-    folds: u64,
-) -> Option<Folded> {
-    let certified = certified(alloc, program)?;
-    let view = view_of(alloc, records)?;
-    let mut folded = Folded {
-        acc: start,
-        steps: 0,
-        is_done: true,
-    };
-    for _ in 0..folds {
-        let ran = fold_checked(&certified, &view, start);
+pub(crate) fn by_machine(alloc: Global, work: &Work) -> Option<Folded> {
+    let certified = certified(alloc, work.program)?;
+    let view = view_of(alloc, work.records)?;
+    records_of_values();
+    let mut folded = Folded::from_start(work.start);
+    for _ in 0..work.folds {
+        let ran = fold_checked(&certified, &view, work.start);
         folded.acc = ran.acc;
         folded.steps = folded.steps.wrapping_add(ran.steps);
     }

@@ -3,7 +3,7 @@
 use q_book::book::Book;
 use q_book::fault::BookFault;
 use sc_members::config::Config;
-use sc_view::value::VALUE_LENGTH;
+use sc_view::value::{VALUE_LENGTH, Value};
 use std::test::Fail;
 
 /// The number of the refusal, and 0 where the call is accepted.
@@ -20,7 +20,7 @@ fn a_node_that_left_changes_no_more(rt: HostRuntime) -> Result<(), Fail> {
     let mut book = Book::founder(rt.alloc(), config, 1, &[1])?;
     book.leave()?;
     assert_eq!(rt; refusal(book.leave()), 42);
-    assert_eq!(rt; refusal(book.store(&[7; VALUE_LENGTH])), 42);
+    assert_eq!(rt; refusal(book.store(&Value::from(&[7; VALUE_LENGTH]))), 42);
     assert_eq!(rt; refusal(book.hand_out()), 42);
     assert_eq!(rt; refusal(book.room_for_post()), 42);
     assert_eq!(rt; book.events(), 1);

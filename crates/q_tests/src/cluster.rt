@@ -5,7 +5,7 @@ use q_session::ran::Ran;
 use q_sim::program::certified_code;
 use q_table::program::ProgramId;
 use sc_members::config::Config;
-use sc_view::value::VALUE_LENGTH;
+use sc_view::value::{VALUE_LENGTH, Value};
 use std::test::Fail;
 
 /// `mov64 r0, r3 / add64 r0, 1 / exit`
@@ -46,7 +46,7 @@ fn event(step: Step) -> Event {
     match step {
         Step::Store => Event::Store {
             node: 1,
-            value: [5; VALUE_LENGTH],
+            value: Value::from(&[5; VALUE_LENGTH]),
         },
         Step::Ask => Event::Ask {
             node: 2,

@@ -1,7 +1,7 @@
 //! Values and views to measure with.
 
 use anyhow::{Context, Result, anyhow};
-use sc_view::value::VALUE_LENGTH;
+use sc_view::value::{VALUE_LENGTH, Value};
 use sc_view::view::{Stored, View, ViewFault};
 use std::alloc::Global;
 use std::time::Duration;
@@ -11,7 +11,7 @@ pub(crate) const USUAL: u64 = 5;
 
 /// A value under this number.
 pub(crate) fn stored(number: u64) -> Result<Stored> {
-    Stored::new(number, [7; VALUE_LENGTH]).context("a number is 0")
+    Stored::new(number, Value::from(&[7; VALUE_LENGTH])).context("a number is 0")
 }
 
 /// The id that comes at this place. The ids of the first 256 places differ, and come in no order.

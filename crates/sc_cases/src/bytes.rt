@@ -1,5 +1,6 @@
 //! Lines about messages as bytes.
 
+use crate::views::first_byte;
 use sc_members::facts::Facts;
 use sc_msg::decode::decode;
 use sc_msg::encode::encode;
@@ -11,7 +12,7 @@ use std::io;
 
 fn tell_view(rt: &impl Print, view: &View) -> io::Result<()> {
     for (id, stored) in view.records() {
-        let byte = stored.value()[0];
+        let byte = first_byte(&stored);
         print!(rt; " value {id} {} {byte}", stored.number())?;
     }
     Ok(())

@@ -22,12 +22,14 @@
 //! - `share FIRST COUNT NUMBER BYTE / ID NUMBER BYTE`: a view of so many ids from the first on, and a copy that learns one
 //!   more value: how many entries each chunk of the copy has, and the number that each of the two knows at the id; or
 //!   the refusal.
+//! - `value COUNT`: how many bytes a value of so many bytes has, and how many a message that tells it; or the refusals.
 //!
 //! Another line is printed as it stands.
 #![tactic(auto)]
 
 mod bytes;
 mod members;
+mod values;
 mod views;
 mod words;
 mod worlds;
@@ -44,6 +46,7 @@ fn answer(rt: &impl Print, alloc: Global, worlds: &mut Worlds, words: &[&str]) -
         Some(Case::Members(line)) => members::tell(rt, alloc, &line),
         Some(Case::View(first, second)) => views::tell(rt, alloc, first, second),
         Some(Case::Share(ids, value)) => views::tell_shared(rt, alloc, ids, value),
+        Some(Case::Value(count)) => values::tell(rt, alloc, count),
         None => Ok(()),
     }
 }

@@ -1,7 +1,7 @@
 //! Lines about views.
 
 use crate::words::number;
-use sc_view::value::VALUE_LENGTH;
+use sc_view::value::{VALUE_LENGTH, Value};
 use sc_view::view::{Stored, View, ViewFault};
 use std::alloc::Global;
 use std::io;
@@ -19,7 +19,7 @@ fn value_of(words: &[&str]) -> Option<(u64, Stored)> {
 fn stored_of(count: &str, byte: &str) -> Option<Stored> {
     let number = number(count)?;
     let byte = byte.parse::<u8>().ok()?;
-    Stored::new(number, [byte; VALUE_LENGTH])
+    Stored::new(number, Value::from(&[byte; VALUE_LENGTH]))
 }
 
 /// Learns the value that these words spell, if they do.
@@ -49,8 +49,13 @@ fn merged(alloc: Global, first: &[&str], second: &[&str]) -> Result<View, ViewFa
     with_view(alloc, &first, second)
 }
 
+/// The byte of which a value is made.
+pub(crate) fn first_byte(stored: &Stored) -> u8 {
+    stored.value().bytes().first().copied().unwrap_or_default()
+}
+
 fn tell_value(rt: &impl Print, id: u64, stored: Stored) -> io::Result<()> {
-    let byte = stored.value()[0];
+    let byte = first_byte(&stored);
     print!(rt; " {id} {} {byte}", stored.number())
 }
 

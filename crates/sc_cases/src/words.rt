@@ -1,6 +1,6 @@
 //! What a line of a case asks for.
 
-use sc_view::value::VALUE_LENGTH;
+use sc_view::value::{VALUE_LENGTH, Value};
 use sc_world::event::Event;
 
 /// A fraction, by its two numbers.
@@ -47,6 +47,7 @@ pub(crate) enum Case<'a> {
     Members(MembersLine<'a>),
     View(&'a [&'a str], &'a [&'a str]),
     Share(&'a [&'a str], &'a [&'a str]),
+    Value(usize),
 }
 
 pub(crate) fn number(word: &str) -> Option<u64> {
@@ -92,7 +93,7 @@ fn store(node: &str, byte: &str) -> Option<Event> {
     let byte = byte.parse::<u8>().ok()?;
     Some(Event::Store {
         node,
-        value: [byte; VALUE_LENGTH],
+        value: Value::from(&[byte; VALUE_LENGTH]),
     })
 }
 
@@ -183,6 +184,9 @@ impl Case<'_> {
     pub(crate) fn read<'a>(words: &'a [&'a str]) -> Option<Case<'a>> {
         if let ["message", digits] = words {
             return Some(Case::Message(digits));
+        }
+        if let ["value", count] = words {
+            return Some(Case::Value(place(count)?));
         }
         if let ["share", values @ ..] = words {
             let (first, second) = halves(values);

@@ -9,3 +9,4 @@ pub mod Entries
 pub mod Sound
 pub mod Unique
 pub mod Writing
+pub mod Lengths

@@ -1,5 +1,5 @@
 -- Numbers and the bytes that they are read from.
-use Rattle.std.proofs.Common.{◌≡◌, ℕ, zero, suc, ◌+◌, ◌*◌, ◌/◌, ◌%◌, ◌^◌, ◌<◌, All, Fits, w8, get_or, take, List, [], ◌∷◌, ◌++◌, length, refl, sym, ap, subst, ◌∙◌, arith}
+use Rattle.std.proofs.Common.{◌≡◌, ℕ, zero, suc, ◌+◌, ◌*◌, ◌/◌, ◌%◌, ◌^◌, ◌<◌, All, List, [], ◌∷◌, ◌++◌, length, refl, sym, ap, subst, ◌∙◌, arith}
 use Rattle.std.proofs.Math.Nat.{div-div-eq-div-mul, mul_comm, pow-suc}
 use Rattle.std.specs.Int.{byte_at, bytes_low_first}
 use Rattle.byteorder.specs.Endian.{little_from, little_number}
@@ -58,10 +58,3 @@ number_parts width n old front rest len fits parts is =
 pub number_first : (width n : ℕ) (old front rest : List ℕ) → length front ≡ width → old ≡ front ++ rest → n ≡ little_number width front → first_number width old ≡ n
 unfolding first_number
 number_first width n old front rest len parts is = ap (λ (l : List ℕ). little_from 0 width l) parts ∙ little_from-append width front rest (omega arith) ∙ sym is
-
--- the front of bytes is bytes
-pub IsBytes-take : (n : ℕ) (xs : List ℕ) → ((i : ℕ) → Fits w8 (get_or xs i 0)) → IsBytes (take n xs)
-IsBytes-take zero xs fits k d h = absurd (omega arith)
-IsBytes-take (suc n) [] fits k d h = absurd (omega arith)
-IsBytes-take (suc n) (x ∷ xs) fits zero d h = omega (arith, fits 0)
-IsBytes-take (suc n) (x ∷ xs) fits (suc k) d h = IsBytes-take n xs (λ i. fits (suc i)) k d (omega arith)

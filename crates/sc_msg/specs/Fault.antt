@@ -8,6 +8,8 @@ use Rattle.sc_msg.specs.declared.message.Message.{Message}
 use Rattle.sc_msg.specs.declared.kind.MessageKind.{MessageKind}
 use Rattle.sc_msg.specs.declared.fault.MessageFault.{MessageFault}
 use Rattle.sc_msg.specs.declared.fault.MessageFault.TheVariants.{BadHead, Short, TooLong, BadKind, Unsorted, Extra, BadField, OutOfMemory}
+use Rattle.sc_msg.specs.declared.encode.EncodeFault.{EncodeFault}
+use Rattle.sc_msg.specs.declared.encode.EncodeFault.TheVariants as unwritten
 use Rattle.sc_msg.specs.Kinds.{kind_at}
 use Rattle.sc_msg.specs.Fields.{slots, IsFieldsFault, OrMemory}
 use Rattle.sc_msg.specs.Messages.{head_bytes, message_bytes, IsMessage}
@@ -66,6 +68,10 @@ reason Unsorted = reasons.Unsorted
 reason Extra = reasons.Extra
 reason BadField = reasons.MessageField
 reason OutOfMemory = reasons.OutOfMemory
+
+abbrev pub encode_reason : EncodeFault → Reason
+encode_reason unwritten.BadValue = reasons.BadValue
+encode_reason unwritten.OutOfMemory = reasons.OutOfMemory
 
 -- a view that would get too many entries has a count above its limit
 abbrev pub view_fault : ViewFault → MessageFault

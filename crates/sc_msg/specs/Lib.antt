@@ -4,4 +4,5 @@ pub mod Kinds
 pub mod Entries
 pub mod Fields
 pub mod Messages
+pub mod Lengths
 pub mod Fault

@@ -3,6 +3,8 @@
 ghost use Rattle.std.specs.Prelude.{◌≡◌, IfOk, IfErr, MatchResult};
 ghost use Rattle.sc_msg.specs.Messages.{message_bytes, IsMessage};
 ghost use Rattle.sc_msg.specs.Fault.{head_fault, IsFault};
+ghost use Rattle.sc_msg.specs.Lengths.{MessageHasValuesOf};
+ghost use Rattle.sc_view.specs.Values.{value_length};
 
 use crate::fault::MessageFault;
 use crate::message::Message;
@@ -37,6 +39,7 @@ pub fn decode(alloc: Global, bytes: &[u8]) -> Result<Message, MessageFault>
     // What is decoded is a message that is spelled so.
     ensures spelled { IfOk result (λ m. bytes.now ≡ message_bytes m) }
     ensures message { IfOk result IsMessage }
+    ensures values { IfOk result (MessageHasValuesOf value_length) }
 
     // What spells a message is decoded to it, unless memory runs out.
     ensures all { (m : Message) → IsMessage m → bytes.now ≡ message_bytes m → MatchResult result (λ n. n ≡ m) (λ e. e ≡ MessageFault.OutOfMemory) }

@@ -1,12 +1,14 @@
 //! Laws of messages and their bytes. The first two are the contracts of functions that do nothing, so
 //! whoever needs one at a step calls it there; the last two read and write.
 
-ghost use Rattle.std.specs.Prelude.{◌≡◌, ℕ, List, IfOk, IfErr};
+ghost use Rattle.std.specs.Prelude.{◌≡◌, ◌↔◌, ℕ, List, IfOk, IfErr, IsErrOf};
 ghost use Rattle.sc_msg.specs.Messages.{message_bytes, IsMessage};
 ghost use Rattle.sc_msg.specs.Fault.{IsFault};
+ghost use Rattle.sc_msg.specs.Lengths.{MessageHasValuesOf};
+ghost use Rattle.sc_view.specs.Values.{value_length};
 
 use crate::decode::decode;
-use crate::encode::encode;
+use crate::encode::{EncodeFault, encode};
 use crate::fault::MessageFault;
 use crate::message::Message;
 use std::alloc::Global;
@@ -21,13 +23,17 @@ pub fn one_fault()
     ensures { (bytes : List ℕ) (d e : MessageFault) → IsFault bytes d → IsFault bytes e → (d ≡ MessageFault.OutOfMemory → ⊥) → (e ≡ MessageFault.OutOfMemory → ⊥) → d ≡ e }
 {}
 
-/// A message that was written and read again is the same. The one fault is 99 OutOfMemory.
-pub fn written_and_read(alloc: Global, message: &Message) -> Result<Message, MessageFault>
+/// A message that was written and read again is the same. The faults are those of [`encode`].
+pub fn written_and_read(alloc: Global, message: &Message) -> Result<Message, EncodeFault>
     ensures same { IfOk result (λ m. m ≡ message.now) }
-    ensures memory { IfErr result (λ e. e ≡ MessageFault.OutOfMemory) }
+    ensures value { IsErrOf result EncodeFault.BadValue ↔ (MessageHasValuesOf value_length message.now → ⊥) }
 {
     let bytes = encode(alloc, message)?;
-    decode(alloc, &bytes)
+    match decode(alloc, &bytes) {
+        Ok(read) => Ok(read),
+        Err(MessageFault::OutOfMemory) => Err(EncodeFault::OutOfMemory),
+        Err(_) => unreachable!(),
+    }
 }
 
 /// Bytes that were read and written again are the same. The faults are those of [`decode`].
@@ -36,6 +42,9 @@ pub fn read_and_written(alloc: Global, bytes: &[u8]) -> Result<Vec<u8>, MessageF
     ensures fault { IfErr result (IsFault bytes.now) }
 {
     let message = decode(alloc, bytes)?;
-    let written = encode(alloc, &message)?;
-    Ok(written)
+    match encode(alloc, &message) {
+        Ok(written) => Ok(written),
+        Err(EncodeFault::OutOfMemory) => Err(MessageFault::OutOfMemory),
+        Err(EncodeFault::BadValue) => unreachable!(),
+    }
 }

@@ -9,7 +9,8 @@
 //!
 //! Promised, for all bytes and all messages:
 //!
-//! - [`encode`](encode::encode) writes just the spelling of a message, `message_bytes` of `specs/Messages.antt`.
+//! - [`encode`](encode::encode) writes just the spelling of a message, `message_bytes` of `specs/Messages.antt`. Values in
+//!   messages have 48 bytes, so a message with a value of another length is refused.
 //! - [`decode`](decode::decode) answers the message that the bytes spell, and answers it for all bytes that
 //!   spell one; else it names the fault that stands first, `IsFault` of `specs/Fault.antt`. Want of memory may
 //!   come in place of either.

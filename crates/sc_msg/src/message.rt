@@ -1,4 +1,5 @@
-ghost use Rattle.std.specs.Prelude.{◌≡◌};
+ghost use Rattle.std.specs.Prelude.{◌≡◌, ◌↔◌, IsTrue, option_copied};
+ghost use Rattle.sc_msg.specs.Lengths.{view_of, has_values_of, MessageHasValuesOf};
 
 use sc_members::facts::Facts;
 use sc_view::view::View;
@@ -64,6 +65,34 @@ pub struct Message {
     pub from: u64,
     /// What it says.
     pub body: Body,
+}
+
+impl Body {
+    /// The view that the message tells, if it tells one.
+    pub fn view(&self) -> Option<&View>
+        ensures { option_copied result ≡ view_of self.now }
+    {
+        match self {
+            Body::EnterEcho { view, .. }
+            | Body::Store { view, .. }
+            | Body::StoreEcho { view }
+            | Body::CollectReply { view, .. } => Some(view),
+            _ => None,
+        }
+    }
+}
+
+impl Message {
+    /// Whether each value that the message tells has so many bytes. Takes no memory.
+    pub fn has_values_of(&self, bytes: usize) -> bool
+        ensures told { result ≡ has_values_of bytes self.now }
+        ensures each { IsTrue result ↔ MessageHasValuesOf bytes self.now }
+    {
+        match self.body.view() {
+            Some(view) => view.has_values_of(bytes),
+            None => true,
+        }
+    }
 }
 
 impl Clone for Body {

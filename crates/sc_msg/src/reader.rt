@@ -9,7 +9,7 @@ use crate::fault::MessageFault;
 use byteorder::{ByteOrder, LittleEndian};
 use sc_members::facts::{Facts, MOST_FACTS};
 use sc_members::ids::IdSet;
-use sc_view::value::VALUE_LENGTH;
+use sc_view::value::{VALUE_LENGTH, Value};
 use sc_view::view::{MOST_ENTRIES, Stored, View};
 use std::alloc::Global;
 
@@ -129,8 +129,9 @@ impl<'a> Reader<'a> {
             return Err(MessageFault::BadField);
         }
         let bytes = self.take(VALUE_LENGTH)?;
-        let mut value = [0; VALUE_LENGTH];
-        value.copy_from_slice(bytes);
+        let Ok(value) = Value::new(bytes) else {
+            unreachable!()
+        };
         let Some(stored) = Stored::new(number, value) else {
             unreachable!()
         };

@@ -10,8 +10,7 @@ use Rattle.sc_node.specs.declared.session.Session.{Session}
 use Rattle.sc_node.specs.declared.answer.Advance.{Advance}
 use Rattle.sc_node.specs.declared.answer.Advance.TheVariants as advance
 use Rattle.sc_node.specs.declared.answer.Progress.{Progress}
-use Rattle.sc_node.specs.declared.answer.Ended.{Ended}
-use Rattle.sc_node.specs.Sessions.{advanced_by, apply, ends, ended_at, ended_with}
+use Rattle.sc_node.specs.Sessions.{advanced_by, ends, ended_at}
 use Rattle.sc_node.specs.Nodes.{session_moved, sessions_after}
 
 abbrev Table : Type 0

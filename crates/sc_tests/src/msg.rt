@@ -1,11 +1,11 @@
 ghost use Rattle.std.specs.Prelude.{◌≡◌};
 
 use sc_msg::decode::decode;
-use sc_msg::encode::encode;
+use sc_msg::encode::{EncodeFault, encode};
 use sc_msg::fault::MessageFault;
 use sc_msg::laws::{one_fault, one_spelling, read_and_written, written_and_read};
 use sc_msg::message::{Body, Message};
-use sc_view::value::VALUE_LENGTH;
+use sc_view::value::{VALUE_LENGTH, Value};
 use sc_view::view::{Stored, View, ViewFault};
 use std::alloc::Global;
 use std::test::Fail;
@@ -28,7 +28,7 @@ fn stored(byte: u8) -> Stored
 {
     let mut value = [0; VALUE_LENGTH];
     value[0] = byte;
-    let Some(stored) = Stored::new(1, value) else {
+    let Some(stored) = Stored::new(1, Value::from(&value)) else {
         unreachable!()
     };
     stored
@@ -43,7 +43,7 @@ fn first_store(alloc: Global) -> Result<Message, ViewFault> {
     })
 }
 
-fn sender_after(alloc: Global, message: &Message) -> Result<u64, MessageFault> {
+fn sender_after(alloc: Global, message: &Message) -> Result<u64, EncodeFault> {
     let again = written_and_read(alloc, message)?;
     Ok(again.from)
 }
@@ -103,4 +103,36 @@ fn want_of_memory_for_ids_is_named(rt: HostRuntime) {
         Ok(message) => assert!(rt; is_kept(rt.alloc(), &message, &ENTER_ECHO)),
         Err(fault) => assert_eq!(rt; fault, MessageFault::OutOfMemory),
     }
+}
+
+/// Tells a view with this value.
+fn echo_of(alloc: Global, value: Value) -> Result<Message, ViewFault> {
+    let mut view = View::new(alloc);
+    let Some(stored) = Stored::new(1, value) else {
+        return Err(ViewFault::Full);
+    };
+    view.put(1, stored)?;
+    Ok(Message {
+        from: 1,
+        body: Body::StoreEcho { view },
+    })
+}
+
+/// How a message with a value of so many bytes is refused.
+fn refusal_of(alloc: Global, count: usize) -> Result<Option<EncodeFault>, Fail> {
+    let bytes = [7; 112];
+    let value = Value::new(bytes.get(..count).unwrap_or_default())
+        .ok()
+        .ok_or(ViewFault::Full)?;
+    let message = echo_of(alloc, value)?;
+    Ok(encode(alloc, &message).err())
+}
+
+/// Values in messages have 48 bytes.
+#[test]
+fn other_lengths_have_no_bytes(rt: HostRuntime) -> Result<(), Fail> {
+    assert_eq!(rt; refusal_of(rt.alloc(), 47)?, Some(EncodeFault::BadValue));
+    assert_eq!(rt; refusal_of(rt.alloc(), 48)?, None);
+    assert_eq!(rt; refusal_of(rt.alloc(), 112)?, Some(EncodeFault::BadValue));
+    Ok(())
 }

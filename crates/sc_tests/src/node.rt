@@ -1,12 +1,16 @@
+use sc_lengths::laws::{
+    collect_keeps_lengths, delivery_keeps_lengths, leave_keeps_lengths, new_nodes_have_no_value,
+    store_keeps_lengths,
+};
 use sc_members::config::Config;
 use sc_node::fault::NodeFault;
 use sc_node::node::Node;
-use sc_view::value::VALUE_LENGTH;
+use sc_view::value::{VALUE_LENGTH, Value};
 use std::alloc::Global;
 
 // The tag under which the node begins its next store.
 fn next_store(node: &mut Node) -> Result<u64, NodeFault> {
-    let begun = node.begin_store(&[7; VALUE_LENGTH])?;
+    let begun = node.begin_store(&Value::from(&[7; VALUE_LENGTH]))?;
     Ok(begun.tag)
 }
 
@@ -23,4 +27,13 @@ fn want_of_memory_is_named(rt: HostRuntime) {
         Ok(tag) => assert_eq!(rt; tag, 0),
         Err(fault) => assert_eq!(rt; fault, NodeFault::OutOfMemory),
     }
+}
+
+#[test]
+fn laws_of_lengths_can_be_cited() {
+    new_nodes_have_no_value();
+    store_keeps_lengths();
+    collect_keeps_lengths();
+    leave_keeps_lengths();
+    delivery_keeps_lengths();
 }

@@ -4,7 +4,7 @@ use sc_view::laws::{
     order_is_partial,
 };
 use sc_view::sorted::SortedView;
-use sc_view::value::VALUE_LENGTH;
+use sc_view::value::{VALUE_LENGTH, Value, ValueFault};
 use sc_view::view::{Stored, View, ViewFault};
 use std::alloc::Global;
 use std::test::Fail;
@@ -19,7 +19,7 @@ fn laws_can_be_cited() {
 
 fn stored(number: u64) -> Result<Stored, ViewFault> {
     // No number here is 0.
-    Stored::new(number, [7; VALUE_LENGTH]).ok_or(ViewFault::Full)
+    Stored::new(number, Value::from(&[7; VALUE_LENGTH])).ok_or(ViewFault::Full)
 }
 
 /// Learns a value, and once more where memory is refused.
@@ -143,5 +143,33 @@ fn both_forms_reply_alike(rt: HostRuntime) -> Result<(), Fail> {
     );
     assert_eq!(rt; replies.get(3), Some(&Reply::Known(Some(stored(3)?))));
     assert_eq!(rt; replies.get(5), Some(&Reply::Known(None)));
+    Ok(())
+}
+
+/// A view of two values of 112 bytes and one of none.
+fn long_values(alloc: Global, long: Value, empty: Value) -> Option<View> {
+    let mut view = View::new(alloc);
+    view.put(1, Stored::new(1, long)?).ok()?;
+    view.put(2, Stored::new(1, long)?).ok()?;
+    let has_long_ones = view.has_values_of(112);
+    view.put(3, Stored::new(1, empty)?).ok()?;
+    if !has_long_ones || view.has_values_of(112) || view.has_values_of(0) {
+        return None;
+    }
+    Some(view)
+}
+
+#[test]
+fn values_have_their_length(rt: HostRuntime) -> Result<(), Fail> {
+    let bytes = [7; 113];
+    assert_eq!(rt; Value::new(&bytes).err(), Some(ValueFault::BadValue));
+    let long = Value::new(&bytes[..112]).ok().ok_or(ViewFault::Full)?;
+    let empty = Value::new(&[]).ok().ok_or(ViewFault::Full)?;
+    let view = long_values(rt.alloc(), long, empty).ok_or(ViewFault::Full)?;
+    let lengths = view.records().fold(
+        0,
+        |sum: usize, (_, stored)| sum.wrapping_add(stored.value().bytes().len()),
+    );
+    assert_eq!(rt; lengths, 224);
     Ok(())
 }

@@ -1,5 +1,5 @@
 use sc_members::config::Config;
-use sc_view::value::VALUE_LENGTH;
+use sc_view::value::{VALUE_LENGTH, Value};
 use sc_world::event::Event;
 use sc_world::fault::WorldFault;
 use sc_world::laws::regular;
@@ -9,10 +9,10 @@ use std::alloc::Global;
 use std::process::Abort;
 use std::test::Fail;
 
-const fn store(node: u64, byte: u8) -> Event {
+fn store(node: u64, byte: u8) -> Event {
     Event::Store {
         node,
-        value: [byte; VALUE_LENGTH],
+        value: Value::from(&[byte; VALUE_LENGTH]),
     }
 }
 
@@ -82,12 +82,12 @@ fn size(world: &World) -> (usize, usize, usize) {
 }
 
 // Takes an event, and once more where memory is refused: the world is then as it was.
-fn step_again(rt: &impl Abort, world: &mut World, event: Event) -> Result<(), WorldFault> {
+fn step_again(rt: &impl Abort, world: &mut World, event: &Event) -> Result<(), WorldFault> {
     let before = size(world);
-    match world.step(event) {
+    match world.step(*event) {
         Err(fault) if fault.reason().number() == 99 => {
             assert_eq!(rt; size(world), before);
-            world.step(event)?;
+            world.step(*event)?;
             Ok(())
         }
         Err(fault) => Err(fault),
@@ -105,7 +105,7 @@ fn founded_again(alloc: Global, config: Config) -> Result<World, WorldFault> {
 
 fn run_again(rt: &impl Abort, world: &mut World, events: &[Event]) -> Result<(), WorldFault> {
     for event in events {
-        step_again(rt, world, *event)?;
+        step_again(rt, world, event)?;
     }
     Ok(())
 }

@@ -253,7 +253,7 @@ none_by : (b : Bool) (m : ℕ) → b ≡ false → m ≡ 0 → cond b (suc m) m 
 none_by true m is h = absurd (true≢false is)
 none_by false m is h = h
 
-from_tail : (e : ℕ × Stored) (es all : List (ℕ × Stored)) → Rises (e ∷ es) → Tells (e ∷ es) (e ∷ es) all → Tells es es all
+pub from_tail : (e : ℕ × Stored) (es all : List (ℕ × Stored)) → Rises (e ∷ es) → Tells (e ∷ es) (e ∷ es) all → Tells es es all
 from_tail e [] all r t = tt
 from_tail e (f ∷ es) all r t = λ q h. find_behind q e (f ∷ es) (omega (arith, h, r.0.0)) ∙ t q (omega (arith, h, r.0.0))
 

@@ -182,12 +182,12 @@ from_newer : (d f e : Stored) (b : Bool) → Some (cond b f d) ≡ Some e → (S
 from_newer d f e true is = inr is
 from_newer d f e false is = inl is
 
-from_either : (v w : Option Stored) (e : Stored) → merged v w ≡ Some e → (v ≡ Some e) ⊎ (w ≡ Some e)
+pub from_either : (v w : Option Stored) (e : Stored) → merged v w ≡ Some e → (v ≡ Some e) ⊎ (w ≡ Some e)
 from_either v None e is = inl is
 from_either None (Some f) e is = inr is
 from_either (Some d) (Some f) e is = from_newer d f e (nat_lt d.number f.number) is
 
-by_cases : (P : Type 0) {A B : Type 0} → (A → P) → (B → P) → A ⊎ B → P
+pub by_cases : (P : Type 0) {A B : Type 0} → (A → P) → (B → P) → A ⊎ B → P
 by_cases P f g (inl a) = f a
 by_cases P f g (inr b) = g b
 

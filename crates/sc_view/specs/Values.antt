@@ -1,7 +1,11 @@
 -- What a node stored: a number and bytes.
 use Rattle.std.specs.Prelude.{ℕ, List}
 
--- how many bytes a value has
+-- at most so many bytes
+abbrev pub most_bytes : ℕ
+most_bytes = 112
+
+-- how many bytes a value has in a message and in a journal
 abbrev pub value_length : ℕ
 value_length = 48
 

@@ -1,5 +1,6 @@
 -- A view: a finite map from ids to the sequence number and the bytes that were stored.
-use Rattle.std.specs.Prelude.{◌≡◌, ℕ, List, [], ◌∷◌, length, ◌≤◌, ◌<◌, ◌++◌, map, Bool, true, Option, Some, None, nat_lt, if◌then◌else◌, ◌⊎◌}
+use Rattle.std.specs.Prelude.{◌≡◌, ℕ, List, [], ◌∷◌, length, ◌≤◌, ◌<◌, ◌++◌, map, Bool, true, Option, Some, None, nat_lt, ◌==◌, if◌then◌else◌, ◌⊎◌}
+use Rattle.std.specs.List.{list_all}
 use Rattle.std.specs.Ordering.{nat_cmp}
 use Rattle.std.specs.Coded.{Coded, coded_ℕ}
 use Rattle.std.specs.FinMap as fin
@@ -60,6 +61,14 @@ IsCoveredBy v w =
 abbrev pub Agree : ViewMap → ViewMap → Type 0
 Agree v w =
     (id : ℕ) (d e : Stored) → fin.get v id ≡ Some d → fin.get w id ≡ Some e → d.number ≡ e.number → d ≡ e
+
+-- each value of the view has so many bytes
+pub record HasValuesOf (bytes : ℕ) (v : ViewMap) : Type 0 where
+  pub at : (id : ℕ) (e : Stored) → fin.get v id ≡ Some e → length e.value ≡ bytes
+
+-- whether each has
+abbrev pub has_values_of : ℕ → ViewMap → Bool
+has_values_of bytes v = list_all (λ e. length e.1.value == bytes) (fin.entries v)
 
 -- lists joined in turn
 abbrev pub joined : List (List (ℕ × Stored)) → List (ℕ × Stored)

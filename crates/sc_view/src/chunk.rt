@@ -1,5 +1,5 @@
 //! Chunks: entries in rising id order, which views share. A chunk that several views have is never changed.
-ghost use Rattle.std.specs.Prelude.{◌≡◌, ◌+◌, ◌≤◌, ◌<◌, [], length, IfOk, OnOk, OnErr};
+ghost use Rattle.std.specs.Prelude.{◌≡◌, ◌+◌, ◌≤◌, ◌<◌, ◌↔◌, [], length, All, IsTrue, IfOk, OnOk, OnErr};
 ghost use Rattle.std.specs.Ordering.{nat_cmp};
 ghost use Rattle.std.specs.FinMap.Entries.{put, find};
 ghost use Rattle.std.specs.Arc.{arc_value};
@@ -178,4 +178,13 @@ fn without_first(entries: &[Entry], id: u64) -> &[Entry]
         Some((first, rest)) if first.0 == id => rest,
         _ => entries,
     }
+}
+
+/// Whether each value of the entries has so many bytes.
+pub(crate) fn are_of_length(entries: &[Entry], bytes: usize) -> bool
+    ensures { IsTrue result ↔ All (λ e. length e.1.value ≡ bytes) entries.now }
+{
+    entries
+        .iter()
+        .all(|entry| entry.1.value().bytes().len() == bytes)
 }

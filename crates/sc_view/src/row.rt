@@ -1,5 +1,5 @@
 //! Rows of chunks, whose ids rise within and across the chunks.
-ghost use Rattle.std.specs.Prelude.{◌≡◌, ◌+◌, ◌≤◌, ◌<◌, [], length, IfOk, OnOk, OnErr, slice_index_or, slice_set, take, drop, ◌++◌};
+ghost use Rattle.std.specs.Prelude.{◌≡◌, ◌+◌, ◌≤◌, ◌<◌, ◌↔◌, [], length, All, IsTrue, IfOk, OnOk, OnErr, slice_index_or, slice_set, take, drop, ◌++◌};
 ghost use Rattle.std.specs.Ordering.{nat_cmp};
 ghost use Rattle.std.specs.FinMap.Entries.{put, find};
 ghost use Rattle.sc_view.specs.Rows.{joined, IsRow, Rises, Under, Over, LearnsAt, starts_above, from, count_lacking, count_newer, is_larger};
@@ -8,7 +8,7 @@ ghost use Rattle.std.specs.Map.Iter.{TakesFirst};
 ghost use Rattle.std.specs.FinMap as fin;
 ghost use Rattle.sc_view.specs.Views.{merge};
 
-use crate::chunk::{Chunk, MOST, learn, with_entry};
+use crate::chunk::{Chunk, MOST, are_of_length, learn, with_entry};
 use crate::view::{Entry, Stored};
 use arrayvec::ArrayVec;
 use std::alloc::{AllocError, Global};
@@ -160,6 +160,15 @@ pub(crate) fn seek(rest: &mut Rest<'_>, id: u64) -> Option<u64>
             }
         }
     }
+}
+
+/// Whether each value of the chunks has so many bytes.
+pub(crate) fn have_values_of(chunks: &[Chunk], bytes: usize) -> bool
+    ensures { IsTrue result ↔ All (λ chunk. All (λ e. length e.1.value ≡ bytes) chunk) chunks.now }
+{
+    chunks
+        .iter()
+        .all(|chunk| are_of_length(chunk.as_slice(), bytes))
 }
 
 /// What one row tells beyond another.

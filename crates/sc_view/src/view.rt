@@ -4,7 +4,7 @@ ghost use Rattle.std.specs.Ordering.{nat_cmp};
 ghost use Rattle.std.specs.Map.Iter.{TakesFirst};
 ghost use Rattle.std.specs.Iterator.{at_most};
 ghost use Rattle.sc_view.specs.Faults.{reason};
-ghost use Rattle.sc_view.specs.Views.{IsView, is_newer, put, merge, most_entries, number_at, IsBelow, IsChunking};
+ghost use Rattle.sc_view.specs.Views.{IsView, is_newer, put, merge, most_entries, number_at, IsBelow, IsChunking, HasValuesOf, has_values_of};
 ghost use Rattle.std.specs.List.{slice_get};
 ghost use Rattle.std.specs.Option.{option_copied, SomeIff};
 ghost use Rattle.sc_view.specs.declared.view.Stored.{Stored as StoredValue};
@@ -12,7 +12,9 @@ ghost use Rattle.sc_view.specs.declared.view.ViewFault.TheVariants.{OutOfMemory}
 
 use crate::chunk::{Chunk, find};
 use crate::chunks::Chunks;
-use crate::row::{News, Rest, Row, merged, next_entry, place, put_entry, what_is_new};
+use crate::row::{
+    News, Rest, Row, have_values_of, merged, next_entry, place, put_entry, what_is_new,
+};
 use crate::value::Value;
 use arrayvec::ArrayVec;
 use reasons::{Reason, told};
@@ -193,6 +195,14 @@ impl View {
         ensures { IsTrue result ↔ (fin.len self.now ≡ 0) }
     {
         self.len() == 0
+    }
+
+    /// Whether each value has so many bytes. Takes no memory.
+    pub fn has_values_of(&self, bytes: usize) -> bool
+        ensures told { result ≡ has_values_of bytes self.now }
+        ensures each { IsTrue result ↔ HasValuesOf bytes self.now }
+    {
+        have_values_of(self.row.as_slice(), bytes)
     }
 
     /// The entries in rising id order, each with its id. Takes no memory.

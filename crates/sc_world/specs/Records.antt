@@ -1,5 +1,5 @@
 -- What the record of an operation says of its world.
-use Rattle.std.specs.Prelude.{◌≡◌, ℕ, ◌+◌, ◌≤◌, ◌<◌, Bool, false, ◌==◌, List, [], ◌∷◌, Option, Some, None, ◌⊎◌, Ok, take, slice_get}
+use Rattle.std.specs.Prelude.{◌≡◌, ℕ, ◌+◌, ◌≤◌, ◌<◌, Bool, false, ◌==◌, List, Option, Some, None, Ok, take, slice_get}
 use Rattle.std.specs.List.{count_by}
 use Rattle.std.specs.FinMap as fin
 use Rattle.std.specs.FinSet as set

@@ -7,6 +7,7 @@ use Rattle.std.proofs.lemmas.Iterator.Splits.{YieldsList-from_str_split}
 use Rattle.q_script.specs.declared.records.RecordFault.TheVariants.{Full}
 use Rattle.q_script.specs.Lines.{parts_of}
 use Rattle.q_script.specs.Records.{IsFaultAt, IsReading}
+use Rattle.q_script.proofs.Learning.{IsWithin, within_empty, within_learned}
 use Rattle.q_script.proofs.Faults.{Read, not_empty, lines_there, fault_at, full_fault, read_more}
 use Rattle.q_script.proofs.records.read_records.Goals as goal
 
@@ -16,11 +17,11 @@ loop-text-init c = ([], record { reading = record { spelled = tt; good = tt }; l
 pub loop-text-preserved : goal.loop-text-preserved
 loop-text-preserved c =
     let k = c.loop-text.invariant in
-    let r = c.in-Ok.record in
-    let e = map_push (λ (x : Bor (List ℕ)). x.now) c.loop-text.yielded c.in-Some.text in (
-      k.0 ++ (r ∷ []),
-      subst (λ u. Read c.args.lengths u (Some r.id) c.put.new.self (k.0 ++ (r ∷ []))) (sym e)
-          (read_more c.args.lengths (map (λ (x : Bor (List ℕ)). x.now) c.loop-text.yielded) c.in-Some.text.now c.loop-text.last c.loop-text.view c.put.new.self k.0 r c.stored.result k.1 c.in-Ok.ensures.0 c.in-Ok.ensures.1 c.stored.ensures c.in-Ok-put.ensures.ok),
+    let e = map_push (λ (x : Bor (List ℕ)). x.now) c.loop-text.yielded c.in-Some.text in
+    let h = c.in-Ok.ensures in (
+      k.0 ++ (h.0 ∷ []),
+      subst (λ u. Read c.args.lengths u (Some c.in-Ok.entry.0) c.put.new.self (k.0 ++ (h.0 ∷ []))) (sym e)
+          (read_more c.args.lengths (map (λ (x : Bor (List ℕ)). x.now) c.loop-text.yielded) c.in-Some.text.now c.loop-text.last c.loop-text.view c.put.new.self k.0 c.in-Ok.entry k.1 h c.in-Ok-put.ensures.ok),
     )
 
 pub returns-in-Err-clause-fault : goal.returns-in-Err-clause-fault
@@ -42,8 +43,7 @@ returns-in-Err-Full-clause-fault c =
     let t = YieldsList-turn road c.loop-text.yielded _ c.loop-text.yielded_by _ _ c.in-Some.text c.in-Some.is c.next.ensures.steps in
     let f = YieldsList-so_far road c.loop-text.yielded _ c.loop-text.yielded_by in
     let k = c.loop-text.invariant in
-    let r = c.in-Ok.record in
-    let full = full_fault c.args.lengths (map (λ (x : Bor (List ℕ)). x.now) c.loop-text.yielded) c.in-Some.text.now c.loop-text.last c.loop-text.view k.0 r c.stored.result k.1 (omega (arith, c.len-in-Err-Full.ensures.valid.few, ap fin.len c.in-Err-Full.ensures.err)) c.in-Ok.ensures.0 c.in-Ok.ensures.1 c.stored.ensures (c.in-Err-Full.ensures.full.0 (search rules)) in
+    let full = full_fault c.args.lengths (map (λ (x : Bor (List ℕ)). x.now) c.loop-text.yielded) c.in-Some.text.now c.loop-text.last c.loop-text.view k.0 c.in-Ok.entry k.1 (omega (arith, c.len-in-Err-Full.ensures.valid.few, ap fin.len c.in-Err-Full.ensures.err)) c.in-Ok.ensures (c.in-Err-Full.ensures.full.0 (search rules)) in
     subst (λ u. IsFaultAt c.args.lengths u (c.len-in-Err-Full.result + 1) Full) (sym (lines_there c.args.source.now body (not_empty (length c.args.source.now) c.is_empty.result c.is_empty.ensures c.if-is_empty.false) c.without_last_feed.ensures))
     (fault_at c.args.lengths (parts_of body) (map (λ (x : Bor (List ℕ)). x.now) c.loop-text.yielded) c.in-Some.text.now _ c.len-in-Err-Full.result c.loop-text.last c.loop-text.view k.0 Full f t.0 t.1 k.1 (c.len-in-Err-Full.ensures.count ∙ ap fin.len c.in-Err-Full.ensures.err) full)
 
@@ -56,3 +56,11 @@ returns-clause-read c =
     let k = c.loop-text.invariant in
     let there = lines_there c.args.source.now body (not_empty (length c.args.source.now) c.is_empty.result c.is_empty.ensures c.if-is_empty.false) c.without_last_feed.ensures in
     (k.0, subst (λ u. IsReading c.args.lengths u k.0) (t.0 ∙ sym there) k.1.reading, k.1.learnt)
+
+pub returns-then-is_empty-clause-lengths : goal.returns-then-is_empty-clause-lengths
+returns-then-is_empty-clause-lengths c = subst (IsWithin c.args.lengths) (sym c.new-view.ensures) (within_empty c.args.lengths)
+
+pub returns-clause-lengths : goal.returns-clause-lengths
+returns-clause-lengths c =
+    let k = c.loop-text.invariant in
+    subst (IsWithin c.args.lengths) (sym k.1.learnt) (within_learned c.args.lengths k.0 k.1.reading.good)

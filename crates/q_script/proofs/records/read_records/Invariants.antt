@@ -1,5 +1,5 @@
 use Rattle.std.proofs.Common.{List, map}
-use Rattle.q_script.specs.declared.records.Record.{Record}
+use Rattle.q_script.specs.Records.{Record}
 use Rattle.q_script.proofs.Faults.{Read}
 use Rattle.q_script.proofs.records.read_records.Given as goal
 

@@ -1,14 +1,22 @@
 -- One more record run goes on a fold, at every placement.
-use Rattle.std.proofs.Common.{◌≡◌, length, map, sym, subst, ◌∙◌, arith, length-append, take}
+use Rattle.std.proofs.Common.{◌≡◌, ℕ, length, map, Some, slice_get, ap, sym, subst, ◌∙◌, arith, length-append, take}
 use Rattle.std.proofs.lemmas.List.{map-append, map-id}
 use Rattle.std.proofs.lemmas.Map.Iter.{iter_turn, iter_end}
 use Rattle.std.specs.FinMap as fin
 use Rattle.std.specs.FinMap.{len-entries}
 use Rattle.bq_meaning.specs.Runs.{RecordRun}
 use Rattle.bq_meaning.specs.Answers.{FoldsTo, zero_frame}
-use Rattle.q_session.proofs.Records.{room, one_more}
+use Rattle.bq_range.specs.Interval.{IsIn}
+use Rattle.q_session.proofs.Records.{room, one_more, lengths_at, record_length}
 use Rattle.q_session.specs.Records.{record_bytes}
 use Rattle.q_session.proofs.run.run_fold.Goals as goal
+
+pub run-ended-requires : goal.run-ended-requires
+run-ended-requires c =
+    let turn = iter_turn (λ e. e) c.records-id-items.result c.loop-id.yielded c.into_iter-id-iterator.result c.loop-id.id-iterator c.next.new.self c.next.result c.into_iter-id-iterator.ensures.into_iter_gives c.loop-id.yielded_by (c.in-Some.id, c.in-Some.stored) c.in-Some.is c.next.ensures.steps in
+    let there : slice_get (fin.entries c.args.view.now) (length c.loop-id.yielded) ≡ Some (c.in-Some.id, c.in-Some.stored) = ap (λ xs. slice_get xs (length c.loop-id.yielded)) (sym c.records-id-items.ensures.all) ∙ turn.1 in
+    let within = lengths_at c.args.certified.now.lengths c.args.view.now (length c.loop-id.yielded) c.in-Some.id c.in-Some.stored c.requires there in
+    subst (λ (n : ℕ). IsIn n c.args.certified.now.lengths) (record_length (c.in-Some.id, c.in-Some.stored) ∙ sym (ap length c.write_record-length.ensures.first)) within
 
 pub overflow_add-ran : goal.overflow_add-ran
 overflow_add-ran c =
@@ -18,7 +26,7 @@ overflow_add-ran c =
 pub loop-id-preserved : goal.loop-id-preserved
 loop-id-preserved c = record {
   folds = λ p is.
-      let run = subst (λ bytes. RecordRun p c.args.certified.now.text c.loop-id.ran.acc bytes (take 512 c.loop-id.block) c.run-ended.result.steps c.run-ended.result.acc (take 512 c.run-ended.new.block)) c.record_bytes-bytes.ensures (c.run-ended.ensures.run p is) in
+      let run = subst (λ bytes. RecordRun p c.args.certified.now.text c.loop-id.ran.acc bytes (take 512 c.loop-id.block) c.run-ended.result.steps c.run-ended.result.acc (take 512 c.run-ended.new.block)) c.write_record-length.ensures.first (c.run-ended.ensures.run p is) in
       rw map-append (c.appended.ensures p c.args.certified.now.text (map record_bytes c.loop-id.yielded) _ c.args.start zero_frame c.loop-id.ran.acc c.loop-id.ran.steps (take 512 c.loop-id.block) c.run-ended.result.steps c.run-ended.result.acc (take 512 c.run-ended.new.block) (c.loop-id.invariant.folds p is) run);
   within = one_more c.loop-id.ran.steps c.run-ended.result.steps c.args.certified.now.longest (length c.loop-id.yielded) _ (length-append c.loop-id.yielded _) c.loop-id.invariant.within c.run-ended.ensures.within;
 }

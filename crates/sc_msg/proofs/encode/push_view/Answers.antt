@@ -1,9 +1,10 @@
-use Rattle.std.proofs.Common.{ℕ, List, ◌++◌, ap, subst, ◌∙◌, append_assoc}
+use Rattle.std.proofs.Common.{ℕ, List, ◌++◌, ap, ◌∙◌, append_assoc}
 use Rattle.std.specs.FinMap as fin
 use Rattle.sc_view.specs.declared.view.Stored.{Stored}
 use Rattle.sc_msg.specs.Numbers.{number_bytes}
 use Rattle.sc_msg.specs.Entries.{view_layout, stored_bytes}
-use Rattle.sc_msg.proofs.Writing.{WrittenTo, written_more, written_all}
+use Rattle.sc_view.proofs.LengthLemmas.{OfLength, entries_of_length}
+use Rattle.sc_msg.proofs.Writing.{written_more, written_all, all_at}
 use Rattle.sc_msg.proofs.encode.push_view.Goals as goal
 
 pub loop-id-preserved : goal.loop-id-preserved
@@ -19,3 +20,9 @@ pub returns-clause-spelled : goal.returns-clause-spelled
 returns-clause-spelled c =
     let v = c.args.view.now in
     (written_all view_layout (fin.len v) (fin.entries v) c.args.out.now.items c.loop-id.out.items _ c.loop-id.invariant c.in-None.ensures.steps.0 (fin.len-entries v)).1
+
+pub push_stored-requires : goal.push_stored-requires
+push_stored-requires c =
+    let v = c.args.view.now in
+    let so_far = c.loop-id.invariant in
+    all_at (OfLength 48) (fin.entries v) so_far.done c.next.new.self (c.in-Some.id, c.in-Some.stored) (so_far.split ∙ ap (λ (l : List (ℕ × Stored)). so_far.done ++ l) c.in-Some.ensures.steps) (entries_of_length 48 v c.requires)

@@ -11,4 +11,4 @@ returns-in_err-bytes-clause-fault c =
 pub returns-clause-stored : goal.returns-clause-stored
 returns-clause-stored c =
     subst IsStored (sym c.in-Some.ensures.1)
-    (record { positive = omega arith; fits = c.in_ok-number.ensures.fits; whole = c.copy_from_slice.ensures.len; bytes = rw c.copy_from_slice.ensures.after c.in_ok-bytes.ensures.bytes })
+    (record { positive = omega arith; fits = c.in_ok-number.ensures.fits; whole = rw c.in-Ok.ensures.ok c.in_ok-bytes.ensures.len; bytes = rw c.in-Ok.ensures.ok c.in_ok-bytes.ensures.bytes })

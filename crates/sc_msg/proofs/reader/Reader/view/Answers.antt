@@ -1,5 +1,4 @@
 use Rattle.std.proofs.Common.{◌≡◌, Err, ap, arith, rules}
-use Rattle.std.specs.FinMap as fin
 use Rattle.sc_view.specs.declared.view.ViewFault.TheVariants as views
 use Rattle.sc_msg.specs.Entries.{view_layout}
 use Rattle.sc_msg.specs.Fields.{IsListFault}

@@ -1,4 +1,4 @@
-use Rattle.std.proofs.Common.{◌≡◌, ℕ, ◌∙◌, ap, List, None, Some}
+use Rattle.std.proofs.Common.{ℕ, ◌∙◌, ap, List, None, Some}
 use Rattle.std.specs.Ordering.{nat_cmp}
 use Rattle.std.specs.FinMap as fin
 use Rattle.sc_node.specs.declared.session.Session.{Session}

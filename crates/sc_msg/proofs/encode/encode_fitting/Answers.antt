@@ -3,7 +3,7 @@ use Rattle.sc_msg.specs.Numbers.{number_bytes}
 use Rattle.sc_msg.specs.Fields.{fields, fields_bytes}
 use Rattle.sc_msg.proofs.Numbers.{length-number_bytes}
 use Rattle.sc_msg.proofs.Unique.{body_small}
-use Rattle.sc_msg.proofs.encode.encode.Goals as goal
+use Rattle.sc_msg.proofs.encode.encode_fitting.Goals as goal
 
 pub returns-clause-small : goal.returns-clause-small
 returns-clause-small c =

@@ -1,0 +1,84 @@
+-- The values of a list: numbers, or x and hexadecimal digits.
+use Rattle.std.proofs.Common.{◌≡◌, ◌≢◌, ◌↔◌, inl, inr, ℕ, ◌/◌, ◌%◌, ◌<◌, ◌||◌, if◌then◌else◌, nat_le, ◌&&◌, ◌-◌, Bool, true, false, true≢false, IsTrue, List, ◌∷◌, length, slice_index_or, Option, Some, None, is_some, Result, Ok, Err, IfOk, IsErrOf, MatchResult, refl, ap, sym, ◌∙◌, subst, arith}
+use Rattle.std.specs.Bool.{then_some}
+use Rattle.std.specs.Char.{is_ascii_digit, is_ascii_hexdigit}
+use Rattle.std.specs.List.{AllPass, list_all}
+use Rattle.std.proofs.lemmas.Fmt.{digits_decimal}
+use Rattle.decimal.proofs.Numbers.{own}
+use Rattle.hex.specs.Hex.{decode_of, decode_sized, is_hex_digit}
+use Rattle.hex.specs.declared.error.FromHexError.{FromHexError}
+use Rattle.hex.proofs.HexLemmas.{decode_of-digits, decode_of-ok, decode_sized-ok, decode_sized-twice}
+use Rattle.sc_view.specs.declared.value.ValueFault.{ValueFault}
+use Rattle.sc_view.specs.declared.value.ValueFault.TheVariants.{BadValue}
+use Rattle.sc_view.specs.Values.{most_bytes}
+use Rattle.q_script.specs.Words.{IsNumeral}
+use Rattle.q_script.specs.Records.{AreDigits, IsValue, IsReadAs, ReadsValue}
+
+-- ---- hexadecimal digits
+
+digit_by_range : (a b d : Bool) (x y z : ℕ) → ((d || a) || b) ≡ is_some (if a then Some x else if b then Some y else if d then Some z else None)
+digit_by_range true true true x y z = refl
+digit_by_range true true false x y z = refl
+digit_by_range true false true x y z = refl
+digit_by_range true false false x y z = refl
+digit_by_range false true true x y z = refl
+digit_by_range false true false x y z = refl
+digit_by_range false false true x y z = refl
+digit_by_range false false false x y z = refl
+
+same_digit : (c : ℕ) → is_ascii_hexdigit c ≡ is_hex_digit c
+same_digit c = digit_by_range (nat_le 65 c && nat_le c 70) (nat_le 97 c && nat_le c 102) (nat_le 48 c && nat_le c 57) (c - 55) (c - 87) (c - 48)
+
+pub hex_digits : (s : List ℕ) → AllPass is_ascii_hexdigit s → AllPass is_hex_digit s
+hex_digits s h = λ k d less. sym (same_digit (slice_index_or s k d)) ∙ h k d less
+
+pub ascii_digits : (s : List ℕ) → AllPass is_hex_digit s → AllPass is_ascii_hexdigit s
+ascii_digits s h = λ k d less. same_digit (slice_index_or s k d) ∙ h k d less
+
+-- ---- what digits spell
+
+-- digits of more bytes than a value has are read as too many
+pub too_many : (s : List ℕ) (b : Bool) (r : Option (Result (List ℕ) ValueFault)) (f : ValueFault) → (IsTrue b ↔ ((length s % 2 ≡ 0) × AllPass is_hex_digit s)) → r ≡ then_some b (Err f) → most_bytes < length s / 2 → ReadsValue AreDigits s r
+too_many s true r f h e over = subst (ReadsValue AreDigits s) (sym e) (
+    let k = h.0 refl in
+    let d = decode_of-digits s k.0 k.1 in
+    (d.0, d.1, omega (arith, (decode_of-ok s d.0 d.1).2, over))
+    )
+too_many s false r f h e over = subst (ReadsValue AreDigits s) (sym e) (λ bytes is. let k = decode_of-ok s bytes is in true≢false (sym (h.1 (k.0, k.1))))
+
+from_sized : (d : Result (List ℕ) FromHexError) (out : List ℕ) (r : Result (Unit {0}) FromHexError) (u : Unit {0}) → MatchResult d (λ bytes. (r ≡ Ok tt) × (out ≡ bytes)) (λ e. r ≡ Err e) → r ≡ Ok u → d ≡ Ok out
+from_sized (Ok bytes) out r u h e = ap Ok (sym h.1)
+from_sized (Err f) out r u h e = cc
+
+-- what is written is what the digits spell
+pub written : (s out : List ℕ) (n : ℕ) (r : Result (Unit {0}) FromHexError) (u : Unit {0}) → MatchResult (decode_sized s n) (λ bytes. (r ≡ Ok tt) × (out ≡ bytes)) (λ e. r ≡ Err e) → r ≡ Ok u → AreDigits s out
+written s out n r u h e =
+    let sized = from_sized (decode_sized s n) out r u h e in
+    sym (decode_sized-twice s n (decode_sized-ok s n out sized)) ∙ sized
+
+pub read_as : (bytes : List ℕ) (r : Result (List ℕ) ValueFault) → IfOk r (λ value. value ≡ bytes) → (IsErrOf r BadValue ↔ (most_bytes < length bytes)) → IsReadAs bytes r
+read_as bytes (Ok value) h k = h
+read_as bytes (Err BadValue) h k = k.0 refl
+
+-- ---- what a value's text spells
+
+no_x : (s digits : List ℕ) (n : ℕ) → s ≡ 120 ∷ digits → IsNumeral s n → ⊥
+no_x s digits n e h =
+    let t : list_all is_ascii_digit (120 ∷ digits) ≡ true = subst (λ (x : List ℕ). list_all is_ascii_digit x ≡ true) (sym h.1 ∙ e) (digits_decimal own n h.0) in
+    true≢false (sym t)
+
+behind : (a b : List ℕ) → 120 ∷ a ≡ 120 ∷ b → a ≡ b
+behind a b e = cc
+
+pub no_value : (s : List ℕ) → ((digits : List ℕ) → s ≢ 120 ∷ digits) → ((n : ℕ) → IsNumeral s n → ⊥) → (bytes : List ℕ) → IsValue s bytes → ⊥
+no_value s x n bytes (inl number) = n number.0 number.1
+no_value s x n bytes (inr digits) = x digits.0 digits.1
+
+no_hex : (s digits : List ℕ) → s ≡ 120 ∷ digits → ((bytes : List ℕ) → AreDigits digits bytes → ⊥) → (bytes : List ℕ) → IsValue s bytes → ⊥
+no_hex s digits e h bytes (inl number) = no_x s digits number.0 e number.1
+no_hex s digits e h bytes (inr hex) = h bytes (ap decode_of (behind digits hex.0 (sym e ∙ hex.1)) ∙ hex.2)
+
+pub behind_x : (s digits : List ℕ) (r : Option (Result (List ℕ) ValueFault)) → s ≡ 120 ∷ digits → ReadsValue AreDigits digits r
+    → ReadsValue IsValue s r
+behind_x s digits None e h = no_hex s digits e h
+behind_x s digits (Some value) e h = (h.0, inr (digits, e, h.1), h.2)

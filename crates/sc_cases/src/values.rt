@@ -1,0 +1,42 @@
+//! Lines about the lengths of values.
+
+use sc_msg::encode::encode;
+use sc_msg::message::{Body, Message};
+use sc_view::value::Value;
+use sc_view::view::{Stored, View};
+use std::alloc::Global;
+use std::io;
+
+/// A message that tells this value of its sender.
+fn echo_of(alloc: Global, value: Value) -> Option<Message> {
+    let mut view = View::new(alloc);
+    view.put(1, Stored::new(1, value)?).ok()?;
+    Some(Message {
+        from: 1,
+        body: Body::StoreEcho { view },
+    })
+}
+
+fn tell_bytes(rt: &impl Print, alloc: Global, message: &Message) -> io::Result<()> {
+    match encode(alloc, message) {
+        Ok(bytes) => println!(rt; ", message {}", bytes.len()),
+        Err(fault) => println!(rt; ", message refused {}", fault.reason()),
+    }
+}
+
+fn tell_value(rt: &impl Print, alloc: Global, value: Value) -> io::Result<()> {
+    print!(rt; " {} bytes", value.bytes().len())?;
+    match echo_of(alloc, value) {
+        Some(message) => tell_bytes(rt, alloc, &message),
+        None => println!(rt; ", no message"),
+    }
+}
+
+/// The length of a value of so many bytes, 128 at most, and that of a message that tells it.
+pub(crate) fn tell(rt: &impl Print, alloc: Global, count: usize) -> io::Result<()> {
+    let bytes = [5; 128];
+    match Value::new(bytes.get(..count).unwrap_or(&bytes)) {
+        Ok(value) => tell_value(rt, alloc, value),
+        Err(fault) => println!(rt; " refused {}", fault.reason()),
+    }
+}

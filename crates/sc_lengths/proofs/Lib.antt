@@ -1,0 +1,2 @@
+-- Why values keep their lengths.
+pub mod Kept

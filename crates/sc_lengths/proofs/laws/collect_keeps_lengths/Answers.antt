@@ -1,0 +1,5 @@
+use Rattle.sc_lengths.proofs.Kept.{collect_kept}
+use Rattle.sc_lengths.proofs.laws.collect_keeps_lengths.Goals as goal
+
+pub returns : goal.returns
+returns c = collect_kept

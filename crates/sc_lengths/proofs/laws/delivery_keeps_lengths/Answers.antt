@@ -1,0 +1,5 @@
+use Rattle.sc_lengths.proofs.Kept.{delivery_kept}
+use Rattle.sc_lengths.proofs.laws.delivery_keeps_lengths.Goals as goal
+
+pub returns : goal.returns
+returns c = delivery_kept

@@ -1,0 +1,5 @@
+use Rattle.sc_lengths.proofs.Kept.{leave_kept}
+use Rattle.sc_lengths.proofs.laws.leave_keeps_lengths.Goals as goal
+
+pub returns : goal.returns
+returns c = leave_kept

@@ -1,0 +1,2 @@
+-- The lengths of the values that a node holds.
+pub mod Lengths

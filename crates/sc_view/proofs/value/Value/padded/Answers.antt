@@ -1,0 +1,5 @@
+use Rattle.sc_view.proofs.ValueLemmas.{padded_copy}
+use Rattle.sc_view.proofs.value.Value.padded.Goals as goal
+
+pub invariant_of-result : goal.invariant_of-result
+invariant_of-result c = padded_copy c.args.bytes.now c.copy_from_slice.new.self c.copy_from_slice.ensures.after c.requires
