@@ -32,28 +32,13 @@ fn refused(fault: AsmFault) -> anyhow::Error {
     anyhow!("refused {}", fault.reason())
 }
 
-/// How long it takes to assemble a source so many times.
-fn time_assembling(
-    rt: &(impl Clock + Alloc<A = Global>),
-    source: &str,
-    runs: u64,
-) -> Result<Duration> {
+/// How long it takes to do something so many times.
+fn time<F: Fn() -> Result<()>>(rt: &impl Clock, runs: u64, once: F) -> Result<Duration>
+    requires { F.IsAlwaysCallable once }
+{
     let start = Instant::now(rt)?;
     for _ in 0..runs {
-        let _text = assemble(rt.alloc(), source).map_err(refused)?;
-    }
-    Ok(start.elapsed(rt)?)
-}
-
-/// How long it takes to disassemble a text so many times.
-fn time_disassembling(
-    rt: &(impl Clock + Alloc<A = Global>),
-    text: &Text,
-    runs: u64,
-) -> Result<Duration> {
-    let start = Instant::now(rt)?;
-    for _ in 0..runs {
-        let _source = disassemble(rt.alloc(), text)?;
+        once()?;
     }
     Ok(start.elapsed(rt)?)
 }
@@ -71,8 +56,14 @@ pub(crate) fn run(
         text.units(),
         source.len()
     )?;
-    let assembling = time_assembling(rt, source.as_str(), runs)?;
-    let disassembling = time_disassembling(rt, &text, runs)?;
+    let assembling = time(rt, runs, || {
+        let _text = assemble(rt.alloc(), source.as_str()).map_err(refused)?;
+        Ok(())
+    })?;
+    let disassembling = time(rt, runs, || {
+        let _source = disassemble(rt.alloc(), &text)?;
+        Ok(())
+    })?;
     eprintln!(rt; "assembling {assembling:?}, disassembling {disassembling:?}")?;
     Ok(())
 }
