@@ -30,8 +30,8 @@ macro_rules! told {
     };
 }
 
-/// The fault of another type that stands for a fault of this one: the variant of the same name, or of the name behind
-/// `=>`; `else` names the one of all others.
+/// The value of another type that stands for one of this type, as a fault may stand for another: the variant of the
+/// same name, or of the name behind `=>`; `else` names the one of all others.
 #[macro_export]
 macro_rules! passed_on {
     (@ $to:ident $name:ident) => { $to::$name };
