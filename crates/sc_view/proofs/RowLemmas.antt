@@ -4,7 +4,7 @@ use Rattle.std.proofs.lemmas.Bool.{ltb-true, ltb-false}
 use Rattle.std.proofs.lemmas.List.{drop_more, take-append-drop, drop_all, set_split, take_more_set, drop-set-lt}
 use Rattle.std.proofs.lemmas.List.{length-set, length-drop, length-take-le}
 use Rattle.std.proofs.lemmas.List.Edits.{length-insert}
-use Rattle.std.specs.List.{AllByRecursion, insert}
+use Rattle.std.specs.List.{insert}
 use Rattle.std.specs.Ordering.{nat_cmp}
 use Rattle.std.specs.FinMap.Entries.{put, find}
 use Rattle.sc_view.specs.declared.view.Stored.{Stored}
@@ -57,23 +57,29 @@ over_end id cs n h = subst (λ r. Over id (joined r)) (sym (drop_all n cs h)) tt
 
 -- ---- one chunk for another
 
-all_left : {X : Type 0} (P : X → Type 0) (xs ys : List X) → AllByRecursion P (xs ++ ys) → AllByRecursion P xs
-all_left P [] ys h = tt
-all_left P (x ∷ xs) ys h = (h.0, all_left P xs ys h.1)
+most_left : (n : ℕ) (xs ys : List (List (ℕ × Stored))) → HasAtMost n (xs ++ ys) → HasAtMost n xs
+most_left n [] ys h = tt
+most_left n (x ∷ xs) ys h = (h.0, most_left n xs ys h.1)
 
-all_right : {X : Type 0} (P : X → Type 0) (xs ys : List X) → AllByRecursion P (xs ++ ys) → AllByRecursion P ys
-all_right P [] ys h = h
-all_right P (x ∷ xs) ys h = all_right P xs ys h.1
+most_right : (n : ℕ) (xs ys : List (List (ℕ × Stored))) → HasAtMost n (xs ++ ys) → HasAtMost n ys
+most_right n [] ys h = h
+most_right n (x ∷ xs) ys h = most_right n xs ys h.1
 
-all_join : {X : Type 0} (P : X → Type 0) (xs ys : List X) → AllByRecursion P xs → AllByRecursion P ys → AllByRecursion P (xs ++ ys)
-all_join P [] ys g h = h
-all_join P (x ∷ xs) ys g h = (g.0, all_join P xs ys g.1 h)
+most_join : (n : ℕ) (xs ys : List (List (ℕ × Stored))) → HasAtMost n xs → HasAtMost n ys → HasAtMost n (xs ++ ys)
+most_join n [] ys g h = h
+most_join n (x ∷ xs) ys g h = (g.0, most_join n xs ys g.1 h)
 
-abbrev AtMost : ℕ → List (ℕ × Stored) → Type 0
-AtMost n c = length c ≤ n
+least_left : (n : ℕ) (xs ys : List (List (ℕ × Stored))) → HasAtLeast n (xs ++ ys) → HasAtLeast n xs
+least_left n [] ys h = tt
+least_left n (x ∷ xs) ys h = (h.0, least_left n xs ys h.1)
 
-abbrev AtLeast : ℕ → List (ℕ × Stored) → Type 0
-AtLeast n c = n ≤ length c
+least_right : (n : ℕ) (xs ys : List (List (ℕ × Stored))) → HasAtLeast n (xs ++ ys) → HasAtLeast n ys
+least_right n [] ys h = h
+least_right n (x ∷ xs) ys h = least_right n xs ys h.1
+
+least_join : (n : ℕ) (xs ys : List (List (ℕ × Stored))) → HasAtLeast n xs → HasAtLeast n ys → HasAtLeast n (xs ++ ys)
+least_join n [] ys g h = h
+least_join n (x ∷ xs) ys g h = (g.0, least_join n xs ys g.1 h)
 
 -- the others are large, even where there are none
 others_large : (pre : List (List (ℕ × Stored))) (c : List (ℕ × Stored)) (post : List (List (ℕ × Stored))) → (1 < length (pre ++ c ∷ post) → HasAtLeast 16 (pre ++ c ∷ post)) → HasAtLeast 16 pre × HasAtLeast 16 post
@@ -81,7 +87,7 @@ others_large [] c [] h = (tt, tt)
 others_large [] c (d ∷ post) h = (tt, (h (omega arith)).1)
 others_large (p ∷ pre) c post h =
     let all : HasAtLeast 16 (p ∷ (pre ++ c ∷ post)) = h (omega (arith, length-append pre (c ∷ post))) in
-    ((all.0, all_left (AtLeast 16) pre (c ∷ post) all.1), (all_right (AtLeast 16) pre (c ∷ post) all.1).1)
+    ((all.0, least_left 16 pre (c ∷ post) all.1), (least_right 16 pre (c ∷ post) all.1).1)
 
 -- ---- how many entries, and in chunks of which sizes
 
@@ -125,11 +131,11 @@ row_whole pre c all post row longer by_one fits rises =
     let same : length (pre ++ all ∷ post) ≡ length (pre ++ c ∷ post) = omega (arith, length-append pre (all ∷ post), length-append pre (c ∷ post)) in
     record {
       some = omega (arith, same, row.some);
-      most = all_join (AtMost 32) pre (all ∷ post) (all_left (AtMost 32) pre (c ∷ post) row.most) (fits, (all_right (AtMost 32) pre (c ∷ post) row.most).1);
+      most = most_join 32 pre (all ∷ post) (most_left 32 pre (c ∷ post) row.most) (fits, (most_right 32 pre (c ∷ post) row.most).1);
       least = λ several.
           let old : HasAtLeast 16 (pre ++ c ∷ post) = row.least (omega (arith, same, several)) in
-          let here : HasAtLeast 16 (c ∷ post) = all_right (AtLeast 16) pre (c ∷ post) old in
-          all_join (AtLeast 16) pre (all ∷ post) (all_left (AtLeast 16) pre (c ∷ post) old) (omega (arith, here.0, longer), here.1);
+          let here : HasAtLeast 16 (c ∷ post) = least_right 16 pre (c ∷ post) old in
+          least_join 16 pre (all ∷ post) (least_left 16 pre (c ∷ post) old) (omega (arith, here.0, longer), here.1);
       single = λ few. same ∙ row.single (omega (arith, flat_length pre c post, flat_length pre all post, longer, few));
       split = split_kept (nat_lt (length c) (length all)) pre c all post row longer by_one fits refl;
       rises = rises;
@@ -141,8 +147,8 @@ row_split pre c f b post row f_long b_least b_most rises =
     let others = others_large pre c post row.least in
     record {
       some = omega (arith, length-append pre (f ∷ b ∷ post));
-      most = all_join (AtMost 32) pre (f ∷ b ∷ post) (all_left (AtMost 32) pre (c ∷ post) row.most) (omega (arith, f_long), (b_most, (all_right (AtMost 32) pre (c ∷ post) row.most).1));
-      least = λ _. all_join (AtLeast 16) pre (f ∷ b ∷ post) others.0 (omega (arith, f_long), (omega (arith, b_least), others.1));
+      most = most_join 32 pre (f ∷ b ∷ post) (most_left 32 pre (c ∷ post) row.most) (omega (arith, f_long), (b_most, (most_right 32 pre (c ∷ post) row.most).1));
+      least = λ _. least_join 16 pre (f ∷ b ∷ post) others.0 (omega (arith, f_long), (omega (arith, b_least), others.1));
       single = λ few. absurd (omega (arith, few, flat_length pre f (b ∷ post), length-append b (joined post), f_long, b_least));
       split = split_first pre f b post others.0 others.1 f_long b_least;
       rises = rises;
@@ -169,7 +175,7 @@ whole_at id x pre c post row u o fits =
 split_at : (id : ℕ) (x : Stored) (pre : List (List (ℕ × Stored))) (c f b : List (ℕ × Stored)) (post : List (List (ℕ × Stored))) → IsRow (pre ++ c ∷ post) → Under id (joined pre) → Over id (joined post)
     → f ++ b ≡ put nat_cmp id x c → length f ≡ 16 → 17 ≤ length b → IsPut id x (pre ++ c ∷ post) (pre ++ f ∷ b ∷ post)
 split_at id x pre c f b post row u o all f_long b_long =
-    let fits : length c ≤ 32 = (all_right (AtMost 32) pre (c ∷ post) row.most).0 in
+    let fits : length c ≤ 32 = (most_right 32 pre (c ∷ post) row.most).0 in
     let long : length f + length b ≤ length c + 1 = subst (λ n. n ≤ length c + 1) (sym (ap length all) ∙ length-append f b) (put_by_one id x c) in
     let is : joined (pre ++ f ∷ b ∷ post) ≡ put nat_cmp id x (joined (pre ++ c ∷ post)) =
     flat-append pre (f ∷ b ∷ post) ∙ ap (λ r. joined pre ++ r) (sym (append_assoc f b (joined post)) ∙ ap (λ r. r ++ joined post) all) ∙ flat_put id x pre c post u o in

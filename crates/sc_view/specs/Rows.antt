@@ -1,6 +1,5 @@
 -- Rows of chunks: entries in rising id order, within each chunk and across them.
 use Rattle.std.specs.Prelude.{◌≡◌, ℕ, suc, ◌≤◌, ◌<◌, nat_le, nat_lt, slice_set, slice_index_or, ◌==◌, Bool, true, false, cond, length, map, List, [], ◌∷◌, Option, Some, None, is_some}
-use Rattle.std.specs.List.{AllByRecursion}
 use Rattle.std.specs.Ordering.{nat_cmp}
 use Rattle.std.specs.FinMap.Entries.{find, put}
 use Rattle.std.specs.FinMap as fin
@@ -73,9 +72,9 @@ abbrev pub Rises : List (ℕ × Stored) → Type 0
 Rises [] = Unit {0}
 Rises (e ∷ es) = Over e.0 es × Rises es
 
--- each list has at most so many entries
 abbrev pub HasAtMost : ℕ → List (List (ℕ × Stored)) → Type 0
-HasAtMost n cs = AllByRecursion (λ c. length c ≤ n) cs
+HasAtMost n [] = Unit {0}
+HasAtMost n (c ∷ cs) = (length c ≤ n) × HasAtMost n cs
 
 -- a row of chunks of at most 32 entries, and where there are several of at least 16; up to 32 entries are in one chunk,
 -- and the 33rd splits it
