@@ -1,5 +1,5 @@
 -- A node has begun as many operations and stores as its events say, and each of its open operations has a record.
-use Rattle.std.proofs.Common.{◌≡◌, ℕ, ◌+◌, Bool, true, false, cond, ◌==◌, List, [], ◌∷◌, ◌++◌, map, Option, Some, None, add-zero, refl, sym, ap, ◌∙◌, subst, arith, inl, slice_get, Ok}
+use Rattle.std.proofs.Common.{◌≡◌, ℕ, ◌+◌, Bool, true, false, cond, ◌==◌, List, [], ◌∷◌, ◌++◌, Option, Some, None, add-zero, refl, sym, ap, ◌∙◌, subst, arith, slice_get, Ok}
 use Rattle.std.proofs.lemmas.Bool.{eqb-true, eq-eqb}
 use Rattle.std.proofs.lemmas.List.Sums.{sum_by_push}
 use Rattle.std.specs.List.{count_by}
@@ -17,7 +17,7 @@ use Rattle.sc_world.specs.declared.event.Event.TheVariants as event
 use Rattle.sc_world.specs.declared.event.Stepped.{Stepped}
 use Rattle.sc_world.specs.declared.op.Op.{Op}
 use Rattle.sc_world.specs.State.{WorldState}
-use Rattle.sc_world.specs.Worlds.{clock, Outcome, node_of, advanced, op_begun, after, live_at, crashes, enters, stores, collects, leaves, delivers, stepped, start, nodes_with}
+use Rattle.sc_world.specs.Worlds.{clock, Outcome, node_of, advanced, after, live_at, crashes, enters, stores, collects, leaves, delivers, stepped, start, nodes_with}
 use Rattle.sc_world.specs.Records.{Among, begins, begins_store, operations_of, stores_of}
 use Rattle.sc_world.proofs.Links.{session_moved, session_after}
 use Rattle.sc_world.proofs.Finite.{get-insert}
