@@ -32,13 +32,28 @@ fn refused(fault: AsmFault) -> anyhow::Error {
     anyhow!("refused {}", fault.reason())
 }
 
-/// How long it takes to do something so many times.
-fn time<F: Fn() -> Result<()>>(rt: &impl Clock, runs: u64, once: F) -> Result<Duration>
-    requires { F.IsAlwaysCallable once }
-{
+/// How long it takes to assemble a source so many times.
+fn time_assembling(
+    rt: &(impl Clock + Alloc<A = Global>),
+    source: &str,
+    runs: u64,
+) -> Result<Duration> {
     let start = Instant::now(rt)?;
     for _ in 0..runs {
-        once()?;
+        let _text = assemble(rt.alloc(), source).map_err(refused)?;
+    }
+    Ok(start.elapsed(rt)?)
+}
+
+/// How long it takes to disassemble a text so many times.
+fn time_disassembling(
+    rt: &(impl Clock + Alloc<A = Global>),
+    text: &Text,
+    runs: u64,
+) -> Result<Duration> {
+    let start = Instant::now(rt)?;
+    for _ in 0..runs {
+        let _source = disassemble(rt.alloc(), text)?;
     }
     Ok(start.elapsed(rt)?)
 }
@@ -56,14 +71,8 @@ pub(crate) fn run(
         text.units(),
         source.len()
     )?;
-    let assembling = time(rt, runs, || {
-        let _text = assemble(rt.alloc(), source.as_str()).map_err(refused)?;
-        Ok(())
-    })?;
-    let disassembling = time(rt, runs, || {
-        let _source = disassemble(rt.alloc(), &text)?;
-        Ok(())
-    })?;
+    let assembling = time_assembling(rt, source.as_str(), runs)?;
+    let disassembling = time_disassembling(rt, &text, runs)?;
     eprintln!(rt; "assembling {assembling:?}, disassembling {disassembling:?}")?;
     Ok(())
 }
