@@ -1,5 +1,5 @@
 -- What an event says of the history of a cluster, and a run.
-use Rattle.std.proofs.Common.{◌≡◌, ℕ, List, take, sym, subst, ◌∙◌, Result, Ok, Err}
+use Rattle.std.proofs.Common.{◌≡◌, ℕ, List, take, ◌∙◌, Result, Ok, Err}
 use Rattle.forms.specs.Calls.{Steps}
 use Rattle.q_session.specs.declared.ran.Ran.{Ran}
 use Rattle.q_history.specs.declared.event.Event.{Event}
@@ -17,15 +17,10 @@ nothing = record { acc = 0; steps = 0 }
 pub follows : (c : ClusterState) (e : Event) (told : Stepped) (d : ClusterState) → ((ran : Ran) → AnswersTo c e ran) → ((ran : Ran) → stepped ran c e ≡ Ok (told, d)) → Follows c e told d
 follows c e told d any is = record { ran = nothing; right = any nothing; stepped = is nothing }
 
-takes : (c : ClusterState) (e : Event) (d : ClusterState) (said : Result (Stepped × ClusterState) ClusterFault) (r : Result Stepped ClusterFault)
+pub takes : (c : ClusterState) (e : Event) (d : ClusterState) (said : Result (Stepped × ClusterState) ClusterFault) (r : Result Stepped ClusterFault)
     → ((ran : Ran) → AnswersTo c e ran) → ((ran : Ran) → stepped ran c e ≡ said) → Steps memory said c d r → Takes c e d r
 takes c e d said (Ok told) any is h = follows c e told d any (λ ran. is ran ∙ h)
 takes c e d said (Err f) any is h = (h.0, λ loud ran. is ran ∙ h.1 loud)
-
--- the same of an event that is known to be this one
-pub takes_so : (c : ClusterState) (f e : Event) (d : ClusterState) (said : Result (Stepped × ClusterState) ClusterFault) (r : Result Stepped ClusterFault)
-    → f ≡ e → ((ran : Ran) → AnswersTo c e ran) → ((ran : Ran) → stepped ran c e ≡ said) → Steps memory said c d r → Takes c f d r
-takes_so c f e d said r same any is h = subst (λ (x : Event). Takes c x d r) (sym same) (takes c e d said r any is h)
 
 -- what a run leads to, some events lead to
 pub runs_reach : (c : ClusterState) (es : List Event) (d : ClusterState) (r : Result (Unit {0}) (ℕ × ClusterFault)) → Runs c es d r → (fs : List Event) × Reaches c fs d

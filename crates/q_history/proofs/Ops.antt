@@ -18,7 +18,7 @@ use Rattle.sc_world.specs.Worlds.{clock, Outcome, advanced, op_begun, after}
 use Rattle.sc_world.specs.Records.{Among}
 use Rattle.sc_world.specs.Regular.{returned_by, returned}
 use Rattle.sc_world.proofs.Finite.{get-insert}
-use Rattle.sc_world.proofs.Steps.{kept_among, among-right, advance_op}
+use Rattle.sc_world.proofs.Steps.{among-left, among-right, among-image, advance_op}
 use Rattle.sc_world.proofs.Handlers.{collect_outcome}
 use Rattle.sc_world.proofs.Telling.{same_start}
 
@@ -70,7 +70,13 @@ module _ (w : WorldState) (e : Event) (q : ℕ) (r : Outcome) where
   later : (o : Op) → Among o w.ops → ((k : Progress) → r.progress ≡ Some k → o.node ≡ q → o.tag ≡ k.tag → o.end ≡ None) → IsLater (after w e q r) o
   later o in' running =
       let k = same_start q (clock w) r.progress o in
-      record { op = advanced q (clock w) r.progress o; among = kept_among w e q r o in'; by = k.node; tagged = k.tag; returned = kept_view r.progress o running }
+      record {
+        op = advanced q (clock w) r.progress o;
+        among = among-left (advanced q (clock w) r.progress o) (map (advanced q (clock w) r.progress) w.ops) (op_begun q (clock w) r.begun) (among-image (advanced q (clock w) r.progress) o w.ops in');
+        by = k.node;
+        tagged = k.tag;
+        returned = kept_view r.progress o running;
+      }
 
   -- an event that moves only operations that have not ended
   pub after_onward : ((o : Op) → Among o w.ops → (k : Progress) → r.progress ≡ Some k → o.node ≡ q → o.tag ≡ k.tag → o.end ≡ None) → IsOnward w (after w e q r)

@@ -11,7 +11,6 @@ use q_nodes::sockets::{run_file, run_over_sockets};
 use q_script::number::number;
 use q_wire::counted::Counted;
 use q_wire::memory::{Hub, MemoryTransport};
-use q_wire::transport::Transport;
 use q_words::words::{Wanted, read_words};
 use std::alloc::{AllocError, Global};
 use std::io;
@@ -88,9 +87,11 @@ impl Cases {
                 out.write_all(notes.as_slice())?;
                 Ok(status)
             }
-            "memory" | "deaf" | "mute" | "forged" | "noisy" => {
-                self.run_over_memory(rt, word, rest, out)
-            }
+            "memory" => self.run_over_memory(rt, 0, 0, out),
+            "deaf" => self.run_over_memory(rt, number(rest).unwrap_or(0), 0, out),
+            "mute" => self.run_over_memory(rt, 0, number(rest).unwrap_or(0), out),
+            "forged" => self.run_over_forged(rt, rest, out),
+            "noisy" => self.run_over_noise(rt, rest.as_bytes(), out),
             _ => self.run_command(rt, words, out),
         }
     }
@@ -134,103 +135,69 @@ impl Cases {
         }
     }
 
-    /// Runs the script over memory, disturbed as these words say.
+    /// Runs the script over memory, where one node hears nothing, and one sends nothing.
     fn run_over_memory<R: Net + Wait + Threads + Clock + Sync, W: Write>(
         &self,
         rt: &R,
-        word: &str,
-        rest: &str,
+        deaf: u64,
+        mute: u64,
         out: &mut Counted<W>,
     ) -> io::Result<u8> {
         let Some(script) = self.read(out)? else {
             return Ok(1);
         };
-        let nodes = script.nodes;
-        let hub = Hub::open(self.alloc, nodes)?;
-        let node = number(rest).unwrap_or(0);
-        match word {
-            "deaf" => self.run_over(rt, &script, self.deaf(rt, &hub, nodes, node, 0)?, out),
-            "mute" => self.run_over(rt, &script, self.deaf(rt, &hub, nodes, 0, node)?, out),
-            "forged" => self.run_over(rt, &script, self.forged(rt, &hub, nodes, rest)?, out),
-            "noisy" => {
-                let transports = self.noisy(rt, &hub, nodes, rest.as_bytes())?;
-                let mut notes = Vec::new(self.alloc);
-                Ok(run_cluster(rt, self.alloc, &script, transports, out, &mut notes))
-            }
-            _ => self.run_over(rt, &script, self.deaf(rt, &hub, nodes, 0, 0)?, out),
-        }
-    }
-
-    /// Runs a script over these transports, and writes the notes behind what it prints.
-    fn run_over<R, T, W>(
-        &self,
-        rt: &R,
-        script: &ClusterScript,
-        transports: Vec<T>,
-        out: &mut Counted<W>,
-    ) -> io::Result<u8>
-    where
-        R: Wait + Threads + Clock + Sync,
-        T: Transport + Send + Drop,
-        W: Write,
-    {
-        let mut notes = Vec::new(self.alloc);
-        let status = run_cluster(rt, self.alloc, script, transports, out, &mut notes);
-        out.write_all(notes.as_slice())?;
-        Ok(status)
-    }
-
-    /// The ends of all nodes at a hub, of which one hears nothing, and one sends nothing.
-    fn deaf<'h, R: Wait>(
-        &self,
-        rt: &'h R,
-        hub: &'h Hub,
-        nodes: u64,
-        deaf: u64,
-        mute: u64,
-    ) -> Result<Vec<Deaf<MemoryTransport<'h, R>>>, AllocError> {
+        let hub = Hub::open(self.alloc, script.nodes)?;
         let mut transports = Vec::new(self.alloc);
-        for known in 0..nodes {
+        for known in 0..script.nodes {
             let id = known + 1;
             transports.push(Deaf {
-                inner: MemoryTransport::new(rt, hub, id),
+                inner: MemoryTransport::new(rt, &hub, id),
                 is_deaf: id == deaf,
                 is_mute: id == mute,
             })?;
         }
-        Ok(transports)
+        let mut notes = Vec::new(self.alloc);
+        let status = run_cluster(rt, self.alloc, &script, transports, out, &mut notes);
+        out.write_all(notes.as_slice())?;
+        Ok(status)
     }
 
-    /// The ends of all nodes at a hub, where datagrams are disturbed.
-    fn noisy<'h, R: Wait>(
+    /// Runs the script over memory, where datagrams are disturbed.
+    fn run_over_noise<R: Net + Wait + Threads + Clock + Sync, W: Write>(
         &self,
-        rt: &'h R,
-        hub: &'h Hub,
-        nodes: u64,
-        letters: &'h [u8],
-    ) -> Result<Vec<Noisy<'h, MemoryTransport<'h, R>>>, AllocError> {
+        rt: &R,
+        letters: &[u8],
+        out: &mut Counted<W>,
+    ) -> io::Result<u8> {
+        let Some(script) = self.read(out)? else {
+            return Ok(1);
+        };
+        let hub = Hub::open(self.alloc, script.nodes)?;
         let mut transports = Vec::new(self.alloc);
-        for known in 0..nodes {
+        for known in 0..script.nodes {
             transports.push(Noisy {
-                inner: MemoryTransport::new(rt, hub, known + 1),
+                inner: MemoryTransport::new(rt, &hub, known + 1),
                 alloc: self.alloc,
                 letters,
                 sent: 0,
                 kept: None,
             })?;
         }
-        Ok(transports)
+        let mut notes = Vec::new(self.alloc);
+        Ok(run_cluster(rt, self.alloc, &script, transports, out, &mut notes))
     }
 
-    /// The ends of all nodes at a hub, where node 1 hears before all else what nobody sent: so many datagrams that spell
-    /// no message, that no book takes, and of a message that was never sent.
-    fn forged<'h, R: Wait>(
+    /// Runs the script over memory, where node 1 hears before all else what nobody sent: so many datagrams that spell no
+    /// message, that no book takes, and of a message that was never sent.
+    fn run_over_forged<R: Net + Wait + Threads + Clock + Sync, W: Write>(
         &self,
-        rt: &'h R,
-        hub: &'h Hub,
-        nodes: u64,
+        rt: &R,
         counts: &str,
-    ) -> Result<Vec<Forged<MemoryTransport<'h, R>>>, AllocError> {
+        out: &mut Counted<W>,
+    ) -> io::Result<u8> {
+        let Some(script) = self.read(out)? else {
+            return Ok(1);
+        };
         let (spelling_none, rest) = counts.split_once(' ').unwrap_or((counts, ""));
         let (refused, never_sent) = rest.split_once(' ').unwrap_or((rest, ""));
         let mut before = datagrams(
@@ -239,13 +206,17 @@ impl Cases {
             number(refused).unwrap_or(0),
             number(never_sent).unwrap_or(0),
         )?;
+        let hub = Hub::open(self.alloc, script.nodes)?;
         let mut transports = Vec::new(self.alloc);
-        for known in 0..nodes {
+        for known in 0..script.nodes {
             transports.push(Forged {
-                inner: MemoryTransport::new(rt, hub, known + 1),
+                inner: MemoryTransport::new(rt, &hub, known + 1),
                 before: std::mem::replace(&mut before, Vec::new(self.alloc)),
             })?;
         }
-        Ok(transports)
+        let mut notes = Vec::new(self.alloc);
+        let status = run_cluster(rt, self.alloc, &script, transports, out, &mut notes);
+        out.write_all(notes.as_slice())?;
+        Ok(status)
     }
 }

@@ -136,7 +136,6 @@ impl Simulation {
     }
 
     /// Runs a line.
-    #[tactic(auto, using(crate::proofs::Performing::leaves_files))]
     fn perform<F: Files>(&mut self, line: ScriptLine, files: &mut F) -> Result<(), AllocError>
         ensures { OnOk result (PrintsOver (Does F.write_gives line) self.old files.old self.new files.new) }
     {
