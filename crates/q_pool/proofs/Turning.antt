@@ -70,7 +70,7 @@ hands_more b m c (i ∷ js) j h e = (h.0, h.1, hands_more h.0 m c js j h.2 e)
 -- ---- results in
 
 pub begins_receiving : (a : AskerModel) (b : BookState) → Receiving a b 0 0 a b
-begins_receiving a b = record { brought = record { looks = []; results = []; accepted = []; looked = sym (append-nil a.looks); received = sym (append-nil a.received); offered = refl; shown = refl; posts = (refl, refl); journal = sym (append-nil b.desk.journal); balance = omega arith; count = refl; same = (refl, refl) }; slots = refl; behind = λ i h. refl }
+begins_receiving a b = record { looks = []; results = []; accepted = []; looked = sym (append-nil a.looks); received = sym (append-nil a.received); offered = refl; slots = refl; behind = λ i h. refl; shown = refl; posts = (refl, refl); journal = sym (append-nil b.desk.journal); balance = omega arith; count = refl; same = (refl, refl) }
 
 abbrev pub one_if : Bool → ℕ
 one_if true = 1
@@ -95,40 +95,53 @@ module _ (a a₁ : AskerModel) (b b₁ : BookState) (k n : ℕ) (r : Receiving a
   later : (i : ℕ) → suc k ≤ i → get_elem? a₁.row i ≡ get_elem? a.row i
   later i h = r.behind i (omega arith)
 
-  noted_one : (c : BookState) (d : Finished) (is : Bool) → PostsOne is b₁ d c → c.desk.journal ≡ b.desk.journal ++ map post_of (r.brought.accepted ++ kept is d)
+  noted_one : (c : BookState) (d : Finished) (is : Bool) → PostsOne is b₁ d c → c.desk.journal ≡ b.desk.journal ++ map post_of (r.accepted ++ kept is d)
   noted_one c d true q =
-      noted b₁ d.job d.ran c q ∙ ap (λ (l : List Entry). l ++ post_of d ∷ []) r.brought.journal ∙ append_assoc b.desk.journal (map post_of r.brought.accepted) (post_of d ∷ [])
-      ∙ ap (λ (l : List Entry). b.desk.journal ++ l) (sym (map-append post_of r.brought.accepted (d ∷ [])))
-  noted_one c d false q = ap (λ (x : BookState). x.desk.journal) q.3 ∙ r.brought.journal ∙ ap (λ (l : List Finished). b.desk.journal ++ map post_of l) (sym (append-nil r.brought.accepted))
+      noted b₁ d.job d.ran c q ∙ ap (λ (l : List Entry). l ++ post_of d ∷ []) r.journal ∙ append_assoc b.desk.journal (map post_of r.accepted) (post_of d ∷ [])
+      ∙ ap (λ (l : List Entry). b.desk.journal ++ l) (sym (map-append post_of r.accepted (d ∷ [])))
+  noted_one c d false q = ap (λ (x : BookState). x.desk.journal) q.3 ∙ r.journal ∙ ap (λ (l : List Finished). b.desk.journal ++ map post_of l) (sym (append-nil r.accepted))
 
   slot_more : (i : ℕ) (f : Found) (x : Option Job) (j : Job) → i ≡ 8 * a₁.number + k → is_at a₁.row k (Some j)
-      → slots_of (r.brought.looks ++ look i f ∷ []) ≡ open_slots (8 * a.number) (take (suc k) a.row)
+      → slots_of (r.looks ++ look i f ∷ []) ≡ open_slots (8 * a.number) (take (suc k) a.row)
   slot_more i f x j here e =
-      map-append (λ l. l.slot) r.brought.looks (look i f ∷ []) ∙ ap (λ (l : List ℕ). l ++ i ∷ []) r.slots
-      ∙ ap (λ (l : List ℕ). open_slots (8 * a.number) (take k a.row) ++ l) (same_number i (8 * a.number + k) (here ∙ ap (λ (x : ℕ). 8 * x + k) r.brought.same.1))
+      map-append (λ l. l.slot) r.looks (look i f ∷ []) ∙ ap (λ (l : List ℕ). l ++ i ∷ []) r.slots
+      ∙ ap (λ (l : List ℕ). open_slots (8 * a.number) (take k a.row) ++ l) (same_number i (8 * a.number + k) (here ∙ ap (λ (x : ℕ). 8 * x + k) r.same.1))
       ∙ sym (open_some (8 * a.number) k a.row j (at_place (Some j) e))
 
   pub closed_place : is_at a₁.row k None → Receiving a b (suc k) n a₁ b₁
-  closed_place e = record { brought = r.brought; slots = r.slots ∙ sym (open_none (8 * a.number) k a.row (at_place None e)); behind = later }
+  closed_place e = record {
+    looks = r.looks;
+    results = r.results;
+    accepted = r.accepted;
+    looked = r.looked;
+    received = r.received;
+    offered = r.offered;
+    slots = r.slots ∙ sym (open_none (8 * a.number) k a.row (at_place None e));
+    behind = later;
+    shown = r.shown;
+    posts = r.posts;
+    journal = r.journal;
+    balance = r.balance;
+    count = r.count;
+    same = r.same;
+  }
 
   pub looked_at : (a₂ : AskerModel) → IsOpenAt a₁ k → LooksOnly a₁ (8 * a₁.number + k) a₂ → Receiving a b (suc k) n a₂ b₁
   looked_at a₂ o l = let i = 8 * a₁.number + k in let f = l.0 in let is = l.2 in record {
-    brought = record {
-      looks = r.brought.looks ++ look i f ∷ [];
-      results = r.brought.results;
-      accepted = r.brought.accepted;
-      looked = ap (λ (x : AskerModel). x.looks) is ∙ ap (λ (x : List Look). x ++ look i f ∷ []) r.brought.looked ∙ append_assoc a.looks r.brought.looks (look i f ∷ []);
-      received = ap (λ (x : AskerModel). x.received) is ∙ r.brought.received;
-      offered = ap (λ (x : AskerModel). x.offered) is ∙ r.brought.offered;
-      shown = omega (arith, showing-append is_finished r.brought.looks (look i f ∷ []), not_shown f l.1, r.brought.shown);
-      posts = r.brought.posts;
-      journal = r.brought.journal;
-      balance = omega (arith, ap (λ (x : AskerModel). jobs x.row) is, r.brought.balance);
-      count = r.brought.count;
-      same = (ap (λ (x : AskerModel). x.table) is ∙ r.brought.same.0, ap (λ (x : AskerModel). x.number) is ∙ r.brought.same.1);
-    };
+    looks = r.looks ++ look i f ∷ [];
+    results = r.results;
+    accepted = r.accepted;
+    looked = ap (λ (x : AskerModel). x.looks) is ∙ ap (λ (x : List Look). x ++ look i f ∷ []) r.looked ∙ append_assoc a.looks r.looks (look i f ∷ []);
+    received = ap (λ (x : AskerModel). x.received) is ∙ r.received;
+    offered = ap (λ (x : AskerModel). x.offered) is ∙ r.offered;
     slots = slot_more i f None o.0 refl o.1;
     behind = λ x h. ap (λ (y : AskerModel). get_elem? y.row x) is ∙ later x h;
+    shown = omega (arith, showing-append is_finished r.looks (look i f ∷ []), not_shown f l.1, r.shown);
+    posts = r.posts;
+    journal = r.journal;
+    balance = omega (arith, ap (λ (x : AskerModel). jobs x.row) is, r.balance);
+    count = r.count;
+    same = (ap (λ (x : AskerModel). x.table) is ∙ r.same.0, ap (λ (x : AskerModel). x.number) is ∙ r.same.1);
   }
 
   place_of : (i : ℕ) → i ≡ 8 * a₁.number + k → row_place a₁ i ≡ k
@@ -136,22 +149,20 @@ module _ (a a₁ : AskerModel) (b b₁ : BookState) (k n : ℕ) (r : Receiving a
 
   pub received_at : (a₂ : AskerModel) (b₂ : BookState) (d : Finished) (is : Bool) → Receives a₁ (8 * a₁.number + k) d a₂ → jobs a₂.row + 1 ≡ jobs a₁.row → PostsOne is b₁ d b₂ → Receiving a b (suc k) (n + one_if is) a₂ b₂
   received_at a₂ b₂ d is t fewer q = let i = 8 * a₁.number + k in let p = row_place a₁ i in let at : p ≡ k = place_of i refl in let now = t.1 in record {
-    brought = record {
-      looks = r.brought.looks ++ look i found.Finished ∷ [];
-      results = r.brought.results ++ d ∷ [];
-      accepted = r.brought.accepted ++ kept is d;
-      looked = ap (λ (x : AskerModel). x.looks) now ∙ ap (λ (x : List Look). x ++ look i found.Finished ∷ []) r.brought.looked ∙ append_assoc a.looks r.brought.looks (look i found.Finished ∷ []);
-      received = ap (λ (x : AskerModel). x.received) now ∙ ap (λ (x : List Finished). x ++ d ∷ []) r.brought.received ∙ append_assoc a.received r.brought.results (d ∷ []);
-      offered = ap (λ (x : AskerModel). x.offered) now ∙ r.brought.offered;
-      shown = omega (arith, showing-append is_finished r.brought.looks (look i found.Finished ∷ []), r.brought.shown, length-append r.brought.results (d ∷ []));
-      posts = posts_more b b₁ b₂ r.brought.results r.brought.accepted d is r.brought.posts q;
-      journal = noted_one b₂ d is q;
-      balance = omega (arith, fewer, r.brought.balance, length-append r.brought.results (d ∷ []));
-      count = omega (arith, length-append r.brought.accepted (kept is d), kept_one is d, r.brought.count);
-      same = (ap (λ (x : AskerModel). x.table) now ∙ r.brought.same.0, ap (λ (x : AskerModel). x.number) now ∙ r.brought.same.1);
-    };
+    looks = r.looks ++ look i found.Finished ∷ [];
+    results = r.results ++ d ∷ [];
+    accepted = r.accepted ++ kept is d;
+    looked = ap (λ (x : AskerModel). x.looks) now ∙ ap (λ (x : List Look). x ++ look i found.Finished ∷ []) r.looked ∙ append_assoc a.looks r.looks (look i found.Finished ∷ []);
+    received = ap (λ (x : AskerModel). x.received) now ∙ ap (λ (x : List Finished). x ++ d ∷ []) r.received ∙ append_assoc a.received r.results (d ∷ []);
+    offered = ap (λ (x : AskerModel). x.offered) now ∙ r.offered;
     slots = slot_more i found.Finished None d.job refl (subst (λ (x : ℕ). is_at a₁.row x (Some d.job)) at t.0);
     behind = λ x h. ap (λ (y : AskerModel). get_elem? y.row x) now ∙ set_else a₁.row p x None (λ e. omega (arith, at, h, e)) ∙ later x h;
+    shown = omega (arith, showing-append is_finished r.looks (look i found.Finished ∷ []), r.shown, length-append r.results (d ∷ []));
+    posts = posts_more b b₁ b₂ r.results r.accepted d is r.posts q;
+    journal = noted_one b₂ d is q;
+    balance = omega (arith, fewer, r.balance, length-append r.results (d ∷ []));
+    count = omega (arith, length-append r.accepted (kept is d), kept_one is d, r.count);
+    same = (ap (λ (x : AskerModel). x.table) now ∙ r.same.0, ap (λ (x : AskerModel). x.number) now ∙ r.same.1);
   }
 
 -- ---- jobs out

@@ -33,26 +33,22 @@ Polls a b place accepted a' b' =
     ⊎ ((IsOpenAt a place × LooksOnly a (8 * a.number + place) a' × (b' ≡ b) × (accepted ≡ false))
     ⊎ ((d : Finished) × Receives a (8 * a.number + place) d a' × (jobs a'.row + 1 ≡ jobs a.row) × PostsOne accepted b d b'))
 
--- what looks at some slots brought
-pub record Brought (a : AskerModel) (b : BookState) (n : ℕ) (a' : AskerModel) (b' : BookState) : Type 0 where
+-- the slots of the first places were looked at
+pub record Receiving (a : AskerModel) (b : BookState) (places : ℕ) (n : ℕ) (a' : AskerModel) (b' : BookState) : Type 0 where
   pub looks : List Look
   pub results : List Finished
   pub accepted : List Finished
   pub looked : a'.looks ≡ a.looks ++ looks
   pub received : a'.received ≡ a.received ++ results
   pub offered : a'.offered ≡ a.offered
+  pub slots : slots_of looks ≡ open_slots (8 * a.number) (take places a.row)
+  pub behind : (i : ℕ) → places ≤ i → get_elem? a'.row i ≡ get_elem? a.row i
   pub shown : showing is_finished looks ≡ length results
   pub posts : Posts b results accepted b'
   pub journal : b'.desk.journal ≡ b.desk.journal ++ map post_of accepted
   pub balance : jobs a'.row + length results ≡ jobs a.row
   pub count : length accepted ≡ n
   pub same : SameAsker a a'
-
--- the slots of the first places were looked at
-pub record Receiving (a : AskerModel) (b : BookState) (places : ℕ) (n : ℕ) (a' : AskerModel) (b' : BookState) : Type 0 where
-  pub brought : Brought a b n a' b'
-  pub slots : slots_of brought.looks ≡ open_slots (8 * a.number) (take places a.row)
-  pub behind : (i : ℕ) → places ≤ i → get_elem? a'.row i ≡ get_elem? a.row i
 
 -- before the open slot at a place is looked at, there is no room for a post
 pub record NoRoomPast (a : AskerModel) (b : BookState) (e : BookFault) (a' : AskerModel) (b' : BookState) : Type 0 where
