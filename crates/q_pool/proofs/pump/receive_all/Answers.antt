@@ -11,3 +11,6 @@ loop-place-preserved c = let i = c.loop-place in let p = c.poll_place in let few
     let r = polled i.seat p.new.seat i.book p.new.book i.place i.posted is c.args.seat.now c.args.book.now i.invariant.receiving c.posts_are_noted.ensures.noted c.in-Ok.ensures.polled in
     let one : one_if is ≡ c.from-posted.result = one_if_is is ∙ sym c.from-posted.ensures in
     record { receiving = subst (λ (n : ℕ). Receiving c.args.seat.now c.args.book.now (i.place + 1) (i.posted + n) p.new.seat p.new.book) one r; few = omega (arith, one, one_if_small is) }
+
+pub returns : goal.returns
+returns c = let i = c.loop-place in let all : i.place ≡ 8 = omega arith in subst (λ (k : ℕ). Receiving c.args.seat.now c.args.book.now k i.posted i.seat i.book) all i.invariant.receiving
