@@ -16,7 +16,7 @@ use Rattle.q_book.specs.State.{BookState}
 use Rattle.q_book.specs.Books.{founded, founds}
 use Rattle.q_book.specs.Faults.{memory}
 use Rattle.q_book.specs.declared.fault.BookFault.{BookFault}
-use Rattle.q_book.specs.declared.fault.BookFault.TheVariants.{Node, Desk}
+use Rattle.q_book.specs.declared.fault.BookFault.TheVariants.{Node, Desk, BadValue}
 use Rattle.q_nodes.specs.Faults.{of_fault, reason}
 
 -- the ids 1 to this number
@@ -52,6 +52,9 @@ is_memory s (Node f) h =
     absurd (cc (h no))
 is_memory s (Desk f) h =
     let no : Desk f ≢ memory = λ p. cc in
+    absurd (cc (h no))
+is_memory s BadValue h =
+    let no : BadValue ≢ memory = λ p. cc in
     absurd (cc (h no))
 
 by_test : (config : Config) (id : ℕ) (ids : List ℕ) (e : BookFault) (a b : Bool) → a ≡ true → b ≡ true

@@ -7,7 +7,7 @@ use bq_check::certified::Certified;
 use bq_frame::block::Block;
 use bq_meaning::placement::{FRAME_LENGTH, Placement, RECORD_LENGTH};
 use bq_run::run::run;
-use q_speed_program::folded::Folded;
+use q_speed_program::folded::{Folded, Work};
 use q_speed_program::program::certified;
 use std::alloc::Global;
 
@@ -31,23 +31,13 @@ fn fold_by_loop(certified: &Certified, records: &[u8], folded: &mut Folded, bloc
 }
 
 /// So many folds by the loop.
-pub(crate) fn by_loop(
-    alloc: Global,
-    program: &[u8],
-    records: &[u8],
-    start: u64,
-    folds: u64,
-) -> Option<Folded> {
-    let certified = certified(alloc, program)?;
+pub(crate) fn by_loop(alloc: Global, work: &Work) -> Option<Folded> {
+    let certified = certified(alloc, work.program)?;
     let mut block = Block::new(alloc).ok()?;
-    let mut folded = Folded {
-        acc: start,
-        steps: 0,
-        is_done: true,
-    };
-    for _ in 0..folds {
-        folded.acc = start;
-        fold_by_loop(&certified, records, &mut folded, &mut block);
+    let mut folded = Folded::from_start(work.start);
+    for _ in 0..work.folds {
+        folded.acc = work.start;
+        fold_by_loop(&certified, work.records, &mut folded, &mut block);
     }
     Some(folded)
 }
@@ -71,23 +61,13 @@ fn fold_by_machine(
 }
 
 /// So many folds by the machine.
-pub(crate) fn by_machine(
-    alloc: Global,
-    program: &[u8],
-    records: &[u8],
-    start: u64,
-    folds: u64,
-) -> Option<Folded> {
-    let certified = certified(alloc, program)?;
+pub(crate) fn by_machine(alloc: Global, work: &Work) -> Option<Folded> {
+    let certified = certified(alloc, work.program)?;
     let placement = Placement::new(FRAME, RECORD)?;
-    let mut folded = Folded {
-        acc: start,
-        steps: 0,
-        is_done: true,
-    };
-    for _ in 0..folds {
-        folded.acc = start;
-        fold_by_machine(&certified, &placement, records, &mut folded);
+    let mut folded = Folded::from_start(work.start);
+    for _ in 0..work.folds {
+        folded.acc = work.start;
+        fold_by_machine(&certified, &placement, work.records, &mut folded);
     }
     Some(folded)
 }

@@ -13,7 +13,7 @@
 mod direct;
 
 use bq_insn::encode::encode;
-use q_speed_program::folded::{Folded, REFUSED};
+use q_speed_program::folded::{Folded, REFUSED, Work};
 use q_speed_program::program::assembled;
 use std::alloc::Global;
 
@@ -43,7 +43,13 @@ pub extern "C" fn q_speed_loop(
     start: u64,
     folds: u64,
 ) -> Folded {
-    direct::by_loop(alloc, program, records, start, folds).unwrap_or(REFUSED)
+    let work = Work {
+        program,
+        records,
+        start,
+        folds,
+    };
+    direct::by_loop(alloc, &work).unwrap_or(REFUSED)
 }
 
 /// Folds by the machine that tests every access, over the records as they lie there.
@@ -55,5 +61,11 @@ pub extern "C" fn q_speed_machine(
     start: u64,
     folds: u64,
 ) -> Folded {
-    direct::by_machine(alloc, program, records, start, folds).unwrap_or(REFUSED)
+    let work = Work {
+        program,
+        records,
+        start,
+        folds,
+    };
+    direct::by_machine(alloc, &work).unwrap_or(REFUSED)
 }

@@ -1,4 +1,17 @@
-//! What folds come to.
+//! Folds to be made, and what they come to.
+
+/// A program's bytes, to be folded over records from a start value, so many times.
+#[derive(Clone, Copy)]
+pub struct Work<'a> {
+    /// The program's bytes.
+    pub program: &'a [u8],
+    /// Records of 64 bytes each.
+    pub records: &'a [u8],
+    /// What each fold begins with.
+    pub start: u64,
+    /// How many folds are made, one behind the other.
+    pub folds: u64,
+}
 
 /// What the folds came to.
 #[repr(C)]
@@ -10,6 +23,23 @@ pub struct Folded {
     pub steps: u64,
     /// False where the program was refused, or memory ran out.
     pub is_done: bool,
+}
+
+impl Folded {
+    ghost use Rattle.std.specs.Prelude.{◌≡◌, IsTrue};
+
+    /// Before the first step of a fold from this value.
+    pub fn from_start(start: u64) -> Folded
+        ensures acc { result.acc ≡ start }
+        ensures steps { result.steps ≡ 0 }
+        ensures done { IsTrue result.is_done }
+    {
+        Folded {
+            acc: start,
+            steps: 0,
+            is_done: true,
+        }
+    }
 }
 
 /// Where nothing was folded.

@@ -7,7 +7,7 @@
 
 mod viewed;
 
-use q_speed_program::folded::{Folded, REFUSED};
+use q_speed_program::folded::{Folded, REFUSED, Work};
 use std::alloc::Global;
 
 /// Folds by the loop without tests, over a view.
@@ -19,7 +19,13 @@ pub extern "C" fn q_speed_run_fold(
     start: u64,
     folds: u64,
 ) -> Folded {
-    viewed::by_loop(alloc, program, records, start, folds).unwrap_or(REFUSED)
+    let work = Work {
+        program,
+        records,
+        start,
+        folds,
+    };
+    viewed::by_loop(alloc, &work).unwrap_or(REFUSED)
 }
 
 /// Folds by the machine that tests every access, over a view.
@@ -31,5 +37,11 @@ pub extern "C" fn q_speed_fold_checked(
     start: u64,
     folds: u64,
 ) -> Folded {
-    viewed::by_machine(alloc, program, records, start, folds).unwrap_or(REFUSED)
+    let work = Work {
+        program,
+        records,
+        start,
+        folds,
+    };
+    viewed::by_machine(alloc, &work).unwrap_or(REFUSED)
 }

@@ -9,7 +9,7 @@ use bq_meaning::placement::RECORD_LENGTH;
 use q_session::fold::fold_checked;
 use q_session::laws::records_of_values;
 use q_session::run::run_fold;
-use q_speed_program::folded::Folded;
+use q_speed_program::folded::{Folded, Work};
 use q_speed_program::program::certified;
 use sc_view::value::{VALUE_LENGTH, Value};
 use sc_view::view::{Stored, View};
@@ -42,24 +42,14 @@ fn view_of(alloc: Global, records: &[u8]) -> Option<View>
 }
 
 /// So many folds by the loop.
-pub(crate) fn by_loop(
-    alloc: Global,
-    program: &[u8],
-    records: &[u8],
-    start: u64,
-    folds: u64,
-) -> Option<Folded> {
-    let certified = certified(alloc, program)?;
-    let view = view_of(alloc, records)?;
+pub(crate) fn by_loop(alloc: Global, work: &Work) -> Option<Folded> {
+    let certified = certified(alloc, work.program)?;
+    let view = view_of(alloc, work.records)?;
     records_of_values();
     let mut block = Block::new(alloc).ok()?;
-    let mut folded = Folded {
-        acc: start,
-        steps: 0,
-        is_done: true,
-    };
-    for _ in 0..folds {
-        let ran = run_fold(&certified, &view, start, &mut block);
+    let mut folded = Folded::from_start(work.start);
+    for _ in 0..work.folds {
+        let ran = run_fold(&certified, &view, work.start, &mut block);
         folded.acc = ran.acc;
         folded.steps = folded.steps.wrapping_add(ran.steps);
     }
@@ -67,23 +57,13 @@ pub(crate) fn by_loop(
 }
 
 /// So many folds by the machine.
-pub(crate) fn by_machine(
-    alloc: Global,
-    program: &[u8],
-    records: &[u8],
-    start: u64,
-    folds: u64,
-) -> Option<Folded> {
-    let certified = certified(alloc, program)?;
-    let view = view_of(alloc, records)?;
+pub(crate) fn by_machine(alloc: Global, work: &Work) -> Option<Folded> {
+    let certified = certified(alloc, work.program)?;
+    let view = view_of(alloc, work.records)?;
     records_of_values();
-    let mut folded = Folded {
-        acc: start,
-        steps: 0,
-        is_done: true,
-    };
-    for _ in 0..folds {
-        let ran = fold_checked(&certified, &view, start);
+    let mut folded = Folded::from_start(work.start);
+    for _ in 0..work.folds {
+        let ran = fold_checked(&certified, &view, work.start);
         folded.acc = ran.acc;
         folded.steps = folded.steps.wrapping_add(ran.steps);
     }
