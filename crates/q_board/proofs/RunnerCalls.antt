@@ -1,5 +1,5 @@
 -- From what a step tells to what a call ensures, for a runner.
-use Rattle.std.proofs.Common.{◌≡◌, ◌≢◌, ℕ, ◌+◌, ◌-◌, ◌<◌, ◌≤◌, eqb, List, [], ◌∷◌, length, set, refl, sym, ap, ◌∙◌, subst, arith, length-set, Option, Some, None, ne_eqb, zero-add}
+use Rattle.std.proofs.Common.{◌≡◌, ◌≢◌, ℕ, ◌+◌, ◌-◌, ◌<◌, ◌≤◌, eqb, List, [], ◌∷◌, length, set, refl, sym, ap, ◌∙◌, subst, arith, length-set, Option, Some, None, ne_eqb, zero-add, deque_len, deque_capacity}
 use mathlib.Core.Option.{some, none}
 use mathlib.Core.Logic.{dite}
 use native.Mathlib.Decide.{ℕ_discrete}
@@ -14,6 +14,7 @@ use Rattle.q_slots.specs.Rule.{Orderly, maker}
 use Rattle.q_board.specs.Places.{times, has, jobs, bare}
 use Rattle.q_slots.specs.Plays.{Sat, first_runner, running, front, trying, claiming, finishing, returning, tried, ended, given_back}
 use Rattle.q_board.specs.RunnerModel.{RunnerModel, runner_model, IsRunner}
+use Rattle.q_board.specs.declared.seats.RunnerSeat.TheInside.{Inside}
 use Rattle.q_board.specs.Calls.{is_at, Misses, Claims, Finishes, GivesBack}
 use Rattle.q_session.specs.declared.job.Job.{Job}
 use Rattle.q_session.specs.declared.ran.Ran.{Ran}
@@ -47,8 +48,33 @@ runner_keeps z me n claims count cap lanes next inv z' m q left count' cap' same
     (refl, number_is ∙ inv.1, long_is ∙ inv.2, omega (arith, jobs_are, inv.3), claims_are, omega (arith, inv.5), inv.6, inv.7, inv.8))
 
 -- The end of a claim: its slot is filled, and given back by a store
-module _ (z : TableId) (me : Sat) (n : ℕ) (claims left : List ℕ) (count cap lanes next slot : ℕ) (j : Job) (inv : IsRunner z me n claims count cap lanes next)
-    (old : RunnerModel) (old_is : old ≡ runner_model z me.0 lanes next) (own : is_at old.held slot (Some j)) where
+module _ (s : Inside) (left : List ℕ) (slot : ℕ) (j : Job)
+    (inv : IsRunner s.seat.table_id s.seat.me s.number s.claims.items (deque_len s.claims) (deque_capacity s.claims) s.lanes s.next)
+    (old : RunnerModel) (old_is : old ≡ runner_model s.seat.table_id s.seat.me.0 s.lanes s.next) (own : is_at old.held slot (Some j)) where
+  abbrev z : TableId
+  z = s.seat.table_id
+
+  abbrev me : Sat
+  me = s.seat.me
+
+  abbrev n : ℕ
+  n = s.number
+
+  abbrev claims : List ℕ
+  claims = s.claims.items
+
+  abbrev count : ℕ
+  count = deque_len s.claims
+
+  abbrev cap : ℕ
+  cap = deque_capacity s.claims
+
+  abbrev lanes : ℕ
+  lanes = s.lanes
+
+  abbrev next : ℕ
+  next = s.next
+
   abbrev r : Running
   r = running me.0
 
