@@ -1,5 +1,5 @@
 -- Bodies that are those of no event of their kind.
-use Rattle.std.proofs.Common.{◌≡◌, ℕ, ◌+◌, ◌^◌, ◌<◌, List, [], ◌++◌, length, Option, Result, Err, sym, ap, ◌∙◌, arith, length-append}
+use Rattle.std.proofs.Common.{◌≡◌, ℕ, ◌+◌, ◌^◌, ◌<◌, List, [], ◌++◌, length, Option, Result, Err, ◌⊎◌, inl, inr, sym, ap, ◌∙◌, arith, length-append}
 use Rattle.std.specs.Prelude.{IfErr}
 use Rattle.std.proofs.lemmas.List.{append-nil}
 use Rattle.bq_insn.specs.declared.insn.Insn.{Insn}
@@ -19,7 +19,7 @@ use Rattle.sc_msg.specs.Messages.{message_bytes, IsMessage}
 use Rattle.sc_msg.proofs.Numbers.{length-number_bytes}
 use Rattle.sc_msg.proofs.Entries.{same_front, number_front}
 use Rattle.q_journal.specs.declared.written.Written.{Written}
-use Rattle.q_journal.specs.declared.written.Written.TheVariants.{Register, Ask, Deliver, Post}
+use Rattle.q_journal.specs.declared.written.Written.TheVariants.{Leave, Register, Ask, Deliver, HandOut, Post}
 use Rattle.q_journal.specs.declared.read.ReadFault.{ReadFault}
 use Rattle.q_journal.specs.declared.read.ReadFault.TheVariants.{Form, OutOfMemory}
 use Rattle.q_journal.specs.Spelling.{body_bytes}
@@ -28,6 +28,17 @@ use Rattle.q_journal.proofs.Exits.{passed}
 use Rattle.q_journal.proofs.Sizes.{text_small, length-registered, length-asked, length-posted}
 
 -- ---- by how long they are
+
+pub no_bare : (kind : ℕ) (body : List ℕ) → (kind ≡ 1) ⊎ (kind ≡ 6) → 0 < length body → IsNoBody kind body
+no_bare kind body which more = record { none = λ w h. none w h }
+  where
+    other : (k : ℕ) → k ≡ kind → (k ≡ 1 → ⊥) → (k ≡ 6 → ⊥) → ⊥
+    other k is first second = elim which [ inl e ↦ first (is ∙ e) | inr e ↦ second (is ∙ e) ]
+
+    none : (w : Written) → IsBody kind body w → ⊥
+    none Leave h = omega (arith, more, ap length h.spelled)
+    none HandOut h = omega (arith, more, ap length h.spelled)
+    none w h = other _ h.is (λ e. omega (arith, e)) (λ e. omega (arith, e))
 
 pub no_ask : (body : List ℕ) → (length body ≡ 12 → ⊥) → IsNoBody 3 body
 no_ask body other = record { none = λ w h. none w h }

@@ -8,9 +8,9 @@ use Rattle.q_script.specs.declared.line.ScriptLine.{ScriptLine}
 use Rattle.q_script.specs.declared.line.ScriptLine.TheVariants.{Program, Store, Ask, Deliver, Pairs, Journal}
 use Rattle.q_script.specs.declared.line.LineFault.{LineFault}
 use Rattle.q_script.specs.declared.line.LineFault.TheVariants.{Form, OutOfMemory}
-use Rattle.q_script.specs.Words.{Lacks, IsNumeral, IsFollowed, IsPair}
+use Rattle.q_script.specs.Words.{Lacks, IsFollowed, IsPair}
 use Rattle.q_script.specs.Command.{name, command_at}
-use Rattle.q_script.specs.Line.{IsCode, IsWord, IsProgram, IsStore, IsAsk, IsDeliver, IsOne, IsJournal, HasOperands, HasCommand, IsAlone, Spells, Judges}
+use Rattle.q_script.specs.Line.{IsCode, IsWord, IsProgram, IsStore, IsAsk, IsDeliver, IsJournal, HasOperands, HasCommand, IsAlone, Spells, Judges}
 use Rattle.q_script.proofs.Parts.{IsCut, cut_once, never_cut}
 use Rattle.q_script.proofs.Pairs.{followed_once}
 use Rattle.q_script.proofs.Commands.{command_sound, command_again, name_lacks_space}
@@ -25,10 +25,16 @@ pub not_deliver : (s : List ℕ) → ((p : ℕ × ℕ) → IsPair 32 s p → ⊥
 not_deliver s n (Deliver message node) h = n (message, node) h
 not_deliver s n _ h = h
 
--- what is no number is no operand of a command that takes one
-pub one_fails : (event : ℕ → ScriptLine) (s : List ℕ) (fault : LineFault) → Judges IsNumeral s (Err fault) → Judges (IsOne event) s (Err fault)
-one_fails event s Form h = λ line k. h k.0 k.1
-one_fails event s OutOfMemory h = tt
+part_told : {X : Type 0} (part : List ℕ → X → Type 0) (whole : List ℕ → ScriptLine → Type 0) (s t : List ℕ) (fault : LineFault)
+    → (((x : X) → part t x → ⊥) → (line : ScriptLine) → whole s line → ⊥) → Judges part t (Err fault) → Judges whole s (Err fault)
+part_told part whole s t Form none h = none h
+part_told part whole s t OutOfMemory none h = tt
+
+-- where a part of a line is refused, the line is refused for the same cause
+pub part_fails : {X : Type 0} (part : List ℕ → X → Type 0) (whole : List ℕ → ScriptLine → Type 0) (s t : List ℕ) (fault : LineFault) (r : Result ScriptLine LineFault) (e : LineFault)
+    → r ≡ Err e → e ≡ fault → (((x : X) → part t x → ⊥) → (line : ScriptLine) → whole s line → ⊥) → Judges part t (Err fault) → Judges whole s r
+part_fails part whole s t fault r e is same none h =
+    subst (Judges whole s) (sym (is ∙ ap (λ (x : LineFault). let y : Result ScriptLine LineFault = Err x in y) same)) (part_told part whole s t fault none h)
 
 pub not_ask : (s : List ℕ) → ((p : ℕ × List ℕ) → IsFollowed 32 s p → ⊥) → (line : ScriptLine) → IsAsk s line → ⊥
 not_ask s n (Ask node program start) h = n (node, h.0) h.1

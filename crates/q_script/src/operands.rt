@@ -1,6 +1,6 @@
 ghost use Rattle.std.specs.Prelude.{◌≡◌, ◌↔◌, IsTrue};
 ghost use Rattle.q_script.specs.Line.{IsCode, IsWord, IsProgram, IsStore, IsAsk, IsDeliver, IsJournal, HasOperands, Judges};
-ghost use Rattle.q_script.specs.Words.{IsNumeral};
+ghost use Rattle.q_script.specs.Words.{IsNumeral, IsPair};
 
 use crate::command::Command;
 use crate::line::{LineFault, ScriptLine};
@@ -38,10 +38,8 @@ fn program(alloc: Global, text: &str) -> Result<ScriptLine, LineFault>
 fn store(text: &str) -> Result<ScriptLine, LineFault>
     ensures { Judges IsStore text.now result }
 {
-    match pair(text, ' ') {
-        Some((node, value)) => Ok(ScriptLine::Store { node, value }),
-        None => Err(LineFault::Form),
-    }
+    let (node, value) = two(text)?;
+    Ok(ScriptLine::Store { node, value })
 }
 
 fn ask(text: &str) -> Result<ScriptLine, LineFault>
@@ -50,21 +48,27 @@ fn ask(text: &str) -> Result<ScriptLine, LineFault>
     let Some((node, rest)) = leading(text, ' ') else {
         return Err(LineFault::Form);
     };
-    match pair(rest, ' ') {
-        Some((program, start)) => Ok(ScriptLine::Ask {
-            node,
-            program,
-            start,
-        }),
-        None => Err(LineFault::Form),
-    }
+    let (program, start) = two(rest)?;
+    Ok(ScriptLine::Ask {
+        node,
+        program,
+        start,
+    })
 }
 
 fn deliver(text: &str) -> Result<ScriptLine, LineFault>
     ensures { Judges IsDeliver text.now result }
 {
+    let (message, node) = two(text)?;
+    Ok(ScriptLine::Deliver { message, node })
+}
+
+/// The two numbers with a space between that are operands of a command.
+fn two(text: &str) -> Result<(u64, u64), LineFault>
+    ensures { Judges (IsPair 32) text.now result }
+{
     match pair(text, ' ') {
-        Some((message, node)) => Ok(ScriptLine::Deliver { message, node }),
+        Some(numbers) => Ok(numbers),
         None => Err(LineFault::Form),
     }
 }

@@ -1,4 +1,4 @@
-use Rattle.std.proofs.Common.{rules, ℕ, ◌+◌, List, [], ◌∷◌, ◌++◌, length, Some, map, Bor, ap, sym, ◌∙◌, subst, arith, lit<, refl}
+use Rattle.std.proofs.Common.{rules, ℕ, ◌+◌, List, [], ◌∷◌, ◌++◌, length, Some, map, Bor, ap, sym, ◌∙◌, subst, arith, refl}
 use Rattle.std.specs.FinMap as fin
 use Rattle.std.proofs.lemmas.List.{map_push}
 use Rattle.std.proofs.lemmas.Iterator.Consumers.{YieldsList-end}

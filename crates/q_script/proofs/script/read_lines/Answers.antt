@@ -1,4 +1,4 @@
-use Rattle.std.proofs.Common.{ℕ, List, map, Bor, ap, sym, ◌∙◌, subst, arith, lit<}
+use Rattle.std.proofs.Common.{ℕ, List, map, Bor, sym, ◌∙◌, subst, arith}
 use Rattle.std.specs.List.{AllZip}
 use Rattle.std.proofs.lemmas.List.{map_push}
 use Rattle.std.proofs.lemmas.Iterator.Consumers.{YieldsList-end}
