@@ -1,10 +1,5 @@
 //! Nodes that are alone, which ask.
 
-ghost use Rattle.std.specs.Prelude.{◌≡◌, All, IfSome};
-ghost use Rattle.q_board.specs.BoardId.{board_id};
-
-use q_board::board::Board;
-use q_board::seats::{AskerSeat, RunnerSeat};
 use q_book::book::Book;
 use q_session::ran::Ran;
 use q_sim::program::certified_code;
@@ -65,14 +60,4 @@ pub fn is_right(book: &Book, query: usize, start: u64) -> bool {
         steps: 3,
     };
     answer(book, query) == Some(right)
-}
-
-/// A board of one asker, with its seat and those of so many runners.
-pub fn opened(alloc: Global, runners: usize) -> Option<(Board, AskerSeat, Vec<RunnerSeat>)>
-    ensures asker { IfSome result (λ made. made.1.table ≡ board_id made.0) }
-    ensures runners { IfSome result (λ made. All (λ s. s.table ≡ board_id made.0) made.2.items) }
-{
-    let (board, mut askers, runners) = Board::open(alloc, 1, runners).ok()?;
-    let asker = askers.pop()?;
-    Some((board, asker, runners))
 }

@@ -4,7 +4,7 @@ ghost use Rattle.std.specs.Prelude.{◌≡◌};
 ghost use Rattle.q_board.specs.BoardId.{board_id};
 ghost use Rattle.q_board.specs.Calls.{SameAsker};
 
-use crate::asking::{ask, founded, is_right, opened};
+use crate::asking::{ask, founded, is_right};
 use bq_frame::block::Block;
 use q_board::board::Board;
 use q_board::seats::{AskerSeat, RunnerSeat};
@@ -88,32 +88,76 @@ fn asked(alloc: Global) -> Option<Book> {
     Some(book)
 }
 
-/// Whether a job that the first seat gives back is found and run once, by the second seat if there is one, else by the
-/// first, over a board with so many runners; none where there is no memory.
-fn is_found(alloc: Global, runners: usize) -> Option<bool> {
-    let (board, mut asker, mut runners) = opened(alloc, runners)?;
-    let mut giver = runners.pop()?;
+/// Whether the seat that gives the job back finds it, and runs it once; none where there is no memory.
+fn found_by_its_giver(
+    alloc: Global,
+    board: &Board,
+    mut asker: AskerSeat,
+    mut runner: RunnerSeat,
+) -> Option<bool>
+    requires asker { asker.table ≡ board_id board.now }
+    requires runner { runner.table ≡ board_id board.now }
+{
     let mut book = asked(alloc)?;
     let mut block = Block::new(alloc).ok()?;
-    let waits = waits_on(&board, &mut asker, &mut giver, &mut book);
-    let runs = match runners.pop() {
-        Some(mut runner) => {
-            let runs = is_run_once(&board, &mut asker, &mut runner, &mut block, &mut book);
-            runs && give_one_back(&board, &mut giver) == None
-        }
-        None => is_run_once(&board, &mut asker, &mut giver, &mut block, &mut book),
-    };
+    let waits = waits_on(board, &mut asker, &mut runner, &mut book);
+    let runs = is_run_once(board, &mut asker, &mut runner, &mut block, &mut book);
     Some(waits && runs)
+}
+
+/// Whether a second seat finds the job that the first gives back, and runs it once; none where there is no memory.
+fn found_by_another(
+    alloc: Global,
+    board: &Board,
+    mut asker: AskerSeat,
+    mut giver: RunnerSeat,
+    mut runner: RunnerSeat,
+) -> Option<bool>
+    requires asker { asker.table ≡ board_id board.now }
+    requires giver { giver.table ≡ board_id board.now }
+    requires runner { runner.table ≡ board_id board.now }
+{
+    let mut book = asked(alloc)?;
+    let mut block = Block::new(alloc).ok()?;
+    let waits = waits_on(board, &mut asker, &mut giver, &mut book);
+    let runs = is_run_once(board, &mut asker, &mut runner, &mut block, &mut book);
+    Some(waits && runs && give_one_back(board, &mut giver) == None)
+}
+
+/// The same over a board of its own, with one runner.
+fn with_one_seat(alloc: Global) -> Option<bool> {
+    match Board::open(alloc, 1, 1) {
+        Ok((board, mut askers, mut runners)) => match (askers.pop(), runners.pop()) {
+            (Some(asker), Some(runner)) => found_by_its_giver(alloc, &board, asker, runner),
+            _ => None,
+        },
+        Err(_) => None,
+    }
+}
+
+/// The same over a board of its own, with two runners.
+fn with_two_seats(alloc: Global) -> Option<bool> {
+    match Board::open(alloc, 1, 2) {
+        Ok((board, mut askers, mut runners)) => {
+            match (askers.pop(), runners.pop(), runners.pop()) {
+                (Some(asker), Some(giver), Some(runner)) => {
+                    found_by_another(alloc, &board, asker, giver, runner)
+                }
+                _ => None,
+            }
+        }
+        Err(_) => None,
+    }
 }
 
 #[test]
 fn a_job_that_is_given_back_is_run_once(rt: HostRuntime) -> Result<(), Fail> {
-    assert!(rt; is_found(rt.alloc(), 1) == Some(true));
+    assert!(rt; with_one_seat(rt.alloc()) == Some(true));
     Ok(())
 }
 
 #[test]
 fn a_job_that_is_given_back_goes_to_another_runner(rt: HostRuntime) -> Result<(), Fail> {
-    assert!(rt; is_found(rt.alloc(), 2) == Some(true));
+    assert!(rt; with_two_seats(rt.alloc()) == Some(true));
     Ok(())
 }

@@ -4,7 +4,7 @@ ghost use Rattle.std.specs.Prelude.{◌≡◌, All};
 ghost use Rattle.q_board.specs.BoardId.{board_id};
 ghost use Rattle.q_board.specs.Calls.{SameAsker};
 
-use crate::asking::{answer, ask, founded, is_right, opened};
+use crate::asking::{answer, ask, founded, is_right};
 use q_board::board::Board;
 use q_board::seats::{AskerSeat, RunnerSeat};
 use q_book::book::Book;
@@ -60,39 +60,41 @@ impl<R: Clock> Gate for Held<'_, R> {
     fn after(&self, _query: usize) {}
 }
 
-/// What an asker waits for.
-#[derive(Clone, Copy)]
-enum Awaited<'a> {
-    /// The answer of this query.
-    Answer(usize),
-    /// This sign.
-    Sign(&'a AtomicBool),
-}
-
-impl Awaited<'_> {
-    /// Whether it has come.
-    fn is_there(self, book: &Book) -> bool {
-        match self {
-            Awaited::Answer(query) => answer(book, query).is_some(),
-            Awaited::Sign(sign) => sign.load(SeqCst),
-        }
-    }
-}
-
-/// Pumps until what is awaited is there.
-fn pump_until<R: Clock>(
+/// Pumps until the query is answered.
+fn pump_until_answered<R: Clock>(
     rt: &R,
     board: &Board,
     seat: &mut AskerSeat,
     book: &mut Book,
-    awaited: Awaited<'_>,
+    query: usize,
 ) -> Option<()>
     requires { seat.old.table ≡ board_id board.now }
     ensures { seat.new.table ≡ seat.old.table }
 {
     for _ in 0..LOOKS {
         pump_once(board, seat, book).ok()?;
-        if awaited.is_there(book) {
+        if answer(book, query).is_some() {
+            return Some(());
+        }
+        thread::sleep(rt, Duration::from_micros(NAP_MICROS));
+    }
+    None
+}
+
+/// Pumps until the sign is given.
+fn pump_until_told<R: Clock>(
+    rt: &R,
+    board: &Board,
+    seat: &mut AskerSeat,
+    book: &mut Book,
+    sign: &AtomicBool,
+) -> Option<()>
+    requires { seat.old.table ≡ board_id board.now }
+    ensures { seat.new.table ≡ seat.old.table }
+{
+    for _ in 0..LOOKS {
+        pump_once(board, seat, book).ok()?;
+        if sign.load(SeqCst) {
             return Some(());
         }
         thread::sleep(rt, Duration::from_micros(NAP_MICROS));
@@ -112,13 +114,13 @@ fn ask_three<R: Clock>(
     requires { seat.old.table ≡ board_id board.now }
 {
     ask(alloc, book, 10)?;
-    pump_until(rt, board, seat, book, Awaited::Answer(0))?;
+    pump_until_answered(rt, board, seat, book, 0)?;
     ask(alloc, book, 20)?;
-    pump_until(rt, board, seat, book, Awaited::Sign(&signs.began))?;
+    pump_until_told(rt, board, seat, book, &signs.began)?;
     ask(alloc, book, 30)?;
-    pump_until(rt, board, seat, book, Awaited::Answer(2))?;
+    pump_until_answered(rt, board, seat, book, 2)?;
     signs.answered.store(true, SeqCst);
-    pump_until(rt, board, seat, book, Awaited::Answer(1))
+    pump_until_answered(rt, board, seat, book, 1)
 }
 
 /// Whether the three answers are right.
@@ -185,8 +187,13 @@ fn passes_with<R: Wait + Threads + Clock + Sync>(
     alloc: Global,
     runners: usize,
 ) -> Option<bool> {
-    let (board, asker, runners) = opened(alloc, runners)?;
-    Some(passes(rt, alloc, &board, asker, runners))
+    match Board::open(alloc, 1, runners) {
+        Ok((board, mut askers, seats)) => match askers.pop() {
+            Some(seat) => Some(passes(rt, alloc, &board, seat, seats)),
+            None => None,
+        },
+        Err(_) => None,
+    }
 }
 
 #[test]

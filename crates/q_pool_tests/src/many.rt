@@ -73,7 +73,28 @@ fn count_right(book: &Book) -> usize {
         .count()
 }
 
-/// Starts the threads of the askers. Whether all were started.
+/// Starts the thread of an asker. Whether it was started.
+fn start<'s, E, R: Wait + Threads + Sync>(
+    scope: &Scope<'s, E>,
+    alloc: Global,
+    rt: &'s R,
+    board: &'s Board,
+    seat: AskerSeat,
+    right: &'s AtomicUsize,
+) -> bool
+    requires { seat.table ≡ board_id board.now }
+{
+    let _rt = rt;
+    scope
+        .spawn(
+            move || -> usize
+                requires { seat.table ≡ board_id board.now }
+            { right.fetch_add(ask_all(alloc, board, seat), SeqCst) },
+        )
+        .is_ok()
+}
+
+/// Starts the threads of the askers.
 fn start_all<'s, E, R: Wait + Threads + Sync>(
     scope: &Scope<'s, E>,
     alloc: Global,
@@ -84,12 +105,8 @@ fn start_all<'s, E, R: Wait + Threads + Sync>(
 ) -> bool
     requires { All (λ s. s.table ≡ board_id board.now) seats.items }
 {
-    let _rt = rt;
     for seat in seats {
-        let work = move || -> usize
-            requires { seat.table ≡ board_id board.now }
-        { right.fetch_add(ask_all(alloc, board, seat), SeqCst) };
-        if scope.spawn(work).is_err() {
+        if !start(scope, alloc, rt, board, seat, right) {
             return false;
         }
     }
