@@ -1,5 +1,5 @@
 -- What an event says of the history of a cluster, and a run.
-use Rattle.std.proofs.Common.{◌≡◌, ℕ, List, take, ◌∙◌, Result, Ok, Err}
+use Rattle.std.proofs.Common.{◌≡◌, ℕ, List, take, ◌∙◌, sym, subst, Result, Ok, Err}
 use Rattle.forms.specs.Calls.{Steps}
 use Rattle.q_session.specs.declared.ran.Ran.{Ran}
 use Rattle.q_history.specs.declared.event.Event.{Event}
@@ -21,6 +21,11 @@ pub takes : (c : ClusterState) (e : Event) (d : ClusterState) (said : Result (St
     → ((ran : Ran) → AnswersTo c e ran) → ((ran : Ran) → stepped ran c e ≡ said) → Steps memory said c d r → Takes c e d r
 takes c e d said (Ok told) any is h = follows c e told d any (λ ran. is ran ∙ h)
 takes c e d said (Err f) any is h = (h.0, λ loud ran. is ran ∙ h.1 loud)
+
+-- the same of an event of another name
+pub takes_as : (c : ClusterState) {e : Event} (f : Event) (d : ClusterState) {said : Result (Stepped × ClusterState) ClusterFault} (r : Result Stepped ClusterFault)
+    → e ≡ f → ((ran : Ran) → AnswersTo c f ran) → ((ran : Ran) → stepped ran c f ≡ said) → Steps memory said c d r → Takes c e d r
+takes_as c f d r same any is h = subst (λ (x : Event). Takes c x d r) (sym same) (takes c f d _ r any is h)
 
 -- what a run leads to, some events lead to
 pub runs_reach : (c : ClusterState) (es : List Event) (d : ClusterState) (r : Result (Unit {0}) (ℕ × ClusterFault)) → Runs c es d r → (fs : List Event) × Reaches c fs d

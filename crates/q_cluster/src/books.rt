@@ -43,14 +43,6 @@ impl Model for Books {
 }
 
 impl Books {
-    pub(crate) fn new(alloc: Global) -> Books
-        ensures { result ≡ fin.empty }
-    {
-        Books {
-            entries: BTreeMap::new(alloc),
-        }
-    }
-
     /// The book of this node.
     pub(crate) fn get(&self, id: u64) -> Option<&Book>
         ensures { option_copied result ≡ fin.get self.now id }
@@ -154,7 +146,9 @@ pub(crate) fn found_books(
     if founders.is_empty() {
         return Err(BookFault::Node(NodeFault::BadFounders));
     }
-    let mut books = Books::new(alloc);
+    let mut books = Books {
+        entries: BTreeMap::new(alloc),
+    };
     for id in founders {
         let book = Book::founder(alloc, config, *id, founders)?;
         books.insert(*id, book)?;

@@ -1,9 +1,10 @@
 //! A cluster: what each event makes of it, and what its answers are.
 
-ghost use Rattle.std.specs.Prelude.{◌≡◌, ◌≢◌, ◌<◌, ℕ, List, Ok, Err, IfOk, IfErr, IfSome, is_some, option_copied, slice_get, length, vec_len, vec_capacity};
+ghost use Rattle.std.specs.Prelude.{◌≡◌, ◌≢◌, ◌<◌, ℕ, List, None, true, Ok, Err, IfOk, IfErr, IfSome, is_some, option_copied, slice_get, length, vec_len, vec_capacity};
 ghost use Rattle.std.specs.FinMap as fin;
 ghost use Rattle.sc_view.specs.Values.{value_length};
 ghost use Rattle.sc_msg.specs.Lengths.{MessageHasValuesOf};
+ghost use Rattle.sc_world.specs.Ledgers.{recorded, numbered};
 ghost use Rattle.sc_world.specs.Records.{AreRecords};
 ghost use Rattle.sc_world.specs.Regular.{IsRegular};
 ghost use Rattle.sc_world.specs.Worlds as world;
@@ -31,6 +32,7 @@ use q_table::program::{Program, ProgramId};
 use sc_members::config::Config;
 use sc_msg::message::Message;
 use sc_node::answer::Begun;
+use sc_node::outs::Outs;
 use sc_view::value::Value;
 use sc_world::act::Opened;
 use sc_world::event::{Event as WorldEvent, Sent};
@@ -231,9 +233,7 @@ impl Cluster {
         self.ledger.reserve(id)?;
         let (book, outs) = Book::entering(self.alloc, self.ledger.config(), id)?;
         self.books.insert(id, book)?;
-        let sent = self
-            .ledger
-            .record(WorldEvent::Enter(id), id, outs, None, None, None);
+        let sent = note(&mut self.ledger, WorldEvent::Enter(id), id, outs);
         Ok(told(Told::Entered, sent))
     }
 
@@ -243,9 +243,7 @@ impl Cluster {
         self.check_live(id)?;
         self.ledger.reserve(id)?;
         let outs = self.books.leave(id)?;
-        let sent = self
-            .ledger
-            .record(WorldEvent::Leave(id), id, outs, None, None, None);
+        let sent = note(&mut self.ledger, WorldEvent::Leave(id), id, outs);
         Ok(told(Told::Left, sent))
     }
 
@@ -369,6 +367,15 @@ impl Cluster {
         self.check_live(job.node())?;
         Ok(job.clone()?)
     }
+}
+
+// Records an event, for which there is room, that begins no operation and moves none. Takes no memory.
+fn note(ledger: &mut Ledger, event: WorldEvent, id: u64, outs: Outs) -> Sent
+    requires { ledger.old.room ≡ true }
+    ensures past { ledger.new.past ≡ recorded ledger.old.past event id outs None None }
+    ensures sent { result ≡ numbered ledger.old.past outs }
+{
+    ledger.record(event, id, outs, None, None, None)
 }
 
 // Puts a job, for which there is room, at the end.

@@ -1,4 +1,4 @@
-use Rattle.std.proofs.Common.{◌≡◌, ◌∙◌, refl, sym, ap, Option, None, is_some, length}
+use Rattle.std.proofs.Common.{◌≡◌, ◌∙◌, refl, sym, ap, Option, None, is_some}
 use Rattle.std.specs.FinMap as fin
 use Rattle.sc_members.specs.Members.{Config}
 use Rattle.sc_world.specs.declared.event.Event.TheVariants as world_event
@@ -6,7 +6,6 @@ use Rattle.sc_world.specs.State.{Past}
 use Rattle.sc_world.specs.Ledgers.{recorded, numbered}
 use Rattle.sc_world.proofs.Tables.{is_some-copied}
 use Rattle.sc_world.proofs.Inverts.{same_answer}
-use Rattle.sc_world.proofs.Moving.{nothing_moves}
 use Rattle.q_book.specs.State.{BookState}
 use Rattle.q_book.specs.Books as book
 use Rattle.q_cluster.proofs.Coming.{none_of, enter_used, enter_says, enter_goes}
@@ -19,9 +18,6 @@ returns-then-is_some c = (
       (sym c.if-is_some.true ∙ c.is_some.ensures ∙ is_some-copied c.get.result ∙ ap (λ (o : Option BookState). is_some o) c.get.ensures),
 )
 
-pub record-sent-requires-clause-ready : goal.record-sent-requires-clause-ready
-record-sent-requires-clause-ready c = nothing_moves c.reserve.new.self.past.ops c.args.id (length c.reserve.new.self.past.events)
-
 module _ (c : goal.After-told) where
   absent : fin.get c.self.inside.books c.args.id ≡ None
   absent = none_of (fin.get c.self.inside.books c.args.id) (sym (c.is_some.ensures ∙ is_some-copied c.get.result ∙ ap (λ (o : Option BookState). is_some o) c.get.ensures) ∙ c.if-is_some.false)
@@ -31,19 +27,19 @@ module _ (c : goal.After-told) where
       ap (λ (k : Config). book.entered k c.args.id) (sym (c.config.ensures ∙ ap (λ (p : Past). p.config) c.in_ok-reserve.ensures.past))
       ∙ same_answer (book.entered c.config.result c.args.id) (c.in_ok-book.book, c.in_ok-book.outs) c.in_ok-book.ensures
 
-  records : c.record-sent.new.self.past ≡ recorded c.self.inside.ledger.past (world_event.Enter c.args.id) c.args.id c.in_ok-book.outs None None
-  records = c.record-sent.ensures.past ∙ ap (λ (p : Past). recorded p (world_event.Enter c.args.id) c.args.id c.in_ok-book.outs None None) c.in_ok-reserve.ensures.past
+  records : c.note-sent.new.ledger.past ≡ recorded c.self.inside.ledger.past (world_event.Enter c.args.id) c.args.id c.in_ok-book.outs None None
+  records = c.note-sent.ensures.past ∙ ap (λ (p : Past). recorded p (world_event.Enter c.args.id) c.args.id c.in_ok-book.outs None None) c.in_ok-reserve.ensures.past
 
-  numbers : c.record-sent.result ≡ numbered c.self.inside.ledger.past c.in_ok-book.outs
-  numbers = c.record-sent.ensures.sent ∙ ap (λ (p : Past). numbered p c.in_ok-book.outs) c.in_ok-reserve.ensures.past
+  numbers : c.note-sent.result ≡ numbered c.self.inside.ledger.past c.in_ok-book.outs
+  numbers = c.note-sent.ensures.sent ∙ ap (λ (p : Past). numbered p c.in_ok-book.outs) c.in_ok-reserve.ensures.past
 
 pub invariant_of-self-2 : goal.invariant_of-self-2
 invariant_of-self-2 c =
     enter_goes c.self.inside.books c.self.inside.ledger.past c.self.inside.jobs.items c.args.id c.self.invariant (absent c) c.in_ok-book.book c.in_ok-book.outs (made c) c.insert.new.self c.in_ok-insert.ensures.ok
-    c.record-sent.new.self.past (records c) c.record-sent.result (numbers c)
+    c.note-sent.new.ledger.past (records c) c.note-sent.result (numbers c)
 
 pub returns : goal.returns
 returns c =
     rw (← c.self.view_is)
     (enter_says c.self.inside.books c.self.inside.ledger.past c.self.inside.jobs.items c.args.id c.self.invariant (absent c) c.in_ok-book.book c.in_ok-book.outs (made c) c.insert.new.self c.in_ok-insert.ensures.ok
-    c.record-sent.new.self.past (records c) c.record-sent.result (numbers c) c.told.result c.told.ensures)
+    c.note-sent.new.ledger.past (records c) c.note-sent.result (numbers c) c.told.result c.told.ensures)

@@ -1,13 +1,9 @@
-use Rattle.std.proofs.Common.{refl, length}
+use Rattle.std.proofs.Common.{refl}
 use Rattle.std.proofs.lemmas.Result.{err_from_is_err_and}
-use Rattle.sc_world.proofs.Moving.{nothing_moves}
 use Rattle.q_cluster.proofs.Histories.{nothing}
 use Rattle.q_cluster.proofs.Calls.{leaving, leaves_note}
 use Rattle.q_cluster.proofs.Going.{standing, stays, refuses, noted_says, noted_goes}
 use Rattle.q_cluster.proofs.cluster.Cluster.leave.Goals as goal
-
-pub record-sent-requires-clause-ready : goal.record-sent-requires-clause-ready
-record-sent-requires-clause-ready c = nothing_moves c.reserve.new.self.past.ops c.args.id (length c.reserve.new.self.past.events)
 
 pub invariant_of-self-in_err-outs : goal.invariant_of-self-in_err-outs
 invariant_of-self-in_err-outs c =
@@ -24,10 +20,10 @@ pub invariant_of-self-2 : goal.invariant_of-self-2
 invariant_of-self-2 c =
     let s = standing c.self.invariant c.self.view_is c.in_ok-check_live.ensures.there in
     noted_goes (leaving c.args.id) s nothing (tt, refl) c.in_ok-outs.outs c.leave.new.self c.in_ok-outs.ensures (leaves_note c.args.id c.in_ok-outs.outs) refl
-    c.in_ok-reserve.ensures.past c.record-sent.ensures.past c.record-sent.ensures.sent c.told.ensures
+    c.in_ok-reserve.ensures.past c.note-sent.ensures.past c.note-sent.ensures.sent c.told.ensures
 
 pub returns : goal.returns
 returns c =
     let s = standing c.self.invariant c.self.view_is c.in_ok-check_live.ensures.there in
     noted_says (leaving c.args.id) s nothing (tt, refl) c.in_ok-outs.outs c.leave.new.self c.in_ok-outs.ensures (leaves_note c.args.id c.in_ok-outs.outs) refl
-    c.in_ok-reserve.ensures.past c.record-sent.ensures.past c.record-sent.ensures.sent c.told.ensures
+    c.in_ok-reserve.ensures.past c.note-sent.ensures.past c.note-sent.ensures.sent c.told.ensures
