@@ -11,9 +11,14 @@ struct folded {
     bool is_done;
 };
 
+struct way {
+    uint64_t start, folds;
+    bool is_tested;
+};
+
 typedef struct folded library_folds(const uint8_t *program, size_t program_length, const uint8_t *records,
-                                    size_t records_length, uint64_t start, uint64_t folds);
-library_folds q_speed_loop, q_speed_machine, q_speed_run_fold, q_speed_fold_checked;
+                                    size_t records_length, const struct way *way);
+library_folds q_speed_flat, q_speed_view;
 size_t q_speed_assemble(const uint8_t *source, size_t source_length, uint8_t *buffer, size_t buffer_length);
 
 static double began, ended;
@@ -38,19 +43,19 @@ void __wrap_free(void *memory) {
     __real_free(memory);
 }
 
-static struct burst timed(library_folds *folds_of, const struct job *job, uint64_t folds) {
-    struct folded folded = folds_of(job->program, job->program_length, job->records, RECORDS * RECORD_LENGTH,
-                                    job->start, folds);
+static struct burst timed(library_folds *folds_of, const struct job *job, uint64_t folds, bool is_tested) {
+    struct way way = {job->start, folds, is_tested};
+    struct folded folded = folds_of(job->program, job->program_length, job->records, RECORDS * RECORD_LENGTH, &way);
     return (struct burst){folded.is_done, folded.acc, folded.steps, ended - began};
 }
 
-struct burst by_our_loop(const struct job *job, uint64_t folds) { return timed(q_speed_loop, job, folds); }
+struct burst by_our_loop(const struct job *job, uint64_t folds) { return timed(q_speed_flat, job, folds, false); }
 
-struct burst by_our_machine(const struct job *job, uint64_t folds) { return timed(q_speed_machine, job, folds); }
+struct burst by_our_machine(const struct job *job, uint64_t folds) { return timed(q_speed_flat, job, folds, true); }
 
-struct burst by_run_fold(const struct job *job, uint64_t folds) { return timed(q_speed_run_fold, job, folds); }
+struct burst by_run_fold(const struct job *job, uint64_t folds) { return timed(q_speed_view, job, folds, false); }
 
-struct burst by_fold_checked(const struct job *job, uint64_t folds) { return timed(q_speed_fold_checked, job, folds); }
+struct burst by_fold_checked(const struct job *job, uint64_t folds) { return timed(q_speed_view, job, folds, true); }
 
 size_t assembled(const char *source, size_t length, uint8_t *bytes, size_t room) {
     return q_speed_assemble((const uint8_t *)source, length, bytes, room);

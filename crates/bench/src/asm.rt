@@ -8,9 +8,8 @@ use anyhow::{Result, anyhow};
 use bq_asm::assemble::assemble;
 use bq_asm::disassemble::disassemble;
 use bq_asm::fault::AsmFault;
-use bq_insn::text::Text;
 use std::alloc::{AllocError, Global};
-use std::time::{Clock, Duration, Instant};
+use std::time::{Clock, Instant};
 
 /// A source of so many units.
 fn source_of(alloc: Global, units: u64) -> Result<String, AllocError> {
@@ -32,30 +31,15 @@ fn refused(fault: AsmFault) -> anyhow::Error {
     anyhow!("refused {}", fault.reason())
 }
 
-/// How long it takes to assemble a source so many times.
-fn time_assembling(
-    rt: &(impl Clock + Alloc<A = Global>),
-    source: &str,
-    runs: u64,
-) -> Result<Duration> {
-    let start = Instant::now(rt)?;
-    for _ in 0..runs {
-        let _text = assemble(rt.alloc(), source).map_err(refused)?;
-    }
-    Ok(start.elapsed(rt)?)
-}
-
-/// How long it takes to disassemble a text so many times.
-fn time_disassembling(
-    rt: &(impl Clock + Alloc<A = Global>),
-    text: &Text,
-    runs: u64,
-) -> Result<Duration> {
-    let start = Instant::now(rt)?;
-    for _ in 0..runs {
-        let _source = disassemble(rt.alloc(), text)?;
-    }
-    Ok(start.elapsed(rt)?)
+/// How long it takes to do something so many times.
+macro_rules! time {
+    ($rt:expr, $runs:expr, $once:expr) => {{
+        let start = Instant::now($rt)?;
+        for _ in 0..$runs {
+            let _made = $once;
+        }
+        start.elapsed($rt)?
+    }};
 }
 
 /// Times these units so many times.
@@ -71,8 +55,12 @@ pub(crate) fn run(
         text.units(),
         source.len()
     )?;
-    let assembling = time_assembling(rt, source.as_str(), runs)?;
-    let disassembling = time_disassembling(rt, &text, runs)?;
+    let assembling = time!(
+        rt,
+        runs,
+        assemble(rt.alloc(), source.as_str()).map_err(refused)?
+    );
+    let disassembling = time!(rt, runs, disassemble(rt.alloc(), &text)?);
     eprintln!(rt; "assembling {assembling:?}, disassembling {disassembling:?}")?;
     Ok(())
 }

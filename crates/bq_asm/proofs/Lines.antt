@@ -4,17 +4,12 @@ use Rattle.std.specs.Prelude.{Result, Ok, Err}
 use Rattle.std.specs.Result.{is_ok, is_err}
 use Rattle.std.specs.List.{AllZip}
 use Rattle.std.proofs.lemmas.List.{take-append-drop, drop_more, map_push, length-map}
+use Rattle.std.proofs.lemmas.Slice.Zip.{all_zipped_more}
 use Rattle.bq_asm.specs.Line.{Line, Spells}
 use Rattle.bq_asm.specs.Labels.{IsFirstLine}
 use Rattle.bq_asm.specs.Source.{IsUnreadable}
 use Rattle.bq_asm.specs.Reading.{line_at}
 use Rattle.bq_asm.proofs.Said.{line_sound, unreadable}
-
-pub zip_push : {A B : Type 0} (R : A → B → Type 0) (xs : List A) (ys : List B) (x : A) (y : B) → AllZip R xs ys → R x y → AllZip R (xs ++ x ∷ []) (ys ++ y ∷ [])
-zip_push R [] [] x y h r = (r, tt)
-zip_push R [] (z ∷ ys) x y h r = absurd h
-zip_push R (w ∷ xs) [] x y h r = absurd h
-zip_push R (w ∷ xs) (z ∷ ys) x y h r = (h.0, zip_push R xs ys x y h.1 r)
 
 pub pieces_at : {A : Type 0} (all front : List A) (i : ℕ) (x : A) → front ≡ take i all → i < length all → x ≡ get_or all i x → all ≡ front ++ (x ∷ drop (i + 1) all)
 pieces_at all front i x f l e =
@@ -71,4 +66,4 @@ all_read view texts done items e h = subst (λ u. AllZip Spells u (map view item
 pub read_more : {X E : Type 0} (view : X → Line) (done : List (List ℕ)) (t : List ℕ) (items new : List X) (x : X) (r : Result (Unit {0}) E) → AllZip Spells done (map view items) → line_at t ≡ Some (view x)
     → new ≡ cond (is_ok r) (items ++ x ∷ []) items → is_err r ≡ false → AllZip Spells (done ++ t ∷ []) (map view new)
 read_more view done t items new x r h e p f =
-    subst (AllZip Spells (done ++ t ∷ [])) (sym (ap (map view) (pushed items new x r p f) ∙ map_push view items x)) (zip_push Spells done (map view items) t (view x) h (line_sound t (view x) e))
+    subst (AllZip Spells (done ++ t ∷ [])) (sym (ap (map view) (pushed items new x r p f) ∙ map_push view items x)) (all_zipped_more Spells done (map view items) t (view x) h (line_sound t (view x) e))

@@ -9,6 +9,7 @@ use Rattle.std.proofs.lemmas.Option.{cond_some}
 use Rattle.std.proofs.lemmas.List.{append_assoc, append-nil, nil_from_length}
 use Rattle.bq_insn.specs.declared.insn.Operand.TheVariants as operands
 use Rattle.bq_insn.specs.declared.insn.Operand.{Operand}
+use Rattle.bq_insn.specs.declared.insn.Insn.{Insn}
 use Rattle.bq_insn.specs.declared.insn.Insn.TheVariants as insns
 use Rattle.bq_insn.specs.Insn.{IsOperand, IsInsn}
 use Rattle.bq_asm.specs.declared.mnemonic.Mnemonic.{Mnemonic}
@@ -261,6 +262,20 @@ pub record Reads (m : Mnemonic) (text : List ℕ) (s : Statement) : Type 0 where
 reads_jump : (j : Jump) (text : List ℕ) (s : Statement) → Spread (jump_operands j text) text → Jumps j text s → Reads (jump_mnemonic j) text s
 reads_jump j text s p k = record { mnemonic = k.mnemonic; legal = k.legal; spread = subst (λ xs. Spread xs text) (sym k.operands) p }
 
+-- an instruction made of a register and a place in memory
+reads_load : (m : Mnemonic) (load : ℕ → ℕ → ℤ → Insn) (text : List ℕ) (s : Statement)
+    → ((d b : ℕ) (o : ℤ) → d < 11 → b < 11 → FitsSigned w16 o → Spread (register d ∷ memory b o ∷ []) text → Reads m text (Complete (load d b o)))
+    → (pair_at text >>= (λ p. register_at p.0 >>= λ d. memory_at p.1 >>= λ v. Some (Complete (load d v.0 v.1)))) ≡ Some s → Reads m text s
+reads_load m load text s loads e =
+    let p = bind_some (pair_at text) (λ p. register_at p.0 >>= λ d. memory_at p.1 >>= λ v. Some (Complete (load d v.0 v.1))) s e in
+    let d = bind_some (register_at p.0.0) (λ d. memory_at p.0.1 >>= λ v. Some (Complete (load d v.0 v.1))) s p.2 in
+    let v = bind_some (memory_at p.0.1) (λ v. Some (Complete (load d.0 v.0 v.1))) s d.2 in
+    let g : Complete (load d.0 v.0.0 v.0.1) ≡ s = cc in
+    let r = register_sound p.0.0 d.0 d.1 in
+    let o = memory_sound p.0.1 v.0 v.1 in
+    subst (Reads m text) g
+    (loads d.0 v.0.0 v.0.1 r.1 o.base o.offset (spread_pair (register d.0) (memory v.0.0 v.0.1) [] text p.0 p.1 r.0 (spread_one (memory v.0.0 v.0.1) p.0.1 o.parts)))
+
 pub statement_sound : (m : Mnemonic) (text : List ℕ) (s : Statement) → statement_at m text ≡ Some s → Reads m text s
 unfolding statement_at
 statement_sound (mnemonics.Alu w op) text s e =
@@ -309,21 +324,9 @@ statement_sound mnemonics.Exit text s e =
     let h = cond_some (eqb (length text) 0) (Complete insns.Exit) s e in
     subst (Reads mnemonics.Exit text) h.1 (record { mnemonic = refl; legal = tt; spread = spread_none text (nil_from_length text (eqb-true _ 0 h.0)) })
 statement_sound (mnemonics.Load z) text s e =
-    let p = bind_some (pair_at text) (λ p. register_at p.0 >>= λ d. memory_at p.1 >>= λ m. Some (Complete (insns.Load z d m.0 m.1))) s e in
-    let d = bind_some (register_at p.0.0) (λ d. memory_at p.0.1 >>= λ m. Some (Complete (insns.Load z d m.0 m.1))) s p.2 in
-    let m = bind_some (memory_at p.0.1) (λ m. Some (Complete (insns.Load z d.0 m.0 m.1))) s d.2 in
-    let g : Complete (insns.Load z d.0 m.0.0 m.0.1) ≡ s = cc in
-    let r = register_sound p.0.0 d.0 d.1 in
-    let o = memory_sound p.0.1 m.0 m.1 in
-    subst (Reads (mnemonics.Load z) text) g (record { mnemonic = refl; legal = (r.1, o.base, o.offset); spread = spread_pair (register d.0) (memory m.0.0 m.0.1) [] text p.0 p.1 r.0 (spread_one (memory m.0.0 m.0.1) p.0.1 o.parts) })
+    reads_load (mnemonics.Load z) (insns.Load z) text s (λ d b o low base fits spread. record { mnemonic = refl; legal = (low, base, fits); spread = spread }) e
 statement_sound (mnemonics.LoadSigned z) text s e =
-    let p = bind_some (pair_at text) (λ p. register_at p.0 >>= λ d. memory_at p.1 >>= λ m. Some (Complete (insns.LoadSigned z d m.0 m.1))) s e in
-    let d = bind_some (register_at p.0.0) (λ d. memory_at p.0.1 >>= λ m. Some (Complete (insns.LoadSigned z d m.0 m.1))) s p.2 in
-    let m = bind_some (memory_at p.0.1) (λ m. Some (Complete (insns.LoadSigned z d.0 m.0 m.1))) s d.2 in
-    let g : Complete (insns.LoadSigned z d.0 m.0.0 m.0.1) ≡ s = cc in
-    let r = register_sound p.0.0 d.0 d.1 in
-    let o = memory_sound p.0.1 m.0 m.1 in
-    subst (Reads (mnemonics.LoadSigned z) text) g (record { mnemonic = refl; legal = (r.1, o.base, o.offset); spread = spread_pair (register d.0) (memory m.0.0 m.0.1) [] text p.0 p.1 r.0 (spread_one (memory m.0.0 m.0.1) p.0.1 o.parts) })
+    reads_load (mnemonics.LoadSigned z) (insns.LoadSigned z) text s (λ d b o low base fits spread. record { mnemonic = refl; legal = (low, base, fits); spread = spread }) e
 statement_sound (mnemonics.Store z) text s e =
     let p = bind_some (pair_at text) (λ p. memory_at p.0 >>= λ m. operand_at p.1 >>= λ x. Some (Complete (insns.Store z m.0 m.1 x))) s e in
     let m = bind_some (memory_at p.0.0) (λ m. operand_at p.0.1 >>= λ x. Some (Complete (insns.Store z m.0 m.1 x))) s p.2 in

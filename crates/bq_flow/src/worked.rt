@@ -3,9 +3,9 @@
 ghost use Rattle.std.specs.Prelude.{◌≡◌, [], ◌∷◌, pos, negsuc, Some, None};
 ghost use Rattle.reasons.specs.Table as table;
 ghost use Rattle.bq_word.specs.declared.Width.TheVariants.{W64};
-ghost use Rattle.bq_word.specs.declared.Relation.TheVariants as relation;
+ghost use Rattle.bq_word.specs.declared.Relation.TheVariants.{Equal};
 ghost use Rattle.bq_insn.specs.declared.insn.Insn.TheVariants as insn;
-ghost use Rattle.bq_insn.specs.declared.insn.Operand.TheVariants as operand;
+ghost use Rattle.bq_insn.specs.declared.insn.Operand.TheVariants.{Number};
 ghost use Rattle.bq_flow.specs.declared.fault.FlowRule.TheVariants as rule;
 ghost use Rattle.bq_flow.specs.declared.fault.FlowFault.TheVariants as fault;
 ghost use Rattle.bq_flow.specs.Successors.{successors};
@@ -22,7 +22,7 @@ pub fn worked()
     ensures jumped { successors 3 (insn.Jump (pos 2)) ≡ pos 6 ∷ [] }
     ensures jumped_far { successors 3 (insn.JumpFar (pos 40000)) ≡ pos 40004 ∷ [] }
     ensures jumped_back { successors 3 (insn.Jump (negsuc 5)) ≡ negsuc 1 ∷ [] }
-    ensures branched { successors 3 (insn.Branch W64 relation.Equal 1 (operand.Number (pos 7)) (pos 2)) ≡ pos 4 ∷ pos 6 ∷ [] }
+    ensures branched { successors 3 (insn.Branch W64 Equal 1 (Number (pos 7)) (pos 2)) ≡ pos 4 ∷ pos 6 ∷ [] }
     ensures ended { successors 3 insn.Exit ≡ [] }
 
     // Which instruction begins at a unit.

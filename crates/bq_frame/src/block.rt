@@ -107,44 +107,15 @@ impl Block {
         })
     }
 
-    /// Puts the lowest byte of a number at a place.
+    /// Puts the lowest `N` bytes of a number at a place and behind it.
     #[inline(always)]
-    pub unsafe fn store1(&mut self, at: usize, value: u64)
-        requires { at + 1 ≤ 640 }
-        ensures { self.new ≡ splice self.old at (at + 1) (le_bytes 1 value) }
+    pub unsafe fn store<const N: usize>(&mut self, at: usize, value: u64)
+        requires few { N ≤ 8 }
+        requires inside { at + N ≤ 640 }
+        ensures { self.new ≡ splice self.old at (at + N) (le_bytes N value) }
     {
         let bytes: &mut [u8; BLOCK_LENGTH] = &mut self.bytes;
-        put(bytes, at, &value.to_le_bytes()[..1]);
-    }
-
-    /// Puts the lowest 2 bytes of a number at a place and behind it.
-    #[inline(always)]
-    pub unsafe fn store2(&mut self, at: usize, value: u64)
-        requires { at + 2 ≤ 640 }
-        ensures { self.new ≡ splice self.old at (at + 2) (le_bytes 2 value) }
-    {
-        let bytes: &mut [u8; BLOCK_LENGTH] = &mut self.bytes;
-        put(bytes, at, &value.to_le_bytes()[..2]);
-    }
-
-    /// Puts the lowest 4 bytes of a number at a place and behind it.
-    #[inline(always)]
-    pub unsafe fn store4(&mut self, at: usize, value: u64)
-        requires { at + 4 ≤ 640 }
-        ensures { self.new ≡ splice self.old at (at + 4) (le_bytes 4 value) }
-    {
-        let bytes: &mut [u8; BLOCK_LENGTH] = &mut self.bytes;
-        put(bytes, at, &value.to_le_bytes()[..4]);
-    }
-
-    /// Puts the 8 bytes of a number at a place and behind it.
-    #[inline(always)]
-    pub unsafe fn store8(&mut self, at: usize, value: u64)
-        requires { at + 8 ≤ 640 }
-        ensures { self.new ≡ splice self.old at (at + 8) (le_bytes 8 value) }
-    {
-        let bytes: &mut [u8; BLOCK_LENGTH] = &mut self.bytes;
-        put(bytes, at, &value.to_le_bytes());
+        put(bytes, at, &value.to_le_bytes()[..N]);
     }
 
     /// Makes the frame all zeros. The bytes behind it stay.

@@ -1,6 +1,6 @@
 -- When two instructions are the same.
 use Rattle.std.proofs.Common.{◌≡◌, Bool, true, refl, ap, subst, rules}
-use Rattle.std.specs.Prelude.{◌==◌, ◌&&◌, ◌↔◌}
+use Rattle.std.specs.Prelude.{ℕ, ℤ, ◌==◌, ◌&&◌, ◌↔◌}
 use Rattle.std.proofs.lemmas.Bool.{false≢true}
 use Rattle.std.specs.Ordering.{int_eq}
 use Rattle.std.specs.Cmp.{first_so, second_so, signed_Decides, unsigned_Decides}
@@ -38,6 +38,12 @@ split4 a b c d h = let t = split3 b c d (second_so a _ h) in (first_so a _ h, t.
 
 split5 : (a b c d e : Bool) → (a && (b && (c && (d && e)))) ≡ true → (a ≡ true) × (b ≡ true) × (c ≡ true) × (d ≡ true) × (e ≡ true)
 split5 a b c d e h = let t = split4 b c d e (second_so a _ h) in (first_so a _ h, t.0, t.1, t.2, t.3)
+
+-- what a load of each kind tests last: two registers and an offset
+same_place : (a : Bool) (b b' c c' : ℕ) (d d' : ℤ) → (a && ((b == b') && ((c == c') && int_eq d d'))) ≡ true → (a ≡ true) × (b ≡ b') × (c ≡ c') × (d ≡ d')
+same_place a b b' c c' d d' h =
+    let t = split4 a (b == b') (c == c') (int_eq d d') h in
+    (t.0, (unsigned_Decides b b').0 t.1, (unsigned_Decides c c').0 t.2, (signed_Decides d d').0 t.3)
 
 same_operand : (a b : Operand) → operand_eq.it a b ≡ true → a ≡ b
 same_operand (operands.Register r) (operands.Register s) h = ap operands.Register ((unsigned_Decides r s).0 h)
@@ -93,20 +99,12 @@ same_insn (insns.Branch a b c d e) j h = absurd (false≢true h)
 same_insn insns.Exit insns.Exit h = refl
 same_insn insns.Exit j h = absurd (false≢true h)
 same_insn (insns.Load a b c d) (insns.Load a' b' c' d') h =
-    let t = split4 (size_eq.it a a') (b == b') (c == c') (int_eq d d') h in
-    let a-same = same_true size.the_type (search rules) a a' t.0 in
-    let b-same = (unsigned_Decides b b').0 t.1 in
-    let c-same = (unsigned_Decides c c').0 t.2 in
-    let d-same = (signed_Decides d d').0 t.3 in
-    cc
+    let t = same_place (size_eq.it a a') b b' c c' d d' h in
+    let a-same = same_true size.the_type (search rules) a a' t.0 in cc (t.1, t.2, t.3)
 same_insn (insns.Load a b c d) j h = absurd (false≢true h)
 same_insn (insns.LoadSigned a b c d) (insns.LoadSigned a' b' c' d') h =
-    let t = split4 (sign_bits_eq.it a a') (b == b') (c == c') (int_eq d d') h in
-    let a-same = same_true sign_bits.the_type (search rules) a a' t.0 in
-    let b-same = (unsigned_Decides b b').0 t.1 in
-    let c-same = (unsigned_Decides c c').0 t.2 in
-    let d-same = (signed_Decides d d').0 t.3 in
-    cc
+    let t = same_place (sign_bits_eq.it a a') b b' c c' d d' h in
+    let a-same = same_true sign_bits.the_type (search rules) a a' t.0 in cc (t.1, t.2, t.3)
 same_insn (insns.LoadSigned a b c d) j h = absurd (false≢true h)
 same_insn (insns.Store a b c d) (insns.Store a' b' c' d') h =
     let t = split4 (size_eq.it a a') (b == b') (int_eq c c') (operand_eq.it d d') h in

@@ -26,20 +26,7 @@ impl AluCode {
         ensures value { result ≡ alu_code self }
         ensures bound { result < 16 }
     {
-        match self {
-            AluCode::Add => 0,
-            AluCode::Sub => 1,
-            AluCode::Mul => 2,
-            AluCode::Div => 3,
-            AluCode::Or => 4,
-            AluCode::And => 5,
-            AluCode::ShiftLeft => 6,
-            AluCode::ShiftRight => 7,
-            AluCode::Mod => 9,
-            AluCode::Xor => 10,
-            AluCode::Mov => 11,
-            AluCode::ArithmeticShiftRight => 12,
-        }
+        self as u8
     }
 }
 

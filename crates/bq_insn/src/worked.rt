@@ -12,18 +12,18 @@ ghost use Rattle.bq_insn.specs.declared.fault.DecodeFault.TheVariants as fault;
 ghost use Rattle.bq_insn.specs.declared.fault.UnitFault.TheVariants as wrong;
 ghost use Rattle.bq_insn.specs.declared.insn.Insn.{Insn};
 ghost use Rattle.bq_insn.specs.declared.insn.Insn.TheVariants as insn;
-ghost use Rattle.bq_insn.specs.declared.insn.Operand.TheVariants as operand;
-ghost use Rattle.bq_insn.specs.declared.opcode.AluCode.TheVariants as code;
+ghost use Rattle.bq_insn.specs.declared.insn.Operand.TheVariants.{Register};
+ghost use Rattle.bq_insn.specs.declared.opcode.AluCode.TheVariants.{Add};
 ghost use Rattle.bq_insn.specs.declared.opcode.Opcode.TheVariants as opcode;
-ghost use Rattle.bq_insn.specs.declared.opcode.Source.TheVariants as source;
+ghost use Rattle.bq_insn.specs.declared.opcode.Source.TheVariants.{Number};
 ghost use Rattle.bq_insn.specs.declared.rows.FieldUse.TheVariants as uses;
-ghost use Rattle.bq_word.specs.declared.AluOp.TheVariants as op;
-ghost use Rattle.bq_word.specs.declared.Width.TheVariants as width;
+ghost use Rattle.bq_word.specs.declared.AluOp.TheVariants.{SignedMod};
+ghost use Rattle.bq_word.specs.declared.Width.TheVariants.{W64};
 
 /// What first bytes say: `add64` with a number, EXIT, a CALL that is left out, and an atomic operation that is.
 #[tactic(auto, unfolding(crate::specs::Opcode::opcode_at))]
 pub fn worked_opcodes()
-    ensures add { opcode_at 7 ≡ Some (opcode.Alu width.W64 code.Add source.Number) }
+    ensures add { opcode_at 7 ≡ Some (opcode.Alu W64 Add Number) }
     ensures exit { opcode_at 149 ≡ Some opcode.Exit }
     ensures call { opcode_at 133 ≡ None }
     ensures atomic { is_left_out 219 ≡ true }
@@ -35,7 +35,7 @@ pub fn worked_opcodes()
 #[tactic(auto, unfolding(crate::specs::Fields::unit_bytes))]
 pub fn worked_bytes()
     ensures fields { unit_bytes (record { opcode = 188; dst = 10; src = 1; offset = 8; imm = 0 }) ≡ 188 ∷ 26 ∷ 8 ∷ 0 ∷ 0 ∷ 0 ∷ 0 ∷ 0 ∷ [] }
-    ensures signed { insn_bytes (insn.Alu width.W64 op.SignedMod 0 (operand.Register 4)) ≡ 159 ∷ 64 ∷ 1 ∷ 0 ∷ 0 ∷ 0 ∷ 0 ∷ 0 ∷ [] }
+    ensures signed { insn_bytes (insn.Alu W64 SignedMod 0 (Register 4)) ≡ 159 ∷ 64 ∷ 1 ∷ 0 ∷ 0 ∷ 0 ∷ 0 ∷ 0 ∷ [] }
     ensures wide { insn_bytes (insn.Wide 0 1099511627785) ≡ 24 ∷ 0 ∷ 0 ∷ 0 ∷ 9 ∷ 0 ∷ 0 ∷ 0 ∷ 0 ∷ 0 ∷ 0 ∷ 0 ∷ 0 ∷ 1 ∷ 0 ∷ 0 ∷ [] }
 {}
 

@@ -18,28 +18,12 @@ use Rattle.bq_range.proofs.Edges.{AreRanges, turned, relation_least, eqb_turned,
 converse_is : (w : ℕ) (relation : Relation) (x y : ℕ) → relates w (converse relation) y x ≡ relates w relation x y
 converse_is w Equal x y = eqb_turned (low w y) (low w x)
 converse_is w NotEqual x y = ap not (eqb_turned (low w y) (low w x))
-converse_is w Less x y = refl
-converse_is w LessOrEqual x y = refl
-converse_is w Greater x y = refl
-converse_is w GreaterOrEqual x y = refl
-converse_is w SignedLess x y = refl
-converse_is w SignedLessOrEqual x y = refl
-converse_is w SignedGreater x y = refl
-converse_is w SignedGreaterOrEqual x y = refl
 converse_is w CommonBit x y = ap (λ (n : ℕ). not (eqb n 0)) (and_comm (low w y) (low w x))
+converse_is w relation x y = refl
 
 uncommon : (relation : Relation) → (relation ≡ CommonBit → ⊥) → converse relation ≡ CommonBit → ⊥
-uncommon Equal n e = cc
-uncommon NotEqual n e = cc
-uncommon Less n e = cc
-uncommon LessOrEqual n e = cc
-uncommon Greater n e = cc
-uncommon GreaterOrEqual n e = cc
-uncommon SignedLess n e = cc
-uncommon SignedLessOrEqual n e = cc
-uncommon SignedGreater n e = cc
-uncommon SignedGreaterOrEqual n e = cc
 uncommon CommonBit n e = n refl
+uncommon relation n e = cc
 
 -- the least ranges of the two sides, where each is there exactly where two words stand so
 joined : (S : ℕ → ℕ → Type 0) (a b : Interval) (l r : Option Interval) → OnLeast (IsLeft S a b) l → OnLeast (IsRight S a b) r → IsNarrowing S a b (option_and_then (λ (u : Interval). option_and_then (λ (v : Interval). Some (u, v)) r) l)

@@ -7,8 +7,8 @@ ghost use Rattle.bq_word.specs.declared.AluOp.TheVariants as op;
 ghost use Rattle.bq_word.specs.declared.Relation.TheVariants as relation;
 ghost use Rattle.bq_insn.specs.declared.insn.Insn.TheVariants as insn;
 ghost use Rattle.bq_insn.specs.declared.insn.Operand.TheVariants as operand;
-ghost use Rattle.bq_insn.specs.declared.insn.ByteOrder.TheVariants as order;
-ghost use Rattle.bq_insn.specs.declared.insn.Extension.TheVariants as extension;
+ghost use Rattle.bq_insn.specs.declared.insn.ByteOrder.TheVariants.{Big, Little};
+ghost use Rattle.bq_insn.specs.declared.insn.Extension.TheVariants.{W64From8};
 ghost use Rattle.bq_insn.specs.declared.insn.Size.TheVariants as size;
 ghost use Rattle.bq_range.specs.Interval.{between, single, all_words};
 ghost use Rattle.bq_state.specs.declared.kind.Kind.TheVariants as kind;
@@ -52,8 +52,8 @@ pub fn worked()
     ensures pointer_back { alu_kind (single 64) W64 op.Sub (kind.Pointer region.Frame (at_offset (pos 512))) (kind.Number (single 8)) ≡ Some (kind.Pointer region.Frame (at_offset (pos 504))) }
     ensures pointer_taken_away { alu_kind (single 64) W64 op.Sub (kind.Number (single 8)) (kind.Pointer region.Frame (at_offset (pos 512))) ≡ None }
     ensures pointer_of_32_bits { alu_kind (single 64) W32 op.Add (kind.Pointer region.Frame (at_offset (pos 512))) (kind.Number (single 8)) ≡ None }
-    ensures little { ordered_range order.Little 16 (single 4660) ≡ single 4660 }
-    ensures big { ordered_range order.Big 16 (single 4660) ≡ single 13330 }
+    ensures little { ordered_range Little 16 (single 4660) ≡ single 4660 }
+    ensures big { ordered_range Big 16 (single 4660) ≡ single 13330 }
 
     // Lengths.
     ensures least_of_all { AreLengths (between 16 128) }
@@ -93,7 +93,7 @@ pub fn worked()
 
     // What an instruction makes of a state, or the rule that it breaks.
     ensures low_halves { transfer (insn.Alu W32 op.Add 0 (operand.Number (pos 1))) (state_of (kind.Number (single 4294967295) ∷ []) (single 64)) ≡ Ok (state_of (kind.Number (single 0) ∷ []) (single 64)) }
-    ensures of_its_source { transfer (insn.Extend extension.W64From8 1 0) (state_of (kind.Number (single 128) ∷ kind.Unset ∷ []) (single 64)) ≡ Ok (state_of (kind.Number (single 128) ∷ kind.Number (single 18446744073709551488) ∷ []) (single 64)) }
+    ensures of_its_source { transfer (insn.Extend W64From8 1 0) (state_of (kind.Number (single 128) ∷ kind.Unset ∷ []) (single 64)) ≡ Ok (state_of (kind.Number (single 128) ∷ kind.Number (single 18446744073709551488) ∷ []) (single 64)) }
     ensures loaded { transfer (insn.Load size.B4 0 0 (pos 60)) (state_of (kind.Pointer region.Record (at_offset (pos 0)) ∷ []) (single 64)) ≡ Ok (state_of (kind.Number (between 0 4294967295) ∷ []) (single 64)) }
     ensures loaded_behind { transfer (insn.Load size.B4 0 0 (pos 61)) (state_of (kind.Pointer region.Record (at_offset (pos 0)) ∷ []) (single 64)) ≡ Err rule.OutsideRecord }
     ensures loaded_of_the_least { transfer (insn.Load size.B8 0 0 (pos 8)) (state_of (kind.Pointer region.Record (at_offset (pos 0)) ∷ []) (between 16 128)) ≡ Ok (state_of (kind.Number all_words ∷ []) (between 16 128)) }

@@ -4,7 +4,7 @@ ghost use Rattle.std.specs.Prelude.{◌≡◌, ◌+◌, ◌*◌, ◌≤◌, All}
 ghost use Rattle.q_board.specs.BoardId.{board_id};
 ghost use Rattle.q_board.specs.Calls.{SameAsker, SameRunner};
 
-use crate::jobs::{Times, jobs};
+use crate::jobs::Times;
 use anyhow::{Result, anyhow};
 use bq_frame::block::Block;
 use q_board::board::Board;
@@ -20,9 +20,8 @@ use std::thread;
 use std::thread::Threads;
 use std::time::{Clock, Instant};
 
-/// Hands so many jobs over, one behind the other.
-pub fn hand<R: Wait + Clock + Alloc<A = Global>>(rt: &R, count: usize) -> Result<Times> {
-    let jobs = jobs(rt.alloc(), count)?;
+/// Hands jobs over, one behind the other.
+pub fn hand<R: Wait + Clock + Alloc<A = Global>>(rt: &R, jobs: Vec<Job>) -> Result<Times> {
     let (board, mut askers, mut runners) = Board::open(rt.alloc(), 1, 1).map_err(|_| anyhow!(
         "no board"
     ))?;
@@ -82,8 +81,7 @@ fn hand_one(
 }
 
 /// Runs each job where it is; how many there were.
-pub fn run_alone<R: Clock + Alloc<A = Global>>(rt: &R, count: usize) -> Result<Times> {
-    let jobs = jobs(rt.alloc(), count)?;
+pub fn run_alone<R: Clock + Alloc<A = Global>>(rt: &R, jobs: Vec<Job>) -> Result<Times> {
     let mut block = Block::new(rt.alloc())?;
     let start = Instant::now(rt)?;
     let mut done: usize = 0;
@@ -94,13 +92,12 @@ pub fn run_alone<R: Clock + Alloc<A = Global>>(rt: &R, count: usize) -> Result<T
     Ok(Times::of(done, start.elapsed(rt)?))
 }
 
-/// Runs so many jobs by so many runners.
-pub fn run<R>(rt: &R, count: usize, runners: usize) -> Result<Times>
+/// Runs jobs by so many runners.
+pub fn run<R>(rt: &R, jobs: Vec<Job>, runners: usize) -> Result<Times>
 where
     R: Wait + Threads + Clock + Alloc<A = Global> + Sync,
 {
     let alloc = rt.alloc();
-    let jobs = jobs(alloc, count)?;
     let (board, mut askers, seats) = Board::open(alloc, 1, runners).map_err(|_| anyhow!(
         "no board"
     ))?;

@@ -54,9 +54,9 @@ struct Both {
 
 /// Times one thread, and jobs that are run where they are.
 fn hand<R: Wait + Clock + Alloc<A = Global>>(rt: &R, count: usize) -> Result<(Both, Times)> {
-    let board = board::hand(rt, count)?;
-    let queues = queues::hand(rt, count)?;
-    let alone = board::run_alone(rt, count)?;
+    let board = board::hand(rt, jobs::jobs(rt.alloc(), count)?)?;
+    let queues = queues::hand(rt, jobs::jobs(rt.alloc(), count)?)?;
+    let alone = board::run_alone(rt, jobs::jobs(rt.alloc(), count)?)?;
     Ok((Both { board, queues }, alone))
 }
 
@@ -65,8 +65,8 @@ fn run<R>(rt: &R, count: usize, runners: usize) -> Result<Both>
 where
     R: Wait + Threads + Clock + Alloc<A = Global> + Sync,
 {
-    let board = board::run(rt, count, runners)?;
-    let queues = queues::run(rt, count, runners)?;
+    let board = board::run(rt, jobs::jobs(rt.alloc(), count)?, runners)?;
+    let queues = queues::run(rt, jobs::jobs(rt.alloc(), count)?, runners)?;
     Ok(Both { board, queues })
 }
 

@@ -1,6 +1,6 @@
 //! The same jobs through two queues, each behind a lock.
 
-use crate::jobs::{Times, jobs};
+use crate::jobs::Times;
 use anyhow::Result;
 use bq_frame::block::Block;
 use q_session::done::Done;
@@ -55,9 +55,8 @@ impl Queues {
     }
 }
 
-/// Hands so many jobs over, one behind the other.
-pub fn hand<R: Wait + Clock + Alloc<A = Global>>(rt: &R, count: usize) -> Result<Times> {
-    let jobs = jobs(rt.alloc(), count)?;
+/// Hands jobs over, one behind the other.
+pub fn hand<R: Wait + Clock + Alloc<A = Global>>(rt: &R, jobs: Vec<Job>) -> Result<Times> {
     let queues = Queues::new(rt.alloc());
     let mut block = Block::new(rt.alloc())?;
     let start = Instant::now(rt)?;
@@ -70,35 +69,24 @@ pub fn hand<R: Wait + Clock + Alloc<A = Global>>(rt: &R, count: usize) -> Result
     Ok(Times::of(done, start.elapsed(rt)?))
 }
 
-/// Runs so many jobs by so many runners.
-pub fn run<R>(rt: &R, count: usize, runners: usize) -> Result<Times>
+/// Runs jobs by so many runners.
+pub fn run<R>(rt: &R, jobs: Vec<Job>, runners: usize) -> Result<Times>
 where
     R: Wait + Threads + Clock + Alloc<A = Global> + Sync,
 {
-    let jobs = jobs(rt.alloc(), count)?;
     let queues = Queues::new(rt.alloc());
+    let queues = &queues;
     let start = Instant::now(rt)?;
-    let done = run_all(rt, rt.alloc(), &queues, runners, jobs);
-    Ok(Times::of(done, start.elapsed(rt)?))
-}
-
-/// Starts the runners and offers all jobs to them; how many results came back.
-fn run_all<R: Wait + Threads + Sync>(
-    rt: &R,
-    alloc: Global,
-    queues: &Queues,
-    runners: usize,
-    jobs: Vec<Job>,
-) -> usize {
-    thread::scope(thread::scope_env(), rt, |scope| {
-        let done = if start_all(scope, rt, alloc, queues, runners) {
+    let done = thread::scope(thread::scope_env(), rt, |scope| {
+        let done = if start_all(scope, rt, rt.alloc(), queues, runners) {
             offer_all(rt, queues, jobs)
         } else {
             0
         };
         queues.over.store(true, SeqCst);
         done
-    })
+    });
+    Ok(Times::of(done, start.elapsed(rt)?))
 }
 
 /// Starts the threads of the runners, each with a block of its own.

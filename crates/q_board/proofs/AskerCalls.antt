@@ -36,6 +36,16 @@ publish_allowed key slots id n k word m a j more sized num is near all free read
     (subst (λ (x : ℕ). Allows (Orderly key) key id (Asker a, (8 * x + k, cell.Offered j) ∷ more) (8 * x + k) (λ _. 1) (λ _. published (step key (8 * x + k) 1 0 none) (Asker a, (8 * x + k, cell.Offered j) ∷ more) 1)) num
     (publishes key id a k near more j all free))))
 
+-- the seat after a call at which its row and its free places stay apt to one another
+asker_keeps : (z : TableId) (me : Sat) (n : ℕ) (all : List ℕ) (count cap : ℕ) → IsAsker z me n all count cap
+    → (z' : TableId) (m : Sat) (b : Asking) (free : List ℕ) (count' cap' : ℕ) → z' ≡ z → m ≡ (Asker b, bare (8 * n) free)
+    → b.number ≡ (asking me.0).number → b.opened ≡ (asking me.0).opened → length b.row ≡ length (asking me.0).row
+    → count' + jobs b.row ≡ count + jobs (asking me.0).row → ((k : ℕ) → times k free ≡ lacks b.row k) → cap' ≡ cap → IsAsker z' m n free count' cap'
+asker_keeps z me n all count cap inv z' m b free count' cap' same is number_is opened_is long_is jobs_are free_are as_large =
+    subst (λ (y : TableId). IsAsker y m n free count' cap') (sym same)
+    (subst (λ (x : Sat). IsAsker z x n free count' cap') (sym is)
+    (refl, number_is ∙ inv.1, opened_is ∙ inv.2, long_is ∙ inv.3, jobs_are ∙ inv.4, free_are, omega (arith, inv.6), inv.7, inv.8))
+
 -- An offer: the seat has the place first among its free ones, writes the job and publishes it
 module _ (z : TableId) (me : Sat) (n place : ℕ) (all free : List ℕ) (count cap : ℕ) (popped : all ≡ place ∷ free) (inv : IsAsker z me n all count cap) where
   abbrev a : Asking
@@ -76,17 +86,11 @@ module _ (z : TableId) (me : Sat) (n place : ℕ) (all free : List ℕ) (count c
 
       pub offer_keeps : (z' : TableId) → z' ≡ z → (count' : ℕ) → count' + 1 ≡ count → (cap' : ℕ) → cap' ≡ cap → IsAsker z' w n free count' cap'
       offer_keeps z' same count' fewer cap' as_large =
-          let e = ap (λ (x : Asking). x.row) view_is ∙ row_is in (
-            w_is ∙ ap (λ (x : Asking). (Asker x, bare (8 * n) free)) (sym view_is),
-            ap (λ (x : Asking). x.number) view_is ∙ inv.1,
-            ap (λ (x : Asking). x.opened) view_is ∙ inv.2,
-            ap length e ∙ length-set a.row place (Some j) ∙ inv.3,
-            omega (arith, ap jobs e, jobs_set a.row place None (Some j) is_free, inv.4),
-            (λ k. omega (arith, ap (λ (l : List (Option Job)). lacks l k) e, lacks_set_some a.row place k j is_free, inv.5 k, ap (times k) popped)),
-            omega (arith, inv.6),
-            omega (arith, inv.7, ap (λ (x : TableId). x.words) same),
-            omega (arith, inv.8, ap (λ (x : TableId). x.words) same),
-          )
+          asker_keeps z me n all count cap inv z' w b free count' cap' same w_is refl refl
+          (ap length row_is ∙ length-set a.row place (Some j))
+          (omega (arith, ap jobs row_is, jobs_set a.row place None (Some j) is_free))
+          (λ k. omega (arith, ap (λ (l : List (Option Job)). lacks l k) row_is, lacks_set_some a.row place k j is_free, inv.5 k, ap (times k) popped))
+          as_large
 
       pub offer_told : (z' : TableId) → z' ≡ z → (old : AskerModel) → old ≡ asker_model z me.0 → Offers old (8 * n + place) j (asker_model z' w.0)
       offer_told z' same old old_is = subst (λ (x : AskerModel). Offers x (8 * n + place) j (asker_model z' w.0)) (sym old_is) (
@@ -120,17 +124,7 @@ module _ (z : TableId) (me : Sat) (n k : ℕ) (free : List ℕ) (count cap : ℕ
     asks = ap (λ (x : Sat). asking x.0) m_is
 
     pub look_keeps : (z' : TableId) → z' ≡ z → IsAsker z' m n free count cap
-    look_keeps z' same = (
-      m_is ∙ ap (λ (x : Asking). (Asker x, bare (8 * n) free)) (sym asks),
-      ap (λ (x : Asking). x.number) asks ∙ inv.1,
-      ap (λ (x : Asking). x.opened) asks ∙ inv.2,
-      ap (λ (x : Asking). length x.row) asks ∙ inv.3,
-      omega (arith, ap (λ (x : Asking). jobs x.row) asks, inv.4),
-      (λ y. inv.5 y ∙ ap (λ (x : Asking). lacks x.row y) (sym asks)),
-      inv.6,
-      omega (arith, inv.7, ap (λ (x : TableId). x.words) same),
-      omega (arith, inv.8, ap (λ (x : TableId). x.words) same),
-    )
+    look_keeps z' same = asker_keeps z me n free count cap inv z' m (looking a₀ i r) free count cap same m_is refl refl refl refl inv.5 refl
 
     pub look_shown : r ≡ 2 → (asking m.0).shown ≡ Some i
     look_shown e = ap (λ (x : Asking). x.shown) asks ∙ ap (λ (b : _). cond b (Some i) None) (eq-eqb r 2 e)
@@ -186,19 +180,12 @@ module _ (z : TableId) (me : Sat) (n k : ℕ) (free : List ℕ) (count cap : ℕ
 
         pub take_keeps : (z' : TableId) → z' ≡ z → (count' : ℕ) → count' ≡ count + 1 → (cap' : ℕ) → cap' ≡ cap → (now_free : List ℕ) (place : ℕ) → now_free ≡ place ∷ free → place ≡ k → IsAsker z' u n now_free count' cap'
         take_keeps z' same count' more cap' as_large now_free place free_are place_is =
-            let now = ap (λ (y : Sat). asking y.0) took in
-            let e = ap (λ (x : Asking). x.row) now ∙ row_now in
-            subst (λ (l : List ℕ). IsAsker z' u n l count' cap') (sym (free_are ∙ ap (λ (x : ℕ). x ∷ free) place_is)) (
-              took ∙ ap (λ (x : Asking). (Asker x, bare (8 * n) (k ∷ free))) (sym now),
-              ap (λ (x : Asking). x.number) now ∙ inv.1,
-              ap (λ (x : Asking). x.opened) now ∙ inv.2,
-              ap length e ∙ length-set a₀.row k None ∙ inv.3,
-              omega (arith, ap jobs e, jobs_set a₀.row k (Some d.job) None open_at, inv.4),
-              (λ y. omega (arith, ap (λ (l : List (Option Job)). lacks l y) e, lacks_set_none a₀.row k y d.job open_at, inv.5 y)),
-              omega (arith, inv.6),
-              omega (arith, inv.7, ap (λ (x : TableId). x.words) same),
-              omega (arith, inv.8, ap (λ (x : TableId). x.words) same),
-            )
+            subst (λ (l : List ℕ). IsAsker z' u n l count' cap') (sym (free_are ∙ ap (λ (x : ℕ). x ∷ free) place_is))
+            (asker_keeps z me n free count cap inv z' u b₀ (k ∷ free) count' cap' same took refl refl
+            (ap length row_now ∙ length-set a₀.row k None)
+            (omega (arith, ap jobs row_now, jobs_set a₀.row k (Some d.job) None open_at))
+            (λ y. omega (arith, ap (λ (l : List (Option Job)). lacks l y) row_now, lacks_set_none a₀.row k y d.job open_at, inv.5 y))
+            as_large)
 
         -- me is the seat after the look, and first the seat before it
         pub take_told : (done : Finished) → c ≡ cell.Finished done → (z' : TableId) → z' ≡ z → (first : View) (found : ℕ) → found ≡ 2 → a₀ ≡ looking (asking first) i found → (old : AskerModel) → old ≡ asker_model z first → Receives old i done (asker_model z' u.0)

@@ -1,5 +1,5 @@
 -- From what a step tells to what a call ensures, for a runner.
-use Rattle.std.proofs.Common.{◌≡◌, ◌≢◌, ℕ, ◌+◌, ◌-◌, ◌<◌, ◌≤◌, eqb, List, [], ◌∷◌, length, set, refl, sym, ap, ◌∙◌, subst, arith, length-set, Option, Some, None, ne_eqb, zero-add}
+use Rattle.std.proofs.Common.{◌≡◌, ◌≢◌, ℕ, ◌+◌, ◌-◌, ◌<◌, ◌≤◌, eqb, List, [], ◌∷◌, length, set, refl, sym, ap, ◌∙◌, subst, arith, length-set, Option, Some, None, ne_eqb, zero-add, deque_len, deque_capacity}
 use mathlib.Core.Option.{some, none}
 use mathlib.Core.Logic.{dite}
 use native.Mathlib.Decide.{ℕ_discrete}
@@ -14,6 +14,7 @@ use Rattle.q_slots.specs.Rule.{Orderly, maker}
 use Rattle.q_board.specs.Places.{times, has, jobs, bare}
 use Rattle.q_slots.specs.Plays.{Sat, first_runner, running, front, trying, claiming, finishing, returning, tried, ended, given_back}
 use Rattle.q_board.specs.RunnerModel.{RunnerModel, runner_model, IsRunner}
+use Rattle.q_board.specs.declared.seats.RunnerSeat.TheInside.{Inside}
 use Rattle.q_board.specs.Calls.{is_at, Misses, Claims, Finishes, GivesBack}
 use Rattle.q_session.specs.declared.job.Job.{Job}
 use Rattle.q_session.specs.declared.ran.Ran.{Ran}
@@ -36,9 +37,44 @@ not_ready x n = dite (ℕ_discrete x 0) (λ e h. let z : found.Empty ≡ found.R
 pub claimed_at : (r q : RunnerModel) (i : ℕ) (j : Job) → Claims r i j q → is_at q.held i (Some j)
 claimed_at r q i j t = ap (λ (x : RunnerModel). get_elem? x.held i) t.1 ∙ set_here r.held i (Some j) (at_lt r.held i None t.0)
 
+-- the seat after a call at which what it holds and its claims stay apt to one another
+runner_keeps : (z : TableId) (me : Sat) (n : ℕ) (claims : List ℕ) (count cap lanes next : ℕ) → IsRunner z me n claims count cap lanes next
+    → (z' : TableId) (m : Sat) (q : Running) (left : List ℕ) (count' cap' : ℕ) → z' ≡ z → m ≡ (Runner q, bare 0 left)
+    → q.number ≡ (running me.0).number → length q.held ≡ length (running me.0).held
+    → count' + jobs (running me.0).held ≡ count + jobs q.held → ((k : ℕ) → times k left ≡ has q.held k) → cap' ≡ cap → IsRunner z' m n left count' cap' lanes next
+runner_keeps z me n claims count cap lanes next inv z' m q left count' cap' same is number_is long_is jobs_are claims_are as_large =
+    subst (λ (y : TableId). IsRunner y m n left count' cap' lanes next) (sym same)
+    (subst (λ (x : Sat). IsRunner z x n left count' cap' lanes next) (sym is)
+    (refl, number_is ∙ inv.1, long_is ∙ inv.2, omega (arith, jobs_are, inv.3), claims_are, omega (arith, inv.5), inv.6, inv.7, inv.8))
+
 -- The end of a claim: its slot is filled, and given back by a store
-module _ (z : TableId) (me : Sat) (n : ℕ) (claims left : List ℕ) (count cap lanes next slot : ℕ) (j : Job) (inv : IsRunner z me n claims count cap lanes next)
-    (old : RunnerModel) (old_is : old ≡ runner_model z me.0 lanes next) (own : is_at old.held slot (Some j)) where
+module _ (s : Inside) (left : List ℕ) (slot : ℕ) (j : Job)
+    (inv : IsRunner s.seat.table_id s.seat.me s.number s.claims.items (deque_len s.claims) (deque_capacity s.claims) s.lanes s.next)
+    (old : RunnerModel) (old_is : old ≡ runner_model s.seat.table_id s.seat.me.0 s.lanes s.next) (own : is_at old.held slot (Some j)) where
+  abbrev z : TableId
+  z = s.seat.table_id
+
+  abbrev me : Sat
+  me = s.seat.me
+
+  abbrev n : ℕ
+  n = s.number
+
+  abbrev claims : List ℕ
+  claims = s.claims.items
+
+  abbrev count : ℕ
+  count = deque_len s.claims
+
+  abbrev cap : ℕ
+  cap = deque_capacity s.claims
+
+  abbrev lanes : ℕ
+  lanes = s.lanes
+
+  abbrev next : ℕ
+  next = s.next
+
   abbrev r : Running
   r = running me.0
 
@@ -108,18 +144,12 @@ module _ (z : TableId) (me : Sat) (n : ℕ) (claims left : List ℕ) (count cap 
 
     module _ (fewer_times : (k : ℕ) → times k claims ≡ times k (slot ∷ left)) (count' : ℕ) (fewer : count' + 1 ≡ count) (cap' : ℕ) (as_large : cap' ≡ cap) where
       let_go : (r' : Running) → r'.number ≡ r.number → r'.held ≡ set r.held slot None → u ≡ (Runner r', bare 0 left) → IsRunner y u n left count' cap' lanes next
-      let_go r' number_is held_is u_is = let now : running u.0 ≡ r' = ap (λ (x : Sat). running x.0) u_is in
-          let held_now = ap (λ (x : Running). x.held) now ∙ held_is in (
-            u_is ∙ ap (λ (x : Running). (Runner x, bare 0 left)) (sym now),
-            ap (λ (x : Running). x.number) now ∙ number_is ∙ inv.1,
-            ap length held_now ∙ length-set r.held slot None ∙ inv.2,
-            omega (arith, ap jobs held_now, jobs_set r.held slot (Some j) None mine, inv.3),
-            (λ k. omega (arith, ap (λ (l : List (Option Job)). has l k) held_now, has_set_none r.held slot k j mine, inv.4 k, fewer_times k)),
-            omega (arith, inv.5),
-            omega (arith, inv.6, ap (λ (x : TableId). x.words) same),
-            inv.7,
-            inv.8,
-          )
+      let_go r' number_is held_is u_is =
+          runner_keeps z me n claims count cap lanes next inv y u r' left count' cap' same u_is number_is
+          (ap length held_is ∙ length-set r.held slot None)
+          (omega (arith, ap jobs held_is, jobs_set r.held slot (Some j) None mine))
+          (λ k. omega (arith, ap (λ (l : List (Option Job)). has l k) held_is, has_set_none r.held slot k j mine, inv.4 k, fewer_times k))
+          as_large
 
       pub finish_keeps : (d : Finished) → w ≡ (me.0, (slot, cell.Finished d) ∷ bare 0 left) → u ≡ (Runner (finishing (running w.0) slot (front w.1)), rest w.1) → IsRunner y u n left count' cap' lanes next
       finish_keeps d is told = let_go (finishing r slot (cell.Finished d)) refl refl (finish_leaves d is told)
@@ -147,17 +177,7 @@ module _ (z : TableId) (me : Sat) (n : ℕ) (claims : List ℕ) (count cap lanes
     missed = told.1 miss ∙ ap (λ (l : List (ℕ × Cell)). (Runner (trying r₀ i x), l)) (ap (λ (y : Sat). y.1) inv.0)
 
     pub miss_keeps : (z' : TableId) → z' ≡ z → IsRunner z' w n claims count cap lanes next
-    miss_keeps z' same = let now = ap (λ (y : Sat). running y.0) missed in (
-      missed ∙ ap (λ (y : Running). (Runner y, bare 0 claims)) (sym now),
-      ap (λ (y : Running). y.number) now ∙ inv.1,
-      ap (λ (y : Running). length y.held) now ∙ inv.2,
-      omega (arith, ap (λ (y : Running). jobs y.held) now, inv.3),
-      (λ k. inv.4 k ∙ ap (λ (y : Running). has y.held k) (sym now)),
-      inv.5,
-      omega (arith, inv.6, ap (λ (y : TableId). y.words) same),
-      inv.7,
-      inv.8,
-    )
+    miss_keeps z' same = runner_keeps z me n claims count cap lanes next inv z' w (trying r₀ i x) claims count cap same missed refl refl refl inv.4 refl
 
     pub miss_told : (z' : TableId) → z' ≡ z → (old : RunnerModel) → old ≡ runner_model z me.0 lanes next → Misses old i (runner_model z' w.0 lanes next)
     miss_told z' same old old_is = subst (λ (y : RunnerModel). Misses y i (runner_model z' w.0 lanes next)) (sym old_is)
@@ -185,18 +205,13 @@ module _ (z : TableId) (me : Sat) (n : ℕ) (claims : List ℕ) (count cap lanes
           ∙ ap (λ (k : ℕ). (Runner (claiming r₀ i got.0), (k, cell.Vacant) ∷ bare 0 claims)) (sym (zero-add i))
 
       pub hit_keeps : (z' : TableId) → z' ≡ z → (count' : ℕ) → count' ≡ count + 1 → (cap' : ℕ) → cap' ≡ cap → (now_claims : List ℕ) → now_claims ≡ i ∷ claims → IsRunner z' u n now_claims count' cap' lanes next
-      hit_keeps z' same count' more cap' as_large now_claims claims_are = let now = ap (λ (y : Sat). running y.0) hit_seat in
-          subst (λ (l : List ℕ). IsRunner z' u n l count' cap' lanes next) (sym claims_are) (
-            hit_seat ∙ ap (λ (y : Running). (Runner y, bare 0 (i ∷ claims))) (sym now),
-            ap (λ (y : Running). y.number) now ∙ inv.1,
-            ap (λ (y : Running). length y.held) now ∙ length-set r₀.held i (Some got.0) ∙ inv.2,
-            omega (arith, ap (λ (y : Running). jobs y.held) now, inv.3, jobs_set r₀.held i None (Some got.0) got.1),
-            (λ k. omega (arith, inv.4 k, ap (λ (y : Running). has y.held k) now, has_set_some r₀.held i k got.0 got.1)),
-            omega (arith, inv.5),
-            omega (arith, inv.6, ap (λ (y : TableId). y.words) same),
-            inv.7,
-            inv.8,
-          )
+      hit_keeps z' same count' more cap' as_large now_claims claims_are =
+          subst (λ (l : List ℕ). IsRunner z' u n l count' cap' lanes next) (sym claims_are)
+          (runner_keeps z me n claims count cap lanes next inv z' u (claiming r₀ i got.0) (i ∷ claims) count' cap' same hit_seat refl
+          (length-set r₀.held i (Some got.0))
+          (omega (arith, jobs_set r₀.held i None (Some got.0) got.1))
+          (λ k. omega (arith, inv.4 k, has_set_some r₀.held i k got.0 got.1))
+          as_large)
 
       pub hit_told : (j : Job) → c ≡ cell.Offered j → (z' : TableId) → z' ≡ z → (old : RunnerModel) → old ≡ runner_model z me.0 lanes next → Claims old i j (runner_model z' u.0 lanes next)
       hit_told j c_is z' same old old_is = let j_is : got.0 ≡ j = let e = sym hit_cell ∙ c_is in cc in

@@ -1,9 +1,15 @@
 //! What a thread needs to use a board.
 
 ghost use Rattle.std.specs.Prelude.{◌≡◌, ◌+◌, ◌*◌, ◌%◌, ◌<◌, length, MatchOption, Some, None};
+ghost use Rattle.std.specs.VecDeque.{deque_len, deque_capacity};
+ghost use Rattle.std.specs.Coded.{codes};
+ghost use Rattle.q_session.specs.declared.job.Job.{Job};
+ghost use Rattle.q_session.specs.contracts.job.Job as job;
+ghost use Rattle.q_session.specs.contracts.done.Done as done;
 ghost use Rattle.q_board.specs.Places.{jobs};
 ghost use Rattle.q_board.specs.Calls.{is_at};
-ghost use Rattle.q_session.specs.declared.job.Job.{Job};
+ghost use Rattle.q_board.specs.AskerModel.{AskerModel, asker_model, IsAsker};
+ghost use Rattle.q_board.specs.RunnerModel.{RunnerModel, runner_model, IsRunner};
 
 use atomic_table::Seat;
 use q_slots::cell::Cell;
@@ -31,12 +37,6 @@ pub struct AskerSeat {
 }
 
 impl Model for AskerSeat {
-    ghost use Rattle.std.specs.VecDeque.{deque_len, deque_capacity};
-    ghost use Rattle.std.specs.Coded.{codes};
-    ghost use Rattle.q_session.specs.contracts.job.Job as job;
-    ghost use Rattle.q_session.specs.contracts.done.Done as done;
-    ghost use Rattle.q_board.specs.AskerModel.{AskerModel, asker_model, IsAsker};
-
     ghost Value = { AskerModel };
 
     ghost coded = { Prim.hlevel (codes, job.the_row.coded, done.the_row.coded) };
@@ -82,12 +82,6 @@ pub struct RunnerSeat {
 }
 
 impl Model for RunnerSeat {
-    ghost use Rattle.std.specs.VecDeque.{deque_len, deque_capacity};
-    ghost use Rattle.std.specs.Coded.{codes};
-    ghost use Rattle.q_session.specs.contracts.job.Job as job;
-    ghost use Rattle.q_session.specs.contracts.done.Done as done;
-    ghost use Rattle.q_board.specs.RunnerModel.{RunnerModel, runner_model, IsRunner};
-
     ghost Value = { RunnerModel };
 
     ghost coded = { Prim.hlevel (codes, job.the_row.coded, done.the_row.coded) };

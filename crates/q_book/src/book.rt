@@ -8,8 +8,10 @@ ghost use Rattle.sc_msg.specs.Lengths.{has_values_of};
 ghost use Rattle.sc_node.specs.Nodes.{most_founders};
 ghost use Rattle.sc_lengths.specs.Lengths.{EndedHasValuesOf};
 ghost use Rattle.forms.specs.Calls.{Steps, Gives, Does};
+ghost use Rattle.q_desk.specs.State.{DeskState};
+ghost use Rattle.q_desk.specs.declared.journal.Entry.{Entry as EntryValue};
 ghost use Rattle.q_desk.specs.Desks as desk;
-ghost use Rattle.q_desk.specs.Desks.{ends, completed_by};
+ghost use Rattle.q_desk.specs.Desks.{noted, ends, completed_by};
 ghost use Rattle.q_desk.specs.Answers.{AnswersAreRight, ProgramsAreKnown};
 ghost use Rattle.q_book.specs.Faults.{memory};
 ghost use Rattle.q_book.specs.Books.{here, joined, known, fitting, free, registered, asked, stored, delivered, left, handed_out, posted, room_for_post, founded, entered};
@@ -138,10 +140,7 @@ impl Book {
                 self.desk.end(None);
                 Ok(begun)
             }
-            Err(fault) => {
-                self.desk.forget();
-                Err(BookFault::Node(fault))
-            }
+            Err(fault) => Err(forget(&mut self.desk, fault)),
         }
     }
 
@@ -155,10 +154,7 @@ impl Book {
         self.desk.note(Entry::Deliver(message.clone()?))?;
         match self.node.deliver(message) {
             Ok(delivered) => Ok(take(&mut self.desk, delivered)),
-            Err(fault) => {
-                self.desk.forget();
-                Err(BookFault::Node(fault))
-            }
+            Err(fault) => Err(forget(&mut self.desk, fault)),
         }
     }
 
@@ -173,10 +169,7 @@ impl Book {
                 self.desk.end(None);
                 Ok(outs)
             }
-            Err(fault) => {
-                self.desk.forget();
-                Err(BookFault::Node(fault))
-            }
+            Err(fault) => Err(forget(&mut self.desk, fault)),
         }
     }
 
@@ -373,6 +366,15 @@ fn check_fitting(fits: bool) -> Result<(), BookFault>
     } else {
         Err(BookFault::BadValue)
     }
+}
+
+// The node refused the call that was noted last: the desk takes the entry back.
+fn forget(desk: &mut Desk, fault: NodeFault) -> BookFault
+    ensures fault { result ≡ BookFault.Node fault }
+    ensures undone { (before : DeskState) (e : EntryValue) → noted before e ≡ Ok (tt, desk.old) → desk.new ≡ before }
+{
+    desk.forget();
+    BookFault::Node(fault)
 }
 
 // What is told of a message that the node took; the view of a collect that ended goes to its query.

@@ -29,6 +29,8 @@ use Rattle.q_files.specs.declared.files.FileFault.{FileFault}
 use Rattle.q_command.specs.declared.denied.Denied.{Denied}
 use Rattle.q_command.specs.declared.perform.Outcome.{Outcome}
 use Rattle.q_command.specs.declared.perform.Outcome.TheVariants.{Answered, Unsaved, Refused, Unwritten}
+use Rattle.q_command.specs.declared.perform.Work.{Work}
+use Rattle.q_command.specs.declared.perform.Work.TheVariants as work
 use Rattle.q_wire.specs.Counts.{one_more}
 use Rattle.q_words.specs.declared.words.FileCommand.{FileCommand}
 use Rattle.q_words.specs.declared.words.FileCommand.TheVariants.{Asm, Check, Run, Sim, Audit}
@@ -166,6 +168,20 @@ Refuses reads (Check file lengths) old denied new = RefusesFile reads (IsUnaccep
 Refuses reads (Run file start records lengths) old denied new = RefusesRun reads lengths file.now records.now old denied new
 Refuses reads (Sim script) old denied new = RefusesScript reads script.now old denied new
 Refuses reads (Audit journal) old denied new = RefusesFile reads IsUnaudited journal.now old denied new
+
+-- ---- commands over one file
+
+-- the lines are what the command makes of the bytes
+abbrev pub Makes : Work → List ℕ → List ℕ → Type 0
+Makes work.Listing = Lists
+Makes (work.Acceptance lengths) = Accepts lengths
+Makes work.Audit = Audits
+
+-- why it makes nothing of them
+abbrev pub IsUnmade : Work → List ℕ → Refusal → Type 0
+IsUnmade work.Listing = IsUnassembled
+IsUnmade (work.Acceptance lengths) = IsUnaccepted lengths
+IsUnmade work.Audit = IsUnaudited
 
 -- ---- ends
 

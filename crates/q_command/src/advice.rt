@@ -21,11 +21,27 @@ use std::str;
 /// Of a line, this many characters are shown.
 const SHOWN: usize = 72;
 
-/// The line of a file with this number, counted from 1.
-fn line_of(bytes: &[u8], number: usize) -> &str {
-    match str::from_utf8(bytes) {
+/// A line of a file.
+#[derive(Clone, Copy)]
+struct Line<'a> {
+    /// The name of the file.
+    file: &'a str,
+    /// The number of the line, counted from 1.
+    number: usize,
+    /// The line itself; empty where there is none.
+    text: &'a str,
+}
+
+/// The line with this number of the file that is refused.
+fn line_of<'a>(denied: &'a Denied<'_>, number: usize) -> Line<'a> {
+    let text = match str::from_utf8(denied.bytes.as_slice()) {
         Ok(text) => text.split('\n').nth(number.saturating_sub(1)).unwrap_or(""),
         Err(_) => "",
+    };
+    Line {
+        file: denied.file,
+        number,
+        text,
     }
 }
 
@@ -38,15 +54,10 @@ fn write_line(out: &mut String, line: &str) -> Result<(), AllocError> {
 }
 
 /// A line that is of no form, and what may stand there.
-fn write_form(
-    out: &mut String,
-    file: &str,
-    number: usize,
-    line: &str,
-    form: &str,
-) -> Result<(), AllocError> {
+fn write_form(out: &mut String, line: Line<'_>, form: &str) -> Result<(), AllocError> {
+    let Line { file, number, text } = line;
     write!(out, "{file}, line {number}: ")?;
-    write_line(out, line)?;
+    write_line(out, text)?;
     writeln!(out, "{form}")?;
     out.push_str("docs/FORMATS.md lists each form.\n")
 }
@@ -84,8 +95,8 @@ fn write_assembler(
 ) -> Result<(), AllocError> {
     match fault {
         AsmFault::Syntax { line } | AsmFault::Label { line } => {
-            let text = line_of(denied.bytes.as_slice(), line);
-            write_form(out, denied.file, line, text, of_assembler(fault, text))
+            let line = line_of(denied, line);
+            write_form(out, line, of_assembler(fault, line.text))
         }
         _ => {
             let file = denied.file;
@@ -122,36 +133,6 @@ fn write_program(
     }
 }
 
-/// What is told of a list of records.
-fn write_records(
-    out: &mut String,
-    denied: &Denied<'_>,
-    fault: RecordsFault,
-) -> Result<(), AllocError> {
-    match fault {
-        RecordsFault::Line { line, fault } => {
-            let text = line_of(denied.bytes.as_slice(), line);
-            write_form(out, denied.file, line, text, of_record(fault))
-        }
-        RecordsFault::OutOfMemory => Ok(()),
-    }
-}
-
-/// What is told of a script.
-fn write_script(
-    out: &mut String,
-    denied: &Denied<'_>,
-    fault: ScriptFault,
-) -> Result<(), AllocError> {
-    match fault {
-        ScriptFault::Syntax { line } => {
-            let text = line_of(denied.bytes.as_slice(), line);
-            write_form(out, denied.file, line, text, script_line(line, text))
-        }
-        ScriptFault::OutOfMemory => Ok(()),
-    }
-}
-
 /// What a journal asks of the event that breaks it.
 fn of_journal(fault: ReplayFault) -> &'static str {
     match fault {
@@ -174,8 +155,13 @@ fn write_reason(
         Refusal::FileFailed => writeln!(out, "{file}: It is not UTF-8, which text files are."),
         Refusal::Assembler(fault) => write_assembler(out, denied, fault),
         Refusal::Program(fault) => write_program(alloc, out, denied, lengths_of(line), fault),
-        Refusal::Records(fault) => write_records(out, denied, fault),
-        Refusal::Script(fault) => write_script(out, denied, fault),
+        Refusal::Records(RecordsFault::Line { line, fault }) => {
+            write_form(out, line_of(denied, line), of_record(fault))
+        }
+        Refusal::Script(ScriptFault::Syntax { line }) => {
+            let line = line_of(denied, line);
+            write_form(out, line, script_line(line.number, line.text))
+        }
         Refusal::Fraction(_) => writeln!(
             out,
             "{file}: A fraction is N/D with 1 <= N <= D <= 1000, as 4/5."
@@ -185,7 +171,10 @@ fn write_reason(
             let words = of_journal(fault);
             writeln!(out, "{file}: {words}")
         }
-        Refusal::Bytes(_) | Refusal::OutOfMemory => Ok(()),
+        Refusal::Records(RecordsFault::OutOfMemory)
+        | Refusal::Script(ScriptFault::OutOfMemory)
+        | Refusal::Bytes(_)
+        | Refusal::OutOfMemory => Ok(()),
     }
 }
 

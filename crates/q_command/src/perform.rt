@@ -2,8 +2,7 @@
 
 ghost use Rattle.std.specs.Prelude.{◌≡◌, ◌≢◌, ℕ, List, false, Ok, Err, IfOk, IfErr, string_bytes};
 ghost use Rattle.bq_sound.specs.Passes.{Passes};
-ghost use Rattle.q_command.specs.Audit.{Audits, IsUnaudited};
-ghost use Rattle.q_command.specs.Perform.{Accepts, Answers, AnswersFile, AnswersRun, AnswersScript, Computes, Ends, IsProgram, IsSimulated, IsUnaccepted, IsUnassembled, IsUnlisted, IsUnread, IsUnsimulated, Lists, Refuses, RefusesFile, RefusesRun, RefusesScript, failures_after, status_of};
+ghost use Rattle.q_command.specs.Perform.{Accepts, Answers, AnswersFile, AnswersRun, AnswersScript, Computes, Ends, IsProgram, IsSimulated, IsUnaccepted, IsUnassembled, IsUnlisted, IsUnmade, IsUnread, IsUnsimulated, Lists, Makes, Refuses, RefusesFile, RefusesRun, RefusesScript, failures_after, status_of};
 
 use crate::audit::audit;
 use crate::denied::Denied;
@@ -137,47 +136,42 @@ fn told<'a>(
     }
 }
 
-/// What `asm` prints.
-fn asm_answer<'a, F: Files>(
+/// What a command makes of the bytes of its one file.
+#[derive(Clone, Copy)]
+enum Work {
+    /// `asm`: the listing of the program that they spell.
+    Listing,
+    /// `check`: how long its longest path is, over records of these lengths.
+    Acceptance(Bounds),
+    /// `audit`: the answers of the journal that they are.
+    Audit,
+}
+
+/// What is made of these bytes.
+fn made(alloc: Global, work: Work, bytes: &[u8]) -> Result<String, Refusal>
+    ensures made { IfOk result (λ lines. Makes work bytes.now (string_bytes lines)) }
+    ensures refused { IfErr result (IsUnmade work bytes.now) }
+{
+    match work {
+        Work::Listing => assembled(alloc, bytes),
+        Work::Acceptance(lengths) => accepted(alloc, bytes, lengths),
+        Work::Audit => audit(alloc, bytes),
+    }
+}
+
+/// What a command prints of its one file.
+fn file_answer<'a, F: Files>(
     alloc: Global,
+    work: Work,
     file: &'a str,
     files: &mut F,
 ) -> Result<Printed, Denied<'a>>
-    ensures answered { IfOk result (λ p. AnswersFile F.read_gives Lists file.now files.old (string_bytes p.lines) p.unwritten files.new) }
-    ensures refused { IfErr result (λ denied. RefusesFile F.read_gives IsUnassembled file.now files.old denied files.new) }
+    ensures answered { IfOk result (λ p. AnswersFile F.read_gives (Makes work) file.now files.old (string_bytes p.lines) p.unwritten files.new) }
+    ensures refused { IfErr result (λ denied. RefusesFile F.read_gives (IsUnmade work) file.now files.old denied files.new) }
 {
-    let source = read(alloc, file, files)?;
-    let lines = assembled(alloc, source.as_slice());
-    told(lines, file, source)
-}
-
-/// What `check` prints.
-fn check_answer<'a, F: Files>(
-    alloc: Global,
-    file: &'a str,
-    lengths: Bounds,
-    files: &mut F,
-) -> Result<Printed, Denied<'a>>
-    ensures answered { IfOk result (λ p. AnswersFile F.read_gives (Accepts lengths) file.now files.old (string_bytes p.lines) p.unwritten files.new) }
-    ensures refused { IfErr result (λ denied. RefusesFile F.read_gives (IsUnaccepted lengths) file.now files.old denied files.new) }
-{
-    let source = read(alloc, file, files)?;
-    let lines = accepted(alloc, source.as_slice(), lengths);
-    told(lines, file, source)
-}
-
-/// What `audit` prints.
-fn audit_answer<'a, F: Files>(
-    alloc: Global,
-    journal: &'a str,
-    files: &mut F,
-) -> Result<Printed, Denied<'a>>
-    ensures answered { IfOk result (λ p. AnswersFile F.read_gives Audits journal.now files.old (string_bytes p.lines) p.unwritten files.new) }
-    ensures refused { IfErr result (λ denied. RefusesFile F.read_gives IsUnaudited journal.now files.old denied files.new) }
-{
-    let bytes = read(alloc, journal, files)?;
-    let lines = audit(alloc, bytes.as_slice());
-    told(lines, journal, bytes)
+    let bytes = read(alloc, file, files)?;
+    let lines = made(alloc, work, bytes.as_slice());
+    told(lines, file, bytes)
 }
 
 /// The program of a file, with its certificate for records of these lengths.
@@ -265,8 +259,10 @@ fn answer<'a, F: Files>(
     ensures refused { IfErr result (λ denied. Refuses F.read_gives line.now files.old denied files.new) }
 {
     match line {
-        FileCommand::Asm { file } => asm_answer(alloc, file, files),
-        FileCommand::Check { file, lengths } => check_answer(alloc, file, *lengths, files),
+        FileCommand::Asm { file } => file_answer(alloc, Work::Listing, file, files),
+        FileCommand::Check { file, lengths } => {
+            file_answer(alloc, Work::Acceptance(*lengths), file, files)
+        }
         FileCommand::Run {
             file,
             start,
@@ -274,7 +270,7 @@ fn answer<'a, F: Files>(
             lengths,
         } => run_answer(alloc, file, *start, records, *lengths, files),
         FileCommand::Sim { script } => sim_answer(alloc, script, files),
-        FileCommand::Audit { journal } => audit_answer(alloc, journal, files),
+        FileCommand::Audit { journal } => file_answer(alloc, Work::Audit, journal, files),
     }
 }
 

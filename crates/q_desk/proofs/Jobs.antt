@@ -19,7 +19,7 @@ use Rattle.q_session.specs.declared.job.Job.{Job}
 use Rattle.q_desk.specs.State.{DeskState}
 use Rattle.q_desk.specs.declared.journal.Entry.{Entry}
 use Rattle.q_desk.specs.declared.journal.Entry.TheVariants as entry
-use Rattle.q_desk.specs.Desks.{most_events, how_many_run, with_phase, is_ready, is_same_view, is_job_of, job_of, job_at, job_from, next_job, handed_out, posted}
+use Rattle.q_desk.specs.Desks.{most_events, how_many_run, with_phase, is_ready, is_same_view, is_job_of, ready_view, job_on, job_at, job_from, next_job, handed_out, posted}
 use Rattle.q_session.specs.Jobs.{view_in, job_over, MayRun}
 use Rattle.q_session.specs.Records.{HasRecordsWithin}
 use Rattle.q_desk.specs.Answers.{IsDesk, IsAnswered}
@@ -36,22 +36,22 @@ may_run q c law fits lengths = over (view_in q.phase) fits
     over (Some v) f = law value_length c.lengths v f lengths
 
 -- a ready query has its job
-job-ready : (node k : ℕ) (q : Query) (p : Phase) (c : Certificate) → is_ready p ≡ true → option_map (job_over node k q c) (view_in p) ≡ job_of node k q p (Some c)
+job-ready : (node k : ℕ) (q : Query) (p : Phase) (c : Certificate) → is_ready p ≡ true → option_map (job_over node k q c) (view_in p) ≡ job_on node k q (ready_view p) (Some c)
 job-ready node k q (Ready view) c r = refl
 job-ready node k q Collecting c r = absurd (false≢true r)
 job-ready node k q (Running view) c r = absurd (false≢true r)
 job-ready node k q (Answered view ran) c r = absurd (false≢true r)
 
-no-job : (node k : ℕ) (q : Query) (p : Phase) → job_of node k q p None ≡ None
+no-job : (node k : ℕ) (q : Query) (p : Phase) → job_on node k q (ready_view p) None ≡ None
 no-job node k q (Ready view) = refl
 no-job node k q Collecting = refl
 no-job node k q (Running view) = refl
 no-job node k q (Answered view ran) = refl
 
 -- what comes next, where this query is the first that is ready
-next-at : (s : DeskState) (node k : ℕ) (q : Query) (o : Option Certificate) → position (λ (x : Query). is_ready x.phase) s.queries ≡ Some k → slice_get s.queries k ≡ Some q → slice_get s.programs q.program ≡ o → job_of node k q q.phase o ≡ next_job s node
+next-at : (s : DeskState) (node k : ℕ) (q : Query) (o : Option Certificate) → position (λ (x : Query). is_ready x.phase) s.queries ≡ Some k → slice_get s.queries k ≡ Some q → slice_get s.programs q.program ≡ o → job_on node k q (ready_view q.phase) o ≡ next_job s node
 next-at s node k q o first there named =
-    ap (job_of node k q q.phase) (sym named) ∙ ap (job_at s node k) (sym there) ∙ ap (job_from s node) (sym first)
+    ap (job_on node k q (ready_view q.phase)) (sym named) ∙ ap (job_at ready_view s node k) (sym there) ∙ ap (job_from s node) (sym first)
 
 pub next-none : (s : DeskState) (node k : ℕ) (q : Query) → position (λ (x : Query). is_ready x.phase) s.queries ≡ Some k → slice_get s.queries k ≡ Some q → slice_get s.programs q.program ≡ None → None ≡ next_job s node
 next-none s node k q first there named =
@@ -70,7 +70,7 @@ record IsFound (s : DeskState) (j : Job) : Type 0 where
   there : slice_get s.queries j.query ≡ Some query
   ready : query.phase ≡ Ready j.view
 
-found-of : (s : DeskState) (node k : ℕ) (q : Query) (p : Phase) (c : Option Certificate) (j : Job) → slice_get s.queries k ≡ Some q → q.phase ≡ p → job_of node k q p c ≡ Some j → IsFound s j
+found-of : (s : DeskState) (node k : ℕ) (q : Query) (p : Phase) (c : Option Certificate) (j : Job) → slice_get s.queries k ≡ Some q → q.phase ≡ p → job_on node k q (ready_view p) c ≡ Some j → IsFound s j
 found-of s node k q (Ready view) (Some c) j there ready e =
     let made : Job = record { node = node; query = k; program = q.program; start = q.start; certified = c; view = view } in
     let same : made ≡ j = cc in
@@ -80,7 +80,7 @@ found-of s node k q Collecting c j there ready e = absurd (cc)
 found-of s node k q (Running view) c j there ready e = absurd (cc)
 found-of s node k q (Answered view ran) c j there ready e = absurd (cc)
 
-found-at : (s : DeskState) (node k : ℕ) (o : Option Query) (j : Job) → slice_get s.queries k ≡ o → job_at s node k o ≡ Some j → IsFound s j
+found-at : (s : DeskState) (node k : ℕ) (o : Option Query) (j : Job) → slice_get s.queries k ≡ o → job_at ready_view s node k o ≡ Some j → IsFound s j
 found-at s node k None j there e = absurd (cc)
 found-at s node k (Some q) j there e = found-of s node k q q.phase (slice_get s.programs q.program) j there refl e
 

@@ -157,35 +157,37 @@ ends e s = ((gives e s).0, with_ended (gives e s).1 (completed_by e (gives e s).
 
 -- ---- jobs
 
--- the job of a ready query of this node
-abbrev pub job_of : ℕ → ℕ → Query → Phase → Option Certificate → Option Job
-job_of node k q (Ready view) (Some program) = Some (job_over node k q program view)
-job_of node k q p program = None
+-- the view over which a query that is ready is to run
+abbrev pub ready_view : Phase → Option ViewMap
+ready_view (Ready view) = Some view
+ready_view p = None
 
-abbrev pub job_at : DeskState → ℕ → ℕ → Option Query → Option Job
-job_at s node k None = None
-job_at s node k (Some q) = job_of node k q q.phase (slice_get s.programs q.program)
+-- the view over which a query runs
+abbrev pub running_view : Phase → Option ViewMap
+running_view (Running view) = Some view
+running_view p = None
+
+-- the job of a query of this node over this view
+abbrev pub job_on : ℕ → ℕ → Query → Option ViewMap → Option Certificate → Option Job
+job_on node k q (Some view) (Some program) = Some (job_over node k q program view)
+job_on node k q view program = None
+
+-- the same, over what this tells of the query's phase
+abbrev pub job_at : (Phase → Option ViewMap) → DeskState → ℕ → ℕ → Option Query → Option Job
+job_at view_of s node k None = None
+job_at view_of s node k (Some q) = job_on node k q (view_of q.phase) (slice_get s.programs q.program)
 
 abbrev pub job_from : DeskState → ℕ → Option ℕ → Option Job
 job_from s node None = None
-job_from s node (Some k) = job_at s node k (slice_get s.queries k)
+job_from s node (Some k) = job_at ready_view s node k (slice_get s.queries k)
 
 -- the job of the ready query with the least number
 abbrev pub next_job : DeskState → ℕ → Option Job
 next_job s node = job_from s node (position (λ q. is_ready q.phase) s.queries)
 
--- the job of a query of this node that runs
-abbrev pub running_job_of : ℕ → ℕ → Query → Phase → Option Certificate → Option Job
-running_job_of node k q (Running view) (Some program) = Some (job_over node k q program view)
-running_job_of node k q p program = None
-
-abbrev pub running_job_at : DeskState → ℕ → ℕ → Option Query → Option Job
-running_job_at s node k None = None
-running_job_at s node k (Some q) = running_job_of node k q q.phase (slice_get s.programs q.program)
-
 -- the job of the query with this number, where it runs
 abbrev pub running_job : DeskState → ℕ → ℕ → Option Job
-running_job s node k = running_job_at s node k (slice_get s.queries k)
+running_job s node k = job_at running_view s node k (slice_get s.queries k)
 
 abbrev pub hands : DeskState → Option Job → Result (Option Job × DeskState) DeskFault
 hands s None = Ok (None, s)

@@ -1,8 +1,6 @@
 //! Whether books are of different nodes, and agree on their fractions and founders.
 
 ghost use Rattle.std.specs.Prelude.{◌≡◌, ℕ, List, Some, None, IfOk, IfErr, MatchBool, MatchOption, slice_get, true};
-ghost use Rattle.std.specs.Ordering.{nat_cmp};
-ghost use Rattle.std.specs.FinSet as set;
 ghost use Rattle.sc_members.specs.Members.{Config};
 ghost use Rattle.q_book.specs.State.{BookState};
 ghost use Rattle.q_history.specs.Heads.{founders_for};

@@ -1,11 +1,9 @@
--- The refusals of desks and books as a cluster's, and the reasons by which refusals are told.
+-- The refusals of books as a cluster's, and the reasons by which refusals are told.
 use Rattle.reasons.specs.declared.Reason.{Reason}
 use Rattle.reasons.specs.declared.Reason.TheVariants as reasons
 use Rattle.sc_world.specs.Acts as acts
 use Rattle.sc_world.specs.Faults as world
 use Rattle.q_desk.specs.Faults as desk
-use Rattle.q_desk.specs.declared.fault.DeskFault.{DeskFault}
-use Rattle.q_desk.specs.declared.fault.DeskFault.TheVariants as desk_fault
 use Rattle.sc_world.specs.declared.fault.WorldFault.TheVariants as world_fault
 use Rattle.q_book.specs.declared.fault.BookFault.{BookFault}
 use Rattle.q_book.specs.declared.fault.BookFault.TheVariants as book_fault
@@ -15,10 +13,6 @@ use Rattle.q_history.specs.declared.fault.ClusterFault.TheVariants as fault
 -- memory was refused
 abbrev pub memory : ClusterFault
 memory = fault.World acts.memory
-
-abbrev pub of_desk : DeskFault → ClusterFault
-of_desk desk_fault.OutOfMemory = memory
-of_desk f = fault.Desk f
 
 abbrev pub of_book : BookFault → ClusterFault
 of_book (book_fault.Node f) = fault.World (world_fault.Node f)

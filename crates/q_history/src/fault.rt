@@ -1,7 +1,7 @@
 //! Why an event is refused, and the reason that is told of each.
 
 ghost use Rattle.std.specs.Prelude.{◌≡◌};
-ghost use Rattle.q_history.specs.Faults.{reason, of_desk, of_book, memory};
+ghost use Rattle.q_history.specs.Faults.{reason, of_book, memory};
 
 use q_book::fault::BookFault;
 use q_desk::fault::DeskFault;
@@ -40,17 +40,6 @@ impl From<WorldFault> for ClusterFault {
 
     fn from(refusal: WorldFault) -> ClusterFault {
         ClusterFault::World(refusal)
-    }
-}
-
-impl From<DeskFault> for ClusterFault {
-    ghost from_gives = { λ refusal e. e ≡ of_desk refusal };
-
-    fn from(refusal: DeskFault) -> ClusterFault {
-        match refusal {
-            DeskFault::OutOfMemory => ClusterFault::from(AllocError),
-            other => ClusterFault::Desk(other),
-        }
     }
 }
 

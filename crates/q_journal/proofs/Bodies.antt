@@ -1,5 +1,6 @@
 -- Bodies that are those of no event of their kind.
-use Rattle.std.proofs.Common.{◌≡◌, ℕ, ◌+◌, ◌^◌, ◌<◌, List, [], ◌++◌, length, Option, sym, ap, ◌∙◌, arith, length-append}
+use Rattle.std.proofs.Common.{◌≡◌, ℕ, ◌+◌, ◌^◌, ◌<◌, List, [], ◌++◌, length, Option, Result, Err, ◌⊎◌, inl, inr, sym, ap, ◌∙◌, arith, length-append}
+use Rattle.std.specs.Prelude.{IfErr}
 use Rattle.std.proofs.lemmas.List.{append-nil}
 use Rattle.bq_insn.specs.declared.insn.Insn.{Insn}
 use Rattle.bq_insn.specs.Slots.{spelling, IsText}
@@ -18,14 +19,26 @@ use Rattle.sc_msg.specs.Messages.{message_bytes, IsMessage}
 use Rattle.sc_msg.proofs.Numbers.{length-number_bytes}
 use Rattle.sc_msg.proofs.Entries.{same_front, number_front}
 use Rattle.q_journal.specs.declared.written.Written.{Written}
-use Rattle.q_journal.specs.declared.written.Written.TheVariants.{Register, Ask, Deliver, Post}
+use Rattle.q_journal.specs.declared.written.Written.TheVariants.{Leave, Register, Ask, Deliver, HandOut, Post}
 use Rattle.q_journal.specs.declared.read.ReadFault.{ReadFault}
 use Rattle.q_journal.specs.declared.read.ReadFault.TheVariants.{Form, OutOfMemory}
 use Rattle.q_journal.specs.Spelling.{body_bytes}
 use Rattle.q_journal.specs.Reading.{IsBody, IsNoBody, of_text, of_notes, of_message}
+use Rattle.q_journal.proofs.Exits.{passed}
 use Rattle.q_journal.proofs.Sizes.{text_small, length-registered, length-asked, length-posted}
 
 -- ---- by how long they are
+
+pub no_bare : (kind : ℕ) (body : List ℕ) → (kind ≡ 1) ⊎ (kind ≡ 6) → 0 < length body → IsNoBody kind body
+no_bare kind body which more = record { none = λ w h. none w h }
+  where
+    other : (k : ℕ) → k ≡ kind → (k ≡ 1 → ⊥) → (k ≡ 6 → ⊥) → ⊥
+    other k is first second = elim which [ inl e ↦ first (is ∙ e) | inr e ↦ second (is ∙ e) ]
+
+    none : (w : Written) → IsBody kind body w → ⊥
+    none Leave h = omega (arith, more, ap length h.spelled)
+    none HandOut h = omega (arith, more, ap length h.spelled)
+    none w h = other _ h.is (λ e. omega (arith, e)) (λ e. omega (arith, e))
 
 pub no_ask : (body : List ℕ) → (length body ≡ 12 → ⊥) → IsNoBody 3 body
 no_ask body other = record { none = λ w h. none w h }
@@ -42,8 +55,26 @@ no_post body other = record { none = λ w h. none w h }
     none w h = omega (arith, h.is)
 
 -- so many bytes are left behind those that were read
-pub number_then : (width n : ℕ) (bytes rest : List ℕ) → bytes ≡ number_bytes width n ++ rest → length bytes ≡ width + length rest
+number_then : (width n : ℕ) (bytes rest : List ℕ) → bytes ≡ number_bytes width n ++ rest → length bytes ≡ width + length rest
 number_then width n bytes rest parts = omega (arith, ap length parts, length-append (number_bytes width n) rest, length-number_bytes width n)
+
+-- ---- cut behind some numbers, or with more behind all
+
+pub ask_cut : (body rest : List ℕ) (program : ℕ) → body ≡ number_bytes 4 program ++ rest → length rest < 8 → IsNoBody 3 body
+ask_cut body rest program parts short = no_ask body (λ e. omega (arith, e, short, number_then 4 program body rest parts))
+
+pub ask_long : (body r1 r2 : List ℕ) (program start : ℕ) → body ≡ number_bytes 4 program ++ r1 → r1 ≡ number_bytes 8 start ++ r2 → 0 < length r2 → IsNoBody 3 body
+ask_long body r1 r2 program start first second more = no_ask body (λ e. omega (arith, e, more, number_then 4 program body r1 first, number_then 8 start r1 r2 second))
+
+pub post_cut : (body rest : List ℕ) (query : ℕ) → body ≡ number_bytes 8 query ++ rest → length rest < 16 → IsNoBody 7 body
+post_cut body rest query parts short = no_post body (λ e. omega (arith, e, short, number_then 8 query body rest parts))
+
+pub post_cut_twice : (body r1 r2 : List ℕ) (query acc : ℕ) → body ≡ number_bytes 8 query ++ r1 → r1 ≡ number_bytes 8 acc ++ r2 → length r2 < 8 → IsNoBody 7 body
+post_cut_twice body r1 r2 query acc first second short = post_cut body r1 query first (omega (arith, short, number_then 8 acc r1 r2 second))
+
+pub post_long : (body r1 r2 r3 : List ℕ) (query acc steps : ℕ) → body ≡ number_bytes 8 query ++ r1 → r1 ≡ number_bytes 8 acc ++ r2 → r2 ≡ number_bytes 8 steps ++ r3 → 0 < length r3 → IsNoBody 7 body
+post_long body r1 r2 r3 query acc steps first second third more =
+    no_post body (λ e. omega (arith, e, more, number_then 8 query body r1 first, number_then 8 acc r1 r2 second, number_then 8 steps r2 r3 third))
 
 -- ---- numbers one behind another, and nothing more
 
@@ -100,11 +131,11 @@ notes_follow body rest front behind n t ns read text p e =
     let f = text_follows body rest n t ns read p e in
     same_front front (spelling t) behind (notes_bytes First ns) n text.long (sym f.0) (sym text.parts ∙ f.1)
 
-pub no_text : (body rest front behind : List ℕ) (n : ℕ) → ReadLength body rest n → ReadText rest front behind n → ((t : List Insn) → IsText t → front ≡ spelling t → ⊥) → IsNoBody 2 body
+no_text : (body rest front behind : List ℕ) (n : ℕ) → ReadLength body rest n → ReadText rest front behind n → ((t : List Insn) → IsText t → front ≡ spelling t → ⊥) → IsNoBody 2 body
 no_text body rest front behind n read text none =
     no_register body (λ t ns p q e. none t p (notes_follow body rest front behind n t ns read text p e).0)
 
-pub no_notes : (body rest front behind : List ℕ) (n : ℕ) → ReadLength body rest n → ReadText rest front behind n → ((ns : List (Option StateKinds)) → IsNotes First ns → behind ≡ notes_bytes First ns → ⊥) → IsNoBody 2 body
+no_notes : (body rest front behind : List ℕ) (n : ℕ) → ReadLength body rest n → ReadText rest front behind n → ((ns : List (Option StateKinds)) → IsNotes First ns → behind ≡ notes_bytes First ns → ⊥) → IsNoBody 2 body
 no_notes body rest front behind n read text none =
     no_register body (λ t ns p q e. none ns q (notes_follow body rest front behind n t ns read text p e).1)
 
@@ -118,11 +149,21 @@ registered body rest front behind n t ns read text is others =
 form_is_not_memory : OutOfMemory ≡ Form → ⊥
 form_is_not_memory e = cc
 
-pub text_fault : (d : DecodeFault) (e : ReadFault) → e ≡ of_text d → e ≡ Form → d ≡ texts.OutOfMemory → ⊥
+text_fault : (d : DecodeFault) (e : ReadFault) → e ≡ of_text d → e ≡ Form → d ≡ texts.OutOfMemory → ⊥
 text_fault d e is form memory = form_is_not_memory (sym (is ∙ ap of_text memory) ∙ form)
 
-pub notes_fault : (d : NotesFault) (e : ReadFault) → e ≡ of_notes d → e ≡ Form → d ≡ notes.OutOfMemory → ⊥
+notes_fault : (d : NotesFault) (e : ReadFault) → e ≡ of_notes d → e ≡ Form → d ≡ notes.OutOfMemory → ⊥
 notes_fault d e is form memory = form_is_not_memory (sym (is ∙ ap of_notes memory) ∙ form)
+
+pub text_refused : {A : Type 0} (body rest front behind : List ℕ) (n : ℕ) (d : DecodeFault) (r : Result A ReadFault) (e : ReadFault) → r ≡ Err e → e ≡ of_text d → ReadLength body rest n → ReadText rest front behind n
+    → ((t : List Insn) → IsText t → front ≡ spelling t → d ≡ texts.OutOfMemory) → IfErr r (λ f. f ≡ Form → IsNoBody 2 body)
+text_refused body rest front behind n d r e is of read text all =
+    passed (IsNoBody 2 body) r e is (λ form. no_text body rest front behind n read text (λ t p q. text_fault d e of form (all t p q)))
+
+pub notes_refused : {A : Type 0} (body rest front behind : List ℕ) (n : ℕ) (d : NotesFault) (r : Result A ReadFault) (e : ReadFault) → r ≡ Err e → e ≡ of_notes d → ReadLength body rest n → ReadText rest front behind n
+    → ((ns : List (Option StateKinds)) → IsNotes First ns → behind ≡ notes_bytes First ns → d ≡ notes.OutOfMemory) → IfErr r (λ f. f ≡ Form → IsNoBody 2 body)
+notes_refused body rest front behind n d r e is of read text all =
+    passed (IsNoBody 2 body) r e is (λ form. no_notes body rest front behind n read text (λ ns p q. notes_fault d e of form (all ns p q)))
 
 pub message_fault : (d : MessageFault) (e : ReadFault) → e ≡ of_message d → e ≡ Form → d ≡ messages.OutOfMemory → ⊥
 message_fault d e is form memory = form_is_not_memory (sym (is ∙ ap of_message memory) ∙ form)

@@ -1,6 +1,6 @@
 //! The bodies of events by their kinds.
 
-ghost use Rattle.std.specs.Prelude.{◌≡◌, IfOk, IfErr};
+ghost use Rattle.std.specs.Prelude.{◌≡◌, ◌⊎◌, IfOk, IfErr};
 ghost use Rattle.q_journal.specs.Reading.{IsBody, IsNoBody};
 
 use crate::read::ReadFault;
@@ -10,20 +10,24 @@ use bq_check::notes::Notes;
 use sc_view::value::{VALUE_LENGTH, Value};
 use std::alloc::Global;
 
-fn leave(body: &[u8]) -> Result<Written, ReadFault>
-    ensures body { IfOk result (IsBody 1 body.now) }
-    ensures none { IfErr result (λ e. e ≡ ReadFault.Form → IsNoBody 1 body.now) }
+/// An event with an empty body: a leave or a hand-out.
+fn bare(kind: u8, reader: &Reader<'_>) -> Result<Written, ReadFault>
+    requires { (kind ≡ 1) ⊎ (kind ≡ 6) }
+    ensures body { IfOk result (IsBody kind reader.now.rest.now) }
+    ensures none { IfErr result (λ e. e ≡ ReadFault.Form → IsNoBody kind reader.now.rest.now) }
 {
-    let reader = Reader { rest: body };
     reader.end()?;
-    Ok(Written::Leave)
+    if kind == 1 {
+        Ok(Written::Leave)
+    } else {
+        Ok(Written::HandOut)
+    }
 }
 
-fn register(alloc: Global, body: &[u8]) -> Result<Written, ReadFault>
-    ensures body { IfOk result (IsBody 2 body.now) }
-    ensures none { IfErr result (λ e. e ≡ ReadFault.Form → IsNoBody 2 body.now) }
+fn register(alloc: Global, reader: &mut Reader<'_>) -> Result<Written, ReadFault>
+    ensures body { IfOk result (IsBody 2 reader.old.rest.now) }
+    ensures none { IfErr result (λ e. e ≡ ReadFault.Form → IsNoBody 2 reader.old.rest.now) }
 {
-    let mut reader = Reader { rest: body };
     let length = reader.word()?;
     let spelling = reader.take(length as usize)?;
     let text = bq_insn::decode::decode(alloc, spelling)?;
@@ -31,11 +35,10 @@ fn register(alloc: Global, body: &[u8]) -> Result<Written, ReadFault>
     Ok(Written::Register { text, notes })
 }
 
-fn ask(body: &[u8]) -> Result<Written, ReadFault>
-    ensures body { IfOk result (IsBody 3 body.now) }
-    ensures none { IfErr result (λ e. e ≡ ReadFault.Form → IsNoBody 3 body.now) }
+fn ask(reader: &mut Reader<'_>) -> Result<Written, ReadFault>
+    ensures body { IfOk result (IsBody 3 reader.old.rest.now) }
+    ensures none { IfErr result (λ e. e ≡ ReadFault.Form → IsNoBody 3 reader.old.rest.now) }
 {
-    let mut reader = Reader { rest: body };
     let program = reader.word()?;
     let start = reader.number()?;
     reader.end()?;
@@ -62,20 +65,10 @@ fn deliver(alloc: Global, body: &[u8]) -> Result<Written, ReadFault>
     Ok(Written::Deliver(message))
 }
 
-fn hand_out(body: &[u8]) -> Result<Written, ReadFault>
-    ensures body { IfOk result (IsBody 6 body.now) }
-    ensures none { IfErr result (λ e. e ≡ ReadFault.Form → IsNoBody 6 body.now) }
+fn post(reader: &mut Reader<'_>) -> Result<Written, ReadFault>
+    ensures body { IfOk result (IsBody 7 reader.old.rest.now) }
+    ensures none { IfErr result (λ e. e ≡ ReadFault.Form → IsNoBody 7 reader.old.rest.now) }
 {
-    let reader = Reader { rest: body };
-    reader.end()?;
-    Ok(Written::HandOut)
-}
-
-fn post(body: &[u8]) -> Result<Written, ReadFault>
-    ensures body { IfOk result (IsBody 7 body.now) }
-    ensures none { IfErr result (λ e. e ≡ ReadFault.Form → IsNoBody 7 body.now) }
-{
-    let mut reader = Reader { rest: body };
     let query = reader.number()?;
     let acc = reader.number()?;
     let steps = reader.number()?;
@@ -88,14 +81,14 @@ pub(crate) fn body_of(alloc: Global, kind: u8, body: &[u8]) -> Result<Written, R
     ensures body { IfOk result (IsBody kind body.now) }
     ensures none { IfErr result (λ e. e ≡ ReadFault.Form → IsNoBody kind body.now) }
 {
+    let mut reader = Reader { rest: body };
     match kind {
-        1 => leave(body),
-        2 => register(alloc, body),
-        3 => ask(body),
+        1 | 6 => bare(kind, &reader),
+        2 => register(alloc, &mut reader),
+        3 => ask(&mut reader),
         4 => store(body),
         5 => deliver(alloc, body),
-        6 => hand_out(body),
-        7 => post(body),
+        7 => post(&mut reader),
         _ => Err(ReadFault::Form),
     }
 }

@@ -10,18 +10,6 @@ use crate::head::Fraction;
 use crate::read::ReadFault;
 use std::alloc::Global;
 
-/// The first bytes, so many, and those behind them.
-fn split(bytes: &[u8], count: usize) -> Result<(&[u8], &[u8]), ReadFault>
-    ensures len { IfOk result (λ x. length x.0.now ≡ count) }
-    ensures parts { IfOk result (λ x. bytes.now ≡ x.0.now ++ x.1.now) }
-    ensures few { OnErr result (length bytes.now < count) }
-{
-    if bytes.len() < count {
-        return Err(ReadFault::Form);
-    }
-    Ok(bytes.split_at(count))
-}
-
 /// What is left of the bytes. After a fault it is not used again.
 #[derive(Drop)]
 pub(crate) struct Reader<'a> {
@@ -88,7 +76,10 @@ impl<'a> Reader<'a> {
         ensures parts { IfOk result (λ front. self.old.rest.now ≡ front.now ++ self.new.rest.now) }
         ensures few { OnErr result (length self.old.rest.now < count) }
     {
-        let (front, rest) = split(self.rest, count)?;
+        if self.rest.len() < count {
+            return Err(ReadFault::Form);
+        }
+        let (front, rest) = self.rest.split_at(count);
         self.rest = rest;
         Ok(front)
     }

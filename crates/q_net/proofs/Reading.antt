@@ -34,6 +34,10 @@ got_some bytes_of len a b o x is h = subst (Got bytes_of len a b) is h
 pub got_none : {A : Type 0} (bytes_of : A → List ℕ) (len : ℕ) (a b : Option (List ℕ)) (o : Option A) → o ≡ None → Got bytes_of len a b o → (part : List ℕ) × Consumes a b part × (length part < len) × IsAtEnd b
 got_none bytes_of len a b o is h = subst (Got bytes_of len a b) is h
 
+-- a number of four bytes was got, and what comes behind it failed
+pub short_then_failed : {E : Type 0} (P : E → Type 0) (front : List ℕ) (a b c : Option (List ℕ)) (r : Result Next E) (o : Option ℕ) (n : ℕ) → IsErrAnd r P → o ≡ Some n → Got short_bytes 4 a b o → (part : List ℕ) × Consumes b c part → GetsNext front a c r
+short_then_failed P front a b c r o n h is got failed = next_failed P front a c r h (then_failed a b c (short_bytes n) (got_some short_bytes 4 a b o n is got) failed)
+
 -- the next byte, where it has this value
 pub got_kind : (kind byte : ℕ) (a b : Option (List ℕ)) (o : Option ℕ) → o ≡ Some byte → byte ≡ kind → Got (λ (b : ℕ). b ∷ []) 1 a b o → Consumes a b (kind ∷ [])
 got_kind kind byte a b o is same h = subst (λ (k : ℕ). Consumes a b (k ∷ [])) same (got_some (λ (b : ℕ). b ∷ []) 1 a b o byte is h)

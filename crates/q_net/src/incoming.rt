@@ -31,6 +31,33 @@ pub enum Next {
     Ended(Stop),
 }
 
+/// A length of at most so many bytes, these bytes, and then what is done with them, or where there was no memory for them.
+macro_rules! blob {
+    ($alloc:expr, $input:expr, $most:expr, $long:expr; $lost:expr, $whole:ident => $then:expr) => {{
+        let Some(len) = read_short($input)? else {
+            return Ok(Next::Ended(Stop::Cut));
+        };
+        if len > $most {
+            return Ok(Next::Ended($long));
+        }
+        match read_blob($alloc, $input, len as usize)? {
+            Piece::Cut => Ok(Next::Ended(Stop::Cut)),
+            Piece::Lost => $lost,
+            Piece::Whole($whole) => $then,
+        }
+    }};
+}
+
+/// The request that the next part completes, where the input does not end within it.
+macro_rules! completed {
+    ($read:expr, $part:ident => $request:expr) => {
+        match $read {
+            Some($part) => Ok(Next::Whole($request)),
+            None => Ok(Next::Ended(Stop::Cut)),
+        }
+    };
+}
+
 /// The notes behind a text, which is none where there was no memory for it.
 fn notes<R: Read>(
     alloc: Global,
@@ -41,20 +68,10 @@ fn notes<R: Read>(
         → GetsNext (1 ∷ short_bytes (length whole) ++ whole) (R.remaining input.old.inner) (R.remaining input.new.inner) result }
     ensures counted { input.new.failures ≡ count_after result input.old.failures }
 {
-    let Some(len) = read_short(input)? else {
-        return Ok(Next::Ended(Stop::Cut));
-    };
-    if len > MOST_NOTES {
-        return Ok(Next::Ended(Stop::LongNotes));
-    }
-    match read_blob(alloc, input, len as usize)? {
-        Piece::Cut => Ok(Next::Ended(Stop::Cut)),
-        Piece::Lost => Ok(Next::Lost),
-        Piece::Whole(notes) => match text {
-            Some(text) => Ok(Next::Whole(Request::Register { text, notes })),
-            None => Ok(Next::Lost),
-        },
-    }
+    blob!(alloc, input, MOST_NOTES, Stop::LongNotes; Ok(Next::Lost), notes => match text {
+        Some(text) => Ok(Next::Whole(Request::Register { text, notes })),
+        None => Ok(Next::Lost),
+    })
 }
 
 /// A registration, behind its kind.
@@ -62,17 +79,8 @@ fn register<R: Read>(alloc: Global, input: &mut Counted<R>) -> Result<Next, Tran
     ensures read { GetsNext (1 ∷ []) (R.remaining input.old.inner) (R.remaining input.new.inner) result }
     ensures counted { input.new.failures ≡ count_after result input.old.failures }
 {
-    let Some(len) = read_short(input)? else {
-        return Ok(Next::Ended(Stop::Cut));
-    };
-    if len > MOST_TEXT {
-        return Ok(Next::Ended(Stop::LongText));
-    }
-    match read_blob(alloc, input, len as usize)? {
-        Piece::Cut => Ok(Next::Ended(Stop::Cut)),
-        Piece::Lost => notes(alloc, None, input),
-        Piece::Whole(text) => notes(alloc, Some(text), input),
-    }
+    blob!(alloc, input, MOST_TEXT, Stop::LongText;
+        notes(alloc, None, input), text => notes(alloc, Some(text), input))
 }
 
 /// A query, behind its kind.
@@ -94,10 +102,7 @@ fn store<R: Read>(input: &mut Counted<R>) -> Result<Next, TransportFailed>
     ensures read { GetsNext (3 ∷ []) (R.remaining input.old.inner) (R.remaining input.new.inner) result }
     ensures counted { input.new.failures ≡ count_after result input.old.failures }
 {
-    match read_value(input)? {
-        Some(value) => Ok(Next::Whole(Request::Store(value))),
-        None => Ok(Next::Ended(Stop::Cut)),
-    }
+    completed!(read_value(input)?, value => Request::Store(value))
 }
 
 /// A question for an answer, behind its kind.
@@ -105,10 +110,7 @@ fn answer<R: Read>(input: &mut Counted<R>) -> Result<Next, TransportFailed>
     ensures read { GetsNext (4 ∷ []) (R.remaining input.old.inner) (R.remaining input.new.inner) result }
     ensures counted { input.new.failures ≡ count_after result input.old.failures }
 {
-    match read_long(input)? {
-        Some(query) => Ok(Next::Whole(Request::Answer(query))),
-        None => Ok(Next::Ended(Stop::Cut)),
-    }
+    completed!(read_long(input)?, query => Request::Answer(query))
 }
 
 /// The next request of an input, or how its requests end.

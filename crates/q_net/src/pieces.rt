@@ -47,16 +47,23 @@ fn long_of(bytes: &[u8]) -> u64
     u64::from_le_bytes([*a, *b, *c, *d, *e, *f, *g, *h])
 }
 
+/// What the next bytes come to, so many of them; none where the input ends before them.
+macro_rules! next {
+    ($input:expr, $len:expr, $bytes:ident => $whole:expr) => {{
+        let mut $bytes = [0u8; $len];
+        if $input.fill(&mut $bytes)? < $len {
+            return Ok(None);
+        }
+        Ok(Some($whole))
+    }};
+}
+
 /// The next byte; none where the input ends before it.
 pub fn read_byte<R: Read>(input: &mut Counted<R>) -> Result<Option<u8>, TransportFailed>
     ensures read { Gets (λ b. b ∷ []) 1 (R.remaining input.old.inner) (R.remaining input.new.inner) result }
     ensures counted { input.new.failures ≡ count_after result input.old.failures }
 {
-    let mut bytes = [0u8; 1];
-    if input.fill(&mut bytes)? < 1 {
-        return Ok(None);
-    }
-    Ok(Some(bytes[0]))
+    next!(input, 1, bytes => bytes[0])
 }
 
 /// The number of the next four bytes; none where the input ends before them.
@@ -64,11 +71,7 @@ pub fn read_short<R: Read>(input: &mut Counted<R>) -> Result<Option<u32>, Transp
     ensures read { Gets short_bytes 4 (R.remaining input.old.inner) (R.remaining input.new.inner) result }
     ensures counted { input.new.failures ≡ count_after result input.old.failures }
 {
-    let mut bytes = [0u8; 4];
-    if input.fill(&mut bytes)? < 4 {
-        return Ok(None);
-    }
-    Ok(Some(short_of(&bytes)))
+    next!(input, 4, bytes => short_of(&bytes))
 }
 
 /// The number of the next eight bytes; none where the input ends before them.
@@ -76,11 +79,7 @@ pub fn read_long<R: Read>(input: &mut Counted<R>) -> Result<Option<u64>, Transpo
     ensures read { Gets long_bytes 8 (R.remaining input.old.inner) (R.remaining input.new.inner) result }
     ensures counted { input.new.failures ≡ count_after result input.old.failures }
 {
-    let mut bytes = [0u8; 8];
-    if input.fill(&mut bytes)? < 8 {
-        return Ok(None);
-    }
-    Ok(Some(long_of(&bytes)))
+    next!(input, 8, bytes => long_of(&bytes))
 }
 
 /// The value of the next 48 bytes; none where the input ends before them.
@@ -89,11 +88,7 @@ pub fn read_value<R: Read>(input: &mut Counted<R>) -> Result<Option<Value>, Tran
     ensures length { IfOk result (λ got. IfSome got (λ v. length v ≡ 48)) }
     ensures counted { input.new.failures ≡ count_after result input.old.failures }
 {
-    let mut bytes = [0u8; VALUE_LENGTH];
-    if input.fill(&mut bytes)? < VALUE_LENGTH {
-        return Ok(None);
-    }
-    Ok(Some(Value::from(&bytes)))
+    next!(input, VALUE_LENGTH, bytes => Value::from(&bytes))
 }
 
 /// So many bytes, passed over.

@@ -65,13 +65,23 @@ enum Reply {
     Wrong,
 }
 
-/// A book of a founder that is alone.
-fn alone(alloc: Global) -> Option<Book> {
+/// A founder that is alone, and the messages that it gave and has not heard yet.
+#[derive(Drop)]
+struct Founder {
+    alloc: Global,
+    book: Book,
+    sent: Vec<Message>,
+}
+
+/// A founder that is alone.
+fn alone(alloc: Global) -> Option<Founder> {
     let config = Config::new(4, 5, 4, 5).ok()?;
-    match Book::founder(alloc, config, 1, &[1]) {
-        Ok(book) => Some(book),
-        Err(_) => Book::founder(alloc, config, 1, &[1]).ok(),
-    }
+    let book = match Book::founder(alloc, config, 1, &[1]) {
+        Ok(book) => book,
+        Err(_) => Book::founder(alloc, config, 1, &[1]).ok()?,
+    };
+    let sent = Vec::new(alloc);
+    Some(Founder { alloc, book, sent })
 }
 
 /// A block over which jobs are run.
@@ -99,16 +109,17 @@ fn output(alloc: Global) -> Option<Vec<u8>> {
 }
 
 /// The replies to a stream; none where it is not served to its end.
-fn replies<R: Wait>(
-    rt: &R,
-    alloc: Global,
-    book: &mut Book,
-    sent: &mut Vec<Message>,
-    bytes: &[u8],
-) -> Option<Vec<u8>> {
-    let mut out = Counted::new(output(alloc)?);
+fn replies<R: Wait>(rt: &R, founder: &mut Founder, bytes: &[u8]) -> Option<Vec<u8>> {
+    let mut out = Counted::new(output(founder.alloc)?);
     let mut input = Counted::new(bytes);
-    match serve(rt, alloc, book, &mut input, &mut out, sent) {
+    match serve(
+        rt,
+        founder.alloc,
+        &mut founder.book,
+        &mut input,
+        &mut out,
+        &mut founder.sent,
+    ) {
         Ok(()) => Some(out.inner),
         Err(_) => None,
     }
@@ -131,48 +142,27 @@ fn judged(replies: &[u8], right: &[u8], gave_none: bool) -> Reply {
 }
 
 /// Serves a stream of a request and of a question for query 9, which is answered in any case.
-fn request_once<R: Wait>(
-    rt: &R,
-    alloc: Global,
-    book: &mut Book,
-    sent: &mut Vec<Message>,
-    bytes: &[u8],
-    right: &[u8],
-) -> Reply {
-    let before = sent.len();
-    match replies(rt, alloc, book, sent, bytes) {
-        Some(replies) => judged(replies.as_slice(), right, sent.len() == before),
+fn request_once<R: Wait>(rt: &R, founder: &mut Founder, bytes: &[u8], right: &[u8]) -> Reply {
+    let before = founder.sent.len();
+    match replies(rt, founder, bytes) {
+        Some(replies) => judged(replies.as_slice(), right, founder.sent.len() == before),
         None => Reply::Wrong,
     }
 }
 
 /// The same, and once more where the request was answered 99. Whether it has its right reply then.
-fn request_again<R: Wait>(
-    rt: &R,
-    alloc: Global,
-    book: &mut Book,
-    sent: &mut Vec<Message>,
-    bytes: &[u8],
-    right: &[u8],
-) -> bool {
-    match request_once(rt, alloc, book, sent, bytes, right) {
+fn request_again<R: Wait>(rt: &R, founder: &mut Founder, bytes: &[u8], right: &[u8]) -> bool {
+    match request_once(rt, founder, bytes, right) {
         Reply::Right => true,
-        Reply::NoMemory => request_once(rt, alloc, book, sent, bytes, right) == Reply::Right,
+        Reply::NoMemory => request_once(rt, founder, bytes, right) == Reply::Right,
         Reply::Wrong => false,
     }
 }
 
 /// The same with the stream that these digits spell.
-fn request<R: Wait>(
-    rt: &R,
-    alloc: Global,
-    book: &mut Book,
-    sent: &mut Vec<Message>,
-    digits: &str,
-    right: &[u8],
-) -> bool {
-    match stream(alloc, digits) {
-        Some(bytes) => request_again(rt, alloc, book, sent, bytes.as_slice(), right),
+fn request<R: Wait>(rt: &R, founder: &mut Founder, digits: &str, right: &[u8]) -> bool {
+    match stream(founder.alloc, digits) {
+        Some(bytes) => request_again(rt, founder, bytes.as_slice(), right),
         None => false,
     }
 }
@@ -208,14 +198,14 @@ fn hear_again(book: &mut Book, sent: &mut Vec<Message>, message: Message) -> boo
 }
 
 /// The book hears what it gave until it gives nothing more. Whether it took all.
-fn settle(book: &mut Book, sent: &mut Vec<Message>) -> bool {
+fn settle(founder: &mut Founder) -> bool {
     let mut took = true;
     for _ in 0..MOST_DELIVERIES {
-        if let Some(message) = sent.pop() {
-            took = hear_again(book, sent, message) && took;
+        if let Some(message) = founder.sent.pop() {
+            took = hear_again(&mut founder.book, &mut founder.sent, message) && took;
         }
     }
-    took && sent.is_empty()
+    took && founder.sent.is_empty()
 }
 
 /// Hands out the job of the ready query, runs it and posts its result. The number with which that is refused, or 0.
@@ -237,30 +227,23 @@ fn run_job_again(book: &mut Book, block: &mut Block) -> bool {
 
 /// Whether each request has its right reply: a program, a store, a query, and the answer of that query, which counts
 /// one record in three steps.
-fn are_right<R: Wait>(
-    rt: &R,
-    alloc: Global,
-    book: &mut Book,
-    block: &mut Block,
-    sent: &mut Vec<Message>,
-) -> bool {
+fn are_right<R: Wait>(rt: &R, founder: &mut Founder, block: &mut Block) -> bool {
     let counted = [0, 1, 8, 0, 0, 0, 0, 0, 0, 0, 3, 0, 0, 0, 0, 0, 0, 0];
-    request(rt, alloc, book, sent, REGISTER, &[0; 5])
-        && request(rt, alloc, book, sent, STORE, &[0; 9])
-        && settle(book, sent)
-        && request(rt, alloc, book, sent, ASK, &[0; 9])
-        && request(rt, alloc, book, sent, ANSWER, &[0, 0])
-        && settle(book, sent)
-        && run_job_again(book, block)
-        && request(rt, alloc, book, sent, ANSWER, &counted)
+    request(rt, founder, REGISTER, &[0; 5])
+        && request(rt, founder, STORE, &[0; 9])
+        && settle(founder)
+        && request(rt, founder, ASK, &[0; 9])
+        && request(rt, founder, ANSWER, &[0, 0])
+        && settle(founder)
+        && run_job_again(&mut founder.book, block)
+        && request(rt, founder, ANSWER, &counted)
 }
 
 /// The same of a book of its own; none where there is none.
 fn all_right<R: Wait>(rt: &R, alloc: Global) -> Option<bool> {
     let mut block = block(alloc)?;
-    let mut book = alone(alloc)?;
-    let mut sent: Vec<Message> = Vec::new(alloc);
-    Some(are_right(rt, alloc, &mut book, &mut block, &mut sent))
+    let mut founder = alone(alloc)?;
+    Some(are_right(rt, &mut founder, &mut block))
 }
 
 /// Run with any one allocation refused, each request has its right reply, or is answered 99, gives no message and then

@@ -1,7 +1,7 @@
 //! Why nodes are not run, or a line of their script is refused.
 
-ghost use Rattle.std.specs.Prelude.{◌≡◌};
-ghost use Rattle.q_nodes.specs.Faults.{bad_founders, no_such_node, of_world, place, reason, of_fault, of_open, memory, of_gather};
+ghost use Rattle.std.specs.Prelude.{◌≡◌, Some};
+ghost use Rattle.q_nodes.specs.Faults.{bad_founders, no_such_node, of_world, place, reason, text, of_fault, of_open, memory, of_gather};
 ghost use Rattle.q_sim.specs.Refusal.{refusal_of};
 
 use q_board::fault::OpenFault;
@@ -67,9 +67,6 @@ impl NodesFault {
 }
 
 impl fmt::Display for NodesFault {
-    ghost use Rattle.std.specs.Prelude.{Some};
-    ghost use Rattle.q_nodes.specs.Faults.{text};
-
     ghost output = { λ fault. Some (text fault) };
 
     fn fmt<W: fmt::Write>(&self, f: &mut fmt::Formatter<W>) -> fmt::Result {

@@ -44,7 +44,8 @@ fn await_end<R: Wait + Clock>(
 {
     for turn in 0..MOST_TURNS {
         pump_all(rt, seats);
-        if seat::has_ended(rt, held, node, tag) {
+        let ended = seat::has_ended(&held.lock(rt).book, node, tag);
+        if ended {
             return true;
         }
         pause(rt, turn);
@@ -64,8 +65,9 @@ fn await_answer<R: Wait + Clock>(
 {
     for turn in 0..MOST_TURNS {
         pump_all(rt, seats);
-        if let Some(ran) = seat::answer(rt, held, node, query) {
-            return Some(ran);
+        let answer = seat::answer(&held.lock(rt).book, node, query);
+        if answer.is_some() {
+            return answer;
         }
         pause(rt, turn);
     }
@@ -104,7 +106,8 @@ fn run_program<R: Wait, W: Write>(
     let Some(held) = seat::seat(seats, node) else {
         return refuse(NodesFault::no_such_node(), out);
     };
-    match seat::register(rt, held, node, &program) {
+    let registered = seat::register(&mut held.lock(rt), node, &program);
+    match registered {
         Ok(id) => tell_program(id, out),
         Err(fault) => refuse(fault, out),
     }
@@ -141,7 +144,8 @@ fn run_store<R: Wait + Clock, W: Write>(
     let Some(held) = seat::seat(seats, node) else {
         return refuse(NodesFault::no_such_node(), out);
     };
-    match seat::store(rt, held, node, &value_bytes(value)) {
+    let begun = seat::store(&mut held.lock(rt), node, &value_bytes(value));
+    match begun {
         Ok(tag) => {
             writeln!(out, "store {tag}")?;
             end_store(rt, seats, held, node, tag, out)
@@ -185,7 +189,8 @@ fn run_ask<R: Wait + Clock, W: Write>(
     let Some(held) = seat::seat(seats, node) else {
         return refuse(NodesFault::no_such_node(), out);
     };
-    match seat::ask(rt, held, node, program_id(program), start) {
+    let begun = seat::ask(&mut held.lock(rt), node, program_id(program), start);
+    match begun {
         Ok(query) => {
             writeln!(out, "query {query}")?;
             end_query(rt, seats, held, node, query, out)

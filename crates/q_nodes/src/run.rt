@@ -348,49 +348,7 @@ fn seats_of<'b>(
 }
 
 /// Runs a script by a thread for each node, over these transports, and by four runners, and prints what its lines tell,
-/// all at the end. How many datagrams changed nothing goes to the notes.
-pub fn run_script<R, T, W, N>(
-    rt: &R,
-    alloc: Global,
-    script: &ClusterScript,
-    transports: Vec<T>,
-    out: &mut Counted<W>,
-    notes: &mut N,
-) -> Ending
-where
-    R: Wait + Threads + Clock + Sync,
-    T: Transport + Send + Drop,
-    W: Write,
-    N: Write,
-    ensures written { IsWritten script.now result (W.contents out.old.inner) (W.contents out.new.inner) }
-    ensures counted { out.new.failures ≡ failures_after result out.old.failures }
-{
-    let (board, askers, runners) = match Board::open(alloc, script.nodes as usize, RUNNERS) {
-        Ok(opened) => opened,
-        Err(fault) => return print_untold(script, untold(fault, script.nodes), out),
-    };
-    let seats = match seats_of(alloc, &board, askers, script) {
-        Ok(seats) => seats,
-        Err(fault) => return print_untold(script, fault, out),
-    };
-    match run_with_runners(
-        rt,
-        alloc,
-        &board,
-        runners,
-        seats.as_slice(),
-        script,
-        transports,
-    ) {
-        Ok(told) => {
-            let gathered = gather_seats(alloc, seats, notes);
-            print_all(script, told.as_slice(), gathered, out)
-        }
-        Err(fault) => print_untold(script, fault, out),
-    }
-}
-
-/// The same: the exit status.
+/// all at the end. How many datagrams changed nothing goes to the notes. The exit status.
 pub fn run_cluster<R, T, W, N>(
     rt: &R,
     alloc: Global,
@@ -407,5 +365,27 @@ where
     ensures { Ends (IsWritten script.now) result
         (W.contents out.old.inner) (W.contents out.new.inner) out.old.failures out.new.failures }
 {
-    run_script(rt, alloc, script, transports, out, notes).status()
+    let (board, askers, runners) = match Board::open(alloc, script.nodes as usize, RUNNERS) {
+        Ok(opened) => opened,
+        Err(fault) => return print_untold(script, untold(fault, script.nodes), out).status(),
+    };
+    let seats = match seats_of(alloc, &board, askers, script) {
+        Ok(seats) => seats,
+        Err(fault) => return print_untold(script, fault, out).status(),
+    };
+    match run_with_runners(
+        rt,
+        alloc,
+        &board,
+        runners,
+        seats.as_slice(),
+        script,
+        transports,
+    ) {
+        Ok(told) => {
+            let gathered = gather_seats(alloc, seats, notes);
+            print_all(script, told.as_slice(), gathered, out).status()
+        }
+        Err(fault) => print_untold(script, fault, out).status(),
+    }
 }

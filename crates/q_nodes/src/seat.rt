@@ -1,7 +1,7 @@
-//! What is done and seen under the lock of a node.
+//! What is done and seen under the lock of a node, which the caller takes once for each call.
 //!
-//! Each call takes the lock once. It names the node whose book it means, and says what it found of some book of that
-//! node which is the replay of its journal: which one it was no clause can say, since other threads go on.
+//! A call names the node whose book it means, and says what it found of some book of that node which is the replay of
+//! its journal: which one it was no clause can say, since other threads go on.
 
 ghost use Rattle.std.specs.Prelude.{⊤, ◌≤◌, ◌↔◌, length, IfSome, IsSome, IsTrue, MatchBool};
 ghost use Rattle.q_nodes.specs.Seats.{BeginsQuery, BeginsStore, HasEnded, IsBookOf, IsRecorded, Registers};
@@ -32,7 +32,11 @@ fn is_of(book: &Book, node: u64) -> bool
 }
 
 /// Registers a program in the book of the node.
-fn register_in(held: &mut Held<'_>, node: u64, program: &Program) -> Result<ProgramId, NodesFault>
+pub(crate) fn register(
+    held: &mut Held<'_>,
+    node: u64,
+    program: &Program,
+) -> Result<ProgramId, NodesFault>
     ensures { Registers node program.now result }
 {
     if !is_of(&held.book, node) {
@@ -44,8 +48,8 @@ fn register_in(held: &mut Held<'_>, node: u64, program: &Program) -> Result<Prog
     }
 }
 
-/// Begins to store a value in the book of the node.
-fn store_in(held: &mut Held<'_>, node: u64, value: &Value) -> Result<u64, NodesFault>
+/// Begins to store a value in the book of the node: the tag of the operation.
+pub(crate) fn store(held: &mut Held<'_>, node: u64, value: &Value) -> Result<u64, NodesFault>
     ensures { BeginsStore node value.now result }
 {
     if !is_of(&held.book, node) {
@@ -57,8 +61,8 @@ fn store_in(held: &mut Held<'_>, node: u64, value: &Value) -> Result<u64, NodesF
     }
 }
 
-/// Begins a query in the book of the node.
-fn ask_in(
+/// Begins a query in the book of the node: its number.
+pub(crate) fn ask(
     held: &mut Held<'_>,
     node: u64,
     program: ProgramId,
@@ -76,14 +80,14 @@ fn ask_in(
 }
 
 /// Whether the operation with this tag has ended, by the book of the node.
-fn has_ended_in(book: &Book, node: u64, tag: u64) -> bool
+pub(crate) fn has_ended(book: &Book, node: u64, tag: u64) -> bool
     ensures { IsTrue result → HasEnded node tag }
 {
     is_of(book, node) && !book.is_open(tag)
 }
 
 /// The answer of a query, if the book of the node has it.
-fn answer_in(book: &Book, node: u64, query: usize) -> Option<Ran>
+pub(crate) fn answer(book: &Book, node: u64, query: usize) -> Option<Ran>
     ensures { IfSome result (IsRecorded node query) }
 {
     if !is_of(book, node) {
@@ -93,64 +97,6 @@ fn answer_in(book: &Book, node: u64, query: usize) -> Option<Ran>
         Ok(Some(ran)) => Some(ran),
         Ok(None) | Err(_) => None,
     }
-}
-
-/// Registers a program at the node.
-pub(crate) fn register<R: Wait>(
-    rt: &R,
-    held: &Mutex<Held<'_>>,
-    node: u64,
-    program: &Program,
-) -> Result<ProgramId, NodesFault>
-    ensures { Registers node program.now result }
-{
-    register_in(&mut held.lock(rt), node, program)
-}
-
-/// The node begins to store a value: the tag of the operation.
-pub(crate) fn store<R: Wait>(
-    rt: &R,
-    held: &Mutex<Held<'_>>,
-    node: u64,
-    value: &Value,
-) -> Result<u64, NodesFault>
-    ensures { BeginsStore node value.now result }
-{
-    store_in(&mut held.lock(rt), node, value)
-}
-
-/// The node begins a query: its number.
-pub(crate) fn ask<R: Wait>(
-    rt: &R,
-    held: &Mutex<Held<'_>>,
-    node: u64,
-    program: ProgramId,
-    start: u64,
-) -> Result<usize, NodesFault>
-    ensures { BeginsQuery node program start result }
-{
-    ask_in(&mut held.lock(rt), node, program, start)
-}
-
-/// Looks whether the operation with this tag has ended at the node.
-pub(crate) fn has_ended<R: Wait>(rt: &R, held: &Mutex<Held<'_>>, node: u64, tag: u64) -> bool
-    ensures { IsTrue result → HasEnded node tag }
-{
-    let guard = held.lock(rt);
-    has_ended_in(&guard.book, node, tag)
-}
-
-/// Looks for the answer of a query at the node.
-pub(crate) fn answer<R: Wait>(
-    rt: &R,
-    held: &Mutex<Held<'_>>,
-    node: u64,
-    query: usize,
-) -> Option<Ran>
-    ensures { IfSome result (IsRecorded node query) }
-{
-    let guard = held.lock(rt);
-    answer_in(&guard.book, node, query)
 }
 
 /// Carries results from the board into the book of a node, and jobs from the book to the board. What stops the pump

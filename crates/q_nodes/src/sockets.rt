@@ -1,10 +1,9 @@
 //! Clusters whose nodes have a socket each.
 
-ghost use Rattle.std.specs.Prelude.{◌≡◌};
-ghost use Rattle.q_nodes.specs.Runs.{Ends, IsWrittenFile, IsWrittenOf, failures_after};
+ghost use Rattle.q_nodes.specs.Runs.{Ends, IsWrittenFile, IsWrittenOf};
 
 use crate::fault::NodesFault;
-use crate::run::{Ending, print_refusal, run_script};
+use crate::run::{print_refusal, run_cluster};
 use crate::script::ClusterScript;
 use q_files::files::Files;
 use q_sim::refusal::Refusal;
@@ -58,29 +57,6 @@ fn open_sockets<R: Net>(rt: &R, alloc: Global, nodes: u64) -> io::Result<Vec<Udp
 }
 
 /// Runs the script that a text spells by a thread and a socket for each node, and prints what its lines tell; how many
-/// datagrams changed nothing goes to the notes. A script that is refused prints its refusal, and a socket that can't be
-/// opened 86 TransportFailed.
-fn run_source<R: Net + Wait + Threads + Clock + Sync, W: Write, N: Write>(
-    rt: &R,
-    alloc: Global,
-    source: &str,
-    out: &mut Counted<W>,
-    notes: &mut N,
-) -> Ending
-    ensures written { IsWrittenOf source.now result (W.contents out.old.inner) (W.contents out.new.inner) }
-    ensures counted { out.new.failures ≡ failures_after result out.old.failures }
-{
-    let script = match ClusterScript::read(alloc, source) {
-        Ok(script) => script,
-        Err(fault) => return print_refusal(fault, out),
-    };
-    match open_sockets(rt, alloc, script.nodes) {
-        Ok(transports) => run_script(rt, alloc, &script, transports, out, notes),
-        Err(_) => print_refusal(NodesFault::TransportFailed, out),
-    }
-}
-
-/// Runs the script that a text spells by a thread and a socket for each node, and prints what its lines tell; how many
 /// datagrams changed nothing goes to the notes. The exit status. A script that is refused prints its refusal, and a socket
 /// that can't be opened 86 TransportFailed.
 pub fn run_over_sockets<R: Net + Wait + Threads + Clock + Sync, W: Write, N: Write>(
@@ -93,29 +69,13 @@ pub fn run_over_sockets<R: Net + Wait + Threads + Clock + Sync, W: Write, N: Wri
     ensures { Ends (IsWrittenOf source.now) result
         (W.contents out.old.inner) (W.contents out.new.inner) out.old.failures out.new.failures }
 {
-    run_source(rt, alloc, source, out, notes).status()
-}
-
-/// What the command `cluster` does with the file of this name.
-fn run_named<R: Net + Wait + Threads + Clock + Sync, F: Files, W: Write, N: Write>(
-    rt: &R,
-    alloc: Global,
-    name: &str,
-    files: &mut F,
-    out: &mut Counted<W>,
-    notes: &mut N,
-) -> Ending
-    ensures written { IsWrittenFile F.read_gives name.now files.old files.new result
-        (W.contents out.old.inner) (W.contents out.new.inner) }
-    ensures counted { out.new.failures ≡ failures_after result out.old.failures }
-{
-    let bytes = match files.read(alloc, name) {
-        Ok(bytes) => bytes,
-        Err(fault) => return print_refusal(NodesFault::from(fault), out),
+    let script = match ClusterScript::read(alloc, source) {
+        Ok(script) => script,
+        Err(fault) => return print_refusal(fault, out).status(),
     };
-    match str::from_utf8(bytes.as_slice()) {
-        Ok(source) => run_source(rt, alloc, source, out, notes),
-        Err(_) => print_refusal(NodesFault::Script(Refusal::FileFailed), out),
+    match open_sockets(rt, alloc, script.nodes) {
+        Ok(transports) => run_cluster(rt, alloc, &script, transports, out, notes),
+        Err(_) => print_refusal(NodesFault::TransportFailed, out).status(),
     }
 }
 
@@ -132,5 +92,12 @@ pub fn run_file<R: Net + Wait + Threads + Clock + Sync, F: Files, W: Write, N: W
     ensures { Ends (IsWrittenFile F.read_gives name.now files.old files.new) result
         (W.contents out.old.inner) (W.contents out.new.inner) out.old.failures out.new.failures }
 {
-    run_named(rt, alloc, name, files, out, notes).status()
+    let bytes = match files.read(alloc, name) {
+        Ok(bytes) => bytes,
+        Err(fault) => return print_refusal(NodesFault::from(fault), out).status(),
+    };
+    match str::from_utf8(bytes.as_slice()) {
+        Ok(source) => run_over_sockets(rt, alloc, source, out, notes),
+        Err(_) => print_refusal(NodesFault::Script(Refusal::FileFailed), out).status(),
+    }
 }

@@ -20,39 +20,84 @@ use std::sync::Wait;
 use std::thread::Threads;
 use std::time::Clock;
 
-/// The script whose lines were read.
+/// How the datagrams of a run over memory are disturbed.
 #[derive(Drop)]
-pub struct Cases {
+struct Disturbed<'a> {
+    /// The node that hears nothing; 0 where each hears.
+    deaf: u64,
+    /// The node that sends nothing; 0 where each sends.
+    mute: u64,
+    /// The letters by which datagrams are disturbed.
+    letters: &'a [u8],
+    /// What node 1 hears before all else, the last one first.
+    before: Vec<Vec<u8>>,
+}
+
+impl<'a> Disturbed<'a> {
+    /// What a word and the rest of its line say; none where it is another word.
+    fn read(alloc: Global, word: &str, rest: &'a str) -> Result<Option<Self>, AllocError> {
+        let mut disturbed = Disturbed {
+            deaf: 0,
+            mute: 0,
+            letters: &[],
+            before: Vec::new(alloc),
+        };
+        match word {
+            "memory" => {}
+            "deaf" => disturbed.deaf = number(rest).unwrap_or(0),
+            "mute" => disturbed.mute = number(rest).unwrap_or(0),
+            "noisy" => disturbed.letters = rest.as_bytes(),
+            "forged" => disturbed.before = unsent(alloc, rest)?,
+            _ => return Ok(None),
+        }
+        Ok(Some(disturbed))
+    }
+}
+
+/// So many datagrams that spell no message, that no book takes, and of a message that was never sent.
+fn unsent(alloc: Global, counts: &str) -> Result<Vec<Vec<u8>>, AllocError> {
+    let (spelling_none, rest) = counts.split_once(' ').unwrap_or((counts, ""));
+    let (refused, never_sent) = rest.split_once(' ').unwrap_or((rest, ""));
+    datagrams(
+        alloc,
+        number(spelling_none).unwrap_or(0),
+        number(refused).unwrap_or(0),
+        number(never_sent).unwrap_or(0),
+    )
+}
+
+/// The script whose lines were read, and where what comes of them is written.
+#[derive(Drop)]
+pub struct Cases<'a, R, W> {
+    rt: &'a R,
     alloc: Global,
+    out: Counted<W>,
     script: String,
 }
 
-impl Cases {
+impl<'a, R: Net + Wait + Threads + Clock + Sync, W: Write> Cases<'a, R, W> {
     /// An empty script.
-    pub fn new(alloc: Global) -> Cases {
+    pub fn new(rt: &'a R, alloc: Global, out: W) -> Self {
         Cases {
+            rt,
             alloc,
+            out: Counted::new(out),
             script: String::new(alloc),
         }
     }
 
     /// Takes a line, and writes what comes of it.
-    pub fn take<R: Net + Wait + Threads + Clock + Sync, W: Write>(
-        &mut self,
-        rt: &R,
-        text: &str,
-        out: &mut Counted<W>,
-    ) -> io::Result<()> {
+    pub fn take(&mut self, text: &str) -> io::Result<()> {
         match text.split_once(' ') {
             Some(("--", _)) => {
                 self.script.clear();
-                writeln!(out, "{text}")
+                writeln!(self.out, "{text}")
             }
             Some(("*", rest)) => Ok(self.repeat(rest)?),
             Some(("$", words)) => {
-                writeln!(out, "{text}")?;
-                let status = self.run(rt, words, out)?;
-                writeln!(out, "status {status}")
+                writeln!(self.out, "{text}")?;
+                let status = self.run(words)?;
+                writeln!(self.out, "status {status}")
             }
             _ => Ok(self.add(text)?),
         }
@@ -71,152 +116,75 @@ impl Cases {
         Ok(())
     }
 
-    /// Runs the script as these words say: the exit status.
-    fn run<R: Net + Wait + Threads + Clock + Sync, W: Write>(
-        &self,
-        rt: &R,
-        words: &str,
-        out: &mut Counted<W>,
-    ) -> io::Result<u8> {
+    /// Runs the script as these words say, and prints what it notes where no datagrams are disturbed: the exit status.
+    fn run(&mut self, words: &str) -> io::Result<u8> {
         let (word, rest) = words.split_once(' ').unwrap_or((words, ""));
-        match word {
-            "sockets" => {
-                let mut notes = Vec::new(self.alloc);
+        let mut notes = Vec::new(self.alloc);
+        let status = match Disturbed::read(self.alloc, word, rest)? {
+            Some(disturbed) => self.run_over_memory(disturbed, &mut notes)?,
+            None if word == "sockets" => {
                 let source = self.script.as_str();
-                let status = run_over_sockets(rt, self.alloc, source, out, &mut notes);
-                out.write_all(notes.as_slice())?;
-                Ok(status)
+                run_over_sockets(self.rt, self.alloc, source, &mut self.out, &mut notes)
             }
-            "memory" => self.run_over_memory(rt, 0, 0, out),
-            "deaf" => self.run_over_memory(rt, number(rest).unwrap_or(0), 0, out),
-            "mute" => self.run_over_memory(rt, 0, number(rest).unwrap_or(0), out),
-            "forged" => self.run_over_forged(rt, rest, out),
-            "noisy" => self.run_over_noise(rt, rest.as_bytes(), out),
-            _ => self.run_command(rt, words, out),
+            None => self.run_command(words, &mut notes)?,
+        };
+        if word != "noisy" {
+            self.out.write_all(notes.as_slice())?;
         }
+        Ok(status)
     }
 
     /// Runs the command of these words over a file `s`, which holds the script.
-    fn run_command<R: Net + Wait + Threads + Clock + Sync, W: Write>(
-        &self,
-        rt: &R,
-        words: &str,
-        out: &mut Counted<W>,
-    ) -> io::Result<u8> {
+    fn run_command(&mut self, words: &str, notes: &mut Vec<u8>) -> io::Result<u8> {
         let words: Vec<&str> = words.split(' ').collect(self.alloc)?;
         let name = match read_words(self.alloc, words.as_slice()) {
             Ok(Wanted::Cluster { script }) => script,
             Ok(Wanted::FileCommand(_)) => {
-                writeln!(out, "another command")?;
+                writeln!(self.out, "another command")?;
                 return Ok(0);
             }
             Err(fault) => {
-                writeln!(out, "{fault}")?;
+                writeln!(self.out, "{fault}")?;
                 return Ok(fault.status());
             }
         };
         let mut files = MemoryFiles::new(self.alloc);
         let _ = files.write("s", self.script.as_bytes());
         let _ = files.write("t", &[0xff]);
-        let mut notes = Vec::new(self.alloc);
-        let status = run_file(rt, self.alloc, name, &mut files, out, &mut notes);
-        out.write_all(notes.as_slice())?;
-        Ok(status)
+        let out = &mut self.out;
+        Ok(run_file(self.rt, self.alloc, name, &mut files, out, notes))
     }
 
-    /// The script, or its refusal, which is printed.
-    fn read<W: Write>(&self, out: &mut Counted<W>) -> io::Result<Option<ClusterScript>> {
-        match ClusterScript::read(self.alloc, self.script.as_str()) {
-            Ok(script) => Ok(Some(script)),
+    /// Runs the script over memory, or prints its refusal.
+    fn run_over_memory(&mut self, disturbed: Disturbed<'_>, notes: &mut Vec<u8>) -> io::Result<u8> {
+        let script = match ClusterScript::read(self.alloc, self.script.as_str()) {
+            Ok(script) => script,
             Err(fault) => {
-                writeln!(out, "{fault}")?;
-                Ok(None)
+                writeln!(self.out, "{fault}")?;
+                return Ok(1);
             }
-        }
-    }
-
-    /// Runs the script over memory, where one node hears nothing, and one sends nothing.
-    fn run_over_memory<R: Net + Wait + Threads + Clock + Sync, W: Write>(
-        &self,
-        rt: &R,
-        deaf: u64,
-        mute: u64,
-        out: &mut Counted<W>,
-    ) -> io::Result<u8> {
-        let Some(script) = self.read(out)? else {
-            return Ok(1);
         };
         let hub = Hub::open(self.alloc, script.nodes)?;
-        let mut transports = Vec::new(self.alloc);
+        let Disturbed {
+            deaf,
+            mute,
+            letters,
+            mut before,
+        } = disturbed;
+        let mut ends = Vec::new(self.alloc);
         for known in 0..script.nodes {
             let id = known + 1;
-            transports.push(Deaf {
-                inner: MemoryTransport::new(rt, &hub, id),
+            let forged = Forged {
+                inner: MemoryTransport::new(self.rt, &hub, id),
+                before: std::mem::replace(&mut before, Vec::new(self.alloc)),
+            };
+            ends.push(Deaf {
+                inner: Noisy::new(self.alloc, letters, forged),
                 is_deaf: id == deaf,
                 is_mute: id == mute,
             })?;
         }
-        let mut notes = Vec::new(self.alloc);
-        let status = run_cluster(rt, self.alloc, &script, transports, out, &mut notes);
-        out.write_all(notes.as_slice())?;
-        Ok(status)
-    }
-
-    /// Runs the script over memory, where datagrams are disturbed.
-    fn run_over_noise<R: Net + Wait + Threads + Clock + Sync, W: Write>(
-        &self,
-        rt: &R,
-        letters: &[u8],
-        out: &mut Counted<W>,
-    ) -> io::Result<u8> {
-        let Some(script) = self.read(out)? else {
-            return Ok(1);
-        };
-        let hub = Hub::open(self.alloc, script.nodes)?;
-        let mut transports = Vec::new(self.alloc);
-        for known in 0..script.nodes {
-            transports.push(Noisy {
-                inner: MemoryTransport::new(rt, &hub, known + 1),
-                alloc: self.alloc,
-                letters,
-                sent: 0,
-                kept: None,
-            })?;
-        }
-        let mut notes = Vec::new(self.alloc);
-        Ok(run_cluster(rt, self.alloc, &script, transports, out, &mut notes))
-    }
-
-    /// Runs the script over memory, where node 1 hears before all else what nobody sent: so many datagrams that spell no
-    /// message, that no book takes, and of a message that was never sent.
-    fn run_over_forged<R: Net + Wait + Threads + Clock + Sync, W: Write>(
-        &self,
-        rt: &R,
-        counts: &str,
-        out: &mut Counted<W>,
-    ) -> io::Result<u8> {
-        let Some(script) = self.read(out)? else {
-            return Ok(1);
-        };
-        let (spelling_none, rest) = counts.split_once(' ').unwrap_or((counts, ""));
-        let (refused, never_sent) = rest.split_once(' ').unwrap_or((rest, ""));
-        let mut before = datagrams(
-            self.alloc,
-            number(spelling_none).unwrap_or(0),
-            number(refused).unwrap_or(0),
-            number(never_sent).unwrap_or(0),
-        )?;
-        let hub = Hub::open(self.alloc, script.nodes)?;
-        let mut transports = Vec::new(self.alloc);
-        for known in 0..script.nodes {
-            transports.push(Forged {
-                inner: MemoryTransport::new(rt, &hub, known + 1),
-                before: std::mem::replace(&mut before, Vec::new(self.alloc)),
-            })?;
-        }
-        let mut notes = Vec::new(self.alloc);
-        let status = run_cluster(rt, self.alloc, &script, transports, out, &mut notes);
-        out.write_all(notes.as_slice())?;
-        Ok(status)
+        let out = &mut self.out;
+        Ok(run_cluster(self.rt, self.alloc, &script, ends, out, notes))
     }
 }

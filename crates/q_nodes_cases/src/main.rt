@@ -22,16 +22,14 @@ mod forged;
 mod noise;
 
 use crate::cases::Cases;
-use q_wire::counted::Counted;
 use std::io;
 
 fn main(rt: HostRuntime) -> io::Result<()> {
     let alloc = rt.alloc();
-    let mut cases = Cases::new(alloc);
-    let mut out = Counted::new(io::writer(&rt));
+    let mut cases = Cases::new(&rt, alloc, io::writer(&rt));
     for line in rt.lines(alloc) {
         let line = line?;
-        cases.take(&rt, line.as_str(), &mut out)?;
+        cases.take(line.as_str())?;
     }
     Ok(())
 }

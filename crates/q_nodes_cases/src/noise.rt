@@ -14,14 +14,14 @@ static LONG: [u8; 60_001] = [0x42; 60_001];
 
 /// Disturbs datagrams by a list of letters, one for each that is sent: `x` loses it, `2` sends it twice, `c` sends a
 /// part of it before, `f` a forged one and `l` a long one; any other sends it as it is. Of two that wait it gives the
-/// second one first.
+/// second one first. An empty list disturbs nothing.
 #[derive(Drop)]
 pub struct Noisy<'a, T> {
-    pub inner: T,
-    pub alloc: Global,
-    pub letters: &'a [u8],
-    pub sent: usize,
-    pub kept: Option<Vec<u8>>,
+    inner: T,
+    alloc: Global,
+    letters: &'a [u8],
+    sent: usize,
+    kept: Option<Vec<u8>>,
 }
 
 /// What is sent before a datagram.
@@ -35,7 +35,18 @@ fn sent_before(letter: u8, bytes: &[u8]) -> Option<&[u8]> {
     }
 }
 
-impl<T> Noisy<'_, T> {
+impl<'a, T> Noisy<'a, T> {
+    /// Disturbs by these letters what is sent over a transport.
+    pub fn new(alloc: Global, letters: &'a [u8], inner: T) -> Self {
+        Noisy {
+            inner,
+            alloc,
+            letters,
+            sent: 0,
+            kept: None,
+        }
+    }
+
     /// The letter of the next datagram.
     fn next_letter(&mut self) -> u8
         ensures { self.new.inner ≡ self.old.inner }
@@ -61,6 +72,9 @@ impl<T: Transport> Transport for Noisy<'_, T> {
     }
 
     fn receive(&mut self, into: &mut [u8]) -> Result<Option<usize>, TransportFault> {
+        if self.letters.is_empty() {
+            return self.inner.receive(into);
+        }
         if let Some(kept) = self.kept.take() {
             return Ok(Some(put_at_start(kept.as_slice(), into)));
         }

@@ -17,7 +17,7 @@ use Rattle.q_session.specs.declared.query.Query.{Query}
 use Rattle.q_session.specs.declared.job.Job.{Job}
 use Rattle.q_desk.specs.State.{DeskState}
 use Rattle.q_desk.specs.Desks as desk
-use Rattle.q_desk.specs.Desks.{running_job_of, running_job_at, running_job}
+use Rattle.q_desk.specs.Desks.{running_view, job_on, job_at, running_job}
 use Rattle.q_desk.specs.declared.journal.Entry.TheVariants as entry
 use Rattle.q_desk.specs.declared.fault.DeskFault.{DeskFault}
 use Rattle.q_desk.specs.declared.fault.DeskFault.TheVariants as fault
@@ -64,16 +64,16 @@ module _ (d : DeskState) (node k : ℕ) where
   pub runs_job : (q : Query) (view : ViewMap) (program : Certificate) → slice_get d.queries k ≡ Some q → q.phase ≡ Running view → slice_get d.programs q.program ≡ Some program
       → running_job d node k ≡ Some (job_by node k q view program)
   runs_job q view program at phase named =
-      ap (running_job_at d node k) at ∙ ap (λ (p : Phase). running_job_of node k q p (slice_get d.programs q.program)) phase ∙ ap (running_job_of node k q (Running view)) named
+      ap (job_at running_view d node k) at ∙ ap (λ (p : Phase). job_on node k q (running_view p) (slice_get d.programs q.program)) phase ∙ ap (job_on node k q (running_view (Running view))) named
 
-  job_of-runs : (q : Query) (p : Phase) (c : Option Certificate) (j : Job) → slice_get d.queries k ≡ Some q → q.phase ≡ p → slice_get d.programs q.program ≡ c → running_job_of node k q p c ≡ Some j → Runs d node k j
+  job_of-runs : (q : Query) (p : Phase) (c : Option Certificate) (j : Job) → slice_get d.queries k ≡ Some q → q.phase ≡ p → slice_get d.programs q.program ≡ c → job_on node k q (running_view p) c ≡ Some j → Runs d node k j
   job_of-runs q (Running view) (Some c) j at is named h = record { query = q; view = view; program = c; at = at; phase = is; named = named; is = same_some _ j h }
   job_of-runs q (Running view) None j at is named h = absurd (no_some j h)
   job_of-runs q Collecting c j at is named h = absurd (no_some j h)
   job_of-runs q (Ready view) c j at is named h = absurd (no_some j h)
   job_of-runs q (Answered view ran) c j at is named h = absurd (no_some j h)
 
-  job_at-runs : (o : Option Query) (j : Job) → slice_get d.queries k ≡ o → running_job_at d node k o ≡ Some j → Runs d node k j
+  job_at-runs : (o : Option Query) (j : Job) → slice_get d.queries k ≡ o → job_at running_view d node k o ≡ Some j → Runs d node k j
   job_at-runs None j at h = absurd (no_some j h)
   job_at-runs (Some q) j at h = job_of-runs q q.phase (slice_get d.programs q.program) j at refl refl h
 

@@ -5,12 +5,12 @@ use Rattle.std.specs.declared.alloc.Global.{Global}
 use Rattle.q_script.specs.declared.command.Command.{Command}
 use Rattle.q_script.specs.declared.command.Command.TheVariants as command
 use Rattle.q_script.specs.declared.line.ScriptLine.{ScriptLine}
-use Rattle.q_script.specs.declared.line.ScriptLine.TheVariants.{Program, Store, Ask, Deliver, All, Hand, Run, Enter, Leave, Crash, Pairs, Journal}
+use Rattle.q_script.specs.declared.line.ScriptLine.TheVariants.{Program, Store, Ask, Deliver, Pairs, Journal}
 use Rattle.q_script.specs.declared.line.LineFault.{LineFault}
 use Rattle.q_script.specs.declared.line.LineFault.TheVariants.{Form, OutOfMemory}
-use Rattle.q_script.specs.Words.{Lacks, IsNumeral, IsFollowed, IsPair}
+use Rattle.q_script.specs.Words.{Lacks, IsFollowed, IsPair}
 use Rattle.q_script.specs.Command.{name, command_at}
-use Rattle.q_script.specs.Line.{IsCode, IsWord, IsProgram, IsStore, IsAsk, IsDeliver, IsAll, IsHand, IsRun, IsEnter, IsLeave, IsCrash, IsJournal, HasOperands, HasCommand, IsAlone, Spells, Judges}
+use Rattle.q_script.specs.Line.{IsCode, IsWord, IsProgram, IsStore, IsAsk, IsDeliver, IsJournal, HasOperands, HasCommand, IsAlone, Spells, Judges}
 use Rattle.q_script.proofs.Parts.{IsCut, cut_once, never_cut}
 use Rattle.q_script.proofs.Pairs.{followed_once}
 use Rattle.q_script.proofs.Commands.{command_sound, command_again, name_lacks_space}
@@ -25,17 +25,16 @@ pub not_deliver : (s : List ℕ) → ((p : ℕ × ℕ) → IsPair 32 s p → ⊥
 not_deliver s n (Deliver message node) h = n (message, node) h
 not_deliver s n _ h = h
 
-pub not_all : (s : List ℕ) → ((n : ℕ) → IsNumeral s n → ⊥) → (line : ScriptLine) → IsAll s line → ⊥
-not_all s n (All limit) h = n limit h
-not_all s n _ h = h
+part_told : {X : Type 0} (part : List ℕ → X → Type 0) (whole : List ℕ → ScriptLine → Type 0) (s t : List ℕ) (fault : LineFault)
+    → (((x : X) → part t x → ⊥) → (line : ScriptLine) → whole s line → ⊥) → Judges part t (Err fault) → Judges whole s (Err fault)
+part_told part whole s t Form none h = none h
+part_told part whole s t OutOfMemory none h = tt
 
-pub not_hand : (s : List ℕ) → ((n : ℕ) → IsNumeral s n → ⊥) → (line : ScriptLine) → IsHand s line → ⊥
-not_hand s n (Hand node) h = n node h
-not_hand s n _ h = h
-
-pub not_run : (s : List ℕ) → ((n : ℕ) → IsNumeral s n → ⊥) → (line : ScriptLine) → IsRun s line → ⊥
-not_run s n (Run job) h = n job h
-not_run s n _ h = h
+-- where a part of a line is refused, the line is refused for the same cause
+pub part_fails : {X : Type 0} (part : List ℕ → X → Type 0) (whole : List ℕ → ScriptLine → Type 0) (s t : List ℕ) (fault : LineFault) (r : Result ScriptLine LineFault) (e : LineFault)
+    → r ≡ Err e → e ≡ fault → (((x : X) → part t x → ⊥) → (line : ScriptLine) → whole s line → ⊥) → Judges part t (Err fault) → Judges whole s r
+part_fails part whole s t fault r e is same none h =
+    subst (Judges whole s) (sym (is ∙ ap (λ (x : LineFault). let y : Result ScriptLine LineFault = Err x in y) same)) (part_told part whole s t fault none h)
 
 pub not_ask : (s : List ℕ) → ((p : ℕ × List ℕ) → IsFollowed 32 s p → ⊥) → (line : ScriptLine) → IsAsk s line → ⊥
 not_ask s n (Ask node program start) h = n (node, h.0) h.1
@@ -60,18 +59,6 @@ not_code s p f n _ h = h
 pub code_fault : (s : List ℕ) (p : ℕ × List ℕ) (fault : LineFault) → IsFollowed 32 s p → Judges (λ text (code : Vec ℕ Global). IsCode text code.items) p.1 (Err fault) → Judges IsProgram s (Err fault)
 code_fault s p Form f h = not_code s p f h
 code_fault s p OutOfMemory f h = tt
-
-pub not_enter : (s : List ℕ) → ((n : ℕ) → IsNumeral s n → ⊥) → (line : ScriptLine) → IsEnter s line → ⊥
-not_enter s n (Enter node) h = n node h
-not_enter s n _ h = h
-
-pub not_leave : (s : List ℕ) → ((n : ℕ) → IsNumeral s n → ⊥) → (line : ScriptLine) → IsLeave s line → ⊥
-not_leave s n (Leave node) h = n node h
-not_leave s n _ h = h
-
-pub not_crash : (s : List ℕ) → ((n : ℕ) → IsNumeral s n → ⊥) → (line : ScriptLine) → IsCrash s line → ⊥
-not_crash s n (Crash node) h = n node h
-not_crash s n _ h = h
 
 pub not_journal : (s : List ℕ) → ((p : ℕ × List ℕ) → IsFollowed 32 s p → ⊥) → (line : ScriptLine) → IsJournal s line → ⊥
 not_journal s n (Journal node file) h = n (node, string_bytes file) h.0

@@ -1,8 +1,14 @@
 -- The lines of a script, read one after another.
-use Rattle.std.proofs.Common.{◌≡◌, ℕ, suc, ◌+◌, ◌<◌, false, cond, List, [], ◌∷◌, ◌++◌, length, take, drop, get_or, ap, sym, ◌∙◌, subst, inl, inr, arith, refl}
+use Rattle.std.proofs.Common.{◌≡◌, ℕ, suc, ◌+◌, ◌<◌, true, false, lit<, map, Option, Some, cond, List, [], ◌∷◌, ◌++◌, length, take, drop, get_or, ap, sym, ◌∙◌, subst, inl, inr, arith, refl}
 use Rattle.std.specs.Prelude.{Result, Ok, Err}
 use Rattle.std.specs.Result.{is_ok, is_err}
 use Rattle.std.specs.List.{AllZip, onto_first}
+use Rattle.std.specs.Iterator.{Yields}
+use Rattle.std.specs.Str.Iter.{split_steps, split_text, split_has_more, split_pattern}
+use Rattle.std.specs.Str.Pattern.{FindsChar}
+use Rattle.std.proofs.lemmas.Iterator.{YieldsList}
+use Rattle.std.proofs.lemmas.Iterator.Consumers.{YieldsList-turn, YieldsList-so_far}
+use Rattle.std.proofs.lemmas.Iterator.Splits.{YieldsList-from_str_split}
 use Rattle.std.proofs.lemmas.Bool.{ne_eqb}
 use Rattle.std.proofs.lemmas.List.{take-append-drop, drop_more}
 use Rattle.std.proofs.lemmas.List.Splits.{slice_split-cons_no, slice_split-cons_yes}
@@ -21,6 +27,15 @@ first_part [] ys h = slice_split-cons_yes _ 10 ys refl
 first_part (d ∷ ds) ys h = slice_split-cons_no _ d (ds ++ (10 ∷ ys)) (ne_eqb d 10 h.0) ∙ ap (onto_first d) (first_part ds ys h.1)
 
 -- ---- the loop over lines
+
+-- a loop over the parts of a text comes to all of them
+pub road_of : (s items : _) (text : List ℕ) → s ≡ items → split_text {P = ℕ} items ≡ text → split_has_more items ≡ true → split_pattern items ≡ 10 → YieldsList (split_steps FindsChar (λ a b. b ≡ a)) (λ x. x.now) s (parts_of text)
+road_of s items text start is more pattern = YieldsList-from_str_split 10 text (lit< tt) (ap split_text start ∙ is) (ap split_has_more start ∙ more) (ap split_pattern start ∙ pattern)
+
+-- what it has come to so far, and what comes now
+pub turn_of : {S A B : Type 0} {steps : S → Option A → S → Type 0} {v : A → B} {s : S} {all : List B} → YieldsList steps v s all → (xs : List A) (t : S) → Yields steps s xs t → (r : Option A) (u : S) (x : A) → r ≡ Some x → steps t r u
+    → (map v xs ≡ take (length xs) all) × (length xs < length all) × (v x ≡ get_or all (length xs) (v x))
+turn_of road xs t y r u x is p = let now = YieldsList-turn road xs t y r u x is p in (YieldsList-so_far road xs t y, now.0, now.1)
 
 pub zip_push : {A B : Type 0} (R : A → B → Type 0) (xs : List A) (ys : List B) (x : A) (y : B) → AllZip R xs ys → R x y → AllZip R (xs ++ x ∷ []) (ys ++ y ∷ [])
 zip_push R [] [] x y h r = (r, tt)

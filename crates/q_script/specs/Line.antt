@@ -40,35 +40,9 @@ abbrev pub IsDeliver : List ℕ → ScriptLine → Type 0
 IsDeliver text (Deliver message node) = IsPair 32 text (message, node)
 IsDeliver text _ = ⊥
 
--- `LIMIT`
-abbrev pub IsAll : List ℕ → ScriptLine → Type 0
-IsAll text (All limit) = IsNumeral text limit
-IsAll text _ = ⊥
-
--- `NODE`
-abbrev pub IsHand : List ℕ → ScriptLine → Type 0
-IsHand text (Hand node) = IsNumeral text node
-IsHand text _ = ⊥
-
--- `J`
-abbrev pub IsRun : List ℕ → ScriptLine → Type 0
-IsRun text (Run job) = IsNumeral text job
-IsRun text _ = ⊥
-
--- `ID`
-abbrev pub IsEnter : List ℕ → ScriptLine → Type 0
-IsEnter text (Enter node) = IsNumeral text node
-IsEnter text _ = ⊥
-
--- `ID`
-abbrev pub IsLeave : List ℕ → ScriptLine → Type 0
-IsLeave text (Leave node) = IsNumeral text node
-IsLeave text _ = ⊥
-
--- `ID`
-abbrev pub IsCrash : List ℕ → ScriptLine → Type 0
-IsCrash text (Crash node) = IsNumeral text node
-IsCrash text _ = ⊥
+-- one number, of which the event is made
+abbrev pub IsOne : (ℕ → ScriptLine) → List ℕ → ScriptLine → Type 0
+IsOne event text line = (n : ℕ) × IsNumeral text n × (line ≡ event n)
 
 -- `NODE FILE`
 abbrev pub IsJournal : List ℕ → ScriptLine → Type 0
@@ -85,12 +59,12 @@ HasOperands command.Program = IsProgram
 HasOperands command.Store = IsStore
 HasOperands command.Ask = IsAsk
 HasOperands command.Deliver = IsDeliver
-HasOperands command.All = IsAll
-HasOperands command.Hand = IsHand
-HasOperands command.Run = IsRun
-HasOperands command.Enter = IsEnter
-HasOperands command.Leave = IsLeave
-HasOperands command.Crash = IsCrash
+HasOperands command.All = IsOne (λ limit. All limit)
+HasOperands command.Hand = IsOne (λ node. Hand node)
+HasOperands command.Run = IsOne (λ job. Run job)
+HasOperands command.Enter = IsOne (λ id. Enter id)
+HasOperands command.Leave = IsOne (λ id. Leave id)
+HasOperands command.Crash = IsOne (λ id. Crash id)
 HasOperands command.Pairs = HasNone
 HasOperands command.Journal = IsJournal
 

@@ -35,25 +35,18 @@ static COMMANDS: [Command; 12] = [
     Command::Journal,
 ];
 
+/// The word of each command, in the order of these.
+static WORDS: [&str; 12] = [
+    "program", "store", "ask", "deliver", "all", "hand", "run", "enter", "leave", "crash", "pairs",
+    "journal",
+];
+
 impl Command {
     /// The word of a command.
     pub fn name(self) -> &'static str
         ensures { result.now ≡ name self }
     {
-        match self {
-            Command::Program => "program",
-            Command::Store => "store",
-            Command::Ask => "ask",
-            Command::Deliver => "deliver",
-            Command::All => "all",
-            Command::Hand => "hand",
-            Command::Run => "run",
-            Command::Enter => "enter",
-            Command::Leave => "leave",
-            Command::Crash => "crash",
-            Command::Pairs => "pairs",
-            Command::Journal => "journal",
-        }
+        WORDS[self as usize]
     }
 
     /// The command with this word, where there is one.

@@ -1,5 +1,6 @@
 ghost use Rattle.std.specs.Prelude.{◌≡◌, ◌↔◌, IsTrue};
-ghost use Rattle.q_script.specs.Line.{IsCode, IsWord, IsProgram, IsStore, IsAsk, IsDeliver, IsAll, IsHand, IsRun, IsEnter, IsLeave, IsCrash, IsJournal, HasOperands, Judges};
+ghost use Rattle.q_script.specs.Line.{IsCode, IsWord, IsProgram, IsStore, IsAsk, IsDeliver, IsJournal, HasOperands, Judges};
+ghost use Rattle.q_script.specs.Words.{IsNumeral, IsPair};
 
 use crate::command::Command;
 use crate::line::{LineFault, ScriptLine};
@@ -37,10 +38,8 @@ fn program(alloc: Global, text: &str) -> Result<ScriptLine, LineFault>
 fn store(text: &str) -> Result<ScriptLine, LineFault>
     ensures { Judges IsStore text.now result }
 {
-    match pair(text, ' ') {
-        Some((node, value)) => Ok(ScriptLine::Store { node, value }),
-        None => Err(LineFault::Form),
-    }
+    let (node, value) = two(text)?;
+    Ok(ScriptLine::Store { node, value })
 }
 
 fn ask(text: &str) -> Result<ScriptLine, LineFault>
@@ -49,75 +48,37 @@ fn ask(text: &str) -> Result<ScriptLine, LineFault>
     let Some((node, rest)) = leading(text, ' ') else {
         return Err(LineFault::Form);
     };
-    match pair(rest, ' ') {
-        Some((program, start)) => Ok(ScriptLine::Ask {
-            node,
-            program,
-            start,
-        }),
-        None => Err(LineFault::Form),
-    }
+    let (program, start) = two(rest)?;
+    Ok(ScriptLine::Ask {
+        node,
+        program,
+        start,
+    })
 }
 
 fn deliver(text: &str) -> Result<ScriptLine, LineFault>
     ensures { Judges IsDeliver text.now result }
 {
+    let (message, node) = two(text)?;
+    Ok(ScriptLine::Deliver { message, node })
+}
+
+/// The two numbers with a space between that are operands of a command.
+fn two(text: &str) -> Result<(u64, u64), LineFault>
+    ensures { Judges (IsPair 32) text.now result }
+{
     match pair(text, ' ') {
-        Some((message, node)) => Ok(ScriptLine::Deliver { message, node }),
+        Some(numbers) => Ok(numbers),
         None => Err(LineFault::Form),
     }
 }
 
-fn all(text: &str) -> Result<ScriptLine, LineFault>
-    ensures { Judges IsAll text.now result }
+/// The one number that is the operand of a command.
+fn one(text: &str) -> Result<u64, LineFault>
+    ensures { Judges IsNumeral text.now result }
 {
     match number(text) {
-        Some(limit) => Ok(ScriptLine::All { limit }),
-        None => Err(LineFault::Form),
-    }
-}
-
-fn hand(text: &str) -> Result<ScriptLine, LineFault>
-    ensures { Judges IsHand text.now result }
-{
-    match number(text) {
-        Some(node) => Ok(ScriptLine::Hand { node }),
-        None => Err(LineFault::Form),
-    }
-}
-
-fn run(text: &str) -> Result<ScriptLine, LineFault>
-    ensures { Judges IsRun text.now result }
-{
-    match number(text) {
-        Some(job) => Ok(ScriptLine::Run { job }),
-        None => Err(LineFault::Form),
-    }
-}
-
-fn enter(text: &str) -> Result<ScriptLine, LineFault>
-    ensures { Judges IsEnter text.now result }
-{
-    match number(text) {
-        Some(node) => Ok(ScriptLine::Enter { node }),
-        None => Err(LineFault::Form),
-    }
-}
-
-fn leave(text: &str) -> Result<ScriptLine, LineFault>
-    ensures { Judges IsLeave text.now result }
-{
-    match number(text) {
-        Some(node) => Ok(ScriptLine::Leave { node }),
-        None => Err(LineFault::Form),
-    }
-}
-
-fn crash(text: &str) -> Result<ScriptLine, LineFault>
-    ensures { Judges IsCrash text.now result }
-{
-    match number(text) {
-        Some(node) => Ok(ScriptLine::Crash { node }),
+        Some(number) => Ok(number),
         None => Err(LineFault::Form),
     }
 }
@@ -156,12 +117,12 @@ pub fn operands(alloc: Global, command: Command, text: &str) -> Result<ScriptLin
         Command::Store => store(text),
         Command::Ask => ask(text),
         Command::Deliver => deliver(text),
-        Command::All => all(text),
-        Command::Hand => hand(text),
-        Command::Run => run(text),
-        Command::Enter => enter(text),
-        Command::Leave => leave(text),
-        Command::Crash => crash(text),
+        Command::All => Ok(ScriptLine::All { limit: one(text)? }),
+        Command::Hand => Ok(ScriptLine::Hand { node: one(text)? }),
+        Command::Run => Ok(ScriptLine::Run { job: one(text)? }),
+        Command::Enter => Ok(ScriptLine::Enter { node: one(text)? }),
+        Command::Leave => Ok(ScriptLine::Leave { node: one(text)? }),
+        Command::Crash => Ok(ScriptLine::Crash { node: one(text)? }),
         Command::Pairs => Err(LineFault::Form),
         Command::Journal => journal(alloc, text),
     }

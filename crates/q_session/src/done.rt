@@ -1,7 +1,7 @@
 //! Jobs that were run.
 
 ghost use Rattle.std.specs.Prelude.{◌≡◌};
-ghost use Rattle.q_session.specs.Done.{IsFinished};
+ghost use Rattle.q_session.specs.Done.{Finished, IsFinished, finished_code};
 ghost use Rattle.q_session.specs.Right.{IsRight};
 
 use crate::job::Job;
@@ -18,8 +18,6 @@ pub struct Done {
 }
 
 impl Model for Done {
-    ghost use Rattle.q_session.specs.Done.{Finished, IsFinished, finished_code};
-
     ghost Value = { Finished };
 
     ghost coded = { finished_code };

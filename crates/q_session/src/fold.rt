@@ -31,10 +31,7 @@ pub fn fold_checked(certified: &Certified, view: &View, start: u64) -> Ran
     let _longest = certified.longest();
     let mut frame = [0; FRAME_LENGTH];
     let mut bytes = [0; RECORD_ROOM];
-    let mut ran = Ran {
-        acc: start,
-        steps: 0,
-    };
+    let mut ran = Ran::begun(start);
     for (id, stored) in view.records() {
         appended();
         let length = write_record(&mut bytes, id, &stored);

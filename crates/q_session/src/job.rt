@@ -1,7 +1,9 @@
 //! Jobs.
 
 ghost use Rattle.std.specs.Prelude.{◌≡◌, IfOk, option_copied};
-ghost use Rattle.q_session.specs.Jobs.{job_of, view_in, IsJob, MayRun};
+ghost use Rattle.std.specs.Coded.{codes};
+ghost use Rattle.sc_view.specs.Views.{view_code};
+ghost use Rattle.q_session.specs.Jobs.{JobValue, job_of, view_in, IsJob, MayRun};
 
 use crate::query::{Phase, Query};
 use crate::shared_view::SharedView;
@@ -24,10 +26,6 @@ pub struct Job {
 }
 
 impl Model for Job {
-    ghost use Rattle.std.specs.Coded.{codes};
-    ghost use Rattle.sc_view.specs.Views.{view_code};
-    ghost use Rattle.q_session.specs.Jobs.{JobValue, IsJob};
-
     ghost Value = { JobValue };
 
     ghost coded = { Prim.hlevel (codes, view_code) };
@@ -109,8 +107,6 @@ impl Job {
 }
 
 impl Clone for Job {
-    ghost use Rattle.std.specs.Prelude.{◌≡◌};
-
     ghost is_clone = { λ job copy. copy ≡ job };
 
     fn clone(&self) -> Result<Job, AllocError> {

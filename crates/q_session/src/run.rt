@@ -24,10 +24,7 @@ pub fn run_fold(certified: &Certified, view: &View, start: u64, block: &mut Bloc
     block.is_block();
     block.clear_frame();
     let mut bytes = [0; RECORD_ROOM];
-    let mut ran = Ran {
-        acc: start,
-        steps: 0,
-    };
+    let mut ran = Ran::begun(start);
     for (id, stored) in view.records() {
         appended();
         let length = write_record(&mut bytes, id, &stored);

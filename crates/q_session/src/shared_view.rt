@@ -43,8 +43,6 @@ impl SharedView {
 }
 
 impl Clone for SharedView {
-    ghost use Rattle.std.specs.Prelude.{◌≡◌};
-
     ghost is_clone = { λ shared copy. copy ≡ shared };
 
     fn clone(&self) -> Result<SharedView, AllocError> {

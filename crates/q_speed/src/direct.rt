@@ -7,7 +7,7 @@ use bq_check::certified::Certified;
 use bq_frame::block::Block;
 use bq_meaning::placement::{FRAME_LENGTH, Placement, RECORD_LENGTH};
 use bq_run::run::run;
-use q_speed_program::folded::{Folded, Work};
+use q_speed_program::folded::{Folded, Way};
 use q_speed_program::program::certified;
 use std::alloc::Global;
 
@@ -30,18 +30,6 @@ fn fold_by_loop(certified: &Certified, records: &[u8], folded: &mut Folded, bloc
     }
 }
 
-/// So many folds by the loop.
-pub(crate) fn by_loop(alloc: Global, work: &Work) -> Option<Folded> {
-    let certified = certified(alloc, work.program)?;
-    let mut block = Block::new(alloc).ok()?;
-    let mut folded = Folded::from_start(work.start);
-    for _ in 0..work.folds {
-        folded.acc = work.start;
-        fold_by_loop(&certified, work.records, &mut folded, &mut block);
-    }
-    Some(folded)
-}
-
 /// One fold by the machine.
 fn fold_by_machine(
     certified: &Certified,
@@ -60,14 +48,19 @@ fn fold_by_machine(
     }
 }
 
-/// So many folds by the machine.
-pub(crate) fn by_machine(alloc: Global, work: &Work) -> Option<Folded> {
-    let certified = certified(alloc, work.program)?;
+/// So many folds.
+pub(crate) fn folded(alloc: Global, program: &[u8], records: &[u8], way: &Way) -> Option<Folded> {
+    let certified = certified(alloc, program)?;
     let placement = Placement::new(FRAME, RECORD)?;
-    let mut folded = Folded::from_start(work.start);
-    for _ in 0..work.folds {
-        folded.acc = work.start;
-        fold_by_machine(&certified, &placement, work.records, &mut folded);
+    let mut block = Block::new(alloc).ok()?;
+    let mut folded = Folded::from_start(way.start);
+    for _ in 0..way.folds {
+        folded.acc = way.start;
+        if way.is_tested {
+            fold_by_machine(&certified, &placement, records, &mut folded);
+        } else {
+            fold_by_loop(&certified, records, &mut folded, &mut block);
+        }
     }
     Some(folded)
 }

@@ -13,7 +13,7 @@
 mod direct;
 
 use bq_insn::encode::encode;
-use q_speed_program::folded::{Folded, REFUSED, Work};
+use q_speed_program::folded::{Folded, REFUSED, Way};
 use q_speed_program::program::assembled;
 use std::alloc::Global;
 
@@ -34,38 +34,8 @@ pub extern "C" fn q_speed_assemble(alloc: Global, source: &[u8], buffer: &mut [u
     count
 }
 
-/// Folds by the loop without tests, over the records as they lie there.
+/// Folds a program over the records as they lie there.
 #[unsafe(no_mangle)]
-pub extern "C" fn q_speed_loop(
-    alloc: Global,
-    program: &[u8],
-    records: &[u8],
-    start: u64,
-    folds: u64,
-) -> Folded {
-    let work = Work {
-        program,
-        records,
-        start,
-        folds,
-    };
-    direct::by_loop(alloc, &work).unwrap_or(REFUSED)
-}
-
-/// Folds by the machine that tests every access, over the records as they lie there.
-#[unsafe(no_mangle)]
-pub extern "C" fn q_speed_machine(
-    alloc: Global,
-    program: &[u8],
-    records: &[u8],
-    start: u64,
-    folds: u64,
-) -> Folded {
-    let work = Work {
-        program,
-        records,
-        start,
-        folds,
-    };
-    direct::by_machine(alloc, &work).unwrap_or(REFUSED)
+pub extern "C" fn q_speed_flat(alloc: Global, program: &[u8], records: &[u8], way: &Way) -> Folded {
+    direct::folded(alloc, program, records, way).unwrap_or(REFUSED)
 }

@@ -1,16 +1,15 @@
 //! Folds to be made, and what they come to.
 
-/// A program's bytes, to be folded over records from a start value, so many times.
+/// How a program is folded over records.
+#[repr(C)]
 #[derive(Clone, Copy)]
-pub struct Work<'a> {
-    /// The program's bytes.
-    pub program: &'a [u8],
-    /// Records of 64 bytes each.
-    pub records: &'a [u8],
+pub struct Way {
     /// What each fold begins with.
     pub start: u64,
     /// How many folds are made, one behind the other.
     pub folds: u64,
+    /// Whether the machine that tests every access makes them, in place of the loop without tests.
+    pub is_tested: bool,
 }
 
 /// What the folds came to.

@@ -7,41 +7,11 @@
 
 mod viewed;
 
-use q_speed_program::folded::{Folded, REFUSED, Work};
+use q_speed_program::folded::{Folded, REFUSED, Way};
 use std::alloc::Global;
 
-/// Folds by the loop without tests, over a view.
+/// Folds a program over a view of the records.
 #[unsafe(no_mangle)]
-pub extern "C" fn q_speed_run_fold(
-    alloc: Global,
-    program: &[u8],
-    records: &[u8],
-    start: u64,
-    folds: u64,
-) -> Folded {
-    let work = Work {
-        program,
-        records,
-        start,
-        folds,
-    };
-    viewed::by_loop(alloc, &work).unwrap_or(REFUSED)
-}
-
-/// Folds by the machine that tests every access, over a view.
-#[unsafe(no_mangle)]
-pub extern "C" fn q_speed_fold_checked(
-    alloc: Global,
-    program: &[u8],
-    records: &[u8],
-    start: u64,
-    folds: u64,
-) -> Folded {
-    let work = Work {
-        program,
-        records,
-        start,
-        folds,
-    };
-    viewed::by_machine(alloc, &work).unwrap_or(REFUSED)
+pub extern "C" fn q_speed_view(alloc: Global, program: &[u8], records: &[u8], way: &Way) -> Folded {
+    viewed::folded(alloc, program, records, way).unwrap_or(REFUSED)
 }

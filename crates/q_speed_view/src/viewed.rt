@@ -9,7 +9,7 @@ use bq_meaning::placement::RECORD_LENGTH;
 use q_session::fold::fold_checked;
 use q_session::laws::records_of_values;
 use q_session::run::run_fold;
-use q_speed_program::folded::{Folded, Work};
+use q_speed_program::folded::{Folded, Way};
 use q_speed_program::program::certified;
 use sc_view::value::{VALUE_LENGTH, Value};
 use sc_view::view::{Stored, View};
@@ -41,29 +41,19 @@ fn view_of(alloc: Global, records: &[u8]) -> Option<View>
     Some(view)
 }
 
-/// So many folds by the loop.
-pub(crate) fn by_loop(alloc: Global, work: &Work) -> Option<Folded> {
-    let certified = certified(alloc, work.program)?;
-    let view = view_of(alloc, work.records)?;
+/// So many folds.
+pub(crate) fn folded(alloc: Global, program: &[u8], records: &[u8], way: &Way) -> Option<Folded> {
+    let certified = certified(alloc, program)?;
+    let view = view_of(alloc, records)?;
     records_of_values();
     let mut block = Block::new(alloc).ok()?;
-    let mut folded = Folded::from_start(work.start);
-    for _ in 0..work.folds {
-        let ran = run_fold(&certified, &view, work.start, &mut block);
-        folded.acc = ran.acc;
-        folded.steps = folded.steps.wrapping_add(ran.steps);
-    }
-    Some(folded)
-}
-
-/// So many folds by the machine.
-pub(crate) fn by_machine(alloc: Global, work: &Work) -> Option<Folded> {
-    let certified = certified(alloc, work.program)?;
-    let view = view_of(alloc, work.records)?;
-    records_of_values();
-    let mut folded = Folded::from_start(work.start);
-    for _ in 0..work.folds {
-        let ran = fold_checked(&certified, &view, work.start);
+    let mut folded = Folded::from_start(way.start);
+    for _ in 0..way.folds {
+        let ran = if way.is_tested {
+            fold_checked(&certified, &view, way.start)
+        } else {
+            run_fold(&certified, &view, way.start, &mut block)
+        };
         folded.acc = ran.acc;
         folded.steps = folded.steps.wrapping_add(ran.steps);
     }

@@ -44,19 +44,26 @@ impl<T> Counted<T> {
     }
 }
 
+/// A call, made again while a signal interrupts it.
+macro_rules! through {
+    ($calls:lifetime: $call:expr) => {{
+        $calls: for _ in 0..u64::MAX {
+            match $call {
+                Ok(n) => return Ok(n),
+                Err(error) if error.kind() == ErrorKind::Interrupted => {}
+                Err(error) => return Err(error),
+            }
+        }
+        Err(io::Error::from(ErrorKind::Interrupted))
+    }};
+}
+
 /// A read, made again while a signal interrupts it.
 fn read_through<R: Read>(reader: &mut R, buf: &mut [u8]) -> io::Result<usize>
     ensures bound { ReadsAtMost result buf.new }
     ensures bytes { ReadConsumes (R.remaining reader.old) (R.remaining reader.new) result buf.new }
 {
-    'reads: for _ in 0..u64::MAX {
-        match reader.read(buf) {
-            Ok(n) => return Ok(n),
-            Err(error) if error.kind() == ErrorKind::Interrupted => {}
-            Err(error) => return Err(error),
-        }
-    }
-    Err(io::Error::from(ErrorKind::Interrupted))
+    through!('reads: reader.read(buf))
 }
 
 /// A write, made again while a signal interrupts it.
@@ -64,14 +71,7 @@ fn write_through<W: Write>(writer: &mut W, buf: &[u8]) -> io::Result<usize>
     ensures bound { WritesAtMost result buf.now }
     ensures bytes { WriteAppends (W.contents writer.old) (W.contents writer.new) result buf.now }
 {
-    'writes: for _ in 0..u64::MAX {
-        match writer.write(buf) {
-            Ok(n) => return Ok(n),
-            Err(error) if error.kind() == ErrorKind::Interrupted => {}
-            Err(error) => return Err(error),
-        }
-    }
-    Err(io::Error::from(ErrorKind::Interrupted))
+    through!('writes: writer.write(buf))
 }
 
 impl<R: Read> Read for Counted<R> {

@@ -7,7 +7,7 @@ use Rattle.std.proofs.lemmas.Fmt.{decimal_injective}
 use Rattle.bq_range.specs.Interval.{Interval, between}
 use Rattle.bq_state.specs.Kinds.{AreLengths}
 use Rattle.q_script.specs.Words as words
-use Rattle.clap.specs.Words.{App, fault_of, subcommand_of, Row, Shape, Text, found_of, is_simple, is_simple_and_free, rows_of, subcommand_rows}
+use Rattle.clap.specs.Words.{App, HasMatchesOf, fault_of, subcommand_name_of, subcommand_of, Row, Shape, Text, found_of, is_simple, is_simple_and_free, rows_of, subcommand_rows, subcommand_rows_of}
 use Rattle.clap.specs.Simple.{argument_words, built, entered, label_of, names_of, rows_at}
 use Rattle.clap.specs.Walk.{answers_to, stop_after}
 use Rattle.clap.specs.Words.{app_of, with_subcommand}
@@ -16,18 +16,19 @@ use Rattle.clap.specs.declared.builder.arg.Arg.{Arg}
 use Rattle.clap.specs.declared.builder.command.Command.{Command}
 use Rattle.clap.specs.declared.builder.command.Command.TheViews.{out-Command}
 use Rattle.clap.specs.declared.parser.matches.SubCommand.{SubCommand}
-use Rattle.clap.specs.declared.parser.matches.ArgMatches.TheViews.{out-SubCommand}
+use Rattle.clap.specs.declared.parser.matches.ArgMatches.{ArgMatches}
+use Rattle.clap.specs.declared.parser.matches.ArgMatches.TheViews.{out-ArgMatches, out-SubCommand}
 use Rattle.clap.proofs.OnLiterals.{clap_on_literals}
 use Rattle.q_words.specs.declared.words.Wanted.{Wanted}
 use Rattle.q_words.specs.declared.words.WordsFault.{WordsFault}
 use Rattle.q_words.specs.declared.words.WordsFault.TheVariants.{Help, Wrong, BadStart, BadLengths, OutOfMemory}
 use Rattle.q_words.specs.Words.{bqview, operand_of, AreBad, AreGiven, AreGivenFor, IsMet, HasLineFault, Reads}
 
-pub simple : is_simple bqview ≡ true
+simple : is_simple bqview ≡ true
 unfolding clap_on_literals
 simple = refl
 
-pub free : is_simple_and_free bqview ≡ true
+free : is_simple_and_free bqview ≡ true
 unfolding clap_on_literals
 free = refl
 
@@ -39,7 +40,7 @@ no_some : {X : Type 0} {x : X} → None ≡ Some x → ⊥
 no_some e = subst is_met (sym e) tt
 
 -- what was met, from its name and what was found for its operands
-pub met_rows : {Z : Type 0} (o : Option (Box SubCommand Z)) (name : Text) (rows : List Row)
+met_rows : {Z : Type 0} (o : Option (Box SubCommand Z)) (name : Text) (rows : List Row)
     → option_map (λ b. (out-SubCommand (box_value b)).name.now) o ≡ Some name
     → option_map (λ p. p.1) (subcommand_rows o) ≡ Some rows → subcommand_rows o ≡ Some (name, rows)
 met_rows None name rows e f = absurd (no_some e)
@@ -50,8 +51,12 @@ pub operand_text : (o : Option (Bor Text)) (d file : Bor Text) (t : Option Text)
 operand_text None d file t e f g = ap (λ s. s.now) f ∙ g ∙ ap (λ x. unwrap_or x []) e
 operand_text (Some s) d file t e f g = ap (λ s. s.now) f ∙ ap (λ x. unwrap_or x []) e
 
+-- what the parser found is what the words of `bqview` say
+pub found_said : {a : App} (m : ArgMatches) (words : List Text) → a ≡ bqview → HasMatchesOf a words m → subcommand_rows_of m ≡ subcommand_of bqview words
+found_said m words is matches = (matches (ap is_simple is ∙ simple)).1 ∙ ap (λ (x : App). subcommand_of x words) is
+
 -- what was said was met
-pub was_met : (P : Text × List Row → Type 0) (said : Option (Text × List Row)) (met : Text × List Row) → said ≡ Some met → P met → IsSomeAnd said P
+was_met : (P : Text × List Row → Type 0) (said : Option (Text × List Row)) (met : Text × List Row) → said ≡ Some met → P met → IsSomeAnd said P
 was_met P said met e h = subst (λ o. IsSomeAnd o P) (sym e) h
 
 -- ---- which commands there are
@@ -128,15 +133,23 @@ pub made : {E : Type 0} (r : Result Command E) (x y : App) (g : Bool) → IfOk r
 made (Ok c) x y g h k e f = (h ∙ e, k ∙ f)
 made (Err d) x y g h k e f = tt
 
--- what is read of `check` or `run`
-pub line_read : (words : List Text) (r : Result Wanted WordsFault) (met : Text × List Row) → fault_of bqview words ≡ [] → subcommand_of bqview words ≡ Some met
+-- what is read where this command was met
+read_so : (words : List Text) (r : Result Wanted WordsFault) (met : Text × List Row) → fault_of bqview words ≡ [] → subcommand_of bqview words ≡ Some met
     → MatchResult r (λ asked. IsMet asked met) (λ e. HasLineFault e met) → Reads words r
-line_read words (Ok asked) met n s h = (n, was_met (IsMet asked) _ met s h)
-line_read words (Err BadStart) met n s h = (n, was_met (HasLineFault BadStart) _ met s h)
-line_read words (Err BadLengths) met n s h = (n, was_met (HasLineFault BadLengths) _ met s h)
-line_read words (Err (Help e)) met n s h = absurd h
-line_read words (Err (Wrong e)) met n s h = absurd h
-line_read words (Err OutOfMemory) met n s h = absurd h
+read_so words (Ok asked) met n s h = (n, was_met (IsMet asked) _ met s h)
+read_so words (Err BadStart) met n s h = (n, was_met (HasLineFault BadStart) _ met s h)
+read_so words (Err BadLengths) met n s h = (n, was_met (HasLineFault BadLengths) _ met s h)
+read_so words (Err (Help e)) met n s h = absurd h
+read_so words (Err (Wrong e)) met n s h = absurd h
+read_so words (Err OutOfMemory) met n s h = absurd h
+
+-- the parser met the command of this name
+pub was_named : {a : App} (m : ArgMatches) (words : List Text) → a ≡ bqview → (is_simple_and_free a ≡ true → fault_of a words ≡ []) → HasMatchesOf a words m
+    → (name : Text) (rows : List Row) → subcommand_name_of m ≡ Some name → option_map (λ p. p.1) (subcommand_rows_of m) ≡ Some rows
+    → (r : Result Wanted WordsFault) → MatchResult r (λ asked. IsMet asked (name, rows)) (λ e. HasLineFault e (name, rows)) → Reads words r
+was_named m words is kinds matches name rows named found r h =
+    read_so words r (name, rows) (subst (λ (x : App). fault_of x words ≡ []) is (kinds (ap is_simple_and_free is ∙ free)))
+    (sym (found_said m words is matches) ∙ met_rows (out-ArgMatches m).subcommand name rows named found) h
 
 -- ---- lengths of records
 

@@ -6,7 +6,8 @@ ghost use Rattle.bq_range.specs.Interval.{between};
 ghost use Rattle.bq_state.specs.Kinds.{AreLengths};
 ghost use Rattle.clap.specs.Words.{app_of, found_of, rows_of, with_rule, with_subcommand};
 ghost use Rattle.clap.specs.declared.builder.command.Command.TheViews.{out-Command};
-ghost use Rattle.q_words.specs.Words.{asm_app, check_app, run_app, sim_app, cluster_app, audit_app, bare_app, bqview, operand, option, with_lengths, operand_of, AreGiven, AreBad, HasLineFault, IsMet, Reads, exit_status};
+ghost use Rattle.q_words.specs.declared.words.WordsFault.TheVariants.{OutOfMemory};
+ghost use Rattle.q_words.specs.Words.{asm_app, check_app, run_app, sim_app, cluster_app, audit_app, bare_app, bqview, operand, option, with_lengths, operand_of, AreGiven, AreBad, HasLineFault, IsMet, Reads, Tells, exit_status};
 
 use bq_state::bounds::Bounds;
 use clap::error::ErrorKind;
@@ -100,8 +101,6 @@ impl WordsFault {
 }
 
 impl From<Error> for WordsFault {
-    ghost use Rattle.q_words.specs.Words.{Tells};
-
     ghost from_gives = { Tells };
 
     fn from(error: Error) -> Self {
@@ -114,9 +113,6 @@ impl From<Error> for WordsFault {
 }
 
 impl From<AllocError> for WordsFault {
-    ghost use Rattle.std.specs.Prelude.{◌≡◌};
-    ghost use Rattle.q_words.specs.declared.words.WordsFault.TheVariants.{OutOfMemory};
-
     ghost from_gives = { λ _ e. e ≡ OutOfMemory };
 
     fn from(_error: AllocError) -> Self {

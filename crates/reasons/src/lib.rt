@@ -30,8 +30,8 @@ macro_rules! told {
     };
 }
 
-/// The fault of another type that stands for a fault of this one: the variant of the same name, or of the name behind
-/// `=>`; `else` names the one of all others.
+/// The value of another type that stands for one of this type, as a fault may stand for another: the variant of the
+/// same name, or of the name behind `=>`; `else` names the one of all others.
 #[macro_export]
 macro_rules! passed_on {
     (@ $to:ident $name:ident) => { $to::$name };
@@ -44,153 +44,88 @@ macro_rules! passed_on {
     };
 }
 
-/// Why something is refused, in the order of numbers.
+/// Why something is refused, each with its number, in the order of these.
 #[derive(Clone, Copy, Debug, PartialEq, Eq)]
 pub enum Reason {
     // Texts of instructions, and sources of the assembler.
-    /// 1.
-    BadLength,
-    /// 2.
-    TooLong,
-    /// 3.
-    BadOpcode,
-    /// 4.
-    BadRegister,
-    /// 5.
-    UnusedField,
-    /// 6.
-    BadField,
-    /// 7.
-    CutWide,
-    /// 8.
-    LeftOut,
-    /// 9.
-    Syntax,
-    /// 10.
-    Label,
+    BadLength = 1,
+    TooLong = 2,
+    BadOpcode = 3,
+    BadRegister = 4,
+    UnusedField = 5,
+    BadField = 6,
+    CutWide = 7,
+    LeftOut = 8,
+    Syntax = 9,
+    Label = 10,
     // The flow of a text.
-    /// 11.
-    Backward,
-    /// 12.
-    OutsideText,
-    /// 13.
-    IntoWide,
-    /// 14.
-    FallsOff,
+    Backward = 11,
+    OutsideText = 12,
+    IntoWide = 13,
+    FallsOff = 14,
     // Notes and the rules of the checker.
-    /// 21.
-    WrongCount,
-    /// 22.
-    Entry,
-    /// 23.
-    UnsetRegister,
-    /// 24.
-    WrongKind,
-    /// 25.
-    OutsideFrame,
-    /// 26.
-    OutsideRecord,
-    /// 27.
-    RecordWritten,
-    /// 28.
-    FramePointerWritten,
-    /// 29.
-    NotCovered,
-    /// 30.
-    AnswerKind,
-    /// 31.
-    NoteForm,
+    WrongCount = 21,
+    Entry = 22,
+    UnsetRegister = 23,
+    WrongKind = 24,
+    OutsideFrame = 25,
+    OutsideRecord = 26,
+    RecordWritten = 27,
+    FramePointerWritten = 28,
+    NotCovered = 29,
+    AnswerKind = 30,
+    NoteForm = 31,
     // Calls of nodes and views.
-    /// 41.
-    NotJoined,
-    /// 42.
-    Gone,
-    /// 43.
-    SessionsFull,
-    /// 44.
-    IdUsed,
-    /// 45.
-    BadFraction,
-    /// 46.
-    ViewFull,
-    /// 47.
-    FactsFull,
-    /// 48.
-    NumbersOut,
-    /// 49.
-    BadFounders,
+    NotJoined = 41,
+    Gone = 42,
+    SessionsFull = 43,
+    IdUsed = 44,
+    BadFraction = 45,
+    ViewFull = 46,
+    FactsFull = 47,
+    NumbersOut = 48,
+    BadFounders = 49,
     // Programs, queries and journals.
-    /// 50.
-    BadValue,
-    /// 51.
-    UnknownProgram,
-    /// 52.
-    TableFull,
-    /// 53.
-    BookFull,
-    /// 54.
-    NoSuchQuery,
-    /// 55.
-    Stranger,
-    /// 56.
-    AlreadyAnswered,
-    /// 57.
-    JournalForm,
-    /// 58.
-    JournalMismatch,
-    /// 59.
-    WrongBounds,
+    BadValue = 50,
+    UnknownProgram = 51,
+    TableFull = 52,
+    BookFull = 53,
+    NoSuchQuery = 54,
+    Stranger = 55,
+    AlreadyAnswered = 56,
+    JournalForm = 57,
+    JournalMismatch = 58,
+    WrongBounds = 59,
     // Job boards.
-    /// 61.
-    RowFull,
-    /// 62.
-    BadCount,
+    RowFull = 61,
+    BadCount = 62,
     // Messages and records.
-    /// 71.
-    BadHead,
-    /// 72.
-    Short,
-    /// 73 TooLong.
-    LongMessage,
-    /// 74.
-    BadKind,
-    /// 75.
-    Unsorted,
-    /// 76.
-    Extra,
-    /// 77 BadField.
-    MessageField,
+    BadHead = 71,
+    Short = 72,
+    /// Told as `TooLong`.
+    LongMessage = 73,
+    BadKind = 74,
+    Unsorted = 75,
+    Extra = 76,
+    /// Told as `BadField`.
+    MessageField = 77,
     // Events, requests, transports and files.
-    /// 81.
-    NoSuchNode,
-    /// 82.
-    NeverSent,
-    /// 83.
-    NoSuchJob,
-    /// 84.
-    BadRequest,
-    /// 85.
-    CutRequest,
-    /// 86.
-    TransportFailed,
-    /// 87.
-    FileFailed,
+    NoSuchNode = 81,
+    NeverSent = 82,
+    NoSuchJob = 83,
+    BadRequest = 84,
+    CutRequest = 85,
+    TransportFailed = 86,
+    FileFailed = 87,
     // Runs that test each access.
-    /// 91.
-    ReadUnset,
-    /// 92.
-    WroteFramePointer,
-    /// 93.
-    OutsideAccess,
-    /// 94.
-    WroteRecord,
-    /// 95.
-    BadPlace,
-    /// 96.
-    StepsOut,
+    ReadUnset = 91,
+    WroteFramePointer = 92,
+    OutsideAccess = 93,
+    WroteRecord = 94,
+    BadPlace = 95,
+    StepsOut = 96,
     // Memory.
-    /// 99.
-    OutOfMemory,
+    OutOfMemory = 99,
 }
 
 impl Reason {
@@ -270,93 +205,86 @@ impl Reason {
         ]
     }
 
-    fn row(self) -> (u8, &'static str)
-        ensures number { result.0 ≡ number self }
-        ensures name { result.1.now ≡ name self }
-    {
-        match self {
-            Reason::BadLength => (1, "BadLength"),
-            Reason::TooLong => (2, "TooLong"),
-            Reason::BadOpcode => (3, "BadOpcode"),
-            Reason::BadRegister => (4, "BadRegister"),
-            Reason::UnusedField => (5, "UnusedField"),
-            Reason::BadField => (6, "BadField"),
-            Reason::CutWide => (7, "CutWide"),
-            Reason::LeftOut => (8, "LeftOut"),
-            Reason::Syntax => (9, "Syntax"),
-            Reason::Label => (10, "Label"),
-            Reason::Backward => (11, "Backward"),
-            Reason::OutsideText => (12, "OutsideText"),
-            Reason::IntoWide => (13, "IntoWide"),
-            Reason::FallsOff => (14, "FallsOff"),
-            Reason::WrongCount => (21, "WrongCount"),
-            Reason::Entry => (22, "Entry"),
-            Reason::UnsetRegister => (23, "UnsetRegister"),
-            Reason::WrongKind => (24, "WrongKind"),
-            Reason::OutsideFrame => (25, "OutsideFrame"),
-            Reason::OutsideRecord => (26, "OutsideRecord"),
-            Reason::RecordWritten => (27, "RecordWritten"),
-            Reason::FramePointerWritten => (28, "FramePointerWritten"),
-            Reason::NotCovered => (29, "NotCovered"),
-            Reason::AnswerKind => (30, "AnswerKind"),
-            Reason::NoteForm => (31, "NoteForm"),
-            Reason::NotJoined => (41, "NotJoined"),
-            Reason::Gone => (42, "Gone"),
-            Reason::SessionsFull => (43, "SessionsFull"),
-            Reason::IdUsed => (44, "IdUsed"),
-            Reason::BadFraction => (45, "BadFraction"),
-            Reason::ViewFull => (46, "ViewFull"),
-            Reason::FactsFull => (47, "FactsFull"),
-            Reason::NumbersOut => (48, "NumbersOut"),
-            Reason::BadFounders => (49, "BadFounders"),
-            Reason::BadValue => (50, "BadValue"),
-            Reason::UnknownProgram => (51, "UnknownProgram"),
-            Reason::TableFull => (52, "TableFull"),
-            Reason::BookFull => (53, "BookFull"),
-            Reason::NoSuchQuery => (54, "NoSuchQuery"),
-            Reason::Stranger => (55, "Stranger"),
-            Reason::AlreadyAnswered => (56, "AlreadyAnswered"),
-            Reason::JournalForm => (57, "JournalForm"),
-            Reason::JournalMismatch => (58, "JournalMismatch"),
-            Reason::WrongBounds => (59, "WrongBounds"),
-            Reason::RowFull => (61, "RowFull"),
-            Reason::BadCount => (62, "BadCount"),
-            Reason::BadHead => (71, "BadHead"),
-            Reason::Short => (72, "Short"),
-            Reason::LongMessage => (73, "TooLong"),
-            Reason::BadKind => (74, "BadKind"),
-            Reason::Unsorted => (75, "Unsorted"),
-            Reason::Extra => (76, "Extra"),
-            Reason::MessageField => (77, "BadField"),
-            Reason::NoSuchNode => (81, "NoSuchNode"),
-            Reason::NeverSent => (82, "NeverSent"),
-            Reason::NoSuchJob => (83, "NoSuchJob"),
-            Reason::BadRequest => (84, "BadRequest"),
-            Reason::CutRequest => (85, "CutRequest"),
-            Reason::TransportFailed => (86, "TransportFailed"),
-            Reason::FileFailed => (87, "FileFailed"),
-            Reason::ReadUnset => (91, "ReadUnset"),
-            Reason::WroteFramePointer => (92, "WroteFramePointer"),
-            Reason::OutsideAccess => (93, "OutsideAccess"),
-            Reason::WroteRecord => (94, "WroteRecord"),
-            Reason::BadPlace => (95, "BadPlace"),
-            Reason::StepsOut => (96, "StepsOut"),
-            Reason::OutOfMemory => (99, "OutOfMemory"),
-        }
-    }
-
     /// The number by which it is told.
     pub fn number(self) -> u8
         ensures { result ≡ number self }
     {
-        self.row().0
+        self as u8
     }
 
     /// The name by which it is told.
     pub fn name(self) -> &'static str
         ensures { result.now ≡ name self }
     {
-        self.row().1
+        match self {
+            Reason::BadLength => "BadLength",
+            Reason::TooLong => "TooLong",
+            Reason::BadOpcode => "BadOpcode",
+            Reason::BadRegister => "BadRegister",
+            Reason::UnusedField => "UnusedField",
+            Reason::BadField => "BadField",
+            Reason::CutWide => "CutWide",
+            Reason::LeftOut => "LeftOut",
+            Reason::Syntax => "Syntax",
+            Reason::Label => "Label",
+            Reason::Backward => "Backward",
+            Reason::OutsideText => "OutsideText",
+            Reason::IntoWide => "IntoWide",
+            Reason::FallsOff => "FallsOff",
+            Reason::WrongCount => "WrongCount",
+            Reason::Entry => "Entry",
+            Reason::UnsetRegister => "UnsetRegister",
+            Reason::WrongKind => "WrongKind",
+            Reason::OutsideFrame => "OutsideFrame",
+            Reason::OutsideRecord => "OutsideRecord",
+            Reason::RecordWritten => "RecordWritten",
+            Reason::FramePointerWritten => "FramePointerWritten",
+            Reason::NotCovered => "NotCovered",
+            Reason::AnswerKind => "AnswerKind",
+            Reason::NoteForm => "NoteForm",
+            Reason::NotJoined => "NotJoined",
+            Reason::Gone => "Gone",
+            Reason::SessionsFull => "SessionsFull",
+            Reason::IdUsed => "IdUsed",
+            Reason::BadFraction => "BadFraction",
+            Reason::ViewFull => "ViewFull",
+            Reason::FactsFull => "FactsFull",
+            Reason::NumbersOut => "NumbersOut",
+            Reason::BadFounders => "BadFounders",
+            Reason::BadValue => "BadValue",
+            Reason::UnknownProgram => "UnknownProgram",
+            Reason::TableFull => "TableFull",
+            Reason::BookFull => "BookFull",
+            Reason::NoSuchQuery => "NoSuchQuery",
+            Reason::Stranger => "Stranger",
+            Reason::AlreadyAnswered => "AlreadyAnswered",
+            Reason::JournalForm => "JournalForm",
+            Reason::JournalMismatch => "JournalMismatch",
+            Reason::WrongBounds => "WrongBounds",
+            Reason::RowFull => "RowFull",
+            Reason::BadCount => "BadCount",
+            Reason::BadHead => "BadHead",
+            Reason::Short => "Short",
+            Reason::LongMessage => "TooLong",
+            Reason::BadKind => "BadKind",
+            Reason::Unsorted => "Unsorted",
+            Reason::Extra => "Extra",
+            Reason::MessageField => "BadField",
+            Reason::NoSuchNode => "NoSuchNode",
+            Reason::NeverSent => "NeverSent",
+            Reason::NoSuchJob => "NoSuchJob",
+            Reason::BadRequest => "BadRequest",
+            Reason::CutRequest => "CutRequest",
+            Reason::TransportFailed => "TransportFailed",
+            Reason::FileFailed => "FileFailed",
+            Reason::ReadUnset => "ReadUnset",
+            Reason::WroteFramePointer => "WroteFramePointer",
+            Reason::OutsideAccess => "OutsideAccess",
+            Reason::WroteRecord => "WroteRecord",
+            Reason::BadPlace => "BadPlace",
+            Reason::StepsOut => "StepsOut",
+            Reason::OutOfMemory => "OutOfMemory",
+        }
     }
 }
 
@@ -368,7 +296,6 @@ impl fmt::Display for Reason {
     ghost output = { λ reason. Some (text reason) };
 
     fn fmt<W: fmt::Write>(&self, f: &mut fmt::Formatter<W>) -> fmt::Result {
-        let (number, name) = self.row();
-        write!(f, "{number} {name}")
+        write!(f, "{} {}", self.number(), self.name())
     }
 }

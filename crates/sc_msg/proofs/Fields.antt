@@ -67,6 +67,10 @@ number_cut bytes e is few =
 pub number_cut_first : (after : List Slot) (bytes : List ℕ) (e : MessageFault) → e ≡ Short → length bytes < 8 → MayFault (number_slot ∷ after) bytes e
 number_cut_first after bytes e is few = here_or number_slot after bytes e (number_cut bytes e is few)
 
+-- a number was read, and the next is cut
+pub number_cut_second : (n : ℕ) (after : List Slot) (bytes rest : List ℕ) (e : MessageFault) → IsField (number n) → bytes ≡ field_bytes (number n) ++ rest → e ≡ Short → length rest < 8 → MayFault (number_slot ∷ number_slot ∷ after) bytes e
+number_cut_second n after bytes rest e fits parts is few = later_or (number n) (number_slot ∷ after) bytes rest e fits parts (number_cut_first after rest e is few)
+
 -- behind the two fields of an echo that stand before its facts
 pub echo_or : (to : ℕ) (joined : Bool) (bytes behind_to behind_joined : List ℕ) (e : MessageFault) → IsField (number to) → bytes ≡ field_bytes (number to) ++ behind_to → behind_to ≡ field_bytes (flag joined) ++ behind_joined
     → MayFault (facts_slots ++ view_slot ∷ []) behind_joined e → MayFault (number_slot ∷ flag_slot ∷ facts_slots ++ view_slot ∷ []) bytes e

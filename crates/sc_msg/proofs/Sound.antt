@@ -66,18 +66,7 @@ field_front (ids m) (ids n) x y s p q e =
 field_front (view v) (view w) x y s p q e =
     let h = list_front view_layout view_law (fin.entries v) (fin.entries w) x y p.fit q.fit (omega (arith, fin.len-entries v, p.few)) (omega (arith, fin.len-entries w, q.few)) e in
     (ap view (fin.same_entries_map v w h.0), h.1)
-field_front (number m) (flag c) x y s p q e = absurd cc
-field_front (number m) (ids n) x y s p q e = absurd cc
-field_front (number m) (view w) x y s p q e = absurd cc
-field_front (flag b) (number n) x y s p q e = absurd cc
-field_front (flag b) (ids n) x y s p q e = absurd cc
-field_front (flag b) (view w) x y s p q e = absurd cc
-field_front (ids m) (number n) x y s p q e = absurd cc
-field_front (ids m) (flag c) x y s p q e = absurd cc
-field_front (ids m) (view w) x y s p q e = absurd cc
-field_front (view v) (number n) x y s p q e = absurd cc
-field_front (view v) (flag c) x y s p q e = absurd cc
-field_front (view v) (ids n) x y s p q e = absurd cc
+field_front _ _ x y s p q e = absurd cc
 
 pub no_field_fault : (f : Field) (x : List ℕ) (e : MessageFault) → IsField f → IsFieldFault (slot_of f) (field_bytes f ++ x) e → ⊥
 no_field_fault (number n) x e p h =

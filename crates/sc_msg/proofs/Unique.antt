@@ -221,14 +221,8 @@ one_first_fault bytes d e (inr (inr p)) (inr (inl q)) = absurd (no_body_fault by
 one_first_fault bytes d e (inr (inr p)) (inr (inr q)) = p.is ∙ sym q.is
 
 not_memory : (P : MessageFault → Type 0) (e : MessageFault) → (e ≡ OutOfMemory → ⊥) → OrMemory P e → P e
-not_memory P BadHead other p = p
-not_memory P Short other p = p
-not_memory P TooLong other p = p
-not_memory P BadKind other p = p
-not_memory P Unsorted other p = p
-not_memory P Extra other p = p
-not_memory P BadField other p = p
 not_memory P OutOfMemory other p = absurd (other refl)
+not_memory P _ other p = p
 
 pub one_fault : (bytes : List ℕ) (d e : MessageFault) → IsFault bytes d → IsFault bytes e → (d ≡ OutOfMemory → ⊥) → (e ≡ OutOfMemory → ⊥) → d ≡ e
 one_fault bytes d e p q no_d no_e = one_first_fault bytes d e (not_memory (IsFirstFault bytes) d no_d p) (not_memory (IsFirstFault bytes) e no_e q)

@@ -143,15 +143,25 @@ blank_held = record {
 
 -- ---- one entry more is read of what is to come
 
-pub theirs_next : (e : ℕ × Stored) (now next : List (ℕ × Stored)) → now ≡ e ∷ next → Rises now → Rises next
+theirs_next : (e : ℕ × Stored) (now next : List (ℕ × Stored)) → now ≡ e ∷ next → Rises now → Rises next
 theirs_next e now next is r = (subst Rises is r).1
 
-pub rest_next : (id : ℕ) (now next : List (ℕ × Stored)) → next ≡ from id now → Rises now → Rises next
+rest_next : (id : ℕ) (now next : List (ℕ × Stored)) → next ≡ from id now → Rises now → Rises next
 rest_next id now next is r = subst Rises (sym is) (rises_onward id now r)
 
-pub tells_next : (e : ℕ × Stored) (now next rest left known : List (ℕ × Stored)) → now ≡ e ∷ next → left ≡ from e.0 rest → Rises now → Tells now rest known → Tells next left known
+tells_next : (e : ℕ × Stored) (now next rest left known : List (ℕ × Stored)) → now ≡ e ∷ next → left ≡ from e.0 rest → Rises now → Tells now rest known → Tells next left known
 tells_next e now next rest left known is sought r t =
     subst (λ (x : List (ℕ × Stored)). Tells next x known) (sym sought) (tells_from e next rest known (subst Rises is r) (subst (λ (x : List (ℕ × Stored)). Tells x rest known) is t))
+
+-- two rows are gone through side by side: these entries of the one are left, and of the other all that can meet them
+pub record AreBeside (es fs known : List (ℕ × Stored)) : Type 0 where
+  pub theirs : Rises es
+  pub rest : Rises fs
+  pub tells : Tells es fs known
+
+pub beside_next : (e : ℕ × Stored) (now next rest left known : List (ℕ × Stored)) → now ≡ e ∷ next → left ≡ from e.0 rest → AreBeside now rest known → AreBeside next left known
+beside_next e now next rest left known is sought b =
+    record { theirs = theirs_next e now next is b.theirs; rest = rest_next e.0 rest left sought b.rest; tells = tells_next e now next rest left known is sought b.theirs b.tells }
 
 pub lacking_next : (b : Bool) (n a total : ℕ) (e : ℕ × Stored) (now next rest known : List (ℕ × Stored)) (r : Option ℕ) → now ≡ e ∷ next → Tells now rest known → r ≡ option_map (λ e. e.number) (find nat_cmp e.0 rest)
     → is_some r ≡ not b → a ≡ bool_byte b → n + count_lacking known now ≡ total → (n + a) + count_lacking known next ≡ total

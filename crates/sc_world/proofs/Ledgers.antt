@@ -22,7 +22,7 @@ use Rattle.sc_world.specs.Worlds.{clock, Outcome, advanced, op_begun, after, liv
 use Rattle.sc_world.specs.Records.{Among, beginning_of, begins, operations_of, stores_of, IsAck, IsReply, Stores, Queries, IsRecord, AreDistinct, HasBegun, AreRecords}
 use Rattle.sc_world.proofs.Changes.{IsSound}
 use Rattle.sc_world.proofs.Links.{IsLinked, IsMove}
-use Rattle.sc_world.proofs.Steps.{among-append, among-right, among-map, advance_op}
+use Rattle.sc_world.proofs.Steps.{among-append, among-map, begun_among, advance_op}
 use Rattle.sc_world.proofs.Handlers.{heard, store_outcome, collect_outcome, left_outcome, entered_outcome, heard_moves, moves}
 use Rattle.sc_world.proofs.Telling.{same_start, persists}
 use Rattle.sc_world.proofs.Truths.{IsThere}
@@ -159,14 +159,7 @@ module _ (w : WorldState) (history : IsHistory w) (linked : IsLinked w) (sound :
   -- the record of the operation that begins is there
   begun_here : (e : Event) (q : ℕ) (r : Outcome) (b : Opened) → r.begun ≡ Some b → HasBegun (after w e q r) (clock w)
   begun_here e q r b is =
-      let o : Op = record { node = q; tag = b.tag; begin = clock w; end = None; session = b.session } in
-      record {
-        op = o;
-        among =
-            among-right o (map (advanced q (clock w) r.progress) w.ops) (op_begun q (clock w) r.begun)
-            (subst (λ (x : Option Opened). Among o (op_begun q (clock w) x)) (sym is) (inl refl));
-        at = refl;
-      }
+      record { op = record { node = q; tag = b.tag; begin = clock w; end = None; session = b.session }; among = begun_among w e q r b is; at = refl }
 
   pub store_records : (q : ℕ) (value : List ℕ) (n : NodeState) → fin.get w.nodes q ≡ Some n → IsNext w (event.Store q value) (after w (event.Store q value) q (store_outcome n value)) → AreRecords (after w (event.Store q value) q (store_outcome n value))
   store_records q value n at k =

@@ -70,9 +70,7 @@ module _ (w : WorldState) (e : Event) (w' : WorldState) (k : IsNext w e w') wher
     later = u.later;
     others = u.others;
     last = u.last;
-    counted = u.counted;
-    few = u.few;
-    reached = u.reached;
+    full = u.full;
     answered = λ from h. answered_kept P node since end end from (omega arith) (u.answered from h);
     finish = delivered_kept P node end u.last u.finish;
   }
@@ -128,9 +126,7 @@ module _ (w : WorldState) (e : Event) (w' : WorldState) (k : IsNext w e w') wher
         later = lt;
         others = p.counted;
         last = from;
-        counted = refl;
-        few = h.until.few;
-        reached = omega (arith, len_insert p.counted from, h.until.few, reached_at p.threshold (set.len (set.insert p.counted from)) is);
+        full = record { counted = refl; few = h.until.few; reached = omega (arith, len_insert p.counted from, h.until.few, reached_at p.threshold (set.len (set.insert p.counted from)) is) };
         answered = λ q is. answered_kept P node since (clock w) (clock w) q (omega arith) (h.until.answered q is);
         finish = d;
       };

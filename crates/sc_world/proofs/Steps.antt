@@ -48,6 +48,18 @@ among-image f x [] h = absurd h
 among-image f x (y ∷ xs) (inl e) = inl (ap f e)
 among-image f x (y ∷ xs) (inr h) = inr (among-image f x xs h)
 
+-- what an event leaves of the record of an operation
+pub kept_among : (w : WorldState) (e : Event) (q : ℕ) (r : Outcome) (o : Op) → Among o w.ops → Among (advanced q (clock w) r.progress o) (after w e q r).ops
+kept_among w e q r o in' =
+    among-left (advanced q (clock w) r.progress o) (map (advanced q (clock w) r.progress) w.ops) (op_begun q (clock w) r.begun) (among-image (advanced q (clock w) r.progress) o w.ops in')
+
+-- the record of the operation that begins at an event
+pub begun_among : (w : WorldState) (e : Event) (q : ℕ) (r : Outcome) (b : Opened) → r.begun ≡ Some b
+    → Among (record { node = q; tag = b.tag; begin = clock w; end = None; session = b.session }) (after w e q r).ops
+begun_among w e q r b is =
+    let o : Op = record { node = q; tag = b.tag; begin = clock w; end = None; session = b.session } in
+    among-right o (map (advanced q (clock w) r.progress) w.ops) (op_begun q (clock w) r.begun) (subst (λ (x : Option Opened). Among o (op_begun q (clock w) x)) (sym is) (inl refl))
+
 pub each-among : {X : Type 0} (P : X → Type 0) (x : X) (xs : List X) → Each P xs → Among x xs → P x
 each-among P x [] h k = absurd k
 each-among P x (y ∷ xs) h (inl e) = subst P (sym e) h.0

@@ -1,5 +1,5 @@
 -- A node has begun as many operations and stores as its events say, and each of its open operations has a record.
-use Rattle.std.proofs.Common.{◌≡◌, ℕ, ◌+◌, Bool, true, false, cond, ◌==◌, List, [], ◌∷◌, ◌++◌, map, Option, Some, None, add-zero, refl, sym, ap, ◌∙◌, subst, arith, inl, slice_get, Ok}
+use Rattle.std.proofs.Common.{◌≡◌, ℕ, ◌+◌, Bool, true, false, cond, ◌==◌, List, [], ◌∷◌, ◌++◌, Option, Some, None, add-zero, refl, sym, ap, ◌∙◌, subst, arith, slice_get, Ok}
 use Rattle.std.proofs.lemmas.Bool.{eqb-true, eq-eqb}
 use Rattle.std.proofs.lemmas.List.Sums.{sum_by_push}
 use Rattle.std.specs.List.{count_by}
@@ -12,17 +12,16 @@ use Rattle.sc_node.specs.declared.session.Session.{Session}
 use Rattle.sc_node.specs.declared.answer.Progress.{Progress}
 use Rattle.sc_node.specs.State.{NodeState}
 use Rattle.sc_node.specs.Nodes.{progress_of, founder, store_session, collect_session}
-use Rattle.sc_world.specs.declared.act.Opened.{Opened}
 use Rattle.sc_world.specs.declared.event.Event.{Event}
 use Rattle.sc_world.specs.declared.event.Event.TheVariants as event
 use Rattle.sc_world.specs.declared.event.Stepped.{Stepped}
 use Rattle.sc_world.specs.declared.op.Op.{Op}
 use Rattle.sc_world.specs.State.{WorldState}
-use Rattle.sc_world.specs.Worlds.{clock, Outcome, node_of, advanced, op_begun, after, live_at, crashes, enters, stores, collects, leaves, delivers, stepped, start, nodes_with}
+use Rattle.sc_world.specs.Worlds.{clock, Outcome, node_of, advanced, after, live_at, crashes, enters, stores, collects, leaves, delivers, stepped, start, nodes_with}
 use Rattle.sc_world.specs.Records.{Among, begins, begins_store, operations_of, stores_of}
 use Rattle.sc_world.proofs.Links.{session_moved, session_after}
 use Rattle.sc_world.proofs.Finite.{get-insert}
-use Rattle.sc_world.proofs.Steps.{among-left, among-right, among-image}
+use Rattle.sc_world.proofs.Steps.{kept_among, begun_among}
 use Rattle.sc_world.proofs.Handlers.{heard, store_outcome, collect_outcome, left_outcome, entered_outcome, get-sessions_after}
 use Rattle.sc_world.proofs.Telling.{same_start}
 use Rattle.sc_world.proofs.Inverts.{same_answer, no_refusal, live_is, acts-ok, stores-ok, collects-ok, leaves-ok, delivers-ok}
@@ -105,7 +104,7 @@ module _ (w : WorldState) (e : Event) (q : ℕ) (r : Outcome) (own : node_of e �
       let s = same_start q (clock w) r.progress k.op in
       record {
         op = advanced q (clock w) r.progress k.op;
-        among = among-left (advanced q (clock w) r.progress k.op) (map (advanced q (clock w) r.progress) w.ops) (op_begun q (clock w) r.begun) (among-image (advanced q (clock w) r.progress) k.op w.ops k.among);
+        among = kept_among w e q r k.op k.among;
         by = s.node ∙ k.by;
         tagged = s.tag ∙ k.tagged;
       }
@@ -132,12 +131,9 @@ module _ (w : WorldState) (e : Event) (q : ℕ) (r : Outcome) (own : node_of e �
     where
       go : (b : Bool) → (tag == n.operations) ≡ b → cond b (Some made) (fin.get n.sessions tag) ≡ Some s → HasRecord next q tag
       go true is at =
-          let o : Op = record { node = q; tag = n.operations; begin = clock w; end = None; session = made } in
           record {
-            op = o;
-            among =
-                among-right o (map (advanced q (clock w) r.progress) w.ops) (op_begun q (clock w) r.begun)
-                (subst (λ (x : Option Opened). Among o (op_begun q (clock w) x)) (sym begun) (inl refl));
+            op = record { node = q; tag = n.operations; begin = clock w; end = None; session = made };
+            among = begun_among w e q r (record { tag = n.operations; session = made }) begun;
             by = refl;
             tagged = sym (eqb-true tag n.operations is);
           }

@@ -23,7 +23,7 @@ use Rattle.sc_world.specs.Records.{Among}
 use Rattle.sc_world.proofs.Changes.{view_of, view_at, IsBegun, IsSound}
 use Rattle.sc_world.proofs.Links.{IsLinked, IsTransition, IsProgress, IsFresh, Each}
 use Rattle.sc_world.proofs.Truths.{IsTrue, body_view, IsTruthful, IsThere, IsTold}
-use Rattle.sc_world.proofs.Steps.{among-append, among-left, among-right, among-map, among-image, each-among, advance_op, clock_next, ops_from, node_next}
+use Rattle.sc_world.proofs.Steps.{among-append, among-right, among-map, kept_among, each-among, advance_op, clock_next, ops_from, node_next}
 use Rattle.sc_world.proofs.Handlers.{heard, store_outcome, collect_outcome, left_outcome, each_if, progress_is, sends, own_name, heard_moves, store_moves, collect_moves, left_moves, store_number}
 use Rattle.sc_world.proofs.Truth.{true_merge, true_put, true_if, lift}
 
@@ -59,7 +59,7 @@ persists w e q r o in' =
     let k = same_start q (clock w) r.progress o in
     record {
       op = advanced q (clock w) r.progress o;
-      among = among-left (advanced q (clock w) r.progress o) (map (advanced q (clock w) r.progress) w.ops) (op_begun q (clock w) r.begun) (among-image (advanced q (clock w) r.progress) o w.ops in');
+      among = kept_among w e q r o in';
       node = k.node;
       kind = k.kind;
       begin = k.begin;

@@ -79,15 +79,18 @@ pub record IsOpen (w : WorldState) (P : Answers) (node since : ℕ) (p : Phase) 
   pub few : set.len p.counted < p.threshold
   pub answered : (from : ℕ) → Has p.counted from → IsAnswered w P node since (clock w) from
 
--- a phase that ended: the answer that was delivered at its end was the one that brought the number of counted
--- senders to the threshold
+-- the last of a phase's counted senders brought their number to the threshold
+pub record IsFull (p : Phase) (others : Ids) (last : ℕ) : Type 0 where
+  pub counted : p.counted ≡ set.insert others last
+  pub few : set.len others < p.threshold
+  pub reached : set.len p.counted ≡ p.threshold
+
+-- a phase that ended: the answer that was delivered at its end was that of the last counted sender
 pub record IsOver (w : WorldState) (P : Answers) (node since end : ℕ) (p : Phase) : Type 0 where
   pub later : since < end
   pub others : Ids
   pub last : ℕ
-  pub counted : p.counted ≡ set.insert others last
-  pub few : set.len others < p.threshold
-  pub reached : set.len p.counted ≡ p.threshold
+  pub full : IsFull p others last
   pub answered : (from : ℕ) → Has others from → IsAnswered w P node since end from
   pub finish : IsDelivered w P node end last
 

@@ -1,34 +1,22 @@
 use Rattle.std.proofs.Common.{refl, arith}
 use Rattle.q_journal.proofs.Exits.{no_form}
-use Rattle.q_journal.proofs.Bodies.{no_ask, number_then, asked}
+use Rattle.q_journal.proofs.Bodies.{no_ask, ask_cut, ask_long, asked}
 use Rattle.q_journal.proofs.body.ask.Goals as goal
 
 pub returns-in_err-program-clause-none : goal.returns-in_err-program-clause-none
-returns-in_err-program-clause-none c = no_form c.from_residual.result (no_ask c.args.body.now (λ e. let short = c.in_err-program.ensures.none in omega (arith, e, short)))
+returns-in_err-program-clause-none c = no_form c.from_residual.result (no_ask c.args.reader.now.rest.now (λ e. let short = c.in_err-program.ensures.none in omega (arith, e, short)))
 
 pub returns-in_err-start-clause-none : goal.returns-in_err-start-clause-none
 returns-in_err-start-clause-none c =
-    no_form c.from_residual-in_err-start.result
-    (no_ask c.args.body.now
-    (λ e. let short = c.in_err-start.ensures.none in
-    omega (arith, e, short, number_then 4 c.in_ok-program.program c.args.body.now c.word.new.self.rest.now c.in_ok-program.ensures.parts)))
+    no_form c.from_residual-in_err-start.result (ask_cut c.args.reader.now.rest.now c.word.new.self.rest.now c.in_ok-program.program c.in_ok-program.ensures.parts c.in_err-start.ensures.none)
 
 pub returns-in_err-end-clause-none : goal.returns-in_err-end-clause-none
 returns-in_err-end-clause-none c =
-    no_form c.from_residual-in_err-end.result
-    (no_ask c.args.body.now
-    (λ e. let more = c.in_err-end.ensures.more in
-    omega (
-      arith,
-      e,
-      more,
-      number_then 4 c.in_ok-program.program c.args.body.now c.word.new.self.rest.now c.in_ok-program.ensures.parts,
-      number_then 8 c.in_ok-start.start c.word.new.self.rest.now c.number.new.self.rest.now c.in_ok-start.ensures.parts,
-    )))
+    no_form c.from_residual-in_err-end.result (ask_long c.args.reader.now.rest.now c.word.new.self.rest.now c.number.new.self.rest.now c.in_ok-program.program c.in_ok-start.start c.in_ok-program.ensures.parts c.in_ok-start.ensures.parts c.in_err-end.ensures.more)
 
 pub returns-clause-body : goal.returns-clause-body
 returns-clause-body c = record {
   legal = (c.in_ok-program.ensures.fits, c.in_ok-start.ensures.fits);
   is = refl;
-  spelled = asked c.args.body.now c.word.new.self.rest.now c.number.new.self.rest.now c.in_ok-program.program c.in_ok-start.start c.in_ok-program.ensures.parts c.in_ok-start.ensures.parts c.in_ok-end.ensures.end;
+  spelled = asked c.args.reader.now.rest.now c.word.new.self.rest.now c.number.new.self.rest.now c.in_ok-program.program c.in_ok-start.start c.in_ok-program.ensures.parts c.in_ok-start.ensures.parts c.in_ok-end.ensures.end;
 }

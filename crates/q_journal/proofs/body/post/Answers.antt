@@ -1,49 +1,28 @@
 use Rattle.std.proofs.Common.{refl, arith}
 use Rattle.q_journal.proofs.Exits.{no_form}
-use Rattle.q_journal.proofs.Bodies.{no_post, number_then, posted}
+use Rattle.q_journal.proofs.Bodies.{no_post, post_cut, post_cut_twice, post_long, posted}
 use Rattle.q_journal.proofs.body.post.Goals as goal
 
 pub returns-in_err-query-clause-none : goal.returns-in_err-query-clause-none
-returns-in_err-query-clause-none c = no_form c.from_residual.result (no_post c.args.body.now (λ e. let short = c.in_err-query.ensures.none in omega (arith, e, short)))
+returns-in_err-query-clause-none c = no_form c.from_residual.result (no_post c.args.reader.now.rest.now (λ e. let short = c.in_err-query.ensures.none in omega (arith, e, short)))
 
 pub returns-in_err-acc-clause-none : goal.returns-in_err-acc-clause-none
 returns-in_err-acc-clause-none c =
-    no_form c.from_residual-in_err-acc.result
-    (no_post c.args.body.now
-    (λ e. let short = c.in_err-acc.ensures.none in
-    omega (arith, e, short, number_then 8 c.in_ok-query.query c.args.body.now c.number.new.self.rest.now c.in_ok-query.ensures.parts)))
+    no_form c.from_residual-in_err-acc.result (post_cut c.args.reader.now.rest.now c.number.new.self.rest.now c.in_ok-query.query c.in_ok-query.ensures.parts (omega (arith, c.in_err-acc.ensures.none)))
 
 pub returns-in_err-steps-clause-none : goal.returns-in_err-steps-clause-none
 returns-in_err-steps-clause-none c =
-    no_form c.from_residual-in_err-steps.result
-    (no_post c.args.body.now
-    (λ e. let short = c.in_err-steps.ensures.none in
-    omega (
-      arith,
-      e,
-      short,
-      number_then 8 c.in_ok-query.query c.args.body.now c.number.new.self.rest.now c.in_ok-query.ensures.parts,
-      number_then 8 c.in_ok-acc.acc c.number.new.self.rest.now c.number-2.new.self.rest.now c.in_ok-acc.ensures.parts,
-    )))
+    no_form c.from_residual-in_err-steps.result (post_cut_twice c.args.reader.now.rest.now c.number.new.self.rest.now c.number-2.new.self.rest.now c.in_ok-query.query c.in_ok-acc.acc c.in_ok-query.ensures.parts c.in_ok-acc.ensures.parts c.in_err-steps.ensures.none)
 
 pub returns-in_err-end-clause-none : goal.returns-in_err-end-clause-none
 returns-in_err-end-clause-none c =
     no_form c.from_residual-in_err-end.result
-    (no_post c.args.body.now
-    (λ e. let more = c.in_err-end.ensures.more in
-    omega (
-      arith,
-      e,
-      more,
-      number_then 8 c.in_ok-query.query c.args.body.now c.number.new.self.rest.now c.in_ok-query.ensures.parts,
-      number_then 8 c.in_ok-acc.acc c.number.new.self.rest.now c.number-2.new.self.rest.now c.in_ok-acc.ensures.parts,
-      number_then 8 c.in_ok-steps.steps c.number-2.new.self.rest.now c.number-3.new.self.rest.now c.in_ok-steps.ensures.parts,
-    )))
+    (post_long c.args.reader.now.rest.now c.number.new.self.rest.now c.number-2.new.self.rest.now c.number-3.new.self.rest.now c.in_ok-query.query c.in_ok-acc.acc c.in_ok-steps.steps c.in_ok-query.ensures.parts c.in_ok-acc.ensures.parts c.in_ok-steps.ensures.parts c.in_err-end.ensures.more)
 
 pub returns-clause-body : goal.returns-clause-body
 returns-clause-body c = record {
   legal = (c.in_ok-query.ensures.fits, c.in_ok-acc.ensures.fits, c.in_ok-steps.ensures.fits);
   is = refl;
-  spelled = posted c.args.body.now c.number.new.self.rest.now c.number-2.new.self.rest.now c.number-3.new.self.rest.now c.in_ok-query.query c.in_ok-acc.acc c.in_ok-steps.steps
+  spelled = posted c.args.reader.now.rest.now c.number.new.self.rest.now c.number-2.new.self.rest.now c.number-3.new.self.rest.now c.in_ok-query.query c.in_ok-acc.acc c.in_ok-steps.steps
       c.in_ok-query.ensures.parts c.in_ok-acc.ensures.parts c.in_ok-steps.ensures.parts c.in_ok-end.ensures.end;
 }

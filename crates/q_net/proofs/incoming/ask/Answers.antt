@@ -2,7 +2,7 @@ use Rattle.std.proofs.Common.{[], ◌∷◌, ◌++◌, refl, rules}
 use Rattle.bq_check.specs.Spelling.{short_bytes, long_bytes}
 use Rattle.std.proofs.KnownBytes.{Consumes-nil, Consumes-trans}
 use Rattle.q_net.specs.Requests.{program_number, start_value}
-use Rattle.q_net.proofs.Reading.{ended_at, got_none, got_some, next_failed, then_failed}
+use Rattle.q_net.proofs.Reading.{ended_at, got_none, got_some, short_then_failed}
 use Rattle.q_net.proofs.incoming.ask.Goals as goal
 
 pub returns-in_default-clause-read : goal.returns-in_default-clause-read
@@ -10,8 +10,7 @@ returns-in_default-clause-read g c = ended_at _ _ _ program_number (2 ∷ []) []
 
 pub returns-in_err-start-clause-read : goal.returns-in_err-start-clause-read
 returns-in_err-start-clause-read g c =
-    let first = got_some short_bytes 4 _ _ c.in_ok-program.field-0 c.in-Some.program c.in-Some.is c.in_ok-program.ensures.read in
-    next_failed _ (2 ∷ []) _ _ c.from_residual-in_err-start.result c.from_residual-in_err-start.ensures.1 (then_failed _ _ _ (short_bytes c.in-Some.program) first c.in_err-start.ensures.read)
+    short_then_failed _ (2 ∷ []) _ _ _ c.from_residual-in_err-start.result c.in_ok-program.field-0 c.in-Some.program c.from_residual-in_err-start.ensures.1 c.in-Some.is c.in_ok-program.ensures.read c.in_err-start.ensures.read
 
 pub returns-in_default-2-clause-read : goal.returns-in_default-2-clause-read
 returns-in_default-2-clause-read g c =

@@ -3,7 +3,7 @@ use Rattle.std.specs.Prelude.{IfSome}
 use Rattle.std.proofs.KnownBytes.{Consumes-nil}
 use Rattle.bq_check.specs.Spelling.{short_bytes}
 use Rattle.q_net.specs.Requests.{notes_length, in_notes, most_text}
-use Rattle.q_net.proofs.Reading.{ended_at, got_none, got_some, next_failed, then_failed, blob_cut, blob_lost, blob_whole, notes_read, to_text}
+use Rattle.q_net.proofs.Reading.{ended_at, got_none, got_some, short_then_failed, blob_cut, blob_lost, blob_whole, notes_read, to_text}
 use Rattle.q_net.proofs.incoming.notes.Goals as goal
 
 pub returns-in_default-clause-read : goal.returns-in_default-clause-read
@@ -12,8 +12,7 @@ returns-in_default-clause-read g c whole few is =
 
 pub returns-in_err-read_blob-clause-read : goal.returns-in_err-read_blob-clause-read
 returns-in_err-read_blob-clause-read g c whole few is =
-    let first = got_some short_bytes 4 _ _ c.in_ok-len.field-0 c.in-Some.len c.in-Some.is c.in_ok-len.ensures.read in
-    next_failed _ (to_text whole) _ _ c.from_residual-in_err-read_blob.result c.from_residual-in_err-read_blob.ensures.1 (then_failed _ _ _ (short_bytes c.in-Some.len) first c.in_err-read_blob.ensures.read)
+    short_then_failed _ (to_text whole) _ _ _ c.from_residual-in_err-read_blob.result c.in_ok-len.field-0 c.in-Some.len c.from_residual-in_err-read_blob.ensures.1 c.in-Some.is c.in_ok-len.ensures.read c.in_err-read_blob.ensures.read
 
 pub returns-in-Cut-clause-read : goal.returns-in-Cut-clause-read
 returns-in-Cut-clause-read g c whole few is =

@@ -2,7 +2,7 @@ use Rattle.std.proofs.Common.{[], ◌∷◌, refl, sym}
 use Rattle.std.proofs.KnownBytes.{Consumes-nil}
 use Rattle.bq_check.specs.Spelling.{short_bytes}
 use Rattle.q_net.specs.Requests.{text_length, in_text}
-use Rattle.q_net.proofs.Reading.{ended_at, got_none, got_some, next_failed, then_failed, blob_cut, blob_lost, blob_whole, text_read}
+use Rattle.q_net.proofs.Reading.{ended_at, got_none, got_some, short_then_failed, blob_cut, blob_lost, blob_whole, text_read}
 use Rattle.q_net.proofs.incoming.register.Goals as goal
 
 pub returns-in_default-clause-read : goal.returns-in_default-clause-read
@@ -10,8 +10,7 @@ returns-in_default-clause-read g c = ended_at _ _ _ text_length (1 ∷ []) [] tt
 
 pub returns-in_err-read_blob-clause-read : goal.returns-in_err-read_blob-clause-read
 returns-in_err-read_blob-clause-read g c =
-    let first = got_some short_bytes 4 _ _ c.in_ok-len.field-0 c.in-Some.len c.in-Some.is c.in_ok-len.ensures.read in
-    next_failed _ (1 ∷ []) _ _ c.from_residual-in_err-read_blob.result c.from_residual-in_err-read_blob.ensures.1 (then_failed _ _ _ (short_bytes c.in-Some.len) first c.in_err-read_blob.ensures.read)
+    short_then_failed _ (1 ∷ []) _ _ _ c.from_residual-in_err-read_blob.result c.in_ok-len.field-0 c.in-Some.len c.from_residual-in_err-read_blob.ensures.1 c.in-Some.is c.in_ok-len.ensures.read c.in_err-read_blob.ensures.read
 
 pub returns-in-Cut-clause-read : goal.returns-in-Cut-clause-read
 returns-in-Cut-clause-read g c =

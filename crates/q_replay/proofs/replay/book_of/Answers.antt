@@ -21,16 +21,10 @@ pub returns-in_err-rest-clause-fault : goal.returns-in_err-rest-clause-fault
 returns-in_err-rest-clause-fault c =
     passed_on (IsFault c.args.bytes.now) c.in_err-rest.field-0.0 c.from_residual-in_err-rest.result c.from_residual-in_err-rest.ensures.1 (c.in_err-rest.ensures.fault c.args.bytes.now c.loop-rest.invariant)
 
-pub returns-clause-spelled : goal.returns-clause-spelled
-returns-clause-spelled c =
+pub returns : goal.returns
+returns c =
     let flag : c.is_empty.result ≡ true = search rules in
     let none = none_long c.loop-rest.rest.now (eqb-true (length c.loop-rest.rest.now) 0 (sym c.is_empty.ensures ∙ flag)) in
     let whole = subst (Leads c.args.bytes.now c.loop-rest.count c.loop-rest.book) none c.loop-rest.invariant in
-    (leads_journalled c.args.bytes.now c.loop-rest.count c.loop-rest.book whole c.desk-desk.ensures.right).0
-
-pub returns-clause-journalled : goal.returns-clause-journalled
-returns-clause-journalled c =
-    let flag : c.is_empty.result ≡ true = search rules in
-    let none = none_long c.loop-rest.rest.now (eqb-true (length c.loop-rest.rest.now) 0 (sym c.is_empty.ensures ∙ flag)) in
-    let whole = subst (Leads c.args.bytes.now c.loop-rest.count c.loop-rest.book) none c.loop-rest.invariant in
-    (leads_journalled c.args.bytes.now c.loop-rest.count c.loop-rest.book whole c.desk-desk.ensures.right).1
+    let ends = leads_journalled c.args.bytes.now c.loop-rest.count c.loop-rest.book whole c.desk-desk.ensures.right in
+    record { spelled = ends.0; journalled = ends.1; fault = tt }

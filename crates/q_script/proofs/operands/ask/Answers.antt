@@ -1,8 +1,14 @@
-use Rattle.q_script.proofs.Events.{not_ask, not_ask_pair}
+use Rattle.std.proofs.lemmas.Result.{err_from_is_err_and}
+use Rattle.q_script.specs.Line.{IsAsk}
+use Rattle.q_script.specs.Words.{IsPair}
+use Rattle.q_script.proofs.Events.{part_fails, not_ask, not_ask_pair}
 use Rattle.q_script.proofs.operands.ask.Goals as goal
 
 pub returns-in_default : goal.returns-in_default
 returns-in_default c = not_ask c.args.text.now c.in_default.ensures
 
-pub returns-in-None : goal.returns-in-None
-returns-in-None c = not_ask_pair c.args.text.now (c.in-Some.node, c.in-Some.rest.now) c.in-Some.ensures c.in-None.ensures
+pub returns-in_err-program : goal.returns-in_err-program
+returns-in_err-program c =
+    let e = err_from_is_err_and c.from_residual.result c.from_residual.ensures.1 in
+    part_fails (IsPair 32) IsAsk c.args.text.now c.in-Some.rest.now c.in_err-program.field-0.0 c.from_residual.result e.0 e.1 e.2
+    (not_ask_pair c.args.text.now (c.in-Some.node, c.in-Some.rest.now) c.in-Some.ensures) c.in_err-program.ensures

@@ -1,23 +1,18 @@
-use Rattle.std.proofs.Common.{ℕ, List, map, Bor, ap, sym, ◌∙◌, subst, arith, lit<}
+use Rattle.std.proofs.Common.{ℕ, List, map, Bor, sym, ◌∙◌, subst, arith}
 use Rattle.std.specs.List.{AllZip}
-use Rattle.std.specs.Str.Iter.{split_text, split_has_more, split_pattern}
 use Rattle.std.proofs.lemmas.List.{map_push}
-use Rattle.std.proofs.lemmas.Iterator.Consumers.{YieldsList-turn, YieldsList-so_far, YieldsList-end}
-use Rattle.std.proofs.lemmas.Iterator.Splits.{YieldsList-from_str_split}
+use Rattle.std.proofs.lemmas.Iterator.Consumers.{YieldsList-end}
 use Rattle.std.specs.Prelude.{Err}
 use Rattle.q_script.specs.declared.line.LineFault.{LineFault}
 use Rattle.q_script.specs.Line.{Judges}
 use Rattle.q_script.specs.Lines.{parts_of}
-use Rattle.q_script.proofs.Lines.{first_other, read_more, all_read}
+use Rattle.q_script.proofs.Lines.{road_of, turn_of, first_other, read_more, all_read}
 use Rattle.q_script.proofs.script.read_lines.Goals as goal
 
 pub returns-in-Err-Form-clause-fault : goal.returns-in-Err-Form-clause-fault
 returns-in-Err-Form-clause-fault g c =
-    let i = c.into_iter-part-iterator.ensures.into_iter_gives in
-    let road = YieldsList-from_str_split 10 c.args.text.now (lit< tt) (ap split_text i ∙ c.split-part-items.ensures.text) (ap split_has_more i ∙ c.split-part-items.ensures.has_more) (ap split_pattern i ∙ c.split-part-items.ensures.pattern) in
-    let t = YieldsList-turn road c.loop-part.yielded _ c.loop-part.yielded_by _ _ c.in-Some.part c.in-Some.is c.next.ensures.steps in
-    let f = YieldsList-so_far road c.loop-part.yielded _ c.loop-part.yielded_by in
-    first_other g.L.Line.spells (parts_of c.args.text.now) (map (λ (x : Bor (List ℕ)). x.now) c.loop-part.yielded) c.loop-part.lines.items c.in-Some.part.now _ c.len.result f t.0 t.1 c.loop-part.invariant (subst (λ (f : LineFault). Judges g.L.Line.spells c.in-Some.part.now (Err f)) c.in-Err-Form.field-0-is c.in-Err-Form.ensures) (omega (arith, c.len.ensures, c.loop-part.lines.ok.0))
+    let t = turn_of (road_of _ c.split-part-items.result c.args.text.now c.into_iter-part-iterator.ensures.into_iter_gives c.split-part-items.ensures.text c.split-part-items.ensures.has_more c.split-part-items.ensures.pattern) c.loop-part.yielded _ c.loop-part.yielded_by _ _ c.in-Some.part c.in-Some.is c.next.ensures.steps in
+    first_other g.L.Line.spells (parts_of c.args.text.now) (map (λ (x : Bor (List ℕ)). x.now) c.loop-part.yielded) c.loop-part.lines.items c.in-Some.part.now _ c.len.result t.0 t.1 t.2 c.loop-part.invariant (subst (λ (f : LineFault). Judges g.L.Line.spells c.in-Some.part.now (Err f)) c.in-Err-Form.field-0-is c.in-Err-Form.ensures) (omega (arith, c.len.ensures, c.loop-part.lines.ok.0))
 
 pub loop-part-preserved : goal.loop-part-preserved
 loop-part-preserved g c =
@@ -27,7 +22,5 @@ loop-part-preserved g c =
 
 pub returns-clause-read : goal.returns-clause-read
 returns-clause-read g c =
-    let i = c.into_iter-part-iterator.ensures.into_iter_gives in
-    let road = YieldsList-from_str_split 10 c.args.text.now (lit< tt) (ap split_text i ∙ c.split-part-items.ensures.text) (ap split_has_more i ∙ c.split-part-items.ensures.has_more) (ap split_pattern i ∙ c.split-part-items.ensures.pattern) in
-    let t = YieldsList-end road c.loop-part.yielded _ c.loop-part.yielded_by _ _ c.in-None.is c.next.ensures.steps in
+    let t = YieldsList-end (road_of _ c.split-part-items.result c.args.text.now c.into_iter-part-iterator.ensures.into_iter_gives c.split-part-items.ensures.text c.split-part-items.ensures.has_more c.split-part-items.ensures.pattern) c.loop-part.yielded _ c.loop-part.yielded_by _ _ c.in-None.is c.next.ensures.steps in
     all_read g.L.Line.spells (parts_of c.args.text.now) (map (λ (x : Bor (List ℕ)). x.now) c.loop-part.yielded) c.loop-part.lines.items t.0 c.loop-part.invariant

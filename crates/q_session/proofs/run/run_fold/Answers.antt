@@ -1,13 +1,13 @@
 -- One more record run goes on a fold, at every placement.
 use Rattle.std.proofs.Common.{◌≡◌, ℕ, length, map, Some, slice_get, ap, sym, subst, ◌∙◌, arith, length-append, take}
-use Rattle.std.proofs.lemmas.List.{map-append, map-id}
-use Rattle.std.proofs.lemmas.Map.Iter.{iter_turn, iter_end}
+use Rattle.std.proofs.lemmas.List.{map-append}
+use Rattle.std.proofs.lemmas.Map.Iter.{iter_turn}
 use Rattle.std.specs.FinMap as fin
 use Rattle.std.specs.FinMap.{len-entries}
 use Rattle.bq_meaning.specs.Runs.{RecordRun}
 use Rattle.bq_meaning.specs.Answers.{FoldsTo, zero_frame}
 use Rattle.bq_range.specs.Interval.{IsIn}
-use Rattle.q_session.proofs.Records.{room, one_more, lengths_at, record_length}
+use Rattle.q_session.proofs.Records.{all_read, room, one_more, lengths_at, record_length}
 use Rattle.q_session.specs.Records.{record_bytes}
 use Rattle.q_session.proofs.run.run_fold.Goals as goal
 
@@ -33,8 +33,7 @@ loop-id-preserved c = record {
 
 pub returns : goal.returns
 returns c =
-    let end = iter_end (λ e. e) c.records-id-items.result c.loop-id.yielded c.into_iter-id-iterator.result c.loop-id.id-iterator c.next.new.self c.next.result c.into_iter-id-iterator.ensures.into_iter_gives c.loop-id.yielded_by c.in-None.is c.next.ensures.steps in
-    let whole : c.loop-id.yielded ≡ fin.entries c.args.view.now = sym (map-id c.loop-id.yielded) ∙ end.0 ∙ c.records-id-items.ensures.all in
+    let whole : c.loop-id.yielded ≡ fin.entries c.args.view.now = all_read c.records-id-items.result c.loop-id.yielded c.into_iter-id-iterator.result c.loop-id.id-iterator c.next.new.self c.next.result c.into_iter-id-iterator.ensures.into_iter_gives c.loop-id.yielded_by c.in-None.is c.next.ensures.steps ∙ c.records-id-items.ensures.all in
     record {
       meant = λ p is. ((take 512 c.loop-id.block), subst (λ xs. FoldsTo p c.args.certified.now.text (map record_bytes xs) c.args.start zero_frame c.loop-id.ran.acc c.loop-id.ran.steps (take 512 c.loop-id.block)) whole (c.loop-id.invariant.folds p is));
       within = rw (len-entries, ← whole) c.loop-id.invariant.within;

@@ -1,17 +1,15 @@
 use Rattle.std.proofs.Common.{◌≡◌, ◌++◌, length}
 use Rattle.std.specs.FinMap as fin
 use Rattle.sc_view.specs.Views.{merge}
-use Rattle.sc_view.specs.Rows.{joined, Rises, IsRow}
-use Rattle.sc_view.proofs.MapLemmas.{Tells}
+use Rattle.sc_view.specs.Rows.{joined, IsRow}
+use Rattle.sc_view.proofs.MapLemmas.{Tells, AreBeside}
 use Rattle.sc_view.proofs.ViewLemmas.{put_all}
 use Rattle.sc_view.proofs.row.merged.Given as goal
 
 abbrev pub invariant-loop-entry : goal.invariant-loop-entry
 invariant-loop-entry l = record {
   row : IsRow l.row.items;
-  theirs : Rises (l.theirs.entries.now ++ joined l.theirs.chunks.now);
-  rest : Rises (l.rest.entries.now ++ joined l.rest.chunks.now);
-  tells : Tells (l.theirs.entries.now ++ joined l.theirs.chunks.now) (l.rest.entries.now ++ joined l.rest.chunks.now) (joined l.known.items);
+  beside : AreBeside (l.theirs.entries.now ++ joined l.theirs.chunks.now) (l.rest.entries.now ++ joined l.rest.chunks.now) (joined l.known.items);
   same : Tells (l.theirs.entries.now ++ joined l.theirs.chunks.now) (joined l.row.items) (joined l.known.items);
   left : put_all (fin.from_entries (joined l.row.items)) (l.theirs.entries.now ++ joined l.theirs.chunks.now) ≡ merge (fin.from_entries (joined l.known.items)) (fin.from_entries (joined l.more));
 }

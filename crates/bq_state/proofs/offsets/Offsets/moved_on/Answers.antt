@@ -1,8 +1,7 @@
-use Rattle.std.proofs.Common.{arith, ap, ◌+ℤ◌}
+use Rattle.std.proofs.Common.{arith, ◌+ℤ◌}
 use Rattle.std.proofs.lemmas.Int.{ints}
 use mir.Syntax.{w128}
-use Rattle.bq_state.specs.Offsets.{Span}
-use Rattle.bq_state.proofs.Spans.{kept, moved_on_is}
+use Rattle.bq_state.proofs.Spans.{kept, same_ends, moved_on_is}
 use Rattle.bq_state.proofs.offsets.Offsets.moved_on.Goals as goal
 
 pub limited-requires : goal.limited-requires
@@ -10,6 +9,5 @@ limited-requires c = omega (arith, ints)
 
 pub returns : goal.returns
 returns c =
-    let l = ap (λ (s : Span). s.lo) c.self.view_is in
-    let h = ap (λ (s : Span). s.hi) c.self.view_is in
-    record { row = moved_on_is c.args.self c.args.by c.limited.result (kept w128 (kept w128 c.from.result +ℤ kept w128 c.of-by.result.lo)) (kept w128 (kept w128 c.from-2.result +ℤ kept w128 c.of-by.result.hi)) c.limited.ensures (omega (arith, ints, l, h)) (omega (arith, ints, l, h)) }
+    let e = same_ends c.self.view_is in
+    record { row = moved_on_is c.args.self c.args.by c.limited.result (kept w128 (kept w128 c.from.result +ℤ kept w128 c.of-by.result.lo)) (kept w128 (kept w128 c.from-2.result +ℤ kept w128 c.of-by.result.hi)) c.limited.ensures (omega (arith, ints, e.0, e.1)) (omega (arith, ints, e.0, e.1)) }

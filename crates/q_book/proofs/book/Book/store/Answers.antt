@@ -16,4 +16,4 @@ invariant_of-self-in-Ok c =
 pub invariant_of-self-in-Err : goal.invariant_of-self-in-Err
 invariant_of-self-in-Err c =
     let b : BookState = book.the_view c.self.inside in
-    same_replay b c.begin_store.new.self c.forget.new.self c.in-Err.ensures.0 (c.forget.ensures.undone b.desk _ c.in_ok-note.ensures) c.self.invariant
+    same_replay b c.begin_store.new.self c.forget.new.desk c.in-Err.ensures.0 (c.forget.ensures.undone b.desk _ c.in_ok-note.ensures) c.self.invariant

@@ -1,17 +1,13 @@
 use Rattle.std.proofs.Common.{[], ◌∷◌, rules}
 use Rattle.sc_msg.specs.Fields.{number, number_slot, view_slot}
-use Rattle.sc_msg.proofs.Fields.{here_or, later_or, number_cut_first}
+use Rattle.sc_msg.proofs.Fields.{here_or, later_or, number_cut_first, number_cut_second}
 use Rattle.sc_msg.proofs.reader.Reader.collect_reply.Goals as goal
 
 pub returns-in_err-to-clause-fault : goal.returns-in_err-to-clause-fault
 returns-in_err-to-clause-fault c = search (rules, number_cut_first (number_slot ∷ view_slot ∷ []) c.args.self.now.rest.now c.in_err-to.field-0.0 c.in_err-to.ensures.short c.in_err-to.ensures.few)
 
 pub returns-in_err-tag-clause-fault : goal.returns-in_err-tag-clause-fault
-returns-in_err-tag-clause-fault c =
-    let behind = c.number.new.self.rest.now in
-    let e = c.in_err-tag.field-0.0 in
-    let tag = number_cut_first (view_slot ∷ []) behind e c.in_err-tag.ensures.short c.in_err-tag.ensures.few in
-    search (rules, later_or (number c.in_ok-to.to) (number_slot ∷ view_slot ∷ []) c.args.self.now.rest.now behind e c.in_ok-to.ensures.fits c.in_ok-to.ensures.parts tag)
+returns-in_err-tag-clause-fault c = search (rules, number_cut_second c.in_ok-to.to (view_slot ∷ []) c.args.self.now.rest.now c.number.new.self.rest.now c.in_err-tag.field-0.0 c.in_ok-to.ensures.fits c.in_ok-to.ensures.parts c.in_err-tag.ensures.short c.in_err-tag.ensures.few)
 
 pub returns-in_err-view-clause-fault : goal.returns-in_err-view-clause-fault
 returns-in_err-view-clause-fault c =

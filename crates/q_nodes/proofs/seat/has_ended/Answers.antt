@@ -1,6 +1,6 @@
 use Rattle.std.specs.FinMap as fin
 use Rattle.q_nodes.proofs.Telling.{closed_at}
-use Rattle.q_nodes.proofs.seat.has_ended_in.Goals as goal
+use Rattle.q_nodes.proofs.seat.has_ended.Goals as goal
 
 pub returns-then-is_of : goal.returns-then-is_of
 returns-then-is_of c closed = record {
