@@ -1,5 +1,6 @@
 -- How the checker goes on by one unit, and its first fault.
-use Rattle.std.proofs.Common.{◌≡◌, ℕ, ◌+◌, ◌<◌, List, length, Option, Some, sym, ap, subst, ◌∙◌, arith, inl, inr}
+use Rattle.std.proofs.Common.{◌≡◌, ℕ, ◌+◌, ◌<◌, List, length, Option, Some, None, Bor, refl, sym, ap, subst, ◌∙◌, arith, inl, inr}
+use Rattle.std.specs.Prelude.{option_copied}
 use Rattle.std.proofs.lemmas.Bool.{cases_lt}
 use Rattle.bq_insn.specs.Slots.{units, insn_at}
 use Rattle.bq_insn.specs.declared.insn.Insn.{Insn}
@@ -13,6 +14,11 @@ use Rattle.bq_check.specs.declared.fault.CheckFault.{CheckFault}
 use Rattle.bq_check.specs.declared.fault.CheckFault.TheVariants.{WrongCount, Flow, NoteForm, Entry, Rule, NotCovered, OutOfMemory}
 use Rattle.bq_check.specs.Reasons.{flow_refusal}
 use Rattle.bq_check.specs.Faults.{MayStand, AllMayStand, IsOpened, IsUnitFault, IsFirstFault}
+
+-- where nothing is looked at, nothing is there
+pub not_copied : {C : Type 0} (o : Option (Bor StateKinds)) (state : StateKinds) → ((x : Bor StateKinds) → o ≡ Some x → ⊥) → option_copied o ≡ Some state → C
+not_copied None state none is = absurd (cc)
+not_copied (Some x) state none is = absurd (none x refl)
 
 module _ (text : List Insn) (notes : List (Option StateKinds)) where
   -- ---- units

@@ -3,7 +3,8 @@
 ghost use Rattle.std.specs.Prelude.{◌≡◌, ◌<◌, ◌≤◌, ◌↔◌, ℕ, length, IsTrue, IfSome, IfNone, IfOk, IfErr, OnOk, MatchResult, ⊤};
 ghost use Rattle.bq_insn.specs.Slots.{units, IsText};
 ghost use Rattle.bq_flow.specs.Paths.{IsLongest};
-ghost use Rattle.bq_state.specs.Listed.{edge_list, listed};
+ghost use Rattle.bq_state.specs.Edges.{edges};
+ghost use Rattle.bq_state.specs.InPlace.{way};
 ghost use Rattle.bq_state.specs.Kinds.{all_lengths};
 ghost use Rattle.bq_sound.specs.Passes.{NoteCovers, AllCovered, IsFine, AllFine, Passes};
 ghost use Rattle.bq_check.specs.Certificate.{IsCertified};
@@ -18,7 +19,7 @@ use bq_flow::flow::Flow;
 use bq_insn::insn::Insn;
 use bq_insn::text::Text;
 use bq_state::bounds::Bounds;
-use bq_state::edges::{Edge, Edges};
+use bq_state::laws::edges_are_ways;
 use bq_state::state::State;
 use std::alloc::Global;
 
@@ -27,25 +28,30 @@ impl Notes {
     fn cover(&self, unit: usize, state: &State) -> bool
         ensures { IsTrue result ↔ NoteCovers self.now (unit, state.now) }
     {
-        match self.at(unit) {
+        match self.note(unit) {
             Some(note) => note.covers(state),
             None => false,
         }
     }
 
-    fn cover_edge(&self, edge: &Option<Edge>) -> bool
-        ensures { IsTrue result ↔ AllCovered self.now (edge_list edge.now) }
+    /// Whether one way on from an instruction is covered where it leads, given the state that the instruction leaves.
+    fn cover_way(&self, unit: usize, insn: &Insn, after: &State, jumps: bool) -> bool
+        requires { unit < 4096 }
+        ensures { IsTrue result ↔ AllCovered self.now (way unit insn.now jumps after.now) }
     {
-        match edge {
-            Some(edge) => self.cover(edge.unit as usize, &edge.state),
+        let mut state = *after;
+        match state.follow(unit as u64, insn, jumps) {
+            Some(next) => self.cover(next as usize, &state),
             None => true,
         }
     }
 
-    fn cover_edges(&self, edges: &Edges) -> bool
-        ensures { IsTrue result ↔ AllCovered self.now (listed edges.now) }
+    fn cover_edges(&self, unit: usize, insn: &Insn, after: &State) -> bool
+        requires { unit < 4096 }
+        ensures { IsTrue result ↔ AllCovered self.now (edges unit insn.now after.now) }
     {
-        self.cover_edge(&edges.behind) && self.cover_edge(&edges.jump)
+        edges_are_ways();
+        self.cover_way(unit, insn, after, false) && self.cover_way(unit, insn, after, true)
     }
 }
 
@@ -62,8 +68,8 @@ fn first_wrong_state(text: &Text, notes: &Notes, bounds: Bounds) -> Option<usize
     ensures none { IfNone result (AllMayStand bounds text.now notes.now (units text.now)) }
 {
     for unit in 0..text.units() {
-        if let Some(state) = notes.at(unit) {
-            if !may_stand(text, bounds, unit, &state) {
+        if let Some(state) = notes.note(unit) {
+            if !may_stand(text, bounds, unit, state) {
                 return Some(unit);
             }
         }
@@ -77,13 +83,14 @@ fn check_unit(notes: &Notes, unit: usize, insn: &Insn, state: &State) -> Result<
     ensures fine { OnOk result (IsFine notes.now unit insn.now state.now) }
     ensures fault { IfErr result (IsUnitFault notes.now unit insn.now state.now) }
 {
-    match state.transfer(insn) {
-        Ok(after) => if notes.cover_edges(&after.edges(unit as u64, insn)) {
-            Ok(())
-        } else {
-            Err(CheckFault::NotCovered { unit })
-        },
-        Err(rule) => Err(CheckFault::Rule { unit, rule }),
+    let mut after = *state;
+    if let Err(rule) = after.apply(insn) {
+        return Err(CheckFault::Rule { unit, rule });
+    }
+    if notes.cover_edges(unit, insn, &after) {
+        Ok(())
+    } else {
+        Err(CheckFault::NotCovered { unit })
     }
 }
 
@@ -94,9 +101,9 @@ fn check_units(text: &Text, notes: &Notes, bounds: Bounds) -> Result<(), CheckFa
     ensures fault { IfErr result (IsFirstFault bounds text.now notes.now) }
 {
     for unit in 0..text.units() {
-        if let Some(state) = notes.at(unit) {
+        if let Some(state) = notes.note(unit) {
             if let Some(insn) = text.at(unit) {
-                check_unit(notes, unit, &insn, &state)?;
+                check_unit(notes, unit, &insn, state)?;
             }
         }
     }

@@ -1,6 +1,6 @@
 //! Notes: for each unit of a text a state, or none.
 
-ghost use Rattle.std.specs.Prelude.{◌≡◌, ◌≤◌, length};
+ghost use Rattle.std.specs.Prelude.{◌≡◌, ◌≤◌, length, option_copied};
 ghost use Rattle.bq_sound.specs.Passes.{note_at};
 
 use bq_state::state::State;
@@ -38,6 +38,13 @@ impl Notes {
         ensures few { result ≤ 4096 }
     {
         self.states.len()
+    }
+
+    /// As [`Notes::at`], of a state that is looked at where it lies.
+    pub(crate) fn note(&self, unit: usize) -> Option<&State>
+        ensures { option_copied result ≡ note_at self.now unit }
+    {
+        self.states.get(unit)?.as_ref()
     }
 
     /// The state at a unit, counted from 0; none where there is none, and behind the end.

@@ -5,10 +5,11 @@
 //! 128 bytes. Under the placement with the frame at address 0 and the record at address 512 a machine's address is the
 //! place of a byte in the block.
 //!
-//! - [`Block::load1`] to [`Block::load8`] read 1, 2, 4 or 8 bytes as a number, and [`Block::store`] writes the lowest
-//!   bytes of one, in little-endian order. Nothing is tested: it is the caller's condition that the bytes lie in the
-//!   block. They go through raw pointers, which two functions of one byte each alone have.
-//! - [`Block::clear_frame`] and [`Block::set_record`] prepare a run.
+//! - [`Block::load1`] to [`Block::load8`] read 1, 2, 4 or 8 bytes as a number, and [`Block::store1`] to
+//!   [`Block::store8`] write the lowest bytes of one, in little-endian order. Nothing is tested: it is the caller's
+//!   condition that the bytes lie in the block. They go through raw pointers, which two functions of one byte each alone
+//!   have.
+//! - [`Block::clear_frame`], and [`Block::set_record`] or [`Block::set_entry`], prepare a run.
 //!
 //! Only [`Block::new`] may fail, where memory runs out. No other call takes memory, and none refuses anything.
 //!
@@ -16,9 +17,11 @@
 //! [`Block::new`]: block::Block::new
 //! [`Block::load1`]: block::Block::load1
 //! [`Block::load8`]: block::Block::load8
-//! [`Block::store`]: block::Block::store
+//! [`Block::store1`]: block::Block::store1
+//! [`Block::store8`]: block::Block::store8
 //! [`Block::clear_frame`]: block::Block::clear_frame
 //! [`Block::set_record`]: block::Block::set_record
+//! [`Block::set_entry`]: block::Block::set_entry
 #![tactic(auto)]
 
 pub mod block;

@@ -156,6 +156,10 @@ module _ (l m : Interval) where
   kind_at (x ∷ xs) (y ∷ ys) (suc r) h k = kind_at xs ys r (omega arith) (omega arith)
 
   -- a list that holds, for each register, the join of both
+  -- a kind that was read where nothing was written yet
+  pub still_there : (a s : List Kind) (i : ℕ) (x : Kind) → i < length a → i < length s → kind_in s i ≡ kind_in a i → x ≡ get_or s i x → x ≡ get_or a i x
+  still_there a s i x inside inside_too same is = is ∙ get_or_default s i x Unset inside_too ∙ same ∙ sym (get_or_default a i x Unset inside)
+
   pub joined_lists : (a b s : List Kind) (n : ℕ) → length a ≡ n → length b ≡ n → length s ≡ n → ((r : ℕ) → r < n → kind_in s r ≡ join_kinds l m (kind_in a r) (kind_in b r)) → s ≡ join_lists l m a b
   joined_lists a b s n e f g h =
       let count : length (join_lists l m a b) ≡ length a = lists_count a b (omega arith) in

@@ -5,4 +5,5 @@ mod Entering
 pub mod Counts
 pub mod Plain
 pub mod Ways
+mod BothWays
 pub mod Monotone

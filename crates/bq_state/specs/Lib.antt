@@ -3,6 +3,7 @@ pub mod Offsets
 pub mod Kinds
 pub mod Rules
 pub mod Edges
+pub mod InPlace
 pub mod Covers
 pub mod Listed
 pub mod Reasons

@@ -1,11 +1,12 @@
 //! Where an instruction may lead, each feasible way with its state.
 
-ghost use Rattle.std.specs.Prelude.{◌≡◌, ◌<◌, [], ◌∷◌};
+ghost use Rattle.std.specs.Prelude.{◌≡◌, ◌<◌, Some, None, if◌then◌else◌};
 ghost use Rattle.bq_word.specs.Word.{bits_of, low, modulo};
 ghost use Rattle.bq_meaning.specs.Meaning.{target};
 ghost use Rattle.bq_range.specs.Interval.{Interval};
 ghost use Rattle.bq_state.specs.Kinds.{kind_of, read_kind};
-ghost use Rattle.bq_state.specs.Edges.{narrowed, with_number, with_numbers, refined, refined_by_number, refined_by_register, along, edges};
+ghost use Rattle.bq_state.specs.Edges.{narrowed, refined, refined_by_number, refined_by_register, edges};
+ghost use Rattle.bq_state.specs.InPlace.{where_feasible, arrived, way};
 ghost use Rattle.bq_state.specs.Listed.{edge_list, listed};
 
 use crate::kind::Kind;
@@ -52,53 +53,111 @@ fn target(unit: u64, distance: i32) -> u64
     (unit + 1).wrapping_add_signed(i64::from(distance))
 }
 
+// The unit behind an instruction, where it does not jump.
+fn unit_behind(jumps: bool, unit: u64) -> Option<u64>
+    ensures { result ≡ (if jumps then None else Some unit) }
+{
+    if jumps { None } else { Some(unit) }
+}
+
+// Where an instruction jumps that always does.
+fn unit_jumped_to(jumps: bool, unit: u64, distance: i32) -> Option<u64>
+    requires { unit < 4096 }
+    ensures { result ≡ (if jumps then Some (target unit distance) else None) }
+{
+    if jumps {
+        Some(target(unit, distance))
+    } else {
+        None
+    }
+}
+
 impl State {
-    // The state where the number in a register is in a range: one that holds the record's length says so of the record.
-    fn narrow(&self, register: Register, range: Range) -> Option<State>
-        ensures { result ≡ narrowed self.now register range (kind_of self.now register) }
+    // The number in a register is in a range: a register that holds the record's length says so of the record. Answers
+    // whether that can be.
+    fn narrow(&mut self, register: Register, range: Range) -> bool
+        ensures { where_feasible result self.new ≡ narrowed self.old register range (kind_of self.old register) }
     {
         match self.kind(register.number()) {
-            Kind::Length => Some(self.with_lengths(self.lengths().meet(range)?)),
-            _ => Some(self.with(register, Kind::Number(range))),
+            Kind::Length => match self.lengths().meet(range) {
+                Some(lengths) => {
+                    self.set_lengths(lengths);
+                    true
+                }
+                None => false,
+            },
+            _ => {
+                self.set(register, Kind::Number(range));
+                true
+            }
         }
     }
 
-    fn refine_by_number(
-        &self,
+    fn learn_by_number(
+        &mut self,
         width: Width,
         relation: Relation,
         taken: bool,
         dst: Register,
         word: u64,
-    ) -> Option<State>
-        ensures { result ≡ refined_by_number self.now width relation taken dst word (read_kind self.now dst) }
+    ) -> bool
+        ensures { where_feasible result self.new ≡ refined_by_number self.old width relation taken dst word (read_kind self.old dst) }
     {
         let Kind::Number(a) = self.read(dst) else {
-            return Some(*self);
+            return true;
         };
         let b = Range::single(low(width, word));
-        let (a, _) = Range::narrow(width, relation, taken, a, b)?;
-        self.narrow(dst, a)
+        match Range::narrow(width, relation, taken, a, b) {
+            Some((a, _)) => self.narrow(dst, a),
+            None => false,
+        }
     }
 
-    fn refine_by_register(
-        &self,
+    fn learn_by_register(
+        &mut self,
         width: Width,
         relation: Relation,
         taken: bool,
         dst: Register,
         src: Register,
-    ) -> Option<State>
-        ensures { result ≡ refined_by_register self.now width relation taken dst src (read_kind self.now dst) (read_kind self.now src) }
+    ) -> bool
+        ensures { where_feasible result self.new ≡ refined_by_register self.old width relation taken dst src (read_kind self.old dst) (read_kind self.old src) }
     {
         let Kind::Number(a) = self.read(dst) else {
-            return Some(*self);
+            return true;
         };
         let Kind::Number(b) = self.read(src) else {
-            return Some(*self);
+            return true;
         };
-        let (a, b) = Range::narrow(width, relation, taken, a, b)?;
-        self.narrow(dst, a)?.narrow(src, b)
+        match Range::narrow(width, relation, taken, a, b) {
+            Some((a, b)) => self.narrow(dst, a) && self.narrow(src, b),
+            None => false,
+        }
+    }
+
+    // The state becomes what is known on an edge of a branch; whether that edge is feasible is answered.
+    fn learn(
+        &mut self,
+        width: Width,
+        relation: Relation,
+        dst: Register,
+        operand: Operand,
+        taken: bool,
+    ) -> bool
+        ensures { where_feasible result self.new ≡ refined self.old width relation taken dst operand }
+    {
+        match operand {
+            Operand::Number(number) => {
+                self.learn_by_number(width, relation, taken, dst, word_of(number))
+            }
+            Operand::Register(src) => {
+                if src.number() == dst.number() {
+                    true
+                } else {
+                    self.learn_by_register(width, relation, taken, dst, src)
+                }
+            }
+        }
     }
 
     /// What is known on an edge of a branch on a relation: the edge where it holds, with `taken`, or
@@ -115,61 +174,56 @@ impl State {
     ) -> Option<State>
         ensures { result ≡ refined self.now width relation taken dst operand }
     {
-        match operand {
-            Operand::Number(number) => {
-                self.refine_by_number(width, relation, taken, dst, word_of(number))
-            }
-            Operand::Register(src) => {
-                if src.number() == dst.number() {
-                    Some(*self)
+        let mut state = *self;
+        if state.learn(width, relation, dst, operand, taken) {
+            Some(state)
+        } else {
+            None
+        }
+    }
+
+    /// Follows one way on from the instruction at a unit, given this state, which the instruction leaves: its jump, with
+    /// `jumps`, or the way to the unit behind it. Answers the unit where that way leads, and the state becomes what is
+    /// known there; none where the instruction has no such way, or where it is not feasible.
+    pub fn follow(&mut self, unit: u64, insn: &Insn, jumps: bool) -> Option<u64>
+        requires { unit < 4096 }
+        ensures { arrived result self.new ≡ way unit insn.now jumps self.old }
+    {
+        match insn {
+            Insn::Exit => None,
+            Insn::Jump { offset } => unit_jumped_to(jumps, unit, i32::from(*offset)),
+            Insn::JumpFar { distance } => unit_jumped_to(jumps, unit, *distance),
+            Insn::Branch {
+                width,
+                relation,
+                dst,
+                operand,
+                offset,
+            } => {
+                let next = if jumps {
+                    target(unit, i32::from(*offset))
                 } else {
-                    self.refine_by_register(width, relation, taken, dst, src)
+                    unit + 1
+                };
+                if self.learn(*width, *relation, *dst, *operand, jumps) {
+                    Some(next)
+                } else {
+                    None
                 }
             }
+            Insn::Wide { .. } => unit_behind(jumps, unit + 2),
+            _ => unit_behind(jumps, unit + 1),
         }
     }
 
-    // An edge of a branch, which leads to a unit.
-    fn branch_edge(
-        &self,
-        unit: u64,
-        width: Width,
-        relation: Relation,
-        taken: bool,
-        dst: Register,
-        operand: &Operand,
-    ) -> Option<Edge>
-        ensures { edge_list result ≡ along unit (refined self.now width relation taken dst operand.now) }
-    {
-        let state = self.refine(width, relation, dst, *operand, taken)?;
-        Some(Edge { unit, state })
-    }
-
-    // The edge of a jump.
-    fn jumps(&self, unit: u64, distance: i32) -> Edges
+    // The edge of one way on.
+    fn edge(&self, unit: u64, insn: &Insn, jumps: bool) -> Option<Edge>
         requires { unit < 4096 }
-        ensures { listed result ≡ (target unit distance, self.now) ∷ [] }
+        ensures { edge_list result ≡ way unit insn.now jumps self.now }
     {
-        Edges {
-            behind: None,
-            jump: Some(Edge {
-                unit: target(unit, distance),
-                state: *self,
-            }),
-        }
-    }
-
-    // The edge to a unit behind.
-    fn goes_on(&self, next: u64) -> Edges
-        ensures { listed result ≡ (next, self.now) ∷ [] }
-    {
-        Edges {
-            behind: Some(Edge {
-                unit: next,
-                state: *self,
-            }),
-            jump: None,
-        }
+        let mut state = *self;
+        let unit = state.follow(unit, insn, jumps)?;
+        Some(Edge { unit, state })
     }
 
     /// The feasible edges of the instruction at a unit, each with what is known there, given this
@@ -178,28 +232,9 @@ impl State {
         requires { unit < 4096 }
         ensures { listed result ≡ edges unit insn.now self.now }
     {
-        match insn {
-            Insn::Exit => Edges {
-                behind: None,
-                jump: None,
-            },
-            Insn::Jump { offset } => self.jumps(unit, i32::from(*offset)),
-            Insn::JumpFar { distance } => self.jumps(unit, *distance),
-            Insn::Branch {
-                width,
-                relation,
-                dst,
-                operand,
-                offset,
-            } => {
-                let target = target(unit, i32::from(*offset));
-                Edges {
-                    behind: self.branch_edge(unit + 1, *width, *relation, false, *dst, operand),
-                    jump: self.branch_edge(target, *width, *relation, true, *dst, operand),
-                }
-            }
-            Insn::Wide { .. } => self.goes_on(unit + 2),
-            _ => self.goes_on(unit + 1),
+        Edges {
+            behind: self.edge(unit, insn, false),
+            jump: self.edge(unit, insn, true),
         }
     }
 }

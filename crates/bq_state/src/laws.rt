@@ -1,7 +1,7 @@
 //! Laws of states, each the contract of a function that does nothing. Whoever needs one at a step
 //! calls it there.
 
-ghost use Rattle.std.specs.Prelude.{◌≡◌, ℕ, length, Bool, Some, Ok};
+ghost use Rattle.std.specs.Prelude.{◌≡◌, ◌++◌, ℕ, length, Bool, true, false, Some, Ok};
 ghost use Rattle.std.specs.List.{All};
 ghost use Rattle.bq_word.specs.declared.Width.{Width};
 ghost use Rattle.bq_word.specs.declared.Relation.{Relation};
@@ -11,6 +11,7 @@ ghost use Rattle.bq_range.specs.Interval.{Interval};
 ghost use Rattle.bq_state.specs.Kinds.{StateKinds, join_states, entry_state};
 ghost use Rattle.bq_state.specs.Rules.{transfer};
 ghost use Rattle.bq_state.specs.Edges.{refined, edges};
+ghost use Rattle.bq_state.specs.InPlace.{way};
 ghost use Rattle.bq_state.specs.Monotone.{StatesAreOrdered, StatesAreMonotone};
 ghost use Rattle.bq_state.specs.Plain.{StaysPlain};
 
@@ -60,4 +61,9 @@ pub fn refined_keeps_count()
 /// So does each edge of an instruction.
 pub fn edges_keep_count()
     ensures { (unit : ℕ) (i : Insn) (a : StateKinds) → All (λ e. length e.1.kinds ≡ length a.kinds) (edges unit i a) }
+{}
+
+/// The edges of an instruction are the one to a unit behind it and then that of its jump.
+pub fn edges_are_ways()
+    ensures { (unit : ℕ) (i : Insn) (a : StateKinds) → edges unit i a ≡ way unit i false a ++ way unit i true a }
 {}

@@ -16,20 +16,26 @@
 //! - [`State::edges`] gives the units where control may go on, each with its state: a branch narrows
 //!   the ranges that it compares, and an edge that no numbers lead to is left out.
 //! - [`State::covers`] compares states, and [`State::join`] gives the least that covers two.
+//! - [`State::apply`], [`State::follow`] and [`State::join_with`] change one state in place, as
+//!   [`State::transfer`], one of [`State::edges`] and [`State::join`] say: a state is large, and copies cost time.
 //!
 //! Pointers move by numbers at 64 bits alone, may be moved from register to register and nothing
 //! else, and never are stored, compared or answered.
 //!
 //! The tables stand in `specs/`, apart from the code: `Offsets`, `Kinds`, `Rules` with what each
-//! instruction makes of a state, `Edges`, `Listed` with the list that a call's edges are, and
-//! `Reasons`. `Covers` says what a state says of a machine's registers under a placement, and
-//! `Monotone` that of less an instruction leaves less. `laws` has what follows for all states. No call takes memory, and none refuses an input.
+//! instruction makes of a state, `Edges`, `InPlace` with one way on and what calls make of a state in
+//! place, `Listed` with the list that a call's edges are, and `Reasons`. `Covers` says what a state says
+//! of a machine's registers under a placement, and `Monotone` that of less an instruction leaves less.
+//! `laws` has what follows for all states. No call takes memory, and none refuses an input.
 //!
 //! The soundness of the rules, the checker and the verifier stand on this crate.
 //!
 //! [`State`]: state::State
 //! [`State::entry`]: state::State::entry
 //! [`State::transfer`]: state::State::transfer
+//! [`State::apply`]: state::State::apply
+//! [`State::follow`]: state::State::follow
+//! [`State::join_with`]: state::State::join_with
 //! [`State::edges`]: state::State::edges
 //! [`State::covers`]: state::State::covers
 //! [`State::join`]: state::State::join

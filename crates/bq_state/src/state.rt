@@ -1,7 +1,7 @@
 //! States: what is known of the eleven registers and of the record's length.
 
 ghost use Rattle.std.specs.Prelude.{◌≡◌, ◌↔◌, ◌<◌, ℕ, IsTrue, List, length};
-ghost use Rattle.bq_state.specs.Kinds.{StateKinds, StateCovers, kind_of, read_kind, with_kind, with_lengths, join_states, entry_state};
+ghost use Rattle.bq_state.specs.Kinds.{StateKinds, StateCovers, kind_of, read_kind, with_kind, with_lengths, join_lists, join_states, entry_state};
 ghost use Rattle.bq_state.specs.Plain.{IsPlain};
 
 use crate::bounds::Bounds;
@@ -114,22 +114,20 @@ impl State {
         self.kind(register.number()).as_number(self.lengths)
     }
 
-    // The state with this kind of a register.
-    pub(crate) fn with(&self, register: Register, kind: Kind) -> State
-        ensures { result ≡ with_kind self.now register kind }
+    // This kind takes the place of what was known of the register.
+    #[inline(always)]
+    pub(crate) fn set(&mut self, register: Register, kind: Kind)
+        ensures { self.new ≡ with_kind self.old register kind }
     {
-        let mut state = *self;
-        state.kinds[usize::from(register.number())] = kind;
-        state
+        self.kinds[usize::from(register.number())] = kind;
     }
 
-    // The state where records have these lengths.
-    pub(crate) fn with_lengths(&self, lengths: Bounds) -> State
-        ensures { result ≡ with_lengths self.now lengths }
+    // Records now have these lengths.
+    #[inline(always)]
+    pub(crate) fn set_lengths(&mut self, lengths: Bounds)
+        ensures { self.new ≡ with_lengths self.old lengths }
     {
-        let mut state = *self;
-        state.lengths = lengths;
-        state
+        self.lengths = lengths;
     }
 
     /// Whether what holds of the other, register by register, holds of this one.
@@ -152,17 +150,26 @@ impl State {
         ensures row { result ≡ join_states self.now other.now }
         ensures covers { StateCovers result self.now × StateCovers result other.now }
     {
-        let mut kinds = [Kind::Unset; 11];
-        for register in 0..11 {
-            kinds[register] = self.kinds[register].join(
-                self.lengths,
-                other.kinds[register],
-                other.lengths,
-            );
-        }
-        State {
-            kinds,
-            lengths: self.lengths.join(other.lengths),
-        }
+        let mut joined = *self;
+        joined.join_with(other);
+        joined
+    }
+
+    /// The state becomes the least that covers it and another.
+    pub fn join_with(&mut self, other: &State)
+        ensures row { self.new ≡ join_states self.old other.now }
+        ensures covers { StateCovers self.new self.old × StateCovers self.new other.now }
+    {
+        join_kinds(&mut self.kinds, self.lengths, &other.kinds, other.lengths);
+        self.lengths = self.lengths.join(other.lengths);
+    }
+}
+
+// Each kind becomes the least that covers it and the other of the register, each where records have its lengths.
+fn join_kinds(kinds: &mut [Kind; 11], lengths: Bounds, others: &[Kind; 11], other_lengths: Bounds)
+    ensures { kinds.new ≡ join_lists lengths other_lengths kinds.old others.now }
+{
+    for register in 0..11 {
+        kinds[register] = kinds[register].join(lengths, others[register], other_lengths);
     }
 }

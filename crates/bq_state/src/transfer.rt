@@ -1,8 +1,9 @@
 //! What an instruction makes of a state.
 
-ghost use Rattle.std.specs.Prelude.{◌≡◌, ℤ};
+ghost use Rattle.std.specs.Prelude.{◌≡◌, ℤ, IfErr, OnErr};
 ghost use Rattle.bq_word.specs.Word.{swap_bits, modulo};
 ghost use Rattle.bq_state.specs.Kinds.{read_kind};
+ghost use Rattle.bq_state.specs.InPlace.{became};
 ghost use Rattle.bq_state.specs.Rules.{and_then, known, number, writable, allowed, ordered_range, operand_kind, read_operand, taken_kind, loaded_state, transfer};
 
 use crate::kind::Kind;
@@ -74,19 +75,21 @@ impl State {
     }
 
     fn operate(
-        &self,
+        &mut self,
         width: Width,
         op: AluOp,
         dst: Register,
         operand: Operand,
-    ) -> Result<State, Rule>
-        ensures { result ≡ transfer (Insn.Alu width op dst operand) self.now }
+    ) -> Result<(), Rule>
+        ensures made { became result self.new ≡ transfer (Insn.Alu width op dst operand) self.old }
+        ensures kept { OnErr result (self.new ≡ self.old) }
     {
         let a = self.taken(op, dst).known()?;
         let b = self.operand(operand).known()?;
         writable(dst)?;
         let kind = allowed(Kind::alu(self.lengths(), width, op, a, b))?;
-        Ok(self.with(dst, kind))
+        self.set(dst, kind);
+        Ok(())
     }
 
     // The number in a register from which an instruction makes one in `dst`.
@@ -98,86 +101,107 @@ impl State {
         kind.number(Rule::WrongKind)
     }
 
-    fn negate(&self, width: Width, dst: Register) -> Result<State, Rule>
-        ensures { result ≡ transfer (Insn.Negate width dst) self.now }
+    fn negate(&mut self, width: Width, dst: Register) -> Result<(), Rule>
+        ensures made { became result self.new ≡ transfer (Insn.Negate width dst) self.old }
+        ensures kept { OnErr result (self.new ≡ self.old) }
     {
         let range = self.source(dst, dst)?;
-        Ok(self.with(dst, Kind::Number(Range::negate(width, range))))
+        self.set(dst, Kind::Number(Range::negate(width, range)));
+        Ok(())
     }
 
-    fn extend(&self, extension: Extension, dst: Register, src: Register) -> Result<State, Rule>
-        ensures { result ≡ transfer (Insn.Extend extension dst src) self.now }
+    fn extend(&mut self, extension: Extension, dst: Register, src: Register) -> Result<(), Rule>
+        ensures made { became result self.new ≡ transfer (Insn.Extend extension dst src) self.old }
+        ensures kept { OnErr result (self.new ≡ self.old) }
     {
         let range = self.source(dst, src)?;
-        Ok(self.with(
+        self.set(
             dst,
             Kind::Number(Range::extend(extension.source(), extension.width(), range)),
-        ))
+        );
+        Ok(())
     }
 
-    fn order(&self, order: ByteOrder, bits: SwapBits, dst: Register) -> Result<State, Rule>
-        ensures { result ≡ transfer (Insn.Order order bits dst) self.now }
+    fn order(&mut self, order: ByteOrder, bits: SwapBits, dst: Register) -> Result<(), Rule>
+        ensures made { became result self.new ≡ transfer (Insn.Order order bits dst) self.old }
+        ensures kept { OnErr result (self.new ≡ self.old) }
     {
         let range = self.source(dst, dst)?;
-        Ok(self.with(dst, Kind::Number(ordered(order, bits, range))))
+        self.set(dst, Kind::Number(ordered(order, bits, range)));
+        Ok(())
     }
 
-    fn branch(&self, dst: Register, operand: Operand) -> Result<State, Rule>
-        ensures { (w : Width) (r : Relation) (z : ℤ) → result ≡ transfer (Insn.Branch w r dst operand z) self.now }
+    fn branch(&self, dst: Register, operand: Operand) -> Result<(), Rule>
+        ensures { (w : Width) (r : Relation) (z : ℤ) → became result self.now ≡ transfer (Insn.Branch w r dst operand z) self.now }
     {
         let a = self.read(dst).known()?;
         let b = self.read_operand(operand).known()?;
         a.number(Rule::WrongKind)?;
         b.number(Rule::WrongKind)?;
-        Ok(*self)
+        Ok(())
     }
 
-    fn exit(&self) -> Result<State, Rule>
-        ensures { result ≡ transfer Insn.Exit self.now }
+    fn exit(&self) -> Result<(), Rule>
+        ensures { became result self.now ≡ transfer Insn.Exit self.now }
     {
         self.kind(0)
             .as_number(self.lengths())
             .known()?
             .number(Rule::AnswerKind)?;
-        Ok(*self)
+        Ok(())
     }
 
-    // The state with a number that was loaded from so many bytes.
+    // A number is loaded from so many bytes.
     fn load(
-        &self,
+        &mut self,
         dst: Register,
         base: Register,
         offset: i16,
         size: u32,
         range: Range,
-    ) -> Result<State, Rule>
-        ensures { result ≡ loaded_state self.now dst base offset size range }
+    ) -> Result<(), Rule>
+        ensures made { became result self.new ≡ loaded_state self.old dst base offset size range }
+        ensures kept { OnErr result (self.new ≡ self.old) }
     {
         let from = self.read(base).known()?;
         writable(dst)?;
         from.readable(self.lengths(), offset, size)?;
-        Ok(self.with(dst, Kind::Number(range)))
+        self.set(dst, Kind::Number(range));
+        Ok(())
     }
 
-    fn store(&self, size: Size, base: Register, offset: i16, value: Operand) -> Result<State, Rule>
-        ensures { result ≡ transfer (Insn.Store size base offset value) self.now }
+    fn store(&self, size: Size, base: Register, offset: i16, value: Operand) -> Result<(), Rule>
+        ensures { became result self.now ≡ transfer (Insn.Store size base offset value) self.now }
     {
         let to = self.read(base).known()?;
         let value = self.read_operand(value).known()?;
         to.storable(value, offset, size.bytes())?;
-        Ok(*self)
+        Ok(())
     }
 
-    fn wide(&self, dst: Register, value: u64) -> Result<State, Rule>
-        ensures { result ≡ transfer (Insn.Wide dst value) self.now }
+    fn wide(&mut self, dst: Register, value: u64) -> Result<(), Rule>
+        ensures made { became result self.new ≡ transfer (Insn.Wide dst value) self.old }
+        ensures kept { OnErr result (self.new ≡ self.old) }
     {
         writable(dst)?;
-        Ok(self.with(dst, Kind::Number(Range::single(value))))
+        self.set(dst, Kind::Number(Range::single(value)));
+        Ok(())
     }
 
     /// The state after an instruction, or the first rule that it breaks.
     pub fn transfer(&self, insn: &Insn) -> Result<State, Rule>
         ensures { result ≡ transfer insn.now self.now }
+    {
+        let mut state = *self;
+        state.apply(insn)?;
+        Ok(state)
+    }
+
+    /// The state becomes that after an instruction; where that breaks a rule, the state stays and the first such rule is
+    /// answered.
+    pub fn apply(&mut self, insn: &Insn) -> Result<(), Rule>
+        ensures made { became result self.new ≡ transfer insn.now self.old }
+        ensures kept { OnErr result (self.new ≡ self.old) }
     {
         match *insn {
             Insn::Alu {
@@ -193,7 +217,7 @@ impl State {
                 src,
             } => self.extend(extension, dst, src),
             Insn::Order { order, bits, dst } => self.order(order, bits, dst),
-            Insn::Jump { .. } | Insn::JumpFar { .. } => Ok(*self),
+            Insn::Jump { .. } | Insn::JumpFar { .. } => Ok(()),
             Insn::Branch { dst, operand, .. } => self.branch(dst, operand),
             Insn::Exit => self.exit(),
             Insn::Load {

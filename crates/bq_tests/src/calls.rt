@@ -165,10 +165,10 @@ fn a_block_holds_a_frame_and_a_record(rt: HostRuntime) -> Result<(), Fail> {
     block.is_block();
     block.set_record(&[7; 16]);
     unsafe {
-        block.store::<8>(504, 0x0807_0605_0403_0201);
-        block.store::<1>(0, 0x1ff);
-        block.store::<2>(1, 0x1_2345);
-        block.store::<4>(4, u64::MAX);
+        block.store8(504, 0x0807_0605_0403_0201);
+        block.store1(0, 0x1ff);
+        block.store2(1, 0x1_2345);
+        block.store4(4, u64::MAX);
     }
     assert_eq!(rt; unsafe { block.load8(508) }, 0x0707_0707_0807_0605);
     assert_eq!(rt; unsafe { block.load4(0) }, 0x23_45ff);

@@ -6,7 +6,7 @@ ghost use Rattle.bq_state.specs.declared.rule.Rule.{Rule};
 ghost use Rattle.bq_state.specs.Kinds.{StateKinds, entry_state, all_lengths};
 ghost use Rattle.bq_state.specs.Rules.{transfer};
 ghost use Rattle.bq_state.specs.Edges.{edges};
-ghost use Rattle.bq_state.specs.Listed.{edge_list};
+ghost use Rattle.bq_state.specs.InPlace.{way};
 ghost use Rattle.bq_sound.specs.Passes.{Passes, note_at};
 ghost use Rattle.bq_verify.specs.States.{AreStates};
 ghost use Rattle.bq_verify.specs.Refused.{IsRefused, IsBelow};
@@ -20,7 +20,7 @@ use bq_flow::flow::Flow;
 use bq_insn::insn::Insn;
 use bq_insn::text::Text;
 use bq_state::bounds::Bounds;
-use bq_state::edges::Edge;
+use bq_state::laws::edges_are_ways;
 use bq_state::state::State;
 use std::alloc::{AllocError, Global};
 
@@ -36,19 +36,20 @@ fn entered(alloc: Global, units: usize, bounds: Bounds) -> Result<Vec<Option<Sta
     Ok(states)
 }
 
-/// A state arrives at the unit where an edge leads.
-fn arrive(states: &mut Vec<Option<State>>, edge: Option<Edge>)
-    requires { AllWithin states.old.items (edge_list edge) }
-    ensures { states.new.items ≡ with_arrivals states.old.items (edge_list edge) }
+/// Where one way on from an instruction leads, the state there arrives, given the state that the instruction leaves.
+fn arrive(states: &mut Vec<Option<State>>, unit: usize, insn: &Insn, after: &State, jumps: bool)
+    requires within { unit < 4096 }
+    requires edges { AllWithin states.old.items (way unit insn.now jumps after.now) }
+    ensures { states.new.items ≡ with_arrivals states.old.items (way unit insn.now jumps after.now) }
 {
-    let Some(Edge { unit, state }) = edge else {
+    let mut state = *after;
+    let Some(next) = state.follow(unit as u64, insn, jumps) else {
         return;
     };
-    let there = &mut states[unit as usize];
-    *there = Some(match there {
-        Some(joined) => joined.join(&state),
-        None => state,
-    });
+    match &mut states[next as usize] {
+        Some(joined) => joined.join_with(&state),
+        none => *none = Some(state),
+    }
 }
 
 /// What the instruction at a unit leaves arrives where its feasible edges lead; or the rule that it
@@ -64,13 +65,13 @@ fn lead_on(
     ensures ok { IfOk result (λ _. (after : StateKinds) × (transfer insn.now state ≡ Ok after) × (states.new.items ≡ with_arrivals states.old.items (edges unit insn.now after))) }
     ensures err { IfErr result (λ fault. (rule : Rule) × (fault ≡ CheckFault.Rule unit rule) × (transfer insn.now state ≡ Err rule)) }
 {
-    let after = match state.transfer(insn) {
-        Ok(after) => after,
-        Err(rule) => return Err(CheckFault::Rule { unit, rule }),
-    };
-    let edges = after.edges(unit as u64, insn);
-    arrive(states, edges.behind);
-    arrive(states, edges.jump);
+    let mut after = state;
+    if let Err(rule) = after.apply(insn) {
+        return Err(CheckFault::Rule { unit, rule });
+    }
+    edges_are_ways();
+    arrive(states, unit, insn, &after, false);
+    arrive(states, unit, insn, &after, true);
     Ok(())
 }
 

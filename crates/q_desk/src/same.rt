@@ -70,11 +70,11 @@ fn is_same_view(view: &View, other: &View) -> bool
     ensures { result ≡ is_same_view view.now other.now }
 {
     let mut others = other.records();
-    for entry in view.records() {
-        let Some(other) = others.next() else {
+    for (id, stored) in view.records() {
+        let Some((other_id, other)) = others.next() else {
             return false;
         };
-        if !is_same_entry(entry, other) {
+        if !is_same_entry((id, *stored), (other_id, *other)) {
             return false;
         }
     }

@@ -1,7 +1,6 @@
 -- The bytes of a record, part by part, and the bounds of the steps.
-use Rattle.std.proofs.Common.{Fits, w64, ◌≡◌, ℕ, zero, suc, ◌+◌, ◌*◌, ◌<◌, ◌≤◌, List, [], ◌∷◌, ◌++◌, length, take, Option, Some, None, refl, sym, ap, ◌∙◌, subst, arith, rules}
+use Rattle.std.proofs.Common.{Fits, w64, ◌≡◌, ℕ, zero, suc, ◌+◌, ◌*◌, ◌<◌, ◌≤◌, List, [], ◌∷◌, ◌++◌, length, map, take, Option, Some, None, refl, ap, ◌∙◌, subst, arith, rules, Bor}
 use Rattle.std.proofs.Math.Nat.{mul-le-mul}
-use Rattle.std.proofs.lemmas.List.{map-id}
 use Rattle.std.proofs.lemmas.Map.Iter.{iter_end}
 use Rattle.std.proofs.lemmas.Slice.{take-put_mid}
 use Rattle.std.specs.Map.Iter.{TakesFirst}
@@ -45,9 +44,13 @@ lengths_at lengths v k id e h at = all_get (λ x. IsIn (16 + length x.1.value) l
     all_get P (y ∷ ys) zero x h at = let same : y ≡ x = cc in subst P same h.0
     all_get P (y ∷ ys) (suc k) x h at = all_get P ys k x h.1 at
 
+-- an entry that an iterator lends
+abbrev pub shown : ℕ × Bor Stored → ℕ × Stored
+shown e = (e.0, e.1.now)
+
 -- a loop over entries has gone over all of them
-pub all_read : (entries yielded s t u : List (ℕ × Stored)) (r : Option (ℕ × Stored)) → s ≡ entries → Yields (TakesFirst (λ e. e)) s yielded t → r ≡ None → TakesFirst (λ e. e) t r u → yielded ≡ entries
-all_read entries yielded s t u r start yields end step = sym (map-id yielded) ∙ (iter_end (λ e. e) entries yielded s t u r start yields end step).0
+pub all_read : (entries : List (ℕ × Stored)) (yielded : List (ℕ × Bor Stored)) (s t u : List (ℕ × Stored)) (r : Option (ℕ × Bor Stored)) → s ≡ entries → Yields (TakesFirst shown) s yielded t → r ≡ None → TakesFirst shown t r u → map shown yielded ≡ entries
+all_read entries yielded s t u r start yields end step = (iter_end shown entries yielded s t u r start yields end step).0
 
 -- the steps of a view's records fit 64 bits
 pub room : (steps more longest n : ℕ) → steps ≤ longest * n → more ≤ longest → longest ≤ 4096 → n < 256 → Fits w64 (steps + more)

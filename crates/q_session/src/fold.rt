@@ -34,7 +34,7 @@ pub fn fold_checked(certified: &Certified, view: &View, start: u64) -> Ran
     let mut ran = Ran::begun(start);
     for (id, stored) in view.records() {
         appended();
-        let length = write_record(&mut bytes, id, &stored);
+        let length = write_record(&mut bytes, id, stored);
         let ended = certified.run_certified(&placement, &bytes[..length], &mut frame, ran.acc);
         ran = Ran {
             acc: ended.acc,
@@ -45,7 +45,7 @@ pub fn fold_checked(certified: &Certified, view: &View, start: u64) -> Ran
 }
 
 // The bytes of an entry, which are put first; how many they are is answered.
-pub(crate) fn write_record(bytes: &mut [u8; RECORD_ROOM], id: u64, stored: &Stored) -> usize
+fn write_record(bytes: &mut [u8; RECORD_ROOM], id: u64, stored: &Stored) -> usize
     ensures few { result ≤ 128 }
     ensures length { result ≡ 16 + length stored.now.value }
     ensures first { take result bytes.new ≡ record_bytes (id, stored.now) }

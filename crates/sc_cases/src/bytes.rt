@@ -12,7 +12,7 @@ use std::io;
 
 fn tell_view(rt: &impl Print, view: &View) -> io::Result<()> {
     for (id, stored) in view.records() {
-        let byte = first_byte(&stored);
+        let byte = first_byte(stored);
         print!(rt; " value {id} {} {byte}", stored.number())?;
     }
     Ok(())

@@ -54,8 +54,8 @@ pub(crate) fn first_byte(stored: &Stored) -> u8 {
     stored.value().bytes().first().copied().unwrap_or_default()
 }
 
-fn tell_value(rt: &impl Print, id: u64, stored: Stored) -> io::Result<()> {
-    let byte = first_byte(&stored);
+fn tell_value(rt: &impl Print, id: u64, stored: &Stored) -> io::Result<()> {
+    let byte = first_byte(stored);
     print!(rt; " {id} {} {byte}", stored.number())
 }
 

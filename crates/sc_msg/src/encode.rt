@@ -93,10 +93,10 @@ fn push_value(out: &mut Vec<u8>, value: &Value) -> Result<(), AllocError>
     out.extend_from_slice(value.bytes())
 }
 
-fn push_stored(out: &mut Vec<u8>, stored: Stored) -> Result<(), AllocError>
-    requires { length stored.value ≡ value_length }
-    ensures legal { OnOk result (IsStored stored) }
-    ensures spelled { OnOk result (out.new.items ≡ out.old.items ++ stored_bytes stored) }
+fn push_stored(out: &mut Vec<u8>, stored: &Stored) -> Result<(), AllocError>
+    requires { length stored.now.value ≡ value_length }
+    ensures legal { OnOk result (IsStored stored.now) }
+    ensures spelled { OnOk result (out.new.items ≡ out.old.items ++ stored_bytes stored.now) }
 {
     push_number(out, stored.number())?;
     push_value(out, stored.value())

@@ -122,8 +122,8 @@ pub(crate) struct Rest<'a> {
 
 /// The next entry that is to come.
 #[inline]
-pub(crate) fn next_entry(rest: &mut Rest<'_>) -> Option<Entry>
-    ensures { TakesFirst (λ e. e) (rest.old.entries.now ++ joined rest.old.chunks.now) result (rest.new.entries.now ++ joined rest.new.chunks.now) }
+pub(crate) fn next_entry<'a>(rest: &mut Rest<'a>) -> Option<&'a Entry>
+    ensures { TakesFirst (λ e. e.now) (rest.old.entries.now ++ joined rest.old.chunks.now) result (rest.new.entries.now ++ joined rest.new.chunks.now) }
 {
     while rest.entries.is_empty() {
         let (chunk, chunks) = rest.chunks.split_first()?;
@@ -132,7 +132,7 @@ pub(crate) fn next_entry(rest: &mut Rest<'_>) -> Option<Entry>
     }
     let (entry, entries) = rest.entries.split_first()?;
     rest.entries = entries;
-    Some(*entry)
+    Some(entry)
 }
 
 /// The number at an id. Only entries from that id on are then still to come.

@@ -1,6 +1,7 @@
 //! What a node stores: 0 to 112 bytes.
 ghost use Rattle.std.specs.Prelude.{◌≡◌, ◌≤◌, ◌<◌, ◌↔◌, length, take, All, IfOk, IsErrOf};
 ghost use Rattle.sc_view.specs.Faults.{value_reason};
+ghost use Rattle.sc_view.specs.Padded.{padded};
 ghost use Rattle.sc_view.specs.Values.{most_bytes};
 
 use reasons::{Reason, told};
@@ -83,6 +84,15 @@ impl Value {
         ensures fit { All (λ b. b < 256) result.now }
     {
         first(&self.bytes, usize::from(self.len))
+    }
+
+    /// The bytes, and zeros behind them up to 112.
+    #[inline]
+    pub fn room(&self) -> &[u8; MOST_BYTES]
+        ensures room { result.now ≡ padded self.now }
+        ensures front { take (length self.now) result.now ≡ self.now }
+    {
+        &self.bytes
     }
 }
 

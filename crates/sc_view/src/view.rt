@@ -148,14 +148,15 @@ impl<'a> Model for Records<'a> {
 }
 
 impl<'a> Iterator for Records<'a> {
-    type Item = Entry;
+    type Item = (u64, &'a Stored);
 
-    ghost next_gives = { TakesFirst (λ e. e) };
+    ghost next_gives = { TakesFirst (λ e. (e.0, e.1.now)) };
 
     ghost remaining = { λ s. at_most (length s) };
 
-    fn next(&mut self) -> Option<Entry> {
-        next_entry(&mut self.rest)
+    fn next(&mut self) -> Option<(u64, &'a Stored)> {
+        let (id, stored) = next_entry(&mut self.rest)?;
+        Some((*id, stored))
     }
 }
 

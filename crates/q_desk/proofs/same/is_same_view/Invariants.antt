@@ -3,5 +3,5 @@ use Rattle.std.specs.Cmp.Lexicographic.{pointwise}
 use Rattle.q_desk.specs.Desks.{is_same_entry, is_same_view}
 use Rattle.q_desk.proofs.same.is_same_view.Given as goal
 
-abbrev pub invariant-loop-entry : goal.invariant-loop-entry
-invariant-loop-entry l = pointwise is_same_entry l.entry-iterator l.others ≡ is_same_view l.view l.other
+abbrev pub invariant-loop-id : goal.invariant-loop-id
+invariant-loop-id l = pointwise is_same_entry l.id-iterator l.others ≡ is_same_view l.view l.other

@@ -12,7 +12,7 @@ loop-id-preserved c =
     let v = c.args.view.now in
     let new = c.loop-id.out.items in
     let id = c.in-Some.id in
-    let stored = c.in-Some.stored in
+    let stored = c.in-Some.stored.now in
     written_more view_layout (fin.len v) (fin.entries v) c.args.out.now.items new c.push_stored.new.out.items (id, stored) c.next.new.self _ c.loop-id.invariant c.in-Some.ensures.steps (c.in_ok-push_number.ensures.fits, c.in_ok-push_stored.ensures.legal)
     (c.in_ok-push_stored.ensures.spelled ∙ ap (λ (l : List ℕ). l ++ stored_bytes stored) c.in_ok-push_number.ensures.spelled ∙ append_assoc new (number_bytes 8 id) (stored_bytes stored))
 
@@ -25,4 +25,4 @@ pub push_stored-requires : goal.push_stored-requires
 push_stored-requires c =
     let v = c.args.view.now in
     let so_far = c.loop-id.invariant in
-    all_at (OfLength 48) (fin.entries v) so_far.done c.next.new.self (c.in-Some.id, c.in-Some.stored) (so_far.split ∙ ap (λ (l : List (ℕ × Stored)). so_far.done ++ l) c.in-Some.ensures.steps) (entries_of_length 48 v c.requires)
+    all_at (OfLength 48) (fin.entries v) so_far.done c.next.new.self (c.in-Some.id, c.in-Some.stored.now) (so_far.split ∙ ap (λ (l : List (ℕ × Stored)). so_far.done ++ l) c.in-Some.ensures.steps) (entries_of_length 48 v c.requires)

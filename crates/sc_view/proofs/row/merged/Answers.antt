@@ -24,25 +24,25 @@ loop-entry-init c =
 
 pub put_entry-requires-clause-room : goal.put_entry-requires-clause-room
 put_entry-requires-clause-room c =
-    let new = newer_next true c.in-Some.entry _ _ _ (joined c.loop-entry.row.items) _ c.seek.result c.in-Some.ensures c.loop-entry.invariant.beside.tells c.loop-entry.invariant.same c.seek.ensures.value (ap (is_larger c.seek.result) (sym c.number.ensures.number) ∙ sym c.is_larger.ensures ∙ c.if-is_larger.true) in
-    room_next c.in-Some.entry _ _ (joined c.loop-entry.row.items) _ c.in-Some.ensures c.loop-entry.invariant.row.rises new c.loop-entry.invariant.left c.requires.room
+    let new = newer_next true c.in-Some.entry.now _ _ _ (joined c.loop-entry.row.items) _ c.seek.result c.in-Some.ensures c.loop-entry.invariant.beside.tells c.loop-entry.invariant.same c.seek.ensures.value (ap (is_larger c.seek.result) (sym c.number.ensures.number) ∙ sym c.is_larger.ensures ∙ c.if-is_larger.true) in
+    room_next c.in-Some.entry.now _ _ (joined c.loop-entry.row.items) _ c.in-Some.ensures c.loop-entry.invariant.row.rises new c.loop-entry.invariant.left c.requires.room
 
 pub loop-entry-preserved-in-Continue-branch-2 : goal.loop-entry-preserved-in-Continue-branch-2
 loop-entry-preserved-in-Continue-branch-2 c =
-    let new = newer_next true c.in-Some.entry _ _ _ (joined c.loop-entry.row.items) _ c.seek.result c.in-Some.ensures c.loop-entry.invariant.beside.tells c.loop-entry.invariant.same c.seek.ensures.value (ap (is_larger c.seek.result) (sym c.number.ensures.number) ∙ sym c.is_larger.ensures ∙ c.if-is_larger.true) in
+    let new = newer_next true c.in-Some.entry.now _ _ _ (joined c.loop-entry.row.items) _ c.seek.result c.in-Some.ensures c.loop-entry.invariant.beside.tells c.loop-entry.invariant.same c.seek.ensures.value (ap (is_larger c.seek.result) (sym c.number.ensures.number) ∙ sym c.is_larger.ensures ∙ c.if-is_larger.true) in
     record {
       row = c.in_ok-put_entry.ensures.row;
-      beside = beside_next c.in-Some.entry _ _ _ _ _ c.in-Some.ensures c.seek.ensures.rest c.loop-entry.invariant.beside;
-      same = same_next c.in-Some.entry _ _ (joined c.loop-entry.row.items) _ _ c.in-Some.ensures c.in_ok-put_entry.ensures.ok c.loop-entry.invariant.beside.theirs c.loop-entry.invariant.same;
-      left = left_put c.in-Some.entry _ _ (joined c.loop-entry.row.items) _ _ c.in-Some.ensures c.in_ok-put_entry.ensures.ok new c.loop-entry.invariant.left;
+      beside = beside_next c.in-Some.entry.now _ _ _ _ _ c.in-Some.ensures c.seek.ensures.rest c.loop-entry.invariant.beside;
+      same = same_next c.in-Some.entry.now _ _ (joined c.loop-entry.row.items) _ _ c.in-Some.ensures c.in_ok-put_entry.ensures.ok c.loop-entry.invariant.beside.theirs c.loop-entry.invariant.same;
+      left = left_put c.in-Some.entry.now _ _ (joined c.loop-entry.row.items) _ _ c.in-Some.ensures c.in_ok-put_entry.ensures.ok new c.loop-entry.invariant.left;
     }
 
 pub loop-entry-preserved : goal.loop-entry-preserved
 loop-entry-preserved c =
-    let old = newer_next false c.in-Some.entry _ _ _ (joined c.loop-entry.row.items) _ c.seek.result c.in-Some.ensures c.loop-entry.invariant.beside.tells c.loop-entry.invariant.same c.seek.ensures.value (ap (is_larger c.seek.result) (sym c.number.ensures.number) ∙ sym c.is_larger.ensures ∙ c.if-is_larger.false) in
+    let old = newer_next false c.in-Some.entry.now _ _ _ (joined c.loop-entry.row.items) _ c.seek.result c.in-Some.ensures c.loop-entry.invariant.beside.tells c.loop-entry.invariant.same c.seek.ensures.value (ap (is_larger c.seek.result) (sym c.number.ensures.number) ∙ sym c.is_larger.ensures ∙ c.if-is_larger.false) in
     record {
       row = c.loop-entry.invariant.row;
-      beside = beside_next c.in-Some.entry _ _ _ _ _ c.in-Some.ensures c.seek.ensures.rest c.loop-entry.invariant.beside;
-      same = same_tail c.in-Some.entry _ _ (joined c.loop-entry.row.items) _ c.in-Some.ensures c.loop-entry.invariant.beside.theirs c.loop-entry.invariant.same;
-      left = left_kept c.in-Some.entry _ _ (joined c.loop-entry.row.items) _ c.in-Some.ensures old c.loop-entry.invariant.left;
+      beside = beside_next c.in-Some.entry.now _ _ _ _ _ c.in-Some.ensures c.seek.ensures.rest c.loop-entry.invariant.beside;
+      same = same_tail c.in-Some.entry.now _ _ (joined c.loop-entry.row.items) _ c.in-Some.ensures c.loop-entry.invariant.beside.theirs c.loop-entry.invariant.same;
+      left = left_kept c.in-Some.entry.now _ _ (joined c.loop-entry.row.items) _ c.in-Some.ensures old c.loop-entry.invariant.left;
     }
