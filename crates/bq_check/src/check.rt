@@ -1,12 +1,12 @@
 //! The checker: whether notes pass for a text, and else their first fault.
 
-ghost use Rattle.std.specs.Prelude.{◌≡◌, ◌<◌, ◌≤◌, ◌↔◌, ℕ, length, IsTrue, IfSome, IfNone, IfOk, IfErr, OnOk, MatchResult, ⊤};
+ghost use Rattle.std.specs.Prelude.{◌≡◌, ◌<◌, ◌≤◌, ◌↔◌, ℕ, length, IsTrue, IfSome, IfNone, IfOk, IfErr, OnOk, MatchResult, Some, ⊤};
 ghost use Rattle.bq_insn.specs.Slots.{units, IsText};
 ghost use Rattle.bq_flow.specs.Paths.{IsLongest};
 ghost use Rattle.bq_state.specs.Edges.{edges};
 ghost use Rattle.bq_state.specs.InPlace.{way};
-ghost use Rattle.bq_state.specs.Kinds.{all_lengths};
-ghost use Rattle.bq_sound.specs.Passes.{NoteCovers, AllCovered, IsFine, AllFine, Passes};
+ghost use Rattle.bq_state.specs.Kinds.{StateKinds, all_lengths};
+ghost use Rattle.bq_sound.specs.Passes.{note_at, NoteCovers, AllCovered, IsFine, AllFine, Passes};
 ghost use Rattle.bq_check.specs.Certificate.{IsCertified};
 ghost use Rattle.bq_check.specs.Faults.{MayStand, AllMayStand, IsFirstWrongState, IsOpened, IsUnitFault, IsFirstFault};
 
@@ -19,6 +19,7 @@ use bq_flow::flow::Flow;
 use bq_insn::insn::Insn;
 use bq_insn::text::Text;
 use bq_state::bounds::Bounds;
+use bq_state::edges::{Onward, way_on};
 use bq_state::laws::edges_are_ways;
 use bq_state::state::State;
 use std::alloc::Global;
@@ -34,24 +35,39 @@ impl Notes {
         }
     }
 
-    /// Whether one way on from an instruction is covered where it leads, given the state that the instruction leaves.
-    fn cover_way(&self, unit: usize, insn: &Insn, after: &State, jumps: bool) -> bool
+    /// Whether one way on from an instruction is covered where it leads, given the state that the instruction leaves,
+    /// which is used up.
+    fn cover_way(&self, unit: usize, insn: &Insn, state: &mut State, jumps: bool) -> bool
         requires { unit < 4096 }
-        ensures { IsTrue result ↔ AllCovered self.now (way unit insn.now jumps after.now) }
+        ensures { IsTrue result ↔ AllCovered self.now (way unit insn.now jumps state.old) }
     {
-        let mut state = *after;
         match state.follow(unit as u64, insn, jumps) {
-            Some(next) => self.cover(next as usize, &state),
+            Some(next) => self.cover(next as usize, state),
             None => true,
         }
     }
 
-    fn cover_edges(&self, unit: usize, insn: &Insn, after: &State) -> bool
+    /// As [`Notes::cover_edges`], whatever the instruction.
+    fn cover_ways(&self, unit: usize, insn: &Insn, after: &mut State) -> bool
         requires { unit < 4096 }
-        ensures { IsTrue result ↔ AllCovered self.now (edges unit insn.now after.now) }
+        ensures { IsTrue result ↔ AllCovered self.now (edges unit insn.now after.old) }
     {
         edges_are_ways();
-        self.cover_way(unit, insn, after, false) && self.cover_way(unit, insn, after, true)
+        let mut behind = *after;
+        self.cover_way(unit, insn, &mut behind, false) && self.cover_way(unit, insn, after, true)
+    }
+
+    /// Whether all edges of an instruction are covered where they lead, given the state that the instruction leaves,
+    /// which is used up.
+    fn cover_edges(&self, unit: usize, insn: &Insn, after: &mut State) -> bool
+        requires { unit < 4096 }
+        ensures { IsTrue result ↔ AllCovered self.now (edges unit insn.now after.old) }
+    {
+        match way_on(unit as u64, insn) {
+            Onward::Nowhere => true,
+            Onward::To(next) => self.cover(next as usize, after),
+            Onward::Branches => self.cover_ways(unit, insn, after),
+        }
     }
 }
 
@@ -62,16 +78,33 @@ fn may_stand(text: &Text, bounds: Bounds, unit: usize, state: &State) -> bool
     text.at(unit).is_some() && is_suited(bounds, state)
 }
 
+/// Whether every state may stand at a unit: an instruction begins there, and records have several lengths.
+fn any_may_stand(text: &Text, bounds: Bounds, unit: usize) -> bool
+    ensures { IsTrue result → (state : StateKinds) → MayStand bounds text.now unit state }
+{
+    text.at(unit).is_some() && bounds.least() != bounds.most()
+}
+
+/// Whether the state at a unit, if there is one, may stand there.
+fn is_rightly_noted(text: &Text, notes: &Notes, bounds: Bounds, unit: usize) -> bool
+    ensures right { IsTrue result → (state : StateKinds) → note_at notes.now unit ≡ Some state → MayStand bounds text.now unit state }
+    ensures wrong { (IsTrue result → ⊥) → (state : StateKinds) × (note_at notes.now unit ≡ Some state) × (MayStand bounds text.now unit state → ⊥) }
+{
+    any_may_stand(text, bounds, unit)
+        || match notes.note(unit) {
+            Some(state) => may_stand(text, bounds, unit, state),
+            None => true,
+        }
+}
+
 /// The first unit with a state that may not stand there.
 fn first_wrong_state(text: &Text, notes: &Notes, bounds: Bounds) -> Option<usize>
     ensures found { IfSome result (IsFirstWrongState bounds text.now notes.now) }
     ensures none { IfNone result (AllMayStand bounds text.now notes.now (units text.now)) }
 {
     for unit in 0..text.units() {
-        if let Some(state) = notes.note(unit) {
-            if !may_stand(text, bounds, unit, state) {
-                return Some(unit);
-            }
+        if !is_rightly_noted(text, notes, bounds, unit) {
+            return Some(unit);
         }
     }
     None
@@ -87,7 +120,7 @@ fn check_unit(notes: &Notes, unit: usize, insn: &Insn, state: &State) -> Result<
     if let Err(rule) = after.apply(insn) {
         return Err(CheckFault::Rule { unit, rule });
     }
-    if notes.cover_edges(unit, insn, &after) {
+    if notes.cover_edges(unit, insn, &mut after) {
         Ok(())
     } else {
         Err(CheckFault::NotCovered { unit })

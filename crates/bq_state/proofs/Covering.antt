@@ -1,7 +1,7 @@
 -- What covers what.
-use Rattle.std.proofs.Common.{◌≡◌, true, inl, inr, ℕ, zero, suc, ◌<◌, arith, List, [], ◌∷◌, length, refl, ap, sym, ◌∙◌, ◌+◌, get_or, set}
+use Rattle.std.proofs.Common.{◌≡◌, true, inl, inr, ℕ, zero, suc, ◌<◌, arith, List, [], ◌∷◌, length, refl, ap, sym, subst, ◌∙◌, ◌+◌, get_or, set}
 use Rattle.std.proofs.lemmas.Int.{ints, clamps}
-use Rattle.std.proofs.lemmas.Bool.{cases_Bool}
+use Rattle.std.proofs.lemmas.Bool.{cases_Bool, cases_lt}
 use Rattle.std.proofs.lemmas.List.{ext_get_or, get_or_default}
 use Rattle.std.proofs.lemmas.List.Edits.{fill_by_more}
 use Rattle.bq_range.specs.Interval.{Interval, Within, join}
@@ -172,6 +172,17 @@ module _ (l m : Interval) where
       let v : get_or b i y ≡ kind_in b i = get_or_default b i y Unset (omega arith) in
       let w : k ≡ join_kinds l m (kind_in a i) (kind_in b i) = rw (← u, ← v) j in
       rw w (fill_by_more (λ (r : ℕ). join_kinds l m (kind_in a r) (kind_in b r)) s i Unset (omega arith) before)
+
+  -- where nothing is known, nothing has to be written
+  pub joined_kept : (a b s : List Kind) (i : ℕ) → kind_in s i ≡ kind_in a i → kind_in s i ≡ Unset
+      → ((r : ℕ) → r < i → kind_in s r ≡ join_kinds l m (kind_in a r) (kind_in b r)) → (r : ℕ) → r < i + 1 → kind_in s r ≡ join_kinds l m (kind_in a r) (kind_in b r)
+  joined_kept a b s i same unset before r below = elim (cases_lt r i) [
+    | inl h ↦ before r h
+    | inr g ↦
+        let e : i ≡ r = omega (arith, below, g) in
+        let none : kind_in a i ≡ Unset = sym same ∙ unset in
+        subst (λ k. kind_in s k ≡ join_kinds l m (kind_in a k) (kind_in b k)) e (unset ∙ sym (ap (λ k. join_kinds l m k (kind_in b i)) none))
+  ]
 
 pub join_covers : (a b : StateKinds) → StateCovers (join_states a b) a × StateCovers (join_states a b) b
 join_covers a b = (

@@ -3,7 +3,7 @@
 -- unit that covers it (`edges_less`). Both are said of states of eleven kinds whose ranges are of words, as the entry's is
 -- (`entry_full`) and the joins of such states are (`joined_full`). They rest on the law that the rows of ranges are
 -- monotone.
-use Rattle.std.proofs.Common.{◌≡◌, ℕ, zero, suc, ◌+◌, ◌*◌, ◌^◌, ◌<◌, ◌≤◌, List, [], ◌∷◌, ◌++◌, length, Option, Some, None, Bool, true, false, cond, arith, refl, sym, ap, subst, ◌∙◌, inl, inr, get_or}
+use Rattle.std.proofs.Common.{◌≡◌, ℕ, ◌+◌, ◌*◌, ◌^◌, ◌<◌, ◌≤◌, List, [], ◌∷◌, ◌++◌, length, Option, Some, None, Bool, true, false, cond, arith, refl, sym, ap, subst, ◌∙◌, inl, inr, get_or}
 use Rattle.std.specs.Prelude.{⊤, min, max, ℤ, pos, negsuc, ◌+ℤ◌, ◌-ℤ◌, int_le, Result, Ok, Err, option_map}
 use Rattle.std.specs.Option.{option_and_then}
 use Rattle.std.proofs.lemmas.Int.{ints}

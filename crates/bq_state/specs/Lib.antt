@@ -4,6 +4,7 @@ pub mod Kinds
 pub mod Rules
 pub mod Edges
 pub mod InPlace
+pub mod Onward
 pub mod Covers
 pub mod Listed
 pub mod Reasons

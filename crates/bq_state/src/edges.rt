@@ -8,6 +8,7 @@ ghost use Rattle.bq_state.specs.Kinds.{kind_of, read_kind};
 ghost use Rattle.bq_state.specs.Edges.{narrowed, refined, refined_by_number, refined_by_register, edges};
 ghost use Rattle.bq_state.specs.InPlace.{where_feasible, arrived, way};
 ghost use Rattle.bq_state.specs.Listed.{edge_list, listed};
+ghost use Rattle.bq_state.specs.Onward.{IsOnward};
 
 use crate::kind::Kind;
 use crate::state::State;
@@ -33,6 +34,17 @@ pub struct Edges {
     pub behind: Option<Edge>,
     /// Where it jumps.
     pub jump: Option<Edge>,
+}
+
+/// How control goes on from an instruction.
+#[derive(Clone, Copy, Debug, PartialEq, Eq)]
+pub enum Onward {
+    /// Not at all: the instruction ends the program.
+    Nowhere,
+    /// To this unit, counted from 0, modulo 2^64, with the very state that the instruction leaves.
+    To(u64),
+    /// By a branch: [`State::follow`] gives each of the two ways.
+    Branches,
 }
 
 // The low bits of a word at a width.
@@ -69,6 +81,22 @@ fn unit_jumped_to(jumps: bool, unit: u64, distance: i32) -> Option<u64>
         Some(target(unit, distance))
     } else {
         None
+    }
+}
+
+/// How control goes on from the instruction at a unit. Where that is no branch, no state needs a copy to follow it.
+#[inline]
+pub fn way_on(unit: u64, insn: &Insn) -> Onward
+    requires { unit < 4096 }
+    ensures { IsOnward result unit insn.now }
+{
+    match insn {
+        Insn::Exit => Onward::Nowhere,
+        Insn::Jump { offset } => Onward::To(target(unit, i32::from(*offset))),
+        Insn::JumpFar { distance } => Onward::To(target(unit, *distance)),
+        Insn::Branch { .. } => Onward::Branches,
+        Insn::Wide { .. } => Onward::To(unit + 2),
+        _ => Onward::To(unit + 1),
     }
 }
 

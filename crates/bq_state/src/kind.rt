@@ -107,6 +107,16 @@ impl Kind {
         }
     }
 
+    // Whether something is known.
+    pub(crate) fn is_set(self) -> bool
+        ensures { (IsTrue result → ⊥) → self ≡ Kind.Unset }
+    {
+        match self {
+            Kind::Unset => false,
+            _ => true,
+        }
+    }
+
     // Whether it is known by more than being the record's length.
     pub(crate) fn is_plain(self) -> bool
         ensures { IsTrue result ↔ IsPlainKind self }

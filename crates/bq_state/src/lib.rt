@@ -15,6 +15,7 @@
 //!   OutsideRecord); the record has as many bytes as its least length.
 //! - [`State::edges`] gives the units where control may go on, each with its state: a branch narrows
 //!   the ranges that it compares, and an edge that no numbers lead to is left out.
+//! - [`way_on`] tells where control goes on from an instruction that is no branch, whatever its state.
 //! - [`State::covers`] compares states, and [`State::join`] gives the least that covers two.
 //! - [`State::apply`], [`State::follow`] and [`State::join_with`] change one state in place, as
 //!   [`State::transfer`], one of [`State::edges`] and [`State::join`] say: a state is large, and copies cost time.
@@ -24,8 +25,9 @@
 //!
 //! The tables stand in `specs/`, apart from the code: `Offsets`, `Kinds`, `Rules` with what each
 //! instruction makes of a state, `Edges`, `InPlace` with one way on and what calls make of a state in
-//! place, `Listed` with the list that a call's edges are, and `Reasons`. `Covers` says what a state says
-//! of a machine's registers under a placement, and `Monotone` that of less an instruction leaves less.
+//! place, `Onward` with how control goes on, `Listed` with the list that a call's edges are, and
+//! `Reasons`. `Covers` says what a state says of a machine's registers under a placement, and `Monotone`
+//! that of less an instruction leaves less.
 //! `laws` has what follows for all states. No call takes memory, and none refuses an input.
 //!
 //! The soundness of the rules, the checker and the verifier stand on this crate.
@@ -37,6 +39,7 @@
 //! [`State::follow`]: state::State::follow
 //! [`State::join_with`]: state::State::join_with
 //! [`State::edges`]: state::State::edges
+//! [`way_on`]: edges::way_on
 //! [`State::covers`]: state::State::covers
 //! [`State::join`]: state::State::join
 //! [`Bounds`]: bounds::Bounds

@@ -165,11 +165,14 @@ impl State {
     }
 }
 
-// Each kind becomes the least that covers it and the other of the register, each where records have its lengths.
+// Each kind becomes the least that covers it and the other of the register, each where records have its lengths. Where
+// nothing is known it stays so, and is not written.
 fn join_kinds(kinds: &mut [Kind; 11], lengths: Bounds, others: &[Kind; 11], other_lengths: Bounds)
     ensures { kinds.new ≡ join_lists lengths other_lengths kinds.old others.now }
 {
     for register in 0..11 {
-        kinds[register] = kinds[register].join(lengths, others[register], other_lengths);
+        if kinds[register].is_set() {
+            kinds[register] = kinds[register].join(lengths, others[register], other_lengths);
+        }
     }
 }

@@ -4,7 +4,7 @@ ghost use Rattle.std.specs.Prelude.{◌≡◌, ℤ, IfErr, OnErr};
 ghost use Rattle.bq_word.specs.Word.{swap_bits, modulo};
 ghost use Rattle.bq_state.specs.Kinds.{read_kind};
 ghost use Rattle.bq_state.specs.InPlace.{became};
-ghost use Rattle.bq_state.specs.Rules.{and_then, known, number, writable, allowed, ordered_range, operand_kind, read_operand, taken_kind, loaded_state, transfer};
+ghost use Rattle.bq_state.specs.Rules.{and_then, known, number, writable, ordered_range, operand_kind, read_operand, taken_kind, loaded_state, transfer};
 
 use crate::kind::Kind;
 use crate::rule::Rule;
@@ -23,12 +23,6 @@ fn writable(dst: Register) -> Result<(), Rule>
     } else {
         Err(Rule::FramePointerWritten)
     }
-}
-
-fn allowed(kind: Option<Kind>) -> Result<Kind, Rule>
-    ensures { result ≡ allowed kind }
-{
-    kind.ok_or(Rule::WrongKind)
 }
 
 // A number in the instruction is extended with its sign to 64 bits.
@@ -87,9 +81,13 @@ impl State {
         let a = self.taken(op, dst).known()?;
         let b = self.operand(operand).known()?;
         writable(dst)?;
-        let kind = allowed(Kind::alu(self.lengths(), width, op, a, b))?;
-        self.set(dst, kind);
-        Ok(())
+        match Kind::alu(self.lengths(), width, op, a, b) {
+            Some(kind) => {
+                self.set(dst, kind);
+                Ok(())
+            }
+            None => Err(Rule::WrongKind),
+        }
     }
 
     // The number in a register from which an instruction makes one in `dst`.

@@ -11,7 +11,7 @@ ghost use Rattle.bq_sound.specs.Passes.{Passes, note_at};
 ghost use Rattle.bq_verify.specs.States.{AreStates};
 ghost use Rattle.bq_verify.specs.Refused.{IsRefused, IsBelow};
 ghost use Rattle.bq_verify.specs.Least.{AreLeast, NonePass};
-ghost use Rattle.bq_verify.specs.Table.{with_arrivals, IsFilled, AllWithin};
+ghost use Rattle.bq_verify.specs.Table.{with_arrival, with_arrivals, IsFilled, AllWithin};
 
 use crate::laws::{refused_has_no_notes, states_are_least, states_pass};
 use bq_check::fault::CheckFault;
@@ -20,6 +20,7 @@ use bq_flow::flow::Flow;
 use bq_insn::insn::Insn;
 use bq_insn::text::Text;
 use bq_state::bounds::Bounds;
+use bq_state::edges::{Onward, way_on};
 use bq_state::laws::edges_are_ways;
 use bq_state::state::State;
 use std::alloc::{AllocError, Global};
@@ -36,42 +37,78 @@ fn entered(alloc: Global, units: usize, bounds: Bounds) -> Result<Vec<Option<Sta
     Ok(states)
 }
 
-/// Where one way on from an instruction leads, the state there arrives, given the state that the instruction leaves.
-fn arrive(states: &mut Vec<Option<State>>, unit: usize, insn: &Insn, after: &State, jumps: bool)
-    requires within { unit < 4096 }
-    requires edges { AllWithin states.old.items (way unit insn.now jumps after.now) }
-    ensures { states.new.items ≡ with_arrivals states.old.items (way unit insn.now jumps after.now) }
+/// A state arrives at a unit.
+#[inline(always)]
+fn arrive(states: &mut Vec<Option<State>>, unit: usize, state: &State)
+    requires { unit < length states.old.items }
+    ensures { states.new.items ≡ with_arrival states.old.items (unit, state.now) }
 {
-    let mut state = *after;
-    let Some(next) = state.follow(unit as u64, insn, jumps) else {
-        return;
-    };
-    match &mut states[next as usize] {
-        Some(joined) => joined.join_with(&state),
-        none => *none = Some(state),
+    match &mut states[unit] {
+        Some(joined) => joined.join_with(state),
+        none => *none = Some(*state),
     }
 }
 
-/// What the instruction at a unit leaves arrives where its feasible edges lead; or the rule that it
-/// breaks is answered.
+/// Where one way on from an instruction leads, the state there arrives, given the state that the instruction leaves,
+/// which is used up.
+fn arrive_by(
+    states: &mut Vec<Option<State>>,
+    unit: usize,
+    insn: &Insn,
+    state: &mut State,
+    jumps: bool,
+)
+    requires within { unit < 4096 }
+    requires edges { AllWithin states.old.items (way unit insn.now jumps state.old) }
+    ensures { states.new.items ≡ with_arrivals states.old.items (way unit insn.now jumps state.old) }
+{
+    if let Some(next) = state.follow(unit as u64, insn, jumps) {
+        arrive(states, next as usize, state);
+    }
+}
+
+/// As [`arrive_on`], whatever the instruction.
+fn arrive_by_both(states: &mut Vec<Option<State>>, unit: usize, insn: &Insn, after: &mut State)
+    requires within { unit < 4096 }
+    requires edges { AllWithin states.old.items (edges unit insn.now after.old) }
+    ensures { states.new.items ≡ with_arrivals states.old.items (edges unit insn.now after.old) }
+{
+    edges_are_ways();
+    let mut behind = *after;
+    arrive_by(states, unit, insn, &mut behind, false);
+    arrive_by(states, unit, insn, after, true);
+}
+
+/// What the instruction at a unit leaves arrives where its feasible edges lead. The state is used up.
+fn arrive_on(states: &mut Vec<Option<State>>, unit: usize, insn: &Insn, after: &mut State)
+    requires within { unit < 4096 }
+    requires edges { AllWithin states.old.items (edges unit insn.now after.old) }
+    ensures { states.new.items ≡ with_arrivals states.old.items (edges unit insn.now after.old) }
+{
+    match way_on(unit as u64, insn) {
+        Onward::Nowhere => {}
+        Onward::To(next) => arrive(states, next as usize, after),
+        Onward::Branches => arrive_by_both(states, unit, insn, after),
+    }
+}
+
+/// What the instruction at a unit leaves of its state arrives where its feasible edges lead; or the rule that it
+/// breaks is answered. The state is used up.
 fn lead_on(
     states: &mut Vec<Option<State>>,
     unit: usize,
     insn: &Insn,
-    state: State,
+    state: &mut State,
 ) -> Result<(), CheckFault>
     requires within { unit < 4096 }
-    requires edges { (after : StateKinds) → transfer insn.now state ≡ Ok after → AllWithin states.old.items (edges unit insn.now after) }
-    ensures ok { IfOk result (λ _. (after : StateKinds) × (transfer insn.now state ≡ Ok after) × (states.new.items ≡ with_arrivals states.old.items (edges unit insn.now after))) }
-    ensures err { IfErr result (λ fault. (rule : Rule) × (fault ≡ CheckFault.Rule unit rule) × (transfer insn.now state ≡ Err rule)) }
+    requires edges { (after : StateKinds) → transfer insn.now state.old ≡ Ok after → AllWithin states.old.items (edges unit insn.now after) }
+    ensures ok { IfOk result (λ _. (after : StateKinds) × (transfer insn.now state.old ≡ Ok after) × (states.new.items ≡ with_arrivals states.old.items (edges unit insn.now after))) }
+    ensures err { IfErr result (λ fault. (rule : Rule) × (fault ≡ CheckFault.Rule unit rule) × (transfer insn.now state.old ≡ Err rule)) }
 {
-    let mut after = state;
-    if let Err(rule) = after.apply(insn) {
+    if let Err(rule) = state.apply(insn) {
         return Err(CheckFault::Rule { unit, rule });
     }
-    edges_are_ways();
-    arrive(states, unit, insn, &after, false);
-    arrive(states, unit, insn, &after, true);
+    arrive_on(states, unit, insn, state);
     Ok(())
 }
 
@@ -92,8 +129,8 @@ fn fill(
         return Err(CheckFault::OutOfMemory);
     };
     for unit in 0..end {
-        if let (Some(insn), Some(state)) = (text.at(unit), states[unit]) {
-            lead_on(&mut states, unit, &insn, state)?;
+        if let (Some(insn), Some(mut state)) = (text.at(unit), states[unit]) {
+            lead_on(&mut states, unit, &insn, &mut state)?;
         }
     }
     Ok(states)

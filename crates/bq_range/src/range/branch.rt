@@ -22,6 +22,7 @@ impl Range {
     /// words that some word of the other leads there with. Two cases learn less: a branch on
     /// common bits is decided by two single words alone, and at 32 bits ranges that reach 2^32 stay
     /// as they are.
+    #[inline(always)]
     pub fn narrow(
         width: Width,
         relation: Relation,
@@ -158,6 +159,7 @@ fn after(a: Option<Range>, t: u64, inclusive: bool) -> Option<Range>
 }
 
 // The least range of the words of `a` that stand in a relation to some word of `b`.
+#[inline(always)]
 fn narrowed_to(width: Width, relation: Relation, a: Range, b: Range) -> Option<Range>
     ensures { result ≡ narrowed_to (bits_of width) relation a b }
 {

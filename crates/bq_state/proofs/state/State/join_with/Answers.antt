@@ -1,5 +1,5 @@
-use Rattle.std.proofs.Common.{◌≡◌, ◌∙◌, ap, sym, length}
-use Rattle.bq_state.specs.Kinds.{state_of, join_states}
+use Rattle.std.proofs.Common.{◌∙◌, ap, sym, length}
+use Rattle.bq_state.specs.Kinds.{state_of}
 use Rattle.bq_state.proofs.Covering.{join_covers, joined_count}
 use Rattle.bq_state.proofs.state.State.join_with.Goals as goal
 
