@@ -26,3 +26,4 @@
 
 pub mod block;
 mod raw;
+pub mod worked;
