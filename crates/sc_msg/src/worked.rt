@@ -1,16 +1,19 @@
 //! Worked values of messages and their bytes.
 
-ghost use Rattle.std.specs.Prelude.{◌≡◌, ℕ, List, length, [], ◌∷◌, Some, None, codes};
+ghost use Rattle.std.specs.Prelude.{◌≡◌, ℕ, List, length, [], ◌∷◌, Some, None, true, codes};
+ghost use Rattle.std.specs.FinMap as fin;
+ghost use Rattle.sc_view.specs.Views.{ViewMap};
 ghost use Rattle.sc_msg.specs.Entries.{count_fault, id_fault};
 ghost use Rattle.sc_msg.specs.Fault.{head_fault};
 ghost use Rattle.sc_msg.specs.Kinds.{code, kind_at, kind_of, name_of};
+ghost use Rattle.sc_msg.specs.Lengths.{has_values_of, view_of, MessageHasValuesOf};
 ghost use Rattle.sc_msg.specs.Messages.{message_bytes};
 ghost use Rattle.sc_msg.specs.declared.fault.MessageFault.TheVariants as fault;
 ghost use Rattle.sc_msg.specs.declared.kind.MessageKind.TheVariants as kind;
 ghost use Rattle.sc_msg.specs.declared.message.Body.TheVariants as body;
 
-/// What the definitions say of kinds, of the messages by which node 3 enters and tells that node 7 joined, and of bytes
-/// that are none.
+/// What the definitions say of kinds, of the messages by which node 3 enters and tells that node 7 joined or that it
+/// knows of no store, of the values that messages tell, and of bytes that are none.
 #[tactic(auto, unfolding(crate::specs::Numbers::number_bytes, crate::specs::Numbers::first_number))]
 pub fn worked()
     ensures kind_of_join_echo { kind_of (body.JoinEcho 7) ≡ kind.JoinEcho }
@@ -22,6 +25,11 @@ pub fn worked()
     ensures word { name_of kind.CollectQuery ≡ codes "collect-query" }
     ensures enter { message_bytes (record { from = 3; body = body.Enter }) ≡ 66 ∷ 81 ∷ 1 ∷ 1 ∷ 3 ∷ 0 ∷ 0 ∷ 0 ∷ 0 ∷ 0 ∷ 0 ∷ 0 ∷ [] }
     ensures join_echo { message_bytes (record { from = 3; body = body.JoinEcho 7 }) ≡ 66 ∷ 81 ∷ 1 ∷ 4 ∷ 3 ∷ 0 ∷ 0 ∷ 0 ∷ 0 ∷ 0 ∷ 0 ∷ 0 ∷ 7 ∷ 0 ∷ 0 ∷ 0 ∷ 0 ∷ 0 ∷ 0 ∷ 0 ∷ [] }
+    ensures store_echo { message_bytes (record { from = 3; body = body.StoreEcho fin.empty }) ≡ 66 ∷ 81 ∷ 1 ∷ 9 ∷ 3 ∷ 0 ∷ 0 ∷ 0 ∷ 0 ∷ 0 ∷ 0 ∷ 0 ∷ 0 ∷ 0 ∷ [] }
+    ensures view_of_reply { (v : ViewMap) → view_of (body.CollectReply 1 0 v) ≡ Some v }
+    ensures view_of_ack { view_of (body.StoreAck 1 0) ≡ None }
+    ensures values_of_no_view { has_values_of 48 (record { from = 3; body = body.Enter }) ≡ true }
+    ensures sender_0 { MessageHasValuesOf 48 (record { from = 0; body = body.Enter }) }
     ensures long { (bytes : List ℕ) → length bytes ≡ 60001 → head_fault bytes ≡ Some fault.TooLong }
     ensures cut { head_fault (66 ∷ 81 ∷ 1 ∷ 1 ∷ 3 ∷ 0 ∷ 0 ∷ 0 ∷ 0 ∷ 0 ∷ 0 ∷ []) ≡ Some fault.Short }
     ensures other_version { head_fault (66 ∷ 81 ∷ 2 ∷ 1 ∷ 3 ∷ 0 ∷ 0 ∷ 0 ∷ 0 ∷ 0 ∷ 0 ∷ 0 ∷ []) ≡ Some fault.BadHead }

@@ -22,3 +22,4 @@ mod row;
 pub mod sorted;
 pub mod value;
 pub mod view;
+pub mod worked;

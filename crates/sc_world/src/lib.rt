@@ -16,4 +16,5 @@ pub mod ledger;
 mod nodes;
 pub mod op;
 mod places;
+pub mod worked;
 pub mod world;

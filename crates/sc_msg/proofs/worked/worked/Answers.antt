@@ -1,0 +1,10 @@
+use Rattle.std.proofs.Common.{ℕ, List, [], ◌∷◌, ◌++◌, ap}
+use Rattle.sc_view.specs.declared.view.Stored.{Stored}
+use Rattle.sc_view.proofs.MapLemmas.{entries_rising}
+use Rattle.sc_msg.specs.Entries.{list_bytes, view_layout}
+use Rattle.sc_msg.specs.Numbers.{number_bytes}
+use Rattle.sc_msg.proofs.worked.worked.Goals as goal
+
+pub returns-clause-store_echo : goal.returns-clause-store_echo
+unfolding number_bytes
+returns-clause-store_echo c = ap (λ (es : List (ℕ × Stored)). 66 ∷ 81 ∷ 1 ∷ 9 ∷ 3 ∷ 0 ∷ 0 ∷ 0 ∷ 0 ∷ 0 ∷ 0 ∷ 0 ∷ list_bytes view_layout es ++ []) (entries_rising [] tt)
