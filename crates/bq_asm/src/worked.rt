@@ -1,11 +1,11 @@
 //! What the definitions say at telling mnemonics, operands and instructions, worked by hand from RFC 9669's names and
 //! the crate's page.
 
-ghost use Rattle.std.specs.Prelude.{◌≡◌, ◌++◌, Some, None, [], ◌∷◌, codes, pos, negsuc};
+ghost use Rattle.std.specs.Prelude.{◌≡◌, ◌++◌, ℕ, List, Some, None, [], ◌∷◌, codes, pos, negsuc};
 ghost use Rattle.reasons.specs.Table as table;
 ghost use Rattle.bq_asm.specs.Mnemonic.{mnemonic_at, name};
 ghost use Rattle.bq_asm.specs.Reading.{jump_by, line_at, operand_at, place_at, statement_at};
-ghost use Rattle.bq_asm.specs.Source.{disassembly, reason, insn_line};
+ghost use Rattle.bq_asm.specs.Source.{disassembly, reason, insn_line, IsFault};
 ghost use Rattle.bq_asm.specs.Line.{Label};
 ghost use Rattle.bq_asm.specs.declared.fault.AsmFault.TheVariants as fault;
 ghost use Rattle.bq_asm.specs.declared.jump.Jump.TheVariants as jump;
@@ -48,6 +48,11 @@ pub fn worked_operands()
     ensures behind_a_label { line_at (codes "a: exit") ≡ None }
     ensures reach { jump_by jump.Always (pos 32767) ≡ Some (insn.Jump (pos 32767)) }
     ensures far { jump_by jump.Always (pos 32768) ≡ None }
+{}
+
+/// Where the first line is of no form, no memory is asked for.
+pub fn worked_faults()
+    ensures unreadable { (source : List ℕ) → IsFault source (fault.Syntax 1) → IsFault source fault.OutOfMemory → ⊥ }
 {}
 
 /// How faults are reported.

@@ -2,11 +2,13 @@
 
 ghost use Rattle.std.specs.Prelude.{◌≡◌, [], ◌∷◌, pos, negsuc, Some, None};
 ghost use Rattle.reasons.specs.Table as table;
+ghost use Rattle.bq_code.specs.Lowered.{IsLowered};
+ghost use Rattle.bq_insn.specs.declared.insn.Insn.TheVariants as insn;
 ghost use Rattle.bq_range.specs.Interval.{between};
 ghost use Rattle.bq_flow.specs.declared.fault.FlowRule.TheVariants.{FallsOff};
 ghost use Rattle.bq_flow.specs.declared.fault.FlowFault.TheVariants as flow;
-ghost use Rattle.bq_sound.specs.Passes.{note_at};
-ghost use Rattle.bq_state.specs.Kinds.{state_of, view_lengths};
+ghost use Rattle.bq_sound.specs.Passes.{note_at, AreSuited};
+ghost use Rattle.bq_state.specs.Kinds.{all_lengths, state_of, view_lengths};
 ghost use Rattle.bq_state.specs.declared.kind.Kind.TheVariants as kind;
 ghost use Rattle.bq_state.specs.declared.region.Region.TheVariants as region;
 ghost use Rattle.bq_state.specs.declared.rule.Rule.TheVariants.{AnswerKind};
@@ -37,6 +39,11 @@ pub fn worked()
     ensures at_a_unit { note_at (None ∷ Some (state_of (kind.Unset ∷ []) view_lengths) ∷ []) 1 ≡ Some (state_of (kind.Unset ∷ []) view_lengths) }
     ensures none { note_at (None ∷ Some (state_of (kind.Unset ∷ []) view_lengths) ∷ []) 0 ≡ None }
     ensures behind_the_end { note_at (Some (state_of (kind.Unset ∷ []) view_lengths) ∷ []) 1 ≡ None }
+
+    // States that are not suited to records of one length, and codes that are not those of a text.
+    ensures other_lengths { AreSuited view_lengths (Some (state_of [] all_lengths) ∷ []) → ⊥ }
+    ensures told_as_a_length { AreSuited view_lengths (Some (state_of (kind.Length ∷ []) view_lengths) ∷ []) → ⊥ }
+    ensures no_codes { IsLowered (insn.Exit ∷ []) [] → ⊥ }
 
     // The bytes of notes, those of a number from the lowest.
     ensures short { short_bytes 258 ≡ 2 ∷ 1 ∷ 0 ∷ 0 ∷ [] }

@@ -10,7 +10,7 @@ ghost use Rattle.bq_flow.specs.declared.fault.FlowRule.TheVariants as rule;
 ghost use Rattle.bq_flow.specs.declared.fault.FlowFault.TheVariants as fault;
 ghost use Rattle.bq_flow.specs.Successors.{successors};
 ghost use Rattle.bq_insn.specs.Slots.{insn_at};
-ghost use Rattle.bq_flow.specs.Paths.{IsLegalFlow};
+ghost use Rattle.bq_flow.specs.Paths.{IsLegalFlow, IsLongest};
 ghost use Rattle.bq_flow.specs.Flow.{successors_at};
 ghost use Rattle.bq_flow.specs.Faults.{flow_fault, rule_reason, reason, IsFlowFault};
 
@@ -45,6 +45,11 @@ pub fn worked()
     ensures faulty_elsewhere { IsFlowFault (insn.Jump (negsuc 0) ∷ insn.Exit ∷ []) (fault.At 1 rule.Backward) → ⊥ }
     ensures not_first { IsFlowFault (insn.Jump (negsuc 0) ∷ insn.Negate W64 0 ∷ []) (fault.At 1 rule.FallsOff) → ⊥ }
     ensures not_legal { IsLegalFlow (insn.Jump (negsuc 0) ∷ insn.Exit ∷ []) → ⊥ }
+
+    // The longest path.
+    ensures exit_alone { IsLongest (insn.Exit ∷ []) 1 }
+    ensures longer_than_all { IsLongest (insn.Exit ∷ []) 4294967295 → ⊥ }
+    ensures shorter_way { IsLongest (insn.Branch W64 Equal 1 (Number (pos 7)) (pos 1) ∷ insn.Negate W64 1 ∷ insn.Exit ∷ []) 2 → ⊥ }
 
     // The numbers of the faults.
     ensures backward { table.number (rule_reason rule.Backward) ≡ 11 }

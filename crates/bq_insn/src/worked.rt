@@ -48,9 +48,14 @@ pub fn worked_texts()
     ensures empty { IsText [] → ⊥ }
     ensures exit { IsText (insn.Exit ∷ []) }
     ensures most { (text : List Insn) → units text ≡ 4096 → IsLengthFault text fault.TooLong → ⊥ }
+    ensures too_many_for_memory { (text : List Insn) → units text ≡ 4097 → IsLengthFault text fault.OutOfMemory → ⊥ }
+    ensures none_for_memory { IsLengthFault [] fault.OutOfMemory → ⊥ }
     ensures too_many { (text : List Insn) → units text ≡ 4097 → IsText text → ⊥ }
     ensures most_bytes { (bytes : List ℕ) → length bytes ≡ 32768 → IsFault bytes fault.TooLong → ⊥ }
     ensures too_many_bytes { (bytes : List ℕ) → length bytes ≡ 32776 → IsFault bytes fault.TooLong }
+    ensures no_bytes { IsFault [] fault.BadLength }
+    ensures no_bytes_for_memory { IsFault [] fault.OutOfMemory → ⊥ }
+    ensures another { insn.Jump (pos 0) ≡ insn.JumpFar (pos 0) → ⊥ }
     ensures ten { IfNone {T = ℕ} None (11 ≤ 10) → ⊥ }
 {}
 

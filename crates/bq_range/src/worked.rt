@@ -24,6 +24,7 @@ pub fn worked()
     ensures below_the_least { Within (between 0 4) (between 3 9) → ⊥ }
     ensures above_the_greatest { Within (between 3 9) (between 3 8) → ⊥ }
     ensures joined { join (between 3 9) (between 0 4) ≡ between 0 9 }
+    ensures joined_above { join (between 3 5) (between 4 9) ≡ between 3 9 }
     ensures met { meet (between 3 9) (between 0 4) ≡ Some (between 3 4) }
     ensures apart { meet (between 1 3) (between 5 9) ≡ None }
     ensures cut_of_same_high_bits { cut 32 (between 4294967301 4294967305) ≡ between 5 9 }
@@ -42,6 +43,7 @@ pub fn worked()
 
     // Operations of two operands.
     ensures add { operated 64 op.Add (between 5 9) (between 1 3) ≡ between 6 12 }
+    ensures one_and_more { operated 64 op.Add (single 5) (between 1 3) ≡ between 6 8 }
     ensures add_past { operated 64 op.Add (between 18446744073709551612 18446744073709551614) (between 4 6) ≡ between 0 4 }
     ensures add_across { operated 64 op.Add (between 18446744073709551612 18446744073709551615) (between 1 3) ≡ all_words }
     ensures sub { operated 64 op.Sub (between 5 9) (between 1 3) ≡ between 2 8 }

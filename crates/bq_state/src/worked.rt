@@ -1,6 +1,6 @@
 //! Worked values of the rules.
 
-ghost use Rattle.std.specs.Prelude.{◌≡◌, [], ◌∷◌, ℕ, pos, negsuc, true, false, Some, None, Ok, Err};
+ghost use Rattle.std.specs.Prelude.{◌≡◌, [], ◌∷◌, ◌++◌, ℕ, pos, negsuc, replicate, true, false, Some, None, Ok, Err};
 ghost use Rattle.reasons.specs.Table as table;
 ghost use Rattle.bq_word.specs.declared.Width.TheVariants.{W32, W64};
 ghost use Rattle.bq_word.specs.declared.AluOp.TheVariants as op;
@@ -11,13 +11,17 @@ ghost use Rattle.bq_insn.specs.declared.insn.ByteOrder.TheVariants.{Big, Little}
 ghost use Rattle.bq_insn.specs.declared.insn.Extension.TheVariants.{W64From8};
 ghost use Rattle.bq_insn.specs.declared.insn.Size.TheVariants as size;
 ghost use Rattle.bq_range.specs.Interval.{between, single, all_words};
+ghost use Rattle.bq_state.specs.declared.edges.Onward.TheVariants.{To};
 ghost use Rattle.bq_state.specs.declared.kind.Kind.TheVariants as kind;
 ghost use Rattle.bq_state.specs.declared.region.Region.TheVariants as region;
 ghost use Rattle.bq_state.specs.declared.rule.Rule.TheVariants as rule;
 ghost use Rattle.bq_state.specs.Offsets.{Span, IsSpan, at_offset, join_spans, moved_on, moved_back, fits};
-ghost use Rattle.bq_state.specs.Kinds.{AreLengths, KindCovers, StateCovers, as_number, entry_state, join_kinds, join_states, kind_of, state_of};
+ghost use Rattle.bq_state.specs.Kinds.{AreLengths, KindCovers, StateCovers, all_lengths, as_number, entry_state, join_kinds, join_states, kind_of, state_of, view_lengths};
 ghost use Rattle.bq_state.specs.Rules.{known, writable, number, storable, alu_kind, ordered_range, operand_kind, taken_kind, transfer};
 ghost use Rattle.bq_state.specs.Edges.{refined, edges};
+ghost use Rattle.bq_state.specs.InPlace.{way};
+ghost use Rattle.bq_state.specs.Onward.{IsOnward};
+ghost use Rattle.bq_state.specs.Plain.{IsPlain};
 ghost use Rattle.bq_state.specs.Reasons.{reason};
 
 /// What the definitions say at telling operands.
@@ -59,6 +63,8 @@ pub fn worked()
     ensures least_of_all { AreLengths (between 16 128) }
     ensures too_short { AreLengths (between 15 128) → ⊥ }
     ensures too_long { AreLengths (between 16 129) → ⊥ }
+    ensures all { all_lengths ≡ between 16 128 }
+    ensures of_views { view_lengths ≡ single 64 }
     ensures length_read { as_number (between 16 128) kind.Length ≡ kind.Number (between 16 128) }
     ensures length_covered { KindCovers (between 16 40) (kind.Number (between 10 40)) kind.Length }
     ensures length_not_covered { KindCovers (between 16 41) (kind.Number (between 10 40)) kind.Length → ⊥ }
@@ -79,6 +85,8 @@ pub fn worked()
     ensures of_the_others { kind_of (entry_state (single 64)) 0 ≡ kind.Unset }
     ensures joined_states { join_states (state_of (kind.Number (single 3) ∷ kind.Unset ∷ []) (single 64)) (state_of (kind.Number (single 5) ∷ kind.Number (single 7) ∷ []) (single 64)) ≡ state_of (kind.Number (between 3 5) ∷ kind.Unset ∷ []) (single 64) }
     ensures second_not_covered { StateCovers (state_of (kind.Unset ∷ kind.Number (single 5) ∷ []) (single 64)) (state_of (kind.Unset ∷ kind.Unset ∷ []) (single 64)) → ⊥ }
+    ensures lengths_not_covered { StateCovers (state_of [] (single 64)) (state_of [] (between 16 128)) → ⊥ }
+    ensures length_not_plain { IsPlain 64 (state_of (kind.Length ∷ []) (single 64)) → ⊥ }
 
     // Rules.
     ensures unset { known kind.Unset ≡ Err rule.UnsetRegister }
@@ -94,6 +102,7 @@ pub fn worked()
     // What an instruction makes of a state, or the rule that it breaks.
     ensures low_halves { transfer (insn.Alu W32 op.Add 0 (operand.Number (pos 1))) (state_of (kind.Number (single 4294967295) ∷ []) (single 64)) ≡ Ok (state_of (kind.Number (single 0) ∷ []) (single 64)) }
     ensures of_its_source { transfer (insn.Extend W64From8 1 0) (state_of (kind.Number (single 128) ∷ kind.Unset ∷ []) (single 64)) ≡ Ok (state_of (kind.Number (single 128) ∷ kind.Number (single 18446744073709551488) ∷ []) (single 64)) }
+    ensures into_the_last { transfer (insn.Wide 9 7) (state_of (replicate 10 kind.Unset) (single 64)) ≡ Ok (state_of (replicate 9 kind.Unset ++ kind.Number (single 7) ∷ []) (single 64)) }
     ensures loaded { transfer (insn.Load size.B4 0 0 (pos 60)) (state_of (kind.Pointer region.Record (at_offset (pos 0)) ∷ []) (single 64)) ≡ Ok (state_of (kind.Number (between 0 4294967295) ∷ []) (single 64)) }
     ensures loaded_behind { transfer (insn.Load size.B4 0 0 (pos 61)) (state_of (kind.Pointer region.Record (at_offset (pos 0)) ∷ []) (single 64)) ≡ Err rule.OutsideRecord }
     ensures loaded_of_the_least { transfer (insn.Load size.B8 0 0 (pos 8)) (state_of (kind.Pointer region.Record (at_offset (pos 0)) ∷ []) (between 16 128)) ≡ Ok (state_of (kind.Number all_words ∷ []) (between 16 128)) }
@@ -109,6 +118,7 @@ pub fn worked()
     // Edges.
     ensures cut { refined (state_of (kind.Number (between 0 4294967295) ∷ []) (single 64)) W32 relation.Equal true 0 (operand.Number (negsuc 0)) ≡ Some (state_of (kind.Number (single 4294967295) ∷ []) (single 64)) }
     ensures both_registers { refined (state_of (kind.Number (between 0 9) ∷ kind.Number (between 5 20) ∷ []) (single 64)) W64 relation.GreaterOrEqual true 0 (operand.Register 1) ≡ Some (state_of (kind.Number (between 5 9) ∷ kind.Number (between 5 9) ∷ []) (single 64)) }
+    ensures each_register { refined (state_of (kind.Number (between 0 20) ∷ kind.Number (between 5 10) ∷ []) (single 64)) W64 relation.Less true 0 (operand.Register 1) ≡ Some (state_of (kind.Number (between 0 9) ∷ kind.Number (between 5 10) ∷ []) (single 64)) }
     ensures longer { refined (state_of (kind.Length ∷ []) (between 16 128)) W64 relation.Less false 0 (operand.Number (pos 24)) ≡ Some (state_of (kind.Length ∷ []) (between 24 128)) }
     ensures shorter { refined (state_of (kind.Length ∷ []) (between 16 128)) W64 relation.Less true 0 (operand.Number (pos 24)) ≡ Some (state_of (kind.Length ∷ []) (between 16 23)) }
     ensures never_so_short { refined (state_of (kind.Length ∷ []) (between 16 128)) W64 relation.Less true 0 (operand.Number (pos 16)) ≡ None }
@@ -118,4 +128,7 @@ pub fn worked()
     ensures jumped { edges 3 (insn.Jump (pos 2)) (state_of [] (single 64)) ≡ (6, state_of [] (single 64)) ∷ [] }
     ensures ended { edges 3 insn.Exit (state_of [] (single 64)) ≡ [] }
     ensures branched { edges 3 (insn.Branch W64 relation.Less 0 (operand.Number (pos 4)) (pos 2)) (state_of (kind.Number (between 0 9) ∷ []) (single 64)) ≡ (4, state_of (kind.Number (between 4 9) ∷ []) (single 64)) ∷ (6, state_of (kind.Number (between 0 3) ∷ []) (single 64)) ∷ [] }
+    ensures way_behind { way 3 (insn.Branch W64 relation.Less 0 (operand.Number (pos 4)) (pos 2)) false (state_of (kind.Number (between 0 9) ∷ []) (single 64)) ≡ (4, state_of (kind.Number (between 4 9) ∷ []) (single 64)) ∷ [] }
+    ensures way_of_the_jump { way 3 (insn.Branch W64 relation.Less 0 (operand.Number (pos 4)) (pos 2)) true (state_of (kind.Number (between 0 9) ∷ []) (single 64)) ≡ (6, state_of (kind.Number (between 0 3) ∷ []) (single 64)) ∷ [] }
+    ensures not_into_wide { IsOnward (To 4) 3 (insn.Wide 1 7) → ⊥ }
 {}

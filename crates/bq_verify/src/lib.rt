@@ -23,3 +23,4 @@
 
 pub mod laws;
 pub mod verify;
+pub mod worked;

@@ -15,3 +15,4 @@
 mod advice;
 pub mod explain;
 pub mod lines;
+pub mod worked;

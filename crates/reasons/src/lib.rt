@@ -12,6 +12,8 @@ ghost use Rattle.reasons.specs.Table.{number, name};
 
 use std::fmt;
 
+pub mod worked;
+
 /// The reason of each variant of a fault: that of its own name, that of the name behind `=>`, or that of the fault that
 /// it carries. `Name { .. }` is a variant whose fields say nothing of the reason.
 #[macro_export]
