@@ -12,3 +12,4 @@ pub mod board;
 pub mod claim;
 pub mod fault;
 pub mod seats;
+pub mod worked;

@@ -54,3 +54,4 @@ pub mod script;
 mod seat;
 pub mod sockets;
 mod turn;
+pub mod worked;

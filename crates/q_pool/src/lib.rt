@@ -13,3 +13,4 @@ pub mod gate;
 pub mod pump;
 pub mod runner;
 pub mod runners;
+pub mod worked;

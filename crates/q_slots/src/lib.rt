@@ -15,3 +15,4 @@ pub mod found;
 pub mod law;
 pub mod rule;
 pub mod view;
+pub mod worked;
