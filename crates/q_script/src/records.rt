@@ -200,16 +200,3 @@ pub fn read_records(alloc: Global, source: &str, lengths: Bounds) -> Result<View
     }
     Ok(view)
 }
-
-/// What the definitions say of telling records.
-pub fn worked()
-    ensures little_endian { value_bytes 258 ≡ 2 ∷ 1 ∷ replicate 46 0 }
-    ensures digits { IsValue (codes "x05ff00") (5 ∷ 255 ∷ 0 ∷ []) }
-    ensures capital { IsValue (codes "xFf") (255 ∷ []) }
-    ensures no_byte { IsValue (codes "x") [] }
-    ensures unsorted { table.number (reason RecordFault.Unsorted) ≡ 75 }
-    ensures bad_field { table.number (reason RecordFault.BadField) ≡ 77 }
-    ensures bad_value { table.number (reason RecordFault.BadValue) ≡ 50 }
-    ensures full { table.number (reason RecordFault.Full) ≡ 46 }
-    ensures full_name { table.name (reason RecordFault.Full) ≡ codes "ViewFull" }
-{}
