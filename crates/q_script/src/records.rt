@@ -1,12 +1,11 @@
 //! Lists of records.
 
-ghost use Rattle.std.specs.Prelude.{◌≡◌, ◌↔◌, ℕ, List, ◌≤◌, ◌+◌, [], ◌∷◌, ◌++◌, length, codes, ◌%◌, Some, Ok, IfOk, IfErr, IsTrue, MatchOption, MatchResult, replicate};
+ghost use Rattle.std.specs.Prelude.{◌≡◌, ◌↔◌, ℕ, List, ◌≤◌, ◌+◌, length, ◌%◌, Some, Ok, IfOk, IfErr, IsTrue, MatchOption, MatchResult};
 ghost use Rattle.std.specs.FinMap as fin;
 ghost use Rattle.std.specs.List.{AllPass};
 ghost use Rattle.bq_range.specs.Interval.{IsIn};
 ghost use Rattle.hex.specs.Hex.{is_hex_digit};
 ghost use Rattle.sc_view.specs.declared.view.Stored.{Stored as StoredValue};
-ghost use Rattle.reasons.specs.Table as table;
 ghost use Rattle.q_script.specs.Records.{Record, AreDigits, IsValue, ReadsValue, IsRecord, IsReadAs, IsEntry, HasFault, IsView, IsRefusal, value_bytes, reason};
 
 use crate::number::{leading, number};
