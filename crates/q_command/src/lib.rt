@@ -32,3 +32,4 @@ pub mod denied;
 pub mod listing;
 pub mod perform;
 pub mod program;
+pub mod worked;

@@ -13,3 +13,4 @@
 pub mod files;
 pub mod folder;
 pub mod memory;
+pub mod worked;

@@ -8,3 +8,4 @@
 #![tactic(auto)]
 
 pub mod line;
+pub mod worked;

@@ -36,3 +36,4 @@ mod operands;
 pub mod records;
 pub mod script;
 mod text;
+pub mod worked;

@@ -1,12 +1,11 @@
 //! Lists of records.
 
-ghost use Rattle.std.specs.Prelude.{◌≡◌, ◌↔◌, ℕ, List, ◌≤◌, ◌+◌, [], ◌∷◌, ◌++◌, length, codes, ◌%◌, Some, Ok, IfOk, IfErr, IsTrue, MatchOption, MatchResult, replicate};
+ghost use Rattle.std.specs.Prelude.{◌≡◌, ◌↔◌, ℕ, List, ◌≤◌, ◌+◌, length, ◌%◌, Some, Ok, IfOk, IfErr, IsTrue, MatchOption, MatchResult};
 ghost use Rattle.std.specs.FinMap as fin;
 ghost use Rattle.std.specs.List.{AllPass};
 ghost use Rattle.bq_range.specs.Interval.{IsIn};
 ghost use Rattle.hex.specs.Hex.{is_hex_digit};
 ghost use Rattle.sc_view.specs.declared.view.Stored.{Stored as StoredValue};
-ghost use Rattle.reasons.specs.Table as table;
 ghost use Rattle.q_script.specs.Records.{Record, AreDigits, IsValue, ReadsValue, IsRecord, IsReadAs, IsEntry, HasFault, IsView, IsRefusal, value_bytes, reason};
 
 use crate::number::{leading, number};
@@ -200,16 +199,3 @@ pub fn read_records(alloc: Global, source: &str, lengths: Bounds) -> Result<View
     }
     Ok(view)
 }
-
-/// What the definitions say of telling records.
-pub fn worked()
-    ensures little_endian { value_bytes 258 ≡ 2 ∷ 1 ∷ replicate 46 0 }
-    ensures digits { IsValue (codes "x05ff00") (5 ∷ 255 ∷ 0 ∷ []) }
-    ensures capital { IsValue (codes "xFf") (255 ∷ []) }
-    ensures no_byte { IsValue (codes "x") [] }
-    ensures unsorted { table.number (reason RecordFault.Unsorted) ≡ 75 }
-    ensures bad_field { table.number (reason RecordFault.BadField) ≡ 77 }
-    ensures bad_value { table.number (reason RecordFault.BadValue) ≡ 50 }
-    ensures full { table.number (reason RecordFault.Full) ≡ 46 }
-    ensures full_name { table.name (reason RecordFault.Full) ≡ codes "ViewFull" }
-{}

@@ -1,5 +1,5 @@
 -- Journals, written or not.
-use Rattle.std.proofs.Common.{◌≡◌, ℕ, List, Option, Some, None, inl, inr, true, ◌++◌, length, refl, sym, ap, subst, string_bytes}
+use Rattle.std.proofs.Common.{◌≡◌, ℕ, List, Option, Some, None, inl, inr, true, ◌++◌, length, refl, subst}
 use Rattle.std.specs.Prelude.{Result, Ok, Err, OnOk}
 use Rattle.sc_world.specs.declared.fault.WorldFault.TheVariants as world_fault
 use Rattle.q_history.specs.declared.fault.ClusterFault.TheVariants as cluster_fault

@@ -20,3 +20,4 @@ pub mod printing;
 pub mod program;
 pub mod refusal;
 pub mod simulation;
+pub mod worked;

@@ -2,18 +2,25 @@
 
 ghost use Rattle.std.specs.Prelude.{◌≡◌, ℕ, List, codes};
 ghost use Rattle.clap.specs.Words.{Row};
+ghost use Rattle.bq_range.specs.Interval.{Interval};
 ghost use Rattle.q_script.specs.Words.{IsNumeral};
 ghost use Rattle.q_words.specs.Words.{AreGiven, HasCommand, IsMet, operand_of};
 ghost use Rattle.q_words.specs.declared.words.FileCommand.TheVariants as line;
 ghost use Rattle.q_words.specs.declared.words.Wanted.TheVariants as wanted;
 
-/// Which command each word names, with its operands. No two name the same.
+/// Which command each word names, with its operands, and which numbers are the lengths of records. No two words name the
+/// same.
 pub fn worked()
     ensures asm { (rows : List Row) (file : _) → file.now ≡ operand_of (codes "FILE") rows → HasCommand (line.Asm file) (codes "asm", rows) }
     ensures check { (rows : List Row) (file lengths : _) → file.now ≡ operand_of (codes "FILE") rows → AreGiven rows lengths → HasCommand (line.Check file lengths) (codes "check", rows) }
     ensures check_is_no_asm { (rows : List Row) (file : _) → HasCommand (line.Asm file) (codes "check", rows) → ⊥ }
+    ensures run { (rows : List Row) (file start records lengths : _) → file.now ≡ operand_of (codes "FILE") rows → IsNumeral (operand_of (codes "START") rows) start → records.now ≡ operand_of (codes "RECORDS") rows → AreGiven rows lengths → HasCommand (line.Run file start records lengths) (codes "run", rows) }
+    ensures run_over_the_records { (rows : List Row) (file start records lengths : _) → HasCommand (line.Run file start records lengths) (codes "run", rows) → records.now ≡ operand_of (codes "RECORDS") rows }
+    ensures least { (rows : List Row) (lengths : Interval) → AreGiven rows lengths → IsNumeral (operand_of (codes "least") rows) lengths.lo }
+    ensures most { (rows : List Row) (lengths : Interval) → AreGiven rows lengths → IsNumeral (operand_of (codes "most") rows) lengths.hi }
     ensures sim { (rows : List Row) (script : _) → script.now ≡ operand_of (codes "SCRIPT") rows → HasCommand (line.Sim script) (codes "sim", rows) }
     ensures cluster { (rows : List Row) (script : _) → script.now ≡ operand_of (codes "SCRIPT") rows → IsMet (wanted.Cluster script) (codes "cluster", rows) }
     ensures cluster_is_no_sim { (rows : List Row) (script : _) → IsMet (wanted.Cluster script) (codes "sim", rows) → ⊥ }
+    ensures sim_is_no_cluster { (rows : List Row) (script : _) → IsMet (wanted.FileCommand (line.Sim script)) (codes "cluster", rows) → ⊥ }
     ensures audit { (rows : List Row) (journal : _) → journal.now ≡ operand_of (codes "JOURNAL") rows → HasCommand (line.Audit journal) (codes "audit", rows) }
 {}

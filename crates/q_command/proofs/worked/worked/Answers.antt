@@ -1,0 +1,57 @@
+use Rattle.std.proofs.Common.{◌≡◌, ℕ, false, true≢false, List, [], ◌∷◌, ◌++◌, Some, Err, refl, ap, sym, ◌∙◌, inl, inr, subst, codes}
+use Rattle.std.specs.Fmt.{digits}
+use Rattle.hex.proofs.OnLiterals.{hex_on_literals}
+use Rattle.q_files.specs.Memory.{Reads, Writes, bytes_of, fails_next}
+use Rattle.q_files.specs.declared.files.FileFault.{FileFault}
+use Rattle.q_files.specs.declared.files.FileFault.TheVariants.{Failed, OutOfMemory}
+use Rattle.q_files.specs.declared.memory.MemoryFiles.{MemoryFiles}
+use Rattle.q_sim.specs.Refusal.{refusal_of}
+use Rattle.q_sim.specs.declared.refusal.Refusal.TheVariants.{FileFailed}
+use Rattle.q_command.specs.Audit.{answer_line, answer_lines}
+use Rattle.q_command.specs.Perform.{Answers}
+use Rattle.q_command.proofs.worked.worked.Goals as goal
+
+pub returns-clause-of_the_text : goal.returns-clause-of_the_text
+returns-clause-of_the_text c = λ source text h. h.spelled
+
+pub returns-clause-no_text : goal.returns-clause-no_text
+returns-clause-no_text c = λ source none h. none h
+
+pub returns-clause-listed : goal.returns-clause-listed
+unfolding hex_on_literals
+returns-clause-listed c = refl
+
+-- ---- journals
+
+pub returns-clause-audited : goal.returns-clause-audited
+unfolding digits
+returns-clause-audited c = λ query is. ap (λ o. answer_line 4 o ++ answer_lines 5 []) is
+
+-- ---- answers and refusals
+
+pub returns-clause-records_of_their_file : goal.returns-clause-records_of_their_file
+returns-clause-records_of_their_file c = λ lengths program records lines start old new h. (h.1, h.3.0, h.3.1)
+
+was_read : (old new : MemoryFiles) (fault : FileFault) (bytes : List ℕ) → fails_next old.passing ≡ false → bytes_of old.files (codes "a") ≡ Some bytes → Reads old (codes "a") (Err fault) new → FileFailed ≡ refusal_of fault → ⊥
+was_read old new Failed bytes goes there h is = elim h.0 [
+  | inl fails ↦ true≢false (sym fails ∙ goes)
+  | inr none ↦ let e = sym none ∙ there in absurd cc
+]
+was_read old new OutOfMemory bytes goes there h is = absurd cc
+
+some_is : (a b : List ℕ) → Some a ≡ Some b → a ≡ b
+some_is a b e = cc
+
+pub returns-clause-refused_bytes : goal.returns-clause-refused_bytes
+returns-clause-refused_bytes c = λ denied old new goes there failed h. elim h [
+  | inl unread ↦ absurd (was_read old new unread.2.0 (255 ∷ []) goes there unread.2.1 (sym failed ∙ unread.2.2))
+  | inr read ↦ some_is denied.bytes.items (255 ∷ []) (sym read.1.0.1 ∙ there)
+]
+
+pub returns-clause-no_advice_of_text : goal.returns-clause-no_advice_of_text
+returns-clause-no_advice_of_text c = λ told text is h. h is
+
+-- ---- ends
+
+pub returns-clause-written_once : goal.returns-clause-written_once
+returns-clause-written_once c = λ line old new out h. subst (λ (lines : List ℕ). Answers Reads (Writes {X = Unit {0}}) line old lines false new) (sym h.2) h.1

@@ -1,0 +1,40 @@
+//! Worked values of what commands answer, refuse and tell.
+
+ghost use Rattle.std.specs.Prelude.{◌≡◌, ℕ, List, [], ◌∷◌, Some, Ok, false, codes, replicate, IsUtf8};
+ghost use Rattle.bq_asm.specs.Source.{IsSource};
+ghost use Rattle.bq_insn.specs.declared.insn.Insn.{Insn};
+ghost use Rattle.bq_range.specs.Interval.{Interval};
+ghost use Rattle.q_desk.specs.Desks.{answer_in};
+ghost use Rattle.q_files.specs.Memory.{Reads, Writes, bytes_of, fails_next};
+ghost use Rattle.q_files.specs.declared.memory.MemoryFiles.{MemoryFiles as Memory};
+ghost use Rattle.q_session.specs.declared.query.Query.{Query};
+ghost use Rattle.q_sim.specs.declared.refusal.Refusal.TheVariants as refused;
+ghost use Rattle.q_words.specs.declared.words.FileCommand.{FileCommand};
+ghost use Rattle.q_command.specs.Advice.{IsToldOf};
+ghost use Rattle.q_command.specs.Audit.{answer_lines};
+ghost use Rattle.q_command.specs.Listing.{listing_of};
+ghost use Rattle.q_command.specs.Perform.{Answers, AnswersRun, Ends, IsProgram, IsUnassembled, RefusesFile, failures_after, status_of};
+ghost use Rattle.q_command.specs.declared.denied.Denied.{Denied};
+ghost use Rattle.q_command.specs.declared.perform.Outcome.TheVariants as outcome;
+
+/// What the definitions say of programs, journals, answers, refusals and ends, over files in memory.
+pub fn worked()
+    // Programs and their listings.
+    ensures of_the_text { (source : List ℕ) (text : List Insn) → IsProgram source text → IsSource source text }
+    ensures no_text { (source : List ℕ) → (IsUtf8 source → ⊥) → IsUnassembled source refused.OutOfMemory → ⊥ }
+    ensures listed { listing_of (149 ∷ replicate 7 0) ≡ codes "9500000000000000\n" }
+
+    // Journals.
+    ensures audited { (query : Query) → answer_in query.phase ≡ Some (record { acc = 5; steps = 9 }) → answer_lines 4 (query ∷ []) ≡ codes "answer 4 5 9\n" }
+
+    // Answers and refusals.
+    ensures records_of_their_file { (lengths : Interval) (program records lines : List ℕ) (start : ℕ) (old new : Memory) → AnswersRun Reads lengths program start records old lines false new → (between : Memory) × (bytes : List ℕ) × Reads between records (Ok bytes) new }
+    ensures refused_bytes { (denied : Denied) (old new : Memory) → fails_next old.passing ≡ false → bytes_of old.files (codes "a") ≡ Some (255 ∷ []) → denied.refusal ≡ refused.FileFailed → RefusesFile Reads IsUnassembled (codes "a") old denied new → denied.bytes.items ≡ 255 ∷ [] }
+    ensures no_advice_of_text { (told text : List ℕ) → IsUtf8 text → IsToldOf refused.FileFailed text (Some told) → ⊥ }
+
+    // Ends.
+    ensures written_once { (line : FileCommand) (old new : Memory) (out : List ℕ) → Ends Reads (Writes {X = Unit {0}}) line old (Some []) outcome.Answered new (Some out) → Answers Reads (Writes {X = Unit {0}}) line old out false new }
+    ensures given_up { failures_after outcome.Unwritten 4 ≡ 5 }
+    ensures went_well { failures_after outcome.Answered 4 ≡ 4 }
+    ensures after_a_refusal { (denied : Denied) → status_of (outcome.Refused denied) ≡ 1 }
+{}

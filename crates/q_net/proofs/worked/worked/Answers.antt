@@ -1,0 +1,31 @@
+use Rattle.std.proofs.Common.{◌≡◌, ◌%◌, [], ◌∷◌, ◌++◌, length, get_or, Option, None, Some, ap, arith}
+use Rattle.std.proofs.lemmas.List.{length-append}
+use Rattle.bq_check.specs.Spelling.{short_bytes}
+use Rattle.q_net.specs.Serves.{last_reply}
+use Rattle.q_net.specs.declared.request.Stop.{Stop}
+use Rattle.q_net.specs.declared.request.Stop.TheVariants.{Unknown, Cut, LongText, LongNotes}
+use Rattle.q_net.proofs.worked.worked.Goals as goal
+
+pub returns-clause-answer_of_that_query : goal.returns-clause-answer_of_that_query
+returns-clause-answer_of_that_query c = λ b d said sent h. h.1
+
+pub returns-clause-registers_all_bytes : goal.returns-clause-registers_all_bytes
+returns-clause-registers_all_bytes c = λ b d said sent h. (h.0, h.1)
+
+pub returns-clause-text_cut_short : goal.returns-clause-text_cut_short
+unfolding short_bytes
+returns-clause-text_cut_short c = λ h.
+    let text = h.0 in
+    let notes = h.1 in
+    let first : 2 ≡ length text % 256 = ap (λ xs. get_or xs 1 0) h.3 in
+    omega (arith, first, ap length h.3, length-append text (short_bytes (length notes) ++ notes))
+
+no_99 : (ended : Option Stop) → last_reply ended ≡ 99 ∷ [] → ⊥
+no_99 None e = let n : 0 ≡ 1 = ap length e in omega (arith, n)
+no_99 (Some Unknown) e = let n : 84 ≡ 99 = ap (λ xs. get_or xs 0 0) e in omega (arith, n)
+no_99 (Some Cut) e = let n : 85 ≡ 99 = ap (λ xs. get_or xs 0 0) e in omega (arith, n)
+no_99 (Some LongText) e = let n : 2 ≡ 99 = ap (λ xs. get_or xs 0 0) e in omega (arith, n)
+no_99 (Some LongNotes) e = let n : 31 ≡ 99 = ap (λ xs. get_or xs 0 0) e in omega (arith, n)
+
+pub returns-clause-no_end_at_99 : goal.returns-clause-no_end_at_99
+returns-clause-no_end_at_99 c = no_99

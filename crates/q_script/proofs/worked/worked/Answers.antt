@@ -1,0 +1,96 @@
+use Rattle.std.proofs.Common.{◌≡◌, ℕ, List, ◌∷◌, ◌++◌, length, get_or, drop, codes, refl, ap, ◌∙◌, inl, inr, lit<, arith}
+use Rattle.std.specs.Fmt.{digits}
+use Rattle.hex.proofs.OnLiterals.{hex_on_literals}
+use Rattle.q_script.specs.declared.command.Command.{Command}
+use Rattle.q_script.specs.declared.command.Command.TheVariants as command
+use Rattle.q_script.specs.declared.line.ScriptLine.TheVariants as line
+use Rattle.q_script.specs.Command.{name}
+use Rattle.q_script.specs.Line.{HasOperands, Spells}
+use Rattle.q_script.proofs.Learning.{zip_length}
+use Rattle.q_script.proofs.worked.worked.Goals as goal
+
+pub returns-clause-zero : goal.returns-clause-zero
+unfolding digits
+returns-clause-zero c = (lit< tt, refl)
+
+pub returns-clause-zero_in_front_of_zero : goal.returns-clause-zero_in_front_of_zero
+unfolding digits
+returns-clause-zero_in_front_of_zero c = λ h. let two : 2 ≡ 1 = ap length h.1 in omega (arith, two)
+
+pub returns-clause-zero_in_front : goal.returns-clause-zero_in_front
+unfolding digits
+returns-clause-zero_in_front c = λ h. let two : 2 ≡ 1 = ap length h.1 in omega (arith, two)
+
+pub returns-clause-alone : goal.returns-clause-alone
+returns-clause-alone c = inl refl
+
+pub returns-clause-delivered : goal.returns-clause-delivered
+unfolding digits
+returns-clause-delivered c = inr (record { command = command.Deliver; rest = codes "7 3"; parts = refl; operands = (lit< tt, lit< tt, refl) })
+
+-- no command's operands are these two in the other order
+no_command : (command : Command) (rest : List ℕ) → codes "deliver 7 3" ≡ name command ++ (32 ∷ rest) → HasOperands command rest (line.Deliver 3 7) → ⊥
+unfolding digits
+no_command command.Deliver rest e h =
+    let first : 55 ≡ 51 = ap (λ xs. get_or xs 8 0) e ∙ ap (λ xs. get_or xs 0 0) h.2 in
+    omega (arith, first)
+no_command command.Program rest e h = h
+no_command command.Store rest e h = h
+no_command command.Ask rest e h = h
+no_command command.All rest e h = let no = h.2 in absurd cc
+no_command command.Hand rest e h = let no = h.2 in absurd cc
+no_command command.Run rest e h = let no = h.2 in absurd cc
+no_command command.Enter rest e h = let no = h.2 in absurd cc
+no_command command.Leave rest e h = let no = h.2 in absurd cc
+no_command command.Crash rest e h = let no = h.2 in absurd cc
+no_command command.Pairs rest e h = h
+no_command command.Journal rest e h = h
+
+pub returns-clause-node_first : goal.returns-clause-node_first
+returns-clause-node_first c = λ h. elim h [
+  | inl alone ↦ alone
+  | inr h ↦ no_command h.command h.rest h.parts h.operands
+]
+
+pub returns-clause-founded : goal.returns-clause-founded
+unfolding digits
+returns-clause-founded c = record {
+  rest = codes "3 4/5 2/3";
+  fractions = codes "4/5 2/3";
+  beta = codes "4/5";
+  gamma = codes "2/3";
+  parts = refl;
+  count = (lit< tt, refl);
+  both = refl;
+  is_beta = (lit< tt, lit< tt, refl);
+  is_gamma = (lit< tt, lit< tt, refl);
+}
+
+pub returns-clause-gamma_first : goal.returns-clause-gamma_first
+unfolding digits
+returns-clause-gamma_first c = λ h.
+    let fractions : codes "4/5 2/3" ≡ h.fractions = ap (drop 8) h.parts ∙ ap (drop 2) h.count.1 in
+    let first : 52 ≡ 50 = ap (λ xs. get_or xs 0 0) (fractions ∙ h.both ∙ ap (λ b. b ++ (32 ∷ h.gamma)) h.is_beta.2) in
+    omega (arith, first)
+
+pub returns-clause-event_left_out : goal.returns-clause-event_left_out
+returns-clause-event_left_out c = λ founding h. omega (arith, ap length h.parts, zip_length Spells h.others _ h.each)
+
+pub returns-clause-digits : goal.returns-clause-digits
+unfolding hex_on_literals
+returns-clause-digits c = inr (codes "05ff00", refl, refl)
+
+pub returns-clause-capital : goal.returns-clause-capital
+unfolding hex_on_literals
+returns-clause-capital c = inr (codes "Ff", refl, refl)
+
+pub returns-clause-no_byte : goal.returns-clause-no_byte
+unfolding hex_on_literals
+returns-clause-no_byte c = inr (codes "", refl, refl)
+
+pub returns-clause-each_byte : goal.returns-clause-each_byte
+unfolding hex_on_literals
+returns-clause-each_byte c = refl
+
+pub returns-clause-id_again : goal.returns-clause-id_again
+returns-clause-id_again c = λ lengths a b h. omega (arith, h.1.0.0)

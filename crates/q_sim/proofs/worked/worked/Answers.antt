@@ -1,0 +1,49 @@
+use Rattle.std.proofs.Common.{◌≡◌, length, true≢false, refl, ap, sym, ◌∙◌, inl, inr, subst, arith}
+use Rattle.std.specs.FinSet as set
+use Rattle.std.specs.Fmt.{digits}
+use Rattle.bq_insn.specs.Fields.{unit_bytes}
+use Rattle.bq_insn.specs.Slots.{spelling}
+use Rattle.q_files.specs.Memory.{Writes}
+use Rattle.q_history.specs.Calls.{Takes}
+use Rattle.q_history.specs.declared.event.Event.TheVariants as event
+use Rattle.q_sim.specs.Delivered.{pair_cmp}
+use Rattle.q_sim.specs.Simulates.{SavesAny, SimState}
+use Rattle.q_sim.proofs.Pairs.{pair_cmp_total}
+use Rattle.q_sim.proofs.worked.worked.Goals as goal
+
+pub returns-clause-other_bytes : goal.returns-clause-other_bytes
+unfolding unit_bytes
+returns-clause-other_bytes c = λ code certificate is long h.
+    let short : length code ≡ 8 = ap length (h.spelled ∙ ap spelling is) in
+    omega (arith, short, long)
+
+pub returns-clause-delivered : goal.returns-clause-delivered
+returns-clause-delivered c = set.contains-insert pair_cmp_total set.empty (7, 3) (7, 3)
+
+pub returns-clause-to_another_node : goal.returns-clause-to_another_node
+returns-clause-to_another_node c = set.contains-insert pair_cmp_total set.empty (7, 3) (7, 0) ∙ set.contains-empty pair_cmp (7, 0)
+
+pub returns-clause-answer : goal.returns-clause-answer
+unfolding digits
+returns-clause-answer c = refl
+
+pub returns-clause-message : goal.returns-clause-message
+unfolding digits
+returns-clause-message c = refl
+
+pub returns-clause-meeting : goal.returns-clause-meeting
+returns-clause-meeting c = λ store collect text h. (h.least, h.meeting, h.says)
+
+pub returns-clause-crash : goal.returns-clause-crash
+returns-clause-crash c = λ s t before after text h.
+    (h.4.0.result, subst (λ (x : SimState). Takes s.cluster (event.Crash 3) x.cluster h.4.0.result) (sym h.5.0) h.4.0.takes)
+
+pub returns-clause-no_such_node : goal.returns-clause-no_such_node
+returns-clause-no_such_node c = λ name text s t before after none h.
+    (subst (λ o. SavesAny (Writes {X = Unit {0}}) o name s before text t after) none h).1
+
+pub returns-clause-file_fails : goal.returns-clause-file_fails
+returns-clause-file_fails c = λ book name text s t before after fails h. elim h [
+  | inl written ↦ absurd (true≢false (sym fails ∙ written.0.0.0))
+  | inr failed ↦ ap (λ (x : SimState). x.unwritten) failed.1
+]

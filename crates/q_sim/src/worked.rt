@@ -1,0 +1,50 @@
+//! Worked values of what scripts do and print.
+
+ghost use Rattle.std.specs.Prelude.{◌≡◌, ℕ, List, [], ◌∷◌, length, true, false, Some, None, codes};
+ghost use Rattle.std.specs.FinSet as set;
+ghost use Rattle.bq_check.specs.Certificate.{Certificate};
+ghost use Rattle.bq_insn.specs.declared.fault.DecodeFault.TheVariants as decode_fault;
+ghost use Rattle.bq_insn.specs.declared.insn.Insn.TheVariants as insn;
+ghost use Rattle.q_book.specs.State.{BookState};
+ghost use Rattle.q_cluster.specs.Acts.{book_at};
+ghost use Rattle.q_files.specs.Memory.{Writes, fails_next};
+ghost use Rattle.q_files.specs.declared.memory.MemoryFiles.{MemoryFiles as Memory};
+ghost use Rattle.q_history.specs.Calls.{Takes};
+ghost use Rattle.q_history.specs.declared.event.Event.TheVariants as event;
+ghost use Rattle.q_history.specs.declared.event.Told.TheVariants as told;
+ghost use Rattle.q_script.specs.declared.line.ScriptLine.TheVariants as line;
+ghost use Rattle.q_sim.specs.Delivered.{Deliveries};
+ghost use Rattle.q_sim.specs.Printing.{TellsPair, is_over, message_lines, pair_line, told_lines};
+ghost use Rattle.q_sim.specs.Programs.{IsProgram};
+ghost use Rattle.q_sim.specs.Refusal as refusal;
+ghost use Rattle.q_sim.specs.Simulates.{Plays, Saves, SavesBook, SimState};
+ghost use Rattle.q_sim.specs.declared.refusal.Place.TheVariants as at;
+ghost use Rattle.q_sim.specs.declared.refusal.Refusal.TheVariants as refused;
+ghost use Rattle.sc_msg.specs.declared.message.Body.TheVariants as body;
+ghost use Rattle.sc_world.specs.Regular.{IsMeeting};
+ghost use Rattle.sc_world.specs.declared.op.Op.{Op};
+
+/// What the definitions say of programs, deliveries, refusals, printed lines and scripts, over files in memory.
+pub fn worked()
+    // Programs: the bytes are those of the program.
+    ensures other_bytes { (code : List ℕ) (certificate : Certificate) → certificate.text ≡ insn.Exit ∷ [] → length code ≡ 16 → IsProgram code certificate → ⊥ }
+
+    // Deliveries.
+    ensures delivered { let none : Deliveries = set.empty in set.contains (set.insert none (7, 3)) (7, 3) ≡ true }
+    ensures to_another_node { let none : Deliveries = set.empty in set.contains (set.insert none (7, 3)) (7, 0) ≡ false }
+
+    // Refusals.
+    ensures at_a_unit { (fault : _) → refusal.place (refused.Bytes (decode_fault.At 3 fault)) ≡ at.Unit 3 }
+
+    // What is printed.
+    ensures answer { told_lines (told.Finished (record { node = 1; query = 0; ran = record { acc = 5; steps = 9 } })) ≡ codes "answer 1 0 5 9\n" }
+    ensures message { message_lines (record { from = 3; body = body.Enter } ∷ []) 0 1 ≡ codes "message 0 enter\n" }
+    ensures at_the_end { is_over (Some 3) 3 ≡ false }
+    ensures behind_the_end { is_over (Some 3) 4 ≡ true }
+    ensures meeting { (store collect : Op) (text : List ℕ) → TellsPair (store, collect) text → (least : _) × IsMeeting store collect least × (text ≡ pair_line store collect least) }
+
+    // What a script does: it plays its first line, a crash is one, and a journal is that of the node.
+    ensures crash { (s t : SimState) (before after : Memory) (text : List ℕ) → Plays (Writes {X = Unit {0}}) (line.Crash 3 ∷ []) s before text t after → (result : _) × Takes s.cluster (event.Crash 3) t.cluster result }
+    ensures no_such_node { (name text : List ℕ) (s t : SimState) (before after : Memory) → book_at s.cluster 3 ≡ None → Saves (Writes {X = Unit {0}}) 3 name s before text t after → after ≡ before }
+    ensures file_fails { (book : BookState) (name text : List ℕ) (s t : SimState) (before after : Memory) → fails_next before.passing ≡ true → SavesBook (Writes {X = Unit {0}}) book name s before text t after → t.unwritten ≡ true }
+{}
