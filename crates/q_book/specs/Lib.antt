@@ -4,3 +4,4 @@ pub mod Faults
 pub mod Books
 pub mod Replays
 pub mod Noted
+pub mod Sample

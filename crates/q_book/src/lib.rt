@@ -16,3 +16,4 @@ pub mod answer;
 pub mod book;
 pub mod fault;
 pub mod laws;
+pub mod worked;

@@ -11,3 +11,4 @@
 
 mod books;
 pub mod cluster;
+pub mod worked;

@@ -3,3 +3,4 @@ pub mod State
 pub mod Desks
 pub mod Answers
 pub mod Faults
+pub mod Sample

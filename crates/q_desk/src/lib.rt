@@ -18,3 +18,4 @@ pub mod desk;
 pub mod fault;
 pub mod journal;
 mod same;
+pub mod worked;

@@ -18,3 +18,4 @@ mod gathering;
 mod heads;
 pub mod laws;
 pub mod numbers;
+pub mod worked;

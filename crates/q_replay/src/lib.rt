@@ -18,4 +18,5 @@ pub mod fault;
 pub mod laws;
 mod refusal;
 pub mod replay;
+pub mod worked;
 pub mod write;

@@ -16,3 +16,4 @@ pub mod query;
 pub mod ran;
 pub mod run;
 pub mod shared_view;
+pub mod worked;

@@ -13,3 +13,4 @@ pub mod fault;
 pub mod keyed;
 pub mod program;
 pub mod programs;
+pub mod worked;

@@ -1,0 +1,19 @@
+-- What tables of new desks hold, and why a node of a new id is not refused.
+use Rattle.std.proofs.Common.{rules, ◌≡◌, Option, Err, subst}
+use Rattle.std.specs.FinMap as fin
+use Rattle.sc_node.specs.State.{NodeState}
+use Rattle.q_history.specs.Clusters.{entered}
+use Rattle.q_history.specs.declared.fault.ClusterFault.TheVariants.{NoSuchJob}
+use Rattle.q_cluster.proofs.worked.worked.Goals as goal
+
+pub returns-clause-desk_of_a_founder : goal.returns-clause-desk_of_a_founder
+returns-clause-desk_of_a_founder c = search (rules, fin.gets)
+
+pub returns-clause-desk_of_one_that_enters : goal.returns-clause-desk_of_one_that_enters
+returns-clause-desk_of_one_that_enters c = search (rules, fin.gets)
+
+pub returns-clause-taken : goal.returns-clause-taken
+returns-clause-taken c = λ old new none t.
+    let said = t.1 (λ e. cc) (record { acc = 0; steps = 0 }) in
+    let accepted = subst (λ (o : Option NodeState). entered old 7 o ≡ Err NoSuchJob) none said in
+    cc

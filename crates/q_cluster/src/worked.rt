@@ -1,0 +1,44 @@
+//! Worked values of what events make of a cluster.
+
+ghost use Rattle.std.specs.Prelude.{◌≡◌, [], ◌∷◌, Some, None, Ok, Err, true, false};
+ghost use Rattle.std.specs.FinMap as fin;
+ghost use Rattle.std.specs.FinSet as set;
+ghost use Rattle.sc_members.specs.Members.{Config};
+ghost use Rattle.sc_node.specs.State.{NodeState};
+ghost use Rattle.sc_world.specs.State.{WorldState};
+ghost use Rattle.sc_world.specs.Worlds.{live_at};
+ghost use Rattle.q_session.specs.declared.job.Job.{Job};
+ghost use Rattle.q_desk.specs.State.{DeskState, new_desk};
+ghost use Rattle.q_book.specs.Books as book;
+ghost use Rattle.q_history.specs.Calls.{Takes, Runs};
+ghost use Rattle.q_history.specs.Clusters.{enters, handed, with_job, start, started};
+ghost use Rattle.q_history.specs.Heads.{book_of};
+ghost use Rattle.q_history.specs.State.{ClusterState};
+ghost use Rattle.q_history.specs.declared.event.Event.{Event};
+ghost use Rattle.q_history.specs.declared.event.Event.TheVariants as event;
+ghost use Rattle.q_history.specs.declared.fault.ClusterFault.{ClusterFault};
+ghost use Rattle.q_history.specs.declared.fault.ClusterFault.TheVariants as fault;
+ghost use Rattle.q_cluster.specs.Acts.{book_at};
+
+/// What the definitions say at telling operands.
+pub fn worked()
+    // Founders, and nodes that enter, have desks of their own.
+    ensures founded { (config : Config) → started config (1 ∷ 2 ∷ []) ≡ Ok (start config (1 ∷ 2 ∷ [])) }
+    ensures desk_of_a_founder { (config : Config) → fin.get (start config (1 ∷ 2 ∷ [])).desks 2 ≡ Some new_desk }
+    ensures desk_of_one_that_enters { (c : ClusterState) → fin.get (enters c 7 (book.entered c.world.config 7)).1.desks 7 ≡ Some new_desk }
+
+    // A new id is taken, and events are refused by their own places.
+    ensures taken { (c d : ClusterState) → fin.get c.world.nodes 7 ≡ None → Takes c (event.Enter 7) d (Err fault.NoSuchJob) → ⊥ }
+    ensures own_place { (c d : ClusterState) (e : Event) (f : ClusterFault) → Runs c (e ∷ []) d (Err (1, f)) → ⊥ }
+
+    // A node is there until it leaves or crashes, and its book stays.
+    ensures live { (w : WorldState) (n : NodeState) → set.contains w.crashed 7 ≡ false → fin.get w.nodes 7 ≡ Some n → n.gone ≡ false → live_at w 7 ≡ Some n }
+    ensures gone { (w : WorldState) (n : NodeState) → set.contains w.crashed 7 ≡ false → fin.get w.nodes 7 ≡ Some n → n.gone ≡ true → live_at w 7 ≡ None }
+    ensures crashed { (w : WorldState) → set.contains w.crashed 7 ≡ true → live_at w 7 ≡ None }
+    ensures book { (c : ClusterState) (n : NodeState) (d : DeskState) → fin.get c.world.nodes 7 ≡ Some n → fin.get c.desks 7 ≡ Some d → book_at c 7 ≡ Some (book_of c 7 n d) }
+    ensures no_book { (c : ClusterState) → fin.get c.world.nodes 7 ≡ None → book_at c 7 ≡ None }
+
+    // A job's number is its place.
+    ensures number { (j k : Job) → handed (j ∷ []) (Some k) ≡ Some (record { job = 1; query = k.query }) }
+    ensures place { (j k : Job) → with_job (j ∷ []) (Some k) ≡ j ∷ k ∷ [] }
+{}

@@ -1,0 +1,29 @@
+//! Worked values of tables of programs.
+
+ghost use Rattle.std.specs.Prelude.{◌≡◌, ◌++◌, [], ◌∷◌, List, length, slice_get, true, false, Some, None, Ok, Err};
+ghost use Rattle.bq_check.specs.Certificate.{Certificate};
+ghost use Rattle.bq_insn.specs.declared.insn.Insn.TheVariants as insn;
+ghost use Rattle.bq_range.specs.Interval.{between, single};
+ghost use Rattle.q_table.specs.Programs.{IsForViews, is_same_text, id_of, registered, checked};
+ghost use Rattle.q_table.specs.declared.fault.TableFault.TheVariants as fault;
+
+/// What the definitions say at telling operands.
+#[tactic(auto, unfolding(bq_insn::specs::Fields::unit_bytes))]
+pub fn worked()
+    // Texts, and the lengths of a view's records.
+    ensures one_text { is_same_text (insn.Exit ∷ []) (insn.Exit ∷ []) ≡ true }
+    ensures longer_text { is_same_text (insn.Exit ∷ []) (insn.Exit ∷ insn.Exit ∷ []) ≡ false }
+    ensures for_views { IsForViews (record { text = []; notes = []; lengths = single 64; longest = 0 }) }
+    ensures for_all_lengths { IsForViews (record { text = []; notes = []; lengths = between 16 128; longest = 0 }) → ⊥ }
+    ensures for_longer { IsForViews (record { text = []; notes = []; lengths = between 64 128; longest = 0 }) → ⊥ }
+
+    // A text that is there keeps its id and its first certificate; the 1,025th is refused. An id is a place.
+    ensures first { (c : Certificate) → registered [] c ≡ Ok (0, c ∷ []) }
+    ensures another { (c d : Certificate) → is_same_text d.text c.text ≡ false → registered (c ∷ []) d ≡ Ok (1, c ∷ d ∷ []) }
+    ensures again { (c d e : Certificate) → is_same_text e.text c.text ≡ true → registered (c ∷ d ∷ []) e ≡ Ok (0, c ∷ d ∷ []) }
+    ensures last { (programs : List Certificate) (c : Certificate) → id_of programs c.text ≡ None → length programs ≡ 1023 → registered programs c ≡ Ok (1023, programs ++ c ∷ []) }
+    ensures full { (programs : List Certificate) (c : Certificate) → id_of programs c.text ≡ None → length programs ≡ 1024 → registered programs c ≡ Err fault.Full }
+    ensures checked_full { (programs : List Certificate) (c : Certificate) → id_of programs c.text ≡ None → length programs ≡ 1024 → checked programs c ≡ Err fault.Full }
+    ensures checked_again { (programs : List Certificate) (c : Certificate) → id_of programs c.text ≡ Some 7 → checked programs c ≡ Ok tt }
+    ensures at_its_place { (c d : Certificate) → slice_get (c ∷ d ∷ []) 1 ≡ Some d }
+{}
