@@ -1,47 +1,87 @@
-//! How long a job takes over the job board, beside the same through two queues, each behind a lock.
+//! How long a job takes over the job board, beside the same through two queues, each behind a lock; how long nodes with
+//! sockets take for stores and queries, and how long requests of clients take over memory.
 //!
 //! | Words | What is timed |
 //! |---|---|
 //! | `hand JOBS` | one thread offers, takes, runs, finishes and polls each job, one behind the other |
 //! | `run JOBS RUNNERS` | one thread offers and polls, so many others take, run and finish |
+//! | `stores NODES COUNT` | so many stores at node 1, one behind the other, over sockets of loopback |
+//! | `asks NODES COUNT` | so many queries at node 1, each until its answer is printed, after one store |
+//! | `answers COUNT` | so many requests for an answer, read and replied to |
+//! | `registrations COUNT` | so many registrations of a program of three units, each decoded and checked |
 //!
 //! Each job runs three instructions over one record; with `hand`, the time of a job that is run where it is comes last, and
-//! what a job takes beyond that is its hand-over. The counts go to the standard output and are the same at each run;
-//! the times of a job go to the standard error. With no words it does a small run of each. To give the board work is all
-//! that its functions do, so they promise nothing more than that they are safe.
+//! what a job takes beyond that is its hand-over.
+//!
+//! The last four are each done five times, and the least time is told. The count is of what ended in each of the five, so
+//! that a store or a query that was left unanswered is missing there; the time has the start and the end of the nodes in
+//! it.
+//!
+//! The counts go to the standard output and are the same at each run; the times go to the standard error. With no words it
+//! does a small run of each. To give the parts work is all that its functions do, so they promise nothing more than that
+//! they are safe.
 #![tactic(auto)]
 
 mod board;
+mod cluster;
 mod jobs;
+mod measured;
 mod queues;
+mod requests;
+mod sizes;
 
 use crate::jobs::Times;
+use crate::measured::tell;
+use crate::sizes::size;
 use anyhow::{Result, bail};
-use sizes::size;
 use std::alloc::Global;
 use std::env;
+use std::net::Net;
 use std::sync::Wait;
 use std::thread::Threads;
 use std::time::Clock;
 
+/// Times the part that this word names, in the size that the words give.
+fn run_word<R>(rt: &R, word: &str, words: &[String]) -> Result<()>
+where
+    R: Net + Wait + Threads + Clock + Print + Eprint + Alloc<A = Global> + Sync,
+{
+    match word {
+        "hand" => tell_hand(rt, hand(rt, size(words, 2, 64)? as usize)?),
+        "run" => {
+            let (jobs, runners) = (size(words, 2, 64)?, size(words, 3, 2)?);
+            tell_both(rt, "run", run(rt, jobs as usize, runners as usize)?)
+        }
+        "stores" => {
+            let (nodes, count) = (size(words, 2, 3)?, size(words, 3, 4)?);
+            tell(rt, word, cluster::stores(rt, nodes, count)?)
+        }
+        "asks" => {
+            let (nodes, count) = (size(words, 2, 3)?, size(words, 3, 4)?);
+            tell(rt, word, cluster::asks(rt, nodes, count)?)
+        }
+        "answers" => tell(rt, word, requests::answers(rt, size(words, 2, 4)?)?),
+        "registrations" => tell(rt, word, requests::registrations(rt, size(words, 2, 4)?)?),
+        _ => bail!("{word:?} is none of hand, run, stores, asks, answers and registrations"),
+    }
+}
+
+/// A small run of each.
+fn run_all<R>(rt: &R) -> Result<()>
+where
+    R: Net + Wait + Threads + Clock + Print + Eprint + Alloc<A = Global> + Sync,
+{
+    for word in ["hand", "run", "stores", "asks", "answers", "registrations"] {
+        run_word(rt, word, &[])?;
+    }
+    Ok(())
+}
+
 fn main(rt: HostRuntime) -> Result<()> {
     let words: Vec<String> = env::args(&rt)?.collect(rt.alloc())?;
-    match words.get(1).map(|word| word.as_str()) {
-        Some("hand") => tell_hand(&rt, hand(&rt, size(&words, 2, 64)? as usize)?),
-        Some("run") => tell(
-            &rt,
-            "run",
-            run(
-                &rt,
-                size(&words, 2, 64)? as usize,
-                size(&words, 3, 2)? as usize,
-            )?,
-        ),
-        Some(word) => bail!("{word:?} is none of hand and run"),
-        None => {
-            tell_hand(&rt, hand(&rt, 64)?)?;
-            tell(&rt, "run", run(&rt, 64, 2)?)
-        }
+    match words.get(1) {
+        Some(word) => run_word(&rt, word.as_str(), &words),
+        None => run_all(&rt),
     }
 }
 
@@ -71,15 +111,15 @@ where
 }
 
 /// Prints what one thread did, and how long a job took.
-fn tell_hand(rt: &HostRuntime, times: (Both, Times)) -> Result<()> {
+fn tell_hand(rt: &(impl Print + Eprint), times: (Both, Times)) -> Result<()> {
     let (both, alone) = times;
-    tell(rt, "hand", both)?;
+    tell_both(rt, "hand", both)?;
     eprintln!(rt; "a job that is run where it is: {} ns", alone.nanos)?;
     Ok(())
 }
 
 /// Prints what was done, and how long a job took.
-fn tell(rt: &HostRuntime, what: &str, both: Both) -> Result<()> {
+fn tell_both(rt: &(impl Print + Eprint), what: &str, both: Both) -> Result<()> {
     let Both { board, queues } = both;
     println!(rt; "{what} board {} queues {}", board.jobs, queues.jobs)?;
     eprintln!(rt;

@@ -1,6 +1,6 @@
 //! Scripts over nodes with sockets.
 
-use crate::{RUNS, Times};
+use crate::measured::{Measured, RUNS};
 use anyhow::{Result, bail};
 use q_nodes::sockets::run_over_sockets;
 use q_wire::counted::Counted;
@@ -40,7 +40,7 @@ fn ended(printed: &[u8], word: &[u8]) -> u64 {
 }
 
 /// Runs a script once, and counts the operations that this word tells and that have ended.
-fn run_once<R>(rt: &R, script: &str, word: &[u8]) -> Result<Times>
+fn run_once<R>(rt: &R, script: &str, word: &[u8]) -> Result<Measured>
 where
     R: Net + Wait + Threads + Clock + Alloc<A = Global> + Sync,
 {
@@ -52,14 +52,14 @@ where
     if status != 0 {
         bail!("the run ended with status {status}");
     }
-    Ok(Times {
+    Ok(Measured {
         done: ended(printed.inner.as_slice(), word),
         taken,
     })
 }
 
 /// The least count and the least time of all runs of a script.
-fn run<R>(rt: &R, script: &str, word: &[u8]) -> Result<Times>
+fn run<R>(rt: &R, script: &str, word: &[u8]) -> Result<Measured>
 where
     R: Net + Wait + Threads + Clock + Alloc<A = Global> + Sync,
 {
@@ -71,7 +71,7 @@ where
 }
 
 /// So many stores.
-pub fn stores<R>(rt: &R, nodes: u64, count: u64) -> Result<Times>
+pub fn stores<R>(rt: &R, nodes: u64, count: u64) -> Result<Measured>
 where
     R: Net + Wait + Threads + Clock + Alloc<A = Global> + Sync,
 {
@@ -80,7 +80,7 @@ where
 }
 
 /// So many queries.
-pub fn asks<R>(rt: &R, nodes: u64, count: u64) -> Result<Times>
+pub fn asks<R>(rt: &R, nodes: u64, count: u64) -> Result<Measured>
 where
     R: Net + Wait + Threads + Clock + Alloc<A = Global> + Sync,
 {

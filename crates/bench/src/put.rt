@@ -1,5 +1,6 @@
 //! How long a put takes.
 
+use crate::Size;
 use crate::values::{USUAL, each, learn, view_of};
 use anyhow::Result;
 use sc_view::view::View;
@@ -48,9 +49,9 @@ fn shared(rt: &(impl Clock + Alloc<A = Global>), ids: u64, rounds: u64) -> Resul
 /// Times so many rounds.
 pub(crate) fn run(
     rt: &(impl Clock + Print + Eprint + Alloc<A = Global>),
-    ids: u64,
-    rounds: u64,
+    size: Size,
 ) -> Result<()> {
+    let (ids, rounds) = (size.count, size.runs);
     let puts = ids.saturating_mul(rounds);
     let (alone, shared) = (alone(rt, ids, rounds)?, shared(rt, ids, rounds)?);
     println!(rt; "put: {ids} ids, {rounds} rounds")?;

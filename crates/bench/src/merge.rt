@@ -1,5 +1,6 @@
 //! How long a merge takes, and what nodes do with views besides.
 
+use crate::Size;
 use crate::values::{USUAL, each, learn, refused, view_of};
 use anyhow::Result;
 use sc_view::view::View;
@@ -97,9 +98,9 @@ fn tell_reading(rt: &(impl Clock + Print + Eprint), view: &View, rounds: u64) ->
 /// Times so many rounds of each.
 pub(crate) fn run(
     rt: &(impl Clock + Print + Eprint + Alloc<A = Global>),
-    ids: u64,
-    rounds: u64,
+    size: Size,
 ) -> Result<()> {
+    let (ids, rounds) = (size.count, size.runs);
     let views = views_of(rt.alloc(), ids)?;
     tell_merges(rt, &views, rounds)?;
     tell(

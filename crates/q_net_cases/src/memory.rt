@@ -1,4 +1,8 @@
-//! Requests to a founder that is alone, each of them once more where memory is refused.
+//! Want of memory in a stream of client requests.
+//!
+//! What `serve` reads, replies and does to the book is proved in its crate, with a reply of 99 allowed to any request.
+//! Here requests are served to a founder that is alone, each of them once more where memory is refused, so that any one
+//! allocation may be.
 
 use bq_frame::block::Block;
 use q_book::book::Book;
@@ -10,7 +14,6 @@ use sc_members::config::Config;
 use sc_msg::message::Message;
 use std::alloc::Global;
 use std::sync::Wait;
-use std::test::Fail;
 
 /// Registers `mov64 r0, r3 / add64 r0, 1 / exit`, with the notes of its three units; asks for query 9.
 const REGISTER: &str = "\
@@ -239,17 +242,10 @@ fn are_right<R: Wait>(rt: &R, founder: &mut Founder, block: &mut Block) -> bool 
         && request(rt, founder, ANSWER, &counted)
 }
 
-/// The same of a book of its own; none where there is none.
-fn all_right<R: Wait>(rt: &R, alloc: Global) -> Option<bool> {
+/// The same of a book of its own; none where there is none. With any one allocation refused, each request has its right
+/// reply, or is answered 99, gives no message and then succeeds; the requests behind it are answered all the same.
+pub fn want_of_memory_is_answered<R: Wait>(rt: &R, alloc: Global) -> Option<bool> {
     let mut block = block(alloc)?;
     let mut founder = alone(alloc)?;
     Some(are_right(rt, &mut founder, &mut block))
-}
-
-/// Run with any one allocation refused, each request has its right reply, or is answered 99, gives no message and then
-/// succeeds; the requests behind it are answered all the same.
-#[test]
-fn want_of_memory_is_answered(rt: HostRuntime) -> Result<(), Fail> {
-    assert!(rt; all_right(&rt, rt.alloc()) == Some(true));
-    Ok(())
 }

@@ -1,12 +1,11 @@
-//! The sizes that benchmarks take from their command lines.
-#![tactic(auto)]
+//! The sizes that the command line gives.
 
 ghost use Rattle.std.specs.Prelude.{◌≡◌, ◌≤◌, length, Ok};
 
 use anyhow::{Context, Result};
 
 /// The number at this place of the words, or the usual one where they are fewer.
-pub fn size(words: &[String], index: usize, usual: u64) -> Result<u64>
+pub(crate) fn size(words: &[String], index: usize, usual: u64) -> Result<u64>
     ensures usual { length words.now ≤ index → result ≡ Ok usual }
 {
     match words.get(index) {

@@ -1,5 +1,6 @@
 //! How long a node takes over a store message, which it acknowledges and echoes.
 
+use crate::Size;
 use crate::values::{USUAL, each, learn, view_of};
 use anyhow::{Result, anyhow};
 use sc_members::config::Config;
@@ -82,9 +83,9 @@ fn tell(
 /// Times so many rounds of each.
 pub(crate) fn run(
     rt: &(impl Clock + Print + Eprint + Alloc<A = Global>),
-    ids: u64,
-    rounds: u64,
+    size: Size,
 ) -> Result<()> {
+    let (ids, rounds) = (size.count, size.runs);
     let known = view_of(rt.alloc(), ids, USUAL)?;
     for newer in [0, 1, 4, 16, 64, 256] {
         tell(rt, &known, ids.min(newer), rounds)?;

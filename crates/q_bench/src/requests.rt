@@ -1,6 +1,6 @@
 //! Requests of clients over memory.
 
-use crate::{RUNS, Times};
+use crate::measured::{Measured, RUNS};
 use anyhow::{Result, anyhow};
 use q_book::book::Book;
 use q_net::serve::serve;
@@ -49,7 +49,7 @@ fn registration(alloc: Global) -> Result<Vec<u8>> {
 }
 
 /// Serves requests to a fresh book, of which each reply has so many bytes.
-fn run_once<R>(rt: &R, requests: &[u8], reply: usize) -> Result<Times>
+fn run_once<R>(rt: &R, requests: &[u8], reply: usize) -> Result<Measured>
 where
     R: Wait + Clock + Alloc<A = Global>,
 {
@@ -70,11 +70,11 @@ where
     let taken = start.elapsed(rt)?;
     served.map_err(|_| anyhow!("not served"))?;
     let done = writer.inner.len().checked_div(reply).unwrap_or(0) as u64;
-    Ok(Times { done, taken })
+    Ok(Measured { done, taken })
 }
 
 /// The least count and the least time of all runs of a request, so many times, of which each reply has so many bytes.
-fn run<R>(rt: &R, request: &[u8], count: u64, reply: usize) -> Result<Times>
+fn run<R>(rt: &R, request: &[u8], count: u64, reply: usize) -> Result<Measured>
 where
     R: Wait + Clock + Alloc<A = Global>,
 {
@@ -90,12 +90,12 @@ where
 }
 
 /// So many requests for an answer that is not there.
-pub fn answers<R: Wait + Clock + Alloc<A = Global>>(rt: &R, count: u64) -> Result<Times> {
+pub fn answers<R: Wait + Clock + Alloc<A = Global>>(rt: &R, count: u64) -> Result<Measured> {
     run(rt, &ANSWER, count, 1)
 }
 
 /// So many registrations.
-pub fn registrations<R: Wait + Clock + Alloc<A = Global>>(rt: &R, count: u64) -> Result<Times> {
+pub fn registrations<R: Wait + Clock + Alloc<A = Global>>(rt: &R, count: u64) -> Result<Measured> {
     let request = registration(rt.alloc())?;
     run(rt, request.as_slice(), count, 5)
 }

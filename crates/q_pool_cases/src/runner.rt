@@ -1,0 +1,77 @@
+//! The seats of runners at their board.
+
+ghost use Rattle.std.specs.Prelude.{◌≡◌, All};
+ghost use Rattle.q_board.specs.BoardId.{board_id};
+
+use crate::step::Outcome;
+use bq_frame::block::Block;
+use q_board::board::Board;
+use q_board::seats::RunnerSeat;
+use q_pool::gate::Open;
+use q_pool::runner::run_some;
+use std::alloc::Global;
+
+/// At how many slots a runner looks: the row of one asker.
+const LOOKS: u32 = 8;
+
+/// A runner's seat, the board where it is, and the block over which it runs jobs.
+#[derive(Drop)]
+pub struct Runner<'b> {
+    board: &'b Board,
+    seat: RunnerSeat,
+    block: Block,
+    ghost seated: { seat.table ≡ board_id board.now },
+}
+
+/// A seat of the board, with a block.
+fn at(board: &Board, seat: RunnerSeat, block: Block) -> Runner<'_>
+    requires { seat.table ≡ board_id board.now }
+{
+    Runner { board, seat, block }
+}
+
+/// Runners in these seats of a board; none where there is no memory.
+pub fn runners(alloc: Global, board: &Board, seats: Vec<RunnerSeat>) -> Option<Vec<Runner<'_>>>
+    requires { All (λ s. s.table ≡ board_id board.now) seats.items }
+{
+    let mut runners = Vec::new(alloc);
+    for seat in seats {
+        let Ok(block) = Block::new(alloc) else {
+            return None;
+        };
+        if runners.push(at(board, seat, block)).is_err() {
+            return None;
+        }
+    }
+    Some(runners)
+}
+
+impl Runner<'_> {
+    /// Looks at eight slots, and runs each job that it claims: how many.
+    pub fn run(&mut self) -> u32 {
+        run_some(self.board, &mut self.seat, &mut self.block, &Open, LOOKS)
+    }
+
+    /// Looks at the next slot, and gives its job back: the job's query.
+    fn give_back(&mut self) -> Option<usize> {
+        let slot = self.seat.next();
+        match self.board.try_take(&mut self.seat, slot) {
+            Some(claim) => {
+                let query = claim.job().query();
+                self.board.give_back(&mut self.seat, claim);
+                Some(query)
+            }
+            None => None,
+        }
+    }
+
+    /// Looks at eight slots, and gives the first job that it claims back: its query.
+    pub fn give_one_back(&mut self) -> Outcome {
+        for _ in 0..LOOKS {
+            if let Some(query) = self.give_back() {
+                return Outcome::Query(query);
+            }
+        }
+        Outcome::Nothing
+    }
+}
