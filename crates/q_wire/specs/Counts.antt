@@ -7,6 +7,10 @@ use Rattle.q_wire.specs.declared.fault.TransportFault.TheVariants as fault
 abbrev pub one_more : ℕ → ℕ
 one_more n = min (n + 1) (2 ^ 64 - 1)
 
+-- the number of the call that is to fail, after one call: 0, which is none, once that was it, and stays 0
+abbrev pub one_fewer : ℕ → ℕ
+one_fewer n = n - 1
+
 -- the count after a call whose error is a failure
 abbrev pub count_after : {A E : Type 0} → Result A E → ℕ → ℕ
 count_after (Ok a) n = n

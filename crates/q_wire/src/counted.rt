@@ -1,31 +1,47 @@
 //! Readers and writers whose failures are counted.
 //!
-//! A read or a write that a signal interrupted did nothing: it is made again, and is not counted.
+//! A read or a write that a signal interrupted did nothing: it is made again, and is not counted. For tests one call can be
+//! made to fail, at which nothing is read or written.
 
-ghost use Rattle.std.specs.Prelude.{◌≡◌, ◌≤◌, ◌<◌, ◌++◌, ℕ, List, length, take, IfOk, OnOk, OnErr};
+ghost use Rattle.std.specs.Prelude.{◌≡◌, ◌≤◌, ◌<◌, ◌++◌, ℕ, List, length, take, IfOk, IsErrAnd, OnOk, OnErr};
 ghost use Rattle.std.specs.Io.{ReadsAtMost, WritesAtMost};
 ghost use Rattle.std.specs.Io.KnownBytes.{Appends, Consumes, IsAtEnd, Keeps, ReadConsumes, WriteAppends};
-ghost use Rattle.q_wire.specs.Counts.{write_count, count_after, one_more};
+ghost use Rattle.std.specs.IoError.{error_kind};
+ghost use Rattle.q_wire.specs.Counts.{write_count, count_after, one_more, one_fewer};
 
-use crate::fault::TransportFailed;
+use crate::fault::{TransportFailed, is_to_fail};
 use std::io;
 use std::io::{ErrorKind, Read, Write};
 
-/// A reader or a writer, and how many of its calls failed so far.
+/// A reader or a writer, and how many of its calls failed so far. One of the calls may be made to fail.
 #[derive(Drop)]
 pub struct Counted<T> {
     /// What is read from or written to.
     pub inner: T,
     /// How many calls failed: the count stays at its greatest value.
     pub failures: u64,
+    /// The number of the read, write or flush that is to fail, counted from 1 for the next; 0 where none is.
+    pub failing: u64,
 }
 
 impl<T> Counted<T> {
-    /// None of its calls failed so far.
+    /// None of its calls failed so far, and none is to fail.
     pub fn new(inner: T) -> Counted<T>
-        ensures { result ≡ record { inner = inner; failures = 0 } }
+        ensures { result ≡ record { inner = inner; failures = 0; failing = 0 } }
     {
-        Counted { inner, failures: 0 }
+        Counted {
+            inner,
+            failures: 0,
+            failing: 0,
+        }
+    }
+
+    /// From now on the call with this number is to fail, counted from 1 for the next; with 0 none is. A call that a signal
+    /// interrupts is one, however often it is made again.
+    pub fn fail_at(&mut self, call: u64)
+        ensures { self.new ≡ record self.old { failing = call } }
+    {
+        self.failing = call;
     }
 
     /// How many of its calls failed so far; the count stays at its greatest value. A write that takes none of a piece
@@ -38,9 +54,18 @@ impl<T> Counted<T> {
 
     // One call more failed.
     fn count(&mut self)
-        ensures { self.new ≡ record { inner = self.old.inner; failures = one_more self.old.failures } }
+        ensures { self.new ≡ record self.old { failures = one_more self.old.failures } }
     {
         self.failures = self.failures.saturating_add(1);
+    }
+
+    // Counts a call that was to fail: its error.
+    fn fail(&mut self) -> io::Error
+        ensures kind { error_kind result ≡ ErrorKind.Other }
+        ensures counted { self.new ≡ record self.old { failures = one_more self.old.failures } }
+    {
+        self.count();
+        io::Error::from(ErrorKind::Other)
     }
 }
 
@@ -81,7 +106,14 @@ impl<R: Read> Read for Counted<R> {
         ensures bound { ReadsAtMost result buf.new }
         ensures bytes { ReadConsumes (R.remaining self.old.inner) (R.remaining self.new.inner) result buf.new }
         ensures counted { self.new.failures ≡ count_after result self.old.failures }
+        ensures failing { self.new.failing ≡ one_fewer self.old.failing }
+        ensures fails { self.old.failing ≡ 1 → IsErrAnd result (λ e. error_kind e ≡ ErrorKind.Other) }
+        ensures unread { self.old.failing ≡ 1 → self.new.inner ≡ self.old.inner }
+        ensures same_buffer { self.old.failing ≡ 1 → buf.new ≡ buf.old }
     {
+        if is_to_fail(&mut self.failing) {
+            return Err(self.fail());
+        }
         match read_through(&mut self.inner, buf) {
             Ok(n) => Ok(n),
             Err(error) => {
@@ -99,7 +131,13 @@ impl<W: Write> Write for Counted<W> {
         ensures bound { WritesAtMost result buf.now }
         ensures bytes { WriteAppends (W.contents self.old.inner) (W.contents self.new.inner) result buf.now }
         ensures counted { self.new.failures ≡ write_count result (length buf.now) self.old.failures }
+        ensures failing { self.new.failing ≡ one_fewer self.old.failing }
+        ensures fails { self.old.failing ≡ 1 → IsErrAnd result (λ e. error_kind e ≡ ErrorKind.Other) }
+        ensures unwritten { self.old.failing ≡ 1 → self.new.inner ≡ self.old.inner }
     {
+        if is_to_fail(&mut self.failing) {
+            return Err(self.fail());
+        }
         match write_through(&mut self.inner, buf) {
             Ok(0) => {
                 if !buf.is_empty() {
@@ -118,7 +156,13 @@ impl<W: Write> Write for Counted<W> {
     fn flush(&mut self) -> io::Result<()>
         ensures bytes { Keeps (W.contents self.old.inner) (W.contents self.new.inner) }
         ensures counted { self.new.failures ≡ count_after result self.old.failures }
+        ensures failing { self.new.failing ≡ one_fewer self.old.failing }
+        ensures fails { self.old.failing ≡ 1 → IsErrAnd result (λ e. error_kind e ≡ ErrorKind.Other) }
+        ensures unwritten { self.old.failing ≡ 1 → self.new.inner ≡ self.old.inner }
     {
+        if is_to_fail(&mut self.failing) {
+            return Err(self.fail());
+        }
         match self.inner.flush() {
             Ok(()) => Ok(()),
             Err(error) => {
@@ -139,6 +183,8 @@ impl<R: Read> Counted<R> {
         ensures end { IfOk result (λ n. n < length into.old → IsAtEnd (R.remaining self.new.inner)) }
         ensures failed { OnErr result ((part : List ℕ) × Consumes (R.remaining self.old.inner) (R.remaining self.new.inner) part) }
         ensures counted { self.new.failures ≡ count_after result self.old.failures }
+        ensures fewer { self.new.failing ≤ self.old.failing }
+        ensures not_reached { OnOk result (0 < self.old.failing → 0 < self.new.failing) }
     {
         let mut at = 0;
         while at < into.len() {
@@ -158,6 +204,8 @@ impl<W: Write> Counted<W> {
         ensures written { OnOk result (Appends (W.contents self.old.inner) (W.contents self.new.inner) bytes.now) }
         ensures failed { OnErr result ((part : List ℕ) × Appends (W.contents self.old.inner) (W.contents self.new.inner) part) }
         ensures counted { self.new.failures ≡ count_after result self.old.failures }
+        ensures fewer { self.new.failing ≤ self.old.failing }
+        ensures not_reached { OnOk result (0 < self.old.failing → 0 < self.new.failing) }
     {
         let mut rest = bytes;
         while !rest.is_empty() {

@@ -1,6 +1,7 @@
 //! Why reads, writes and datagrams fail, and the reason that is told of each.
 
-ghost use Rattle.std.specs.Prelude.{◌≡◌};
+ghost use Rattle.std.specs.Prelude.{◌≡◌, ◌↔◌, IsTrue};
+ghost use Rattle.q_wire.specs.Counts.{one_fewer};
 ghost use Rattle.q_wire.specs.Faults.{reason};
 
 use reasons::{Reason, told};
@@ -36,4 +37,14 @@ impl From<AllocError> for TransportFault {
     fn from(_error: AllocError) -> Self {
         TransportFault::OutOfMemory
     }
+}
+
+/// Counts a call by the number of the one that is to fail: whether it is that one.
+pub(crate) fn is_to_fail(failing: &mut u64) -> bool
+    ensures told { IsTrue result ↔ (failing.old ≡ 1) }
+    ensures counted { failing.new ≡ one_fewer failing.old }
+{
+    let fails = *failing == 1;
+    *failing = failing.saturating_sub(1);
+    fails
 }

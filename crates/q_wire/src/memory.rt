@@ -1,10 +1,10 @@
 //! Datagrams over memory, that threads share.
 
 ghost use Rattle.std.specs.Prelude.{◌≡◌, ◌≤◌, ◌↔◌, ◌++◌, ◌∷◌, [], length, Err, IfOk, IfSome, IsSome, OnOk, OnErr, MatchOption};
-ghost use Rattle.q_wire.specs.Counts.{transport_count};
+ghost use Rattle.q_wire.specs.Counts.{one_fewer, transport_count};
 ghost use Rattle.q_wire.specs.Peers.{HasMailbox};
 
-use crate::fault::TransportFault;
+use crate::fault::{TransportFault, is_to_fail};
 use crate::transport::{Transport, count_failure, put_at_start};
 use std::alloc::{AllocError, Global};
 use std::collections::VecDeque;
@@ -91,7 +91,8 @@ impl Hub {
     }
 }
 
-/// A node's end of a hub. A node that has no mailbox there hears nothing, and is told nothing: such calls fail.
+/// A node's end of a hub. A node that has no mailbox there hears nothing, and is told nothing: such calls fail. For tests
+/// one of the calls may be made to fail, which then reaches no mailbox.
 #[derive(Drop)]
 pub struct MemoryTransport<'a, R: Wait> {
     rt: &'a R,
@@ -101,21 +102,35 @@ pub struct MemoryTransport<'a, R: Wait> {
     pub node: u64,
     /// How many calls failed so far.
     pub failures: u64,
+    /// The number of the call that is to fail, counted from 1 for the next; 0 where none is.
+    pub failing: u64,
 }
 
 impl<'a, R: Wait> MemoryTransport<'a, R> {
-    /// The end of this node.
+    /// The end of this node, with no call that is to fail.
     pub fn new(rt: &'a R, hub: &'a Hub, node: u64) -> Self
         ensures hub { result.hub.now ≡ hub.now }
         ensures node { result.node ≡ node }
         ensures failures { result.failures ≡ 0 }
+        ensures failing { result.failing ≡ 0 }
     {
         MemoryTransport {
             rt,
             hub,
             node,
             failures: 0,
+            failing: 0,
         }
+    }
+
+    /// From now on the call with this number is to fail, counted from 1 for the next; with 0 none is.
+    pub fn fail_at(&mut self, call: u64)
+        ensures failing { self.new.failing ≡ call }
+        ensures failures { self.new.failures ≡ self.old.failures }
+        ensures hub { self.new.hub.now ≡ self.old.hub.now }
+        ensures node { self.new.node ≡ self.old.node }
+    {
+        self.failing = call;
     }
 }
 
@@ -127,7 +142,12 @@ impl<R: Wait> Transport for MemoryTransport<'_, R> {
         ensures stranger { ¬ (HasMailbox self.old.hub.now to) → result ≡ Err TransportFault.Failed }
         ensures hub { self.new.hub.now ≡ self.old.hub.now }
         ensures node { self.new.node ≡ self.old.node }
+        ensures failing { self.new.failing ≡ one_fewer self.old.failing }
+        ensures fails { self.old.failing ≡ 1 → result ≡ Err TransportFault.Failed }
     {
+        if is_to_fail(&mut self.failing) {
+            return Err(count_failure(&mut self.failures));
+        }
         let Some(mailbox) = self.hub.mailbox(to) else {
             return Err(count_failure(&mut self.failures));
         };
@@ -142,7 +162,13 @@ impl<R: Wait> Transport for MemoryTransport<'_, R> {
         ensures stranger { ¬ (HasMailbox self.old.hub.now self.old.node) → result ≡ Err TransportFault.Failed }
         ensures hub { self.new.hub.now ≡ self.old.hub.now }
         ensures node { self.new.node ≡ self.old.node }
+        ensures failing { self.new.failing ≡ one_fewer self.old.failing }
+        ensures fails { self.old.failing ≡ 1 → result ≡ Err TransportFault.Failed }
+        ensures same_buffer { self.old.failing ≡ 1 → into.new ≡ into.old }
     {
+        if is_to_fail(&mut self.failing) {
+            return Err(count_failure(&mut self.failures));
+        }
         let Some(mailbox) = self.hub.mailbox(self.node) else {
             return Err(count_failure(&mut self.failures));
         };

@@ -3,7 +3,7 @@
 ghost use Rattle.std.specs.Prelude.{◌≡◌, ℕ, [], ◌∷◌, ◌++◌, Some, None, Ok, Err};
 ghost use Rattle.std.specs.Io.KnownBytes.{Appends, Consumes};
 ghost use Rattle.std.specs.declared.net.socket_addr.SocketAddr.{SocketAddr};
-ghost use Rattle.q_wire.specs.Counts.{count_after, one_more, transport_count, write_count};
+ghost use Rattle.q_wire.specs.Counts.{count_after, one_fewer, one_more, transport_count, write_count};
 ghost use Rattle.q_wire.specs.Peers.{HasMailbox, address_of};
 ghost use Rattle.q_wire.specs.declared.fault.TransportFault.TheVariants as fault;
 
@@ -21,6 +21,11 @@ pub fn worked()
     ensures sent { transport_count {A = ℕ} (Ok 0) 7 ≡ 7 }
     ensures not_sent { transport_count {A = ℕ} (Err fault.Failed) 1 ≡ 2 }
     ensures without_memory { transport_count {A = ℕ} (Err fault.OutOfMemory) 7 ≡ 7 }
+
+    // The call that is to fail comes one nearer, and none is left once it was it.
+    ensures nearer { one_fewer 3 ≡ 2 }
+    ensures reached { one_fewer 1 ≡ 0 }
+    ensures none_is_to_fail { one_fewer 0 ≡ 0 }
 
     // What was read is told, and all of a piece is written.
     ensures read_is_told { Consumes (Some (1 ∷ [])) (Some []) [] → ⊥ }

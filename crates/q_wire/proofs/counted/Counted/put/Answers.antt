@@ -9,7 +9,7 @@ moves_front all done rest n e =
 
 pub loop-rest-preserved : goal.loop-rest-preserved
 loop-rest-preserved g c =
-    let (done, split, counted, appended) = c.loop-rest.invariant in
+    let (done, split, counted, fewer, ahead, appended) = c.loop-rest.invariant in
     let rest = c.loop-rest.rest.now in
     let n = c.in-Ok.n in
-    (done ++ take n rest, moves_front _ done rest n split, search rules, Appends-trans _ _ _ _ _ appended c.in-Ok.ensures.bytes)
+    (done ++ take n rest, moves_front _ done rest n split, search rules, search rules, search rules, Appends-trans _ _ _ _ _ appended c.in-Ok.ensures.bytes)
