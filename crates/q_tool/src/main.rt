@@ -75,18 +75,25 @@ use q_command::perform::{Outcome, carry_out};
 use q_files::folder::Folder;
 use q_nodes::sockets::run_file;
 use q_wire::counted::Counted;
-use q_words::words::{FileCommand, Wanted, WordsFault, read_words};
+use q_words::words::{FileCommand, Wanted, WordsFault, given_words, read_words};
 use std::alloc::Global;
-use std::io::IsTerminal;
+use std::env::Env;
+use std::io::{IsTerminal, Stderr};
+use std::net::Net;
 use std::process::ExitCode;
 use std::rt::{Clock, Files as SystemFiles};
+use std::sync::Wait;
+use std::thread::Threads;
 use std::{env, io};
 
 /// Says why no command runs, where `clap` says that text belongs.
 fn explain(rt: &(impl Print + Eprint), fault: &WordsFault) -> io::Result<()> {
     match fault {
         WordsFault::Help(_) => rt.print(fault),
-        WordsFault::Wrong(_) | WordsFault::BadStart | WordsFault::BadLengths => rt.eprint(fault),
+        WordsFault::Wrong(_)
+        | WordsFault::BadStart
+        | WordsFault::BadLengths
+        | WordsFault::NotUtf8 => rt.eprint(fault),
         WordsFault::OutOfMemory => rt.println(fault),
     }
 }
@@ -110,18 +117,29 @@ fn run_line<R: SystemFiles + Alloc<A = Global> + Print + Eprint + Clock>(
     Ok(outcome.status())
 }
 
-fn main(rt: HostRuntime) -> io::Result<ExitCode> {
+/// Reads the words of the command line, and runs what they ask for: the exit status.
+fn run_words<R>(rt: &R, mut stderr: Stderr) -> Result<io::Result<u8>, WordsFault>
+where
+    R: Env + SystemFiles + Alloc<A = Global> + Print + Eprint + Clock + Net + Threads + Wait + Sync,
+{
     let alloc = rt.alloc();
-    let args: Vec<String> = env::args(&rt)?.collect(alloc)?;
+    let args = given_words(alloc, env::args(rt))?;
     let words: Vec<&str> = args.iter().map(|word| word.as_str()).collect(alloc)?;
-    let is_watched = rt.stderr().is_terminal();
-    let status = match read_words(alloc, words.as_slice()) {
-        Ok(Wanted::FileCommand(line)) => run_line(&rt, &line, is_watched)?,
-        Ok(Wanted::Cluster { script }) => {
-            let mut out = Counted::new(io::writer(&rt));
-            let mut files = Folder::new(&rt, is_watched);
-            run_file(&rt, alloc, script, &mut files, &mut out, &mut rt.stderr())
+    let is_watched = stderr.is_terminal();
+    let status = match read_words(alloc, words.as_slice())? {
+        Wanted::FileCommand(line) => run_line(rt, &line, is_watched),
+        Wanted::Cluster { script } => {
+            let mut out = Counted::new(io::writer(rt));
+            let mut files = Folder::new(rt, is_watched);
+            Ok(run_file(rt, alloc, script, &mut files, &mut out, &mut stderr))
         }
+    };
+    Ok(status)
+}
+
+fn main(rt: HostRuntime) -> io::Result<ExitCode> {
+    let status = match run_words(&rt, rt.stderr()) {
+        Ok(status) => status?,
         Err(fault) => {
             explain(&rt, &fault)?;
             fault.status()

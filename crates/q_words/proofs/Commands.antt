@@ -21,7 +21,7 @@ use Rattle.clap.specs.declared.parser.matches.ArgMatches.TheViews.{out-ArgMatche
 use Rattle.clap.proofs.OnLiterals.{clap_on_literals}
 use Rattle.q_words.specs.declared.words.Wanted.{Wanted}
 use Rattle.q_words.specs.declared.words.WordsFault.{WordsFault}
-use Rattle.q_words.specs.declared.words.WordsFault.TheVariants.{Help, Wrong, BadStart, BadLengths, OutOfMemory}
+use Rattle.q_words.specs.declared.words.WordsFault.TheVariants.{Help, Wrong, BadStart, BadLengths, NotUtf8, OutOfMemory}
 use Rattle.q_words.specs.Words.{bqview, operand_of, AreBad, AreGiven, AreGivenFor, IsMet, HasLineFault, Reads}
 
 simple : is_simple bqview ≡ true
@@ -141,6 +141,7 @@ read_so words (Err BadStart) met n s h = (n, was_met (HasLineFault BadStart) _ m
 read_so words (Err BadLengths) met n s h = (n, was_met (HasLineFault BadLengths) _ met s h)
 read_so words (Err (Help e)) met n s h = absurd h
 read_so words (Err (Wrong e)) met n s h = absurd h
+read_so words (Err NotUtf8) met n s h = absurd h
 read_so words (Err OutOfMemory) met n s h = absurd h
 
 -- the parser met the command of this name

@@ -4,6 +4,9 @@ use Rattle.clap.specs.Words.{App, IsAmong, Row, Rule, Text, fault_of, first_of, 
 use Rattle.clap.specs.declared.error.Error.{Error}
 use Rattle.clap.specs.declared.error.kind.ErrorKind.TheVariants.{DisplayHelp}
 use Rattle.clap.specs.declared.error.kind.ErrorKind.TheVariants as kind
+use Rattle.std.specs.IoError.{error_kind}
+use Rattle.std.specs.declared.io.Error as io
+use Rattle.std.specs.declared.io.ErrorKind.TheVariants as io_kind
 use Rattle.clap.specs.declared.builder.action.ArgAction.TheVariants.{Set}
 use Rattle.bq_range.specs.Interval.{Interval}
 use Rattle.bq_state.specs.Kinds.{AreLengths}
@@ -12,7 +15,7 @@ use Rattle.q_words.specs.declared.words.FileCommand.TheVariants.{Asm, Check, Run
 use Rattle.q_words.specs.declared.words.Wanted.{Wanted}
 use Rattle.q_words.specs.declared.words.Wanted.TheVariants as wanted
 use Rattle.q_words.specs.declared.words.WordsFault.{WordsFault}
-use Rattle.q_words.specs.declared.words.WordsFault.TheVariants.{Help, Wrong, BadStart, BadLengths, OutOfMemory}
+use Rattle.q_words.specs.declared.words.WordsFault.TheVariants.{Help, Wrong, BadStart, BadLengths, NotUtf8, OutOfMemory}
 use Rattle.q_script.specs.Words.{IsNumeral}
 
 -- ---- the command line
@@ -119,6 +122,12 @@ Tells error (Wrong e) = (e ≡ error) × (kind_of error ≡ DisplayHelp → ⊥)
 Tells error OutOfMemory = kind_of error ≡ kind.OutOfMemory
 Tells error e = ⊥
 
+-- the fault tells why the system gave no words: memory ran out, or else one of them is not UTF-8
+abbrev pub TellsUngiven : io.Error → WordsFault → Type 0
+TellsUngiven error OutOfMemory = error_kind error ≡ io_kind.OutOfMemory
+TellsUngiven error NotUtf8 = error_kind error ≡ io_kind.OutOfMemory → ⊥
+TellsUngiven error e = ⊥
+
 -- help is asked for, the words have a mistake of one of the kinds, a number among them is none or out of bounds, or
 -- memory ran out
 abbrev pub HasFault : List Text → WordsFault → Type 0
@@ -140,3 +149,4 @@ exit_status OutOfMemory = 1
 exit_status (Wrong e) = 2
 exit_status BadStart = 2
 exit_status BadLengths = 2
+exit_status NotUtf8 = 2

@@ -1,19 +1,22 @@
 //! The words of the command line.
 
-ghost use Rattle.std.specs.Prelude.{◌≡◌, codes, IfOk, MatchResult, map, false, true};
+ghost use Rattle.std.specs.Prelude.{◌≡◌, codes, IfOk, IfErr, IsErrAnd, MatchResult, map, false, true};
 ghost use Rattle.std.specs.Option.{SomeIff};
+ghost use Rattle.std.specs.Vec.Iter.{into_iter_items};
 ghost use Rattle.bq_range.specs.Interval.{between};
 ghost use Rattle.bq_state.specs.Kinds.{AreLengths};
 ghost use Rattle.clap.specs.Words.{app_of, found_of, rows_of, with_rule, with_subcommand};
 ghost use Rattle.clap.specs.declared.builder.command.Command.TheViews.{out-Command};
 ghost use Rattle.q_words.specs.declared.words.WordsFault.TheVariants.{OutOfMemory};
-ghost use Rattle.q_words.specs.Words.{asm_app, check_app, run_app, sim_app, cluster_app, audit_app, bare_app, bqview, operand, option, with_lengths, operand_of, AreGiven, AreBad, HasLineFault, IsMet, Reads, Tells, exit_status};
+ghost use Rattle.q_words.specs.Words.{asm_app, check_app, run_app, sim_app, cluster_app, audit_app, bare_app, bqview, operand, option, with_lengths, operand_of, AreGiven, AreBad, HasLineFault, IsMet, Reads, Tells, TellsUngiven, exit_status};
 
 use bq_state::bounds::Bounds;
 use clap::error::ErrorKind;
 use clap::{Arg, ArgAction, ArgMatches, Command, Error};
 use q_script::number::number;
 use std::alloc::{AllocError, Global};
+use std::env::Args;
+use std::io;
 
 /// A command over files, with its operands.
 #[derive(Clone, Copy)]
@@ -81,6 +84,9 @@ pub enum WordsFault {
     /// The lengths of records are none. The text belongs to the standard error.
     #[error("error: --least and --most are the fewest and the most bytes that a record may have: numbers in decimal with 16 <= least <= most <= 128\n\nFor more information, try 'bqview check --help'.\n")]
     BadLengths,
+    /// A word of them is not UTF-8. The text belongs to the standard error.
+    #[error("error: a word of the command line is not UTF-8 text\n\nFor more information, try 'bqview --help'.\n")]
+    NotUtf8,
     /// 99: memory ran out. The text is that of a refusal, and belongs to the standard output.
     #[error("refused 99 OutOfMemory")]
     OutOfMemory,
@@ -95,7 +101,10 @@ impl WordsFault {
         match self {
             WordsFault::Help(_) => 0,
             WordsFault::OutOfMemory => 1,
-            WordsFault::Wrong(_) | WordsFault::BadStart | WordsFault::BadLengths => 2,
+            WordsFault::Wrong(_)
+            | WordsFault::BadStart
+            | WordsFault::BadLengths
+            | WordsFault::NotUtf8 => 2,
         }
     }
 }
@@ -108,6 +117,18 @@ impl From<Error> for WordsFault {
             ErrorKind::DisplayHelp => WordsFault::Help(error),
             ErrorKind::OutOfMemory => WordsFault::OutOfMemory,
             _ => WordsFault::Wrong(error),
+        }
+    }
+}
+
+/// Why the system gives no words.
+impl From<io::Error> for WordsFault {
+    ghost from_gives = { TellsUngiven };
+
+    fn from(error: io::Error) -> Self {
+        match error.kind() {
+            io::ErrorKind::OutOfMemory => WordsFault::OutOfMemory,
+            _ => WordsFault::NotUtf8,
         }
     }
 }
@@ -352,6 +373,14 @@ fn run_line<'a>(found: &ArgMatches<'a>) -> Result<Wanted<'a>, WordsFault>
         records: operand_text(found, "RECORDS"),
         lengths,
     }))
+}
+
+/// The words of the command line that the system gives, of which the first is the program's name.
+pub fn given_words(alloc: Global, given: io::Result<Args>) -> Result<Vec<String>, WordsFault>
+    ensures words { IfOk given (λ args. MatchResult result (λ words. words.items ≡ into_iter_items args) (λ e. e ≡ OutOfMemory)) }
+    ensures ungiven { IfErr given (λ error. IsErrAnd result (TellsUngiven error)) }
+{
+    Ok(given?.collect(alloc)?)
 }
 
 /// Reads the words of the command line, of which the first is the program's name.

@@ -1,15 +1,18 @@
 //! Worked values of what words say.
 
 ghost use Rattle.std.specs.Prelude.{◌≡◌, ℕ, List, codes};
+ghost use Rattle.std.specs.IoError.{error_kind};
+ghost use Rattle.std.specs.declared.io.ErrorKind.TheVariants as kind;
 ghost use Rattle.clap.specs.Words.{Row};
 ghost use Rattle.bq_range.specs.Interval.{Interval};
 ghost use Rattle.q_script.specs.Words.{IsNumeral};
-ghost use Rattle.q_words.specs.Words.{AreGiven, HasCommand, IsMet, operand_of};
+ghost use Rattle.q_words.specs.Words.{AreGiven, HasCommand, IsMet, TellsUngiven, exit_status, operand_of};
 ghost use Rattle.q_words.specs.declared.words.FileCommand.TheVariants as line;
 ghost use Rattle.q_words.specs.declared.words.Wanted.TheVariants as wanted;
+ghost use Rattle.q_words.specs.declared.words.WordsFault.TheVariants as fault;
 
 /// Which command each word names, with its operands, and which numbers are the lengths of records. No two words name the
-/// same.
+/// same. What the system says where it gives no words.
 pub fn worked()
     ensures asm { (rows : List Row) (file : _) → file.now ≡ operand_of (codes "FILE") rows → HasCommand (line.Asm file) (codes "asm", rows) }
     ensures check { (rows : List Row) (file lengths : _) → file.now ≡ operand_of (codes "FILE") rows → AreGiven rows lengths → HasCommand (line.Check file lengths) (codes "check", rows) }
@@ -23,4 +26,9 @@ pub fn worked()
     ensures cluster_is_no_sim { (rows : List Row) (script : _) → IsMet (wanted.Cluster script) (codes "sim", rows) → ⊥ }
     ensures sim_is_no_cluster { (rows : List Row) (script : _) → IsMet (wanted.FileCommand (line.Sim script)) (codes "cluster", rows) → ⊥ }
     ensures audit { (rows : List Row) (journal : _) → journal.now ≡ operand_of (codes "JOURNAL") rows → HasCommand (line.Audit journal) (codes "audit", rows) }
+    ensures not_utf8 { (error : _) → error_kind error ≡ kind.InvalidData → TellsUngiven error fault.NotUtf8 }
+    ensures no_memory { (error : _) → error_kind error ≡ kind.OutOfMemory → TellsUngiven error fault.OutOfMemory }
+    ensures no_memory_is_told_as_such { (error : _) → error_kind error ≡ kind.OutOfMemory → TellsUngiven error fault.NotUtf8 → ⊥ }
+    ensures not_utf8_status { exit_status fault.NotUtf8 ≡ 2 }
+    ensures no_memory_status { exit_status fault.OutOfMemory ≡ 1 }
 {}
