@@ -53,17 +53,18 @@
 //! A refusal prints `refused N Name`, then ` at U` where it carries a unit or a journal's event, or ` line L` where a
 //! line ([`Refusal`]). `run` finds faults in this order: FILE, its text, the verifier and the checker, RECORDS, its
 //! lines. `sim` finds them in this: SCRIPT, its text, its founders; and `cluster` too, which then finds the sockets that
-//! can't be opened (86). `audit` finds a fault of JOURNAL, and then of its
-//! least faulty event. Want of memory, 99, may stand in place of any answer and of any other refusal. The exit status
-//! is 0; or 1 after a refusal, or where a journal was not written or the standard output failed; or 2 for a wrong
-//! command line, which is explained on the standard error.
+//! can't be opened (86). `audit` finds a fault of JOURNAL, and then of its least faulty event. Want of memory, 99, may
+//! stand in place of any answer, of any other refusal and of what is said of a wrong command line. The exit status is
+//! 0; or 1 after a refusal, or where a journal was not written or the standard output failed; or 2 for a wrong command
+//! line, as one with a word that is not UTF-8, which is explained on the standard error.
 //!
-//! [`read_words`] reads the words of the command line, [`carry_out`] runs the command, or [`run_file`] where it is
-//! `cluster`, and [`advice`] explains a refusal on the standard error, from what was read: their contracts say what the
-//! program does. `main` alone reaches the machine: its words, its files, its standard output and its standard error. Why
-//! the system refuses a file is told on the standard error, too.
+//! [`given_words`] takes the words of the command line and [`read_words`] reads them, [`carry_out`] runs the command, or
+//! [`run_file`] where it is `cluster`, and [`advice`] explains a refusal on the standard error, from what was read: their
+//! contracts say what the program does. `main` alone reaches the machine: its words, its files, its standard output and
+//! its standard error. Why the system refuses a file is told on the standard error, too.
 //!
 //! [`Refusal`]: q_sim::refusal::Refusal
+//! [`given_words`]: q_words::words::given_words
 //! [`read_words`]: q_words::words::read_words
 //! [`carry_out`]: q_command::perform::carry_out
 //! [`run_file`]: q_nodes::sockets::run_file

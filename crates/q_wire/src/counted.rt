@@ -1,7 +1,7 @@
 //! Readers and writers whose failures are counted.
 //!
-//! A read or a write that a signal interrupted did nothing: it is made again, and is not counted. For tests one call can be
-//! made to fail, at which nothing is read or written.
+//! A read or a write that a signal interrupted did nothing: it is made again, and is not counted. For tests one call can
+//! be made to fail, at which nothing is read or written.
 
 ghost use Rattle.std.specs.Prelude.{◌≡◌, ◌≤◌, ◌<◌, ◌++◌, ℕ, List, length, take, IfOk, IsErrAnd, OnOk, OnErr};
 ghost use Rattle.std.specs.Io.{ReadsAtMost, WritesAtMost};
@@ -36,8 +36,8 @@ impl<T> Counted<T> {
         }
     }
 
-    /// From now on the call with this number is to fail, counted from 1 for the next; with 0 none is. A call that a signal
-    /// interrupts is one, however often it is made again.
+    /// From now on the call with this number is to fail, counted from 1 for the next; with 0 none is. A call that a
+    /// signal interrupts is one, however often it is made again.
     pub fn fail_at(&mut self, call: u64)
         ensures { self.new ≡ record self.old { failing = call } }
     {

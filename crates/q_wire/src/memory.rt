@@ -91,8 +91,8 @@ impl Hub {
     }
 }
 
-/// A node's end of a hub. A node that has no mailbox there hears nothing, and is told nothing: such calls fail. For tests
-/// one of the calls may be made to fail, which then reaches no mailbox.
+/// A node's end of a hub. A node that has no mailbox there hears nothing, and is told nothing: such calls fail. For
+/// tests one of the calls may be made to fail, which then reaches no mailbox.
 #[derive(Drop)]
 pub struct MemoryTransport<'a, R: Wait> {
     rt: &'a R,
