@@ -13,12 +13,14 @@
 //!   their notes are in the first form.
 //! - `within LEAST MOST first` and one of these: the same with notes in the first form.
 
+use crate::changed::{notes_bytes, read_notes};
 use crate::refusal::print_refusal;
+use crate::run::print_ended;
 use crate::state::print_register;
-use crate::words::{bytes, number, text};
+use crate::words::{bytes, number, print_digits, small_number, text};
 use bq_check::certified::Certified;
 use bq_check::check::check_within;
-use bq_check::fault::{CheckFault, NotesFault};
+use bq_check::fault::CheckFault;
 use bq_check::form::Form;
 use bq_check::notes::Notes;
 use bq_flow::fault::FlowFault;
@@ -49,26 +51,10 @@ impl Asked {
 
     /// Records of so many bytes, and notes in the second form.
     fn within(least: &str, most: &str) -> Option<Asked> {
-        let least = least.parse::<u8>().ok()?;
-        let most = most.parse::<u8>().ok()?;
         Some(Asked {
-            bounds: Bounds::new(least, most)?,
+            bounds: Bounds::new(small_number(least)?, small_number(most)?)?,
             form: Form::Second,
         })
-    }
-
-    fn read(self, alloc: Global, bytes: &[u8]) -> Result<Notes, NotesFault> {
-        match self.form {
-            Form::First => Notes::read_v1(alloc, bytes),
-            Form::Second => Notes::read(alloc, bytes),
-        }
-    }
-
-    fn bytes(self, alloc: Global, notes: &Notes) -> Result<Vec<u8>, NotesFault> {
-        match self.form {
-            Form::First => notes.bytes_v1(alloc),
-            Form::Second => Ok(notes.bytes(alloc)?),
-        }
     }
 }
 
@@ -92,16 +78,19 @@ fn print_successors(rt: &impl Print, unit: usize, successors: Successors) -> io:
     }
 }
 
-fn flow(rt: &impl Print, alloc: Global, text: &Text) -> io::Result<()> {
-    let flow = match Flow::of(alloc, text) {
-        Ok(flow) => flow,
-        Err(fault) => return print_flow_fault(rt, fault),
-    };
+fn print_flow(rt: &impl Print, flow: &Flow) -> io::Result<()> {
     println!(rt; " longest {}", flow.longest())?;
     for unit in 0..flow.text().units() {
         print_successors(rt, unit, flow.successors(unit))?;
     }
     Ok(())
+}
+
+fn flow(rt: &impl Print, alloc: Global, text: &Text) -> io::Result<()> {
+    match Flow::of(alloc, text) {
+        Ok(flow) => print_flow(rt, &flow),
+        Err(fault) => print_flow_fault(rt, fault),
+    }
 }
 
 fn print_longest(rt: &impl Print, answer: Result<Certified, CheckFault>) -> io::Result<()> {
@@ -111,26 +100,54 @@ fn print_longest(rt: &impl Print, answer: Result<Certified, CheckFault>) -> io::
     }
 }
 
-fn print_notes(rt: &impl Print, alloc: Global, asked: Asked, text: Text) -> io::Result<()> {
-    let notes = match verify_within(alloc, &text, asked.bounds) {
-        Ok(notes) => notes,
-        Err(fault) => return print_fault(rt, fault),
-    };
-    match asked.bytes(alloc, &notes) {
-        Ok(bytes) => println!(rt; " {}", hex::encode(alloc, bytes.as_slice())?)?,
-        Err(fault) => print_refusal(rt, fault.reason(), None)?,
+fn print_notes(rt: &impl Print, alloc: Global, form: Form, notes: &Notes) -> io::Result<()> {
+    match notes_bytes(alloc, form, notes) {
+        Ok(bytes) => print_digits(rt, alloc, bytes.as_slice()),
+        Err(fault) => print_refusal(rt, fault.reason(), None),
     }
-    print_longest(rt, check_within(alloc, text, notes, asked.bounds))
 }
 
-/// Prints how many bytes the notes of a text have.
-fn print_size(rt: &impl Print, alloc: Global, asked: Asked, text: &Text) -> io::Result<()> {
-    let notes = match verify_within(alloc, text, asked.bounds) {
-        Ok(notes) => notes,
-        Err(fault) => return print_fault(rt, fault),
-    };
-    match asked.bytes(alloc, &notes) {
+fn print_certified(
+    rt: &impl Print,
+    alloc: Global,
+    form: Form,
+    certified: &Certified,
+) -> io::Result<()> {
+    print_notes(rt, alloc, form, certified.notes())?;
+    println!(rt; " longest {}", certified.longest())
+}
+
+fn verify(rt: &impl Print, alloc: Global, asked: Asked, text: Text) -> io::Result<()> {
+    match certified(alloc, asked.bounds, text) {
+        Ok(certified) => print_certified(rt, alloc, asked.form, &certified),
+        Err(fault) => print_fault(rt, fault),
+    }
+}
+
+/// Prints how many bytes notes have.
+fn print_size(rt: &impl Print, alloc: Global, form: Form, notes: &Notes) -> io::Result<()> {
+    match notes_bytes(alloc, form, notes) {
         Ok(bytes) => println!(rt; " {} bytes", bytes.len()),
+        Err(fault) => print_refusal(rt, fault.reason(), None),
+    }
+}
+
+fn size(rt: &impl Print, alloc: Global, asked: Asked, text: &Text) -> io::Result<()> {
+    match verify_within(alloc, text, asked.bounds) {
+        Ok(notes) => print_size(rt, alloc, asked.form, &notes),
+        Err(fault) => print_fault(rt, fault),
+    }
+}
+
+fn print_checked(
+    rt: &impl Print,
+    alloc: Global,
+    asked: Asked,
+    bytes: &[u8],
+    text: Text,
+) -> io::Result<()> {
+    match read_notes(alloc, asked.form, bytes) {
+        Ok(notes) => print_longest(rt, check_within(alloc, text, notes, asked.bounds)),
         Err(fault) => print_refusal(rt, fault.reason(), None),
     }
 }
@@ -142,14 +159,9 @@ fn check_with(
     digits: &str,
     text: Text,
 ) -> io::Result<()> {
-    let Some(bytes) = bytes(alloc, digits) else {
-        return println!(rt; " ?");
-    };
-    let bounds = asked.bounds;
-    let read = asked.read(alloc, bytes.as_slice());
-    match read {
-        Ok(notes) => print_longest(rt, check_within(alloc, text, notes, bounds)),
-        Err(fault) => print_refusal(rt, fault.reason(), None),
+    match bytes(alloc, digits) {
+        Some(bytes) => print_checked(rt, alloc, asked, bytes.as_slice(), text),
+        None => println!(rt; " ?"),
     }
 }
 
@@ -168,7 +180,7 @@ fn print_run(rt: &impl Print, certified: &Certified, acc: u64, length: u8) -> io
         &mut [0; 512],
         acc,
     );
-    println!(rt; " {} in {}", ended.acc, ended.steps)
+    print_ended(rt, ended)
 }
 
 fn certified(alloc: Global, bounds: Bounds, text: Text) -> Result<Certified, CheckFault> {
@@ -198,7 +210,7 @@ fn known(
     register: &str,
     text: &Text,
 ) -> io::Result<()> {
-    let register = register.parse::<u8>().unwrap_or(11);
+    let register = small_number(register).unwrap_or(11);
     match state_at(
         alloc,
         text,
@@ -223,7 +235,7 @@ fn of_words(
     let (first, second) = words.split_once(' ').unwrap_or((words, ""));
     match (verb, number(first)) {
         ("certify", Some(acc)) => {
-            let length = second.parse::<u8>().unwrap_or(asked.bounds.most());
+            let length = small_number(second).unwrap_or(asked.bounds.most());
             certify(rt, alloc, asked, acc, length, text)
         }
         ("known", Some(unit)) => known(rt, alloc, asked, unit, second, &text),
@@ -264,9 +276,9 @@ fn answer_to(
     };
     match verb {
         "flow" => flow(rt, alloc, &text),
-        "verify" => print_notes(rt, alloc, asked, text),
+        "verify" => verify(rt, alloc, asked, text),
         "accept" => print_longest(rt, certified(alloc, asked.bounds, text)),
-        "size" => print_size(rt, alloc, asked, &text),
+        "size" => size(rt, alloc, asked, &text),
         _ => of_words(rt, alloc, asked, verb, words, text),
     }
 }

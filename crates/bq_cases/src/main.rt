@@ -7,6 +7,7 @@
 //! |---|---|
 //! | `alu`, `swap`, `extend`, `relates` | [`word`]: words |
 //! | `asm`, `decode`, `opcodes`, `over`, `exits`, `register` | [`text`]: texts, their bytes and their listing |
+//! | `beginnings`, `changed`, `replaced` | [`changed`]: bytes that are cut short or changed |
 //! | `place`, `records`, `run` | [`run`]: what texts answer |
 //! | `loop` | [`raw`]: what the loop over checked code answers |
 //! | `operation`, `edge`, `mapped`, `load`, `join`, `meet` | [`range`]: ranges of words |
@@ -17,6 +18,7 @@
 //! for what they are below 2^64. A line that asks for nothing of these is a comment.
 #![tactic(auto)]
 
+mod changed;
 mod check;
 mod range;
 mod raw;
@@ -28,6 +30,7 @@ mod word;
 mod words;
 
 use crate::run::Setting;
+use bq_frame::block::Block;
 use std::alloc::Global;
 use std::io;
 
@@ -36,6 +39,7 @@ fn answer(
     rt: &impl Print,
     alloc: Global,
     setting: &mut Setting,
+    block: &mut Block,
     verb: &str,
     rest: &str,
 ) -> io::Result<()> {
@@ -44,10 +48,11 @@ fn answer(
         "asm" | "decode" | "opcodes" | "over" | "exits" | "register" => {
             text::answer(rt, alloc, verb, rest)
         }
+        "beginnings" | "changed" | "replaced" => changed::answer(rt, alloc, block, verb, rest),
         "place" => run::place(rt, alloc, setting, rest),
         "records" => run::records(rt, setting, rest),
         "run" => run::run(rt, alloc, setting, rest),
-        "loop" => raw::answer(rt, alloc, rest),
+        "loop" => raw::answer(rt, alloc, block, rest),
         "operation" | "edge" | "mapped" | "load" | "join" | "meet" => {
             range::answer(rt, alloc, verb, rest)
         }
@@ -59,15 +64,34 @@ fn answer(
     }
 }
 
-fn main(rt: HostRuntime) -> io::Result<()> {
-    let alloc = rt.alloc();
-    let mut setting = Setting::first();
+/// Prints a line, and what comes of it.
+fn tell(
+    rt: &impl Print,
+    alloc: Global,
+    setting: &mut Setting,
+    block: &mut Block,
+    line: &str,
+) -> io::Result<()> {
+    println!(rt; "{line}")?;
+    match line.split_once(' ') {
+        Some((verb, rest)) => answer(rt, alloc, setting, block, verb, rest),
+        None => Ok(()),
+    }
+}
+
+fn tell_lines(
+    rt: &(impl Input + Print),
+    alloc: Global,
+    setting: &mut Setting,
+    block: &mut Block,
+) -> io::Result<()> {
     for line in rt.lines(alloc) {
-        let line = line?;
-        println!(rt; "{line}")?;
-        if let Some((verb, rest)) = line.as_str().split_once(' ') {
-            answer(&rt, alloc, &mut setting, verb, rest)?;
-        }
+        tell(rt, alloc, setting, block, line?.as_str())?;
     }
     Ok(())
+}
+
+fn main(rt: HostRuntime) -> io::Result<()> {
+    let alloc = rt.alloc();
+    tell_lines(&rt, alloc, &mut Setting::first(), &mut Block::new(alloc)?)
 }

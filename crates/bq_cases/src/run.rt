@@ -4,9 +4,9 @@
 //! - `records LENGTH`: from here on records have so many bytes, 64 at first; `so`, or `none` and no change where they
 //!   can't.
 //! - `run LIMIT FILL ACC VALUES = SOURCE`: what the text answers, and in how many steps, over records in turn, of which
-//!   each has one of the values (bytes with commas between them) as its byte 16, if it has one, and is 0 elsewhere. The
-//!   frame is filled with the byte FILL before the first of them. Or `refused NUMBER NAME`, by the fault that stopped
-//!   it.
+//!   each has one of the values in its bytes from 16 on, as far as it has them, and is 0 elsewhere. There may be no
+//!   value. The frame is filled with the byte FILL before the first record. Or `refused NUMBER NAME`, by the fault that
+//!   stopped it.
 
 ghost use Rattle.std.specs.Prelude.{◌≤◌};
 
@@ -16,7 +16,7 @@ use bq_insn::text::Text;
 use bq_meaning::fault::Fault;
 use bq_meaning::placement::{LEAST_RECORD, Placement, RECORD_LENGTH, RECORD_ROOM};
 use bq_meaning::run::{Ended, run_checked};
-use std::alloc::{AllocError, Global};
+use std::alloc::Global;
 use std::io;
 
 /// Where frame and record lie, and how many bytes a record has.
@@ -57,46 +57,27 @@ pub(crate) fn place(
 
 /// Sets how many bytes a record has.
 pub(crate) fn records(rt: &impl Print, setting: &mut Setting, rest: &str) -> io::Result<()> {
-    match rest.parse::<usize>() {
-        Ok(length) if LEAST_RECORD <= length && length <= RECORD_ROOM => {
-            setting.length = length;
+    match number(rest) {
+        Some(length @ 16..=128) => {
+            setting.length = length as usize;
             println!(rt; " so")
         }
         _ => println!(rt; " none"),
     }
 }
 
-/// The record with this value.
-pub(crate) fn record_of(value: u8) -> [u8; 64] {
-    let mut record = [0; 64];
-    record[16] = value;
+/// As much as a record may have, with this value.
+fn widest_record(value: u64) -> [u8; RECORD_ROOM] {
+    let mut record = [0; RECORD_ROOM];
+    record[LEAST_RECORD..LEAST_RECORD + 8].copy_from_slice(&value.to_le_bytes());
     record
 }
 
-/// What a text answers over records with these values.
-fn fold(
-    text: &Text,
-    place: &Placement,
-    setting: &Setting,
-    frame: &mut [u8; 512],
-    start: Start<'_>,
-    values: &[u8],
-) -> Result<Ended, Fault> {
-    let mut all = Ended {
-        acc: start.acc,
-        steps: 0,
-    };
-    for value in values {
-        let mut record = [0; RECORD_ROOM];
-        record[LEAST_RECORD] = *value;
-        let record = &record[..setting.length];
-        let ended = run_checked(text, place, record, frame, all.acc, start.limit)?;
-        all = Ended {
-            acc: ended.acc,
-            steps: all.steps.wrapping_add(ended.steps),
-        };
-    }
-    Ok(all)
+/// The record of 64 bytes with this value.
+pub(crate) fn record_of(value: u64) -> [u8; RECORD_LENGTH] {
+    let mut record = [0; RECORD_LENGTH];
+    record[LEAST_RECORD..LEAST_RECORD + 8].copy_from_slice(&value.to_le_bytes());
+    record
 }
 
 /// How a run begins.
@@ -105,56 +86,64 @@ struct Start<'a> {
     limit: u64,
     fill: u8,
     acc: u64,
-    values: &'a str,
+    values: &'a [u64],
 }
 
-/// The bytes of these words; none where one is no byte.
-pub(crate) fn values_of(alloc: Global, words: &str) -> Result<Option<Vec<u8>>, AllocError> {
-    let mut values = Vec::new(alloc);
-    for word in words.split(',') {
-        match word.parse::<u8>() {
-            Ok(value) => values.push(value)?,
-            Err(_) => return Ok(None),
-        }
-    }
-    Ok(Some(values))
-}
-
-fn start_of(words: &str) -> Option<Start<'_>> {
-    let (limit, words) = words.split_once(' ')?;
-    let (fill, words) = words.split_once(' ')?;
-    let (acc, values) = words.split_once(' ')?;
+fn start_of(words: &[u64]) -> Option<Start<'_>> {
+    let [limit, fill, acc, values @ ..] = words else {
+        return None;
+    };
     Some(Start {
-        limit: number(limit)?,
-        fill: fill.parse::<u8>().ok()?,
-        acc: number(acc)?,
+        limit: *limit,
+        fill: u8::try_from(*fill).ok()?,
+        acc: *acc,
         values,
     })
 }
 
-fn print_run(
-    rt: &impl Print,
-    text: &Text,
-    place: &Placement,
-    setting: &Setting,
-    start: Start<'_>,
-    values: &[u8],
-) -> io::Result<()> {
+/// What a text answers over records with the values.
+fn fold(text: &Text, place: &Placement, length: usize, start: Start<'_>) -> Result<Ended, Fault>
+    requires least { 16 ≤ length }
+    requires room { length ≤ 128 }
+{
     let mut frame = [start.fill; 512];
-    match fold(text, place, setting, &mut frame, start, values) {
-        Ok(ended) => println!(rt; " {} in {}", ended.acc, ended.steps),
+    let mut all = Ended {
+        acc: start.acc,
+        steps: 0,
+    };
+    for value in start.values {
+        let record = widest_record(*value);
+        let record = &record[..length];
+        let ended = run_checked(text, place, record, &mut frame, all.acc, start.limit)?;
+        all = Ended {
+            acc: ended.acc,
+            steps: all.steps.wrapping_add(ended.steps),
+        };
+    }
+    Ok(all)
+}
+
+/// Prints an answer, and in how many steps it came.
+pub(crate) fn print_ended(rt: &impl Print, ended: Ended) -> io::Result<()> {
+    println!(rt; " {} in {}", ended.acc, ended.steps)
+}
+
+fn print_run(rt: &impl Print, setting: &Setting, text: &Text, start: Start<'_>) -> io::Result<()> {
+    let Some(place) = setting.place else {
+        return println!(rt; " ?");
+    };
+    match fold(text, &place, setting.length, start) {
+        Ok(ended) => print_ended(rt, ended),
         Err(fault) => print_refusal(rt, fault.reason(), None),
     }
 }
 
 /// Prints what a text answers at the placement.
 pub(crate) fn run(rt: &impl Print, alloc: Global, setting: &Setting, rest: &str) -> io::Result<()> {
-    if let (Some(place), Some((start, source))) = (setting.place, rest.split_once(" = ")) {
-        if let (Some(start), Some(text)) = (start_of(start), text(alloc, source)?) {
-            if let Some(values) = values_of(alloc, start.values)? {
-                return print_run(rt, &text, &place, setting, start, values.as_slice());
-            }
-        }
+    let (words, source) = rest.split_once(" = ").unwrap_or((rest, ""));
+    let numbers = numbers(alloc, words)?;
+    match (numbers.as_deref().and_then(start_of), text(alloc, source)?) {
+        (Some(start), Some(text)) => print_run(rt, setting, &text, start),
+        _ => println!(rt; " ?"),
     }
-    println!(rt; " ?")
 }

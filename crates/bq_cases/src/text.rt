@@ -9,7 +9,7 @@
 //! - `register N`: the register of this number.
 
 use crate::refusal::print_refusal;
-use crate::words::{bytes, number, source};
+use crate::words::{assembled, bytes, number, print_digits};
 use bq_asm::assemble::assemble;
 use bq_asm::disassemble::disassemble;
 use bq_asm::fault::AsmFault;
@@ -41,13 +41,16 @@ pub(crate) fn print_decode_fault(rt: &impl Print, fault: DecodeFault) -> io::Res
     print_refusal(rt, fault.reason(), unit)
 }
 
-/// Prints what is written of a text.
-fn print_listing(rt: &impl Print, alloc: Global, text: &Text) -> io::Result<()> {
-    let listing = disassemble(alloc, text)?;
-    for line in listing.as_str().split_terminator('\n') {
+fn print_lines(rt: &impl Print, lines: &str) -> io::Result<()> {
+    for line in lines.split_terminator('\n') {
         println!(rt; " {line}")?;
     }
     Ok(())
+}
+
+/// Prints what is written of a text.
+fn print_listing(rt: &impl Print, alloc: Global, text: &Text) -> io::Result<()> {
+    print_lines(rt, disassemble(alloc, text)?.as_str())
 }
 
 /// Prints what is written of the text that bytes spell.
@@ -58,16 +61,28 @@ fn print_text(rt: &impl Print, alloc: Global, bytes: &[u8]) -> io::Result<()> {
     }
 }
 
+/// Prints bytes in hexadecimal digits, and what is written of the text that they spell.
+fn print_bytes(rt: &impl Print, alloc: Global, bytes: &[u8]) -> io::Result<()> {
+    print_digits(rt, alloc, bytes)?;
+    print_text(rt, alloc, bytes)
+}
+
+fn print_assembled(rt: &impl Print, alloc: Global, text: &Text) -> io::Result<()> {
+    print_bytes(rt, alloc, encode(alloc, text)?.as_slice())
+}
+
 fn asm(rt: &impl Print, alloc: Global, rest: &str) -> io::Result<()> {
-    let source = source(alloc, rest)?;
-    match assemble(alloc, source.as_str()) {
-        Ok(text) => {
-            let bytes = encode(alloc, &text)?;
-            let digits = hex::encode(alloc, bytes.as_slice())?;
-            println!(rt; " {digits}")?;
-            print_text(rt, alloc, bytes.as_slice())
-        }
+    match assembled(alloc, rest)? {
+        Ok(text) => print_assembled(rt, alloc, &text),
         Err(fault) => print_fault(rt, fault),
+    }
+}
+
+/// The fault of bytes, or 0.
+pub(crate) fn fault_of(alloc: Global, bytes: &[u8]) -> u8 {
+    match decode(alloc, bytes) {
+        Ok(_) => 0,
+        Err(fault) => fault.reason().number(),
     }
 }
 
@@ -76,10 +91,7 @@ fn unit_fault(alloc: Global, opcode: u8, fields: &[u8]) -> Result<u8, AllocError
     let mut unit = Vec::new(alloc);
     unit.push(opcode)?;
     unit.extend_from_slice(fields)?;
-    Ok(match decode(alloc, unit.as_slice()) {
-        Ok(_) => 0,
-        Err(fault) => fault.reason().number(),
-    })
+    Ok(fault_of(alloc, unit.as_slice()))
 }
 
 /// Prints for each opcode the fault of a unit with these fields, or 0.
@@ -104,37 +116,46 @@ fn is_exit(unit: &[u8]) -> bool {
     matches!(unit, [0x95, 0, 0, 0, 0, 0, 0, 0])
 }
 
-/// Prints the size of a text, and its units as far as they are alike.
-fn print_size(rt: &impl Print, alloc: Global, text: &Text) -> io::Result<()> {
-    let bytes = encode(alloc, text)?;
+/// Prints the size of a text by its bytes, and its units as far as they are alike.
+fn print_units(rt: &impl Print, alloc: Global, units: usize, bytes: &[u8]) -> io::Result<()> {
     let exits = bytes.chunks(8).filter(|unit| is_exit(unit)).count();
-    let first = hex::encode(alloc, bytes.get(..8).unwrap_or(&[]))?;
-    println!(rt;
-        " units {} bytes {} exits {exits} first {first}",
-        text.units(),
-        bytes.len()
-    )
+    print!(rt; " units {units} bytes {} exits {exits} first", bytes.len())?;
+    print_digits(rt, alloc, bytes.get(..8).unwrap_or(&[]))
 }
 
-fn over(rt: &impl Print, alloc: Global, count: u64, line: &str) -> io::Result<()> {
+fn print_size(rt: &impl Print, alloc: Global, text: &Text) -> io::Result<()> {
+    print_units(rt, alloc, text.units(), encode(alloc, text)?.as_slice())
+}
+
+/// A line, so many lines `exit` and the label `end`.
+fn source_over(alloc: Global, count: u64, line: &str) -> Result<String, AllocError> {
     let mut source = String::from_str(alloc, line)?;
     source.push('\n')?;
     for _ in 0..count {
         source.push_str("exit\n")?;
     }
     source.push_str("end:\n")?;
-    match assemble(alloc, source.as_str()) {
+    Ok(source)
+}
+
+fn over(rt: &impl Print, alloc: Global, count: u64, line: &str) -> io::Result<()> {
+    match assemble(alloc, source_over(alloc, count, line)?.as_str()) {
         Ok(text) => print_size(rt, alloc, &text),
         Err(fault) => print_fault(rt, fault),
     }
 }
 
-fn exits(rt: &impl Print, alloc: Global, count: u64) -> io::Result<()> {
+/// The bytes of so many units `exit`.
+fn exit_bytes(alloc: Global, count: u64) -> Result<Vec<u8>, AllocError> {
     let mut bytes = Vec::new(alloc);
     for _ in 0..count {
         bytes.extend_from_slice(&EXIT)?;
     }
-    match decode(alloc, bytes.as_slice()) {
+    Ok(bytes)
+}
+
+fn exits(rt: &impl Print, alloc: Global, count: u64) -> io::Result<()> {
+    match decode(alloc, exit_bytes(alloc, count)?.as_slice()) {
         Ok(text) => print_size(rt, alloc, &text),
         Err(fault) => print_decode_fault(rt, fault),
     }
