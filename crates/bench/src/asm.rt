@@ -8,38 +8,82 @@ use anyhow::{Result, anyhow};
 use bq_asm::assemble::assemble;
 use bq_asm::disassemble::disassemble;
 use bq_asm::fault::AsmFault;
+use bq_insn::text::Text;
 use std::alloc::{AllocError, Global};
-use std::time::{Clock, Instant};
+use std::time::{Clock, Duration, Instant};
+
+/// Appends the unit of this number: the first of four has a label, and the third jumps to that of the next four.
+fn push_unit(source: &mut String, unit: u64) -> Result<(), AllocError> {
+    let group = unit / 4;
+    match unit % 4 {
+        0 => write!(source, "next_{group}:\nadd64 r0, 1 # one more\n"),
+        1 => source.push_str("load8 r4, [r1+16]\n"),
+        2 => write!(source, "jlt64 r4, 10, next_{}\n", group + 1),
+        _ => source.push_str("mov64 r0, r4\n"),
+    }
+}
+
+/// Appends so many units, and the last label.
+fn push_units(source: &mut String, units: u64) -> Result<(), AllocError> {
+    for unit in 0..units {
+        push_unit(source, unit)?;
+    }
+    write!(source, "next_{}:\n", units.div_ceil(4))
+}
 
 /// A source of so many units.
 fn source_of(alloc: Global, units: u64) -> Result<String, AllocError> {
     let mut source = String::new(alloc);
-    for unit in 0..units {
-        let group = unit / 4;
-        match unit % 4 {
-            0 => write!(source, "next_{group}:\nadd64 r0, 1 # one more\n")?,
-            1 => source.push_str("load8 r4, [r1+16]\n")?,
-            2 => write!(source, "jlt64 r4, 10, next_{}\n", group + 1)?,
-            _ => source.push_str("mov64 r0, r4\n")?,
-        }
-    }
-    write!(source, "next_{}:\n", units.div_ceil(4))?;
+    push_units(&mut source, units)?;
     Ok(source)
 }
 
-fn refused(fault: AsmFault) -> anyhow::Error {
+pub(crate) fn refused(fault: AsmFault) -> anyhow::Error {
     anyhow!("refused {}", fault.reason())
 }
 
-/// How long it takes to do something so many times.
-macro_rules! time {
-    ($rt:expr, $runs:expr, $once:expr) => {{
-        let start = Instant::now($rt)?;
-        for _ in 0..$runs {
-            let _made = $once;
-        }
-        start.elapsed($rt)?
-    }};
+/// How long it takes to assemble a source so many times.
+fn time_assembling(
+    rt: &(impl Clock + Alloc<A = Global>),
+    source: &str,
+    runs: u64,
+) -> Result<Duration> {
+    let start = Instant::now(rt)?;
+    for _ in 0..runs {
+        let _text = assemble(rt.alloc(), source).map_err(refused)?;
+    }
+    Ok(start.elapsed(rt)?)
+}
+
+/// How long it takes to disassemble a text so many times.
+fn time_disassembling(
+    rt: &(impl Clock + Alloc<A = Global>),
+    text: &Text,
+    runs: u64,
+) -> Result<Duration> {
+    let start = Instant::now(rt)?;
+    for _ in 0..runs {
+        let _source = disassemble(rt.alloc(), text)?;
+    }
+    Ok(start.elapsed(rt)?)
+}
+
+/// Times a source and its text.
+fn tell(
+    rt: &(impl Clock + Print + Eprint + Alloc<A = Global>),
+    source: &str,
+    text: &Text,
+    runs: u64,
+) -> Result<()> {
+    println!(rt;
+        "units {} characters {} runs {runs}",
+        text.units(),
+        source.len()
+    )?;
+    let assembling = time_assembling(rt, source, runs)?;
+    let disassembling = time_disassembling(rt, text, runs)?;
+    eprintln!(rt; "assembling {assembling:?}, disassembling {disassembling:?}")?;
+    Ok(())
 }
 
 /// Times these units so many times.
@@ -47,20 +91,7 @@ pub(crate) fn run(
     rt: &(impl Clock + Print + Eprint + Alloc<A = Global>),
     size: Size,
 ) -> Result<()> {
-    let Size { count, runs } = size;
-    let source = source_of(rt.alloc(), count)?;
+    let source = source_of(rt.alloc(), size.count)?;
     let text = assemble(rt.alloc(), source.as_str()).map_err(refused)?;
-    println!(rt;
-        "units {} characters {} runs {runs}",
-        text.units(),
-        source.len()
-    )?;
-    let assembling = time!(
-        rt,
-        runs,
-        assemble(rt.alloc(), source.as_str()).map_err(refused)?
-    );
-    let disassembling = time!(rt, runs, disassemble(rt.alloc(), &text)?);
-    eprintln!(rt; "assembling {assembling:?}, disassembling {disassembling:?}")?;
-    Ok(())
+    tell(rt, source.as_str(), &text, size.runs)
 }

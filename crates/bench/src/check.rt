@@ -27,16 +27,20 @@ const COUNT: [u8; 8] = [7, 0, 0, 0, 1, 0, 0, 0];
 /// `exit`
 const LAST: [u8; 8] = [0x95, 0, 0, 0, 0, 0, 0, 0];
 
-/// The bytes of a text of so many units, in which branches and counts take turns.
-fn bytes_of(alloc: Global, units: u64) -> Result<Vec<u8>, AllocError> {
-    let mut bytes = Vec::new(alloc);
+/// Appends so many units, in which branches and counts take turns.
+fn push_units(bytes: &mut Vec<u8>, units: u64) -> Result<(), AllocError> {
     bytes.extend_from_slice(&FIRST)?;
-    for pair in 0..units.saturating_sub(2) / 2 {
-        let _pair = pair;
+    for _ in 0..units.saturating_sub(2) / 2 {
         bytes.extend_from_slice(&BRANCH)?;
         bytes.extend_from_slice(&COUNT)?;
     }
-    bytes.extend_from_slice(&LAST)?;
+    bytes.extend_from_slice(&LAST)
+}
+
+/// The bytes of a text of so many units.
+fn bytes_of(alloc: Global, units: u64) -> Result<Vec<u8>, AllocError> {
+    let mut bytes = Vec::new(alloc);
+    push_units(&mut bytes, units)?;
     Ok(bytes)
 }
 
@@ -44,7 +48,7 @@ fn undecoded(fault: DecodeFault) -> anyhow::Error {
     anyhow!("refused {}", fault.reason())
 }
 
-fn refused(fault: CheckFault) -> anyhow::Error {
+pub(crate) fn refused(fault: CheckFault) -> anyhow::Error {
     anyhow!("refused {}", fault.reason())
 }
 
@@ -59,9 +63,9 @@ struct Times {
 /// The notes of a text, and how long it takes to find them.
 fn time_verifying(rt: &(impl Clock + Alloc<A = Global>), text: &Text) -> Result<(Notes, Duration)> {
     let start = Instant::now(rt)?;
-    let notes = verify(rt.alloc(), text).map_err(refused)?;
+    let notes = verify(rt.alloc(), text);
     let took = start.elapsed(rt)?;
-    Ok((notes, took))
+    Ok((notes.map_err(refused)?, took))
 }
 
 /// The longest path of a text with these notes, and how long it takes to check them.
@@ -70,10 +74,10 @@ fn time_checking(
     text: Text,
     notes: Notes,
 ) -> Result<(u32, Duration)> {
-    let start = Instant::now(rt)?;
-    let certified = check(rt.alloc(), text, notes).map_err(refused)?;
-    let took = start.elapsed(rt)?;
-    Ok((certified.longest(), took))
+    let start = Instant::now(rt);
+    let certified = check(rt.alloc(), text, notes);
+    let took = start?.elapsed(rt)?;
+    Ok((certified.map_err(refused)?.longest(), took))
 }
 
 /// One run over the text of these bytes.
@@ -88,26 +92,32 @@ fn time_once(rt: &(impl Clock + Alloc<A = Global>), bytes: &[u8]) -> Result<Time
     })
 }
 
+/// Times the text of these bytes so many times.
+fn tell(
+    rt: &(impl Clock + Print + Eprint + Alloc<A = Global>),
+    bytes: &[u8],
+    runs: u64,
+) -> Result<()> {
+    let Times {
+        mut verifying,
+        mut checking,
+        longest,
+    } = time_once(rt, bytes)?;
+    println!(rt; "units {} longest {longest} runs {runs}", bytes.len() / 8)?;
+    for _ in 1..runs {
+        let times = time_once(rt, bytes)?;
+        verifying = verifying.min(times.verifying);
+        checking = checking.min(times.checking);
+    }
+    eprintln!(rt; "the least: verifying {verifying:?}, checking {checking:?}")?;
+    Ok(())
+}
+
 /// Times these units so many times.
 pub(crate) fn run(
     rt: &(impl Clock + Print + Eprint + Alloc<A = Global>),
     size: Size,
 ) -> Result<()> {
     let bytes = bytes_of(rt.alloc(), size.count)?;
-    let first = time_once(rt, &bytes)?;
-    println!(rt;
-        "units {} longest {} runs {}",
-        bytes.len() / 8,
-        first.longest,
-        size.runs
-    )?;
-    let mut verifying = first.verifying;
-    let mut checking = first.checking;
-    for _ in 1..size.runs {
-        let times = time_once(rt, &bytes)?;
-        verifying = verifying.min(times.verifying);
-        checking = checking.min(times.checking);
-    }
-    eprintln!(rt; "the least: verifying {verifying:?}, checking {checking:?}")?;
-    Ok(())
+    tell(rt, &bytes, size.runs)
 }

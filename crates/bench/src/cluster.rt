@@ -23,6 +23,11 @@ pub(crate) struct Cluster {
     next: u64,
 }
 
+/// The first of so many founders that stays.
+fn first_staying(ids: u64) -> u64 {
+    ids.saturating_sub(NODES as u64)
+}
+
 /// A value to store.
 fn value(number: u64) -> Value {
     let mut value = [0; VALUE_LENGTH];
@@ -45,31 +50,28 @@ fn deliver(world: &mut World, message: usize, node: u64) -> Result<Option<usize>
 }
 
 impl Cluster {
-    /// A cluster of so many founders. All but 32 store and leave, and then the others store.
+    /// A cluster of so many founders, of which all but 32 are about to leave.
     pub(crate) fn new(alloc: Global, ids: u64) -> Result<Cluster, WorldFault> {
         let founders: Vec<u64> = (0..ids).collect(alloc)?;
-        let (leaving, staying) = founders.split_at(founders.len().saturating_sub(NODES));
-        let nodes = Vec::from_slice(alloc, staying)?;
-        let mut cluster = Cluster {
+        let nodes = (first_staying(ids)..ids).collect(alloc)?;
+        Ok(Cluster {
             world: World::new(alloc, Config::default(), &founders)?,
             nodes,
             next: ids,
-        };
-        cluster.begin(leaving, staying)?;
-        Ok(cluster)
+        })
     }
 
-    /// Of the founders these store and leave, and then the others store.
-    fn begin(&mut self, leaving: &[u64], staying: &[u64]) -> Result<(), WorldFault> {
-        for node in leaving {
+    /// Of so many founders all but 32 store and leave, and then the others store.
+    pub(crate) fn begin(&mut self, ids: u64) -> Result<(), WorldFault> {
+        for node in 0..first_staying(ids) {
             self.tell(Event::Store {
-                node: *node,
-                value: value(*node),
+                node,
+                value: value(node),
             })?;
-            self.tell(Event::Leave(*node))?;
+            self.tell(Event::Leave(node))?;
         }
-        for node in staying {
-            self.store(*node)?;
+        for node in first_staying(ids)..ids {
+            self.store(node)?;
         }
         Ok(())
     }

@@ -23,36 +23,56 @@ fn store_of(view: View) -> Message {
     }
 }
 
-/// As many messages as rounds. Each has newer values than the one before at so many ids, and else what is known.
-fn messages(alloc: Global, known: &View, newer: u64, rounds: u64) -> Result<Vec<Message>> {
-    let mut view = known.share()?;
+/// A message that has the values of this view, where so many of them are changed to this number.
+fn message(view: &mut View, newer: u64, number: u64) -> Result<Message> {
+    learn(view, newer, number)?;
+    Ok(store_of(view.share()?))
+}
+
+/// As many messages as rounds. Each has newer values than the one before at so many ids, and else what the view has.
+fn messages_of(alloc: Global, view: &mut View, newer: u64, rounds: u64) -> Result<Vec<Message>> {
     let mut all = Vec::new(alloc);
     for round in 0..rounds {
-        learn(&mut view, newer, round.wrapping_add(USUAL + 1))?;
-        all.push(store_of(view.share()?))?;
+        all.push(message(view, newer, round.wrapping_add(USUAL + 1))?)?;
     }
     Ok(all)
+}
+
+/// As many messages as rounds, the first of which tells of so many newer values than are known.
+fn messages(alloc: Global, known: &View, newer: u64, rounds: u64) -> Result<Vec<Message>> {
+    let mut view = known.share()?;
+    messages_of(alloc, &mut view, newer, rounds)
+}
+
+/// A message reaches the node.
+fn deliver(node: &mut Node, message: &Message) -> Result<()> {
+    let _delivered = node.deliver(message).map_err(refused)?;
+    Ok(())
 }
 
 /// All messages reach the node.
 fn time(rt: &impl Clock, node: &mut Node, messages: &[Message]) -> Result<Duration> {
     let start = Instant::now(rt)?;
     for message in messages {
-        let _delivered = node.deliver(message).map_err(refused)?;
+        deliver(node, message)?;
     }
     Ok(start.elapsed(rt)?)
 }
 
-/// A node that knows this view.
-fn node_of(alloc: Global, known: &View) -> Result<Node> {
+/// One of three founders.
+fn founder(alloc: Global) -> Result<Node> {
     let founders: Vec<u64> = (1..4).collect(alloc)?;
-    let mut node = Node::founder(alloc, Config::default(), 1, &founders).map_err(refused)?;
-    let _delivered = node.deliver(&store_of(known.share()?)).map_err(refused)?;
-    Ok(node)
+    Node::founder(alloc, Config::default(), 1, &founders).map_err(refused)
+}
+
+/// The node learns this view.
+fn tell_known(node: &mut Node, known: &View) -> Result<()> {
+    let message = store_of(known.share()?);
+    deliver(node, &message)
 }
 
 /// Times these messages at the node, each of which tells of so many newer values.
-fn tell_times(
+fn tell(
     rt: &(impl Clock + Print + Eprint),
     node: &mut Node,
     messages: &[Message],
@@ -68,16 +88,28 @@ fn tell_times(
     Ok(())
 }
 
-/// Times so many deliveries, each of which tells of so many newer values.
-fn tell(
+/// Times so many deliveries at the node, which learns the view before.
+fn tell_newer(
+    rt: &(impl Clock + Print + Eprint + Alloc<A = Global>),
+    node: &mut Node,
+    known: &View,
+    newer: u64,
+    rounds: u64,
+) -> Result<()> {
+    tell_known(node, known)?;
+    let messages = messages(rt.alloc(), known, newer, rounds)?;
+    tell(rt, node, &messages, newer)
+}
+
+/// Times so many deliveries at a fresh node.
+fn tell_fresh(
     rt: &(impl Clock + Print + Eprint + Alloc<A = Global>),
     known: &View,
     newer: u64,
     rounds: u64,
 ) -> Result<()> {
-    let mut node = node_of(rt.alloc(), known)?;
-    let messages = messages(rt.alloc(), known, newer, rounds)?;
-    tell_times(rt, &mut node, &messages, newer)
+    let mut node = founder(rt.alloc())?;
+    tell_newer(rt, &mut node, known, newer, rounds)
 }
 
 /// Times so many rounds of each.
@@ -88,7 +120,7 @@ pub(crate) fn run(
     let (ids, rounds) = (size.count, size.runs);
     let known = view_of(rt.alloc(), ids, USUAL)?;
     for newer in [0, 1, 4, 16, 64, 256] {
-        tell(rt, &known, ids.min(newer), rounds)?;
+        tell_fresh(rt, &known, ids.min(newer), rounds)?;
     }
     Ok(())
 }

@@ -12,7 +12,8 @@
 
 ghost use Rattle.q_session.specs.Records.{HasRecordsWithin};
 
-use anyhow::{Result, anyhow, bail};
+use crate::{asm, check, values};
+use anyhow::{Context, Result, anyhow, bail};
 use bq_asm::assemble::assemble;
 use bq_check::certified::Certified;
 use bq_check::check::check_within;
@@ -55,21 +56,27 @@ fn copies(source: &mut String) -> Result<(), AllocError> {
     source.push_str("mov64 r0, r3\n")
 }
 
+/// Appends the operation at this place, which this number picks.
+fn push_operation(source: &mut String, place: usize, number: u64) -> Result<(), AllocError> {
+    let name = NAMES[(number >> 58) as usize % 10];
+    let dst = REGISTERS[(number >> 40) as usize % 7];
+    let src = REGISTERS[(number >> 50) as usize % 7];
+    write!(source, "{name} r{dst}, ")?;
+    if name == "lsh64" || name == "rsh64" {
+        write!(source, "{}\n", 1 + (number >> 33) % 7)
+    } else if place % 3 == 0 {
+        write!(source, "{}\n", (number >> 33) % 100_000_000)
+    } else {
+        write!(source, "r{src}\n")
+    }
+}
+
 fn arithmetic(source: &mut String) -> Result<(), AllocError> {
     copies(source)?;
     let mut number = 1;
     for place in 0..OPERATIONS {
         number = next(number);
-        let name = NAMES[(number >> 58) as usize % 10];
-        let dst = REGISTERS[(number >> 40) as usize % 7];
-        let src = REGISTERS[(number >> 50) as usize % 7];
-        if name == "lsh64" || name == "rsh64" {
-            write!(source, "{name} r{dst}, {}\n", 1 + (number >> 33) % 7)?;
-        } else if place % 3 == 0 {
-            write!(source, "{name} r{dst}, {}\n", (number >> 33) % 100_000_000)?;
-        } else {
-            write!(source, "{name} r{dst}, r{src}\n")?;
-        }
+        push_operation(source, place, number)?;
     }
     source.push_str("exit\n")
 }
@@ -100,46 +107,57 @@ fn branches(source: &mut String) -> Result<(), AllocError> {
     source.push_str("exit\n")
 }
 
-/// The program of this name.
-fn source_of(alloc: Global, name: &str) -> Result<String> {
-    let mut source = String::new(alloc);
+/// Appends the source of the program of this name.
+fn push_source(source: &mut String, name: &str) -> Result<()> {
     match name {
-        "arithmetic" => arithmetic(&mut source)?,
-        "moves" => moves(&mut source)?,
+        "arithmetic" => arithmetic(source)?,
+        "moves" => moves(source)?,
         "sum" => source.push_str("mov64 r0, r3\nload8 r4, [r1+16]\nadd64 r0, r4\nexit\n")?,
-        "branches" => branches(&mut source)?,
+        "branches" => branches(source)?,
         _ => bail!("{name:?} is none of arithmetic, moves, sum and branches"),
     }
+    Ok(())
+}
+
+/// The source of the program of this name.
+fn source_of(alloc: Global, name: &str) -> Result<String> {
+    let mut source = String::new(alloc);
+    push_source(&mut source, name)?;
     Ok(source)
 }
 
+/// The certificate of a source, for the records of views.
 fn certified(alloc: Global, source: &str) -> Result<Certified> {
-    let text = assemble(alloc, source).map_err(|fault| anyhow!("refused {}", fault.reason()))?;
+    let text = assemble(alloc, source).map_err(asm::refused)?;
     let views = Bounds::of_views();
-    let notes = verify_within(alloc, &text, views).map_err(|fault| anyhow!(
-        "refused {}",
-        fault.reason()
-    ))?;
-    check_within(alloc, text, notes, views).map_err(|fault| anyhow!("refused {}", fault.reason()))
+    let notes = verify_within(alloc, &text, views).map_err(check::refused)?;
+    check_within(alloc, text, notes, views).map_err(check::refused)
 }
 
-/// The program of a source, for the records of views.
-fn program(alloc: Global, source: &str) -> Result<Program> {
-    let certified = certified(alloc, source)?;
+/// The program of this name.
+fn program(alloc: Global, name: &str) -> Result<Program> {
+    let source = source_of(alloc, name)?;
+    let certified = certified(alloc, source.as_str())?;
     Program::new(alloc, certified).map_err(|fault| anyhow!("refused {}", fault.reason()))
 }
 
-/// A view of 256 values of which each begins with a number below 2^31.
-fn view_of(alloc: Global) -> Result<View> {
-    let mut view = View::new(alloc);
+/// Puts 256 values, of which each begins with a number below 2^31.
+fn fill(view: &mut View) -> Result<()> {
     let mut number = 3;
     for id in 1..257 {
         number = next(number);
         let mut value = [0; VALUE_LENGTH];
         value[..8].copy_from_slice(&(number >> 33).to_le_bytes());
-        let stored = Stored::new(1, Value::from(&value)).ok_or(anyhow!("no value"))?;
-        view.put(id, stored).map_err(|_| anyhow!("no room"))?;
+        let stored = Stored::new(1, Value::from(&value)).context("a number is 0")?;
+        view.put(id, stored).map_err(values::refused)?;
     }
+    Ok(())
+}
+
+/// A view of 256 values.
+fn view_of(alloc: Global) -> Result<View> {
+    let mut view = View::new(alloc);
+    fill(&mut view)?;
     Ok(view)
 }
 
@@ -177,41 +195,70 @@ fn each(took: Duration, steps: u64) -> u128 {
         .unwrap_or(0)
 }
 
+/// Times a program over a view so many times, in this block.
+fn tell(
+    rt: &(impl Clock + Print + Eprint),
+    name: &str,
+    program: &Program,
+    view: &View,
+    block: &mut Block,
+    runs: u64,
+) -> Result<()>
+    requires { HasRecordsWithin program.now.lengths view.now }
+{
+    let first = time_once(rt, program, view, block)?;
+    let Ran { acc, steps } = first.ran;
+    let same = first.ran == first.reference;
+    let units = program.certified().text().units();
+    println!(rt; "{name} units {units} steps {steps} acc {acc} same {same}")?;
+    let mut loop_took = first.loop_took;
+    let mut checked_took = first.checked_took;
+    for _ in 1..runs {
+        let times = time_once(rt, program, view, block)?;
+        loop_took = loop_took.min(times.loop_took);
+        checked_took = checked_took.min(times.checked_took);
+    }
+    tell_times(rt, loop_took, checked_took, steps)
+}
+
+/// Prints how long so many instructions took, and each of them.
+fn tell_times(
+    rt: &impl Eprint,
+    loop_took: Duration,
+    checked_took: Duration,
+    steps: u64,
+) -> Result<()> {
+    let (loop_each, checked_each) = (each(loop_took, steps), each(checked_took, steps));
+    eprintln!(rt;
+        "loop {loop_took:?}, {loop_each} ps each; checked {checked_took:?}, {checked_each} ps each"
+    )?;
+    Ok(())
+}
+
+/// Times a program over a view so many times.
+fn run_over(
+    rt: &(impl Clock + Print + Eprint + Alloc<A = Global>),
+    name: &str,
+    program: &Program,
+    view: &View,
+    runs: u64,
+) -> Result<()> {
+    records_of_values();
+    let _certified = program.certified();
+    if !view.has_values_of(VALUE_LENGTH) {
+        bail!("a value has another length");
+    }
+    let mut block = Block::new(rt.alloc())?;
+    tell(rt, name, program, view, &mut block, runs)
+}
+
 /// Times a program so many times.
 pub(crate) fn run(
     rt: &(impl Clock + Print + Eprint + Alloc<A = Global>),
     name: &str,
     runs: u64,
 ) -> Result<()> {
-    let alloc = rt.alloc();
-    let source = source_of(alloc, name)?;
-    let program = program(alloc, source.as_str())?;
-    let view = view_of(alloc)?;
-    records_of_values();
-    if !view.has_values_of(VALUE_LENGTH) {
-        bail!("a value has another length");
-    }
-    let mut block = Block::new(alloc)?;
-    let first = time_once(rt, &program, &view, &mut block)?;
-    println!(rt;
-        "{name} units {} steps {} acc {} same {}",
-        program.certified().text().units(),
-        first.ran.steps,
-        first.ran.acc,
-        first.ran == first.reference
-    )?;
-    let mut loop_took = first.loop_took;
-    let mut checked_took = first.checked_took;
-    for _ in 1..runs {
-        let times = time_once(rt, &program, &view, &mut block)?;
-        loop_took = loop_took.min(times.loop_took);
-        checked_took = checked_took.min(times.checked_took);
-    }
-    let steps = first.ran.steps;
-    eprintln!(rt;
-        "loop {loop_took:?}, {} ps each; checked {checked_took:?}, {} ps each",
-        each(loop_took, steps),
-        each(checked_took, steps)
-    )?;
-    Ok(())
+    let program = program(rt.alloc(), name)?;
+    let view = view_of(rt.alloc())?;
+    run_over(rt, name, &program, &view, runs)
 }

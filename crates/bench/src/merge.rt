@@ -7,11 +7,17 @@ use sc_view::view::View;
 use std::alloc::Global;
 use std::time::{Clock, Duration, Instant};
 
+/// Two views as one. Gives how many values it has.
+fn merge(known: &View, told: &View) -> Result<usize> {
+    let both = known.merged(told).map_err(refused)?;
+    Ok(both.len())
+}
+
 /// Two views as one, so often.
 fn time_merging(rt: &impl Clock, known: &View, told: &View, rounds: u64) -> Result<Duration> {
     let start = Instant::now(rt)?;
     for _ in 0..rounds {
-        let _both = known.merged(told).map_err(refused)?;
+        merge(known, told)?;
     }
     Ok(start.elapsed(rt)?)
 }
@@ -44,20 +50,11 @@ fn tell(
     told: &View,
     rounds: u64,
 ) -> Result<()> {
-    let both = known.merged(told).map_err(refused)?;
+    let ids = merge(known, told)?;
     let took = time_merging(rt, known, told, rounds)?;
-    println!(rt; "merge, {name}: {} ids", both.len())?;
+    println!(rt; "merge, {name}: {ids} ids")?;
     eprintln!(rt; "{name} {} ns", each(took, rounds))?;
     Ok(())
-}
-
-/// The views that are merged.
-#[derive(Drop)]
-struct Views {
-    known: View,
-    same: View,
-    one_newer: View,
-    newer: View,
 }
 
 /// A view that tells one newer value.
@@ -67,23 +64,37 @@ fn with_one_newer(known: &View) -> Result<View> {
     Ok(view)
 }
 
-fn views_of(alloc: Global, ids: u64) -> Result<Views> {
-    let known = view_of(alloc, ids, USUAL)?;
-    let same = view_of(alloc, ids, USUAL)?;
-    let newer = view_of(alloc, ids, USUAL + 1)?;
-    let one_newer = with_one_newer(&known)?;
-    Ok(Views {
-        known,
-        same,
-        one_newer,
-        newer,
-    })
+/// A merge with a view of the same ids, whose values have this number.
+fn tell_all(
+    rt: &(impl Clock + Print + Eprint + Alloc<A = Global>),
+    name: &str,
+    known: &View,
+    number: u64,
+    size: Size,
+) -> Result<()> {
+    let told = view_of(rt.alloc(), size.count, number)?;
+    tell(rt, name, known, &told, size.runs)
 }
 
-fn tell_merges(rt: &(impl Clock + Print + Eprint), views: &Views, rounds: u64) -> Result<()> {
-    tell(rt, "nothing new", &views.known, &views.same, rounds)?;
-    tell(rt, "one newer", &views.known, &views.one_newer, rounds)?;
-    tell(rt, "all newer", &views.known, &views.newer, rounds)
+fn tell_one_newer(rt: &(impl Clock + Print + Eprint), known: &View, rounds: u64) -> Result<()> {
+    let told = with_one_newer(known)?;
+    tell(rt, "one newer", known, &told, rounds)
+}
+
+fn tell_all_new(rt: &(impl Clock + Print + Eprint + Alloc<A = Global>), size: Size) -> Result<()> {
+    let nothing = View::new(rt.alloc());
+    tell_all(rt, "all ids new", &nothing, USUAL + 1, size)
+}
+
+fn tell_merges(
+    rt: &(impl Clock + Print + Eprint + Alloc<A = Global>),
+    known: &View,
+    size: Size,
+) -> Result<()> {
+    tell_all(rt, "nothing new", known, USUAL, size)?;
+    tell_one_newer(rt, known, size.runs)?;
+    tell_all(rt, "all newer", known, USUAL + 1, size)?;
+    tell_all_new(rt, size)
 }
 
 fn tell_reading(rt: &(impl Clock + Print + Eprint), view: &View, rounds: u64) -> Result<()> {
@@ -95,20 +106,21 @@ fn tell_reading(rt: &(impl Clock + Print + Eprint), view: &View, rounds: u64) ->
     Ok(())
 }
 
+/// Times so many rounds of what is done with this view.
+fn tell_known(
+    rt: &(impl Clock + Print + Eprint + Alloc<A = Global>),
+    known: &View,
+    size: Size,
+) -> Result<()> {
+    tell_merges(rt, known, size)?;
+    tell_reading(rt, known, size.runs)
+}
+
 /// Times so many rounds of each.
 pub(crate) fn run(
     rt: &(impl Clock + Print + Eprint + Alloc<A = Global>),
     size: Size,
 ) -> Result<()> {
-    let (ids, rounds) = (size.count, size.runs);
-    let views = views_of(rt.alloc(), ids)?;
-    tell_merges(rt, &views, rounds)?;
-    tell(
-        rt,
-        "all ids new",
-        &View::new(rt.alloc()),
-        &views.newer,
-        rounds,
-    )?;
-    tell_reading(rt, &views.known, rounds)
+    let known = view_of(rt.alloc(), size.count, USUAL)?;
+    tell_known(rt, &known, size)
 }

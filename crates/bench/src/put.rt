@@ -21,17 +21,19 @@ fn time_alone(rt: &impl Clock, view: &mut View, ids: u64, rounds: u64) -> Result
     Ok(start.elapsed(rt)?)
 }
 
+/// A round of puts into a view that shares its chunks with another meanwhile.
+fn learn_shared(view: &mut View, ids: u64, number: u64) -> Result<()> {
+    let _kept = view.share()?;
+    learn(view, ids, number)
+}
+
 /// Rounds of puts into a view, which is shared before each round.
 fn time_shared(rt: &impl Clock, view: &mut View, ids: u64, rounds: u64) -> Result<Duration> {
-    let mut kept = view.share()?;
     let start = Instant::now(rt)?;
     for round in 0..rounds {
-        learn(view, ids, number_of(round))?;
-        kept = view.share()?;
+        learn_shared(view, ids, number_of(round))?;
     }
-    let took = start.elapsed(rt)?;
-    let _kept = kept;
-    Ok(took)
+    Ok(start.elapsed(rt)?)
 }
 
 /// How long the puts take into a view that alone has its chunks.

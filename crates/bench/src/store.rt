@@ -24,13 +24,10 @@ fn refused(fault: WorldFault) -> anyhow::Error {
     anyhow!("refused {}", fault.reason())
 }
 
-/// Times so many rounds.
-pub(crate) fn run(
-    rt: &(impl Clock + Print + Eprint + Alloc<A = Global>),
-    size: Size,
-) -> Result<()> {
-    let mut cluster = Cluster::new(rt.alloc(), size.count).map_err(refused)?;
-    let (took, delivered) = measure(rt, &mut cluster, size.runs)?;
+/// Times so many rounds of a cluster.
+fn tell(rt: &(impl Clock + Print + Eprint), cluster: &mut Cluster, size: Size) -> Result<()> {
+    cluster.begin(size.count).map_err(refused)?;
+    let (took, delivered) = measure(rt, cluster, size.runs)?;
     println!(rt;
         "ids {} deliveries {delivered} operations {} ended {}",
         cluster.ids(),
@@ -40,4 +37,13 @@ pub(crate) fn run(
     let each = took.as_nanos().checked_div(delivered as u128);
     eprintln!(rt; "{took:?}, {} ns a delivery", each.unwrap_or(0))?;
     Ok(())
+}
+
+/// Times so many rounds.
+pub(crate) fn run(
+    rt: &(impl Clock + Print + Eprint + Alloc<A = Global>),
+    size: Size,
+) -> Result<()> {
+    let mut cluster = Cluster::new(rt.alloc(), size.count).map_err(refused)?;
+    tell(rt, &mut cluster, size)
 }
