@@ -1,7 +1,9 @@
 -- That a book stays the replay of its journal at each of its calls.
-use Rattle.std.proofs.Common.{◌≡◌, ◌==◌, ℕ, Bool, true, false, length, List, Option, Some, None, Result, Ok, Err, refl, sym, ap, subst, ◌∙◌, if◌then◌else◌}
-use Rattle.std.specs.Prelude.{position, nat_le}
+use Rattle.std.proofs.Common.{◌≡◌, ◌≢◌, ◌==◌, ℕ, Bool, true, false, cond, length, List, Option, Some, None, Result, Ok, Err, refl, sym, ap, subst, ◌∙◌, if◌then◌else◌}
+use Rattle.std.specs.Prelude.{nat_le}
 use Rattle.std.specs.FinMap as fin
+use Rattle.std.specs.Result.{IsErrAnd}
+use Rattle.forms.specs.Calls.{Steps}
 use Rattle.sc_members.specs.Members.{Config}
 use Rattle.sc_view.specs.Values.{value_length}
 use Rattle.sc_msg.specs.declared.message.Message.{Message}
@@ -10,26 +12,30 @@ use Rattle.sc_node.specs.State.{NodeState}
 use Rattle.sc_node.specs.Nodes as node
 use Rattle.sc_node.specs.declared.answer.Begun.{Begun}
 use Rattle.sc_node.specs.declared.answer.Delivered.{Delivered}
-use Rattle.sc_node.specs.declared.answer.Ended.{Ended}
-use Rattle.sc_node.specs.declared.answer.Completion.{Completion}
-use Rattle.sc_node.specs.declared.answer.Completion.TheVariants as completion
 use Rattle.sc_node.specs.declared.fault.NodeFault.{NodeFault}
 use Rattle.sc_node.specs.declared.fault.NodeFault.TheVariants as node_fault
-use Rattle.sc_view.specs.Views.{ViewMap}
 use Rattle.bq_check.specs.Certificate.{Certificate}
 use Rattle.q_session.specs.Right.{IsRight}
 use Rattle.q_session.specs.declared.ran.Ran.{Ran}
 use Rattle.q_session.specs.declared.job.Job.{Job}
 use Rattle.q_desk.specs.State.{DeskState, new_desk}
 use Rattle.q_desk.specs.Desks as desk
+use Rattle.q_desk.specs.declared.journal.Entry.{Entry}
 use Rattle.q_desk.specs.declared.journal.Entry.TheVariants as entry
+use Rattle.q_desk.specs.Faults.{memory as desk_memory}
+use Rattle.q_desk.specs.declared.fault.CallFault.{CallFault}
+use Rattle.q_desk.specs.declared.fault.DeskFault.{DeskFault}
 use Rattle.q_desk.specs.declared.fault.DeskFault.TheVariants as desk_fault
+use Rattle.q_book.specs.declared.answer.Asked.{Asked}
+use Rattle.q_book.specs.declared.answer.Taken.{Taken}
 use Rattle.q_book.specs.declared.fault.BookFault.{BookFault}
 use Rattle.q_book.specs.declared.fault.BookFault.TheVariants as fault
+use Rattle.q_book.specs.Faults.{memory, of_call}
 use Rattle.q_book.specs.State.{BookState}
-use Rattle.q_book.specs.Books.{by_desk, by_node, here, joined, known, fitting, free, with_desk, asks, asks_node, stores, stores_node, delivers, delivers_node, leaves, leaves_node}
+use Rattle.q_book.specs.Books.{by_desk, by_node, here, joined, known, fitting, free, with_desk, asks, asks_node, asked, stores, stores_node, stored, delivers, delivers_node, delivered, leaves, leaves_node, left}
 use Rattle.q_book.specs.Replays.{IsReplay}
-use Rattle.q_book.proofs.Journals.{noted-adds, registered-adds, asked-adds, handed_out-adds, handed_out-same, posted-adds}
+use Rattle.q_desk.proofs.Accepted.{same_answer, no_refusal}
+use Rattle.q_desk.proofs.Moves.{handed_out-ok}
 use Rattle.q_book.proofs.Replays.{with, replay_next}
 
 -- ---- what passes the tests
@@ -92,76 +98,89 @@ same_replay b n d hn hd r = subst (λ (p : NodeState × DeskState). IsReplay (wi
 pub registered_replay : (b : BookState) (program : Certificate) (u : Unit {0}) (id : ℕ) (d : DeskState) → (let t : Test = Ok u in t) ≡ here b (Ok tt)
     → desk.registered b.desk program ≡ Ok (id, d) → IsReplay b → IsReplay (with b b.node d)
 registered_replay b program u id d passed h r =
-    replay_next b (entry.Register program) b.node d r (registered-adds b.desk program id d h)
+    replay_next b (with b b.node d) (entry.Register program) r
     (id, passes-here b u (by_desk (with_desk b) (desk.registered b.desk program)) passed ∙ ap (by_desk (with_desk b)) h)
 
 pub handed_replay : (b : BookState) (o : Option Job) (u : Unit {0}) (d : DeskState) → (let t : Test = Ok u in t) ≡ here b (Ok tt)
     → desk.handed_out b.desk b.id ≡ Ok (o, d) → IsReplay b → IsReplay (with b b.node d)
-handed_replay b None u d passed h r = same_replay b b.node d refl (handed_out-same b.desk b.id d h) r
+handed_replay b None u d passed h r = same_replay b b.node d refl (sym (handed_out-ok b.desk b.id (None, d) h)) r
 handed_replay b (Some j) u d passed h r =
-    replay_next b entry.HandOut b.node d r (handed_out-adds b.desk b.id j d h)
+    replay_next b (with b b.node d) entry.HandOut r
     (j, passes-here b u (by_desk (with_desk b) (desk.handed_out b.desk b.id)) passed ∙ ap (by_desk (with_desk b)) h)
 
 pub posted_replay : (b : BookState) (j : Job) (ran : Ran) (u : Unit {0}) (d : DeskState) → (let t : Test = Ok u in t) ≡ here b (Ok tt)
     → desk.posted b.desk b.id j ran ≡ Ok (tt, d) → IsRight j.certified j.view j.start ran → IsReplay b → IsReplay (with b b.node d)
 posted_replay b j ran u d passed h right r =
-    replay_next b (entry.Post j.query ran) b.node d r (posted-adds b.desk b.id j ran d h)
+    replay_next b (with b b.node d) (entry.Post j.query ran) r
     (j, refl, right, passes-here b u (by_desk (with_desk b) (desk.posted b.desk b.id j ran)) passed ∙ ap (by_desk (with_desk b)) h)
 
--- ---- calls of both
+-- ---- calls of the node that the desk notes
 
-pub asked_replay : (b : BookState) (program start tag k : ℕ) (u : Unit {0}) (begun : Begun) (n : NodeState) (d after : DeskState) → (let t : Test = Ok u in t) ≡ here b (joined b (known b program (free b (Ok tt))))
-    → tag ≡ b.node.operations → desk.asked b.desk tag program start ≡ Ok (k, d) → node.collect_begun b.node ≡ Ok (begun, n) → after ≡ desk.with_ended d None → IsReplay b → IsReplay (with b n after)
-asked_replay b program start tag k u begun n d after passed next h g ends r =
-    let now : desk.asked b.desk b.node.operations program start ≡ Ok (k, d) = ap (λ (t : ℕ). desk.asked b.desk t program start) (sym next) ∙ h in
-    subst (λ (x : DeskState). IsReplay (with b n x)) (sym ends)
-    (replay_next b (entry.Ask program start) n (desk.with_ended d None) r (asked-adds b.desk tag program start k d h) (
-      record { query = k; begun = begun },
-      passes-asking b program u (by_desk (asks_node b) (desk.asked b.desk b.node.operations program start)) passed ∙ ap (by_desk (asks_node b)) now ∙ ap (by_node (asks b k d)) g,
-    ))
+-- what the book makes of such a call
+abbrev pub by_call : {A C : Type 0} → (A → DeskState → NodeState → C) → Result (A × (DeskState × NodeState)) CallFault → Result C BookFault
+by_call f (Ok a) = Ok (f a.0 a.1.0 a.1.1)
+by_call f (Err e) = Err (of_call e)
 
-pub stored_replay : (b : BookState) (value : List ℕ) (u w : Unit {0}) (begun : Begun) (n : NodeState) (d after : DeskState) → (let t : Test = Ok u in t) ≡ here b (joined b (fitting (length value == value_length) (free b (Ok tt))))
-    → desk.noted b.desk (entry.Store value) ≡ Ok (w, d) → node.store_begun b.node value ≡ Ok (begun, n) → after ≡ desk.with_ended d None → IsReplay b → IsReplay (with b n after)
-stored_replay b value u w begun n d after passed h g ends r =
-    subst (λ (x : DeskState). IsReplay (with b n x)) (sym ends)
-    (replay_next b (entry.Store value) n (desk.with_ended d None) r (noted-adds b.desk (entry.Store value) d h) (
-      begun,
-      (passes-storing b (length value == value_length) u (by_desk (stores_node b value) (desk.noted b.desk (entry.Store value))) passed).1 ∙ ap (by_desk (stores_node b value)) h ∙ ap (by_node (stores b d)) g,
-    ))
+-- the desk's part and then the node's are that call
+by_both : {A B C D : Type 0} (f : A → DeskState → B → NodeState → D) (g : A → B → C) (k : C → DeskState → NodeState → D)
+    → ((a : A) (d : DeskState) (b : B) (n : NodeState) → f a d b n ≡ k (g a b) d n)
+    → (x : Result (A × DeskState) DeskFault) (r : Result (B × NodeState) NodeFault) → by_desk (λ a d. by_node (f a d) r) x ≡ by_call k (desk.with_node g x r)
+by_both f g k same (Ok d) (Ok n) = ap Ok (same d.0 d.1 n.0 n.1)
+by_both f g k same (Ok d) (Err e) = refl
+by_both f g k same (Err e) r = refl
 
-pub left_replay : (b : BookState) (u w : Unit {0}) (outs : List Message) (n : NodeState) (d after : DeskState) → (let t : Test = Ok u in t) ≡ here b (Ok tt)
-    → desk.noted b.desk entry.Leave ≡ Ok (w, d) → node.left b.node ≡ Ok (outs, n) → after ≡ desk.with_ended d None → IsReplay b → IsReplay (with b n after)
-left_replay b u w outs n d after passed h g ends r =
-    subst (λ (x : DeskState). IsReplay (with b n x)) (sym ends)
-    (replay_next b entry.Leave n (desk.with_ended d None) r (noted-adds b.desk entry.Leave d h)
-    (outs, passes-here b u (by_desk (leaves_node b) (desk.noted b.desk entry.Leave)) passed ∙ ap (by_desk (leaves_node b)) h ∙ ap (by_node (leaves b d)) g))
+-- what the node and the desk did at a call that was noted
+pub noted_call : {A : Type 0} (d : DeskState) (e : Entry) (r : Result (A × NodeState) NodeFault) (a : A) (x : DeskState) (n : NodeState) → desk.noting d e r ≡ Ok (a, (x, n)) → (desk.with_entry d e ≡ x) × (r ≡ Ok (a, n))
+noted_call {A} d e r a x n h = go (desk.has_room d) r h
+  where
+    go : (b : Bool) (r : Result (A × NodeState) NodeFault) → desk.with_node (λ u (y : A). y) (let z : Result (Unit {0} × DeskState) DeskFault = cond b (Ok (tt, desk.with_entry d e)) (Err desk_fault.BookFull) in z) r ≡ Ok (a, (x, n)) → (desk.with_entry d e ≡ x) × (r ≡ Ok (a, n))
+    go true (Ok z) k =
+        let same : ◌≡◌ {A = A × (DeskState × NodeState)} (z.0, (desk.with_entry d e, z.1)) (a, (x, n)) = same_answer _ _ k in
+        (ap (λ (p : A × (DeskState × NodeState)). p.1.0) same, ap (λ (p : A × (DeskState × NodeState)). let y : Result (A × NodeState) NodeFault = Ok (p.0, p.1.1) in y) same)
+    go true (Err f) k = absurd (no_refusal _ _ k)
+    go false r k = absurd (no_refusal _ _ k)
 
--- an operation that ends puts nothing into the journal
-returned-quiet : (d : DeskState) (view : ViewMap) (o : Option ℕ) → (desk.returned_to d view o).1.journal ≡ d.journal
-returned-quiet d view None = refl
-returned-quiet d view (Some k) = refl
+-- a call that was refused
+pub call_refused : {A C : Type 0} (old new : BookState) (said : Result (C × BookState) BookFault) (g : A → DeskState → NodeState → C × BookState) (r : Result (A × (DeskState × NodeState)) CallFault) (f : CallFault) (result : Result C BookFault)
+    → said ≡ by_call g r → new ≡ old → (f ≢ desk_memory → r ≡ Err f) → IsErrAnd result (λ e. e ≡ of_call f) → Steps memory said old new result
+call_refused old new said g r f (Ok a) is same told gives = absurd gives
+call_refused old new said g r f (Err e) is same told gives = (same, λ other. is ∙ ap (by_call g) (told (λ m. other (gives ∙ ap of_call m))) ∙ sym (ap Err gives))
 
-returns-quiet : (d : DeskState) (tag : ℕ) (what : Completion) → (desk.returns tag what d).1.journal ≡ d.journal
-returns-quiet d tag completion.Stored = refl
-returns-quiet d tag (completion.Returned view) = returned-quiet d view (position (desk.waits tag) d.queries)
+module _ (b : BookState) where
+  abbrev pub asks_call : ℕ × Begun → DeskState → NodeState → Asked × BookState
+  asks_call a d n = asks b a.0 d a.1 n
 
-ends-quiet : (d : DeskState) (o : Option Ended) → (desk.ends o d).1.journal ≡ d.journal
-ends-quiet d None = refl
-ends-quiet d (Some e) = returns-quiet d e.tag e.what
+  abbrev pub stores_call : Begun → DeskState → NodeState → Begun × BookState
+  stores_call begun d n = stores b d begun n
 
-delivered_ended : (b : BookState) (m : Message) (u w : Unit {0}) (told : Delivered) (n : NodeState) (d : DeskState) → (let t : Test = Ok u in t) ≡ here b (fitting (message.has_values_of value_length m) (Ok tt))
-    → desk.noted b.desk (entry.Deliver m) ≡ Ok (w, d) → node.delivered b.node m ≡ Ok (told, n) → IsReplay b → IsReplay (with b n (desk.ends told.ended d).1)
-delivered_ended b m u w told n d passed h g r =
-    replay_next b (entry.Deliver m) n (desk.ends told.ended d).1 r (ends-quiet d told.ended ∙ noted-adds b.desk (entry.Deliver m) d h) (
-      record { outs = told.outs; progress = told.progress; completed = desk.completed_by told.ended (desk.ends told.ended d).0 },
-      (passes-taking b (message.has_values_of value_length m) u (by_desk (delivers_node b m) (desk.noted b.desk (entry.Deliver m))) passed).1 ∙ ap (by_desk (delivers_node b m)) h ∙ ap (by_node (delivers b d)) g,
-    )
+  abbrev pub leaves_call : List Message → DeskState → NodeState → List Message × BookState
+  leaves_call outs d n = leaves b d outs n
 
-pub delivered_replay : (b : BookState) (m copy : Message) (u w : Unit {0}) (told : Delivered) (n : NodeState) (d after : DeskState) → (let t : Test = Ok u in t) ≡ here b (fitting (message.has_values_of value_length m) (Ok tt))
-    → copy ≡ m → desk.noted b.desk (entry.Deliver copy) ≡ Ok (w, d) → node.delivered b.node m ≡ Ok (told, n) → after ≡ (desk.ends told.ended d).1 → IsReplay b → IsReplay (with b n after)
-delivered_replay b m copy u w told n d after passed same h g ends r =
-    subst (λ (x : DeskState). IsReplay (with b n x)) (sym ends)
-    (delivered_ended b m u w told n d passed (ap (λ (x : Message). desk.noted b.desk (entry.Deliver x)) (sym same) ∙ h) g r)
+  abbrev pub delivers_call : Delivered → DeskState → NodeState → Taken × BookState
+  delivers_call told d n = delivers b d told n
+
+  pub asked_by : (program start : ℕ) (u : Unit {0}) → (let t : Test = Ok u in t) ≡ here b (joined b (known b program (free b (Ok tt))))
+      → asked b program start ≡ by_call asks_call (desk.asking b.desk b.node program start)
+  asked_by program start u passed =
+      passes-asking b program u (by_desk (asks_node b) (desk.asked b.desk b.node.operations program start)) passed
+      ∙ by_both (asks b) (λ query begun. (query, begun)) asks_call (λ q d begun n. refl) (desk.asked b.desk b.node.operations program start) (node.collect_begun b.node)
+
+  pub stored_by : (value : List ℕ) (u : Unit {0}) → (let t : Test = Ok u in t) ≡ here b (joined b (fitting (length value == value_length) (free b (Ok tt))))
+      → stored b value ≡ by_call stores_call (desk.noting b.desk (entry.Store value) (node.store_begun b.node value))
+  stored_by value u passed =
+      (passes-storing b (length value == value_length) u (by_desk (stores_node b value) (desk.noted b.desk (entry.Store value))) passed).1
+      ∙ by_both (λ u d. stores b d) (λ u begun. begun) stores_call (λ u d begun n. refl) (desk.noted b.desk (entry.Store value)) (node.store_begun b.node value)
+
+  pub left_by : (u : Unit {0}) → (let t : Test = Ok u in t) ≡ here b (Ok tt) → left b ≡ by_call leaves_call (desk.noting b.desk entry.Leave (node.left b.node))
+  left_by u passed =
+      passes-here b u (by_desk (leaves_node b) (desk.noted b.desk entry.Leave)) passed
+      ∙ by_both (λ u d. leaves b d) (λ u outs. outs) leaves_call (λ u d outs n. refl) (desk.noted b.desk entry.Leave) (node.left b.node)
+
+  pub delivered_by : (m : Message) (u : Unit {0}) → (let t : Test = Ok u in t) ≡ here b (fitting (message.has_values_of value_length m) (Ok tt))
+      → delivered b m ≡ by_call delivers_call (desk.noting b.desk (entry.Deliver m) (node.delivered b.node m))
+  delivered_by m u passed =
+      (passes-taking b (message.has_values_of value_length m) u (by_desk (delivers_node b m) (desk.noted b.desk (entry.Deliver m))) passed).1
+      ∙ by_both (λ u d. delivers b d) (λ u told. told) delivers_call (λ u d told n. refl) (desk.noted b.desk (entry.Deliver m)) (node.delivered b.node m)
 
 -- ---- before any call
 

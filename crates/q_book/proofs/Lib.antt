@@ -1,7 +1,7 @@
 -- Why a book stays the replay of its journal, and what its parts make of its calls.
-mod Replays
-mod Journals
 mod Calls
 mod Noted
 pub mod Parts
+pub mod Followed
+pub mod Replays
 pub mod Values

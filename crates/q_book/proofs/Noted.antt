@@ -1,5 +1,5 @@
 -- What posts and hand-outs add to a book's journal, and why a post is refused.
-use Rattle.std.proofs.Common.{◌≡◌, Bool, true, false, cond, List, [], ◌∷◌, ◌++◌, ◌⊎◌, inl, inr, Option, Some, None, Result, Ok, Err, refl, sym, ap, ◌∙◌, subst, if◌then◌else◌}
+use Rattle.std.proofs.Common.{◌≡◌, Bool, true, false, ◌⊎◌, inl, inr, Option, Some, None, Result, Ok, Err, refl, sym, ap, ◌∙◌, subst, if◌then◌else◌}
 use Rattle.std.specs.Prelude.{slice_get, ◌==◌}
 use Rattle.sc_node.specs.declared.fault.NodeFault.TheVariants as node_fault
 use Rattle.q_session.specs.declared.ran.Ran.{Ran}
@@ -9,16 +9,17 @@ use Rattle.q_session.specs.declared.query.Phase.TheVariants.{Collecting, Ready, 
 use Rattle.q_session.specs.declared.query.Query.{Query}
 use Rattle.q_desk.specs.State.{DeskState}
 use Rattle.q_desk.specs.Desks as desk
-use Rattle.q_desk.specs.declared.journal.Entry.TheVariants as entry
 use Rattle.q_desk.specs.declared.fault.DeskFault.{DeskFault}
 use Rattle.q_desk.specs.declared.fault.DeskFault.TheVariants as desk_fault
 use Rattle.q_book.specs.declared.fault.BookFault.{BookFault}
 use Rattle.q_book.specs.declared.fault.BookFault.TheVariants as fault
 use Rattle.q_book.specs.Faults.{of_desk}
 use Rattle.q_book.specs.State.{BookState}
-use Rattle.q_book.specs.Books.{with_desk, by_desk, handed_out, posted, room_for_post}
+use Rattle.q_book.specs.Books.{with_desk, by_desk}
 use Rattle.q_book.specs.Noted.{IsResultFault, PostsAreNoted, RoomLeavesResultFaults, HandOutsAreNoted, NoneChangesNothing}
-use Rattle.q_book.proofs.Journals.{handed_out-adds, handed_out-same, posted-adds}
+use Rattle.q_desk.proofs.Moves.{IsHanded, handed_out-ok}
+use Rattle.q_book.proofs.Parts.{desk-parts}
+use Rattle.q_book.proofs.Followed.{handed-next, posted-next}
 
 abbrev Desked : Type 0 → Type 0
 Desked A = Result (A × DeskState) DeskFault
@@ -28,36 +29,18 @@ Booked A = Result (A × BookState) BookFault
 
 -- ---- an accepted call of the desk
 
-record Went (A : Type 0) (b : BookState) (r : Desked A) (a : A) (c : BookState) : Type 0 where
-  pub desk : DeskState
-  pub did : r ≡ Ok (a, desk)
-  pub book : c ≡ record b { desk = desk }
-
-went-desk : {A : Type 0} (b : BookState) (r : Desked A) (a : A) (c : BookState) → by_desk (with_desk b) r ≡ Ok (a, c) → Went A b r a c
-went-desk {A} b (Ok x) a c h =
-    let e : ◌≡◌ {A = A × BookState} (x.0, record b { desk = x.1 }) (a, c) = cc in
-    record { desk = x.1; did = ap (λ (y : A). let z : Desked A = Ok (y, x.1) in z) (ap (λ (p : A × BookState). p.0) e); book = sym (ap (λ (p : A × BookState). p.1) e) }
-went-desk b (Err f) a c h = absurd (cc)
-
-went-here : {A : Type 0} (gone : Bool) (b : BookState) (r : Desked A) (a : A) (c : BookState)
-    → (let x : Booked A = if gone then Err (fault.Node node_fault.Gone) else by_desk (with_desk b) r in x) ≡ Ok (a, c) → Went A b r a c
-went-here false b r a c h = went-desk b r a c h
-went-here true b r a c h = absurd (cc)
-
 pub posts_noted : PostsAreNoted
-posts_noted b j ran c h =
-    let w = went-here b.node.gone b (desk.posted b.desk b.id j ran) tt c h in
-    ap (λ (x : BookState). x.desk.journal) w.book ∙ posted-adds b.desk b.id j ran w.desk w.did
+posts_noted b j ran c h = (posted-next b j ran c h).adds
 
 pub hand_outs_noted : HandOutsAreNoted
-hand_outs_noted b j c h =
-    let w = went-here b.node.gone b (desk.handed_out b.desk b.id) (Some j) c h in
-    ap (λ (x : BookState). x.desk.journal) w.book ∙ handed_out-adds b.desk b.id j w.desk w.did
+hand_outs_noted b j c h = (handed-next b j c h).adds
 
 pub none_changes : NoneChangesNothing
 none_changes b c h =
-    let w = went-here b.node.gone b (desk.handed_out b.desk b.id) None c h in
-    w.book ∙ ap (λ (d : DeskState). record b { desk = d }) (handed_out-same b.desk b.id w.desk w.did)
+    let a = desk-parts b (desk.handed_out b.desk b.id) (None, c) h in
+    let none : a.0.0 ≡ None = ap (λ (x : Option Job × BookState). x.0) a.2 in
+    let same = subst (λ (o : Option Job). IsHanded b.desk b.id a.0.1 o) none (handed_out-ok b.desk b.id a.0 a.1) in
+    sym (ap (λ (x : Option Job × BookState). x.1) a.2) ∙ ap (λ (d : DeskState). let y : BookState = record b { desk = d } in y) (sym same)
 
 -- ---- a refused post
 

@@ -16,7 +16,7 @@ use Rattle.q_desk.specs.declared.journal.Entry.{Entry}
 use Rattle.q_desk.specs.declared.journal.Entry.TheVariants as entry
 use Rattle.q_desk.specs.declared.fault.DeskFault.{DeskFault}
 use Rattle.q_desk.specs.declared.fault.DeskFault.TheVariants as desk_fault
-use Rattle.q_desk.proofs.Accepted.{same_answer, no_refusal, passed}
+use Rattle.q_desk.proofs.Accepted.{same_answer, no_refusal, passed, spared}
 use Rattle.q_book.specs.State.{BookState}
 use Rattle.q_book.specs.Books as book
 use Rattle.q_book.specs.declared.answer.Asked.{Asked}
@@ -40,21 +40,17 @@ noted-ok {B} f d e z h = go (desk.has_room d) h
     go true k = k
     go false k = absurd (no_refusal _ z k)
 
-not_passed : {A E : Type 0} (b : Bool) (e : E) (r : Result A E) (y : A) → cond b (Err e) r ≡ Ok y → r ≡ Ok y
-not_passed false e r y h = h
-not_passed true e r y h = absurd (no_refusal e y h)
-
 -- ---- what a book's node and its desk did
 
 module _ (b : BookState) where
   pub here-ok : {B : Type 0} (r : Result B BookFault) (z : B) → book.here b r ≡ Ok z → r ≡ Ok z
-  here-ok r z h = not_passed b.node.gone (fault.Node node_fault.Gone) r z h
+  here-ok r z h = (spared b.node.gone (fault.Node node_fault.Gone) r z h).1
 
   pub joined-ok : {B : Type 0} (r : Result B BookFault) (z : B) → book.joined b r ≡ Ok z → r ≡ Ok z
   joined-ok r z h = (passed b.node.joined (fault.Node node_fault.NotJoined) r z h).1
 
   free-ok : {B : Type 0} (r : Result B BookFault) (z : B) → book.free b r ≡ Ok z → r ≡ Ok z
-  free-ok r z h = not_passed (nat_le node.most_open (fin.len b.node.sessions)) (fault.Node node_fault.SessionsFull) r z h
+  free-ok r z h = (spared (nat_le node.most_open (fin.len b.node.sessions)) (fault.Node node_fault.SessionsFull) r z h).1
 
   known-ok : {B : Type 0} (program : ℕ) (r : Result B BookFault) (z : B) → book.known b program r ≡ Ok z → r ≡ Ok z
   known-ok program r z h = (passed (desk.knows b.desk program) (fault.Desk desk_fault.UnknownProgram) r z h).1

@@ -11,6 +11,7 @@ use Rattle.q_desk.specs.declared.journal.Entry.{Entry}
 use Rattle.q_book.specs.State.{BookState}
 use Rattle.q_book.specs.Books.{new_book}
 use Rattle.q_book.specs.Replays.{Follows, Replays, IsFirst, IsReplay}
+use Rattle.q_book.proofs.Followed.{follows-next}
 
 replays_next : (es : List Entry) (b c d : BookState) (e : Entry) → Replays b es c → Follows c e d → Replays b (es ++ e ∷ []) d
 replays_next [] b c d e h s = (d, subst (λ (x : BookState). Follows x e d) h s, refl)
@@ -21,12 +22,16 @@ abbrev pub with : BookState → NodeState → DeskState → BookState
 with b n d = record b { node = n; desk = d }
 
 -- an entry that follows is one more of the replay
-pub replay_next : (b : BookState) (e : Entry) (n : NodeState) (d : DeskState) → IsReplay b → d.journal ≡ b.desk.journal ++ e ∷ [] → Follows b e (with b n d) → IsReplay (with b n d)
-replay_next b e n d r journal follows = record {
-  first = r.first;
-  begun = r.begun;
-  replayed = subst (λ (es : List Entry). Replays (new_book b.id b.config b.founders r.first) es (with b n d)) (sym journal) (replays_next b.desk.journal (new_book b.id b.config b.founders r.first) b (with b n d) e r.replayed follows);
-}
+pub replay_next : (b later : BookState) (e : Entry) → IsReplay b → Follows b e later → IsReplay (with b later.node later.desk)
+replay_next b later e r f =
+    let on = follows-next b e later f in
+    let c : BookState = with b later.node later.desk in
+    let first : BookState = new_book b.id b.config b.founders r.first in
+    record {
+      first = r.first;
+      begun = r.begun;
+      replayed = subst (λ (es : List Entry). Replays first es c) (sym on.adds) (replays_next b.desk.journal first b c e r.replayed (subst (Follows b e) (sym on.same) f));
+    }
 
 -- ---- how many founders there are
 

@@ -78,7 +78,7 @@ room_for_post b = here b (if desk.has_room b.desk then Ok tt else Err (fault.Des
 -- ---- queries and stores
 
 abbrev pub asks : BookState → ℕ → DeskState → Begun → NodeState → Asked × BookState
-asks b query d begun n = (record { query = query; begun = begun }, record b { node = n; desk = desk.with_ended d None })
+asks b query d begun n = (record { query = query; begun = begun }, record b { node = n; desk = d })
 
 abbrev pub asks_node : BookState → ℕ → DeskState → Result (Asked × BookState) BookFault
 asks_node b query d = by_node (asks b query d) (node.collect_begun b.node)
@@ -89,7 +89,7 @@ asked b program start =
     here b (joined b (known b program (free b (by_desk (asks_node b) (desk.asked b.desk b.node.operations program start)))))
 
 abbrev pub stores : BookState → DeskState → Begun → NodeState → Begun × BookState
-stores b d begun n = (begun, record b { node = n; desk = desk.with_ended d None })
+stores b d begun n = (begun, record b { node = n; desk = d })
 
 abbrev pub stores_node : BookState → List ℕ → Unit {0} → DeskState → Result (Begun × BookState) BookFault
 stores_node b value u d = by_node (stores b d) (node.store_begun b.node value)
@@ -113,7 +113,7 @@ abbrev pub delivered : BookState → Message → Result (Taken × BookState) Boo
 delivered b m = here b (fitting (message.has_values_of value_length m) (by_desk (delivers_node b m) (desk.noted b.desk (entry.Deliver m))))
 
 abbrev pub leaves : BookState → DeskState → List Message → NodeState → List Message × BookState
-leaves b d outs n = (outs, record b { node = n; desk = desk.with_ended d None })
+leaves b d outs n = (outs, record b { node = n; desk = d })
 
 abbrev pub leaves_node : BookState → Unit {0} → DeskState → Result (List Message × BookState) BookFault
 leaves_node b u d = by_node (leaves b d) (node.left b.node)

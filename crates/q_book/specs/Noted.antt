@@ -1,5 +1,5 @@
 -- What posts and hand-outs add to a book's journal, and why a post is refused.
-use Rattle.std.specs.Prelude.{◌≡◌, ◌++◌, List, [], ◌∷◌, ◌⊎◌, Some, None, Ok, Err}
+use Rattle.std.specs.Prelude.{◌≡◌, ◌++◌, [], ◌∷◌, ◌⊎◌, Some, None, Ok, Err}
 use Rattle.q_session.specs.declared.ran.Ran.{Ran}
 use Rattle.q_session.specs.declared.job.Job.{Job}
 use Rattle.q_desk.specs.declared.fault.DeskFault.TheVariants as desk_fault

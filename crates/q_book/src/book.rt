@@ -8,10 +8,8 @@ ghost use Rattle.sc_msg.specs.Lengths.{has_values_of};
 ghost use Rattle.sc_node.specs.Nodes.{most_founders};
 ghost use Rattle.sc_lengths.specs.Lengths.{EndedHasValuesOf};
 ghost use Rattle.forms.specs.Calls.{Steps, Gives, Does};
-ghost use Rattle.q_desk.specs.State.{DeskState};
-ghost use Rattle.q_desk.specs.declared.journal.Entry.{Entry as EntryValue};
 ghost use Rattle.q_desk.specs.Desks as desk;
-ghost use Rattle.q_desk.specs.Desks.{noted, ends, completed_by};
+ghost use Rattle.q_desk.specs.Desks.{ends, completed_by};
 ghost use Rattle.q_desk.specs.Answers.{AnswersAreRight, ProgramsAreKnown};
 ghost use Rattle.q_book.specs.Faults.{memory};
 ghost use Rattle.q_book.specs.Books.{here, joined, known, fitting, free, registered, asked, stored, delivered, left, handed_out, posted, room_for_post, founded, entered};
@@ -19,7 +17,6 @@ ghost use Rattle.q_book.specs.Replays.{IsReplay, EntryFits};
 
 use crate::answer::{Asked, Taken};
 use crate::fault::BookFault;
-use q_desk::completed::Completed;
 use q_desk::desk::Desk;
 use q_desk::fault::DeskFault;
 use q_desk::journal::Entry;
@@ -116,17 +113,8 @@ impl Book {
         ensures { Steps memory (asked self.old program start) self.old self.new result }
     {
         self.check_asking(program)?;
-        let query = self.desk.ask(self.node.operations(), program, start)?;
-        match self.node.begin_collect() {
-            Ok(begun) => {
-                self.desk.end(None);
-                Ok(Asked { query, begun })
-            }
-            Err(fault) => {
-                self.desk.withdraw();
-                Err(BookFault::Node(fault))
-            }
-        }
+        let (query, begun) = self.desk.ask(&mut self.node, program, start)?;
+        Ok(Asked { query, begun })
     }
 
     /// Begins to store a value. Refused with 42, 41, 50, 43, 53, 48, 46, 99.
@@ -134,14 +122,8 @@ impl Book {
         ensures { Steps memory (stored self.old value.now) self.old self.new result }
     {
         self.check_storing(value)?;
-        self.desk.note(Entry::Store(*value))?;
-        match self.node.begin_store(value) {
-            Ok(begun) => {
-                self.desk.end(None);
-                Ok(begun)
-            }
-            Err(fault) => Err(forget(&mut self.desk, fault)),
-        }
+        let begun = self.desk.store(&mut self.node, value)?;
+        Ok(begun)
     }
 
     /// Takes a message, also one that it took before, and its own. The view of a collect that ends goes to its query.
@@ -151,11 +133,8 @@ impl Book {
     {
         delivery_keeps_lengths();
         self.check_taking(message)?;
-        self.desk.note(Entry::Deliver(message.clone()?))?;
-        match self.node.deliver(message) {
-            Ok(delivered) => Ok(take(&mut self.desk, delivered)),
-            Err(fault) => Err(forget(&mut self.desk, fault)),
-        }
+        let delivered = self.desk.deliver(&mut self.node, message)?;
+        Ok(take(&mut self.desk, delivered))
     }
 
     /// Leaves for good: every later call that changes something is refused with 42. Refused with 42, 53, 47, 99.
@@ -163,14 +142,8 @@ impl Book {
         ensures { Steps memory (left self.old) self.old self.new result }
     {
         self.check_here()?;
-        self.desk.note(Entry::Leave)?;
-        match self.node.leave() {
-            Ok(outs) => {
-                self.desk.end(None);
-                Ok(outs)
-            }
-            Err(fault) => Err(forget(&mut self.desk, fault)),
-        }
+        let outs = self.desk.leave(&mut self.node)?;
+        Ok(outs)
     }
 
     /// Hands out the job of the ready query with the least number; none where no query is ready, also where the journal
@@ -280,14 +253,6 @@ impl Book {
         self.desk.journal()
     }
 
-    /// What the last accepted call ended: none after a call that was no delivery. A refused call, and a hand-out that
-    /// found no ready query, leave it as it was.
-    pub fn ended(&self) -> Option<Completed>
-        ensures { result ≡ self.now.desk.ended }
-    {
-        self.desk.ended()
-    }
-
     /// How many entries the journal has.
     pub fn events(&self) -> usize
         ensures { result ≡ length self.now.desk.journal }
@@ -366,15 +331,6 @@ fn check_fitting(fits: bool) -> Result<(), BookFault>
     } else {
         Err(BookFault::BadValue)
     }
-}
-
-// The node refused the call that was noted last: the desk takes the entry back.
-fn forget(desk: &mut Desk, fault: NodeFault) -> BookFault
-    ensures fault { result ≡ BookFault.Node fault }
-    ensures undone { (before : DeskState) (e : EntryValue) → noted before e ≡ Ok (tt, desk.old) → desk.new ≡ before }
-{
-    desk.forget();
-    BookFault::Node(fault)
 }
 
 // What is told of a message that the node took; the view of a collect that ended goes to its query.

@@ -1,9 +1,9 @@
 //! Why a book refuses a call, and the reason that is told of each.
 
 ghost use Rattle.std.specs.Prelude.{◌≡◌};
-ghost use Rattle.q_book.specs.Faults.{reason, of_desk, memory};
+ghost use Rattle.q_book.specs.Faults.{reason, of_desk, of_call, memory};
 
-use q_desk::fault::DeskFault;
+use q_desk::fault::{CallFault, DeskFault};
 use reasons::{Reason, told};
 use sc_node::fault::NodeFault;
 use std::alloc::AllocError;
@@ -46,6 +46,17 @@ impl From<DeskFault> for BookFault {
         match refusal {
             DeskFault::OutOfMemory => BookFault::Node(NodeFault::OutOfMemory),
             other => BookFault::Desk(other),
+        }
+    }
+}
+
+impl From<CallFault> for BookFault {
+    ghost from_gives = { λ refusal e. e ≡ of_call refusal };
+
+    fn from(refusal: CallFault) -> BookFault {
+        match refusal {
+            CallFault::Desk(refusal) => BookFault::from(refusal),
+            CallFault::Node(refusal) => BookFault::Node(refusal),
         }
     }
 }

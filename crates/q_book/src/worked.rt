@@ -46,8 +46,8 @@ pub fn worked()
     ensures stored_shorter { (b : BookState) (n : NodeState) (d : DeskState) → stored (there b n d) (7 ∷ []) ≡ Err fault.BadValue }
     ensures told_shorter { (b : BookState) (n : NodeState) (d : DeskState) (m : Message) → has_values_of value_length m ≡ false → delivered (there b n d) m ≡ Err fault.BadValue }
 
-    // The view of a collect that ended goes to its query, and the book keeps what ended.
-    ensures returned { (b : BookState) (n : NodeState) (v : ViewMap) → (delivers b (record new_desk { queries = query 9 Collecting ∷ [] }) (record { outs = []; progress = None; ended = Some (record { tag = 9; what = completion.Returned v }) }) n).1.desk ≡ record new_desk { queries = query 9 (Ready v) ∷ []; ended = Some (completed.Returned 0) } }
+    // The view of a collect that ended goes to its query, and it is told that the query has it.
+    ensures returned { (b : BookState) (n : NodeState) (v : ViewMap) → (delivers b (record new_desk { queries = query 9 Collecting ∷ [] }) (record { outs = []; progress = None; ended = Some (record { tag = 9; what = completion.Returned v }) }) n).1.desk ≡ record new_desk { queries = query 9 (Ready v) ∷ [] } }
     ensures told { (b : BookState) (n : NodeState) (v : ViewMap) → (delivers b (record new_desk { queries = query 9 Collecting ∷ [] }) (record { outs = []; progress = None; ended = Some (record { tag = 9; what = completion.Returned v }) }) n).0.completed ≡ Some (completed.Returned 0) }
 
     // An operation is open under its own tag.

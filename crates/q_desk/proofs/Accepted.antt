@@ -33,6 +33,11 @@ pub passed : {A E : Type 0} (b : Bool) (e : E) (r : Result A E) (y : A) → cond
 passed true e r y h = (refl, h)
 passed false e r y h = absurd (no_refusal e y h)
 
+-- what comes after a refusal
+pub spared : {A E : Type 0} (b : Bool) (e : E) (r : Result A E) (y : A) → cond b (Err e) r ≡ Ok y → (b ≡ false) × (r ≡ Ok y)
+spared true e r y h = absurd (no_refusal e y h)
+spared false e r y h = (refl, h)
+
 pub get_elsewhere : {X : Type 0} (xs : List X) (i : ℕ) (y : X) (k : ℕ) (x : X) → (k ≡ i → ⊥) → slice_get xs k ≡ Some x → slice_get (slice_set xs i y) k ≡ Some x
 get_elsewhere [] i y k x away h = absurd (cc)
 get_elsewhere (z ∷ xs) zero y zero x away h = absurd (away refl)
@@ -111,7 +116,7 @@ module _ (d : DeskState) (node : ℕ) where
 
 -- the desk with this answer recorded
 abbrev pub answered : DeskState → ℕ → ViewMap → Ran → DeskState
-answered d k view ran = desk.with_entry (record d { queries = desk.with_phase d.queries k (Answered view ran); ended = None }) (entry.Post k ran)
+answered d k view ran = desk.with_entry (record d { queries = desk.with_phase d.queries k (Answered view ran) }) (entry.Post k ran)
 
 -- the query runs over this view, the job is its, and there was room
 pub record IsPosted (d : DeskState) (j : Job) (ran : Ran) (e : DeskState) : Type 0 where

@@ -25,7 +25,8 @@ use Rattle.q_session.specs.Records.{HasRecordsWithin}
 use Rattle.q_desk.specs.Answers.{IsDesk, IsAnswered}
 use Rattle.q_desk.proofs.Running.{run-handed}
 use Rattle.q_desk.proofs.Views.{same-view, right-of_same}
-use Rattle.q_desk.proofs.Keeps.{IsAppended, PhaseFits, desk-appended, desk-ended, desk-running, desk-with_phase}
+use Rattle.q_desk.proofs.Accepted.{IsReadyJob, next_is}
+use Rattle.q_desk.proofs.Keeps.{IsAppended, PhaseFits, desk-appended, desk-running, desk-with_phase}
 
 -- a program for records of 64 bytes may run over a view with values of 48
 pub may_run : (q : Query) (c : Certificate) → ((n : ℕ) (lengths : Interval) (v : ViewMap) → HasValuesOf n v → IsIn (16 + n) lengths → HasRecordsWithin lengths v) → IfSome (view_in q.phase) (HasValuesOf value_length) → IsIn record_length c.lengths → MayRun q c
@@ -64,61 +65,33 @@ next-some s node k q c first there named =
     let ready : is_ready q.phase ≡ true = ap (λ (x : Query). is_ready x.phase) (sym same) ∙ passes.1 in
     job-ready node k q q.phase c ready ∙ next-at s node k q (Some c) first there named
 
--- a ready query of the desk whose view the job has
-record IsFound (s : DeskState) (j : Job) : Type 0 where
-  query : Query
-  there : slice_get s.queries j.query ≡ Some query
-  ready : query.phase ≡ Ready j.view
-
-found-of : (s : DeskState) (node k : ℕ) (q : Query) (p : Phase) (c : Option Certificate) (j : Job) → slice_get s.queries k ≡ Some q → q.phase ≡ p → job_on node k q (ready_view p) c ≡ Some j → IsFound s j
-found-of s node k q (Ready view) (Some c) j there ready e =
-    let made : Job = record { node = node; query = k; program = q.program; start = q.start; certified = c; view = view } in
-    let same : made ≡ j = cc in
-    subst (λ (x : Job). IsFound s x) same (record { query = q; there = there; ready = ready })
-found-of s node k q (Ready view) None j there ready e = absurd (cc)
-found-of s node k q Collecting c j there ready e = absurd (cc)
-found-of s node k q (Running view) c j there ready e = absurd (cc)
-found-of s node k q (Answered view ran) c j there ready e = absurd (cc)
-
-found-at : (s : DeskState) (node k : ℕ) (o : Option Query) (j : Job) → slice_get s.queries k ≡ o → job_at ready_view s node k o ≡ Some j → IsFound s j
-found-at s node k None j there e = absurd (cc)
-found-at s node k (Some q) j there e = found-of s node k q q.phase (slice_get s.programs q.program) j there refl e
-
-found-from : (s : DeskState) (node : ℕ) (o : Option ℕ) (j : Job) → job_from s node o ≡ Some j → IsFound s j
-found-from s node None j e = absurd (cc)
-found-from s node (Some k) j e = found-at s node k (slice_get s.queries k) j refl e
-
-found : (s : DeskState) (node : ℕ) (j : Job) → Some j ≡ next_job s node → IsFound s j
-found s node j e = found-from s node (position (λ q. is_ready q.phase) s.queries) j (sym e)
-
 -- the query of this number is in the next phase, where it is in the first
 abbrev pub Moves : List Query → List Query → ℕ → Phase → Phase → Type 0
 Moves queries after k from to = (q : Query) → slice_get queries k ≡ Some q → q.phase ≡ from → after ≡ with_phase queries k to
 
 -- its view has values of the length that journals hold
-ready-fits : (s : DeskState) (j : Job) → IsFound s j → IsDesk s → HasValuesOf value_length j.view
-ready-fits s j f d = subst (λ (p : Phase). PhaseFits p) f.ready (d.fit j.query f.query f.there)
+ready-fits : (s : DeskState) (node : ℕ) (j : Job) → IsReadyJob s node j → IsDesk s → HasValuesOf value_length j.view
+ready-fits s node j f d = subst (λ (p : Phase). PhaseFits p) f.phase (d.fit j.query f.query f.at)
 
-pub desk-handed : (s : DeskState) (node : ℕ) (j : Job) (queries : List Query) (journal : List Entry) → IsDesk s → Some j ≡ next_job s node → IsAppended s entry.HandOut journal → ((view : ViewMap) → Moves s.queries queries j.query (Ready view) (Running view)) → IsDesk (record s { queries = queries; journal = journal; ended = None })
+pub desk-handed : (s : DeskState) (node : ℕ) (j : Job) (queries : List Query) (journal : List Entry) → IsDesk s → Some j ≡ next_job s node → IsAppended s entry.HandOut journal → ((view : ViewMap) → Moves s.queries queries j.query (Ready view) (Running view)) → IsDesk (record s { queries = queries; journal = journal })
 desk-handed s node j queries journal d next a moves =
-    let f = found s node j next in
-    subst (λ (x : List Query). IsDesk (record s { queries = x; journal = journal; ended = None })) (sym (moves j.view f.query f.there f.ready))
-    (desk-ended (record s { queries = with_phase s.queries j.query (Running j.view); journal = journal }) None
-    (desk-appended (record s { queries = with_phase s.queries j.query (Running j.view) }) entry.HandOut journal (record { room = a.room; is = a.is }) (desk-running s j.query j.view d (ready-fits s j f d))))
+    let f = next_is s node j (sym next) in
+    subst (λ (x : List Query). IsDesk (record s { queries = x; journal = journal })) (sym (moves j.view f.query f.at f.phase))
+    (desk-appended (record s { queries = with_phase s.queries j.query (Running j.view) }) entry.HandOut journal (record { room = a.room; is = a.is }) (desk-running s j.query j.view d (ready-fits s node j f d)))
 
-pub handed : (s : DeskState) (node : ℕ) (j : Job) (queries : List Query) (journal : List Entry) → Some j ≡ next_job s node → IsAppended s entry.HandOut journal → ((view : ViewMap) → Moves s.queries queries j.query (Ready view) (Running view)) → handed_out s node ≡ Ok (Some j, record s { queries = queries; journal = journal; ended = None })
+pub handed : (s : DeskState) (node : ℕ) (j : Job) (queries : List Query) (journal : List Entry) → Some j ≡ next_job s node → IsAppended s entry.HandOut journal → ((view : ViewMap) → Moves s.queries queries j.query (Ready view) (Running view)) → handed_out s node ≡ Ok (Some j, record s { queries = queries; journal = journal })
 handed s node j queries journal next a moves =
-    let f = found s node j next in
+    let f = next_is s node j (sym next) in
     let room = a.room in
     let small : nat_lt (length s.journal) most_events ≡ true = search rules in
-    rw (← next, small, moves j.view f.query f.there f.ready, a.is) refl
+    rw (← next, small, moves j.view f.query f.at f.phase, a.is) refl
 
 pub jobs-handed : (s : DeskState) (node : ℕ) (j : Job) (queries : List Query) → Some j ≡ next_job s node → ((view : ViewMap) → Moves s.queries queries j.query (Ready view) (Running view)) → how_many_run queries ≡ how_many_run s.queries + 1
 jobs-handed s node j queries next moves =
-    let f = found s node j next in
-    run-handed s.queries queries j.query f.query j.view f.there f.ready (moves j.view f.query f.there f.ready)
+    let f = next_is s node j (sym next) in
+    run-handed s.queries queries j.query f.query j.view f.at f.phase (moves j.view f.query f.at f.phase)
 
-pub desk-posted : (s : DeskState) (j : Job) (ran : Ran) (q : Query) (view : ViewMap) (queries : List Query) (journal : List Entry) → IsDesk s → slice_get s.queries j.query ≡ Some q → IsAnswered s q view ran → IsAppended s (entry.Post j.query ran) journal → queries ≡ with_phase s.queries j.query (Answered view ran) → IsDesk (record s { queries = queries; journal = journal; ended = None })
+pub desk-posted : (s : DeskState) (j : Job) (ran : Ran) (q : Query) (view : ViewMap) (queries : List Query) (journal : List Entry) → IsDesk s → slice_get s.queries j.query ≡ Some q → IsAnswered s q view ran → IsAppended s (entry.Post j.query ran) journal → queries ≡ with_phase s.queries j.query (Answered view ran) → IsDesk (record s { queries = queries; journal = journal })
 desk-posted s j ran q view queries journal d there right a after =
     let kept = desk-with_phase s j.query (Answered view ran) d tt (λ p here v r e.
     let same : q ≡ p = cc in
@@ -128,11 +101,10 @@ desk-posted s j ran q view queries journal d there right a after =
     let v-same : view ≡ v = cc in
     let r-same : ran ≡ r = cc in
     record { program = program; named = named; right = subst (λ (x : ViewMap). IsRight program x p.start r) v-same (subst (λ (x : Ran). IsRight program view p.start x) r-same sound) }) in
-    subst (λ (x : List Query). IsDesk (record s { queries = x; journal = journal; ended = None })) (sym after)
-    (desk-ended (record s { queries = with_phase s.queries j.query (Answered view ran); journal = journal }) None
-    (desk-appended (record s { queries = with_phase s.queries j.query (Answered view ran) }) (entry.Post j.query ran) journal (record { room = a.room; is = a.is }) kept))
+    subst (λ (x : List Query). IsDesk (record s { queries = x; journal = journal })) (sym after)
+    (desk-appended (record s { queries = with_phase s.queries j.query (Answered view ran) }) (entry.Post j.query ran) journal (record { room = a.room; is = a.is }) kept)
 
-pub posts : (s : DeskState) (node : ℕ) (j : Job) (ran : Ran) (q : Query) (view : ViewMap) (queries : List Query) (journal : List Entry) → j.node ≡ node → slice_get s.queries j.query ≡ Some q → q.phase ≡ Running view → true ≡ is_job_of s.programs j q view → IsAppended s (entry.Post j.query ran) journal → queries ≡ with_phase s.queries j.query (Answered view ran) → posted s node j ran ≡ Ok (tt, record s { queries = queries; journal = journal; ended = None })
+pub posts : (s : DeskState) (node : ℕ) (j : Job) (ran : Ran) (q : Query) (view : ViewMap) (queries : List Query) (journal : List Entry) → j.node ≡ node → slice_get s.queries j.query ≡ Some q → q.phase ≡ Running view → true ≡ is_job_of s.programs j q view → IsAppended s (entry.Post j.query ran) journal → queries ≡ with_phase s.queries j.query (Answered view ran) → posted s node j ran ≡ Ok (tt, record s { queries = queries; journal = journal })
 posts s node j ran q view queries journal own there phase fits a after =
     let same : (j.node == node) ≡ true = eq-eqb j.node node own in
     let room = a.room in

@@ -1,6 +1,6 @@
 -- What keeps a desk a desk.
-use Rattle.std.proofs.Common.{◌≡◌, ◌⊎◌, ◌<◌, ◌≤◌, ℕ, Bool, true, false, List, [], ◌∷◌, ◌++◌, length, take, Option, Some, None, Result, Ok, Err, refl, sym, ap, subst, ◌∙◌, inl, inr, ⊎_elim, arith, length-append, if◌then◌else◌}
-use Rattle.std.proofs.lemmas.List.{length-set, length-take, length_push}
+use Rattle.std.proofs.Common.{◌≡◌, ◌⊎◌, ◌<◌, ◌≤◌, ℕ, Bool, true, false, List, [], ◌∷◌, ◌++◌, length, Option, Some, None, Result, Ok, Err, refl, sym, ap, subst, ◌∙◌, inl, inr, ⊎_elim, arith, length-append, if◌then◌else◌}
+use Rattle.std.proofs.lemmas.List.{length-set, length_push}
 use Rattle.std.specs.Prelude.{slice_get, slice_set, nat_lt, IfSome}
 use Rattle.sc_view.specs.Values.{value_length}
 use Rattle.sc_view.specs.Views.{ViewMap, HasValuesOf}
@@ -15,10 +15,9 @@ use Rattle.q_session.specs.declared.query.Query.{Query}
 use Rattle.q_session.specs.Jobs.{view_in}
 use Rattle.q_desk.specs.State.{DeskState}
 use Rattle.q_desk.specs.Desks.{most_queries, most_events, in_phase, with_phase}
-use Rattle.q_desk.specs.declared.completed.Completed.{Completed}
 use Rattle.q_desk.specs.declared.journal.Entry.{Entry}
 use Rattle.q_desk.specs.Answers.{IsDesk, IsAnswered}
-use Rattle.q_desk.proofs.Lists.{get-front, get-snoc, get-written, get-taken}
+use Rattle.q_desk.proofs.Lists.{get-front, get-snoc, get-written}
 
 -- an answer stays right where its program stays
 kept : (s t : DeskState) (q : Query) (view : ViewMap) (ran : Ran) → ((c : Certificate) → slice_get s.programs q.program ≡ Some c → slice_get t.programs q.program ≡ Some c) → IsAnswered s q view ran → IsAnswered t q view ran
@@ -35,17 +34,6 @@ desk-journal s journal d few = record {
   right = λ k q view ran e f. kept s (record s { journal = journal }) q view ran (λ c h. h) (d.right k q view ran e f);
 }
 
--- nothing else of a desk speaks of what ended
-pub desk-ended : (s : DeskState) (e : Option Completed) → IsDesk s → IsDesk (record s { ended = e })
-desk-ended s e d = record {
-  table = d.table;
-  few = d.few;
-  brief = d.brief;
-  known = d.known;
-  fit = d.fit;
-  right = λ k q view ran h f. kept s (record s { ended = e }) q view ran (λ c h. h) (d.right k q view ran h f);
-}
-
 -- the journal goes on with an entry, for which there was room
 pub record IsAppended (s : DeskState) (e : Entry) (journal : List Entry) : Type 0 where
   pub room : length s.journal < most_events
@@ -53,10 +41,6 @@ pub record IsAppended (s : DeskState) (e : Entry) (journal : List Entry) : Type 
 
 pub desk-appended : (s : DeskState) (e : Entry) (journal : List Entry) → IsAppended s e journal → IsDesk s → IsDesk (record s { journal = journal })
 desk-appended s e journal a d = desk-journal s journal d (omega (arith, a.room, ap length a.is, length_push s.journal e))
-
--- entries are taken back
-pub desk-cut : (s : DeskState) (m : ℕ) → IsDesk s → IsDesk (record s { journal = take m s.journal })
-desk-cut s m d = desk-journal s (take m s.journal) d (omega (arith, length-take m s.journal, d.brief))
 
 -- the view over which a query in this phase is to run has values of the length that journals hold
 abbrev pub PhaseFits : Phase → Type 0
@@ -71,17 +55,6 @@ desk-begun s q d few known phase = record {
   known = λ k p e. ⊎_elim (λ a. d.known k p a) (λ b. subst (λ (x : Query). x.program < length s.programs) b.1 known) (get-snoc s.queries q k p e);
   fit = λ k p e. ⊎_elim (λ a. d.fit k p a) (λ b. subst (λ (x : Phase). PhaseFits x) (sym phase ∙ ap (λ (x : Query). x.phase) b.1) tt) (get-snoc s.queries q k p e);
   right = λ k p view ran e f. ⊎_elim (λ a. kept s (record s { queries = s.queries ++ q ∷ [] }) p view ran (λ c h. h) (d.right k p view ran a f)) (λ b. let other : Collecting ≡ Answered view ran = sym phase ∙ ap (λ (x : Query). x.phase) b.1 ∙ f in absurd (cc)) (get-snoc s.queries q k p e);
-}
-
--- queries are taken back
-pub desk-taken : (s : DeskState) (m : ℕ) → IsDesk s → IsDesk (record s { queries = take m s.queries })
-desk-taken s m d = record {
-  table = d.table;
-  few = omega (arith, length-take m s.queries, d.few);
-  brief = d.brief;
-  known = λ k p e. d.known k p (get-taken s.queries m k p e);
-  fit = λ k p e. d.fit k p (get-taken s.queries m k p e);
-  right = λ k p view ran e f. kept s (record s { queries = take m s.queries }) p view ran (λ c h. h) (d.right k p view ran (get-taken s.queries m k p e) f);
 }
 
 -- an answer of a query in this phase is right

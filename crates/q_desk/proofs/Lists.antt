@@ -1,5 +1,5 @@
--- Reads of lists that were appended to, written or cut.
-use Rattle.std.proofs.Common.{◌≡◌, ◌≢◌, ◌⊎◌, ℕ, zero, suc, List, [], ◌∷◌, ◌++◌, length, take, Some, refl, ap, inl, inr, ⊎_elim}
+-- Reads of lists that were appended to or written.
+use Rattle.std.proofs.Common.{◌≡◌, ◌≢◌, ◌⊎◌, ℕ, zero, suc, List, [], ◌∷◌, ◌++◌, length, Some, refl, ap, inl, inr, ⊎_elim}
 use Rattle.std.specs.Prelude.{slice_get, slice_set}
 
 pub get-front : {X : Type 0} (xs ys : List X) (k : ℕ) (x : X) → slice_get xs k ≡ Some x → slice_get (xs ++ ys) k ≡ Some x
@@ -19,10 +19,3 @@ get-written (z ∷ xs) zero y zero x h = inr (refl, cc)
 get-written (z ∷ xs) zero y (suc k) x h = inl ((λ e. absurd (cc)), h)
 get-written (z ∷ xs) (suc i) y zero x h = inl ((λ e. absurd (cc)), h)
 get-written (z ∷ xs) (suc i) y (suc k) x h = ⊎_elim (λ a. inl ((λ e. a.0 (cc)), a.1)) (λ b. inr (ap suc b.0, b.1)) (get-written xs i y k x h)
-
-pub get-taken : {X : Type 0} (xs : List X) (m k : ℕ) (x : X) → slice_get (take m xs) k ≡ Some x → slice_get xs k ≡ Some x
-get-taken [] zero k x h = h
-get-taken [] (suc m) k x h = h
-get-taken (y ∷ xs) zero k x h = absurd (cc)
-get-taken (y ∷ xs) (suc m) zero x h = h
-get-taken (y ∷ xs) (suc m) (suc k) x h = get-taken xs m k x h

@@ -1,5 +1,5 @@
--- How many queries run, where a query begins, is taken back, or comes into another phase.
-use Rattle.std.proofs.Common.{◌≡◌, ◌<◌, ◌+◌, ◌-◌, ℕ, zero, suc, Bool, true, false, List, [], ◌∷◌, ◌++◌, length, take, Option, Some, None, refl, ap, ◌∙◌, arith, get_or, if◌then◌else◌}
+-- How many queries run, where a query begins or comes into another phase.
+use Rattle.std.proofs.Common.{◌≡◌, ◌<◌, ◌+◌, ℕ, zero, suc, Bool, true, false, List, [], ◌∷◌, ◌++◌, Option, Some, None, refl, ap, ◌∙◌, arith, get_or, if◌then◌else◌}
 use Rattle.std.proofs.lemmas.List.Quantifiers.{position-Some}
 use Rattle.std.proofs.lemmas.Option.{slice_get-get_or}
 use Rattle.std.specs.Prelude.{slice_get, slice_set, position, ◌==◌}
@@ -21,21 +21,6 @@ one p = counts (is_running p)
 pub run-begun : (qs : List Query) (q : Query) → is_running q.phase ≡ false → how_many_run (qs ++ q ∷ []) ≡ how_many_run qs
 run-begun [] q e = let none : one q.phase ≡ 0 = ap counts e in omega (arith, none)
 run-begun (x ∷ qs) q e = ap (λ n. one x.phase + n) (run-begun qs q e)
-
-cut-at : (qs : List Query) (n : ℕ) (q : Query) → length qs ≡ suc n → slice_get qs n ≡ Some q → is_running q.phase ≡ false → how_many_run (take n qs) ≡ how_many_run qs
-cut-at [] n q many there e = absurd (cc)
-cut-at (x ∷ []) zero q many there e =
-    let same : x ≡ q = cc in
-    let none : one x.phase ≡ 0 = ap (λ (y : Query). one y.phase) same ∙ ap counts e in
-    omega (arith, none)
-cut-at (x ∷ []) (suc n) q many there e = absurd (cc)
-cut-at (x ∷ y ∷ qs) zero q many there e = absurd (omega (arith, many))
-cut-at (x ∷ y ∷ qs) (suc n) q many there e = ap (λ m. one x.phase + m) (cut-at (y ∷ qs) n q (omega (arith, many)) there e)
-
--- the last query is taken back
-pub run-cut : (qs : List Query) (q : Query) → slice_get qs (length qs - 1) ≡ Some q → is_running q.phase ≡ false → how_many_run (take (length qs - 1) qs) ≡ how_many_run qs
-run-cut [] q there e = absurd (cc)
-run-cut (x ∷ qs) q there e = cut-at (x ∷ qs) (length (x ∷ qs) - 1) q (omega (arith)) there e
 
 run-set : (qs : List Query) (k : ℕ) (q r : Query) → slice_get qs k ≡ Some q → how_many_run (slice_set qs k r) + one q.phase ≡ how_many_run qs + one r.phase
 run-set [] k q r there = absurd (cc)

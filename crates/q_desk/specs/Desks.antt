@@ -1,5 +1,5 @@
 -- What each call of a desk answers and does, or why it refuses.
-use Rattle.std.specs.Prelude.{ℕ, ◌+◌, ◌-◌, ◌==◌, ◌&&◌, Bool, true, false, bytes_eq, nat_lt, List, [], ◌∷◌, ◌++◌, length, take, position, slice_get, slice_set, Option, Some, None, option_map, Result, Ok, Err, if◌then◌else◌}
+use Rattle.std.specs.Prelude.{ℕ, ◌+◌, ◌==◌, ◌&&◌, Bool, true, false, bytes_eq, nat_lt, List, [], ◌∷◌, ◌++◌, length, position, slice_get, slice_set, Option, Some, None, option_map, Result, Ok, Err, if◌then◌else◌}
 use Rattle.std.specs.Cmp.Lexicographic.{pointwise}
 use Rattle.std.specs.FinMap as fin
 use Rattle.sc_view.specs.declared.view.Stored.{Stored}
@@ -7,9 +7,13 @@ use Rattle.sc_view.specs.Views.{ViewMap}
 use Rattle.bq_check.specs.Certificate.{Certificate}
 use Rattle.q_table.specs.declared.fault.TableFault.{TableFault}
 use Rattle.q_table.specs.Programs as table
+use Rattle.sc_node.specs.declared.answer.Begun.{Begun}
 use Rattle.sc_node.specs.declared.answer.Completion.{Completion}
 use Rattle.sc_node.specs.declared.answer.Completion.TheVariants as completion
 use Rattle.sc_node.specs.declared.answer.Ended.{Ended}
+use Rattle.sc_node.specs.declared.fault.NodeFault.{NodeFault}
+use Rattle.sc_node.specs.Nodes as node
+use Rattle.sc_node.specs.State.{NodeState}
 use Rattle.q_desk.specs.declared.completed.Completed.{Completed}
 use Rattle.q_desk.specs.declared.completed.Completed.TheVariants as completed
 use Rattle.q_desk.specs.declared.journal.Entry.{Entry}
@@ -22,6 +26,8 @@ use Rattle.q_session.specs.declared.query.Phase.TheVariants.{Collecting, Ready, 
 use Rattle.q_session.specs.declared.query.Query.{Query}
 use Rattle.q_session.specs.declared.job.Job.{Job}
 use Rattle.q_session.specs.Jobs.{job_over}
+use Rattle.q_desk.specs.declared.fault.CallFault.{CallFault}
+use Rattle.q_desk.specs.declared.fault.CallFault.TheVariants as call
 use Rattle.q_desk.specs.declared.fault.DeskFault.{DeskFault}
 use Rattle.q_desk.specs.declared.fault.DeskFault.TheVariants as fault
 
@@ -49,18 +55,10 @@ with_entry s e = record s { journal = s.journal ++ e ∷ [] }
 abbrev pub noted : DeskState → Entry → Result (Unit {0} × DeskState) DeskFault
 noted s e = room s (Ok (tt, with_entry s e))
 
--- the last entry is taken back
-abbrev pub forgotten : DeskState → DeskState
-forgotten s = record s { journal = take (length s.journal - 1) s.journal }
-
--- the last accepted call ended this
-abbrev pub with_ended : DeskState → Option Completed → DeskState
-with_ended s e = record s { ended = e }
-
 -- ---- programs
 
 abbrev pub registered_by : DeskState → Certificate → Result (ℕ × List Certificate) TableFault → Result (ℕ × DeskState) DeskFault
-registered_by s program (Ok r) = room s (Ok (r.0, with_entry (record s { programs = r.1; ended = None }) (entry.Register program)))
+registered_by s program (Ok r) = room s (Ok (r.0, with_entry (record s { programs = r.1 }) (entry.Register program)))
 registered_by s program (Err e) = Err (of_table e)
 
 abbrev pub registered : DeskState → Certificate → Result (ℕ × DeskState) DeskFault
@@ -108,17 +106,6 @@ asked s tag program start =
     else Err fault.BookFull)
     else Err fault.UnknownProgram
 
-abbrev pub withdrawn_at : DeskState → Option Query → DeskState
-withdrawn_at s None = s
-withdrawn_at s (Some q) =
-    if is_collecting q.phase
-    then forgotten (record s { queries = take (length s.queries - 1) s.queries })
-    else s
-
--- the query that began last is taken back, while it collects, and its entry
-abbrev pub withdrawn : DeskState → DeskState
-withdrawn s = withdrawn_at s (slice_get s.queries (length s.queries - 1))
-
 -- the query waits for the collect with this tag
 abbrev pub waits : ℕ → Query → Bool
 waits tag q = q.tag == tag && is_collecting q.phase
@@ -138,9 +125,9 @@ returns tag completion.Stored s = (None, s)
 returns tag (completion.Returned view) s = returned s tag view
 
 -- the view of a collect that ended goes to the query that waits for it
-abbrev pub gives : Option Ended → DeskState → Option ℕ × DeskState
-gives None s = (None, s)
-gives (Some e) s = returns e.tag e.what s
+abbrev pub ends : Option Ended → DeskState → Option ℕ × DeskState
+ends None s = (None, s)
+ends (Some e) s = returns e.tag e.what s
 
 abbrev pub completes : ℕ → Completion → Option ℕ → Option Completed
 completes tag completion.Stored query = Some (completed.Stored tag)
@@ -151,9 +138,22 @@ abbrev pub completed_by : Option Ended → Option ℕ → Option Completed
 completed_by None query = None
 completed_by (Some e) query = completes e.tag e.what query
 
--- an accepted call ended this: the view goes to its query, and the desk keeps what ended
-abbrev pub ends : Option Ended → DeskState → Option ℕ × DeskState
-ends e s = ((gives e s).0, with_ended (gives e s).1 (completed_by e (gives e s).0))
+-- ---- calls of the desk's node
+
+-- the desk does its part and the node its own, or neither does anything; the desk is asked first
+abbrev pub with_node : {A B C : Type 0} → (A → B → C) → Result (A × DeskState) DeskFault → Result (B × NodeState) NodeFault → Result (C × (DeskState × NodeState)) CallFault
+with_node f (Ok d) (Ok n) = Ok (f d.0 n.0, (d.1, n.1))
+with_node f (Ok d) (Err e) = Err (call.Node e)
+with_node f (Err e) n = Err (call.Desk e)
+
+-- a call of the node that is noted: the journal has room, the node accepts the call, and its entry stands behind the
+-- others
+abbrev pub noting : {A : Type 0} → DeskState → Entry → Result (A × NodeState) NodeFault → Result (A × (DeskState × NodeState)) CallFault
+noting s e r = with_node (λ u answer. answer) (noted s e) r
+
+-- the node begins to collect, and a query begins that waits for that collect, by its tag
+abbrev pub asking : DeskState → NodeState → ℕ → ℕ → Result ((ℕ × Begun) × (DeskState × NodeState)) CallFault
+asking s n program start = with_node (λ query begun. (query, begun)) (asked s n.operations program start) (node.collect_begun n)
 
 -- ---- jobs
 
@@ -191,7 +191,7 @@ running_job s node k = job_at running_view s node k (slice_get s.queries k)
 
 abbrev pub hands : DeskState → Option Job → Result (Option Job × DeskState) DeskFault
 hands s None = Ok (None, s)
-hands s (Some j) = room s (Ok (Some j, with_entry (record s { queries = with_phase s.queries j.query (Running j.view); ended = None }) entry.HandOut))
+hands s (Some j) = room s (Ok (Some j, with_entry (record s { queries = with_phase s.queries j.query (Running j.view) }) entry.HandOut))
 
 -- it is handed out; where there is none, nothing changes
 abbrev pub handed_out : DeskState → ℕ → Result (Option Job × DeskState) DeskFault
@@ -219,7 +219,7 @@ abbrev pub posted_to : DeskState → Job → Ran → Query → Phase → Result 
 posted_to s j ran q (Answered view old) = Err fault.AlreadyAnswered
 posted_to s j ran q (Running view) =
     if is_job_of s.programs j q view
-    then room s (Ok (tt, with_entry (record s { queries = with_phase s.queries j.query (Answered view ran); ended = None }) (entry.Post j.query ran)))
+    then room s (Ok (tt, with_entry (record s { queries = with_phase s.queries j.query (Answered view ran) }) (entry.Post j.query ran)))
     else Err fault.Stranger
 posted_to s j ran q p = Err fault.Stranger
 

@@ -3,16 +3,17 @@
 ghost use Rattle.std.specs.Prelude.{◌≡◌, ℕ, Ok, Some, IfOk, IfSome, slice_get, position, option_map, IsTrue};
 ghost use Rattle.sc_view.specs.Values.{value_length};
 ghost use Rattle.sc_view.specs.Views.{ViewMap, HasValuesOf};
+ghost use Rattle.sc_node.specs.Nodes.{left, store_begun, delivered};
 ghost use Rattle.sc_lengths.specs.Lengths.{EndedHasValuesOf};
 ghost use Rattle.forms.specs.Calls.{Steps, Does};
 ghost use Rattle.q_session.specs.declared.query.Query.{Query as QueryValue};
 ghost use Rattle.q_desk.specs.State.{DeskState, new_desk};
 ghost use Rattle.q_desk.specs.Desks as desk;
-ghost use Rattle.q_desk.specs.declared.journal.Entry.{Entry as EntryValue};
+ghost use Rattle.q_desk.specs.Faults.{memory};
 ghost use Rattle.q_desk.specs.Answers.{IsDesk, AnswersAreRight, ProgramsAreKnown, ViewsFit};
 
 use crate::completed::Completed;
-use crate::fault::DeskFault;
+use crate::fault::{CallFault, DeskFault};
 use crate::journal::Entry;
 use crate::same::is_job_of;
 use q_session::done::Done;
@@ -22,7 +23,11 @@ use q_session::query::{Phase, Query};
 use q_session::ran::Ran;
 use q_table::program::{Program, ProgramId};
 use q_table::programs::Programs;
-use sc_node::answer::{Completion, Ended};
+use sc_msg::message::Message;
+use sc_node::answer::{Begun, Completion, Delivered, Ended};
+use sc_node::node::Node;
+use sc_node::outs::Outs;
+use sc_view::value::Value;
 use sc_view::view::View;
 use std::alloc::{AllocError, Global};
 use std::marker::Model;
@@ -34,8 +39,8 @@ pub const MOST_QUERIES: usize = 4096;
 /// The most events of a journal: its entries, the head aside.
 pub const MOST_EVENTS: usize = 65_536;
 
-/// The programs and queries of one node, its journal, and what its last accepted call ended. The journal has each call
-/// that was accepted and changed something, in turn. Contracts see a desk as the record of these.
+/// The programs and queries of one node, and its journal: each call that was accepted and changed something, in turn.
+/// Contracts see a desk as the record of these.
 #[derive(Drop)]
 pub struct Desk {
     programs: Programs,
@@ -43,25 +48,23 @@ pub struct Desk {
     journal: Vec<Entry>,
     /// How many queries run. The journal has room for the answer of each, so that no post wants memory.
     running: usize,
-    ended: Option<Completed>,
 }
 
 impl Model for Desk {
     ghost use Rattle.std.specs.Coded.{codes};
     ghost use Rattle.std.specs.Vec.{vec_len, vec_capacity};
     ghost use Rattle.sc_view.specs.Views.{view_code};
-    ghost use Rattle.q_desk.specs.contracts.completed.Completed as completed;
     ghost use Rattle.q_desk.specs.contracts.journal.Entry as entry;
     ghost use Rattle.q_desk.specs.State.{DeskState};
     ghost use Rattle.q_desk.specs.Answers.{IsDesk, KeepsRoom};
 
     ghost Value = { DeskState };
 
-    ghost coded = { Prim.hlevel (codes, view_code, completed.the_row.coded, entry.the_row.coded) };
+    ghost coded = { Prim.hlevel (codes, view_code, entry.the_row.coded) };
 
-    ghost view = { λ d. record { programs = d.programs; queries = d.queries.items; journal = d.journal.items; ended = d.ended } };
+    ghost view = { λ d. record { programs = d.programs; queries = d.queries.items; journal = d.journal.items } };
 
-    ghost invariant = { λ d. IsDesk (record { programs = d.programs; queries = d.queries.items; journal = d.journal.items; ended = d.ended }) × KeepsRoom d.queries.items (vec_len d.journal) d.running (vec_capacity d.journal) };
+    ghost invariant = { λ d. IsDesk (record { programs = d.programs; queries = d.queries.items; journal = d.journal.items }) × KeepsRoom d.queries.items (vec_len d.journal) d.running (vec_capacity d.journal) };
 }
 
 impl Desk {
@@ -74,7 +77,6 @@ impl Desk {
             queries: Vec::new(alloc),
             journal: Vec::new(alloc),
             running: 0,
-            ended: None,
         }
     }
 
@@ -97,27 +99,6 @@ impl Desk {
         }
     }
 
-    /// Puts an entry into the journal, and changes nothing else. Refused with 53, 99.
-    pub fn note(&mut self, entry: Entry) -> Result<(), DeskFault>
-        ensures { Steps DeskFault.OutOfMemory (desk.noted self.old entry) self.old self.new result }
-    {
-        if !self.has_room() {
-            return Err(DeskFault::BookFull);
-        }
-        self.journal.reserve(self.running + 1)?;
-        self.journal.push_reserved(entry);
-        Ok(())
-    }
-
-    /// Takes the last entry back: undoes a `note`. Takes no memory.
-    pub fn forget(&mut self)
-        ensures new { self.new ≡ desk.forgotten self.old }
-        ensures undone { (before : DeskState) (e : EntryValue) → desk.noted before e ≡ Ok (tt, self.old) → self.new ≡ before }
-    {
-        let last = self.journal.len().saturating_sub(1);
-        self.journal.truncate(last);
-    }
-
     /// Registers a program; a text that is there keeps its id. Refused with 52, 53, 99.
     pub fn register(&mut self, program: &Program) -> Result<ProgramId, DeskFault>
         ensures { Steps DeskFault.OutOfMemory (desk.registered self.old program.now) self.old self.new result }
@@ -132,7 +113,6 @@ impl Desk {
         let id = self.programs.take(keyed)?;
         let _count = self.programs.len();
         self.journal.push_reserved(Entry::Register(registered));
-        self.ended = None;
         Ok(id)
     }
 
@@ -150,46 +130,78 @@ impl Desk {
         self.programs.get(id)
     }
 
-    /// A query begins, whose collect has this tag; its number is answered. Refused with 51, 53, 99.
-    pub fn ask(&mut self, tag: u64, program: ProgramId, start: u64) -> Result<usize, DeskFault>
-        ensures { Steps DeskFault.OutOfMemory (desk.asked self.old tag program start) self.old self.new result }
+    /// The node leaves for good. Refused with 53, then as the node refuses it, with 99.
+    pub fn leave(&mut self, node: &mut Node) -> Result<Outs, CallFault>
+        ensures { Steps memory (desk.noting self.old Entry.Leave (left node.old)) (self.old, node.old) (self.new, node.new) result }
+    {
+        if !self.has_room() {
+            return Err(CallFault::Desk(DeskFault::BookFull));
+        }
+        self.journal.reserve(self.running + 1)?;
+        let outs = node.leave()?;
+        self.journal.push_reserved(Entry::Leave);
+        Ok(outs)
+    }
+
+    /// The node begins to store a value. Refused with 53, then as the node refuses it, with 99.
+    pub fn store(&mut self, node: &mut Node, value: &Value) -> Result<Begun, CallFault>
+        ensures { Steps memory (desk.noting self.old (Entry.Store value.now) (store_begun node.old value.now)) (self.old, node.old) (self.new, node.new) result }
+    {
+        if !self.has_room() {
+            return Err(CallFault::Desk(DeskFault::BookFull));
+        }
+        self.journal.reserve(self.running + 1)?;
+        let begun = node.begin_store(value)?;
+        self.journal.push_reserved(Entry::Store(*value));
+        Ok(begun)
+    }
+
+    /// The node takes a message. What it ended is for [`Desk::end`]. Refused with 53, then as the node refuses it,
+    /// with 99.
+    pub fn deliver(&mut self, node: &mut Node, message: &Message) -> Result<Delivered, CallFault>
+        ensures { Steps memory (desk.noting self.old (Entry.Deliver message.now) (delivered node.old message.now)) (self.old, node.old) (self.new, node.new) result }
+    {
+        if !self.has_room() {
+            return Err(CallFault::Desk(DeskFault::BookFull));
+        }
+        self.journal.reserve(self.running + 1)?;
+        let entry = Entry::Deliver(message.clone()?);
+        let delivered = node.deliver(message)?;
+        self.journal.push_reserved(entry);
+        Ok(delivered)
+    }
+
+    /// The node begins to collect, and a query begins that waits for that collect. Its number is answered, and the
+    /// collect. Refused with 51, 53, then as the node refuses it, with 99.
+    pub fn ask(
+        &mut self,
+        node: &mut Node,
+        program: ProgramId,
+        start: u64,
+    ) -> Result<(usize, Begun), CallFault>
+        ensures { Steps memory (desk.asking self.old node.old program start) (self.old, node.old) (self.new, node.new) result }
     {
         if self.programs.len() <= program.number() as usize {
-            return Err(DeskFault::UnknownProgram);
+            return Err(CallFault::Desk(DeskFault::UnknownProgram));
         }
         let number = self.queries.len();
         if MOST_QUERIES <= number {
-            return Err(DeskFault::BookFull);
+            return Err(CallFault::Desk(DeskFault::BookFull));
         }
         if !self.has_room() {
-            return Err(DeskFault::BookFull);
+            return Err(CallFault::Desk(DeskFault::BookFull));
         }
         self.queries.reserve(1)?;
         self.journal.reserve(self.running + 1)?;
+        let begun = node.begin_collect()?;
         self.queries.push_reserved(Query {
-            tag,
+            tag: begun.tag,
             program,
             start,
             phase: Phase::Collecting,
         });
         self.journal.push_reserved(Entry::Ask { program, start });
-        Ok(number)
-    }
-
-    /// Takes back the query that began last, while it collects, and its entry: undoes an `ask`. Takes no memory.
-    pub fn withdraw(&mut self)
-        ensures new { self.new ≡ desk.withdrawn self.old }
-        ensures undone { (before : DeskState) (tag program start k : ℕ) → desk.asked before tag program start ≡ Ok (k, self.old) → self.new ≡ before }
-    {
-        let last = self.queries.len().saturating_sub(1);
-        let Some(query) = self.queries.get(last) else {
-            return;
-        };
-        if !is_collecting(&query.phase) {
-            return;
-        }
-        self.queries.truncate(last);
-        self.journal.truncate(self.journal.len().saturating_sub(1));
+        Ok((number, begun))
     }
 
     /// The collect with this tag returned a view, with values of the length that journals hold: the query that waits for
@@ -203,24 +215,12 @@ impl Desk {
         Some(number)
     }
 
-    /// The node accepted a call at which this operation ended, or none: the view of a collect, with values of the length
-    /// that journals hold, goes to the query that waits for it. What ended is answered, and kept until the next accepted
-    /// call. Takes no memory.
+    /// The node told of this operation that ended, or of none: the view of a collect, with values of the length that
+    /// journals hold, goes to the query that waits for it. What ended is answered. Takes no memory.
     pub fn end(&mut self, ended: Option<Ended>) -> Option<Completed>
         requires { IfSome ended (EndedHasValuesOf value_length) }
         ensures told { result ≡ desk.completed_by ended (desk.ends ended self.old).0 }
         ensures new { self.new ≡ (desk.ends ended self.old).1 }
-    {
-        let completed = self.give(ended);
-        self.ended = completed;
-        completed
-    }
-
-    // The view of a collect that ended goes to the query that waits for it. What ended is answered.
-    fn give(&mut self, ended: Option<Ended>) -> Option<Completed>
-        requires { IfSome ended (EndedHasValuesOf value_length) }
-        ensures told { result ≡ desk.completed_by ended (desk.gives ended self.old).0 }
-        ensures new { self.new ≡ (desk.gives ended self.old).1 }
     {
         let Ended { tag, what } = ended?;
         match what {
@@ -246,7 +246,6 @@ impl Desk {
         self.journal.reserve(self.running + 2)?;
         run(&mut self.queries, job.query());
         self.running += 1;
-        self.ended = None;
         self.journal.push_reserved(Entry::HandOut);
         Ok(Some(job))
     }
@@ -298,7 +297,6 @@ impl Desk {
         let ran = done.ran();
         record_answer(&mut self.queries, number, ran);
         self.running -= 1;
-        self.ended = None;
         self.journal
             .push_reserved(Entry::Post { query: number, ran });
         Ok(())
@@ -323,14 +321,6 @@ impl Desk {
         ensures right { AnswersAreRight self.now }
     {
         self.queries.as_slice()
-    }
-
-    /// What the last accepted call ended, as `end` was told of it; none after a program, a hand-out or a post. `note` and
-    /// `ask`, which can be taken back, leave it as it was, and so do refused calls and a hand-out that finds nothing.
-    pub fn ended(&self) -> Option<Completed>
-        ensures { result ≡ self.now.ended }
-    {
-        self.ended
     }
 
     /// The journal: each call that was accepted and changed something, in turn.

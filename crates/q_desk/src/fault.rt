@@ -1,10 +1,11 @@
 //! Why a desk refuses a call, and the reason that is told of each.
 
 ghost use Rattle.std.specs.Prelude.{◌≡◌};
-ghost use Rattle.q_desk.specs.Faults.{of_table, reason};
+ghost use Rattle.q_desk.specs.Faults.{of_table, memory, reason};
 
 use q_table::fault::TableFault;
 use reasons::{Reason, passed_on, told};
+use sc_node::fault::NodeFault;
 use std::alloc::AllocError;
 
 /// Why a desk refuses a call. After a refusal the desk is as it was. Where several hold, the first of 51, 52, 56, 55
@@ -51,5 +52,33 @@ impl From<AllocError> for DeskFault {
 
     fn from(_: AllocError) -> DeskFault {
         DeskFault::OutOfMemory
+    }
+}
+
+/// Why a call of the node that the desk notes is refused. After a refusal both are as they were. Where both refuse, the
+/// desk's fault is answered.
+#[derive(Clone, Copy, Debug, PartialEq, Eq)]
+pub enum CallFault {
+    /// The desk's own refusal, never 99.
+    Desk(DeskFault),
+    /// The node's own refusal, and 99 of both.
+    Node(NodeFault),
+}
+
+impl From<NodeFault> for CallFault {
+    ghost use Rattle.q_desk.specs.declared.fault.CallFault.TheVariants.{Node};
+
+    ghost from_gives = { λ refusal e. e ≡ Node refusal };
+
+    fn from(refusal: NodeFault) -> CallFault {
+        CallFault::Node(refusal)
+    }
+}
+
+impl From<AllocError> for CallFault {
+    ghost from_gives = { λ _ e. e ≡ memory };
+
+    fn from(_: AllocError) -> CallFault {
+        CallFault::Node(NodeFault::OutOfMemory)
     }
 }

@@ -5,7 +5,9 @@
 //! the query's program, folded over the view that its collect returned.
 //!
 //! Each call that is accepted and changes something puts one entry into the desk's journal, which also holds what its
-//! node did beside it: stores, deliveries and its leave. No call drops or changes an earlier entry.
+//! node did: stores, deliveries, collects and its leave. Such a call of the node is made by the desk, which is given the
+//! node: the journal has room for the entry before the node acts, so both do their part, or neither. No call drops or
+//! changes an earlier entry.
 //!
 //! Each call is exact: `specs/Desks` says what it answers and which state it leaves, or with which fault it refuses.
 //! After a refusal the desk is as it was.

@@ -1,8 +1,12 @@
 //! Worked values of what the calls of a desk do.
 
-ghost use Rattle.std.specs.Prelude.{◌≡◌, [], ◌∷◌, length, true, Some, None, Ok, Err};
+ghost use Rattle.std.specs.Prelude.{◌≡◌, ℕ, List, [], ◌∷◌, length, true, Option, Some, None, Ok, Err};
 ghost use Rattle.bq_check.specs.Certificate.{Certificate};
+ghost use Rattle.sc_msg.specs.declared.message.Message.{Message};
+ghost use Rattle.sc_node.specs.State.{NodeState};
+ghost use Rattle.sc_node.specs.declared.answer.Begun.{Begun};
 ghost use Rattle.sc_node.specs.declared.answer.Completion.TheVariants as completion;
+ghost use Rattle.sc_node.specs.declared.fault.NodeFault.TheVariants as node_fault;
 ghost use Rattle.sc_view.specs.Views.{ViewMap};
 ghost use Rattle.q_session.specs.Jobs.{job_over};
 ghost use Rattle.q_session.specs.declared.query.Phase.TheVariants.{Collecting, Ready, Running, Answered};
@@ -11,6 +15,7 @@ ghost use Rattle.q_desk.specs.Desks as desk;
 ghost use Rattle.q_desk.specs.Sample.{query};
 ghost use Rattle.q_desk.specs.State.{DeskState, new_desk};
 ghost use Rattle.q_desk.specs.declared.completed.Completed.TheVariants as completed;
+ghost use Rattle.q_desk.specs.declared.fault.CallFault.TheVariants as call;
 ghost use Rattle.q_desk.specs.declared.fault.DeskFault.TheVariants as fault;
 ghost use Rattle.q_desk.specs.declared.journal.Entry.TheVariants as entry;
 
@@ -20,21 +25,25 @@ pub fn worked()
     ensures noted { (s : DeskState) → desk.noted (record s { journal = entry.Leave ∷ [] }) entry.HandOut ≡ Ok (tt, record s { journal = entry.Leave ∷ entry.HandOut ∷ [] }) }
     ensures room { (s : DeskState) → length s.journal ≡ 65535 → desk.has_room s ≡ true }
     ensures no_room { (s : DeskState) → length s.journal ≡ 65536 → desk.noted s entry.Leave ≡ Err fault.BookFull }
-    ensures forgotten { (s : DeskState) → desk.forgotten (record s { journal = entry.Leave ∷ entry.HandOut ∷ [] }) ≡ record s { journal = entry.Leave ∷ [] } }
+
+    // A call of the node is noted where the journal has room and the node accepts it. The desk is asked first.
+    ensures noting { (s : DeskState) (n : NodeState) (outs : List Message) → desk.noting (record s { journal = [] }) entry.Leave (Ok (outs, n)) ≡ Ok (outs, (record s { journal = entry.Leave ∷ [] }, n)) }
+    ensures not_noted { (s : DeskState) → desk.noting {A = Begun} (record s { journal = [] }) entry.Leave (Err node_fault.Gone) ≡ Err (call.Node node_fault.Gone) }
+    ensures full_first { (s : DeskState) → length s.journal ≡ 65536 → desk.noting {A = Begun} s entry.Leave (Err node_fault.Gone) ≡ Err (call.Desk fault.BookFull) }
 
     // Programs.
-    ensures registered { (c : Certificate) → desk.registered new_desk c ≡ Ok (0, record { programs = c ∷ []; queries = []; journal = entry.Register c ∷ []; ended = None }) }
+    ensures registered { (c : Certificate) → desk.registered new_desk c ≡ Ok (0, record { programs = c ∷ []; queries = []; journal = entry.Register c ∷ [] }) }
     ensures unknown { (c : Certificate) → desk.asked (record new_desk { programs = c ∷ [] }) 9 1 7 ≡ Err fault.UnknownProgram }
 
-    // Queries begin, are taken back, and wait for their collects.
-    ensures asked { (c : Certificate) → desk.asked (record new_desk { programs = c ∷ [] }) 9 0 7 ≡ Ok (0, record { programs = c ∷ []; queries = query 9 Collecting ∷ []; journal = entry.Ask 0 7 ∷ []; ended = None }) }
+    // Queries begin, and wait for their collects.
+    ensures asked { (c : Certificate) → desk.asked (record new_desk { programs = c ∷ [] }) 9 0 7 ≡ Ok (0, record { programs = c ∷ []; queries = query 9 Collecting ∷ []; journal = entry.Ask 0 7 ∷ [] }) }
     ensures too_many { (s : DeskState) → desk.knows s 0 ≡ true → length s.queries ≡ 4096 → desk.asked s 9 0 7 ≡ Err fault.BookFull }
-    ensures withdrawn { (s : DeskState) → desk.withdrawn (record s { queries = query 8 Collecting ∷ query 9 Collecting ∷ []; journal = entry.Leave ∷ entry.Ask 0 7 ∷ [] }) ≡ record s { queries = query 8 Collecting ∷ []; journal = entry.Leave ∷ [] } }
     ensures returned { (s : DeskState) (v : ViewMap) → desk.returned (record s { queries = query 8 Collecting ∷ query 9 Collecting ∷ [] }) 9 v ≡ (Some 1, record s { queries = query 8 Collecting ∷ query 9 (Ready v) ∷ [] }) }
-    ensures ended { (s : DeskState) → desk.ends (Some (record { tag = 5; what = completion.Stored })) s ≡ (None, record s { ended = Some (completed.Stored 5) }) }
+    ensures stored { (s : DeskState) → desk.ends (Some (record { tag = 5; what = completion.Stored })) s ≡ (None, s) }
+    ensures completed { (query : Option ℕ) → desk.completed_by (Some (record { tag = 5; what = completion.Stored })) query ≡ Some (completed.Stored 5) }
 
     // Jobs: the ready query with the least number is handed out, and runs.
-    ensures handed_out { (c : Certificate) (v : ViewMap) → desk.handed_out (record new_desk { programs = c ∷ []; queries = query 8 (Running v) ∷ query 9 (Ready v) ∷ [] }) 3 ≡ Ok (Some (job_over 3 1 (query 9 (Ready v)) c v), record { programs = c ∷ []; queries = query 8 (Running v) ∷ query 9 (Running v) ∷ []; journal = entry.HandOut ∷ []; ended = None }) }
+    ensures handed_out { (c : Certificate) (v : ViewMap) → desk.handed_out (record new_desk { programs = c ∷ []; queries = query 8 (Running v) ∷ query 9 (Ready v) ∷ [] }) 3 ≡ Ok (Some (job_over 3 1 (query 9 (Ready v)) c v), record { programs = c ∷ []; queries = query 8 (Running v) ∷ query 9 (Running v) ∷ []; journal = entry.HandOut ∷ [] }) }
     ensures running { (c : Certificate) (v : ViewMap) → desk.running_job (record new_desk { programs = c ∷ []; queries = query 8 (Ready v) ∷ query 9 (Running v) ∷ [] }) 3 1 ≡ Some (record { node = 3; query = 1; program = 0; start = 7; certified = c; view = v }) }
     ensures not_running { (c : Certificate) (v : ViewMap) → desk.running_job (record new_desk { programs = c ∷ []; queries = query 8 (Ready v) ∷ query 9 (Running v) ∷ [] }) 3 0 ≡ None }
 

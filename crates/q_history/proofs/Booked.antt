@@ -47,9 +47,8 @@ use Rattle.q_history.proofs.Accepted.{at_live}
 use Rattle.q_book.proofs.Parts.{left-parts, stored-parts, asked-parts, delivered-parts, desk-parts, stored-fits, delivered-fits}
 use Rattle.q_book.proofs.Values.{value_fits, replay_values}
 use Rattle.q_history.proofs.Called.{at-ok, call-ok, led}
-use Rattle.q_history.proofs.Moves.{registered_moves, asked_moves, ends_stays}
-use Rattle.q_history.proofs.Jobs.{IsHanded, handed_out-ok, posted-ok}
-use Rattle.q_history.proofs.Replays.{IsOn, replay_next}
+use Rattle.q_desk.proofs.Moves.{IsHanded, handed_out-ok}
+use Rattle.q_book.proofs.Replays.{replay_next}
 
 -- each value that these messages tell has the length that journals hold
 abbrev pub Fit : List Message → Type 0
@@ -84,9 +83,9 @@ module _ (c : ClusterState) (books : AreBooks c) where
 
   -- a call that puts an entry into the journal
   put_next : (p : Past) (jobs : List Job) (id : ℕ) (n : NodeState) (d : DeskState) (b : BookState) (e : Entry) → Fit p.sent → world.live_at c.world id ≡ Some n → fin.get c.desks id ≡ Some d
-      → Follows (book_of c id n d) e b → IsOn (book_of c id n d) e b → AreBooks (With p jobs id b)
-  put_next p jobs id n d b e fit live at f on =
-      put_book p jobs id b fit (replay_next (book_of c id n d) b e (books.replays id n d (at_live c.world id n live) at) f on)
+      → Follows (book_of c id n d) e b → AreBooks (With p jobs id b)
+  put_next p jobs id n d b e fit live at f =
+      put_book p jobs id b fit (replay_next (book_of c id n d) b e (books.replays id n d (at_live c.world id n live) at) f)
 
   -- the values of a live node
   values_of : (id : ℕ) (n : NodeState) (d : DeskState) → world.live_at c.world id ≡ Some n → fin.get c.desks id ≡ Some d → NodeHasValuesOf value_length n
@@ -124,8 +123,7 @@ module _ (c : ClusterState) (books : AreBooks c) where
       let kept = leave_kept value_length k.node a.0.1 a.0.0 (values_of id k.node k.desk k.live k.at) a.1 in
       let fit = subst (λ (z : List Message × BookState). Fit z.0) a.2 kept.1 in
       subst AreBooks k.is
-      (put_next (recorded (past_of c.world) (world_event.Leave id) id k.answer.0 None None) c.jobs id k.node k.desk k.answer.1 entry.Leave (sends k.answer.0 fit) k.live k.at (k.answer.0, k.called)
-      (subst (λ (z : List Message × BookState). IsOn b entry.Leave z.1) a.2 (record { same = refl; goes = refl })))
+      (put_next (recorded (past_of c.world) (world_event.Leave id) id k.answer.0 None None) c.jobs id k.node k.desk k.answer.1 entry.Leave (sends k.answer.0 fit) k.live k.at (k.answer.0, k.called))
 
   -- ---- operations and messages
 
@@ -137,8 +135,7 @@ module _ (c : ClusterState) (books : AreBooks c) where
       let kept = store_kept value_length k.node a.0.1 value a.0.0 (values_of id k.node k.desk k.live k.at) (value_fits value (stored-fits b value k.answer k.called)) a.1 in
       let fit = subst (λ (z : Begun × BookState). Fit z.0.outs) a.2 kept.1.outs in
       subst AreBooks k.is
-      (put_next (recorded (past_of c.world) (world_event.Store id value) id k.answer.0.outs None (opened k.answer.0)) c.jobs id k.node k.desk k.answer.1 (entry.Store value) (sends k.answer.0.outs fit) k.live k.at (k.answer.0, k.called)
-      (subst (λ (z : Begun × BookState). IsOn b (entry.Store value) z.1) a.2 (record { same = refl; goes = refl })))
+      (put_next (recorded (past_of c.world) (world_event.Store id value) id k.answer.0.outs None (opened k.answer.0)) c.jobs id k.node k.desk k.answer.1 (entry.Store value) (sends k.answer.0.outs fit) k.live k.at (k.answer.0, k.called))
 
   pub ask_books : (id program start : ℕ) (y : Stepped × ClusterState) → at_node c id (asked c id program start) ≡ Ok y → AreBooks y.1
   ask_books id program start y h =
@@ -149,8 +146,7 @@ module _ (c : ClusterState) (books : AreBooks c) where
       let kept = collect_kept value_length k.node a.2.1 a.2.0 (values_of id k.node k.desk k.live k.at) a.3 in
       let fit = subst (λ (z : Asked × BookState). Fit z.0.begun.outs) a.4 kept.1.outs in
       subst AreBooks k.is
-      (put_next (recorded (past_of c.world) (world_event.Collect id) id begun.outs None (opened begun)) c.jobs id k.node k.desk k.answer.1 (entry.Ask program start) (sends begun.outs fit) k.live k.at (k.answer.0, k.called)
-      (subst (λ (z : Asked × BookState). IsOn b (entry.Ask program start) z.1) a.4 (record { same = refl; goes = (asked_moves k.desk k.node.operations program start a.0 a.1).1 })))
+      (put_next (recorded (past_of c.world) (world_event.Collect id) id begun.outs None (opened begun)) c.jobs id k.node k.desk k.answer.1 (entry.Ask program start) (sends begun.outs fit) k.live k.at (k.answer.0, k.called))
 
   deliver_by : (number id : ℕ) (o : Option Message) (y : Stepped × ClusterState) → at_node c id (λ b. delivered_as c number id b o) ≡ Ok y → AreBooks y.1
   deliver_by number id None y h = let a = at-ok c id (λ b. delivered_as c number id b None) y h in absurd (no_refusal _ y a.gives)
@@ -162,8 +158,7 @@ module _ (c : ClusterState) (books : AreBooks c) where
       let kept = delivery_kept value_length k.node a.0.1 m a.0.0 (values_of id k.node k.desk k.live k.at) (message_told value_length m (delivered-fits b m k.answer k.called)) a.1 in
       let fit = subst (λ (z : Taken × BookState). Fit z.0.outs) a.2 kept.1.outs in
       subst AreBooks k.is
-      (put_next (recorded (past_of c.world) (world_event.Deliver number id) id t.outs t.progress None) c.jobs id k.node k.desk k.answer.1 (entry.Deliver m) (sends t.outs fit) k.live k.at (t, k.called)
-      (subst (λ (z : Taken × BookState). IsOn b (entry.Deliver m) z.1) a.2 (record { same = refl; goes = ends_stays (desk.with_entry k.desk (entry.Deliver m)) a.0.0.ended })))
+      (put_next (recorded (past_of c.world) (world_event.Deliver number id) id t.outs t.progress None) c.jobs id k.node k.desk k.answer.1 (entry.Deliver m) (sends t.outs fit) k.live k.at (t, k.called))
 
   pub deliver_books : (number id : ℕ) (y : Stepped × ClusterState) → at_node c id (delivered c number id) ≡ Ok y → AreBooks y.1
   deliver_books number id y h = deliver_by number id (slice_get c.world.sent number) y h
@@ -173,11 +168,8 @@ module _ (c : ClusterState) (books : AreBooks c) where
   pub register_books : (id : ℕ) (program : Certificate) (y : Stepped × ClusterState) → at_node c id (registered c id program) ≡ Ok y → AreBooks y.1
   register_books id program y h =
       let k = call-ok c id (registers c id) (λ b. book.registered b program) y h in
-      let b = book_of c id k.node k.desk in
-      let a = desk-parts b (desk.registered k.desk program) k.answer k.called in
       subst AreBooks k.is
-      (put_next (past_of c.world) c.jobs id k.node k.desk k.answer.1 (entry.Register program) books.messages k.live k.at (k.answer.0, k.called)
-      (subst (λ (z : ℕ × BookState). IsOn b (entry.Register program) z.1) a.2 (record { same = refl; goes = (registered_moves k.desk program a.0 a.1).1 })))
+      (put_next (past_of c.world) c.jobs id k.node k.desk k.answer.1 (entry.Register program) books.messages k.live k.at (k.answer.0, k.called))
 
   -- where no query is ready, nothing changes
   hand_out_by : (id : ℕ) (n : NodeState) (d : DeskState) (o : Option Job) (e : DeskState) → world.live_at c.world id ≡ Some n → fin.get c.desks id ≡ Some d
@@ -185,7 +177,7 @@ module _ (c : ClusterState) (books : AreBooks c) where
   hand_out_by id n d None e live at is same =
       put_book (past_of c.world) c.jobs id (book_of c id n e) books.messages (subst (λ (x : DeskState). IsReplay (book_of c id n x)) same (books.replays id n d (at_live c.world id n live) at))
   hand_out_by id n d (Some j) e live at is h =
-      put_next (past_of c.world) (c.jobs ++ j ∷ []) id n d (book_of c id n e) entry.HandOut books.messages live at (j, is) (record { same = refl; goes = h.2 })
+      put_next (past_of c.world) (c.jobs ++ j ∷ []) id n d (book_of c id n e) entry.HandOut books.messages live at (j, is)
 
   pub hand_out_books : (id : ℕ) (y : Stepped × ClusterState) → at_node c id (handed_out c id) ≡ Ok y → AreBooks y.1
   hand_out_books id y h =
@@ -200,8 +192,5 @@ module _ (c : ClusterState) (books : AreBooks c) where
   finish_books ran None y right h = absurd (no_refusal _ y h)
   finish_books ran (Some j) y right h =
       let k = call-ok c j.node (posts c j ran) (λ b. book.posted b j ran) y h in
-      let b = book_of c j.node k.node k.desk in
-      let a = desk-parts b (desk.posted k.desk j.node j ran) k.answer k.called in
       subst AreBooks k.is
-      (put_next (past_of c.world) c.jobs j.node k.node k.desk k.answer.1 (entry.Post j.query ran) books.messages k.live k.at (j, refl, right, k.called)
-      (subst (λ (z : Unit {0} × BookState). IsOn b (entry.Post j.query ran) z.1) a.2 (record { same = refl; goes = (posted-ok k.desk j ran a.0 j.node a.1).goes })))
+      (put_next (past_of c.world) c.jobs j.node k.node k.desk k.answer.1 (entry.Post j.query ran) books.messages k.live k.at (j, refl, right, k.called))

@@ -20,7 +20,6 @@ use Rattle.q_session.specs.declared.query.Query.{Query}
 use Rattle.q_desk.specs.State.{DeskState}
 use Rattle.q_desk.specs.Answers.{IsAnswered}
 use Rattle.q_desk.specs.Desks as desk
-use Rattle.q_desk.specs.declared.completed.Completed.{Completed}
 use Rattle.q_desk.specs.declared.journal.Entry.{Entry}
 use Rattle.q_desk.specs.declared.journal.Entry.TheVariants as entry
 use Rattle.q_book.specs.Books as book
@@ -28,7 +27,8 @@ use Rattle.q_history.specs.declared.event.Stepped.{Stepped}
 use Rattle.q_history.specs.State.{ClusterState}
 use Rattle.q_history.specs.Heads.{book_of}
 use Rattle.q_history.specs.Clusters.{at as at_node, delivers, delivered_as, delivered}
-use Rattle.q_history.proofs.Moves.{Keeps, Nothing, IsReadied, noted_moves, returned_moves}
+use Rattle.q_desk.proofs.Accepted.{Keeps}
+use Rattle.q_desk.proofs.Moves.{Nothing, IsReadied, noted_moves, returned_moves}
 use Rattle.q_history.proofs.Ops.{IsOnward}
 use Rattle.q_history.proofs.Kept.{IsTied, IsDeskOf, IsKept, IsStep, desk_moved, put_desk}
 use Rattle.q_history.proofs.Accepted.{at_live, acts-ok, delivery_onward}
@@ -44,20 +44,8 @@ module _ (w w' : WorldState) (place id : ℕ) (d : DeskState) (made : Entry) (on
 
   noted_later : IsLaterDesk (desk.with_entry d made)
   noted_later = record {
-    is = desk_moved w w' onward id d (desk.with_entry d made) Nothing (noted_moves d made d.ended) k (λ q none. absurd none) (λ q none view ran is. absurd none);
-    keeps = (noted_moves d made d.ended).keeps;
-  }
-
-  -- whatever ended
-  ended_on : (e : DeskState) (x : Option Completed) → IsLaterDesk e → IsLaterDesk (desk.with_ended e x)
-  ended_on e x later = record {
-    is = record {
-      node = later.is.node;
-      at = later.is.at;
-      tied = later.is.tied;
-      right = λ i q view ran at is. let a = later.is.right i q view ran at is in record { program = a.program; named = a.named; right = a.right };
-    };
-    keeps = record { programs = later.keeps.programs; answers = later.keeps.answers };
+    is = desk_moved w w' onward id d (desk.with_entry d made) Nothing (noted_moves d made) k (λ q none. absurd none) (λ q none view ran is. absurd none);
+    keeps = (noted_moves d made).keeps;
   }
 
   -- the query that waited for this collect has its view
@@ -85,10 +73,8 @@ module _ (w w' : WorldState) (place id : ℕ) (d : DeskState) (made : Entry) (on
   ended_later tag (completion.Returned view) returns = returned_later tag view (returns view refl)
 
   delivered_later : (x : Option Ended) → ((y : Ended) (view : ViewMap) → x ≡ Some y → y.what ≡ completion.Returned view → HasReturned w' place id y.tag view) → IsLaterDesk (desk.ends x (desk.with_entry d made)).1
-  delivered_later None returns = ended_on (desk.with_entry d made) None noted_later
-  delivered_later (Some y) returns =
-      let r = desk.returns y.tag y.what (desk.with_entry d made) in
-      ended_on r.1 (desk.completes y.tag y.what r.0) (ended_later y.tag y.what (λ view is. returns y view refl is))
+  delivered_later None returns = noted_later
+  delivered_later (Some y) returns = ended_later y.tag y.what (λ view is. returns y view refl is)
 
 module _ (c : ClusterState) (kept : IsKept c) where
   deliver_by : (number id : ℕ) (o : Option Message) (y : Stepped × ClusterState) → slice_get c.world.sent number ≡ o → at_node c id (λ b. delivered_as c number id b o) ≡ Ok y → IsStep c y.1

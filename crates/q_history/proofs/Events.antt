@@ -29,7 +29,8 @@ use Rattle.q_history.specs.State.{ClusterState}
 use Rattle.q_history.specs.Heads.{book_of}
 use Rattle.q_history.specs.Clusters.{at as at_node, registers, registered, asks, asked, stores, stored, entered, leaves, left, crashed}
 use Rattle.q_history.proofs.Lists.{same_some, no_some}
-use Rattle.q_history.proofs.Moves.{Keeps, Moves, Nothing, noted_moves, ended_moves, registered_moves, asked_moves}
+use Rattle.q_desk.proofs.Accepted.{Keeps}
+use Rattle.q_desk.proofs.Moves.{Moves, Nothing, noted_moves, registered_moves, asked_moves}
 use Rattle.q_history.proofs.Ops.{IsOnward, onward_itself, insert_same}
 use Rattle.q_history.proofs.Accepted.{at_live, acts-ok, still_onward, collect_began}
 use Rattle.q_history.proofs.Kept.{IsTied, IsKept, IsStep, stays_itself, desk_on, desk_moved, put_desk}
@@ -63,9 +64,9 @@ module _ (c : ClusterState) (kept : IsKept c) where
   -- no operation moves, and each query is as it was
   noted_step : (e : WorldEvent) (id : ℕ) (r : world.Outcome) (d : DeskState) (made : Entry) → world.stepped c.world e ≡ Ok (world.told c.world r, world.after c.world e id r)
       → r.progress ≡ None → fin.get c.desks id ≡ Some d
-      → IsStep c (record { world = world.after c.world e id r; desks = fin.insert c.desks id (desk.with_ended (desk.with_entry d made) None); jobs = c.jobs })
+      → IsStep c (record { world = world.after c.world e id r; desks = fin.insert c.desks id (desk.with_entry d made); jobs = c.jobs })
   noted_step e id r d made h still at =
-      quiet (world.after c.world e id r) id d (desk.with_ended (desk.with_entry d made) None) (lawful_next e id r h) (still_onward c.world e id r still) at (noted_moves d made None)
+      quiet (world.after c.world e id r) id d (desk.with_entry d made) (lawful_next e id r h) (still_onward c.world e id r still) at (noted_moves d made)
 
   pub enter_step : (id : ℕ) (o : Option NodeState) (y : Stepped × ClusterState) → fin.get c.world.nodes id ≡ o → entered c id o ≡ Ok y → IsStep c y.1
   enter_step id (Some n) y is h = absurd (no_refusal _ y h)
@@ -135,8 +136,8 @@ module _ (c : ClusterState) (kept : IsKept c) where
       let w' : WorldState = world.after c.world e id r in
       let o = collect_began c.world e id k.node a.2 a.3 in
       let tag : ℕ = k.node.operations in
-      let d : DeskState = desk.with_ended a.0.1 None in
-      let m = ended_moves k.desk a.0.1 (λ q. desk.begun tag program start ≡ q) None (asked_moves k.desk tag program start a.0 a.1).0 in
+      let d : DeskState = a.0.1 in
+      let m = (asked_moves k.desk tag program start a.0 a.1).0 in
       let onward : IsOnward c.world w' = still_onward c.world e id r refl in
       subst (IsStep c) (led (asks c id) y.1 a.4 k.is)
       (put_desk c kept w' id d (lawful_next e id r (acts-ok c.world e id world.collects k.node r k.live (ap (world.by_node world.of_begun) a.3))) onward

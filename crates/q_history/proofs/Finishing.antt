@@ -1,5 +1,6 @@
 -- A job that is handed out, and one that is finished, keep what is true of every cluster.
-use Rattle.std.proofs.Common.{◌≡◌, ℕ, true, [], ◌∷◌, ◌++◌, Option, Some, None, IfSome, sym, ap, ◌∙◌, subst, inl, inr, slice_get, Ok}
+use Rattle.std.proofs.Common.{◌≡◌, ℕ, ◌==◌, true, [], ◌∷◌, ◌++◌, Option, Some, None, IfSome, sym, ap, ◌∙◌, subst, inl, inr, slice_get, Ok}
+use Rattle.std.proofs.lemmas.Bool.{eqb-true}
 use Rattle.std.specs.FinMap as fin
 use Rattle.sc_view.specs.Views.{ViewMap}
 use Rattle.sc_world.specs.declared.op.Op.{Op}
@@ -7,6 +8,8 @@ use Rattle.sc_world.specs.State.{WorldState}
 use Rattle.sc_world.specs.Regular.{returned}
 use Rattle.sc_world.proofs.Finite.{get-insert_same}
 use Rattle.sc_world.proofs.Inverts.{no_refusal}
+use Rattle.sc_world.proofs.Steps.{and_left, and_right}
+use Rattle.q_session.specs.Right.{IsRight}
 use Rattle.q_session.specs.declared.ran.Ran.{Ran}
 use Rattle.q_session.specs.declared.query.Phase.{Phase}
 use Rattle.q_session.specs.declared.query.Phase.TheVariants.{Running, Answered}
@@ -22,13 +25,30 @@ use Rattle.q_history.specs.Heads.{book_of}
 use Rattle.q_history.specs.Clusters.{at as at_node, with_job, hands, handed_out, posts, finished}
 use Rattle.q_history.specs.Calls.{Answers}
 use Rattle.q_history.proofs.Lists.{same_some, get_snoc}
-use Rattle.q_history.proofs.Moves.{Keeps, keeps_itself, Moves, Nothing, IsRephased}
-use Rattle.q_history.proofs.Jobs.{IsReadyJob, IsHanded, IsPosted, handed_out-ok, posted-ok, right_of_job}
+use Rattle.q_desk.proofs.Accepted.{Keeps, keeps_itself, IsReadyJob}
+use Rattle.q_desk.proofs.Moves.{Moves, Nothing, IsRephased, IsHanded, IsPosted, handed_out-ok, posted-ok}
+use Rattle.q_desk.proofs.Views.{same-view}
 use Rattle.q_history.proofs.Ops.{onward_itself}
 use Rattle.q_history.proofs.Kept.{HasView, IsTied, IsDeskOf, IsKnown, IsKept, IsStep, known_on, desk_moved, put_stays, put, put_desk}
 use Rattle.q_book.proofs.Parts.{desk-parts}
 use Rattle.q_history.proofs.Called.{call-ok, led}
 use Rattle.q_history.proofs.Events.{keeps_here, quiet, put_same}
+
+-- the right answer of a job whose program the desk has is right of the query that it is a job of
+pub right_of_job : (d : DeskState) (j : Job) (q : Query) (view : ViewMap) (ran : Ran) → desk.is_job_of d.programs j q view ≡ true → slice_get d.programs j.program ≡ Some j.certified
+    → IsRight j.certified j.view j.start ran → IsAnswered d q view ran
+right_of_job d j q view ran fits named right =
+    let rest = and_right (j.program == q.program) _ fits in
+    let more = and_right (j.start == q.start) _ rest in
+    let same = same-view j.view view (and_left (desk.is_same_view j.view view) _ more) in
+    let start = eqb-true j.start q.start (and_left (j.start == q.start) _ rest) in
+    record {
+      program = j.certified;
+      named = ap (slice_get d.programs) (sym (eqb-true j.program q.program (and_left (j.program == q.program) _ fits))) ∙ named;
+      right =
+          subst (λ (x : ViewMap). IsRight j.certified x q.start ran) same
+          (subst (λ (x : ℕ). IsRight j.certified j.view x ran) start right);
+    }
 
 -- a query of the desk that had this view, and still has it
 rephased_tied : (w : WorldState) (id : ℕ) (d : DeskState) (k : ℕ) (p : Phase) (view : ViewMap) → IsDeskOf w id d → ((o : Op) → returned o ≡ Some view → HasView o p)

@@ -20,7 +20,8 @@ use Rattle.q_desk.specs.Answers.{IsAnswered, AnswersAreRight}
 use Rattle.q_history.specs.State.{ClusterState}
 use Rattle.q_history.specs.Clusters.{Desks}
 use Rattle.q_history.proofs.Lists.{same_some}
-use Rattle.q_history.proofs.Moves.{Keeps, keeps_itself, keeps_on, Moves}
+use Rattle.q_desk.proofs.Accepted.{Keeps, keeps_itself, keeps_on}
+use Rattle.q_desk.proofs.Moves.{Moves}
 use Rattle.q_history.proofs.Ops.{IsOnward}
 
 -- the view of a query is what its collect returned

@@ -1,7 +1,5 @@
 -- Every history's answers are true, and stay, and its books are replays.
 pub mod Lists
-pub mod Moves
-pub mod Jobs
 pub mod Ops
 pub mod Accepted
 pub mod Kept
@@ -11,6 +9,5 @@ pub mod Delivering
 pub mod Finishing
 pub mod EveryHistory
 pub mod Histories
-pub mod Replays
 pub mod Booked
 pub mod EveryBook

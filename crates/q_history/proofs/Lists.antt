@@ -1,5 +1,5 @@
--- Reads of lists that were appended to or written, and answers that were accepted.
-use Rattle.std.proofs.Common.{◌≡◌, ℕ, zero, suc, List, [], ◌∷◌, ◌++◌, Some, ◌⊎◌, inl, inr, slice_get, slice_set}
+-- Reads of lists that were appended to, and answers that were accepted.
+use Rattle.std.proofs.Common.{◌≡◌, ℕ, zero, suc, List, [], ◌∷◌, ◌++◌, Some, ◌⊎◌, inl, inr, slice_get}
 pub use Rattle.q_desk.proofs.Accepted.{same_some, no_some, passed, get_elsewhere, found}
 
 pub get_snoc : {X : Type 0} (xs : List X) (y : X) (k : ℕ) (x : X) → slice_get (xs ++ y ∷ []) k ≡ Some x → (slice_get xs k ≡ Some x) ⊎ (y ≡ x)
@@ -7,10 +7,3 @@ get_snoc [] y zero x h = inr (same_some y x h)
 get_snoc [] y (suc k) x h = absurd (cc)
 get_snoc (z ∷ xs) y zero x h = inl h
 get_snoc (z ∷ xs) y (suc k) x h = get_snoc xs y k x h
-
-pub get_written : {X : Type 0} (xs : List X) (i : ℕ) (y : X) (k : ℕ) (x : X) → slice_get (slice_set xs i y) k ≡ Some x → (slice_get xs k ≡ Some x) ⊎ (y ≡ x)
-get_written [] i y k x h = absurd (cc)
-get_written (z ∷ xs) zero y zero x h = inr (same_some y x h)
-get_written (z ∷ xs) zero y (suc k) x h = inl h
-get_written (z ∷ xs) (suc i) y zero x h = inl h
-get_written (z ∷ xs) (suc i) y (suc k) x h = get_written xs i y k x h

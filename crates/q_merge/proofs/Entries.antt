@@ -47,7 +47,7 @@ use Rattle.q_history.specs.Heads.{book_of}
 use Rattle.q_history.specs.Clusters.{at as at_node, enters, entered, registers, opened, asks, stores, delivers, delivered_as, hands, posts, posted, finished, leaves}
 use Rattle.q_history.specs.Calls.{Answers, IsHistory}
 use Rattle.q_history.proofs.Lists.{same_some, no_some}
-use Rattle.q_history.proofs.Moves.{Keeps, keeps_itself}
+use Rattle.q_desk.proofs.Accepted.{Keeps, keeps_itself}
 use Rattle.q_book.proofs.Parts.{desk-parts}
 use Rattle.q_history.proofs.EveryBook.{history_are}
 use Rattle.q_cluster.specs.Acts.{booked, book_at}
@@ -152,7 +152,7 @@ Posted = Result (Unit {0} × DeskState) DeskFault
 -- what is posted for a query that runs
 abbrev answers : DeskState → ViewMap → Ran → ℕ → Bool → Posted
 answers d view ran k fits =
-    cond fits (desk.room d (Ok (tt, desk.with_entry (record d { queries = desk.with_phase d.queries k (Answered view ran); ended = None }) (entry.Post k ran)))) (Err desk_fault.Stranger)
+    cond fits (desk.room d (Ok (tt, desk.with_entry (record d { queries = desk.with_phase d.queries k (Answered view ran) }) (entry.Post k ran)))) (Err desk_fault.Stranger)
 
 -- two jobs of one query
 module _ (d : DeskState) (node : ℕ) (i j : Job) (ran : Ran) (q : Query) (view : ViewMap) (same : j.query ≡ i.query) (at : slice_get d.queries i.query ≡ Some q) (phase : q.phase ≡ Running view) where

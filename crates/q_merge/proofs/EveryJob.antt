@@ -30,7 +30,7 @@ use Rattle.q_history.proofs.EveryBook.{all_new}
 use Rattle.q_book.proofs.Parts.{left-parts, stored-parts, asked-parts, delivered-parts, desk-parts}
 use Rattle.q_history.proofs.Called.{at-ok, call-ok, led}
 use Rattle.q_history.proofs.EveryHistory.{step_kept, start_kept}
-use Rattle.q_merge.proofs.Jobs.{JobsAre, put_jobs, quiet_jobs, quiet_on, same_quiet, registered_quiet, asked_quiet, ended_on, ends_quiet, HandsOut, handed_is, handed_jobs, posted_is, posted_quiet}
+use Rattle.q_merge.proofs.Jobs.{JobsAre, put_jobs, quiet_jobs, quiet_on, same_quiet, registered_quiet, asked_quiet, ends_quiet, HandsOut, handed_is, handed_jobs, posted_is, posted_quiet}
 
 -- each node has its desk
 abbrev pub HasDesks : fin.FinMap nat_cmp NodeState → Desks → Type 0
@@ -74,7 +74,7 @@ module _ (c : ClusterState) (are : JobsOf c) where
   leave_jobs id y h =
       let k = call-ok c id (leaves c id) book.left y h in
       let a = left-parts (book_of c id k.node k.desk) k.answer k.called in
-      let d : DeskState = desk.with_ended (desk.with_entry k.desk entry.Leave) None in
+      let d : DeskState = desk.with_entry k.desk entry.Leave in
       subst JobsOf (led (leaves c id) y.1 a.2 k.is)
       (put_of c _ c.jobs id _ _ are (quiet_jobs c.desks c.jobs id k.desk d are.jobs k.at (same_quiet k.desk d refl refl)))
 
@@ -82,7 +82,7 @@ module _ (c : ClusterState) (are : JobsOf c) where
   store_jobs id value y h =
       let k = call-ok c id (stores c id value) (λ b. book.stored b value) y h in
       let a = stored-parts (book_of c id k.node k.desk) value k.answer k.called in
-      let d : DeskState = desk.with_ended (desk.with_entry k.desk (entry.Store value)) None in
+      let d : DeskState = desk.with_entry k.desk (entry.Store value) in
       subst JobsOf (led (stores c id value) y.1 a.2 k.is)
       (put_of c _ c.jobs id _ _ are (quiet_jobs c.desks c.jobs id k.desk d are.jobs k.at (same_quiet k.desk d refl refl)))
 
@@ -96,10 +96,9 @@ module _ (c : ClusterState) (are : JobsOf c) where
   ask_jobs id program start y h =
       let k = call-ok c id (asks c id) (λ b. book.asked b program start) y h in
       let a = asked-parts (book_of c id k.node k.desk) program start k.answer k.called in
-      let d : DeskState = desk.with_ended a.0.1 None in
       subst JobsOf (led (asks c id) y.1 a.4 k.is)
       (put_of c _ c.jobs id _ _ are
-      (quiet_jobs c.desks c.jobs id k.desk d are.jobs k.at (ended_on k.desk a.0.1 None (asked_quiet k.desk k.node.operations program start a.0 a.1))))
+      (quiet_jobs c.desks c.jobs id k.desk a.0.1 are.jobs k.at (asked_quiet k.desk k.node.operations program start a.0 a.1)))
 
   deliver_by : (number id : ℕ) (o : Option Message) (y : Stepped × ClusterState) → at_node c id (λ b. delivered_as c number id b o) ≡ Ok y → JobsOf y.1
   deliver_by number id None y h = let a = at-ok c id (λ b. delivered_as c number id b None) y h in absurd (no_refusal _ y a.gives)

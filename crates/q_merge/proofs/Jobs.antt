@@ -20,12 +20,11 @@ use Rattle.q_session.specs.declared.query.Query.{Query}
 use Rattle.q_session.specs.declared.job.Job.{Job}
 use Rattle.q_desk.specs.State.{DeskState}
 use Rattle.q_desk.specs.Desks as desk
-use Rattle.q_desk.specs.declared.completed.Completed.{Completed}
 use Rattle.q_desk.specs.declared.fault.DeskFault.TheVariants as fault
 use Rattle.q_desk.proofs.Accepted.{IsReadyJob, next_is, posted_is as recorded}
 use Rattle.q_history.specs.Clusters.{Desks}
 use Rattle.q_history.proofs.Lists.{same_some, no_some, passed, get_snoc, get_elsewhere, found}
-use Rattle.q_history.proofs.Moves.{registered_moves}
+use Rattle.q_desk.proofs.Moves.{registered_moves}
 use Rattle.q_merge.specs.Turns.{IsJobFor}
 use Rattle.q_merge.proofs.Lists.{get_written, get_after}
 
@@ -206,16 +205,9 @@ ended_quiet d tag (completion.Returned view) = returned_by d tag view (position 
 pub quiet_on : (d e f : DeskState) → IsQuiet d e → IsQuiet e f → IsQuiet d f
 quiet_on d e f a b = record { stay = λ j o. b.stay j (a.stay j o); run = λ k q v at is. a.run k q v (b.run k q v at is) is }
 
--- whatever ended
-pub ended_on : (d e : DeskState) (x : Option Completed) → IsQuiet d e → IsQuiet d (desk.with_ended e x)
-ended_on d e x k = quiet_on d e (desk.with_ended e x) k (same_quiet e (desk.with_ended e x) refl refl)
-
-gives_quiet : (d : DeskState) (x : Option Ended) → IsQuiet d (desk.gives x d).1
-gives_quiet d None = same_quiet d d refl refl
-gives_quiet d (Some e) = ended_quiet d e.tag e.what
-
 pub ends_quiet : (d : DeskState) (x : Option Ended) → IsQuiet d (desk.ends x d).1
-ends_quiet d x = let g = desk.gives x d in ended_on d g.1 (desk.completed_by x g.0) (gives_quiet d x)
+ends_quiet d None = same_quiet d d refl refl
+ends_quiet d (Some e) = ended_quiet d e.tag e.what
 
 -- ---- a job is handed out
 

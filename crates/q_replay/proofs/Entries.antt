@@ -22,9 +22,10 @@ use Rattle.q_table.specs.Programs.{IsForViews}
 use Rattle.q_replay.specs.Journal.{written_of, IsCertifiedEntry, IsEntry}
 use Rattle.q_replay.specs.Replayed.{IsAnswering, Takes}
 use Rattle.q_replay.proofs.Lists.{same_some}
-use Rattle.q_replay.proofs.Keeps.{Keeps}
+use Rattle.q_desk.proofs.Accepted.{Keeps}
 use Rattle.q_replay.proofs.Posting.{job_by, posted_runs, posted_at_query}
-use Rattle.q_replay.proofs.Following.{follows-next, posted-post, follows-one}
+use Rattle.q_book.proofs.Followed.{follows-next}
+use Rattle.q_replay.proofs.Following.{posted-post, follows-one}
 
 -- laws of crates below
 abbrev pub OneLongest : Type 0
@@ -93,7 +94,7 @@ answering s t b (entry.Post query ran) f later right =
     let known : slice_get t.desk.queries j.query ≡ Some q =
     subst (λ (x : BookState). slice_get x.desk.queries j.query ≡ Some q) p.is (posted_at_query s.desk j ran p.desk p.posted) in
     let a = right j.query q p.posted.view ran (later.answers j.query q p.posted.view ran known refl) refl in
-    let keeps = (follows-next s (entry.Post query ran) t f).goes.keeps in
+    let keeps = (follows-next s (entry.Post query ran) t f).keeps in
     let named : slice_get b.desk.programs p.posted.query.program ≡ Some run.program =
     later.programs p.posted.query.program run.program (keeps.programs p.posted.query.program run.program run.named) in
     let same : a.program ≡ run.program = same_some a.program run.program (sym a.named ∙ named) in

@@ -1,6 +1,5 @@
 -- Why a journal is that of one book, and bytes have one fault.
 mod Lists
-mod Keeps
 mod Posting
 mod Following
 mod Entries

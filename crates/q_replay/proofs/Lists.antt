@@ -1,12 +1,7 @@
 -- Reads of lists that were appended to or written, and answers that were accepted.
-use Rattle.std.proofs.Common.{◌≡◌, ◌≢◌, ◌≤◌, ℕ, zero, suc, length, arith, Bool, true, false, cond, ◌&&◌, List, [], ◌∷◌, ◌++◌, Some, refl, slice_get, slice_set, Result, Ok, Err}
+use Rattle.std.proofs.Common.{◌≡◌, ◌≢◌, ◌≤◌, ℕ, zero, suc, length, arith, Bool, true, false, ◌&&◌, List, [], ◌∷◌, ◌++◌, Some, refl, slice_get, slice_set}
 use Rattle.std.specs.List.{AllByRecursion}
-pub use Rattle.q_desk.proofs.Accepted.{same_some, no_some, same_answer, no_refusal, passed, get_elsewhere, found}
-
--- what comes after a refusal
-pub spared : {A E : Type 0} (b : Bool) (e : E) (r : Result A E) (y : A) → cond b (Err e) r ≡ Ok y → (b ≡ false) × (r ≡ Ok y)
-spared true e r y h = absurd (no_refusal e y h)
-spared false e r y h = (refl, h)
+pub use Rattle.q_desk.proofs.Accepted.{same_some, no_some, same_answer, no_refusal, passed, spared, get_elsewhere, found}
 
 pub and_both : (a b : Bool) → a ≡ true → b ≡ true → (a && b) ≡ true
 and_both true b h k = k

@@ -1,5 +1,5 @@
 -- Jobs of queries that run, and what it takes to record their answers.
-use Rattle.std.proofs.Common.{◌≡◌, ℕ, ◌==◌, Bool, true, cond, List, [], ◌∷◌, ◌++◌, Option, Some, None, refl, sym, ap, ◌∙◌, subst, slice_get, Result, Ok, Err}
+use Rattle.std.proofs.Common.{◌≡◌, ℕ, ◌==◌, Bool, true, cond, List, [], ◌∷◌, Option, Some, None, refl, sym, ap, ◌∙◌, subst, slice_get, Result, Ok, Err}
 use Rattle.std.proofs.lemmas.Bool.{eq-eqb}
 use Rattle.std.proofs.lemmas.Slice.Eq.{bytes_eq-Decides}
 use Rattle.std.specs.Prelude.{bytes_eq}
@@ -18,23 +18,13 @@ use Rattle.q_session.specs.declared.job.Job.{Job}
 use Rattle.q_desk.specs.State.{DeskState}
 use Rattle.q_desk.specs.Desks as desk
 use Rattle.q_desk.specs.Desks.{running_view, job_on, job_at, running_job}
-use Rattle.q_desk.specs.declared.journal.Entry.TheVariants as entry
 use Rattle.q_desk.specs.declared.fault.DeskFault.{DeskFault}
 use Rattle.q_desk.specs.declared.fault.DeskFault.TheVariants as fault
 use Rattle.std.specs.Cmp.{second_so}
 use Rattle.q_desk.proofs.Accepted.{answered, IsPosted}
 use Rattle.q_replay.proofs.Lists.{same_some, no_some, and_both, get_written}
-use Rattle.q_replay.proofs.Keeps.{Goes, phase_keeps, running_has_none}
 
 -- ---- what a post did
-
-pub posted_goes : (d : DeskState) (j : Job) (ran : Ran) (e : DeskState) → IsPosted d j ran e → Goes d (entry.Post j.query ran) e
-posted_goes d j ran e p =
-    subst (Goes d (entry.Post j.query ran)) p.is (record {
-      keeps = phase_keeps d j.query (Answered p.view ran) (d.journal ++ entry.Post j.query ran ∷ []) None
-          (λ q at. running_has_none q.phase p.view (ap (λ (x : Query). x.phase) (same_some q p.query (sym at ∙ p.at)) ∙ p.phase));
-      adds = refl;
-    })
 
 same_running : (v w : ViewMap) → Running v ≡ Running w → v ≡ w
 same_running v w h = cc

@@ -1,4 +1,4 @@
-use Rattle.std.proofs.Common.{List, All, sym, subst, ap, ◌∙◌}
+use Rattle.std.proofs.Common.{List, All, sym, subst}
 use Rattle.q_desk.specs.declared.journal.Entry.{Entry}
 use Rattle.q_book.specs.State.{BookState}
 use Rattle.q_book.specs.Replays.{EntryFits}

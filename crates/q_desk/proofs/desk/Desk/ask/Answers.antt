@@ -1,18 +1,33 @@
-use Rattle.std.proofs.Common.{◌≡◌, ◌++◌, ◌∷◌, [], List, rules, subst, refl, sym, ap, ◌∙◌}
+use Rattle.std.proofs.Common.{◌≡◌, ◌++◌, ◌∷◌, [], List, not, nat_le, Ok, rules, subst, refl, sym, ap, ◌∙◌}
+use Rattle.std.specs.FinMap as fin
+use Rattle.sc_node.specs.Nodes as node
+use Rattle.sc_node.specs.State.{NodeState}
+use Rattle.sc_node.specs.declared.answer.Begun.{Begun}
+use Rattle.sc_node.specs.declared.fault.NodeFault.TheVariants as fault
 use Rattle.q_session.specs.declared.query.Query.{Query}
 use Rattle.q_desk.specs.declared.journal.Entry.TheVariants as entry
 use Rattle.q_desk.specs.Answers.{IsDesk}
 use Rattle.q_desk.specs.Desks.{begun, how_many_run}
+use Rattle.q_desk.proofs.Accepted.{same_answer, spared}
 use Rattle.q_desk.proofs.Keeps.{desk-appended, desk-begun}
 use Rattle.q_desk.proofs.Running.{run-begun}
 use Rattle.q_desk.proofs.desk.Desk.ask.Goals as goal
 
+-- a collect has the tag that was next
+next-tag : (n : NodeState) (a : Begun × NodeState) → node.collect_begun n ≡ Ok a → n.operations ≡ a.0.tag
+next-tag n a h =
+    let there = (spared n.gone fault.Gone _ a h).1 in
+    let joined = (spared (not n.joined) fault.NotJoined _ a there).1 in
+    let free = (spared (nat_le node.most_open (fin.len n.sessions)) fault.SessionsFull _ a joined).1 in
+    let more = (spared (nat_le node.most_operations n.operations) fault.NumbersOut _ a free).1 in
+    ap (λ (x : Begun × NodeState). x.0.tag) (same_answer _ a more)
+
 pub invariant_of-self-2 : goal.invariant_of-self-2
 invariant_of-self-2 c =
     let s = c.self.inside in
-    let q = begun c.args.tag c.args.program c.args.start in
+    let q = begun c.in_ok-begun.begun.tag c.args.program c.args.start in
     let pushed : s.queries.items ++ q ∷ [] ≡ c.push_reserved.new.self.items = search rules in (
-      subst (λ (queries : List Query). IsDesk (record { programs = s.programs; queries = queries; journal = c.push_reserved-2.new.self.items; ended = s.ended })) pushed
+      subst (λ (queries : List Query). IsDesk (record { programs = s.programs; queries = queries; journal = c.push_reserved-2.new.self.items })) pushed
           (desk-appended _ (entry.Ask c.args.program c.args.start) _ (record { room = search rules; is = search rules }) (desk-begun _ q c.self.invariant.0 (search rules) (search rules) refl)),
       record { counted = c.self.invariant.1.counted ∙ sym (run-begun s.queries.items q refl) ∙ ap how_many_run pushed; fits = search rules },
     )

@@ -10,7 +10,7 @@ use Rattle.q_desk.proofs.Jobs.{Moves, desk-handed, jobs-handed, handed}
 use Rattle.q_desk.proofs.desk.Desk.hand_out.Goals as goal
 
 abbrev inside : goal.After-push_reserved → DeskState
-inside c = record { programs = c.self.inside.programs; queries = c.self.inside.queries.items; journal = c.self.inside.journal.items; ended = c.self.inside.ended }
+inside c = record { programs = c.self.inside.programs; queries = c.self.inside.queries.items; journal = c.self.inside.journal.items }
 
 next : (c : goal.After-push_reserved) → Some c.in-Some.job ≡ next_job (inside c) c.args.node
 next c = sym c.in-Some.is ∙ c.in_ok-job.ensures (inside c) refl (sym c.deref.ensures.value)

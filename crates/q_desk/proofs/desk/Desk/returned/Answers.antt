@@ -8,7 +8,7 @@ use Rattle.q_desk.proofs.desk.Desk.returned.Goals as goal
 pub invariant_of-self : goal.invariant_of-self
 invariant_of-self c =
     let s = c.self.inside in (
-      subst (λ (queries : List Query). IsDesk (record { programs = s.programs; queries = queries; journal = s.journal.items; ended = s.ended })) (sym c.set_phase.ensures)
+      subst (λ (queries : List Query). IsDesk (record { programs = s.programs; queries = queries; journal = s.journal.items })) (sym c.set_phase.ensures)
           (desk-ready _ c.in_ok-number.number c.args.view c.self.invariant.0 c.requires),
       record { counted = c.self.invariant.1.counted ∙ sym (run-returned s.queries.items c.set_phase.new.queries.items c.args.tag c.in_ok-number.number c.args.view (search rules) c.set_phase.ensures); fits = c.self.invariant.1.fits },
     )

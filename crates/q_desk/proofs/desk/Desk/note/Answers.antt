@@ -1,7 +1,0 @@
-use Rattle.std.proofs.Common.{rules}
-use Rattle.q_desk.proofs.Keeps.{desk-appended}
-use Rattle.q_desk.proofs.desk.Desk.note.Goals as goal
-
-pub invariant_of-self-2 : goal.invariant_of-self-2
-invariant_of-self-2 c =
-    (desk-appended _ c.args.entry _ (record { room = search rules; is = search rules }) c.self.invariant.0, record { counted = c.self.invariant.1.counted; fits = search rules })
