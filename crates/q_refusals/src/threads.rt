@@ -1,0 +1,98 @@
+//! Runners in threads of their own.
+
+ghost use Rattle.std.specs.Prelude.{◌≡◌, All};
+ghost use Rattle.q_board.specs.BoardId.{board_id};
+
+use crate::again::again;
+use crate::alone::{Founder, begin, end, found};
+use crate::asker::{Asker, seated};
+use crate::pump::pump;
+use q_board::board::Board;
+use q_board::fault::OpenFault;
+use q_board::seats::{AskerSeat, RunnerSeat};
+use q_pool::gate::Open;
+use q_pool::runners::with_runners;
+use std::sync::Wait;
+use std::thread::Threads;
+use std::{io, thread};
+
+/// How many runners there are.
+const RUNNERS: usize = 2;
+
+/// How often the asker pumps at most.
+const PUMPS: u32 = 10_000_000;
+
+/// Pumps until both queries are answered.
+fn pump_all(rt: &HostRuntime, asker: &mut Asker<'_>, founder: &mut Founder) -> io::Result<()> {
+    for _ in 0..PUMPS {
+        pump(rt, asker, founder)?;
+        if founder.is_answered(0) && founder.is_answered(1) {
+            return Ok(());
+        }
+        thread::yield_now();
+    }
+    rt.println("no answers")
+}
+
+/// Asks two queries, and pumps until they are answered.
+fn ask_and_pump(rt: &HostRuntime, asker: &mut Asker<'_>, founder: &mut Founder) -> io::Result<()> {
+    begin(rt, founder)?;
+    pump_all(rt, asker, founder)?;
+    end(rt, founder)
+}
+
+/// Asks two queries of a founder, and pumps until they are answered.
+fn work(rt: &HostRuntime, mut asker: Asker<'_>) -> io::Result<()> {
+    match found(rt) {
+        Some(mut founder) => ask_and_pump(rt, &mut asker, &mut founder),
+        None => rt.println("no book"),
+    }
+}
+
+/// The same while runners run. Refused where they cannot be started, before anything is done.
+fn among_runners<T: Wait + Threads + Sync>(
+    rt: &HostRuntime,
+    threads: &T,
+    board: &Board,
+    askers: Vec<AskerSeat>,
+    runners: Vec<RunnerSeat>,
+) -> Result<io::Result<()>, OpenFault>
+    requires askers { All (λ s. s.table ≡ board_id board.now) askers.items }
+    requires runners { All (λ s. s.table ≡ board_id board.now) runners.items }
+{
+    let Some(asker) = seated(board, askers) else {
+        return Ok(rt.println("no seat"));
+    };
+    let done = with_runners(
+        threads,
+        rt.alloc(),
+        board,
+        runners,
+        &Open,
+        move || -> io::Result<()> { work(rt, asker) },
+    );
+    match done {
+        Ok(done) => Ok(done),
+        Err(_) => Err(OpenFault::OutOfMemory),
+    }
+}
+
+/// The same over a board of its own.
+fn over_board<T: Wait + Threads + Sync>(
+    rt: &HostRuntime,
+    threads: &T,
+) -> Result<io::Result<()>, OpenFault> {
+    match Board::open(rt.alloc(), 1, RUNNERS) {
+        Ok((board, askers, runners)) => among_runners(rt, threads, &board, askers, runners),
+        Err(fault) => Err(fault),
+    }
+}
+
+/// Asks two queries, which runners in threads answer.
+pub fn run_threads<T: Wait + Threads + Sync>(rt: &HostRuntime, threads: &T) -> io::Result<()> {
+    rt.println("-- runners in threads")?;
+    match again!(rt, over_board(rt, threads)) {
+        Ok(done) => done,
+        Err(_) => rt.println("no board"),
+    }
+}
