@@ -40,6 +40,11 @@ pub fn tell(rt: &HostRuntime) {
     let _ = eprintln!(rt; "refused {} {}", want.number(), want.name());
 }
 
+/// Tells on the standard error that a refused call changed something.
+pub fn tell_change(rt: &HostRuntime) {
+    let _ = eprintln!(rt; "changed");
+}
+
 /// Whether memory was refused, which is then told.
 pub fn is_told<F: Fault>(rt: &HostRuntime, fault: &F) -> bool {
     let is_want = fault.is_want();

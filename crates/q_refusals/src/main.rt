@@ -20,7 +20,7 @@
 //! What is compared with what:
 //!
 //! - In `steps`, before and after each refused event: digests of all nodes' journals, of all messages, of the records
-//!   of all operations and of the jobs. Where one differs, `changed` is printed.
+//!   of all operations and of the jobs. Where one differs, `changed` is told on the standard error.
 //! - In `steps` and `scripts` each script runs twice, and the journals of both runs are compared, since at most one of
 //!   them had a request refused: in `steps` by a digest and the number of events, in `scripts` byte for byte.
 //! - In `requests`, before and after a reply of 99: how many events the journal has, and how many messages were given.

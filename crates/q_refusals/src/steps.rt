@@ -1,6 +1,6 @@
 //! Scripts over a cluster, each event of which is issued again where memory is refused.
 
-use crate::again::{again, is_told};
+use crate::again::{again, is_told, tell_change};
 use crate::digest::{Journal, NODES, see};
 use crate::rows::{ROWS, Row};
 use q_cluster::cluster::Cluster;
@@ -78,24 +78,20 @@ fn event(rt: &HostRuntime, line: &ScriptLine) -> Option<Event> {
     }
 }
 
-/// Takes an event, and once more where memory is refused; prints `changed` where the cluster is then not as it was.
-fn step(
-    rt: &HostRuntime,
-    cluster: &mut Cluster,
-    event: &Event,
-) -> io::Result<Result<Stepped, ClusterFault>> {
+/// Takes an event, and once more where memory is refused; tells `changed` where the cluster is then not as it was.
+fn step(rt: &HostRuntime, cluster: &mut Cluster, event: &Event) -> Result<Stepped, ClusterFault> {
     let before = again!(rt, see(rt.alloc(), cluster)).ok();
     let first = cluster.step(event);
     let Err(fault) = first else {
-        return Ok(first);
+        return first;
     };
     if before.is_none() || before != again!(rt, see(rt.alloc(), cluster)).ok() {
-        println!(rt; "changed")?;
+        tell_change(rt);
     }
     if is_told(rt, &fault) {
-        return Ok(cluster.step(event));
+        return cluster.step(event);
     }
-    Ok(first)
+    first
 }
 
 /// The line of what an event tells.
@@ -133,7 +129,7 @@ fn deliver(rt: &HostRuntime, cluster: &mut Cluster, message: usize) -> io::Resul
     for node in 1..4 {
         if cluster.is_live(node) {
             let event = Event::Deliver { message, node };
-            if let Err(fault) = step(rt, cluster, &event)? {
+            if let Err(fault) = step(rt, cluster, &event) {
                 rt.println(Refusal::Cluster(fault))?;
             }
         }
@@ -173,7 +169,7 @@ fn take(rt: &HostRuntime, course: &mut Course, line: &ScriptLine) -> io::Result<
         ScriptLine::Journal { node, .. } => print_events(rt, &course.cluster, *node),
         _ => match event(rt, line) {
             Some(event) => {
-                let answer = step(rt, &mut course.cluster, &event)?;
+                let answer = step(rt, &mut course.cluster, &event);
                 print_answer(rt, answer)
             }
             None => rt.println("no event"),
