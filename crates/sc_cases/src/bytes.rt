@@ -56,7 +56,7 @@ fn tell_body(rt: &impl Print, body: &Body) -> io::Result<()> {
 }
 
 /// Whether the message is written as these bytes.
-fn is_written(alloc: Global, message: &Message, bytes: &[u8]) -> bool {
+pub(crate) fn is_written(alloc: Global, message: &Message, bytes: &[u8]) -> bool {
     match encode(alloc, message) {
         Ok(written) => written.as_slice() == bytes,
         Err(_) => false,
@@ -82,13 +82,22 @@ fn refuse(rt: &impl Print, fault: MessageFault) -> io::Result<()> {
     println!(rt; " refused {}", fault.reason())
 }
 
+/// The bytes of these hexadecimal digits.
+pub(crate) fn bytes_of(alloc: Global, digits: &str) -> Option<Vec<u8>> {
+    hex::decode(alloc, digits).ok()
+}
+
+fn tell_bytes(rt: &impl Print, alloc: Global, bytes: &[u8]) -> io::Result<()> {
+    match decode(alloc, bytes) {
+        Ok(message) => tell_message(rt, alloc, &message, bytes),
+        Err(fault) => refuse(rt, fault),
+    }
+}
+
 /// What the message of these hexadecimal digits says, or why they are none.
 pub(crate) fn tell(rt: &impl Print, alloc: Global, digits: &str) -> io::Result<()> {
-    let Ok(bytes) = hex::decode(alloc, digits) else {
-        return println!(rt; " no digits");
-    };
-    match decode(alloc, bytes.as_slice()) {
-        Ok(message) => tell_message(rt, alloc, &message, bytes.as_slice()),
-        Err(fault) => refuse(rt, fault),
+    match bytes_of(alloc, digits) {
+        Some(bytes) => tell_bytes(rt, alloc, bytes.as_slice()),
+        None => println!(rt; " no digits"),
     }
 }

@@ -12,6 +12,9 @@
 //!   there.
 //! - `counts`: how many events and messages there are.
 //! - `message HEX`: what the message says, and whether it is written as it was read; or the refusal.
+//! - `beginnings HEX`: for each proper beginning of the bytes, from none on, the number by which it is refused, or 0.
+//! - `changed COUNT HEX`: the bytes with one of them changed, so often, by a fixed generator: how many were tried, and
+//!   how many of them were neither refused nor written as they were read.
 //! - `threshold N/D COUNT`, `fraction N/D`: the threshold; whether a cluster may have this fraction.
 //! - `sets ID .. / ID ..`: the union in rising order, the size of the first set, the least common id, and the sizes of
 //!   union and difference.
@@ -28,6 +31,7 @@
 #![tactic(auto)]
 
 mod bytes;
+mod changed;
 mod members;
 mod values;
 mod views;
@@ -43,6 +47,8 @@ fn answer(rt: &impl Print, alloc: Global, worlds: &mut Worlds, words: &[&str]) -
     match Case::read(words) {
         Some(Case::World(line)) => worlds.answer(rt, line),
         Some(Case::Message(digits)) => bytes::tell(rt, alloc, digits),
+        Some(Case::Beginnings(digits)) => changed::tell_beginnings(rt, alloc, digits),
+        Some(Case::Changed(count, digits)) => changed::tell_changed(rt, alloc, count, digits),
         Some(Case::Members(line)) => members::tell(rt, alloc, &line),
         Some(Case::View(first, second)) => views::tell(rt, alloc, first, second),
         Some(Case::Share(ids, value)) => views::tell_shared(rt, alloc, ids, value),

@@ -1,6 +1,6 @@
 //! Lines about views.
 
-use crate::words::number;
+use crate::words::{byte_of, number};
 use sc_view::value::{VALUE_LENGTH, Value};
 use sc_view::view::{Stored, View, ViewFault};
 use std::alloc::Global;
@@ -18,7 +18,7 @@ fn value_of(words: &[&str]) -> Option<(u64, Stored)> {
 
 fn stored_of(count: &str, byte: &str) -> Option<Stored> {
     let number = number(count)?;
-    let byte = byte.parse::<u8>().ok()?;
+    let byte = byte_of(byte)?;
     Stored::new(number, Value::from(&[byte; VALUE_LENGTH]))
 }
 

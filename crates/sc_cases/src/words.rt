@@ -44,6 +44,8 @@ pub(crate) enum MembersLine<'a> {
 pub(crate) enum Case<'a> {
     World(WorldLine),
     Message(&'a str),
+    Beginnings(&'a str),
+    Changed(u64, &'a str),
     Members(MembersLine<'a>),
     View(&'a [&'a str], &'a [&'a str]),
     Share(&'a [&'a str], &'a [&'a str]),
@@ -55,7 +57,12 @@ pub(crate) fn number(word: &str) -> Option<u64> {
 }
 
 fn place(word: &str) -> Option<usize> {
-    word.parse::<usize>().ok()
+    usize::try_from(number(word)?).ok()
+}
+
+/// A byte in decimal.
+pub(crate) fn byte_of(word: &str) -> Option<u8> {
+    u8::try_from(number(word)?).ok()
 }
 
 fn fraction_of(word: &str) -> Option<Fraction> {
@@ -90,7 +97,7 @@ fn event_of(verb: &str, node: u64) -> Option<Event> {
 
 fn store(node: &str, byte: &str) -> Option<Event> {
     let node = number(node)?;
-    let byte = byte.parse::<u8>().ok()?;
+    let byte = byte_of(byte)?;
     Some(Event::Store {
         node,
         value: Value::from(&[byte; VALUE_LENGTH]),
@@ -179,14 +186,22 @@ fn members_line<'a>(words: &'a [&'a str]) -> Option<MembersLine<'a>> {
     }
 }
 
+/// A line about bytes.
+fn bytes_case<'a>(words: &'a [&'a str]) -> Option<Case<'a>> {
+    match words {
+        ["message", digits] => Some(Case::Message(digits)),
+        ["beginnings", digits] => Some(Case::Beginnings(digits)),
+        ["changed", count, digits] => Some(Case::Changed(number(count)?, digits)),
+        ["value", count] => Some(Case::Value(place(count)?)),
+        _ => None,
+    }
+}
+
 impl Case<'_> {
     /// What a line asks for, by its words.
     pub(crate) fn read<'a>(words: &'a [&'a str]) -> Option<Case<'a>> {
-        if let ["message", digits] = words {
-            return Some(Case::Message(digits));
-        }
-        if let ["value", count] = words {
-            return Some(Case::Value(place(count)?));
+        if let Some(case) = bytes_case(words) {
+            return Some(case);
         }
         if let ["share", values @ ..] = words {
             let (first, second) = halves(values);
