@@ -5,7 +5,7 @@ ghost use Rattle.q_board.specs.BoardId.{board_id};
 ghost use Rattle.q_board.specs.Calls.{SameAsker, SameRunner};
 
 use crate::jobs::Times;
-use anyhow::{Result, anyhow};
+use anyhow::{Result, anyhow, bail};
 use bq_frame::block::Block;
 use q_board::board::Board;
 use q_board::seats::{AskerSeat, ROW, RunnerSeat};
@@ -14,7 +14,7 @@ use q_pool::runners::with_runners;
 use q_session::done::Done;
 use q_session::job::Job;
 use q_session::run::run_fold;
-use std::alloc::Global;
+use std::alloc::{AllocError, Global};
 use std::sync::Wait;
 use std::thread;
 use std::thread::Threads;
@@ -22,15 +22,32 @@ use std::time::{Clock, Instant};
 
 /// Hands jobs over, one behind the other.
 pub fn hand<R: Wait + Clock + Alloc<A = Global>>(rt: &R, jobs: Vec<Job>) -> Result<Times> {
+    let mut block = Block::new(rt.alloc())?;
     let (board, mut askers, mut runners) = Board::open(rt.alloc(), 1, 1).map_err(|_| anyhow!(
         "no board"
     ))?;
-    let asker = askers.pop().ok_or(anyhow!("no asker"))?;
-    let runner = runners.pop().ok_or(anyhow!("no runner"))?;
-    let mut block = Block::new(rt.alloc())?;
-    let start = Instant::now(rt)?;
-    let done = hand_all(&board, asker, runner, &mut block, jobs);
-    Ok(Times::of(done, start.elapsed(rt)?))
+    match (askers.pop(), runners.pop()) {
+        (Some(asker), Some(runner)) => time_handing(rt, &board, asker, runner, &mut block, jobs),
+        _ => bail!("no seats"),
+    }
+}
+
+/// How long it takes to hand each job over.
+fn time_handing<R: Wait + Clock>(
+    rt: &R,
+    board: &Board,
+    asker: AskerSeat,
+    runner: RunnerSeat,
+    block: &mut Block,
+    jobs: Vec<Job>,
+) -> Result<Times>
+    requires asker { asker.table ≡ board_id board.now }
+    requires runner { runner.table ≡ board_id board.now }
+    requires lanes { 8 * asker.number + 8 ≤ runner.lanes }
+{
+    let start = Instant::now(rt);
+    let done = hand_all(board, asker, runner, block, jobs);
+    Ok(Times::of(done, start?.elapsed(rt)?))
 }
 
 /// Hands each job over; how many results came back.
@@ -83,13 +100,24 @@ fn hand_one(
 /// Runs each job where it is; how many there were.
 pub fn run_alone<R: Clock + Alloc<A = Global>>(rt: &R, jobs: Vec<Job>) -> Result<Times> {
     let mut block = Block::new(rt.alloc())?;
-    let start = Instant::now(rt)?;
+    time_alone(rt, &mut block, jobs)
+}
+
+/// How long it takes to run each job where it is.
+fn time_alone<R: Clock>(rt: &R, block: &mut Block, jobs: Vec<Job>) -> Result<Times> {
+    let start = Instant::now(rt);
+    let done = run_each(block, jobs);
+    Ok(Times::of(done, start?.elapsed(rt)?))
+}
+
+/// Runs each job; how many there were.
+fn run_each(block: &mut Block, jobs: Vec<Job>) -> usize {
     let mut done: usize = 0;
     for job in jobs {
-        let _done = Done::run(job, &mut block);
+        let _done = Done::run(job, block);
         done = done.saturating_add(1);
     }
-    Ok(Times::of(done, start.elapsed(rt)?))
+    done
 }
 
 /// Runs jobs by so many runners.
@@ -97,14 +125,31 @@ pub fn run<R>(rt: &R, jobs: Vec<Job>, runners: usize) -> Result<Times>
 where
     R: Wait + Threads + Clock + Alloc<A = Global> + Sync,
 {
-    let alloc = rt.alloc();
-    let (board, mut askers, seats) = Board::open(alloc, 1, runners).map_err(|_| anyhow!(
+    let (board, mut askers, seats) = Board::open(rt.alloc(), 1, runners).map_err(|_| anyhow!(
         "no board"
     ))?;
-    let asker = askers.pop().ok_or(anyhow!("no asker"))?;
-    let start = Instant::now(rt)?;
-    let done = run_all(rt, alloc, &board, asker, seats, jobs)?;
-    Ok(Times::of(done, start.elapsed(rt)?))
+    match askers.pop() {
+        Some(asker) => time_running(rt, &board, asker, seats, jobs),
+        None => bail!("no asker"),
+    }
+}
+
+/// How long it takes the runners to run all jobs.
+fn time_running<R>(
+    rt: &R,
+    board: &Board,
+    asker: AskerSeat,
+    seats: Vec<RunnerSeat>,
+    jobs: Vec<Job>,
+) -> Result<Times>
+where
+    R: Wait + Threads + Clock + Alloc<A = Global> + Sync,
+    requires asker { asker.table ≡ board_id board.now }
+    requires runners { All (λ s. s.table ≡ board_id board.now) seats.items }
+{
+    let start = Instant::now(rt);
+    let done = run_all(rt, rt.alloc(), board, asker, seats, jobs);
+    Ok(Times::of(done?, start?.elapsed(rt)?))
 }
 
 /// Starts the runners, and offers all jobs to them; how many results came back.
@@ -115,11 +160,11 @@ fn run_all<R: Wait + Threads + Sync>(
     asker: AskerSeat,
     seats: Vec<RunnerSeat>,
     jobs: Vec<Job>,
-) -> Result<usize>
+) -> Result<usize, AllocError>
     requires asker { asker.table ≡ board_id board.now }
     requires runners { All (λ s. s.table ≡ board_id board.now) seats.items }
 {
-    let done = with_runners(
+    with_runners(
         rt,
         alloc,
         board,
@@ -128,8 +173,7 @@ fn run_all<R: Wait + Threads + Sync>(
         move || -> usize
             requires { asker.table ≡ board_id board.now }
         { offer_all(rt, board, asker, jobs) },
-    )?;
-    Ok(done)
+    )
 }
 
 /// Offers all jobs, each as soon as there is room, and receives all results.

@@ -4,11 +4,11 @@ use crate::measured::{Measured, RUNS};
 use anyhow::{Result, bail};
 use q_nodes::sockets::run_over_sockets;
 use q_wire::counted::Counted;
-use std::alloc::Global;
+use std::alloc::{AllocError, Global};
 use std::net::Net;
 use std::sync::Wait;
 use std::thread::Threads;
-use std::time::{Clock, Instant};
+use std::time::{Clock, Duration, Instant};
 
 /// It counts the records of a view.
 const COUNT: &str = "bf3000000000000007000000010000009500000000000000";
@@ -16,11 +16,17 @@ const COUNT: &str = "bf3000000000000007000000010000009500000000000000";
 /// A script of so many nodes, with these lines and then one line so many times.
 fn script(alloc: Global, nodes: u64, lines: &str, line: &str, count: u64) -> Result<String> {
     let mut script = format!(in alloc; "nodes {nodes} 4/5 4/5\n{lines}")?;
+    repeat(&mut script, line, count)?;
+    Ok(script)
+}
+
+/// Appends a line so many times.
+fn repeat(script: &mut String, line: &str, count: u64) -> Result<(), AllocError> {
     for _ in 0..count {
         script.push_str(line)?;
         script.push('\n')?;
     }
-    Ok(script)
+    Ok(())
 }
 
 /// How many printed lines begin with this word.
@@ -39,6 +45,25 @@ fn ended(printed: &[u8], word: &[u8]) -> u64 {
     lines_of(printed, word).saturating_sub(lines_of(printed, b"unanswered"))
 }
 
+/// How long it takes to run a script.
+fn time<R>(
+    rt: &R,
+    script: &str,
+    printed: &mut Counted<Vec<u8>>,
+    notes: &mut Vec<u8>,
+) -> Result<Duration>
+where
+    R: Net + Wait + Threads + Clock + Alloc<A = Global> + Sync,
+{
+    let start = Instant::now(rt)?;
+    let status = run_over_sockets(rt, rt.alloc(), script, printed, notes);
+    let taken = start.elapsed(rt)?;
+    if status != 0 {
+        bail!("the run ended with status {status}");
+    }
+    Ok(taken)
+}
+
 /// Runs a script once, and counts the operations that this word tells and that have ended.
 fn run_once<R>(rt: &R, script: &str, word: &[u8]) -> Result<Measured>
 where
@@ -46,12 +71,7 @@ where
 {
     let mut printed = Counted::new(Vec::new(rt.alloc()));
     let mut notes = Vec::new(rt.alloc());
-    let start = Instant::now(rt)?;
-    let status = run_over_sockets(rt, rt.alloc(), script, &mut printed, &mut notes);
-    let taken = start.elapsed(rt)?;
-    if status != 0 {
-        bail!("the run ended with status {status}");
-    }
+    let taken = time(rt, script, &mut printed, &mut notes)?;
     Ok(Measured {
         done: ended(printed.inner.as_slice(), word),
         taken,

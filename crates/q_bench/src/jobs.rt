@@ -1,11 +1,11 @@
 //! Jobs to be run, and how long they took.
 
-use anyhow::{Result, anyhow, bail};
+use anyhow::{Context, Result, anyhow, bail};
 use q_session::job::Job;
 use q_session::laws::records_of_values;
 use q_session::query::{Phase, Query};
 use q_sim::program::certified_code;
-use q_table::program::ProgramId;
+use q_table::program::{Program, ProgramId};
 use sc_view::value::{VALUE_LENGTH, Value};
 use sc_view::view::{Stored, View};
 use std::alloc::Global;
@@ -34,12 +34,17 @@ impl Times {
     }
 }
 
-/// A job over a view of one record.
-fn one(alloc: Global) -> Result<Job> {
-    let program = certified_code(alloc, &COUNT).map_err(|_| anyhow!("refused"))?;
+/// A view of one record.
+fn view(alloc: Global) -> Result<View> {
+    let stored = Stored::new(1, Value::from(&[7; VALUE_LENGTH])).context("no value")?;
     let mut view = View::new(alloc);
-    let stored = Stored::new(1, Value::from(&[7; VALUE_LENGTH])).ok_or(anyhow!("no value"))?;
     view.put(1, stored).map_err(|_| anyhow!("no room"))?;
+    Ok(view)
+}
+
+/// A job of a program over a view of one record.
+fn job_of(alloc: Global, program: &Program) -> Result<Job> {
+    let view = view(alloc)?;
     records_of_values();
     let _length = program.certified();
     if !view.has_values_of(VALUE_LENGTH) {
@@ -51,15 +56,26 @@ fn one(alloc: Global) -> Result<Job> {
         start: 0,
         phase: Phase::Ready(view),
     };
-    Job::of(alloc, 1, 0, &query, &program)?.ok_or(anyhow!("not ready"))
+    Job::of(alloc, 1, 0, &query, program)?.context("not ready")
 }
 
-/// So many jobs, which share their program and their view.
-pub fn jobs(alloc: Global, count: usize) -> Result<Vec<Job>> {
-    let job = one(alloc)?;
+/// A job over a view of one record.
+fn job(alloc: Global) -> Result<Job> {
+    let program = certified_code(alloc, &COUNT).map_err(|_| anyhow!("refused"))?;
+    job_of(alloc, &program)
+}
+
+/// So many jobs that share the program and the view of this one.
+fn copies(alloc: Global, job: &Job, count: usize) -> Result<Vec<Job>> {
     let mut jobs = Vec::with_capacity(alloc, count)?;
     for _ in 0..count {
         jobs.push(job.clone()?)?;
     }
     Ok(jobs)
+}
+
+/// So many jobs, which share their program and their view.
+pub fn jobs(alloc: Global, count: usize) -> Result<Vec<Job>> {
+    let job = job(alloc)?;
+    copies(alloc, &job, count)
 }

@@ -57,16 +57,32 @@ impl Queues {
 
 /// Hands jobs over, one behind the other.
 pub fn hand<R: Wait + Clock + Alloc<A = Global>>(rt: &R, jobs: Vec<Job>) -> Result<Times> {
-    let queues = Queues::new(rt.alloc());
     let mut block = Block::new(rt.alloc())?;
-    let start = Instant::now(rt)?;
+    let queues = Queues::new(rt.alloc());
+    time_handing(rt, &queues, &mut block, jobs)
+}
+
+/// How long it takes to hand each job over.
+fn time_handing<R: Wait + Clock>(
+    rt: &R,
+    queues: &Queues,
+    block: &mut Block,
+    jobs: Vec<Job>,
+) -> Result<Times> {
+    let start = Instant::now(rt);
+    let done = hand_all(rt, queues, block, jobs);
+    Ok(Times::of(done, start?.elapsed(rt)?))
+}
+
+/// Hands each job over; how many results came back.
+fn hand_all(rt: &impl Wait, queues: &Queues, block: &mut Block, jobs: Vec<Job>) -> usize {
     let mut done: usize = 0;
     for job in jobs {
-        if queues.offer(rt, job) && queues.run_one(rt, &mut block) && queues.receive(rt) {
+        if queues.offer(rt, job) && queues.run_one(rt, block) && queues.receive(rt) {
             done = done.saturating_add(1);
         }
     }
-    Ok(Times::of(done, start.elapsed(rt)?))
+    done
 }
 
 /// Runs jobs by so many runners.
@@ -75,8 +91,15 @@ where
     R: Wait + Threads + Clock + Alloc<A = Global> + Sync,
 {
     let queues = Queues::new(rt.alloc());
-    let queues = &queues;
-    let start = Instant::now(rt)?;
+    time_running(rt, &queues, jobs, runners)
+}
+
+/// How long it takes so many runners to run all jobs.
+fn time_running<R>(rt: &R, queues: &Queues, jobs: Vec<Job>, runners: usize) -> Result<Times>
+where
+    R: Wait + Threads + Clock + Alloc<A = Global> + Sync,
+{
+    let start = Instant::now(rt);
     let done = thread::scope(thread::scope_env(), rt, |scope| {
         let done = if start_all(scope, rt, rt.alloc(), queues, runners) {
             offer_all(rt, queues, jobs)
@@ -86,7 +109,7 @@ where
         queues.over.store(true, SeqCst);
         done
     });
-    Ok(Times::of(done, start.elapsed(rt)?))
+    Ok(Times::of(done, start?.elapsed(rt)?))
 }
 
 /// Starts the threads of the runners, each with a block of its own.

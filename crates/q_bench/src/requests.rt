@@ -6,10 +6,9 @@ use q_book::book::Book;
 use q_net::serve::serve;
 use q_wire::counted::Counted;
 use sc_members::config::Config;
-use sc_msg::message::Message;
 use std::alloc::Global;
 use std::sync::Wait;
-use std::time::{Clock, Instant};
+use std::time::{Clock, Duration, Instant};
 
 /// `mov64 r0, r3 / add64 r0, 1 / exit`, behind its kind and its length.
 const TEXT: [u8; 29] = [
@@ -48,45 +47,79 @@ fn registration(alloc: Global) -> Result<Vec<u8>> {
     Ok(request)
 }
 
+/// The book of a node that is alone.
+fn book(alloc: Global) -> Result<Book> {
+    let config = Config::new(4, 5, 4, 5).map_err(|_| anyhow!("no fractions"))?;
+    Book::founder(alloc, config, 1, &[1]).map_err(|_| anyhow!("no book"))
+}
+
+/// How long it takes to serve requests to a book, which sends no message for them.
+fn time<R>(
+    rt: &R,
+    book: &mut Book,
+    requests: &[u8],
+    replies: &mut Counted<Vec<u8>>,
+) -> Result<Duration>
+where
+    R: Wait + Clock + Alloc<A = Global>,
+{
+    let mut reader = Counted::new(requests);
+    let mut sent = Vec::new(rt.alloc());
+    let start = Instant::now(rt);
+    let served = serve(rt, rt.alloc(), book, &mut reader, replies, &mut sent);
+    let taken = start?.elapsed(rt)?;
+    served.map_err(|_| anyhow!("not served"))?;
+    Ok(taken)
+}
+
+/// Serves requests to a book, of which each reply has so many bytes.
+fn run_over<R>(rt: &R, book: &mut Book, requests: &[u8], reply: usize) -> Result<Measured>
+where
+    R: Wait + Clock + Alloc<A = Global>,
+{
+    let mut replies = Counted::new(Vec::new(rt.alloc()));
+    let taken = time(rt, book, requests, &mut replies)?;
+    let done = replies.inner.len().checked_div(reply).unwrap_or(0) as u64;
+    Ok(Measured { done, taken })
+}
+
 /// Serves requests to a fresh book, of which each reply has so many bytes.
 fn run_once<R>(rt: &R, requests: &[u8], reply: usize) -> Result<Measured>
 where
     R: Wait + Clock + Alloc<A = Global>,
 {
-    let config = Config::new(4, 5, 4, 5).map_err(|_| anyhow!("no fractions"))?;
-    let mut book = Book::founder(rt.alloc(), config, 1, &[1]).map_err(|_| anyhow!("no book"))?;
-    let mut sent: Vec<Message> = Vec::new(rt.alloc());
-    let mut reader = Counted::new(requests);
-    let mut writer = Counted::new(Vec::new(rt.alloc()));
-    let start = Instant::now(rt)?;
-    let served = serve(
-        rt,
-        rt.alloc(),
-        &mut book,
-        &mut reader,
-        &mut writer,
-        &mut sent,
-    );
-    let taken = start.elapsed(rt)?;
-    served.map_err(|_| anyhow!("not served"))?;
-    let done = writer.inner.len().checked_div(reply).unwrap_or(0) as u64;
-    Ok(Measured { done, taken })
+    let mut book = book(rt.alloc())?;
+    run_over(rt, &mut book, requests, reply)
 }
 
-/// The least count and the least time of all runs of a request, so many times, of which each reply has so many bytes.
+/// A request, so many times.
+fn repeated(alloc: Global, request: &[u8], count: u64) -> Result<Vec<u8>> {
+    let mut requests = Vec::new(alloc);
+    for _ in 0..count {
+        requests.extend_from_slice(request)?;
+    }
+    Ok(requests)
+}
+
+/// The least count and the least time of all runs of these requests, of which each reply has so many bytes.
+fn least<R>(rt: &R, requests: &[u8], reply: usize) -> Result<Measured>
+where
+    R: Wait + Clock + Alloc<A = Global>,
+{
+    let mut least = run_once(rt, requests, reply)?;
+    for _ in 1..RUNS {
+        least = least.least(run_once(rt, requests, reply)?);
+    }
+    Ok(least)
+}
+
+/// Times a request, so many times, of which each reply has so many bytes.
 fn run<R>(rt: &R, request: &[u8], count: u64, reply: usize) -> Result<Measured>
 where
     R: Wait + Clock + Alloc<A = Global>,
 {
-    let mut requests = Vec::new(rt.alloc());
-    for _ in 0..count {
-        requests.extend_from_slice(request)?;
-    }
-    let mut least = run_once(rt, requests.as_slice(), reply)?;
-    for _ in 1..RUNS {
-        least = least.least(run_once(rt, requests.as_slice(), reply)?);
-    }
-    Ok(least)
+    let requests = repeated(rt.alloc(), request, count)?;
+    least(rt, &requests, reply)
 }
 
 /// So many requests for an answer that is not there.
