@@ -1,6 +1,8 @@
 -- Deliveries in their order, lines in turn, and what is printed.
 mod Pairs
 mod Goes
+mod Awaiting
+mod Attempting
 mod Spreading
 mod Playing
 mod Lines

@@ -1,3 +1,4 @@
+pub mod Awaited
 pub mod Delivered
 pub mod Printing
 pub mod Programs

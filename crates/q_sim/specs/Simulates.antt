@@ -93,42 +93,33 @@ pub record IsNext (s : SimState) (message node : ℕ) : Type 0 where
   pub awaits : Awaits s message node
   pub least : (m n : ℕ) → Awaits s m n → (message < m) ⊎ ((message ≡ m) × (node ≤ n))
 
--- the delivery is taken or refused, and not tried again
+-- the delivery is taken or refused, but not for want of memory, and not tried again
 pub record Tries (s : SimState) (message node : ℕ) (t : SimState) : Type 0 where
   pub result : Result Stepped ClusterFault
   pub takes : Takes s.cluster (event.Deliver message node) t.cluster result
+  pub answered : result ≢ Err memory
   pub nodes : t.nodes ≡ s.nodes
   pub delivered : t.delivered ≡ set.insert s.delivered (message, node)
   pub unwritten : t.unwritten ≡ s.unwritten
 
--- so many deliveries, each of what is next then, or fewer where nothing is left
-abbrev pub DeliversAll : ℕ → SimState → SimState → Type 0
-DeliversAll zero s t = t ≡ s
-DeliversAll (suc n) s t =
-    (((m k : ℕ) → ¬ (Awaits s m k)) × (t ≡ s))
-    ⊎ ((message node : ℕ) × (between : SimState) × IsNext s message node × Tries s message node between × DeliversAll n between t)
+-- no delivery is left
+abbrev pub AwaitsNone : SimState → Type 0
+AwaitsNone s = (m n : ℕ) → ¬ (Awaits s m n)
 
--- nothing is printed of them
+-- some delivery is next, and memory is refused for it: that is printed, and nothing is done
+abbrev pub WantsMemory : SimState → List ℕ → SimState → Type 0
+WantsMemory s text t = ((m n : ℕ) × IsNext s m n) × (t ≡ s) × (text ≡ refusal_line (refusal.Cluster memory))
+
+-- so many deliveries, each of what is next then, of which nothing is printed; or fewer, where nothing is left, or where
+-- memory is refused
+abbrev pub DeliversAll : ℕ → SimState → List ℕ → SimState → Type 0
+DeliversAll zero s text t = (t ≡ s) × (text ≡ [])
+DeliversAll (suc n) s text t =
+    (AwaitsNone s × (t ≡ s) × (text ≡ []))
+    ⊎ (WantsMemory s text t ⊎ ((message node : ℕ) × (between : SimState) × IsNext s message node × Tries s message node between × DeliversAll n between text t))
+
 abbrev pub Spreads : ℕ → SimState → List ℕ → SimState → Type 0
-Spreads limit s text t = DeliversAll limit s t × (text ≡ [])
-
--- ---- the deliveries of one message
-
--- nothing is left but this message, by the nodes from this place on, and the messages behind it
-abbrev pub Ahead : SimState → ℕ → ℕ → Type 0
-Ahead s message place = (m n : ℕ) → Awaits s m n
-    → (message < m) ⊎ ((message ≡ m) × ((k : ℕ) × (place ≤ k) × (k < length s.nodes) × (slice_index s.nodes k ≡ n)))
-
--- some deliveries were made, each of what was next, and so many are left of the limit
-pub record IsOnward (limit : ℕ) (s : SimState) (left : ℕ) (t : SimState) : Type 0 where
-  pub nodes : t.nodes ≡ s.nodes
-  pub sent : length s.cluster.world.sent ≤ length t.cluster.world.sent
-  pub rest : (u : SimState) → DeliversAll left t u → DeliversAll limit s u
-
--- they were all made, or none of this message is left
-pub record IsSpread (message limit : ℕ) (s : SimState) (left : ℕ) (t : SimState) : Type 0 where
-  pub onward : IsOnward limit s left t
-  pub over : (left ≡ 0) ⊎ Ahead t (suc message) 0
+Spreads limit = DeliversAll limit
 
 -- ---- what is asked of the cluster
 

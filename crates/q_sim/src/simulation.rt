@@ -1,7 +1,8 @@
 //! Scripts, run over a cluster in memory.
 
-ghost use Rattle.std.specs.Prelude.{◌≡◌, ◌≢◌, ◌<◌, ◌↔◌, ◌++◌, ◌-◌, ◌^◌, [], length, min, IfOk, IfErr, OnOk, OnErr, IsTrue, IsFalse, string_bytes};
+ghost use Rattle.std.specs.Prelude.{◌≡◌, ◌≢◌, ℕ, ◌<◌, ◌≤◌, ◌↔◌, ◌++◌, ◌-◌, ◌^◌, [], length, min, IfOk, IfErr, OnOk, OnErr, IsTrue, IsFalse, string_bytes};
 ghost use Rattle.q_sim.specs.Simulates.{IsSimulationFault, Rises, Simulates, first_ids, with_id};
+ghost use Rattle.q_sim.specs.Awaited.{AwaitsFrom};
 
 use crate::delivered::Delivered;
 use crate::printing::{print_messages, print_pairs, print_told};
@@ -17,6 +18,7 @@ use q_script::line::ScriptLine;
 use q_script::records::value_bytes;
 use q_script::script::Script;
 use q_table::program::ProgramId;
+use reasons::Reason;
 use sc_members::config::Config;
 use sc_world::fault::WorldFault;
 use std::alloc::{AllocError, Global};
@@ -30,10 +32,25 @@ struct Simulation {
     nodes: Vec<u64>,
     /// The deliveries that were accepted, or tried by `all`.
     delivered: Delivered,
+    /// No message before this one awaits a delivery: `all` begins here.
+    awaited_from: usize,
     /// Whether a journal was not written.
     unwritten: bool,
     lines: String,
     ghost rising: { Rises nodes.items },
+    ghost sent: { awaited_from ≤ length cluster.world.sent },
+    ghost passed: { AwaitsFrom awaited_from (record { cluster = cluster; nodes = nodes.items; delivered = delivered; unwritten = unwritten }) },
+}
+
+/// How the deliveries of one message went.
+#[derive(Clone, Copy)]
+enum Spread {
+    /// It was delivered to each node that awaited it, and so many deliveries are left of the limit.
+    Whole(u64),
+    /// No more deliveries are left of the limit.
+    LimitReached,
+    /// Memory was refused for a delivery.
+    OutOfMemory,
 }
 
 /// What a script printed.
@@ -105,7 +122,9 @@ impl Simulation {
     ghost use Rattle.std.specs.Option.{IsSome};
     ghost use Rattle.std.specs.FinSet as set;
     ghost use Rattle.sc_world.specs.Worlds.{live_at};
-    ghost use Rattle.q_sim.specs.Simulates.{Acts, Ahead, Begins, Does, IsSpread, Registers, Saves, Spreads, Tells, Tries, joined, noted};
+    ghost use Rattle.q_history.specs.Calls.{Takes};
+    ghost use Rattle.q_sim.specs.Simulates.{Acts, Begins, Does, Registers, Saves, Spreads, Tells, joined, noted};
+    ghost use Rattle.q_sim.specs.Awaited.{Attempts, IsSpread};
     ghost use Rattle.q_sim.specs.Printing.{printed};
     ghost use Rattle.q_sim.specs.Refusal.{refusal_line};
     ghost use Rattle.q_sim.specs.Seen.{Prints, PrintsOver, seen};
@@ -130,6 +149,7 @@ impl Simulation {
             cluster,
             nodes,
             delivered: Delivered::new(alloc),
+            awaited_from: 0,
             unwritten: false,
             lines: String::new(alloc),
         })
@@ -187,9 +207,23 @@ impl Simulation {
     fn step(&mut self, event: &Event) -> Result<(), AllocError>
         ensures { OnOk result (Prints (Acts event.now) self.old self.new) }
     {
-        let answer = self.cluster.step(event);
+        let answer = self.take(event);
         self.note(event, &answer)?;
         self.print(&answer)
+    }
+
+    /// Takes one event. A node that came awaits every message.
+    fn take(&mut self, event: &Event) -> Result<Stepped, ClusterFault>
+        ensures takes { Takes self.old.cluster event.now self.new.cluster result }
+        ensures rest { seen self.new ≡ record (seen self.old) { cluster = self.new.cluster } }
+        ensures silent { self.new.lines ≡ self.old.lines }
+        ensures awaited { IfOk result (λ _. (id : ℕ) → event.now ≡ Event.Enter id → self.new.awaited_from ≡ 0) }
+    {
+        let stepped = self.cluster.step(event)?;
+        if let Event::Enter(_) = event {
+            self.awaited_from = 0;
+        }
+        Ok(stepped)
     }
 
     /// Notes a node that came, and a delivery that was accepted.
@@ -198,6 +232,7 @@ impl Simulation {
         event: &Event,
         answer: &Result<Stepped, ClusterFault>,
     ) -> Result<(), AllocError>
+        requires awaited { IfOk answer.now (λ _. (id : ℕ) → event.now ≡ Event.Enter id → self.old.awaited_from ≡ 0) }
         ensures noted { OnOk result (seen self.new ≡ record (seen self.old) { nodes = joined event.now answer.now self.old.nodes.items; delivered = noted event.now answer.now self.old.delivered }) }
         ensures silent { OnOk result (self.new.lines ≡ self.old.lines) }
     {
@@ -215,48 +250,61 @@ impl Simulation {
     }
 
     /// Delivers what was not delivered, the least message first and each to the least node first, so many times at most.
+    /// Where memory is refused for a delivery, that is printed, and no more is delivered.
     fn deliver_all(&mut self, limit: u64) -> Result<(), AllocError>
         ensures { OnOk result (Prints (Spreads limit) self.old self.new) }
     {
         let mut left = limit;
-        let mut message = 0;
-        while left > 0 && message < self.cluster.sent() {
-            left = self.spread(message, left)?;
-            message += 1;
+        while self.awaited_from < self.cluster.sent() {
+            let message = self.awaited_from;
+            left = match self.spread(message, left)? {
+                Spread::Whole(left) => left,
+                Spread::LimitReached => return Ok(()),
+                Spread::OutOfMemory => return self.refuse(&Refusal::OutOfMemory),
+            };
+            self.awaited_from = message + 1;
         }
         Ok(())
     }
 
-    /// Delivers a message to each live node that it was not delivered to, the least node first, so many times at most.
-    /// How many times are left then. A refused delivery counts as one.
-    fn spread(&mut self, message: usize, limit: u64) -> Result<u64, AllocError>
+    /// Delivers a message to each live node that it was not delivered to, the least node first, so many times at most. A
+    /// refused delivery counts as one, but for want of memory.
+    fn spread(&mut self, message: usize, limit: u64) -> Result<Spread, AllocError>
         requires sent { message < length self.old.cluster.world.sent }
-        requires ahead { Ahead (seen self.old) message 0 }
-        ensures spread { IfOk result (λ left. IsSpread message limit (seen self.old) left (seen self.new)) }
+        requires passed { AwaitsFrom message (seen self.old) }
+        ensures spread { IfOk result (λ how. IsSpread message limit (seen self.old) how (seen self.new)) }
         ensures silent { OnOk result (self.new.lines ≡ self.old.lines) }
     {
         let mut left = limit;
         for place in 0..self.nodes.len() {
-            if left == 0 {
-                return Ok(0);
-            }
             let node = self.nodes[place];
             if self.awaits(message, node) {
-                self.attempt(message, node)?;
+                if left == 0 {
+                    return Ok(Spread::LimitReached);
+                }
+                if !self.attempt(message, node)? {
+                    return Ok(Spread::OutOfMemory);
+                }
                 left -= 1;
             }
         }
-        Ok(left)
+        Ok(Spread::Whole(left))
     }
 
-    /// Delivers a message to a node, and notes that it was tried.
-    fn attempt(&mut self, message: usize, node: u64) -> Result<(), AllocError>
-        ensures tries { OnOk result (Tries (seen self.old) message node (seen self.new)) }
+    /// Delivers a message to a node, and notes that it was tried. It is not, and nothing is done, where memory is refused
+    /// for it.
+    fn attempt(&mut self, message: usize, node: u64) -> Result<bool, AllocError>
+        ensures attempts { IfOk result (λ tried. Attempts (seen self.old) message node tried (seen self.new)) }
         ensures silent { OnOk result (self.new.lines ≡ self.old.lines) }
     {
+        let answer = self.cluster.step(&Event::Deliver { message, node });
+        if let Err(fault) = answer {
+            if let Reason::OutOfMemory = fault.reason() {
+                return Ok(false);
+            }
+        }
         self.delivered.insert(message, node)?;
-        let _ = self.cluster.step(&Event::Deliver { message, node });
-        Ok(())
+        Ok(true)
     }
 
     /// Whether the node is live and the message was not delivered to it.

@@ -1,6 +1,6 @@
 //! Worked values of what scripts do and print.
 
-ghost use Rattle.std.specs.Prelude.{◌≡◌, ℕ, List, [], ◌∷◌, length, true, false, Some, None, codes};
+ghost use Rattle.std.specs.Prelude.{◌≡◌, ℕ, List, [], ◌∷◌, length, true, false, Some, None, Err, codes};
 ghost use Rattle.std.specs.FinSet as set;
 ghost use Rattle.bq_check.specs.Certificate.{Certificate};
 ghost use Rattle.bq_insn.specs.declared.fault.DecodeFault.TheVariants as decode_fault;
@@ -10,6 +10,7 @@ ghost use Rattle.q_cluster.specs.Acts.{book_at};
 ghost use Rattle.q_files.specs.Memory.{Writes, fails_next};
 ghost use Rattle.q_files.specs.declared.memory.MemoryFiles.{MemoryFiles as Memory};
 ghost use Rattle.q_history.specs.Calls.{Takes};
+ghost use Rattle.q_history.specs.Faults.{memory};
 ghost use Rattle.q_history.specs.declared.event.Event.TheVariants as event;
 ghost use Rattle.q_history.specs.declared.event.Told.TheVariants as told;
 ghost use Rattle.q_script.specs.declared.line.ScriptLine.TheVariants as line;
@@ -17,7 +18,7 @@ ghost use Rattle.q_sim.specs.Delivered.{Deliveries};
 ghost use Rattle.q_sim.specs.Printing.{TellsPair, is_over, message_lines, pair_line, told_lines};
 ghost use Rattle.q_sim.specs.Programs.{IsProgram};
 ghost use Rattle.q_sim.specs.Refusal as refusal;
-ghost use Rattle.q_sim.specs.Simulates.{Plays, Saves, SavesBook, SimState};
+ghost use Rattle.q_sim.specs.Simulates.{Awaits, DeliversAll, Plays, Saves, SavesBook, SimState, Tries};
 ghost use Rattle.q_sim.specs.declared.refusal.Place.TheVariants as at;
 ghost use Rattle.q_sim.specs.declared.refusal.Refusal.TheVariants as refused;
 ghost use Rattle.sc_msg.specs.declared.message.Body.TheVariants as body;
@@ -35,6 +36,12 @@ pub fn worked()
 
     // Refusals.
     ensures at_a_unit { (fault : _) → refusal.place (refused.Bytes (decode_fault.At 3 fault)) ≡ at.Unit 3 }
+
+    // Deliveries of `all`: where one is awaited, an `all` that prints nothing has tried one; want of memory is no try, and
+    // is told.
+    ensures one_is_tried { (s t : SimState) → Awaits s 7 3 → DeliversAll 1 s [] t → (m n : ℕ) × Tries s m n t }
+    ensures want_of_memory_is_no_try { (s t : SimState) (h : Tries s 7 3 t) → h.result ≡ Err memory → ⊥ }
+    ensures want_of_memory_is_told { refusal.refusal_line (refused.Cluster memory) ≡ codes "refused 99 OutOfMemory\n" }
 
     // What is printed.
     ensures answer { told_lines (told.Finished (record { node = 1; query = 0; ran = record { acc = 5; steps = 9 } })) ≡ codes "answer 1 0 5 9\n" }

@@ -7,7 +7,7 @@ use Rattle.q_files.specs.Memory.{Writes}
 use Rattle.q_history.specs.Calls.{Takes}
 use Rattle.q_history.specs.declared.event.Event.TheVariants as event
 use Rattle.q_sim.specs.Delivered.{pair_cmp}
-use Rattle.q_sim.specs.Simulates.{SavesAny, SimState}
+use Rattle.q_sim.specs.Simulates.{SavesAny, SimState, Tries}
 use Rattle.q_sim.proofs.Pairs.{pair_cmp_total}
 use Rattle.q_sim.proofs.worked.worked.Goals as goal
 
@@ -22,6 +22,20 @@ returns-clause-delivered c = set.contains-insert pair_cmp_total set.empty (7, 3)
 
 pub returns-clause-to_another_node : goal.returns-clause-to_another_node
 returns-clause-to_another_node c = set.contains-insert pair_cmp_total set.empty (7, 3) (7, 0) ∙ set.contains-empty pair_cmp (7, 0)
+
+pub returns-clause-one_is_tried : goal.returns-clause-one_is_tried
+returns-clause-one_is_tried c = λ s t awaits h. elim h [
+  | inl none ↦ absurd (none.0 7 3 awaits)
+  | inr (inl short) ↦ let e = short.2 in absurd (cc)
+  | inr (inr d) ↦ (d.0, d.1, subst (λ (x : SimState). Tries s d.0 d.1 x) (sym d.5.0) d.4)
+]
+
+pub returns-clause-want_of_memory_is_no_try : goal.returns-clause-want_of_memory_is_no_try
+returns-clause-want_of_memory_is_no_try c = λ s t h is. h.answered is
+
+pub returns-clause-want_of_memory_is_told : goal.returns-clause-want_of_memory_is_told
+unfolding digits
+returns-clause-want_of_memory_is_told c = refl
 
 pub returns-clause-answer : goal.returns-clause-answer
 unfolding digits

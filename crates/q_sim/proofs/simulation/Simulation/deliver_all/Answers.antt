@@ -1,18 +1,15 @@
-use Rattle.std.proofs.Common.{◌≡◌, ◌∙◌, ◌≤◌, inl, inr, [], length, refl, sym, ap, arith, append-nil, string_bytes}
-use Rattle.q_sim.specs.Simulates.{DeliversAll}
+use Rattle.std.proofs.Common.{◌≡◌, ◌∙◌, ◌≤◌, [], length, sym, ap, arith, append-nil, string_bytes}
 use Rattle.q_sim.specs.Seen.{seen}
-use Rattle.q_sim.proofs.Spreading.{all_made, nothing_awaited}
+use Rattle.q_sim.proofs.Spreading.{nothing_awaited}
 use Rattle.q_sim.proofs.simulation.Simulation.deliver_all.Goals as goal
 
-pub returns-else-message-sent : goal.returns-else-message-sent
-returns-else-message-sent c =
-    let inv = c.loop-left.invariant in
-    let old = seen c.args.self.now in
-    let now = seen c.loop-left.self in
-    let count : c.sent.result ≡ length c.loop-left.self.cluster.world.sent = c.sent.ensures in
-    let over : length c.loop-left.self.cluster.world.sent ≤ c.loop-left.message = omega (arith, count, c.if-message-sent.false) in
-    let made : DeliversAll c.args.limit old now = elim inv.over [
-      | inl none ↦ all_made c.args.limit old c.loop-left.left now inv.onward none
-      | inr ahead ↦ nothing_awaited c.args.limit old c.loop-left.left now c.loop-left.message inv.onward ahead over
-    ] in
-    ([], (made, refl), ap string_bytes inv.silent ∙ sym (append-nil (string_bytes c.args.self.now.lines)))
+pub returns : goal.returns
+returns c =
+    let now = c.loop-self.self in
+    let inv = c.loop-self.invariant in
+    let count : c.sent.result ≡ length now.cluster.world.sent = c.sent.ensures in
+    let over : length now.cluster.world.sent ≤ now.awaited_from = omega (arith, count, c.loop-self-test.false) in (
+      [],
+      nothing_awaited c.args.limit (seen c.args.self.now) c.loop-self.left (seen now) now.awaited_from inv.onward now.passed over,
+      ap string_bytes inv.silent ∙ sym (append-nil (string_bytes c.args.self.now.lines)),
+    )

@@ -1,10 +1,26 @@
-use Rattle.std.proofs.Common.{◌∙◌, ◌<◌, ◌+◌, inr, length, sym, ap, subst, arith, true≢false}
+use Rattle.std.proofs.Common.{◌∙◌, ◌<◌, ◌+◌, length, sym, ap, subst, arith, true≢false}
 use Rattle.q_sim.specs.declared.simulation.Simulation.{Simulation}
-use Rattle.q_sim.specs.Simulates.{Ahead, IsOnward}
+use Rattle.q_sim.specs.Awaited.{IsOnward}
 use Rattle.q_sim.specs.Seen.{seen}
-use Rattle.q_sim.proofs.Spreading.{next_message, skipped, delivered_here}
+use Rattle.q_sim.proofs.Attempting.{done, undone}
+use Rattle.q_sim.proofs.Spreading.{Ahead, skipped, delivered_here, refused_here}
 use Rattle.q_sim.proofs.simulation.Simulation.spread.Goals as goal
-use Rattle.q_sim.proofs.simulation.Simulation.spread.Goals.{then-awaits+in_ok-attempt, else-awaits}
+use Rattle.q_sim.proofs.simulation.Simulation.spread.Goals.{then-awaits+else-left-eq0+in_ok-attempt+else-not-branch, else-awaits}
+
+pub returns-then-not-branch-clause-spread : goal.returns-then-not-branch-clause-spread
+returns-then-not-branch-clause-spread c =
+    let inv = c.loop-place.invariant in
+    let old = seen c.args.self.now in
+    let now = seen c.loop-place.self in
+    let new = seen c.attempt.new.self in
+    let message = c.args.message in
+    let place = c.loop-place.place in
+    let node = c.index-node.result.now in
+    let same = ap length inv.onward.nodes in
+    let within : place < length c.loop-place.self.nodes.items = omega (arith, same) in
+    let some : 0 < c.loop-place.left = omega (arith, c.if-left-eq0.false) in
+    refused_here now message place node within c.index-node.ensures c.args.limit old c.loop-place.left inv.onward c.requires.sent c.loop-place.self.rising (c.awaits.ensures.0 c.if-awaits.true) inv.ahead
+    new some (undone now new message node c.in_ok-attempt.field-0 c.if-not-branch.true c.in_ok-attempt.ensures.attempts)
 
 pub loop-place-preserved : goal.loop-place-preserved
 loop-place-preserved c =
@@ -17,13 +33,15 @@ loop-place-preserved c =
     let same = ap length inv.onward.nodes in
     let within : place < length c.loop-place.self.nodes.items = omega (arith, same) in
     elim c.if-awaits.branch [
-      | then-awaits+in_ok-attempt w ↦
-          let did = w.in_ok-attempt.ensures {u = tt} in
-          let next = delivered_here now message place node within c.index-node.ensures c.args.limit old c.loop-place.left (seen w.attempt.new.self) inv.onward (omega arith) c.requires.sent c.loop-place.self.rising (c.awaits.ensures.0 w.if-awaits.true) inv.ahead did.tries in
+      | then-awaits+else-left-eq0+in_ok-attempt+else-not-branch w ↦
+          let new = seen w.attempt.new.self in
+          let some : 0 < c.loop-place.left = omega (arith, w.if-left-eq0.false) in
+          let tried = done now new message node w.in_ok-attempt.field-0 w.if-not-branch.false w.in_ok-attempt.ensures.attempts in
+          let next = delivered_here now message place node within c.index-node.ensures c.args.limit old c.loop-place.left inv.onward c.requires.sent c.loop-place.self.rising (c.awaits.ensures.0 w.if-awaits.true) inv.ahead new some tried in
           record {
-            onward = subst (λ (x : Simulation). IsOnward c.args.limit old c.if-awaits.left (seen x)) (sym w.self-is) (subst (λ n. IsOnward c.args.limit old n (seen w.attempt.new.self)) (sym w.left-is) next.0);
+            onward = subst (λ (x : Simulation). IsOnward c.args.limit old c.if-awaits.left (seen x)) (sym w.self-is) (subst (λ n. IsOnward c.args.limit old n new) (sym w.left-is) next.0);
             ahead = subst (λ (x : Simulation). Ahead (seen x) message (place + 1)) (sym w.self-is) next.1;
-            silent = ap (λ (x : Simulation). x.lines) w.self-is ∙ did.silent ∙ inv.silent;
+            silent = ap (λ (x : Simulation). x.lines) w.self-is ∙ w.in_ok-attempt.ensures.silent ∙ inv.silent;
           }
       | else-awaits w ↦
           let next = skipped now message place node within c.index-node.ensures (λ free. true≢false (sym (c.awaits.ensures.1 free) ∙ w.if-awaits.false)) inv.ahead in
@@ -33,11 +51,3 @@ loop-place-preserved c =
             silent = ap (λ (x : Simulation). x.lines) w.self-is ∙ inv.silent;
           }
     ]
-
-pub returns-clause-spread : goal.returns-clause-spread
-returns-clause-spread c =
-    let same = ap length c.loop-place.invariant.onward.nodes in
-    record {
-      onward = c.loop-place.invariant.onward;
-      over = inr (next_message (seen c.loop-place.self) c.args.message c.loop-place.place (omega (arith, same)) c.loop-place.invariant.ahead);
-    }

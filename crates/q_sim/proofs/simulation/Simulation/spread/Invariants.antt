@@ -1,5 +1,6 @@
 use Rattle.std.proofs.Common.{◌≡◌}
-use Rattle.q_sim.specs.Simulates.{Ahead, IsOnward}
+use Rattle.q_sim.specs.Awaited.{IsOnward}
+use Rattle.q_sim.proofs.Spreading.{Ahead}
 use Rattle.q_sim.specs.Seen.{seen}
 use Rattle.q_sim.proofs.simulation.Simulation.spread.Given as goal
 
