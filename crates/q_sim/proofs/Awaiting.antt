@@ -38,7 +38,7 @@ module _ (s t : SimState) (goes : Goes s.cluster.world t.cluster.world) (nodes :
     | inr more ↦ omega (arith, low, more)
   ]
 
--- a delivery that was put in, or not for want of memory
+-- a delivery was put in; or it was not, for want of memory
 pub grows_either : {X E : Type 0} (r : Result X E) (d e : Deliveries) (q : ℕ × ℕ) → OnOk r (e ≡ set.insert d q) → OnErr r (e ≡ d) → Grows d e
 grows_either (Ok x) d e q more same = grows_by d e q more
 grows_either (Err x) d e q more same = grows_itself d e same

@@ -17,6 +17,8 @@ fn want_of_memory_is_named(rt: HostRuntime) -> Result<(), Fail> {
             assert!(rt;
                 printed.lines.as_str() == "store 0\nmessage 0 store\n"
                     || printed.lines.as_str() == "refused 99 OutOfMemory\n"
+                    || printed.lines.as_str()
+                        == "store 0\nmessage 0 store\nrefused 99 OutOfMemory\n"
             );
             assert_eq!(rt; files.told(), Some((2, 2)));
         }

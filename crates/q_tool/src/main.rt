@@ -37,12 +37,12 @@
 //! | `journal NODE FILE` | `journal N events`: the journal of the node, which has N events, is written to FILE, one word |
 //!
 //! Messages are printed as `message I KIND`, one a line. A delivery that is refused counts as one for `all`, and `all`
-//! passes over what it tried and what `deliver` delivered; it delivers to nodes that came, too. One that is refused with
-//! 99 is told, counts as neither delivered nor tried, and ends that `all`. `pairs` goes by the
-//! beginnings of the stores, and then of the collects; operations of nodes that left or crashed count, and `journal`
-//! writes the journals of such nodes too. A refused event prints its refusal, and the script goes on; the exit status
-//! stays 0, but for a journal whose file fails (87): it is 1 at the end. Refused `nodes` end the script: 45 before 49. A
-//! line of another form is 9 before anything runs.
+//! passes over what it tried and what `deliver` delivered; it delivers to nodes that came, too. One that is refused
+//! with 99 is told, counts as neither delivered nor tried, and ends that `all`. `pairs` goes by the beginnings of the
+//! stores, and then of the collects; operations of nodes that left or crashed count, and `journal` writes the journals
+//! of such nodes too. A refused event prints its refusal, and the script goes on; the exit status stays 0, but for a
+//! journal whose file fails (87): it is 1 at the end. Refused `nodes` end the script: 45 before 49. A line of another
+//! form is 9 before anything runs.
 //!
 //! SCRIPT of `cluster` has the lines `nodes`, with 1 to 16 nodes, `program`, `store` and `ask` alone. Nothing is delivered
 //! by lines: the nodes send their messages over the sockets, and four runners run the jobs. `store TAG` and `query Q` stand
