@@ -3,16 +3,17 @@
 ghost use Rattle.std.specs.Prelude.{◌≡◌, All};
 ghost use Rattle.q_board.specs.BoardId.{board_id};
 
-use crate::alone::{ask, founded, is_right};
 use crate::asker::{Asker, askers};
+use crate::founder::Founder;
+use crate::requests::furnished;
+use crate::step::Outcome;
 use q_board::board::Board;
 use q_board::seats::RunnerSeat;
-use q_book::book::Book;
 use q_pool::gate::Open;
 use q_pool::runners::with_runners;
 use std::alloc::Global;
 use std::sync::Wait;
-use std::sync::atomic::AtomicUsize;
+use std::sync::atomic::AtomicU64;
 use std::sync::atomic::Ordering::SeqCst;
 use std::thread;
 use std::thread::{Scope, Threads};
@@ -21,9 +22,9 @@ use std::thread::{Scope, Threads};
 const PUMPS: u32 = 10_000_000;
 
 /// Asks so many queries, each from its own number. Whether all were asked.
-fn ask_each(alloc: Global, book: &mut Book, queries: usize) -> bool {
+fn ask_each(founder: &mut Founder, queries: u64) -> bool {
     for query in 0..queries {
-        if !ask(alloc, book, query as u64) {
+        if !founder.ask(query) {
             return false;
         }
     }
@@ -31,12 +32,12 @@ fn ask_each(alloc: Global, book: &mut Book, queries: usize) -> bool {
 }
 
 /// Pumps until so many results were recorded. Whether they were, and no more.
-fn pump_all(asker: &mut Asker<'_>, book: &mut Book, queries: usize) -> bool {
-    let mut posted: usize = 0;
+fn pump_all(asker: &mut Asker<'_>, founder: &mut Founder, queries: u64) -> bool {
+    let mut posted: u64 = 0;
     for _ in 0..PUMPS {
-        match asker.pump(book) {
-            Some(more) => posted = posted.saturating_add(more as usize),
-            None => return false,
+        match asker.pump(&mut founder.book) {
+            Outcome::Count(more) => posted = posted.saturating_add(more),
+            _ => return false,
         }
         if posted >= queries {
             return posted == queries;
@@ -46,24 +47,19 @@ fn pump_all(asker: &mut Asker<'_>, book: &mut Book, queries: usize) -> bool {
     false
 }
 
-/// How many answers are right.
-fn count_right(book: &Book, queries: usize) -> usize {
-    (0..queries)
-        .filter(|query| is_right(book, *query, *query as u64))
-        .count()
+/// Asks so many queries, and pumps until all are answered; how many answers are right.
+fn ask_of(asker: &mut Asker<'_>, founder: &mut Founder, queries: u64) -> u64 {
+    if ask_each(founder, queries) && pump_all(asker, founder, queries) {
+        founder.count_right(queries)
+    } else {
+        0
+    }
 }
 
-/// Asks so many queries, and pumps until all are answered; how many answers are right.
-fn ask_all(alloc: Global, mut asker: Asker<'_>, queries: usize) -> usize {
-    match founded(alloc) {
-        Some(mut book) => {
-            let asked = ask_each(alloc, &mut book, queries);
-            if asked && pump_all(&mut asker, &mut book, queries) {
-                count_right(&book, queries)
-            } else {
-                0
-            }
-        }
+/// The same of a founder of its own.
+fn ask_all<R: Wait>(rt: &R, alloc: Global, asker: &mut Asker<'_>, queries: u64) -> u64 {
+    match furnished(rt, alloc) {
+        Some(mut founder) => ask_of(asker, &mut founder, queries),
         None => 0,
     }
 }
@@ -73,13 +69,12 @@ fn start<'s, E, R: Wait + Threads + Sync>(
     scope: &Scope<'s, E>,
     alloc: Global,
     rt: &'s R,
-    asker: Asker<'s>,
-    queries: usize,
-    right: &'s AtomicUsize,
+    mut asker: Asker<'s>,
+    queries: u64,
+    right: &'s AtomicU64,
 ) -> bool {
-    let _rt = rt;
     scope
-        .spawn(move || -> usize { right.fetch_add(ask_all(alloc, asker, queries), SeqCst) })
+        .spawn(move || -> u64 { right.fetch_add(ask_all(rt, alloc, &mut asker, queries), SeqCst) })
         .is_ok()
 }
 
@@ -89,8 +84,8 @@ fn start_all<'s, E, R: Wait + Threads + Sync>(
     alloc: Global,
     rt: &'s R,
     askers: Vec<Asker<'s>>,
-    queries: usize,
-    right: &'s AtomicUsize,
+    queries: u64,
+    right: &'s AtomicU64,
 ) -> bool {
     for asker in askers {
         if !start(scope, alloc, rt, asker, queries, right) {
@@ -105,8 +100,8 @@ fn ask_in_threads<R: Wait + Threads + Sync>(
     rt: &R,
     alloc: Global,
     askers: Vec<Asker<'_>>,
-    queries: usize,
-    right: &AtomicUsize,
+    queries: u64,
+    right: &AtomicU64,
 ) -> bool {
     thread::scope(thread::scope_env(), rt, move |scope| -> bool {
         start_all(scope, alloc, rt, askers, queries, right)
@@ -120,34 +115,35 @@ fn right_among<R: Wait + Threads + Sync>(
     board: &Board,
     askers: Vec<Asker<'_>>,
     runners: Vec<RunnerSeat>,
-    queries: usize,
-) -> Option<usize>
+    queries: u64,
+) -> Outcome
     requires { All (λ s. s.table ≡ board_id board.now) runners.items }
 {
-    let right = AtomicUsize::new(0);
+    let right = AtomicU64::new(0);
     let right = &right;
     let all = with_runners(rt, alloc, board, runners, &Open, move || -> bool {
         ask_in_threads(rt, alloc, askers, queries, right)
     });
     match all {
-        Ok(true) => Some(right.load(SeqCst)),
-        Ok(false) | Err(_) => None,
+        Ok(true) => Outcome::Count(right.load(SeqCst)),
+        Ok(false) | Err(_) => Outcome::Nothing,
     }
 }
 
-/// How many of the answers are right, of so many askers, runners and queries of each asker; none where there is no board.
+/// How many of the answers are right, of so many askers, runners and queries of each asker; refused where there is no
+/// such board.
 pub fn right_answers<R: Wait + Threads + Sync>(
     rt: &R,
     alloc: Global,
     askers_count: usize,
     runners: usize,
-    queries: usize,
-) -> Option<usize> {
+    queries: u64,
+) -> Outcome {
     match Board::open(alloc, askers_count, runners) {
         Ok((board, seats, runners)) => match askers(alloc, &board, seats) {
             Some(askers) => right_among(rt, alloc, &board, askers, runners, queries),
-            None => None,
+            None => Outcome::Nothing,
         },
-        Err(_) => None,
+        Err(fault) => Outcome::Refused(fault.reason().number()),
     }
 }

@@ -48,30 +48,31 @@ pub fn runners(alloc: Global, board: &Board, seats: Vec<RunnerSeat>) -> Option<V
 
 impl Runner<'_> {
     /// Looks at eight slots, and runs each job that it claims: how many.
-    pub fn run(&mut self) -> u32 {
-        run_some(self.board, &mut self.seat, &mut self.block, &Open, LOOKS)
+    pub fn run(&mut self) -> Outcome {
+        let ran = run_some(self.board, &mut self.seat, &mut self.block, &Open, LOOKS);
+        Outcome::Count(ran.into())
     }
 
-    /// Looks at the next slot, and gives its job back: the job's query.
-    fn give_back(&mut self) -> Option<usize> {
+    /// Looks at the next slot, and gives its job back: whether there was one.
+    fn give_next_back(&mut self) -> bool {
         let slot = self.seat.next();
         match self.board.try_take(&mut self.seat, slot) {
             Some(claim) => {
-                let query = claim.job().query();
                 self.board.give_back(&mut self.seat, claim);
-                Some(query)
+                true
             }
-            None => None,
+            None => false,
         }
     }
 
-    /// Looks at eight slots, and gives the first job that it claims back: its query.
-    pub fn give_one_back(&mut self) -> Outcome {
-        for _ in 0..LOOKS {
-            if let Some(query) = self.give_back() {
-                return Outcome::Query(query);
+    /// Gives back the job of each of its next claims, so many: how many. It looks at eight slots for each.
+    pub fn give_back(&mut self, claims: u64) -> Outcome {
+        let mut given = 0;
+        for _ in 0..claims.saturating_mul(LOOKS.into()) {
+            if given < claims && self.give_next_back() {
+                given += 1;
             }
         }
-        Outcome::Nothing
+        Outcome::Count(given)
     }
 }

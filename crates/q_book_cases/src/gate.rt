@@ -3,11 +3,12 @@
 ghost use Rattle.std.specs.Prelude.{◌≡◌, All};
 ghost use Rattle.q_board.specs.BoardId.{board_id};
 
-use crate::alone::{ask, founded, is_answered, is_right};
-use crate::asker::{Asker, seated};
+use crate::asker::{Asker, askers};
+use crate::founder::Founder;
+use crate::requests::furnished;
+use crate::step::Outcome;
 use q_board::board::Board;
 use q_board::seats::RunnerSeat;
-use q_book::book::Book;
 use q_pool::gate::Gate;
 use q_pool::runners::with_runners;
 use std::alloc::Global;
@@ -65,15 +66,15 @@ impl<R: Clock> Gate for Held<'_, R> {
 fn pump_until_answered<R: Clock>(
     rt: &R,
     asker: &mut Asker<'_>,
-    book: &mut Book,
+    founder: &mut Founder,
     query: usize,
     looks: u64,
 ) -> bool {
     for _ in 0..looks {
-        if asker.pump(book).is_none() {
+        if !asker.pump(&mut founder.book).is_count() {
             return false;
         }
-        if is_answered(book, query) {
+        if founder.answer_of(query).is_some() {
             return true;
         }
         thread::sleep(rt, Duration::from_micros(NAP_MICROS));
@@ -84,68 +85,66 @@ fn pump_until_answered<R: Clock>(
 /// Asks a query, and pumps until it is answered. Whether it is.
 fn ask_and_answer<R: Clock>(
     rt: &R,
-    alloc: Global,
     asker: &mut Asker<'_>,
-    book: &mut Book,
+    founder: &mut Founder,
     query: usize,
     looks: u64,
 ) -> bool {
-    ask(alloc, book, query as u64) && pump_until_answered(rt, asker, book, query, looks)
+    founder.ask(query as u64) && pump_until_answered(rt, asker, founder, query, looks)
 }
 
-/// Asks query 1, and offers it. Whether a runner began with it.
-fn ask_and_begin<R: Clock>(
-    rt: &R,
-    alloc: Global,
-    asker: &mut Asker<'_>,
-    book: &mut Book,
-    signs: &Signs,
-) -> bool {
-    let asked = ask(alloc, book, 1);
-    let pumped = asker.pump(book);
-    asked && pumped.is_some() && wait_for(rt, &signs.began, signs.looks)
-}
-
-/// Query 0 is answered first. Query 2 is asked once query 1 is held, and answered while it is; then query 1 is.
+/// Query 0 is answered first. Query 2 is asked once query 1 is held, and answered while it is; then query 1 is. Whether
+/// all are, and right.
 fn ask_three<R: Clock>(
     rt: &R,
-    alloc: Global,
     asker: &mut Asker<'_>,
-    book: &mut Book,
+    founder: &mut Founder,
     signs: &Signs,
 ) -> bool {
-    let first = ask_and_answer(rt, alloc, asker, book, 0, signs.looks)
-        && ask_and_begin(rt, alloc, asker, book, signs);
-    if first && ask_and_answer(rt, alloc, asker, book, 2, signs.looks) {
-        signs.answered.store(true, SeqCst);
-        pump_until_answered(rt, asker, book, 1, signs.looks)
-    } else {
-        false
+    let looks = signs.looks;
+    let is_held = ask_and_answer(rt, asker, founder, 0, looks)
+        && founder.ask(1)
+        && asker.pump(&mut founder.book).is_count()
+        && wait_for(rt, &signs.began, looks);
+    if !(is_held && ask_and_answer(rt, asker, founder, 2, looks)) {
+        return false;
     }
+    signs.answered.store(true, SeqCst);
+    pump_until_answered(rt, asker, founder, 1, looks) && founder.count_right(3) == 3
 }
 
-/// Whether the three answers are right.
-fn are_right(book: &Book) -> bool {
-    is_right(book, 0, 0) && is_right(book, 1, 1) && is_right(book, 2, 2)
-}
-
-/// Asks the three queries; whether all are answered, and right.
-fn answers_three<R: Clock>(rt: &R, alloc: Global, mut asker: Asker<'_>, signs: &Signs) -> bool {
-    match founded(alloc) {
-        Some(mut book) => {
-            let asked = ask_three(rt, alloc, &mut asker, &mut book, signs);
-            asked && are_right(&book)
-        }
+/// Asks the three queries of a founder of its own. Whether all are answered, and right.
+fn answers_three<R: Wait + Clock>(
+    rt: &R,
+    alloc: Global,
+    asker: &mut Asker<'_>,
+    signs: &Signs,
+) -> bool {
+    match furnished(rt, alloc) {
+        Some(mut founder) => ask_three(rt, asker, &mut founder, signs),
         None => false,
     }
 }
 
-/// The same while runners run, behind the gate. Whether no run held up another, and all answers are right.
+/// The same in the first of these seats.
+fn first_answers_three<R: Wait + Clock>(
+    rt: &R,
+    alloc: Global,
+    mut askers: Vec<Asker<'_>>,
+    signs: &Signs,
+) -> bool {
+    match askers.first_mut() {
+        Some(asker) => answers_three(rt, alloc, asker, signs),
+        None => false,
+    }
+}
+
+/// The same while runners run, behind the gate. Whether no run held up another, too.
 fn passes<R: Wait + Threads + Clock + Sync>(
     rt: &R,
     alloc: Global,
     board: &Board,
-    asker: Asker<'_>,
+    askers: Vec<Asker<'_>>,
     seats: Vec<RunnerSeat>,
     signs: &Signs,
 ) -> bool
@@ -153,7 +152,7 @@ fn passes<R: Wait + Threads + Clock + Sync>(
 {
     let gate = Held { rt, signs };
     let answered = with_runners(rt, alloc, board, seats, &gate, move || -> bool {
-        answers_three(rt, alloc, asker, signs)
+        first_answers_three(rt, alloc, askers, signs)
     });
     match answered {
         Ok(answered) => answered && !signs.late.load(SeqCst),
@@ -161,13 +160,13 @@ fn passes<R: Wait + Threads + Clock + Sync>(
     }
 }
 
-/// Whether the gate is passed by so many runners, where each side looks so often; none where there is no board.
+/// Whether the gate is passed by so many runners, where each side looks so often; refused where there is no such board.
 pub fn passes_with<R: Wait + Threads + Clock + Sync>(
     rt: &R,
     alloc: Global,
     runners: usize,
     looks: u64,
-) -> Option<bool> {
+) -> Outcome {
     let signs = Signs {
         began: AtomicBool::new(false),
         answered: AtomicBool::new(false),
@@ -175,10 +174,10 @@ pub fn passes_with<R: Wait + Threads + Clock + Sync>(
         looks,
     };
     match Board::open(alloc, 1, runners) {
-        Ok((board, seats, runner_seats)) => match seated(&board, seats) {
-            Some(asker) => Some(passes(rt, alloc, &board, asker, runner_seats, &signs)),
-            None => None,
+        Ok((board, seats, runners)) => match askers(alloc, &board, seats) {
+            Some(askers) => Outcome::of(passes(rt, alloc, &board, askers, runners, &signs)),
+            None => Outcome::Nothing,
         },
-        Err(_) => None,
+        Err(fault) => Outcome::Refused(fault.reason().number()),
     }
 }

@@ -2,8 +2,12 @@
 
 ghost use Rattle.std.specs.Prelude.{None};
 
+use std::alloc::Global;
 use std::io;
 use std::io::{ErrorKind, Read, Write};
+
+/// Room for the replies of a short stream.
+const ROOM: usize = 64;
 
 /// The bytes of an input, of which a few are read at a call. A call fails where so many were read.
 #[derive(Drop)]
@@ -33,14 +37,20 @@ fn allowed(wanted: usize, passing: &mut Option<usize>) -> io::Result<usize> {
 }
 
 impl<'a> Input<'a> {
+    /// An input of these bytes.
     pub fn new(rest: &'a [u8], passing: Option<usize>) -> Input<'a> {
         Input { rest, passing }
     }
 }
 
 impl Output {
-    pub fn new(bytes: Vec<u8>, passing: Option<usize>) -> Output {
-        Output { bytes, passing }
+    /// An empty output with room for some replies; tried twice, as memory may be refused.
+    pub fn new(alloc: Global, passing: Option<usize>) -> Option<Output> {
+        let bytes = match Vec::with_capacity(alloc, ROOM) {
+            Ok(bytes) => bytes,
+            Err(_) => Vec::with_capacity(alloc, ROOM).ok()?,
+        };
+        Some(Output { bytes, passing })
     }
 }
 

@@ -1,0 +1,107 @@
+//! The seat of an asker at its board.
+
+ghost use Rattle.std.specs.Prelude.{◌≡◌, All};
+ghost use Rattle.q_board.specs.BoardId.{board_id};
+
+use crate::step::Outcome;
+use q_board::board::Board;
+use q_board::seats::{AskerSeat, ROW};
+use q_book::book::Book;
+use q_pool::pump::pump_once;
+use q_session::done::Done;
+use q_session::job::Job;
+use std::alloc::Global;
+
+/// An asker's seat, and the board where it is.
+#[derive(Drop)]
+pub struct Asker<'b> {
+    board: &'b Board,
+    seat: AskerSeat,
+    ghost seated: { seat.table ≡ board_id board.now },
+}
+
+/// A seat of the board.
+fn at(board: &Board, seat: AskerSeat) -> Asker<'_>
+    requires { seat.table ≡ board_id board.now }
+{
+    Asker { board, seat }
+}
+
+/// These seats of a board; none where there is no memory.
+pub fn askers(alloc: Global, board: &Board, seats: Vec<AskerSeat>) -> Option<Vec<Asker<'_>>>
+    requires { All (λ s. s.table ≡ board_id board.now) seats.items }
+{
+    let mut askers = Vec::new(alloc);
+    for seat in seats {
+        if askers.push(at(board, seat)).is_err() {
+            return None;
+        }
+    }
+    Some(askers)
+}
+
+/// Records a result: its query.
+fn post(book: &mut Book, done: &Done) -> Outcome {
+    match book.post(done) {
+        Ok(()) => Outcome::Query(done.job().query()),
+        Err(fault) => Outcome::Refused(fault.reason().number()),
+    }
+}
+
+impl Asker<'_> {
+    /// How many results the pump records, or with which number it is refused.
+    pub fn pump(&mut self, book: &mut Book) -> Outcome {
+        match pump_once(self.board, &mut self.seat, book) {
+            Ok(posted) => Outcome::Count(posted.into()),
+            Err(fault) => Outcome::Refused(fault.reason().number()),
+        }
+    }
+
+    /// Offers a job: its query.
+    fn offer_job(&mut self, job: Job) -> Outcome {
+        let query = job.query();
+        let offered = self.board.offer(&mut self.seat, job);
+        match &offered {
+            Ok(_) => Outcome::Query(query),
+            Err((fault, job)) => Outcome::Back(fault.reason().number(), job.query()),
+        }
+    }
+
+    /// Hands out the next job and offers it: its query.
+    fn offer(&mut self, book: &mut Book) -> Outcome {
+        match book.hand_out() {
+            Ok(Some(job)) => self.offer_job(job),
+            Ok(None) => Outcome::Nothing,
+            Err(fault) => Outcome::Refused(fault.reason().number()),
+        }
+    }
+
+    /// The result at a place of the row.
+    fn poll(&mut self, place: usize) -> Option<Done> {
+        if place >= ROW {
+            return None;
+        }
+        match self.seat.held(place) {
+            Some(slot) => self.board.poll(&mut self.seat, slot),
+            None => None,
+        }
+    }
+
+    /// Records the result at a place of the row: its query.
+    fn receive(&mut self, book: &mut Book, place: usize) -> Outcome {
+        let polled = self.poll(place);
+        match &polled {
+            Some(done) => post(book, done),
+            None => Outcome::Nothing,
+        }
+    }
+
+    /// Does a step of the asker.
+    pub fn step(&mut self, book: &mut Book, word: &str, place: usize) -> Outcome {
+        match word {
+            "pump" => self.pump(book),
+            "offer" => self.offer(book),
+            _ => self.receive(book, place),
+        }
+    }
+}

@@ -1,0 +1,84 @@
+//! Cases of a book whose node is a founder that is alone: requests of clients, and the job board, with runners in its
+//! thread, and with many of both in threads.
+//!
+//! | Line | What it does |
+//! |---|---|
+//! | `-- TEXT` | is printed as it stands, and begins with a fresh book |
+//! | `+ HEX` | adds these bytes to the input |
+//! | `* COUNT HEX` | adds them so many times |
+//! | `! read COUNT`, `! write COUNT` | makes a call of the next `serve` fail once so many bytes of the input were read, or of the replies written |
+//! | `serve` | serves the input, which is empty then, and prints the replies as hexadecimal digits, how it ended, the calls of the reader and of the writer that failed, and how many messages the book gave |
+//!
+//! Any other line is a step, and is printed with what it comes to:
+//!
+//! | Step | What it does |
+//! |---|---|
+//! | `settle` | delivers what the book gave to itself until nothing is left |
+//! | `answer` | runs the job of each ready query, and records its answer: how many |
+//! | `leave` | the node leaves |
+//! | `room` | whether there is room for an answer |
+//! | `events` | how many events the journal has |
+//! | `offer` | hands out the next job and offers it: its query; a job that comes back is told by its query, with the refusal |
+//! | `run RUNNER` | the runner, 1 or 2, looks at eight slots, and runs each job that it claims: how many |
+//! | `back RUNNER COUNT` | the runner gives the jobs of its next claims back, so many: how many |
+//! | `receive PLACE` | records the result at this place of the asker's row: its query |
+//! | `pump` | receives and records all results, and offers what is ready: how many were recorded |
+//! | `gate RUNNERS LOOKS` | asks three queries of so many runners in threads, of which the second is held until the third is answered, or for so many looks: whether no run held another up, and all answers are right |
+//! | `many ASKERS RUNNERS QUERIES` | runs so many askers and runners in threads, where each asker asks so many queries: how many answers are right |
+//!
+//! The board of the steps has eight places, and is the same for all cases: each leaves it empty. What a call makes of a
+//! seat or a book is proved in its crate, for every schedule. Here threads run: that jobs get done at all is said by no
+//! proof. What is printed is the same under every schedule.
+//!
+//! Before the first line it is tried whether requests are answered where memory is refused: with any one of its
+//! allocations refused, the same is printed.
+#![tactic(auto)]
+
+mod asker;
+mod cases;
+mod founder;
+mod gate;
+mod many;
+mod requests;
+mod runner;
+mod step;
+mod stream;
+
+use crate::cases::{Cases, seated};
+use crate::requests::want_of_memory_is_answered;
+use q_board::board::Board;
+use std::alloc::Global;
+use std::io;
+use std::sync::Wait;
+use std::thread::Threads;
+use std::time::Clock;
+
+/// Takes each line of the input.
+fn take_all<R: Wait + Threads + Clock + Sync + Input + Print + Alloc<A = Global>>(
+    rt: &R,
+    cases: &mut Cases<'_>,
+) -> io::Result<()> {
+    for line in rt.lines(rt.alloc()) {
+        let line = line?;
+        cases.take(rt, line.as_str(), &mut io::writer(rt))?;
+    }
+    Ok(())
+}
+
+fn main(rt: HostRuntime) -> io::Result<()> {
+    if want_of_memory_is_answered(&rt, rt.alloc()) {
+        println!(rt; "want of memory is answered")?;
+    } else {
+        println!(rt; "want of memory is not answered")?;
+    }
+    match Board::open(rt.alloc(), 1, 2) {
+        Ok((board, askers, runners)) => {
+            let mut made = seated(rt.alloc(), &board, askers, runners);
+            match &mut made {
+                Some(cases) => take_all(&rt, cases),
+                None => Err(io::Error::from(io::ErrorKind::OutOfMemory)),
+            }
+        }
+        Err(_) => Err(io::Error::from(io::ErrorKind::OutOfMemory)),
+    }
+}

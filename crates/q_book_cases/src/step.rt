@@ -1,0 +1,52 @@
+//! What a step comes to.
+
+use std::fmt;
+
+/// What a step comes to.
+#[derive(Clone, Copy)]
+pub enum Outcome {
+    /// It was done.
+    Done,
+    /// It was tried, and was not done.
+    Failed,
+    /// There was nothing to do, or there is no such place, runner or memory.
+    Nothing,
+    /// So many jobs or results.
+    Count(u64),
+    /// The job or the result of this query.
+    Query(usize),
+    /// It was refused with this number.
+    Refused(u8),
+    /// It was refused with this number, and the job of this query came back.
+    Back(u8, usize),
+}
+
+impl Outcome {
+    /// Done where this is so, else failed.
+    pub fn of(is_done: bool) -> Outcome {
+        if is_done {
+            Outcome::Done
+        } else {
+            Outcome::Failed
+        }
+    }
+
+    /// Whether it is a number of jobs or results.
+    pub fn is_count(self) -> bool {
+        matches!(self, Outcome::Count(_))
+    }
+}
+
+impl fmt::Display for Outcome {
+    fn fmt<W: fmt::Write>(&self, f: &mut fmt::Formatter<W>) -> fmt::Result {
+        match *self {
+            Outcome::Done => f.write_str("done"),
+            Outcome::Failed => f.write_str("failed"),
+            Outcome::Nothing => f.write_str("nothing"),
+            Outcome::Count(count) => write!(f, "{count}"),
+            Outcome::Query(query) => write!(f, "query {query}"),
+            Outcome::Refused(reason) => write!(f, "refused {reason}"),
+            Outcome::Back(reason, query) => write!(f, "refused {reason}, query {query} came back"),
+        }
+    }
+}
