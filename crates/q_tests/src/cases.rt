@@ -1,0 +1,198 @@
+//! The cases, and what comes of them.
+
+use crate::events::{Ending, run};
+use crate::journals::{answer, gathered, journal, misjudged_beginnings, misjudged_changes};
+use crate::program::refusal;
+use crate::writer::listed;
+use bq_state::bounds::Bounds;
+use q_cluster::cluster::Cluster;
+use q_files::memory::MemoryFiles;
+use q_script::number::number;
+use q_script::script::Script;
+use q_session::ran::Ran;
+use q_sim::simulation::simulate;
+use std::alloc::{AllocError, Global};
+use std::io;
+use std::io::Write;
+
+/// The script whose lines were read, and the cluster over which the last list of events ran.
+#[derive(Drop)]
+pub struct Cases {
+    alloc: Global,
+    script: String,
+    cluster: Option<Cluster>,
+}
+
+/// A number, or 0, and what stands behind it.
+fn leading(words: &str) -> (u64, &str) {
+    let (first, rest) = words.split_once(' ').unwrap_or((words, ""));
+    (number(first).unwrap_or(0), rest)
+}
+
+/// Prints an answer.
+fn tell<W: Write>(out: &mut W, answer: Option<Ran>) -> io::Result<()> {
+    match answer {
+        Some(Ran { acc, steps }) => writeln!(out, "acc {acc} steps {steps}"),
+        None => writeln!(out, "no answer"),
+    }
+}
+
+/// Prints the answer of a gathered cluster, or the refusal.
+fn tell_gathered<W: Write>(
+    out: &mut W,
+    gathered: Option<Result<Option<Ran>, u8>>,
+) -> io::Result<()> {
+    match gathered {
+        Some(Ok(answer)) => tell(out, answer),
+        Some(Err(reason)) => writeln!(out, "refused {reason}"),
+        None => writeln!(out, "no journals"),
+    }
+}
+
+/// Prints what a script printed, and how many of its lines it told that are done.
+fn tell_printed<W: Write>(
+    out: &mut W,
+    lines: &str,
+    told: Option<(usize, usize)>,
+) -> io::Result<()> {
+    write!(out, "{lines}")?;
+    match told {
+        Some((done, all)) => writeln!(out, "{done} of {all} lines done"),
+        None => writeln!(out, "nothing told"),
+    }
+}
+
+impl Cases {
+    /// An empty script.
+    pub fn new(alloc: Global) -> Cases {
+        Cases {
+            alloc,
+            script: String::new(alloc),
+            cluster: None,
+        }
+    }
+
+    /// Takes a line, and writes what comes of it.
+    pub fn take<W: Write>(&mut self, text: &str, out: &mut W) -> io::Result<()> {
+        match text.split_once(' ') {
+            Some(("--", _)) => {
+                self.script.clear();
+                writeln!(out, "{text}")
+            }
+            Some(("$", words)) => {
+                writeln!(out, "{text}")?;
+                self.call(words, out)
+            }
+            _ => Ok(self.add(text)?),
+        }
+    }
+
+    fn add(&mut self, text: &str) -> Result<(), AllocError> {
+        self.script.push_str(text)?;
+        self.script.push('\n')
+    }
+
+    /// Makes the call that these words say.
+    fn call<W: Write>(&mut self, words: &str, out: &mut W) -> io::Result<()> {
+        let (word, rest) = words.split_once(' ').unwrap_or((words, ""));
+        let (first, behind) = leading(rest);
+        match word {
+            "run" => self.run(out),
+            "sim" => self.simulate(out),
+            "room" => {
+                let (end, status) = listed(self.alloc, first as usize, behind);
+                writeln!(out, "{end} status {status}")
+            }
+            "lengths" => self.certify(first, number(behind).unwrap_or(0), out),
+            _ => self.call_on_cluster(word, first, behind, out),
+        }
+    }
+
+    /// Runs the script as a list of events.
+    fn run<W: Write>(&mut self, out: &mut W) -> io::Result<()> {
+        match run(self.alloc, self.script.as_str(), &mut self.cluster) {
+            Ending::All => writeln!(out, "all ran"),
+            Ending::Refused(place, reason) => writeln!(out, "refused {reason} at {place}"),
+            Ending::Nothing => writeln!(out, "no cluster"),
+        }
+    }
+
+    /// Makes a call on the cluster or on its journals.
+    fn call_on_cluster<W: Write>(
+        &self,
+        word: &str,
+        node: u64,
+        rest: &str,
+        out: &mut W,
+    ) -> io::Result<()> {
+        let Some(cluster) = &self.cluster else {
+            return writeln!(out, "no cluster");
+        };
+        let (second, names) = leading(rest);
+        match word {
+            "answer" => tell(out, answer(cluster, node, second as usize)),
+            "gather" => {
+                let gathered = gathered(self.alloc, cluster, names, node, second as usize);
+                tell_gathered(out, gathered)
+            }
+            _ => {
+                let journal = journal(self.alloc, cluster, node);
+                match &journal {
+                    Some(journal) => self.spoil(word, journal.as_slice(), second, out),
+                    None => writeln!(out, "no journal"),
+                }
+            }
+        }
+    }
+
+    /// Replays what is not the journal.
+    fn spoil<W: Write>(
+        &self,
+        word: &str,
+        journal: &[u8],
+        count: u64,
+        out: &mut W,
+    ) -> io::Result<()> {
+        if word == "cut" {
+            let misjudged = misjudged_beginnings(self.alloc, journal);
+            return writeln!(out, "{} replayed, other {misjudged}", journal.len());
+        }
+        match misjudged_changes(self.alloc, journal, count) {
+            Some(misjudged) => writeln!(out, "{count} replayed, other {misjudged}"),
+            None => writeln!(out, "no memory"),
+        }
+    }
+
+    /// Runs the script, and prints what it prints and what it told.
+    fn simulate<W: Write>(&self, out: &mut W) -> io::Result<()> {
+        let mut files = MemoryFiles::new(self.alloc);
+        self.simulate_over(&mut files, out)
+    }
+
+    /// The same over these files.
+    fn simulate_over<W: Write>(&self, files: &mut MemoryFiles, out: &mut W) -> io::Result<()> {
+        let script = match Script::read(self.alloc, self.script.as_str()) {
+            Ok(script) => script,
+            Err(fault) => return writeln!(out, "refused {}", fault.reason().number()),
+        };
+        let simulated = simulate(self.alloc, script, files);
+        match &simulated {
+            Ok(printed) => tell_printed(out, printed.lines.as_str(), files.told()),
+            Err(refusal) => writeln!(out, "{refusal}"),
+        }
+    }
+
+    /// Tells whether a program for records of these lengths is taken.
+    fn certify<W: Write>(&self, least: u64, most: u64, out: &mut W) -> io::Result<()> {
+        let least = u8::try_from(least).unwrap_or(0);
+        let most = u8::try_from(most).unwrap_or(0);
+        match Bounds::new(least, most) {
+            Some(lengths) => match refusal(self.alloc, lengths) {
+                Some(0) => writeln!(out, "taken"),
+                Some(reason) => writeln!(out, "refused {reason}"),
+                None => writeln!(out, "no certificate"),
+            },
+            None => writeln!(out, "no lengths"),
+        }
+    }
+}

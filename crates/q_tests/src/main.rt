@@ -1,0 +1,39 @@
+//! Cases of calls of the query service that no command and no script makes: lists of events, journals that are
+//! gathered, cut and changed, a writer that fails, programs for records of other lengths than those of views.
+//!
+//! What commands and scripts can say stands as cases in the crate `q_cases`, and calls of one book in `q_book_cases`.
+//!
+//! | Line | What it does |
+//! |---|---|
+//! | `-- TEXT` | is printed as it stands, and begins a script |
+//! | `$ run` | makes the script a list of events, and runs it over a cluster of its founders: that all ran, or the refusal and the place of the event that was refused, from 0 |
+//! | `$ answer NODE QUERY` | the recorded answer of a query in that cluster |
+//! | `$ gather NODE QUERY NAMES` | gathers the journals of the nodes that are named, of `N-` the head alone: the recorded answer of a query in the gathered cluster, or the refusal |
+//! | `$ cut NODE` | replays each beginning of a node's journal, as `$ changed` does |
+//! | `$ changed NODE COUNT` | replays so many journals, each a node's journal with one byte changed: how many, and how many of them were neither refused with 57 or 58 nor replayed to a book whose journal has just those bytes |
+//! | `$ sim` | what the script prints, and how many lines it told that are done |
+//! | `$ room BYTES FILE` | lists a file, where the writer fails once it took so many bytes: how that ends, and the status; the file `a` holds one instruction |
+//! | `$ lengths LEAST MOST` | whether a program that was checked for records of these lengths is taken |
+//! | any other | is added to the script as a line |
+//!
+//! Lines with `$` are printed, with what comes of them.
+#![tactic(auto)]
+
+mod cases;
+mod events;
+mod journals;
+mod program;
+mod writer;
+
+use crate::cases::Cases;
+use std::io;
+
+fn main(rt: HostRuntime) -> io::Result<()> {
+    let alloc = rt.alloc();
+    let mut cases = Cases::new(alloc);
+    for line in rt.lines(alloc) {
+        let line = line?;
+        cases.take(line.as_str(), &mut io::writer(&rt))?;
+    }
+    Ok(())
+}
