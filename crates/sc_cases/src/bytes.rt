@@ -2,10 +2,11 @@
 
 use crate::views::first_byte;
 use sc_members::facts::Facts;
-use sc_msg::decode::decode;
-use sc_msg::encode::encode;
+use sc_msg::decode::decode_as;
+use sc_msg::encode::{encode, encode_v1};
 use sc_msg::fault::MessageFault;
 use sc_msg::message::{Body, Message};
+use sc_msg::version::Version;
 use sc_view::view::View;
 use std::alloc::Global;
 use std::io;
@@ -55,26 +56,33 @@ fn tell_body(rt: &impl Print, body: &Body) -> io::Result<()> {
     }
 }
 
+/// The bytes of the message in that version.
+fn written(alloc: Global, version: Version, message: &Message) -> Option<Vec<u8>> {
+    match version {
+        Version::First => encode_v1(alloc, message).ok(),
+        Version::Second => encode(alloc, message).ok(),
+    }
+}
+
 /// Whether the message is written as these bytes.
-pub(crate) fn is_written(alloc: Global, message: &Message, bytes: &[u8]) -> bool {
-    match encode(alloc, message) {
-        Ok(written) => written.as_slice() == bytes,
-        Err(_) => false,
+pub(crate) fn is_written(alloc: Global, version: Version, message: &Message, bytes: &[u8]) -> bool {
+    match written(alloc, version, message) {
+        Some(written) => written.as_slice() == bytes,
+        None => false,
     }
 }
 
 /// Whether a copy of the message is written as these bytes.
-fn is_kept(alloc: Global, message: &Message, bytes: &[u8]) -> bool {
+fn is_kept(alloc: Global, version: Version, message: &Message, bytes: &[u8]) -> bool {
     match message.clone() {
-        Ok(copy) => is_written(alloc, &copy, bytes),
+        Ok(copy) => is_written(alloc, version, &copy, bytes),
         Err(_) => false,
     }
 }
 
-fn tell_message(rt: &impl Print, alloc: Global, message: &Message, bytes: &[u8]) -> io::Result<()> {
+fn tell_message(rt: &impl Print, message: &Message, is_kept: bool) -> io::Result<()> {
     print!(rt; " {} from {}", message.kind().name(), message.from)?;
     tell_body(rt, &message.body)?;
-    let is_kept = is_kept(alloc, message, bytes);
     println!(rt; "{}", if is_kept { "" } else { " written otherwise" })
 }
 
@@ -87,17 +95,25 @@ pub(crate) fn bytes_of(alloc: Global, digits: &str) -> Option<Vec<u8>> {
     hex::decode(alloc, digits).ok()
 }
 
-fn tell_bytes(rt: &impl Print, alloc: Global, bytes: &[u8]) -> io::Result<()> {
-    match decode(alloc, bytes) {
-        Ok(message) => tell_message(rt, alloc, &message, bytes),
+fn tell_bytes(rt: &impl Print, alloc: Global, version: Version, bytes: &[u8]) -> io::Result<()> {
+    match decode_as(alloc, version, bytes) {
+        Ok(message) => {
+            let is_kept = is_kept(alloc, version, &message, bytes);
+            tell_message(rt, &message, is_kept)
+        }
         Err(fault) => refuse(rt, fault),
     }
 }
 
-/// What the message of these hexadecimal digits says, or why they are none.
-pub(crate) fn tell(rt: &impl Print, alloc: Global, digits: &str) -> io::Result<()> {
+/// What the message of these hexadecimal digits says in that version, or why they are none.
+pub(crate) fn tell(
+    rt: &impl Print,
+    alloc: Global,
+    version: Version,
+    digits: &str,
+) -> io::Result<()> {
     match bytes_of(alloc, digits) {
-        Some(bytes) => tell_bytes(rt, alloc, bytes.as_slice()),
+        Some(bytes) => tell_bytes(rt, alloc, version, bytes.as_slice()),
         None => println!(rt; " no digits"),
     }
 }

@@ -1,8 +1,9 @@
 //! Lines about the bytes of messages that are cut short or changed.
 
 use crate::bytes::{bytes_of, is_written};
-use sc_msg::decode::decode;
+use sc_msg::decode::decode_as;
 use sc_msg::fault::MessageFault;
+use sc_msg::version::Version;
 use std::alloc::Global;
 use std::io;
 
@@ -10,32 +11,37 @@ use std::io;
 const FIRST_WORD: u64 = 0x9e37_79b9_7f4a_7c15;
 
 /// The number of the refusal of bytes, or 0.
-fn refusal(alloc: Global, bytes: &[u8]) -> u8 {
-    match decode(alloc, bytes) {
+fn refusal(alloc: Global, version: Version, bytes: &[u8]) -> u8 {
+    match decode_as(alloc, version, bytes) {
         Ok(_) => 0,
         Err(fault) => fault.reason().number(),
     }
 }
 
-fn tell_refusals(rt: &impl Print, alloc: Global, bytes: &[u8]) -> io::Result<()> {
+fn tell_refusals(rt: &impl Print, alloc: Global, version: Version, bytes: &[u8]) -> io::Result<()> {
     for end in 0..bytes.len() {
-        print!(rt; " {}", refusal(alloc, &bytes[..end]))?;
+        print!(rt; " {}", refusal(alloc, version, &bytes[..end]))?;
     }
     println!(rt; "")
 }
 
-/// For each proper beginning of these bytes, from none on, the number of its refusal, or 0.
-pub(crate) fn tell_beginnings(rt: &impl Print, alloc: Global, digits: &str) -> io::Result<()> {
+/// For each proper beginning of these bytes, from none on, the number of its refusal in that version, or 0.
+pub(crate) fn tell_beginnings(
+    rt: &impl Print,
+    alloc: Global,
+    version: Version,
+    digits: &str,
+) -> io::Result<()> {
     match bytes_of(alloc, digits) {
-        Some(bytes) => tell_refusals(rt, alloc, bytes.as_slice()),
+        Some(bytes) => tell_refusals(rt, alloc, version, bytes.as_slice()),
         None => println!(rt; " no digits"),
     }
 }
 
 /// Whether bytes are refused, for another cause than memory, or are written as they were read.
-fn is_told(alloc: Global, bytes: &[u8]) -> bool {
-    match decode(alloc, bytes) {
-        Ok(message) => is_written(alloc, &message, bytes),
+fn is_told(alloc: Global, version: Version, bytes: &[u8]) -> bool {
+    match decode_as(alloc, version, bytes) {
+        Ok(message) => is_written(alloc, version, &message, bytes),
         Err(fault) => fault != MessageFault::OutOfMemory,
     }
 }
@@ -55,38 +61,43 @@ fn change(bytes: &mut [u8], place: usize, bits: u8) {
 }
 
 /// Whether the bytes are told while one of them, by the word, is another.
-fn is_told_changed(alloc: Global, bytes: &mut [u8], word: u64) -> bool {
+fn is_told_changed(alloc: Global, version: Version, bytes: &mut [u8], word: u64) -> bool {
     let place = (word >> 32) as usize;
     let place = place.checked_rem(bytes.len()).unwrap_or(0);
     let bits = (word % 255 + 1) as u8;
     change(bytes, place, bits);
-    let is_told = is_told(alloc, bytes);
+    let is_told = is_told(alloc, version, bytes);
     change(bytes, place, bits);
     is_told
 }
 
-fn tell_tries(rt: &impl Print, alloc: Global, count: u64, bytes: &mut [u8]) -> io::Result<()> {
+/// How many of so many changes are neither refused nor written as they were read.
+fn count_others(alloc: Global, version: Version, count: u64, bytes: &mut [u8]) -> u64 {
     let mut word = FIRST_WORD;
     let mut others: u64 = 0;
     for _ in 0..count {
         word = next_word(word);
-        if !is_told_changed(alloc, bytes, word) {
+        if !is_told_changed(alloc, version, bytes, word) {
             others = others.wrapping_add(1);
         }
     }
-    println!(rt; " tried {count}, other {others}")
+    others
 }
 
-/// These bytes with one of them changed, so often: how many were tried, and how many of them were neither refused nor
-/// written as they were read.
+/// These bytes with one of them changed, so often: how many were tried, and how many of them were neither refused in that
+/// version nor written as they were read.
 pub(crate) fn tell_changed(
     rt: &impl Print,
     alloc: Global,
+    version: Version,
     count: u64,
     digits: &str,
 ) -> io::Result<()> {
     match bytes_of(alloc, digits) {
-        Some(mut bytes) => tell_tries(rt, alloc, count, bytes.as_mut_slice()),
+        Some(mut bytes) => {
+            let others = count_others(alloc, version, count, bytes.as_mut_slice());
+            println!(rt; " tried {count}, other {others}")
+        }
         None => println!(rt; " no digits"),
     }
 }

@@ -11,10 +11,12 @@
 //! - `known ID`: how many values a node knows, how many nodes it takes for present and for members, and whether it is
 //!   there.
 //! - `counts`: how many events and messages there are.
-//! - `message HEX`: what the message says, and whether it is written as it was read; or the refusal.
-//! - `beginnings HEX`: for each proper beginning of the bytes, from none on, the number by which it is refused, or 0.
-//! - `changed COUNT HEX`: the bytes with one of them changed, so often, by a fixed generator: how many were tried, and
-//!   how many of them were neither refused nor written as they were read.
+//! - `message VERSION HEX`: what the message of that version, 1 or 2, says, and whether it is written as it was read; or
+//!   the refusal.
+//! - `beginnings VERSION HEX`: for each proper beginning of the bytes, from none on, the number by which it is refused, or
+//!   0.
+//! - `changed VERSION COUNT HEX`: the bytes with one of them changed, so often, by a fixed generator: how many were tried,
+//!   and how many of them were neither refused nor written as they were read.
 //! - `threshold N/D COUNT`, `fraction N/D`: the threshold; whether a cluster may have this fraction.
 //! - `sets ID .. / ID ..`: the union in rising order, the size of the first set, the least common id, and the sizes of
 //!   union and difference.
@@ -25,7 +27,8 @@
 //! - `share FIRST COUNT NUMBER BYTE / ID NUMBER BYTE`: a view of so many ids from the first on, and a copy that learns one
 //!   more value: how many entries each chunk of the copy has, and the number that each of the two knows at the id; or
 //!   the refusal.
-//! - `value COUNT`: how many bytes a value of so many bytes has, and how many a message that tells it; or the refusals.
+//! - `value COUNT`: how many bytes a value of so many bytes has, and how many a message that tells it, in version 2 and in
+//!   version 1; or the refusals.
 //!
 //! Another line is printed as it stands.
 #![tactic(auto)]
@@ -46,9 +49,13 @@ use std::io;
 fn answer(rt: &impl Print, alloc: Global, worlds: &mut Worlds, words: &[&str]) -> io::Result<()> {
     match Case::read(words) {
         Some(Case::World(line)) => worlds.answer(rt, line),
-        Some(Case::Message(digits)) => bytes::tell(rt, alloc, digits),
-        Some(Case::Beginnings(digits)) => changed::tell_beginnings(rt, alloc, digits),
-        Some(Case::Changed(count, digits)) => changed::tell_changed(rt, alloc, count, digits),
+        Some(Case::Message(version, digits)) => bytes::tell(rt, alloc, version, digits),
+        Some(Case::Beginnings(version, digits)) => {
+            changed::tell_beginnings(rt, alloc, version, digits)
+        }
+        Some(Case::Changed(version, count, digits)) => {
+            changed::tell_changed(rt, alloc, version, count, digits)
+        }
         Some(Case::Members(line)) => members::tell(rt, alloc, &line),
         Some(Case::View(first, second)) => views::tell(rt, alloc, first, second),
         Some(Case::Share(ids, value)) => views::tell_shared(rt, alloc, ids, value),

@@ -1,6 +1,6 @@
 //! Lines about the lengths of values.
 
-use sc_msg::encode::encode;
+use sc_msg::encode::{encode, encode_v1};
 use sc_msg::message::{Body, Message};
 use sc_view::value::Value;
 use sc_view::view::{Stored, View};
@@ -18,9 +18,13 @@ fn echo_of(alloc: Global, value: Value) -> Option<Message> {
 }
 
 fn tell_bytes(rt: &impl Print, alloc: Global, message: &Message) -> io::Result<()> {
-    match encode(alloc, message) {
-        Ok(bytes) => println!(rt; ", message {}", bytes.len()),
-        Err(fault) => println!(rt; ", message refused {}", fault.reason()),
+    print!(rt;
+        ", message {}",
+        encode(alloc, message).map_or(0, |bytes| bytes.len())
+    )?;
+    match encode_v1(alloc, message) {
+        Ok(bytes) => println!(rt; ", in version 1 {}", bytes.len()),
+        Err(fault) => println!(rt; ", in version 1 refused {}", fault.reason()),
     }
 }
 

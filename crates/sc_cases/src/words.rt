@@ -1,5 +1,6 @@
 //! What a line of a case asks for.
 
+use sc_msg::version::Version;
 use sc_view::value::{VALUE_LENGTH, Value};
 use sc_world::event::Event;
 
@@ -43,9 +44,9 @@ pub(crate) enum MembersLine<'a> {
 #[derive(Clone, Copy)]
 pub(crate) enum Case<'a> {
     World(WorldLine),
-    Message(&'a str),
-    Beginnings(&'a str),
-    Changed(u64, &'a str),
+    Message(Version, &'a str),
+    Beginnings(Version, &'a str),
+    Changed(Version, u64, &'a str),
     Members(MembersLine<'a>),
     View(&'a [&'a str], &'a [&'a str]),
     Share(&'a [&'a str], &'a [&'a str]),
@@ -186,12 +187,22 @@ fn members_line<'a>(words: &'a [&'a str]) -> Option<MembersLine<'a>> {
     }
 }
 
+fn version_of(word: &str) -> Option<Version> {
+    match word {
+        "1" => Some(Version::First),
+        "2" => Some(Version::Second),
+        _ => None,
+    }
+}
+
 /// A line about bytes.
 fn bytes_case<'a>(words: &'a [&'a str]) -> Option<Case<'a>> {
     match words {
-        ["message", digits] => Some(Case::Message(digits)),
-        ["beginnings", digits] => Some(Case::Beginnings(digits)),
-        ["changed", count, digits] => Some(Case::Changed(number(count)?, digits)),
+        ["message", version, digits] => Some(Case::Message(version_of(version)?, digits)),
+        ["beginnings", version, digits] => Some(Case::Beginnings(version_of(version)?, digits)),
+        ["changed", version, count, digits] => {
+            Some(Case::Changed(version_of(version)?, number(count)?, digits))
+        }
         ["value", count] => Some(Case::Value(place(count)?)),
         _ => None,
     }

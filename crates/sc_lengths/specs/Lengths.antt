@@ -1,9 +1,10 @@
 -- The lengths of the values that a node keeps, and of those that it tells.
 use Rattle.std.specs.Prelude.{◌≡◌, ℕ, length, All, Some, IfSome}
+use Rattle.sc_view.specs.Values.{Lengths, IsWithin}
 use Rattle.std.specs.Ordering.{nat_cmp}
 use Rattle.std.specs.FinMap as fin
-use Rattle.sc_view.specs.Views.{HasValuesOf}
-use Rattle.sc_msg.specs.Lengths.{MessageHasValuesOf}
+use Rattle.sc_view.specs.Views.{HasValuesWithin}
+use Rattle.sc_msg.specs.Lengths.{MessageHasValuesWithin}
 use Rattle.sc_node.specs.declared.session.OperationKind.{OperationKind}
 use Rattle.sc_node.specs.declared.session.OperationKind.TheVariants as kind
 use Rattle.sc_node.specs.declared.session.Session.{Session}
@@ -19,45 +20,45 @@ use Rattle.sc_node.specs.Sessions.{stored}
 use Rattle.sc_node.specs.State.{NodeState}
 
 -- the value that an operation is for
-abbrev pub KindHasValuesOf : ℕ → OperationKind → Type 0
-KindHasValuesOf n (kind.Store e) = length e.value ≡ n
-KindHasValuesOf n kind.Collect = Unit {0}
+abbrev pub KindHasValuesWithin : Lengths → OperationKind → Type 0
+KindHasValuesWithin l (kind.Store e) = IsWithin (length e.value) l
+KindHasValuesWithin l kind.Collect = Unit {0}
 
 -- each value of an operation: the one that it is for, and those of the view that it stores, or stores back
-pub record SessionHasValuesOf (n : ℕ) (o : Session) : Type 0 where
-  pub kind : KindHasValuesOf n o.kind
-  pub view : IfSome (stored o) (HasValuesOf n)
+pub record SessionHasValuesWithin (l : Lengths) (o : Session) : Type 0 where
+  pub kind : KindHasValuesWithin l o.kind
+  pub view : IfSome (stored o) (HasValuesWithin l)
 
 -- each value of the open operations
-pub record TableHasValuesOf (n : ℕ) (m : fin.FinMap nat_cmp Session) : Type 0 where
-  pub at : (tag : ℕ) (o : Session) → fin.get m tag ≡ Some o → SessionHasValuesOf n o
+pub record TableHasValuesWithin (l : Lengths) (m : fin.FinMap nat_cmp Session) : Type 0 where
+  pub at : (tag : ℕ) (o : Session) → fin.get m tag ≡ Some o → SessionHasValuesWithin l o
 
 -- each value that a node keeps
-pub record NodeHasValuesOf (n : ℕ) (s : NodeState) : Type 0 where
-  pub view : HasValuesOf n s.view
-  pub sessions : TableHasValuesOf n s.sessions
+pub record NodeHasValuesWithin (l : Lengths) (s : NodeState) : Type 0 where
+  pub view : HasValuesWithin l s.view
+  pub sessions : TableHasValuesWithin l s.sessions
 
 -- each value that is told as an operation begins
-pub record BegunHasValuesOf (n : ℕ) (b : Begun) : Type 0 where
-  pub session : SessionHasValuesOf n b.session
-  pub outs : All (MessageHasValuesOf n) b.outs
+pub record BegunHasValuesWithin (l : Lengths) (b : Begun) : Type 0 where
+  pub session : SessionHasValuesWithin l b.session
+  pub outs : All (MessageHasValuesWithin l) b.outs
 
-abbrev pub AdvanceHasValuesOf : ℕ → Advance → Type 0
-AdvanceHasValuesOf n (advance.Turned threshold view) = HasValuesOf n view
-AdvanceHasValuesOf n a = Unit {0}
+abbrev pub AdvanceHasValuesWithin : Lengths → Advance → Type 0
+AdvanceHasValuesWithin l (advance.Turned threshold view) = HasValuesWithin l view
+AdvanceHasValuesWithin l a = Unit {0}
 
-abbrev pub ProgressHasValuesOf : ℕ → Progress → Type 0
-ProgressHasValuesOf n p = AdvanceHasValuesOf n p.advance
+abbrev pub ProgressHasValuesWithin : Lengths → Progress → Type 0
+ProgressHasValuesWithin l p = AdvanceHasValuesWithin l p.advance
 
-abbrev pub CompletionHasValuesOf : ℕ → Completion → Type 0
-CompletionHasValuesOf n completion.Stored = Unit {0}
-CompletionHasValuesOf n (completion.Returned view) = HasValuesOf n view
+abbrev pub CompletionHasValuesWithin : Lengths → Completion → Type 0
+CompletionHasValuesWithin l completion.Stored = Unit {0}
+CompletionHasValuesWithin l (completion.Returned view) = HasValuesWithin l view
 
-abbrev pub EndedHasValuesOf : ℕ → Ended → Type 0
-EndedHasValuesOf n e = CompletionHasValuesOf n e.what
+abbrev pub EndedHasValuesWithin : Lengths → Ended → Type 0
+EndedHasValuesWithin l e = CompletionHasValuesWithin l e.what
 
 -- each value that is told as a message is taken
-pub record DeliveryHasValuesOf (n : ℕ) (d : Delivered) : Type 0 where
-  pub outs : All (MessageHasValuesOf n) d.outs
-  pub progress : IfSome d.progress (ProgressHasValuesOf n)
-  pub ended : IfSome d.ended (EndedHasValuesOf n)
+pub record DeliveryHasValuesWithin (l : Lengths) (d : Delivered) : Type 0 where
+  pub outs : All (MessageHasValuesWithin l) d.outs
+  pub progress : IfSome d.progress (ProgressHasValuesWithin l)
+  pub ended : IfSome d.ended (EndedHasValuesWithin l)

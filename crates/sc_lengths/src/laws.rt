@@ -2,37 +2,38 @@
 
 ghost use Rattle.std.specs.Prelude.{◌≡◌, ℕ, List, length, All, Ok};
 ghost use Rattle.sc_members.specs.Members.{Config};
+ghost use Rattle.sc_view.specs.Values.{Lengths, IsWithin};
 ghost use Rattle.sc_msg.specs.declared.message.Message.{Message};
-ghost use Rattle.sc_msg.specs.Lengths.{MessageHasValuesOf};
+ghost use Rattle.sc_msg.specs.Lengths.{MessageHasValuesWithin};
 ghost use Rattle.sc_node.specs.declared.answer.Begun.{Begun};
 ghost use Rattle.sc_node.specs.declared.answer.Delivered.{Delivered};
 ghost use Rattle.sc_node.specs.State.{NodeState};
 ghost use Rattle.sc_node.specs.Nodes.{founded, entered, store_begun, collect_begun, left, delivered};
-ghost use Rattle.sc_lengths.specs.Lengths.{NodeHasValuesOf, BegunHasValuesOf, DeliveryHasValuesOf};
+ghost use Rattle.sc_lengths.specs.Lengths.{NodeHasValuesWithin, BegunHasValuesWithin, DeliveryHasValuesWithin};
 
-/// A law: a new node has no value, so each of its values has any length; nor has what it sends.
+/// A law: a new node has no value, so each of its values has one of any lengths; nor has what it sends.
 pub fn new_nodes_have_no_value()
-    ensures founder { (n : ℕ) (c : Config) (id : ℕ) (ids : List ℕ) (s : NodeState) → founded c id ids ≡ Ok s → NodeHasValuesOf n s }
-    ensures entering { (n : ℕ) (c : Config) (id : ℕ) → NodeHasValuesOf n (entered c id).0 }
-    ensures says { (n : ℕ) (c : Config) (id : ℕ) → All (MessageHasValuesOf n) (entered c id).1 }
+    ensures founder { (l : Lengths) (c : Config) (id : ℕ) (ids : List ℕ) (s : NodeState) → founded c id ids ≡ Ok s → NodeHasValuesWithin l s }
+    ensures entering { (l : Lengths) (c : Config) (id : ℕ) → NodeHasValuesWithin l (entered c id).0 }
+    ensures says { (l : Lengths) (c : Config) (id : ℕ) → All (MessageHasValuesWithin l) (entered c id).1 }
 {}
 
-/// A law: what a node keeps and sends as a store of a value of that length begins.
+/// A law: what a node keeps and sends as a store of a value of one of those lengths begins.
 pub fn store_keeps_lengths()
-    ensures { (n : ℕ) (s t : NodeState) (value : List ℕ) (b : Begun) → NodeHasValuesOf n s → length value ≡ n → store_begun s value ≡ Ok (b, t) → NodeHasValuesOf n t × BegunHasValuesOf n b }
+    ensures { (l : Lengths) (s t : NodeState) (value : List ℕ) (b : Begun) → NodeHasValuesWithin l s → IsWithin (length value) l → store_begun s value ≡ Ok (b, t) → NodeHasValuesWithin l t × BegunHasValuesWithin l b }
 {}
 
 /// A law: the same as a collect begins.
 pub fn collect_keeps_lengths()
-    ensures { (n : ℕ) (s t : NodeState) (b : Begun) → NodeHasValuesOf n s → collect_begun s ≡ Ok (b, t) → NodeHasValuesOf n t × BegunHasValuesOf n b }
+    ensures { (l : Lengths) (s t : NodeState) (b : Begun) → NodeHasValuesWithin l s → collect_begun s ≡ Ok (b, t) → NodeHasValuesWithin l t × BegunHasValuesWithin l b }
 {}
 
 /// A law: the same as a node leaves.
 pub fn leave_keeps_lengths()
-    ensures { (n : ℕ) (s t : NodeState) (outs : List Message) → NodeHasValuesOf n s → left s ≡ Ok (outs, t) → NodeHasValuesOf n t × All (MessageHasValuesOf n) outs }
+    ensures { (l : Lengths) (s t : NodeState) (outs : List Message) → NodeHasValuesWithin l s → left s ≡ Ok (outs, t) → NodeHasValuesWithin l t × All (MessageHasValuesWithin l) outs }
 {}
 
-/// A law: the same as a message is delivered whose values have that length.
+/// A law: the same as a message is delivered whose values have those lengths.
 pub fn delivery_keeps_lengths()
-    ensures { (n : ℕ) (s t : NodeState) (m : Message) (d : Delivered) → NodeHasValuesOf n s → MessageHasValuesOf n m → delivered s m ≡ Ok (d, t) → NodeHasValuesOf n t × DeliveryHasValuesOf n d }
+    ensures { (l : Lengths) (s t : NodeState) (m : Message) (d : Delivered) → NodeHasValuesWithin l s → MessageHasValuesWithin l m → delivered s m ≡ Ok (d, t) → NodeHasValuesWithin l t × DeliveryHasValuesWithin l d }
 {}

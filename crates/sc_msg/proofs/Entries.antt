@@ -1,13 +1,15 @@
 -- A list of entries has one spelling and at most one fault, and what is spelled has none.
-use Rattle.std.proofs.Common.{◌≡◌, ℕ, ◌+◌, ◌<◌, ◌≤◌, ◌^◌, ◌==◌, true, false, nat_lt, List, [], ◌∷◌, ◌++◌, length, map, take, drop, Option, Some, None, refl, sym, ap, subst, ◌∙◌, arith, append_assoc, length-append, inl, inr}
+use Rattle.std.proofs.Common.{◌≡◌, ℕ, suc, ◌+◌, ◌<◌, ◌≤◌, ◌^◌, ◌==◌, true, false, nat_lt, List, [], ◌∷◌, ◌++◌, length, map, take, drop, Option, Some, None, refl, sym, ap, subst, ◌∙◌, arith, append_assoc, length-append, inl, inr}
 use Rattle.std.proofs.lemmas.Bool.{le-ltb, ne_eqb}
 use Rattle.std.proofs.lemmas.List.{take_at, drop_at}
 use Rattle.std.specs.List.{flat_map, AllByRecursion}
-use Rattle.sc_view.specs.Values.{value_length}
 use Rattle.sc_view.specs.declared.view.Stored.{Stored}
 use Rattle.sc_msg.specs.declared.fault.MessageFault.{MessageFault}
+use Rattle.sc_msg.specs.declared.version.Version.{Version}
+use Rattle.sc_msg.specs.declared.version.Version.TheVariants.{First, Second}
 use Rattle.sc_msg.specs.Numbers.{number_bytes, first_number}
-use Rattle.sc_msg.specs.Entries.{Layout, ids_layout, view_layout, IsStored, stored_bytes, stored_fault, entry_bytes, list_bytes, IsEntry, IsRising, last_of, is_above, count_fault, entry_fault, first_of}
+use Rattle.sc_msg.specs.Values.{value_bytes, value_fault, first_of, IsLength}
+use Rattle.sc_msg.specs.Entries.{Layout, ids_layout, view_layout, IsStored, stored_bytes, stored_fault, entry_bytes, list_bytes, IsEntry, IsRising, last_of, is_above, count_fault, entry_fault}
 use Rattle.sc_msg.specs.Fields.{IsListFault}
 use Rattle.sc_msg.proofs.Numbers.{length-number_bytes, first_number-number_bytes}
 use Rattle.sc_msg.proofs.Lists.{id_sound, behind_id}
@@ -125,25 +127,45 @@ ids_law = record { few = omega arith; front = λ a b x y same p q e. (same, e); 
 pub stored_is : (d e : Stored) → d.number ≡ e.number → d.value ≡ e.value → d ≡ e
 stored_is d e p q = λ i. record { number = p i; value = q i }
 
-stored_front : (d e : Stored) (x y : List ℕ) → IsStored d → IsStored e → stored_bytes d ++ x ≡ stored_bytes e ++ y → (d ≡ e) × (x ≡ y)
-stored_front d e x y p q same =
-    let n = number_front 8 d.number e.number (d.value ++ x) (e.value ++ y) p.fits q.fits (sym (append_assoc (number_bytes 8 d.number) d.value x) ∙ same ∙ append_assoc (number_bytes 8 e.number) e.value y) in
-    let v = same_front d.value e.value x y value_length p.whole q.whole n.1 in
+heads : (m n : ℕ) (x y : List ℕ) → m ∷ x ≡ n ∷ y → (m ≡ n) × (x ≡ y)
+heads m n x y e = (cc, cc)
+
+value_front : (version : Version) (v w x y : List ℕ) → IsLength version (length v) → IsLength version (length w) → value_bytes version v ++ x ≡ value_bytes version w ++ y → (v ≡ w) × (x ≡ y)
+value_front First v w x y p q e = same_front v w x y (length w) (omega (arith, p.least, p.most, q.least, q.most)) refl e
+value_front Second v w x y p q e = let h = heads (length v) (length w) (v ++ x) (w ++ y) e in same_front v w x y (length w) h.0 refl h.1
+
+value_sound : (version : Version) (v x : List ℕ) → IsLength version (length v) → value_fault version (value_bytes version v ++ x) ≡ None
+value_sound First v x p =
+    let long : nat_lt (length (v ++ x)) 48 ≡ false = le-ltb _ _ (omega (arith, p.least, length-append v x)) in
+    rw long refl
+value_sound Second v x p =
+    let some : nat_lt (suc (length (v ++ x))) 1 ≡ false = le-ltb _ _ (omega arith) in
+    let low : nat_lt 112 (length v) ≡ false = le-ltb _ _ p.most in
+    let long : nat_lt (suc (length (v ++ x))) (1 + length v) ≡ false = le-ltb _ _ (omega (arith, length-append v x)) in
+    rw (some, low, long) refl
+
+stored_front : (version : Version) (d e : Stored) (x y : List ℕ) → IsStored version d → IsStored version e → stored_bytes version d ++ x ≡ stored_bytes version e ++ y → (d ≡ e) × (x ≡ y)
+stored_front version d e x y p q same =
+    let a = value_bytes version d.value in
+    let b = value_bytes version e.value in
+    let n = number_front 8 d.number e.number (a ++ x) (b ++ y) p.fits q.fits (sym (append_assoc (number_bytes 8 d.number) a x) ∙ same ∙ append_assoc (number_bytes 8 e.number) b y) in
+    let v = value_front version d.value e.value x y p.whole q.whole n.1 in
     (stored_is d e n.0 v.0, v.1)
 
-stored_sound : (e : Stored) (x : List ℕ) → IsStored e → stored_fault (stored_bytes e ++ x) ≡ None
-stored_sound e x p =
-    let bytes = stored_bytes e ++ x in
-    let len : length bytes ≡ 56 + length x = omega (arith, length-append (stored_bytes e) x, length-append (number_bytes 8 e.number) e.value, length-number_bytes 8 e.number, p.whole) in
-    let long : nat_lt (length bytes) 8 ≡ false = le-ltb _ _ (omega (arith, len)) in
-    let first : first_number 8 bytes ≡ e.number = ap (first_number 8) (append_assoc (number_bytes 8 e.number) e.value x) ∙ first_number-number_bytes 8 e.number (e.value ++ x) p.fits in
+stored_sound : (version : Version) (e : Stored) (x : List ℕ) → IsStored version e → stored_fault version (stored_bytes version e ++ x) ≡ None
+stored_sound version e x p =
+    let bytes = stored_bytes version e ++ x in
+    let behind = value_bytes version e.value ++ x in
+    let parts : bytes ≡ number_bytes 8 e.number ++ behind = append_assoc (number_bytes 8 e.number) (value_bytes version e.value) x in
+    let long : nat_lt (length bytes) 8 ≡ false = le-ltb _ _ (omega (arith, ap length parts, length-append (number_bytes 8 e.number) behind, length-number_bytes 8 e.number)) in
+    let first : first_number 8 bytes ≡ e.number = ap (first_number 8) parts ∙ first_number-number_bytes 8 e.number behind p.fits in
     let positive : (first_number 8 bytes == 0) ≡ false = ap (λ n. n == 0) first ∙ ne_eqb e.number 0 (λ z. omega (arith, z, p.positive)) in
-    let longer : nat_lt (length bytes) 56 ≡ false = le-ltb _ _ (omega (arith, len)) in
-    rw (long, positive, longer) refl
+    let rest : drop 8 bytes ≡ behind = behind_id e.number bytes behind parts in
+    rw (long, positive, rest) (value_sound version e.value x p.whole)
 
-pub view_law : IsLayout view_layout
-view_law = record {
+pub view_law : (version : Version) → IsLayout (view_layout version)
+view_law version = record {
   few = omega arith;
-  front = λ a b x y same p q e. let h = stored_front a.1 b.1 x y p q e in ((λ i. (same i, h.0 i)), h.1);
-  sound = λ a x p. stored_sound a.1 x p;
+  front = λ a b x y same p q e. let h = stored_front version a.1 b.1 x y p q e in ((λ i. (same i, h.0 i)), h.1);
+  sound = λ a x p. stored_sound version a.1 x p;
 }

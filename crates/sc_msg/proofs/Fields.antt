@@ -4,6 +4,7 @@ use Rattle.std.proofs.lemmas.Bool.{lt-ltb}
 use Rattle.sc_msg.specs.declared.fault.MessageFault.{MessageFault}
 use Rattle.sc_msg.specs.declared.fault.MessageFault.TheVariants.{Short}
 use Rattle.sc_msg.specs.Fields.{Slot, number_slot, flag_slot, ids_slot, view_slot, number, flag, ids, facts_slots, facts_fields, Field, slot_of, field_bytes, fields_bytes, IsField, IsFieldFault, IsFieldsFault, OrMemory}
+use Rattle.sc_msg.specs.declared.version.Version.{Version}
 use Rattle.sc_members.specs.Members.{Facts}
 use Rattle.sc_msg.specs.Entries.{AreIds, ids_bytes}
 use Rattle.sc_msg.proofs.Lists.{or_memory, or_memory_map}
@@ -72,10 +73,10 @@ pub number_cut_second : (n : ℕ) (after : List Slot) (bytes rest : List ℕ) (e
 number_cut_second n after bytes rest e fits parts is few = later_or (number n) (number_slot ∷ after) bytes rest e fits parts (number_cut_first after rest e is few)
 
 -- behind the two fields of an echo that stand before its facts
-pub echo_or : (to : ℕ) (joined : Bool) (bytes behind_to behind_joined : List ℕ) (e : MessageFault) → IsField (number to) → bytes ≡ field_bytes (number to) ++ behind_to → behind_to ≡ field_bytes (flag joined) ++ behind_joined
-    → MayFault (facts_slots ++ view_slot ∷ []) behind_joined e → MayFault (number_slot ∷ flag_slot ∷ facts_slots ++ view_slot ∷ []) bytes e
-echo_or to joined bytes behind_to behind_joined e fits parts behind faulty =
-    later_or (number to) (flag_slot ∷ facts_slots ++ view_slot ∷ []) bytes behind_to e fits parts (later_or (flag joined) (facts_slots ++ view_slot ∷ []) behind_to behind_joined e tt behind faulty)
+pub echo_or : (version : Version) (to : ℕ) (joined : Bool) (bytes behind_to behind_joined : List ℕ) (e : MessageFault) → IsField (number to) → bytes ≡ field_bytes (number to) ++ behind_to → behind_to ≡ field_bytes (flag joined) ++ behind_joined
+    → MayFault (facts_slots ++ view_slot version ∷ []) behind_joined e → MayFault (number_slot ∷ flag_slot ∷ facts_slots ++ view_slot version ∷ []) bytes e
+echo_or version to joined bytes behind_to behind_joined e fits parts behind faulty =
+    later_or (number to) (flag_slot ∷ facts_slots ++ view_slot version ∷ []) bytes behind_to e fits parts (later_or (flag joined) (facts_slots ++ view_slot version ∷ []) behind_to behind_joined e tt behind faulty)
 
 -- behind facts that were read
 pub facts_later : (f : Facts) (slots : List Slot) (bytes rest : List ℕ) (e : MessageFault) → AreIds f.entered → AreIds f.joined → AreIds f.left → bytes ≡ fields_bytes (facts_fields f) ++ rest → MayFault slots rest e → MayFault (facts_slots ++ slots) bytes e

@@ -1,45 +1,105 @@
 -- The lengths of values in messages that have a spelling.
-use Rattle.std.proofs.Common.{◌≡◌, ℕ, true, List, [], ◌∷◌, Option, Some, None, IfSome, Result, Ok, Err}
+use Rattle.std.proofs.Common.{◌≡◌, ◌↔◌, ◌==◌, ◌≤◌, ℕ, nat_le, Bool, true, false, IsTrue, List, [], ◌∷◌, length, Option, Some, None, IfSome, Result, Ok, Err, refl, sym, ap, ◌∙◌, arith, eq-eqb}
+use Rattle.std.proofs.lemmas.Bool.{eqb-true, leb-true, le-leb}
 use Rattle.std.specs.Result.{IfOk}
 use Rattle.std.specs.List.{AllByRecursion}
 use Rattle.std.specs.FinMap as fin
 use Rattle.sc_view.specs.declared.view.Stored.{Stored}
-use Rattle.sc_view.specs.Views.{ViewMap, HasValuesOf}
-use Rattle.sc_view.proofs.LengthLemmas.{OfLength, of_length_by_entries, of_length_told}
+use Rattle.sc_view.specs.Values.{Lengths, is_within}
+use Rattle.sc_view.specs.Views.{ViewMap, HasValuesWithin}
+use Rattle.sc_view.proofs.LengthLemmas.{Within, within_by_entries, is_told, told_is, told_within, within_told}
 use Rattle.sc_msg.specs.declared.message.Body.{Body}
 use Rattle.sc_msg.specs.declared.message.Body.TheVariants as bodies
 use Rattle.sc_msg.specs.declared.message.Message.{Message}
 use Rattle.sc_msg.specs.declared.fault.MessageFault.{MessageFault}
+use Rattle.sc_msg.specs.declared.version.Version.{Version}
+use Rattle.sc_msg.specs.declared.version.Version.TheVariants.{First, Second}
+use Rattle.sc_msg.specs.Values.{value_lengths, IsLength}
 use Rattle.sc_msg.specs.Entries.{AreRecords, IsEntry, view_layout}
 use Rattle.sc_msg.specs.Fields.{IsField, fields}
 use Rattle.sc_msg.specs.Messages.{IsMessage}
-use Rattle.sc_msg.specs.Lengths.{BodyHasValuesOf, MessageHasValuesOf, view_of, told_values_of, has_values_of}
+use Rattle.sc_msg.specs.Lengths.{MessageHasValuesWithin, BodyFits, Fits, view_of, told_values_within, has_values_within}
 
-all_whole : (es : List (ℕ × Stored)) → AllByRecursion (IsEntry view_layout) es → AllByRecursion (OfLength 48) es
-all_whole [] h = tt
-all_whole (e ∷ es) h = (h.0.1.whole, all_whole es h.1)
+all_within : (version : Version) (es : List (ℕ × Stored)) → AllByRecursion (IsEntry (view_layout version)) es → AllByRecursion (Within (value_lengths version)) es
+all_within version [] h = tt
+all_within version (e ∷ es) h = (h.0.1.whole, all_within version es h.1)
 
-records_of_length : (v : ViewMap) → AreRecords v → HasValuesOf 48 v
-records_of_length v are = of_length_by_entries 48 v (all_whole (fin.entries v) are.fit)
+records_fit : (version : Version) (v : ViewMap) → AreRecords version v → HasValuesWithin (value_lengths version) v
+records_fit version v are = within_by_entries (value_lengths version) v (all_within version (fin.entries v) are.fit)
 
-body_of_length : (b : Body) → AllByRecursion IsField (fields b) → BodyHasValuesOf 48 b
-body_of_length (bodies.EnterEcho to joined facts v) h = records_of_length v h.1.1.1.1.1.0
-body_of_length (bodies.Store tag v) h = records_of_length v h.1.0
-body_of_length (bodies.StoreEcho v) h = records_of_length v h.0
-body_of_length (bodies.CollectReply to tag v) h = records_of_length v h.1.1.0
-body_of_length b h = tt
+body_fits : (version : Version) (b : Body) → AllByRecursion IsField (fields version b) → BodyFits version b
+body_fits version (bodies.EnterEcho to joined facts v) h = records_fit version v h.1.1.1.1.1.0
+body_fits version (bodies.Store tag v) h = records_fit version v h.1.0
+body_fits version (bodies.StoreEcho v) h = records_fit version v h.0
+body_fits version (bodies.CollectReply to tag v) h = records_fit version v h.1.1.0
+body_fits version b h = tt
 
-pub message_of_length : (m : Message) → IsMessage m → MessageHasValuesOf 48 m
-message_of_length m is = body_of_length m.body is.fields
+pub message_fits : (version : Version) (m : Message) → IsMessage version m → Fits version m
+message_fits version m is = body_fits version m.body is.fields
 
-pub decoded_of_length : (r : Result Message MessageFault) → IfOk r IsMessage → IfOk r (MessageHasValuesOf 48)
-decoded_of_length (Ok m) is = message_of_length m is
-decoded_of_length (Err e) is = tt
+pub decoded_fits : (version : Version) (r : Result Message MessageFault) → IfOk r (IsMessage version) → IfOk r (Fits version)
+decoded_fits version (Ok m) is = message_fits version m is
+decoded_fits version (Err e) is = tt
 
--- a message of which the test finds each value to have so many bytes
-told_has : (n : ℕ) (o : Option ViewMap) → told_values_of n o ≡ true → IfSome o (HasValuesOf n)
-told_has n None h = tt
-told_has n (Some v) h = of_length_told n v h
+-- ---- both versions
 
-pub message_told : (n : ℕ) (m : Message) → has_values_of n m ≡ true → MessageHasValuesOf n m
-message_told n m h = told_has n (view_of m.body) h
+first_short : (n : ℕ) → IsLength First n → IsLength Second n
+first_short n is = record { least = omega arith; most = omega (arith, is.most) }
+
+first_view : (v : ViewMap) → HasValuesWithin (value_lengths First) v → HasValuesWithin (value_lengths Second) v
+first_view v h = record { at = λ id e has. first_short (length e.value) (h.at id e has) }
+
+first_told : (o : Option ViewMap) → IfSome o (HasValuesWithin (value_lengths First)) → IfSome o (HasValuesWithin (value_lengths Second))
+first_told None h = tt
+first_told (Some v) h = first_view v h
+
+-- what can be written in the first version can be written in the second
+pub first_fits_second : (m : Message) → Fits First m → Fits Second m
+first_fits_second m h = first_told (view_of m.body) h
+
+-- ---- the test
+
+has_told : (l : Lengths) (o : Option ViewMap) → told_values_within l o ≡ true → IfSome o (HasValuesWithin l)
+has_told l None h = tt
+has_told l (Some v) h = told_within l v h
+
+-- a message of which the test finds each value to have one of these lengths
+pub message_told : (l : Lengths) (m : Message) → has_values_within l m ≡ true → MessageHasValuesWithin l m
+message_told l m h = has_told l (view_of m.body) h
+
+told_has : (l : Lengths) (o : Option ViewMap) → IfSome o (HasValuesWithin l) → told_values_within l o ≡ true
+told_has l None h = refl
+told_has l (Some v) h = within_told l v h
+
+pub told_message : (l : Lengths) (m : Message) → MessageHasValuesWithin l m → has_values_within l m ≡ true
+told_message l m h = told_has l (view_of m.body) h
+
+-- ---- a length
+
+-- two tests of one fact
+same_test : (s t : Bool) (P : Type 0) → (s ≡ true → P) → (P → s ≡ true) → (t ≡ true → P) → (P → t ≡ true) → s ≡ t
+same_test true t P from_s to_s from_t to_t = sym (to_t (from_s refl))
+same_test false true P from_s to_s from_t to_t = to_s (from_t refl)
+same_test false false P from_s to_s from_t to_t = refl
+
+first_is : (n : ℕ) → n ≡ 48 → IsLength First n
+first_is n is = record { least = omega (arith, is); most = omega (arith, is) }
+
+second_is : (n : ℕ) → n ≤ 112 → IsLength Second n
+second_is n few = record { least = omega arith; most = few }
+
+first_length : (n : ℕ) → (n == 48) ≡ is_within n (value_lengths First)
+first_length n = same_test (n == 48) (is_within n (value_lengths First)) (IsLength First n) (λ yes. first_is n (eqb-true n 48 yes)) (λ h. eq-eqb n 48 (omega (arith, h.least, h.most))) (told_is n (value_lengths First)) (is_told n (value_lengths First))
+
+second_length : (n : ℕ) → nat_le n 112 ≡ is_within n (value_lengths Second)
+second_length n = same_test (nat_le n 112) (is_within n (value_lengths Second)) (IsLength Second n) (λ yes. second_is n (leb-true n 112 yes)) (λ h. le-leb n 112 h.most) (told_is n (value_lengths Second)) (is_told n (value_lengths Second))
+
+-- the tests of the two versions
+pub length_of_first : (version : Version) (n : ℕ) → version ≡ First → (n == 48) ≡ is_within n (value_lengths version)
+length_of_first version n is = first_length n ∙ ap (λ (v : Version). is_within n (value_lengths v)) (sym is)
+
+pub length_of_second : (version : Version) (n : ℕ) → version ≡ Second → nat_le n 112 ≡ is_within n (value_lengths version)
+length_of_second version n is = second_length n ∙ ap (λ (v : Version). is_within n (value_lengths v)) (sym is)
+
+pub length_means : (version : Version) (n : ℕ) (b : Bool) → b ≡ is_within n (value_lengths version) → IsTrue b ↔ IsLength version n
+length_means version n b told = (λ yes. told_is n (value_lengths version) (sym told ∙ yes), λ h. told ∙ is_told n (value_lengths version) h)

@@ -19,7 +19,9 @@ use Rattle.sc_view.specs.declared.view.ViewFault.TheVariants as views
 use Rattle.sc_msg.specs.Fault.{view_fault}
 use Rattle.sc_msg.proofs.Numbers.{length-number_bytes, first_number-number_bytes}
 use Rattle.sc_msg.proofs.Rising.{rising_made, len_made, entries-put}
-use Rattle.sc_msg.specs.Entries.{first_of, id_fault, view_bytes, AreIds, IsStored, ids_bytes, ids_layout, stored_bytes, view_layout, Layout, entry_bytes, list_bytes, IsEntry, IsRising, last_of, is_above, entry_fault}
+use Rattle.sc_msg.specs.declared.version.Version.{Version}
+use Rattle.sc_msg.specs.Values.{first_of}
+use Rattle.sc_msg.specs.Entries.{id_fault, view_bytes, AreIds, IsStored, ids_bytes, ids_layout, stored_bytes, view_layout, Layout, entry_bytes, list_bytes, IsEntry, IsRising, last_of, is_above, entry_fault}
 use Rattle.sc_msg.specs.Fields.{IsListFault, OrMemory}
 
 pub or_memory : (P : MessageFault → Type 0) (e : MessageFault) → P e → OrMemory P e
@@ -114,33 +116,33 @@ ids_parts s count bytes ids rest last r made len =
 
 -- ---- views
 
-pub view_more : (v w : ViewMap) (count : ℕ) (bytes rest middle after : List ℕ) (last : Option ℕ) (id : ℕ) (e : Stored) → ReadTo view_layout count bytes (fin.entries v) rest last → is_above last id ≡ true → id < 2 ^ 64 → IsStored e → rest ≡ number_bytes 8 id ++ middle → middle ≡ stored_bytes e ++ after → w ≡ put v id e → ReadTo view_layout count bytes (fin.entries w) after (Some id)
-view_more v w count bytes rest middle after last id e r above fits stored front back is =
-    let entry : rest ≡ entry_bytes view_layout (id, e) ++ after = front ∙ ap (λ (l : List ℕ). number_bytes 8 id ++ l) back ∙ sym (append_assoc (number_bytes 8 id) (stored_bytes e) after) in
-    let more = read_more view_layout count bytes (fin.entries v) rest after last (id, e) r above (fits, stored) entry in
+pub view_more : (version : Version) (v w : ViewMap) (count : ℕ) (bytes rest middle after : List ℕ) (last : Option ℕ) (id : ℕ) (e : Stored) → ReadTo (view_layout version) count bytes (fin.entries v) rest last → is_above last id ≡ true → id < 2 ^ 64 → IsStored version e → rest ≡ number_bytes 8 id ++ middle → middle ≡ stored_bytes version e ++ after → w ≡ put v id e → ReadTo (view_layout version) count bytes (fin.entries w) after (Some id)
+view_more version v w count bytes rest middle after last id e r above fits stored front back is =
+    let entry : rest ≡ entry_bytes (view_layout version) (id, e) ++ after = front ∙ ap (λ (l : List ℕ). number_bytes 8 id ++ l) back ∙ sym (append_assoc (number_bytes 8 id) (stored_bytes version e) after) in
+    let more = read_more (view_layout version) count bytes (fin.entries v) rest after last (id, e) r above (fits, stored) entry in
     let same : fin.entries v ++ (id, e) ∷ [] ≡ fin.entries w = sym (ap fin.entries is ∙ entries-put v id e r.rising (ap (λ o. is_above o id) r.ended ∙ above)) in
-    subst (λ (es : List (ℕ × Stored)). ReadTo view_layout count bytes es after (Some id)) same more
+    subst (λ (es : List (ℕ × Stored)). ReadTo (view_layout version) count bytes es after (Some id)) same more
 
-pub view_len : (v w : ViewMap) (count : ℕ) (bytes rest : List ℕ) (last : Option ℕ) (id : ℕ) (e : Stored) → ReadTo view_layout count bytes (fin.entries v) rest last → is_above last id ≡ true → w ≡ put v id e → fin.len w ≡ fin.len v + 1
-view_len v w count bytes rest last id e r above is =
+pub view_len : (version : Version) (v w : ViewMap) (count : ℕ) (bytes rest : List ℕ) (last : Option ℕ) (id : ℕ) (e : Stored) → ReadTo (view_layout version) count bytes (fin.entries v) rest last → is_above last id ≡ true → w ≡ put v id e → fin.len w ≡ fin.len v + 1
+view_len version v w count bytes rest last id e r above is =
     let same : fin.entries w ≡ fin.entries v ++ (id, e) ∷ [] = ap fin.entries is ∙ entries-put v id e r.rising (ap (λ o. is_above o id) r.ended ∙ above) in
     omega (arith, fin.len-entries w, fin.len-entries v, ap length same, length-append (fin.entries v) ((id, e) ∷ []))
 
-pub view_has_room : (v : ViewMap) (count : ℕ) (bytes rest : List ℕ) (last : Option ℕ) (id : ℕ) (e : Stored) → ReadTo view_layout count bytes (fin.entries v) rest last → is_above last id ≡ true → fin.len v < most_entries → most_entries < fin.len (put v id e) → ⊥
-view_has_room v count bytes rest last id e r above few many = omega (arith, view_len v (put v id e) count bytes rest last id e r above refl)
+pub view_has_room : (version : Version) (v : ViewMap) (count : ℕ) (bytes rest : List ℕ) (last : Option ℕ) (id : ℕ) (e : Stored) → ReadTo (view_layout version) count bytes (fin.entries v) rest last → is_above last id ≡ true → fin.len v < most_entries → most_entries < fin.len (put v id e) → ⊥
+view_has_room version v count bytes rest last id e r above few many = omega (arith, view_len version v (put v id e) count bytes rest last id e r above refl)
 
-pub view_none : (v : ViewMap) (count : ℕ) (bytes rest : List ℕ) → v ≡ fin.empty → bytes ≡ number_bytes 2 count ++ rest → ReadTo view_layout count bytes (fin.entries v) rest None × (fin.len v ≡ 0)
-view_none v count bytes rest is parts =
+pub view_none : (version : Version) (v : ViewMap) (count : ℕ) (bytes rest : List ℕ) → v ≡ fin.empty → bytes ≡ number_bytes 2 count ++ rest → ReadTo (view_layout version) count bytes (fin.entries v) rest None × (fin.len v ≡ 0)
+view_none version v count bytes rest is parts =
     let none : fin.len v ≡ 0 = ap fin.len is ∙ fin.len-empty nat_cmp Stored in
     let nothing : fin.entries v ≡ [] = nil_from_length (fin.entries v) (sym (fin.len-entries v) ∙ none) in
-    (subst (λ (es : List (ℕ × Stored)). ReadTo view_layout count bytes es rest None) (sym nothing) (read_none view_layout count bytes rest parts), none)
+    (subst (λ (es : List (ℕ × Stored)). ReadTo (view_layout version) count bytes es rest None) (sym nothing) (read_none (view_layout version) count bytes rest parts), none)
 
 -- what is wrong behind the records that were read
-pub view_faulty : (v : ViewMap) (count : ℕ) (bytes rest : List ℕ) (last : Option ℕ) (d : MessageFault) → ReadTo view_layout count bytes (fin.entries v) rest last → count ≤ most_entries → fin.len v < count → entry_fault view_layout last rest ≡ Some d → OrMemory (IsListFault view_layout bytes) d
-view_faulty v count bytes rest last d r few fewer = read_fault view_layout count bytes (fin.entries v) rest last d r few (omega (arith, fewer, fin.len-entries v))
+pub view_faulty : (version : Version) (v : ViewMap) (count : ℕ) (bytes rest : List ℕ) (last : Option ℕ) (d : MessageFault) → ReadTo (view_layout version) count bytes (fin.entries v) rest last → count ≤ most_entries → fin.len v < count → entry_fault (view_layout version) last rest ≡ Some d → OrMemory (IsListFault (view_layout version) bytes) d
+view_faulty version v count bytes rest last d r few fewer = read_fault (view_layout version) count bytes (fin.entries v) rest last d r few (omega (arith, fewer, fin.len-entries v))
 
-pub view_parts : (v : ViewMap) (count : ℕ) (bytes rest : List ℕ) (last : Option ℕ) → ReadTo view_layout count bytes (fin.entries v) rest last → fin.len v ≡ count → bytes ≡ view_bytes v ++ rest
-view_parts v count bytes rest last r len = read_all view_layout count bytes (fin.entries v) rest last r (sym (fin.len-entries v) ∙ len)
+pub view_parts : (version : Version) (v : ViewMap) (count : ℕ) (bytes rest : List ℕ) (last : Option ℕ) → ReadTo (view_layout version) count bytes (fin.entries v) rest last → fin.len v ≡ count → bytes ≡ view_bytes version v ++ rest
+view_parts version v count bytes rest last r len = read_all (view_layout version) count bytes (fin.entries v) rest last r (sym (fin.len-entries v) ∙ len)
 
 -- ---- what is first wrong in a record
 

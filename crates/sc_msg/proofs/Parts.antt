@@ -1,16 +1,47 @@
--- What is first wrong behind a number that was read.
-use Rattle.std.proofs.Common.{◌≡◌, ℕ, ◌<◌, ◌≤◌, true, false, List, ◌++◌, length, Some, refl, ap, ◌∙◌, arith, length-append, eqb, nat_lt}
+-- What is first wrong behind a number that was read, and behind the length of a value.
+use Rattle.std.proofs.Common.{◌≡◌, ℕ, suc, ◌+◌, ◌<◌, ◌≤◌, true, false, cond, List, ◌∷◌, ◌++◌, length, drop, Some, None, refl, sym, ap, ◌∙◌, arith, append_assoc, eqb, nat_lt}
 use Rattle.std.proofs.lemmas.Bool.{lt-ltb, le-ltb, ne_eqb}
+use Rattle.std.proofs.lemmas.List.{drop_at}
+use Rattle.sc_view.specs.Values.{most_bytes}
+use Rattle.sc_msg.specs.declared.fault.MessageFault.{MessageFault}
 use Rattle.sc_msg.specs.declared.fault.MessageFault.TheVariants.{Short}
-use Rattle.sc_view.specs.Values.{value_length}
+use Rattle.sc_msg.specs.declared.version.Version.{Version}
+use Rattle.sc_msg.specs.declared.version.Version.TheVariants.{First, Second}
 use Rattle.sc_msg.specs.Numbers.{number_bytes, first_number}
+use Rattle.sc_msg.specs.Values.{length_bytes, value_bytes, length_width, told_length, length_fault, value_fault, first_of, IsLength}
 use Rattle.sc_msg.specs.Entries.{stored_fault}
 use Rattle.sc_msg.proofs.Numbers.{length-number_bytes}
 
+-- ---- the length of a value
+
+pub length_faulty : (version : Version) (bytes : List ℕ) (e : MessageFault) → length_fault version bytes ≡ Some e → value_fault version bytes ≡ Some e
+length_faulty version bytes e h = ap (λ o. first_of o (cond (nat_lt (length bytes) (length_width version + told_length version bytes)) (Some Short) None)) h
+
 -- the bytes of a value are cut
-pub value_cut : (old rest : List ℕ) (n : ℕ) → 8 ≤ length old → first_number 8 old ≡ n → (n ≡ 0 → ⊥) → old ≡ number_bytes 8 n ++ rest → length rest < value_length → stored_fault old ≡ Some Short
-value_cut old rest n long first positive parts few =
+pub value_cut : (version : Version) (n : ℕ) (old rest : List ℕ) → IsLength version n → old ≡ length_bytes version n ++ rest → length rest < n → value_fault version old ≡ Some Short
+value_cut First n old rest is parts few =
+    let cut : nat_lt (length old) 48 ≡ true = lt-ltb _ _ (omega (arith, ap length parts, is.most)) in
+    rw cut refl
+value_cut Second n old rest is parts few = ap (value_fault Second) parts ∙ told n rest is.most few
+  where
+    told : (n : ℕ) (rest : List ℕ) → n ≤ most_bytes → length rest < n → value_fault Second (n ∷ rest) ≡ Some Short
+    told n rest is few =
+        let some : nat_lt (suc (length rest)) 1 ≡ false = le-ltb _ _ (omega arith) in
+        let low : nat_lt 112 n ≡ false = le-ltb _ _ is in
+        let cut : nat_lt (suc (length rest)) (1 + n) ≡ true = lt-ltb _ _ (omega (arith, few)) in
+        rw (some, low, cut) refl
+
+-- behind a number from 1 a value is faulty
+pub value_faulty_behind : (version : Version) (old rest : List ℕ) (n : ℕ) (e : MessageFault) → 8 ≤ length old → first_number 8 old ≡ n → (n ≡ 0 → ⊥) → old ≡ number_bytes 8 n ++ rest → value_fault version rest ≡ Some e → stored_fault version old ≡ Some e
+value_faulty_behind version old rest n e long first positive parts faulty =
     let a : nat_lt (length old) 8 ≡ false = le-ltb _ _ long in
     let b : eqb (first_number 8 old) 0 ≡ false = ap (λ k. eqb k 0) first ∙ ne_eqb n 0 positive in
-    let c : nat_lt (length old) 56 ≡ true = lt-ltb _ _ (omega (arith, ap length parts, length-append (number_bytes 8 n) rest, length-number_bytes 8 n)) in
-    rw (a, b, c) refl
+    let c : drop 8 old ≡ rest = ap (drop 8) parts ∙ drop_at (number_bytes 8 n) rest 8 (length-number_bytes 8 n) in
+    rw (a, b, c) faulty
+
+-- ---- a value behind its length
+
+pub value_parts : (version : Version) (n : ℕ) (v old middle rest : List ℕ) → length v ≡ n → old ≡ length_bytes version n ++ middle → middle ≡ v ++ rest → old ≡ value_bytes version v ++ rest
+value_parts version n v old middle rest len front back =
+    front ∙ ap (λ (k : ℕ). length_bytes version k ++ middle) (sym len) ∙ ap (λ (l : List ℕ). length_bytes version (length v) ++ l) back
+    ∙ sym (append_assoc (length_bytes version (length v)) v rest)

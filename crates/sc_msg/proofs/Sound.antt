@@ -9,7 +9,10 @@ use Rattle.std.specs.FinSet as set
 use Rattle.sc_members.specs.Ids.{Ids, as_map, rising}
 use Rattle.sc_members.proofs.Sets.{get-as_map, set_of}
 use Rattle.sc_msg.specs.declared.fault.MessageFault.{MessageFault}
-use Rattle.sc_msg.specs.Entries.{ids_layout, view_layout, IsRising}
+use Rattle.sc_view.specs.Views.{ViewMap}
+use Rattle.sc_msg.specs.declared.version.Version.{Version}
+use Rattle.sc_msg.specs.declared.version.Version.TheVariants.{First, Second}
+use Rattle.sc_msg.specs.Entries.{ids_layout, view_layout, view_bytes, IsRising, AreRecords}
 use Rattle.sc_msg.specs.Numbers.{number_bytes}
 use Rattle.sc_msg.specs.Fields.{Slot, number_slot, flag_slot, ids_slot, view_slot, Field, number, flag, ids, view, slot_of, field_bytes, fields_bytes, IsField, IsFieldFault, IsFieldsFault}
 use Rattle.sc_msg.proofs.Numbers.{length-number_bytes}
@@ -57,15 +60,19 @@ flag_is false false x y e = (refl, cc)
 other_slot : (s t : Slot) → ⊥ → s ≡ t
 other_slot s t h = absurd h
 
+view_front : (version : Version) (v w : ViewMap) (x y : List ℕ) → AreRecords version v → AreRecords version w → view_bytes version v ++ x ≡ view_bytes version w ++ y → (v ≡ w) × (x ≡ y)
+view_front version v w x y p q e =
+    let h = list_front (view_layout version) (view_law version) (fin.entries v) (fin.entries w) x y p.fit q.fit (omega (arith, fin.len-entries v, p.few)) (omega (arith, fin.len-entries w, q.few)) e in
+    (fin.same_entries_map v w h.0, h.1)
+
 pub field_front : (f g : Field) (x y : List ℕ) → slot_of f ≡ slot_of g → IsField f → IsField g → field_bytes f ++ x ≡ field_bytes g ++ y → (f ≡ g) × (x ≡ y)
 field_front (number m) (number n) x y s p q e = let h = number_front 8 m n x y p q e in (ap number h.0, h.1)
 field_front (flag b) (flag c) x y s p q e = let h = flag_is b c x y e in (ap flag h.0, h.1)
 field_front (ids m) (ids n) x y s p q e =
     let h = list_front ids_layout ids_law (rising m) (rising n) x y p.fit q.fit (omega (arith, len-rising m, p.few)) (omega (arith, len-rising n, q.few)) e in
     (ap ids (same_ids m n h.0), h.1)
-field_front (view v) (view w) x y s p q e =
-    let h = list_front view_layout view_law (fin.entries v) (fin.entries w) x y p.fit q.fit (omega (arith, fin.len-entries v, p.few)) (omega (arith, fin.len-entries w, q.few)) e in
-    (ap view (fin.same_entries_map v w h.0), h.1)
+field_front (view First v) (view First w) x y s p q e = let h = view_front First v w x y p q e in (ap (view First) h.0, h.1)
+field_front (view Second v) (view Second w) x y s p q e = let h = view_front Second v w x y p q e in (ap (view Second) h.0, h.1)
 field_front _ _ x y s p q e = absurd cc
 
 pub no_field_fault : (f : Field) (x : List ℕ) (e : MessageFault) → IsField f → IsFieldFault (slot_of f) (field_bytes f ++ x) e → ⊥
@@ -75,13 +82,13 @@ no_field_fault (number n) x e p h =
 no_field_fault (flag true) x e p h = let long : nat_lt (suc (length x)) 1 ≡ false = le-ltb _ _ (omega arith) in no_fault e (sym (rw long refl) ∙ h)
 no_field_fault (flag false) x e p h = let long : nat_lt (suc (length x)) 1 ≡ false = le-ltb _ _ (omega arith) in no_fault e (sym (rw long refl) ∙ h)
 no_field_fault (ids s) x e p h = no_list_fault ids_layout ids_law (rising s) x e p.fit (subst (IsRising None) (sym (map-id (rising s))) (rising_rising s)) (omega (arith, len-rising s, p.few)) h
-no_field_fault (view v) x e p h = no_list_fault view_layout view_law (fin.entries v) x e p.fit (entries_rising v) (omega (arith, fin.len-entries v, p.few)) h
+no_field_fault (view version v) x e p h = no_list_fault (view_layout version) (view_law version) (fin.entries v) x e p.fit (entries_rising v) (omega (arith, fin.len-entries v, p.few)) h
 
 pub one_field_fault : (slot : Slot) (bytes : List ℕ) (d e : MessageFault) → IsFieldFault slot bytes d → IsFieldFault slot bytes e → d ≡ e
 one_field_fault number_slot bytes d e p q = some_is d e (sym p ∙ q)
 one_field_fault flag_slot bytes d e p q = some_is d e (sym p ∙ q)
 one_field_fault ids_slot bytes d e p q = one_list_fault ids_layout ids_law bytes d e p q
-one_field_fault view_slot bytes d e p q = one_list_fault view_layout view_law bytes d e p q
+one_field_fault (view_slot version) bytes d e p q = one_list_fault (view_layout version) (view_law version) bytes d e p q
 
 -- ---- fields
 

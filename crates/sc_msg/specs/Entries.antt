@@ -1,16 +1,17 @@
 -- Sets of ids and views as bytes: a count, and the entries in rising order of their ids.
-use Rattle.std.specs.Prelude.{ℕ, ◌+◌, ◌≤◌, ◌<◌, ◌^◌, ◌≡◌, Bool, true, List, [], ◌∷◌, ◌++◌, length, map, drop, All, Option, Some, None, nat_lt, ◌==◌, if◌then◌else◌}
+use Rattle.std.specs.Prelude.{ℕ, ◌≤◌, ◌<◌, ◌^◌, ◌≡◌, Bool, true, List, [], ◌∷◌, ◌++◌, length, map, drop, All, Option, Some, None, nat_lt, ◌==◌, if◌then◌else◌}
 use Rattle.std.specs.List.{flat_map, AllByRecursion}
 use Rattle.std.specs.FinMap as fin
 use Rattle.std.specs.FinSet as set
 use Rattle.sc_members.specs.Ids.{Ids, rising}
 use Rattle.sc_members.specs.Members.{most_facts}
-use Rattle.sc_view.specs.Values.{value_length}
 use Rattle.sc_view.specs.Views.{ViewMap, most_entries}
 use Rattle.sc_view.specs.declared.view.Stored.{Stored}
 use Rattle.sc_msg.specs.declared.fault.MessageFault.{MessageFault}
 use Rattle.sc_msg.specs.declared.fault.MessageFault.TheVariants.{Short, Unsorted, BadField}
+use Rattle.sc_msg.specs.declared.version.Version.{Version}
 use Rattle.sc_msg.specs.Numbers.{number_bytes, first_number}
+use Rattle.sc_msg.specs.Values.{value_bytes, value_fault, first_of, IsLength}
 
 -- a list of entries: how many there are at most, the id of each, how what stands behind the id is spelled, which entries
 -- have a spelling, and what is first wrong with the bytes behind an id
@@ -26,23 +27,24 @@ abbrev pub ids_layout : Layout ℕ
 ids_layout = record { most = most_facts; id_of = λ id. id; value_bytes = λ id. []; IsValue = λ id. Unit {0}; value_fault = λ bytes. None }
 
 -- a sequence number from 1, and a value
-pub record IsStored (e : Stored) : Type 0 where
+pub record IsStored (version : Version) (e : Stored) : Type 0 where
   pub positive : 1 ≤ e.number
   pub fits : e.number < 2 ^ 64
-  pub whole : length e.value ≡ value_length
+  pub whole : IsLength version (length e.value)
   pub bytes : All (λ b. b < 256) e.value
 
-abbrev pub stored_bytes : Stored → List ℕ
-stored_bytes e = number_bytes 8 e.number ++ e.value
+abbrev pub stored_bytes : Version → Stored → List ℕ
+stored_bytes version e = number_bytes 8 e.number ++ value_bytes version e.value
 
-abbrev pub stored_fault : List ℕ → Option MessageFault
-stored_fault bytes =
+abbrev pub stored_fault : Version → List ℕ → Option MessageFault
+stored_fault version bytes =
     if nat_lt (length bytes) 8 then Some Short
     else (if first_number 8 bytes == 0 then Some BadField
-    else (if nat_lt (length bytes) (8 + value_length) then Some Short else None))
+    else value_fault version (drop 8 bytes))
 
-abbrev pub view_layout : Layout (ℕ × Stored)
-view_layout = record { most = most_entries; id_of = λ e. e.0; value_bytes = λ e. stored_bytes e.1; IsValue = λ e. IsStored e.1; value_fault = stored_fault }
+abbrev pub view_layout : Version → Layout (ℕ × Stored)
+view_layout version =
+    record { most = most_entries; id_of = λ e. e.0; value_bytes = λ e. stored_bytes version e.1; IsValue = λ e. IsStored version e.1; value_fault = stored_fault version }
 
 -- ---- the spelling
 
@@ -55,8 +57,8 @@ list_bytes layout es = number_bytes 2 (length es) ++ flat_map (entry_bytes layou
 abbrev pub ids_bytes : Ids → List ℕ
 ids_bytes s = list_bytes ids_layout (rising s)
 
-abbrev pub view_bytes : ViewMap → List ℕ
-view_bytes v = list_bytes view_layout (fin.entries v)
+abbrev pub view_bytes : Version → ViewMap → List ℕ
+view_bytes version v = list_bytes (view_layout version) (fin.entries v)
 
 -- ---- what has a spelling
 
@@ -67,9 +69,9 @@ pub record AreIds (s : Ids) : Type 0 where
   pub few : set.len s ≤ most_facts
   pub fit : AllByRecursion (IsEntry ids_layout) (rising s)
 
-pub record AreRecords (v : ViewMap) : Type 0 where
+pub record AreRecords (version : Version) (v : ViewMap) : Type 0 where
   pub few : fin.len v ≤ most_entries
-  pub fit : AllByRecursion (IsEntry view_layout) (fin.entries v)
+  pub fit : AllByRecursion (IsEntry (view_layout version)) (fin.entries v)
 
 -- ---- the first fault
 
@@ -95,11 +97,6 @@ count_fault most bytes =
 abbrev pub id_fault : Option ℕ → List ℕ → Option MessageFault
 id_fault last bytes =
     if nat_lt (length bytes) 8 then Some Short else (if is_above last (first_number 8 bytes) then None else Some Unsorted)
-
--- the first of two faults
-abbrev pub first_of : Option MessageFault → Option MessageFault → Option MessageFault
-first_of (Some e) next = Some e
-first_of None next = next
 
 -- what is first wrong with an entry behind one with that id
 abbrev pub entry_fault : {A : Type 0} → Layout A → Option ℕ → List ℕ → Option MessageFault

@@ -6,56 +6,59 @@ use Rattle.sc_view.specs.declared.view.ViewFault.{ViewFault}
 use Rattle.sc_view.specs.declared.view.ViewFault.TheVariants as views
 use Rattle.sc_msg.specs.declared.message.Message.{Message}
 use Rattle.sc_msg.specs.declared.kind.MessageKind.{MessageKind}
+use Rattle.sc_msg.specs.declared.version.Version.{Version}
 use Rattle.sc_msg.specs.declared.fault.MessageFault.{MessageFault}
 use Rattle.sc_msg.specs.declared.fault.MessageFault.TheVariants.{BadHead, Short, TooLong, BadKind, Unsorted, Extra, BadField, OutOfMemory}
 use Rattle.sc_msg.specs.declared.encode.EncodeFault.{EncodeFault}
 use Rattle.sc_msg.specs.declared.encode.EncodeFault.TheVariants as unwritten
 use Rattle.sc_msg.specs.Kinds.{kind_at}
+use Rattle.sc_msg.specs.Values.{version_byte}
 use Rattle.sc_msg.specs.Fields.{slots, IsFieldsFault, OrMemory}
 use Rattle.sc_msg.specs.Messages.{head_bytes, message_bytes, IsMessage}
 
-abbrev pub is_format : List ℕ → Bool
-is_format bytes = slice_index bytes 0 == 0x42 && slice_index bytes 1 == 0x51 && slice_index bytes 2 == 0x01
+-- the format and its version
+abbrev pub is_format : Version → List ℕ → Bool
+is_format version bytes = slice_index bytes 0 == 0x42 && slice_index bytes 1 == 0x51 && slice_index bytes 2 == version_byte version
 
 -- the most bytes of a message
 abbrev pub most_bytes : ℕ
 most_bytes = 60000
 
 -- what is first wrong up to the sender
-abbrev pub head_fault : List ℕ → Option MessageFault
-head_fault bytes =
+abbrev pub head_fault : Version → List ℕ → Option MessageFault
+head_fault version bytes =
     if nat_lt most_bytes (length bytes) then Some TooLong
     else (if nat_lt (length bytes) 12 then Some Short
-    else (if not (is_format bytes) then Some BadHead
+    else (if not (is_format version bytes) then Some BadHead
     else (if is_some (kind_at (slice_index bytes 3)) then None else Some BadKind)))
 
 -- behind a head, a field that its kind has is faulty
-pub record IsBodyFault (bytes : List ℕ) (e : MessageFault) : Type 0 where
+pub record IsBodyFault (version : Version) (bytes : List ℕ) (e : MessageFault) : Type 0 where
   pub small : length bytes ≤ most_bytes
   pub kind : MessageKind
   pub from : ℕ
   pub fits : from < 2 ^ 64
   pub rest : List ℕ
-  pub parts : bytes ≡ head_bytes kind from ++ rest
-  pub faulty : IsFieldsFault (slots kind) rest e
+  pub parts : bytes ≡ head_bytes version kind from ++ rest
+  pub faulty : IsFieldsFault (slots version kind) rest e
 
 -- bytes stand behind a message
-pub record IsExtra (bytes : List ℕ) (e : MessageFault) : Type 0 where
+pub record IsExtra (version : Version) (bytes : List ℕ) (e : MessageFault) : Type 0 where
   pub small : length bytes ≤ most_bytes
   pub message : Message
-  pub legal : IsMessage message
+  pub legal : IsMessage version message
   pub next : ℕ
   pub rest : List ℕ
-  pub parts : bytes ≡ message_bytes message ++ next ∷ rest
+  pub parts : bytes ≡ message_bytes version message ++ next ∷ rest
   pub is : e ≡ Extra
 
 -- what stands first, from left to right
-abbrev pub IsFirstFault : List ℕ → MessageFault → Type 0
-IsFirstFault bytes e = (head_fault bytes ≡ Some e) ⊎ (IsBodyFault bytes e ⊎ IsExtra bytes e)
+abbrev pub IsFirstFault : Version → List ℕ → MessageFault → Type 0
+IsFirstFault version bytes e = (head_fault version bytes ≡ Some e) ⊎ (IsBodyFault version bytes e ⊎ IsExtra version bytes e)
 
 -- memory ran out, or that fault stands first
-abbrev pub IsFault : List ℕ → MessageFault → Type 0
-IsFault bytes e = OrMemory (IsFirstFault bytes) e
+abbrev pub IsFault : Version → List ℕ → MessageFault → Type 0
+IsFault version bytes e = OrMemory (IsFirstFault version bytes) e
 
 -- ---- the reasons by which faults are told
 

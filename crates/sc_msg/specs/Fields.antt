@@ -10,6 +10,7 @@ use Rattle.sc_msg.specs.declared.kind.MessageKind.{MessageKind}
 use Rattle.sc_msg.specs.declared.kind.MessageKind.TheVariants as kinds
 use Rattle.sc_msg.specs.declared.fault.MessageFault.{MessageFault}
 use Rattle.sc_msg.specs.declared.fault.MessageFault.TheVariants.{Short, BadField, OutOfMemory}
+use Rattle.sc_msg.specs.declared.version.Version.{Version}
 use Rattle.sc_msg.specs.Numbers.{number_bytes}
 use Rattle.sc_msg.specs.Entries.{ids_bytes, view_bytes, ids_layout, view_layout, AreIds, AreRecords, IsEntryFault, Layout, count_fault}
 
@@ -17,56 +18,56 @@ pub data Slot : Type 0 where
   number_slot : Slot
   flag_slot : Slot
   ids_slot : Slot
-  view_slot : Slot
+  view_slot : Version → Slot
 
 pub data Field : Type 0 where
   number : ℕ → Field
   flag : Bool → Field
   ids : Ids → Field
-  view : ViewMap → Field
+  view : Version → ViewMap → Field
 
 -- entered, joined, left
 abbrev pub facts_slots : List Slot
 facts_slots = ids_slot ∷ ids_slot ∷ ids_slot ∷ []
 
 -- the fields that the bytes of a kind have, from left to right
-abbrev pub slots : MessageKind → List Slot
-slots kinds.Enter = []
-slots kinds.EnterEcho = number_slot ∷ flag_slot ∷ facts_slots ++ view_slot ∷ []
-slots kinds.Join = []
-slots kinds.JoinEcho = number_slot ∷ []
-slots kinds.Leave = []
-slots kinds.LeaveEcho = number_slot ∷ []
-slots kinds.Store = number_slot ∷ view_slot ∷ []
-slots kinds.StoreAck = number_slot ∷ number_slot ∷ []
-slots kinds.StoreEcho = view_slot ∷ []
-slots kinds.CollectQuery = number_slot ∷ []
-slots kinds.CollectReply = number_slot ∷ number_slot ∷ view_slot ∷ []
+abbrev pub slots : Version → MessageKind → List Slot
+slots version kinds.Enter = []
+slots version kinds.EnterEcho = number_slot ∷ flag_slot ∷ facts_slots ++ view_slot version ∷ []
+slots version kinds.Join = []
+slots version kinds.JoinEcho = number_slot ∷ []
+slots version kinds.Leave = []
+slots version kinds.LeaveEcho = number_slot ∷ []
+slots version kinds.Store = number_slot ∷ view_slot version ∷ []
+slots version kinds.StoreAck = number_slot ∷ number_slot ∷ []
+slots version kinds.StoreEcho = view_slot version ∷ []
+slots version kinds.CollectQuery = number_slot ∷ []
+slots version kinds.CollectReply = number_slot ∷ number_slot ∷ view_slot version ∷ []
 
 -- ---- the spelling
 
 abbrev pub facts_fields : Facts → List Field
 facts_fields f = ids f.entered ∷ ids f.joined ∷ ids f.left ∷ []
 
-abbrev pub fields : Body → List Field
-fields bodies.Enter = []
-fields (bodies.EnterEcho to joined facts v) = number to ∷ flag joined ∷ facts_fields facts ++ view v ∷ []
-fields bodies.Join = []
-fields (bodies.JoinEcho about) = number about ∷ []
-fields bodies.Leave = []
-fields (bodies.LeaveEcho about) = number about ∷ []
-fields (bodies.Store tag v) = number tag ∷ view v ∷ []
-fields (bodies.StoreAck to tag) = number to ∷ number tag ∷ []
-fields (bodies.StoreEcho v) = view v ∷ []
-fields (bodies.CollectQuery tag) = number tag ∷ []
-fields (bodies.CollectReply to tag v) = number to ∷ number tag ∷ view v ∷ []
+abbrev pub fields : Version → Body → List Field
+fields version bodies.Enter = []
+fields version (bodies.EnterEcho to joined facts v) = number to ∷ flag joined ∷ facts_fields facts ++ view version v ∷ []
+fields version bodies.Join = []
+fields version (bodies.JoinEcho about) = number about ∷ []
+fields version bodies.Leave = []
+fields version (bodies.LeaveEcho about) = number about ∷ []
+fields version (bodies.Store tag v) = number tag ∷ view version v ∷ []
+fields version (bodies.StoreAck to tag) = number to ∷ number tag ∷ []
+fields version (bodies.StoreEcho v) = view version v ∷ []
+fields version (bodies.CollectQuery tag) = number tag ∷ []
+fields version (bodies.CollectReply to tag v) = number to ∷ number tag ∷ view version v ∷ []
 
 -- a number in eight bytes, a truth as 1 or 0 in one, ids and views by their entries
 abbrev pub field_bytes : Field → List ℕ
 field_bytes (number n) = number_bytes 8 n
 field_bytes (flag b) = (if b then 1 else 0) ∷ []
 field_bytes (ids s) = ids_bytes s
-field_bytes (view v) = view_bytes v
+field_bytes (view version v) = view_bytes version v
 
 abbrev pub fields_bytes : List Field → List ℕ
 fields_bytes fs = flat_map field_bytes fs
@@ -76,13 +77,13 @@ abbrev pub IsField : Field → Type 0
 IsField (number n) = n < 2 ^ 64
 IsField (flag b) = Unit {0}
 IsField (ids s) = AreIds s
-IsField (view v) = AreRecords v
+IsField (view version v) = AreRecords version v
 
 abbrev pub slot_of : Field → Slot
 slot_of (number n) = number_slot
 slot_of (flag b) = flag_slot
 slot_of (ids s) = ids_slot
-slot_of (view v) = view_slot
+slot_of (view version v) = view_slot version
 
 -- ---- the first fault
 
@@ -106,7 +107,7 @@ abbrev pub IsFieldFault : Slot → List ℕ → MessageFault → Type 0
 IsFieldFault number_slot bytes e = number_fault bytes ≡ Some e
 IsFieldFault flag_slot bytes e = flag_fault bytes ≡ Some e
 IsFieldFault ids_slot bytes e = IsListFault ids_layout bytes e
-IsFieldFault view_slot bytes e = IsListFault view_layout bytes e
+IsFieldFault (view_slot version) bytes e = IsListFault (view_layout version) bytes e
 
 -- behind some of these fields stands the next one with this fault
 pub record IsFieldsFault (wanted : List Slot) (bytes : List ℕ) (e : MessageFault) : Type 0 where

@@ -1,5 +1,6 @@
 -- Messages, their bytes and the first fault of other bytes.
 pub mod Numbers
+pub mod Values
 pub mod Kinds
 pub mod Entries
 pub mod Fields

@@ -4,21 +4,23 @@ ghost use Rattle.std.specs.Prelude.{◌≡◌, ◌≤◌, ◌<◌, ◌^◌, ◌+
 ghost use Rattle.std.specs.List.{AllByRecursion};
 ghost use Rattle.std.specs.FinSet as set;
 ghost use Rattle.sc_members.specs.Members.{most_facts};
-ghost use Rattle.sc_view.specs.Values.{value_length};
-ghost use Rattle.sc_view.specs.Views.{HasValuesOf};
+ghost use Rattle.sc_view.specs.Values.{most_bytes as longest_value};
+ghost use Rattle.sc_view.specs.Views.{HasValuesWithin};
 ghost use Rattle.sc_msg.specs.Numbers.{number_bytes};
+ghost use Rattle.sc_msg.specs.Values.{length_bytes, value_bytes, value_lengths, IsLength};
 ghost use Rattle.sc_msg.specs.Entries.{ids_bytes, stored_bytes, view_bytes, AreIds, AreRecords, IsStored};
 ghost use Rattle.sc_msg.specs.Fields.{fields, fields_bytes, facts_fields, IsField};
 ghost use Rattle.sc_msg.specs.Messages.{message_bytes, IsMessage};
 ghost use Rattle.sc_msg.specs.Fault.{most_bytes, encode_reason};
-ghost use Rattle.sc_msg.specs.Lengths.{BodyHasValuesOf, MessageHasValuesOf};
+ghost use Rattle.sc_msg.specs.Lengths.{BodyFits, Fits};
 
 use crate::message::{Body, Message};
+use crate::version::Version;
 use byteorder::{ByteOrder, LittleEndian};
 use reasons::{Reason, told};
 use sc_members::facts::Facts;
 use sc_members::ids::IdSet;
-use sc_view::value::{VALUE_LENGTH, Value};
+use sc_view::value::Value;
 use sc_view::view::{Stored, View};
 use std::alloc::{AllocError, Global};
 
@@ -85,32 +87,44 @@ fn push_ids(out: &mut Vec<u8>, ids: &IdSet) -> Result<(), AllocError>
     Ok(())
 }
 
-fn push_value(out: &mut Vec<u8>, value: &Value) -> Result<(), AllocError>
-    requires { length value.now ≡ value_length }
-    ensures bytes { All (λ b. b < 256) value.now }
-    ensures spelled { OnOk result (out.new.items ≡ out.old.items ++ value.now) }
+fn push_length(out: &mut Vec<u8>, version: Version, count: usize) -> Result<(), AllocError>
+    requires { count ≤ longest_value }
+    ensures { OnOk result (out.new.items ≡ out.old.items ++ length_bytes version count) }
 {
-    out.extend_from_slice(value.bytes())
+    match version {
+        Version::First => Ok(()),
+        Version::Second => Ok(out.push(count as u8)?),
+    }
 }
 
-fn push_stored(out: &mut Vec<u8>, stored: &Stored) -> Result<(), AllocError>
-    requires { length stored.now.value ≡ value_length }
-    ensures legal { OnOk result (IsStored stored.now) }
-    ensures spelled { OnOk result (out.new.items ≡ out.old.items ++ stored_bytes stored.now) }
+fn push_value(out: &mut Vec<u8>, version: Version, value: &Value) -> Result<(), AllocError>
+    requires { IsLength version (length value.now) }
+    ensures bytes { All (λ b. b < 256) value.now }
+    ensures spelled { OnOk result (out.new.items ≡ out.old.items ++ value_bytes version value.now) }
+{
+    let bytes = value.bytes();
+    push_length(out, version, bytes.len())?;
+    out.extend_from_slice(bytes)
+}
+
+fn push_stored(out: &mut Vec<u8>, version: Version, stored: &Stored) -> Result<(), AllocError>
+    requires { IsLength version (length stored.now.value) }
+    ensures legal { OnOk result (IsStored version stored.now) }
+    ensures spelled { OnOk result (out.new.items ≡ out.old.items ++ stored_bytes version stored.now) }
 {
     push_number(out, stored.number())?;
-    push_value(out, stored.value())
+    push_value(out, version, stored.value())
 }
 
-fn push_view(out: &mut Vec<u8>, view: &View) -> Result<(), AllocError>
-    requires { HasValuesOf value_length view.now }
-    ensures legal { OnOk result (AreRecords view.now) }
-    ensures spelled { OnOk result (out.new.items ≡ out.old.items ++ view_bytes view.now) }
+fn push_view(out: &mut Vec<u8>, version: Version, view: &View) -> Result<(), AllocError>
+    requires { HasValuesWithin (value_lengths version) view.now }
+    ensures legal { OnOk result (AreRecords version view.now) }
+    ensures spelled { OnOk result (out.new.items ≡ out.old.items ++ view_bytes version view.now) }
 {
     push_count(out, view.len())?;
     for (id, stored) in view.records() {
         push_number(out, id)?;
-        push_stored(out, stored)?;
+        push_stored(out, version, stored)?;
     }
     Ok(())
 }
@@ -124,10 +138,10 @@ fn push_facts(out: &mut Vec<u8>, facts: &Facts) -> Result<(), AllocError>
     push_ids(out, facts.left())
 }
 
-fn push_body(out: &mut Vec<u8>, body: &Body) -> Result<(), AllocError>
-    requires { BodyHasValuesOf value_length body.now }
-    ensures legal { OnOk result (AllByRecursion IsField (fields body.now)) }
-    ensures spelled { OnOk result (out.new.items ≡ out.old.items ++ fields_bytes (fields body.now)) }
+fn push_body(out: &mut Vec<u8>, version: Version, body: &Body) -> Result<(), AllocError>
+    requires { BodyFits version body.now }
+    ensures legal { OnOk result (AllByRecursion IsField (fields version body.now)) }
+    ensures spelled { OnOk result (out.new.items ≡ out.old.items ++ fields_bytes (fields version body.now)) }
 {
     match body {
         Body::Enter | Body::Join | Body::Leave => Ok(()),
@@ -140,55 +154,70 @@ fn push_body(out: &mut Vec<u8>, body: &Body) -> Result<(), AllocError>
             push_number(out, *to)?;
             out.push(u8::from(*joined))?;
             push_facts(out, facts)?;
-            push_view(out, view)
+            push_view(out, version, view)
         }
         Body::JoinEcho { about } => push_number(out, *about),
         Body::LeaveEcho { about } => push_number(out, *about),
         Body::Store { tag, view } => {
             push_number(out, *tag)?;
-            push_view(out, view)
+            push_view(out, version, view)
         }
         Body::StoreAck { to, tag } => {
             push_number(out, *to)?;
             push_number(out, *tag)
         }
-        Body::StoreEcho { view } => push_view(out, view),
+        Body::StoreEcho { view } => push_view(out, version, view),
         Body::CollectQuery { tag } => push_number(out, *tag),
         Body::CollectReply { to, tag, view } => {
             push_number(out, *to)?;
             push_number(out, *tag)?;
-            push_view(out, view)
+            push_view(out, version, view)
         }
     }
 }
 
-/// The bytes that [`encode`] gives, of a message whose values are known to have 48 bytes. The one error is that memory ran
-/// out (99 OutOfMemory).
-pub fn encode_fitting(alloc: Global, message: &Message) -> Result<Vec<u8>, AllocError>
-    requires { MessageHasValuesOf value_length message.now }
-    ensures message { IfOk result (λ bytes. IsMessage message.now) }
-    ensures spelled { IfOk result (λ bytes. bytes.items ≡ message_bytes message.now) }
+/// The bytes of a message in a version that it is known to fit, at most 60,000. They are the only bytes that
+/// [`decode_as`](crate::decode::decode_as) reads in that version as this message. The one error is that memory ran out
+/// (99 OutOfMemory).
+pub fn encode_fitting(
+    alloc: Global,
+    version: Version,
+    message: &Message,
+) -> Result<Vec<u8>, AllocError>
+    requires { Fits version message.now }
+    ensures message { IfOk result (λ bytes. IsMessage version message.now) }
+    ensures spelled { IfOk result (λ bytes. bytes.items ≡ message_bytes version message.now) }
     ensures small { IfOk result (λ bytes. length bytes.items ≤ most_bytes) }
 {
     let mut out = Vec::new(alloc);
-    out.extend_from_slice(&[0x42, 0x51, 0x01, message.kind().byte()])?;
+    out.extend_from_slice(&[0x42, 0x51, version.byte(), message.kind().byte()])?;
     push_number(&mut out, message.from)?;
-    push_body(&mut out, &message.body)?;
+    push_body(&mut out, version, &message.body)?;
     Ok(out)
 }
 
-/// The bytes of a message, at most 60,000. They are the only bytes that
-/// [`decode`](crate::decode::decode) reads as this message.
+/// The bytes of a message in version 2, as [`encode_fitting`]: each message has some. The one error is that memory ran
+/// out (99 OutOfMemory).
+pub fn encode(alloc: Global, message: &Message) -> Result<Vec<u8>, AllocError>
+    ensures message { IfOk result (λ bytes. IsMessage Version.Second message.now) }
+    ensures spelled { IfOk result (λ bytes. bytes.items ≡ message_bytes Version.Second message.now) }
+    ensures small { IfOk result (λ bytes. length bytes.items ≤ most_bytes) }
+{
+    message.fits_second();
+    encode_fitting(alloc, Version::Second, message)
+}
+
+/// The bytes of a message in version 1, as [`encode_fitting`].
 ///
 /// Refused with 50 BadValue where a value has another length than 48, and else with 99 OutOfMemory.
-pub fn encode(alloc: Global, message: &Message) -> Result<Vec<u8>, EncodeFault>
-    ensures message { IfOk result (λ bytes. IsMessage message.now) }
-    ensures spelled { IfOk result (λ bytes. bytes.items ≡ message_bytes message.now) }
+pub fn encode_v1(alloc: Global, message: &Message) -> Result<Vec<u8>, EncodeFault>
+    ensures message { IfOk result (λ bytes. IsMessage Version.First message.now) }
+    ensures spelled { IfOk result (λ bytes. bytes.items ≡ message_bytes Version.First message.now) }
     ensures small { IfOk result (λ bytes. length bytes.items ≤ most_bytes) }
-    ensures value { IsErrOf result EncodeFault.BadValue ↔ (MessageHasValuesOf value_length message.now → ⊥) }
+    ensures value { IsErrOf result EncodeFault.BadValue ↔ (Fits Version.First message.now → ⊥) }
 {
-    if !message.has_values_of(VALUE_LENGTH) {
+    if !message.fits(Version::First) {
         return Err(EncodeFault::BadValue);
     }
-    Ok(encode_fitting(alloc, message)?)
+    Ok(encode_fitting(alloc, Version::First, message)?)
 }

@@ -11,7 +11,7 @@ use std::alloc::{AllocError, AllocFailed};
 /// What is first wrong with bytes that are no message.
 #[derive(Clone, Copy, Debug, PartialEq, Eq)]
 pub enum MessageFault {
-    /// 71: the first three bytes are not 42 51 01: two bytes for the format and one for its version.
+    /// 71: the first three bytes are not 42 51, for the format, and the byte of the version that is asked for.
     BadHead,
     /// 72: the bytes end before the head of 12 bytes does, or before a field does.
     Short,
@@ -23,7 +23,7 @@ pub enum MessageFault {
     Unsorted,
     /// 76: bytes stand behind the last field.
     Extra,
-    /// 77: a joined byte above 1, a count above its limit, or a sequence number 0.
+    /// 77: a joined byte above 1, a count or a length above its limit, or a sequence number 0.
     BadField,
     /// 99: memory ran out. It may stand in place of any other answer.
     OutOfMemory,

@@ -1,7 +1,11 @@
-ghost use Rattle.std.specs.Prelude.{◌≡◌, ◌↔◌, IsTrue, option_copied};
-ghost use Rattle.sc_msg.specs.Lengths.{view_of, has_values_of, MessageHasValuesOf};
+ghost use Rattle.std.specs.Prelude.{◌≡◌, ◌↔◌, true, IsTrue, option_copied};
+ghost use Rattle.sc_view.specs.Views.{HasValuesWithin, has_values_within};
+ghost use Rattle.sc_msg.specs.Lengths.{view_of, fits, Fits};
+ghost use Rattle.sc_msg.specs.Values.{value_lengths};
 
+use crate::version::Version;
 use sc_members::facts::Facts;
+use sc_view::value::VALUE_LENGTH;
 use sc_view::view::View;
 use std::alloc::AllocError;
 
@@ -83,14 +87,40 @@ impl Body {
 }
 
 impl Message {
-    /// Whether each value that the message tells has so many bytes. Takes no memory.
-    pub fn has_values_of(&self, bytes: usize) -> bool
-        ensures told { result ≡ has_values_of bytes self.now }
-        ensures each { IsTrue result ↔ MessageHasValuesOf bytes self.now }
+    /// Whether the message can be written in that version: each value has 48 bytes in the first, 0 to 112 in the second,
+    /// where every message can. Takes no memory.
+    pub fn fits(&self, version: Version) -> bool
+        ensures told { result ≡ fits version self.now }
+        ensures each { IsTrue result ↔ Fits version self.now }
     {
         match self.body.view() {
-            Some(view) => view.has_values_of(bytes),
+            Some(view) => view_fits(view, version),
             None => true,
+        }
+    }
+
+    /// A law of every message: it can be written in the second version, and the test finds so.
+    pub fn fits_second(&self)
+        ensures told { fits Version.Second self.now ≡ true }
+        ensures each { Fits Version.Second self.now }
+    {
+        let Some(view) = self.body.view() else {
+            return;
+        };
+        view.values_are_short();
+    }
+}
+
+// Whether each value of a view has a length of that version.
+fn view_fits(view: &View, version: Version) -> bool
+    ensures told { result ≡ has_values_within (value_lengths version) view.now }
+    ensures each { IsTrue result ↔ HasValuesWithin (value_lengths version) view.now }
+{
+    match version {
+        Version::First => view.has_values_within(VALUE_LENGTH, VALUE_LENGTH),
+        Version::Second => {
+            view.values_are_short();
+            true
         }
     }
 }

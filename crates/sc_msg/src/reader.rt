@@ -2,14 +2,17 @@
 
 ghost use Rattle.std.specs.Prelude.{◌≡◌, ◌≤◌, ◌<◌, ◌^◌, ◌++◌, [], ◌∷◌, Some, length, All, true, IfOk, IfErr, OnOk, OnErr, if◌then◌else◌};
 ghost use Rattle.sc_msg.specs.Numbers.{first_number, number_bytes};
+ghost use Rattle.sc_view.specs.Values.{most_bytes};
+ghost use Rattle.sc_msg.specs.Values.{length_bytes, length_fault, value_bytes, value_fault, IsLength};
 ghost use Rattle.sc_msg.specs.Entries.{count_fault, id_fault, is_above, ids_bytes, ids_layout, stored_bytes, stored_fault, view_bytes, view_layout, AreIds, AreRecords, IsStored};
 ghost use Rattle.sc_msg.specs.Fields.{facts_fields, facts_slots, fields_bytes, flag_fault, IsFieldsFault, IsListFault, OrMemory};
 
 use crate::fault::MessageFault;
+use crate::version::Version;
 use byteorder::{ByteOrder, LittleEndian};
 use sc_members::facts::{Facts, MOST_FACTS};
 use sc_members::ids::IdSet;
-use sc_view::value::{VALUE_LENGTH, Value};
+use sc_view::value::{MOST_BYTES, VALUE_LENGTH, Value};
 use sc_view::view::{MOST_ENTRIES, Stored, View};
 use std::alloc::Global;
 
@@ -118,20 +121,63 @@ impl<'a> Reader<'a> {
         }
     }
 
+    /// How many bytes a value has, which is told in one byte.
+    fn told_length(&mut self) -> Result<usize, MessageFault>
+        ensures legal { IfOk result (IsLength Version.Second) }
+        ensures few { IfOk result (λ n. n ≤ most_bytes) }
+        ensures parts { IfOk result (λ n. self.old.rest.now ≡ n ∷ self.new.rest.now) }
+        ensures fault { IfErr result (λ e. length_fault Version.Second self.old.rest.now ≡ Some e) }
+    {
+        let [count, rest @ ..] = self.rest else {
+            return Err(MessageFault::Short);
+        };
+        let count = usize::from(*count);
+        if count > MOST_BYTES {
+            return Err(MessageFault::BadField);
+        }
+        self.rest = rest;
+        Ok(count)
+    }
+
+    /// How many bytes a value has.
+    fn value_length(&mut self, version: Version) -> Result<usize, MessageFault>
+        ensures legal { IfOk result (IsLength version) }
+        ensures few { IfOk result (λ n. n ≤ most_bytes) }
+        ensures parts { IfOk result (λ n. self.old.rest.now ≡ length_bytes version n ++ self.new.rest.now) }
+        ensures fault { IfErr result (λ e. length_fault version self.old.rest.now ≡ Some e) }
+    {
+        match version {
+            Version::First => Ok(VALUE_LENGTH),
+            Version::Second => self.told_length(),
+        }
+    }
+
+    /// A value, behind its length where that is told.
+    fn value(&mut self, version: Version) -> Result<Value, MessageFault>
+        ensures whole { IfOk result (λ v. IsLength version (length v)) }
+        ensures bytes { IfOk result (λ v. All (λ b. b < 256) v) }
+        ensures parts { IfOk result (λ v. self.old.rest.now ≡ value_bytes version v ++ self.new.rest.now) }
+        ensures fault { IfErr result (λ e. value_fault version self.old.rest.now ≡ Some e) }
+    {
+        let count = self.value_length(version)?;
+        let bytes = self.take(count)?;
+        let Ok(value) = Value::new(bytes) else {
+            unreachable!()
+        };
+        Ok(value)
+    }
+
     /// A sequence number from 1 and a value.
-    fn stored(&mut self) -> Result<Stored, MessageFault>
-        ensures stored { IfOk result IsStored }
-        ensures parts { IfOk result (λ e. self.old.rest.now ≡ stored_bytes e ++ self.new.rest.now) }
-        ensures fault { IfErr result (λ e. stored_fault self.old.rest.now ≡ Some e) }
+    fn stored(&mut self, version: Version) -> Result<Stored, MessageFault>
+        ensures stored { IfOk result (IsStored version) }
+        ensures parts { IfOk result (λ e. self.old.rest.now ≡ stored_bytes version e ++ self.new.rest.now) }
+        ensures fault { IfErr result (λ e. stored_fault version self.old.rest.now ≡ Some e) }
     {
         let number = self.number()?;
         if number == 0 {
             return Err(MessageFault::BadField);
         }
-        let bytes = self.take(VALUE_LENGTH)?;
-        let Ok(value) = Value::new(bytes) else {
-            unreachable!()
-        };
+        let value = self.value(version)?;
         let Some(stored) = Stored::new(number, value) else {
             unreachable!()
         };
@@ -155,18 +201,18 @@ impl<'a> Reader<'a> {
         Ok(ids)
     }
 
-    /// A view: a count of at most 256, and records of 64 bytes in rising order of their ids.
-    pub(crate) fn view(&mut self, alloc: Global) -> Result<View, MessageFault>
-        ensures records { IfOk result AreRecords }
-        ensures parts { IfOk result (λ v. self.old.rest.now ≡ view_bytes v ++ self.new.rest.now) }
-        ensures fault { IfErr result (OrMemory (IsListFault view_layout self.old.rest.now)) }
+    /// A view: a count of at most 256, and records in rising order of their ids.
+    pub(crate) fn view(&mut self, alloc: Global, version: Version) -> Result<View, MessageFault>
+        ensures records { IfOk result (AreRecords version) }
+        ensures parts { IfOk result (λ v. self.old.rest.now ≡ view_bytes version v ++ self.new.rest.now) }
+        ensures fault { IfErr result (OrMemory (IsListFault (view_layout version) self.old.rest.now)) }
     {
         let count = self.count(MOST_ENTRIES)?;
         let mut view = View::new(alloc);
         let mut last = None;
         for _ in 0..count {
             let id = self.id_above(last)?;
-            let stored = self.stored()?;
+            let stored = self.stored(version)?;
             view.put(id, stored)?;
             last = Some(id);
         }

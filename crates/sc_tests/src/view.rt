@@ -1,7 +1,7 @@
 use sc_view::form::{Command, Reply, run};
 use sc_view::laws::{
-    merge_is_idempotent, merge_is_least_upper_bound, merge_takes_the_larger_number,
-    order_is_partial,
+    merge_has_the_newest, merge_is_idempotent, merge_is_least_upper_bound,
+    merge_takes_the_larger_number, order_is_partial,
 };
 use sc_view::sorted::SortedView;
 use sc_view::value::{VALUE_LENGTH, Value, ValueFault};
@@ -11,6 +11,7 @@ use std::test::Fail;
 
 #[test]
 fn laws_can_be_cited() {
+    merge_has_the_newest();
     merge_takes_the_larger_number();
     order_is_partial();
     merge_is_least_upper_bound();
@@ -151,11 +152,13 @@ fn long_values(alloc: Global, long: Value, empty: Value) -> Option<View> {
     let mut view = View::new(alloc);
     view.put(1, Stored::new(1, long)?).ok()?;
     view.put(2, Stored::new(1, long)?).ok()?;
-    let has_long_ones = view.has_values_of(112);
+    let are_long = view.has_values_within(112, 112);
     view.put(3, Stored::new(1, empty)?).ok()?;
-    if !has_long_ones || view.has_values_of(112) || view.has_values_of(0) {
+    let are_of_one_length = view.has_values_within(112, 112) || view.has_values_within(0, 0);
+    if !are_long || are_of_one_length || !view.has_values_within(0, 112) {
         return None;
     }
+    view.values_are_short();
     Some(view)
 }
 

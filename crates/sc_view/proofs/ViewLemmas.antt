@@ -12,7 +12,8 @@ use Rattle.std.specs.Map.{keys_of}
 use Rattle.std.specs.FinMap as fin
 use Rattle.std.specs.FinMap.Entries.{find, is_sorted}
 use Rattle.sc_view.specs.declared.view.Stored.{Stored}
-use Rattle.sc_view.specs.Views.{ViewMap, IsView, most_entries, is_newer, newer, put, merge, number_of, number_at, IsBelow, IsCoveredBy, Agree}
+use Rattle.sc_view.specs.Values.{most_bytes}
+use Rattle.sc_view.specs.Views.{ViewMap, IsView, most_entries, is_newer, newer, newest, put, merge, number_of, number_at, IsBelow, IsCoveredBy, Agree}
 use Rattle.sc_maps.proofs.Maps.{found, get_found, entries_found, one_written, missed, tail_rises, head_rises}
 
 no_entry : (e : Stored) → None ≡ Some e → ⊥
@@ -93,8 +94,7 @@ learned es fs id e is h = one_written es fs id e h ∙ ap (fin.insert (fin.from_
 
 -- what a merge has at an id
 abbrev pub merged : Option Stored → Option Stored → Option Stored
-merged v None = v
-merged v (Some e) = Some (newer v e)
+merged v w = newest v w
 
 step_merged : (v : Option Stored) (b : Bool) (e : Stored) (rest : Option Stored) → cond b (Some (newer v e)) (merged v rest) ≡ merged v (cond b (Some e) rest)
 step_merged v true e rest = refl
@@ -319,6 +319,7 @@ pub empty_valid : IsView fin.empty
 empty_valid = record {
   few = subst (λ n. n ≤ most_entries) (sym (fin.len-empty nat_cmp Stored)) (omega arith);
   counted = λ id e is. absurd (no_entry e (sym (fin.get-empty nat_cmp id) ∙ is));
+  short = λ id e is. absurd (no_entry e (sym (fin.get-empty nat_cmp id) ∙ is));
 }
 
 -- each value that is found has its number
@@ -330,14 +331,31 @@ counted_put : (b : Bool) (v : ViewMap) (q id : ℕ) (e f : Stored) → IsView v 
 counted_put true v q id e f valid counted is = omega (arith, ap number_of is, number-newer (fin.get v id) e, counted)
 counted_put false v q id e f valid counted is = valid.counted q f is
 
-pub put_valid : (v : ViewMap) (id : ℕ) (e : Stored) → IsView v → 1 ≤ e.number → fin.len (put v id e) ≤ most_entries → IsView (put v id e)
-put_valid v id e valid counted few = record {
+short_newer : (o : Option Stored) (e : Stored) → ((x : Stored) → o ≡ Some x → length x.value ≤ most_bytes) → length e.value ≤ most_bytes → length (newer o e).value ≤ most_bytes
+short_newer None e known short = short
+short_newer (Some old) e known short = by_test (nat_lt old.number e.number)
+  where
+    by_test : (b : Bool) → length (cond b e old).value ≤ most_bytes
+    by_test true = short
+    by_test false = known old refl
+
+same_stored : (x y : Stored) → Some x ≡ Some y → x ≡ y
+same_stored x y e = cc
+
+short_put : (b : Bool) (v : ViewMap) (q id : ℕ) (e f : Stored) → IsView v → length e.value ≤ most_bytes → cond b (Some (newer (fin.get v id) e)) (fin.get v q) ≡ Some f → length f.value ≤ most_bytes
+short_put true v q id e f valid short is = subst (λ (x : Stored). length x.value ≤ most_bytes) (same_stored (newer (fin.get v id) e) f is) (short_newer (fin.get v id) e (λ x at. valid.short id x at) short)
+short_put false v q id e f valid short is = valid.short q f is
+
+pub put_valid : (v : ViewMap) (id : ℕ) (e : Stored) → IsView v → 1 ≤ e.number → length e.value ≤ most_bytes → fin.len (put v id e) ≤ most_entries → IsView (put v id e)
+put_valid v id e valid counted short few = record {
   few = few;
   counted = λ q f is. counted_put (q == id) v q id e f valid counted (sym (get-put v id e q) ∙ is);
+  short = λ q f is. short_put (q == id) v q id e f valid short (sym (get-put v id e q) ∙ is);
 }
 
 pub merge_valid : (v w : ViewMap) → IsView v → IsView w → fin.len (merge v w) ≤ most_entries → IsView (merge v w)
 merge_valid v w valid other few = record {
   few = few;
   counted = λ q e is. by_cases (1 ≤ e.number) (valid.counted q e) (other.counted q e) (from_either (fin.get v q) (fin.get w q) e (sym (get-merge v w q) ∙ is));
+  short = λ q e is. by_cases (length e.value ≤ most_bytes) (valid.short q e) (other.short q e) (from_either (fin.get v q) (fin.get w q) e (sym (get-merge v w q) ∙ is));
 }

@@ -1,11 +1,12 @@
 -- A view: a finite map from ids to the sequence number and the bytes that were stored.
-use Rattle.std.specs.Prelude.{◌≡◌, ℕ, List, [], ◌∷◌, length, ◌≤◌, ◌<◌, ◌++◌, map, Bool, true, Option, Some, None, nat_lt, ◌==◌, if◌then◌else◌, ◌⊎◌}
+use Rattle.std.specs.Prelude.{◌≡◌, ℕ, List, [], ◌∷◌, length, ◌≤◌, ◌<◌, ◌++◌, map, Bool, true, Option, Some, None, nat_lt, if◌then◌else◌, ◌⊎◌}
 use Rattle.std.specs.List.{list_all}
 use Rattle.std.specs.Ordering.{nat_cmp}
 use Rattle.std.specs.Coded.{Coded, coded_ℕ}
 use Rattle.std.specs.FinMap as fin
 use Rattle.sc_view.specs.declared.view.Stored.{Stored}
 use Rattle.sc_view.specs.contracts.view.Stored as stored
+use Rattle.sc_view.specs.Values.{Lengths, IsWithin, is_within, most_bytes}
 
 abbrev pub ViewMap : Type 0
 ViewMap = fin.FinMap nat_cmp Stored
@@ -17,10 +18,11 @@ view_code = fin.code coded_ℕ stored.the_row.coded
 abbrev pub most_entries : ℕ
 most_entries = 256
 
--- what each view keeps: few ids, and numbers that are counted from 1
+-- what each view keeps: few ids, numbers that are counted from 1, and values of at most 112 bytes
 pub record IsView (v : ViewMap) : Type 0 where
   pub few : fin.len v ≤ most_entries
   pub counted : (id : ℕ) (e : Stored) → fin.get v id ≡ Some e → 1 ≤ e.number
+  pub short : (id : ℕ) (e : Stored) → fin.get v id ≡ Some e → length e.value ≤ most_bytes
 
 -- whether the value is news beside what is there
 abbrev pub is_newer : Option Stored → Stored → Bool
@@ -31,6 +33,11 @@ is_newer (Some old) e = nat_lt old.number e.number
 abbrev pub newer : Option Stored → Stored → Stored
 newer None e = e
 newer (Some old) e = if nat_lt old.number e.number then e else old
+
+-- of what two views have at one id, the entry with the larger number; at equal numbers the first view's
+abbrev pub newest : Option Stored → Option Stored → Option Stored
+newest known None = known
+newest known (Some e) = Some (newer known e)
 
 -- the view after learning one value of a node
 abbrev pub put : ViewMap → ℕ → Stored → ViewMap
@@ -62,13 +69,13 @@ abbrev pub Agree : ViewMap → ViewMap → Type 0
 Agree v w =
     (id : ℕ) (d e : Stored) → fin.get v id ≡ Some d → fin.get w id ≡ Some e → d.number ≡ e.number → d ≡ e
 
--- each value of the view has so many bytes
-pub record HasValuesOf (bytes : ℕ) (v : ViewMap) : Type 0 where
-  pub at : (id : ℕ) (e : Stored) → fin.get v id ≡ Some e → length e.value ≡ bytes
+-- each value of the view has one of these lengths
+pub record HasValuesWithin (l : Lengths) (v : ViewMap) : Type 0 where
+  pub at : (id : ℕ) (e : Stored) → fin.get v id ≡ Some e → IsWithin (length e.value) l
 
 -- whether each has
-abbrev pub has_values_of : ℕ → ViewMap → Bool
-has_values_of bytes v = list_all (λ e. length e.1.value == bytes) (fin.entries v)
+abbrev pub has_values_within : Lengths → ViewMap → Bool
+has_values_within l v = list_all (λ e. is_within (length e.1.value) l) (fin.entries v)
 
 -- lists joined in turn
 abbrev pub joined : List (List (ℕ × Stored)) → List (ℕ × Stored)

@@ -4,7 +4,9 @@ ghost use Rattle.std.specs.Ordering.{nat_cmp};
 ghost use Rattle.std.specs.FinMap.Entries.{put, find};
 ghost use Rattle.std.specs.Arc.{arc_value};
 ghost use Rattle.sc_view.specs.Rows.{Rises, Learns, before, without_first};
+ghost use Rattle.sc_view.specs.Values.{IsWithin, lengths};
 
+use crate::value::Value;
 use crate::view::{Entry, Stored};
 use std::alloc::{AllocError, Global};
 use std::marker::Model;
@@ -180,11 +182,19 @@ fn without_first(entries: &[Entry], id: u64) -> &[Entry]
     }
 }
 
-/// Whether each value of the entries has so many bytes.
-pub(crate) fn are_of_length(entries: &[Entry], bytes: usize) -> bool
-    ensures { IsTrue result ↔ All (λ e. length e.1.value ≡ bytes) entries.now }
+/// Whether each value of the entries has at least and at most so many bytes.
+pub(crate) fn are_within(entries: &[Entry], least: usize, most: usize) -> bool
+    ensures { IsTrue result ↔ All (λ e. IsWithin (length e.1.value) (lengths least most)) entries.now }
 {
     entries
         .iter()
-        .all(|entry| entry.1.value().bytes().len() == bytes)
+        .all(|entry| is_within(entry.1.value(), least, most))
+}
+
+// Whether a value has at least and at most so many bytes.
+fn is_within(value: &Value, least: usize, most: usize) -> bool
+    ensures { IsTrue result ↔ IsWithin (length value.now) (lengths least most) }
+{
+    let bytes = value.bytes().len();
+    least <= bytes && bytes <= most
 }

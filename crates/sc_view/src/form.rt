@@ -76,18 +76,20 @@ pub fn step<V: ViewForm>(view: &mut V, other: &V, command: Command) -> Reply
     }
 }
 
-/// Carries out commands in turn. The replies are those of a map, until memory ends.
+/// Carries out commands in turn. The replies are those of a map. The one error is that there was no memory for them, and
+/// then no command was carried out.
 pub fn run<V: ViewForm>(
     alloc: Global,
     view: &mut V,
     other: &V,
     commands: &[Command],
 ) -> Result<Vec<Reply>, AllocError>
-    ensures { IfOk result (λ replies. Runs (V.map view.old) (V.map other.now) commands.now replies.items (V.map view.new)) }
+    ensures ok { IfOk result (λ replies. Runs (V.map view.old) (V.map other.now) commands.now replies.items (V.map view.new)) }
+    ensures err { OnErr result (V.map view.new ≡ V.map view.old) }
 {
-    let mut replies = Vec::new(alloc);
+    let mut replies = Vec::with_capacity(alloc, commands.len())?;
     for command in commands {
-        replies.push(step(view, other, *command))?;
+        replies.push_reserved(step(view, other, *command));
     }
     Ok(replies)
 }

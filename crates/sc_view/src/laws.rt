@@ -1,7 +1,15 @@
 //! Laws of the order on views, for all views.
-ghost use Rattle.std.specs.Prelude.{◌≡◌, ℕ, max};
+ghost use Rattle.std.specs.Prelude.{◌≡◌, ℕ, ◌∷◌, [], max};
 ghost use Rattle.std.specs.FinMap as fin;
-ghost use Rattle.sc_view.specs.Views.{ViewMap, merge, number_at, IsCoveredBy, Agree};
+ghost use Rattle.sc_view.specs.Views.{ViewMap, put, merge, newest, number_at, IsCoveredBy, Agree};
+ghost use Rattle.sc_view.specs.declared.view.Stored.{Stored};
+
+/// A merge has for each node the entry with the larger number, the first view's at equal ones. To learn one value is to
+/// merge the view of that value alone.
+pub fn merge_has_the_newest()
+    ensures merge { (v w : ViewMap) (id : ℕ) → fin.get (merge v w) id ≡ newest (fin.get v id) (fin.get w id) }
+    ensures put { (v : ViewMap) (id : ℕ) (e : Stored) → put v id e ≡ merge v (fin.from_entries ((id, e) ∷ [])) }
+{}
 
 /// A merge has for each node the larger of the two numbers.
 pub fn merge_takes_the_larger_number()

@@ -2,9 +2,9 @@
 //! known of it.
 //!
 //! A `View` is a finite map from the ids of nodes to the values that they stored, each under the sequence number that
-//! the storing node gave it. It holds at most 256 ids, and its numbers count from 1. `put` and `merge` learn values:
-//! for each id the one with the larger number stays, and at equal numbers the one that is there. `records` gives the
-//! entries in rising order of their ids.
+//! the storing node gave it. It holds at most 256 ids, its numbers count from 1, and its values have 0 to 112 bytes.
+//! `put` and `merge` learn values: for each id the one with the larger number stays, and at equal numbers the one that
+//! is there. `records` gives the entries in rising order of their ids.
 //!
 //! Every contract speaks of the map itself. `laws` holds what follows for all views: `merge` takes the larger number at
 //! each id, the order on views is a partial order, and a merge is the least view above both. Nodes, messages and the

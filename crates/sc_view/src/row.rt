@@ -6,9 +6,10 @@ ghost use Rattle.sc_view.specs.Rows.{joined, IsRow, Rises, Under, Over, LearnsAt
 ghost use Rattle.std.specs.Option.{option_map};
 ghost use Rattle.std.specs.Map.Iter.{TakesFirst};
 ghost use Rattle.std.specs.FinMap as fin;
+ghost use Rattle.sc_view.specs.Values.{IsWithin, lengths};
 ghost use Rattle.sc_view.specs.Views.{merge};
 
-use crate::chunk::{Chunk, MOST, are_of_length, learn, with_entry};
+use crate::chunk::{Chunk, MOST, are_within, learn, with_entry};
 use crate::view::{Entry, Stored};
 use arrayvec::ArrayVec;
 use std::alloc::{AllocError, Global};
@@ -162,13 +163,13 @@ pub(crate) fn seek(rest: &mut Rest<'_>, id: u64) -> Option<u64>
     }
 }
 
-/// Whether each value of the chunks has so many bytes.
-pub(crate) fn have_values_of(chunks: &[Chunk], bytes: usize) -> bool
-    ensures { IsTrue result ↔ All (λ chunk. All (λ e. length e.1.value ≡ bytes) chunk) chunks.now }
+/// Whether each value of the chunks has at least and at most so many bytes.
+pub(crate) fn have_values_within(chunks: &[Chunk], least: usize, most: usize) -> bool
+    ensures { IsTrue result ↔ All (λ chunk. All (λ e. IsWithin (length e.1.value) (lengths least most)) chunk) chunks.now }
 {
     chunks
         .iter()
-        .all(|chunk| are_of_length(chunk.as_slice(), bytes))
+        .all(|chunk| are_within(chunk.as_slice(), least, most))
 }
 
 /// What one row tells beyond another.

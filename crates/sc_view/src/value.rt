@@ -10,7 +10,7 @@ use std::marker::Model;
 /// The most bytes of a value.
 pub const MOST_BYTES: usize = 112;
 
-/// How many bytes a value has in a message and in a journal.
+/// How many bytes a value has in the first version of messages and journals.
 pub const VALUE_LENGTH: usize = 48;
 
 /// What a node stores under its own number: 0 to 112 bytes that the store-collect object never looks into.

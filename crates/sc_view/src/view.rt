@@ -1,10 +1,11 @@
-ghost use Rattle.std.specs.Prelude.{◌≡◌, ◌+◌, ℕ, List, ◌≤◌, ◌<◌, ◌↔◌, not, filter, is_some, length, IsTrue, IfSome, IfOk, OnOk, OnErr, IsOk, IsErrOf};
+ghost use Rattle.std.specs.Prelude.{◌≡◌, ◌+◌, ℕ, List, ◌≤◌, ◌<◌, ◌↔◌, not, filter, is_some, length, true, IsTrue, IfSome, IfOk, OnOk, OnErr, IsOk, IsErrOf};
 ghost use Rattle.std.specs.FinMap as fin;
 ghost use Rattle.std.specs.Ordering.{nat_cmp};
 ghost use Rattle.std.specs.Map.Iter.{TakesFirst};
 ghost use Rattle.std.specs.Iterator.{at_most};
 ghost use Rattle.sc_view.specs.Faults.{reason};
-ghost use Rattle.sc_view.specs.Views.{IsView, is_newer, put, merge, most_entries, number_at, IsBelow, IsChunking, HasValuesOf, has_values_of};
+ghost use Rattle.sc_view.specs.Values.{all_lengths, lengths, most_bytes};
+ghost use Rattle.sc_view.specs.Views.{IsView, is_newer, put, merge, most_entries, number_at, IsBelow, IsChunking, HasValuesWithin, has_values_within};
 ghost use Rattle.std.specs.List.{slice_get};
 ghost use Rattle.std.specs.Option.{option_copied, SomeIff};
 ghost use Rattle.sc_view.specs.declared.view.Stored.{Stored as StoredValue};
@@ -13,7 +14,7 @@ ghost use Rattle.sc_view.specs.declared.view.ViewFault.TheVariants.{OutOfMemory}
 use crate::chunk::{Chunk, find};
 use crate::chunks::Chunks;
 use crate::row::{
-    News, Rest, Row, have_values_of, merged, next_entry, place, put_entry, what_is_new,
+    News, Rest, Row, have_values_within, merged, next_entry, place, put_entry, what_is_new,
 };
 use crate::value::Value;
 use arrayvec::ArrayVec;
@@ -32,14 +33,14 @@ pub struct Stored {
 }
 
 impl Model for Stored {
-    ghost use Rattle.std.specs.Prelude.{◌≤◌};
-    ghost use Rattle.sc_view.specs.Values.{StoredValue};
+    ghost use Rattle.std.specs.Prelude.{◌≤◌, length};
+    ghost use Rattle.sc_view.specs.Values.{StoredValue, most_bytes};
 
     ghost Value = { StoredValue };
 
     ghost view = { λ s. record { number = s.number; value = s.value } };
 
-    ghost invariant = { λ s. 1 ≤ s.number };
+    ghost invariant = { λ s. (1 ≤ s.number) × (length s.value ≤ most_bytes) };
 
     ghost inverse = { λ v. record { number = v.number; value = v.value } };
 }
@@ -49,6 +50,7 @@ impl Stored {
     pub fn new(number: u64, value: Value) -> Option<Stored>
         ensures { SomeIff result (1 ≤ number) (record { number = number; value = value }) }
     {
+        let _ = value.bytes();
         if number == 0 {
             return None;
         }
@@ -59,6 +61,7 @@ impl Stored {
     pub fn number(&self) -> u64
         ensures number { result ≡ self.now.number }
         ensures counted { 1 ≤ result }
+        ensures short { length self.now.value ≤ most_bytes }
     {
         self.number
     }
@@ -108,7 +111,8 @@ impl<T: Drop> From<AllocFailed<T>> for ViewFault {
     }
 }
 
-/// For each node the newest value that is known of it: at most 256 nodes, sequence numbers from 1.
+/// For each node the newest value that is known of it: at most 256 nodes, sequence numbers from 1, values of at most 112
+/// bytes.
 #[derive(Drop)]
 pub struct View {
     alloc: Global,
@@ -198,12 +202,20 @@ impl View {
         self.len() == 0
     }
 
-    /// Whether each value has so many bytes. Takes no memory.
-    pub fn has_values_of(&self, bytes: usize) -> bool
-        ensures told { result ≡ has_values_of bytes self.now }
-        ensures each { IsTrue result ↔ HasValuesOf bytes self.now }
+    /// Whether each value has at least and at most so many bytes. Takes no memory.
+    pub fn has_values_within(&self, least: usize, most: usize) -> bool
+        ensures told { result ≡ has_values_within (lengths least most) self.now }
+        ensures each { IsTrue result ↔ HasValuesWithin (lengths least most) self.now }
     {
-        have_values_of(self.row.as_slice(), bytes)
+        have_values_within(self.row.as_slice(), least, most)
+    }
+
+    /// A law of every view: no value has more than 112 bytes, and the test finds so.
+    pub fn values_are_short(&self)
+        ensures told { has_values_within all_lengths self.now ≡ true }
+        ensures each { HasValuesWithin all_lengths self.now }
+    {
+        let _count = self.len();
     }
 
     /// The entries in rising id order, each with its id. Takes no memory.

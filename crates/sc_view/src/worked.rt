@@ -3,9 +3,9 @@
 ghost use Rattle.std.specs.Prelude.{◌≡◌, ℕ, List, [], ◌∷◌, Some, None, Ok, true, false, length, replicate};
 ghost use Rattle.std.specs.FinMap as fin;
 ghost use Rattle.std.specs.Ordering.{nat_cmp};
-ghost use Rattle.sc_view.specs.Values.{most_bytes};
+ghost use Rattle.sc_view.specs.Values.{all_lengths, lengths, most_bytes};
 ghost use Rattle.sc_view.specs.Padded.{padded};
-ghost use Rattle.sc_view.specs.Views.{ViewMap, IsView, IsBelow, IsChunking, has_values_of, merge, put};
+ghost use Rattle.sc_view.specs.Views.{ViewMap, IsView, IsBelow, IsChunking, has_values_within, merge, put};
 ghost use Rattle.sc_view.specs.Forms.{Answers, Runs};
 ghost use Rattle.sc_view.specs.Sample.{stored, view_of_7};
 ghost use Rattle.sc_view.specs.declared.view.Stored.{Stored};
@@ -19,8 +19,11 @@ pub fn worked()
     ensures longest { most_bytes ≡ 112 }
     ensures room { padded (5 ∷ []) ≡ 5 ∷ replicate 111 0 }
     ensures numbers_from_1 { IsView (view_of_7 (stored 0 5)) → ⊥ }
-    ensures one_byte { has_values_of 1 (view_of_7 (stored 2 5)) ≡ true }
-    ensures not_two_bytes { has_values_of 2 (view_of_7 (stored 2 5)) ≡ false }
+    ensures one_byte { has_values_within (lengths 1 1) (view_of_7 (stored 2 5)) ≡ true }
+    ensures not_two_bytes { has_values_within (lengths 2 2) (view_of_7 (stored 2 5)) ≡ false }
+    ensures any_bytes { has_values_within all_lengths (view_of_7 (stored 2 5)) ≡ true }
+    ensures two_bytes_or_more { has_values_within (lengths 2 112) (view_of_7 (stored 2 5)) ≡ false }
+    ensures no_byte { has_values_within (lengths 0 0) (view_of_7 (stored 2 5)) ≡ false }
 
     // One value is learned where its number is larger than what is known.
     ensures put_first { fin.get (put fin.empty 7 (stored 1 5)) 7 ≡ Some (stored 1 5) }

@@ -11,12 +11,12 @@ returns-clause-small c =
     omega (
       arith,
       ap length c.in_ok-push_body.ensures.spelled,
-      length-append c.push_number.new.out.items (fields_bytes (fields m.body)),
+      length-append c.push_number.new.out.items (fields_bytes (fields c.args.version m.body)),
       ap length c.in_ok-push_number.ensures.spelled,
       length-append c.extend_from_slice.new.self.items (number_bytes 8 m.from),
       ap length c.in_ok-extend_from_slice.ensures.items,
-      length-append c.new-out.result.items (0x42 ∷ 0x51 ∷ 0x01 ∷ c.byte.result ∷ []),
+      length-append c.new-out.result.items (0x42 ∷ 0x51 ∷ c.byte.result ∷ c.byte-2.result ∷ []),
       ap length c.new-out.ensures.items,
       length-number_bytes 8 m.from,
-      body_small m.body c.in_ok-push_body.ensures.legal,
+      body_small c.args.version m.body c.in_ok-push_body.ensures.legal,
     )

@@ -3,4 +3,7 @@ use Rattle.std.specs.List.{All}
 use Rattle.sc_msg.proofs.encode.push_value.Goals as goal
 
 pub returns-clause-bytes : goal.returns-clause-bytes
-returns-clause-bytes c = subst (λ (x : List ℕ). All (λ b. b < 256) x) c.bytes.ensures.exact c.bytes.ensures.fit
+returns-clause-bytes c = subst (λ (x : List ℕ). All (λ b. b < 256) x) c.bytes-bytes.ensures.exact c.bytes-bytes.ensures.fit
+
+pub returns-in_err-push_length-clause-bytes : goal.returns-in_err-push_length-clause-bytes
+returns-in_err-push_length-clause-bytes c = subst (λ (x : List ℕ). All (λ b. b < 256) x) c.bytes-bytes.ensures.exact c.bytes-bytes.ensures.fit

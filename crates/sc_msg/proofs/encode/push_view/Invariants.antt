@@ -4,4 +4,4 @@ use Rattle.sc_msg.proofs.Writing.{WrittenTo}
 use Rattle.sc_msg.proofs.encode.push_view.Given as goal
 
 abbrev pub invariant-loop-id : goal.invariant-loop-id
-invariant-loop-id l = WrittenTo view_layout (fin.len l.view) (fin.entries l.view) l.fn.out.items l.out.items l.id-iterator
+invariant-loop-id l = WrittenTo (view_layout l.version) (fin.len l.view) (fin.entries l.view) l.fn.out.items l.out.items l.id-iterator

@@ -3,8 +3,13 @@ use Rattle.sc_view.specs.declared.view.Stored.{Stored}
 use Rattle.sc_view.proofs.MapLemmas.{entries_rising}
 use Rattle.sc_msg.specs.Entries.{list_bytes, view_layout}
 use Rattle.sc_msg.specs.Numbers.{number_bytes}
+use Rattle.sc_msg.specs.declared.version.Version.TheVariants.{First, Second}
 use Rattle.sc_msg.proofs.worked.worked.Goals as goal
 
 pub returns-clause-store_echo : goal.returns-clause-store_echo
 unfolding number_bytes
-returns-clause-store_echo c = ap (λ (es : List (ℕ × Stored)). 66 ∷ 81 ∷ 1 ∷ 9 ∷ 3 ∷ 0 ∷ 0 ∷ 0 ∷ 0 ∷ 0 ∷ 0 ∷ 0 ∷ list_bytes view_layout es ++ []) (entries_rising [] tt)
+returns-clause-store_echo c = ap (λ (es : List (ℕ × Stored)). 66 ∷ 81 ∷ 1 ∷ 9 ∷ 3 ∷ 0 ∷ 0 ∷ 0 ∷ 0 ∷ 0 ∷ 0 ∷ 0 ∷ list_bytes (view_layout First) es ++ []) (entries_rising [] tt)
+
+pub returns-clause-second_store_echo : goal.returns-clause-second_store_echo
+unfolding number_bytes
+returns-clause-second_store_echo c = ap (λ (es : List (ℕ × Stored)). 66 ∷ 81 ∷ 2 ∷ 9 ∷ 3 ∷ 0 ∷ 0 ∷ 0 ∷ 0 ∷ 0 ∷ 0 ∷ 0 ∷ list_bytes (view_layout Second) es ++ []) (entries_rising [] tt)

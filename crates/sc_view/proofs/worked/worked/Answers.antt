@@ -8,6 +8,7 @@ use Rattle.std.specs.Ordering.{nat_cmp}
 use Rattle.sc_view.specs.declared.view.Stored.{Stored}
 use Rattle.sc_view.specs.Rows.{Rises}
 use Rattle.sc_view.specs.Sample.{stored, view_of_7}
+use Rattle.sc_view.specs.Values.{Lengths, all_lengths, is_within, lengths}
 use Rattle.sc_view.specs.Views.{ViewMap, merge, newer, number_of, number_at, put}
 use Rattle.sc_view.proofs.MapLemmas.{entries_rising, get_rising, len_rising, put_all_rising}
 use Rattle.sc_view.proofs.ViewLemmas.{get-put, get-merge, len-put, merged}
@@ -37,17 +38,26 @@ merge_at es fs q =
 number_of_7 : (e : Stored) → number_at (view_of_7 e) 7 ≡ e.number
 number_of_7 e = ap number_of (get_rising (one e) 7)
 
-values_of : (bytes : ℕ) (es : List (ℕ × Stored)) → Rises es → list_all (λ (e : ℕ × Stored). length e.1.value == bytes) (fin.entries (fin.from_entries {R = nat_cmp} es)) ≡ list_all (λ (e : ℕ × Stored). length e.1.value == bytes) es
-values_of bytes es r = ap (λ (es : List (ℕ × Stored)). list_all (λ (e : ℕ × Stored). length e.1.value == bytes) es) (entries_rising es r)
+values_of : (l : Lengths) (es : List (ℕ × Stored)) → Rises es → list_all (λ (e : ℕ × Stored). is_within (length e.1.value) l) (fin.entries (fin.from_entries {R = nat_cmp} es)) ≡ list_all (λ (e : ℕ × Stored). is_within (length e.1.value) l) es
+values_of l es r = ap (λ (es : List (ℕ × Stored)). list_all (λ (e : ℕ × Stored). is_within (length e.1.value) l) es) (entries_rising es r)
 
 pub returns-clause-numbers_from_1 : goal.returns-clause-numbers_from_1
 returns-clause-numbers_from_1 c = λ h. absurd (omega (arith, h.counted 7 (stored 0 5) (get_rising (one (stored 0 5)) 7)))
 
 pub returns-clause-one_byte : goal.returns-clause-one_byte
-returns-clause-one_byte c = values_of 1 (one (stored 2 5)) (tt, tt)
+returns-clause-one_byte c = values_of (lengths 1 1) (one (stored 2 5)) (tt, tt)
 
 pub returns-clause-not_two_bytes : goal.returns-clause-not_two_bytes
-returns-clause-not_two_bytes c = values_of 2 (one (stored 2 5)) (tt, tt)
+returns-clause-not_two_bytes c = values_of (lengths 2 2) (one (stored 2 5)) (tt, tt)
+
+pub returns-clause-any_bytes : goal.returns-clause-any_bytes
+returns-clause-any_bytes c = values_of all_lengths (one (stored 2 5)) (tt, tt)
+
+pub returns-clause-two_bytes_or_more : goal.returns-clause-two_bytes_or_more
+returns-clause-two_bytes_or_more c = values_of (lengths 2 112) (one (stored 2 5)) (tt, tt)
+
+pub returns-clause-no_byte : goal.returns-clause-no_byte
+returns-clause-no_byte c = values_of (lengths 0 0) (one (stored 2 5)) (tt, tt)
 
 pub returns-clause-put_first : goal.returns-clause-put_first
 returns-clause-put_first c = put_at [] 7 (stored 1 5) 7

@@ -10,7 +10,7 @@ pub returns-in_err-about-in-LeaveEcho-clause-fault : goal.returns-in_err-about-i
 returns-in_err-about-in-LeaveEcho-clause-fault c = search (rules, number_cut_first [] c.args.self.now.rest.now c.in_err-about-in-LeaveEcho.field-0.0 c.in_err-about-in-LeaveEcho.ensures.short c.in_err-about-in-LeaveEcho.ensures.few)
 
 pub returns-in_err-view-in-StoreEcho-clause-fault : goal.returns-in_err-view-in-StoreEcho-clause-fault
-returns-in_err-view-in-StoreEcho-clause-fault c = search (rules, here_or view_slot [] c.args.self.now.rest.now c.in_err-view-in-StoreEcho.field-0.0 c.in_err-view-in-StoreEcho.ensures.fault)
+returns-in_err-view-in-StoreEcho-clause-fault c = search (rules, here_or (view_slot c.args.version) [] c.args.self.now.rest.now c.in_err-view-in-StoreEcho.field-0.0 c.in_err-view-in-StoreEcho.ensures.fault)
 
 pub returns-in_err-tag-in-CollectQuery-clause-fault : goal.returns-in_err-tag-in-CollectQuery-clause-fault
 returns-in_err-tag-in-CollectQuery-clause-fault c = search (rules, number_cut_first [] c.args.self.now.rest.now c.in_err-tag-in-CollectQuery.field-0.0 c.in_err-tag-in-CollectQuery.ensures.short c.in_err-tag-in-CollectQuery.ensures.few)

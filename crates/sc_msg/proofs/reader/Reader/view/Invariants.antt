@@ -6,6 +6,6 @@ use Rattle.sc_msg.proofs.reader.Reader.view.Given as goal
 
 abbrev pub invariant-loop : goal.invariant-loop
 invariant-loop l = record {
-  read : ReadTo view_layout l.count l.fn.self.rest.now (fin.entries l.view) l.self.rest.now l.last;
+  read : ReadTo (view_layout l.version) l.count l.fn.self.rest.now (fin.entries l.view) l.self.rest.now l.last;
   len : fin.len l.view ≡ l.counter;
 }

@@ -34,7 +34,7 @@ pub returns-in_ok-put_entry-clause-valid : goal.returns-in_ok-put_entry-clause-v
 returns-in_ok-put_entry-clause-valid c =
     let new = same_news c.args.id c.args.stored (joined c.self.inside.row.items) c.args.self.now c.get_with_len-known.result.0 c.self.view_is c.get_with_len-known.ensures.known (sym c.is_newer.ensures ∙ c.if-is_newer.true) in
     let is = made c.args.id c.args.stored (joined c.self.inside.row.items) (joined c.put_entry.new.row.items) c.args.self.now c.self.view_is new c.in_ok-put_entry.ensures.ok in
-    subst IsView (sym is) (put_valid c.args.self.now c.args.id c.args.stored c.get_with_len-known.ensures.valid (subst (λ n. 1 ≤ n) c.number.ensures.number c.number.ensures.counted) (omega (arith, c.get_with_len-known.ensures.count c.args.stored, c.if-count-gt-MOST_ENTRIES.false)))
+    subst IsView (sym is) (put_valid c.args.self.now c.args.id c.args.stored c.get_with_len-known.ensures.valid (subst (λ n. 1 ≤ n) c.number.ensures.number c.number.ensures.counted) c.number.ensures.short (omega (arith, c.get_with_len-known.ensures.count c.args.stored, c.if-count-gt-MOST_ENTRIES.false)))
 
 pub invariant_of-self-then-is_newer : goal.invariant_of-self-then-is_newer
 invariant_of-self-then-is_newer c =

@@ -1,0 +1,5 @@
+use Rattle.sc_msg.proofs.Lengths.{first_fits_second}
+use Rattle.sc_msg.proofs.laws.first_fits_second.Goals as goal
+
+pub returns : goal.returns
+returns c = first_fits_second

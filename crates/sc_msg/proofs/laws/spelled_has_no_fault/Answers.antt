@@ -1,0 +1,5 @@
+use Rattle.sc_msg.proofs.Unique.{spelled_has_no_fault}
+use Rattle.sc_msg.proofs.laws.spelled_has_no_fault.Goals as goal
+
+pub returns : goal.returns
+returns c = spelled_has_no_fault

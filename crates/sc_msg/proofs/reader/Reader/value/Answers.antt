@@ -1,0 +1,21 @@
+use Rattle.std.proofs.Common.{rules}
+use Rattle.sc_msg.proofs.Parts.{length_faulty, value_cut, value_parts}
+use Rattle.sc_msg.proofs.reader.Reader.value.Goals as goal
+
+pub returns-in_err-count-clause-fault : goal.returns-in_err-count-clause-fault
+returns-in_err-count-clause-fault c =
+    let faulty = length_faulty c.args.version c.args.self.now.rest.now c.in_err-count.field-0.0 c.in_err-count.ensures.fault in
+    search (rules, faulty)
+
+pub returns-in_err-bytes-clause-fault : goal.returns-in_err-bytes-clause-fault
+returns-in_err-bytes-clause-fault c =
+    let cut = value_cut c.args.version c.in_ok-count.count c.args.self.now.rest.now c.value_length.new.self.rest.now c.in_ok-count.ensures.legal c.in_ok-count.ensures.parts c.in_err-bytes.ensures.few in
+    search (rules, cut)
+
+pub returns-clause-whole : goal.returns-clause-whole
+returns-clause-whole c = rw c.in-Ok.ensures.ok (rw c.in_ok-bytes.ensures.len c.in_ok-count.ensures.legal)
+
+pub returns-clause-parts : goal.returns-clause-parts
+returns-clause-parts c =
+    rw c.in-Ok.ensures.ok
+    (value_parts c.args.version c.in_ok-count.count c.in_ok-bytes.bytes.now c.args.self.now.rest.now c.value_length.new.self.rest.now c.take.new.self.rest.now c.in_ok-bytes.ensures.len c.in_ok-count.ensures.parts c.in_ok-bytes.ensures.parts)
