@@ -2,6 +2,9 @@
 use Rattle.std.proofs.Common.{◌≡◌, ℕ, zero, suc, ◌==◌, Bool, true, false, cond, List, [], ◌∷◌, Option, Some, None, refl, sym, ap, ◌∙◌, subst, slice_get, slice_set, position, Result, Ok, Err}
 use Rattle.std.proofs.lemmas.List.Quantifiers.{position-Some}
 use Rattle.std.proofs.lemmas.Option.{get_or_from_slice_get}
+use Rattle.std.specs.Prelude.{◌&&◌}
+use Rattle.std.specs.Cmp.{first_so, second_so, unsigned_Decides}
+use Rattle.bq_range.specs.Interval.{Interval}
 use Rattle.sc_view.specs.Views.{ViewMap}
 use Rattle.bq_check.specs.Certificate.{Certificate}
 use Rattle.q_session.specs.declared.ran.Ran.{Ran}
@@ -55,16 +58,18 @@ found test xs k x is at = sym (ap test (get_or_from_slice_get xs k x x at)) ∙ 
 abbrev pub HasNone : Phase → Type 0
 HasNone p = (view : ViewMap) (ran : Ran) → p ≡ Answered view ran → ⊥
 
--- the desk keeps its programs, and the answers that it recorded
+-- the desk keeps its lengths, its programs, and the answers that it recorded
 pub record Keeps (d e : DeskState) : Type 0 where
+  pub lengths : e.lengths ≡ d.lengths
   pub programs : (i : ℕ) (p : Certificate) → slice_get d.programs i ≡ Some p → slice_get e.programs i ≡ Some p
   pub answers : (k : ℕ) (q : Query) (view : ViewMap) (ran : Ran) → slice_get d.queries k ≡ Some q → q.phase ≡ Answered view ran → slice_get e.queries k ≡ Some q
 
 pub keeps_itself : (d : DeskState) → Keeps d d
-keeps_itself d = record { programs = λ i p h. h; answers = λ k q view ran h a. h }
+keeps_itself d = record { lengths = refl; programs = λ i p h. h; answers = λ k q view ran h a. h }
 
 pub keeps_on : (d e f : DeskState) → Keeps d e → Keeps e f → Keeps d f
 keeps_on d e f a b = record {
+  lengths = b.lengths ∙ a.lengths;
   programs = λ i p h. b.programs i p (a.programs i p h);
   answers = λ k q view ran h is. b.answers k q view ran (a.answers k q view ran h is) is;
 }
@@ -80,6 +85,17 @@ ready_has_none p v is view ran answered = let h : Ready v ≡ Answered view ran 
 
 pub running_has_none : (p : Phase) (v : ViewMap) → p ≡ Running v → HasNone p
 running_has_none p v is view ran answered = let h : Running v ≡ Answered view ran = sym is ∙ answered in absurd (cc)
+
+-- lengths that pass the test are the same
+pub same_lengths : (a b : Interval) → (a.lo == b.lo && a.hi == b.hi) ≡ true → a ≡ b
+same_lengths a b h =
+    let lo = (unsigned_Decides a.lo b.lo).0 (first_so (a.lo == b.lo) _ h) in
+    let hi = (unsigned_Decides a.hi b.hi).0 (second_so (a.lo == b.lo) _ h) in
+    λ i. record { lo = lo i; hi = hi i }
+
+-- the program of an accepted registration was checked for the desk's lengths
+pub registered_checked : (d : DeskState) (program : Certificate) (y : ℕ × DeskState) → desk.registered d program ≡ Ok y → program.lengths ≡ d.lengths
+registered_checked d program y h = same_lengths program.lengths d.lengths (passed (desk.is_checked_for d.lengths program) fault.WrongBounds _ y h).0
 
 -- ---- the job that is handed out
 

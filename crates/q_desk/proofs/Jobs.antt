@@ -5,10 +5,8 @@ use Rattle.std.proofs.lemmas.List.Quantifiers.{position-Some}
 use Rattle.std.proofs.lemmas.Option.{get_or_from_slice_get}
 use Rattle.std.specs.Prelude.{slice_get, position, nat_lt, option_map, ◌==◌, IfSome}
 use Rattle.std.specs.Cmp.{first_so, second_so, unsigned_Decides}
-use Rattle.sc_view.specs.Values.{value_length}
-use Rattle.sc_view.specs.Views.{ViewMap, HasValuesOf}
-use Rattle.bq_meaning.specs.Place.{record_length}
-use Rattle.bq_range.specs.Interval.{Interval, IsIn}
+use Rattle.sc_view.specs.Views.{ViewMap}
+use Rattle.bq_range.specs.Interval.{Interval}
 use Rattle.bq_check.specs.Certificate.{Certificate}
 use Rattle.q_session.specs.Right.{IsRight}
 use Rattle.q_session.specs.declared.ran.Ran.{Ran}
@@ -20,21 +18,18 @@ use Rattle.q_desk.specs.State.{DeskState}
 use Rattle.q_desk.specs.declared.journal.Entry.{Entry}
 use Rattle.q_desk.specs.declared.journal.Entry.TheVariants as entry
 use Rattle.q_desk.specs.Desks.{most_events, how_many_run, with_phase, is_ready, is_same_view, is_job_of, ready_view, job_on, job_at, job_from, next_job, handed_out, posted}
-use Rattle.q_session.specs.Jobs.{view_in, job_over, MayRun}
+use Rattle.q_session.specs.Jobs.{view_in, job_over}
 use Rattle.q_session.specs.Records.{HasRecordsWithin}
-use Rattle.q_desk.specs.Answers.{IsDesk, IsAnswered}
+use Rattle.q_desk.specs.Answers.{IsDesk, IsAnswered, ProgramsFit, ViewsFit, MayAllRun}
 use Rattle.q_desk.proofs.Running.{run-handed}
 use Rattle.q_desk.proofs.Views.{same-view, right-of_same}
 use Rattle.q_desk.proofs.Accepted.{IsReadyJob, next_is}
 use Rattle.q_desk.proofs.Keeps.{IsAppended, PhaseFits, desk-appended, desk-running, desk-with_phase}
 
--- a program for records of 64 bytes may run over a view with values of 48
-pub may_run : (q : Query) (c : Certificate) → ((n : ℕ) (lengths : Interval) (v : ViewMap) → HasValuesOf n v → IsIn (16 + n) lengths → HasRecordsWithin lengths v) → IfSome (view_in q.phase) (HasValuesOf value_length) → IsIn record_length c.lengths → MayRun q c
-may_run q c law fits lengths = over (view_in q.phase) fits
-  where
-    over : (o : Option ViewMap) → IfSome o (HasValuesOf value_length) → IfSome o (HasRecordsWithin c.lengths)
-    over None f = tt
-    over (Some v) f = law value_length c.lengths v f lengths
+-- programs may run over views that have records of the lengths for which they were checked
+pub may_all_run : (lengths : Interval) (programs : List Certificate) (queries : List Query) → ProgramsFit lengths programs → ViewsFit lengths queries → MayAllRun programs queries
+may_all_run lengths programs queries checked fit k q program here named =
+    subst (λ (l : Interval). IfSome (view_in q.phase) (HasRecordsWithin l)) (sym (checked q.program program named)) (fit k q here)
 
 -- a ready query has its job
 job-ready : (node k : ℕ) (q : Query) (p : Phase) (c : Certificate) → is_ready p ≡ true → option_map (job_over node k q c) (view_in p) ≡ job_on node k q (ready_view p) (Some c)
@@ -69,9 +64,9 @@ next-some s node k q c first there named =
 abbrev pub Moves : List Query → List Query → ℕ → Phase → Phase → Type 0
 Moves queries after k from to = (q : Query) → slice_get queries k ≡ Some q → q.phase ≡ from → after ≡ with_phase queries k to
 
--- its view has values of the length that journals hold
-ready-fits : (s : DeskState) (node : ℕ) (j : Job) → IsReadyJob s node j → IsDesk s → HasValuesOf value_length j.view
-ready-fits s node j f d = subst (λ (p : Phase). PhaseFits p) f.phase (d.fit j.query f.query f.at)
+-- its view has records of the desk's lengths
+ready-fits : (s : DeskState) (node : ℕ) (j : Job) → IsReadyJob s node j → IsDesk s → HasRecordsWithin s.lengths j.view
+ready-fits s node j f d = subst (λ (p : Phase). PhaseFits s.lengths p) f.phase (d.fit j.query f.query f.at)
 
 pub desk-handed : (s : DeskState) (node : ℕ) (j : Job) (queries : List Query) (journal : List Entry) → IsDesk s → Some j ≡ next_job s node → IsAppended s entry.HandOut journal → ((view : ViewMap) → Moves s.queries queries j.query (Ready view) (Running view)) → IsDesk (record s { queries = queries; journal = journal })
 desk-handed s node j queries journal d next a moves =

@@ -2,8 +2,8 @@
 use Rattle.std.proofs.Common.{◌≡◌, ◌⊎◌, ◌<◌, ◌≤◌, ℕ, Bool, true, false, List, [], ◌∷◌, ◌++◌, length, Option, Some, None, Result, Ok, Err, refl, sym, ap, subst, ◌∙◌, inl, inr, ⊎_elim, arith, length-append, if◌then◌else◌}
 use Rattle.std.proofs.lemmas.List.{length-set, length_push}
 use Rattle.std.specs.Prelude.{slice_get, slice_set, nat_lt, IfSome}
-use Rattle.sc_view.specs.Values.{value_length}
-use Rattle.sc_view.specs.Views.{ViewMap, HasValuesOf}
+use Rattle.bq_range.specs.Interval.{Interval}
+use Rattle.sc_view.specs.Views.{ViewMap}
 use Rattle.bq_check.specs.Certificate.{Certificate}
 use Rattle.q_table.specs.declared.fault.TableFault.{TableFault}
 use Rattle.q_table.specs.declared.fault.TableFault.TheVariants as table
@@ -13,6 +13,7 @@ use Rattle.q_session.specs.declared.query.Phase.{Phase}
 use Rattle.q_session.specs.declared.query.Phase.TheVariants.{Collecting, Ready, Running, Answered}
 use Rattle.q_session.specs.declared.query.Query.{Query}
 use Rattle.q_session.specs.Jobs.{view_in}
+use Rattle.q_session.specs.Records.{HasRecordsWithin}
 use Rattle.q_desk.specs.State.{DeskState}
 use Rattle.q_desk.specs.Desks.{most_queries, most_events, in_phase, with_phase}
 use Rattle.q_desk.specs.declared.journal.Entry.{Entry}
@@ -30,6 +31,7 @@ desk-journal s journal d few = record {
   few = d.few;
   brief = few;
   known = d.known;
+  checked = d.checked;
   fit = d.fit;
   right = λ k q view ran e f. kept s (record s { journal = journal }) q view ran (λ c h. h) (d.right k q view ran e f);
 }
@@ -42,9 +44,9 @@ pub record IsAppended (s : DeskState) (e : Entry) (journal : List Entry) : Type 
 pub desk-appended : (s : DeskState) (e : Entry) (journal : List Entry) → IsAppended s e journal → IsDesk s → IsDesk (record s { journal = journal })
 desk-appended s e journal a d = desk-journal s journal d (omega (arith, a.room, ap length a.is, length_push s.journal e))
 
--- the view over which a query in this phase is to run has values of the length that journals hold
-abbrev pub PhaseFits : Phase → Type 0
-PhaseFits p = IfSome (view_in p) (HasValuesOf value_length)
+-- the view over which a query in this phase is to run has records of these lengths
+abbrev pub PhaseFits : Interval → Phase → Type 0
+PhaseFits lengths p = IfSome (view_in p) (HasRecordsWithin lengths)
 
 -- a query begins
 pub desk-begun : (s : DeskState) (q : Query) → IsDesk s → length s.queries < most_queries → q.program < length s.programs → q.phase ≡ Collecting → IsDesk (record s { queries = s.queries ++ q ∷ [] })
@@ -53,7 +55,8 @@ desk-begun s q d few known phase = record {
   few = omega (arith, length-append s.queries (q ∷ []));
   brief = d.brief;
   known = λ k p e. ⊎_elim (λ a. d.known k p a) (λ b. subst (λ (x : Query). x.program < length s.programs) b.1 known) (get-snoc s.queries q k p e);
-  fit = λ k p e. ⊎_elim (λ a. d.fit k p a) (λ b. subst (λ (x : Phase). PhaseFits x) (sym phase ∙ ap (λ (x : Query). x.phase) b.1) tt) (get-snoc s.queries q k p e);
+  checked = d.checked;
+  fit = λ k p e. ⊎_elim (λ a. d.fit k p a) (λ b. subst (λ (x : Phase). PhaseFits s.lengths x) (sym phase ∙ ap (λ (x : Query). x.phase) b.1) tt) (get-snoc s.queries q k p e);
   right = λ k p view ran e f. ⊎_elim (λ a. kept s (record s { queries = s.queries ++ q ∷ [] }) p view ran (λ c h. h) (d.right k p view ran a f)) (λ b. let other : Collecting ≡ Answered view ran = sym phase ∙ ap (λ (x : Query). x.phase) b.1 ∙ f in absurd (cc)) (get-snoc s.queries q k p e);
 }
 
@@ -61,7 +64,7 @@ desk-begun s q d few known phase = record {
 abbrev pub PhaseIsRight : DeskState → Query → Phase → Type 0
 PhaseIsRight s q p = (view : ViewMap) (ran : Ran) → p ≡ Answered view ran → IsAnswered s q view ran
 
-desk-written : (s : DeskState) (i : ℕ) (q : Query) (p : Phase) → IsDesk s → slice_get s.queries i ≡ Some q → PhaseFits p → PhaseIsRight s q p → IsDesk (record s { queries = slice_set s.queries i (record q { phase = p }) })
+desk-written : (s : DeskState) (i : ℕ) (q : Query) (p : Phase) → IsDesk s → slice_get s.queries i ≡ Some q → PhaseFits s.lengths p → PhaseIsRight s q p → IsDesk (record s { queries = slice_set s.queries i (record q { phase = p }) })
 desk-written s i q p d there fits right =
     let new : Query = record q { phase = p } in
     let t : DeskState = record s { queries = slice_set s.queries i new } in
@@ -70,22 +73,23 @@ desk-written s i q p d there fits right =
       few = rw length-set d.few;
       brief = d.brief;
       known = λ k x e. ⊎_elim (λ a. d.known k x a.1) (λ b. subst (λ (y : Query). y.program < length s.programs) b.1 (d.known i q there)) (get-written s.queries i new k x e);
-      fit = λ k x e. ⊎_elim (λ a. d.fit k x a.1) (λ b. subst (λ (y : Query). PhaseFits y.phase) b.1 fits) (get-written s.queries i new k x e);
+      checked = d.checked;
+      fit = λ k x e. ⊎_elim (λ a. d.fit k x a.1) (λ b. subst (λ (y : Query). PhaseFits s.lengths y.phase) b.1 fits) (get-written s.queries i new k x e);
       right = λ k x view ran e f. ⊎_elim (λ a. kept s t x view ran (λ c h. h) (d.right k x view ran a.1 f)) (λ b. subst (λ (y : Query). IsAnswered t y view ran) b.1 (let a = right view ran (ap (λ (y : Query). y.phase) b.1 ∙ f) in record { program = a.program; named = a.named; right = a.right })) (get-written s.queries i new k x e);
     }
 
-desk-in_phase : (s : DeskState) (i : ℕ) (p : Phase) (o : Option Query) → slice_get s.queries i ≡ o → IsDesk s → PhaseFits p → ((q : Query) → slice_get s.queries i ≡ Some q → PhaseIsRight s q p) → IsDesk (record s { queries = in_phase s.queries i p o })
+desk-in_phase : (s : DeskState) (i : ℕ) (p : Phase) (o : Option Query) → slice_get s.queries i ≡ o → IsDesk s → PhaseFits s.lengths p → ((q : Query) → slice_get s.queries i ≡ Some q → PhaseIsRight s q p) → IsDesk (record s { queries = in_phase s.queries i p o })
 desk-in_phase s i p None there d fits right = d
 desk-in_phase s i p (Some q) there d fits right = desk-written s i q p d there fits (right q there)
 
 -- a query comes into another phase
-pub desk-with_phase : (s : DeskState) (i : ℕ) (p : Phase) → IsDesk s → PhaseFits p → ((q : Query) → slice_get s.queries i ≡ Some q → PhaseIsRight s q p) → IsDesk (record s { queries = with_phase s.queries i p })
+pub desk-with_phase : (s : DeskState) (i : ℕ) (p : Phase) → IsDesk s → PhaseFits s.lengths p → ((q : Query) → slice_get s.queries i ≡ Some q → PhaseIsRight s q p) → IsDesk (record s { queries = with_phase s.queries i p })
 desk-with_phase s i p d fits right = desk-in_phase s i p (slice_get s.queries i) refl d fits right
 
-pub desk-ready : (s : DeskState) (i : ℕ) (view : ViewMap) → IsDesk s → HasValuesOf value_length view → IsDesk (record s { queries = with_phase s.queries i (Ready view) })
+pub desk-ready : (s : DeskState) (i : ℕ) (view : ViewMap) → IsDesk s → HasRecordsWithin s.lengths view → IsDesk (record s { queries = with_phase s.queries i (Ready view) })
 desk-ready s i view d fits = desk-with_phase s i (Ready view) d fits (λ q there v r e. absurd (cc))
 
-pub desk-running : (s : DeskState) (i : ℕ) (view : ViewMap) → IsDesk s → HasValuesOf value_length view → IsDesk (record s { queries = with_phase s.queries i (Running view) })
+pub desk-running : (s : DeskState) (i : ℕ) (view : ViewMap) → IsDesk s → HasRecordsWithin s.lengths view → IsDesk (record s { queries = with_phase s.queries i (Running view) })
 desk-running s i view d fits = desk-with_phase s i (Running view) d fits (λ q there v r e. absurd (cc))
 
 -- ---- programs
@@ -104,21 +108,22 @@ grown : (ps qs : List Certificate) (c : Certificate) (id : ℕ) (o : Option ℕ)
 grown ps qs c id (Some k) e = inl (ok-snd e)
 grown ps qs c id None e = inr (ok-snd (grown-if (Ok (length ps, ps ++ c ∷ [])) id qs (nat_lt (length ps) most_programs) e))
 
--- a table that only grew
-desk-grown : (s : DeskState) (c : Certificate) → IsDesk s → IsTable (s.programs ++ c ∷ []) → IsDesk (record s { programs = s.programs ++ c ∷ [] })
-desk-grown s c d is_table =
+-- a table that only grew, by a program for records of the desk's lengths
+desk-grown : (s : DeskState) (c : Certificate) → c.lengths ≡ s.lengths → IsDesk s → IsTable (s.programs ++ c ∷ []) → IsDesk (record s { programs = s.programs ++ c ∷ [] })
+desk-grown s c same d is_table =
     let t : DeskState = record s { programs = s.programs ++ c ∷ [] } in
     record {
       table = is_table;
       few = d.few;
       brief = d.brief;
+      checked = λ id p e. ⊎_elim (λ a. d.checked id p a) (λ b. ap (λ (x : Certificate). x.lengths) (sym b.1) ∙ same) (get-snoc s.programs c id p e);
       fit = d.fit;
       known = λ k q e. omega (arith, d.known k q e, length-append s.programs (c ∷ []));
       right = λ k q view ran e f. kept s t q view ran (λ p h. get-front s.programs (c ∷ []) q.program p h) (d.right k q view ran e f);
     }
 
-pub desk-registered : (s : DeskState) (qs : List Certificate) (c : Certificate) (id : ℕ) (o : Option ℕ) → registered_at s.programs c o ≡ Ok (id, qs) → IsDesk s → IsTable qs → IsDesk (record s { programs = qs })
-desk-registered s qs c id o e d is_table =
+pub desk-registered : (s : DeskState) (qs : List Certificate) (c : Certificate) (id : ℕ) (o : Option ℕ) → registered_at s.programs c o ≡ Ok (id, qs) → c.lengths ≡ s.lengths → IsDesk s → IsTable qs → IsDesk (record s { programs = qs })
+desk-registered s qs c id o e same d is_table =
     ⊎_elim (λ a. subst (λ (ps : List Certificate). IsDesk (record s { programs = ps })) a d)
-    (λ b. subst (λ (ps : List Certificate). IsDesk (record s { programs = ps })) b (desk-grown s c d (subst IsTable (sym b) is_table)))
+    (λ b. subst (λ (ps : List Certificate). IsDesk (record s { programs = ps })) b (desk-grown s c same d (subst IsTable (sym b) is_table)))
     (grown s.programs qs c id o e)

@@ -47,7 +47,7 @@ pub record IsReadied (d : DeskState) (tag : ℕ) (view : ViewMap) (q : Query) : 
   pub waits : desk.waits tag rephased.old ≡ true
 
 pub noted_moves : (d : DeskState) (e : Entry) → Moves d (desk.with_entry d e) Nothing
-noted_moves d e = record { keeps = record { programs = λ i p h. h; answers = λ k q view ran h a. h }; queries = λ k q h. inl h }
+noted_moves d e = record { keeps = record { lengths = refl; programs = λ i p h. h; answers = λ k q view ran h a. h }; queries = λ k q h. inl h }
 
 -- ---- programs
 
@@ -65,11 +65,12 @@ registered_by-moves d program (Err e) y more h = absurd (no_refusal _ y h)
 registered_by-moves d program (Ok z) y more h =
     let k = passed (desk.has_room d) fault.BookFull _ y h in
     subst (λ (x : ℕ × DeskState). Moves d x.1 Nothing × GoesOn d (entry.Register program) x.1) (same_answer _ y k.1)
-    (record { keeps = record { programs = more z refl; answers = λ k q view ran h a. h }; queries = λ k q h. inl h }, refl)
+    (record { keeps = record { lengths = refl; programs = more z refl; answers = λ k q view ran h a. h }; queries = λ k q h. inl h }, refl)
 
 pub registered_moves : (d : DeskState) (program : Certificate) (y : ℕ × DeskState) → desk.registered d program ≡ Ok y → Moves d y.1 Nothing × GoesOn d (entry.Register program) y.1
 registered_moves d program y h =
-    registered_by-moves d program (table.registered d.programs program) y (λ z is. more_programs d.programs program (table.id_of d.programs program.text) z is) h
+    let k = passed (desk.is_checked_for d.lengths program) fault.WrongBounds _ y h in
+    registered_by-moves d program (table.registered d.programs program) y (λ z is. more_programs d.programs program (table.id_of d.programs program.text) z is) k.1
 
 -- ---- queries
 
@@ -81,7 +82,7 @@ asked_moves d tag program start y h =
     let c = passed (desk.has_room d) fault.BookFull _ y b.1 in
     subst (λ (x : ℕ × DeskState). Moves d x.1 (λ q. desk.begun tag program start ≡ q) × GoesOn d (entry.Ask program start) x.1) (same_answer _ y c.1) (
       record {
-        keeps = record { programs = λ i p h. h; answers = λ k q view ran h a. get-front d.queries (desk.begun tag program start ∷ []) k q h };
+        keeps = record { lengths = refl; programs = λ i p h. h; answers = λ k q view ran h a. get-front d.queries (desk.begun tag program start ∷ []) k q h };
         queries = λ k q h. elim (get-snoc d.queries (desk.begun tag program start) k q h) [ inl old ↦ inl old | inr new ↦ inr new.1 ];
       },
       refl,
@@ -89,9 +90,10 @@ asked_moves d tag program start y h =
 
 module _ (d : DeskState) (k : ℕ) (p : Phase) (m : List Entry) where
   phase_by : (o : Option Query) → slice_get d.queries k ≡ o → ((q : Query) → o ≡ Some q → HasNone q.phase) → Moves d (record d { queries = desk.in_phase d.queries k p o; journal = m }) (IsRephased d k p)
-  phase_by None is none = record { keeps = record { programs = λ i p h. h; answers = λ k q view ran h a. h }; queries = λ k q h. inl h }
+  phase_by None is none = record { keeps = record { lengths = refl; programs = λ i p h. h; answers = λ k q view ran h a. h }; queries = λ k q h. inl h }
   phase_by (Some old) is none = record {
     keeps = record {
+      lengths = refl;
       programs = λ i p h. h;
       answers = λ i q view ran h a. get_elsewhere d.queries k (record old { phase = p }) i q
           (λ here. none q (sym is ∙ ap (slice_get d.queries) (sym here) ∙ h) view ran a) h;

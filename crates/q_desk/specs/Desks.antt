@@ -4,6 +4,7 @@ use Rattle.std.specs.Cmp.Lexicographic.{pointwise}
 use Rattle.std.specs.FinMap as fin
 use Rattle.sc_view.specs.declared.view.Stored.{Stored}
 use Rattle.sc_view.specs.Views.{ViewMap}
+use Rattle.bq_range.specs.Interval.{Interval}
 use Rattle.bq_check.specs.Certificate.{Certificate}
 use Rattle.q_table.specs.declared.fault.TableFault.{TableFault}
 use Rattle.q_table.specs.Programs as table
@@ -61,8 +62,13 @@ abbrev pub registered_by : DeskState → Certificate → Result (ℕ × List Cer
 registered_by s program (Ok r) = room s (Ok (r.0, with_entry (record s { programs = r.1 }) (entry.Register program)))
 registered_by s program (Err e) = Err (of_table e)
 
+-- the program was checked for records of just these lengths
+abbrev pub is_checked_for : Interval → Certificate → Bool
+is_checked_for lengths program = program.lengths.lo == lengths.lo && program.lengths.hi == lengths.hi
+
 abbrev pub registered : DeskState → Certificate → Result (ℕ × DeskState) DeskFault
-registered s program = registered_by s program (table.registered s.programs program)
+registered s program =
+    if is_checked_for s.lengths program then registered_by s program (table.registered s.programs program) else Err fault.WrongBounds
 
 abbrev pub knows : DeskState → ℕ → Bool
 knows s program = nat_lt program (length s.programs)

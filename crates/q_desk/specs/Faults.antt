@@ -19,6 +19,7 @@ memory = call.Node node.OutOfMemory
 
 abbrev pub reason : DeskFault → Reason
 reason fault.UnknownProgram = reasons.UnknownProgram
+reason fault.WrongBounds = reasons.WrongBounds
 reason fault.TableFull = reasons.TableFull
 reason fault.BookFull = reasons.BookFull
 reason fault.NoSuchQuery = reasons.NoSuchQuery

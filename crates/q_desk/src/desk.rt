@@ -1,24 +1,23 @@
 //! A desk: the programs and queries of one node.
 
 ghost use Rattle.std.specs.Prelude.{◌≡◌, ℕ, Ok, Some, IfOk, IfSome, slice_get, position, option_map, IsTrue};
-ghost use Rattle.sc_view.specs.Values.{value_length};
-ghost use Rattle.sc_view.specs.Views.{ViewMap, HasValuesOf};
+ghost use Rattle.sc_view.specs.Views.{ViewMap};
 ghost use Rattle.sc_node.specs.Nodes.{left, store_begun, delivered};
-ghost use Rattle.sc_lengths.specs.Lengths.{EndedHasValuesOf};
 ghost use Rattle.forms.specs.Calls.{Steps, Does};
+ghost use Rattle.q_session.specs.Records.{HasRecordsWithin};
 ghost use Rattle.q_session.specs.declared.query.Query.{Query as QueryValue};
 ghost use Rattle.q_desk.specs.State.{DeskState, new_desk};
 ghost use Rattle.q_desk.specs.Desks as desk;
 ghost use Rattle.q_desk.specs.Faults.{memory};
-ghost use Rattle.q_desk.specs.Answers.{IsDesk, AnswersAreRight, ProgramsAreKnown, ViewsFit};
+ghost use Rattle.q_desk.specs.Answers.{IsDesk, AnswersAreRight, ProgramsAreKnown, ProgramsFit, ViewsFit, MayAllRun, EndsWithin};
 
 use crate::completed::Completed;
 use crate::fault::{CallFault, DeskFault};
 use crate::journal::Entry;
 use crate::same::is_job_of;
+use bq_state::bounds::Bounds;
 use q_session::done::Done;
 use q_session::job::Job;
-use q_session::laws::records_of_values;
 use q_session::query::{Phase, Query};
 use q_session::ran::Ran;
 use q_table::program::{Program, ProgramId};
@@ -40,9 +39,10 @@ pub const MOST_QUERIES: usize = 4096;
 pub const MOST_EVENTS: usize = 65_536;
 
 /// The programs and queries of one node, and its journal: each call that was accepted and changed something, in turn.
-/// Contracts see a desk as the record of these.
+/// Its programs run over records of some lengths. Contracts see a desk as the record of these.
 #[derive(Drop)]
 pub struct Desk {
+    lengths: Bounds,
     programs: Programs,
     queries: Vec<Query>,
     journal: Vec<Entry>,
@@ -62,17 +62,18 @@ impl Model for Desk {
 
     ghost coded = { Prim.hlevel (codes, view_code, entry.the_row.coded) };
 
-    ghost view = { λ d. record { programs = d.programs; queries = d.queries.items; journal = d.journal.items } };
+    ghost view = { λ d. record { lengths = d.lengths; programs = d.programs; queries = d.queries.items; journal = d.journal.items } };
 
-    ghost invariant = { λ d. IsDesk (record { programs = d.programs; queries = d.queries.items; journal = d.journal.items }) × KeepsRoom d.queries.items (vec_len d.journal) d.running (vec_capacity d.journal) };
+    ghost invariant = { λ d. IsDesk (record { lengths = d.lengths; programs = d.programs; queries = d.queries.items; journal = d.journal.items }) × KeepsRoom d.queries.items (vec_len d.journal) d.running (vec_capacity d.journal) };
 }
 
 impl Desk {
-    /// A desk with no programs and no queries.
-    pub fn new(alloc: Global) -> Desk
-        ensures { result ≡ new_desk }
+    /// A desk with no programs and no queries, of a node whose views have records of these lengths.
+    pub fn new(alloc: Global, lengths: Bounds) -> Desk
+        ensures { result ≡ new_desk lengths }
     {
         Desk {
+            lengths,
             programs: Programs::new(alloc),
             queries: Vec::new(alloc),
             journal: Vec::new(alloc),
@@ -99,10 +100,20 @@ impl Desk {
         }
     }
 
-    /// Registers a program; a text that is there keeps its id. Refused with 52, 53, 99.
+    /// The lengths of the records that the programs run over.
+    pub fn lengths(&self) -> Bounds
+        ensures { result ≡ self.now.lengths }
+    {
+        self.lengths
+    }
+
+    /// Registers a program; a text that is there keeps its id. Refused with 59, 52, 53, 99.
     pub fn register(&mut self, program: &Program) -> Result<ProgramId, DeskFault>
         ensures { Steps DeskFault.OutOfMemory (desk.registered self.old program.now) self.old self.new result }
     {
+        if program.certified().lengths() != self.lengths {
+            return Err(DeskFault::WrongBounds);
+        }
         let keyed = self.programs.keyed(program)?;
         self.programs.check(&keyed)?;
         if !self.has_room() {
@@ -204,10 +215,10 @@ impl Desk {
         Ok((number, begun))
     }
 
-    /// The collect with this tag returned a view, with values of the length that journals hold: the query that waits for
-    /// it is ready. Its number is answered. Takes no memory.
+    /// The collect with this tag returned a view, whose records have the desk's lengths: the query that waits for it is
+    /// ready. Its number is answered. Takes no memory.
     pub fn returned(&mut self, tag: u64, view: View) -> Option<usize>
-        requires { HasValuesOf value_length view }
+        requires { HasRecordsWithin self.old.lengths view }
         ensures { (result, self.new) ≡ desk.returned self.old tag view }
     {
         let number = waiting(&self.queries, tag)?;
@@ -215,10 +226,10 @@ impl Desk {
         Some(number)
     }
 
-    /// The node told of this operation that ended, or of none: the view of a collect, with values of the length that
-    /// journals hold, goes to the query that waits for it. What ended is answered. Takes no memory.
+    /// The node told of this operation that ended, or of none: the view of a collect, whose records have the desk's
+    /// lengths, goes to the query that waits for it. What ended is answered. Takes no memory.
     pub fn end(&mut self, ended: Option<Ended>) -> Option<Completed>
-        requires { IfSome ended (EndedHasValuesOf value_length) }
+        requires { IfSome ended (EndsWithin self.old.lengths) }
         ensures told { result ≡ desk.completed_by ended (desk.ends ended self.old).0 }
         ensures new { self.new ≡ (desk.ends ended self.old).1 }
     {
@@ -255,7 +266,6 @@ impl Desk {
     pub fn running_job(&self, node: u64, query: usize) -> Result<Option<Job>, AllocError>
         ensures { IfOk result (λ job. job ≡ desk.running_job self.now node query) }
     {
-        records_of_values();
         let Some(asked) = self.queries.get(query) else {
             return Ok(None);
         };
@@ -265,7 +275,6 @@ impl Desk {
         let Some(program) = self.programs.get(asked.program) else {
             return Ok(None);
         };
-        let _length = program.certified();
         Job::of(*self.queries.allocator(), node, query, asked, program)
     }
 
@@ -313,11 +322,12 @@ impl Desk {
     }
 
     /// The queries, by their numbers. Each names a program of the desk, each recorded answer is right, and each view over
-    /// which a query is to run has values of the length that journals hold.
+    /// which a query is to run has records of the desk's lengths, for which each program was checked.
     pub fn queries(&self) -> &[Query]
         ensures queries { result.now ≡ self.now.queries }
         ensures known { ProgramsAreKnown self.now }
-        ensures fit { ViewsFit self.now.queries }
+        ensures checked { ProgramsFit self.now.lengths self.now.programs }
+        ensures fit { ViewsFit self.now.lengths self.now.queries }
         ensures right { AnswersAreRight self.now }
     {
         self.queries.as_slice()
@@ -379,10 +389,9 @@ fn next_job(
     queries: &[Query],
     node: u64,
 ) -> Result<Option<Job>, AllocError>
-    requires { ViewsFit queries.now }
+    requires { MayAllRun programs.now queries.now }
     ensures { (s : DeskState) → s.programs ≡ programs.now → s.queries ≡ queries.now → IfOk result (λ job. job ≡ desk.next_job s node) }
 {
-    records_of_values();
     let Some(number) = first_ready(queries) else {
         return Ok(None);
     };
@@ -392,7 +401,6 @@ fn next_job(
     let Some(program) = programs.get(query.program) else {
         return Ok(None);
     };
-    let _length = program.certified();
     Job::of(alloc, node, number, query, program)
 }
 

@@ -8,12 +8,14 @@ use reasons::{Reason, passed_on, told};
 use sc_node::fault::NodeFault;
 use std::alloc::AllocError;
 
-/// Why a desk refuses a call. After a refusal the desk is as it was. Where several hold, the first of 51, 52, 56, 55
-/// and 53 is answered.
+/// Why a desk refuses a call. After a refusal the desk is as it was. Where several hold, the first of 51, 59, 52, 56,
+/// 55 and 53 is answered.
 #[derive(Clone, Copy, Debug, PartialEq, Eq)]
 pub enum DeskFault {
     /// 51: no program has this id.
     UnknownProgram,
+    /// 59: the program was checked for records of other lengths than those of the desk's views.
+    WrongBounds,
     /// 52: a 1,025th program would come.
     TableFull,
     /// 53: a 4,097th query or a 65,537th entry of the journal would come.
@@ -33,7 +35,7 @@ impl DeskFault {
     pub fn reason(self) -> Reason
         ensures { result ≡ reason self }
     {
-        told!(self, DeskFault: UnknownProgram, TableFull, BookFull, NoSuchQuery, Stranger, AlreadyAnswered, OutOfMemory)
+        told!(self, DeskFault: UnknownProgram, WrongBounds, TableFull, BookFull, NoSuchQuery, Stranger, AlreadyAnswered, OutOfMemory)
     }
 }
 

@@ -1,6 +1,7 @@
 //! Worked values of what the calls of a desk do.
 
 ghost use Rattle.std.specs.Prelude.{◌≡◌, ℕ, List, [], ◌∷◌, length, true, Option, Some, None, Ok, Err};
+ghost use Rattle.bq_range.specs.Interval.{Interval, between, single};
 ghost use Rattle.bq_check.specs.Certificate.{Certificate};
 ghost use Rattle.sc_msg.specs.declared.message.Message.{Message};
 ghost use Rattle.sc_node.specs.State.{NodeState};
@@ -32,20 +33,21 @@ pub fn worked()
     ensures full_first { (s : DeskState) → length s.journal ≡ 65536 → desk.noting {A = Begun} s entry.Leave (Err node_fault.Gone) ≡ Err (call.Desk fault.BookFull) }
 
     // Programs.
-    ensures registered { (c : Certificate) → desk.registered new_desk c ≡ Ok (0, record { programs = c ∷ []; queries = []; journal = entry.Register c ∷ [] }) }
-    ensures unknown { (c : Certificate) → desk.asked (record new_desk { programs = c ∷ [] }) 9 1 7 ≡ Err fault.UnknownProgram }
+    ensures registered { (c : Certificate) → desk.registered (new_desk (single 64)) (record c { lengths = single 64 }) ≡ Ok (0, record { lengths = single 64; programs = record c { lengths = single 64 } ∷ []; queries = []; journal = entry.Register (record c { lengths = single 64 }) ∷ [] }) }
+    ensures wrong_bounds { (c : Certificate) → desk.registered (new_desk (between 16 128)) (record c { lengths = single 64 }) ≡ Err fault.WrongBounds }
+    ensures unknown { (c : Certificate) (l : Interval) → desk.asked (record (new_desk l) { programs = c ∷ [] }) 9 1 7 ≡ Err fault.UnknownProgram }
 
     // Queries begin, and wait for their collects.
-    ensures asked { (c : Certificate) → desk.asked (record new_desk { programs = c ∷ [] }) 9 0 7 ≡ Ok (0, record { programs = c ∷ []; queries = query 9 Collecting ∷ []; journal = entry.Ask 0 7 ∷ [] }) }
+    ensures asked { (c : Certificate) (l : Interval) → desk.asked (record (new_desk l) { programs = c ∷ [] }) 9 0 7 ≡ Ok (0, record { lengths = l; programs = c ∷ []; queries = query 9 Collecting ∷ []; journal = entry.Ask 0 7 ∷ [] }) }
     ensures too_many { (s : DeskState) → desk.knows s 0 ≡ true → length s.queries ≡ 4096 → desk.asked s 9 0 7 ≡ Err fault.BookFull }
     ensures returned { (s : DeskState) (v : ViewMap) → desk.returned (record s { queries = query 8 Collecting ∷ query 9 Collecting ∷ [] }) 9 v ≡ (Some 1, record s { queries = query 8 Collecting ∷ query 9 (Ready v) ∷ [] }) }
     ensures stored { (s : DeskState) → desk.ends (Some (record { tag = 5; what = completion.Stored })) s ≡ (None, s) }
     ensures completed { (query : Option ℕ) → desk.completed_by (Some (record { tag = 5; what = completion.Stored })) query ≡ Some (completed.Stored 5) }
 
     // Jobs: the ready query with the least number is handed out, and runs.
-    ensures handed_out { (c : Certificate) (v : ViewMap) → desk.handed_out (record new_desk { programs = c ∷ []; queries = query 8 (Running v) ∷ query 9 (Ready v) ∷ [] }) 3 ≡ Ok (Some (job_over 3 1 (query 9 (Ready v)) c v), record { programs = c ∷ []; queries = query 8 (Running v) ∷ query 9 (Running v) ∷ []; journal = entry.HandOut ∷ [] }) }
-    ensures running { (c : Certificate) (v : ViewMap) → desk.running_job (record new_desk { programs = c ∷ []; queries = query 8 (Ready v) ∷ query 9 (Running v) ∷ [] }) 3 1 ≡ Some (record { node = 3; query = 1; program = 0; start = 7; certified = c; view = v }) }
-    ensures not_running { (c : Certificate) (v : ViewMap) → desk.running_job (record new_desk { programs = c ∷ []; queries = query 8 (Ready v) ∷ query 9 (Running v) ∷ [] }) 3 0 ≡ None }
+    ensures handed_out { (c : Certificate) (v : ViewMap) (l : Interval) → desk.handed_out (record (new_desk l) { programs = c ∷ []; queries = query 8 (Running v) ∷ query 9 (Ready v) ∷ [] }) 3 ≡ Ok (Some (job_over 3 1 (query 9 (Ready v)) c v), record { lengths = l; programs = c ∷ []; queries = query 8 (Running v) ∷ query 9 (Running v) ∷ []; journal = entry.HandOut ∷ [] }) }
+    ensures running { (c : Certificate) (v : ViewMap) (l : Interval) → desk.running_job (record (new_desk l) { programs = c ∷ []; queries = query 8 (Ready v) ∷ query 9 (Running v) ∷ [] }) 3 1 ≡ Some (record { node = 3; query = 1; program = 0; start = 7; certified = c; view = v }) }
+    ensures not_running { (c : Certificate) (v : ViewMap) (l : Interval) → desk.running_job (record (new_desk l) { programs = c ∷ []; queries = query 8 (Ready v) ∷ query 9 (Running v) ∷ [] }) 3 0 ≡ None }
 
     // Answers.
     ensures answer { (s : DeskState) (v : ViewMap) (ran : Ran) → desk.answer_of (record s { queries = query 8 Collecting ∷ query 9 (Answered v ran) ∷ [] }) 1 ≡ Ok (Some ran) }

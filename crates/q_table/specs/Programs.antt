@@ -3,14 +3,9 @@ use Rattle.std.specs.Prelude.{◌≡◌, ℕ, ◌≤◌, Bool, bytes_eq, nat_lt,
 use Rattle.std.specs.List.{AllByRecursion}
 use Rattle.bq_insn.specs.declared.insn.Insn.{Insn}
 use Rattle.bq_insn.specs.Slots.{spelling}
-use Rattle.bq_state.specs.Kinds.{view_lengths}
 use Rattle.bq_check.specs.Certificate.{Certificate}
 use Rattle.q_table.specs.declared.fault.TableFault.{TableFault}
 use Rattle.q_table.specs.declared.fault.TableFault.TheVariants as fault
-
--- it is for the records of views alone
-abbrev pub IsForViews : Certificate → Type 0
-IsForViews c = c.lengths ≡ view_lengths
 
 -- at most so many programs
 abbrev pub most_programs : ℕ

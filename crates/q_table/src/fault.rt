@@ -1,38 +1,11 @@
-//! Why a program is not taken, and why it is not registered.
+//! Why a program is not registered.
 
 ghost use Rattle.std.specs.Prelude.{◌≡◌};
-ghost use Rattle.q_table.specs.Faults.{program_reason, reason};
-ghost use Rattle.q_table.specs.declared.fault.ProgramFault.TheVariants as program_fault;
+ghost use Rattle.q_table.specs.Faults.{reason};
 ghost use Rattle.q_table.specs.declared.fault.TableFault.TheVariants as table_fault;
 
 use reasons::{Reason, told};
 use std::alloc::AllocError;
-
-/// Why a certificate is no program of a view.
-#[derive(Clone, Copy, Debug, PartialEq, Eq)]
-pub enum ProgramFault {
-    /// 59: it was checked for records of other lengths.
-    WrongBounds,
-    /// 99.
-    OutOfMemory,
-}
-
-impl ProgramFault {
-    /// The reason by which the fault is told.
-    pub fn reason(self) -> Reason
-        ensures { result ≡ program_reason self }
-    {
-        told!(self, ProgramFault: WrongBounds, OutOfMemory)
-    }
-}
-
-impl From<AllocError> for ProgramFault {
-    ghost from_gives = { λ _ e. e ≡ program_fault.OutOfMemory };
-
-    fn from(_: AllocError) -> ProgramFault {
-        ProgramFault::OutOfMemory
-    }
-}
 
 /// Why a program is not registered. After a refusal the table is as it was.
 #[derive(Clone, Copy, Debug, PartialEq, Eq)]

@@ -1,13 +1,8 @@
 //! A certified program that several owners share, and its id.
 
-ghost use Rattle.std.specs.Prelude.{◌≡◌, ◌↔◌, IfOk, IsErrOf};
-ghost use Rattle.bq_meaning.specs.Place.{record_length};
-ghost use Rattle.bq_range.specs.Interval.{IsIn};
-ghost use Rattle.q_table.specs.Programs.{IsForViews};
+ghost use Rattle.std.specs.Prelude.{◌≡◌, IfOk};
 
-use crate::fault::ProgramFault;
 use bq_check::certified::Certified;
-use bq_state::bounds::Bounds;
 use std::alloc::{AllocError, Global};
 use std::marker::Model;
 use std::sync::Arc;
@@ -42,8 +37,7 @@ impl ProgramId {
     }
 }
 
-/// A certified program that several owners share, which was checked for the records of views alone. Contracts see it as
-/// the certificate.
+/// A certified program that several owners share. Contracts see it as the certificate.
 #[derive(Drop)]
 pub struct Program {
     certified: Arc<Certified>,
@@ -51,32 +45,15 @@ pub struct Program {
 
 impl Model for Program {
     ghost use Rattle.bq_check.specs.Certificate.{Certificate};
-    ghost use Rattle.q_table.specs.Programs.{IsForViews};
 
     ghost Value = { Certificate };
 
     ghost view = { λ p. p.certified.value };
-
-    ghost invariant = { λ p. IsForViews p.certified.value };
 }
 
 impl Program {
-    /// A certified program, to be shared. Refused with 59 where it was checked for records of other lengths than those
-    /// of views; else 99.
-    pub fn new(alloc: Global, certified: Certified) -> Result<Program, ProgramFault>
-        ensures ok { IfOk result (λ p. p ≡ certified) }
-        ensures bounds { IsErrOf result ProgramFault.WrongBounds ↔ (IsForViews certified → ⊥) }
-    {
-        if certified.lengths() != Bounds::of_views() {
-            return Err(ProgramFault::WrongBounds);
-        }
-        Ok(Program::of_views(alloc, certified)?)
-    }
-
-    /// A program that is known to be checked for the records of views, to be shared. The one error is that memory ran
-    /// out (99 OutOfMemory).
-    pub fn of_views(alloc: Global, certified: Certified) -> Result<Program, AllocError>
-        requires { IsForViews certified }
+    /// A certified program, to be shared. The one error is that memory ran out (99 OutOfMemory).
+    pub fn new(alloc: Global, certified: Certified) -> Result<Program, AllocError>
         ensures { IfOk result (λ p. p ≡ certified) }
     {
         let certified = Arc::new(alloc, certified).map_err(AllocError::from)?;
@@ -85,9 +62,7 @@ impl Program {
 
     /// The certificate.
     pub fn certified(&self) -> &Certified
-        ensures certificate { result.now ≡ self.now }
-        ensures views { IsForViews result.now }
-        ensures length { IsIn record_length result.now.lengths }
+        ensures { result.now ≡ self.now }
     {
         &self.certified
     }

@@ -3,19 +3,15 @@
 ghost use Rattle.std.specs.Prelude.{◌≡◌, ◌++◌, [], ◌∷◌, List, length, slice_get, true, false, Some, None, Ok, Err};
 ghost use Rattle.bq_check.specs.Certificate.{Certificate};
 ghost use Rattle.bq_insn.specs.declared.insn.Insn.TheVariants as insn;
-ghost use Rattle.bq_range.specs.Interval.{between, single};
-ghost use Rattle.q_table.specs.Programs.{IsForViews, is_same_text, id_of, registered, checked};
+ghost use Rattle.q_table.specs.Programs.{is_same_text, id_of, registered, checked};
 ghost use Rattle.q_table.specs.declared.fault.TableFault.TheVariants as fault;
 
 /// What the definitions say at telling operands.
 #[tactic(auto, unfolding(bq_insn::specs::Fields::unit_bytes))]
 pub fn worked()
-    // Texts, and the lengths of a view's records.
+    // Texts.
     ensures one_text { is_same_text (insn.Exit ∷ []) (insn.Exit ∷ []) ≡ true }
     ensures longer_text { is_same_text (insn.Exit ∷ []) (insn.Exit ∷ insn.Exit ∷ []) ≡ false }
-    ensures for_views { IsForViews (record { text = []; notes = []; lengths = single 64; longest = 0 }) }
-    ensures for_all_lengths { IsForViews (record { text = []; notes = []; lengths = between 16 128; longest = 0 }) → ⊥ }
-    ensures for_longer { IsForViews (record { text = []; notes = []; lengths = between 64 128; longest = 0 }) → ⊥ }
 
     // A text that is there keeps its id and its first certificate; the 1,025th is refused. An id is a place.
     ensures first { (c : Certificate) → registered [] c ≡ Ok (0, c ∷ []) }

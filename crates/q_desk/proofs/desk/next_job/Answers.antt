@@ -1,21 +1,19 @@
 use Rattle.std.proofs.Common.{◌≡◌, List, Option, sym, ap, subst, refl, ◌∙◌}
 use Rattle.std.proofs.lemmas.Option.{slice_get_read}
 use Rattle.std.specs.Prelude.{IfOk, slice_get, position}
-use Rattle.bq_meaning.specs.Place.{record_length}
-use Rattle.bq_range.specs.Interval.{IsIn}
 use Rattle.bq_check.specs.Certificate.{Certificate}
 use Rattle.q_session.specs.declared.job.Job.{Job}
 use Rattle.q_session.specs.declared.query.Query.{Query}
 use Rattle.q_session.specs.Jobs.{job_of}
 use Rattle.q_desk.specs.Desks.{is_ready, next_job}
-use Rattle.q_desk.proofs.Jobs.{may_run, next-none, next-some}
+use Rattle.q_desk.proofs.Jobs.{next-none, next-some}
 use Rattle.q_desk.proofs.desk.next_job.Goals as goal
 
 pub of-requires : goal.of-requires
 of-requires c =
     let at = c.in-Some-get.ensures.lookup in
     let q = c.in-Some-get.query.now in
-    may_run q c.in-Some-get-2.program.now c.records_of_values.ensures (c.requires c.in-Some.number q (slice_get_read c.args.queries.now _ c.in-Some.number q refl at.3.0 at.1)) (subst (λ (x : Certificate). IsIn record_length x.lengths) c.certified-length.ensures.certificate c.certified-length.ensures.length)
+    c.requires c.in-Some.number q c.in-Some-get-2.program.now (slice_get_read c.args.queries.now _ c.in-Some.number q refl at.3.0 at.1) (sym c.in-Some-get-2.ensures)
 
 pub returns-in_default-get-2 : goal.returns-in_default-get-2
 returns-in_default-get-2 c = λ s programs queries.

@@ -1,6 +1,8 @@
-use Rattle.std.proofs.Common.{ℕ, ◌+◌, sym, subst}
-use Rattle.bq_range.specs.Interval.{IsIn}
+use Rattle.std.proofs.Common.{length, arith}
+use Rattle.sc_view.specs.Values.{IsWithin}
 use Rattle.q_session.proofs.laws.records_of_values.Goals as goal
 
 pub returns : goal.returns
-returns c = λ n lengths v h fits. record { at = λ id e is. subst (λ (k : ℕ). IsIn (16 + k) lengths) (sym (h.at id e is)) fits }
+returns c = λ l v h. record {
+  at = λ id e is. let within : IsWithin (length e.value) l = h.at id e is in record { low = omega (arith, within.least); high = omega (arith, within.most) };
+}

@@ -1,16 +1,24 @@
-use Rattle.std.proofs.Common.{◌≡◌, ℕ, Some, rules, refl, sym, ap, ◌∙◌, arith}
+use Rattle.std.proofs.Common.{◌≡◌, ℕ, List, Some, rules, refl, sym, ap, subst, ◌∙◌, arith}
 use Rattle.std.specs.Prelude.{slice_get}
 use Rattle.sc_view.specs.Views.{ViewMap}
 use Rattle.q_session.specs.declared.query.Phase.TheVariants.{Ready, Running}
+use Rattle.q_session.specs.declared.query.Query.{Query}
 use Rattle.q_desk.specs.declared.journal.Entry.TheVariants as entry
 use Rattle.q_desk.specs.State.{DeskState}
+use Rattle.q_desk.specs.Answers.{MayAllRun}
 use Rattle.q_desk.specs.Desks.{with_phase, next_job, handed_out}
 use Rattle.q_desk.proofs.Keeps.{IsAppended}
-use Rattle.q_desk.proofs.Jobs.{Moves, desk-handed, jobs-handed, handed}
+use Rattle.q_desk.proofs.Jobs.{Moves, may_all_run, desk-handed, jobs-handed, handed}
 use Rattle.q_desk.proofs.desk.Desk.hand_out.Goals as goal
 
+pub next_job-requires : goal.next_job-requires
+next_job-requires c =
+    let s = c.self.inside in
+    subst (λ (queries : List Query). MayAllRun s.programs queries) (sym c.deref.ensures.value)
+    (may_all_run s.lengths s.programs s.queries.items c.self.invariant.0.checked c.self.invariant.0.fit)
+
 abbrev inside : goal.After-push_reserved → DeskState
-inside c = record { programs = c.self.inside.programs; queries = c.self.inside.queries.items; journal = c.self.inside.journal.items }
+inside c = record { lengths = c.self.inside.lengths; programs = c.self.inside.programs; queries = c.self.inside.queries.items; journal = c.self.inside.journal.items }
 
 next : (c : goal.After-push_reserved) → Some c.in-Some.job ≡ next_job (inside c) c.args.node
 next c = sym c.in-Some.is ∙ c.in_ok-job.ensures (inside c) refl (sym c.deref.ensures.value)

@@ -15,7 +15,7 @@ use Rattle.q_desk.proofs.Running.{run-answered, run-some}
 use Rattle.q_desk.proofs.desk.Desk.post.Goals as goal
 
 abbrev inside : goal.After-push_reserved → DeskState
-inside c = record { programs = c.self.inside.programs; queries = c.self.inside.queries.items; journal = c.self.inside.journal.items }
+inside c = record { lengths = c.self.inside.lengths; programs = c.self.inside.programs; queries = c.self.inside.queries.items; journal = c.self.inside.journal.items }
 
 numbered : (c : goal.After-push_reserved) → slice_get c.self.inside.queries.items c.query-number.result ≡ Some c.in-Some.query.now
 numbered c =
