@@ -1,13 +1,15 @@
--- That a book stays the replay of its journal at each of its calls.
-use Rattle.std.proofs.Common.{◌≡◌, ◌≢◌, ◌==◌, ℕ, Bool, true, false, cond, length, List, Option, Some, None, Result, Ok, Err, refl, sym, ap, subst, ◌∙◌, if◌then◌else◌}
+-- That a book keeps what each book keeps at each of its calls.
+use Rattle.std.proofs.Common.{◌≡◌, ◌≢◌, ℕ, Bool, true, false, cond, length, List, Option, Some, None, Result, Ok, Err, refl, sym, ap, subst, ◌∙◌, if◌then◌else◌}
 use Rattle.std.specs.Prelude.{nat_le}
 use Rattle.std.specs.FinMap as fin
 use Rattle.std.specs.Result.{IsErrAnd}
 use Rattle.forms.specs.Calls.{Steps}
 use Rattle.sc_members.specs.Members.{Config}
-use Rattle.sc_view.specs.Values.{value_length}
+use Rattle.sc_view.specs.Values.{is_within}
 use Rattle.sc_msg.specs.declared.message.Message.{Message}
 use Rattle.sc_msg.specs.Lengths as message
+use Rattle.sc_msg.specs.Values.{value_lengths}
+use Rattle.sc_msg.specs.declared.version.Version.{Version}
 use Rattle.sc_node.specs.State.{NodeState}
 use Rattle.sc_node.specs.Nodes as node
 use Rattle.sc_node.specs.declared.answer.Begun.{Begun}
@@ -15,6 +17,7 @@ use Rattle.sc_node.specs.declared.answer.Delivered.{Delivered}
 use Rattle.sc_node.specs.declared.fault.NodeFault.{NodeFault}
 use Rattle.sc_node.specs.declared.fault.NodeFault.TheVariants as node_fault
 use Rattle.bq_check.specs.Certificate.{Certificate}
+use Rattle.bq_range.specs.Interval.{Interval}
 use Rattle.q_session.specs.Right.{IsRight}
 use Rattle.q_session.specs.declared.ran.Ran.{Ran}
 use Rattle.q_session.specs.declared.job.Job.{Job}
@@ -32,11 +35,11 @@ use Rattle.q_book.specs.declared.fault.BookFault.{BookFault}
 use Rattle.q_book.specs.declared.fault.BookFault.TheVariants as fault
 use Rattle.q_book.specs.Faults.{memory, of_call}
 use Rattle.q_book.specs.State.{BookState}
-use Rattle.q_book.specs.Books.{by_desk, by_node, here, joined, known, fitting, free, with_desk, asks, asks_node, asked, stores, stores_node, stored, delivers, delivers_node, delivered, leaves, leaves_node, left}
-use Rattle.q_book.specs.Replays.{IsReplay}
+use Rattle.q_book.specs.Books.{by_desk, by_node, here, joined, known, fitting, free, with_desk, asks, asks_node, asked, stores, stores_node, stored, delivers, delivers_node, delivered, leaves, leaves_node, left, record_lengths}
+use Rattle.q_book.specs.Replays.{IsBook}
 use Rattle.q_desk.proofs.Accepted.{same_answer, no_refusal}
 use Rattle.q_desk.proofs.Moves.{handed_out-ok}
-use Rattle.q_book.proofs.Replays.{with, replay_next}
+use Rattle.q_book.proofs.Replays.{with, book_next}
 
 -- ---- what passes the tests
 
@@ -52,18 +55,22 @@ here-flag true u rest h = absurd (cc)
 pub passes-here : {A : Type 0} (b : BookState) (u : Unit {0}) (rest : Result A BookFault) → (let t : Test = Ok u in t) ≡ here b (Ok tt) → here b rest ≡ rest
 passes-here b u rest h = here-flag b.node.gone u rest h
 
-storing-flags : {A : Type 0} (gone joins fits full : Bool) (u : Unit {0}) (rest : Result A BookFault)
-    → (let t : Test = Ok u in t) ≡ (if gone then Err (fault.Node node_fault.Gone) else (if joins then (if fits then (if full then Err (fault.Node node_fault.SessionsFull) else Ok tt) else Err fault.BadValue) else Err (fault.Node node_fault.NotJoined)))
-    → (fits ≡ true) × ((if gone then Err (fault.Node node_fault.Gone) else (if joins then (if fits then (if full then Err (fault.Node node_fault.SessionsFull) else rest) else Err fault.BadValue) else Err (fault.Node node_fault.NotJoined))) ≡ rest)
-storing-flags false true true false u rest h = (refl, refl)
-storing-flags true joins fits full u rest h = absurd (cc)
-storing-flags false false fits full u rest h = absurd (cc)
-storing-flags false true false full u rest h = absurd (cc)
-storing-flags false true true true u rest h = absurd (cc)
+-- the value of the bytes
+abbrev pub Valued : Type 0
+Valued = Result (List ℕ) BookFault
 
--- the value has the length that journals hold, and the rest follows
-pub passes-storing : {A : Type 0} (b : BookState) (fits : Bool) (u : Unit {0}) (rest : Result A BookFault) → (let t : Test = Ok u in t) ≡ here b (joined b (fitting fits (free b (Ok tt)))) → (fits ≡ true) × (here b (joined b (fitting fits (free b rest))) ≡ rest)
-passes-storing b fits u rest h = storing-flags b.node.gone b.node.joined fits (nat_le node.most_open (fin.len b.node.sessions)) u rest h
+storing-flags : {A : Type 0} (gone joins fits full : Bool) (v value : List ℕ) (rest : Result A BookFault)
+    → (let t : Valued = Ok v in t) ≡ (if gone then Err (fault.Node node_fault.Gone) else (if joins then (if fits then (if full then Err (fault.Node node_fault.SessionsFull) else Ok value) else Err fault.BadValue) else Err (fault.Node node_fault.NotJoined)))
+    → (v ≡ value) × ((if gone then Err (fault.Node node_fault.Gone) else (if joins then (if fits then (if full then Err (fault.Node node_fault.SessionsFull) else rest) else Err fault.BadValue) else Err (fault.Node node_fault.NotJoined))) ≡ rest)
+storing-flags false true true false v value rest h = (same_answer v value h, refl)
+storing-flags true joins fits full v value rest h = absurd (cc)
+storing-flags false false fits full v value rest h = absurd (cc)
+storing-flags false true false full v value rest h = absurd (cc)
+storing-flags false true true true v value rest h = absurd (cc)
+
+-- the value is of the bytes, which have a length of the book's version, and the rest follows
+pub passes-storing : {A : Type 0} (b : BookState) (fits : Bool) (v value : List ℕ) (rest : Result A BookFault) → (let t : Valued = Ok v in t) ≡ here b (joined b (fitting fits (free b (Ok value)))) → (v ≡ value) × (here b (joined b (fitting fits (free b rest))) ≡ rest)
+passes-storing b fits v value rest h = storing-flags b.node.gone b.node.joined fits (nat_le node.most_open (fin.len b.node.sessions)) v value rest h
 
 taking-flags : {A : Type 0} (gone fits : Bool) (u : Unit {0}) (rest : Result A BookFault)
     → (let t : Test = Ok u in t) ≡ (if gone then Err (fault.Node node_fault.Gone) else (if fits then Ok tt else Err fault.BadValue))
@@ -72,7 +79,7 @@ taking-flags false true u rest h = (refl, refl)
 taking-flags true fits u rest h = absurd (cc)
 taking-flags false false u rest h = absurd (cc)
 
--- the values of a message have the length that journals hold, and the rest follows
+-- the message fits the book's version, and the rest follows
 pub passes-taking : {A : Type 0} (b : BookState) (fits : Bool) (u : Unit {0}) (rest : Result A BookFault) → (let t : Test = Ok u in t) ≡ here b (fitting fits (Ok tt)) → (fits ≡ true) × (here b (fitting fits rest) ≡ rest)
 passes-taking b fits u rest h = taking-flags b.node.gone fits u rest h
 
@@ -90,28 +97,28 @@ passes-asking b program u rest h = asking-flags b.node.gone b.node.joined (desk.
 
 -- ---- a book whose parts are as they were
 
-pub same_replay : (b : BookState) (n : NodeState) (d : DeskState) → n ≡ b.node → d ≡ b.desk → IsReplay b → IsReplay (with b n d)
-same_replay b n d hn hd r = subst (λ (p : NodeState × DeskState). IsReplay (with b p.0 p.1)) (λ i. (sym hn i, sym hd i)) r
+pub same_book : (b : BookState) (n : NodeState) (d : DeskState) → n ≡ b.node → d ≡ b.desk → IsBook b → IsBook (with b n d)
+same_book b n d hn hd r = subst (λ (p : NodeState × DeskState). IsBook (with b p.0 p.1)) (λ i. (sym hn i, sym hd i)) r
 
 -- ---- calls of the desk
 
-pub registered_replay : (b : BookState) (program : Certificate) (u : Unit {0}) (id : ℕ) (d : DeskState) → (let t : Test = Ok u in t) ≡ here b (Ok tt)
-    → desk.registered b.desk program ≡ Ok (id, d) → IsReplay b → IsReplay (with b b.node d)
-registered_replay b program u id d passed h r =
-    replay_next b (with b b.node d) (entry.Register program) r
+pub registered_book : (b : BookState) (program : Certificate) (u : Unit {0}) (id : ℕ) (d : DeskState) → (let t : Test = Ok u in t) ≡ here b (Ok tt)
+    → desk.registered b.desk program ≡ Ok (id, d) → IsBook b → IsBook (with b b.node d)
+registered_book b program u id d passed h r =
+    book_next b (with b b.node d) (entry.Register program) r
     (id, passes-here b u (by_desk (with_desk b) (desk.registered b.desk program)) passed ∙ ap (by_desk (with_desk b)) h)
 
-pub handed_replay : (b : BookState) (o : Option Job) (u : Unit {0}) (d : DeskState) → (let t : Test = Ok u in t) ≡ here b (Ok tt)
-    → desk.handed_out b.desk b.id ≡ Ok (o, d) → IsReplay b → IsReplay (with b b.node d)
-handed_replay b None u d passed h r = same_replay b b.node d refl (sym (handed_out-ok b.desk b.id (None, d) h)) r
-handed_replay b (Some j) u d passed h r =
-    replay_next b (with b b.node d) entry.HandOut r
+pub handed_book : (b : BookState) (o : Option Job) (u : Unit {0}) (d : DeskState) → (let t : Test = Ok u in t) ≡ here b (Ok tt)
+    → desk.handed_out b.desk b.id ≡ Ok (o, d) → IsBook b → IsBook (with b b.node d)
+handed_book b None u d passed h r = same_book b b.node d refl (sym (handed_out-ok b.desk b.id (None, d) h)) r
+handed_book b (Some j) u d passed h r =
+    book_next b (with b b.node d) entry.HandOut r
     (j, passes-here b u (by_desk (with_desk b) (desk.handed_out b.desk b.id)) passed ∙ ap (by_desk (with_desk b)) h)
 
-pub posted_replay : (b : BookState) (j : Job) (ran : Ran) (u : Unit {0}) (d : DeskState) → (let t : Test = Ok u in t) ≡ here b (Ok tt)
-    → desk.posted b.desk b.id j ran ≡ Ok (tt, d) → IsRight j.certified j.view j.start ran → IsReplay b → IsReplay (with b b.node d)
-posted_replay b j ran u d passed h right r =
-    replay_next b (with b b.node d) (entry.Post j.query ran) r
+pub posted_book : (b : BookState) (j : Job) (ran : Ran) (u : Unit {0}) (d : DeskState) → (let t : Test = Ok u in t) ≡ here b (Ok tt)
+    → desk.posted b.desk b.id j ran ≡ Ok (tt, d) → IsRight j.certified j.view j.start ran → IsBook b → IsBook (with b b.node d)
+posted_book b j ran u d passed h right r =
+    book_next b (with b b.node d) (entry.Post j.query ran) r
     (j, refl, right, passes-here b u (by_desk (with_desk b) (desk.posted b.desk b.id j ran)) passed ∙ ap (by_desk (with_desk b)) h)
 
 -- ---- calls of the node that the desk notes
@@ -165,35 +172,39 @@ module _ (b : BookState) where
       passes-asking b program u (by_desk (asks_node b) (desk.asked b.desk b.node.operations program start)) passed
       ∙ by_both (asks b) (λ query begun. (query, begun)) asks_call (λ q d begun n. refl) (desk.asked b.desk b.node.operations program start) (node.collect_begun b.node)
 
-  pub stored_by : (value : List ℕ) (u : Unit {0}) → (let t : Test = Ok u in t) ≡ here b (joined b (fitting (length value == value_length) (free b (Ok tt))))
-      → stored b value ≡ by_call stores_call (desk.noting b.desk (entry.Store value) (node.store_begun b.node value))
-  stored_by value u passed =
-      (passes-storing b (length value == value_length) u (by_desk (stores_node b value) (desk.noted b.desk (entry.Store value))) passed).1
+  pub stored_by : (value v : List ℕ) → (let t : Valued = Ok v in t) ≡ here b (joined b (fitting (is_within (length value) (value_lengths b.version)) (free b (Ok value))))
+      → stored b value ≡ by_call stores_call (desk.noting b.desk (entry.Store v) (node.store_begun b.node v))
+  stored_by value v passed =
+      let p = passes-storing b (is_within (length value) (value_lengths b.version)) v value (by_desk (stores_node b value) (desk.noted b.desk (entry.Store value))) passed in
+      p.1
       ∙ by_both (λ u d. stores b d) (λ u begun. begun) stores_call (λ u d begun n. refl) (desk.noted b.desk (entry.Store value)) (node.store_begun b.node value)
+      ∙ ap (λ (x : List ℕ). by_call stores_call (desk.noting b.desk (entry.Store x) (node.store_begun b.node x))) (sym p.0)
 
   pub left_by : (u : Unit {0}) → (let t : Test = Ok u in t) ≡ here b (Ok tt) → left b ≡ by_call leaves_call (desk.noting b.desk entry.Leave (node.left b.node))
   left_by u passed =
       passes-here b u (by_desk (leaves_node b) (desk.noted b.desk entry.Leave)) passed
       ∙ by_both (λ u d. leaves b d) (λ u outs. outs) leaves_call (λ u d outs n. refl) (desk.noted b.desk entry.Leave) (node.left b.node)
 
-  pub delivered_by : (m : Message) (u : Unit {0}) → (let t : Test = Ok u in t) ≡ here b (fitting (message.has_values_of value_length m) (Ok tt))
+  pub delivered_by : (m : Message) (u : Unit {0}) → (let t : Test = Ok u in t) ≡ here b (fitting (message.fits b.version m) (Ok tt))
       → delivered b m ≡ by_call delivers_call (desk.noting b.desk (entry.Deliver m) (node.delivered b.node m))
   delivered_by m u passed =
-      (passes-taking b (message.has_values_of value_length m) u (by_desk (delivers_node b m) (desk.noted b.desk (entry.Deliver m))) passed).1
+      (passes-taking b (message.fits b.version m) u (by_desk (delivers_node b m) (desk.noted b.desk (entry.Deliver m))) passed).1
       ∙ by_both (λ u d. delivers b d) (λ u told. told) delivers_call (λ u d told n. refl) (desk.noted b.desk (entry.Deliver m)) (node.delivered b.node m)
 
 -- ---- before any call
 
-pub founded_replay : (id : ℕ) (config : Config) (ids listed : List ℕ) (n : NodeState) (d : DeskState) → node.founded config id ids ≡ Ok n → listed ≡ ids → d ≡ new_desk
-    → IsReplay (record { id = id; config = config; founders = Some listed; node = n; desk = d })
-founded_replay id config ids listed n d f same new =
-    subst (λ (p : List ℕ × DeskState). IsReplay (record { id = id; config = config; founders = Some p.0; node = n; desk = p.1 })) (λ i. (sym same i, sym new i))
-    (record { first = n; begun = f; replayed = refl })
+pub founded_book : (version : Version) (id : ℕ) (config : Config) (ids listed : List ℕ) (n : NodeState) (d : DeskState) (l : Interval) → node.founded config id ids ≡ Ok n → listed ≡ ids → d ≡ new_desk l
+    → l ≡ record_lengths version → IsBook (record { version = version; id = id; config = config; founders = Some listed; node = n; desk = d })
+founded_book version id config ids listed n d l f same new lengths =
+    let is : d ≡ new_desk (record_lengths version) = new ∙ ap new_desk lengths in
+    subst (λ (p : List ℕ × DeskState). IsBook (record { version = version; id = id; config = config; founders = Some p.0; node = n; desk = p.1 })) (λ i. (sym same i, sym is i))
+    (record { replay = record { first = n; begun = f; replayed = refl }; lengths = refl })
 
-pub entered_replay : (id : ℕ) (config : Config) (outs : List Message) (n : NodeState) (d : DeskState) → (let r : Result (NodeState × List Message) NodeFault = Ok (node.entered config id) in r) ≡ Ok (n, outs) → d ≡ new_desk
-    → IsReplay (record { id = id; config = config; founders = None; node = n; desk = d })
-entered_replay id config outs n d e new =
+pub entered_book : (version : Version) (id : ℕ) (config : Config) (outs : List Message) (n : NodeState) (d : DeskState) (l : Interval) → (let r : Result (NodeState × List Message) NodeFault = Ok (node.entered config id) in r) ≡ Ok (n, outs)
+    → d ≡ new_desk l → l ≡ record_lengths version → IsBook (record { version = version; id = id; config = config; founders = None; node = n; desk = d })
+entered_book version id config outs n d l e new lengths =
     let p : node.entered config id ≡ (n, outs) = cc in
     let at : n ≡ (node.entered config id).0 = sym (ap (λ (x : NodeState × List Message). x.0) p) in
-    subst (λ (x : DeskState). IsReplay (record { id = id; config = config; founders = None; node = n; desk = x })) (sym new)
-    (record { first = n; begun = at; replayed = refl })
+    let is : d ≡ new_desk (record_lengths version) = new ∙ ap new_desk lengths in
+    subst (λ (x : DeskState). IsBook (record { version = version; id = id; config = config; founders = None; node = n; desk = x })) (sym is)
+    (record { replay = record { first = n; begun = at; replayed = refl }; lengths = refl })

@@ -1,4 +1,4 @@
--- Why a book stays the replay of its journal, and what its parts make of its calls.
+-- Why a book stays the replay of its journal, why its values fit its version, and what its parts make of its calls.
 mod Calls
 mod Noted
 pub mod Parts

@@ -1,9 +1,10 @@
 -- What the node and the desk did in a call that a book accepted.
-use Rattle.std.proofs.Common.{◌≡◌, ℕ, ◌==◌, Bool, true, false, cond, nat_le, List, length, refl, Result, Ok, Err}
+use Rattle.std.proofs.Common.{◌≡◌, ℕ, Bool, true, false, cond, nat_le, List, length, refl, Result, Ok, Err}
 use Rattle.std.specs.FinMap as fin
-use Rattle.sc_view.specs.Values.{value_length}
+use Rattle.sc_view.specs.Values.{is_within}
 use Rattle.sc_msg.specs.declared.message.Message.{Message}
 use Rattle.sc_msg.specs.Lengths as message
+use Rattle.sc_msg.specs.Values.{value_lengths}
 use Rattle.sc_node.specs.State.{NodeState}
 use Rattle.sc_node.specs.Nodes as node
 use Rattle.sc_node.specs.declared.answer.Begun.{Begun}
@@ -67,22 +68,22 @@ module _ (b : BookState) where
       → (a : Delivered × NodeState) × (node.delivered b.node m ≡ Ok a) × (book.delivers b (desk.with_entry b.desk (entry.Deliver m)) a.0 a.1 ≡ z)
   delivered-parts m z h =
       by_node-ok (book.delivers b (desk.with_entry b.desk (entry.Deliver m))) (node.delivered b.node m) z
-      (noted-ok (book.delivers_node b m) b.desk (entry.Deliver m) z (fitting-ok (message.has_values_of value_length m) _ z (here-ok _ z h)).1)
+      (noted-ok (book.delivers_node b m) b.desk (entry.Deliver m) z (fitting-ok (message.fits b.version m) _ z (here-ok _ z h)).1)
 
-  -- the values of a message that was taken have the length that journals hold
-  pub delivered-fits : (m : Message) (z : Taken × BookState) → book.delivered b m ≡ Ok z → message.has_values_of value_length m ≡ true
-  delivered-fits m z h = (fitting-ok (message.has_values_of value_length m) _ z (here-ok _ z h)).0
+  -- a message that was taken fits the book's version
+  pub delivered-fits : (m : Message) (z : Taken × BookState) → book.delivered b m ≡ Ok z → message.fits b.version m ≡ true
+  delivered-fits m z h = (fitting-ok (message.fits b.version m) _ z (here-ok _ z h)).0
 
   pub stored-parts : (value : List ℕ) (z : Begun × BookState) → book.stored b value ≡ Ok z
       → (a : Begun × NodeState) × (node.store_begun b.node value ≡ Ok a) × (book.stores b (desk.with_entry b.desk (entry.Store value)) a.0 a.1 ≡ z)
   stored-parts value z h =
       by_node-ok (book.stores b (desk.with_entry b.desk (entry.Store value))) (node.store_begun b.node value) z
       (noted-ok (book.stores_node b value) b.desk (entry.Store value) z
-      (free-ok _ z (fitting-ok (length value == value_length) _ z (joined-ok _ z (here-ok _ z h))).1))
+      (free-ok _ z (fitting-ok (is_within (length value) (value_lengths b.version)) _ z (joined-ok _ z (here-ok _ z h))).1))
 
-  -- a value that was stored has that length
-  pub stored-fits : (value : List ℕ) (z : Begun × BookState) → book.stored b value ≡ Ok z → (length value == value_length) ≡ true
-  stored-fits value z h = (fitting-ok (length value == value_length) _ z (joined-ok _ z (here-ok _ z h))).0
+  -- a value that was stored has a length of it
+  pub stored-fits : (value : List ℕ) (z : Begun × BookState) → book.stored b value ≡ Ok z → is_within (length value) (value_lengths b.version) ≡ true
+  stored-fits value z h = (fitting-ok (is_within (length value) (value_lengths b.version)) _ z (joined-ok _ z (here-ok _ z h))).0
 
   pub asked-parts : (program start : ℕ) (z : Asked × BookState) → book.asked b program start ≡ Ok z
       → (d : ℕ × DeskState) × (desk.asked b.desk b.node.operations program start ≡ Ok d)

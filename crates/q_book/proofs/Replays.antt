@@ -1,5 +1,5 @@
 -- What a call adds to the replay of a book.
-use Rattle.std.proofs.Common.{◌≡◌, ℕ, ◌≤◌, ◌&&◌, Bool, true, false, nat_le, leb-true, List, [], ◌∷◌, ◌++◌, length, Option, Some, None, IfSome, Result, Ok, Err, cond, refl, sym, subst}
+use Rattle.std.proofs.Common.{◌≡◌, ℕ, ◌≤◌, ◌&&◌, Bool, true, false, nat_le, leb-true, List, [], ◌∷◌, ◌++◌, length, Option, Some, None, IfSome, Result, Ok, Err, cond, refl, sym, subst, ◌∙◌}
 use Rattle.std.specs.Ordering.{nat_cmp}
 use Rattle.std.specs.FinSet as set
 use Rattle.sc_node.specs.Nodes as node
@@ -10,7 +10,7 @@ use Rattle.q_desk.specs.State.{DeskState}
 use Rattle.q_desk.specs.declared.journal.Entry.{Entry}
 use Rattle.q_book.specs.State.{BookState}
 use Rattle.q_book.specs.Books.{new_book}
-use Rattle.q_book.specs.Replays.{Follows, Replays, IsFirst, IsReplay}
+use Rattle.q_book.specs.Replays.{Follows, Replays, IsFirst, IsReplay, IsBook}
 use Rattle.q_book.proofs.Followed.{follows-next}
 
 replays_next : (es : List Entry) (b c d : BookState) (e : Entry) → Replays b es c → Follows c e d → Replays b (es ++ e ∷ []) d
@@ -26,12 +26,16 @@ pub replay_next : (b later : BookState) (e : Entry) → IsReplay b → Follows b
 replay_next b later e r f =
     let on = follows-next b e later f in
     let c : BookState = with b later.node later.desk in
-    let first : BookState = new_book b.id b.config b.founders r.first in
+    let first : BookState = new_book b.version b.id b.config b.founders r.first in
     record {
       first = r.first;
       begun = r.begun;
       replayed = subst (λ (es : List Entry). Replays first es c) (sym on.adds) (replays_next b.desk.journal first b c e r.replayed (subst (Follows b e) (sym on.same) f));
     }
+
+-- and the book keeps what each book keeps
+pub book_next : (b later : BookState) (e : Entry) → IsBook b → Follows b e later → IsBook (with b later.node later.desk)
+book_next b later e k f = record { replay = replay_next b later e k.replay f; lengths = (follows-next b e later f).keeps.lengths ∙ k.lengths }
 
 -- ---- how many founders there are
 

@@ -1,13 +1,15 @@
 -- What each call of a book answers and makes of it, or why it is refused: the node's part is said by the node's
 -- definitions, the desk's by the desk's. Refusals stand in this order: the node has left, has not joined; unknown
--- program, a value of another length, the table is full, already answered, a stranger; too many operations open, the
--- book is full; then the node's own.
-use Rattle.std.specs.Prelude.{ℕ, ◌==◌, nat_le, Bool, List, length, Option, Some, None, Result, Ok, Err, if◌then◌else◌}
+-- program, a program for other lengths, a value of another length, the table is full, already answered, a stranger; too
+-- many operations open, the book is full; then the node's own.
+use Rattle.std.specs.Prelude.{ℕ, nat_le, Bool, List, length, Option, Some, None, Result, Ok, Err, if◌then◌else◌}
 use Rattle.std.specs.FinMap as fin
 use Rattle.sc_members.specs.Members.{Config}
-use Rattle.sc_view.specs.Values.{value_length}
+use Rattle.sc_view.specs.Values.{is_within}
 use Rattle.sc_msg.specs.declared.message.Message.{Message}
-use Rattle.sc_msg.specs.Lengths as message
+use Rattle.sc_msg.specs.declared.version.Version.{Version}
+use Rattle.sc_msg.specs.Lengths.{fits}
+use Rattle.sc_msg.specs.Values.{value_lengths}
 use Rattle.sc_node.specs.declared.answer.Begun.{Begun}
 use Rattle.sc_node.specs.declared.answer.Delivered.{Delivered}
 use Rattle.sc_node.specs.declared.fault.NodeFault.{NodeFault}
@@ -15,6 +17,8 @@ use Rattle.sc_node.specs.declared.fault.NodeFault.TheVariants as node_fault
 use Rattle.sc_node.specs.State.{NodeState}
 use Rattle.sc_node.specs.Nodes as node
 use Rattle.bq_check.specs.Certificate.{Certificate}
+use Rattle.bq_range.specs.Interval.{Interval}
+use Rattle.q_session.specs.Records.{records_of}
 use Rattle.q_session.specs.declared.ran.Ran.{Ran}
 use Rattle.q_session.specs.declared.job.Job.{Job}
 use Rattle.q_desk.specs.State.{DeskState, new_desk}
@@ -28,6 +32,11 @@ use Rattle.q_book.specs.declared.fault.BookFault.{BookFault}
 use Rattle.q_book.specs.declared.fault.BookFault.TheVariants as fault
 use Rattle.q_book.specs.Faults.{of_desk}
 use Rattle.q_book.specs.State.{BookState}
+
+-- the lengths of the records that the programs of a book run over: 64 bytes in the first version, 16 to 128 in the
+-- second
+abbrev pub record_lengths : Version → Interval
+record_lengths version = records_of (value_lengths version)
 
 -- ---- how the parts are put together
 
@@ -53,9 +62,9 @@ free b rest = if nat_le node.most_open (fin.len b.node.sessions) then Err (fault
 abbrev pub known : {A : Type 0} → BookState → ℕ → Result A BookFault → Result A BookFault
 known b program rest = if desk.knows b.desk program then rest else Err (fault.Desk desk_fault.UnknownProgram)
 
--- values have the length that journals hold
+-- values have lengths of the book's version
 abbrev pub fitting : {A : Type 0} → Bool → Result A BookFault → Result A BookFault
-fitting fits rest = if fits then rest else Err fault.BadValue
+fitting are_lengths rest = if are_lengths then rest else Err fault.BadValue
 
 -- ---- the desk's calls
 
@@ -95,7 +104,7 @@ abbrev pub stores_node : BookState → List ℕ → Unit {0} → DeskState → R
 stores_node b value u d = by_node (stores b d) (node.store_begun b.node value)
 
 abbrev pub stored : BookState → List ℕ → Result (Begun × BookState) BookFault
-stored b value = here b (joined b (fitting (length value == value_length) (free b (by_desk (stores_node b value) (desk.noted b.desk (entry.Store value))))))
+stored b value = here b (joined b (fitting (is_within (length value) (value_lengths b.version)) (free b (by_desk (stores_node b value) (desk.noted b.desk (entry.Store value))))))
 
 -- ---- messages
 
@@ -110,7 +119,7 @@ abbrev pub delivers_node : BookState → Message → Unit {0} → DeskState → 
 delivers_node b m u d = by_node (delivers b d) (node.delivered b.node m)
 
 abbrev pub delivered : BookState → Message → Result (Taken × BookState) BookFault
-delivered b m = here b (fitting (message.has_values_of value_length m) (by_desk (delivers_node b m) (desk.noted b.desk (entry.Deliver m))))
+delivered b m = here b (fitting (fits b.version m) (by_desk (delivers_node b m) (desk.noted b.desk (entry.Deliver m))))
 
 abbrev pub leaves : BookState → DeskState → List Message → NodeState → List Message × BookState
 leaves b d outs n = (outs, record b { node = n; desk = d })
@@ -124,17 +133,18 @@ left b = here b (by_desk (leaves_node b) (desk.noted b.desk entry.Leave))
 -- ---- the first state
 
 -- a book before any call
-abbrev pub new_book : ℕ → Config → Option (List ℕ) → NodeState → BookState
-new_book id config founders n = record { id = id; config = config; founders = founders; node = n; desk = new_desk }
+abbrev pub new_book : Version → ℕ → Config → Option (List ℕ) → NodeState → BookState
+new_book version id config founders n =
+    record { version = version; id = id; config = config; founders = founders; node = n; desk = new_desk (record_lengths version) }
 
-abbrev pub founds : ℕ → Config → List ℕ → Result NodeState NodeFault → Result BookState BookFault
-founds id config ids (Ok n) = Ok (new_book id config (Some ids) n)
-founds id config ids (Err e) = Err (fault.Node e)
+abbrev pub founds : Version → ℕ → Config → List ℕ → Result NodeState NodeFault → Result BookState BookFault
+founds version id config ids (Ok n) = Ok (new_book version id config (Some ids) n)
+founds version id config ids (Err e) = Err (fault.Node e)
 
 -- the book of a founder
-abbrev pub founded : Config → ℕ → List ℕ → Result BookState BookFault
-founded config id ids = founds id config ids (node.founded config id ids)
+abbrev pub founded : Version → Config → ℕ → List ℕ → Result BookState BookFault
+founded version config id ids = founds version id config ids (node.founded config id ids)
 
 -- the book of a node that enters, and what the node sends
-abbrev pub entered : Config → ℕ → BookState × List Message
-entered config id = (new_book id config None (node.entered config id).0, (node.entered config id).1)
+abbrev pub entered : Version → Config → ℕ → BookState × List Message
+entered version config id = (new_book version id config None (node.entered config id).0, (node.entered config id).1)

@@ -1,8 +1,9 @@
 -- That a book is the replay of its journal.
 use Rattle.std.specs.Prelude.{◌≡◌, ℕ, length, List, [], ◌∷◌, Option, Some, None, Ok}
-use Rattle.sc_view.specs.Values.{value_length}
 use Rattle.sc_msg.specs.declared.message.Message.{Message}
-use Rattle.sc_msg.specs.Lengths.{MessageHasValuesOf}
+use Rattle.sc_msg.specs.declared.version.Version.{Version}
+use Rattle.sc_msg.specs.Lengths.{Fits}
+use Rattle.sc_msg.specs.Values.{IsLength}
 use Rattle.sc_node.specs.declared.answer.Begun.{Begun}
 use Rattle.sc_node.specs.State.{NodeState}
 use Rattle.sc_node.specs.Nodes as node
@@ -13,7 +14,7 @@ use Rattle.q_desk.specs.declared.journal.Entry.TheVariants as entry
 use Rattle.q_book.specs.declared.answer.Asked.{Asked}
 use Rattle.q_book.specs.declared.answer.Taken.{Taken}
 use Rattle.q_book.specs.State.{BookState}
-use Rattle.q_book.specs.Books.{registered, asked, stored, delivered, left, handed_out, posted, new_book}
+use Rattle.q_book.specs.Books.{registered, asked, stored, delivered, left, handed_out, posted, new_book, record_lengths}
 
 -- The call of an entry is accepted, and leads from one book to another. What is posted is the right answer of a job.
 abbrev pub Follows : BookState → Entry → BookState → Type 0
@@ -35,14 +36,19 @@ abbrev pub IsFirst : BookState → NodeState → Option (List ℕ) → Type 0
 IsFirst b n (Some ids) = node.founded b.config b.id ids ≡ Ok n
 IsFirst b n None = n ≡ (node.entered b.config b.id).0
 
--- each value of an entry has the length that journals hold
-abbrev pub EntryFits : Entry → Type 0
-EntryFits (entry.Store value) = length value ≡ value_length
-EntryFits (entry.Deliver m) = MessageHasValuesOf value_length m
-EntryFits e = Unit {0}
+-- each value of an entry has a length of that version
+abbrev pub EntryFits : Version → Entry → Type 0
+EntryFits version (entry.Store value) = IsLength version (length value)
+EntryFits version (entry.Deliver m) = Fits version m
+EntryFits version e = Unit {0}
 
 -- the book is what its journal makes of its first state
 pub record IsReplay (b : BookState) : Type 0 where
   pub first : NodeState
   pub begun : IsFirst b first b.founders
-  pub replayed : Replays (new_book b.id b.config b.founders first) b.desk.journal b
+  pub replayed : Replays (new_book b.version b.id b.config b.founders first) b.desk.journal b
+
+-- what each book keeps
+pub record IsBook (b : BookState) : Type 0 where
+  pub replay : IsReplay b
+  pub lengths : b.desk.lengths ≡ record_lengths b.version

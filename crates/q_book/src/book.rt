@@ -1,43 +1,48 @@
 //! A book: a node with its desk.
 
-ghost use Rattle.std.specs.Prelude.{◌≡◌, ◌≤◌, ◌==◌, length, is_some, option_map, All, Ok, IfOk, IfSome};
+ghost use Rattle.std.specs.Prelude.{◌≡◌, ◌≤◌, length, is_some, option_map, All, Ok, IfOk, IfSome};
 ghost use Rattle.std.specs.FinMap as fin;
 ghost use Rattle.sc_members.specs.Members.{IsConfig};
-ghost use Rattle.sc_view.specs.Values.{value_length};
-ghost use Rattle.sc_msg.specs.Lengths.{has_values_of};
+ghost use Rattle.sc_view.specs.Values.{is_within};
+ghost use Rattle.sc_msg.specs.Lengths.{fits};
+ghost use Rattle.sc_msg.specs.Values.{value_lengths};
 ghost use Rattle.sc_node.specs.Nodes.{most_founders};
-ghost use Rattle.sc_lengths.specs.Lengths.{EndedHasValuesOf};
 ghost use Rattle.forms.specs.Calls.{Steps, Gives, Does};
 ghost use Rattle.q_desk.specs.Desks as desk;
 ghost use Rattle.q_desk.specs.Desks.{ends, completed_by};
-ghost use Rattle.q_desk.specs.Answers.{AnswersAreRight, ProgramsAreKnown};
+ghost use Rattle.q_desk.specs.Answers.{AnswersAreRight, ProgramsAreKnown, EndsWithin};
 ghost use Rattle.q_book.specs.Faults.{memory};
 ghost use Rattle.q_book.specs.Books.{here, joined, known, fitting, free, registered, asked, stored, delivered, left, handed_out, posted, room_for_post, founded, entered};
 ghost use Rattle.q_book.specs.Replays.{IsReplay, EntryFits};
 
 use crate::answer::{Asked, Taken};
 use crate::fault::BookFault;
+use crate::lengths::record_lengths;
 use q_desk::desk::Desk;
 use q_desk::fault::DeskFault;
 use q_desk::journal::Entry;
 use q_session::done::Done;
 use q_session::job::Job;
+use q_session::laws::records_of_values;
 use q_session::ran::Ran;
 use q_table::program::{Program, ProgramId};
 use sc_lengths::laws::delivery_keeps_lengths;
 use sc_members::config::Config;
 use sc_msg::message::Message;
+use sc_msg::version::Version;
 use sc_node::answer::{Begun, Delivered};
 use sc_node::fault::NodeFault;
 use sc_node::node::{MOST_OPEN, Node};
 use sc_node::outs::Outs;
-use sc_view::value::{VALUE_LENGTH, Value};
+use sc_view::value::Value;
 use std::alloc::{AllocError, Global};
 use std::marker::Model;
 
-/// A node with its desk. Contracts see it as the record of its fields. It is the replay of its journal.
+/// A node with its desk. Contracts see it as the record of its fields. It is the replay of its journal, and its
+/// programs run over records of the lengths of its version.
 #[derive(Drop)]
 pub struct Book {
+    version: Version,
     id: u64,
     config: Config,
     founders: Option<Vec<u64>>,
@@ -51,55 +56,83 @@ impl Model for Book {
     ghost use Rattle.sc_node.specs.contracts.node.Node as node_row;
     ghost use Rattle.q_desk.specs.contracts.desk.Desk as desk_row;
     ghost use Rattle.q_book.specs.State.{BookState};
-    ghost use Rattle.q_book.specs.Replays.{IsReplay};
+    ghost use Rattle.q_book.specs.Replays.{IsBook};
 
     ghost Value = { BookState };
 
     ghost coded = { Prim.hlevel (codes, node_row.the_row.coded, desk_row.the_row.coded) };
 
-    ghost view = { λ b. record { id = b.id; config = b.config; founders = option_map (λ v. v.items) b.founders; node = b.node; desk = b.desk } };
+    ghost view = { λ b. record { version = b.version; id = b.id; config = b.config; founders = option_map (λ v. v.items) b.founders; node = b.node; desk = b.desk } };
 
-    ghost invariant = { λ b. IsReplay (record { id = b.id; config = b.config; founders = option_map (λ v. v.items) b.founders; node = b.node; desk = b.desk }) };
+    ghost invariant = { λ b. IsBook (record { version = b.version; id = b.id; config = b.config; founders = option_map (λ v. v.items) b.founders; node = b.node; desk = b.desk }) };
 }
 
 impl Book {
-    /// The book of a founder. The ids rise strictly, are 1 to 256, and hold this one; else it is refused with 49, or
-    /// with 99.
+    /// The book of a founder, of version 2. The ids rise strictly, are 1 to 256, and hold this one; else it is refused
+    /// with 49, or with 99.
     pub fn founder(
         alloc: Global,
         config: Config,
         id: u64,
         founders: &[u64],
     ) -> Result<Book, BookFault>
-        ensures { Gives memory (founded config id founders.now) result }
+        ensures { Gives memory (founded Version.Second config id founders.now) result }
+    {
+        Book::founder_as(alloc, Version::Second, config, id, founders)
+    }
+
+    /// The same of any version, for replays.
+    pub fn founder_as(
+        alloc: Global,
+        version: Version,
+        config: Config,
+        id: u64,
+        founders: &[u64],
+    ) -> Result<Book, BookFault>
+        ensures { Gives memory (founded version config id founders.now) result }
     {
         let node = Node::founder(alloc, config, id, founders)?;
         let founders = Vec::from_slice(alloc, founders)?;
         Ok(Book {
+            version,
             id,
             config,
             founders: Some(founders),
             node,
-            desk: Desk::new(alloc),
+            desk: Desk::new(alloc, record_lengths(version)),
         })
     }
 
-    /// The book of a node that enters a running cluster, and what it sends. Refused with 99 alone.
+    /// The book of a node that enters a running cluster, of version 2, and what it sends. Refused with 99 alone.
     pub fn entering(alloc: Global, config: Config, id: u64) -> Result<(Book, Outs), BookFault>
-        ensures { Gives memory (Ok (entered config id)) result }
+        ensures { Gives memory (Ok (entered Version.Second config id)) result }
+    {
+        Book::entering_as(alloc, Version::Second, config, id)
+    }
+
+    /// The same of any version, for replays.
+    pub fn entering_as(
+        alloc: Global,
+        version: Version,
+        config: Config,
+        id: u64,
+    ) -> Result<(Book, Outs), BookFault>
+        ensures { Gives memory (Ok (entered version config id)) result }
     {
         let (node, outs) = Node::entering(alloc, config, id)?;
         let book = Book {
+            version,
             id,
             config,
             founders: None,
             node,
-            desk: Desk::new(alloc),
+            desk: Desk::new(alloc, record_lengths(version)),
         };
         Ok((book, outs))
     }
 
-    /// Registers a program; a text that is there keeps its id. Refused with 42, 52, 53, 99.
+    /// Registers a program; a text that is there keeps its id. Refused with 42, 59 where it was checked for records of
+    /// other lengths than [`record_lengths`] of the book's version, 52, 53, 99.
     pub fn register(&mut self, program: &Program) -> Result<ProgramId, BookFault>
         ensures { Steps memory (registered self.old program.now) self.old self.new result }
     {
@@ -117,12 +150,13 @@ impl Book {
         Ok(Asked { query, begun })
     }
 
-    /// Begins to store a value. Refused with 42, 41, 50, 43, 53, 48, 46, 99.
-    pub fn store(&mut self, value: &Value) -> Result<Begun, BookFault>
-        ensures { Steps memory (stored self.old value.now) self.old self.new result }
+    /// Begins to store a value of these bytes. Refused with 42, 41, 50 where they are not so many as the book's version
+    /// has them (48 in the first, at most 112 in the second), 43, 53, 48, 46, 99.
+    pub fn store(&mut self, bytes: &[u8]) -> Result<Begun, BookFault>
+        ensures { Steps memory (stored self.old bytes.now) self.old self.new result }
     {
-        self.check_storing(value)?;
-        let begun = self.desk.store(&mut self.node, value)?;
+        let value = self.check_storing(bytes)?;
+        let begun = self.desk.store(&mut self.node, &value)?;
         Ok(begun)
     }
 
@@ -132,6 +166,7 @@ impl Book {
         ensures { Steps memory (delivered self.old message.now) self.old self.new result }
     {
         delivery_keeps_lengths();
+        records_of_values();
         self.check_taking(message)?;
         let delivered = self.desk.deliver(&mut self.node, message)?;
         Ok(take(&mut self.desk, delivered))
@@ -192,6 +227,13 @@ impl Book {
         self.desk.running_job(self.id, query)
     }
 
+    /// The version of its journal, and of the messages that it takes.
+    pub fn version(&self) -> Version
+        ensures { result ≡ self.now.version }
+    {
+        self.version
+    }
+
     /// The id of the node.
     pub fn id(&self) -> u64
         ensures { result ≡ self.now.id }
@@ -244,11 +286,11 @@ impl Book {
     }
 
     /// The journal: each call that was accepted and changed something, in turn. The book is its replay, and each value
-    /// of its entries has 48 bytes.
+    /// of its entries has a length of the book's version.
     pub fn journal(&self) -> &[Entry]
         ensures journal { result.now ≡ self.now.desk.journal }
         ensures replay { IsReplay self.now }
-        ensures values { All EntryFits result.now }
+        ensures values { All (EntryFits self.now.version) result.now }
     {
         self.desk.journal()
     }
@@ -304,38 +346,41 @@ impl Book {
         self.check_free()
     }
 
-    // Whether a store of this value may begin, as far as the book's room is not asked.
-    fn check_storing(&self, value: &Value) -> Result<(), BookFault>
-        ensures { result ≡ here self.now (joined self.now (fitting (length value.now == value_length) (free self.now (Ok tt)))) }
+    // The value of these bytes, if a store of it may begin, as far as the book's room is not asked.
+    fn check_storing(&self, bytes: &[u8]) -> Result<Value, BookFault>
+        ensures { result ≡ here self.now (joined self.now (fitting (is_within (length bytes.now) (value_lengths self.now.version)) (free self.now (Ok bytes.now)))) }
     {
         self.check_joined()?;
-        check_fitting(value.bytes().len() == VALUE_LENGTH)?;
-        self.check_free()
+        let value = fitting_value(self.version, bytes)?;
+        self.check_free()?;
+        Ok(value)
     }
 
     // Whether a message may be taken, as far as the book's room is not asked.
     fn check_taking(&self, message: &Message) -> Result<(), BookFault>
-        ensures { result ≡ here self.now (fitting (has_values_of value_length message.now) (Ok tt)) }
+        ensures { result ≡ here self.now (fitting (fits self.now.version message.now) (Ok tt)) }
     {
         self.check_here()?;
-        check_fitting(message.has_values_of(VALUE_LENGTH))
+        if !message.fits(self.version) {
+            return Err(BookFault::BadValue);
+        }
+        Ok(())
     }
 }
 
-// Whether values have the length that journals hold.
-fn check_fitting(fits: bool) -> Result<(), BookFault>
-    ensures { result ≡ fitting fits (Ok tt) }
+// The value of these bytes, if they are so many as values of that version are.
+fn fitting_value(version: Version, bytes: &[u8]) -> Result<Value, BookFault>
+    ensures { result ≡ fitting (is_within (length bytes.now) (value_lengths version)) (Ok bytes.now) }
 {
-    if fits {
-        Ok(())
-    } else {
-        Err(BookFault::BadValue)
+    match Value::new(bytes) {
+        Ok(value) if version.has_length(bytes.len()) => Ok(value),
+        _ => Err(BookFault::BadValue),
     }
 }
 
 // What is told of a message that the node took; the view of a collect that ended goes to its query.
 fn take(desk: &mut Desk, delivered: Delivered) -> Taken
-    requires { IfSome delivered.ended (EndedHasValuesOf value_length) }
+    requires { IfSome delivered.ended (EndsWithin desk.old.lengths) }
     ensures told { result ≡ record { outs = delivered.outs; progress = delivered.progress; completed = completed_by delivered.ended (ends delivered.ended desk.old).0 } }
     ensures new { desk.new ≡ (ends delivered.ended desk.old).1 }
 {

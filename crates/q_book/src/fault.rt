@@ -8,15 +8,15 @@ use reasons::{Reason, told};
 use sc_node::fault::NodeFault;
 use std::alloc::AllocError;
 
-/// Why a book refuses a call. After a refusal the book is as it was. Where several hold, the first of 42, 41, 51, 50, 52,
-/// 56, 55, 43, 53, 48, 46, 47 is answered; 49 is the founders' alone, 54 that of a question for an answer.
+/// Why a book refuses a call. After a refusal the book is as it was. Where several hold, the first of 42, 41, 51, 59,
+/// 50, 52, 56, 55, 43, 53, 48, 46, 47 is answered; 49 is the founders' alone, 54 that of a question for an answer.
 #[derive(Clone, Copy, Debug, PartialEq, Eq)]
 pub enum BookFault {
     /// The node's own refusal, and 99 of the book.
     Node(NodeFault),
     /// The desk's own refusal.
     Desk(DeskFault),
-    /// 50: a value has another length than the 48 bytes that journals hold.
+    /// 50: a value has another length than those of the book's version.
     BadValue,
 }
 

@@ -5,15 +5,21 @@
 //! `specs/Books` says what it answers and which book it leaves, or with which fault it refuses. After a refusal, 99
 //! OutOfMemory among them, the book is as it was.
 //!
+//! A book has a version, which is that of its journal and of the messages that it takes: in the first each value has 48
+//! bytes, and programs are checked for records of 64; in the second a value has 0 to 112 bytes, and programs are
+//! checked for records of 16 to 128 ([`record_lengths`]). A new book has the second.
+//!
 //! Its type keeps that a book is the replay of its journal: the calls that the journal names, from the first state of
 //! its node, lead to this book and to no other entry of the journal. So each recorded answer is the meaning of its
 //! query's program, folded over the view that its own collect returned.
 //!
 //! [`Book`]: book::Book
+//! [`record_lengths`]: lengths::record_lengths
 #![tactic(auto)]
 
 pub mod answer;
 pub mod book;
 pub mod fault;
 pub mod laws;
+pub mod lengths;
 pub mod worked;

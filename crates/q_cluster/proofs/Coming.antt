@@ -6,6 +6,7 @@ use Rattle.std.specs.FinMap as fin
 use Rattle.std.specs.FinSet as set
 use Rattle.sc_node.specs.State.{NodeState}
 use Rattle.sc_msg.specs.declared.message.Message.{Message}
+use Rattle.sc_msg.specs.declared.version.Version.{Version}
 use Rattle.sc_world.specs.declared.event.Event.TheVariants as world_event
 use Rattle.sc_world.specs.declared.event.Sent.{Sent}
 use Rattle.sc_world.specs.declared.fault.WorldFault.TheVariants as world_fault
@@ -38,9 +39,9 @@ some_of : {X : Type 0} (o : Option X) → true ≡ is_some o → (x : X) × (o �
 some_of None h = absurd (cc)
 some_of (Some x) h = (x, refl)
 
-module _ (books : BookMap) (past : Past) (jobs : List Job) (id : ℕ) where
+module _ (version : Version) (books : BookMap) (past : Past) (jobs : List Job) (id : ℕ) where
   abbrev c : ClusterState
-  c = cluster_of books past jobs
+  c = cluster_of version books past jobs
 
   there_by : (n : NodeState) → live_at c.world id ≡ Some n → (o : Option BookState) → fin.get books id ≡ o → option_map node_of o ≡ Some n → IsThere c id
   there_by n live None is h = absurd (cc)
@@ -55,21 +56,21 @@ module _ (books : BookMap) (past : Past) (jobs : List Job) (id : ℕ) where
   -- ---- a node stops
 
   crashed_by : (o : Option NodeState) → true ≡ is_some o → (past' : Past) (t : Stepped) → past' ≡ stopped past id → t ≡ record { told = told.Crashed; sent = record { first = length past.sent; count = 0 } }
-      → crashed c id o ≡ Ok (t, cluster_of books past' jobs)
+      → crashed c id o ≡ Ok (t, cluster_of version books past' jobs)
   crashed_by None h past' t is tells = absurd (cc)
-  crashed_by (Some n) h past' t is tells = λ i. Ok (sym tells i, cluster_of books (sym is i) jobs)
+  crashed_by (Some n) h past' t is tells = λ i. Ok (sym tells i, cluster_of version books (sym is i) jobs)
 
   module _ (past' : Past) (sent : Sent) (is : past' ≡ stopped past id) (numbers : sent ≡ record { first = length past.sent; count = 0 }) (lives : true ≡ is_some (live_at c.world id)) where
-    pub crash_says : (t : Stepped) → t ≡ record { told = told.Crashed; sent = sent } → crashed c id (live_at c.world id) ≡ Ok (t, cluster_of books past' jobs)
+    pub crash_says : (t : Stepped) → t ≡ record { told = told.Crashed; sent = sent } → crashed c id (live_at c.world id) ≡ Ok (t, cluster_of version books past' jobs)
     crash_says t tells = crashed_by (live_at c.world id) lives past' t is (tells ∙ ap (λ (s : Sent). let x : Stepped = record { told = told.Crashed; sent = s } in x) numbers)
 
-    pub crash_goes : IsCluster books past jobs → IsCluster books past' jobs
+    pub crash_goes : IsCluster version books past jobs → IsCluster version books past' jobs
     crash_goes old =
         let t : Stepped = record { told = told.Crashed; sent = sent } in
         record {
-          history = history_next c (cluster_of books past' jobs) (event.Crash id) t old.history
-              (follows c (event.Crash id) t (cluster_of books past' jobs) (λ _. tt) (λ _. crash_says t refl));
-          filed = λ p b here. head_on books past jobs past' (ap (λ (q : Past). q.config) is) (ap (λ (q : Past). q.founders) is) p b (old.filed p b here);
+          history = history_next c (cluster_of version books past' jobs) (event.Crash id) t old.history
+              (follows c (event.Crash id) t (cluster_of version books past' jobs) (λ _. tt) (λ _. crash_says t refl));
+          filed = λ p b here. head_on version books past jobs past' (ap (λ (q : Past). q.config) is) (ap (λ (q : Past). q.founders) is) p b (old.filed p b here);
         }
 
   -- ---- a node enters
@@ -88,33 +89,34 @@ module _ (books : BookMap) (past : Past) (jobs : List Job) (id : ℕ) where
       subst (λ (z : ClusterState). entered z id (fin.get z.world.nodes id) ≡ Err (fault.World world_fault.IdUsed)) is
       (used_by (fin.get c.world.nodes id) (h ∙ map_some (fin.get books id) ∙ ap (λ (o : Option NodeState). is_some o) (sym (get-each node_of books id))))
 
-  module _ (old : IsCluster books past jobs) (absent : fin.get books id ≡ None) (b : BookState) (outs : List Message) (made : book.entered past.config id ≡ (b, outs)) (books' : BookMap) (put_in : books' ≡ fin.insert books id b)
+  module _ (old : IsCluster version books past jobs) (absent : fin.get books id ≡ None) (b : BookState) (outs : List Message) (made : book.entered version past.config id ≡ (b, outs)) (books' : BookMap) (put_in : books' ≡ fin.insert books id b)
       (past' : Past) (records : past' ≡ recorded past (world_event.Enter id) id outs None None) (sent : Sent) (numbers : sent ≡ numbered past outs) where
     no_node : fin.get c.world.nodes id ≡ None
     no_node = get-each node_of books id ∙ ap (option_map node_of) absent
 
-    pub enter_says : (t : Stepped) → t ≡ record { told = told.Entered; sent = sent } → entered c id (fin.get c.world.nodes id) ≡ Ok (t, cluster_of books' past' jobs)
+    pub enter_says : (t : Stepped) → t ≡ record { told = told.Entered; sent = sent } → entered c id (fin.get c.world.nodes id) ≡ Ok (t, cluster_of version books' past' jobs)
     enter_says t tells =
         ap (entered c id) no_node ∙ ap (λ (e : BookState × List Message). let r : Said = Ok (enters c id e) in r) made
         ∙ (λ i. Ok (sym (tells ∙ ap (λ (s : Sent). let x : Stepped = record { told = told.Entered; sent = s } in x) numbers) i, put c (sym records i) jobs id b))
-        ∙ ap (λ (d : ClusterState). let r : Said = Ok (t, d) in r) (put_is books past jobs past' jobs id b books' put_in)
+        ∙ ap (λ (d : ClusterState). let r : Said = Ok (t, d) in r) (put_is version books past jobs past' jobs id b books' put_in)
 
     no_founder : (k : Bool) → set.contains (set.from_list {R = nat_cmp} past.founders) id ≡ k → (let o : Option (List ℕ) = None in o) ≡ cond k (Some past.founders) None
     no_founder true is = let f = (history_are c old.history).founders id is in let e : None ≡ Some f.0 = sym no_node ∙ f.1 in absurd (cc)
     no_founder false is = refl
 
-    new_head : IsHeaded past id b
+    new_head : IsHeaded version past id b
     new_head = record {
+      version = ap (λ (p : BookState × List Message). p.0.version) (sym made);
       id = ap (λ (p : BookState × List Message). p.0.id) (sym made);
       config = ap (λ (p : BookState × List Message). p.0.config) (sym made);
       founders = ap (λ (p : BookState × List Message). p.0.founders) (sym made) ∙ no_founder (set.contains (set.from_list {R = nat_cmp} past.founders) id) refl;
     }
 
-    pub enter_goes : IsCluster books' past' jobs
+    pub enter_goes : IsCluster version books' past' jobs
     enter_goes =
         let t : Stepped = record { told = told.Entered; sent = sent } in
-        let d : ClusterState = cluster_of books' past' jobs in
+        let d : ClusterState = cluster_of version books' past' jobs in
         record {
           history = history_next c d (event.Enter id) t old.history (follows c (event.Enter id) t d (λ _. tt) (λ _. enter_says t refl));
-          filed = files books past jobs past' (ap (λ (q : Past). q.config) records) (ap (λ (q : Past). q.founders) records) id b books' put_in new_head old.filed;
+          filed = files version books past jobs past' (ap (λ (q : Past). q.config) records) (ap (λ (q : Past). q.founders) records) id b books' put_in new_head old.filed;
         }

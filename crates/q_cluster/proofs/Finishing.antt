@@ -2,6 +2,7 @@
 use Rattle.std.proofs.Common.{◌≡◌, ℕ, List, length, Option, Some, refl, sym, ap, subst, ◌∙◌, slice_get, Result, Ok, Err}
 use Rattle.std.specs.Prelude.{IfSome}
 use Rattle.std.specs.FinMap as fin
+use Rattle.sc_msg.specs.declared.version.Version.{Version}
 use Rattle.sc_world.specs.declared.event.Sent.{Sent}
 use Rattle.sc_world.specs.State.{Past}
 use Rattle.q_session.specs.Done.{Finished, IsFinished}
@@ -24,15 +25,15 @@ use Rattle.q_cluster.proofs.Posting.{refused_so}
 use Rattle.q_cluster.proofs.Calls.{Call, IsCall, posting}
 use Rattle.q_cluster.proofs.Going.{Stands, CallsAt, standing, stays, quiet_says, quiet_goes}
 
-module _ {books : BookMap} {past : Past} {jobs : List Job} {x : ClusterState} {number : ℕ} {j : Job} (old : IsCluster books past jobs) (is : cluster_of books past jobs ≡ x) (may : MayRun x number j)
+module _ {version : Version} {books : BookMap} {past : Past} {jobs : List Job} {x : ClusterState} {number : ℕ} {j : Job} (old : IsCluster version books past jobs) (is : cluster_of version books past jobs ≡ x) (may : MayRun x number j)
     (f : Finished) (k : Job) (ran : f.job ≡ j) (same : k ≡ f.job) (books' : BookMap) where
   abbrev c : ClusterState
-  c = cluster_of books past jobs
+  c = cluster_of version books past jobs
 
   may_run : MayRun x number f.job
   may_run = subst (λ (q : Job). MayRun x number q) (sym ran) may
 
-  abbrev s : Stands books past jobs x f.job.node
+  abbrev s : Stands version books past jobs x f.job.node
   s = standing old is may_run.there
 
   abbrev call : Call (Unit {0})
@@ -54,16 +55,16 @@ module _ {books : BookMap} {past : Past} {jobs : List Job} {x : ClusterState} {n
   so : IsFinished f → IsCall call c f.job.node f.ran
   so right = (subst (λ (o : Option Job). IfSome o (λ q. Answers q f.ran)) (sym job_is) right, ap (finished c f.ran) job_is)
 
-  pub finish_stays : IsFinished f → (y : BookFault) → Posts (Err y) → IsCluster books' past jobs
+  pub finish_stays : IsFinished f → (y : BookFault) → Posts (Err y) → IsCluster version books' past jobs
   finish_stays right y posts = stays call s f.ran (so right) y books' (posts_at (Err y) posts) refl refl
 
   -- the book refuses
-  pub finish_turns : (y : BookFault) → Posts (Err y) → (e : ClusterFault) → e ≡ of_book y → (t : Result Stepped ClusterFault) → t ≡ Err e → Takes x (event.Finish number) (cluster_of books' past jobs) t
+  pub finish_turns : (y : BookFault) → Posts (Err y) → (e : ClusterFault) → e ≡ of_book y → (t : Result Stepped ClusterFault) → t ≡ Err e → Takes x (event.Finish number) (cluster_of version books' past jobs) t
   finish_turns y posts' e why t tells =
       let steps = posts_at (Err y) posts' s.book s.has in
-      subst (λ (z : ClusterState). Takes z (event.Finish number) (cluster_of books' past jobs) t) is
-      (subst (λ (z : Result Stepped ClusterFault). Takes c (event.Finish number) (cluster_of books' past jobs) z) (sym tells) (
-        ap (λ (m : BookMap). cluster_of m past jobs) steps.0,
+      subst (λ (z : ClusterState). Takes z (event.Finish number) (cluster_of version books' past jobs) t) is
+      (subst (λ (z : Result Stepped ClusterFault). Takes c (event.Finish number) (cluster_of version books' past jobs) z) (sym tells) (
+        ap (λ (m : BookMap). cluster_of version m past jobs) steps.0,
         λ loud r.
             turns r ∙ ap (lift (posts c f.job r)) (refused_so s.book f.job f.ran r y (steps.1 (λ same. loud (why ∙ ap of_book same))))
             ∙ ap (λ (z : ClusterFault). let q : Said = Err z in q) (sym why),
@@ -75,12 +76,12 @@ module _ {books : BookMap} {past : Past} {jobs : List Job} {x : ClusterState} {n
     of_job : t ≡ record { told = told.Finished (record { node = f.job.node; query = f.job.query; ran = f.ran }); sent = sent }
     of_job = tells ∙ ap (λ (q : Job). let z : Stepped = record { told = told.Finished (record { node = q.node; query = q.query; ran = f.ran }); sent = sent } in z) same
 
-    pub finish_says : Follows x (event.Finish number) t (cluster_of books' past jobs)
+    pub finish_says : Follows x (event.Finish number) t (cluster_of version books' past jobs)
     finish_says = record {
       ran = f.ran;
       right = subst (λ (o : Option Job). IfSome o (λ q. Answers q f.ran)) (sym may_run.job) right;
       stepped = quiet_says call s f.ran (so right) tt books' (posts_at (Ok tt) posts') (told.Finished (record { node = f.job.node; query = f.job.query; ran = f.ran })) jobs refl numbers of_job;
     }
 
-    pub finish_goes : IsCluster books' past jobs
+    pub finish_goes : IsCluster version books' past jobs
     finish_goes = quiet_goes call s f.ran (so right) tt books' (posts_at (Ok tt) posts') (told.Finished (record { node = f.job.node; query = f.job.query; ran = f.ran })) jobs refl numbers of_job

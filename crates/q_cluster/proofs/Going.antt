@@ -8,6 +8,7 @@ use Rattle.sc_node.specs.Nodes as node
 use Rattle.sc_node.specs.declared.answer.Delivered.{Delivered}
 use Rattle.sc_node.specs.declared.answer.Progress.{Progress}
 use Rattle.sc_msg.specs.declared.message.Message.{Message}
+use Rattle.sc_msg.specs.declared.version.Version.{Version}
 use Rattle.sc_world.specs.declared.counting.Counting.{Counting}
 use Rattle.sc_world.specs.declared.event.Sent.{Sent}
 use Rattle.sc_world.specs.Acts.{IsReady, answered}
@@ -48,19 +49,19 @@ abbrev pub desk_of : BookState → DeskState
 desk_of b = b.desk
 
 -- a cluster, as contracts see it, and the book of a node that is there
-pub record Stands (books : BookMap) (past : Past) (jobs : List Job) (x : ClusterState) (id : ℕ) : Type 0 where
-  pub is : cluster_of books past jobs ≡ x
-  pub old : IsCluster books past jobs
+pub record Stands (version : Version) (books : BookMap) (past : Past) (jobs : List Job) (x : ClusterState) (id : ℕ) : Type 0 where
+  pub is : cluster_of version books past jobs ≡ x
+  pub old : IsCluster version books past jobs
   pub book : BookState
   pub has : fin.get books id ≡ Some book
-  pub live : live_at (cluster_of books past jobs).world id ≡ Some book.node
-  pub turns : (f : Doing) → at (cluster_of books past jobs) id f ≡ f book
+  pub live : live_at (cluster_of version books past jobs).world id ≡ Some book.node
+  pub turns : (f : Doing) → at (cluster_of version books past jobs) id f ≡ f book
 
-module _ {books : BookMap} {past : Past} {jobs : List Job} {x : ClusterState} {id : ℕ} (old : IsCluster books past jobs) (is : cluster_of books past jobs ≡ x) (there : IsThere x id) where
+module _ {version : Version} {books : BookMap} {past : Past} {jobs : List Job} {x : ClusterState} {id : ℕ} (old : IsCluster version books past jobs) (is : cluster_of version books past jobs ≡ x) (there : IsThere x id) where
   abbrev here : ClusterState
-  here = cluster_of books past jobs
+  here = cluster_of version books past jobs
 
-  stands_by : (t : IsThere here id) (o : Option BookState) → fin.get books id ≡ o → option_map node_of o ≡ Some t.node → Stands books past jobs x id
+  stands_by : (t : IsThere here id) (o : Option BookState) → fin.get books id ≡ o → option_map node_of o ≡ Some t.node → Stands version books past jobs x id
   stands_by t None at_id h = absurd (cc)
   stands_by t (Some b) at_id h =
       let live : live_at here.world id ≡ Some b.node = t.live ∙ ap (λ (n : NodeState). let o : Option NodeState = Some n in o) (sym (same_some b.node t.node h)) in
@@ -74,42 +75,42 @@ module _ {books : BookMap} {past : Past} {jobs : List Job} {x : ClusterState} {i
         live = live;
         turns = λ f.
             (λ i. by_book here id (live i) (desk i) f)
-            ∙ ap f (λ i. record { id = sym head.id i; config = sym head.config i; founders = sym head.founders i; node = b.node; desk = b.desk });
+            ∙ ap f (λ i. record { version = sym head.version i; id = sym head.id i; config = sym head.config i; founders = sym head.founders i; node = b.node; desk = b.desk });
       }
 
-  pub standing : Stands books past jobs x id
+  pub standing : Stands version books past jobs x id
   standing =
       let t : IsThere here id = subst (λ (z : ClusterState). IsThere z id) (sym is) there in
       stands_by t (fin.get books id) refl (sym (get-each node_of books id) ∙ at_live here.world id t.node t.live)
 
-module _ (books : BookMap) (past : Past) (jobs : List Job) where
+module _ (version : Version) (books : BookMap) (past : Past) (jobs : List Job) where
   abbrev pub v : ClusterState
-  v = cluster_of books past jobs
+  v = cluster_of version books past jobs
 
-  pub put_is : (past' : Past) (jobs' : List Job) (id : ℕ) (b : BookState) (books' : BookMap) → books' ≡ fin.insert books id b → put v past' jobs' id b ≡ cluster_of books' past' jobs'
+  pub put_is : (past' : Past) (jobs' : List Job) (id : ℕ) (b : BookState) (books' : BookMap) → books' ≡ fin.insert books id b → put v past' jobs' id b ≡ cluster_of version books' past' jobs'
   put_is past' jobs' id b books' is =
-      (λ i. record { world = world_of (sym (each-insert node_of books id b) i) past'; desks = sym (each-insert desk_of books id b) i; jobs = jobs' })
-      ∙ ap (λ (m : BookMap). cluster_of m past' jobs') (sym is)
+      (λ i. record { version = version; world = world_of (sym (each-insert node_of books id b) i) past'; desks = sym (each-insert desk_of books id b) i; jobs = jobs' })
+      ∙ ap (λ (m : BookMap). cluster_of version m past' jobs') (sym is)
 
   -- a book is put in, and the others are as they were
   module _ (past' : Past) (config : past'.config ≡ past.config) (founders : past'.founders ≡ past.founders) where
-    pub head_on : (p : ℕ) (b : BookState) → IsHeaded past p b → IsHeaded past' p b
-    head_on p b h = record { id = h.id; config = h.config ∙ sym config; founders = h.founders ∙ ap (λ (ids : List ℕ). founders_for p ids) (sym founders) }
+    pub head_on : (p : ℕ) (b : BookState) → IsHeaded version past p b → IsHeaded version past' p b
+    head_on p b h = record { version = h.version; id = h.id; config = h.config ∙ sym config; founders = h.founders ∙ ap (λ (ids : List ℕ). founders_for p ids) (sym founders) }
 
-    filed_by : (id : ℕ) (b : BookState) → IsHeaded past id b → AreFiled books past → (p : ℕ) (x : BookState) (here : Bool) → (p == id) ≡ here → cond here (Some b) (fin.get books p) ≡ Some x → IsHeaded past p x
+    filed_by : (id : ℕ) (b : BookState) → IsHeaded version past id b → AreFiled version books past → (p : ℕ) (x : BookState) (here : Bool) → (p == id) ≡ here → cond here (Some b) (fin.get books p) ≡ Some x → IsHeaded version past p x
     filed_by id b new old p x true is at =
-        subst (λ (k : ℕ). IsHeaded past k x) (sym (eqb-true p id is)) (subst (IsHeaded past id) (same_some b x at) new)
+        subst (λ (k : ℕ). IsHeaded version past k x) (sym (eqb-true p id is)) (subst (IsHeaded version past id) (same_some b x at) new)
     filed_by id b new old p x false is at = old p x at
 
-    pub files : (id : ℕ) (b : BookState) (books' : BookMap) → books' ≡ fin.insert books id b → IsHeaded past id b → AreFiled books past → AreFiled books' past'
+    pub files : (id : ℕ) (b : BookState) (books' : BookMap) → books' ≡ fin.insert books id b → IsHeaded version past id b → AreFiled version books past → AreFiled version books' past'
     files id b books' put_in new old p x here =
         head_on p x (filed_by id b new old p x (p == id) refl (sym (get-insert books id b p) ∙ ap (λ (m : BookMap). fin.get m p) (sym put_in) ∙ here))
 
   -- a call keeps the head
-  pub headed : {A : Type 0} (id : ℕ) (b c : BookState) (a : A) (said : Result (A × BookState) BookFault) → Keeps b said → said ≡ Ok (a, c) → IsHeaded past id b → IsHeaded past id c
+  pub headed : {A : Type 0} (id : ℕ) (b c : BookState) (a : A) (said : Result (A × BookState) BookFault) → Keeps b said → said ≡ Ok (a, c) → IsHeaded version past id b → IsHeaded version past id c
   headed id b c a said keeps is h =
       let k = keeps a c is in
-      record { id = k.0 ∙ h.id; config = k.1 ∙ h.config; founders = k.2 ∙ h.founders }
+      record { version = k.0 ∙ h.version; id = k.1 ∙ h.id; config = k.2 ∙ h.config; founders = k.3 ∙ h.founders }
 
 -- what a call of the book at id makes of the table
 abbrev pub CallsAt : {A : Type 0} → Call A → BookMap → BookMap → ℕ → Result A BookFault → Type 0
@@ -119,9 +120,9 @@ CallsAt k old new id r = (b : BookState) → fin.get old id ≡ Some b → Steps
 abbrev pub IsRefused : Result Stepped ClusterFault → BookFault → Type 0
 IsRefused r y = (f : ClusterFault) × (r ≡ Err f) × (f ≡ of_book y)
 
-module _ {A : Type 0} {books : BookMap} {past : Past} {jobs : List Job} {x : ClusterState} {id : ℕ} (k : Call A) (s : Stands books past jobs x id) (ran : Ran) (so : IsCall k (cluster_of books past jobs) id ran) where
+module _ {A : Type 0} {version : Version} {books : BookMap} {past : Past} {jobs : List Job} {x : ClusterState} {id : ℕ} (k : Call A) (s : Stands version books past jobs x id) (ran : Ran) (so : IsCall k (cluster_of version books past jobs) id ran) where
   abbrev c : ClusterState
-  c = cluster_of books past jobs
+  c = cluster_of version books past jobs
 
   turns : stepped ran c k.event ≡ lift (k.next c) (k.said s.book)
   turns = so.1 ∙ s.turns (does k c)
@@ -131,16 +132,16 @@ module _ {A : Type 0} {books : BookMap} {past : Past} {jobs : List Job} {x : Clu
     same_books : books' ≡ books
     same_books = (calls s.book s.has).0
 
-    pub stays : IsCluster books' past' jobs'
+    pub stays : IsCluster version books' past' jobs'
     stays =
-        subst (λ (m : BookMap). IsCluster m past' jobs') (sym same_books)
-        (subst (λ (p : Past). IsCluster books p jobs') (sym same_past) (subst (λ (js : List Job). IsCluster books past js) (sym same_jobs) s.old))
+        subst (λ (m : BookMap). IsCluster version m past' jobs') (sym same_books)
+        (subst (λ (p : Past). IsCluster version books p jobs') (sym same_past) (subst (λ (js : List Job). IsCluster version books past js) (sym same_jobs) s.old))
 
-    pub refuses : (r : Result Stepped ClusterFault) → IsRefused r y → Steps memory (stepped ran x k.event) x (cluster_of books' past' jobs') r
+    pub refuses : (r : Result Stepped ClusterFault) → IsRefused r y → Steps memory (stepped ran x k.event) x (cluster_of version books' past' jobs') r
     refuses r h =
-        subst (λ (z : ClusterState). Steps memory (stepped ran z k.event) z (cluster_of books' past' jobs') r) s.is
-        (subst (λ (z : Result Stepped ClusterFault). Steps memory (stepped ran c k.event) c (cluster_of books' past' jobs') z) (sym h.1) (
-          (λ i. cluster_of (same_books i) (same_past i) (same_jobs i)),
+        subst (λ (z : ClusterState). Steps memory (stepped ran z k.event) z (cluster_of version books' past' jobs') r) s.is
+        (subst (λ (z : Result Stepped ClusterFault). Steps memory (stepped ran c k.event) c (cluster_of version books' past' jobs') z) (sym h.1) (
+          (λ i. cluster_of version (same_books i) (same_past i) (same_jobs i)),
           λ loud.
               turns ∙ ap (lift (k.next c)) ((calls s.book s.has).1 (λ same. loud (h.2 ∙ ap of_book same)))
               ∙ ap (λ (z : ClusterFault). let q : Said = Err z in q) (sym h.2),
@@ -153,19 +154,19 @@ module _ {A : Type 0} {books : BookMap} {past : Past} {jobs : List Job} {x : Clu
 
     -- and the cluster goes on to this past and these jobs
     module _ (past' : Past) (jobs' : List Job) (t : Stepped) (is : k.next c a new ≡ (t, put c past' jobs' id new)) where
-      went : stepped ran c k.event ≡ Ok (t, cluster_of books' past' jobs')
+      went : stepped ran c k.event ≡ Ok (t, cluster_of version books' past' jobs')
       went =
           turns ∙ ap (lift (k.next c)) (calls s.book s.has).1 ∙ ap (λ (p : Stepped × ClusterState). let r : Said = Ok p in r) is
-          ∙ ap (λ (d : ClusterState). let r : Said = Ok (t, d) in r) (put_is books past jobs past' jobs' id new books' (calls s.book s.has).2)
+          ∙ ap (λ (d : ClusterState). let r : Said = Ok (t, d) in r) (put_is version books past jobs past' jobs' id new books' (calls s.book s.has).2)
 
-      says : stepped ran x k.event ≡ Ok (t, cluster_of books' past' jobs')
-      says = subst (λ (z : ClusterState). stepped ran z k.event ≡ Ok (t, cluster_of books' past' jobs')) s.is went
+      says : stepped ran x k.event ≡ Ok (t, cluster_of version books' past' jobs')
+      says = subst (λ (z : ClusterState). stepped ran z k.event ≡ Ok (t, cluster_of version books' past' jobs')) s.is went
 
-      goes : past'.config ≡ past.config → past'.founders ≡ past.founders → IsCluster books' past' jobs'
+      goes : past'.config ≡ past.config → past'.founders ≡ past.founders → IsCluster version books' past' jobs'
       goes config founders = record {
-        history = history_next c (cluster_of books' past' jobs') k.event t s.old.history (record { ran = ran; right = so.0; stepped = went });
-        filed = files books past jobs past' config founders id new books' (calls s.book s.has).2
-            (headed books past jobs id s.book new a (k.said s.book) (k.keeps s.book) (calls s.book s.has).1 (s.old.filed id s.book s.has)) s.old.filed;
+        history = history_next c (cluster_of version books' past' jobs') k.event t s.old.history (record { ran = ran; right = so.0; stepped = went });
+        filed = files version books past jobs past' config founders id new books' (calls s.book s.has).2
+            (headed version books past jobs id s.book new a (k.said s.book) (k.keeps s.book) (calls s.book s.has).1 (s.old.filed id s.book s.has)) s.old.filed;
       }
 
     -- nothing is recorded
@@ -173,10 +174,10 @@ module _ {A : Type 0} {books : BookMap} {past : Past} {jobs : List Job} {x : Clu
       quiet_is : k.next c a new ≡ (t, put c past jobs' id new)
       quiet_is = does_so ∙ (λ i. ((ap (λ (s : Sent). let x : Stepped = record { told = tell; sent = s } in x) (sym numbers) ∙ sym tells) i, put c past jobs' id new))
 
-      pub quiet_says : stepped ran x k.event ≡ Ok (t, cluster_of books' past jobs')
+      pub quiet_says : stepped ran x k.event ≡ Ok (t, cluster_of version books' past jobs')
       quiet_says = says past jobs' t quiet_is
 
-      pub quiet_goes : IsCluster books' past jobs'
+      pub quiet_goes : IsCluster version books' past jobs'
       quiet_goes = goes past jobs' t quiet_is refl refl
 
     -- the ledger records it
@@ -191,24 +192,24 @@ module _ {A : Type 0} {books : BookMap} {past : Past} {jobs : List Job} {x : Clu
       noted_is : k.next c a new ≡ (t, put c past' jobs id new)
       noted_is = does_so ∙ (λ i. (sym told_is i, put c (sym past_is i) jobs id new))
 
-      pub noted_says : stepped ran x k.event ≡ Ok (t, cluster_of books' past' jobs)
+      pub noted_says : stepped ran x k.event ≡ Ok (t, cluster_of version books' past' jobs)
       noted_says = says past' jobs t noted_is
 
-      pub noted_goes : IsCluster books' past' jobs
+      pub noted_goes : IsCluster version books' past' jobs
       noted_goes = goes past' jobs t noted_is (ap (λ (p : Past). p.config) past_is) (ap (λ (p : Past). p.founders) past_is)
 
 -- what the table has is what the cluster says
-module _ (books : BookMap) (past : Past) (jobs : List Job) (filed : AreFiled books past) where
-  book_by : (id : ℕ) (o : Option BookState) → fin.get books id ≡ o → o ≡ booked (cluster_of books past jobs) id (option_map node_of o) (option_map desk_of o)
+module _ (version : Version) (books : BookMap) (past : Past) (jobs : List Job) (filed : AreFiled version books past) where
+  book_by : (id : ℕ) (o : Option BookState) → fin.get books id ≡ o → o ≡ booked (cluster_of version books past jobs) id (option_map node_of o) (option_map desk_of o)
   book_by id None is = refl
   book_by id (Some b) is =
       let h = filed id b is in
-      λ i. Some (record { id = h.id i; config = h.config i; founders = h.founders i; node = b.node; desk = b.desk })
+      λ i. Some (record { version = h.version i; id = h.id i; config = h.config i; founders = h.founders i; node = b.node; desk = b.desk })
 
-  pub book_is : (id : ℕ) → fin.get books id ≡ book_at (cluster_of books past jobs) id
+  pub book_is : (id : ℕ) → fin.get books id ≡ book_at (cluster_of version books past jobs) id
   book_is id =
       book_by id (fin.get books id) refl
-      ∙ (λ i. booked (cluster_of books past jobs) id (sym (get-each node_of books id) i) (sym (get-each desk_of books id) i))
+      ∙ (λ i. booked (cluster_of version books past jobs) id (sym (get-each node_of books id) i) (sym (get-each desk_of books id) i))
 
 -- what a book told of a message is what its node did
 told_by : (b : BookState) (m : Message) (a : Taken) (b' : BookState) → book.delivered b m ≡ Ok (a, b') → (t : Delivered) × (n : NodeState) × (node.delivered b.node m ≡ Ok (t, n)) × (t.progress ≡ a.progress)
@@ -217,10 +218,10 @@ told_by b m a b' h =
     (p.0.0, p.0.1, p.1, ap (λ (x : Taken × BookState). x.0.progress) p.2)
 
 -- so what was made ready for it is right
-pub counted_right : {books : BookMap} {past : Past} {jobs : List Job} {x : ClusterState} {id : ℕ} (s : Stands books past jobs x id) (m : Message) (a : Taken) (b' : BookState) → book.delivered s.book m ≡ Ok (a, b')
+pub counted_right : {version : Version} {books : BookMap} {past : Past} {jobs : List Job} {x : ClusterState} {id : ℕ} (s : Stands version books past jobs x id) (m : Message) (a : Taken) (b' : BookState) → book.delivered s.book m ≡ Ok (a, b')
     → (counting : Option Counting) (reserved : Past) → reserved ≡ past → IsReady reserved.ops id (answered id m.from m.body) counting → IsRight reserved.ops id (length reserved.events) a.progress counting
-counted_right {books} {past} {jobs} {x} {id} s m a b' h counting reserved kept ready =
-    let c : ClusterState = cluster_of books past jobs in
+counted_right {version} {books} {past} {jobs} {x} {id} s m a b' h counting reserved kept ready =
+    let c : ClusterState = cluster_of version books past jobs in
     let t = told_by s.book m a b' h in
     subst (λ (p : Past). IsRight p.ops id (length p.events) a.progress counting) (sym kept)
     (subst (λ (p : Option Progress). IsRight past.ops id (length past.events) p counting) t.3
@@ -228,7 +229,7 @@ counted_right {books} {past} {jobs} {x} {id} s m a b' h counting reserved kept r
     (subst (λ (p : Past). IsReady p.ops id (answered id m.from m.body) counting) kept ready)))
 
 -- a message that was sent is delivered
-pub is_delivery : {books : BookMap} {past : Past} {jobs : List Job} {x : ClusterState} {id : ℕ} (s : Stands books past jobs x id) (number : ℕ) (m : Message) → slice_get past.sent number ≡ Some m
-    → IsCall (delivering number m id) (cluster_of books past jobs) id nothing
-is_delivery {books} {past} {jobs} {x} {id} s number m sent =
-    let c : ClusterState = cluster_of books past jobs in (tt, ap (λ (o : Option Message). at c id (λ b. delivered_as c number id b o)) sent)
+pub is_delivery : {version : Version} {books : BookMap} {past : Past} {jobs : List Job} {x : ClusterState} {id : ℕ} (s : Stands version books past jobs x id) (number : ℕ) (m : Message) → slice_get past.sent number ≡ Some m
+    → IsCall (delivering number m id) (cluster_of version books past jobs) id nothing
+is_delivery {version} {books} {past} {jobs} {x} {id} s number m sent =
+    let c : ClusterState = cluster_of version books past jobs in (tt, ap (λ (o : Option Message). at c id (λ b. delivered_as c number id b o)) sent)

@@ -1,10 +1,11 @@
 -- No call of a book changes its head.
-use Rattle.std.proofs.Common.{◌≡◌, ◌==◌, ℕ, Bool, true, false, cond, List, length, refl, sym, ap, ◌∙◌, Result, Ok, Err}
+use Rattle.std.proofs.Common.{◌≡◌, ℕ, Bool, true, false, cond, List, length, refl, sym, ap, ◌∙◌, Result, Ok, Err}
 use Rattle.std.specs.Prelude.{nat_le}
 use Rattle.std.specs.FinMap as fin
-use Rattle.sc_view.specs.Values.{value_length}
+use Rattle.sc_view.specs.Values.{is_within}
 use Rattle.sc_msg.specs.declared.message.Message.{Message}
 use Rattle.sc_msg.specs.Lengths as message
+use Rattle.sc_msg.specs.Values.{value_lengths}
 use Rattle.sc_node.specs.State.{NodeState}
 use Rattle.sc_node.specs.Nodes as node
 use Rattle.sc_node.specs.declared.fault.NodeFault.{NodeFault}
@@ -21,7 +22,7 @@ use Rattle.q_book.specs.declared.fault.BookFault.{BookFault}
 use Rattle.q_book.specs.Books as book
 
 abbrev IsSame : BookState → BookState → Type 0
-IsSame b c = (c.id ≡ b.id) × (c.config ≡ b.config) × (c.founders ≡ b.founders)
+IsSame b c = (c.version ≡ b.version) × (c.id ≡ b.id) × (c.config ≡ b.config) × (c.founders ≡ b.founders)
 
 -- where it is accepted, the book has the same head
 abbrev pub Keeps : {A : Type 0} → BookState → Result (A × BookState) BookFault → Type 0
@@ -31,7 +32,12 @@ same_pair : {A : Type 0} (p q : A × BookState) → (let r : Result (A × BookSt
 same_pair p q h = let e : p ≡ q = cc in ap (λ (x : _ × BookState). x.1) e
 
 put : (b x c : BookState) → IsSame b x → x ≡ c → IsSame b c
-put b x c s e = (ap (λ (y : BookState). y.id) (sym e) ∙ s.0, ap (λ (y : BookState). y.config) (sym e) ∙ s.1, ap (λ (y : BookState). y.founders) (sym e) ∙ s.2)
+put b x c s e = (
+  ap (λ (y : BookState). y.version) (sym e) ∙ s.0,
+  ap (λ (y : BookState). y.id) (sym e) ∙ s.1,
+  ap (λ (y : BookState). y.config) (sym e) ∙ s.2,
+  ap (λ (y : BookState). y.founders) (sym e) ∙ s.3,
+)
 
 module _ {A : Type 0} (b : BookState) where
   unless : (t : Bool) (e : BookFault) (r : Result (A × BookState) BookFault) → Keeps b r → Keeps b (cond t (Err e) r)
@@ -51,7 +57,7 @@ module _ {A : Type 0} (b : BookState) where
   by_node f (Err e) k a c h = absurd (no_refusal _ (a, c) h)
 
   with_desk : (x : A) (d : DeskState) → Keeps b (book.with_desk b x d)
-  with_desk x d a c h = put b (record b { desk = d }) c (refl, refl, refl) (same_pair (x, record b { desk = d }) (a, c) h)
+  with_desk x d a c h = put b (record b { desk = d }) c (refl, refl, refl, refl) (same_pair (x, record b { desk = d }) (a, c) h)
 
 module _ (b : BookState) where
   pub registered_keeps : (program : Certificate) → Keeps b (book.registered b program)
@@ -66,19 +72,19 @@ module _ (b : BookState) where
   pub asked_keeps : (program start : ℕ) → Keeps b (book.asked b program start)
   asked_keeps program start =
       unless b b.node.gone _ _ (where_ b b.node.joined _ _ (where_ b (desk.knows b.desk program) _ _ (unless b (nat_le node.most_open (fin.len b.node.sessions)) _ _
-      (by_desk b (book.asks_node b) (desk.asked b.desk b.node.operations program start) (λ q d. by_node b (book.asks b q d) (node.collect_begun b.node) (λ x n. (refl, refl, refl)))))))
+      (by_desk b (book.asks_node b) (desk.asked b.desk b.node.operations program start) (λ q d. by_node b (book.asks b q d) (node.collect_begun b.node) (λ x n. (refl, refl, refl, refl)))))))
 
   pub stored_keeps : (value : List ℕ) → Keeps b (book.stored b value)
   stored_keeps value =
-      unless b b.node.gone _ _ (where_ b b.node.joined _ _ (where_ b (length value == value_length) _ _ (unless b (nat_le node.most_open (fin.len b.node.sessions)) _ _
-      (by_desk b (book.stores_node b value) (desk.noted b.desk (entry.Store value)) (λ u d. by_node b (book.stores b d) (node.store_begun b.node value) (λ x n. (refl, refl, refl)))))))
+      unless b b.node.gone _ _ (where_ b b.node.joined _ _ (where_ b (is_within (length value) (value_lengths b.version)) _ _ (unless b (nat_le node.most_open (fin.len b.node.sessions)) _ _
+      (by_desk b (book.stores_node b value) (desk.noted b.desk (entry.Store value)) (λ u d. by_node b (book.stores b d) (node.store_begun b.node value) (λ x n. (refl, refl, refl, refl)))))))
 
   pub delivered_keeps : (m : Message) → Keeps b (book.delivered b m)
   delivered_keeps m =
-      unless b b.node.gone _ _ (where_ b (message.has_values_of value_length m) _ _
-      (by_desk b (book.delivers_node b m) (desk.noted b.desk (entry.Deliver m)) (λ u d. by_node b (book.delivers b d) (node.delivered b.node m) (λ x n. (refl, refl, refl)))))
+      unless b b.node.gone _ _ (where_ b (message.fits b.version m) _ _
+      (by_desk b (book.delivers_node b m) (desk.noted b.desk (entry.Deliver m)) (λ u d. by_node b (book.delivers b d) (node.delivered b.node m) (λ x n. (refl, refl, refl, refl)))))
 
   pub left_keeps : Keeps b (book.left b)
   left_keeps =
       unless b b.node.gone _ _
-      (by_desk b (book.leaves_node b) (desk.noted b.desk entry.Leave) (λ u d. by_node b (book.leaves b d) (node.left b.node) (λ x n. (refl, refl, refl))))
+      (by_desk b (book.leaves_node b) (desk.noted b.desk entry.Leave) (λ u d. by_node b (book.leaves b d) (node.left b.node) (λ x n. (refl, refl, refl, refl))))

@@ -1,5 +1,5 @@
 -- What an event says of the history of a cluster, and a run.
-use Rattle.std.proofs.Common.{◌≡◌, ℕ, List, take, ◌∙◌, Result, Ok, Err}
+use Rattle.std.proofs.Common.{◌≡◌, refl, ℕ, List, [], ◌∷◌, take, ◌∙◌, Result, Ok, Err}
 use Rattle.forms.specs.Calls.{Steps}
 use Rattle.q_session.specs.declared.ran.Ran.{Ran}
 use Rattle.q_history.specs.declared.event.Event.{Event}
@@ -26,3 +26,8 @@ takes c e d said (Err f) any is h = (h.0, λ loud ran. is ran ∙ h.1 loud)
 pub runs_reach : (c : ClusterState) (es : List Event) (d : ClusterState) (r : Result (Unit {0}) (ℕ × ClusterFault)) → Runs c es d r → (fs : List Event) × Reaches c fs d
 runs_reach c es d (Ok u) h = (es, h)
 runs_reach c es d (Err x) h = (take x.0 es, h.0)
+
+-- what one event leads to, some events lead to
+pub takes_reach : (c : ClusterState) (e : Event) (d : ClusterState) (r : Result Stepped ClusterFault) → Takes c e d r → (fs : List Event) × Reaches c fs d
+takes_reach c e d (Ok told) h = (e ∷ [], (told, d, h, refl))
+takes_reach c e d (Err f) h = ([], h.0)

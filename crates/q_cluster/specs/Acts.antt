@@ -2,6 +2,7 @@
 use Rattle.std.specs.Prelude.{◌≡◌, ◌≢◌, ℕ, true, false, List, [], ◌∷◌, Option, Some, None, slice_get, Result, Ok, Err}
 use Rattle.std.specs.FinMap as fin
 use Rattle.sc_members.specs.Members.{Config}
+use Rattle.sc_msg.specs.declared.version.Version.{Version}
 use Rattle.sc_node.specs.State.{NodeState}
 use Rattle.sc_node.specs.Nodes.{founder, are_founders}
 use Rattle.sc_node.specs.declared.fault.NodeFault.TheVariants as node_fault
@@ -21,24 +22,25 @@ use Rattle.q_history.specs.Heads.{founders_for, book_of}
 use Rattle.q_cluster.specs.Tables.{BookMap, each}
 
 -- a cluster by its parts
-abbrev pub cluster_of : BookMap → Past → List Job → ClusterState
-cluster_of books past jobs =
-    record { world = world_of (each (λ (b : BookState). b.node) books) past; desks = each (λ (b : BookState). b.desk) books; jobs = jobs }
+abbrev pub cluster_of : Version → BookMap → Past → List Job → ClusterState
+cluster_of version books past jobs =
+    record { version = version; world = world_of (each (λ (b : BookState). b.node) books) past; desks = each (λ (b : BookState). b.desk) books; jobs = jobs }
 
 -- the book is headed as that of this node
-pub record IsHeaded (past : Past) (node : ℕ) (b : BookState) : Type 0 where
+pub record IsHeaded (shared : Version) (past : Past) (node : ℕ) (b : BookState) : Type 0 where
+  pub version : b.version ≡ shared
   pub id : b.id ≡ node
   pub config : b.config ≡ past.config
   pub founders : b.founders ≡ founders_for node past.founders
 
 -- each book stands under its own node's id
-abbrev pub AreFiled : BookMap → Past → Type 0
-AreFiled books past = (id : ℕ) (b : BookState) → fin.get books id ≡ Some b → IsHeaded past id b
+abbrev pub AreFiled : Version → BookMap → Past → Type 0
+AreFiled version books past = (id : ℕ) (b : BookState) → fin.get books id ≡ Some b → IsHeaded version past id b
 
 -- what is true of the parts of every cluster
-pub record IsCluster (books : BookMap) (past : Past) (jobs : List Job) : Type 0 where
-  pub history : IsHistory (cluster_of books past jobs)
-  pub filed : AreFiled books past
+pub record IsCluster (version : Version) (books : BookMap) (past : Past) (jobs : List Job) : Type 0 where
+  pub history : IsHistory (cluster_of version books past jobs)
+  pub filed : AreFiled version books past
 
 -- the book of that id does what is said, and the others are as they were; or it refuses, and all are
 abbrev pub StepsAt : {A : Type 0} → Result (A × BookState) BookFault → BookMap → BookMap → ℕ → Result A BookFault → Type 0
@@ -70,11 +72,12 @@ abbrev pub book_at : ClusterState → ℕ → Option BookState
 book_at c id = booked c id (fin.get c.world.nodes id) (fin.get c.desks id)
 
 -- these books, and those of the founders of these ids
-abbrev pub books_with : Config → List ℕ → BookMap → List ℕ → BookMap
-books_with c ids books [] = books
-books_with c ids books (id ∷ rest) = books_with c ids (fin.insert books id (new_book id c (Some ids) (founder c ids id))) rest
+abbrev pub books_with : Version → Config → List ℕ → BookMap → List ℕ → BookMap
+books_with version c ids books [] = books
+books_with version c ids books (id ∷ rest) =
+    books_with version c ids (fin.insert books id (new_book version id c (Some ids) (founder c ids id))) rest
 
 -- the books of the founders are given, or they are refused
-abbrev pub Founds : BookFault → Config → List ℕ → Result BookMap BookFault → Type 0
-Founds e c ids (Ok books) = (are_founders ids ≡ true) × (books ≡ books_with c ids fin.empty ids)
-Founds e c ids (Err f) = f ≢ e → (are_founders ids ≡ false) × (f ≡ fault.Node node_fault.BadFounders)
+abbrev pub Founds : BookFault → Version → Config → List ℕ → Result BookMap BookFault → Type 0
+Founds e version c ids (Ok books) = (are_founders ids ≡ true) × (books ≡ books_with version c ids fin.empty ids)
+Founds e version c ids (Err f) = f ≢ e → (are_founders ids ≡ false) × (f ≡ fault.Node node_fault.BadFounders)

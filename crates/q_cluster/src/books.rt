@@ -15,6 +15,7 @@ use q_session::job::Job;
 use q_table::program::{Program, ProgramId};
 use sc_members::config::Config;
 use sc_msg::message::Message;
+use sc_msg::version::Version;
 use sc_node::answer::Begun;
 use sc_node::fault::NodeFault;
 use sc_node::outs::Outs;
@@ -99,7 +100,7 @@ impl Books {
         let Some(book) = self.entries.get_mut(&id) else {
             return Err(BookFault::Node(NodeFault::OutOfMemory));
         };
-        book.store(value)
+        book.store(value.bytes())
     }
 
     /// A message reaches this node, which is there.
@@ -143,20 +144,21 @@ impl Books {
     }
 }
 
-/// The book of each founder. Refused with 49 where their ids don't rise strictly or are not 1 to 256.
+/// The book of each founder, of that version. Refused with 49 where their ids don't rise strictly or are not 1 to 256.
 pub(crate) fn found_books(
     alloc: Global,
+    version: Version,
     config: Config,
     founders: &[u64],
 ) -> Result<Books, BookFault>
-    ensures { Founds memory config founders.now result }
+    ensures { Founds memory version config founders.now result }
 {
     if founders.is_empty() {
         return Err(BookFault::Node(NodeFault::BadFounders));
     }
     let mut books = Books::new(alloc);
     for id in founders {
-        let book = Book::founder(alloc, config, *id, founders)?;
+        let book = Book::founder_as(alloc, version, config, *id, founders)?;
         books.insert(*id, book)?;
     }
     Ok(books)

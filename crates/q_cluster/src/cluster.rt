@@ -2,8 +2,7 @@
 
 ghost use Rattle.std.specs.Prelude.{◌≡◌, ◌≢◌, ◌<◌, ℕ, List, Ok, Err, IfOk, IfErr, IfSome, is_some, option_copied, slice_get, length, vec_len, vec_capacity};
 ghost use Rattle.std.specs.FinMap as fin;
-ghost use Rattle.sc_view.specs.Values.{value_length};
-ghost use Rattle.sc_msg.specs.Lengths.{MessageHasValuesOf};
+ghost use Rattle.sc_msg.specs.Lengths.{Fits};
 ghost use Rattle.sc_world.specs.Records.{AreRecords};
 ghost use Rattle.sc_world.specs.Regular.{IsRegular};
 ghost use Rattle.sc_world.specs.Worlds as world;
@@ -12,7 +11,7 @@ ghost use Rattle.q_session.specs.declared.ran.Ran.{Ran};
 ghost use Rattle.q_history.specs.Faults.{memory};
 ghost use Rattle.q_history.specs.Clusters.{at, registered, asked, stored, delivered, handed_out, handed, with_job, finished, entered, left, crashed, started};
 ghost use Rattle.q_history.specs.Calls.{Takes, Runs, IsHistory};
-ghost use Rattle.q_history.specs.Headline.{AnswersAreTrue, AnswersStay};
+ghost use Rattle.q_history.specs.Headline.{AnswersAreTrue, AnswersStay, ViewsAreReturned};
 ghost use Rattle.q_history.specs.Books.{BooksAreReplays};
 ghost use Rattle.q_cluster.specs.Acts.{Doing, IsThere, MayRun, book_at};
 
@@ -24,12 +23,14 @@ use q_history::event::{Answer, Event, Handed, Stepped, Told};
 use q_history::fault::ClusterFault;
 use q_history::laws::{
     answers_stay, every_answer_is_true, every_book_is_a_replay, every_message_fits,
+    every_view_is_returned,
 };
 use q_session::done::Done;
 use q_session::job::Job;
 use q_table::program::{Program, ProgramId};
 use sc_members::config::Config;
 use sc_msg::message::Message;
+use sc_msg::version::Version;
 use sc_node::answer::Begun;
 use sc_view::value::Value;
 use sc_world::act::Opened;
@@ -40,11 +41,13 @@ use sc_world::op::Op;
 use std::alloc::Global;
 use std::marker::Model;
 
-/// The book of each node, what is kept of every event, the jobs that were handed out, and the block over which they are
-/// run. Contracts see it as a world with a desk for each node. Some list of events made it of its founders.
+/// The book of each node, all of one version, what is kept of every event, the jobs that were handed out, and the block
+/// over which they are run. Contracts see it as a world with a desk for each node. Some list of events made it of its
+/// founders.
 #[derive(Drop)]
 pub struct Cluster {
     alloc: Global,
+    version: Version,
     books: Books,
     ledger: Ledger,
     jobs: Vec<Job>,
@@ -60,22 +63,35 @@ impl Model for Cluster {
 
     ghost coded = { cluster_code };
 
-    ghost view = { λ a. cluster_of a.books a.ledger.past a.jobs.items };
+    ghost view = { λ a. cluster_of a.version a.books a.ledger.past a.jobs.items };
 
-    ghost invariant = { λ a. IsCluster a.books a.ledger.past a.jobs.items };
+    ghost invariant = { λ a. IsCluster a.version a.books a.ledger.past a.jobs.items };
 }
 
 impl Cluster {
-    /// The cluster of these founders, before any event. Their ids rise strictly and are 1 to 256, or it is refused
-    /// with 49; else 99.
+    /// The cluster of these founders, before any event, with books of version 2. Their ids rise strictly and are 1 to
+    /// 256, or it is refused with 49; else 99.
     pub fn new(alloc: Global, config: Config, founders: &[u64]) -> Result<Cluster, ClusterFault>
-        ensures { Gives memory (started config founders.now) result }
+        ensures { Gives memory (started Version.Second config founders.now) result }
     {
-        let books = found_books(alloc, config, founders)?;
+        Cluster::new_as(alloc, Version::Second, config, founders)
+    }
+
+    /// The same with books of any version, for journals that are gathered.
+    pub fn new_as(
+        alloc: Global,
+        version: Version,
+        config: Config,
+        founders: &[u64],
+    ) -> Result<Cluster, ClusterFault>
+        ensures { Gives memory (started version config founders.now) result }
+    {
+        let books = found_books(alloc, version, config, founders)?;
         let ledger = Ledger::new(alloc, config, founders)?;
         let block = Block::new(alloc)?;
         Ok(Cluster {
             alloc,
+            version,
             books,
             ledger,
             jobs: Vec::new(alloc),
@@ -83,17 +99,22 @@ impl Cluster {
         })
     }
 
-    /// Takes an event, or refuses it with the first of 83, 81, 82, 42, 41, 51, 50, 52, 56, 55, 43, 53, 48, 46 and 47,
-    /// with 44, or with 99; then the cluster is as it was. Whether accepted or refused, each recorded answer is true, and each
-    /// node with its desk is the replay of its own journal.
+    /// Takes an event, or refuses it with the first of 83, 81, 82, 42, 41, 51, 59, 50, 52, 56, 55, 43, 53, 48, 46 and
+    /// 47, with 44, or with 99; then the cluster is as it was. Whether accepted or refused, each recorded answer is
+    /// true, those that were recorded before stay, and each node with its desk is the replay of its own journal.
     pub fn step(&mut self, event: &Event) -> Result<Stepped, ClusterFault>
         ensures takes { Takes self.old event.now self.new result }
         ensures answers { AnswersAreTrue self.new }
+        ensures views { ViewsAreReturned self.new }
         ensures books { BooksAreReplays self.new }
+        ensures stay { AnswersStay self.old self.new }
     {
+        self.comes_of_events();
         let stepped = self.take(event);
         self.answers_are_true();
+        self.views_are_returned();
         self.books_are_replays();
+        answers_stay();
         stepped
     }
 
@@ -123,12 +144,14 @@ impl Cluster {
     pub fn run(&mut self, events: &[Event]) -> Result<(), (usize, ClusterFault)>
         ensures runs { Runs self.old events.now self.new result }
         ensures answers { AnswersAreTrue self.new }
+        ensures views { ViewsAreReturned self.new }
         ensures books { BooksAreReplays self.new }
         ensures stay { AnswersStay self.old self.new }
     {
         self.comes_of_events();
         let ran = self.take_all(events);
         self.answers_are_true();
+        self.views_are_returned();
         self.books_are_replays();
         answers_stay();
         ran
@@ -154,6 +177,15 @@ impl Cluster {
         let _jobs = self.jobs.len();
     }
 
+    /// A law of every cluster: each view over which a query is to run, runs or ran is the one that its own collect
+    /// returned, and that view holds what was stored before.
+    pub fn views_are_returned(&self)
+        ensures { ViewsAreReturned self.now }
+    {
+        every_view_is_returned();
+        let _jobs = self.jobs.len();
+    }
+
     /// A law of every cluster: each node with its desk is the replay of its own journal, also where the node has left or
     /// crashed.
     pub fn books_are_replays(&self)
@@ -168,6 +200,13 @@ impl Cluster {
         ensures { IsHistory self.now }
     {
         let _jobs = self.jobs.len();
+    }
+
+    /// The version of the nodes' books.
+    pub fn version(&self) -> Version
+        ensures { result ≡ self.now.version }
+    {
+        self.version
     }
 
     /// The book of this node, also where it has left or crashed.
@@ -204,10 +243,10 @@ impl Cluster {
         self.ledger.sent().len()
     }
 
-    /// The message of that number, which counts from 0. Its values have 48 bytes.
+    /// The message of that number, which counts from 0. It fits the cluster's version.
     pub fn message(&self, number: usize) -> Option<&Message>
         ensures message { option_copied result ≡ slice_get self.now.world.sent number }
-        ensures values { IfSome result (λ m. MessageHasValuesOf value_length m.now) }
+        ensures values { IfSome result (λ m. Fits self.now.version m.now) }
     {
         every_message_fits();
         self.ledger.sent().get(number)
@@ -229,7 +268,7 @@ impl Cluster {
             return Err(ClusterFault::World(WorldFault::IdUsed));
         }
         self.ledger.reserve(id)?;
-        let (book, outs) = Book::entering(self.alloc, self.ledger.config(), id)?;
+        let (book, outs) = Book::entering_as(self.alloc, self.version, self.ledger.config(), id)?;
         self.books.insert(id, book)?;
         let sent = self
             .ledger

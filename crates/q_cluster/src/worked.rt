@@ -4,6 +4,7 @@ ghost use Rattle.std.specs.Prelude.{◌≡◌, [], ◌∷◌, Some, None, Ok, Er
 ghost use Rattle.std.specs.FinMap as fin;
 ghost use Rattle.std.specs.FinSet as set;
 ghost use Rattle.sc_members.specs.Members.{Config};
+ghost use Rattle.sc_msg.specs.declared.version.Version.{Version};
 ghost use Rattle.sc_node.specs.State.{NodeState};
 ghost use Rattle.sc_world.specs.State.{WorldState};
 ghost use Rattle.sc_world.specs.Worlds.{live_at};
@@ -22,10 +23,10 @@ ghost use Rattle.q_cluster.specs.Acts.{book_at};
 
 /// What the definitions say at telling operands.
 pub fn worked()
-    // Founders, and nodes that enter, have desks of their own.
-    ensures founded { (config : Config) → started config (1 ∷ 2 ∷ []) ≡ Ok (start config (1 ∷ 2 ∷ [])) }
-    ensures desk_of_a_founder { (config : Config) → fin.get (start config (1 ∷ 2 ∷ [])).desks 2 ≡ Some new_desk }
-    ensures desk_of_one_that_enters { (c : ClusterState) → fin.get (enters c 7 (book.entered c.world.config 7)).1.desks 7 ≡ Some new_desk }
+    // Founders, and nodes that enter, have desks of their own, for records of the cluster's version.
+    ensures founded { (version : Version) (config : Config) → started version config (1 ∷ 2 ∷ []) ≡ Ok (start version config (1 ∷ 2 ∷ [])) }
+    ensures desk_of_a_founder { (version : Version) (config : Config) → fin.get (start version config (1 ∷ 2 ∷ [])).desks 2 ≡ Some (new_desk (book.record_lengths version)) }
+    ensures desk_of_one_that_enters { (c : ClusterState) → fin.get (enters c 7 (book.entered c.version c.world.config 7)).1.desks 7 ≡ Some (new_desk (book.record_lengths c.version)) }
 
     // A new id is taken, and events are refused by their own places.
     ensures taken { (c d : ClusterState) → fin.get c.world.nodes 7 ≡ None → Takes c (event.Enter 7) d (Err fault.NoSuchJob) → ⊥ }

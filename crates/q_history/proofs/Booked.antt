@@ -1,5 +1,4 @@
--- Each accepted event keeps that each node's book is the replay of its journal, and that the values of all messages have
--- the length that journals hold.
+-- Each accepted event keeps that each node's book is the replay of its journal, and that all messages fit the version.
 use Rattle.std.proofs.Common.{◌≡◌, ℕ, Bool, true, false, cond, ◌==◌, List, [], ◌∷◌, ◌++◌, Option, Some, None, IfSome, refl, sym, ap, ◌∙◌, subst, slice_get, Result, Ok}
 use Rattle.std.proofs.lemmas.Bool.{eqb-true}
 use Rattle.std.specs.List.{All}
@@ -7,14 +6,15 @@ use Rattle.std.proofs.lemmas.List.Elements.{All-append}
 use Rattle.std.specs.Ordering.{nat_cmp}
 use Rattle.std.specs.FinMap as fin
 use Rattle.std.specs.FinSet as set
-use Rattle.sc_view.specs.Values.{value_length}
 use Rattle.sc_msg.specs.declared.message.Message.{Message}
-use Rattle.sc_msg.specs.Lengths.{MessageHasValuesOf}
+use Rattle.sc_msg.specs.declared.version.Version.{Version}
+use Rattle.sc_msg.specs.Lengths.{Fits}
+use Rattle.sc_msg.specs.Values.{value_lengths}
 use Rattle.sc_msg.proofs.Lengths.{message_told}
 use Rattle.sc_node.specs.State.{NodeState}
 use Rattle.sc_node.specs.Nodes as node
 use Rattle.sc_node.specs.declared.answer.Begun.{Begun}
-use Rattle.sc_lengths.specs.Lengths.{NodeHasValuesOf}
+use Rattle.sc_lengths.specs.Lengths.{NodeHasValuesWithin}
 use Rattle.sc_lengths.proofs.Kept.{entered_told, store_kept, collect_kept, leave_kept, delivery_kept}
 use Rattle.sc_world.specs.declared.event.Event.TheVariants as world_event
 use Rattle.sc_world.specs.State.{Past, past_of}
@@ -50,14 +50,14 @@ use Rattle.q_history.proofs.Called.{at-ok, call-ok, led}
 use Rattle.q_desk.proofs.Moves.{IsHanded, handed_out-ok}
 use Rattle.q_book.proofs.Replays.{replay_next}
 
--- each value that these messages tell has the length that journals hold
-abbrev pub Fit : List Message → Type 0
-Fit messages = All (MessageHasValuesOf value_length) messages
+-- each of these messages fits the version
+abbrev pub Fit : Version → List Message → Type 0
+Fit version messages = All (Fits version) messages
 
--- each node's book is a replay, each founder is there, and each value that was sent has the length that journals hold
+-- each node's book is a replay, each founder is there, and each message that was sent fits the version
 pub record AreBooks (c : ClusterState) : Type 0 where
   pub replays : BooksAreReplays c
-  pub messages : Fit c.world.sent
+  pub messages : Fit c.version c.world.sent
   pub founders : (id : ℕ) → set.contains (set.from_list {R = nat_cmp} c.world.founders) id ≡ true → (n : NodeState) × (fin.get c.world.nodes id ≡ Some n)
 
 module _ (c : ClusterState) (books : AreBooks c) where
@@ -74,7 +74,7 @@ module _ (c : ClusterState) (books : AreBooks c) where
   abbrev With : Past → List Job → ℕ → BookState → ClusterState
   With p jobs id b = put c (record p { config = c.world.config; founders = c.world.founders }) jobs id b
 
-  put_book : (p : Past) (jobs : List Job) (id : ℕ) (b : BookState) → Fit p.sent → IsReplay (book_of c id b.node b.desk) → AreBooks (With p jobs id b)
+  put_book : (p : Past) (jobs : List Job) (id : ℕ) (b : BookState) → Fit c.version p.sent → IsReplay (book_of c id b.node b.desk) → AreBooks (With p jobs id b)
   put_book p jobs id b fit new = record {
     messages = fit;
     replays = λ q m x at here. book_by id b.node b.desk q m x (q == id) refl new (sym (get-insert c.world.nodes id b.node q) ∙ at) (sym (get-insert c.desks id b.desk q) ∙ here);
@@ -82,32 +82,32 @@ module _ (c : ClusterState) (books : AreBooks c) where
   }
 
   -- a call that puts an entry into the journal
-  put_next : (p : Past) (jobs : List Job) (id : ℕ) (n : NodeState) (d : DeskState) (b : BookState) (e : Entry) → Fit p.sent → world.live_at c.world id ≡ Some n → fin.get c.desks id ≡ Some d
+  put_next : (p : Past) (jobs : List Job) (id : ℕ) (n : NodeState) (d : DeskState) (b : BookState) (e : Entry) → Fit c.version p.sent → world.live_at c.world id ≡ Some n → fin.get c.desks id ≡ Some d
       → Follows (book_of c id n d) e b → AreBooks (With p jobs id b)
   put_next p jobs id n d b e fit live at f =
       put_book p jobs id b fit (replay_next (book_of c id n d) b e (books.replays id n d (at_live c.world id n live) at) f)
 
   -- the values of a live node
-  values_of : (id : ℕ) (n : NodeState) (d : DeskState) → world.live_at c.world id ≡ Some n → fin.get c.desks id ≡ Some d → NodeHasValuesOf value_length n
+  values_of : (id : ℕ) (n : NodeState) (d : DeskState) → world.live_at c.world id ≡ Some n → fin.get c.desks id ≡ Some d → NodeHasValuesWithin (value_lengths c.version) n
   values_of id n d live at = replay_values (book_of c id n d) (books.replays id n d (at_live c.world id n live) at)
 
   -- what was sent, and what a node sends
-  sends : (outs : List Message) → Fit outs → Fit (c.world.sent ++ outs)
-  sends outs fit = All-append (MessageHasValuesOf value_length) c.world.sent outs books.messages fit
+  sends : (outs : List Message) → Fit c.version outs → Fit c.version (c.world.sent ++ outs)
+  sends outs fit = All-append (Fits c.version) c.world.sent outs books.messages fit
 
   -- ---- nodes that come and go
 
   first_by : (id : ℕ) (b : Bool) → set.contains (set.from_list {R = nat_cmp} c.world.founders) id ≡ b → fin.get c.world.nodes id ≡ None
-      → IsFirst (book_of c id (node.entered c.world.config id).0 new_desk) (node.entered c.world.config id).0 (cond b (Some c.world.founders) None)
+      → IsFirst (book_of c id (node.entered c.world.config id).0 (new_desk (book.record_lengths c.version))) (node.entered c.world.config id).0 (cond b (Some c.world.founders) None)
   first_by id true is none = let k = books.founders id is in absurd (no_some k.0 (sym none ∙ k.1))
   first_by id false is none = refl
 
   pub enter_books : (id : ℕ) (o : Option NodeState) (y : Stepped × ClusterState) → fin.get c.world.nodes id ≡ o → entered c id o ≡ Ok y → AreBooks y.1
   enter_books id (Some n) y is h = absurd (no_refusal _ y h)
   enter_books id None y is h =
-      let e = book.entered c.world.config id in
+      let e = book.entered c.version c.world.config id in
       subst AreBooks (ap (λ (z : Stepped × ClusterState). z.1) (same_answer _ y h))
-      (put_book (recorded (past_of c.world) (world_event.Enter id) id e.1 None None) c.jobs id e.0 (sends e.1 (entered_told value_length c.world.config id))
+      (put_book (recorded (past_of c.world) (world_event.Enter id) id e.1 None None) c.jobs id e.0 (sends e.1 (entered_told (value_lengths c.version) c.world.config id))
       (record { first = e.0.node; begun = first_by id (set.contains (set.from_list {R = nat_cmp} c.world.founders) id) refl is; replayed = refl }))
 
   pub crash_books : (id : ℕ) (o : Option NodeState) (y : Stepped × ClusterState) → crashed c id o ≡ Ok y → AreBooks y.1
@@ -120,8 +120,8 @@ module _ (c : ClusterState) (books : AreBooks c) where
       let k = call-ok c id (leaves c id) book.left y h in
       let b = book_of c id k.node k.desk in
       let a = left-parts b k.answer k.called in
-      let kept = leave_kept value_length k.node a.0.1 a.0.0 (values_of id k.node k.desk k.live k.at) a.1 in
-      let fit = subst (λ (z : List Message × BookState). Fit z.0) a.2 kept.1 in
+      let kept = leave_kept (value_lengths c.version) k.node a.0.1 a.0.0 (values_of id k.node k.desk k.live k.at) a.1 in
+      let fit = subst (λ (z : List Message × BookState). Fit c.version z.0) a.2 kept.1 in
       subst AreBooks k.is
       (put_next (recorded (past_of c.world) (world_event.Leave id) id k.answer.0 None None) c.jobs id k.node k.desk k.answer.1 entry.Leave (sends k.answer.0 fit) k.live k.at (k.answer.0, k.called))
 
@@ -132,8 +132,8 @@ module _ (c : ClusterState) (books : AreBooks c) where
       let k = call-ok c id (stores c id value) (λ b. book.stored b value) y h in
       let b = book_of c id k.node k.desk in
       let a = stored-parts b value k.answer k.called in
-      let kept = store_kept value_length k.node a.0.1 value a.0.0 (values_of id k.node k.desk k.live k.at) (value_fits value (stored-fits b value k.answer k.called)) a.1 in
-      let fit = subst (λ (z : Begun × BookState). Fit z.0.outs) a.2 kept.1.outs in
+      let kept = store_kept (value_lengths c.version) k.node a.0.1 value a.0.0 (values_of id k.node k.desk k.live k.at) (value_fits (value_lengths c.version) value (stored-fits b value k.answer k.called)) a.1 in
+      let fit = subst (λ (z : Begun × BookState). Fit c.version z.0.outs) a.2 kept.1.outs in
       subst AreBooks k.is
       (put_next (recorded (past_of c.world) (world_event.Store id value) id k.answer.0.outs None (opened k.answer.0)) c.jobs id k.node k.desk k.answer.1 (entry.Store value) (sends k.answer.0.outs fit) k.live k.at (k.answer.0, k.called))
 
@@ -143,8 +143,8 @@ module _ (c : ClusterState) (books : AreBooks c) where
       let b = book_of c id k.node k.desk in
       let a = asked-parts b program start k.answer k.called in
       let begun = k.answer.0.begun in
-      let kept = collect_kept value_length k.node a.2.1 a.2.0 (values_of id k.node k.desk k.live k.at) a.3 in
-      let fit = subst (λ (z : Asked × BookState). Fit z.0.begun.outs) a.4 kept.1.outs in
+      let kept = collect_kept (value_lengths c.version) k.node a.2.1 a.2.0 (values_of id k.node k.desk k.live k.at) a.3 in
+      let fit = subst (λ (z : Asked × BookState). Fit c.version z.0.begun.outs) a.4 kept.1.outs in
       subst AreBooks k.is
       (put_next (recorded (past_of c.world) (world_event.Collect id) id begun.outs None (opened begun)) c.jobs id k.node k.desk k.answer.1 (entry.Ask program start) (sends begun.outs fit) k.live k.at (k.answer.0, k.called))
 
@@ -155,8 +155,8 @@ module _ (c : ClusterState) (books : AreBooks c) where
       let b = book_of c id k.node k.desk in
       let a = delivered-parts b m k.answer k.called in
       let t = k.answer.0 in
-      let kept = delivery_kept value_length k.node a.0.1 m a.0.0 (values_of id k.node k.desk k.live k.at) (message_told value_length m (delivered-fits b m k.answer k.called)) a.1 in
-      let fit = subst (λ (z : Taken × BookState). Fit z.0.outs) a.2 kept.1.outs in
+      let kept = delivery_kept (value_lengths c.version) k.node a.0.1 m a.0.0 (values_of id k.node k.desk k.live k.at) (message_told (value_lengths c.version) m (delivered-fits b m k.answer k.called)) a.1 in
+      let fit = subst (λ (z : Taken × BookState). Fit c.version z.0.outs) a.2 kept.1.outs in
       subst AreBooks k.is
       (put_next (recorded (past_of c.world) (world_event.Deliver number id) id t.outs t.progress None) c.jobs id k.node k.desk k.answer.1 (entry.Deliver m) (sends t.outs fit) k.live k.at (t, k.called))
 

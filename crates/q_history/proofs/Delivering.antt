@@ -62,7 +62,7 @@ module _ (w w' : WorldState) (place id : ℕ) (d : DeskState) (made : Entry) (on
   returned_later tag view returns =
       let e : DeskState = (desk.returned (desk.with_entry d made) tag view).1 in
       let m = returned_moves (desk.with_entry d made) tag view in
-      let keeps : Keeps d e = record { programs = m.keeps.programs; answers = m.keeps.answers } in
+      let keeps : Keeps d e = record { lengths = m.keeps.lengths; programs = m.keeps.programs; answers = m.keeps.answers } in
       record {
         is = desk_moved w w' onward id d e (IsReadied (desk.with_entry d made) tag view) (record { keeps = keeps; queries = m.queries }) k (readied_tied tag view returns) (readied_none tag view e);
         keeps = keeps;

@@ -44,17 +44,17 @@ module _ (c : ClusterState) (kept : IsKept c) where
 
   -- a call after which each query is as it was
   pub quiet : (w' : WorldState) (id : ℕ) (d e : DeskState) → IsLawful w' → IsOnward c.world w' → fin.get c.desks id ≡ Some d → Moves d e Nothing
-      → IsStep c (record { world = w'; desks = fin.insert c.desks id e; jobs = c.jobs })
+      → IsStep c (record { version = c.version; world = w'; desks = fin.insert c.desks id e; jobs = c.jobs })
   quiet w' id d e lawful onward at m =
       put_desk c kept w' id e lawful onward
       (desk_moved c.world w' onward id d e Nothing m (kept.desks id d at) (λ q none. absurd none) (λ q none view ran is. absurd none))
       (keeps_here id d e at m.keeps)
 
   -- the node is put in again as it was
-  pub put_same : (id : ℕ) (n : NodeState) (e : DeskState) (jobs : List Job) → world.live_at c.world id ≡ Some n → IsStep c (record { world = c.world; desks = fin.insert c.desks id e; jobs = jobs })
-      → IsStep c (record { world = world_of (fin.insert c.world.nodes id n) (past_of c.world); desks = fin.insert c.desks id e; jobs = jobs })
+  pub put_same : (id : ℕ) (n : NodeState) (e : DeskState) (jobs : List Job) → world.live_at c.world id ≡ Some n → IsStep c (record { version = c.version; world = c.world; desks = fin.insert c.desks id e; jobs = jobs })
+      → IsStep c (record { version = c.version; world = world_of (fin.insert c.world.nodes id n) (past_of c.world); desks = fin.insert c.desks id e; jobs = jobs })
   put_same id n e jobs live h =
-      subst (λ (m : fin.FinMap nat_cmp NodeState). IsStep c (record { world = world_of m (past_of c.world); desks = fin.insert c.desks id e; jobs = jobs }))
+      subst (λ (m : fin.FinMap nat_cmp NodeState). IsStep c (record { version = c.version; world = world_of m (past_of c.world); desks = fin.insert c.desks id e; jobs = jobs }))
       (sym (insert_same c.world.nodes id n (at_live c.world id n live))) h
 
   -- the world takes an event of a node
@@ -64,7 +64,7 @@ module _ (c : ClusterState) (kept : IsKept c) where
   -- no operation moves, and each query is as it was
   noted_step : (e : WorldEvent) (id : ℕ) (r : world.Outcome) (d : DeskState) (made : Entry) → world.stepped c.world e ≡ Ok (world.told c.world r, world.after c.world e id r)
       → r.progress ≡ None → fin.get c.desks id ≡ Some d
-      → IsStep c (record { world = world.after c.world e id r; desks = fin.insert c.desks id (desk.with_entry d made); jobs = c.jobs })
+      → IsStep c (record { version = c.version; world = world.after c.world e id r; desks = fin.insert c.desks id (desk.with_entry d made); jobs = c.jobs })
   noted_step e id r d made h still at =
       quiet (world.after c.world e id r) id d (desk.with_entry d made) (lawful_next e id r h) (still_onward c.world e id r still) at (noted_moves d made)
 
@@ -74,7 +74,7 @@ module _ (c : ClusterState) (kept : IsKept c) where
       let r : world.Outcome = world.of_entered (node.entered c.world.config id) in
       let e : WorldEvent = world_event.Enter id in
       subst (IsStep c) (ap (λ (z : Stepped × ClusterState). z.1) (same_answer _ y h))
-      (put_desk c kept (world.after c.world e id r) id new_desk (lawful_next e id r (ap (world.enters c.world id) is)) (still_onward c.world e id r refl)
+      (put_desk c kept (world.after c.world e id r) id (new_desk (book.record_lengths c.version)) (lawful_next e id r (ap (world.enters c.world id) is)) (still_onward c.world e id r refl)
       (record { node = r.node; at = get-insert_same c.world.nodes id r.node; tied = λ i q at. absurd (no_some q at); right = λ i q view ran at is. absurd (no_some q at) })
       (λ x at. absurd (no_some _ (sym is ∙ (kept.desks id x at).at))))
 
@@ -96,6 +96,7 @@ module _ (c : ClusterState) (kept : IsKept c) where
           jobs = kept.jobs;
         };
         stays = stays_itself c.desks;
+        version = refl;
         config = refl;
         founders = refl;
       })

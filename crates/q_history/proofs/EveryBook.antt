@@ -3,8 +3,8 @@ use Rattle.std.proofs.Common.{◌≡◌, ℕ, Bool, true, false, cond, ◌==◌,
 use Rattle.std.proofs.lemmas.Bool.{eqb-true, eq-eqb}
 use Rattle.std.specs.Ordering.{nat_cmp}
 use Rattle.std.proofs.lemmas.List.Elements.{All-from_recursion}
-use Rattle.sc_view.specs.Values.{value_length}
-use Rattle.sc_msg.specs.Lengths.{MessageHasValuesOf}
+use Rattle.sc_msg.specs.declared.version.Version.{Version}
+use Rattle.sc_msg.specs.Lengths.{Fits}
 use Rattle.std.specs.FinMap as fin
 use Rattle.std.specs.FinSet as set
 use Rattle.sc_members.specs.Members.{Config}
@@ -17,7 +17,7 @@ use Rattle.sc_world.specs.Worlds.{nodes_with}
 use Rattle.sc_world.specs.Worlds as world
 use Rattle.sc_world.proofs.Finite.{get-insert, contains-insert}
 use Rattle.sc_world.proofs.Inverts.{no_refusal}
-use Rattle.q_desk.specs.State.{DeskState, new_desk}
+use Rattle.q_desk.specs.State.{DeskState}
 use Rattle.q_book.specs.Replays.{IsFirst, IsReplay}
 use Rattle.q_history.specs.declared.event.Event.{Event}
 use Rattle.q_history.specs.declared.event.Event.TheVariants as event
@@ -29,6 +29,7 @@ use Rattle.q_history.specs.Heads.{founders_for, book_of}
 use Rattle.q_history.specs.Books.{BooksAreReplays}
 use Rattle.q_history.proofs.Lists.{same_some, no_some}
 use Rattle.q_history.proofs.Ops.{insert_has}
+use Rattle.q_history.proofs.EveryHistory.{fresh, run_kept, start_kept}
 use Rattle.q_history.proofs.Booked.{AreBooks, Fit, enter_books, crash_books, leave_books, register_books, store_books, ask_books, deliver_books, hand_out_books, finish_books}
 
 step_books : (c d : ClusterState) (e : Event) (told : Stepped) → AreBooks c → Follows c e told d → AreBooks d
@@ -98,59 +99,61 @@ module _ (config : Config) (ids : List ℕ) where
   founder_there (p ∷ qs) nodes id (inr h) =
       founder_there qs (fin.insert nodes p (founder config ids p)) id (comes_next p qs nodes id (id == p) refl (sym (contains-insert (set.from_list qs) p id) ∙ h))
 
-  new_by : (desks : Desks) (p id : ℕ) (d : DeskState) (b : Bool) → (fin.get desks id ≡ Some d → new_desk ≡ d) → cond b (Some new_desk) (fin.get desks id) ≡ Some d → new_desk ≡ d
-  new_by desks p id d true old h = same_some new_desk d h
+module _ (version : Version) (config : Config) (ids : List ℕ) where
+  new_by : (desks : Desks) (p id : ℕ) (d : DeskState) (b : Bool) → (fin.get desks id ≡ Some d → fresh version ≡ d) → cond b (Some (fresh version)) (fin.get desks id) ≡ Some d → fresh version ≡ d
+  new_by desks p id d true old h = same_some (fresh version) d h
   new_by desks p id d false old h = old h
 
   -- each desk is new
-  pub all_new : (qs : List ℕ) (desks : Desks) → ((id : ℕ) (d : DeskState) → fin.get desks id ≡ Some d → new_desk ≡ d) → (id : ℕ) (d : DeskState) → fin.get (desks_with desks qs) id ≡ Some d → new_desk ≡ d
+  pub all_new : (qs : List ℕ) (desks : Desks) → ((id : ℕ) (d : DeskState) → fin.get desks id ≡ Some d → fresh version ≡ d) → (id : ℕ) (d : DeskState) → fin.get (desks_with version desks qs) id ≡ Some d → fresh version ≡ d
   all_new [] desks old id d at = old id d at
   all_new (p ∷ qs) desks old id d at =
-      all_new qs (fin.insert desks p new_desk) (λ i x here. new_by desks p i x (i == p) (old i x) (sym (get-insert desks p new_desk i) ∙ here)) id d at
+      all_new qs (fin.insert desks p (fresh version)) (λ i x here. new_by desks p i x (i == p) (old i x) (sym (get-insert desks p (fresh version) i) ∙ here)) id d at
 
   nowhere : {X : Type 0} (id : ℕ) (x : X) → fin.get (fin.empty {R = nat_cmp}) id ≡ Some x → ⊥
   nowhere id x at = no_some x (sym (fin.get-empty nat_cmp id) ∙ at)
 
-  first_founder : (id : ℕ) → are_founders ids ≡ true → IsAmong ids id → IsFirst (book_of (start config ids) id (founder config ids id) new_desk) (founder config ids id) (founders_for id ids)
+  first_founder : (id : ℕ) → are_founders ids ≡ true → IsAmong ids id → IsFirst (book_of (start version config ids) id (founder config ids id) (fresh version)) (founder config ids id) (founders_for id ids)
   first_founder id are listed =
-      subst (λ (b : Bool). IsFirst (book_of (start config ids) id (founder config ids id) new_desk) (founder config ids id) (cond b (Some ids) None)) (sym listed)
+      subst (λ (b : Bool). IsFirst (book_of (start version config ids) id (founder config ids id) (fresh version)) (founder config ids id) (cond b (Some ids) None)) (sym listed)
       (ap (λ (b : Bool). let r : Result NodeState NodeFault = cond (b && set.contains (set.from_list {R = nat_cmp} ids) id) (Ok (founder config ids id)) (Err node_fault.BadFounders) in r) are
       ∙ ap (λ (b : Bool). let r : Result NodeState NodeFault = cond b (Ok (founder config ids id)) (Err node_fault.BadFounders) in r) listed)
 
-  founder_book : (id : ℕ) (n : NodeState) (d : DeskState) → are_founders ids ≡ true → IsFounder id n → new_desk ≡ d → IsReplay (book_of (start config ids) id n d)
+  founder_book : (id : ℕ) (n : NodeState) (d : DeskState) → are_founders ids ≡ true → IsFounder config ids id n → fresh version ≡ d → IsReplay (book_of (start version config ids) id n d)
   founder_book id n d are f new =
-      subst (λ (x : DeskState). IsReplay (book_of (start config ids) id n x)) new
-      (subst (λ (x : NodeState). IsReplay (book_of (start config ids) id x new_desk)) f.is
+      subst (λ (x : DeskState). IsReplay (book_of (start version config ids) id n x)) new
+      (subst (λ (x : NodeState). IsReplay (book_of (start version config ids) id x (fresh version))) f.is
       (record { first = founder config ids id; begun = first_founder id are f.listed; replayed = refl }))
 
-  start_books : are_founders ids ≡ true → AreBooks (start config ids)
+  start_books : are_founders ids ≡ true → AreBooks (start version config ids)
   start_books are = record {
     replays = λ id n d at here.
         founder_book id n d are
-        (all_founders ids fin.empty (λ i in'. in') (λ i m none. absurd (nowhere i m none)) id n at)
+        (all_founders config ids ids fin.empty (λ i in'. in') (λ i m none. absurd (nowhere i m none)) id n at)
         (all_new ids fin.empty (λ i x none. absurd (nowhere i x none)) id d here);
-    messages = All-from_recursion (MessageHasValuesOf value_length) [] tt;
-    founders = λ id listed. founder_there ids fin.empty id (inr listed);
+    messages = All-from_recursion (Fits version) [] tt;
+    founders = λ id listed. founder_there config ids ids fin.empty id (inr listed);
   }
 
-  founders_are : (b : Bool) → are_founders ids ≡ b → founded config ids (cond b (Ok (world.start config ids)) (Err (world_fault.Node node_fault.BadFounders))) ≡ Ok (start config ids) → are_founders ids ≡ true
+  founders_are : (b : Bool) → are_founders ids ≡ b → founded version config ids (cond b (Ok (world.start config ids)) (Err (world_fault.Node node_fault.BadFounders))) ≡ Ok (start version config ids) → are_founders ids ≡ true
   founders_are true is h = is
   founders_are false is h = absurd (no_refusal _ _ h)
 
-  pub every_are : (es : List Event) (c : ClusterState) → started config ids ≡ Ok (start config ids) → Reaches (start config ids) es c → AreBooks c
-  every_are es c begun r = run_books es (start config ids) c (start_books (founders_are (are_founders ids) refl begun)) r
+  pub every_are : (es : List Event) (c : ClusterState) → started version config ids ≡ Ok (start version config ids) → Reaches (start version config ids) es c → AreBooks c
+  every_are es c begun r = run_books es (start version config ids) c (start_books (founders_are (are_founders ids) refl begun)) r
 
-  pub every_book : (es : List Event) (c : ClusterState) → started config ids ≡ Ok (start config ids) → Reaches (start config ids) es c → BooksAreReplays c
+  pub every_book : (es : List Event) (c : ClusterState) → started version config ids ≡ Ok (start version config ids) → Reaches (start version config ids) es c → BooksAreReplays c
   every_book es c begun r = (every_are es c begun r).replays
 
 pub history_are : (c : ClusterState) → IsHistory c → AreBooks c
-history_are c h = every_are c.world.config c.world.founders h.0 c h.2 h.1
+history_are c h = every_are c.version c.world.config c.world.founders h.0 c h.2 h.1
 
 pub history_books : (c : ClusterState) → IsHistory c → BooksAreReplays c
-history_books c h = every_book c.world.config c.world.founders h.0 c h.2 h.1
+history_books c h = every_book c.version c.world.config c.world.founders h.0 c h.2 h.1
 
-pub every_message : (config : Config) (ids : List ℕ) (es : List Event) (c : ClusterState) → started config ids ≡ Ok (start config ids) → Reaches (start config ids) es c → Fit c.world.sent
-every_message config ids es c begun r = (every_are config ids es c begun r).messages
+pub every_message : (version : Version) (config : Config) (ids : List ℕ) (es : List Event) (c : ClusterState) → started version config ids ≡ Ok (start version config ids) → Reaches (start version config ids) es c → Fit version c.world.sent
+every_message version config ids es c begun r =
+    subst (λ (v : Version). Fit v c.world.sent) (run_kept es (start version config ids) c (start_kept version config ids) r).version (every_are version config ids es c begun r).messages
 
-pub history_messages : (c : ClusterState) → IsHistory c → Fit c.world.sent
+pub history_messages : (c : ClusterState) → IsHistory c → Fit c.version c.world.sent
 history_messages c h = (history_are c h).messages

@@ -65,7 +65,7 @@ module _ (c : ClusterState) (kept : IsKept c) where
     certified = keeps.programs j.program j.certified r.certified;
   }
 
-  handed-kept : (id : ℕ) (d : DeskState) (o : Option Job) (e : DeskState) → fin.get c.desks id ≡ Some d → IsHanded d id e o → IsStep c (record { world = c.world; desks = fin.insert c.desks id e; jobs = with_job c.jobs o })
+  handed-kept : (id : ℕ) (d : DeskState) (o : Option Job) (e : DeskState) → fin.get c.desks id ≡ Some d → IsHanded d id e o → IsStep c (record { version = c.version; world = c.world; desks = fin.insert c.desks id e; jobs = with_job c.jobs o })
   handed-kept id d None e at same =
       quiet c kept c.world id d e kept.world (onward_itself c.world) at
       (subst (λ (x : DeskState). Moves d x Nothing) same (record { keeps = keeps_itself d; queries = λ k q h. inl h }))
@@ -104,7 +104,7 @@ module _ (c : ClusterState) (kept : IsKept c) where
       subst (λ (z : ViewMap). IsAnswered e q z x) same.0 (subst (λ (z : Ran). IsAnswered e q view z) same.1 b)
 
   finished-kept : (j : Job) (d e : DeskState) (ran : Ran) → IsKnown c.desks j → fin.get c.desks j.node ≡ Some d → IsPosted d j ran e → Answers j ran
-      → IsStep c (record { world = c.world; desks = fin.insert c.desks j.node e; jobs = c.jobs })
+      → IsStep c (record { version = c.version; world = c.world; desks = fin.insert c.desks j.node e; jobs = c.jobs })
   finished-kept j d e ran known at p right =
       let named : slice_get d.programs j.program ≡ Some j.certified = ap (λ (x : DeskState). slice_get x.programs j.program) (same_some d known.desk (sym at ∙ known.at)) ∙ known.certified in
       put_desk c kept c.world j.node e kept.world (onward_itself c.world)

@@ -65,6 +65,7 @@ Stays old new = (id : ℕ) (d : DeskState) → fin.get old id ≡ Some d → (e 
 pub record IsStep (c d : ClusterState) : Type 0 where
   pub kept : IsKept d
   pub stays : Stays c.desks d.desks
+  pub version : d.version ≡ c.version
   pub config : d.world.config ≡ c.world.config
   pub founders : d.world.founders ≡ c.world.founders
 
@@ -135,7 +136,7 @@ module _ (c : ClusterState) (kept : IsKept c) (w' : WorldState) (id : ℕ) (e : 
 
   pub put : (jobs : List Job) → IsLawful w' → IsOnward c.world w' → IsDeskOf w' id e → ((x : DeskState) → fin.get c.desks id ≡ Some x → Keeps x e)
       → ((k : ℕ) (j : Job) → slice_get jobs k ≡ Some j → IsKnown (fin.insert c.desks id e) j)
-      → IsStep c (record { world = w'; desks = fin.insert c.desks id e; jobs = jobs })
+      → IsStep c (record { version = c.version; world = w'; desks = fin.insert c.desks id e; jobs = jobs })
   put jobs lawful onward new keeps known = record {
     kept = record {
       world = lawful;
@@ -143,12 +144,13 @@ module _ (c : ClusterState) (kept : IsKept c) (w' : WorldState) (id : ℕ) (e : 
       jobs = known;
     };
     stays = put_stays keeps;
+    version = refl;
     config = onward.config;
     founders = onward.founders;
   }
 
   -- where no job is handed out
   pub put_desk : IsLawful w' → IsOnward c.world w' → IsDeskOf w' id e → ((x : DeskState) → fin.get c.desks id ≡ Some x → Keeps x e)
-      → IsStep c (record { world = w'; desks = fin.insert c.desks id e; jobs = c.jobs })
+      → IsStep c (record { version = c.version; world = w'; desks = fin.insert c.desks id e; jobs = c.jobs })
   put_desk lawful onward new keeps =
       put c.jobs lawful onward new keeps (λ k j at. known_on c.desks (fin.insert c.desks id e) j (put_stays keeps) (kept.jobs k j at))

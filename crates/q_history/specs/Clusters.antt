@@ -5,6 +5,7 @@ use Rattle.std.specs.Ordering.{nat_cmp}
 use Rattle.std.specs.FinMap as fin
 use Rattle.sc_members.specs.Members.{Config}
 use Rattle.sc_msg.specs.declared.message.Message.{Message}
+use Rattle.sc_msg.specs.declared.version.Version.{Version}
 use Rattle.sc_node.specs.State.{NodeState}
 use Rattle.sc_node.specs.declared.answer.Begun.{Begun}
 use Rattle.sc_node.specs.declared.answer.Progress.{Progress}
@@ -48,7 +49,8 @@ Said = Result (Stepped × ClusterState) ClusterFault
 
 -- the cluster with another book of a node, another past and other jobs
 abbrev pub put : ClusterState → Past → List Job → ℕ → BookState → ClusterState
-put c past jobs id b = record { world = world_of (fin.insert c.world.nodes id b.node) past; desks = fin.insert c.desks id b.desk; jobs = jobs }
+put c past jobs id b =
+    record { version = c.version; world = world_of (fin.insert c.world.nodes id b.node) past; desks = fin.insert c.desks id b.desk; jobs = jobs }
 
 -- an event that the ledger does not record
 abbrev pub quiet : ClusterState → Told → List Job → ℕ → BookState → Stepped × ClusterState
@@ -144,7 +146,7 @@ abbrev pub enters : ClusterState → ℕ → BookState × List Message → Stepp
 enters c id e = noted c told.Entered (world_event.Enter id) id e.1 None None e.0
 
 abbrev pub entered : ClusterState → ℕ → Option NodeState → Said
-entered c id None = Ok (enters c id (book.entered c.world.config id))
+entered c id None = Ok (enters c id (book.entered c.version c.world.config id))
 entered c id (Some n) = Err (fault.World world_fault.IdUsed)
 
 abbrev pub leaves : ClusterState → ℕ → List Message → BookState → Stepped × ClusterState
@@ -157,7 +159,7 @@ abbrev pub crashed : ClusterState → ℕ → Option NodeState → Said
 crashed c id None = Err (fault.World world_fault.NoSuchNode)
 crashed c id (Some n) = Ok (
   record { told = told.Crashed; sent = record { first = length c.world.sent; count = 0 } },
-  record { world = world_of c.world.nodes (stopped (past_of c.world) id); desks = c.desks; jobs = c.jobs },
+  record { version = c.version; world = world_of c.world.nodes (stopped (past_of c.world) id); desks = c.desks; jobs = c.jobs },
 )
 
 -- ---- events
@@ -176,18 +178,18 @@ stepped ran c (event.Finish number) = finished c ran (slice_get c.jobs number)
 
 -- ---- founders
 
--- these desks, and a new one for each of these ids
-abbrev pub desks_with : Desks → List ℕ → Desks
-desks_with desks [] = desks
-desks_with desks (id ∷ ids) = desks_with (fin.insert desks id new_desk) ids
+-- these desks, and a new one of that version for each of these ids
+abbrev pub desks_with : Version → Desks → List ℕ → Desks
+desks_with version desks [] = desks
+desks_with version desks (id ∷ ids) = desks_with version (fin.insert desks id (new_desk (book.record_lengths version))) ids
 
 -- the cluster of the founders, before any event
-abbrev pub start : Config → List ℕ → ClusterState
-start config ids = record { world = world.start config ids; desks = desks_with fin.empty ids; jobs = [] }
+abbrev pub start : Version → Config → List ℕ → ClusterState
+start version config ids = record { version = version; world = world.start config ids; desks = desks_with version fin.empty ids; jobs = [] }
 
-abbrev pub founded : Config → List ℕ → Result WorldState WorldFault → Result ClusterState ClusterFault
-founded config ids (Err e) = Err (fault.World e)
-founded config ids (Ok w) = Ok (start config ids)
+abbrev pub founded : Version → Config → List ℕ → Result WorldState WorldFault → Result ClusterState ClusterFault
+founded version config ids (Err e) = Err (fault.World e)
+founded version config ids (Ok w) = Ok (start version config ids)
 
-abbrev pub started : Config → List ℕ → Result ClusterState ClusterFault
-started config ids = founded config ids (world.started config ids)
+abbrev pub started : Version → Config → List ℕ → Result ClusterState ClusterFault
+started version config ids = founded version config ids (world.started config ids)

@@ -1,5 +1,5 @@
 -- What is true of every answer that a cluster records.
-use Rattle.std.specs.Prelude.{◌≡◌, ℕ, Some, slice_get}
+use Rattle.std.specs.Prelude.{◌≡◌, ℕ, Option, Some, None, slice_get}
 use Rattle.std.specs.FinMap as fin
 use Rattle.sc_view.specs.declared.view.Stored.{Stored}
 use Rattle.sc_view.specs.Views.{ViewMap}
@@ -11,7 +11,8 @@ use Rattle.sc_world.specs.Regular.{IsBefore, Meets, Holds, returned}
 use Rattle.q_desk.specs.State.{DeskState}
 use Rattle.q_desk.specs.Answers.{IsAnswered}
 use Rattle.q_session.specs.declared.ran.Ran.{Ran}
-use Rattle.q_session.specs.declared.query.Phase.TheVariants.{Answered}
+use Rattle.q_session.specs.declared.query.Phase.{Phase}
+use Rattle.q_session.specs.declared.query.Phase.TheVariants.{Collecting, Ready, Running, Answered}
 use Rattle.q_session.specs.declared.query.Query.{Query}
 use Rattle.q_history.specs.State.{ClusterState}
 
@@ -35,6 +36,18 @@ pub record IsTrue (c : ClusterState) (node : ℕ) (d : DeskState) (q : Query) (v
 abbrev pub AnswersAreTrue : ClusterState → Type 0
 AnswersAreTrue c = (node k : ℕ) (d : DeskState) (q : Query) (view : ViewMap) (ran : Ran) →
     fin.get c.desks node ≡ Some d → slice_get d.queries k ≡ Some q → q.phase ≡ Answered view ran → IsTrue c node d q view ran
+
+-- the view over which a query is to run, runs or ran
+abbrev pub view_of : Phase → Option ViewMap
+view_of Collecting = None
+view_of (Ready view) = Some view
+view_of (Running view) = Some view
+view_of (Answered view ran) = Some view
+
+-- each such view is the one that the query's own collect returned
+abbrev pub ViewsAreReturned : ClusterState → Type 0
+ViewsAreReturned c = (node k : ℕ) (d : DeskState) (q : Query) (view : ViewMap) →
+    fin.get c.desks node ≡ Some d → slice_get d.queries k ≡ Some q → view_of q.phase ≡ Some view → IsReturned c.world node q.tag view
 
 -- a recorded answer stays as it is
 abbrev pub AnswersStay : ClusterState → ClusterState → Type 0

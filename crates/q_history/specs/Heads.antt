@@ -14,4 +14,4 @@ founders_for id ids = if set.contains (set.from_list {R = nat_cmp} ids) id then 
 -- the book of a node of a cluster
 abbrev pub book_of : ClusterState → ℕ → NodeState → DeskState → BookState
 book_of c id n d =
-    record { id = id; config = c.world.config; founders = founders_for id c.world.founders; node = n; desk = d }
+    record { version = c.version; id = id; config = c.world.config; founders = founders_for id c.world.founders; node = n; desk = d }

@@ -11,7 +11,7 @@ use sc_world::fault::WorldFault;
 use std::alloc::AllocError;
 
 /// Why an event is refused. After a refusal the cluster is as it was. Where several hold, the first of 83, 81, 82, 42,
-/// 41, 51, 50, 52, 56, 55, 43, 53, 48, 46, 47 is answered.
+/// 41, 51, 59, 50, 52, 56, 55, 43, 53, 48, 46, 47 is answered.
 #[derive(Clone, Copy, Debug, PartialEq, Eq)]
 pub enum ClusterFault {
     /// 83: no job of this number was handed out.
@@ -20,7 +20,7 @@ pub enum ClusterFault {
     World(WorldFault),
     /// The desk's own refusal.
     Desk(DeskFault),
-    /// 50: a value has another length than the 48 bytes that journals hold.
+    /// 50: a value has another length than those of the cluster's version.
     BadValue,
 }
 

@@ -2,13 +2,13 @@
 
 ghost use Rattle.std.specs.Prelude.{◌≡◌, ℕ, List, All, Ok};
 ghost use Rattle.sc_members.specs.Members.{Config};
-ghost use Rattle.sc_view.specs.Values.{value_length};
-ghost use Rattle.sc_msg.specs.Lengths.{MessageHasValuesOf};
+ghost use Rattle.sc_msg.specs.Lengths.{Fits};
+ghost use Rattle.sc_msg.specs.declared.version.Version.{Version};
 ghost use Rattle.q_history.specs.declared.event.Event.{Event};
 ghost use Rattle.q_history.specs.State.{ClusterState};
 ghost use Rattle.q_history.specs.Clusters.{start, started};
 ghost use Rattle.q_history.specs.Calls.{Reaches};
-ghost use Rattle.q_history.specs.Headline.{AnswersAreTrue, AnswersStay};
+ghost use Rattle.q_history.specs.Headline.{AnswersAreTrue, AnswersStay, ViewsAreReturned};
 ghost use Rattle.q_history.specs.Books.{BooksAreReplays};
 
 /// A law: whatever the founders are, and whatever list of events is accepted, in which messages are lost, repeated and
@@ -17,23 +17,29 @@ ghost use Rattle.q_history.specs.Books.{BooksAreReplays};
 /// that the query's own collect returned; and that view holds each store that ended before the collect began and that
 /// meets it.
 pub fn every_answer_is_true()
-    ensures { (config : Config) (founders : List ℕ) (events : List Event) (c : ClusterState) → Reaches (start config founders) events c → AnswersAreTrue c }
+    ensures { (version : Version) (config : Config) (founders : List ℕ) (events : List Event) (c : ClusterState) → Reaches (start version config founders) events c → AnswersAreTrue c }
+{}
+
+/// A law: in every history each view over which a query is to run, runs or ran is the one that the query's own collect
+/// returned; and it holds each store that ended before the collect began and that meets it.
+pub fn every_view_is_returned()
+    ensures { (version : Version) (config : Config) (founders : List ℕ) (events : List Event) (c : ClusterState) → Reaches (start version config founders) events c → ViewsAreReturned c }
 {}
 
 /// A law: in every history a recorded answer stays as it is, whatever is accepted after it.
 pub fn answers_stay()
-    ensures { (config : Config) (founders : List ℕ) (before after : List Event) (c later : ClusterState) → Reaches (start config founders) before c → Reaches c after later → AnswersStay c later }
+    ensures { (version : Version) (config : Config) (founders : List ℕ) (before after : List Event) (c later : ClusterState) → Reaches (start version config founders) before c → Reaches c after later → AnswersStay c later }
 {}
 
 /// A law: in every history of founders that are not refused, each node with its desk is the replay of its own journal,
 /// also where the node has left or crashed. The calls that the journal names, from the node's first state, lead to this
 /// node and this desk.
 pub fn every_book_is_a_replay()
-    ensures { (config : Config) (founders : List ℕ) (events : List Event) (c : ClusterState) → started config founders ≡ Ok (start config founders) → Reaches (start config founders) events c → BooksAreReplays c }
+    ensures { (version : Version) (config : Config) (founders : List ℕ) (events : List Event) (c : ClusterState) → started version config founders ≡ Ok (start version config founders) → Reaches (start version config founders) events c → BooksAreReplays c }
 {}
 
-/// A law: in every history of founders that are not refused, each value of each message that was sent has the 48 bytes
-/// that journals hold, so no delivery is refused with 50.
+/// A law: in every history of founders that are not refused, each message that was sent fits the cluster's version, so
+/// no delivery is refused with 50.
 pub fn every_message_fits()
-    ensures { (config : Config) (founders : List ℕ) (events : List Event) (c : ClusterState) → started config founders ≡ Ok (start config founders) → Reaches (start config founders) events c → All (MessageHasValuesOf value_length) c.world.sent }
+    ensures { (version : Version) (config : Config) (founders : List ℕ) (events : List Event) (c : ClusterState) → started version config founders ≡ Ok (start version config founders) → Reaches (start version config founders) events c → All (Fits version) c.world.sent }
 {}

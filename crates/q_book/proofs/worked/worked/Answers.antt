@@ -9,6 +9,9 @@ returns-clause-asked c = search (rules, fin.gets)
 pub returns-clause-stored : goal.returns-clause-stored
 returns-clause-stored c = search (rules, fin.gets)
 
+pub returns-clause-stored_any : goal.returns-clause-stored_any
+returns-clause-stored_any c = search (rules, fin.gets)
+
 pub returns-clause-open : goal.returns-clause-open
 returns-clause-open c = search (rules, fin.gets)
 

@@ -2,4 +2,4 @@ use Rattle.q_history.proofs.EveryHistory.{every_stays}
 use Rattle.q_history.proofs.laws.answers_stay.Goals as goal
 
 pub returns : goal.returns
-returns c = λ config founders before after d later h r. every_stays config founders before after d later h r
+returns c = λ version config founders before after d later h r. every_stays version config founders before after d later h r

@@ -2,4 +2,4 @@ use Rattle.q_history.proofs.EveryHistory.{every_true}
 use Rattle.q_history.proofs.laws.every_answer_is_true.Goals as goal
 
 pub returns : goal.returns
-returns c = λ config founders events d h. every_true config founders events d h
+returns c = λ version config founders events d h. every_true version config founders events d h

@@ -2,4 +2,4 @@ use Rattle.q_history.proofs.EveryBook.{every_book}
 use Rattle.q_history.proofs.laws.every_book_is_a_replay.Goals as goal
 
 pub returns : goal.returns
-returns c = λ config founders events d begun h. every_book config founders events d begun h
+returns c = λ version config founders events d begun h. every_book version config founders events d begun h

@@ -1,20 +1,22 @@
-use Rattle.std.proofs.Common.{◌≡◌, ◌∙◌, Result, Ok, sym, ap, subst}
-use Rattle.sc_view.specs.Values.{value_length}
-use Rattle.sc_msg.specs.Lengths.{has_values_of}
+use Rattle.std.proofs.Common.{◌≡◌, ◌∙◌, IfSome, Result, Ok, sym, ap, subst}
+use Rattle.sc_msg.specs.Lengths.{fits}
+use Rattle.sc_msg.specs.Values.{value_lengths}
 use Rattle.sc_msg.proofs.Lengths.{message_told}
 use Rattle.sc_node.specs.Nodes as node
+use Rattle.bq_range.specs.Interval.{Interval}
+use Rattle.q_desk.specs.Answers.{EndsWithin}
 use Rattle.q_desk.specs.State.{DeskState}
 use Rattle.q_desk.specs.Desks as desk
 use Rattle.q_desk.specs.declared.journal.Entry.TheVariants as entry
-use Rattle.q_book.specs.Books.{here, fitting, delivered}
-use Rattle.q_book.specs.Replays.{IsReplay}
+use Rattle.q_book.specs.Books.{here, fitting, delivered, record_lengths}
+use Rattle.q_book.specs.Replays.{IsBook}
 use Rattle.q_book.specs.State.{BookState}
 use Rattle.q_book.specs.contracts.book.Book as book
 use Rattle.q_book.specs.declared.answer.Taken.{Taken}
 use Rattle.q_book.specs.declared.fault.BookFault.{BookFault}
 use Rattle.q_book.proofs.Calls.{Test, passes-taking, noted_call, by_call, call_refused, delivers_call, delivered_by}
-use Rattle.q_book.proofs.Replays.{with, replay_next}
-use Rattle.q_book.proofs.Values.{replay_values}
+use Rattle.q_book.proofs.Replays.{with, book_next}
+use Rattle.q_book.proofs.Values.{replay_values, ends_within}
 use Rattle.q_book.proofs.book.Book.deliver.Goals as goal
 
 pub take-requires : goal.take-requires
@@ -22,25 +24,27 @@ take-requires c =
     let b : BookState = book.the_view c.self.inside in
     let m = c.args.message.now in
     let rest : Test = Ok tt in
-    let passed : (let t : Test = Ok c.in_ok-check_taking.field-0 in t) ≡ here b (fitting (has_values_of value_length m) (Ok tt)) = c.in_ok-check_taking.ensures ∙ ap (λ (x : BookState). let t : Test = here x (fitting (has_values_of value_length m) (Ok tt)) in t) (sym c.self.view_is) in
-    let fits = message_told value_length m (passes-taking b (has_values_of value_length m) c.in_ok-check_taking.field-0 rest passed).0 in
-    let did = (noted_call b.desk (entry.Deliver m) (node.delivered b.node m) c.in_ok-delivered.delivered c.deliver.new.self c.deliver.new.node c.in_ok-delivered.ensures).1 in
-    (c.delivery_keeps_lengths.ensures value_length b.node c.deliver.new.node m c.in_ok-delivered.delivered (replay_values b c.self.invariant) fits did).1.ended
+    let passed : (let t : Test = Ok c.in_ok-check_taking.field-0 in t) ≡ here b (fitting (fits b.version m) (Ok tt)) = c.in_ok-check_taking.ensures ∙ ap (λ (x : BookState). let t : Test = here x (fitting (fits x.version m) (Ok tt)) in t) (sym c.self.view_is) in
+    let values = message_told (value_lengths b.version) m (passes-taking b (fits b.version m) c.in_ok-check_taking.field-0 rest passed).0 in
+    let did = noted_call b.desk (entry.Deliver m) (node.delivered b.node m) c.in_ok-delivered.delivered c.deliver.new.self c.deliver.new.node c.in_ok-delivered.ensures in
+    let kept = c.delivery_keeps_lengths.ensures (value_lengths b.version) b.node c.deliver.new.node m c.in_ok-delivered.delivered (replay_values b c.self.invariant.replay) values did.1 in
+    let lengths : record_lengths b.version ≡ c.deliver.new.self.lengths = sym c.self.invariant.lengths ∙ ap (λ (d : DeskState). d.lengths) did.0 in
+    subst (λ (l : Interval). IfSome c.in_ok-delivered.delivered.ended (EndsWithin l)) lengths (ends_within c.records_of_values.ensures (value_lengths b.version) c.in_ok-delivered.delivered.ended kept.1.ended)
 
 -- what the book makes of the message
 is : (c : goal.After-take) → delivered (book.the_view c.self.inside) c.args.message.now ≡ Ok (delivers_call (book.the_view c.self.inside) c.in_ok-delivered.delivered c.deliver.new.self c.deliver.new.node)
 is c =
     let b : BookState = book.the_view c.self.inside in
     let m = c.args.message.now in
-    let passed : (let t : Test = Ok c.in_ok-check_taking.field-0 in t) ≡ here b (fitting (has_values_of value_length m) (Ok tt)) = c.in_ok-check_taking.ensures ∙ ap (λ (x : BookState). let t : Test = here x (fitting (has_values_of value_length m) (Ok tt)) in t) (sym c.self.view_is) in
+    let passed : (let t : Test = Ok c.in_ok-check_taking.field-0 in t) ≡ here b (fitting (fits b.version m) (Ok tt)) = c.in_ok-check_taking.ensures ∙ ap (λ (x : BookState). let t : Test = here x (fitting (fits x.version m) (Ok tt)) in t) (sym c.self.view_is) in
     delivered_by b m c.in_ok-check_taking.field-0 passed ∙ ap (by_call (delivers_call b)) c.in_ok-delivered.ensures
 
 pub invariant_of-self-2 : goal.invariant_of-self-2
 invariant_of-self-2 c =
     let b : BookState = book.the_view c.self.inside in
     let d : DeskState = (desk.ends c.in_ok-delivered.delivered.ended c.deliver.new.self).1 in
-    subst (λ (x : DeskState). IsReplay (with b c.deliver.new.node x)) (sym c.take.ensures.new)
-    (replay_next b (with b c.deliver.new.node d) (entry.Deliver c.args.message.now) c.self.invariant
+    subst (λ (x : DeskState). IsBook (with b c.deliver.new.node x)) (sym c.take.ensures.new)
+    (book_next b (with b c.deliver.new.node d) (entry.Deliver c.args.message.now) c.self.invariant
     ((delivers_call b c.in_ok-delivered.delivered c.deliver.new.self c.deliver.new.node).0, is c))
 
 pub returns : goal.returns
@@ -53,7 +57,7 @@ pub returns-in_err-delivered : goal.returns-in_err-delivered
 returns-in_err-delivered c =
     let b : BookState = book.the_view c.self.inside in
     let m = c.args.message.now in
-    let passed : (let t : Test = Ok c.in_ok-check_taking.field-0 in t) ≡ here b (fitting (has_values_of value_length m) (Ok tt)) = c.in_ok-check_taking.ensures ∙ ap (λ (x : BookState). let t : Test = here x (fitting (has_values_of value_length m) (Ok tt)) in t) (sym c.self.view_is) in
+    let passed : (let t : Test = Ok c.in_ok-check_taking.field-0 in t) ≡ here b (fitting (fits b.version m) (Ok tt)) = c.in_ok-check_taking.ensures ∙ ap (λ (x : BookState). let t : Test = here x (fitting (fits x.version m) (Ok tt)) in t) (sym c.self.view_is) in
     let told = c.in_err-delivered.ensures in
     call_refused c.args.self.now (with b c.deliver.new.node c.deliver.new.self) (delivered c.args.self.now m) (delivers_call b) (desk.noting b.desk (entry.Deliver m) (node.delivered b.node m)) c.in_err-delivered.field-0.0 c.from_residual-in_err-delivered.result
     (ap (λ (x : BookState). delivered x m) (sym c.self.view_is) ∙ delivered_by b m c.in_ok-check_taking.field-0 passed)

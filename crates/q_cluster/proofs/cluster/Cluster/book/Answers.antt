@@ -6,5 +6,5 @@ use Rattle.q_cluster.proofs.cluster.Cluster.book.Goals as goal
 
 pub returns : goal.returns
 returns c =
-    c.get.ensures ∙ book_is c.self.inside.books c.self.inside.ledger.past c.self.inside.jobs.items c.self.invariant.filed c.args.node
+    c.get.ensures ∙ book_is c.self.inside.version c.self.inside.books c.self.inside.ledger.past c.self.inside.jobs.items c.self.invariant.filed c.args.node
     ∙ ap (λ (x : ClusterState). book_at x c.args.node) c.self.view_is

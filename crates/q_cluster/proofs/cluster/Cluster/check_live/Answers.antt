@@ -8,5 +8,5 @@ use Rattle.q_cluster.proofs.cluster.Cluster.check_live.Goals as goal
 pub returns-then-is_live-clause-there : goal.returns-then-is_live-clause-there
 returns-then-is_live-clause-there c =
     subst (λ (x : ClusterState). IsThere x c.args.id) c.self.view_is
-    (there_is c.self.inside.books c.self.inside.ledger.past c.self.inside.jobs.items c.args.id
+    (there_is c.self.inside.version c.self.inside.books c.self.inside.ledger.past c.self.inside.jobs.items c.args.id
     (sym c.if-is_live.true ∙ c.is_live.ensures ∙ ap (λ (x : ClusterState). is_some (live_at x.world c.args.id)) (sym c.self.view_is)))

@@ -15,7 +15,7 @@ use Rattle.q_cluster.proofs.cluster.Cluster.enter.Goals as goal
 pub returns-then-is_some : goal.returns-then-is_some
 returns-then-is_some c = (
   refl,
-  λ loud. enter_used c.self.inside.books c.self.inside.ledger.past c.self.inside.jobs.items c.args.id c.args.self.now c.self.view_is
+  λ loud. enter_used c.self.inside.version c.self.inside.books c.self.inside.ledger.past c.self.inside.jobs.items c.args.id c.args.self.now c.self.view_is
       (sym c.if-is_some.true ∙ c.is_some.ensures ∙ is_some-copied c.get.result ∙ ap (λ (o : Option BookState). is_some o) c.get.ensures),
 )
 
@@ -26,10 +26,10 @@ module _ (c : goal.After-told) where
   absent : fin.get c.self.inside.books c.args.id ≡ None
   absent = none_of (fin.get c.self.inside.books c.args.id) (sym (c.is_some.ensures ∙ is_some-copied c.get.result ∙ ap (λ (o : Option BookState). is_some o) c.get.ensures) ∙ c.if-is_some.false)
 
-  made : book.entered c.self.inside.ledger.past.config c.args.id ≡ (c.in_ok-book.book, c.in_ok-book.outs)
+  made : book.entered c.self.inside.version c.self.inside.ledger.past.config c.args.id ≡ (c.in_ok-book.book, c.in_ok-book.outs)
   made =
-      ap (λ (k : Config). book.entered k c.args.id) (sym (c.config.ensures ∙ ap (λ (p : Past). p.config) c.in_ok-reserve.ensures.past))
-      ∙ same_answer (book.entered c.config.result c.args.id) (c.in_ok-book.book, c.in_ok-book.outs) c.in_ok-book.ensures
+      ap (λ (k : Config). book.entered c.self.inside.version k c.args.id) (sym (c.config.ensures ∙ ap (λ (p : Past). p.config) c.in_ok-reserve.ensures.past))
+      ∙ same_answer (book.entered c.self.inside.version c.config.result c.args.id) (c.in_ok-book.book, c.in_ok-book.outs) c.in_ok-book.ensures
 
   records : c.record-sent.new.self.past ≡ recorded c.self.inside.ledger.past (world_event.Enter c.args.id) c.args.id c.in_ok-book.outs None None
   records = c.record-sent.ensures.past ∙ ap (λ (p : Past). recorded p (world_event.Enter c.args.id) c.args.id c.in_ok-book.outs None None) c.in_ok-reserve.ensures.past
@@ -39,11 +39,11 @@ module _ (c : goal.After-told) where
 
 pub invariant_of-self-2 : goal.invariant_of-self-2
 invariant_of-self-2 c =
-    enter_goes c.self.inside.books c.self.inside.ledger.past c.self.inside.jobs.items c.args.id c.self.invariant (absent c) c.in_ok-book.book c.in_ok-book.outs (made c) c.insert.new.self c.in_ok-insert.ensures.ok
+    enter_goes c.self.inside.version c.self.inside.books c.self.inside.ledger.past c.self.inside.jobs.items c.args.id c.self.invariant (absent c) c.in_ok-book.book c.in_ok-book.outs (made c) c.insert.new.self c.in_ok-insert.ensures.ok
     c.record-sent.new.self.past (records c) c.record-sent.result (numbers c)
 
 pub returns : goal.returns
 returns c =
     rw (← c.self.view_is)
-    (enter_says c.self.inside.books c.self.inside.ledger.past c.self.inside.jobs.items c.args.id c.self.invariant (absent c) c.in_ok-book.book c.in_ok-book.outs (made c) c.insert.new.self c.in_ok-insert.ensures.ok
+    (enter_says c.self.inside.version c.self.inside.books c.self.inside.ledger.past c.self.inside.jobs.items c.args.id c.self.invariant (absent c) c.in_ok-book.book c.in_ok-book.outs (made c) c.insert.new.self c.in_ok-insert.ensures.ok
     c.record-sent.new.self.past (records c) c.record-sent.result (numbers c) c.told.result c.told.ensures)

@@ -1,7 +1,6 @@
 use Rattle.std.proofs.Common.{List, All, sym, subst, rules}
-use Rattle.sc_view.specs.Values.{value_length}
 use Rattle.sc_msg.specs.declared.message.Message.{Message}
-use Rattle.sc_msg.specs.Lengths.{MessageHasValuesOf}
+use Rattle.sc_msg.specs.Lengths.{Fits}
 use Rattle.q_history.specs.State.{ClusterState}
 use Rattle.q_cluster.specs.contracts.cluster.Cluster as cluster
 use Rattle.q_cluster.proofs.cluster.Cluster.message.Goals as goal
@@ -9,6 +8,6 @@ use Rattle.q_cluster.proofs.cluster.Cluster.message.Goals as goal
 pub returns-clause-values : goal.returns-clause-values
 returns-clause-values c =
     let v : ClusterState = cluster.the_view c.self.inside in
-    let all : All (MessageHasValuesOf value_length) v.world.sent = c.every_message_fits.ensures v.world.config v.world.founders c.self.invariant.history.0 v c.self.invariant.history.2 c.self.invariant.history.1 in
-    let there : All (MessageHasValuesOf value_length) c.sent.result.now = subst (λ (ms : List Message). All (MessageHasValuesOf value_length) ms) (sym c.sent.ensures) all in
+    let all : All (Fits v.version) v.world.sent = c.every_message_fits.ensures v.version v.world.config v.world.founders c.self.invariant.history.0 v c.self.invariant.history.2 c.self.invariant.history.1 in
+    let there : All (Fits v.version) c.sent.result.now = subst (λ (ms : List Message). All (Fits v.version) ms) (sym c.sent.ensures) all in
     search rules

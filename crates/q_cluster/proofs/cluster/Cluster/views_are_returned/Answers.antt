@@ -1,0 +1,10 @@
+use Rattle.std.proofs.Common.{subst}
+use Rattle.q_history.specs.Headline.{ViewsAreReturned}
+use Rattle.q_history.specs.State.{ClusterState}
+use Rattle.q_cluster.specs.contracts.cluster.Cluster as cluster
+use Rattle.q_cluster.proofs.cluster.Cluster.views_are_returned.Goals as goal
+
+pub returns : goal.returns
+returns c =
+    let v : ClusterState = cluster.the_view c.self.inside in
+    subst (λ (x : ClusterState). ViewsAreReturned x) c.self.view_is (c.every_view_is_returned.ensures v.version v.world.config v.world.founders c.self.invariant.history.0 v c.self.invariant.history.1)

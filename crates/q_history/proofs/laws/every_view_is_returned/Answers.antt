@@ -1,0 +1,5 @@
+use Rattle.q_history.proofs.EveryHistory.{every_returned}
+use Rattle.q_history.proofs.laws.every_view_is_returned.Goals as goal
+
+pub returns : goal.returns
+returns c = λ version config founders events d h. every_returned version config founders events d h
