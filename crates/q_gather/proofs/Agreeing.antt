@@ -1,5 +1,5 @@
 -- Whether books are of different nodes, and agree on their heads.
-use Rattle.std.proofs.Common.{◌≡◌, ◌<◌, ◌≤◌, ◌+◌, ℕ, ◌==◌, Bool, true, false, cond, List, [], ◌∷◌, length, take, Option, Some, None, Result, Ok, Err, refl, sym, ap, ◌∙◌, subst, slice_get, arith}
+use Rattle.std.proofs.Common.{◌≡◌, ◌<◌, ◌≤◌, ◌+◌, ℕ, ◌==◌, Bool, true, false, cond, List, [], ◌∷◌, length, take, Option, Some, None, Result, Ok, Err, refl, sym, ap, ◌∙◌, subst, slice_get, arith, rules}
 use Rattle.std.specs.Prelude.{MatchBool, nat_eq, ◌&&◌}
 use Rattle.std.specs.List.{list_any}
 use Rattle.std.specs.Ordering.{nat_cmp}
@@ -7,6 +7,11 @@ use Rattle.std.specs.FinSet as set
 use Rattle.std.proofs.lemmas.Bool.{eqb-true, eqb-false, eq-eqb}
 use Rattle.std.proofs.lemmas.Option.{slice_get_within}
 use Rattle.sc_members.specs.Members.{Config}
+use Rattle.sc_msg.specs.declared.version.Version.{Version}
+use Rattle.sc_msg.specs.declared.version.Version.TheVariants.{First, Second}
+use Rattle.sc_msg.specs.contracts.version.Version as versions
+use Rattle.sc_msg.specs.contracts.version.VersionPartialEq.TheImpl.{eq-value as version_eq}
+use denote.Enum.Bare.{same_true}
 use Rattle.sc_world.specs.State.{WorldState}
 use Rattle.sc_world.specs.Worlds as world
 use Rattle.sc_world.specs.declared.fault.WorldFault.{WorldFault}
@@ -20,8 +25,9 @@ use Rattle.q_history.specs.Clusters.{start, started, founded}
 use Rattle.q_history.specs.declared.fault.ClusterFault.{ClusterFault}
 use Rattle.q_history.proofs.Lists.{same_some, no_some}
 use Rattle.q_merge.specs.Gathered.{HasBook, AreDistinct, AgreeOn}
-use Rattle.q_gather.specs.Gather.{Agree}
+use Rattle.q_gather.specs.Gather.{AreReplayed, Agree, IsRefused}
 use Rattle.q_gather.specs.Heads.{IsHeaded, AreHeaded, AreThere, HasHead}
+use Rattle.q_gather.specs.declared.fault.GatherFault.TheVariants.{BadFounders}
 use Rattle.q_gather.proofs.Finding.{get_take, take_within}
 
 -- ---- ids
@@ -74,26 +80,29 @@ some_by true ids founders h = sym (same_some founders ids h)
 some_by false ids founders h = absurd (no_some ids h)
 
 -- where the books agree, it is on the head of each founder
-module _ (books : List BookState) (config : Config) (ids : List ℕ) (h : HasHead books config ids) (a : Agree books) where
-  config_same : a.0 ≡ config
-  config_same = sym (a.2.heads h.place h.book h.at).0 ∙ h.config_is
+module _ (books : List BookState) (version : Version) (config : Config) (ids : List ℕ) (h : HasHead books version config ids) (a : Agree books) where
+  version_same : a.0 ≡ version
+  version_same = sym (a.3.versions h.place h.book h.at) ∙ h.version_is
 
-  founders_same : ids ≡ a.1
-  founders_same = some_by (set.contains (set.from_list {R = nat_cmp} a.1) h.book.id) ids a.1 (sym (a.2.heads h.place h.book h.at).1 ∙ h.founders_are)
+  config_same : a.1 ≡ config
+  config_same = sym (a.3.heads h.place h.book h.at).0 ∙ h.config_is
 
-  pub agree_headed : AreHeaded books config ids
+  founders_same : ids ≡ a.2
+  founders_same = some_by (set.contains (set.from_list {R = nat_cmp} a.2) h.book.id) ids a.2 (sym (a.3.heads h.place h.book h.at).1 ∙ h.founders_are)
+
+  pub agree_headed : AreHeaded books version config ids
   agree_headed k b at =
-      let own = a.2.heads k b at in
-      (own.0 ∙ config_same, own.1 ∙ ap (founders_for b.id) (sym founders_same))
+      let own = a.3.heads k b at in
+      (a.3.versions k b at ∙ version_same, own.0 ∙ config_same, own.1 ∙ ap (founders_for b.id) (sym founders_same))
 
   pub agree_there : AreThere books ids
-  agree_there id in' = a.2.there id (ap (λ (x : List ℕ). set.contains (set.from_list {R = nat_cmp} x) id) (sym founders_same) ∙ in')
+  agree_there id in' = a.3.there id (ap (λ (x : List ℕ). set.contains (set.from_list {R = nat_cmp} x) id) (sym founders_same) ∙ in')
 
 -- where nobody is a founder, the books agree on nothing
 pub nobody_agrees : (books : List BookState) → ((k : ℕ) (b : BookState) → slice_get books k ≡ Some b → b.founders ≡ None) → Agree books → ⊥
-nobody_agrees books none (config, founders, a) = by_first founders a
+nobody_agrees books none (version, config, founders, a) = by_first founders a
   where
-    by_first : (ids : List ℕ) → AgreeOn books config ids → ⊥
+    by_first : (ids : List ℕ) → AgreeOn books version config ids → ⊥
     by_first [] agree = absurd (cc)
     by_first (x ∷ xs) agree =
         let listed : set.contains (set.from_list {R = nat_cmp} (x ∷ xs)) x ≡ true = has_at (x ∷ xs) 0 0 (omega arith) in
@@ -103,19 +112,28 @@ nobody_agrees books none (config, founders, a) = by_first founders a
         (agree.heads has.place has.book has.at).1 ∙ ap (λ (k : Bool). let o : Option (List ℕ) = cond k (Some (x ∷ xs)) None in o) mine in
         no_some (x ∷ xs) (sym (none has.place has.book has.at) ∙ founders)
 
+-- where the books agree, they have one version
+pub versions_one : (books : List BookState) (i k : ℕ) (a b : BookState) → Agree books → slice_get books i ≡ Some a → slice_get books k ≡ Some b → a.version ≡ b.version
+versions_one books i k a b agree at here = agree.3.versions i a at ∙ sym (agree.3.versions k b here)
+
+pub versions_refused : (journals : List (List ℕ)) (books : List BookState) (i k : ℕ) (a b : BookState) → AreReplayed journals books → AreDistinct books → slice_get books i ≡ Some a → slice_get books k ≡ Some b
+    → (a.version ≡ b.version → ⊥) → IsRefused journals BadFounders
+versions_refused journals books i k a b r distinct at here other = (books, r, distinct, λ agree. other (versions_one books i k a b agree at here))
+
 -- ---- the start
 
-starts_by : (config : Config) (ids : List ℕ) (r : Result WorldState WorldFault) (c : ClusterState) → founded config ids r ≡ Ok c → c ≡ start config ids
-starts_by config ids (Ok w) c h = same_answer {E = ClusterFault} c (start config ids) (sym h)
-starts_by config ids (Err e) c h = absurd (no_refusal _ c h)
+starts_by : (version : Version) (config : Config) (ids : List ℕ) (r : Result WorldState WorldFault) (c : ClusterState) → founded version config ids r ≡ Ok c → c ≡ start version config ids
+starts_by version config ids (Ok w) c h = same_answer {E = ClusterFault} c (start version config ids) (sym h)
+starts_by version config ids (Err e) c h = absurd (no_refusal _ c h)
 
-pub starts : (config : Config) (ids : List ℕ) (c : ClusterState) → started config ids ≡ Ok c → c ≡ start config ids
-starts config ids c h = starts_by config ids (world.started config ids) c h
+pub starts : (version : Version) (config : Config) (ids : List ℕ) (c : ClusterState) → started version config ids ≡ Ok c → c ≡ start version config ids
+starts version config ids c h = starts_by version config ids (world.started config ids) c h
 
-pub agree_on : (books : List BookState) (config : Config) (ids : List ℕ) (c : ClusterState) → started config ids ≡ Ok c → AreHeaded books config ids → AreThere books ids → AgreeOn books config ids
-agree_on books config ids c h heads there = record {
-  taken = h ∙ ap (λ (x : ClusterState). let r : Result ClusterState ClusterFault = Ok x in r) (starts config ids c h);
-  heads = heads;
+pub agree_on : (books : List BookState) (version : Version) (config : Config) (ids : List ℕ) (c : ClusterState) → started version config ids ≡ Ok c → AreHeaded books version config ids → AreThere books ids → AgreeOn books version config ids
+agree_on books version config ids c h heads there = record {
+  taken = h ∙ ap (λ (x : ClusterState). let r : Result ClusterState ClusterFault = Ok x in r) (starts version config ids c h);
+  versions = λ k b at. (heads k b at).0;
+  heads = λ k b at. let own = heads k b at in (own.1, own.2);
   there = there;
 }
 
@@ -139,12 +157,40 @@ equal_config x y same =
     let e = eq-eqb x.gamma_den y.gamma_den (ap (λ (c : Config). c.gamma_den) same) in
     λ i. a i && (b i && (d i && e i))
 
--- the fractions are compared, where the founders are as they should be
-pub headed_test : (b : BookState) (x config : Config) (ids : List ℕ) (r : Bool) → x ≡ b.config → b.founders ≡ founders_for b.id ids
-    → r ≡ (x.beta_num == config.beta_num && (x.beta_den == config.beta_den && (x.gamma_num == config.gamma_num && (x.gamma_den == config.gamma_den)))) → MatchBool r (IsHeaded b config ids) (IsHeaded b config ids → ⊥)
-headed_test b x config ids true own founders is = (sym own ∙ same_config x config (sym is), founders)
-headed_test b x config ids false own founders is =
-    λ h. let e : false ≡ true = is ∙ equal_config x config (own ∙ h.0) in absurd (cc)
+self_version : (x : Version) → version_eq.it x x ≡ true
+self_version First = refl
+self_version Second = refl
+
+-- whether something holds
+abbrev pub Tells : Bool → Type 0 → Type 0
+Tells r P = MatchBool r P (P → ⊥)
+
+-- the version and the founders are as they should be
+abbrev pub IsFront : BookState → Version → List ℕ → Type 0
+IsFront b version ids = (b.version ≡ version) × (b.founders ≡ founders_for b.id ids)
+
+-- the versions are compared, where the founders are as they should be
+pub front_then : (b : BookState) (x version : Version) (ids : List ℕ) (value r : Bool) → b.founders ≡ founders_for b.id ids → x ≡ b.version → r ≡ version_eq.it x version → value ≡ r → Tells value (IsFront b version ids)
+front_then b x version ids true r founders own is same = (sym own ∙ same_true versions.the_type (search rules) x version (sym (same ∙ is)), founders)
+front_then b x version ids false r founders own is same =
+    λ h. let e : false ≡ true = same ∙ is ∙ ap (version_eq.it x) (sym (own ∙ h.0)) ∙ self_version x in absurd (cc)
+
+-- where they are not, the versions are not looked at
+pub front_else : (b : BookState) (version : Version) (ids : List ℕ) (value r : Bool) → (b.founders ≡ founders_for b.id ids → ⊥) → r ≡ false → value ≡ r → Tells value (IsFront b version ids)
+front_else b version ids true r other is same = absurd (cc)
+front_else b version ids false r other is same = λ h. other h.1
+
+-- then the fractions are
+pub headed_then : (b : BookState) (version : Version) (x config : Config) (ids : List ℕ) (value r : Bool) → Tells value (IsFront b version ids) → value ≡ true → x ≡ b.config
+    → r ≡ (x.beta_num == config.beta_num && (x.beta_den == config.beta_den && (x.gamma_num == config.gamma_num && (x.gamma_den == config.gamma_den)))) → Tells r (IsHeaded b version config ids)
+headed_then b version x config ids false r front known own is = absurd (cc)
+headed_then b version x config ids true true front known own is = (front.0, sym own ∙ same_config x config (sym is), front.1)
+headed_then b version x config ids true false front known own is =
+    λ h. let e : false ≡ true = is ∙ equal_config x config (own ∙ h.1) in absurd (cc)
+
+pub headed_else : (b : BookState) (version : Version) (config : Config) (ids : List ℕ) (value : Bool) → Tells value (IsFront b version ids) → value ≡ false → Tells value (IsHeaded b version config ids)
+headed_else b version config ids true front known = absurd (cc)
+headed_else b version config ids false front known = λ h. front (h.0, h.2)
 
 -- a node is listed among the founders, or it is not
 pub founders_listed : (b : BookState) (ids : List ℕ) (k r : Bool) → set.contains (set.from_list {R = nat_cmp} ids) b.id ≡ k → MatchBool r (b.founders ≡ cond k (Some ids) None) (b.founders ≡ cond k (Some ids) None → ⊥)

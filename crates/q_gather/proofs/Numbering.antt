@@ -5,6 +5,7 @@ use Rattle.std.proofs.lemmas.Bool.{eqb-true, eqb-false}
 use Rattle.std.proofs.lemmas.List.{take_more, take-append-le, take_all, length-take-le}
 use Rattle.std.proofs.lemmas.Option.{slice_get_within, get_or_from_slice_get}
 use Rattle.sc_msg.specs.declared.message.Message.{Message}
+use Rattle.sc_msg.specs.declared.version.Version.TheVariants.{Second}
 use Rattle.sc_msg.specs.Messages.{message_bytes, IsMessage}
 use Rattle.q_book.specs.State.{BookState}
 use Rattle.q_history.specs.declared.event.Event.{Event}
@@ -17,20 +18,20 @@ use Rattle.q_gather.specs.declared.gathering.Next.{Next}
 use Rattle.q_gather.proofs.Finding.{Below, below_next}
 
 abbrev pub OneMore : Type 0
-OneMore = (sent : List Message) (numbers : NumberList) (m : Message) → AreNumbers sent numbers → IsMessage m → AreNumbers (sent ++ m ∷ []) (added (message_bytes m) (length sent) numbers)
+OneMore = (sent : List Message) (numbers : NumberList) (m : Message) → AreNumbers sent numbers → IsMessage Second m → AreNumbers (sent ++ m ∷ []) (added (message_bytes Second m) (length sent) numbers)
 
 took : (xs : List Message) (n : ℕ) → n ≤ length xs → length (take n xs) ≡ n
 took xs n le = length-take-le n xs le
 
-pub numbered_next : OneMore → (sent : List Message) (numbers after : NumberList) (m : Message) (n : ℕ) → Some m ≡ slice_get sent n → IsMessage m → after ≡ added (message_bytes m) n numbers → AreNumbers (take n sent) numbers
+pub numbered_next : OneMore → (sent : List Message) (numbers after : NumberList) (m : Message) (n : ℕ) → Some m ≡ slice_get sent n → IsMessage Second m → after ≡ added (message_bytes Second m) n numbers → AreNumbers (take n sent) numbers
     → AreNumbers (take (n + 1) sent) after
 numbered_next more sent numbers after m n at legal is are =
     let within : n < length sent = slice_get_within sent n m (sym at) in
     let long : length (take n sent) ≡ n = took sent n (omega (arith, within)) in
     let list : take (n + 1) sent ≡ take n sent ++ m ∷ [] =
     take_more sent n m within ∙ ap (λ (x : Message). take n sent ++ x ∷ []) (get_or_from_slice_get sent n m m (sym at)) in
-    let next : AreNumbers (take n sent ++ m ∷ []) (added (message_bytes m) (length (take n sent)) numbers) = more (take n sent) numbers m are legal in
-    let so : AreNumbers (take n sent ++ m ∷ []) (added (message_bytes m) n numbers) = subst (λ (k : ℕ). AreNumbers (take n sent ++ m ∷ []) (added (message_bytes m) k numbers)) long next in
+    let next : AreNumbers (take n sent ++ m ∷ []) (added (message_bytes Second m) (length (take n sent)) numbers) = more (take n sent) numbers m are legal in
+    let so : AreNumbers (take n sent ++ m ∷ []) (added (message_bytes Second m) n numbers) = subst (λ (k : ℕ). AreNumbers (take n sent ++ m ∷ []) (added (message_bytes Second m) k numbers)) long next in
     subst (λ (x : List Message). AreNumbers x after) (sym list) (subst (λ (x : NumberList). AreNumbers (take n sent ++ m ∷ []) x) (sym is) so)
 
 -- the messages that were sent before the event are the first

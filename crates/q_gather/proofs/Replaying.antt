@@ -7,6 +7,7 @@ use Rattle.std.proofs.lemmas.List.{map-append, take_more}
 use Rattle.std.proofs.lemmas.Option.{slice_get_within, get_or_from_slice_get}
 use Rattle.sc_members.specs.Members.{Config}
 use Rattle.sc_msg.specs.declared.message.Message.{Message}
+use Rattle.sc_msg.specs.declared.version.Version.{Version}
 use Rattle.q_book.specs.State.{BookState}
 use Rattle.q_history.specs.State.{ClusterState}
 use Rattle.q_history.specs.Clusters.{start}
@@ -86,15 +87,15 @@ traces_some (x ∷ xs) all =
     (own.0 ∷ rest.0, traces_with x xs own.0 own.1 rest.0 rest.1)
 
 -- before any event
-pub gathering_starts : (books : List BookState) → AllByRecursion IsJournalled books → AreDistinct books → (config : Config) (founders : List ℕ) → AgreeOn books config founders → IsGathering books (start config founders) []
-gathering_starts books all distinct config founders agree =
+pub gathering_starts : (books : List BookState) → AllByRecursion IsJournalled books → AreDistinct books → (version : Version) (config : Config) (founders : List ℕ) → AgreeOn books version config founders → IsGathering books (start version config founders) []
+gathering_starts books all distinct version config founders agree =
     let t = traces_some books all in
     let right : AreRight books = λ k b at. (all_at books all k b at).right in
     record {
       lists = t.0;
       traces = t.1;
       left = t.0;
-      under_way = begins config founders books t.0 distinct right agree t.1;
+      under_way = begins version config founders books t.0 distinct right agree t.1;
       on = λ m. m;
       back = λ m. m;
       numbered = no_numbers;
@@ -220,12 +221,12 @@ faulty journals place before bytes (replay_fault.Mismatch event) r at is =
 
 -- the books before any event
 pub begins_gathering : (items x y z : List BookState) → x ≡ items → y ≡ items → z ≡ items → AllByRecursion IsJournalled items → AreDistinct x → (c d : ClusterState)
-    → ((config : Config) × (founders : List ℕ) × AgreeOn y config founders × (c ≡ start config founders)) → d ≡ c → (numbers : NumberList) → numbers ≡ [] → IsGathering z d numbers
+    → ((version : Version) × (config : Config) × (founders : List ℕ) × AgreeOn y version config founders × (c ≡ start version config founders)) → d ≡ c → (numbers : NumberList) → numbers ≡ [] → IsGathering z d numbers
 begins_gathering items x y z first second third all distinct c d agree same numbers none =
-    let begun : IsGathering items (start agree.0 agree.1) [] =
-    gathering_starts items all (subst AreDistinct first distinct) agree.0 agree.1 (subst (λ (b : List BookState). AgreeOn b agree.0 agree.1) second agree.2) in
+    let begun : IsGathering items (start agree.0 agree.1 agree.2) [] =
+    gathering_starts items all (subst AreDistinct first distinct) agree.0 agree.1 agree.2 (subst (λ (b : List BookState). AgreeOn b agree.0 agree.1 agree.2) second agree.3) in
     subst (λ (b : List BookState). IsGathering b d numbers) (sym third)
-    (subst (λ (s : ClusterState). IsGathering items s numbers) (sym (same ∙ agree.3)) (subst (λ (n : NumberList). IsGathering items (start agree.0 agree.1) n) (sym none) begun))
+    (subst (λ (s : ClusterState). IsGathering items s numbers) (sym (same ∙ agree.4)) (subst (λ (n : NumberList). IsGathering items (start agree.0 agree.1 agree.2) n) (sym none) begun))
 
 module _ (journals : List (List ℕ)) (items x y z : List BookState) (first : x ≡ items) (second : y ≡ items) (third : z ≡ items) (r : AreReplayed journals items) where
   pub id_used : (AreDistinct x → ⊥) → IsRefused journals IdUsed
@@ -239,9 +240,9 @@ module _ (journals : List (List ℕ)) (items x y z : List BookState) (first : x 
   unfounded distinct IdUsed none = absurd none
   unfounded distinct NeverSent none = absurd none
 
-  module _ (distinct : AreDistinct x) (config : Config) (founders : List ℕ) (agree : AgreeOn y config founders) where
+  module _ (distinct : AreDistinct x) (version : Version) (config : Config) (founders : List ℕ) (agree : AgreeOn y version config founders) where
     agreed : Agree items
-    agreed = (config, founders, subst (λ (b : List BookState). AgreeOn b config founders) second agree)
+    agreed = (version, config, founders, subst (λ (b : List BookState). AgreeOn b version config founders) second agree)
 
     pub stuck_on : (e : GatherFault) → IsStuck z e → IsRefused journals e
     stuck_on NeverSent none = (items, r, subst AreDistinct first distinct, agreed, λ m. none (subst Merge (sym third) m))

@@ -103,7 +103,7 @@ module _ (books : List BookState) (c : ClusterState) (lists : List (List (Step M
     turn_by : (steps : List (Step Message)) → slice_get lists k ≡ Some steps → (left : List Entry) → IsAt c whole left steps → Turn c lists k whole ev
     turn_by steps at left (There b here t) = turn_there steps at b here left t
     turn_by steps at left (Away absent none left_is t) =
-        let s : Step Message = record { wants = None; gives = (book.entered whole.config whole.id).1 } in
+        let s : Step Message = record { wants = None; gives = (book.entered whole.version whole.config whole.id).1 } in
         let is : steps ≡ s ∷ t.rest = t.is ∙ ap (λ (o : Option (List ℕ)). entering whole o ++ t.rest) none in
         let enters : ev ≡ event.Enter whole.id = subst (λ (o : Option BookState). IsNextAfter c whole o ev) absent next in
         record {
@@ -114,7 +114,7 @@ module _ (books : List BookState) (c : ClusterState) (lists : List (List (Step M
           left = whole.desk.journal;
           goes =
               subst (λ (x : Event). NodeGoes c whole s t.rest x whole.desk.journal) (sym enters)
-              (enter_goes c whole s t.rest u.history (u.same k whole mine) absent none (subst (IsTrace whole) is t));
+              (enter_goes c whole s t.rest u.history (u.versions k whole mine) (u.same k whole mine) absent none (subst (IsTrace whole) is t));
           before = ap (left_by whole) absent;
         }
 

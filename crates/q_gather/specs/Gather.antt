@@ -3,6 +3,7 @@ use Rattle.std.specs.Prelude.{◌≡◌, ◌≢◌, ℕ, List, [], map, take, So
 use Rattle.std.specs.List.{AllByRecursion}
 use Rattle.sc_members.specs.Members.{Config}
 use Rattle.sc_msg.specs.declared.message.Message.{Message}
+use Rattle.sc_msg.specs.declared.version.Version.{Version}
 use Rattle.q_book.specs.State.{BookState}
 use Rattle.q_history.specs.State.{ClusterState}
 use Rattle.q_replay.specs.Journal.{journal_of, IsJournalled}
@@ -19,9 +20,9 @@ pub record AreReplayed (journals : List (List ℕ)) (books : List BookState) : T
   pub are : journals ≡ map journal_of books
   pub each : AllByRecursion IsJournalled books
 
--- the books agree on their fractions and on their founders, of whom each has a book
+-- the books agree on their version, their fractions and their founders, of whom each has a book
 abbrev pub Agree : List BookState → Type 0
-Agree books = (config : Config) × (founders : List ℕ) × AgreeOn books config founders
+Agree books = (version : Version) × (config : Config) × (founders : List ℕ) × AgreeOn books version config founders
 
 -- the steps of the books can be taken in an order in which each message that is delivered was sent before
 pub record Merge (books : List BookState) : Type 0 where
@@ -47,8 +48,8 @@ pub record IsFaulty (journals : List (List ℕ)) (place : ℕ) (fault : ReplayFa
   pub is : IsFault bytes fault
   pub known : fault ≢ replay_fault.OutOfMemory
 
--- Why journals are not gathered: the first that is no journal; two of one node; no fractions and founders on which all
--- agree; no order. These exclude each other, and each of them that the journals are gathered.
+-- Why journals are not gathered: the first that is no journal; two of one node; no version, fractions and founders on
+-- which all agree; no order. These exclude each other, and each of them that the journals are gathered.
 abbrev pub IsRefused : List (List ℕ) → GatherFault → Type 0
 IsRefused journals (Journal place fault) = IsFaulty journals place fault
 IsRefused journals IdUsed = (books : List BookState) × AreReplayed journals books × (AreDistinct books → ⊥)

@@ -15,7 +15,7 @@ pub enum GatherFault {
     Journal { place: usize, fault: ReplayFault },
     /// 44: two journals are of one node.
     IdUsed,
-    /// 49: the heads disagree on the fractions or the founders, or the journal of a founder is missing.
+    /// 49: the heads disagree on the version, the fractions or the founders, or the journal of a founder is missing.
     BadFounders,
     /// 82: the events that are left want messages that were not sent.
     NeverSent,

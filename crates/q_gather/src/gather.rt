@@ -16,10 +16,11 @@ use q_replay::laws::{one_book, one_fault};
 use q_replay::replay::replay;
 use std::alloc::Global;
 
-/// The cluster of the nodes with these journals, in which just what the journals say happened, in an order in which each
-/// message that is delivered was sent before. Refused with the first of: 57 or 58, for the first bytes that are no
-/// journal; 44, where two are of one node; 49, where the heads disagree on the fractions or the founders, or the journal
-/// of a founder is missing; 82, where there is no such order. 99 OutOfMemory may stand in place of any of these answers.
+/// The cluster of the nodes with these journals, in which just what the journals say happened, in an order in which
+/// each message that is delivered was sent before. Refused with the first of: 57 or 58, for the first bytes that are no
+/// journal; 44, where two are of one node; 49, where the heads disagree on the version, the fractions or the founders,
+/// or the journal of a founder is missing; 82, where there is no such order. 99 OutOfMemory may stand in place of any
+/// of these answers.
 pub fn gather(alloc: Global, journals: &[&[u8]]) -> Result<Cluster, GatherFault>
     // The books of the cluster are those of the journals.
     ensures gathers { IfOk result (Gathers (map (λ bytes. bytes.now) journals.now)) }

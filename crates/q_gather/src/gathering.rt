@@ -3,7 +3,6 @@
 ghost use Rattle.std.specs.Prelude.{◌≡◌, ◌++◌, ℕ, List, [], take, IfOk, OnOk, IfErr, MatchBool};
 ghost use Rattle.sc_msg.specs.declared.message.Message.{Message};
 ghost use Rattle.q_book.specs.State.{BookState};
-ghost use Rattle.q_book.specs.Replays.{EntryFits};
 ghost use Rattle.q_history.specs.declared.event.Stepped.{Stepped};
 ghost use Rattle.q_history.specs.Calls.{Follows};
 ghost use Rattle.q_merge.specs.Numbers.{AreNumbers};
@@ -123,7 +122,6 @@ impl Gathering {
 
     /// The entry as an event of this node, where the message that it delivers was sent.
     fn event_of(&self, node: u64, entry: &Entry) -> Result<Option<Event>, AllocError>
-        requires { EntryFits entry.now }
         ensures { AreNumbers self.now.cluster.world.sent self.now.numbers → IfOk result (Finds (IsEventOf self.now.cluster node entry.now)) }
     {
         let event = match entry {

@@ -1,4 +1,4 @@
-//! Whether books are of different nodes, and agree on their fractions and founders.
+//! Whether books are of different nodes, and agree on their version, fractions and founders.
 
 ghost use Rattle.std.specs.Prelude.{◌≡◌, ℕ, List, Some, None, IfOk, IfErr, MatchBool, MatchOption, slice_get, true};
 ghost use Rattle.sc_members.specs.Members.{Config};
@@ -12,6 +12,7 @@ use crate::fault::GatherFault;
 use q_book::book::Book;
 use q_cluster::cluster::Cluster;
 use sc_members::config::Config;
+use sc_msg::version::Version;
 use std::alloc::Global;
 
 /// Whether no two books are of one node.
@@ -28,39 +29,41 @@ pub(crate) fn are_distinct(books: &[Book]) -> bool
 
 /// The cluster of the founders on whom the books agree, before any event. Refused with 49 where they agree on none.
 pub(crate) fn found(alloc: Global, books: &[Book]) -> Result<Cluster, GatherFault>
-    ensures ok { IfOk result (λ c. (config : Config) × (founders : List ℕ) × AgreeOn books.now config founders × (c ≡ start config founders)) }
+    ensures ok { IfOk result (λ c. (version : Version) × (config : Config) × (founders : List ℕ) × AgreeOn books.now version config founders × (c ≡ start version config founders)) }
     ensures err { IfErr result (IsUnfounded books.now) }
 {
     let Some(head) = a_head(books) else {
         return Err(GatherFault::BadFounders);
     };
-    if !are_headed(books, head.config, head.founders) {
+    if !are_headed(books, head.version, head.config, head.founders) {
         return Err(GatherFault::BadFounders);
     }
     if !are_there(books, head.founders) {
         return Err(GatherFault::BadFounders);
     }
     // The founders of a book were taken once, so this is refused for want of memory alone.
-    let Ok(cluster) = Cluster::new(alloc, head.config, head.founders) else {
+    let Ok(cluster) = Cluster::new_as(alloc, head.version, head.config, head.founders) else {
         return Err(GatherFault::OutOfMemory);
     };
     Ok(cluster)
 }
 
-/// The fractions and the founders of a cluster.
+/// The version, the fractions and the founders of a cluster.
 #[derive(Drop)]
 struct Head<'a> {
+    version: Version,
     config: Config,
     founders: &'a [u64],
 }
 
 /// What the first book that is a founder's says.
 fn a_head(books: &[Book]) -> Option<Head<'_>>
-    ensures { MatchOption result ((k : ℕ) (b : BookState) → slice_get books.now k ≡ Some b → b.founders ≡ None) (λ head. HasHead books.now head.config head.founders.now) }
+    ensures { MatchOption result ((k : ℕ) (b : BookState) → slice_get books.now k ≡ Some b → b.founders ≡ None) (λ head. HasHead books.now head.version head.config head.founders.now) }
 {
     for book in books {
         if let Some(founders) = book.founders() {
             return Some(Head {
+                version: book.version(),
                 config: book.config(),
                 founders,
             });
@@ -69,22 +72,22 @@ fn a_head(books: &[Book]) -> Option<Head<'_>>
     None
 }
 
-/// Whether all books have these fractions, and those of the founders have these founders.
-fn are_headed(books: &[Book], config: Config, founders: &[u64]) -> bool
-    ensures { MatchBool result (AreHeaded books.now config founders.now) (AreHeaded books.now config founders.now → ⊥) }
+/// Whether all books have this version and these fractions, and those of the founders have these founders.
+fn are_headed(books: &[Book], version: Version, config: Config, founders: &[u64]) -> bool
+    ensures { MatchBool result (AreHeaded books.now version config founders.now) (AreHeaded books.now version config founders.now → ⊥) }
 {
     for book in books {
-        if !is_headed(book, config, founders) {
+        if !is_headed(book, version, config, founders) {
             return false;
         }
     }
     true
 }
 
-fn is_headed(book: &Book, config: Config, founders: &[u64]) -> bool
-    ensures { MatchBool result (IsHeaded book.now config founders.now) (IsHeaded book.now config founders.now → ⊥) }
+fn is_headed(book: &Book, version: Version, config: Config, founders: &[u64]) -> bool
+    ensures { MatchBool result (IsHeaded book.now version config founders.now) (IsHeaded book.now version config founders.now → ⊥) }
 {
-    has_founders(book, founders) && book.config() == config
+    has_founders(book, founders) && book.version() == version && book.config() == config
 }
 
 /// Whether the book is that of one of these founders, who knows all of them; or that of no founder, of a node that

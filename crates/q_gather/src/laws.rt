@@ -1,7 +1,9 @@
-//! A law of journals that are gathered: the contract of a function that does nothing.
+//! Laws of journals that are gathered: the contracts of functions that do nothing.
 
-ghost use Rattle.std.specs.Prelude.{◌≡◌, ℕ, List};
-ghost use Rattle.q_gather.specs.Gather.{IsRefused};
+ghost use Rattle.std.specs.Prelude.{◌≡◌, ℕ, List, Some, slice_get};
+ghost use Rattle.q_book.specs.State.{BookState};
+ghost use Rattle.q_merge.specs.Gathered.{AreDistinct};
+ghost use Rattle.q_gather.specs.Gather.{AreReplayed, Agree, IsRefused};
 ghost use Rattle.q_gather.specs.declared.fault.GatherFault.{GatherFault as Fault};
 
 use q_replay::laws::{one_book, one_fault};
@@ -13,3 +15,10 @@ pub fn one_refusal()
     one_book();
     one_fault();
 }
+
+/// A law: books that agree have one version. So journals of different nodes, of which two are of different versions,
+/// are refused with 49.
+pub fn one_version()
+    ensures same { (books : List BookState) (i k : ℕ) (a b : BookState) → Agree books → slice_get books i ≡ Some a → slice_get books k ≡ Some b → a.version ≡ b.version }
+    ensures refused { (journals : List (List ℕ)) (books : List BookState) (i k : ℕ) (a b : BookState) → AreReplayed journals books → AreDistinct books → slice_get books i ≡ Some a → slice_get books k ≡ Some b → (a.version ≡ b.version → ⊥) → IsRefused journals Fault.BadFounders }
+{}

@@ -1,13 +1,14 @@
 //! Journals of nodes that ran apart, gathered into a cluster.
 //!
 //! [`gather`] replays each journal to its book, and looks whether the books are of different nodes and agree on their
-//! fractions and founders, of whom each has one. It begins with the founders and takes, again and again, the next event
-//! of the least node that can go on: an event that delivers nothing, or a message that was sent. Which event goes first
-//! makes no difference to whether all can go, and to the books that come out: `q_merge` says so. So it answers the
-//! cluster of these books just where their events can be taken in some order in which each message that is delivered
-//! was sent before; else it says why not.
+//! version, fractions and founders, of whom each has a book. It begins with the founders, whose books have that
+//! version, and takes, again and again, the next event of the least node that can go on: an event that delivers
+//! nothing, or a message that was sent. Which event goes first makes no difference to whether all can go, and to the
+//! books that come out: `q_merge` says so. So it answers the cluster of these books just where their events can be
+//! taken in some order in which each message that is delivered was sent before; else it says why not.
 //!
-//! A message is known by its bytes, and delivered by the least number at which it was sent: [`numbers`].
+//! A message is known by its bytes in version 2, in which each has some, whatever the cluster's version is; and it is
+//! delivered by the least number at which it was sent: [`numbers`].
 //!
 //! [`gather`]: gather::gather
 #![tactic(auto)]

@@ -1,19 +1,18 @@
 //! The numbers of messages that were sent.
 
 ghost use Rattle.std.specs.Prelude.{◌≡◌, [], IfOk, OnOk, OnErr};
-ghost use Rattle.sc_view.specs.Values.{value_length};
+ghost use Rattle.sc_msg.specs.declared.version.Version.{Version};
 ghost use Rattle.sc_msg.specs.Messages.{message_bytes, IsMessage};
-ghost use Rattle.sc_msg.specs.Lengths.{MessageHasValuesOf};
 ghost use Rattle.q_merge.specs.Numbers.{number_of, added};
 
 use indexmap::IndexMap;
-use sc_msg::encode::encode_fitting;
+use sc_msg::encode::encode;
 use sc_msg::message::Message;
 use std::alloc::{AllocError, Global};
 use std::marker::Model;
 
-/// The least number at which each message was sent, by its bytes. Contracts see it as a list of bytes, each with a
-/// number.
+/// The least number at which each message was sent, by its bytes in version 2, in which each message has some.
+/// Contracts see it as a list of bytes, each with a number.
 #[derive(Drop)]
 pub struct Numbers {
     alloc: Global,
@@ -39,26 +38,23 @@ impl Numbers {
         }
     }
 
-    /// The number of a message, where it has one; its values have 48 bytes. The one error is that memory ran out (99
-    /// OutOfMemory).
+    /// The number of a message, where it has one. The one error is that memory ran out (99 OutOfMemory).
     pub fn find(&self, message: &Message) -> Result<Option<usize>, AllocError>
-        requires { MessageHasValuesOf value_length message.now }
-        ensures legal { OnOk result (IsMessage message.now) }
-        ensures number { IfOk result (λ n. n ≡ number_of (message_bytes message.now) self.now) }
+        ensures legal { OnOk result (IsMessage Version.Second message.now) }
+        ensures number { IfOk result (λ n. n ≡ number_of (message_bytes Version.Second message.now) self.now) }
     {
-        let bytes = encode_fitting(self.alloc, message)?;
+        let bytes = encode(self.alloc, message)?;
         Ok(self.by_bytes.get(&bytes).copied())
     }
 
-    /// Gives a message this number, where it has none; its values have 48 bytes. The one error is that memory ran out (99
-    /// OutOfMemory); then the numbers are as they were.
+    /// Gives a message this number, where it has none. The one error is that memory ran out (99 OutOfMemory); then the
+    /// numbers are as they were.
     pub fn add(&mut self, message: &Message, number: usize) -> Result<(), AllocError>
-        requires { MessageHasValuesOf value_length message.now }
-        ensures legal { OnOk result (IsMessage message.now) }
-        ensures added { OnOk result (self.new ≡ added (message_bytes message.now) number self.old) }
+        ensures legal { OnOk result (IsMessage Version.Second message.now) }
+        ensures added { OnOk result (self.new ≡ added (message_bytes Version.Second message.now) number self.old) }
         ensures err { OnErr result (self.new ≡ self.old) }
     {
-        let bytes = encode_fitting(self.alloc, message)?;
+        let bytes = encode(self.alloc, message)?;
         if self.by_bytes.get_index_of(&bytes).is_none() {
             self.by_bytes.insert(bytes, number)?;
         }

@@ -4,18 +4,20 @@ use Rattle.std.specs.List.{flat_map}
 use Rattle.bq_insn.proofs.Unique.{one_text}
 use Rattle.bq_insn.specs.Slots.{spelling}
 use Rattle.bq_check.specs.Spelling.{notes_bytes}
-use Rattle.bq_check.specs.declared.form.Form.TheVariants.{First}
 use Rattle.bq_check.proofs.Codes.{IsCode, once}
 use Rattle.bq_check.proofs.Fields.{one_byte}
 use Rattle.bq_check.proofs.Read.{one_notes}
 use Rattle.sc_members.specs.Members.{Config}
+use Rattle.sc_msg.specs.declared.version.Version.{Version}
+use Rattle.sc_msg.specs.declared.version.Version.TheVariants.{First, Second}
 use Rattle.sc_msg.specs.Numbers.{number_bytes}
+use Rattle.sc_msg.specs.Values.{version_byte}
 use Rattle.sc_msg.proofs.Entries.{same_front, number_front}
 use Rattle.sc_msg.proofs.Unique.{one_spelling}
 use Rattle.q_journal.specs.declared.written.Written.{Written}
 use Rattle.q_journal.specs.declared.written.Written.TheVariants.{Leave, Register, Ask, Store, Deliver, HandOut, Post}
 use Rattle.q_journal.specs.Head.{Head}
-use Rattle.q_journal.specs.Spelling.{config_bytes, start_bytes, head_bytes, AreShort, AreFounders, IsHead, code, body_bytes, event_bytes, IsWritten}
+use Rattle.q_journal.specs.Spelling.{config_bytes, start_bytes, head_bytes, AreShort, AreFounders, IsHead, code, form_of, body_bytes, event_bytes, IsWritten}
 use Rattle.q_journal.specs.Reading.{ids_bytes, AreIds}
 use Rattle.q_journal.proofs.Sizes.{text_small, body_small}
 
@@ -73,55 +75,65 @@ config_front c d x y p q e =
 
 -- ---- heads
 
-pub head_on : (h : Head) (x : List ℕ) → head_bytes h ++ x ≡ 0x42 ∷ 0x51 ∷ 0x4a ∷ 0x01 ∷ (number_bytes 8 h.id ++ (config_bytes h.config ++ (start_bytes h.founders ++ x)))
-head_on h x = ap (λ (l : List ℕ). 0x42 ∷ 0x51 ∷ 0x4a ∷ 0x01 ∷ l) (three_on (number_bytes 8 h.id) (config_bytes h.config) (start_bytes h.founders) x)
+pub head_on : (h : Head) (x : List ℕ) → head_bytes h ++ x ≡ 0x42 ∷ 0x51 ∷ 0x4a ∷ version_byte h.version ∷ (number_bytes 8 h.id ++ (config_bytes h.config ++ (start_bytes h.founders ++ x)))
+head_on h x = ap (λ (l : List ℕ). 0x42 ∷ 0x51 ∷ 0x4a ∷ version_byte h.version ∷ l) (three_on (number_bytes 8 h.id) (config_bytes h.config) (start_bytes h.founders) x)
 
-pub behind_format : (x y : List ℕ) → 0x42 ∷ 0x51 ∷ 0x4a ∷ 0x01 ∷ x ≡ 0x42 ∷ 0x51 ∷ 0x4a ∷ 0x01 ∷ y → x ≡ y
-behind_format x y e = cc
+-- the fourth byte, and what stands behind it
+pub behind_format : (a b : ℕ) (x y : List ℕ) → 0x42 ∷ 0x51 ∷ 0x4a ∷ a ∷ x ≡ 0x42 ∷ 0x51 ∷ 0x4a ∷ b ∷ y → (a ≡ b) × (x ≡ y)
+behind_format a b x y e = (cc, cc)
 
-head_is : (h g : Head) → h.id ≡ g.id → h.config ≡ g.config → h.founders ≡ g.founders → h ≡ g
-head_is h g p q r = λ i. record { id = p i; config = q i; founders = r i }
+same_version : (u v : Version) → version_byte u ≡ version_byte v → u ≡ v
+same_version First First e = refl
+same_version First Second e = absurd (omega (arith, e))
+same_version Second First e = absurd (omega (arith, e))
+same_version Second Second e = refl
+
+head_is : (h g : Head) → h.version ≡ g.version → h.id ≡ g.id → h.config ≡ g.config → h.founders ≡ g.founders → h ≡ g
+head_is h g v p q r = λ i. record { version = v i; id = p i; config = q i; founders = r i }
 
 pub head_front : (h g : Head) (x y : List ℕ) → IsHead h → IsHead g → head_bytes h ++ x ≡ head_bytes g ++ y → (h ≡ g) × (x ≡ y)
 head_front h g x y p q e =
     let behind_h = config_bytes h.config ++ (start_bytes h.founders ++ x) in
     let behind_g = config_bytes g.config ++ (start_bytes g.founders ++ y) in
-    let f = behind_format (number_bytes 8 h.id ++ behind_h) (number_bytes 8 g.id ++ behind_g) (sym (head_on h x) ∙ e ∙ head_on g y) in
-    let n = number_front 8 h.id g.id behind_h behind_g p.id q.id f in
+    let f = behind_format (version_byte h.version) (version_byte g.version) (number_bytes 8 h.id ++ behind_h) (number_bytes 8 g.id ++ behind_g) (sym (head_on h x) ∙ e ∙ head_on g y) in
+    let n = number_front 8 h.id g.id behind_h behind_g p.id q.id f.1 in
     let c = config_front h.config g.config (start_bytes h.founders ++ x) (start_bytes g.founders ++ y) p.config q.config n.1 in
     let s = start_front h.founders g.founders x y p.founders q.founders c.1 in
-    (head_is h g n.0 c.0 s.0, s.1)
+    (head_is h g (same_version h.version g.version f.0) n.0 c.0 s.0, s.1)
 
 -- ---- events
 
-pub event_on : (w : Written) (x : List ℕ) → event_bytes w ++ x ≡ code w ∷ (number_bytes 4 (length (body_bytes w)) ++ (body_bytes w ++ x))
-event_on w x = ap (λ (l : List ℕ). code w ∷ l) (append_assoc (number_bytes 4 (length (body_bytes w))) (body_bytes w) x)
+pub event_on : (version : Version) (w : Written) (x : List ℕ) → event_bytes version w ++ x ≡ code w ∷ (number_bytes 4 (length (body_bytes version w)) ++ (body_bytes version w ++ x))
+event_on version w x = ap (λ (l : List ℕ). code w ∷ l) (append_assoc (number_bytes 4 (length (body_bytes version w))) (body_bytes version w) x)
 
-same_event : (w v : Written) → IsWritten w → IsWritten v → code w ≡ code v → body_bytes w ≡ body_bytes v → w ≡ v
-same_event Leave Leave p q c b = refl
-same_event (Register t ns) (Register u ms) p q c b =
-    let n = number_front 4 (length (spelling t)) (length (spelling u)) (spelling t ++ notes_bytes First ns) (spelling u ++ notes_bytes First ms) (omega (arith, text_small t p.0)) (omega (arith, text_small u q.0)) b in
-    let s = same_front (spelling t) (spelling u) (notes_bytes First ns) (notes_bytes First ms) (length (spelling t)) refl (sym n.0) n.1 in
+same_event : (version : Version) (w v : Written) → IsWritten version w → IsWritten version v → code w ≡ code v → body_bytes version w ≡ body_bytes version v → w ≡ v
+same_event version Leave Leave p q c b = refl
+same_event version (Register t ns) (Register u ms) p q c b =
+    let form = form_of version in
+    let n = number_front 4 (length (spelling t)) (length (spelling u)) (spelling t ++ notes_bytes form ns) (spelling u ++ notes_bytes form ms) (omega (arith, text_small t p.0)) (omega (arith, text_small u q.0)) b in
+    let s = same_front (spelling t) (spelling u) (notes_bytes form ns) (notes_bytes form ms) (length (spelling t)) refl (sym n.0) n.1 in
     let text = one_text t u p.0.insns q.0.insns s.0 in
-    let notes = one_notes First ns ms p.1 q.1 s.1 in
+    let notes = one_notes form ns ms p.1 q.1 s.1 in
     λ i. Register (text i) (notes i)
-same_event (Ask g s) (Ask h t) p q c b =
+same_event version (Ask g s) (Ask h t) p q c b =
     let n = number_front 4 g h (number_bytes 8 s) (number_bytes 8 t) p.0 q.0 b in
     let start = number_once 8 s t p.1 q.1 n.1 in
     λ i. Ask (n.0 i) (start i)
-same_event (Store v) (Store u) p q c b = ap Store b
-same_event (Deliver m) (Deliver n) p q c b = ap Deliver (one_spelling m n p q b)
-same_event HandOut HandOut p q c b = refl
-same_event (Post g a s) (Post h d t) p q c b =
+same_event version (Store v) (Store u) p q c b = ap Store b
+same_event version (Deliver m) (Deliver n) p q c b = ap Deliver (one_spelling version m n p q b)
+same_event version HandOut HandOut p q c b = refl
+same_event version (Post g a s) (Post h d t) p q c b =
     let n = number_front 8 g h (number_bytes 8 a ++ number_bytes 8 s) (number_bytes 8 d ++ number_bytes 8 t) p.0 q.0 b in
     let k = number_front 8 a d (number_bytes 8 s) (number_bytes 8 t) p.1 q.1 n.1 in
     let steps = number_once 8 s t p.2 q.2 k.1 in
     λ i. Post (n.0 i) (k.0 i) (steps i)
-same_event w v p q c b = absurd (omega (arith, c))
+same_event version w v p q c b = absurd (omega (arith, c))
 
-pub event_front : (w v : Written) (x y : List ℕ) → IsWritten w → IsWritten v → event_bytes w ++ x ≡ event_bytes v ++ y → (w ≡ v) × (x ≡ y)
-event_front w v x y p q e =
-    let k = one_byte (code w) (code v) (number_bytes 4 (length (body_bytes w)) ++ (body_bytes w ++ x)) (number_bytes 4 (length (body_bytes v)) ++ (body_bytes v ++ y)) (sym (event_on w x) ∙ e ∙ event_on v y) in
-    let n = number_front 4 (length (body_bytes w)) (length (body_bytes v)) (body_bytes w ++ x) (body_bytes v ++ y) (body_small w p) (body_small v q) k.1 in
-    let b = same_front (body_bytes w) (body_bytes v) x y (length (body_bytes w)) refl (sym n.0) n.1 in
-    (same_event w v p q k.0 b.0, b.1)
+pub event_front : (version : Version) (w v : Written) (x y : List ℕ) → IsWritten version w → IsWritten version v → event_bytes version w ++ x ≡ event_bytes version v ++ y → (w ≡ v) × (x ≡ y)
+event_front version w v x y p q e =
+    let a = body_bytes version w in
+    let d = body_bytes version v in
+    let k = one_byte (code w) (code v) (number_bytes 4 (length a) ++ (a ++ x)) (number_bytes 4 (length d) ++ (d ++ y)) (sym (event_on version w x) ∙ e ∙ event_on version v y) in
+    let n = number_front 4 (length a) (length d) (a ++ x) (d ++ y) (body_small version w p) (body_small version v q) k.1 in
+    let b = same_front a d x y (length a) refl (sym n.0) n.1 in
+    (same_event version w v p q k.0 b.0, b.1)

@@ -9,16 +9,21 @@ use Rattle.bq_insn.proofs.Reading.{length-insn_bytes}
 use Rattle.bq_state.specs.declared.kind.Kind.{Kind}
 use Rattle.bq_state.specs.Kinds.{StateKinds}
 use Rattle.bq_state.specs.declared.kind.Kind.TheVariants.{Unset, Number, Pointer, Length}
-use Rattle.bq_check.specs.Spelling.{short_bytes, long_bytes, offset_bytes, kind_bytes, kinds_bytes, note_bytes, notes_bytes, IsNote, IsNotes}
-use Rattle.bq_check.specs.declared.form.Form.TheVariants.{First}
+use Rattle.bq_range.specs.Interval.{Interval}
+use Rattle.bq_check.specs.Spelling.{short_bytes, long_bytes, offset_bytes, kind_bytes, kinds_bytes, lengths_bytes, note_bytes, notes_bytes, IsNote, IsNotes}
+use Rattle.bq_check.specs.declared.form.Form.{Form}
+use Rattle.bq_check.specs.declared.form.Form.TheVariants as forms
 use Rattle.bq_check.proofs.Fields.{length-short, length-long}
 use Rattle.sc_members.specs.Members.{Config}
+use Rattle.sc_msg.specs.declared.version.Version.{Version}
+use Rattle.sc_msg.specs.declared.version.Version.TheVariants.{First, Second}
 use Rattle.sc_msg.specs.Numbers.{number_bytes}
+use Rattle.sc_msg.specs.Values.{IsLength}
 use Rattle.sc_msg.proofs.Numbers.{length-number_bytes}
 use Rattle.sc_msg.proofs.Unique.{message_small}
 use Rattle.q_journal.specs.declared.written.Written.{Written}
 use Rattle.q_journal.specs.declared.written.Written.TheVariants.{Leave, Register, Ask, Store, Deliver, HandOut, Post}
-use Rattle.q_journal.specs.Spelling.{config_bytes, body_bytes, IsWritten}
+use Rattle.q_journal.specs.Spelling.{config_bytes, form_of, body_bytes, IsWritten}
 
 -- ---- two and more parts
 
@@ -60,29 +65,40 @@ kinds_small : (ks : List Kind) → length (kinds_bytes ks) ≤ 17 * length ks
 kinds_small [] = omega arith
 kinds_small (k ∷ ks) = omega (arith, length-append (kind_bytes k) (kinds_bytes ks), kind_small k, kinds_small ks)
 
-note_small : (o : Option StateKinds) → IsNote First o → length (note_bytes First o) ≤ 188
-note_small None p = omega arith
-note_small (Some s) p = omega (arith, kinds_small s.kinds, p.kinds.count)
+lengths_small : (form : Form) (l : Interval) → length (lengths_bytes form l) ≤ 2
+lengths_small forms.First l = omega arith
+lengths_small forms.Second l = omega arith
 
-all_small : (ns : List (Option StateKinds)) → AllByRecursion (IsNote First) ns → length (flat_map (note_bytes First) ns) ≤ 188 * length ns
-all_small [] p = omega arith
-all_small (o ∷ ns) p = omega (arith, length-append (note_bytes First o) (flat_map (note_bytes First) ns), note_small o p.0, all_small ns p.1)
+note_small : (form : Form) (o : Option StateKinds) → IsNote form o → length (note_bytes form o) ≤ 190
+note_small form None p = omega arith
+note_small form (Some s) p = omega (arith, length-append (lengths_bytes form s.lengths) (kinds_bytes s.kinds), lengths_small form s.lengths, kinds_small s.kinds, p.kinds.count)
 
-pub notes_small : (ns : List (Option StateKinds)) → IsNotes First ns → length (notes_bytes First ns) ≤ 770052
-notes_small ns p = omega (arith, length-append (short_bytes (length ns)) (flat_map (note_bytes First) ns), length-short (length ns), all_small ns p.each, p.few)
+all_small : (form : Form) (ns : List (Option StateKinds)) → AllByRecursion (IsNote form) ns → length (flat_map (note_bytes form) ns) ≤ 190 * length ns
+all_small form [] p = omega arith
+all_small form (o ∷ ns) p = omega (arith, length-append (note_bytes form o) (flat_map (note_bytes form) ns), note_small form o p.0, all_small form ns p.1)
+
+pub notes_small : (form : Form) (ns : List (Option StateKinds)) → IsNotes form ns → length (notes_bytes form ns) ≤ 778244
+notes_small form ns p = omega (arith, length-append (short_bytes (length ns)) (flat_map (note_bytes form) ns), length-short (length ns), all_small form ns p.each, p.few)
+
+-- ---- values
+
+value_small : (version : Version) (n : ℕ) → IsLength version n → n ≤ 112
+value_small First n p = omega (arith, p.most)
+value_small Second n p = p.most
 
 -- ---- bodies
 
-pub length-registered : (t : List Insn) (ns : List (Option StateKinds)) → length (body_bytes (Register t ns)) ≡ 4 + length (spelling t) + length (notes_bytes First ns)
-length-registered t ns =
-    omega (arith, length-append (number_bytes 4 (length (spelling t))) (spelling t ++ notes_bytes First ns), length-append (spelling t) (notes_bytes First ns), length-number_bytes 4 (length (spelling t)))
+pub length-registered : (version : Version) (t : List Insn) (ns : List (Option StateKinds)) → length (body_bytes version (Register t ns)) ≡ 4 + length (spelling t) + length (notes_bytes (form_of version) ns)
+length-registered version t ns =
+    let notes = notes_bytes (form_of version) ns in
+    omega (arith, length-append (number_bytes 4 (length (spelling t))) (spelling t ++ notes), length-append (spelling t) notes, length-number_bytes 4 (length (spelling t)))
 
 -- each length fits four bytes
-pub body_small : (w : Written) → IsWritten w → length (body_bytes w) < 2 ^ 32
-body_small Leave p = omega arith
-body_small (Register t ns) p = omega (arith, length-registered t ns, text_small t p.0, notes_small ns p.1)
-body_small (Ask program start) p = omega (arith, length-asked program start)
-body_small (Store value) p = omega (arith, p.0)
-body_small (Deliver m) p = omega (arith, message_small m p)
-body_small HandOut p = omega arith
-body_small (Post query acc steps) p = omega (arith, length-posted query acc steps)
+pub body_small : (version : Version) (w : Written) → IsWritten version w → length (body_bytes version w) < 2 ^ 32
+body_small version Leave p = omega arith
+body_small version (Register t ns) p = omega (arith, length-registered version t ns, text_small t p.0, notes_small (form_of version) ns p.1)
+body_small version (Ask program start) p = omega (arith, length-asked program start)
+body_small version (Store value) p = omega (arith, value_small version (length value) p.0)
+body_small version (Deliver m) p = omega (arith, message_small version m p)
+body_small version HandOut p = omega arith
+body_small version (Post query acc steps) p = omega (arith, length-posted query acc steps)

@@ -2,3 +2,4 @@
 pub mod Head
 pub mod Spelling
 pub mod Reading
+pub mod Writing

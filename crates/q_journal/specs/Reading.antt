@@ -8,6 +8,7 @@ use Rattle.bq_check.specs.declared.fault.NotesFault.TheVariants as notes
 use Rattle.sc_msg.specs.declared.fault.MessageFault.{MessageFault}
 use Rattle.sc_msg.specs.declared.fault.MessageFault.TheVariants as messages
 use Rattle.sc_members.specs.Members.{Config}
+use Rattle.sc_msg.specs.declared.version.Version.{Version}
 use Rattle.sc_msg.specs.Numbers.{number_bytes}
 use Rattle.q_journal.specs.declared.head.Fraction.{Fraction}
 use Rattle.q_journal.specs.declared.written.Written.{Written}
@@ -29,15 +30,15 @@ AreIds ids = (length ids < 2 ^ 16) × AllByRecursion (λ id. id < 2 ^ 64) ids
 
 -- ---- bodies
 
--- the body of an event of this kind
-pub record IsBody (kind : ℕ) (body : List ℕ) (w : Written) : Type 0 where
-  pub legal : IsWritten w
+-- the body of an event of this kind in that version
+pub record IsBody (version : Version) (kind : ℕ) (body : List ℕ) (w : Written) : Type 0 where
+  pub legal : IsWritten version w
   pub is : code w ≡ kind
-  pub spelled : body ≡ body_bytes w
+  pub spelled : body ≡ body_bytes version w
 
 -- no event of this kind has the body
-pub record IsNoBody (kind : ℕ) (body : List ℕ) : Type 0 where
-  pub none : (w : Written) → IsBody kind body w → ⊥
+pub record IsNoBody (version : Version) (kind : ℕ) (body : List ℕ) : Type 0 where
+  pub none : (w : Written) → IsBody version kind body w → ⊥
 
 -- ---- faults: want of memory stays what it is
 

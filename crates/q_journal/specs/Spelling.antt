@@ -1,12 +1,15 @@
--- The bytes of a journal: its head, and the events in turn. Numbers have their lowest byte first.
-use Rattle.std.specs.Prelude.{◌≡◌, ℕ, ◌<◌, ◌^◌, List, [], ◌∷◌, ◌++◌, length, All, Option, Some, None}
+-- The bytes of a journal, in both versions: its head, and the events in turn. Numbers have their lowest byte first.
+use Rattle.std.specs.Prelude.{ℕ, ◌<◌, ◌^◌, List, [], ◌∷◌, ◌++◌, length, All, Option, Some, None}
 use Rattle.std.specs.List.{flat_map, AllByRecursion}
 use Rattle.bq_insn.specs.Slots.{IsText, spelling}
 use Rattle.bq_check.specs.Spelling.{notes_bytes, IsNotes}
-use Rattle.bq_check.specs.declared.form.Form.TheVariants.{First}
+use Rattle.bq_check.specs.declared.form.Form.{Form}
+use Rattle.bq_check.specs.declared.form.Form.TheVariants as forms
 use Rattle.sc_members.specs.Members.{Config}
-use Rattle.sc_view.specs.Values.{value_length}
+use Rattle.sc_msg.specs.declared.version.Version.{Version}
+use Rattle.sc_msg.specs.declared.version.Version.TheVariants.{First, Second}
 use Rattle.sc_msg.specs.Numbers.{number_bytes}
+use Rattle.sc_msg.specs.Values.{version_byte, IsLength}
 use Rattle.sc_msg.specs.Messages.{message_bytes, IsMessage}
 use Rattle.q_journal.specs.declared.written.Written.{Written}
 use Rattle.q_journal.specs.declared.written.Written.TheVariants.{Leave, Register, Ask, Store, Deliver, HandOut, Post}
@@ -23,9 +26,9 @@ abbrev pub start_bytes : Option (List ℕ) → List ℕ
 start_bytes (Some ids) = 0 ∷ number_bytes 2 (length ids) ++ flat_map (number_bytes 8) ids
 start_bytes None = 1 ∷ []
 
--- 42 51 4a for the format, 01 for its version, the node, the fractions, and how the node began
+-- 42 51 4a for the format, a byte for its version, the node, the fractions, and how the node began
 abbrev pub head_bytes : Head → List ℕ
-head_bytes h = 0x42 ∷ 0x51 ∷ 0x4a ∷ 0x01 ∷ number_bytes 8 h.id ++ (config_bytes h.config ++ start_bytes h.founders)
+head_bytes h = 0x42 ∷ 0x51 ∷ 0x4a ∷ version_byte h.version ∷ number_bytes 8 h.id ++ (config_bytes h.config ++ start_bytes h.founders)
 
 abbrev pub AreShort : Config → Type 0
 AreShort c = (c.beta_num < 2 ^ 16) × (c.beta_den < 2 ^ 16) × (c.gamma_num < 2 ^ 16) × (c.gamma_den < 2 ^ 16)
@@ -51,26 +54,31 @@ code (Deliver m) = 5
 code HandOut = 6
 code (Post query acc steps) = 7
 
--- a text stands behind its length, and the notes behind it
-abbrev pub body_bytes : Written → List ℕ
-body_bytes Leave = []
-body_bytes (Register text notes) = number_bytes 4 (length (spelling text)) ++ (spelling text ++ notes_bytes First notes)
-body_bytes (Ask program start) = number_bytes 4 program ++ number_bytes 8 start
-body_bytes (Store value) = value
-body_bytes (Deliver m) = message_bytes m
-body_bytes HandOut = []
-body_bytes (Post query acc steps) = number_bytes 8 query ++ (number_bytes 8 acc ++ number_bytes 8 steps)
+-- the form of the notes of a program
+abbrev pub form_of : Version → Form
+form_of First = forms.First
+form_of Second = forms.Second
+
+-- a text stands behind its length, and the notes behind it; a value is as long as its body
+abbrev pub body_bytes : Version → Written → List ℕ
+body_bytes version Leave = []
+body_bytes version (Register text notes) = number_bytes 4 (length (spelling text)) ++ (spelling text ++ notes_bytes (form_of version) notes)
+body_bytes version (Ask program start) = number_bytes 4 program ++ number_bytes 8 start
+body_bytes version (Store value) = value
+body_bytes version (Deliver m) = message_bytes version m
+body_bytes version HandOut = []
+body_bytes version (Post query acc steps) = number_bytes 8 query ++ (number_bytes 8 acc ++ number_bytes 8 steps)
 
 -- the kind, the length of the body, and the body
-abbrev pub event_bytes : Written → List ℕ
-event_bytes w = code w ∷ number_bytes 4 (length (body_bytes w)) ++ body_bytes w
+abbrev pub event_bytes : Version → Written → List ℕ
+event_bytes version w = code w ∷ number_bytes 4 (length (body_bytes version w)) ++ body_bytes version w
 
--- which events have a spelling
-abbrev pub IsWritten : Written → Type 0
-IsWritten Leave = Unit {0}
-IsWritten (Register text notes) = IsText text × IsNotes First notes
-IsWritten (Ask program start) = (program < 2 ^ 32) × (start < 2 ^ 64)
-IsWritten (Store value) = (length value ≡ value_length) × All (λ b. b < 256) value
-IsWritten (Deliver m) = IsMessage m
-IsWritten HandOut = Unit {0}
-IsWritten (Post query acc steps) = (query < 2 ^ 64) × (acc < 2 ^ 64) × (steps < 2 ^ 64)
+-- which events have a spelling: a value has a length of the version, and a message and the notes are spelled in it
+abbrev pub IsWritten : Version → Written → Type 0
+IsWritten version Leave = Unit {0}
+IsWritten version (Register text notes) = IsText text × IsNotes (form_of version) notes
+IsWritten version (Ask program start) = (program < 2 ^ 32) × (start < 2 ^ 64)
+IsWritten version (Store value) = IsLength version (length value) × All (λ b. b < 256) value
+IsWritten version (Deliver m) = IsMessage version m
+IsWritten version HandOut = Unit {0}
+IsWritten version (Post query acc steps) = (query < 2 ^ 64) × (acc < 2 ^ 64) × (steps < 2 ^ 64)

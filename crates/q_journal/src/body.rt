@@ -1,20 +1,26 @@
 //! The bodies of events by their kinds.
 
-ghost use Rattle.std.specs.Prelude.{◌≡◌, ◌⊎◌, IfOk, IfErr};
+ghost use Rattle.std.specs.Prelude.{◌≡◌, ◌⊎◌, List, Option, IfOk, IfErr, MatchResult};
+ghost use Rattle.bq_state.specs.Kinds.{StateKinds};
+ghost use Rattle.bq_check.specs.Spelling.{notes_bytes, IsNotes};
+ghost use Rattle.q_journal.specs.Spelling.{form_of};
 ghost use Rattle.q_journal.specs.Reading.{IsBody, IsNoBody};
 
 use crate::read::ReadFault;
 use crate::reader::Reader;
 use crate::written::Written;
+use bq_check::fault::NotesFault;
 use bq_check::notes::Notes;
-use sc_view::value::{VALUE_LENGTH, Value};
+use sc_msg::decode::decode_as;
+use sc_msg::version::Version;
+use sc_view::value::{Value, ValueFault};
 use std::alloc::Global;
 
 /// An event with an empty body: a leave or a hand-out.
 fn bare(kind: u8, reader: &Reader<'_>) -> Result<Written, ReadFault>
     requires { (kind ≡ 1) ⊎ (kind ≡ 6) }
-    ensures body { IfOk result (IsBody kind reader.now.rest.now) }
-    ensures none { IfErr result (λ e. e ≡ ReadFault.Form → IsNoBody kind reader.now.rest.now) }
+    ensures body { (version : Version) → IfOk result (IsBody version kind reader.now.rest.now) }
+    ensures none { (version : Version) → IfErr result (λ e. e ≡ ReadFault.Form → IsNoBody version kind reader.now.rest.now) }
 {
     reader.end()?;
     if kind == 1 {
@@ -24,20 +30,32 @@ fn bare(kind: u8, reader: &Reader<'_>) -> Result<Written, ReadFault>
     }
 }
 
-fn register(alloc: Global, reader: &mut Reader<'_>) -> Result<Written, ReadFault>
-    ensures body { IfOk result (IsBody 2 reader.old.rest.now) }
-    ensures none { IfErr result (λ e. e ≡ ReadFault.Form → IsNoBody 2 reader.old.rest.now) }
+/// The notes that the bytes spell in the form of that version.
+fn read_notes(alloc: Global, version: Version, bytes: &[u8]) -> Result<Notes, NotesFault>
+    ensures legal { IfOk result (IsNotes (form_of version)) }
+    ensures spelled { IfOk result (λ n. bytes.now ≡ notes_bytes (form_of version) n) }
+    ensures all { (n : List (Option StateKinds)) → IsNotes (form_of version) n → bytes.now ≡ notes_bytes (form_of version) n → MatchResult result (λ m. m ≡ n) (λ e. e ≡ NotesFault.OutOfMemory) }
+{
+    match version {
+        Version::First => Notes::read_v1(alloc, bytes),
+        Version::Second => Notes::read(alloc, bytes),
+    }
+}
+
+fn register(alloc: Global, version: Version, reader: &mut Reader<'_>) -> Result<Written, ReadFault>
+    ensures body { IfOk result (IsBody version 2 reader.old.rest.now) }
+    ensures none { IfErr result (λ e. e ≡ ReadFault.Form → IsNoBody version 2 reader.old.rest.now) }
 {
     let length = reader.word()?;
     let spelling = reader.take(length as usize)?;
     let text = bq_insn::decode::decode(alloc, spelling)?;
-    let notes = Notes::read_v1(alloc, reader.rest)?;
+    let notes = read_notes(alloc, version, reader.rest)?;
     Ok(Written::Register { text, notes })
 }
 
 fn ask(reader: &mut Reader<'_>) -> Result<Written, ReadFault>
-    ensures body { IfOk result (IsBody 3 reader.old.rest.now) }
-    ensures none { IfErr result (λ e. e ≡ ReadFault.Form → IsNoBody 3 reader.old.rest.now) }
+    ensures body { (version : Version) → IfOk result (IsBody version 3 reader.old.rest.now) }
+    ensures none { (version : Version) → IfErr result (λ e. e ≡ ReadFault.Form → IsNoBody version 3 reader.old.rest.now) }
 {
     let program = reader.word()?;
     let start = reader.number()?;
@@ -45,29 +63,30 @@ fn ask(reader: &mut Reader<'_>) -> Result<Written, ReadFault>
     Ok(Written::Ask { program, start })
 }
 
-fn store(body: &[u8]) -> Result<Written, ReadFault>
-    ensures body { IfOk result (IsBody 4 body.now) }
-    ensures none { IfErr result (λ e. e ≡ ReadFault.Form → IsNoBody 4 body.now) }
+fn store(version: Version, body: &[u8]) -> Result<Written, ReadFault>
+    ensures body { IfOk result (IsBody version 4 body.now) }
+    ensures none { IfErr result (λ e. e ≡ ReadFault.Form → IsNoBody version 4 body.now) }
 {
-    if body.len() != VALUE_LENGTH {
+    if !version.has_length(body.len()) {
         return Err(ReadFault::Form);
     }
-    let mut bytes = [0; VALUE_LENGTH];
-    bytes.copy_from_slice(body);
-    Ok(Written::Store(Value::from(&bytes)))
+    match Value::new(body) {
+        Ok(value) => Ok(Written::Store(value)),
+        Err(ValueFault::BadValue) => Err(ReadFault::Form),
+    }
 }
 
-fn deliver(alloc: Global, body: &[u8]) -> Result<Written, ReadFault>
-    ensures body { IfOk result (IsBody 5 body.now) }
-    ensures none { IfErr result (λ e. e ≡ ReadFault.Form → IsNoBody 5 body.now) }
+fn deliver(alloc: Global, version: Version, body: &[u8]) -> Result<Written, ReadFault>
+    ensures body { IfOk result (IsBody version 5 body.now) }
+    ensures none { IfErr result (λ e. e ≡ ReadFault.Form → IsNoBody version 5 body.now) }
 {
-    let message = sc_msg::decode::decode(alloc, body)?;
+    let message = decode_as(alloc, version, body)?;
     Ok(Written::Deliver(message))
 }
 
 fn post(reader: &mut Reader<'_>) -> Result<Written, ReadFault>
-    ensures body { IfOk result (IsBody 7 reader.old.rest.now) }
-    ensures none { IfErr result (λ e. e ≡ ReadFault.Form → IsNoBody 7 reader.old.rest.now) }
+    ensures body { (version : Version) → IfOk result (IsBody version 7 reader.old.rest.now) }
+    ensures none { (version : Version) → IfErr result (λ e. e ≡ ReadFault.Form → IsNoBody version 7 reader.old.rest.now) }
 {
     let query = reader.number()?;
     let acc = reader.number()?;
@@ -76,18 +95,23 @@ fn post(reader: &mut Reader<'_>) -> Result<Written, ReadFault>
     Ok(Written::Post { query, acc, steps })
 }
 
-/// The event of this kind that has the body.
-pub(crate) fn body_of(alloc: Global, kind: u8, body: &[u8]) -> Result<Written, ReadFault>
-    ensures body { IfOk result (IsBody kind body.now) }
-    ensures none { IfErr result (λ e. e ≡ ReadFault.Form → IsNoBody kind body.now) }
+/// The event of this kind that has the body in that version.
+pub(crate) fn body_of(
+    alloc: Global,
+    version: Version,
+    kind: u8,
+    body: &[u8],
+) -> Result<Written, ReadFault>
+    ensures body { IfOk result (IsBody version kind body.now) }
+    ensures none { IfErr result (λ e. e ≡ ReadFault.Form → IsNoBody version kind body.now) }
 {
     let mut reader = Reader { rest: body };
     match kind {
         1 | 6 => bare(kind, &reader),
-        2 => register(alloc, &mut reader),
+        2 => register(alloc, version, &mut reader),
         3 => ask(&mut reader),
-        4 => store(body),
-        5 => deliver(alloc, body),
+        4 => store(version, body),
+        5 => deliver(alloc, version, body),
         7 => post(&mut reader),
         _ => Err(ReadFault::Form),
     }

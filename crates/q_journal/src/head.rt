@@ -1,5 +1,6 @@
 //! Heads of journals.
 
+use sc_msg::version::Version;
 use std::marker::Model;
 
 /// A fraction as a journal holds it.
@@ -9,10 +10,12 @@ pub struct Fraction {
     pub denominator: u16,
 }
 
-/// What stands at the head of a journal: which node it is of, and how the node began. Contracts see it as that record.
-/// Whether the fractions and the founders are taken is not looked at.
+/// What stands at the head of a journal: its version, which node it is of, and how the node began. Contracts see it as
+/// that record. Whether the fractions and the founders are taken is not looked at.
 #[derive(Drop)]
 pub struct Head {
+    /// The version of the journal, and of the messages in it.
+    pub version: Version,
     /// The node's id.
     pub id: u64,
     /// The fraction for the phases of operations.
@@ -29,5 +32,5 @@ impl Model for Head {
 
     ghost Value = { HeadState };
 
-    ghost view = { λ h. record { id = h.id; config = record { beta_num = h.beta.numerator; beta_den = h.beta.denominator; gamma_num = h.gamma.numerator; gamma_den = h.gamma.denominator }; founders = option_map (λ v. v.items) h.founders } };
+    ghost view = { λ h. record { version = h.version; id = h.id; config = record { beta_num = h.beta.numerator; beta_den = h.beta.denominator; gamma_num = h.gamma.numerator; gamma_den = h.gamma.denominator }; founders = option_map (λ v. v.items) h.founders } };
 }

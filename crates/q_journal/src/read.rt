@@ -13,6 +13,7 @@ use bq_check::fault::NotesFault;
 use bq_insn::fault::DecodeFault;
 use reasons::passed_on;
 use sc_msg::fault::MessageFault;
+use sc_msg::version::Version;
 use std::alloc::{AllocError, AllocFailed, Global};
 
 /// Why nothing is read.
@@ -58,18 +59,19 @@ impl<T: Drop> From<AllocFailed<T>> for ReadFault {
     }
 }
 
-/// The head with which the bytes begin, and what stands behind it.
+/// The head with which the bytes begin, which tells the version of what stands behind it, and the bytes behind it.
 pub fn read_head<'a>(alloc: Global, bytes: &'a [u8]) -> Result<(Head, &'a [u8]), ReadFault>
     ensures legal { IfOk result (λ r. IsHead r.0) }
     ensures parts { IfOk result (λ r. bytes.now ≡ head_bytes r.0 ++ r.1.now) }
     ensures none { IfErr result (λ e. e ≡ ReadFault.Form → BeginsNone head_bytes IsHead bytes.now) }
 {
     let mut reader = Reader { rest: bytes };
-    reader.format()?;
+    let version = reader.format()?;
     let id = reader.number()?;
     let (beta, gamma) = reader.fractions()?;
     let founders = reader.start(alloc)?;
     let head = Head {
+        version,
         id,
         beta,
         gamma,
@@ -78,16 +80,20 @@ pub fn read_head<'a>(alloc: Global, bytes: &'a [u8]) -> Result<(Head, &'a [u8]),
     Ok((head, reader.rest))
 }
 
-/// The event with which the bytes begin, and what stands behind it.
-pub fn read_event<'a>(alloc: Global, bytes: &'a [u8]) -> Result<(Written, &'a [u8]), ReadFault>
-    ensures legal { IfOk result (λ r. IsWritten r.0) }
-    ensures parts { IfOk result (λ r. bytes.now ≡ event_bytes r.0 ++ r.1.now) }
-    ensures none { IfErr result (λ e. e ≡ ReadFault.Form → BeginsNone event_bytes IsWritten bytes.now) }
+/// The event of that version with which the bytes begin, and what stands behind it.
+pub fn read_event<'a>(
+    alloc: Global,
+    version: Version,
+    bytes: &'a [u8],
+) -> Result<(Written, &'a [u8]), ReadFault>
+    ensures legal { IfOk result (λ r. IsWritten version r.0) }
+    ensures parts { IfOk result (λ r. bytes.now ≡ event_bytes version r.0 ++ r.1.now) }
+    ensures none { IfErr result (λ e. e ≡ ReadFault.Form → BeginsNone (event_bytes version) (IsWritten version) bytes.now) }
 {
     let mut reader = Reader { rest: bytes };
     let kind = reader.byte()?;
     let length = reader.word()?;
     let body = reader.take(length as usize)?;
-    let event = body_of(alloc, kind, body)?;
+    let event = body_of(alloc, version, kind, body)?;
     Ok((event, reader.rest))
 }

@@ -3,12 +3,26 @@
 ghost use Rattle.std.specs.Prelude.{◌≡◌, ◌<◌, ◌^◌, ◌++◌, ◌∷◌, [], length, List, ℕ, option_map, IfOk, IfErr, OnOk, OnErr};
 ghost use Rattle.bq_check.specs.Spelling.{BeginsNone};
 ghost use Rattle.sc_msg.specs.Numbers.{number_bytes};
+ghost use Rattle.sc_msg.specs.Values.{version_byte};
 ghost use Rattle.q_journal.specs.Spelling.{config_bytes, start_bytes, AreShort, AreFounders};
 ghost use Rattle.q_journal.specs.Reading.{config_of, ids_bytes, AreIds};
 
 use crate::head::Fraction;
 use crate::read::ReadFault;
+use sc_msg::version::Version;
 use std::alloc::Global;
+
+/// The version that the fourth byte of a journal tells.
+fn version_of(byte: u8) -> Result<Version, ReadFault>
+    ensures told { IfOk result (λ version. version_byte version ≡ byte) }
+    ensures none { OnErr result ((version : Version) → version_byte version ≡ byte → ⊥) }
+{
+    match byte {
+        1 => Ok(Version::First),
+        2 => Ok(Version::Second),
+        _ => Err(ReadFault::Form),
+    }
+}
 
 /// What is left of the bytes. After a fault it is not used again.
 #[derive(Drop)]
@@ -95,16 +109,17 @@ impl<'a> Reader<'a> {
         }
     }
 
-    /// The first four bytes of a journal.
-    pub(crate) fn format(&mut self) -> Result<(), ReadFault>
-        ensures parts { OnOk result (self.old.rest.now ≡ 0x42 ∷ 0x51 ∷ 0x4a ∷ 0x01 ∷ self.new.rest.now) }
-        ensures none { OnErr result ((more : List ℕ) → self.old.rest.now ≡ 0x42 ∷ 0x51 ∷ 0x4a ∷ 0x01 ∷ more → ⊥) }
+    /// The first four bytes of a journal, of which the last tells its version.
+    pub(crate) fn format(&mut self) -> Result<Version, ReadFault>
+        ensures parts { IfOk result (λ version. self.old.rest.now ≡ 0x42 ∷ 0x51 ∷ 0x4a ∷ version_byte version ∷ self.new.rest.now) }
+        ensures none { OnErr result ((version : Version) (more : List ℕ) → self.old.rest.now ≡ 0x42 ∷ 0x51 ∷ 0x4a ∷ version_byte version ∷ more → ⊥) }
     {
-        let [0x42, 0x51, 0x4a, 0x01, rest @ ..] = self.rest else {
+        let [0x42, 0x51, 0x4a, byte, rest @ ..] = self.rest else {
             return Err(ReadFault::Form);
         };
+        let version = version_of(*byte)?;
         self.rest = rest;
-        Ok(())
+        Ok(version)
     }
 
     fn fraction(&mut self) -> Result<Fraction, ReadFault>

@@ -1,9 +1,13 @@
 //! Worked values of the bytes of journals.
 
 ghost use Rattle.std.specs.Prelude.{◌≡◌, ◌++◌, ℕ, [], ◌∷◌, List, replicate, Some, None};
+ghost use Rattle.bq_state.specs.Kinds.{state_of, all_lengths};
+ghost use Rattle.bq_state.specs.declared.kind.Kind.TheVariants as kind;
 ghost use Rattle.bq_check.specs.Spelling.{BeginsNone};
 ghost use Rattle.bq_insn.specs.declared.insn.Insn.TheVariants as insn;
 ghost use Rattle.sc_msg.specs.declared.message.Body.TheVariants as body;
+ghost use Rattle.sc_msg.specs.declared.version.Version.{Version};
+ghost use Rattle.sc_msg.specs.declared.version.Version.TheVariants.{First, Second};
 ghost use Rattle.q_journal.specs.Head.{Head as HeadState};
 ghost use Rattle.q_journal.specs.Spelling.{head_bytes, event_bytes, IsWritten};
 ghost use Rattle.q_journal.specs.declared.written.Written.TheVariants as written;
@@ -11,17 +15,23 @@ ghost use Rattle.q_journal.specs.declared.written.Written.TheVariants as written
 /// What the definitions say at telling operands.
 #[tactic(auto, unfolding(sc_msg::specs::Numbers::number_bytes, bq_check::specs::Spelling::short_bytes, bq_insn::specs::Fields::unit_bytes))]
 pub fn worked()
-    ensures head_of_a_founder { head_bytes (record { id = 1; config = record { beta_num = 4; beta_den = 5; gamma_num = 4; gamma_den = 5 }; founders = Some (1 ∷ []) }) ≡ 0x42 ∷ 0x51 ∷ 0x4a ∷ 1 ∷ 1 ∷ 0 ∷ 0 ∷ 0 ∷ 0 ∷ 0 ∷ 0 ∷ 0 ∷ 4 ∷ 0 ∷ 5 ∷ 0 ∷ 4 ∷ 0 ∷ 5 ∷ 0 ∷ 0 ∷ 1 ∷ 0 ∷ 1 ∷ 0 ∷ 0 ∷ 0 ∷ 0 ∷ 0 ∷ 0 ∷ 0 ∷ [] }
-    ensures leave { event_bytes written.Leave ≡ 1 ∷ 0 ∷ 0 ∷ 0 ∷ 0 ∷ [] }
-    ensures register { event_bytes (written.Register (insn.Exit ∷ []) (None ∷ [])) ≡ 2 ∷ 17 ∷ 0 ∷ 0 ∷ 0 ∷ 8 ∷ 0 ∷ 0 ∷ 0 ∷ 0x95 ∷ 0 ∷ 0 ∷ 0 ∷ 0 ∷ 0 ∷ 0 ∷ 0 ∷ 1 ∷ 0 ∷ 0 ∷ 0 ∷ 0 ∷ [] }
-    ensures ask { event_bytes (written.Ask 0 7) ≡ 3 ∷ 12 ∷ 0 ∷ 0 ∷ 0 ∷ 0 ∷ 0 ∷ 0 ∷ 0 ∷ 7 ∷ 0 ∷ 0 ∷ 0 ∷ 0 ∷ 0 ∷ 0 ∷ 0 ∷ [] }
-    ensures store { event_bytes (written.Store (replicate 48 9)) ≡ 4 ∷ 48 ∷ 0 ∷ 0 ∷ 0 ∷ replicate 48 9 }
-    ensures deliver { event_bytes (written.Deliver (record { from = 3; body = body.Enter })) ≡ 5 ∷ 12 ∷ 0 ∷ 0 ∷ 0 ∷ 0x42 ∷ 0x51 ∷ 1 ∷ 1 ∷ 3 ∷ 0 ∷ 0 ∷ 0 ∷ 0 ∷ 0 ∷ 0 ∷ 0 ∷ [] }
-    ensures hand_out { event_bytes written.HandOut ≡ 6 ∷ 0 ∷ 0 ∷ 0 ∷ 0 ∷ [] }
-    ensures post { event_bytes (written.Post 0 1 3) ≡ 7 ∷ 0x18 ∷ 0 ∷ 0 ∷ 0 ∷ 0 ∷ 0 ∷ 0 ∷ 0 ∷ 0 ∷ 0 ∷ 0 ∷ 0 ∷ 1 ∷ 0 ∷ 0 ∷ 0 ∷ 0 ∷ 0 ∷ 0 ∷ 0 ∷ 3 ∷ 0 ∷ 0 ∷ 0 ∷ 0 ∷ 0 ∷ 0 ∷ 0 ∷ [] }
+    ensures head_of_a_founder { head_bytes (record { version = Second; id = 1; config = record { beta_num = 4; beta_den = 5; gamma_num = 4; gamma_den = 5 }; founders = Some (1 ∷ []) }) ≡ 0x42 ∷ 0x51 ∷ 0x4a ∷ 2 ∷ 1 ∷ 0 ∷ 0 ∷ 0 ∷ 0 ∷ 0 ∷ 0 ∷ 0 ∷ 4 ∷ 0 ∷ 5 ∷ 0 ∷ 4 ∷ 0 ∷ 5 ∷ 0 ∷ 0 ∷ 1 ∷ 0 ∷ 1 ∷ 0 ∷ 0 ∷ 0 ∷ 0 ∷ 0 ∷ 0 ∷ 0 ∷ [] }
+    ensures head_of_a_founder_v1 { head_bytes (record { version = First; id = 1; config = record { beta_num = 4; beta_den = 5; gamma_num = 4; gamma_den = 5 }; founders = Some (1 ∷ []) }) ≡ 0x42 ∷ 0x51 ∷ 0x4a ∷ 1 ∷ 1 ∷ 0 ∷ 0 ∷ 0 ∷ 0 ∷ 0 ∷ 0 ∷ 0 ∷ 4 ∷ 0 ∷ 5 ∷ 0 ∷ 4 ∷ 0 ∷ 5 ∷ 0 ∷ 0 ∷ 1 ∷ 0 ∷ 1 ∷ 0 ∷ 0 ∷ 0 ∷ 0 ∷ 0 ∷ 0 ∷ 0 ∷ [] }
+    ensures leave { (version : Version) → event_bytes version written.Leave ≡ 1 ∷ 0 ∷ 0 ∷ 0 ∷ 0 ∷ [] }
+    ensures register { (version : Version) → event_bytes version (written.Register (insn.Exit ∷ []) (None ∷ [])) ≡ 2 ∷ 17 ∷ 0 ∷ 0 ∷ 0 ∷ 8 ∷ 0 ∷ 0 ∷ 0 ∷ 0x95 ∷ 0 ∷ 0 ∷ 0 ∷ 0 ∷ 0 ∷ 0 ∷ 0 ∷ 1 ∷ 0 ∷ 0 ∷ 0 ∷ 0 ∷ [] }
+    ensures register_a_state { event_bytes Second (written.Register (insn.Exit ∷ []) (Some (state_of (replicate 11 kind.Unset) all_lengths) ∷ [])) ≡ 2 ∷ 30 ∷ 0 ∷ 0 ∷ 0 ∷ 8 ∷ 0 ∷ 0 ∷ 0 ∷ 0x95 ∷ 0 ∷ 0 ∷ 0 ∷ 0 ∷ 0 ∷ 0 ∷ 0 ∷ 1 ∷ 0 ∷ 0 ∷ 0 ∷ 1 ∷ 16 ∷ 128 ∷ replicate 11 0 }
+    ensures ask { (version : Version) → event_bytes version (written.Ask 0 7) ≡ 3 ∷ 12 ∷ 0 ∷ 0 ∷ 0 ∷ 0 ∷ 0 ∷ 0 ∷ 0 ∷ 7 ∷ 0 ∷ 0 ∷ 0 ∷ 0 ∷ 0 ∷ 0 ∷ 0 ∷ [] }
+    ensures store { event_bytes Second (written.Store (7 ∷ 8 ∷ 9 ∷ [])) ≡ 4 ∷ 3 ∷ 0 ∷ 0 ∷ 0 ∷ 7 ∷ 8 ∷ 9 ∷ [] }
+    ensures store_v1 { event_bytes First (written.Store (replicate 48 9)) ≡ 4 ∷ 48 ∷ 0 ∷ 0 ∷ 0 ∷ replicate 48 9 }
+    ensures deliver { event_bytes Second (written.Deliver (record { from = 3; body = body.Enter })) ≡ 5 ∷ 12 ∷ 0 ∷ 0 ∷ 0 ∷ 0x42 ∷ 0x51 ∷ 2 ∷ 1 ∷ 3 ∷ 0 ∷ 0 ∷ 0 ∷ 0 ∷ 0 ∷ 0 ∷ 0 ∷ [] }
+    ensures deliver_v1 { event_bytes First (written.Deliver (record { from = 3; body = body.Enter })) ≡ 5 ∷ 12 ∷ 0 ∷ 0 ∷ 0 ∷ 0x42 ∷ 0x51 ∷ 1 ∷ 1 ∷ 3 ∷ 0 ∷ 0 ∷ 0 ∷ 0 ∷ 0 ∷ 0 ∷ 0 ∷ [] }
+    ensures hand_out { (version : Version) → event_bytes version written.HandOut ≡ 6 ∷ 0 ∷ 0 ∷ 0 ∷ 0 ∷ [] }
+    ensures post { (version : Version) → event_bytes version (written.Post 0 1 3) ≡ 7 ∷ 0x18 ∷ 0 ∷ 0 ∷ 0 ∷ 0 ∷ 0 ∷ 0 ∷ 0 ∷ 0 ∷ 0 ∷ 0 ∷ 0 ∷ 1 ∷ 0 ∷ 0 ∷ 0 ∷ 0 ∷ 0 ∷ 0 ∷ 0 ∷ 3 ∷ 0 ∷ 0 ∷ 0 ∷ 0 ∷ 0 ∷ 0 ∷ 0 ∷ [] }
 
-    // Another version is no head, a body has no further byte, and posts are events.
-    ensures another_version { (h : HeadState) (rest : List ℕ) → 0x42 ∷ 0x51 ∷ 0x4a ∷ 2 ∷ [] ≡ head_bytes h ++ rest → ⊥ }
-    ensures longer_body { (rest : List ℕ) → 1 ∷ 1 ∷ 0 ∷ 0 ∷ 0 ∷ 9 ∷ [] ≡ event_bytes written.Leave ++ rest → ⊥ }
-    ensures post_is_there { BeginsNone event_bytes IsWritten (event_bytes (written.Post 0 1 3)) → ⊥ }
+    // A third version is no head, a value of 3 bytes is none of version 1, a body has no further byte, and posts are
+    // events.
+    ensures another_version { (h : HeadState) (rest more : List ℕ) → 0x42 ∷ 0x51 ∷ 0x4a ∷ 3 ∷ more ≡ head_bytes h ++ rest → ⊥ }
+    ensures short_value { IsWritten First (written.Store (7 ∷ 8 ∷ 9 ∷ [])) → ⊥ }
+    ensures longer_body { (version : Version) (rest : List ℕ) → 1 ∷ 1 ∷ 0 ∷ 0 ∷ 0 ∷ 9 ∷ [] ≡ event_bytes version written.Leave ++ rest → ⊥ }
+    ensures post_is_there { (version : Version) → BeginsNone (event_bytes version) (IsWritten version) (event_bytes version (written.Post 0 1 3)) → ⊥ }
 {}

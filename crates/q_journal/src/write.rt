@@ -1,14 +1,15 @@
 //! Heads and events to bytes.
 
-ghost use Rattle.std.specs.Prelude.{◌≡◌, ◌<◌, ◌^◌, ◌++◌, ◌∷◌, [], length, option_map, IfSome, OnOk};
+ghost use Rattle.std.specs.Prelude.{◌≡◌, ◌<◌, ◌^◌, ◌++◌, ◌∷◌, [], length, option_map, IfOk, IfSome, OnOk};
 ghost use Rattle.std.specs.List.{flat_map, AllByRecursion};
-ghost use Rattle.bq_state.specs.Kinds.{view_lengths};
 ghost use Rattle.bq_sound.specs.Passes.{AreSuited};
-ghost use Rattle.sc_view.specs.Values.{value_length};
+ghost use Rattle.bq_check.specs.Spelling.{notes_bytes, IsNotes};
 ghost use Rattle.sc_msg.specs.Numbers.{number_bytes};
-ghost use Rattle.sc_msg.specs.Lengths.{MessageHasValuesOf};
-ghost use Rattle.q_journal.specs.Spelling.{config_bytes, head_bytes, event_bytes, AreShort, IsHead, IsWritten};
+ghost use Rattle.sc_msg.specs.Values.{IsLength};
+ghost use Rattle.sc_msg.specs.Lengths.{Fits};
+ghost use Rattle.q_journal.specs.Spelling.{config_bytes, head_bytes, event_bytes, form_of, AreShort, IsHead, IsWritten};
 ghost use Rattle.q_journal.specs.Reading.{ids_bytes};
+ghost use Rattle.q_journal.specs.Writing.{with_more, record_lengths};
 ghost use Rattle.q_journal.specs.declared.written.Written.TheVariants as written;
 
 use bq_check::notes::Notes;
@@ -16,28 +17,26 @@ use bq_insn::text::Text;
 use sc_members::config::Config;
 use sc_msg::encode::encode_fitting;
 use sc_msg::message::Message;
-use sc_view::value::{VALUE_LENGTH, Value};
+use sc_msg::version::Version;
+use sc_view::value::Value;
 use std::alloc::{AllocError, Global};
 use std::marker::Model;
 
-/// The bytes of a journal that is being written. Contracts see it as the list of these. The one error of each call is
-/// that memory ran out (99 OutOfMemory); then the bytes may end within what was to be written.
+/// The bytes of the parts of heads and events. Contracts see the list of these.
 #[derive(Drop)]
-pub struct Writer {
-    alloc: Global,
+struct Bytes {
     bytes: Vec<u8>,
 }
 
-impl Model for Writer {
+impl Model for Bytes {
     ghost use Rattle.std.specs.Prelude.{ℕ, List};
 
     ghost Value = { List ℕ };
 
-    ghost view = { λ w. w.bytes.items };
+    ghost view = { λ b. b.bytes.items };
 }
 
-/// Parts of heads and events.
-impl Writer {
+impl Bytes {
     fn byte(&mut self, byte: u8) -> Result<(), AllocError>
         ensures { OnOk result (self.new ≡ self.old ++ byte ∷ []) }
     {
@@ -110,14 +109,49 @@ impl Writer {
     }
 }
 
+/// The bytes of the notes in the form of that version. The one error is that memory ran out.
+fn spelled_notes(alloc: Global, version: Version, notes: &Notes) -> Result<Vec<u8>, AllocError>
+    requires { AreSuited (record_lengths version) notes.now }
+    ensures legal { IfOk result (λ _. IsNotes (form_of version) notes.now) }
+    ensures spelled { IfOk result (λ bytes. bytes.items ≡ notes_bytes (form_of version) notes.now) }
+{
+    match version {
+        Version::First => match notes.bytes_v1(alloc) {
+            Ok(bytes) => Ok(bytes),
+            Err(_) => Err(AllocError),
+        },
+        Version::Second => notes.bytes(alloc),
+    }
+}
+
+/// The bytes of a journal that is being written. Contracts see its version and these. The one error of each call is
+/// that memory ran out (99 OutOfMemory); then the bytes may end within what was to be written.
+#[derive(Drop)]
+pub struct Writer {
+    alloc: Global,
+    version: Version,
+    out: Bytes,
+}
+
+impl Model for Writer {
+    ghost use Rattle.q_journal.specs.Writing.{JournalBytes};
+
+    ghost Value = { JournalBytes };
+
+    ghost view = { λ w. record { version = w.version; bytes = w.out } };
+}
+
 impl Writer {
-    /// Nothing is written yet.
-    pub fn new(alloc: Global) -> Writer
-        ensures { result ≡ [] }
+    /// Nothing is written yet of a journal of that version.
+    pub fn new(alloc: Global, version: Version) -> Writer
+        ensures { result ≡ record { version = version; bytes = [] } }
     {
         Writer {
             alloc,
-            bytes: Vec::new(alloc),
+            version,
+            out: Bytes {
+                bytes: Vec::new(alloc),
+            },
         }
     }
 
@@ -130,99 +164,99 @@ impl Writer {
         founders: Option<&[u64]>,
     ) -> Result<(), AllocError>
         requires { IfSome founders (λ ids. length ids.now < 2 ^ 16) }
-        ensures legal { OnOk result (IsHead (record { id = id; config = config; founders = option_map (λ ids. ids.now) founders.entry })) }
-        ensures spelled { OnOk result (self.new ≡ self.old ++ head_bytes (record { id = id; config = config; founders = option_map (λ ids. ids.now) founders.entry })) }
+        ensures legal { OnOk result (IsHead (record { version = self.old.version; id = id; config = config; founders = option_map (λ ids. ids.now) founders.entry })) }
+        ensures spelled { OnOk result (self.new ≡ with_more self.old (head_bytes (record { version = self.old.version; id = id; config = config; founders = option_map (λ ids. ids.now) founders.entry }))) }
     {
-        self.append(&[0x42, 0x51, 0x4a, 0x01])?;
-        self.number(id)?;
-        self.config(config)?;
+        self.out.append(&[0x42, 0x51, 0x4a, self.version.byte()])?;
+        self.out.number(id)?;
+        self.out.config(config)?;
         match founders {
             Some(ids) => {
-                self.byte(0)?;
-                self.ids(ids)
+                self.out.byte(0)?;
+                self.out.ids(ids)
             }
-            None => self.byte(1),
+            None => self.out.byte(1),
         }
     }
 
     /// That the node left.
     pub fn leave(&mut self) -> Result<(), AllocError>
-        ensures legal { OnOk result (IsWritten written.Leave) }
-        ensures spelled { OnOk result (self.new ≡ self.old ++ event_bytes written.Leave) }
+        ensures legal { OnOk result (IsWritten self.old.version written.Leave) }
+        ensures spelled { OnOk result (self.new ≡ with_more self.old (event_bytes self.old.version written.Leave)) }
     {
-        self.front(1, 0)
+        self.out.front(1, 0)
     }
 
-    /// That a program was registered, with these notes, which are for the records of views.
+    /// That a program was registered, with these notes, which are for records of 64 bytes in version 1 and of 16 to 128
+    /// in version 2.
     pub fn register(&mut self, text: &Text, notes: &Notes) -> Result<(), AllocError>
-        requires { AreSuited view_lengths notes.now }
-        ensures legal { OnOk result (IsWritten (written.Register text.now notes.now)) }
-        ensures spelled { OnOk result (self.new ≡ self.old ++ event_bytes (written.Register text.now notes.now)) }
+        requires { AreSuited (record_lengths self.old.version) notes.now }
+        ensures legal { OnOk result (IsWritten self.old.version (written.Register text.now notes.now)) }
+        ensures spelled { OnOk result (self.new ≡ with_more self.old (event_bytes self.old.version (written.Register text.now notes.now))) }
     {
         let spelling = bq_insn::encode::encode(self.alloc, text)?;
-        let Ok(notes) = notes.bytes_v1(self.alloc) else {
-            return Err(AllocError);
-        };
-        self.front(2, 4 + spelling.len() + notes.len())?;
-        self.word(spelling.len() as u32)?;
-        self.append(&spelling)?;
-        self.append(&notes)
+        let notes = spelled_notes(self.alloc, self.version, notes)?;
+        self.out.front(2, 4 + spelling.len() + notes.len())?;
+        self.out.word(spelling.len() as u32)?;
+        self.out.append(&spelling)?;
+        self.out.append(&notes)
     }
 
     /// That a query of this program began.
     pub fn ask(&mut self, program: u32, start: u64) -> Result<(), AllocError>
-        ensures legal { OnOk result (IsWritten (written.Ask program start)) }
-        ensures spelled { OnOk result (self.new ≡ self.old ++ event_bytes (written.Ask program start)) }
+        ensures legal { OnOk result (IsWritten self.old.version (written.Ask program start)) }
+        ensures spelled { OnOk result (self.new ≡ with_more self.old (event_bytes self.old.version (written.Ask program start))) }
     {
-        self.front(3, 12)?;
-        self.word(program)?;
-        self.number(start)
+        self.out.front(3, 12)?;
+        self.out.word(program)?;
+        self.out.number(start)
     }
 
-    /// That a store of this value began, which has 48 bytes.
+    /// That a store of this value began, which has a length of the version.
     pub fn store(&mut self, value: &Value) -> Result<(), AllocError>
-        requires { length value.now ≡ value_length }
-        ensures legal { OnOk result (IsWritten (written.Store value.now)) }
-        ensures spelled { OnOk result (self.new ≡ self.old ++ event_bytes (written.Store value.now)) }
+        requires { IsLength self.old.version (length value.now) }
+        ensures legal { OnOk result (IsWritten self.old.version (written.Store value.now)) }
+        ensures spelled { OnOk result (self.new ≡ with_more self.old (event_bytes self.old.version (written.Store value.now))) }
     {
-        self.front(4, VALUE_LENGTH)?;
-        self.append(value.bytes())
+        let bytes = value.bytes();
+        self.out.front(4, bytes.len())?;
+        self.out.append(bytes)
     }
 
-    /// That a message was delivered, whose values have 48 bytes.
+    /// That a message was delivered, whose values have lengths of the version.
     pub fn deliver(&mut self, message: &Message) -> Result<(), AllocError>
-        requires { MessageHasValuesOf value_length message.now }
-        ensures legal { OnOk result (IsWritten (written.Deliver message.now)) }
-        ensures spelled { OnOk result (self.new ≡ self.old ++ event_bytes (written.Deliver message.now)) }
+        requires { Fits self.old.version message.now }
+        ensures legal { OnOk result (IsWritten self.old.version (written.Deliver message.now)) }
+        ensures spelled { OnOk result (self.new ≡ with_more self.old (event_bytes self.old.version (written.Deliver message.now))) }
     {
-        let body = encode_fitting(self.alloc, message)?;
-        self.front(5, body.len())?;
-        self.append(&body)
+        let body = encode_fitting(self.alloc, self.version, message)?;
+        self.out.front(5, body.len())?;
+        self.out.append(&body)
     }
 
     /// That a job was handed out.
     pub fn hand_out(&mut self) -> Result<(), AllocError>
-        ensures legal { OnOk result (IsWritten written.HandOut) }
-        ensures spelled { OnOk result (self.new ≡ self.old ++ event_bytes written.HandOut) }
+        ensures legal { OnOk result (IsWritten self.old.version written.HandOut) }
+        ensures spelled { OnOk result (self.new ≡ with_more self.old (event_bytes self.old.version written.HandOut)) }
     {
-        self.front(6, 0)
+        self.out.front(6, 0)
     }
 
     /// That the answer of a query was recorded.
     pub fn post(&mut self, query: u64, acc: u64, steps: u64) -> Result<(), AllocError>
-        ensures legal { OnOk result (IsWritten (written.Post query acc steps)) }
-        ensures spelled { OnOk result (self.new ≡ self.old ++ event_bytes (written.Post query acc steps)) }
+        ensures legal { OnOk result (IsWritten self.old.version (written.Post query acc steps)) }
+        ensures spelled { OnOk result (self.new ≡ with_more self.old (event_bytes self.old.version (written.Post query acc steps))) }
     {
-        self.front(7, 24)?;
-        self.number(query)?;
-        self.number(acc)?;
-        self.number(steps)
+        self.out.front(7, 24)?;
+        self.out.number(query)?;
+        self.out.number(acc)?;
+        self.out.number(steps)
     }
 
     /// All that was written.
     pub fn bytes(self) -> Vec<u8>
-        ensures { result.items ≡ self }
+        ensures { result.items ≡ self.bytes }
     {
-        self.bytes
+        self.out.bytes
     }
 }

@@ -314,9 +314,9 @@ next_makes c id b d e ev h n right is =
     entry_makes c id b d e ev (history_jobs c h) (next_up c id b d e n) (record { later = d.desk; keeps = keeps_itself d.desk; right = right }) n.takes is
 
 -- a node that was never there enters
-pub enter_makes : (c : ClusterState) (id : ℕ) → IsHistory c → book_at c id ≡ None → Makes c (event.Enter id) id (book.entered c.world.config id).0 (book.entered c.world.config id).1
+pub enter_makes : (c : ClusterState) (id : ℕ) → IsHistory c → book_at c id ≡ None → Makes c (event.Enter id) id (book.entered c.version c.world.config id).0 (book.entered c.version c.world.config id).1
 enter_makes c id h absent =
-    let e = book.entered c.world.config id in
+    let e = book.entered c.version c.world.config id in
     let none = nobody_at c id h absent in
     makes c (event.Enter id) id e.0 e.1 nothing (enters c id e) tt (λ r _. ap (entered c id) none)
-    (put_turn c (recorded (past_of c.world) (world_event.Enter id) id e.1 None None) c.jobs id e.0 e.1 (refl, refl, no_founder c id h none (set.contains (set.from_list {R = nat_cmp} c.world.founders) id) refl) refl)
+    (put_turn c (recorded (past_of c.world) (world_event.Enter id) id e.1 None None) c.jobs id e.0 e.1 (refl, refl, refl, no_founder c id h none (set.contains (set.from_list {R = nat_cmp} c.world.founders) id) refl) refl)

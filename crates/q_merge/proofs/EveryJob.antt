@@ -4,6 +4,7 @@ use Rattle.std.specs.Ordering.{nat_cmp}
 use Rattle.std.specs.FinMap as fin
 use Rattle.sc_members.specs.Members.{Config}
 use Rattle.sc_msg.specs.declared.message.Message.{Message}
+use Rattle.sc_msg.specs.declared.version.Version.{Version}
 use Rattle.sc_node.specs.State.{NodeState}
 use Rattle.sc_node.specs.Nodes.{founder}
 use Rattle.sc_world.specs.State.{Past, world_of}
@@ -24,7 +25,7 @@ use Rattle.q_history.specs.State.{ClusterState}
 use Rattle.q_history.specs.Heads.{book_of}
 use Rattle.q_history.specs.Clusters.{Desks, at as at_node, registers, registered, asks, asked, stores, stored, delivers, delivered_as, with_job, hands, handed_out, posts, finished, entered, leaves, left, crashed, desks_with, start}
 use Rattle.q_history.specs.Calls.{Follows, Reaches, IsHistory}
-use Rattle.q_history.proofs.Lists.{same_some, no_some}
+use Rattle.q_history.proofs.Lists.{no_some}
 use Rattle.q_history.proofs.Kept.{IsKept}
 use Rattle.q_history.proofs.EveryBook.{all_new}
 use Rattle.q_book.proofs.Parts.{left-parts, stored-parts, asked-parts, delivered-parts, desk-parts}
@@ -53,7 +54,7 @@ pub record JobsOf (c : ClusterState) : Type 0 where
 
 -- a node and its desk are put in
 put_of : (c : ClusterState) (p : Past) (jobs : List Job) (id : ℕ) (n : NodeState) (e : DeskState) → JobsOf c → JobsAre (fin.insert c.desks id e) jobs
-    → JobsOf (record { world = world_of (fin.insert c.world.nodes id n) p; desks = fin.insert c.desks id e; jobs = jobs })
+    → JobsOf (record { version = c.version; world = world_of (fin.insert c.world.nodes id n) p; desks = fin.insert c.desks id e; jobs = jobs })
 put_of c p jobs id n e are now = record { jobs = now; desks = put_both c.world.nodes c.desks id n e are.desks }
 
 module _ (c : ClusterState) (are : JobsOf c) where
@@ -61,8 +62,8 @@ module _ (c : ClusterState) (are : JobsOf c) where
   enter_jobs id (Some n) y kept is h = absurd (no_refusal _ y h)
   enter_jobs id None y kept is h =
       subst JobsOf (ap (λ (z : Stepped × ClusterState). z.1) (same_answer _ y h))
-      (put_of c _ c.jobs id (book.entered c.world.config id).0.node new_desk are
-      (put_jobs c.desks c.jobs are.jobs id new_desk c.jobs (λ number j k. k) (λ number j k. inl k)
+      (put_of c _ c.jobs id (book.entered c.version c.world.config id).0.node (new_desk (book.record_lengths c.version)) are
+      (put_jobs c.desks c.jobs are.jobs id (new_desk (book.record_lengths c.version)) c.jobs (λ number j k. k) (λ number j k. inl k)
       (λ d j at o. absurd (no_some (kept.desks id d at).node (sym is ∙ (kept.desks id d at).at)))
       (λ k q v at runs. absurd (no_some q at))))
 
@@ -146,25 +147,26 @@ jobs_run (e ∷ es) c d kept are r = jobs_run es r.1 d (step_kept c r.1 e r.0 ke
 -- ---- founders
 
 -- the desks of founders are new
-pub start_new : (config : Config) (ids : List ℕ) (id : ℕ) (d : DeskState) → fin.get (start config ids).desks id ≡ Some d → new_desk ≡ d
-start_new config ids id d at = all_new config ids ids fin.empty (λ i x none. absurd (no_some x (sym (fin.get-empty nat_cmp i) ∙ none))) id d at
+pub start_new : (version : Version) (config : Config) (ids : List ℕ) (id : ℕ) (d : DeskState) → fin.get (start version config ids).desks id ≡ Some d → new_desk (book.record_lengths version) ≡ d
+start_new version config ids id d at = all_new version config ids ids fin.empty (λ i x none. absurd (no_some x (sym (fin.get-empty nat_cmp i) ∙ none))) id d at
 
-all_there : (config : Config) (ids qs : List ℕ) (nodes : fin.FinMap nat_cmp NodeState) (desks : Desks) → HasDesks nodes desks → HasDesks (world.nodes_with config ids nodes qs) (desks_with desks qs)
-all_there config ids [] nodes desks has = has
-all_there config ids (p ∷ qs) nodes desks has =
-    all_there config ids qs (fin.insert nodes p (founder config ids p)) (fin.insert desks p new_desk) (put_both nodes desks p (founder config ids p) new_desk has)
+all_there : (version : Version) (config : Config) (ids qs : List ℕ) (nodes : fin.FinMap nat_cmp NodeState) (desks : Desks) → HasDesks nodes desks → HasDesks (world.nodes_with config ids nodes qs) (desks_with version desks qs)
+all_there version config ids [] nodes desks has = has
+all_there version config ids (p ∷ qs) nodes desks has =
+    let new : DeskState = new_desk (book.record_lengths version) in
+    all_there version config ids qs (fin.insert nodes p (founder config ids p)) (fin.insert desks p new) (put_both nodes desks p (founder config ids p) new has)
 
-start_jobs : (config : Config) (ids : List ℕ) → JobsOf (start config ids)
-start_jobs config ids = record {
+start_jobs : (version : Version) (config : Config) (ids : List ℕ) → JobsOf (start version config ids)
+start_jobs version config ids = record {
   jobs = record {
     each = λ number j at. absurd (no_some j at);
     all = λ id d k q v at here runs.
-        let new = start_new config ids id d at in
+        let new = start_new version config ids id d at in
         absurd (no_some q (ap (λ (x : DeskState). slice_get x.queries k) new ∙ here));
   };
-  desks = all_there config ids ids fin.empty fin.empty (λ i n none. absurd (no_some n (sym (fin.get-empty nat_cmp i) ∙ none)));
+  desks = all_there version config ids ids fin.empty fin.empty (λ i n none. absurd (no_some n (sym (fin.get-empty nat_cmp i) ∙ none)));
 }
 
 pub history_jobs : (c : ClusterState) → IsHistory c → JobsOf c
 history_jobs c h =
-    jobs_run h.0 (start c.world.config c.world.founders) c (start_kept c.world.config c.world.founders) (start_jobs c.world.config c.world.founders) h.1
+    jobs_run h.0 (start c.version c.world.config c.world.founders) c (start_kept c.version c.world.config c.world.founders) (start_jobs c.version c.world.config c.world.founders) h.1

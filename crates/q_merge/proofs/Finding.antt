@@ -4,6 +4,7 @@ use Rattle.std.specs.Prelude.{bytes_eq}
 use Rattle.std.proofs.lemmas.Option.{slice_get_within}
 use Rattle.std.proofs.lemmas.Slice.Eq.{bytes_eq-Decides}
 use Rattle.sc_msg.specs.declared.message.Message.{Message}
+use Rattle.sc_msg.specs.declared.version.Version.TheVariants.{Second}
 use Rattle.sc_msg.specs.Messages.{message_bytes, IsMessage}
 use Rattle.sc_world.proofs.Histories.{slice_get_front, slice_get_last}
 use Rattle.q_history.proofs.Lists.{same_some, no_some, get_snoc}
@@ -11,7 +12,7 @@ use Rattle.q_merge.specs.Numbers.{NumberList, number_of, added, IsLeastNumber, A
 
 -- a message has one spelling
 abbrev pub OneSpelling : Type 0
-OneSpelling = (m n : Message) → IsMessage m → IsMessage n → message_bytes m ≡ message_bytes n → m ≡ n
+OneSpelling = (m n : Message) → IsMessage Second m → IsMessage Second n → message_bytes Second m ≡ message_bytes Second n → m ≡ n
 
 none_of : (o : Option ℕ) → is_some o ≡ false → o ≡ None
 none_of None h = refl
@@ -49,7 +50,7 @@ earlier [] y k less at = absurd (omega arith)
 earlier (w ∷ xs) y zero less at = at
 earlier (w ∷ xs) y (suc k) less at = earlier xs y k (omega arith) at
 
-module _ (one : OneSpelling) (sent : List Message) (es : NumberList) (are : AreNumbers sent es) (m : Message) (legal : IsMessage m) where
+module _ (one : OneSpelling) (sent : List Message) (es : NumberList) (are : AreNumbers sent es) (m : Message) (legal : IsMessage Second m) where
   -- a message that had a number keeps it
   kept : (x : Message) (n : ℕ) → IsLeastNumber sent x (Some n) → IsLeastNumber (sent ++ m ∷ []) x (Some n)
   kept x n h = (
@@ -67,35 +68,35 @@ module _ (one : OneSpelling) (sent : List Message) (es : NumberList) (are : AreN
   first_sent : IsLeastNumber sent m None → IsLeastNumber (sent ++ m ∷ []) m (Some (length sent))
   first_sent h = (slice_get_last sent m, λ k less at. h k (earlier sent m k less at))
 
-  there_by : (x : Message) → IsMessage x → (o : Option ℕ) → number_of (message_bytes x) es ≡ o → is_some (number_of (message_bytes m) es) ≡ true → IsLeastNumber (sent ++ m ∷ []) x o
+  there_by : (x : Message) → IsMessage Second x → (o : Option ℕ) → number_of (message_bytes Second x) es ≡ o → is_some (number_of (message_bytes Second m) es) ≡ true → IsLeastNumber (sent ++ m ∷ []) x o
   there_by x good (Some n) at some = kept x n (subst (IsLeastNumber sent x) at (are x good))
   there_by x good None at some =
       not_sent x (subst (IsLeastNumber sent x) at (are x good))
-      (λ same. let none : false ≡ true = ap (λ (o : Option ℕ). is_some o) (sym at) ∙ ap (λ (y : Message). is_some (number_of (message_bytes y) es)) (sym same) ∙ some in absurd (cc))
+      (λ same. let none : false ≡ true = ap (λ (o : Option ℕ). is_some o) (sym at) ∙ ap (λ (y : Message). is_some (number_of (message_bytes Second y) es)) (sym same) ∙ some in absurd (cc))
 
-  new_by : (x : Message) → IsMessage x → (o : Option ℕ) → number_of (message_bytes x) es ≡ o → number_of (message_bytes m) es ≡ None
-      → IsLeastNumber (sent ++ m ∷ []) x (number_of (message_bytes x) (es ++ (message_bytes m, length sent) ∷ []))
+  new_by : (x : Message) → IsMessage Second x → (o : Option ℕ) → number_of (message_bytes Second x) es ≡ o → number_of (message_bytes Second m) es ≡ None
+      → IsLeastNumber (sent ++ m ∷ []) x (number_of (message_bytes Second x) (es ++ (message_bytes Second m, length sent) ∷ []))
   new_by x good (Some n) at none =
-      subst (IsLeastNumber (sent ++ m ∷ []) x) (sym (number_first (message_bytes x) (message_bytes m) (length sent) n es at)) (kept x n (subst (IsLeastNumber sent x) at (are x good)))
+      subst (IsLeastNumber (sent ++ m ∷ []) x) (sym (number_first (message_bytes Second x) (message_bytes Second m) (length sent) n es at)) (kept x n (subst (IsLeastNumber sent x) at (are x good)))
   new_by x good None at none =
-      subst (IsLeastNumber (sent ++ m ∷ []) x) (sym (number_last (message_bytes x) (message_bytes m) (length sent) es at)) (go (bytes_eq (message_bytes x) (message_bytes m)) refl)
+      subst (IsLeastNumber (sent ++ m ∷ []) x) (sym (number_last (message_bytes Second x) (message_bytes Second m) (length sent) es at)) (go (bytes_eq (message_bytes Second x) (message_bytes Second m)) refl)
     where
-      go : (b : Bool) → bytes_eq (message_bytes x) (message_bytes m) ≡ b → IsLeastNumber (sent ++ m ∷ []) x (cond b (Some (length sent)) None)
+      go : (b : Bool) → bytes_eq (message_bytes Second x) (message_bytes Second m) ≡ b → IsLeastNumber (sent ++ m ∷ []) x (cond b (Some (length sent)) None)
       go true is =
-          let same : m ≡ x = one m x legal good (sym ((bytes_eq-Decides (message_bytes x) (message_bytes m)).0 is)) in
+          let same : m ≡ x = one m x legal good (sym ((bytes_eq-Decides (message_bytes Second x) (message_bytes Second m)).0 is)) in
           subst (λ (y : Message). IsLeastNumber (sent ++ m ∷ []) y (Some (length sent))) same (first_sent (subst (IsLeastNumber sent m) none (are m legal)))
       go false is =
           not_sent x (subst (IsLeastNumber sent x) at (are x good))
           (λ same.
-          let both : false ≡ true = sym is ∙ (bytes_eq-Decides (message_bytes x) (message_bytes m)).1 (ap message_bytes (sym same)) in
+          let both : false ≡ true = sym is ∙ (bytes_eq-Decides (message_bytes Second x) (message_bytes Second m)).1 (ap (message_bytes Second) (sym same)) in
           absurd (cc))
 
-  by_test : (b : Bool) → is_some (number_of (message_bytes m) es) ≡ b → AreNumbers (sent ++ m ∷ []) (cond b es (es ++ (message_bytes m, length sent) ∷ []))
-  by_test true is x good = there_by x good (number_of (message_bytes x) es) refl is
-  by_test false is x good = new_by x good (number_of (message_bytes x) es) refl (none_of (number_of (message_bytes m) es) is)
+  by_test : (b : Bool) → is_some (number_of (message_bytes Second m) es) ≡ b → AreNumbers (sent ++ m ∷ []) (cond b es (es ++ (message_bytes Second m, length sent) ∷ []))
+  by_test true is x good = there_by x good (number_of (message_bytes Second x) es) refl is
+  by_test false is x good = new_by x good (number_of (message_bytes Second x) es) refl (none_of (number_of (message_bytes Second m) es) is)
 
-  pub numbers_on : AreNumbers (sent ++ m ∷ []) (added (message_bytes m) (length sent) es)
-  numbers_on = by_test (is_some (number_of (message_bytes m) es)) refl
+  pub numbers_on : AreNumbers (sent ++ m ∷ []) (added (message_bytes Second m) (length sent) es)
+  numbers_on = by_test (is_some (number_of (message_bytes Second m) es)) refl
 
 pub no_numbers : AreNumbers [] []
 no_numbers m legal k at = absurd (no_some m at)

@@ -4,7 +4,6 @@ use Rattle.std.proofs.lemmas.Bool.{eqb-true, eqb-false}
 use Rattle.std.proofs.lemmas.Option.{get_or_from_slice_get, slice_get_within}
 use Rattle.std.specs.Ordering.{nat_cmp}
 use Rattle.std.specs.FinSet as set
-use Rattle.sc_members.specs.Members.{Config}
 use Rattle.sc_msg.specs.declared.message.Message.{Message}
 use Rattle.q_desk.specs.Answers.{AnswersAreRight}
 use Rattle.q_desk.specs.declared.journal.Entry.{Entry}
@@ -42,20 +41,20 @@ no_first x xs e = absurd (cc)
 
 module _ (c : ClusterState) (whole : BookState) (s : Step Message) (rest : List (Step Message)) (h : IsHistory c) where
   -- the node enters
-  pub enter_goes : whole.config ≡ c.world.config → book_at c whole.id ≡ None → whole.founders ≡ None → IsTrace whole (s ∷ rest) → NodeGoes c whole s rest (event.Enter whole.id) whole.desk.journal
-  enter_goes same absent none t =
-      let first : Step Message = record { wants = None; gives = (book.entered whole.config whole.id).1 } in
+  pub enter_goes : whole.version ≡ c.version → whole.config ≡ c.world.config → book_at c whole.id ≡ None → whole.founders ≡ None → IsTrace whole (s ∷ rest) → NodeGoes c whole s rest (event.Enter whole.id) whole.desk.journal
+  enter_goes its same absent none t =
+      let first : Step Message = record { wants = None; gives = (book.entered whole.version whole.config whole.id).1 } in
       let is : s ∷ rest ≡ first ∷ t.rest = t.is ∙ ap (λ (o : Option (List ℕ)). entering whole o ++ t.rest) none in
       let parts = same_first s first rest t.rest is in
       let begun : IsFirst whole t.first None = subst (IsFirst whole t.first) none t.begun in
-      let begins : book.new_book whole.id whole.config whole.founders t.first ≡ (book.entered whole.config whole.id).0 = λ i. book.new_book whole.id whole.config (none i) (begun i) in
-      let outs : s.gives ≡ (book.entered c.world.config whole.id).1 = ap (λ (x : Step Message). x.gives) parts.0 ∙ ap (λ (x : Config). (book.entered x whole.id).1) same in
+      let begins : book.new_book whole.version whole.id whole.config whole.founders t.first ≡ (book.entered whole.version whole.config whole.id).0 = λ i. book.new_book whole.version whole.id whole.config (none i) (begun i) in
+      let outs : s.gives ≡ (book.entered c.version c.world.config whole.id).1 = ap (λ (x : Step Message). x.gives) parts.0 ∙ (λ i. (book.entered (its i) (same i) whole.id).1) in
       record {
-        book = (book.entered c.world.config whole.id).0;
-        makes = subst (Makes c (event.Enter whole.id) whole.id (book.entered c.world.config whole.id).0) (sym outs) (enter_makes c whole.id h absent);
+        book = (book.entered c.version c.world.config whole.id).0;
+        makes = subst (Makes c (event.Enter whole.id) whole.id (book.entered c.version c.world.config whole.id).0) (sym outs) (enter_makes c whole.id h absent);
         trace =
-            subst (λ (x : BookState). IsTraceFrom x whole.desk.journal rest whole) (begins ∙ ap (λ (x : Config). (book.entered x whole.id).0) same)
-            (subst (λ (x : List (Step Message)). IsTraceFrom (book.new_book whole.id whole.config whole.founders t.first) whole.desk.journal x whole) (sym parts.1) t.trace);
+            subst (λ (x : BookState). IsTraceFrom x whole.desk.journal rest whole) (begins ∙ (λ i. (book.entered (its i) (same i) whole.id).0))
+            (subst (λ (x : List (Step Message)). IsTraceFrom (book.new_book whole.version whole.id whole.config whole.founders t.first) whole.desk.journal x whole) (sym parts.1) t.trace);
       }
 
   module _ (nobody : c.world.crashed ≡ set.empty) (e : Entry) (es : List Entry) (b : BookState) (at : book_at c whole.id ≡ Some b) (t : IsTraceFrom b (e ∷ es) (s ∷ rest) whole) where
@@ -90,9 +89,9 @@ module _ (c : ClusterState) (whole : BookState) (s : Step Message) (rest : List 
         let ev = entry_event nobody e es b at t can in
         (ev.0, es, entry_goes nobody e es b at t right ev.0 ev.1)
 
-    node_goes : (left : List Entry) → whole.config ≡ c.world.config → IsAt c whole left (s ∷ rest) → (ev : Event) × (rests : List Entry) × NodeGoes c whole s rest ev rests
-    node_goes left same (Away absent none is t) = (event.Enter whole.id, whole.desk.journal, enter_goes same absent none t)
-    node_goes left same (There b at t) = entries_go left b at t
+    node_goes : (left : List Entry) → whole.version ≡ c.version → whole.config ≡ c.world.config → IsAt c whole left (s ∷ rest) → (ev : Event) × (rests : List Entry) × NodeGoes c whole s rest ev rests
+    node_goes left its same (Away absent none is t) = (event.Enter whole.id, whole.desk.journal, enter_goes its same absent none t)
+    node_goes left its same (There b at t) = entries_go left b at t
 
 -- a node at which nothing happens stays where it is
 at_stays : (c later : ClusterState) (id : ℕ) (b : BookState) (outs : List Message) → IsTurn c id b outs later → (whole : BookState) (left : List Entry) (steps : List (Step Message)) → (whole.id ≡ id → ⊥)
@@ -112,7 +111,7 @@ module _ (books : List BookState) (c : ClusterState) (lists : List (List (Step M
 
   now : CanGo c.world.sent s → (ev : Event) × (left : List Entry) × NodeGoes c whole s rest ev left
   now can =
-      node_goes c whole s rest u.history u.nobody (u.right k whole mine) can placed.2 (u.same k whole mine)
+      node_goes c whole s rest u.history u.nobody (u.right k whole mine) can placed.2 (u.versions k whole mine) (u.same k whole mine)
       (subst (IsAt c whole placed.2) (same_some placed.0 (s ∷ rest) (sym placed.1 ∙ at)) placed.3)
 
   module _ (ev : Event) (left : List Entry) (g : NodeGoes c whole s rest ev left) where
@@ -143,6 +142,7 @@ module _ (books : List BookState) (c : ClusterState) (lists : List (List (Step M
         history = h;
         distinct = u.distinct;
         right = u.right;
+        versions = λ i b here. u.versions i b here ∙ sym turn.version;
         same = λ i b here. u.same i b here ∙ sym turn.config;
         at = λ i b here. placed_by i b (i == k) refl here;
         all = λ id b here. all_by id b (id == whole.id) refl here;
@@ -179,7 +179,7 @@ done_by c whole b (e ∷ es) at t = absurd (no_first (step_of b e) t.2 t.3)
 -- a node of which no step is left has its book
 pub done_at : (c : ClusterState) (whole : BookState) (left : List Entry) → IsAt c whole left [] → book_at c whole.id ≡ Some whole
 done_at c whole left (Away absent none is t) =
-    absurd (no_first (record { wants = None; gives = (book.entered whole.config whole.id).1 }) t.rest (t.is ∙ ap (λ (o : Option (List ℕ)). entering whole o ++ t.rest) none))
+    absurd (no_first (record { wants = None; gives = (book.entered whole.version whole.config whole.id).1 }) t.rest (t.is ∙ ap (λ (o : Option (List ℕ)). entering whole o ++ t.rest) none))
 done_at c whole left (There b at t) = done_by c whole b left at t
 
 pub over_at : (lists : List (List (Step Message))) (k : ℕ) (steps : List (Step Message)) → AreOver lists → slice_get lists k ≡ Some steps → steps ≡ []

@@ -23,7 +23,7 @@ use Rattle.q_desk.specs.Desks as desk
 use Rattle.q_desk.specs.declared.fault.DeskFault.TheVariants as fault
 use Rattle.q_desk.proofs.Accepted.{IsReadyJob, next_is, posted_is as recorded}
 use Rattle.q_history.specs.Clusters.{Desks}
-use Rattle.q_history.proofs.Lists.{same_some, no_some, passed, get_snoc, get_elsewhere, found}
+use Rattle.q_history.proofs.Lists.{same_some, passed, get_snoc, get_elsewhere, found}
 use Rattle.q_desk.proofs.Moves.{registered_moves}
 use Rattle.q_merge.specs.Turns.{IsJobFor}
 use Rattle.q_merge.proofs.Lists.{get_written, get_after}
@@ -169,7 +169,8 @@ registered_by-queries d program (Ok z) y h = ap (λ (x : ℕ × DeskState). x.1.
 
 pub registered_quiet : (d : DeskState) (program : Certificate) (y : ℕ × DeskState) → desk.registered d program ≡ Ok y → IsQuiet d y.1
 registered_quiet d program y h =
-    let queries = registered_by-queries d program (table.registered d.programs program) y h in
+    let a = passed (desk.is_checked_for d.lengths program) fault.WrongBounds _ y h in
+    let queries = registered_by-queries d program (table.registered d.programs program) y a.1 in
     record {
       stay = λ j o. out_more d.programs y.1.programs d.queries y.1.queries j (registered_moves d program y h).0.keeps.programs (λ k q at. ap (λ (x : List Query). slice_get x k) queries ∙ at) o;
       run = λ k q v at is. ap (λ (x : List Query). slice_get x k) (sym queries) ∙ at;

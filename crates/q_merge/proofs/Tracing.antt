@@ -76,8 +76,8 @@ first_one b n m None h k = h ∙ sym k
 pub trace_one : (b : BookState) (steps others : List (Step Message)) → IsTrace b steps → IsTrace b others → steps ≡ others
 trace_one b steps others t u =
     let same = first_one b t.first u.first b.founders t.begun u.begun in
-    let rest = from_one b.desk.journal (book.new_book b.id b.config b.founders u.first) b b t.rest u.rest
-    (subst (λ (n : NodeState). IsTraceFrom (book.new_book b.id b.config b.founders n) b.desk.journal t.rest b) same t.trace) u.trace
+    let rest = from_one b.desk.journal (book.new_book b.version b.id b.config b.founders u.first) b b t.rest u.rest
+    (subst (λ (n : NodeState). IsTraceFrom (book.new_book b.version b.id b.config b.founders n) b.desk.journal t.rest b) same t.trace) u.trace
     in
     t.is ∙ ap (λ (x : List (Step Message)). entering b b.founders ++ x) rest ∙ sym u.is
 
@@ -89,7 +89,7 @@ from_some (e ∷ es) b c r =
 
 pub trace_some : (b : BookState) → IsReplay b → (steps : List (Step Message)) × IsTrace b steps
 trace_some b r =
-    let t = from_some b.desk.journal (book.new_book b.id b.config b.founders r.first) b r.replayed in
+    let t = from_some b.desk.journal (book.new_book b.version b.id b.config b.founders r.first) b r.replayed in
     (entering b b.founders ++ t.0, record { first = r.first; begun = r.begun; rest = t.0; trace = t.1; is = refl })
 
 -- ---- all books

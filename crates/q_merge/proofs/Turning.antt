@@ -76,7 +76,7 @@ module _ (c : ClusterState) (id : ℕ) (b : BookState) (up : IsUp c id b) where
 
 -- the book is headed as that of this node
 abbrev pub IsHeadedAs : ClusterState → ℕ → BookState → Type 0
-IsHeadedAs c id d = (d.id ≡ id) × (d.config ≡ c.world.config) × (d.founders ≡ founders_for id c.world.founders)
+IsHeadedAs c id d = (d.version ≡ c.version) × (d.id ≡ id) × (d.config ≡ c.world.config) × (d.founders ≡ founders_for id c.world.founders)
 
 -- the cluster with another book, and a past of the same founders
 abbrev pub With : ClusterState → Past → List Job → ℕ → BookState → ClusterState
@@ -97,10 +97,10 @@ module _ (c : ClusterState) (p : Past) (jobs : List Job) (id : ℕ) (d : BookSta
   book_here : IsHeadedAs c id d → book_at (With c p jobs id d) id ≡ Some d
   book_here k =
       (λ i. booked (With c p jobs id d) id (get-insert_same c.world.nodes id d.node i) (get-insert_same c.desks id d.desk i))
-      ∙ (λ i. Some (record { id = sym k.0 i; config = sym k.1 i; founders = sym k.2 i; node = d.node; desk = d.desk }))
+      ∙ (λ i. Some (record { version = sym k.0 i; id = sym k.1 i; config = sym k.2 i; founders = sym k.3 i; node = d.node; desk = d.desk }))
 
   pub put_turn : (outs : List Message) → IsHeadedAs c id d → p.sent ≡ c.world.sent ++ outs → IsTurn c id d outs (With c p jobs id d)
-  put_turn outs k sent = record { book = book_here k; others = λ q away. book_elsewhere q away; sent = sent; crashed = refl; config = refl; founders = refl }
+  put_turn outs k sent = record { book = book_here k; others = λ q away. book_elsewhere q away; sent = sent; crashed = refl; version = refl; config = refl; founders = refl }
 
 -- ---- an event that is accepted, whatever a job comes to
 
@@ -115,9 +115,10 @@ makes c ev id d outs ran y right says turn = record {
 }
 
 -- the head of a book that is there
-pub head_of : (c : ClusterState) (id : ℕ) (b d : BookState) → IsUp c id b → (d.id ≡ b.id) × (d.config ≡ b.config) × (d.founders ≡ b.founders) → IsHeadedAs c id d
+pub head_of : (c : ClusterState) (id : ℕ) (b d : BookState) → IsUp c id b → (d.version ≡ b.version) × (d.id ≡ b.id) × (d.config ≡ b.config) × (d.founders ≡ b.founders) → IsHeadedAs c id d
 head_of c id b d up k = (
-  k.0 ∙ ap (λ (x : BookState). x.id) (sym up.is),
-  k.1 ∙ ap (λ (x : BookState). x.config) (sym up.is),
-  k.2 ∙ ap (λ (x : BookState). x.founders) (sym up.is),
+  k.0 ∙ ap (λ (x : BookState). x.version) (sym up.is),
+  k.1 ∙ ap (λ (x : BookState). x.id) (sym up.is),
+  k.2 ∙ ap (λ (x : BookState). x.config) (sym up.is),
+  k.3 ∙ ap (λ (x : BookState). x.founders) (sym up.is),
 )

@@ -4,6 +4,7 @@ use Rattle.std.specs.Ordering.{nat_cmp}
 use Rattle.std.specs.FinSet as set
 use Rattle.sc_members.specs.Members.{Config}
 use Rattle.sc_msg.specs.declared.message.Message.{Message}
+use Rattle.sc_msg.specs.declared.version.Version.{Version}
 use Rattle.q_desk.specs.Answers.{AnswersAreRight}
 use Rattle.q_desk.specs.declared.journal.Entry.{Entry}
 use Rattle.q_book.specs.State.{BookState}
@@ -34,9 +35,10 @@ pub record HasBook (books : List BookState) (id : ℕ) : Type 0 where
 abbrev pub AreRight : List BookState → Type 0
 AreRight books = (k : ℕ) (b : BookState) → slice_get books k ≡ Some b → AnswersAreRight b.desk
 
--- the books agree on the fractions and on the founders, who are taken and of whom each has a book
-pub record AgreeOn (books : List BookState) (config : Config) (founders : List ℕ) : Type 0 where
-  pub taken : started config founders ≡ Ok (start config founders)
+-- the books agree on the version, on the fractions and on the founders, who are taken and of whom each has a book
+pub record AgreeOn (books : List BookState) (version : Version) (config : Config) (founders : List ℕ) : Type 0 where
+  pub taken : started version config founders ≡ Ok (start version config founders)
+  pub versions : (k : ℕ) (b : BookState) → slice_get books k ≡ Some b → b.version ≡ version
   pub heads : (k : ℕ) (b : BookState) → slice_get books k ≡ Some b → (b.config ≡ config) × (b.founders ≡ founders_for b.id founders)
   pub there : (id : ℕ) → set.contains (set.from_list {R = nat_cmp} founders) id ≡ true → HasBook books id
 
@@ -65,6 +67,7 @@ pub record IsUnderWay (books : List BookState) (c : ClusterState) (lists : List 
   pub history : IsHistory c
   pub distinct : AreDistinct books
   pub right : AreRight books
+  pub versions : (k : ℕ) (b : BookState) → slice_get books k ≡ Some b → b.version ≡ c.version
   pub same : (k : ℕ) (b : BookState) → slice_get books k ≡ Some b → b.config ≡ c.world.config
   pub at : (k : ℕ) (b : BookState) → slice_get books k ≡ Some b → (steps : List (Step Message)) × (slice_get lists k ≡ Some steps) × (left : List Entry) × IsAt c b left steps
   pub all : (id : ℕ) (b : BookState) → book_at c id ≡ Some b → HasBook books id

@@ -2,6 +2,7 @@
 use Rattle.std.specs.Prelude.{◌≡◌, ℕ, ◌<◌, bytes_eq, List, [], ◌∷◌, ◌++◌, Option, Some, None, is_some, slice_get, if◌then◌else◌}
 use Rattle.sc_msg.specs.declared.message.Message.{Message}
 use Rattle.sc_msg.specs.Messages.{message_bytes, IsMessage}
+use Rattle.sc_msg.specs.declared.version.Version.TheVariants.{Second}
 
 -- bytes with their numbers
 abbrev pub NumberList : Type 0
@@ -21,6 +22,6 @@ abbrev pub IsLeastNumber : List Message → Message → Option ℕ → Type 0
 IsLeastNumber sent m None = (k : ℕ) → slice_get sent k ≡ Some m → ⊥
 IsLeastNumber sent m (Some n) = (slice_get sent n ≡ Some m) × ((k : ℕ) → k < n → slice_get sent k ≡ Some m → ⊥)
 
--- these are the least numbers of the messages that were sent
+-- these are the least numbers of the messages that were sent, by their bytes in the second version: there each has some
 abbrev pub AreNumbers : List Message → NumberList → Type 0
-AreNumbers sent es = (m : Message) → IsMessage m → IsLeastNumber sent m (number_of (message_bytes m) es)
+AreNumbers sent es = (m : Message) → IsMessage Second m → IsLeastNumber sent m (number_of (message_bytes Second m) es)

@@ -46,12 +46,12 @@ IsTraceFrom b (e ∷ es) steps c =
 -- a node that enters first sends that it does; a founder does not
 abbrev pub entering : BookState → Option (List ℕ) → List (Step Message)
 entering b (Some ids) = []
-entering b None = record { wants = None; gives = (entered b.config b.id).1 } ∷ []
+entering b None = record { wants = None; gives = (entered b.version b.config b.id).1 } ∷ []
 
 -- the steps of a book, from its first state on
 pub record IsTrace (b : BookState) (steps : List (Step Message)) : Type 0 where
   pub first : NodeState
   pub begun : IsFirst b first b.founders
   pub rest : List (Step Message)
-  pub trace : IsTraceFrom (new_book b.id b.config b.founders first) b.desk.journal rest b
+  pub trace : IsTraceFrom (new_book b.version b.id b.config b.founders first) b.desk.journal rest b
   pub is : steps ≡ entering b b.founders ++ rest

@@ -44,6 +44,7 @@ pub record IsTurn (c : ClusterState) (id : ℕ) (b : BookState) (outs : List Mes
   pub others : (p : ℕ) → (p ≡ id → ⊥) → book_at later p ≡ book_at c p
   pub sent : later.world.sent ≡ c.world.sent ++ outs
   pub crashed : later.world.crashed ≡ c.world.crashed
+  pub version : later.version ≡ c.version
   pub config : later.world.config ≡ c.world.config
   pub founders : later.world.founders ≡ c.world.founders
 

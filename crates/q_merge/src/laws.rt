@@ -3,6 +3,7 @@
 ghost use Rattle.std.specs.Prelude.{◌≡◌, ◌++◌, ◌∷◌, [], ℕ, List, length, slice_get, slice_set, Some, None};
 ghost use Rattle.sc_members.specs.Members.{Config};
 ghost use Rattle.sc_msg.specs.declared.message.Message.{Message};
+ghost use Rattle.sc_msg.specs.declared.version.Version.{Version};
 ghost use Rattle.sc_msg.specs.Messages.{message_bytes, IsMessage};
 ghost use Rattle.q_desk.specs.Answers.{AnswersAreRight};
 ghost use Rattle.q_desk.specs.declared.journal.Entry.{Entry};
@@ -35,7 +36,7 @@ pub fn order_is_free()
 pub fn entries_are_events()
     ensures event { (c : ClusterState) (id : ℕ) (b d : BookState) (e : Entry) → IsHistory c → IsNext c id b e d → CanGo c.world.sent (step_of b e) → (ev : Event) × IsEventOf c id e ev }
     ensures makes { (c : ClusterState) (id : ℕ) (b d : BookState) (e : Entry) (ev : Event) → IsHistory c → IsNext c id b e d → AnswersAreRight d.desk → IsEventOf c id e ev → Makes c ev id d (gives b e) }
-    ensures enters { (c : ClusterState) (id : ℕ) → IsHistory c → book_at c id ≡ None → Makes c (Event.Enter id) id (entered c.world.config id).0 (entered c.world.config id).1 }
+    ensures enters { (c : ClusterState) (id : ℕ) → IsHistory c → book_at c id ≡ None → Makes c (Event.Enter id) id (entered c.version c.world.config id).0 (entered c.version c.world.config id).1 }
 {}
 
 /// A law: each book that is the replay of its journal has one trace.
@@ -45,20 +46,21 @@ pub fn one_trace()
     ensures all { (books : List BookState) (lists others : List (List (Step Message))) → AreTraces books lists → AreTraces books others → lists ≡ others }
 {}
 
-/// A law: books of different nodes, whose answers are right and which agree on their founders, are gathered in one
+/// A law: books of different nodes, whose answers are right and which agree on their heads, are gathered in one
 /// cluster where their steps merge. They begin with the founders, before any event; each first step that can go is an
 /// event of the cluster, after which one step less is left; and where none is left, the books of the cluster are these.
 pub fn books_gather()
-    ensures begins { (books : List BookState) (config : Config) (founders : List ℕ) (lists : List (List (Step Message))) → AreDistinct books → AreRight books → AgreeOn books config founders → AreTraces books lists → IsUnderWay books (start config founders) lists }
+    ensures begins { (books : List BookState) (version : Version) (config : Config) (founders : List ℕ) (lists : List (List (Step Message))) → AreDistinct books → AreRight books → AgreeOn books version config founders → AreTraces books lists → IsUnderWay books (start version config founders) lists }
     ensures goes { (books : List BookState) (c : ClusterState) (lists : List (List (Step Message))) (k : ℕ) (s : Step Message) (rest : List (Step Message)) → IsUnderWay books c lists → slice_get lists k ≡ Some (s ∷ rest) → CanGo c.world.sent s → (event : Event) × Goes books c lists k s rest event }
     ensures over { (books : List BookState) (c : ClusterState) (lists : List (List (Step Message))) → IsUnderWay books c lists → AreOver lists → IsGathered books c }
-    ensures gathers { (books : List BookState) (config : Config) (founders : List ℕ) (lists : List (List (Step Message))) → AreDistinct books → AreRight books → AgreeOn books config founders → AreTraces books lists → Merges Message [] lists → (c : ClusterState) × IsGathered books c }
+    ensures gathers { (books : List BookState) (version : Version) (config : Config) (founders : List ℕ) (lists : List (List (Step Message))) → AreDistinct books → AreRight books → AgreeOn books version config founders → AreTraces books lists → Merges Message [] lists → (c : ClusterState) × IsGathered books c }
 {}
 
-/// A law: where each message that is sent gets its number as it is sent, if it has none, each has its least number.
+/// A law: where each message that is sent gets its number as it is sent, if it has none, each has its least number. The
+/// numbers go by the bytes of version 2, in which each message has some.
 pub fn numbers_are_least()
     ensures none { AreNumbers [] [] }
-    ensures next { (sent : List Message) (numbers : NumberList) (m : Message) → AreNumbers sent numbers → IsMessage m → AreNumbers (sent ++ m ∷ []) (added (message_bytes m) (length sent) numbers) }
+    ensures next { (sent : List Message) (numbers : NumberList) (m : Message) → AreNumbers sent numbers → IsMessage Version.Second m → AreNumbers (sent ++ m ∷ []) (added (message_bytes Version.Second m) (length sent) numbers) }
 {
     one_spelling();
 }

@@ -6,9 +6,9 @@
 //! before it is delivered.
 //!
 //! That order is free: a step that can go may go at once. And in every history of a cluster an entry that its book can
-//! take next is an event that the cluster accepts. So books of different nodes, which agree on their fractions and
-//! founders, are the books of one cluster where their traces merge; and whoever takes the steps one by one, as they can
-//! go, takes all of them just there. All of this is said by [`laws`].
+//! take next is an event that the cluster accepts. So books of different nodes, which agree on their version, fractions
+//! and founders, are the books of one cluster where their traces merge; and whoever takes the steps one by one, as they
+//! can go, takes all of them just there. All of this is said by [`laws`].
 #![tactic(auto)]
 
 pub mod laws;

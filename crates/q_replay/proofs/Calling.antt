@@ -1,6 +1,7 @@
 -- What taking an event comes to.
 use Rattle.std.proofs.Common.{◌≡◌, ◌≢◌, ℕ, ◌+◌, ◌≤◌, Bool, cond, List, [], ◌∷◌, ◌++◌, length, length-append, add-one, Some, sym, ap, ◌∙◌, subst, flat_map, Result, Ok, Err, IsErrAnd, IfErr, arith}
 use Rattle.bq_check.specs.Spelling.{BeginsNone}
+use Rattle.sc_msg.specs.declared.version.Version.{Version}
 use Rattle.sc_node.specs.declared.fault.NodeFault.TheVariants as node_fault
 use Rattle.q_session.specs.Right.{IsRight}
 use Rattle.q_session.specs.Done.{Finished, IsFinished}
@@ -46,11 +47,11 @@ refused old new e f (Err x) is nowhere = refused_by old new e f x (sym is) nowhe
 
 -- ---- the event of an entry
 
-pub taking : OneLongest → (old new : BookState) (e : Entry) (w : Written) (r : Result (Unit {0}) Refusal) → IsWritten w → IsCertifiedEntry e → written_of e ≡ w → Calling old e new r → Taking old w new r
+pub taking : OneLongest → (old new : BookState) (e : Entry) (w : Written) (r : Result (Unit {0}) Refusal) → IsWritten old.version w → IsCertifiedEntry old.version e → written_of e ≡ w → Calling old e new r → Taking old w new r
 taking one old new e w (Ok u) legal certified is h =
-    record { called = e; legal = (subst IsWritten (sym is) legal, certified); is = is; answers = h.1; follows = h.0 }
+    record { called = e; legal = (subst (IsWritten old.version) (sym is) legal, certified); is = is; answers = h.1; follows = h.0 }
 taking one old new e w (Err Mismatch) legal certified is h =
-    λ c t. let p = takes_as one old w c e (subst IsWritten (sym is) legal, certified) is t in h c p.0 p.1
+    λ c t. let p = takes_as one old w c e (subst (IsWritten old.version) (sym is) legal, certified) is t in h c p.0 p.1
 taking one old new e w (Err OutOfMemory) legal certified is h = tt
 
 -- ---- answers
@@ -93,33 +94,50 @@ posts b c k i j r s u runs job ran right h =
 
 -- ---- the next event of the bytes
 
-pub next_leads : (bytes : List ℕ) (n : ℕ) (b c : BookState) (w : Written) (rest more : List ℕ) → Leads bytes n b rest → IsWritten w → rest ≡ event_bytes w ++ more → Takes b w c → Leads bytes (n + 1) c more
-next_leads bytes n b c w rest more l legal parts t =
-    subst (λ (k : ℕ). Leads bytes k c more) (sym (add-one n)) (leads_next bytes n b c w rest more l legal parts t)
+-- the events are read in the version of the book
 
-pub next_form : (bytes : List ℕ) (n : ℕ) (b : BookState) (rest : List ℕ) → Leads bytes n b rest → rest ≢ [] → BeginsNone event_bytes IsWritten rest → IsFault bytes (fault.Form (n + 1))
-next_form bytes n b rest l more none =
-    subst (λ (k : ℕ). IsFault bytes (fault.Form k)) (sym (add-one n)) (record { book = b; rest = rest; leads = l; more = more; none = none })
+pub next_leads : (bytes : List ℕ) (n : ℕ) (b c : BookState) (version : Version) (w : Written) (rest more : List ℕ) → Leads bytes n b rest → version ≡ b.version → IsWritten version w → rest ≡ event_bytes version w ++ more → Takes b w c
+    → Leads bytes (n + 1) c more
+next_leads bytes n b c version w rest more l own legal parts t =
+    subst (λ (k : ℕ). Leads bytes k c more) (sym (add-one n))
+    (leads_next bytes n b c w rest more l (subst (λ (x : Version). IsWritten x w) own legal) (parts ∙ ap (λ (x : Version). event_bytes x w ++ more) own) t)
 
-pub next_mismatch : (bytes : List ℕ) (n : ℕ) (b : BookState) (w : Written) (rest more : List ℕ) → Leads bytes n b rest → IsWritten w → rest ≡ event_bytes w ++ more → ((c : BookState) → Takes b w c → ⊥) → IsFault bytes (fault.Mismatch (n + 1))
-next_mismatch bytes n b w rest more l legal parts refused =
-    subst (λ (k : ℕ). IsFault bytes (fault.Mismatch k)) (sym (add-one n)) (record { book = b; rest = rest; leads = l; event = w; legal = legal; more = more; parts = parts; refused = refused })
+pub next_form : (bytes : List ℕ) (n : ℕ) (b : BookState) (version : Version) (rest : List ℕ) → Leads bytes n b rest → version ≡ b.version → rest ≢ [] → BeginsNone (event_bytes version) (IsWritten version) rest → IsFault bytes (fault.Form (n + 1))
+next_form bytes n b version rest l own more none =
+    subst (λ (k : ℕ). IsFault bytes (fault.Form k)) (sym (add-one n))
+    (record { book = b; rest = rest; leads = l; more = more; none = subst (λ (x : Version). BeginsNone (event_bytes x) (IsWritten x) rest) own none })
+
+pub next_mismatch : (bytes : List ℕ) (n : ℕ) (b : BookState) (version : Version) (w : Written) (rest more : List ℕ) → Leads bytes n b rest → version ≡ b.version → IsWritten version w → rest ≡ event_bytes version w ++ more
+    → ((c : BookState) → Takes b w c → ⊥) → IsFault bytes (fault.Mismatch (n + 1))
+next_mismatch bytes n b version w rest more l own legal parts refused =
+    subst (λ (k : ℕ). IsFault bytes (fault.Mismatch k)) (sym (add-one n)) (record {
+      book = b;
+      rest = rest;
+      leads = l;
+      event = w;
+      legal = subst (λ (x : Version). IsWritten x w) own legal;
+      more = more;
+      parts = parts ∙ ap (λ (x : Version). event_bytes x w ++ more) own;
+      refused = refused;
+    })
 
 -- each event takes a byte and more
-events_long : (ws : List Written) → length ws ≤ length (flat_map event_bytes ws)
-events_long [] = omega arith
-events_long (w ∷ ws) =
-    let rest = events_long ws in
-    let some : length (event_bytes w ++ flat_map event_bytes ws) ≡ length (event_bytes w) + length (flat_map event_bytes ws) = length-append (event_bytes w) (flat_map event_bytes ws) in
+events_long : (version : Version) (ws : List Written) → length ws ≤ length (flat_map (event_bytes version) ws)
+events_long version [] = omega arith
+events_long version (w ∷ ws) =
+    let rest = events_long version ws in
+    let others : List ℕ = flat_map (event_bytes version) ws in
+    let some : length (event_bytes version w ++ others) ≡ length (event_bytes version w) + length others = length-append (event_bytes version w) others in
     omega arith
 
 pub leads_room : (bytes : List ℕ) (n : ℕ) (b : BookState) (rest : List ℕ) → Leads bytes n b rest → n + length rest ≤ length bytes
 leads_room bytes n b rest l =
-    let events = events_long l.events in
+    let spelled : List ℕ = flat_map (event_bytes l.head.version) l.events in
+    let events = events_long l.head.version l.events in
     let many = l.many in
-    let all : length bytes ≡ length (head_bytes l.head ++ (flat_map event_bytes l.events ++ rest)) = ap length l.parts in
-    let first : length (head_bytes l.head ++ (flat_map event_bytes l.events ++ rest)) ≡ length (head_bytes l.head) + length (flat_map event_bytes l.events ++ rest) = length-append (head_bytes l.head) (flat_map event_bytes l.events ++ rest) in
-    let second : length (flat_map event_bytes l.events ++ rest) ≡ length (flat_map event_bytes l.events) + length rest = length-append (flat_map event_bytes l.events) rest in
+    let all : length bytes ≡ length (head_bytes l.head ++ (spelled ++ rest)) = ap length l.parts in
+    let first : length (head_bytes l.head ++ (spelled ++ rest)) ≡ length (head_bytes l.head) + length (spelled ++ rest) = length-append (head_bytes l.head) (spelled ++ rest) in
+    let second : length (spelled ++ rest) ≡ length spelled + length rest = length-append spelled rest in
     omega arith
 
 -- a fault that is passed on

@@ -4,6 +4,7 @@ use Rattle.bq_insn.specs.declared.insn.Insn.{Insn}
 use Rattle.bq_flow.specs.Paths.{IsLongest}
 use Rattle.bq_meaning.specs.Answers.{IsAnswer}
 use Rattle.bq_check.specs.Certificate.{Certificate, IsCertified}
+use Rattle.sc_msg.specs.declared.version.Version.{Version}
 use Rattle.q_session.specs.Records.{view_records}
 use Rattle.q_session.specs.Right.{IsRight}
 use Rattle.q_session.specs.declared.ran.Ran.{Ran}
@@ -14,18 +15,18 @@ use Rattle.q_desk.specs.Answers.{AnswersAreRight}
 use Rattle.q_desk.specs.declared.journal.Entry.{Entry}
 use Rattle.q_desk.specs.declared.journal.Entry.TheVariants as entry
 use Rattle.q_book.specs.State.{BookState}
+use Rattle.q_book.specs.Books.{record_lengths}
 use Rattle.q_book.specs.Replays.{Follows}
 use Rattle.q_journal.specs.declared.written.Written.{Written}
 use Rattle.q_journal.specs.declared.written.Written.TheVariants as written
 use Rattle.q_desk.specs.Desks.{running_job}
-use Rattle.q_table.specs.Programs.{IsForViews}
 use Rattle.q_replay.specs.Journal.{written_of, IsCertifiedEntry, IsEntry}
 use Rattle.q_replay.specs.Replayed.{IsAnswering, Takes}
 use Rattle.q_replay.proofs.Lists.{same_some}
 use Rattle.q_desk.proofs.Accepted.{Keeps}
 use Rattle.q_replay.proofs.Posting.{job_by, posted_runs, posted_at_query}
 use Rattle.q_book.proofs.Followed.{follows-next}
-use Rattle.q_replay.proofs.Following.{posted-post, follows-one}
+use Rattle.q_replay.proofs.Following.{posted-post, follows-one, follows-version}
 
 -- laws of crates below
 abbrev pub OneLongest : Type 0
@@ -43,8 +44,8 @@ right_one one j ran other a b =
 
 -- ---- which entry it is
 
-same_certificate : OneLongest → (c d : Certificate) → IsCertified c × IsForViews c → IsCertified d × IsForViews d → c.text ≡ d.text → c.notes ≡ d.notes → c ≡ d
-same_certificate one c d a b text notes =
+same_certificate : OneLongest → (version : Version) (c d : Certificate) → IsCertified c × (c.lengths ≡ record_lengths version) → IsCertified d × (d.lengths ≡ record_lengths version) → c.text ≡ d.text → c.notes ≡ d.notes → c ≡ d
+same_certificate one version c d a b text notes =
     let longest : c.longest ≡ d.longest = one c.text c.longest d.longest a.0.longest (subst (λ (t : List Insn). IsLongest t d.longest) (sym text) b.0.longest) in
     let lengths : c.lengths ≡ d.lengths = a.1 ∙ sym b.1 in
     λ i. record { text = text i; notes = notes i; lengths = lengths i; longest = longest i }
@@ -56,29 +57,32 @@ same_post query other ran gone h =
     let steps : ran.steps ≡ gone.steps = cc in
     λ i. entry.Post (q i) (record { acc = acc i; steps = steps i })
 
-pub entry_one : OneLongest → (e f : Entry) → IsCertifiedEntry e → IsCertifiedEntry f → written_of e ≡ written_of f → e ≡ f
-entry_one one entry.Leave entry.Leave a b h = refl
-entry_one one (entry.Register c) (entry.Register d) a b h =
+pub entry_one : OneLongest → (version : Version) (e f : Entry) → IsCertifiedEntry version e → IsCertifiedEntry version f → written_of e ≡ written_of f → e ≡ f
+entry_one one version entry.Leave entry.Leave a b h = refl
+entry_one one version (entry.Register c) (entry.Register d) a b h =
     let text : c.text ≡ d.text = cc in
     let notes : c.notes ≡ d.notes = cc in
-    ap entry.Register (same_certificate one c d a b text notes)
-entry_one one (entry.Ask program start) (entry.Ask other begin) a b h = cc
-entry_one one (entry.Store value) (entry.Store other) a b h = cc
-entry_one one (entry.Deliver m) (entry.Deliver n) a b h = cc
-entry_one one entry.HandOut entry.HandOut a b h = refl
-entry_one one (entry.Post query ran) (entry.Post other gone) a b h = same_post query other ran gone h
-entry_one one e f a b h = absurd (cc)
+    ap entry.Register (same_certificate one version c d a b text notes)
+entry_one one version (entry.Ask program start) (entry.Ask other begin) a b h = cc
+entry_one one version (entry.Store value) (entry.Store other) a b h = cc
+entry_one one version (entry.Deliver m) (entry.Deliver n) a b h = cc
+entry_one one version entry.HandOut entry.HandOut a b h = refl
+entry_one one version (entry.Post query ran) (entry.Post other gone) a b h = same_post query other ran gone h
+entry_one one version e f a b h = absurd (cc)
 
 -- ---- what an event makes of a book
 
 module _ (one : OneLongest) where
   -- an event is taken as its one entry
-  pub takes_as : (b : BookState) (w : Written) (c : BookState) (e : Entry) → IsEntry e → written_of e ≡ w → Takes b w c → Follows b e c × IsAnswering b e
+  pub takes_as : (b : BookState) (w : Written) (c : BookState) (e : Entry) → IsEntry b.version e → written_of e ≡ w → Takes b w c → Follows b e c × IsAnswering b e
   takes_as b w c e legal is t =
-      subst (λ (x : Entry). Follows b x c × IsAnswering b x) (entry_one one t.called e t.legal.1 legal.1 (t.is ∙ sym is)) (t.follows, t.answers)
+      subst (λ (x : Entry). Follows b x c × IsAnswering b x) (entry_one one b.version t.called e t.legal.1 legal.1 (t.is ∙ sym is)) (t.follows, t.answers)
 
   pub takes_one : (b : BookState) (w : Written) (c d : BookState) → Takes b w c → Takes b w d → c ≡ d
   takes_one b w c d s t = follows-one b t.called c d (takes_as b w c t.called t.legal t.is s).0 t.follows
+
+pub takes-version : (b : BookState) (w : Written) (c : BookState) → Takes b w c → c.version ≡ b.version
+takes-version b w c t = follows-version b t.called c t.follows
 
 -- ---- an answer that stays right was right
 

@@ -13,20 +13,20 @@ use Rattle.q_replay.proofs.Entries.{OneLongest}
 use Rattle.q_replay.proofs.Leading.{OneHead, OneEvent, Stops, leads_one, no_event, end_stops, journalled_leads}
 
 headless : (bytes : List ℕ) (n : ℕ) (b : BookState) (rest : List ℕ) → BeginsNone head_bytes IsHead bytes → Leads bytes n b rest → ⊥
-headless bytes n b rest f l = f.none l.head (flat_map event_bytes l.events ++ rest) l.legal l.parts
+headless bytes n b rest f l = f.none l.head (flat_map (event_bytes l.head.version) l.events ++ rest) l.legal l.parts
 
-unspelled_stops : (b : BookState) (rest : List ℕ) → BeginsNone event_bytes IsWritten rest → Stops b rest
+unspelled_stops : (b : BookState) (rest : List ℕ) → BeginsNone (event_bytes b.version) (IsWritten b.version) rest → Stops b rest
 unspelled_stops b rest f o = f.none o.event o.more o.legal o.parts
 
 module _ (one_longest : OneLongest) (one_head : OneHead) (one_event : OneEvent) where
   no_begun : (bytes : List ℕ) (n : ℕ) (b : BookState) (rest : List ℕ) → IsUnbegun bytes → Leads bytes n b rest → ⊥
   no_begun bytes n b rest u l =
-      let heads = one_head l.head u.head (flat_map event_bytes l.events ++ rest) u.rest l.legal u.legal (sym l.parts ∙ u.parts) in
+      let heads = one_head l.head u.head (flat_map (event_bytes l.head.version) l.events ++ rest) u.rest l.legal u.legal (sym l.parts ∙ u.parts) in
       u.refused l.first (subst (λ (h : Head). Begins h l.first) heads.0 l.begins)
 
   untaken_stops : (bytes : List ℕ) (n : ℕ) (u : IsUntaken bytes n) → Stops u.book u.rest
   untaken_stops bytes n u o =
-      let same = one_event o.event u.event o.more u.more o.legal u.legal (sym o.parts ∙ u.parts) in
+      let same = one_event u.book.version o.event u.event o.more u.more o.legal u.legal (sym o.parts ∙ u.parts) in
       u.refused o.next (subst (λ (w : Written). Takes u.book w o.next) same.0 o.takes)
 
   forms : (bytes : List ℕ) (n m : ℕ) (f : IsUnspelled bytes n) (g : IsUnspelled bytes m) → n ≡ m
@@ -43,7 +43,9 @@ module _ (one_longest : OneLongest) (one_head : OneHead) (one_event : OneEvent) 
   no_both bytes n m f g =
       let one = leads_one one_longest one_head one_event bytes n m f.book g.book f.rest g.rest f.leads g.leads
       (unspelled_stops f.book f.rest f.none) (untaken_stops bytes m g) in
-      f.none.none g.event g.more g.legal (one.left ∙ g.parts)
+      let book : g.book ≡ f.book = sym one.book in
+      f.none.none g.event g.more (subst (λ (b : BookState). IsWritten b.version g.event) book g.legal)
+      (one.left ∙ g.parts ∙ ap (λ (b : BookState). event_bytes b.version g.event ++ g.more) book)
 
   pub fault_one : (bytes : List ℕ) (d e : ReplayFault) → IsFault bytes d → IsFault bytes e → (d ≡ OutOfMemory → ⊥) → (e ≡ OutOfMemory → ⊥) → d ≡ e
   fault_one bytes OutOfMemory e f g p q = absurd (p refl)
@@ -75,7 +77,7 @@ module _ (one_longest : OneLongest) (one_head : OneHead) (one_event : OneEvent) 
 
   no_untaken : (b : BookState) (n : ℕ) → IsJournalled b → IsUntaken (journal_of b) n → ⊥
   no_untaken b n j u =
-      no_event u.event u.more (sym (at_end b u.book n u.rest j u.leads (untaken_stops (journal_of b) n u)) ∙ u.parts)
+      no_event u.book.version u.event u.more (sym (at_end b u.book n u.rest j u.leads (untaken_stops (journal_of b) n u)) ∙ u.parts)
 
   pub fault_none : (b : BookState) (e : ReplayFault) → IsJournalled b → IsFault (journal_of b) e → e ≡ OutOfMemory
   fault_none b OutOfMemory j f = refl

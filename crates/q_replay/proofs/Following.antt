@@ -58,6 +58,10 @@ module _ (b : BookState) where
   follows-one entry.HandOut c d f g = same-next (book.handed_out b) (Some f.0) (Some g.0) c d f.1 g.1
   follows-one (entry.Post query ran) c d f g = same-post f.0 g.0 ran c d (f.1 ∙ sym g.1) (posted-post f.0 ran c f.3) (posted-post g.0 ran d g.3)
 
+-- no call changes the version
+pub follows-version : (b : BookState) (e : Entry) (c : BookState) → Follows b e c → c.version ≡ b.version
+follows-version b e c f = sym (ap (λ (x : BookState). x.version) (follows-next b e c f).same)
+
 -- ---- all entries
 
 -- entries lead to one book at most

@@ -4,6 +4,7 @@ use Rattle.std.proofs.lemmas.List.{flat_map_more, length_push}
 use Rattle.std.proofs.lemmas.List.Folds.{flat_map-map}
 use Rattle.std.specs.List.{AllByRecursion}
 use Rattle.sc_members.specs.Members.{Config, IsConfig}
+use Rattle.sc_msg.specs.declared.version.Version.{Version}
 use Rattle.sc_node.specs.State.{NodeState}
 use Rattle.sc_node.specs.Nodes as node
 use Rattle.sc_node.specs.declared.fault.NodeFault.{NodeFault}
@@ -19,15 +20,42 @@ use Rattle.q_journal.specs.declared.written.Written.{Written}
 use Rattle.q_replay.specs.Journal.{written_of, head_of, entries_bytes, journal_of, IsEntry, IsJournalled}
 use Rattle.q_replay.specs.Replayed.{begun, Begins, Takes, TakesAll, Leads}
 use Rattle.q_replay.proofs.Lists.{same_answer, no_refusal, all_push}
-use Rattle.q_replay.proofs.Following.{replays-later}
-use Rattle.q_replay.proofs.Entries.{OneLongest, takes_one, answering}
+use Rattle.q_replay.proofs.Following.{follows-version, replays-later}
+use Rattle.q_replay.proofs.Entries.{OneLongest, takes_one, takes-version, answering}
 
 -- laws of crates below
 abbrev pub OneHead : Type 0
 OneHead = (h g : Head) (rest more : List ℕ) → IsHead h → IsHead g → head_bytes h ++ rest ≡ head_bytes g ++ more → (h ≡ g) × (rest ≡ more)
 
 abbrev pub OneEvent : Type 0
-OneEvent = (w v : Written) (rest more : List ℕ) → IsWritten w → IsWritten v → event_bytes w ++ rest ≡ event_bytes v ++ more → (w ≡ v) × (rest ≡ more)
+OneEvent = (version : Version) (w v : Written) (rest more : List ℕ) → IsWritten version w → IsWritten version v → event_bytes version w ++ rest ≡ event_bytes version v ++ more → (w ≡ v) × (rest ≡ more)
+
+-- ---- the book before any event
+
+-- the node before the first event
+record IsBegun (h : Head) (o : Option (List ℕ)) (b : BookState) : Type 0 where
+  node : NodeState
+  is : new_book h.version h.id h.config o node ≡ b
+  first : IsFirst (new_book h.version h.id h.config o node) node o
+
+founds_is : (version : Version) (id : ℕ) (config : Config) (ids : List ℕ) (r : Result NodeState NodeFault) (b : BookState) → founds version id config ids r ≡ Ok b → (n : NodeState) × (r ≡ Ok n) × (new_book version id config (Some ids) n ≡ b)
+founds_is version id config ids (Ok n) b h = (n, refl, same_answer {A = BookState} _ b h)
+founds_is version id config ids (Err e) b h = absurd (no_refusal _ b h)
+
+begun_is : (h : Head) (o : Option (List ℕ)) (b : BookState) → begun h o ≡ Ok b → IsBegun h o b
+begun_is h (Some ids) b e = let f = founds_is h.version h.id h.config ids (node.founded h.config h.id ids) b e in record { node = f.0; is = f.2; first = f.1 }
+begun_is h None b e = record { node = (node.entered h.config h.id).0; is = same_answer {A = BookState} _ b e; first = refl }
+
+-- ---- one version
+
+takes_all-version : (ws : List Written) (a b : BookState) → TakesAll a ws b → b.version ≡ a.version
+takes_all-version [] a b t = ap (λ (x : BookState). x.version) t
+takes_all-version (w ∷ ws) a b t = takes_all-version ws t.0 b t.2 ∙ takes-version a w t.0 t.1
+
+-- the book to which events lead has the version of the head
+pub leads-version : (bytes : List ℕ) (n : ℕ) (b : BookState) (rest : List ℕ) (l : Leads bytes n b rest) → b.version ≡ l.head.version
+leads-version bytes n b rest l =
+    takes_all-version l.events l.first b l.takes ∙ sym (ap (λ (x : BookState). x.version) (begun_is l.head l.head.founders l.first l.begins.book).is)
 
 -- ---- one more event
 
@@ -39,19 +67,21 @@ takes_push : (ws : List Written) (a b c : BookState) (w : Written) → TakesAll 
 takes_push [] a b c w t s = (c, subst (λ (x : BookState). Takes x w c) t s, refl)
 takes_push (v ∷ ws) a b c w t s = (t.0, t.1, takes_push ws t.0 b c w t.2 s)
 
-pub leads_next : (bytes : List ℕ) (n : ℕ) (b c : BookState) (w : Written) (rest more : List ℕ) → Leads bytes n b rest → IsWritten w → rest ≡ event_bytes w ++ more → Takes b w c → Leads bytes (suc n) c more
+pub leads_next : (bytes : List ℕ) (n : ℕ) (b c : BookState) (w : Written) (rest more : List ℕ) → Leads bytes n b rest → IsWritten b.version w → rest ≡ event_bytes b.version w ++ more → Takes b w c → Leads bytes (suc n) c more
 leads_next bytes n b c w rest more l legal parts t =
-    let on : flat_map event_bytes l.events ++ rest ≡ flat_map event_bytes (l.events ++ w ∷ []) ++ more =
-    ap (λ (x : List ℕ). flat_map event_bytes l.events ++ x) parts
-    ∙ sym (append_assoc (flat_map event_bytes l.events) (event_bytes w) more)
-    ∙ ap (λ (x : List ℕ). x ++ more) (flat_map_more event_bytes [] l.events w) in
+    let same : b.version ≡ l.head.version = leads-version bytes n b rest l in
+    let spelled : Written → List ℕ = event_bytes l.head.version in
+    let on : flat_map spelled l.events ++ rest ≡ flat_map spelled (l.events ++ w ∷ []) ++ more =
+    ap (λ (x : List ℕ). flat_map spelled l.events ++ x) (parts ∙ ap (λ (x : Version). event_bytes x w ++ more) same)
+    ∙ sym (append_assoc (flat_map spelled l.events) (spelled w) more)
+    ∙ ap (λ (x : List ℕ). x ++ more) (flat_map_more spelled [] l.events w) in
     record {
       head = l.head;
       legal = l.legal;
       first = l.first;
       begins = l.begins;
       events = l.events ++ w ∷ [];
-      written = all_push IsWritten l.events w l.written legal;
+      written = all_push (IsWritten l.head.version) l.events w l.written (subst (λ (x : Version). IsWritten x w) same legal);
       takes = takes_push l.events l.first b c w l.takes t;
       parts = l.parts ∙ ap (λ (x : List ℕ). head_bytes l.head ++ x) on;
       many = omega (arith, l.many, length_push l.events w);
@@ -59,14 +89,24 @@ leads_next bytes n b c w rest more l legal parts t =
 
 -- ---- no two ways
 
--- an event stands first in the bytes, and it is taken
+-- an event of the book's version stands first in the bytes, and it is taken
 pub record IsOngoing (b : BookState) (rest : List ℕ) : Type 0 where
   pub event : Written
-  pub legal : IsWritten event
+  pub legal : IsWritten b.version event
   pub more : List ℕ
-  pub parts : rest ≡ event_bytes event ++ more
+  pub parts : rest ≡ event_bytes b.version event ++ more
   pub next : BookState
   pub takes : Takes b event next
+
+ongoing : (version : Version) (b : BookState) (w : Written) (c : BookState) (rest more : List ℕ) → b.version ≡ version → IsWritten version w → rest ≡ event_bytes version w ++ more → Takes b w c → IsOngoing b rest
+ongoing version b w c rest more same legal parts t = record {
+  event = w;
+  legal = subst (λ (x : Version). IsWritten x w) (sym same) legal;
+  more = more;
+  parts = parts ∙ ap (λ (x : Version). event_bytes x w ++ more) (sym same);
+  next = c;
+  takes = t;
+}
 
 record IsSame (us vs : List Written) (b c : BookState) (rest more : List ℕ) : Type 0 where
   book : b ≡ c
@@ -99,151 +139,136 @@ settle us vs b c rest more (inr (inl o)) stop halt = absurd (stop o)
 settle us vs b c rest more (inr (inr o)) stop halt = absurd (halt o)
 
 module _ (one_longest : OneLongest) (one_head : OneHead) (one_event : OneEvent) where
-  walk : (us vs : List Written) (first b c : BookState) (rest more : List ℕ) → AllByRecursion IsWritten us → AllByRecursion IsWritten vs → TakesAll first us b → TakesAll first vs c
-      → flat_map event_bytes us ++ rest ≡ flat_map event_bytes vs ++ more → Compared us vs b c rest more
-  walk [] [] first b c rest more p q s t h = inl (record { book = s ∙ sym t; left = h; many = refl })
-  walk [] (v ∷ vs) first b c rest more p q s t h =
-      inr (inl (record {
-        event = v;
-        legal = q.0;
-        more = flat_map event_bytes vs ++ more;
-        parts = h ∙ append_assoc (event_bytes v) (flat_map event_bytes vs) more;
-        next = t.0;
-        takes = subst (λ (x : BookState). Takes x v t.0) (sym s) t.1;
-      }))
-  walk (u ∷ us) [] first b c rest more p q s t h =
-      inr (inr (record {
-        event = u;
-        legal = p.0;
-        more = flat_map event_bytes us ++ rest;
-        parts = sym h ∙ append_assoc (event_bytes u) (flat_map event_bytes us) rest;
-        next = s.0;
-        takes = subst (λ (x : BookState). Takes x u s.0) (sym t) s.1;
-      }))
-  walk (u ∷ us) (v ∷ vs) first b c rest more p q s t h =
-      let e = one_event u v (flat_map event_bytes us ++ rest) (flat_map event_bytes vs ++ more) p.0 q.0
-      (sym (append_assoc (event_bytes u) (flat_map event_bytes us) rest) ∙ h ∙ append_assoc (event_bytes v) (flat_map event_bytes vs) more) in
+  walk : (version : Version) (us vs : List Written) (first b c : BookState) (rest more : List ℕ) → first.version ≡ version → AllByRecursion (IsWritten version) us → AllByRecursion (IsWritten version) vs → TakesAll first us b → TakesAll first vs c
+      → flat_map (event_bytes version) us ++ rest ≡ flat_map (event_bytes version) vs ++ more → Compared us vs b c rest more
+  walk version [] [] first b c rest more own p q s t h = inl (record { book = s ∙ sym t; left = h; many = refl })
+  walk version [] (v ∷ vs) first b c rest more own p q s t h =
+      inr (inl (ongoing version b v t.0 rest (flat_map (event_bytes version) vs ++ more) (ap (λ (x : BookState). x.version) s ∙ own) q.0
+      (h ∙ append_assoc (event_bytes version v) (flat_map (event_bytes version) vs) more) (subst (λ (x : BookState). Takes x v t.0) (sym s) t.1)))
+  walk version (u ∷ us) [] first b c rest more own p q s t h =
+      inr (inr (ongoing version c u s.0 more (flat_map (event_bytes version) us ++ rest) (ap (λ (x : BookState). x.version) t ∙ own) p.0
+      (sym h ∙ append_assoc (event_bytes version u) (flat_map (event_bytes version) us) rest) (subst (λ (x : BookState). Takes x u s.0) (sym t) s.1)))
+  walk version (u ∷ us) (v ∷ vs) first b c rest more own p q s t h =
+      let e = one_event version u v (flat_map (event_bytes version) us ++ rest) (flat_map (event_bytes version) vs ++ more) p.0 q.0
+      (sym (append_assoc (event_bytes version u) (flat_map (event_bytes version) us) rest) ∙ h ∙ append_assoc (event_bytes version v) (flat_map (event_bytes version) vs) more) in
       let same : s.0 ≡ t.0 = takes_one one_longest first v s.0 t.0 (subst (λ (x : Written). Takes first x s.0) e.0 s.1) t.1 in
       longer u v us vs b c rest more
-      (walk us vs s.0 b c rest more p.1 q.1 s.2 (subst (λ (x : BookState). TakesAll x vs c) (sym same) t.2) e.1)
+      (walk version us vs s.0 b c rest more (takes-version first u s.0 s.1 ∙ own) p.1 q.1 s.2 (subst (λ (x : BookState). TakesAll x vs c) (sym same) t.2) e.1)
 
   pub leads_one : (bytes : List ℕ) (n m : ℕ) (b c : BookState) (rest more : List ℕ) → Leads bytes n b rest → Leads bytes m c more → Stops b rest → Stops c more → IsOne n m b c rest more
   leads_one bytes n m b c rest more l k stop halt =
-      let heads = one_head l.head k.head (flat_map event_bytes l.events ++ rest) (flat_map event_bytes k.events ++ more) l.legal k.legal (sym l.parts ∙ k.parts) in
-      let firsts : l.first ≡ k.first = begins_one l.head l.first k.first l.begins (subst (λ (h : Head). Begins h k.first) (sym heads.0) k.begins) in
+      let version : Version = l.head.version in
+      let heads = one_head l.head k.head (flat_map (event_bytes version) l.events ++ rest) (flat_map (event_bytes k.head.version) k.events ++ more) l.legal k.legal (sym l.parts ∙ k.parts) in
+      let head : k.head ≡ l.head = sym heads.0 in
+      let firsts : l.first ≡ k.first = begins_one l.head l.first k.first l.begins (subst (λ (h : Head). Begins h k.first) head k.begins) in
+      let own : l.first.version ≡ version = sym (ap (λ (x : BookState). x.version) (begun_is l.head l.head.founders l.first l.begins.book).is) in
       let s = settle l.events k.events b c rest more
-      (walk l.events k.events l.first b c rest more l.written k.written l.takes (subst (λ (x : BookState). TakesAll x k.events c) (sym firsts) k.takes) heads.1) stop halt in
+      (walk version l.events k.events l.first b c rest more own l.written (subst (λ (h : Head). AllByRecursion (IsWritten h.version) k.events) head k.written) l.takes
+      (subst (λ (x : BookState). TakesAll x k.events c) (sym firsts) k.takes) (heads.1 ∙ ap (λ (h : Head). flat_map (event_bytes h.version) k.events ++ more) head)) stop halt in
       record { count = l.many ∙ s.many ∙ sym k.many; book = s.book; left = s.left }
 
 no_cons : (x : ℕ) (xs : List ℕ) → [] ≡ x ∷ xs → ⊥
 no_cons x xs h = absurd (cc)
 
-pub no_event : (w : Written) (more : List ℕ) → [] ≡ event_bytes w ++ more → ⊥
-no_event w more h = no_cons _ _ h
+pub no_event : (version : Version) (w : Written) (more : List ℕ) → [] ≡ event_bytes version w ++ more → ⊥
+no_event version w more h = no_cons _ _ h
 
 pub end_stops : (b : BookState) → Stops b []
-end_stops b o = no_event o.event o.more o.parts
+end_stops b o = no_event b.version o.event o.more o.parts
 
 -- ---- from the journal of a book
 
-begun_by : (b : BookState) (o : Option (List ℕ)) (n : NodeState) → IsFirst b n o → begun (head_of b) o ≡ Ok (new_book b.id b.config o n)
-begun_by b (Some ids) n f = ap (founds b.id b.config ids) f
-begun_by b None n f = ap (λ (m : NodeState). let r : Result BookState BookFault = Ok (new_book b.id b.config None m) in r) (sym f)
+begun_by : (b : BookState) (o : Option (List ℕ)) (n : NodeState) → IsFirst b n o → begun (head_of b) o ≡ Ok (new_book b.version b.id b.config o n)
+begun_by b (Some ids) n f = ap (founds b.version b.id b.config ids) f
+begun_by b None n f = ap (λ (m : NodeState). let r : Result BookState BookFault = Ok (new_book b.version b.id b.config None m) in r) (sym f)
 
-takes_all : (es : List Entry) (s b : BookState) → Replays s es b → AnswersAreRight b.desk → AllByRecursion IsEntry es → TakesAll s (map written_of es) b
-takes_all [] s b r right a = r
-takes_all (e ∷ es) s b r right a = (
+takes_all : (version : Version) (es : List Entry) (s b : BookState) → s.version ≡ version → Replays s es b → AnswersAreRight b.desk → AllByRecursion (IsEntry version) es → TakesAll s (map written_of es) b
+takes_all version [] s b own r right a = r
+takes_all version (e ∷ es) s b own r right a = (
   r.0,
-  record { called = e; legal = a.0; is = refl; answers = answering s r.0 b e r.1 (replays-later es r.0 b r.2).keeps right; follows = r.1 },
-  takes_all es r.0 b r.2 right a.1,
+  record {
+    called = e;
+    legal = subst (λ (x : Version). IsEntry x e) (sym own) a.0;
+    is = refl;
+    answers = answering s r.0 b e r.1 (replays-later es r.0 b r.2).keeps right;
+    follows = r.1;
+  },
+  takes_all version es r.0 b (follows-version s e r.0 r.1 ∙ own) r.2 right a.1,
 )
 
-all_written : (es : List Entry) → AllByRecursion IsEntry es → AllByRecursion IsWritten (map written_of es)
-all_written [] a = tt
-all_written (e ∷ es) a = (a.0.0, all_written es a.1)
+all_written : (version : Version) (es : List Entry) → AllByRecursion (IsEntry version) es → AllByRecursion (IsWritten version) (map written_of es)
+all_written version [] a = tt
+all_written version (e ∷ es) a = (a.0.0, all_written version es a.1)
 
 map_many : (es : List Entry) → length es ≡ length (map written_of es)
 map_many [] = refl
 map_many (e ∷ es) = ap suc (map_many es)
 
-written_bytes : (es : List Entry) → entries_bytes es ≡ flat_map event_bytes (map written_of es) ++ []
-written_bytes es = sym (append-nil (flat_map event_bytes (map written_of es)) ∙ flat_map-map event_bytes written_of es)
+written_bytes : (version : Version) (es : List Entry) → entries_bytes version es ≡ flat_map (event_bytes version) (map written_of es) ++ []
+written_bytes version es = sym (append-nil (flat_map (event_bytes version) (map written_of es)) ∙ flat_map-map (event_bytes version) written_of es)
 
 pub journalled_leads : (b : BookState) → IsJournalled b → Leads (journal_of b) (length b.desk.journal) b []
 journalled_leads b j = record {
   head = head_of b;
   legal = j.head;
-  first = new_book b.id b.config b.founders j.replay.first;
+  first = new_book b.version b.id b.config b.founders j.replay.first;
   begins = record { config = j.config; book = begun_by b b.founders j.replay.first j.replay.begun };
   events = map written_of b.desk.journal;
-  written = all_written b.desk.journal j.entries;
-  takes = takes_all b.desk.journal (new_book b.id b.config b.founders j.replay.first) b j.replay.replayed j.right j.entries;
-  parts = ap (λ (x : List ℕ). head_bytes (head_of b) ++ x) (written_bytes b.desk.journal);
+  written = all_written b.version b.desk.journal j.entries;
+  takes = takes_all b.version b.desk.journal (new_book b.version b.id b.config b.founders j.replay.first) b refl j.replay.replayed j.right j.entries;
+  parts = ap (λ (x : List ℕ). head_bytes (head_of b) ++ x) (written_bytes b.version b.desk.journal);
   many = map_many b.desk.journal;
 }
 
 -- ---- to the journal of a book
-
--- the node before the first event
-record IsBegun (h : Head) (o : Option (List ℕ)) (b : BookState) : Type 0 where
-  node : NodeState
-  is : new_book h.id h.config o node ≡ b
-  first : IsFirst (new_book h.id h.config o node) node o
-
-founds_is : (id : ℕ) (config : Config) (ids : List ℕ) (r : Result NodeState NodeFault) (b : BookState) → founds id config ids r ≡ Ok b → (n : NodeState) × (r ≡ Ok n) × (new_book id config (Some ids) n ≡ b)
-founds_is id config ids (Ok n) b h = (n, refl, same_answer {A = BookState} _ b h)
-founds_is id config ids (Err e) b h = absurd (no_refusal _ b h)
-
-begun_is : (h : Head) (o : Option (List ℕ)) (b : BookState) → begun h o ≡ Ok b → IsBegun h o b
-begun_is h (Some ids) b e = let f = founds_is h.id h.config ids (node.founded h.config h.id ids) b e in record { node = f.0; is = f.2; first = f.1 }
-begun_is h None b e = record { node = (node.entered h.config h.id).0; is = same_answer {A = BookState} _ b e; first = refl }
 
 first_for : (x y : BookState) (o : Option (List ℕ)) (n : NodeState) → x.config ≡ y.config → x.id ≡ y.id → IsFirst x n o → IsFirst y n o
 first_for x y (Some ids) n config id f = sym (λ i. node.founded (config i) (id i) ids) ∙ f
 first_for x y None n config id f = f ∙ (λ i. (node.entered (config i) (id i)).0)
 
 -- the entries of events that are taken
-record IsTaken (s : BookState) (ws : List Written) (b : BookState) : Type 0 where
+record IsTaken (version : Version) (s : BookState) (ws : List Written) (b : BookState) : Type 0 where
   entries : List Entry
   written : map written_of entries ≡ ws
-  legal : AllByRecursion IsEntry entries
+  legal : AllByRecursion (IsEntry version) entries
   replays : Replays s entries b
 
-taken : (ws : List Written) (s b : BookState) → TakesAll s ws b → IsTaken s ws b
-taken [] s b t = record { entries = []; written = refl; legal = tt; replays = t }
-taken (w ∷ ws) s b t =
+taken : (version : Version) (ws : List Written) (s b : BookState) → s.version ≡ version → TakesAll s ws b → IsTaken version s ws b
+taken version [] s b own t = record { entries = []; written = refl; legal = tt; replays = t }
+taken version (w ∷ ws) s b own t =
     let first = t.1 in
-    let rest = taken ws t.0 b t.2 in
+    let rest = taken version ws t.0 b (takes-version s w t.0 first ∙ own) t.2 in
     record {
       entries = first.called ∷ rest.entries;
       written = λ i. first.is i ∷ rest.written i;
-      legal = (first.legal, rest.legal);
+      legal = (subst (λ (x : Version). IsEntry x first.called) own first.legal, rest.legal);
       replays = (t.0, first.follows, rest.replays);
     }
 
 pub leads_journalled : (bytes : List ℕ) (n : ℕ) (b : BookState) → Leads bytes n b [] → AnswersAreRight b.desk → (bytes ≡ journal_of b) × IsJournalled b
 leads_journalled bytes n b l right =
     let f = begun_is l.head l.head.founders l.first l.begins.book in
-    let first : BookState = new_book l.head.id l.head.config l.head.founders f.node in
-    let t = taken l.events first b (subst (λ (x : BookState). TakesAll x l.events b) (sym f.is) l.takes) in
+    let version : Version = l.head.version in
+    let first : BookState = new_book version l.head.id l.head.config l.head.founders f.node in
+    let t = taken version l.events first b refl (subst (λ (x : BookState). TakesAll x l.events b) (sym f.is) l.takes) in
     let later = replays-later t.entries first b t.replays in
     let journal : b.desk.journal ≡ t.entries = later.adds in
     let head : l.head ≡ head_of b = ap head_of later.same in
-    let spelled : flat_map event_bytes l.events ++ [] ≡ entries_bytes b.desk.journal =
-    ap (λ (ws : List Written). flat_map event_bytes ws ++ []) (sym t.written) ∙ sym (written_bytes t.entries) ∙ ap entries_bytes (sym journal) in
+    let spelled : flat_map (event_bytes version) l.events ++ [] ≡ entries_bytes version b.desk.journal =
+    ap (λ (ws : List Written). flat_map (event_bytes version) ws ++ []) (sym t.written) ∙ sym (written_bytes version t.entries) ∙ ap (entries_bytes version) (sym journal) in
     let begins : IsFirst b f.node l.head.founders =
     first_for first b l.head.founders f.node (ap (λ (x : BookState). x.config) later.same) (ap (λ (x : BookState). x.id) later.same) f.first in
-    let replayed : Replays (new_book b.id b.config b.founders f.node) t.entries b =
-    subst (λ (h : Head). Replays (new_book h.id h.config h.founders f.node) t.entries b) head t.replays in (
-      l.parts ∙ ap (λ (x : List ℕ). head_bytes l.head ++ x) spelled ∙ ap (λ (h : Head). head_bytes h ++ entries_bytes b.desk.journal) head,
+    let replayed : Replays (new_book b.version b.id b.config b.founders f.node) t.entries b =
+    subst (λ (h : Head). Replays (new_book h.version h.id h.config h.founders f.node) t.entries b) head t.replays in (
+      l.parts ∙ ap (λ (x : List ℕ). head_bytes l.head ++ x) spelled ∙ ap (λ (h : Head). head_bytes h ++ entries_bytes h.version b.desk.journal) head,
       record {
         head = subst IsHead head l.legal;
         config = subst (λ (h : Head). IsConfig h.config) head l.begins.config;
-        entries = subst (AllByRecursion IsEntry) (sym journal) t.legal;
+        entries = subst (λ (h : Head). AllByRecursion (IsEntry h.version) b.desk.journal) head (subst (AllByRecursion (IsEntry version)) (sym journal) t.legal);
         replay = record {
           first = f.node;
           begun = subst (IsFirst b f.node) (ap (λ (h : Head). h.founders) head) begins;
-          replayed = subst (λ (es : List Entry). Replays (new_book b.id b.config b.founders f.node) es b) (sym journal) replayed;
+          replayed = subst (λ (es : List Entry). Replays (new_book b.version b.id b.config b.founders f.node) es b) (sym journal) replayed;
         };
         right = right;
       },

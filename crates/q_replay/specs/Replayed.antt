@@ -21,10 +21,10 @@ use Rattle.q_replay.specs.declared.fault.ReplayFault.TheVariants.{Form, Mismatch
 
 -- ---- one event
 
--- the book of a node that so began, before any event
+-- the book of that version of a node that so began, before any event
 abbrev pub begun : Head → Option (List ℕ) → Result BookState BookFault
-begun h (Some ids) = founded h.config h.id ids
-begun h None = Ok (entered h.config h.id).0
+begun h (Some ids) = founded h.version h.config h.id ids
+begun h None = Ok (entered h.version h.config h.id).0
 
 -- the fractions are those of a cluster, and the founders are taken
 pub record Begins (h : Head) (b : BookState) : Type 0 where
@@ -39,7 +39,7 @@ IsAnswering b e = Unit {0}
 -- the call of an event is accepted, and an answer that it names is right
 pub record Takes (b : BookState) (w : Written) (c : BookState) : Type 0 where
   pub called : Entry
-  pub legal : IsEntry called
+  pub legal : IsEntry b.version called
   pub is : written_of called ≡ w
   pub answers : IsAnswering b called
   pub follows : Follows b called c
@@ -51,16 +51,16 @@ abbrev pub TakesAll : BookState → List Written → BookState → Type 0
 TakesAll b [] c = c ≡ b
 TakesAll b (w ∷ ws) c = (between : BookState) × Takes b w between × TakesAll between ws c
 
--- a head and so many events that lead to this book stand first in the bytes, and others behind them
+-- a head and so many events of its version that lead to this book stand first in the bytes, and others behind them
 pub record Leads (bytes : List ℕ) (count : ℕ) (b : BookState) (rest : List ℕ) : Type 0 where
   pub head : Head
   pub legal : IsHead head
   pub first : BookState
   pub begins : Begins head first
   pub events : List Written
-  pub written : AllByRecursion IsWritten events
+  pub written : AllByRecursion (IsWritten head.version) events
   pub takes : TakesAll first events b
-  pub parts : bytes ≡ head_bytes head ++ (flat_map event_bytes events ++ rest)
+  pub parts : bytes ≡ head_bytes head ++ (flat_map (event_bytes head.version) events ++ rest)
   pub many : count ≡ length events
 
 -- ---- the first fault
@@ -71,7 +71,7 @@ pub record IsUnspelled (bytes : List ℕ) (count : ℕ) : Type 0 where
   pub rest : List ℕ
   pub leads : Leads bytes count book rest
   pub more : rest ≢ []
-  pub none : BeginsNone event_bytes IsWritten rest
+  pub none : BeginsNone (event_bytes book.version) (IsWritten book.version) rest
 
 -- behind so many events that are taken stands one that is not
 pub record IsUntaken (bytes : List ℕ) (count : ℕ) : Type 0 where
@@ -79,9 +79,9 @@ pub record IsUntaken (bytes : List ℕ) (count : ℕ) : Type 0 where
   pub rest : List ℕ
   pub leads : Leads bytes count book rest
   pub event : Written
-  pub legal : IsWritten event
+  pub legal : IsWritten book.version event
   pub more : List ℕ
-  pub parts : rest ≡ event_bytes event ++ more
+  pub parts : rest ≡ event_bytes book.version event ++ more
   pub refused : (c : BookState) → Takes book event c → ⊥
 
 -- a head stands first, of which no book begins

@@ -12,8 +12,8 @@ use bq_flow::laws::one_longest;
 use bq_frame::block::Block;
 use bq_insn::text::Text;
 use bq_meaning::laws::one_answer;
-use bq_state::bounds::Bounds;
 use q_book::book::Book;
+use q_book::lengths::record_lengths;
 use q_journal::written::Written;
 use q_session::done::Done;
 use q_table::program::{Program, ProgramId};
@@ -28,14 +28,14 @@ fn leave(book: &mut Book) -> Result<(), Refusal>
     Ok(())
 }
 
-/// The notes are checked anew.
+/// The notes are checked anew, for the records of the book's views.
 fn register(alloc: Global, book: &mut Book, text: Text, notes: Notes) -> Result<(), Refusal>
-    requires { IsWritten (written.Register text notes) }
+    requires { IsWritten book.old.version (written.Register text notes) }
     ensures { Taking book.old (written.Register text notes) book.new result }
 {
     one_longest();
-    let certified = check_within(alloc, text, notes, Bounds::of_views())?;
-    let program = Program::of_views(alloc, certified)?;
+    let certified = check_within(alloc, text, notes, record_lengths(book.version()))?;
+    let program = Program::new(alloc, certified)?;
     let _id = book.register(&program)?;
     Ok(())
 }
@@ -50,7 +50,7 @@ fn ask(book: &mut Book, program: u32, start: u64) -> Result<(), Refusal>
 fn store(book: &mut Book, value: &Value) -> Result<(), Refusal>
     ensures { Calling book.old (entry.Store value.now) book.new result }
 {
-    let _begun = book.store(value)?;
+    let _begun = book.store(value.bytes())?;
     Ok(())
 }
 
@@ -96,7 +96,7 @@ pub(crate) fn take(
     block: &mut Block,
     event: Written,
 ) -> Result<(), Refusal>
-    requires { IsWritten event }
+    requires { IsWritten book.old.version event }
     ensures { Taking book.old event book.new result }
 {
     one_longest();

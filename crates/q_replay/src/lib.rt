@@ -1,10 +1,11 @@
 //! Journals of books as bytes, and books out of them.
 //!
-//! [`journal_bytes`] writes the journal of a book: its head and its entries in turn. [`replay`] makes each call that
-//! the events of a journal name, from the first state of the node, runs each job anew, and answers the book that this
-//! leads to. It answers a book for just the bytes that are the journal of one, and then that very book. Else it names
-//! the first faulty event: 57 where no event of the form stands there, 58 where the event is refused or its answer is
-//! not right; the head is event 0. Bytes have one such fault at most.
+//! [`journal_bytes`] writes the journal of a book in the book's version: its head and its entries in turn. [`replay`]
+//! makes each call that the events of a journal name, from the first state of the node, runs each job anew, and answers
+//! the book that this leads to. It answers a book for just the bytes that are the journal of one, and then that very
+//! book: of a journal of version 1 a book of version 1, which goes on as such. Else it names the first faulty event: 57
+//! where no event of the form stands there, 58 where the event is refused or its answer is not right; the head is event
+//! 0. Bytes have one such fault at most.
 //!
 //! So whoever trusts the definitions need not trust whoever wrote the bytes: an answer in a journal that is replayed is
 //! the meaning of its query's program over the view that the node collected.

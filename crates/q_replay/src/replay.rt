@@ -75,7 +75,7 @@ fn open(alloc: Global, bytes: &[u8]) -> Result<(Book, &[u8]), ReplayFault>
     }
 }
 
-/// The book before any event of the node with this head.
+/// The book before any event of the node with this head, of the head's version.
 fn begin(alloc: Global, head: &Head) -> Result<Book, Refusal>
     ensures { Beginning head.now result }
 {
@@ -87,17 +87,17 @@ fn begin(alloc: Global, head: &Head) -> Result<Book, Refusal>
     )?;
     match &head.founders {
         Some(ids) => {
-            let book = Book::founder(alloc, config, head.id, ids)?;
+            let book = Book::founder_as(alloc, head.version, config, head.id, ids)?;
             Ok(book)
         }
         None => {
-            let (book, _outs) = Book::entering(alloc, config, head.id)?;
+            let (book, _outs) = Book::entering_as(alloc, head.version, config, head.id)?;
             Ok(book)
         }
     }
 }
 
-/// Takes the event that stands first, behind so many others. What stands behind it is answered.
+/// Takes the event of the book's version that stands first, behind so many others. What stands behind it is answered.
 fn take_next<'a>(
     alloc: Global,
     book: &mut Book,
@@ -112,7 +112,7 @@ fn take_next<'a>(
     ensures fault { (bytes : List ℕ) → Leads bytes count book.old rest.now → IfErr result (IsFault bytes) }
 {
     let event = count + 1;
-    let (written, more) = match read_event(alloc, rest) {
+    let (written, more) = match read_event(alloc, book.version(), rest) {
         Ok(read) => read,
         Err(ReadFault::Form) => return Err(ReplayFault::Form { event }),
         Err(ReadFault::OutOfMemory) => return Err(ReplayFault::OutOfMemory),

@@ -1,23 +1,25 @@
 //! Books to journals.
 
-ghost use Rattle.std.specs.Prelude.{◌≡◌, ◌++◌, IfOk, OnOk};
+ghost use Rattle.std.specs.Prelude.{◌≡◌, IfOk, OnOk};
 ghost use Rattle.q_book.specs.Replays.{EntryFits};
 ghost use Rattle.q_journal.specs.Spelling.{event_bytes};
+ghost use Rattle.q_journal.specs.Writing.{with_more};
 ghost use Rattle.q_replay.specs.Journal.{written_of, journal_of, IsEntry, IsJournalled};
+ghost use Rattle.q_replay.specs.Checked.{IsChecked};
 
 use q_book::book::Book;
 use q_desk::journal::Entry;
 use q_journal::write::Writer;
 use std::alloc::{AllocError, Global};
 
-/// The journal of a book as bytes: the only bytes of which [`replay`](crate::replay::replay) makes this book. The one
-/// error is that memory ran out (99 OutOfMemory).
+/// The journal of a book as bytes of its version: the only bytes of which [`replay`](crate::replay::replay) makes this
+/// book. The one error is that memory ran out (99 OutOfMemory).
 pub fn journal_bytes(alloc: Global, book: &Book) -> Result<Vec<u8>, AllocError>
     ensures spelled { IfOk result (λ bytes. bytes.items ≡ journal_of book.now) }
     ensures journalled { IfOk result (λ _. IsJournalled book.now) }
 {
     let _desk = book.desk();
-    let mut writer = Writer::new(alloc);
+    let mut writer = Writer::new(alloc, book.version());
     writer.head(book.id(), book.config(), book.founders())?;
     for entry in book.journal() {
         write_entry(&mut writer, entry)?;
@@ -26,9 +28,10 @@ pub fn journal_bytes(alloc: Global, book: &Book) -> Result<Vec<u8>, AllocError>
 }
 
 fn write_entry(writer: &mut Writer, entry: &Entry) -> Result<(), AllocError>
-    requires { EntryFits entry.now }
-    ensures legal { OnOk result (IsEntry entry.now) }
-    ensures spelled { OnOk result (writer.new ≡ writer.old ++ event_bytes (written_of entry.now)) }
+    requires fits { EntryFits writer.old.version entry.now }
+    requires checked { IsChecked writer.old.version entry.now }
+    ensures legal { OnOk result (IsEntry writer.old.version entry.now) }
+    ensures spelled { OnOk result (writer.new ≡ with_more writer.old (event_bytes writer.old.version (written_of entry.now))) }
 {
     match entry {
         Entry::Leave => writer.leave(),

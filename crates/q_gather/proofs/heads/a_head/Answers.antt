@@ -9,6 +9,7 @@ returns-in-Some c = record {
   place = c.loop-book.book-index;
   book = c.book-item.result;
   at = slice_get_read c.args.books.now _ c.loop-book.book-index c.book-item.result refl c.loop-book-test.true c.book-item.is;
+  version_is = sym c.version.ensures;
   config_is = sym c.config.ensures.config;
   founders_are = sym c.in-Some.ensures.founders;
 }

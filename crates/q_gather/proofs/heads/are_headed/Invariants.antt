@@ -4,4 +4,4 @@ use Rattle.q_gather.proofs.Finding.{Below}
 use Rattle.q_gather.proofs.heads.are_headed.Given as goal
 
 abbrev pub invariant-loop-book : goal.invariant-loop-book
-invariant-loop-book l = Below (λ (b : BookState). IsHeaded b l.config l.founders) l.books l.book-index
+invariant-loop-book l = Below (λ (b : BookState). IsHeaded b l.version l.config l.founders) l.books l.book-index

@@ -7,5 +7,5 @@ use Rattle.q_journal.proofs.body.deliver.Goals as goal
 pub returns-in_err-message-clause-none : goal.returns-in_err-message-clause-none
 returns-in_err-message-clause-none c =
     let p = err_from_is_err_and c.from_residual.result c.from_residual.ensures.1 in
-    passed (IsNoBody 5 c.args.body.now) c.from_residual.result p.0 p.1
-    (λ form. no_deliver c.args.body.now (λ m is e. message_fault c.in_err-message.field-0.0 p.0 p.2 form (c.in_err-message.ensures.all m is e)))
+    passed (IsNoBody c.args.version 5 c.args.body.now) c.from_residual.result p.0 p.1
+    (λ form. no_deliver c.args.version c.args.body.now (λ m is e. message_fault c.in_err-message.field-0.0 p.0 p.2 form (c.in_err-message.ensures.all m is e)))

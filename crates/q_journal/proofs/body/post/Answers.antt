@@ -4,23 +4,23 @@ use Rattle.q_journal.proofs.Bodies.{no_post, post_cut, post_cut_twice, post_long
 use Rattle.q_journal.proofs.body.post.Goals as goal
 
 pub returns-in_err-query-clause-none : goal.returns-in_err-query-clause-none
-returns-in_err-query-clause-none c = no_form c.from_residual.result (no_post c.args.reader.now.rest.now (λ e. let short = c.in_err-query.ensures.none in omega (arith, e, short)))
+returns-in_err-query-clause-none c = λ version. no_form c.from_residual.result (no_post version c.args.reader.now.rest.now (λ e. let short = c.in_err-query.ensures.none in omega (arith, e, short)))
 
 pub returns-in_err-acc-clause-none : goal.returns-in_err-acc-clause-none
-returns-in_err-acc-clause-none c =
-    no_form c.from_residual-in_err-acc.result (post_cut c.args.reader.now.rest.now c.number.new.self.rest.now c.in_ok-query.query c.in_ok-query.ensures.parts (omega (arith, c.in_err-acc.ensures.none)))
+returns-in_err-acc-clause-none c = λ version.
+    no_form c.from_residual-in_err-acc.result (post_cut version c.args.reader.now.rest.now c.number.new.self.rest.now c.in_ok-query.query c.in_ok-query.ensures.parts (omega (arith, c.in_err-acc.ensures.none)))
 
 pub returns-in_err-steps-clause-none : goal.returns-in_err-steps-clause-none
-returns-in_err-steps-clause-none c =
-    no_form c.from_residual-in_err-steps.result (post_cut_twice c.args.reader.now.rest.now c.number.new.self.rest.now c.number-2.new.self.rest.now c.in_ok-query.query c.in_ok-acc.acc c.in_ok-query.ensures.parts c.in_ok-acc.ensures.parts c.in_err-steps.ensures.none)
+returns-in_err-steps-clause-none c = λ version.
+    no_form c.from_residual-in_err-steps.result (post_cut_twice version c.args.reader.now.rest.now c.number.new.self.rest.now c.number-2.new.self.rest.now c.in_ok-query.query c.in_ok-acc.acc c.in_ok-query.ensures.parts c.in_ok-acc.ensures.parts c.in_err-steps.ensures.none)
 
 pub returns-in_err-end-clause-none : goal.returns-in_err-end-clause-none
-returns-in_err-end-clause-none c =
+returns-in_err-end-clause-none c = λ version.
     no_form c.from_residual-in_err-end.result
-    (post_long c.args.reader.now.rest.now c.number.new.self.rest.now c.number-2.new.self.rest.now c.number-3.new.self.rest.now c.in_ok-query.query c.in_ok-acc.acc c.in_ok-steps.steps c.in_ok-query.ensures.parts c.in_ok-acc.ensures.parts c.in_ok-steps.ensures.parts c.in_err-end.ensures.more)
+    (post_long version c.args.reader.now.rest.now c.number.new.self.rest.now c.number-2.new.self.rest.now c.number-3.new.self.rest.now c.in_ok-query.query c.in_ok-acc.acc c.in_ok-steps.steps c.in_ok-query.ensures.parts c.in_ok-acc.ensures.parts c.in_ok-steps.ensures.parts c.in_err-end.ensures.more)
 
 pub returns-clause-body : goal.returns-clause-body
-returns-clause-body c = record {
+returns-clause-body c = λ version. record {
   legal = (c.in_ok-query.ensures.fits, c.in_ok-acc.ensures.fits, c.in_ok-steps.ensures.fits);
   is = refl;
   spelled = posted c.args.reader.now.rest.now c.number.new.self.rest.now c.number-2.new.self.rest.now c.number-3.new.self.rest.now c.in_ok-query.query c.in_ok-acc.acc c.in_ok-steps.steps

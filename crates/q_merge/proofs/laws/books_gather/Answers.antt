@@ -6,9 +6,9 @@ use Rattle.q_merge.proofs.laws.books_gather.Goals as goal
 
 pub returns : goal.returns
 returns c = record {
-  begins = λ books config founders lists distinct right agree traces. begins config founders books lists distinct right agree traces;
+  begins = λ books version config founders lists distinct right agree traces. begins version config founders books lists distinct right agree traces;
   goes = λ books d lists k s rest u at can. step_goes books d lists u k s rest at can;
   over = λ books d lists u over. gathered books d lists u over;
-  gathers = λ books config founders lists distinct right agree traces merges.
-      gathers merges books (start config founders) refl (begins config founders books lists distinct right agree traces);
+  gathers = λ books version config founders lists distinct right agree traces merges.
+      gathers merges books (start version config founders) refl (begins version config founders books lists distinct right agree traces);
 }

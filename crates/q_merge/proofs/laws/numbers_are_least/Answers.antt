@@ -1,8 +1,9 @@
+use Rattle.sc_msg.specs.declared.version.Version.TheVariants.{Second}
 use Rattle.q_merge.proofs.Finding.{no_numbers, numbers_on}
 use Rattle.q_merge.proofs.laws.numbers_are_least.Goals as goal
 
 pub returns : goal.returns
 returns c = record {
   none = no_numbers;
-  next = λ sent numbers m are legal. numbers_on c.one_spelling.ensures sent numbers are m legal;
+  next = λ sent numbers m are legal. numbers_on (c.one_spelling.ensures Second) sent numbers are m legal;
 }

@@ -1,5 +1,6 @@
 -- Behind a head stands a leave, which is an event.
 use Rattle.std.proofs.Common.{◌≡◌, ℕ, List, [], ◌∷◌, ◌++◌, length, sym, flat_map, arith}
+use Rattle.sc_msg.specs.declared.version.Version.{Version}
 use Rattle.sc_msg.specs.Numbers.{number_bytes}
 use Rattle.q_journal.specs.Spelling.{event_bytes}
 use Rattle.q_journal.specs.declared.written.Written.{Written}
@@ -7,13 +8,13 @@ use Rattle.q_journal.specs.declared.written.Written.TheVariants.{Leave}
 use Rattle.q_journal.proofs.Fronts.{head_front}
 use Rattle.q_replay.proofs.worked.worked.Goals as goal
 
-none_before : (events : List Written) (bytes rest : List ℕ) → 0 ≡ length events → bytes ≡ flat_map event_bytes events ++ rest → rest ≡ bytes
-none_before [] bytes rest many is = sym is
-none_before (w ∷ ws) bytes rest many is = absurd (omega (arith, many))
+none_before : (version : Version) (events : List Written) (bytes rest : List ℕ) → 0 ≡ length events → bytes ≡ flat_map (event_bytes version) events ++ rest → rest ≡ bytes
+none_before version [] bytes rest many is = sym is
+none_before version (w ∷ ws) bytes rest many is = absurd (omega (arith, many))
 
 pub returns-clause-not_the_first : goal.returns-clause-not_the_first
 unfolding number_bytes
 returns-clause-not_the_first c = λ h legal f.
     let l = f.leads in
-    let heads = head_front h l.head (1 ∷ 0 ∷ 0 ∷ 0 ∷ 0 ∷ 9 ∷ []) (flat_map event_bytes l.events ++ f.rest) legal l.legal l.parts in
-    f.none.none Leave (9 ∷ []) tt (none_before l.events (1 ∷ 0 ∷ 0 ∷ 0 ∷ 0 ∷ 9 ∷ []) f.rest l.many heads.1)
+    let heads = head_front h l.head (1 ∷ 0 ∷ 0 ∷ 0 ∷ 0 ∷ 9 ∷ []) (flat_map (event_bytes l.head.version) l.events ++ f.rest) legal l.legal l.parts in
+    f.none.none Leave (9 ∷ []) tt (none_before l.head.version l.events (1 ∷ 0 ∷ 0 ∷ 0 ∷ 0 ∷ 9 ∷ []) f.rest l.many heads.1)

@@ -3,7 +3,7 @@ use Rattle.std.proofs.lemmas.Result.{on_ok_weaker}
 use Rattle.sc_msg.specs.Numbers.{number_bytes}
 use Rattle.q_journal.specs.declared.written.Written.TheVariants.{Post}
 use Rattle.q_journal.proofs.Sizes.{length-posted}
-use Rattle.q_journal.proofs.Writes.{three, event_written}
+use Rattle.q_journal.proofs.Writes.{three, event_written, written_on}
 use Rattle.q_journal.proofs.write.Writer.post.Goals as goal
 
 pub returns-clause-spelled : goal.returns-clause-spelled
@@ -12,6 +12,7 @@ returns-clause-spelled c =
     let acc = c.args.acc in
     let steps = c.args.steps in
     on_ok_weaker c.number-3.result
-    (λ (last : c.number-3.new.self ≡ c.number-2.new.self ++ number_bytes 8 steps). event_written (Post query acc steps) c.args.self.now c.front.new.self c.number-3.new.self 24 (sym (length-posted query acc steps)) c.in_ok-front.ensures
-    (three c.front.new.self c.number.new.self c.number-2.new.self c.number-3.new.self (number_bytes 8 query) (number_bytes 8 acc) (number_bytes 8 steps) c.in_ok-number.ensures.spelled c.in_ok-number-2.ensures.spelled last))
+    (λ (last : c.number-3.new.self ≡ c.number-2.new.self ++ number_bytes 8 steps). written_on c.args.self.now c.self.inside.version c.self.inside.out c.number-3.new.self (Post query acc steps) c.self.view_is
+    (event_written c.self.inside.version (Post query acc steps) c.self.inside.out c.front.new.self c.number-3.new.self 24 (sym (length-posted query acc steps)) c.in_ok-front.ensures
+    (three c.front.new.self c.number.new.self c.number-2.new.self c.number-3.new.self (number_bytes 8 query) (number_bytes 8 acc) (number_bytes 8 steps) c.in_ok-number.ensures.spelled c.in_ok-number-2.ensures.spelled last)))
     c.number-3.ensures.spelled
