@@ -106,11 +106,11 @@ fn write_assembler(
     }
 }
 
-/// How many bytes a record may have of which a command asks.
+/// How many bytes a record may have of which a command asks; any number where it asks of none.
 fn lengths_of(line: &FileCommand<'_>) -> Bounds {
     match line {
         FileCommand::Check { lengths, .. } | FileCommand::Run { lengths, .. } => *lengths,
-        _ => Bounds::of_views(),
+        _ => Bounds::all(),
     }
 }
 

@@ -64,7 +64,8 @@ fn event(word: &str) -> &'static str {
     match word {
         "program" =>
             "program NODE HEX, where HEX is the program's bytes in one word, two hexadecimal\ndigits each: what asm lists, without its line feeds.",
-        "store" => "store NODE U64, with one space between, in decimal",
+        "store" =>
+            "store NODE VALUE, where VALUE is a number in decimal, or x and two hexadecimal\ndigits for each of its bytes: store 1 5 or store 1 x05ff.",
         "ask" => "ask NODE PROGRAM START, with one space between, in decimal",
         "deliver" => "deliver MESSAGE NODE, with one space between, in decimal",
         "all" => "all LIMIT, in decimal",

@@ -3,21 +3,31 @@ use Rattle.std.proofs.Common.{◌≡◌, ℕ, ◌+◌, ◌<◌, ◌≤◌, List,
 use Rattle.std.specs.Prelude.{IsErrAnd, is_some, Bool, true, false}
 use Rattle.std.specs.Io.KnownBytes.{Consumes, IsAtEnd}
 use Rattle.std.proofs.KnownBytes.{Consumes-trans}
+use Rattle.std.proofs.Math.Seq.{take-append_seam}
+use Rattle.std.proofs.lemmas.List.{length-take}
 use Rattle.bq_check.specs.Spelling.{short_bytes}
+use Rattle.sc_msg.specs.declared.version.Version.{Version}
 use Rattle.q_net.specs.declared.pieces.Piece.{Piece}
 use Rattle.q_net.specs.declared.incoming.Next.{Next}
 use Rattle.q_net.specs.declared.pieces.Piece.TheVariants as piece
-use Rattle.q_net.specs.declared.request.Request.TheVariants.{Register}
+use Rattle.q_net.specs.declared.request.Request.TheVariants.{Register, StoreOf}
 use Rattle.q_net.specs.Requests.{GetsNext, GotBlob, spelling, IsRequest, most_text, most_notes, GetsBlob, Got, IsNext, IsCut, Place, IsPlace, before, wanted}
 
 pub whole_of : (a b : Option (List ℕ)) (n : ℕ) (xs : List ℕ) → length xs ≤ n → Consumes a b (take n xs) → Consumes a b xs
 whole_of a b n xs h p = subst (Consumes a b) (take_all n xs h) p
 
+pub taken_length : (n : ℕ) (xs ys : List ℕ) → length xs ≡ length (take n ys) → n ≤ length ys → length xs ≡ n
+taken_length n xs ys h few = omega (arith, h, few, length-take n ys)
+
+-- what stands before the rest
+pub front_of : (n : ℕ) (xs rest : List ℕ) → length xs ≡ n → take n (xs ++ rest) ≡ xs
+front_of n xs rest is = subst (λ (k : ℕ). take k (xs ++ rest) ≡ xs) is (take-append_seam xs rest)
+
 -- ---- reads that fail
 
-pub next_failed : {E : Type 0} (P : E → Type 0) (front : List ℕ) (a b : Option (List ℕ)) (r : Result Next E) → IsErrAnd r P → (part : List ℕ) × Consumes a b part → GetsNext front a b r
-next_failed P front a b (Ok n) h p = absurd h
-next_failed P front a b (Err e) h p = p
+pub next_failed : {E : Type 0} (P : E → Type 0) (version : Version) (front : List ℕ) (a b : Option (List ℕ)) (r : Result Next E) → IsErrAnd r P → (part : List ℕ) × Consumes a b part → GetsNext version front a b r
+next_failed P version front a b (Ok n) h p = absurd h
+next_failed P version front a b (Err e) h p = p
 
 pub blob_failed : {E : Type 0} (P : E → Type 0) (len : ℕ) (a b : Option (List ℕ)) (r : Result Piece E) → IsErrAnd r P → (part : List ℕ) × Consumes a b part → GetsBlob len a b r
 blob_failed P len a b (Ok n) h p = absurd h
@@ -35,8 +45,12 @@ pub got_none : {A : Type 0} (bytes_of : A → List ℕ) (len : ℕ) (a b : Optio
 got_none bytes_of len a b o is h = subst (Got bytes_of len a b) is h
 
 -- a number of four bytes was got, and what comes behind it failed
-pub short_then_failed : {E : Type 0} (P : E → Type 0) (front : List ℕ) (a b c : Option (List ℕ)) (r : Result Next E) (o : Option ℕ) (n : ℕ) → IsErrAnd r P → o ≡ Some n → Got short_bytes 4 a b o → (part : List ℕ) × Consumes b c part → GetsNext front a c r
-short_then_failed P front a b c r o n h is got failed = next_failed P front a c r h (then_failed a b c (short_bytes n) (got_some short_bytes 4 a b o n is got) failed)
+pub short_then_failed : {E : Type 0} (P : E → Type 0) (version : Version) (front : List ℕ) (a b c : Option (List ℕ)) (r : Result Next E) (o : Option ℕ) (n : ℕ) → IsErrAnd r P → o ≡ Some n → Got short_bytes 4 a b o → (part : List ℕ) × Consumes b c part → GetsNext version front a c r
+short_then_failed P version front a b c r o n h is got failed = next_failed P version front a c r h (then_failed a b c (short_bytes n) (got_some short_bytes 4 a b o n is got) failed)
+
+-- the same of a byte
+pub byte_then_failed : {E : Type 0} (P : E → Type 0) (version : Version) (front : List ℕ) (a b c : Option (List ℕ)) (r : Result Next E) (o : Option ℕ) (n : ℕ) → IsErrAnd r P → o ≡ Some n → Got (λ (b : ℕ). b ∷ []) 1 a b o → (part : List ℕ) × Consumes b c part → GetsNext version front a c r
+byte_then_failed P version front a b c r o n h is got failed = next_failed P version front a c r h (then_failed a b c (n ∷ []) (got_some (λ (b : ℕ). b ∷ []) 1 a b o n is got) failed)
 
 -- the next byte, where it has this value
 pub got_kind : (kind byte : ℕ) (a b : Option (List ℕ)) (o : Option ℕ) → o ≡ Some byte → byte ≡ kind → Got (λ (b : ℕ). b ∷ []) 1 a b o → Consumes a b (kind ∷ [])
@@ -59,9 +73,9 @@ passed_byte a b c at o before some h =
     (done ++ byte ∷ [], omega (arith, len, length-append done (byte ∷ [])), Consumes-trans a b c done (byte ∷ []) consumed last)
 
 -- the input ended within a place, behind what was read of the request
-pub ended_at : (a b c : Option (List ℕ)) (place : Place) (front first : List ℕ) → IsPlace place → front ++ first ≡ before place → Consumes a b first
-    → (part : List ℕ) × Consumes b c part × (length part < wanted place) × IsAtEnd c → (x : List ℕ) × Consumes a c x × IsCut (front ++ x) × IsAtEnd c
-ended_at a b c place front first allowed whole consumed ended =
+pub ended_at : (version : Version) (a b c : Option (List ℕ)) (place : Place) (front first : List ℕ) → IsPlace version place → front ++ first ≡ before place → Consumes a b first
+    → (part : List ℕ) × Consumes b c part × (length part < wanted place) × IsAtEnd c → (x : List ℕ) × Consumes a c x × IsCut version (front ++ x) × IsAtEnd c
+ended_at version a b c place front first allowed whole consumed ended =
     let (part, rest, few, end) = ended in (
       first ++ part,
       Consumes-trans a b c first part consumed rest,
@@ -71,11 +85,11 @@ ended_at a b c place front first allowed whole consumed ended =
 
 -- ---- what is behind some bytes
 
-pub next_behind : {E : Type 0} (front more : List ℕ) (a b c : Option (List ℕ)) (r : Result Next E) → Consumes a b more → GetsNext (front ++ more) b c r → GetsNext front a c r
-next_behind front more a b c (Ok n) consumed h =
+pub next_behind : {E : Type 0} (version : Version) (front more : List ℕ) (a b c : Option (List ℕ)) (r : Result Next E) → Consumes a b more → GetsNext version (front ++ more) b c r → GetsNext version front a c r
+next_behind version front more a b c (Ok n) consumed h =
     let (bytes, rest, is, end) = h in
-    (more ++ bytes, Consumes-trans a b c more bytes consumed rest, subst (λ (l : List ℕ). IsNext l n) (append_assoc front more bytes) is, end)
-next_behind front more a b c (Err e) consumed h = (more ++ h.0, Consumes-trans a b c more h.0 consumed h.1)
+    (more ++ bytes, Consumes-trans a b c more bytes consumed rest, subst (λ (l : List ℕ). IsNext version l n) (append_assoc front more bytes) is, end)
+next_behind version front more a b c (Err e) consumed h = (more ++ h.0, Consumes-trans a b c more h.0 consumed h.1)
 
 -- ---- registrations
 
@@ -92,9 +106,9 @@ pub blob_whole : (len : ℕ) (a b : Option (List ℕ)) (p : Piece) (bytes : List
 blob_whole len a b p bytes is h = subst (GotBlob len a b) is h
 
 -- the notes behind a text
-pub notes_read : (text notes : List ℕ) (len : ℕ) (a b c : Option (List ℕ)) → length text ≤ most_text → len ≤ most_notes → Consumes a b (short_bytes len) → Consumes b c notes × (length notes ≡ len)
-    → (x : List ℕ) × Consumes a c x × IsRequest (Register text notes) × (to_text text ++ x ≡ spelling (Register text notes))
-notes_read text notes len a b c few small first second =
+pub notes_read : (version : Version) (text notes : List ℕ) (len : ℕ) (a b c : Option (List ℕ)) → length text ≤ most_text → len ≤ most_notes version → Consumes a b (short_bytes len) → Consumes b c notes × (length notes ≡ len)
+    → (x : List ℕ) × Consumes a c x × IsRequest version (Register text notes) × (to_text text ++ x ≡ spelling (Register text notes))
+notes_read version text notes len a b c few small first second =
     let x = short_bytes len ++ notes in
     let same : to_text text ++ x ≡ spelling (Register text notes) =
     ap (λ (l : List ℕ). 1 ∷ l) (append_assoc (short_bytes (length text)) text x)
@@ -102,9 +116,17 @@ notes_read text notes len a b c few small first second =
     (x, Consumes-trans a b c (short_bytes len) notes first second.0, (few, omega (arith, small, second.1)), same)
 
 -- a text, and what is behind it
-pub text_read : {E : Type 0} (a b c d : Option (List ℕ)) (len : ℕ) (text : List ℕ) (r : Result Next E) → Consumes a b (short_bytes len) → Consumes b c text × (length text ≡ len) → len ≤ most_text
-    → ((whole : List ℕ) → length whole ≤ most_text → whole ≡ text → GetsNext (to_text whole) c d r) → GetsNext (1 ∷ []) a d r
-text_read a b c d len text r first second small behind =
+pub text_read : {E : Type 0} (version : Version) (a b c d : Option (List ℕ)) (len : ℕ) (text : List ℕ) (r : Result Next E) → Consumes a b (short_bytes len) → Consumes b c text × (length text ≡ len) → len ≤ most_text
+    → ((whole : List ℕ) → length whole ≤ most_text → whole ≡ text → GetsNext version (to_text whole) c d r) → GetsNext version (1 ∷ []) a d r
+text_read version a b c d len text r first second small behind =
     let consumed = Consumes-trans a b c (short_bytes len) text first second.0 in
-    let rest = subst (λ (n : ℕ). GetsNext (1 ∷ short_bytes n ++ text) c d r) second.1 (behind text (omega (arith, small, second.1)) refl) in
-    next_behind (1 ∷ []) (short_bytes len ++ text) a c d r consumed rest
+    let rest = subst (λ (n : ℕ). GetsNext version (1 ∷ short_bytes n ++ text) c d r) second.1 (behind text (omega (arith, small, second.1)) refl) in
+    next_behind version (1 ∷ []) (short_bytes len ++ text) a c d r consumed rest
+
+-- ---- bytes behind their length
+
+-- the length, and so many bytes
+pub bytes_read : (version : Version) (len : ℕ) (bytes : List ℕ) (a b c : Option (List ℕ)) → len < 256 → Consumes a b (len ∷ []) → Consumes b c bytes → length bytes ≡ len
+    → (x : List ℕ) × Consumes a c x × IsRequest version (StoreOf bytes) × (5 ∷ x ≡ spelling (StoreOf bytes))
+bytes_read version len bytes a b c few first second is =
+    (len ∷ bytes, Consumes-trans a b c (len ∷ []) bytes first second, omega (arith, few, is), ap (λ (n : ℕ). 5 ∷ n ∷ bytes) (sym is))

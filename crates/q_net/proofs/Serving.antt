@@ -4,6 +4,7 @@ use Rattle.std.specs.List.{AllByRecursion}
 use Rattle.std.specs.Io.KnownBytes.{Appends, Consumes}
 use Rattle.std.proofs.KnownBytes.{Appends-nil, Appends-trans, Consumes-nil, Consumes-trans}
 use Rattle.sc_msg.specs.declared.message.Message.{Message}
+use Rattle.sc_msg.specs.declared.version.Version.{Version}
 use Rattle.q_book.specs.State.{BookState}
 use Rattle.q_net.specs.declared.request.Request.{Request}
 use Rattle.q_net.specs.declared.reply.Reply.{Reply}
@@ -24,7 +25,7 @@ use Rattle.q_net.specs.Serves.{Serves, IsAtHand, IsBroken, IsServed, IsTaken, Is
 -- So far all is served, and nothing else was read or written.
 pub record Served (input left before after : Option (List ℕ)) (b c : BookState) (had has : List Message) : Type 0 where
   pub requests : List Request
-  pub legal : AllByRecursion IsRequest requests
+  pub legal : AllByRecursion (IsRequest b.version) requests
   pub consumed : Consumes input left (spellings requests)
   pub replies : List ℕ
   pub messages : List Message
@@ -75,17 +76,17 @@ spellings_more : (rs : List Request) (r : Request) → spellings (rs ++ r ∷ []
 spellings_more [] r = append-nil (spelling r)
 spellings_more (q ∷ rs) r = ap (λ (l : List ℕ). spelling q ++ l) (spellings_more rs r) ∙ sym (append_assoc (spelling q) (spellings rs) (spelling r))
 
-legal_more : (rs : List Request) (r : Request) → AllByRecursion IsRequest rs → IsRequest r → AllByRecursion IsRequest (rs ++ r ∷ [])
-legal_more [] r h p = (p, tt)
-legal_more (q ∷ rs) r h p = (h.0, legal_more rs r h.1 p)
+legal_more : (version : Version) (rs : List Request) (r : Request) → AllByRecursion (IsRequest version) rs → IsRequest version r → AllByRecursion (IsRequest version) (rs ++ r ∷ [])
+legal_more version [] r h p = (p, tt)
+legal_more version (q ∷ rs) r h p = (h.0, legal_more version rs r h.1 p)
 
 -- a request that was read, and replied to in full
 pub served_more : (input mid left before between after : Option (List ℕ)) (b c d : BookState) (had has more : List Message) (r : Request) (said : Reply) (outs : List Message)
-    → Served input mid before between b c had has → IsRequest r → Consumes mid left (spelling r) → Replies c r said outs d
+    → Served input mid before between b c had has → IsRequest b.version r → Consumes mid left (spelling r) → Replies c r said outs d
     → more ≡ has ++ outs → Appends between after (reply_bytes said) → Served input left before after b d had more
 served_more input mid left before between after b c d had has more r said outs s legal consumed replied grown written = record {
   requests = s.requests ++ r ∷ [];
-  legal = legal_more s.requests r s.legal legal;
+  legal = legal_more b.version s.requests r s.legal legal;
   consumed = subst (Consumes input left) (sym (spellings_more s.requests r)) (Consumes-trans input mid left (spellings s.requests) (spelling r) s.consumed consumed);
   replies = s.replies ++ reply_bytes said;
   messages = s.messages ++ outs;
@@ -97,7 +98,7 @@ served_more input mid left before between after b c d had has more r said outs s
 -- ---- turns
 
 pub then_broken : (input mid left before between after : Option (List ℕ)) (b c d : BookState) (had has more : List Message) (read part : List ℕ)
-    → Served input mid before between b c had has → Consumes mid left read → Appends between after part → IsAtHand read c d has more
+    → Served input mid before between b c had has → Consumes mid left read → Appends between after part → IsAtHand b.version read c d has more
     → IsBroken input left before after b d had more
 then_broken input mid left before between after b c d had has more read part s consumed written at_hand = record {
   requests = s.requests;
@@ -110,11 +111,11 @@ then_broken input mid left before between after b c d had has more read part s c
   serves = s.serves;
   part = part;
   written = Appends-trans before between after s.replies part s.written written;
-  at_hand = subst (λ (l : List Message). IsAtHand read c d l more) s.grown at_hand;
+  at_hand = subst (λ (l : List Message). IsAtHand b.version read c d l more) s.grown at_hand;
 }
 
 pub then_served : (input mid left before between after : Option (List ℕ)) (b c d : BookState) (had has more : List Message)
-    → Served input mid before between b c had has → IsTaken mid left between after c d has more false → IsServed input left before after b d had more
+    → Served input mid before between b c had has → IsTaken b.version mid left between after c d has more false → IsServed input left before after b d had more
 then_served input mid left before between after b c d had has more s turn =
     let (ended, last, is_last, consumed, read, written, same, kept) = turn in
     record {
@@ -134,32 +135,32 @@ then_served input mid left before between after b c d had has more s turn =
 
 -- a turn that failed, behind what was served
 pub end_broken : {F : Type 0} (P : TransportFailed → Type 0) (input mid left before between after : Option (List ℕ)) (b c d : BookState) (had has more : List Message) (r : Result (Unit {0}) TransportFailed) (e : F)
-    → IsErrAnd r P → Served input mid before between b c had has → IsTurn mid left between after c d has more (Err e) → IsEnd r input left before after b d had more
+    → IsErrAnd r P → Served input mid before between b c had has → IsTurn b.version mid left between after c d has more (Err e) → IsEnd r input left before after b d had more
 end_broken P input mid left before between after b c d had has more (Ok u) e h s turn = absurd h
 end_broken P input mid left before between after b c d had has more (Err f) e h s turn =
     let (read, part, consumed, written, at_hand) = turn in
     then_broken input mid left before between after b c d had has more read part s consumed written at_hand
 
 pub goes_on : (input mid left before between after : Option (List ℕ)) (b c d : BookState) (had has more : List Message) (on : Bool)
-    → Served input mid before between b c had has → on ≡ true → IsTaken mid left between after c d has more on → Served input left before after b d had more
+    → Served input mid before between b c had has → on ≡ true → IsTaken b.version mid left between after c d has more on → Served input left before after b d had more
 goes_on input mid left before between after b c d had has more on s is turn =
-    let t : IsTaken mid left between after c d has more true = subst (IsTaken mid left between after c d has more) is turn in
+    let t : IsTaken b.version mid left between after c d has more true = subst (IsTaken b.version mid left between after c d has more) is turn in
     let (r, said, outs, legal, consumed, replied, grown, written) = t in
     served_more input mid left before between after b c d had has more r said outs s legal consumed replied grown written
 
 -- requests stop
-pub stops : (input left before after : Option (List ℕ)) (b : BookState) (had : List Message) (n : Next) (stop : Stop) (number : ℕ) → n ≡ next.Ended stop → IsGot [] input left n
-    → number ≡ stop_number stop → Appends before after (number ∷ []) → IsTaken input left before after b b had had false
-stops input left before after b had n stop number is got said written =
-    let g : IsGot [] input left (next.Ended stop) = subst (IsGot [] input left) is got in
+pub stops : (version : Version) (input left before after : Option (List ℕ)) (b : BookState) (had : List Message) (n : Next) (stop : Stop) (number : ℕ) → n ≡ next.Ended stop → IsGot version [] input left n
+    → number ≡ stop_number stop → Appends before after (number ∷ []) → IsTaken version input left before after b b had had false
+stops version input left before after b had n stop number is got said written =
+    let g : IsGot version [] input left (next.Ended stop) = subst (IsGot version [] input left) is got in
     let (bytes, consumed, is_stop, read) = g in
     (Some stop, bytes, is_stop, consumed, read, subst (λ (k : ℕ). Appends before after (k ∷ [])) said written, refl, refl)
 
 -- there was no memory for the bytes of a registration
-pub loses : (input left before after : Option (List ℕ)) (b : BookState) (had : List Message) (n : Next) → n ≡ next.Lost → IsGot [] input left n
-    → Appends before after (99 ∷ []) → IsTaken input left before after b b had had true
-loses input left before after b had n is got written =
-    let g : IsGot [] input left next.Lost = subst (IsGot [] input left) is got in
+pub loses : (version : Version) (input left before after : Option (List ℕ)) (b : BookState) (had : List Message) (n : Next) → n ≡ next.Lost → IsGot version [] input left n
+    → Appends before after (99 ∷ []) → IsTaken version input left before after b b had had true
+loses version input left before after b had n is got written =
+    let g : IsGot version [] input left next.Lost = subst (IsGot version [] input left) is got in
     let (bytes, consumed, lost, read) = g in
     let (text, notes, legal, spelled) = lost in
     (Register text notes, Refused 99, [], legal, subst (Consumes input left) spelled consumed, (registered.Text decode_fault.OutOfMemory, (refl, λ known. absurd (known refl)), refl, refl), sym (append-nil had), written)

@@ -13,11 +13,12 @@ use Rattle.bq_check.specs.declared.fault.NotesFault.TheVariants as notes_fault
 use Rattle.bq_check.specs.Reasons as check
 use Rattle.bq_check.specs.Faults.{IsFirstFault}
 use Rattle.bq_check.specs.Spelling.{short_bytes, long_bytes, notes_bytes, IsNotes}
-use Rattle.bq_check.specs.declared.form.Form.TheVariants.{First}
-use Rattle.bq_state.specs.Kinds.{view_lengths}
-use Rattle.q_table.specs.Programs.{IsForViews}
+use Rattle.bq_check.specs.declared.form.Form.{Form}
+use Rattle.bq_check.specs.declared.form.Form.TheVariants as form
 use Rattle.bq_check.specs.Certificate.{Certificate, IsCertified}
 use Rattle.sc_msg.specs.declared.message.Message.{Message}
+use Rattle.sc_msg.specs.declared.version.Version.{Version}
+use Rattle.sc_msg.specs.declared.version.Version.TheVariants.{First, Second}
 use Rattle.sc_node.specs.declared.answer.Begun.{Begun}
 use Rattle.forms.specs.Calls.{Steps}
 use Rattle.q_session.specs.declared.ran.Ran.{Ran}
@@ -26,11 +27,12 @@ use Rattle.q_desk.specs.Faults as desk_fault
 use Rattle.q_desk.specs.Desks.{answer_of}
 use Rattle.q_book.specs.State.{BookState}
 use Rattle.q_book.specs.Books as book
+use Rattle.q_book.specs.Books.{record_lengths}
 use Rattle.q_book.specs.Faults.{memory, reason}
 use Rattle.q_book.specs.declared.fault.BookFault.{BookFault}
 use Rattle.q_book.specs.declared.answer.Asked.{Asked}
 use Rattle.q_net.specs.declared.request.Request.{Request}
-use Rattle.q_net.specs.declared.request.Request.TheVariants.{Register, Ask, Store, Answer}
+use Rattle.q_net.specs.declared.request.Request.TheVariants.{Register, Ask, Store, Answer, StoreOf}
 use Rattle.q_net.specs.declared.request.Stop.{Stop}
 use Rattle.q_net.specs.declared.request.Stop.TheVariants as stop
 use Rattle.q_net.specs.declared.reply.Reply.{Reply}
@@ -47,20 +49,25 @@ reply_bytes (reply.Refused why) = why ∷ []
 
 -- ---- registrations
 
+-- the form of the notes in requests to a book of that version
+abbrev pub form_of : Version → Form
+form_of First = form.First
+form_of Second = form.Second
+
 -- what comes of the bytes of a text and of notes: the first fault of the text, then of the notes, then of the check, and
--- only then the book's answer. Notes are in their first form, and for the records of views. Each may be that memory ran
--- out, and then the book is as it was.
+-- only then the book's answer. Notes have the form of the book's version, and are for its records. Each may be that
+-- memory ran out, and then the book is as it was.
 abbrev pub Registers : BookState → List ℕ → List ℕ → Registered → BookState → Type 0
 Registers b bytes notes (registered.Text f) c = (c ≡ b) × (f ≢ decode_fault.OutOfMemory → decode.IsFault bytes f)
 Registers b bytes notes (registered.Notes f) c =
     (c ≡ b) × ((t : List Insn) × IsText t × (bytes ≡ text.spelling t))
-    × (f ≢ notes_fault.OutOfMemory → (n : List (Option StateKinds)) → IsNotes First n → notes ≡ notes_bytes First n → ⊥)
+    × (f ≢ notes_fault.OutOfMemory → (n : List (Option StateKinds)) → IsNotes (form_of b.version) n → notes ≡ notes_bytes (form_of b.version) n → ⊥)
 Registers b bytes notes (registered.Check f) c =
-    (c ≡ b) × ((t : List Insn) × (n : List (Option StateKinds)) × IsText t × (bytes ≡ text.spelling t) × IsNotes First n × (notes ≡ notes_bytes First n)
-    × IsFirstFault view_lengths t n f)
+    (c ≡ b) × ((t : List Insn) × (n : List (Option StateKinds)) × IsText t × (bytes ≡ text.spelling t)
+    × IsNotes (form_of b.version) n × (notes ≡ notes_bytes (form_of b.version) n) × IsFirstFault (record_lengths b.version) t n f)
 Registers b bytes notes (registered.Book r) c =
-    (program : Certificate) × (IsCertified program × IsForViews program) × (bytes ≡ text.spelling program.text)
-    × IsNotes First program.notes × (notes ≡ notes_bytes First program.notes)
+    (program : Certificate) × IsCertified program × (program.lengths ≡ record_lengths b.version) × (bytes ≡ text.spelling program.text)
+    × IsNotes (form_of b.version) program.notes × (notes ≡ notes_bytes (form_of b.version) program.notes)
     × Steps memory (book.registered b program) b c r
 
 abbrev pub of_register : Result ℕ BookFault → Reply
@@ -105,6 +112,8 @@ Replies b (Ask program start) said sent c =
 Replies b (Store value) said sent c =
     (r : Result Begun BookFault) × Steps memory (book.stored b value) b c r × (said ≡ of_store r) × (sent ≡ sent_by_store r)
 Replies b (Answer query) said sent c = (c ≡ b) × (said ≡ of_answer (answer_of b.desk query)) × (sent ≡ [])
+Replies b (StoreOf value) said sent c =
+    (r : Result Begun BookFault) × Steps memory (book.stored b value) b c r × (said ≡ of_store r) × (sent ≡ sent_by_store r)
 
 -- why requests stop, and the reply at which they do
 abbrev pub stop_reason : Stop → Reason

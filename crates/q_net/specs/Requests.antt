@@ -3,8 +3,10 @@ use Rattle.std.specs.Prelude.{◌≡◌, ◌≢◌, ℕ, ◌≤◌, ◌<◌, ◌
 use Rattle.std.specs.List.{flat_map}
 use Rattle.std.specs.Io.KnownBytes.{Consumes, IsAtEnd}
 use Rattle.bq_check.specs.Spelling.{short_bytes, long_bytes}
+use Rattle.sc_msg.specs.declared.version.Version.{Version}
+use Rattle.sc_msg.specs.declared.version.Version.TheVariants.{First, Second}
 use Rattle.q_net.specs.declared.request.Request.{Request}
-use Rattle.q_net.specs.declared.request.Request.TheVariants.{Register, Ask, Store, Answer}
+use Rattle.q_net.specs.declared.request.Request.TheVariants.{Register, Ask, Store, Answer, StoreOf}
 use Rattle.q_net.specs.declared.request.Stop.{Stop}
 use Rattle.q_net.specs.declared.request.Stop.TheVariants.{Unknown, Cut, LongText, LongNotes}
 use Rattle.q_net.specs.declared.pieces.Piece.{Piece}
@@ -15,8 +17,10 @@ use Rattle.q_net.specs.declared.incoming.Next.TheVariants as next
 abbrev pub most_text : ℕ
 most_text = 32768
 
-abbrev pub most_notes : ℕ
-most_notes = 770052
+-- notes of 4,096 units, each with eleven kinds; in the second form two bytes stand before these
+abbrev pub most_notes : Version → ℕ
+most_notes First = 770052
+most_notes Second = 778244
 
 -- the bytes of a request
 abbrev pub spelling : Request → List ℕ
@@ -24,16 +28,18 @@ spelling (Register text notes) = 1 ∷ short_bytes (length text) ++ (text ++ (sh
 spelling (Ask program start) = 2 ∷ short_bytes program ++ long_bytes start
 spelling (Store value) = 3 ∷ value
 spelling (Answer query) = 4 ∷ long_bytes query
+spelling (StoreOf value) = 5 ∷ length value ∷ value
 
 abbrev pub spellings : List Request → List ℕ
 spellings requests = flat_map spelling requests
 
--- the requests that have bytes
-abbrev pub IsRequest : Request → Type 0
-IsRequest (Register text notes) = (length text ≤ most_text) × (length notes ≤ most_notes)
-IsRequest (Ask program start) = (program < 2 ^ 32) × (start < 2 ^ 64)
-IsRequest (Store value) = length value ≡ 48
-IsRequest (Answer query) = query < 2 ^ 64
+-- the requests that have bytes, to a book of that version
+abbrev pub IsRequest : Version → Request → Type 0
+IsRequest version (Register text notes) = (length text ≤ most_text) × (length notes ≤ most_notes version)
+IsRequest version (Ask program start) = (program < 2 ^ 32) × (start < 2 ^ 64)
+IsRequest version (Store value) = length value ≡ 48
+IsRequest version (Answer query) = query < 2 ^ 64
+IsRequest version (StoreOf value) = length value < 256
 
 -- ---- an input that ends within a request
 
@@ -47,13 +53,16 @@ pub data Place : Type 0 where
   start_value : ℕ → Place
   in_value : Place
   query_number : Place
+  value_length : Place
+  in_bytes : ℕ → Place
 
 -- the lengths before that place are allowed
-abbrev pub IsPlace : Place → Type 0
-IsPlace (in_text len) = len ≤ most_text
-IsPlace (notes_length text) = length text ≤ most_text
-IsPlace (in_notes text len) = (length text ≤ most_text) × (len ≤ most_notes)
-IsPlace place = Unit {0}
+abbrev pub IsPlace : Version → Place → Type 0
+IsPlace version (in_text len) = len ≤ most_text
+IsPlace version (notes_length text) = length text ≤ most_text
+IsPlace version (in_notes text len) = (length text ≤ most_text) × (len ≤ most_notes version)
+IsPlace version (in_bytes len) = len < 256
+IsPlace version place = Unit {0}
 
 -- the bytes of the request before that place
 abbrev pub before : Place → List ℕ
@@ -65,6 +74,8 @@ before program_number = 2 ∷ []
 before (start_value program) = 2 ∷ short_bytes program
 before in_value = 3 ∷ []
 before query_number = 4 ∷ []
+before value_length = 5 ∷ []
+before (in_bytes len) = 5 ∷ len ∷ []
 
 -- how many bytes belong there
 abbrev pub wanted : Place → ℕ
@@ -76,24 +87,27 @@ wanted program_number = 4
 wanted (start_value program) = 8
 wanted in_value = 48
 wanted query_number = 8
+wanted value_length = 1
+wanted (in_bytes len) = len
 
 -- the bytes of a request, up to too few of those that belong to some place
-pub record IsCut (bytes : List ℕ) : Type 0 where
+pub record IsCut (version : Version) (bytes : List ℕ) : Type 0 where
   pub place : Place
-  pub allowed : IsPlace place
+  pub allowed : IsPlace version place
   pub part : List ℕ
   pub few : length part < wanted place
   pub whole : bytes ≡ before place ++ part
 
 -- ---- how requests end
 
--- the bytes at which requests stop before their input ends
-abbrev pub IsStop : List ℕ → Stop → Type 0
-IsStop bytes Unknown = (kind : ℕ) × (bytes ≡ kind ∷ []) × (kind ≢ 1) × (kind ≢ 2) × (kind ≢ 3) × (kind ≢ 4)
-IsStop bytes Cut = IsCut bytes
-IsStop bytes LongText = (len : ℕ) × (most_text < len) × (len < 2 ^ 32) × (bytes ≡ 1 ∷ short_bytes len)
-IsStop bytes LongNotes =
-    (text : List ℕ) × (len : ℕ) × (length text ≤ most_text) × (most_notes < len) × (len < 2 ^ 32)
+-- the bytes at which requests to a book of that version stop before their input ends
+abbrev pub IsStop : Version → List ℕ → Stop → Type 0
+IsStop version bytes Unknown =
+    (kind : ℕ) × (bytes ≡ kind ∷ []) × (kind ≢ 1) × (kind ≢ 2) × (kind ≢ 3) × (kind ≢ 4) × (kind ≢ 5)
+IsStop version bytes Cut = IsCut version bytes
+IsStop version bytes LongText = (len : ℕ) × (most_text < len) × (len < 2 ^ 32) × (bytes ≡ 1 ∷ short_bytes len)
+IsStop version bytes LongNotes =
+    (text : List ℕ) × (len : ℕ) × (length text ≤ most_text) × (most_notes version < len) × (len < 2 ^ 32)
     × (bytes ≡ 1 ∷ short_bytes (length text) ++ (text ++ short_bytes len))
 
 -- the input ended where it had to
@@ -104,12 +118,13 @@ IsRead left (Some stop) = Unit {0}
 
 -- ---- what comes next
 
--- these bytes are the next request, or how requests end
-abbrev pub IsNext : List ℕ → Next → Type 0
-IsNext bytes next.End = bytes ≡ []
-IsNext bytes (next.Whole r) = IsRequest r × (bytes ≡ spelling r)
-IsNext bytes next.Lost = (text : List ℕ) × (notes : List ℕ) × IsRequest (Register text notes) × (bytes ≡ spelling (Register text notes))
-IsNext bytes (next.Ended stop) = IsStop bytes stop
+-- these bytes are the next request to a book of that version, or how requests end
+abbrev pub IsNext : Version → List ℕ → Next → Type 0
+IsNext version bytes next.End = bytes ≡ []
+IsNext version bytes (next.Whole r) = IsRequest version r × (bytes ≡ spelling r)
+IsNext version bytes next.Lost =
+    (text : List ℕ) × (notes : List ℕ) × IsRequest version (Register text notes) × (bytes ≡ spelling (Register text notes))
+IsNext version bytes (next.Ended stop) = IsStop version bytes stop
 
 abbrev pub IsReadTo : Option (List ℕ) → Next → Type 0
 IsReadTo left next.End = IsRead left None
@@ -117,13 +132,14 @@ IsReadTo left (next.Ended stop) = IsRead left (Some stop)
 IsReadTo left n = Unit {0}
 
 -- behind some bytes more were read, and together they are what comes next
-abbrev pub IsGot : List ℕ → Option (List ℕ) → Option (List ℕ) → Next → Type 0
-IsGot front input left n = (bytes : List ℕ) × Consumes input left bytes × IsNext (front ++ bytes) n × IsReadTo left n
+abbrev pub IsGot : Version → List ℕ → Option (List ℕ) → Option (List ℕ) → Next → Type 0
+IsGot version front input left n =
+    (bytes : List ℕ) × Consumes input left bytes × IsNext version (front ++ bytes) n × IsReadTo left n
 
 -- the same, or a read failed behind some bytes
-abbrev pub GetsNext : {E : Type 0} → List ℕ → Option (List ℕ) → Option (List ℕ) → Result Next E → Type 0
-GetsNext front input left (Ok n) = IsGot front input left n
-GetsNext front input left (Err e) = (part : List ℕ) × Consumes input left part
+abbrev pub GetsNext : {E : Type 0} → Version → List ℕ → Option (List ℕ) → Option (List ℕ) → Result Next E → Type 0
+GetsNext version front input left (Ok n) = IsGot version front input left n
+GetsNext version front input left (Err e) = (part : List ℕ) × Consumes input left part
 
 -- a value by its bytes; or the input ended before so many
 abbrev pub Got : {A : Type 0} → (A → List ℕ) → ℕ → Option (List ℕ) → Option (List ℕ) → Option A → Type 0

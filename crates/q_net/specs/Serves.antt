@@ -3,6 +3,7 @@ use Rattle.std.specs.Prelude.{◌≡◌, ◌⊎◌, ℕ, Bool, true, false, List
 use Rattle.std.specs.List.{AllByRecursion}
 use Rattle.std.specs.Io.KnownBytes.{Appends, Consumes}
 use Rattle.sc_msg.specs.declared.message.Message.{Message}
+use Rattle.sc_msg.specs.declared.version.Version.{Version}
 use Rattle.q_book.specs.State.{BookState}
 use Rattle.q_wire.specs.declared.fault.TransportFailed.{TransportFailed}
 use Rattle.q_net.specs.declared.request.Request.{Request}
@@ -18,10 +19,10 @@ Serves b (r ∷ rs) bytes sent c =
     (said : Reply) × (outs : List Message) × (between : BookState) × (later : List ℕ) × (behind : List Message)
     × Replies b r said outs between × Serves between rs later behind c × (bytes ≡ reply_bytes said ++ later) × (sent ≡ outs ++ behind)
 
--- how the requests ended: their input did, or they stopped before
-abbrev pub IsLast : List ℕ → Option Stop → Type 0
-IsLast last None = last ≡ []
-IsLast last (Some stop) = IsStop last stop
+-- how the requests to a book of that version ended: their input did, or they stopped before
+abbrev pub IsLast : Version → List ℕ → Option Stop → Type 0
+IsLast version last None = last ≡ []
+IsLast version last (Some stop) = IsStop version last stop
 
 abbrev pub last_reply : Option Stop → List ℕ
 last_reply None = []
@@ -31,10 +32,10 @@ last_reply (Some stop) = stop_number stop ∷ []
 -- one after the other, the book is the one after them, and their messages were put behind those that were there.
 pub record IsServed (input left before after : Option (List ℕ)) (b c : BookState) (had has : List Message) : Type 0 where
   pub requests : List Request
-  pub legal : AllByRecursion IsRequest requests
+  pub legal : AllByRecursion (IsRequest b.version) requests
   pub ended : Option Stop
   pub last : List ℕ
-  pub is_last : IsLast last ended
+  pub is_last : IsLast b.version last ended
   pub consumed : Consumes input left (spellings requests ++ last)
   pub read : IsRead left ended
   pub replies : List ℕ
@@ -44,16 +45,16 @@ pub record IsServed (input left before after : Option (List ℕ)) (b c : BookSta
   pub grown : has ≡ had ++ messages
 
 -- what was done of a request at hand where a read or a write fails: nothing, or all but that its reply was not written whole
-abbrev pub IsAtHand : List ℕ → BookState → BookState → List Message → List Message → Type 0
-IsAtHand read b c had has =
+abbrev pub IsAtHand : Version → List ℕ → BookState → BookState → List Message → List Message → Type 0
+IsAtHand version read b c had has =
     ((c ≡ b) × (has ≡ had))
-    ⊎ ((r : Request) × (said : Reply) × (outs : List Message) × IsRequest r × (read ≡ spelling r) × Replies b r said outs c × (has ≡ had ++ outs))
+    ⊎ ((r : Request) × (said : Reply) × (outs : List Message) × IsRequest version r × (read ≡ spelling r) × Replies b r said outs c × (has ≡ had ++ outs))
 
 -- A read or a write failed: some requests were served whole; the book is the one after them, with or without the one
 -- at hand, and the messages are just those of the requests that it took.
 pub record IsBroken (input left before after : Option (List ℕ)) (b c : BookState) (had has : List Message) : Type 0 where
   pub requests : List Request
-  pub legal : AllByRecursion IsRequest requests
+  pub legal : AllByRecursion (IsRequest b.version) requests
   pub rest : List ℕ
   pub consumed : Consumes input left (spellings requests ++ rest)
   pub replies : List ℕ
@@ -62,7 +63,7 @@ pub record IsBroken (input left before after : Option (List ℕ)) (b c : BookSta
   pub serves : Serves b requests replies messages between
   pub part : List ℕ
   pub written : Appends before after (replies ++ part)
-  pub at_hand : IsAtHand rest between c (had ++ messages) has
+  pub at_hand : IsAtHand b.version rest between c (had ++ messages) has
 
 abbrev pub IsEnd : Result (Unit {0}) TransportFailed → Option (List ℕ) → Option (List ℕ) → Option (List ℕ) → Option (List ℕ) → BookState → BookState → List Message → List Message → Type 0
 IsEnd (Ok u) input left before after b c had has = IsServed input left before after b c had has
@@ -70,17 +71,17 @@ IsEnd (Err e) input left before after b c had has = IsBroken input left before a
 
 -- ---- one turn
 
--- requests go on after one, which was replied to; or they ended
-abbrev pub IsTaken : Option (List ℕ) → Option (List ℕ) → Option (List ℕ) → Option (List ℕ) → BookState → BookState → List Message → List Message → Bool → Type 0
-IsTaken input left before after b c had has true =
-    (r : Request) × (said : Reply) × (outs : List Message) × IsRequest r × Consumes input left (spelling r) × Replies b r said outs c
+-- requests of that version go on after one, which was replied to; or they ended
+abbrev pub IsTaken : Version → Option (List ℕ) → Option (List ℕ) → Option (List ℕ) → Option (List ℕ) → BookState → BookState → List Message → List Message → Bool → Type 0
+IsTaken version input left before after b c had has true =
+    (r : Request) × (said : Reply) × (outs : List Message) × IsRequest version r × Consumes input left (spelling r) × Replies b r said outs c
     × (has ≡ had ++ outs) × Appends before after (reply_bytes said)
-IsTaken input left before after b c had has false =
-    (ended : Option Stop) × (last : List ℕ) × IsLast last ended × Consumes input left last × IsRead left ended × Appends before after (last_reply ended)
+IsTaken version input left before after b c had has false =
+    (ended : Option Stop) × (last : List ℕ) × IsLast version last ended × Consumes input left last × IsRead left ended × Appends before after (last_reply ended)
     × (c ≡ b) × (has ≡ had)
 
 -- the same; or a read or a write failed
-abbrev pub IsTurn : {E : Type 0} → Option (List ℕ) → Option (List ℕ) → Option (List ℕ) → Option (List ℕ) → BookState → BookState → List Message → List Message → Result Bool E → Type 0
-IsTurn input left before after b c had has (Ok on) = IsTaken input left before after b c had has on
-IsTurn input left before after b c had has (Err e) =
-    (read : List ℕ) × (part : List ℕ) × Consumes input left read × Appends before after part × IsAtHand read b c had has
+abbrev pub IsTurn : {E : Type 0} → Version → Option (List ℕ) → Option (List ℕ) → Option (List ℕ) → Option (List ℕ) → BookState → BookState → List Message → List Message → Result Bool E → Type 0
+IsTurn version input left before after b c had has (Ok on) = IsTaken version input left before after b c had has on
+IsTurn version input left before after b c had has (Err e) =
+    (read : List ℕ) × (part : List ℕ) × Consumes input left read × Appends before after part × IsAtHand version read b c had has

@@ -2,21 +2,30 @@
 
 ghost use Rattle.std.specs.Prelude.{◌≡◌, ◌≤◌, ℕ, List, [], ◌∷◌, ◌++◌, length, IfSome};
 ghost use Rattle.bq_check.specs.Spelling.{short_bytes};
+ghost use Rattle.sc_msg.specs.declared.version.Version.{Version as BookVersion};
 ghost use Rattle.q_wire.specs.Counts.{count_after};
-ghost use Rattle.q_net.specs.Requests.{GetsNext, most_text};
+ghost use Rattle.q_net.specs.Requests.{GetsNext, most_text, most_notes};
 
-use crate::pieces::{Piece, read_blob, read_byte, read_long, read_short, read_value};
+use crate::pieces::{Piece, read_blob, read_byte, read_long, read_short, read_some, read_value};
 use crate::request::{Blob, Request, Stop};
 use q_wire::counted::Counted;
 use q_wire::fault::TransportFailed;
+use sc_msg::version::Version;
 use std::alloc::Global;
 use std::io::Read;
 
 // The greatest length of a text, in bytes.
 const MOST_TEXT: u32 = 32_768;
 
-// The greatest length of notes, in bytes.
-const MOST_NOTES: u32 = 770_052;
+// The greatest length of notes for a book of that version, in bytes.
+fn most_notes(version: Version) -> u32
+    ensures { result ≡ most_notes version }
+{
+    match version {
+        Version::First => 770_052,
+        Version::Second => 778_244,
+    }
+}
 
 /// What comes next.
 #[derive(Drop)]
@@ -61,31 +70,37 @@ macro_rules! completed {
 /// The notes behind a text, which is none where there was no memory for it.
 fn notes<R: Read>(
     alloc: Global,
+    version: Version,
     text: Option<Blob>,
     input: &mut Counted<R>,
 ) -> Result<Next, TransportFailed>
     ensures read { (whole : List ℕ) → length whole ≤ most_text → IfSome text (λ t. t ≡ whole)
-        → GetsNext (1 ∷ short_bytes (length whole) ++ whole) (R.remaining input.old.inner) (R.remaining input.new.inner) result }
+        → GetsNext version (1 ∷ short_bytes (length whole) ++ whole) (R.remaining input.old.inner) (R.remaining input.new.inner) result }
     ensures counted { input.new.failures ≡ count_after result input.old.failures }
 {
-    blob!(alloc, input, MOST_NOTES, Stop::LongNotes; Ok(Next::Lost), notes => match text {
+    let most = most_notes(version);
+    blob!(alloc, input, most, Stop::LongNotes; Ok(Next::Lost), notes => match text {
         Some(text) => Ok(Next::Whole(Request::Register { text, notes })),
         None => Ok(Next::Lost),
     })
 }
 
 /// A registration, behind its kind.
-fn register<R: Read>(alloc: Global, input: &mut Counted<R>) -> Result<Next, TransportFailed>
-    ensures read { GetsNext (1 ∷ []) (R.remaining input.old.inner) (R.remaining input.new.inner) result }
+fn register<R: Read>(
+    alloc: Global,
+    version: Version,
+    input: &mut Counted<R>,
+) -> Result<Next, TransportFailed>
+    ensures read { GetsNext version (1 ∷ []) (R.remaining input.old.inner) (R.remaining input.new.inner) result }
     ensures counted { input.new.failures ≡ count_after result input.old.failures }
 {
     blob!(alloc, input, MOST_TEXT, Stop::LongText;
-        notes(alloc, None, input), text => notes(alloc, Some(text), input))
+        notes(alloc, version, None, input), text => notes(alloc, version, Some(text), input))
 }
 
 /// A query, behind its kind.
 fn ask<R: Read>(input: &mut Counted<R>) -> Result<Next, TransportFailed>
-    ensures read { GetsNext (2 ∷ []) (R.remaining input.old.inner) (R.remaining input.new.inner) result }
+    ensures read { (version : BookVersion) → GetsNext version (2 ∷ []) (R.remaining input.old.inner) (R.remaining input.new.inner) result }
     ensures counted { input.new.failures ≡ count_after result input.old.failures }
 {
     let Some(program) = read_short(input)? else {
@@ -99,7 +114,7 @@ fn ask<R: Read>(input: &mut Counted<R>) -> Result<Next, TransportFailed>
 
 /// A store, behind its kind.
 fn store<R: Read>(input: &mut Counted<R>) -> Result<Next, TransportFailed>
-    ensures read { GetsNext (3 ∷ []) (R.remaining input.old.inner) (R.remaining input.new.inner) result }
+    ensures read { (version : BookVersion) → GetsNext version (3 ∷ []) (R.remaining input.old.inner) (R.remaining input.new.inner) result }
     ensures counted { input.new.failures ≡ count_after result input.old.failures }
 {
     completed!(read_value(input)?, value => Request::Store(value))
@@ -107,25 +122,41 @@ fn store<R: Read>(input: &mut Counted<R>) -> Result<Next, TransportFailed>
 
 /// A question for an answer, behind its kind.
 fn answer<R: Read>(input: &mut Counted<R>) -> Result<Next, TransportFailed>
-    ensures read { GetsNext (4 ∷ []) (R.remaining input.old.inner) (R.remaining input.new.inner) result }
+    ensures read { (version : BookVersion) → GetsNext version (4 ∷ []) (R.remaining input.old.inner) (R.remaining input.new.inner) result }
     ensures counted { input.new.failures ≡ count_after result input.old.failures }
 {
     completed!(read_long(input)?, query => Request::Answer(query))
 }
 
-/// The next request of an input, or how its requests end.
-pub fn read_next<R: Read>(alloc: Global, input: &mut Counted<R>) -> Result<Next, TransportFailed>
-    ensures read { GetsNext [] (R.remaining input.old.inner) (R.remaining input.new.inner) result }
+/// A store of so many bytes, behind its kind.
+fn store_of<R: Read>(input: &mut Counted<R>) -> Result<Next, TransportFailed>
+    ensures read { (version : BookVersion) → GetsNext version (5 ∷ []) (R.remaining input.old.inner) (R.remaining input.new.inner) result }
+    ensures counted { input.new.failures ≡ count_after result input.old.failures }
+{
+    let Some(len) = read_byte(input)? else {
+        return Ok(Next::Ended(Stop::Cut));
+    };
+    completed!(read_some(input, len)?, value => Request::StoreOf(value))
+}
+
+/// The next request of an input to a book of that version, or how its requests end.
+pub fn read_next<R: Read>(
+    alloc: Global,
+    version: Version,
+    input: &mut Counted<R>,
+) -> Result<Next, TransportFailed>
+    ensures read { GetsNext version [] (R.remaining input.old.inner) (R.remaining input.new.inner) result }
     ensures counted { input.new.failures ≡ count_after result input.old.failures }
 {
     let Some(kind) = read_byte(input)? else {
         return Ok(Next::End);
     };
     match kind {
-        1 => register(alloc, input),
+        1 => register(alloc, version, input),
         2 => ask(input),
         3 => store(input),
         4 => answer(input),
+        5 => store_of(input),
         _ => Ok(Next::Ended(Stop::Unknown)),
     }
 }

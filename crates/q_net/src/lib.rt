@@ -8,12 +8,17 @@
 //! | 2 ask | the program's number in four bytes, the start in eight | 0, the query's number in eight bytes |
 //! | 3 store | 48 bytes | 0, the operation's tag in eight bytes |
 //! | 4 answer | the query's number in eight bytes | 0 0 where it has none yet; else 0 1, the accumulator and the steps, eight bytes each |
+//! | 5 store | the length of a value in one byte, the value | as for 3 |
 //!
 //! A request that is refused is replied to by one byte, the number of the refusal. A registration is decoded, its notes
-//! are read and checked against the text, and only then the book is asked. Four replies end the requests, and change
-//! nothing: 84 at a kind that is none of these, 85 where the input ends within a request, 2 at a text of more than
-//! 32,768 bytes and 31 at notes of more than 770,052. After a reply of 99 nothing has changed, the request was read to
-//! its end, and the next one follows.
+//! are read and checked against the text, and only then the book is asked. Notes have the form of the book's version,
+//! and are checked for the records of its programs: the first form for records of 64 bytes in version 1, the second for
+//! 16 to 128 in version 2, so no registration is refused 59. A store of a value with another length than the book's
+//! version has (48 bytes in version 1, at most 112 in version 2) is refused 50 by the book: its bytes are read, and the
+//! next request follows. Four replies end the requests, and change nothing: 84 at a kind that is none of these, 85
+//! where the input ends within a request, 2 at a text of more than 32,768 bytes and 31 at notes of more than 778,244,
+//! or of more than 770,052 to a book of version 1. After a reply of 99 nothing has changed, the request was read to its
+//! end, and the next one follows.
 //!
 //! Promised by [`serve`], if it returns, of the bytes of a reader and a writer that are known: the input begins with the
 //! spellings of requests and how they ended, what was written is the replies to them one behind the other, the book is

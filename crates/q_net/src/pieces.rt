@@ -5,7 +5,7 @@ ghost use Rattle.bq_check.specs.Spelling.{short_bytes, long_bytes};
 ghost use Rattle.q_net.specs.Requests.{Gets, GetsBlob};
 ghost use Rattle.q_wire.specs.Counts.{count_after};
 
-use crate::request::Blob;
+use crate::request::{Blob, Short};
 use q_wire::counted::Counted;
 use q_wire::fault::TransportFailed;
 use sc_view::value::{VALUE_LENGTH, Value};
@@ -89,6 +89,21 @@ pub fn read_value<R: Read>(input: &mut Counted<R>) -> Result<Option<Value>, Tran
     ensures counted { input.new.failures ≡ count_after result input.old.failures }
 {
     next!(input, VALUE_LENGTH, bytes => Value::from(&bytes))
+}
+
+/// The next bytes, so many; none where the input ends before them.
+pub fn read_some<R: Read>(input: &mut Counted<R>, len: u8) -> Result<Option<Short>, TransportFailed>
+    ensures read { Gets (λ v. v) len (R.remaining input.old.inner) (R.remaining input.new.inner) result }
+    ensures length { IfOk result (λ got. IfSome got (λ v. length v ≡ len)) }
+    ensures counted { input.new.failures ≡ count_after result input.old.failures }
+{
+    let mut bytes = [0u8; 255];
+    let wanted = usize::from(len);
+    let read = input.fill(&mut bytes[..wanted])?;
+    if read < wanted {
+        return Ok(None);
+    }
+    Ok(Some(Short::new(bytes, len)))
 }
 
 /// So many bytes, passed over.

@@ -1,6 +1,6 @@
 //! What clients ask of a book.
 
-ghost use Rattle.std.specs.Prelude.{◌≡◌};
+ghost use Rattle.std.specs.Prelude.{◌≡◌, take};
 
 use sc_view::value::Value;
 use std::marker::Model;
@@ -35,6 +35,37 @@ impl Blob {
     }
 }
 
+/// At most 255 bytes, so many that their length has one byte. Contracts see them as their list.
+#[derive(Drop)]
+pub struct Short {
+    bytes: [u8; 255],
+    len: u8,
+}
+
+impl Model for Short {
+    ghost use Rattle.std.specs.Prelude.{ℕ, List, take};
+
+    ghost Value = { List ℕ };
+
+    ghost view = { λ s. take s.len s.bytes };
+}
+
+impl Short {
+    /// The first of these bytes, so many.
+    pub fn new(bytes: [u8; 255], len: u8) -> Short
+        ensures { result ≡ take len bytes }
+    {
+        Short { bytes, len }
+    }
+
+    /// The bytes.
+    pub fn as_slice(&self) -> &[u8]
+        ensures { result.now ≡ self.now }
+    {
+        &self.bytes[..usize::from(self.len)]
+    }
+}
+
 /// A client's request.
 #[derive(Drop)]
 pub enum Request {
@@ -46,17 +77,19 @@ pub enum Request {
     Store(Value),
     /// 4: the answer of a query.
     Answer(u64),
+    /// 5: a store of a value of so many bytes. A book refuses more than 112.
+    StoreOf(Short),
 }
 
 /// Why requests end before their input does, with the number that is answered.
 #[derive(Clone, Copy)]
 pub enum Stop {
-    /// 84: a kind that is none of 1 to 4.
+    /// 84: a kind that is none of 1 to 5.
     Unknown,
     /// 85: the input ends within a request.
     Cut,
     /// 2: a text of more than 32,768 bytes.
     LongText,
-    /// 31: notes of more than 770,052 bytes.
+    /// 31: notes of more than 778,244 bytes, or 770,052 for a book of version 1.
     LongNotes,
 }

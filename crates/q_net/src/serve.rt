@@ -14,6 +14,7 @@ use q_wire::counted::Counted;
 use q_wire::fault::TransportFailed;
 use reasons::Reason;
 use sc_msg::message::Message;
+use sc_msg::version::Version;
 use std::alloc::Global;
 use std::io::{Read, Write};
 use std::sync::Wait;
@@ -31,19 +32,20 @@ fn number_of(stop: Stop) -> u8
     reason.number()
 }
 
-/// Reads the next request and replies to it: whether requests go on.
+/// Reads the next request, to a book of that version, and replies to it: whether requests go on.
 fn take_turn<R: Read, W: Write>(
     alloc: Global,
+    version: Version,
     book: &mut Book,
     input: &mut Counted<R>,
     out: &mut Counted<W>,
     sent: &mut Vec<Message>,
 ) -> Result<bool, TransportFailed>
-    ensures turn { IsTurn (R.remaining input.old.inner) (R.remaining input.new.inner)
+    ensures turn { IsTurn version (R.remaining input.old.inner) (R.remaining input.new.inner)
         (W.contents out.old.inner) (W.contents out.new.inner) book.old book.new sent.old.items sent.new.items result }
     ensures counted { Counts result input.old.failures input.new.failures out.old.failures out.new.failures }
 {
-    match read_next(alloc, input)? {
+    match read_next(alloc, version, input)? {
         Next::End => Ok(false),
         Next::Ended(stop) => {
             Reply::Refused(number_of(stop)).write(out)?;
@@ -78,8 +80,9 @@ pub fn serve<T: Wait, R: Read, W: Write>(
     // Nothing failed, or just one read or one write did.
     ensures counted { Counts result input.old.failures input.new.failures out.old.failures out.new.failures }
 {
+    let version = book.version();
     for _ in rt.forever() {
-        if !take_turn(alloc, book, input, out, sent)? {
+        if !take_turn(alloc, version, book, input, out, sent)? {
             return Ok(());
         }
     }

@@ -1,8 +1,10 @@
 //! A request to a book.
 
-ghost use Rattle.std.specs.Prelude.{◌≡◌, ◌≤◌, ◌+◌, ◌++◌, List, IfOk, vec_len, vec_capacity};
+ghost use Rattle.std.specs.Prelude.{◌≡◌, ◌≤◌, ◌+◌, ◌++◌, List, Option, IfOk, MatchResult, vec_len, vec_capacity};
 ghost use Rattle.sc_msg.specs.declared.message.Message.{Message as Sent};
-ghost use Rattle.q_net.specs.Replies.{Registers, Replies, of_registered, of_answer};
+ghost use Rattle.bq_state.specs.Kinds.{StateKinds};
+ghost use Rattle.bq_check.specs.Spelling.{IsNotes, notes_bytes};
+ghost use Rattle.q_net.specs.Replies.{Registers, Replies, form_of, of_registered, of_answer};
 ghost use Rattle.q_desk.specs.Desks.{answer_of};
 ghost use Rattle.q_net.specs.declared.request.Request.TheVariants.{Ask, Store};
 
@@ -13,13 +15,13 @@ use bq_check::fault::{CheckFault, NotesFault};
 use bq_check::notes::Notes;
 use bq_insn::decode::decode;
 use bq_insn::fault::DecodeFault;
-use bq_state::bounds::Bounds;
 use q_book::answer::Asked;
 use q_book::book::Book;
 use q_book::fault::BookFault;
+use q_book::lengths::record_lengths;
 use q_table::program::{Program, ProgramId};
 use sc_msg::message::Message;
-use sc_view::value::Value;
+use sc_msg::version::Version;
 use std::alloc::Global;
 
 /// What comes of a registration.
@@ -35,6 +37,19 @@ pub enum Registered {
     Book(Result<ProgramId, BookFault>),
 }
 
+/// The notes that bytes spell in the form of the book's version.
+fn read_notes(alloc: Global, book: &Book, bytes: &[u8]) -> Result<Notes, NotesFault>
+    ensures legal { IfOk result (IsNotes (form_of book.now.version)) }
+    ensures spelled { IfOk result (λ n. bytes.now ≡ notes_bytes (form_of book.now.version) n) }
+    ensures all { (n : List (Option StateKinds)) → IsNotes (form_of book.now.version) n → bytes.now ≡ notes_bytes (form_of book.now.version) n
+        → MatchResult result (λ m. m ≡ n) (λ e. e ≡ NotesFault.OutOfMemory) }
+{
+    match book.version() {
+        Version::First => Notes::read_v1(alloc, bytes),
+        Version::Second => Notes::read(alloc, bytes),
+    }
+}
+
 /// Registers the text with the notes that these bytes spell.
 fn register(alloc: Global, book: &mut Book, text: &[u8], notes: &[u8]) -> Registered
     ensures { Registers book.old text.now notes.now result book.new }
@@ -43,15 +58,16 @@ fn register(alloc: Global, book: &mut Book, text: &[u8], notes: &[u8]) -> Regist
         Ok(text) => text,
         Err(fault) => return Registered::Text(fault),
     };
-    let notes = match Notes::read_v1(alloc, notes) {
+    let notes = match read_notes(alloc, book, notes) {
         Ok(notes) => notes,
         Err(fault) => return Registered::Notes(fault),
     };
-    let certified = match check_within(alloc, text, notes, Bounds::of_views()) {
+    let lengths = record_lengths(book.version());
+    let certified = match check_within(alloc, text, notes, lengths) {
         Ok(certified) => certified,
         Err(fault) => return Registered::Check(fault),
     };
-    match Program::of_views(alloc, certified) {
+    match Program::new(alloc, certified) {
         Ok(program) => Registered::Book(book.register(&program)),
         Err(_) => Registered::Check(CheckFault::OutOfMemory),
     }
@@ -89,8 +105,8 @@ fn ask(book: &mut Book, program: u32, start: u64, sent: &mut Vec<Message>) -> Re
     }
 }
 
-/// A store. There is room for the messages of one event.
-fn store(book: &mut Book, value: &Value, sent: &mut Vec<Message>) -> Reply
+/// A store of these bytes. There is room for the messages of one event.
+fn store(book: &mut Book, value: &[u8], sent: &mut Vec<Message>) -> Reply
     requires { vec_len sent.old + 2 ≤ vec_capacity sent.old }
     ensures { (outs : List Sent) × Replies book.old (Store value.now) result outs book.new × (sent.new.items ≡ sent.old.items ++ outs) }
 {
@@ -100,6 +116,16 @@ fn store(book: &mut Book, value: &Value, sent: &mut Vec<Message>) -> Reply
             Reply::Number(begun.tag)
         }
         Err(fault) => Reply::Refused(fault.reason().number()),
+    }
+}
+
+/// The same, where there may be no room.
+fn reply_to_store(book: &mut Book, value: &[u8], sent: &mut Vec<Message>) -> Reply
+    ensures { (outs : List Sent) × Replies book.old (Store value.now) result outs book.new × (sent.new.items ≡ sent.old.items ++ outs) }
+{
+    match sent.reserve(2) {
+        Ok(()) => store(book, value, sent),
+        Err(_) => Reply::Refused(99),
     }
 }
 
@@ -131,10 +157,8 @@ pub fn reply(alloc: Global, book: &mut Book, request: &Request, sent: &mut Vec<M
             Ok(()) => ask(book, *program, *start, sent),
             Err(_) => Reply::Refused(99),
         },
-        Request::Store(value) => match sent.reserve(2) {
-            Ok(()) => store(book, value, sent),
-            Err(_) => Reply::Refused(99),
-        },
+        Request::Store(value) => reply_to_store(book, value.bytes(), sent),
         Request::Answer(query) => answer(book, *query),
+        Request::StoreOf(value) => reply_to_store(book, value.as_slice(), sent),
     }
 }

@@ -7,6 +7,7 @@ use Rattle.std.specs.Ordering.{nat_cmp}
 use borrow.Author.Count.{below_more}
 use Rattle.reasons.specs.declared.Reason.TheVariants.{OutOfMemory}
 use Rattle.sc_members.specs.Members.{Config}
+use Rattle.sc_msg.specs.declared.version.Version.{Version}
 use Rattle.sc_node.specs.Nodes.{are_founders, founder}
 use Rattle.sc_node.specs.State.{NodeState}
 use Rattle.sc_node.specs.declared.fault.NodeFault.{NodeFault}
@@ -57,15 +58,15 @@ is_memory s BadValue h =
     let no : BadValue ≢ memory = λ p. cc in
     absurd (cc (h no))
 
-by_test : (config : Config) (id : ℕ) (ids : List ℕ) (e : BookFault) (a b : Bool) → a ≡ true → b ≡ true
-    → (e ≢ memory → founds id config ids (let r : Result NodeState NodeFault = cond (a && b) (Ok (founder config ids id)) (Err node_fault.BadFounders) in r) ≡ Err e) → reason (of_fault e) ≡ OutOfMemory
-by_test config id ids e false b p q h = absurd (cc)
-by_test config id ids e true false p q h = absurd (cc)
-by_test config id ids e true true p q h = is_memory _ e h
+by_test : (version : Version) (config : Config) (id : ℕ) (ids : List ℕ) (e : BookFault) (a b : Bool) → a ≡ true → b ≡ true
+    → (e ≢ memory → founds version id config ids (let r : Result NodeState NodeFault = cond (a && b) (Ok (founder config ids id)) (Err node_fault.BadFounders) in r) ≡ Err e) → reason (of_fault e) ≡ OutOfMemory
+by_test version config id ids e false b p q h = absurd (cc)
+by_test version config id ids e true false p q h = absurd (cc)
+by_test version config id ids e true true p q h = is_memory _ e h
 
-pub founder_refused : (config : Config) (ids : List ℕ) (place id : ℕ) (e : BookFault) → are_founders ids ≡ true → slice_get ids place ≡ Some id → (e ≢ memory → founded config id ids ≡ Err e)
+pub founder_refused : (version : Version) (config : Config) (ids : List ℕ) (place id : ℕ) (e : BookFault) → are_founders ids ≡ true → slice_get ids place ≡ Some id → (e ≢ memory → founded version config id ids ≡ Err e)
     → reason (of_fault e) ≡ OutOfMemory
-founder_refused config ids place id e good at h =
+founder_refused version config ids place id e good at h =
     let is : get_or ids place 0 ≡ id = get_or_from_slice_get ids place id 0 at in
     let among = subst (λ (x : ℕ). set.contains (set.from_list {R = nat_cmp} ids) x ≡ true) is (has_at ids place 0 (slice_get_within ids place id at)) in
-    by_test config id ids e (are_founders ids) (set.contains (set.from_list {R = nat_cmp} ids) id) good among h
+    by_test version config id ids e (are_founders ids) (set.contains (set.from_list {R = nat_cmp} ids) id) good among h

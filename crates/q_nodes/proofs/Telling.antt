@@ -6,7 +6,6 @@ use Rattle.std.proofs.lemmas.Bool.{true≢false, not-true}
 use Rattle.std.proofs.KnownBytes.{Appends-trans}
 use Rattle.q_history.specs.declared.event.Told.TheVariants as told
 use Rattle.bq_check.specs.Certificate.{Certificate}
-use Rattle.q_script.specs.Records.{value_bytes}
 use Rattle.q_sim.specs.Printing.{told_lines}
 use Rattle.q_sim.specs.Programs.{IsProgram}
 use Rattle.q_nodes.specs.declared.script.ClusterLine.{ClusterLine}
@@ -27,7 +26,7 @@ program_refused node code program f a c (Ok u) is registers p = (refused_line f,
 program_refused node code program f a c (Err e) is registers p = tt
 
 -- a store that was begun, and what is printed behind its tag
-pub store_told : {E : Type 0} (node value tag : ℕ) (a b c : Option (List ℕ)) (r : Result (Unit {0}) E) → BeginsStore node (value_bytes value) (Ok tag)
+pub store_told : {E : Type 0} (node : ℕ) (value : List ℕ) (tag : ℕ) (a b c : Option (List ℕ)) (r : Result (Unit {0}) E) → BeginsStore node value (Ok tag)
     → Appends a b (told_lines (told.Stored tag)) → OnOk r (Prints (TellsEnd node tag) b c) → OnOk r (Prints (TellsStore node value) a c)
 store_told node value tag a b c (Ok u) begun first p =
     (told_lines (told.Stored tag) ++ p.0, inl (tag, p.0, begun, p.1, refl), Appends-trans a b c (told_lines (told.Stored tag)) p.0 first p.2)
@@ -41,7 +40,7 @@ query_told node program start query a b c (Ok u) begun first p =
 query_told node program start query a b c (Err e) begun first p = tt
 
 -- a store that is refused
-pub store_refused : {E : Type 0} (node value : ℕ) (f : NodesFault) (a c : Option (List ℕ)) (r : Result (Unit {0}) E) → BeginsStore node (value_bytes value) (Err f)
+pub store_refused : {E : Type 0} (node : ℕ) (value : List ℕ) (f : NodesFault) (a c : Option (List ℕ)) (r : Result (Unit {0}) E) → BeginsStore node value (Err f)
     → OnOk r (Appends a c (refused_line f)) → OnOk r (Prints (TellsStore node value) a c)
 store_refused node value f a c (Ok u) begun p = (refused_line f, inr (f, begun, refl), p)
 store_refused node value f a c (Err e) begun p = tt

@@ -24,11 +24,12 @@ Delivers m b had (Ok u) c has = (a : Taken) × (delivered b m ≡ Ok (a, c)) × 
 Delivers m b had (Err (lost.Book f)) c has = IsSame b had c has × (f ≢ memory → delivered b m ≡ Err f)
 Delivers m b had (Err e) c has = ⊥
 
--- the bytes spell a message, which is delivered or which the book refuses; or they spell none; or memory ran out
+-- the bytes spell a message of the book's version, which is delivered or which the book refuses; or they spell none; or
+-- memory ran out
 abbrev pub Hears : List ℕ → BookState → List Message → Result (Unit {0}) Lost → BookState → List Message → Type 0
-Hears bytes b had (Err (lost.Bytes f)) c has = IsSame b had c has × IsFault bytes f
+Hears bytes b had (Err (lost.Bytes f)) c has = IsSame b had c has × IsFault b.version bytes f
 Hears bytes b had (Err lost.OutOfMemory) c has = IsSame b had c has
-Hears bytes b had result c has = (m : Message) × IsMessage m × (bytes ≡ message_bytes m) × Delivers m b had result c has
+Hears bytes b had result c has = (m : Message) × IsMessage b.version m × (bytes ≡ message_bytes b.version m) × Delivers m b had result c has
 
 -- the store begins, and what the book gives waits behind what waited; or it is refused
 abbrev pub Stores : List ℕ → BookState → List Message → Result ℕ BookFault → BookState → List Message → Type 0

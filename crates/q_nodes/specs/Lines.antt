@@ -4,7 +4,6 @@ use Rattle.std.specs.Io.KnownBytes.{Appends}
 use Rattle.bq_check.specs.Certificate.{Certificate}
 use Rattle.q_session.specs.declared.ran.Ran.{Ran}
 use Rattle.q_history.specs.declared.event.Told.TheVariants as told
-use Rattle.q_script.specs.Records.{value_bytes}
 use Rattle.q_sim.specs.Printing.{told_lines}
 use Rattle.q_sim.specs.Programs.{IsProgram, IsRefusal}
 use Rattle.q_sim.specs.declared.refusal.Refusal.{Refusal}
@@ -37,10 +36,10 @@ abbrev pub TellsEnd : ℕ → ℕ → List ℕ → Type 0
 TellsEnd node tag text = (HasEnded node tag × (text ≡ [])) ⊎ (text ≡ unanswered_line)
 
 -- the store is begun and goes on; or it is refused
-abbrev pub TellsStore : ℕ → ℕ → List ℕ → Type 0
+abbrev pub TellsStore : ℕ → List ℕ → List ℕ → Type 0
 TellsStore node value text =
-    ((tag : ℕ) × (rest : List ℕ) × BeginsStore node (value_bytes value) (Ok tag) × TellsEnd node tag rest × (text ≡ told_lines (told.Stored tag) ++ rest))
-    ⊎ ((f : NodesFault) × BeginsStore node (value_bytes value) (Err f) × (text ≡ refused_line f))
+    ((tag : ℕ) × (rest : List ℕ) × BeginsStore node value (Ok tag) × TellsEnd node tag rest × (text ≡ told_lines (told.Stored tag) ++ rest))
+    ⊎ ((f : NodesFault) × BeginsStore node value (Err f) × (text ≡ refused_line f))
 
 abbrev pub answer_line : ℕ → ℕ → Ran → List ℕ
 answer_line node query ran = told_lines (told.Finished (record { node = node; query = query; ran = ran }))
@@ -62,7 +61,7 @@ TellsAsk node program start text =
 -- what a line prints
 abbrev pub Tells : ClusterLine → List ℕ → Type 0
 Tells (line.Program node code) = TellsProgram node code.items
-Tells (line.Store node value) = TellsStore node value
+Tells (line.Store node value) = TellsStore node value.items
 Tells (line.Ask node program start) = TellsAsk node program start
 
 -- what lines print, one after the other

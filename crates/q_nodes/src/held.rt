@@ -13,10 +13,9 @@ use q_book::book::Book;
 use q_book::fault::BookFault;
 use q_pool::pump::pump_once;
 use q_table::program::ProgramId;
-use sc_msg::decode::decode;
+use sc_msg::decode::decode_as;
 use sc_msg::fault::MessageFault;
 use sc_msg::message::Message;
-use sc_view::value::Value;
 use std::alloc::Global;
 
 /// A node's book, the messages that its thread has still to send, and its seat at the board of jobs.
@@ -38,7 +37,7 @@ pub struct Held<'b> {
 /// Why a datagram changes nothing: it counts as lost.
 #[derive(Clone, Copy)]
 pub enum Lost {
-    /// Its bytes spell no message.
+    /// Its bytes spell no message of the book's version.
     Bytes(MessageFault),
     /// The book refuses the message.
     Book(BookFault),
@@ -64,8 +63,9 @@ impl<'b> Held<'b> {
         }
     }
 
-    /// Takes the bytes of a datagram: the message that they spell is delivered, and what the book gives waits behind
-    /// what waits already. Where that is refused the datagram counts as lost, and nothing else changes.
+    /// Takes the bytes of a datagram: the message that they spell in the book's version is delivered, and what the book
+    /// gives waits behind what waits already. Where that is refused the datagram counts as lost, and nothing else
+    /// changes.
     pub fn hear(&mut self, alloc: Global, bytes: &[u8]) -> Result<(), Lost>
         ensures heard { Hears bytes.now self.old.book self.old.waiting.items result self.new.book self.new.waiting.items }
         ensures counted { self.new.lost ≡ counted result self.old.lost }
@@ -86,7 +86,7 @@ impl<'b> Held<'b> {
         ensures lost { self.new.lost ≡ self.old.lost }
         ensures asker { self.new.asker ≡ self.old.asker }
     {
-        let message = match decode(alloc, bytes) {
+        let message = match decode_as(alloc, self.book.version(), bytes) {
             Ok(message) => message,
             Err(fault) => return Err(Lost::Bytes(fault)),
         };
@@ -112,8 +112,8 @@ impl<'b> Held<'b> {
         }
     }
 
-    /// Begins to store a value, and answers the operation's tag. What the book gives waits.
-    pub fn store(&mut self, value: &Value) -> Result<u64, BookFault>
+    /// Begins to store a value of these bytes, and answers the operation's tag. What the book gives waits.
+    pub fn store(&mut self, value: &[u8]) -> Result<u64, BookFault>
         ensures stored { Stores value.now self.old.book self.old.waiting.items result self.new.book self.new.waiting.items }
         ensures lost { self.new.lost ≡ self.old.lost }
         ensures asker { self.new.asker ≡ self.old.asker }

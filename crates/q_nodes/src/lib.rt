@@ -13,7 +13,7 @@
 //! |---|---|
 //! | `nodes N B/B G/G`, first | nothing: the nodes 1 to N found the cluster, 16 at most |
 //! | `program NODE HEX` | `program P` |
-//! | `store NODE U64` | `store TAG` |
+//! | `store NODE VALUE` | `store TAG` |
 //! | `ask NODE PROGRAM START` | `query Q`, and then `answer NODE Q ACC STEPS` |
 //!
 //! Behind `store TAG` or `query Q` stands `unanswered` where the turns were not enough. A refused line prints its

@@ -12,7 +12,6 @@ use crate::held::Held;
 use crate::script::ClusterLine;
 use crate::seat;
 use crate::turn::pause;
-use q_script::records::value_bytes;
 use q_session::ran::Ran;
 use q_sim::program::certified_code;
 use q_table::program::ProgramId;
@@ -131,20 +130,20 @@ fn end_store<R: Wait + Clock, W: Write>(
     }
 }
 
-/// `store NODE U64`.
+/// `store NODE VALUE`.
 fn run_store<R: Wait + Clock, W: Write>(
     rt: &R,
     seats: &[Mutex<Held<'_>>],
     node: u64,
-    value: u64,
+    value: &[u8],
     out: &mut W,
 ) -> io::Result<()>
-    ensures { OnOk result (Prints (TellsStore node value) (W.contents out.old) (W.contents out.new)) }
+    ensures { OnOk result (Prints (TellsStore node value.now) (W.contents out.old) (W.contents out.new)) }
 {
     let Some(held) = seat::seat(seats, node) else {
         return refuse(NodesFault::no_such_node(), out);
     };
-    let begun = seat::store(&mut held.lock(rt), node, &value_bytes(value));
+    let begun = seat::store(&mut held.lock(rt), node, value);
     match begun {
         Ok(tag) => {
             writeln!(out, "store {tag}")?;
@@ -220,7 +219,7 @@ pub fn run_line<R: Wait + Clock, W: Write>(
         ClusterLine::Program { node, code } => {
             run_program(rt, alloc, seats, *node, code.as_slice(), out)
         }
-        ClusterLine::Store { node, value } => run_store(rt, seats, *node, *value, out),
+        ClusterLine::Store { node, value } => run_store(rt, seats, *node, value.as_slice(), out),
         ClusterLine::Ask {
             node,
             program,

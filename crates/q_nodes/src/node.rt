@@ -5,8 +5,9 @@ ghost use Rattle.std.specs.Prelude.{◌≡◌, ◌≤◌, length, IfSome};
 use crate::held::Held;
 use crate::turn::pause;
 use q_wire::transport::Transport;
-use sc_msg::encode::encode;
+use sc_msg::encode::encode_fitting;
 use sc_msg::message::{MOST_BYTES, Message};
+use sc_msg::version::Version;
 use std::alloc::Global;
 use std::sync::atomic::{AtomicBool, Ordering};
 use std::sync::{Mutex, Wait};
@@ -16,9 +17,19 @@ use std::time::Clock;
 /// the start of a longer datagram.
 const LOOKED_AT: usize = MOST_BYTES + 1;
 
-/// Sends a message to each of so many nodes, itself among them. A datagram that is not sent is lost.
-fn tell<T: Transport>(alloc: Global, nodes: u64, transport: &mut T, message: &Message) {
-    let Ok(bytes) = encode(alloc, message) else {
+/// Sends a message to each of so many nodes, itself among them, in the version of their books. A datagram that is not
+/// sent is lost.
+fn tell<T: Transport>(
+    alloc: Global,
+    nodes: u64,
+    version: Version,
+    transport: &mut T,
+    message: &Message,
+) {
+    if !message.fits(version) {
+        return;
+    }
+    let Ok(bytes) = encode_fitting(alloc, version, message) else {
         return;
     };
     for to in 0..nodes {
@@ -44,11 +55,17 @@ fn take<R: Wait>(rt: &R, alloc: Global, held: &Mutex<Held<'_>>) -> Vec<Message> 
     held.lock(rt).take(alloc)
 }
 
+/// The version of the book, read under the lock.
+fn version<R: Wait>(rt: &R, held: &Mutex<Held<'_>>) -> Version {
+    held.lock(rt).book.version()
+}
+
 /// One turn of a node: it hears a datagram, if there is one, and sends what waits. Whether there was anything to do.
 fn take_turn<R: Wait, T: Transport>(
     rt: &R,
     alloc: Global,
     nodes: u64,
+    version: Version,
     held: &Mutex<Held<'_>>,
     transport: &mut T,
     buffer: &mut [u8],
@@ -59,7 +76,7 @@ fn take_turn<R: Wait, T: Transport>(
     }
     let messages = take(rt, alloc, held);
     for message in &messages {
-        tell(alloc, nodes, transport, message);
+        tell(alloc, nodes, version, transport, message);
     }
     received.is_some() || !messages.is_empty()
 }
@@ -76,6 +93,7 @@ pub(crate) fn tend<R: Wait + Clock, T: Transport + Drop>(
     let Ok(mut buffer) = vec![in alloc; 0u8; LOOKED_AT] else {
         return;
     };
+    let version = version(rt, held);
     let mut idle: u32 = 0;
     for _ in rt.forever() {
         if over.load(Ordering::SeqCst) {
@@ -85,6 +103,7 @@ pub(crate) fn tend<R: Wait + Clock, T: Transport + Drop>(
             rt,
             alloc,
             nodes,
+            version,
             held,
             &mut transport,
             buffer.as_mut_slice(),

@@ -25,12 +25,12 @@ pub enum ClusterLine {
         /// The program's bytes, one at least.
         code: Vec<u8>,
     },
-    /// `store NODE U64`: store a value at a node.
+    /// `store NODE VALUE`: store a value at a node.
     Store {
         /// The node.
         node: u64,
-        /// The value.
-        value: u64,
+        /// The value's bytes, however many.
+        value: Vec<u8>,
     },
     /// `ask NODE PROGRAM START`: ask a node for a program's answer.
     Ask {

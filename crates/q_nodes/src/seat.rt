@@ -11,7 +11,6 @@ use crate::held::Held;
 use q_book::book::Book;
 use q_session::ran::Ran;
 use q_table::program::{Program, ProgramId};
-use sc_view::value::Value;
 use std::sync::{Mutex, Wait};
 
 /// The lock of this node, which is counted from 1.
@@ -48,8 +47,8 @@ pub(crate) fn register(
     }
 }
 
-/// Begins to store a value in the book of the node: the tag of the operation.
-pub(crate) fn store(held: &mut Held<'_>, node: u64, value: &Value) -> Result<u64, NodesFault>
+/// Begins to store a value of these bytes in the book of the node: the tag of the operation.
+pub(crate) fn store(held: &mut Held<'_>, node: u64, value: &[u8]) -> Result<u64, NodesFault>
     ensures { BeginsStore node value.now result }
 {
     if !is_of(&held.book, node) {

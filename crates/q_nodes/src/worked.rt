@@ -1,6 +1,7 @@
 //! Worked values of losses, of refusals, of lines, of scripts and of endings.
 
-ghost use Rattle.std.specs.Prelude.{◌≡◌, ◌++◌, ℕ, List, [], ◌∷◌, codes, Option, Ok, Err};
+ghost use Rattle.std.specs.Prelude.{◌≡◌, ◌++◌, ℕ, List, [], ◌∷◌, codes, Option, Ok, Err, Vec};
+ghost use Rattle.std.specs.declared.alloc.Global.{Global};
 ghost use Rattle.reasons.specs.Table as table;
 ghost use Rattle.bq_check.specs.Certificate.{Certificate};
 ghost use Rattle.sc_msg.specs.declared.fault.MessageFault.{MessageFault};
@@ -96,7 +97,7 @@ pub fn worked_calls()
 
 /// What lines print.
 pub fn worked_lines()
-    ensures two_lines { (text : List ℕ) → TellsAll (line.Store 1 5 ∷ line.Ask 2 3 7 ∷ []) text → (first second : List ℕ) × TellsStore 1 5 first × TellsAsk 2 3 7 second × (text ≡ first ++ (second ++ [])) }
+    ensures two_lines { (value : Vec ℕ Global) (text : List ℕ) → TellsAll (line.Store 1 value ∷ line.Ask 2 3 7 ∷ []) text → (first second : List ℕ) × TellsStore 1 value.items first × TellsAsk 2 3 7 second × (text ≡ first ++ (second ++ [])) }
     ensures open { (text : List ℕ) → (HasEnded 1 3 → ⊥) → TellsEnd 1 3 text → text ≡ unanswered_line }
     ensures not_recorded { (text : List ℕ) → ((ran : Ran) → IsRecorded 1 0 ran → ⊥) → TellsAnswer 1 0 text → text ≡ unanswered_line }
 {}

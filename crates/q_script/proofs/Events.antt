@@ -10,6 +10,7 @@ use Rattle.q_script.specs.declared.line.LineFault.{LineFault}
 use Rattle.q_script.specs.declared.line.LineFault.TheVariants.{Form, OutOfMemory}
 use Rattle.q_script.specs.Words.{Lacks, IsFollowed, IsPair}
 use Rattle.q_script.specs.Command.{name, command_at}
+use Rattle.q_script.specs.Records.{IsValue}
 use Rattle.q_script.specs.Line.{IsCode, IsWord, IsProgram, IsStore, IsAsk, IsDeliver, IsJournal, HasOperands, HasCommand, IsAlone, Spells, Judges}
 use Rattle.q_script.proofs.Parts.{IsCut, cut_once, never_cut}
 use Rattle.q_script.proofs.Pairs.{followed_once}
@@ -17,9 +18,15 @@ use Rattle.q_script.proofs.Commands.{command_sound, command_again, name_lacks_sp
 
 -- ---- operands
 
-pub not_store : (s : List ℕ) → ((p : ℕ × ℕ) → IsPair 32 s p → ⊥) → (line : ScriptLine) → IsStore s line → ⊥
-not_store s n (Store node value) h = n (node, value) h
+pub not_store : (s : List ℕ) → ((p : ℕ × List ℕ) → IsFollowed 32 s p → ⊥) → (line : ScriptLine) → IsStore s line → ⊥
+not_store s n (Store node value) h = n (node, h.0) h.1
 not_store s n _ h = h
+
+pub not_store_value : (s : List ℕ) (p : ℕ × List ℕ) → IsFollowed 32 s p → ((value : Vec ℕ Global) → IsValue p.1 value.items → ⊥) → (line : ScriptLine) → IsStore s line → ⊥
+not_store_value s p f n (Store node value) h =
+    let same = followed_once 32 s p (node, h.0) (lit< tt) f h.1 in
+    n value (subst (λ x. IsValue x value.items) (sym same) h.2)
+not_store_value s p f n _ h = h
 
 pub not_deliver : (s : List ℕ) → ((p : ℕ × ℕ) → IsPair 32 s p → ⊥) → (line : ScriptLine) → IsDeliver s line → ⊥
 not_deliver s n (Deliver message node) h = n (message, node) h

@@ -1,6 +1,8 @@
 -- The values of a list: numbers, or x and hexadecimal digits.
-use Rattle.std.proofs.Common.{◌≡◌, ◌≢◌, ◌↔◌, inl, inr, ℕ, ◌/◌, ◌%◌, ◌<◌, ◌||◌, if◌then◌else◌, nat_le, ◌&&◌, ◌-◌, Bool, true, false, true≢false, IsTrue, List, ◌∷◌, length, slice_index_or, Option, Some, None, is_some, Result, Ok, Err, IfOk, IsErrOf, MatchResult, refl, ap, sym, ◌∙◌, subst, arith}
+use Rattle.std.proofs.Common.{◌≡◌, ◌≢◌, ◌↔◌, inl, inr, ℕ, ◌/◌, ◌%◌, ◌<◌, ◌≤◌, ◌||◌, if◌then◌else◌, nat_le, ◌&&◌, ◌-◌, Bool, true, false, true≢false, IsTrue, List, ◌∷◌, length, slice_index_or, Option, Some, None, is_some, Result, Ok, Err, IfOk, IsErrOf, MatchResult, refl, ap, sym, ◌∙◌, subst, arith}
 use Rattle.std.specs.Bool.{then_some}
+use Rattle.std.specs.Prelude.{Vec}
+use Rattle.std.specs.declared.alloc.Global.{Global}
 use Rattle.std.specs.Char.{is_ascii_digit, is_ascii_hexdigit}
 use Rattle.std.specs.List.{AllPass, list_all}
 use Rattle.std.proofs.lemmas.Fmt.{digits_decimal}
@@ -12,7 +14,10 @@ use Rattle.sc_view.specs.declared.value.ValueFault.{ValueFault}
 use Rattle.sc_view.specs.declared.value.ValueFault.TheVariants.{BadValue}
 use Rattle.sc_view.specs.Values.{most_bytes}
 use Rattle.q_script.specs.Words.{IsNumeral}
-use Rattle.q_script.specs.Records.{AreDigits, IsValue, IsReadAs, ReadsValue}
+use Rattle.q_script.specs.Records.{AreDigits, IsNumber, IsValue, IsReadAs, ReadsValue}
+use Rattle.q_script.specs.Line.{IsCode, Judges}
+use Rattle.q_script.specs.declared.line.LineFault.{LineFault}
+use Rattle.q_script.specs.declared.line.LineFault.TheVariants.{Form, OutOfMemory}
 
 -- ---- hexadecimal digits
 
@@ -62,10 +67,12 @@ read_as bytes (Err BadValue) h k = k.0 refl
 
 -- ---- what a value's text spells
 
+-- a text that has more than digits is no number
+pub no_numeral : (s : List ℕ) (n : ℕ) → IsNumeral s n → list_all is_ascii_digit s ≡ false → ⊥
+no_numeral s n h other = true≢false (sym (digits_decimal own n h.0) ∙ ap (list_all is_ascii_digit) (sym h.1) ∙ other)
+
 no_x : (s digits : List ℕ) (n : ℕ) → s ≡ 120 ∷ digits → IsNumeral s n → ⊥
-no_x s digits n e h =
-    let t : list_all is_ascii_digit (120 ∷ digits) ≡ true = subst (λ (x : List ℕ). list_all is_ascii_digit x ≡ true) (sym h.1 ∙ e) (digits_decimal own n h.0) in
-    true≢false (sym t)
+no_x s digits n e h = no_numeral s n h (ap (list_all is_ascii_digit) e)
 
 behind : (a b : List ℕ) → 120 ∷ a ≡ 120 ∷ b → a ≡ b
 behind a b e = cc
@@ -74,11 +81,32 @@ pub no_value : (s : List ℕ) → ((digits : List ℕ) → s ≢ 120 ∷ digits)
 no_value s x n bytes (inl number) = n number.0 number.1
 no_value s x n bytes (inr digits) = x digits.0 digits.1
 
-no_hex : (s digits : List ℕ) → s ≡ 120 ∷ digits → ((bytes : List ℕ) → AreDigits digits bytes → ⊥) → (bytes : List ℕ) → IsValue s bytes → ⊥
-no_hex s digits e h bytes (inl number) = no_x s digits number.0 e number.1
-no_hex s digits e h bytes (inr hex) = h bytes (ap decode_of (behind digits hex.0 (sym e ∙ hex.1)) ∙ hex.2)
+no_hex : (s digits bytes : List ℕ) → s ≡ 120 ∷ digits → (AreDigits digits bytes → ⊥) → IsValue s bytes → ⊥
+no_hex s digits bytes e h (inl number) = no_x s digits number.0 e number.1
+no_hex s digits bytes e h (inr hex) = h (ap decode_of (behind digits hex.0 (sym e ∙ hex.1)) ∙ hex.2)
 
 pub behind_x : (s digits : List ℕ) (r : Option (Result (List ℕ) ValueFault)) → s ≡ 120 ∷ digits → ReadsValue AreDigits digits r
     → ReadsValue IsValue s r
-behind_x s digits None e h = no_hex s digits e h
+behind_x s digits None e h = λ bytes. no_hex s digits bytes e (h bytes)
 behind_x s digits (Some value) e h = (h.0, inr (digits, e, h.1), h.2)
+
+-- ---- the value of a line of a script
+
+pub hex_judged : (s digits : List ℕ) (r : Result (Vec ℕ Global) LineFault) → s ≡ 120 ∷ digits → Judges (λ text (v : Vec ℕ Global). AreDigits text v.items) digits r
+    → Judges (λ text (v : Vec ℕ Global). IsValue text v.items) s r
+hex_judged s digits (Ok v) e h = inr (digits, e, h)
+hex_judged s digits (Err Form) e h = λ v. no_hex s digits v.items e (h v)
+hex_judged s digits (Err OutOfMemory) e h = tt
+
+pub number_judged : (s : List ℕ) (r : Result (Vec ℕ Global) LineFault) → ((digits : List ℕ) → s ≢ 120 ∷ digits) → Judges (λ text (v : Vec ℕ Global). IsNumber text v.items) s r
+    → Judges (λ text (v : Vec ℕ Global). IsValue text v.items) s r
+number_judged s (Ok v) x h = inl h
+number_judged s (Err Form) x h = λ v is. elim is [ inl number ↦ h v number | inr hex ↦ x hex.0 hex.1 ]
+number_judged s (Err OutOfMemory) x h = tt
+
+-- digits of a program, one byte at least
+pub code_judged : (digits : List ℕ) (r : Result (Vec ℕ Global) LineFault) → 1 ≤ length digits → Judges (λ text (v : Vec ℕ Global). AreDigits text v.items) digits r
+    → Judges (λ text (v : Vec ℕ Global). IsCode text v.items) digits r
+code_judged digits (Ok v) some h = (h, some)
+code_judged digits (Err Form) some h = λ v is. h v is.0
+code_judged digits (Err OutOfMemory) some h = tt

@@ -9,6 +9,7 @@ use Rattle.q_script.specs.declared.line.LineFault.{LineFault}
 use Rattle.q_script.specs.declared.line.LineFault.TheVariants.{Form, OutOfMemory}
 use Rattle.q_script.specs.Words.{Lacks, IsNumeral, IsPair, IsFollowed}
 use Rattle.q_script.specs.Command.{name}
+use Rattle.q_script.specs.Records.{IsValue}
 
 -- one byte at least, each as two hexadecimal digits, small or capital
 abbrev pub IsCode : List ℕ → List ℕ → Type 0
@@ -25,9 +26,9 @@ abbrev pub IsProgram : List ℕ → ScriptLine → Type 0
 IsProgram text (Program node code) = (digits : List ℕ) × IsFollowed 32 text (node, digits) × IsCode digits code.items
 IsProgram text _ = ⊥
 
--- `NODE U64`
+-- `NODE VALUE`: any number of bytes is a value here
 abbrev pub IsStore : List ℕ → ScriptLine → Type 0
-IsStore text (Store node value) = IsPair 32 text (node, value)
+IsStore text (Store node value) = (rest : List ℕ) × IsFollowed 32 text (node, rest) × IsValue rest value.items
 IsStore text _ = ⊥
 
 -- `NODE PROGRAM START`

@@ -18,12 +18,12 @@ pub enum ScriptLine {
         /// The program's bytes, one at least.
         code: Vec<u8>,
     },
-    /// `store NODE U64`: begin to store a value at a node.
+    /// `store NODE VALUE`: begin to store a value at a node.
     Store {
         /// The node.
         node: u64,
-        /// The value.
-        value: u64,
+        /// The bytes of the value, however many.
+        value: Vec<u8>,
     },
     /// `ask NODE PROGRAM START`: ask a node for a program's answer.
     Ask {

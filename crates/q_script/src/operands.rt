@@ -1,13 +1,26 @@
 ghost use Rattle.std.specs.Prelude.{◌≡◌, ◌↔◌, IsTrue};
 ghost use Rattle.q_script.specs.Line.{IsCode, IsWord, IsProgram, IsStore, IsAsk, IsDeliver, IsJournal, HasOperands, Judges};
+ghost use Rattle.q_script.specs.Records.{AreDigits, IsNumber, IsValue};
 ghost use Rattle.q_script.specs.Words.{IsNumeral, IsPair};
 
 use crate::command::Command;
 use crate::line::{LineFault, ScriptLine};
 use crate::number::{leading, number, pair};
+use crate::records::value_bytes;
 use crate::text::cut;
 use hex::FromHexError;
 use std::alloc::Global;
+
+/// The bytes that hexadecimal digits spell.
+fn decoded(alloc: Global, digits: &str) -> Result<Vec<u8>, LineFault>
+    ensures { Judges (λ text bytes. AreDigits text bytes.items) digits.now result }
+{
+    match hex::decode(alloc, digits) {
+        Ok(bytes) => Ok(bytes),
+        Err(FromHexError::OutOfMemory) => Err(LineFault::OutOfMemory),
+        Err(_) => Err(LineFault::Form),
+    }
+}
 
 /// The bytes that hexadecimal digits spell, one byte at least.
 fn code(alloc: Global, digits: &str) -> Result<Vec<u8>, LineFault>
@@ -16,10 +29,30 @@ fn code(alloc: Global, digits: &str) -> Result<Vec<u8>, LineFault>
     if digits.is_empty() {
         return Err(LineFault::Form);
     }
-    match hex::decode(alloc, digits) {
-        Ok(code) => Ok(code),
-        Err(FromHexError::OutOfMemory) => Err(LineFault::OutOfMemory),
-        Err(_) => Err(LineFault::Form),
+    decoded(alloc, digits)
+}
+
+/// The bytes of the number that a text spells, as they are stored.
+fn numbered(alloc: Global, text: &str) -> Result<Vec<u8>, LineFault>
+    ensures { Judges (λ text bytes. IsNumber text bytes.items) text.now result }
+{
+    let Some(number) = number(text) else {
+        return Err(LineFault::Form);
+    };
+    let value = value_bytes(number);
+    match Vec::from_slice(alloc, value.bytes()) {
+        Ok(bytes) => Ok(bytes),
+        Err(_) => Err(LineFault::OutOfMemory),
+    }
+}
+
+/// The bytes of the value that a text spells, however many.
+fn value(alloc: Global, text: &str) -> Result<Vec<u8>, LineFault>
+    ensures { Judges (λ text value. IsValue text value.items) text.now result }
+{
+    match text.strip_prefix('x') {
+        Some(digits) => decoded(alloc, digits),
+        None => numbered(alloc, text),
     }
 }
 
@@ -35,10 +68,13 @@ fn program(alloc: Global, text: &str) -> Result<ScriptLine, LineFault>
     }
 }
 
-fn store(text: &str) -> Result<ScriptLine, LineFault>
+fn store(alloc: Global, text: &str) -> Result<ScriptLine, LineFault>
     ensures { Judges IsStore text.now result }
 {
-    let (node, value) = two(text)?;
+    let Some((node, rest)) = leading(text, ' ') else {
+        return Err(LineFault::Form);
+    };
+    let value = value(alloc, rest)?;
     Ok(ScriptLine::Store { node, value })
 }
 
@@ -114,7 +150,7 @@ pub fn operands(alloc: Global, command: Command, text: &str) -> Result<ScriptLin
 {
     match command {
         Command::Program => program(alloc, text),
-        Command::Store => store(text),
+        Command::Store => store(alloc, text),
         Command::Ask => ask(text),
         Command::Deliver => deliver(text),
         Command::All => Ok(ScriptLine::All { limit: one(text)? }),

@@ -24,6 +24,11 @@ pub fn worked()
     ensures delivered { Spells (codes "deliver 7 3") (line.Deliver 7 3) }
     ensures node_first { Spells (codes "deliver 7 3") (line.Deliver 3 7) → ⊥ }
 
+    // Stores: digits behind x are bytes, and each byte has two.
+    ensures stored { (value : _) → value.items ≡ 5 ∷ 255 ∷ [] → Spells (codes "store 1 x05fF") (line.Store 1 value) }
+    ensures capital_x { (bytes : List ℕ) → IsValue (codes "X00") bytes → ⊥ }
+    ensures odd_digits { (bytes : List ℕ) → IsValue (codes "x123") bytes → ⊥ }
+
     // The line that founds: beta stands before gamma.
     ensures founded { SpellsFounding (codes "nodes 3 4/5 2/3") (record { count = 3; beta = record { numerator = 4; denominator = 5 }; gamma = record { numerator = 2; denominator = 3 } }) }
     ensures gamma_first { SpellsFounding (codes "nodes 3 4/5 2/3") (record { count = 3; beta = record { numerator = 2; denominator = 3 }; gamma = record { numerator = 4; denominator = 5 } }) → ⊥ }

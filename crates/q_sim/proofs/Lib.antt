@@ -13,3 +13,4 @@ mod Told
 mod Steps
 mod Performing
 mod Saving
+mod Storing

@@ -2,12 +2,11 @@
 use Rattle.std.proofs.Common.{◌≡◌, ℕ, List}
 use Rattle.bq_insn.specs.declared.insn.Insn.{Insn}
 use Rattle.bq_insn.specs.Slots.{IsText, spelling}
-use Rattle.bq_state.specs.Kinds.{view_lengths}
 use Rattle.q_sim.specs.declared.refusal.Refusal.{Refusal}
 use Rattle.q_sim.specs.declared.refusal.Refusal.TheVariants.{FileFailed, Assembler, Bytes, Program, Records, Script, Fraction, Cluster, Journal, OutOfMemory}
-use Rattle.q_sim.specs.Programs.{IsUncertified, IsRefusal}
+use Rattle.q_sim.specs.Programs.{IsUncertified, IsRefusal, program_lengths}
 
-pub of_bytes : (code : List ℕ) (text : List Insn) (r : Refusal) → IsText text → code ≡ spelling text → IsUncertified view_lengths text r → IsRefusal code r
+pub of_bytes : (code : List ℕ) (text : List Insn) (r : Refusal) → IsText text → code ≡ spelling text → IsUncertified program_lengths text r → IsRefusal code r
 of_bytes code text FileFailed legal is h = absurd h
 of_bytes code text (Assembler f) legal is h = absurd h
 of_bytes code text (Bytes f) legal is h = absurd h

@@ -1,5 +1,6 @@
 pub mod Awaited
 pub mod Delivered
+pub mod Longer
 pub mod Printing
 pub mod Programs
 pub mod Refusal

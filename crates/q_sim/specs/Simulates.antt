@@ -5,10 +5,10 @@ use Rattle.std.specs.Option.{IsSome}
 use Rattle.std.specs.FinSet as set
 use Rattle.bq_check.specs.Certificate.{Certificate}
 use Rattle.sc_members.specs.Members.{Config, IsFraction}
+use Rattle.sc_msg.specs.declared.version.Version.TheVariants.{Second}
 use Rattle.sc_world.specs.Worlds.{live_at}
 use Rattle.sc_world.specs.declared.fault.WorldFault.TheVariants as world_fault
 use Rattle.q_book.specs.State.{BookState}
-use Rattle.q_script.specs.Records.{value_bytes}
 use Rattle.q_script.specs.declared.founding.Founding.{Founding}
 use Rattle.q_script.specs.declared.line.ScriptLine.{ScriptLine}
 use Rattle.q_script.specs.declared.line.ScriptLine.TheVariants.{Program, Store, Ask, Deliver, All, Hand, Run, Enter, Leave, Crash, Pairs, Journal}
@@ -63,7 +63,7 @@ abbrev pub noted : Event → Result Stepped ClusterFault → Deliveries → Deli
 noted (event.Deliver message node) (Ok told) d = set.insert d (message, node)
 noted e r d = d
 
--- the event is taken or refused, and that is printed
+-- the event is taken or refused, and that is printed: a store of more bytes than a value has is one, and is refused
 pub record Acts (e : Event) (s : SimState) (text : List ℕ) (t : SimState) : Type 0 where
   pub result : Result Stepped ClusterFault
   pub takes : Takes s.cluster e t.cluster result
@@ -159,7 +159,7 @@ LeavesFiles does s before text t after = does s text t × (after ≡ before)
 module _ {F : Type 0} (writes : Writing F) where
   abbrev pub Does : ScriptLine → SimState → F → List ℕ → SimState → F → Type 0
   Does (Program node code) = LeavesFiles (Registers node code.items)
-  Does (Store node value) = LeavesFiles (Acts (event.Store node (value_bytes value)))
+  Does (Store node value) = LeavesFiles (Acts (event.Store node value.items))
   Does (Ask node program start) = LeavesFiles (Acts (event.Ask node (min program (2 ^ 32 - 1)) start))
   Does (Deliver message node) = LeavesFiles (Acts (event.Deliver message node))
   Does (All limit) = LeavesFiles (Spreads limit)
@@ -199,10 +199,10 @@ config_of f = record {
 abbrev pub HasFractions : Founding → Type 0
 HasFractions f = IsFraction f.beta.numerator f.beta.denominator × IsFraction f.gamma.numerator f.gamma.denominator
 
--- the cluster of the founders, before any event
+-- the cluster of the founders, before any event: its books are of the second version
 pub record Begins (f : Founding) (s : SimState) : Type 0 where
   pub fractions : HasFractions f
-  pub started : started (config_of f) (founders_of f) ≡ Ok s.cluster
+  pub started : started Second (config_of f) (founders_of f) ≡ Ok s.cluster
   pub nodes : s.nodes ≡ founders_of f
   pub delivered : s.delivered ≡ set.empty
   pub unwritten : s.unwritten ≡ false
@@ -210,7 +210,7 @@ pub record Begins (f : Founding) (s : SimState) : Type 0 where
 -- why a script ends before any event
 abbrev pub IsSimulationFault : Founding → Refusal → Type 0
 IsSimulationFault f (refusal.Fraction _) = ¬ (HasFractions f)
-IsSimulationFault f (refusal.Cluster e) = HasFractions f × (e ≢ memory → started (config_of f) (founders_of f) ≡ Err e)
+IsSimulationFault f (refusal.Cluster e) = HasFractions f × (e ≢ memory → started Second (config_of f) (founders_of f) ≡ Err e)
 IsSimulationFault f refusal.OutOfMemory = Unit {0}
 IsSimulationFault f r = ⊥
 

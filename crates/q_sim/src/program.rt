@@ -11,7 +11,9 @@ use bq_insn::decode::decode;
 use bq_insn::text::Text;
 use bq_state::bounds::Bounds;
 use bq_verify::verify::verify_within;
+use q_book::lengths::record_lengths;
 use q_table::program::Program;
+use sc_msg::version::Version;
 use std::alloc::Global;
 
 /// The certificate of a text for records of these lengths, with the notes that the verifier finds. Refused is what the
@@ -25,12 +27,13 @@ pub fn certified_text(alloc: Global, text: Text, lengths: Bounds) -> Result<Cert
     Ok(check_within(alloc, text, notes, lengths)?)
 }
 
-/// The program of these bytes, with its certificate for the records of views. Refused is what decoding and then verifying refuse, or 99.
+/// The program of these bytes, with its certificate for the records of a new cluster's books, of 16 to 128 bytes.
+/// Refused is what decoding and then verifying refuse, or 99.
 pub fn certified_code(alloc: Global, code: &[u8]) -> Result<Program, Refusal>
     ensures program { IfOk result (IsProgram code.now) }
     ensures refused { IfErr result (IsRefusal code.now) }
 {
     let text = decode(alloc, code)?;
-    let certified = certified_text(alloc, text, Bounds::of_views())?;
-    Ok(Program::of_views(alloc, certified)?)
+    let certified = certified_text(alloc, text, record_lengths(Version::Second))?;
+    Ok(Program::new(alloc, certified)?)
 }

@@ -15,11 +15,12 @@ use q_history::fault::ClusterFault;
 use q_replay::write::journal_bytes;
 use q_script::founding::Founding;
 use q_script::line::ScriptLine;
-use q_script::records::value_bytes;
 use q_script::script::Script;
 use q_table::program::ProgramId;
 use reasons::Reason;
 use sc_members::config::Config;
+use sc_node::fault::NodeFault;
+use sc_view::value::Value;
 use sc_world::fault::WorldFault;
 use std::alloc::{AllocError, Global};
 
@@ -125,6 +126,7 @@ impl Simulation {
     ghost use Rattle.q_history.specs.Calls.{Takes};
     ghost use Rattle.q_sim.specs.Simulates.{Acts, Begins, Does, Registers, Saves, Spreads, Tells, joined, noted};
     ghost use Rattle.q_sim.specs.Awaited.{Attempts, IsSpread};
+    ghost use Rattle.q_sim.specs.Longer.{RefusesLonger};
     ghost use Rattle.q_sim.specs.Printing.{printed};
     ghost use Rattle.q_sim.specs.Refusal.{refusal_line};
     ghost use Rattle.q_sim.specs.Seen.{Prints, PrintsOver, seen};
@@ -161,10 +163,7 @@ impl Simulation {
     {
         match line {
             ScriptLine::Program { node, code } => self.register(node, code.as_slice()),
-            ScriptLine::Store { node, value } => {
-                let value = value_bytes(value);
-                self.step(&Event::Store { node, value })
-            }
+            ScriptLine::Store { node, value } => self.store(node, value.as_slice()),
             ScriptLine::Ask {
                 node,
                 program,
@@ -200,6 +199,36 @@ impl Simulation {
             Ok(program) => self.step(&Event::Register { node, program }),
             Err(refusal) => self.refuse(&refusal),
         }
+    }
+
+    /// Begins to store a value of these bytes at a node. No event has a value of more than 112: what the cluster would
+    /// refuse such a store with is printed.
+    fn store(&mut self, node: u64, bytes: &[u8]) -> Result<(), AllocError>
+        ensures { OnOk result (Prints (Acts (Event.Store node bytes.now)) self.old self.new) }
+    {
+        match Value::new(bytes) {
+            Ok(value) => self.step(&Event::Store { node, value }),
+            Err(_) => {
+                let fault = self.longer_store(node);
+                self.refuse(&Refusal::Cluster(fault))
+            }
+        }
+    }
+
+    /// Why the cluster refuses to store more bytes than a value has at this node.
+    fn longer_store(&self, node: u64) -> ClusterFault
+        ensures { RefusesLonger self.now.cluster node result }
+    {
+        let Some(book) = self.cluster.book(node) else {
+            return ClusterFault::World(WorldFault::NoSuchNode);
+        };
+        if !self.cluster.is_live(node) {
+            return ClusterFault::World(WorldFault::NoSuchNode);
+        }
+        if !book.node().has_joined() {
+            return ClusterFault::World(WorldFault::Node(NodeFault::NotJoined));
+        }
+        ClusterFault::BadValue
     }
 
     /// Takes one event, and prints what it tells or its refusal. A node that came and a delivery that is accepted are

@@ -5,6 +5,7 @@ ghost use Rattle.std.specs.FinSet as set;
 ghost use Rattle.bq_check.specs.Certificate.{Certificate};
 ghost use Rattle.bq_insn.specs.declared.fault.DecodeFault.TheVariants as decode_fault;
 ghost use Rattle.bq_insn.specs.declared.insn.Insn.TheVariants as insn;
+ghost use Rattle.bq_range.specs.Interval.{between};
 ghost use Rattle.q_book.specs.State.{BookState};
 ghost use Rattle.q_cluster.specs.Acts.{book_at};
 ghost use Rattle.q_files.specs.Memory.{Writes, fails_next};
@@ -16,7 +17,7 @@ ghost use Rattle.q_history.specs.declared.event.Told.TheVariants as told;
 ghost use Rattle.q_script.specs.declared.line.ScriptLine.TheVariants as line;
 ghost use Rattle.q_sim.specs.Delivered.{Deliveries};
 ghost use Rattle.q_sim.specs.Printing.{TellsPair, is_over, message_lines, pair_line, told_lines};
-ghost use Rattle.q_sim.specs.Programs.{IsProgram};
+ghost use Rattle.q_sim.specs.Programs.{IsProgram, program_lengths};
 ghost use Rattle.q_sim.specs.Refusal as refusal;
 ghost use Rattle.q_sim.specs.Simulates.{Awaits, DeliversAll, Plays, Saves, SavesBook, SimState, Tries};
 ghost use Rattle.q_sim.specs.declared.refusal.Place.TheVariants as at;
@@ -27,7 +28,8 @@ ghost use Rattle.sc_world.specs.declared.op.Op.{Op};
 
 /// What the definitions say of programs, deliveries, refusals, printed lines and scripts, over files in memory.
 pub fn worked()
-    // Programs: the bytes are those of the program.
+    // Programs: the bytes are those of the program, and it may read 16 bytes of a record without a look at its length.
+    ensures lengths { program_lengths ≡ between 16 128 }
     ensures other_bytes { (code : List ℕ) (certificate : Certificate) → certificate.text ≡ insn.Exit ∷ [] → length code ≡ 16 → IsProgram code certificate → ⊥ }
 
     // Deliveries.

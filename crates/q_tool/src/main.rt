@@ -10,13 +10,13 @@
 //! | `audit JOURNAL` | `answer Q ACC STEPS` for each answer that a node recorded, by the numbers of its queries; then `journal ok` |
 //!
 //! FILE holds assembler text. START is a number in decimal. RECORDS holds a line `ID SEQ VALUE` for each record, by
-//! rising ids: the node, the sequence number of its store, and the number that it stored, whose eight bytes are the first
-//! of the value's 48.
+//! rising ids: the node, the sequence number of its store, and the value that it stored. VALUE is a number, whose eight
+//! bytes are the first of a value of 48, or `x` and two hexadecimal digits for each byte of the value, 112 at most.
 //!
-//! `check` and `run` take `--least` and `--most`, the fewest and the most bytes that a record may have: 16 and 128 where
-//! they are not given, and a wrong command line unless 16 <= least <= most <= 128. A program that is accepted runs over
-//! records of each of these lengths, and finds a record's in r2. The records of a node's view, and so those of `sim` and
-//! `cluster`, have 64 bytes, as those of RECORDS have.
+//! `check` and `run` take `--least` and `--most`, the fewest and the most bytes that a record may have: 16 and 128
+//! where they are not given, and a wrong command line unless 16 <= least <= most <= 128. A program that is accepted
+//! runs over records of each of these lengths, and finds a record's in r2. The records of a node's view have 16 bytes
+//! and those of a value, and so programs of `sim` and `cluster` are checked for 16 to 128.
 //!
 //! SCRIPT of `sim` holds one event a line. Words have one space between, numbers are below 2^64 in decimal.
 //!
@@ -24,7 +24,7 @@
 //! |---|---|
 //! | `nodes N B/B G/G`, first | nothing: the cluster of the founders 1 to N, with the fractions beta and gamma |
 //! | `program NODE HEX` | `program P`: the program of these bytes is registered, decoded, verified and checked before |
-//! | `store NODE U64` | `store TAG`, messages: the node begins to store the number |
+//! | `store NODE VALUE` | `store TAG`, messages: the node begins to store the value, of 112 bytes at most |
 //! | `ask NODE PROGRAM START` | `query Q`, messages: the node begins to collect a view for the program |
 //! | `deliver M NODE` | `stored TAG` or `returned Q` where that ends an operation, messages |
 //! | `all LIMIT` | nothing: delivers each message to each live node that it was not delivered to, the least message first, then the least node, LIMIT times at most |

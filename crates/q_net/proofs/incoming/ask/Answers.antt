@@ -6,19 +6,19 @@ use Rattle.q_net.proofs.Reading.{ended_at, got_none, got_some, short_then_failed
 use Rattle.q_net.proofs.incoming.ask.Goals as goal
 
 pub returns-in_default-clause-read : goal.returns-in_default-clause-read
-returns-in_default-clause-read g c = ended_at _ _ _ program_number (2 ∷ []) [] tt refl (Consumes-nil _) (got_none short_bytes 4 _ _ c.in_ok-program.field-0 c.in_default.is c.in_ok-program.ensures.read)
+returns-in_default-clause-read g c = λ version. ended_at version _ _ _ program_number (2 ∷ []) [] tt refl (Consumes-nil _) (got_none short_bytes 4 _ _ c.in_ok-program.field-0 c.in_default.is c.in_ok-program.ensures.read)
 
 pub returns-in_err-start-clause-read : goal.returns-in_err-start-clause-read
-returns-in_err-start-clause-read g c =
-    short_then_failed _ (2 ∷ []) _ _ _ c.from_residual-in_err-start.result c.in_ok-program.field-0 c.in-Some.program c.from_residual-in_err-start.ensures.1 c.in-Some.is c.in_ok-program.ensures.read c.in_err-start.ensures.read
+returns-in_err-start-clause-read g c = λ version.
+    short_then_failed _ version (2 ∷ []) _ _ _ c.from_residual-in_err-start.result c.in_ok-program.field-0 c.in-Some.program c.from_residual-in_err-start.ensures.1 c.in-Some.is c.in_ok-program.ensures.read c.in_err-start.ensures.read
 
 pub returns-in_default-2-clause-read : goal.returns-in_default-2-clause-read
-returns-in_default-2-clause-read g c =
+returns-in_default-2-clause-read g c = λ version.
     let first = got_some short_bytes 4 _ _ c.in_ok-program.field-0 c.in-Some.program c.in-Some.is c.in_ok-program.ensures.read in
-    ended_at _ _ _ (start_value c.in-Some.program) (2 ∷ []) (short_bytes c.in-Some.program) tt refl first (got_none long_bytes 8 _ _ c.in_ok-start.field-0 c.in_default-2.is c.in_ok-start.ensures.read)
+    ended_at version _ _ _ (start_value c.in-Some.program) (2 ∷ []) (short_bytes c.in-Some.program) tt refl first (got_none long_bytes 8 _ _ c.in_ok-start.field-0 c.in_default-2.is c.in_ok-start.ensures.read)
 
 pub returns-clause-read : goal.returns-clause-read
-returns-clause-read g c =
+returns-clause-read g c = λ version.
     let first = got_some short_bytes 4 _ _ c.in_ok-program.field-0 c.in-Some.program c.in-Some.is c.in_ok-program.ensures.read in
     let second = got_some long_bytes 8 _ _ c.in_ok-start.field-0 c.in-Some-2.start c.in-Some-2.is c.in_ok-start.ensures.read in
     (short_bytes c.in-Some.program ++ long_bytes c.in-Some-2.start, Consumes-trans _ _ _ _ _ first second, ((search rules, search rules), refl), tt)

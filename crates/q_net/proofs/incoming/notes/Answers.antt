@@ -8,17 +8,17 @@ use Rattle.q_net.proofs.incoming.notes.Goals as goal
 
 pub returns-in_default-clause-read : goal.returns-in_default-clause-read
 returns-in_default-clause-read g c whole few is =
-    ended_at _ _ _ (notes_length whole) (to_text whole) [] few (append-nil (to_text whole)) (Consumes-nil _) (got_none short_bytes 4 _ _ c.in_ok-len.field-0 c.in_default.is c.in_ok-len.ensures.read)
+    ended_at c.args.version _ _ _ (notes_length whole) (to_text whole) [] few (append-nil (to_text whole)) (Consumes-nil _) (got_none short_bytes 4 _ _ c.in_ok-len.field-0 c.in_default.is c.in_ok-len.ensures.read)
 
 pub returns-in_err-read_blob-clause-read : goal.returns-in_err-read_blob-clause-read
 returns-in_err-read_blob-clause-read g c whole few is =
-    short_then_failed _ (to_text whole) _ _ _ c.from_residual-in_err-read_blob.result c.in_ok-len.field-0 c.in-Some.len c.from_residual-in_err-read_blob.ensures.1 c.in-Some.is c.in_ok-len.ensures.read c.in_err-read_blob.ensures.read
+    short_then_failed _ c.args.version (to_text whole) _ _ _ c.from_residual-in_err-read_blob.result c.in_ok-len.field-0 c.in-Some.len c.from_residual-in_err-read_blob.ensures.1 c.in-Some.is c.in_ok-len.ensures.read c.in_err-read_blob.ensures.read
 
 pub returns-in-Cut-clause-read : goal.returns-in-Cut-clause-read
 returns-in-Cut-clause-read g c whole few is =
     let len = c.in-Some.len in
     let first = got_some short_bytes 4 _ _ c.in_ok-len.field-0 len c.in-Some.is c.in_ok-len.ensures.read in
-    ended_at _ _ _ (in_notes whole len) (to_text whole) (short_bytes len) (few, c.if-len-gt-MOST_NOTES.false)
+    ended_at c.args.version _ _ _ (in_notes whole len) (to_text whole) (short_bytes len) (few, (rw c.most_notes-most.ensures at c.if-len-most.false))
     (ap (λ (l : List ℕ). 1 ∷ l) (append_assoc (short_bytes (length whole)) whole (short_bytes len))) first (blob_cut len _ _ c.in_ok-read_blob.field-0 c.in-Cut.is c.in_ok-read_blob.ensures.read)
 
 pub returns-in-Lost-clause-read : goal.returns-in-Lost-clause-read
@@ -26,7 +26,7 @@ returns-in-Lost-clause-read g c whole few is =
     let len = c.in-Some.len in
     let first = got_some short_bytes 4 _ _ c.in_ok-len.field-0 len c.in-Some.is c.in_ok-len.ensures.read in
     let (bytes, lost, is_len) = blob_lost len _ _ c.in_ok-read_blob.field-0 c.in-Lost.is c.in_ok-read_blob.ensures.read in
-    let (x, consumed, legal, same) = notes_read whole bytes len _ _ _ few c.if-len-gt-MOST_NOTES.false first (lost, is_len) in
+    let (x, consumed, legal, same) = notes_read c.args.version whole bytes len _ _ _ few (rw c.most_notes-most.ensures at c.if-len-most.false) first (lost, is_len) in
     (x, consumed, (whole, bytes, legal, same), tt)
 
 pub returns-in-Some-text-clause-read : goal.returns-in-Some-text-clause-read
@@ -36,7 +36,7 @@ returns-in-Some-text-clause-read g c whole few is =
     let first = got_some short_bytes 4 _ _ c.in_ok-len.field-0 len c.in-Some.is c.in_ok-len.ensures.read in
     let second = blob_whole len _ _ c.in_ok-read_blob.field-0 c.in-Whole.notes c.in-Whole.is c.in_ok-read_blob.ensures.read in
     let same_text : text ≡ whole = subst (λ o. IfSome o (λ t. t ≡ whole)) c.in-Some-text.is is in
-    let (x, consumed, legal, same) = notes_read text c.in-Whole.notes len _ _ _ (subst (λ (l : List ℕ). length l ≤ most_text) (sym same_text) few) c.if-len-gt-MOST_NOTES.false first second in
+    let (x, consumed, legal, same) = notes_read c.args.version text c.in-Whole.notes len _ _ _ (subst (λ (l : List ℕ). length l ≤ most_text) (sym same_text) few) (rw c.most_notes-most.ensures at c.if-len-most.false) first second in
     (x, consumed, (legal, ap (λ (l : List ℕ). to_text l ++ x) (sym same_text) ∙ same), tt)
 
 pub returns-in-None-clause-read : goal.returns-in-None-clause-read
@@ -44,5 +44,5 @@ returns-in-None-clause-read g c whole few is =
     let len = c.in-Some.len in
     let first = got_some short_bytes 4 _ _ c.in_ok-len.field-0 len c.in-Some.is c.in_ok-len.ensures.read in
     let second = blob_whole len _ _ c.in_ok-read_blob.field-0 c.in-Whole.notes c.in-Whole.is c.in_ok-read_blob.ensures.read in
-    let (x, consumed, legal, same) = notes_read whole c.in-Whole.notes len _ _ _ few c.if-len-gt-MOST_NOTES.false first second in
+    let (x, consumed, legal, same) = notes_read c.args.version whole c.in-Whole.notes len _ _ _ few (rw c.most_notes-most.ensures at c.if-len-most.false) first second in
     (x, consumed, (whole, c.in-Whole.notes, legal, same), tt)

@@ -1,5 +1,5 @@
 use Rattle.std.proofs.Common.{refl}
-use Rattle.q_net.proofs.Replied.{none_sent, registers_replies, asks_nothing, stores_nothing}
+use Rattle.q_net.proofs.Replied.{none_sent, registers_replies, asks_nothing, store_replies, store_of_replies}
 use Rattle.q_net.proofs.served.reply.Goals as goal
 
 pub returns-in-Register : goal.returns-in-Register
@@ -10,5 +10,12 @@ returns-in-Register c =
 pub returns-in-Err : goal.returns-in-Err
 returns-in-Err c = none_sent _ _ c.reserve.ensures.items (asks_nothing c.args.book.now c.args.request.now c.in-Ask.program c.in-Ask.start c.in-Ask.is)
 
-pub returns-in-Err-reserve : goal.returns-in-Err-reserve
-returns-in-Err-reserve c = none_sent _ _ c.reserve-in-Store.ensures.items (stores_nothing c.args.book.now c.args.request.now c.in-Store.value c.in-Store.is)
+pub returns-in-Store : goal.returns-in-Store
+returns-in-Store c =
+    store_replies c.args.book.now c.reply_to_store.new.book c.args.request.now c.in-Store.value c.bytes.result.now c.args.sent.now.items c.reply_to_store.new.sent.items c.reply_to_store.result
+    c.in-Store.is c.bytes.ensures.exact c.reply_to_store.ensures
+
+pub returns-in-StoreOf : goal.returns-in-StoreOf
+returns-in-StoreOf c =
+    store_of_replies c.args.book.now c.reply_to_store-in-StoreOf.new.book c.args.request.now c.in-StoreOf.value c.as_slice-in-StoreOf.result.now c.args.sent.now.items c.reply_to_store-in-StoreOf.new.sent.items c.reply_to_store-in-StoreOf.result
+    c.in-StoreOf.is c.as_slice-in-StoreOf.ensures c.reply_to_store-in-StoreOf.ensures

@@ -1,5 +1,6 @@
-use Rattle.std.proofs.Common.{◌≡◌, ℕ, List, ◌∷◌, ◌++◌, length, get_or, drop, codes, refl, ap, ◌∙◌, inl, inr, lit<, arith}
+use Rattle.std.proofs.Common.{◌≡◌, ℕ, List, ◌∷◌, ◌++◌, length, get_or, drop, codes, Ok, refl, ap, sym, ◌∙◌, inl, inr, lit<, arith}
 use Rattle.std.specs.Fmt.{digits}
+use Rattle.hex.specs.Hex.{decode_of}
 use Rattle.hex.proofs.OnLiterals.{hex_on_literals}
 use Rattle.q_script.specs.declared.command.Command.{Command}
 use Rattle.q_script.specs.declared.command.Command.TheVariants as command
@@ -7,6 +8,7 @@ use Rattle.q_script.specs.declared.line.ScriptLine.TheVariants as line
 use Rattle.q_script.specs.Command.{name}
 use Rattle.q_script.specs.Line.{HasOperands, Spells}
 use Rattle.q_script.proofs.Learning.{zip_length}
+use Rattle.q_script.proofs.Values.{no_numeral}
 use Rattle.q_script.proofs.worked.worked.Goals as goal
 
 pub returns-clause-zero : goal.returns-clause-zero
@@ -50,6 +52,24 @@ pub returns-clause-node_first : goal.returns-clause-node_first
 returns-clause-node_first c = λ h. elim h [
   | inl alone ↦ alone
   | inr h ↦ no_command h.command h.rest h.parts h.operands
+]
+
+pub returns-clause-stored : goal.returns-clause-stored
+unfolding digits hex_on_literals
+returns-clause-stored c = λ value is.
+    inr (record { command = command.Store; rest = codes "1 x05fF"; parts = refl; operands = (codes "x05fF", (lit< tt, refl), inr (codes "05fF", refl, ap Ok (sym is))) })
+
+pub returns-clause-capital_x : goal.returns-clause-capital_x
+returns-clause-capital_x c = λ bytes h. elim h [
+  | inl number ↦ no_numeral (codes "X00") number.0 number.1 refl
+  | inr hex ↦ let first : 88 ≡ 120 = ap (λ xs. get_or xs 0 0) hex.1 in omega (arith, first)
+]
+
+pub returns-clause-odd_digits : goal.returns-clause-odd_digits
+unfolding hex_on_literals
+returns-clause-odd_digits c = λ bytes h. elim h [
+  | inl number ↦ no_numeral (codes "x123") number.0 number.1 refl
+  | inr hex ↦ let odd = ap decode_of (ap (drop 1) hex.1) ∙ hex.2 in absurd cc
 ]
 
 pub returns-clause-founded : goal.returns-clause-founded

@@ -1,7 +1,6 @@
 use Rattle.std.proofs.Common.{ℕ, ◌-◌, ◌^◌, List, min, subst}
 use Rattle.std.specs.Prelude.{OnOk}
 use Rattle.q_history.specs.declared.event.Event.TheVariants as event
-use Rattle.q_script.specs.Records.{value_bytes}
 use Rattle.q_sim.specs.Simulates.{Acts, Registers, Saves, Spreads, Tells}
 use Rattle.q_sim.specs.Seen.{Prints, PrintsOver}
 use Rattle.q_sim.proofs.Performing.{leaves_files, performed}
@@ -15,13 +14,14 @@ returns-in-Program g c =
 
 pub returns-in-Store : goal.returns-in-Store
 returns-in-Store g c =
-    performed g.F.Files.write_gives c.step.result c.args.self.now c.step.new.self c.args.files.now c.args.files.now c.args.line _ c.in-Store.is
-    (leaves_files c.step.result (Acts (event.Store c.in-Store.node (value_bytes c.in-Store.value))) c.args.self.now c.step.new.self c.args.files.now (subst (λ (v : List ℕ). OnOk c.step.result (Prints (Acts (event.Store c.in-Store.node v)) c.args.self.now c.step.new.self)) c.value_bytes-value.ensures c.step.ensures))
+    performed g.F.Files.write_gives c.store.result c.args.self.now c.store.new.self c.args.files.now c.args.files.now c.args.line _ c.in-Store.is
+    (leaves_files c.store.result (Acts (event.Store c.in-Store.node c.in-Store.value.items)) c.args.self.now c.store.new.self c.args.files.now
+    (subst (λ (v : List ℕ). OnOk c.store.result (Prints (Acts (event.Store c.in-Store.node v)) c.args.self.now c.store.new.self)) c.as_slice-in-Store.ensures.value c.store.ensures))
 
 pub returns-in-Ask : goal.returns-in-Ask
 returns-in-Ask g c =
-    performed g.F.Files.write_gives c.step-in-Ask.result c.args.self.now c.step-in-Ask.new.self c.args.files.now c.args.files.now c.args.line _ c.in-Ask.is
-    (leaves_files c.step-in-Ask.result (Acts (event.Ask c.in-Ask.node (min c.in-Ask.program (2 ^ 32 - 1)) c.in-Ask.start)) c.args.self.now c.step-in-Ask.new.self c.args.files.now (subst (λ (p : ℕ). OnOk c.step-in-Ask.result (Prints (Acts (event.Ask c.in-Ask.node p c.in-Ask.start)) c.args.self.now c.step-in-Ask.new.self)) c.program_id-program.ensures c.step-in-Ask.ensures))
+    performed g.F.Files.write_gives c.step.result c.args.self.now c.step.new.self c.args.files.now c.args.files.now c.args.line _ c.in-Ask.is
+    (leaves_files c.step.result (Acts (event.Ask c.in-Ask.node (min c.in-Ask.program (2 ^ 32 - 1)) c.in-Ask.start)) c.args.self.now c.step.new.self c.args.files.now (subst (λ (p : ℕ). OnOk c.step.result (Prints (Acts (event.Ask c.in-Ask.node p c.in-Ask.start)) c.args.self.now c.step.new.self)) c.program_id-program.ensures c.step.ensures))
 
 pub returns-in-Deliver : goal.returns-in-Deliver
 returns-in-Deliver g c =

@@ -1,0 +1,12 @@
+-- Inner words, of the private functions of `store` alone: stores of more bytes than a value has.
+use Rattle.std.specs.Prelude.{◌≡◌, ℕ, ◌<◌, List, length, Err}
+use Rattle.sc_view.specs.Values.{most_bytes}
+use Rattle.q_session.specs.declared.ran.Ran.{Ran}
+use Rattle.q_history.specs.Clusters.{stepped}
+use Rattle.q_history.specs.State.{ClusterState}
+use Rattle.q_history.specs.declared.event.Event.TheVariants as event
+use Rattle.q_history.specs.declared.fault.ClusterFault.{ClusterFault}
+
+-- the cluster refuses each of them so at this node
+abbrev pub RefusesLonger : ClusterState → ℕ → ClusterFault → Type 0
+RefusesLonger c node f = (value : List ℕ) (ran : Ran) → most_bytes < length value → stepped ran c (event.Store node value) ≡ Err f
