@@ -10,10 +10,12 @@
 //!
 //! Both fold it so many times, in turn, and the least time of each is told, for each instruction that was executed.
 
+ghost use Rattle.std.specs.Prelude.{◌≡◌, IfOk};
+ghost use Rattle.bq_state.specs.Kinds.{view_lengths};
 ghost use Rattle.q_session.specs.Records.{HasRecordsWithin};
 
 use crate::{asm, check, values};
-use anyhow::{Context, Result, anyhow, bail};
+use anyhow::{Context, Result, bail};
 use bq_asm::assemble::assemble;
 use bq_check::certified::Certified;
 use bq_check::check::check_within;
@@ -126,8 +128,10 @@ fn source_of(alloc: Global, name: &str) -> Result<String> {
     Ok(source)
 }
 
-/// The certificate of a source, for the records of views.
-fn certified(alloc: Global, source: &str) -> Result<Certified> {
+/// The certificate of a source, for records of 64 bytes.
+fn certified(alloc: Global, source: &str) -> Result<Certified>
+    ensures { IfOk result (λ certified. certified.lengths ≡ view_lengths) }
+{
     let text = assemble(alloc, source).map_err(asm::refused)?;
     let views = Bounds::of_views();
     let notes = verify_within(alloc, &text, views).map_err(check::refused)?;
@@ -135,10 +139,12 @@ fn certified(alloc: Global, source: &str) -> Result<Certified> {
 }
 
 /// The program of this name.
-fn program(alloc: Global, name: &str) -> Result<Program> {
+fn program(alloc: Global, name: &str) -> Result<Program>
+    ensures { IfOk result (λ program. program.lengths ≡ view_lengths) }
+{
     let source = source_of(alloc, name)?;
     let certified = certified(alloc, source.as_str())?;
-    Program::new(alloc, certified).map_err(|fault| anyhow!("refused {}", fault.reason()))
+    Ok(Program::new(alloc, certified)?)
 }
 
 /// Puts 256 values, of which each begins with a number below 2^31.
@@ -242,10 +248,11 @@ fn run_over(
     program: &Program,
     view: &View,
     runs: u64,
-) -> Result<()> {
+) -> Result<()>
+    requires { program.now.lengths ≡ view_lengths }
+{
     records_of_values();
-    let _certified = program.certified();
-    if !view.has_values_of(VALUE_LENGTH) {
+    if !view.has_values_within(VALUE_LENGTH, VALUE_LENGTH) {
         bail!("a value has another length");
     }
     let mut block = Block::new(rt.alloc())?;

@@ -1,6 +1,9 @@
 //! Jobs to be run, and how long they took.
 
-use anyhow::{Context, Result, anyhow, bail};
+ghost use Rattle.std.specs.Prelude.{◌≡◌};
+ghost use Rattle.q_sim.specs.Programs.{program_lengths};
+
+use anyhow::{Context, Result, anyhow};
 use q_session::job::Job;
 use q_session::laws::records_of_values;
 use q_session::query::{Phase, Query};
@@ -43,13 +46,12 @@ fn view(alloc: Global) -> Result<View> {
 }
 
 /// A job of a program over a view of one record.
-fn job_of(alloc: Global, program: &Program) -> Result<Job> {
+fn job_of(alloc: Global, program: &Program) -> Result<Job>
+    requires { program.now.lengths ≡ program_lengths }
+{
     let view = view(alloc)?;
     records_of_values();
-    let _length = program.certified();
-    if !view.has_values_of(VALUE_LENGTH) {
-        bail!("a value has another length");
-    }
+    view.values_are_short();
     let query = Query {
         tag: 0,
         program: ProgramId::new(0),

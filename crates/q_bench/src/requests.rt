@@ -17,18 +17,20 @@ const TEXT: [u8; 29] = [
 ];
 
 /// Notes of it, behind their length: of its three units, the last two like the first but for a number in r0.
-const NOTES_LENGTH: [u8; 8] = [216, 0, 0, 0, 3, 0, 0, 0];
+const NOTES_LENGTH: [u8; 8] = [174, 0, 0, 0, 3, 0, 0, 0];
 
 /// What is known of r1 to r10 at each unit: the record, its length, any number, nothing, and the frame's end.
-const KNOWN: [u8; 58] = [
-    3, 0, 0, 0, 0, 0, 0, 0, 0, 1, 64, 0, 0, 0, 0, 0, 0, 0, 64, 0, 0, 0, 0, 0, 0, 0, 1, 0, 0, 0, 0,
-    0, 0, 0, 0, 255, 255, 255, 255, 255, 255, 255, 255, 0, 0, 0, 0, 0, 0, 2, 0, 2, 0, 0, 0, 2, 0,
-    0,
+const KNOWN: [u8; 42] = [
+    3, 0, 0, 0, 0, 0, 0, 0, 0, 4, 1, 0, 0, 0, 0, 0, 0, 0, 0, 255, 255, 255, 255, 255, 255, 255,
+    255, 0, 0, 0, 0, 0, 0, 2, 0, 2, 0, 0, 0, 2, 0, 0,
 ];
 
-/// Any number in r0, behind the byte of a state.
-const NUMBER: [u8; 18] = [
-    1, 1, 0, 0, 0, 0, 0, 0, 0, 0, 255, 255, 255, 255, 255, 255, 255, 255,
+/// The byte of a state, and the lengths of records that it is for.
+const STATE: [u8; 3] = [1, 16, 128];
+
+/// Any number in r0.
+const NUMBER: [u8; 17] = [
+    1, 0, 0, 0, 0, 0, 0, 0, 0, 255, 255, 255, 255, 255, 255, 255, 255,
 ];
 
 /// A request for the answer of query 0.
@@ -38,9 +40,11 @@ const ANSWER: [u8; 9] = [4, 0, 0, 0, 0, 0, 0, 0, 0];
 fn registration(alloc: Global) -> Result<Vec<u8>> {
     let mut request = Vec::from_slice(alloc, &TEXT)?;
     request.extend_from_slice(&NOTES_LENGTH)?;
-    request.extend_from_slice(&[1, 0])?;
+    request.extend_from_slice(&STATE)?;
+    request.push(0)?;
     request.extend_from_slice(&KNOWN)?;
     for _ in 0..2 {
+        request.extend_from_slice(&STATE)?;
         request.extend_from_slice(&NUMBER)?;
         request.extend_from_slice(&KNOWN)?;
     }

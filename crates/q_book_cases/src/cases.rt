@@ -12,6 +12,7 @@ use crate::step::Outcome;
 use q_board::board::Board;
 use q_board::seats::{AskerSeat, RunnerSeat};
 use q_script::number::number;
+use sc_msg::version::Version;
 use std::alloc::Global;
 use std::io;
 use std::io::{ErrorKind, Write};
@@ -96,6 +97,10 @@ impl Cases<'_> {
                 self.founder = Founder::new(self.alloc);
                 self.input.clear();
                 writeln!(out, "{text}")
+            }
+            "old" => {
+                self.founder = Founder::of(self.alloc, Version::First);
+                Ok(())
             }
             "+" => self.add(1, rest),
             "*" => {

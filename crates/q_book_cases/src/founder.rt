@@ -12,6 +12,7 @@ use q_table::program::ProgramId;
 use q_wire::counted::Counted;
 use sc_members::config::Config;
 use sc_msg::message::Message;
+use sc_msg::version::Version;
 use std::alloc::Global;
 use std::sync::Wait;
 
@@ -40,11 +41,11 @@ pub struct Served {
     pub messages: usize,
 }
 
-/// A founder that is alone, before any call.
-fn founded(alloc: Global) -> Option<Box<Founder>> {
+/// A founder of this version that is alone, before any call.
+fn founded(alloc: Global, version: Version) -> Option<Box<Founder>> {
     let config = Config::new(4, 5, 4, 5).ok()?;
     let block = Block::new(alloc).ok()?;
-    let book = Book::founder(alloc, config, 1, &[1]).ok()?;
+    let book = Book::founder_as(alloc, version, config, 1, &[1]).ok()?;
     let sent = Vec::new(alloc);
     let founder = Founder {
         alloc,
@@ -86,9 +87,14 @@ impl Served {
 impl Founder {
     /// A founder that is alone, before any call; none where there is no memory. Tried twice, as memory may be refused.
     pub fn new(alloc: Global) -> Option<Box<Founder>> {
-        match founded(alloc) {
+        Founder::of(alloc, Version::Second)
+    }
+
+    /// The same of this version.
+    pub fn of(alloc: Global, version: Version) -> Option<Box<Founder>> {
+        match founded(alloc, version) {
             Some(founder) => Some(founder),
-            None => founded(alloc),
+            None => founded(alloc, version),
         }
     }
 

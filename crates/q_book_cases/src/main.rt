@@ -4,6 +4,7 @@
 //! | Line | What it does |
 //! |---|---|
 //! | `-- TEXT` | is printed as it stands, and begins with a fresh book |
+//! | `old` | begins with a fresh book of version 1 |
 //! | `+ HEX` | adds these bytes to the input |
 //! | `* COUNT HEX` | adds them so many times |
 //! | `! read COUNT`, `! write COUNT` | makes a call of the next `serve` fail once so many bytes of the input were read, or of the replies written |

@@ -4,11 +4,11 @@ use q_wire::fault::TransportFault;
 use q_wire::transport::{Transport, put_at_start};
 use std::alloc::{AllocError, Global};
 
-/// Bytes that are no message.
-static NO_MESSAGE: [u8; 3] = [0x42, 0x51, 0x02];
+/// The message by which node 99 leaves, in version 1: bytes that are no message to a node of version 2.
+static NO_MESSAGE: [u8; 12] = [0x42, 0x51, 0x01, 5, 99, 0, 0, 0, 0, 0, 0, 0];
 
-/// The message by which node 99 leaves.
-static LEAVE: [u8; 12] = [0x42, 0x51, 0x01, 5, 99, 0, 0, 0, 0, 0, 0, 0];
+/// The same in version 2.
+static LEAVE: [u8; 12] = [0x42, 0x51, 0x02, 5, 99, 0, 0, 0, 0, 0, 0, 0];
 
 /// Gives these datagrams, the last one first, and then those of another transport.
 #[derive(Drop)]
@@ -19,7 +19,7 @@ pub struct Forged<T> {
 
 /// A message that no book takes: an answer to node 1, as it entered, of more ids than a book can keep beside its own.
 fn too_many_ids(alloc: Global) -> Result<Vec<u8>, AllocError> {
-    let mut bytes = Vec::from_slice(alloc, &[0x42, 0x51, 0x01, 2])?;
+    let mut bytes = Vec::from_slice(alloc, &[0x42, 0x51, 0x02, 2])?;
     bytes.extend_from_slice(&[1, 0, 0, 0, 0, 0, 0, 0])?;
     bytes.extend_from_slice(&[1, 0, 0, 0, 0, 0, 0, 0])?;
     bytes.extend_from_slice(&[0, 0, 4])?;

@@ -13,7 +13,7 @@ use q_table::program::{Program, ProgramId};
 use sc_members::config::Config;
 use sc_msg::message::Message;
 use sc_node::answer::Begun;
-use sc_view::value::{VALUE_LENGTH, Value};
+use sc_view::value::VALUE_LENGTH;
 use std::alloc::Global;
 use std::io;
 
@@ -74,7 +74,7 @@ impl Founder {
     /// Begins a store: its tag. What it sends waits.
     fn store(&mut self) -> Result<u64, BookFault> {
         self.waiting.reserve(2)?;
-        let Begun { tag, outs, .. } = self.book.store(&Value::from(&[5; VALUE_LENGTH]))?;
+        let Begun { tag, outs, .. } = self.book.store(&[5; VALUE_LENGTH])?;
         outs.append_to(&mut self.waiting);
         Ok(tag)
     }

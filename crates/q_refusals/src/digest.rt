@@ -66,7 +66,7 @@ fn messages(alloc: Global, cluster: &Cluster) -> Result<u64, AllocError> {
     let mut hasher = DefaultHasher::new();
     for number in 0..cluster.sent() {
         if let Some(message) = cluster.message(number) {
-            hasher.write(encode_fitting(alloc, message)?.as_slice());
+            hasher.write(encode_fitting(alloc, cluster.version(), message)?.as_slice());
         }
     }
     Ok(hasher.finish())

@@ -11,21 +11,26 @@ use std::sync::Wait;
 /// Registers `mov64 r0, r3 / add64 r0, 1 / exit`, with the notes of its three units; asks for query 9.
 const REGISTER: &str = "\
     0118000000bf3000000000000007000000010000009500000000000000\
-    d8000000030000000100\
-    0300000000000000000140000000000000004000000000000000010000\
-    000000000000ffffffffffffffff000000000000020002000000020000\
-    01010000000000000000ffffffffffffffff\
-    0300000000000000000140000000000000004000000000000000010000\
-    000000000000ffffffffffffffff000000000000020002000000020000\
-    01010000000000000000ffffffffffffffff\
-    0300000000000000000140000000000000004000000000000000010000\
-    000000000000ffffffffffffffff000000000000020002000000020000\
+    ae0000000300000001108000\
+    030000000000000000040100000000000000\
+    00ffffffffffffffff000000000000020002000000020000\
+    011080010000000000000000ffffffffffffffff\
+    030000000000000000040100000000000000\
+    00ffffffffffffffff000000000000020002000000020000\
+    011080010000000000000000ffffffffffffffff\
+    030000000000000000040100000000000000\
+    00ffffffffffffffff000000000000020002000000020000\
     040900000000000000";
 
 /// Stores a value of which the first byte is 5; asks for query 9.
 const STORE: &str = "\
     03050000000000000000000000000000000000000000000000\
     000000000000000000000000000000000000000000000000\
+    040900000000000000";
+
+/// Stores a value of one byte, whose length is told; asks for query 9.
+const SHORT: &str = "\
+    050105\
     040900000000000000";
 
 /// Asks program 0 from 7; asks for query 9.
@@ -119,7 +124,7 @@ fn request<W: Wait>(
     }
 }
 
-/// Registers a program, stores a value, asks and is answered.
+/// Registers a program, stores a value, asks and is answered, and stores another.
 fn request_all<W: Wait>(rt: &HostRuntime, wait: &W, founder: &mut Founder) -> io::Result<()> {
     request(rt, wait, founder, "register", REGISTER)?;
     request(rt, wait, founder, "store", STORE)?;
@@ -128,7 +133,8 @@ fn request_all<W: Wait>(rt: &HostRuntime, wait: &W, founder: &mut Founder) -> io
     request(rt, wait, founder, "answer", ANSWER)?;
     settle(rt, founder)?;
     run_job(rt, founder)?;
-    request(rt, wait, founder, "answer", ANSWER)
+    request(rt, wait, founder, "answer", ANSWER)?;
+    request(rt, wait, founder, "short store", SHORT)
 }
 
 /// Serves requests to a founder.

@@ -8,13 +8,13 @@ use q_history::event::{Event, Stepped, Told};
 use q_history::fault::ClusterFault;
 use q_script::founding::Founding;
 use q_script::line::ScriptLine;
-use q_script::records::value_bytes;
 use q_script::script::Script;
 use q_sim::printing::{print_pairs, print_told};
 use q_sim::program::certified_code;
 use q_sim::refusal::Refusal;
 use q_table::program::ProgramId;
 use sc_members::config::Config;
+use sc_view::value::Value;
 use sc_world::op::Op;
 use std::alloc::{AllocError, Global};
 use std::io;
@@ -58,7 +58,7 @@ fn event(rt: &HostRuntime, line: &ScriptLine) -> Option<Event> {
         ScriptLine::Program { node, code } => registration(rt, *node, code.as_slice()),
         ScriptLine::Store { node, value } => Some(Event::Store {
             node: *node,
-            value: value_bytes(*value),
+            value: Value::new(value.as_slice()).ok()?,
         }),
         ScriptLine::Ask { node, start, .. } => Some(Event::Ask {
             node: *node,

@@ -1,8 +1,9 @@
 //! Programs from bytes.
 
-ghost use Rattle.std.specs.Prelude.{IfSome};
+ghost use Rattle.std.specs.Prelude.{◌≡◌, IfSome};
 ghost use Rattle.bq_meaning.specs.Place.{record_length};
 ghost use Rattle.bq_range.specs.Interval.{IsIn};
+ghost use Rattle.bq_state.specs.Kinds.{view_lengths};
 
 use bq_asm::assemble::assemble;
 use bq_check::certified::Certified;
@@ -22,7 +23,8 @@ pub fn assembled(alloc: Global, source: &[u8]) -> Option<Text> {
 
 /// The certificate of a program for records of 64 bytes.
 pub fn certified(alloc: Global, program: &[u8]) -> Option<Certified>
-    ensures { IfSome result (λ certified. IsIn record_length certified.lengths) }
+    ensures lengths { IfSome result (λ certified. certified.lengths ≡ view_lengths) }
+    ensures among { IfSome result (λ certified. IsIn record_length certified.lengths) }
 {
     let text = decode(alloc, program).ok()?;
     let notes = verify_within(alloc, &text, Bounds::of_views()).ok()?;

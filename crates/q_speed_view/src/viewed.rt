@@ -1,8 +1,8 @@
 //! Folds over a view, as a query is answered.
 
 ghost use Rattle.std.specs.Prelude.{◌≤◌, IfSome};
-ghost use Rattle.sc_view.specs.Values.{value_length};
-ghost use Rattle.sc_view.specs.Views.{HasValuesOf};
+ghost use Rattle.bq_state.specs.Kinds.{view_lengths};
+ghost use Rattle.q_session.specs.Records.{HasRecordsWithin};
 
 use bq_frame::block::Block;
 use bq_meaning::placement::RECORD_LENGTH;
@@ -26,8 +26,9 @@ fn number(bytes: &[u8; RECORD_LENGTH], at: usize) -> u64
 
 /// A view with the entries that these records spell.
 fn view_of(alloc: Global, records: &[u8]) -> Option<View>
-    ensures { IfSome result (HasValuesOf value_length) }
+    ensures { IfSome result (HasRecordsWithin view_lengths) }
 {
+    records_of_values();
     let mut view = View::new(alloc);
     let (records, _) = records.as_chunks::<RECORD_LENGTH>();
     for record in records {
@@ -35,7 +36,7 @@ fn view_of(alloc: Global, records: &[u8]) -> Option<View>
         let stored = Stored::new(number(record, 8), value)?;
         view.put(number(record, 0), stored).ok()?;
     }
-    if !view.has_values_of(VALUE_LENGTH) {
+    if !view.has_values_within(VALUE_LENGTH, VALUE_LENGTH) {
         return None;
     }
     Some(view)
@@ -45,7 +46,6 @@ fn view_of(alloc: Global, records: &[u8]) -> Option<View>
 pub(crate) fn folded(alloc: Global, program: &[u8], records: &[u8], way: &Way) -> Option<Folded> {
     let certified = certified(alloc, program)?;
     let view = view_of(alloc, records)?;
-    records_of_values();
     let mut block = Block::new(alloc).ok()?;
     let mut folded = Folded::from_start(way.start);
     for _ in 0..way.folds {

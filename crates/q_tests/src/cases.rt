@@ -1,7 +1,10 @@
 //! The cases, and what comes of them.
 
 use crate::events::{Ending, run};
-use crate::journals::{answer, gathered, journal, misjudged_beginnings, misjudged_changes};
+use crate::journals::{
+    FurtherStore, GatheredCluster, answer, further, gathered, journal, misjudged_beginnings,
+    misjudged_changes,
+};
 use crate::program::refusal;
 use crate::writer::listed;
 use bq_state::bounds::Bounds;
@@ -11,6 +14,7 @@ use q_script::number::number;
 use q_script::script::Script;
 use q_session::ran::Ran;
 use q_sim::simulation::simulate;
+use sc_msg::version::Version;
 use std::alloc::{AllocError, Global};
 use std::io;
 use std::io::Write;
@@ -29,6 +33,15 @@ fn leading(words: &str) -> (u64, &str) {
     (number(first).unwrap_or(0), rest)
 }
 
+/// The version of this number; the second, where it is another than 1.
+fn version(number: u64) -> Version {
+    if number == 1 {
+        Version::First
+    } else {
+        Version::Second
+    }
+}
+
 /// Prints an answer.
 fn tell<W: Write>(out: &mut W, answer: Option<Ran>) -> io::Result<()> {
     match answer {
@@ -37,16 +50,37 @@ fn tell<W: Write>(out: &mut W, answer: Option<Ran>) -> io::Result<()> {
     }
 }
 
-/// Prints the answer of a gathered cluster, or the refusal.
+/// Prints the answer of a gathered cluster and its versions.
+fn tell_cluster<W: Write>(out: &mut W, gathered: GatheredCluster) -> io::Result<()> {
+    let (version, entered) = (gathered.version, gathered.entered);
+    write!(out, "version {version}, of a node that enters {entered}: ")?;
+    tell(out, gathered.answer)
+}
+
+/// The same, or the refusal.
 fn tell_gathered<W: Write>(
     out: &mut W,
-    gathered: Option<Result<Option<Ran>, u8>>,
+    gathered: Option<Result<GatheredCluster, u8>>,
 ) -> io::Result<()> {
     match gathered {
-        Some(Ok(answer)) => tell(out, answer),
+        Some(Ok(gathered)) => tell_cluster(out, gathered),
         Some(Err(reason)) => writeln!(out, "refused {reason}"),
         None => writeln!(out, "no journals"),
     }
+}
+
+/// Prints what a store came to in a book that was replayed.
+fn tell_further<W: Write>(out: &mut W, further: Option<FurtherStore>) -> io::Result<()> {
+    let Some(further) = further else {
+        return writeln!(out, "not replayed");
+    };
+    match further.refusal {
+        0 => write!(out, "taken")?,
+        refusal => write!(out, "refused {refusal}")?,
+    }
+    let replayed = if further.is_journal { "" } else { "not " };
+    let version = further.version;
+    writeln!(out, ", a journal of version {version}, {replayed}replayed")
 }
 
 /// Prints what a script printed, and how many of its lines it told that are done.
@@ -97,20 +131,21 @@ impl Cases {
         let (word, rest) = words.split_once(' ').unwrap_or((words, ""));
         let (first, behind) = leading(rest);
         match word {
-            "run" => self.run(out),
+            "run" => self.run(version(first), out),
             "sim" => self.simulate(out),
             "room" => {
                 let (end, status) = listed(self.alloc, first as usize, behind);
                 writeln!(out, "{end} status {status}")
             }
-            "lengths" => self.certify(first, number(behind).unwrap_or(0), out),
+            "lengths" => self.certify(version(first), false, behind, out),
+            "gone" => self.certify(version(first), true, behind, out),
             _ => self.call_on_cluster(word, first, behind, out),
         }
     }
 
-    /// Runs the script as a list of events.
-    fn run<W: Write>(&mut self, out: &mut W) -> io::Result<()> {
-        match run(self.alloc, self.script.as_str(), &mut self.cluster) {
+    /// Runs the script as a list of events, at nodes of this version.
+    fn run<W: Write>(&mut self, version: Version, out: &mut W) -> io::Result<()> {
+        match run(self.alloc, version, self.script.as_str(), &mut self.cluster) {
             Ending::All => writeln!(out, "all ran"),
             Ending::Refused(place, reason) => writeln!(out, "refused {reason} at {place}"),
             Ending::Nothing => writeln!(out, "no cluster"),
@@ -145,7 +180,7 @@ impl Cases {
         }
     }
 
-    /// Replays what is not the journal.
+    /// Replays the journal and stores in its book, or replays what is not the journal.
     fn spoil<W: Write>(
         &self,
         word: &str,
@@ -156,6 +191,9 @@ impl Cases {
         if word == "cut" {
             let misjudged = misjudged_beginnings(self.alloc, journal);
             return writeln!(out, "{} replayed, other {misjudged}", journal.len());
+        }
+        if word == "store" {
+            return tell_further(out, further(self.alloc, journal, count as usize));
         }
         match misjudged_changes(self.alloc, journal, count) {
             Some(misjudged) => writeln!(out, "{count} replayed, other {misjudged}"),
@@ -182,12 +220,20 @@ impl Cases {
         }
     }
 
-    /// Tells whether a program for records of these lengths is taken.
-    fn certify<W: Write>(&self, least: u64, most: u64, out: &mut W) -> io::Result<()> {
+    /// Tells whether a founder of this version, which has left where that is said, takes a program for records of these
+    /// lengths.
+    fn certify<W: Write>(
+        &self,
+        version: Version,
+        is_gone: bool,
+        lengths: &str,
+        out: &mut W,
+    ) -> io::Result<()> {
+        let (least, most) = leading(lengths);
         let least = u8::try_from(least).unwrap_or(0);
-        let most = u8::try_from(most).unwrap_or(0);
+        let most = u8::try_from(number(most).unwrap_or(0)).unwrap_or(0);
         match Bounds::new(least, most) {
-            Some(lengths) => match refusal(self.alloc, lengths) {
+            Some(lengths) => match refusal(self.alloc, version, is_gone, lengths) {
                 Some(0) => writeln!(out, "taken"),
                 Some(reason) => writeln!(out, "refused {reason}"),
                 None => writeln!(out, "no certificate"),

@@ -1,26 +1,27 @@
 //! Scripts as lists of events.
 
+use crate::program::program as certified;
 use q_cluster::cluster::Cluster;
 use q_history::event::Event;
 use q_script::founding::Founding;
 use q_script::line::ScriptLine;
-use q_script::records::value_bytes;
 use q_script::script::Script;
-use q_sim::program::certified_code;
 use q_table::program::ProgramId;
 use sc_members::config::Config;
+use sc_msg::version::Version;
+use sc_view::value::Value;
 use std::alloc::Global;
 
-/// The event of a line; none where it is a line of no event.
-fn event(alloc: Global, line: &ScriptLine) -> Option<Event> {
+/// The event of a line, at nodes of this version; none where it is a line of no event.
+fn event(alloc: Global, version: Version, line: &ScriptLine) -> Option<Event> {
     match line {
         ScriptLine::Program { node, code } => Some(Event::Register {
             node: *node,
-            program: certified_code(alloc, code.as_slice()).ok()?,
+            program: certified(alloc, version, code.as_slice())?,
         }),
         ScriptLine::Store { node, value } => Some(Event::Store {
             node: *node,
-            value: value_bytes(*value),
+            value: Value::new(value.as_slice()).ok()?,
         }),
         ScriptLine::Ask {
             node,
@@ -41,19 +42,19 @@ fn event(alloc: Global, line: &ScriptLine) -> Option<Event> {
     }
 }
 
-/// The events of a script; none where one of its lines is of no event.
-fn events(alloc: Global, script: &Script) -> Option<Vec<Event>> {
+/// The events of a script, at nodes of this version; none where one of its lines is of no event.
+fn events(alloc: Global, version: Version, script: &Script) -> Option<Vec<Event>> {
     let mut events = Vec::new(alloc);
     for line in script.lines.iter() {
-        if events.push(event(alloc, line)?).is_err() {
+        if events.push(event(alloc, version, line)?).is_err() {
             return None;
         }
     }
     Some(events)
 }
 
-/// The cluster of the founders.
-fn founded(alloc: Global, founding: &Founding) -> Option<Cluster> {
+/// The cluster of the founders, of this version.
+fn founded(alloc: Global, version: Version, founding: &Founding) -> Option<Cluster> {
     let (beta, gamma) = (founding.beta, founding.gamma);
     let config = Config::new(
         beta.numerator,
@@ -63,7 +64,7 @@ fn founded(alloc: Global, founding: &Founding) -> Option<Cluster> {
     );
     let config = config.ok()?;
     let ids: Vec<u64> = (1..=founding.count).collect(alloc).ok()?;
-    Cluster::new(alloc, config, ids.as_slice()).ok()
+    Cluster::new_as(alloc, version, config, ids.as_slice()).ok()
 }
 
 /// How the run of a list of events ends.
@@ -76,13 +77,13 @@ pub enum Ending {
     Nothing,
 }
 
-/// Runs the script's events over a cluster of its founders, which is put into `made`.
-pub fn run(alloc: Global, text: &str, made: &mut Option<Cluster>) -> Ending {
+/// Runs the script's events over a cluster of its founders, of this version, which is put into `made`.
+pub fn run(alloc: Global, version: Version, text: &str, made: &mut Option<Cluster>) -> Ending {
     let Ok(script) = Script::read(alloc, text) else {
         return Ending::Nothing;
     };
-    *made = founded(alloc, &script.founding);
-    match (made, events(alloc, &script)) {
+    *made = founded(alloc, version, &script.founding);
+    match (made, events(alloc, version, &script)) {
         (Some(cluster), Some(events)) => match cluster.run(events.as_slice()) {
             Ok(()) => Ending::All,
             Err((place, fault)) => Ending::Refused(place, fault.reason().number()),

@@ -1,7 +1,9 @@
 //! Journals that are gathered, cut and changed.
 
+use q_book::book::Book;
 use q_cluster::cluster::Cluster;
 use q_gather::gather::gather;
+use q_history::event::Event;
 use q_replay::fault::ReplayFault;
 use q_replay::replay::replay;
 use q_replay::write::journal_bytes;
@@ -12,6 +14,26 @@ use std::alloc::Global;
 /// The length of the head of a journal with three founders.
 const HEAD: usize = 47;
 
+/// The place of the version in a head.
+const VERSION: usize = 3;
+
+/// A node that was not there.
+const NEW: u64 = 99;
+
+/// The bytes of values that are stored.
+static ZEROS: [u8; 256] = [0; 256];
+
+/// What a cluster that was gathered tells.
+#[derive(Clone, Copy)]
+pub struct GatheredCluster {
+    /// The recorded answer of the query that is asked for.
+    pub answer: Option<Ran>,
+    /// The version of its books, by the byte that names it.
+    pub version: u8,
+    /// The version of the book of a node that enters then; 0 where none does.
+    pub entered: u8,
+}
+
 /// The bytes of a node's journal.
 pub fn journal(alloc: Global, cluster: &Cluster, node: u64) -> Option<Vec<u8>> {
     match cluster.book(node) {
@@ -20,14 +42,30 @@ pub fn journal(alloc: Global, cluster: &Cluster, node: u64) -> Option<Vec<u8>> {
     }
 }
 
-/// The bytes of the journal that a word names; of its head alone where `-` stands behind the node.
+/// The head of a node's journal.
+fn head(alloc: Global, cluster: &Cluster, node: &str) -> Option<Vec<u8>> {
+    let mut bytes = journal(alloc, cluster, number(node)?)?;
+    bytes.truncate(HEAD);
+    Some(bytes)
+}
+
+/// The same of the other version.
+fn other_head(alloc: Global, cluster: &Cluster, node: &str) -> Option<Vec<u8>> {
+    let mut bytes = head(alloc, cluster, node)?;
+    if let Some(version) = bytes.get_mut(VERSION) {
+        *version ^= 3;
+    }
+    Some(bytes)
+}
+
+/// The bytes of the journal that a word names; of its head alone where `-` stands behind the node, and of that head in the
+/// other version where `~` does.
 fn named(alloc: Global, cluster: &Cluster, word: &str) -> Option<Vec<u8>> {
-    match word.strip_suffix("-") {
-        Some(node) => {
-            let mut bytes = journal(alloc, cluster, number(node)?)?;
-            bytes.truncate(HEAD);
-            Some(bytes)
-        }
+    if let Some(node) = word.strip_suffix("-") {
+        return head(alloc, cluster, node);
+    }
+    match word.strip_suffix("~") {
+        Some(node) => other_head(alloc, cluster, node),
         None => journal(alloc, cluster, number(word)?),
     }
 }
@@ -49,41 +87,69 @@ fn all_named(alloc: Global, cluster: &Cluster, words: &str) -> Option<Vec<Vec<u8
     Some(journals)
 }
 
-/// The answer of a node's query in the cluster of these journals, or the number of the refusal.
-fn gathered_answer(
+/// The version of the book of a node that enters, by the byte that names it; 0 where it does not.
+fn entered(cluster: &mut Cluster, id: u64) -> u8 {
+    if cluster.step(&Event::Enter(id)).is_err() {
+        return 0;
+    }
+    match cluster.book(id) {
+        Some(book) => book.version().byte(),
+        None => 0,
+    }
+}
+
+/// What is told of a gathered cluster and a node's query.
+fn told(cluster: &mut Cluster, node: u64, query: usize) -> GatheredCluster {
+    GatheredCluster {
+        answer: answer(cluster, node, query),
+        version: cluster.version().byte(),
+        entered: entered(cluster, NEW),
+    }
+}
+
+/// The same of the cluster of these journals, or the number of the refusal.
+fn gathered_all(
     alloc: Global,
     journals: &[&[u8]],
     node: u64,
     query: usize,
-) -> Result<Option<Ran>, u8> {
+) -> Result<GatheredCluster, u8> {
     match gather(alloc, journals) {
-        Ok(cluster) => Ok(answer(&cluster, node, query)),
+        Ok(mut cluster) => Ok(told(&mut cluster, node, query)),
         Err(fault) => Err(fault.reason().number()),
     }
 }
 
-/// Gathers the journals of the nodes that the words name: the answer of a node's query, or the number of the refusal;
-/// none where there are no such journals.
+/// Gathers the journals of the nodes that the words name: what the cluster tells of a node's query, or the number of the
+/// refusal; none where there are no such journals.
 pub fn gathered(
     alloc: Global,
     cluster: &Cluster,
     words: &str,
     node: u64,
     query: usize,
-) -> Option<Result<Option<Ran>, u8>> {
+) -> Option<Result<GatheredCluster, u8>> {
     let journals = all_named(alloc, cluster, words)?;
     let bytes: Vec<&[u8]> = journals
         .iter()
         .map(|bytes| bytes.as_slice())
         .collect(alloc)
         .ok()?;
-    Some(gathered_answer(alloc, bytes.as_slice(), node, query))
+    Some(gathered_all(alloc, bytes.as_slice(), node, query))
 }
 
 /// The journal of the book to which these bytes are replayed.
 fn rewritten(alloc: Global, bytes: &[u8]) -> Result<Vec<u8>, ReplayFault> {
     let book = replay(alloc, bytes)?;
     journal_bytes(alloc, &book).map_err(ReplayFault::from)
+}
+
+/// Whether these bytes are the journal of the book to which they are replayed.
+fn is_replayed(alloc: Global, bytes: &[u8]) -> bool {
+    match rewritten(alloc, bytes) {
+        Ok(journal) => journal.as_slice() == bytes,
+        Err(_) => false,
+    }
 }
 
 /// Whether these bytes are refused, or are the journal of the book to which they are replayed.
@@ -93,6 +159,42 @@ fn is_judged_right(alloc: Global, bytes: &[u8]) -> bool {
         Err(ReplayFault::Form { .. } | ReplayFault::Mismatch { .. }) => true,
         Err(ReplayFault::OutOfMemory) => false,
     }
+}
+
+/// What a book that a journal was replayed to makes of a store, and writes then.
+#[derive(Clone, Copy)]
+pub struct FurtherStore {
+    /// The number with which the store is refused, 0 where it is taken.
+    pub refusal: u8,
+    /// The version of the journal that the book writes then, by the byte that names it.
+    pub version: u8,
+    /// Whether that journal leads to a book whose journal it is.
+    pub is_journal: bool,
+}
+
+/// The number with which a book refuses to store so many bytes, 0 where it takes them.
+fn stored(book: &mut Book, len: usize) -> u8 {
+    match book.store(&ZEROS[..len.min(ZEROS.len())]) {
+        Ok(_) => 0,
+        Err(fault) => fault.reason().number(),
+    }
+}
+
+/// What is told of the journal that a book writes, behind a store that was refused with that number.
+fn written(alloc: Global, book: &Book, refusal: u8) -> Option<FurtherStore> {
+    let journal = journal_bytes(alloc, book).ok()?;
+    Some(FurtherStore {
+        refusal,
+        version: *journal.get(VERSION)?,
+        is_journal: is_replayed(alloc, journal.as_slice()),
+    })
+}
+
+/// Replays a journal, and stores so many bytes in its book; none where it is not replayed.
+pub fn further(alloc: Global, journal: &[u8], len: usize) -> Option<FurtherStore> {
+    let mut book = replay(alloc, journal).ok()?;
+    let refusal = stored(&mut book, len);
+    written(alloc, &book, refusal)
 }
 
 /// How many proper beginnings of a journal are not judged right.
