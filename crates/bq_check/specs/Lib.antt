@@ -2,4 +2,6 @@
 pub mod Faults
 pub mod Reasons
 pub mod Certificate
+pub mod Certified
+pub mod Codes
 pub mod Spelling

@@ -7,6 +7,7 @@ ghost use Rattle.bq_range.specs.Interval.{IsIn};
 ghost use Rattle.bq_state.specs.Kinds.{AreLengths};
 ghost use Rattle.bq_sound.specs.Passes.{Passes};
 ghost use Rattle.bq_sound.specs.Safe.{IsSafe};
+ghost use Rattle.bq_check.specs.Certified.{IsCertified};
 
 use crate::notes::Notes;
 use bq_code::code::Code;
@@ -28,7 +29,8 @@ pub struct Certified {
 }
 
 impl Model for Certified {
-    ghost use Rattle.bq_check.specs.Certificate.{Certificate, HasCodes};
+    ghost use Rattle.bq_check.specs.Certificate.{Certificate};
+    ghost use Rattle.bq_check.specs.Codes.{HasCodes};
 
     ghost Value = { Certificate };
 
@@ -77,6 +79,14 @@ impl Certified {
         ensures { IsLowered self.now.text result.now }
     {
         self.codes.as_slice()
+    }
+
+    /// A law of every certificate: its text is legal, its notes pass for records of its lengths, and its longest path is
+    /// that of the text.
+    pub fn is_certified(&self)
+        ensures { IsCertified self.now }
+    {
+        let _text = &self.text;
     }
 
     /// From every accumulator, record of one of these lengths and frame a record run of the text ends within the

@@ -7,7 +7,7 @@ ghost use Rattle.bq_state.specs.Edges.{edges};
 ghost use Rattle.bq_state.specs.InPlace.{way};
 ghost use Rattle.bq_state.specs.Kinds.{StateKinds, all_lengths};
 ghost use Rattle.bq_sound.specs.Passes.{note_at, NoteCovers, AllCovered, IsFine, AllFine, Passes};
-ghost use Rattle.bq_check.specs.Certificate.{IsCertified};
+ghost use Rattle.bq_check.specs.Certified.{IsCertified};
 ghost use Rattle.bq_check.specs.Faults.{MayStand, AllMayStand, IsFirstWrongState, IsOpened, IsUnitFault, IsFirstFault};
 
 use crate::certified::Certified;

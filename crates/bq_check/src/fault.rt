@@ -82,7 +82,7 @@ impl From<FlowFault> for CheckFault {
 /// Why bytes are not read as notes, and why notes have no bytes in the first form.
 #[derive(Clone, Copy, Debug, PartialEq, Eq)]
 pub enum NotesFault {
-    /// 31: the bytes spell no notes; or a state is not for the records of views alone.
+    /// 31: the bytes spell no notes; or a state is not for records of 64 bytes alone.
     NoteForm,
     /// 99: memory ran out. It may stand in place of the other answer.
     OutOfMemory,

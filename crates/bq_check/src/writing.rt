@@ -130,7 +130,7 @@ impl Notes {
         self.spelled(alloc, Form::Second)
     }
 
-    /// The bytes of the notes in the first form, or 31 NoteForm where a state is not for the records of views alone: it
+    /// The bytes of the notes in the first form, or 31 NoteForm where a state is not for records of 64 bytes alone: it
     /// knows a register as the record's length, or the record may have another length than 64. They are the only bytes
     /// that [`Notes::read_v1`] reads as these.
     ///

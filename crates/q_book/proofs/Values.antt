@@ -15,7 +15,7 @@ use Rattle.sc_node.specs.declared.answer.Ended.{Ended}
 use Rattle.sc_lengths.specs.Lengths.{NodeHasValuesWithin, CompletionHasValuesWithin, EndedHasValuesWithin}
 use Rattle.sc_lengths.proofs.Kept.{founder_kept, entered_kept, store_kept, collect_kept, leave_kept, delivery_kept}
 use Rattle.q_session.specs.Records.{HasRecordsWithin, records_of}
-use Rattle.q_desk.specs.Answers.{CompletesWithin, EndsWithin}
+use Rattle.q_desk.specs.Keeping.{CompletesWithin, EndsWithin}
 use Rattle.q_desk.specs.State.{DeskState}
 use Rattle.q_desk.specs.Desks as desk
 use Rattle.q_desk.specs.declared.journal.Entry.{Entry}

@@ -8,6 +8,7 @@ use Rattle.std.specs.Cmp.{first_so, second_so, unsigned_Decides}
 use Rattle.sc_view.specs.Views.{ViewMap}
 use Rattle.bq_range.specs.Interval.{Interval}
 use Rattle.bq_check.specs.Certificate.{Certificate}
+use Rattle.bq_check.specs.Certified.{IsCertified}
 use Rattle.q_session.specs.Right.{IsRight}
 use Rattle.q_session.specs.declared.ran.Ran.{Ran}
 use Rattle.q_session.specs.declared.query.Phase.{Phase}
@@ -20,7 +21,8 @@ use Rattle.q_desk.specs.declared.journal.Entry.TheVariants as entry
 use Rattle.q_desk.specs.Desks.{most_events, how_many_run, with_phase, is_ready, is_same_view, is_job_of, ready_view, job_on, job_at, job_from, next_job, handed_out, posted}
 use Rattle.q_session.specs.Jobs.{view_in, job_over}
 use Rattle.q_session.specs.Records.{HasRecordsWithin}
-use Rattle.q_desk.specs.Answers.{IsDesk, IsAnswered, ProgramsFit, ViewsFit, MayAllRun}
+use Rattle.q_desk.specs.Answers.{IsAnswered}
+use Rattle.q_desk.specs.Keeping.{IsDesk, ProgramsFit, ViewsFit, MayAllRun}
 use Rattle.q_desk.proofs.Running.{run-handed}
 use Rattle.q_desk.proofs.Views.{same-view, right-of_same}
 use Rattle.q_desk.proofs.Accepted.{IsReadyJob, next_is}
@@ -115,10 +117,10 @@ job-fits programs j q view h =
     ((unsigned_Decides j.start q.start).0 (first_so (j.start == q.start) _ a), same-view j.view view (first_so (is_same_view j.view view) _ b))
 
 -- a right answer of the job is one of the query
-pub job-right : (s : DeskState) (programs : List Certificate) (j : Job) (q : Query) (view : ViewMap) (ran : Ran) (program : Certificate) → s.programs ≡ programs → slice_get programs q.program ≡ Some program → is_job_of programs j q view ≡ true → j.certified.text ≡ program.text → j.certified.longest ≡ program.longest → IsRight j.certified j.view j.start ran → IsAnswered s q view ran
-job-right s programs j q view ran program same there fits text longest right =
+pub job-right : (s : DeskState) (programs : List Certificate) (j : Job) (q : Query) (view : ViewMap) (ran : Ran) (program : Certificate) → s.programs ≡ programs → slice_get programs q.program ≡ Some program → is_job_of programs j q view ≡ true → IsCertified program → j.certified.text ≡ program.text → j.certified.longest ≡ program.longest → IsRight j.certified j.view j.start ran → IsAnswered s q view ran
+job-right s programs j q view ran program same there fits certified text longest right =
     let f = job-fits programs j q view fits in
-    let started : IsRight program j.view q.start ran = subst (λ n. IsRight program j.view n ran) f.0 (right-of_same j.certified program j.view j.start ran text longest right) in
+    let started : IsRight program j.view q.start ran = subst (λ n. IsRight program j.view n ran) f.0 (right-of_same j.certified program j.view j.start ran certified text longest right) in
     record {
       program = program;
       named = ap (λ (ps : List Certificate). slice_get ps q.program) same ∙ there;

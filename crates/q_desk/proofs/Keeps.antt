@@ -17,7 +17,8 @@ use Rattle.q_session.specs.Records.{HasRecordsWithin}
 use Rattle.q_desk.specs.State.{DeskState}
 use Rattle.q_desk.specs.Desks.{most_queries, most_events, in_phase, with_phase}
 use Rattle.q_desk.specs.declared.journal.Entry.{Entry}
-use Rattle.q_desk.specs.Answers.{IsDesk, IsAnswered}
+use Rattle.q_desk.specs.Answers.{IsAnswered}
+use Rattle.q_desk.specs.Keeping.{IsDesk}
 use Rattle.q_desk.proofs.Lists.{get-front, get-snoc, get-written}
 
 -- an answer stays right where its program stays

@@ -11,6 +11,7 @@ use Rattle.sc_view.specs.Views.{ViewMap}
 use Rattle.bq_meaning.specs.Answers.{IsAnswer}
 use Rattle.bq_insn.specs.declared.insn.Insn.{Insn}
 use Rattle.bq_check.specs.Certificate.{Certificate}
+use Rattle.bq_check.specs.Certified.{IsCertified}
 use Rattle.q_session.specs.Records.{view_records}
 use Rattle.q_session.specs.Right.{IsRight}
 use Rattle.q_session.specs.declared.ran.Ran.{Ran}
@@ -36,9 +37,10 @@ same-entries (x ∷ xs) (y ∷ ys) h =
 pub same-view : (v w : ViewMap) → is_same_view v w ≡ true → v ≡ w
 same-view v w h = fin.same_entries_map v w (same-entries (fin.entries v) (fin.entries w) h)
 
--- a right answer is that of each program with this text and longest path
-pub right-of_same : (c d : Certificate) (view : ViewMap) (start : ℕ) (ran : Ran) → c.text ≡ d.text → c.longest ≡ d.longest → IsRight c view start ran → IsRight d view start ran
-right-of_same c d view start ran text longest r = record {
+-- a right answer is that of each certified program with this text and longest path
+pub right-of_same : (c d : Certificate) (view : ViewMap) (start : ℕ) (ran : Ran) → IsCertified d → c.text ≡ d.text → c.longest ≡ d.longest → IsRight c view start ran → IsRight d view start ran
+right-of_same c d view start ran certified text longest r = record {
+  certified = certified;
   meant = subst (λ (t : List Insn). IsAnswer t (view_records view) start ran.acc ran.steps) text r.meant;
   within = rw (← longest) r.within;
 }

@@ -2,5 +2,6 @@
 pub mod State
 pub mod Desks
 pub mod Answers
+pub mod Keeping
 pub mod Faults
 pub mod Sample

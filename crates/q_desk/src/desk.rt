@@ -9,7 +9,8 @@ ghost use Rattle.q_session.specs.declared.query.Query.{Query as QueryValue};
 ghost use Rattle.q_desk.specs.State.{DeskState, new_desk};
 ghost use Rattle.q_desk.specs.Desks as desk;
 ghost use Rattle.q_desk.specs.Faults.{memory};
-ghost use Rattle.q_desk.specs.Answers.{IsDesk, AnswersAreRight, ProgramsAreKnown, ProgramsFit, ViewsFit, MayAllRun, EndsWithin};
+ghost use Rattle.q_desk.specs.Answers.{AnswersAreRight};
+ghost use Rattle.q_desk.specs.Keeping.{IsDesk, ProgramsAreKnown, ProgramsFit, ViewsFit, MayAllRun, EndsWithin};
 
 use crate::completed::Completed;
 use crate::fault::{CallFault, DeskFault};
@@ -56,7 +57,7 @@ impl Model for Desk {
     ghost use Rattle.sc_view.specs.Views.{view_code};
     ghost use Rattle.q_desk.specs.contracts.journal.Entry as entry;
     ghost use Rattle.q_desk.specs.State.{DeskState};
-    ghost use Rattle.q_desk.specs.Answers.{IsDesk, KeepsRoom};
+    ghost use Rattle.q_desk.specs.Keeping.{IsDesk, KeepsRoom};
 
     ghost Value = { DeskState };
 

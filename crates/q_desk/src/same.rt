@@ -1,6 +1,7 @@
 //! Whether a job is that of a query.
 
 ghost use Rattle.std.specs.Prelude.{◌≡◌, ◌↔◌, IsTrue, Some};
+ghost use Rattle.bq_check.specs.Certified.{IsCertified};
 ghost use Rattle.q_table.specs.Programs.{is_same_text};
 ghost use Rattle.q_session.specs.Right.{IsRight};
 ghost use Rattle.q_session.specs.declared.ran.Ran.{Ran};
@@ -35,7 +36,9 @@ fn is_same_program(program: &Certified, other: &Certified) -> bool
     ensures told { result ≡ is_same_program program.now (Some other.now) }
     ensures text { IsTrue result → program.now.text ≡ other.now.text }
     ensures longest { IsTrue result → program.now.longest ≡ other.now.longest }
+    ensures certified { IsCertified other.now }
 {
+    other.is_certified();
     is_same_text(program.text(), other.text()) && program.longest() == other.longest()
 }
 

@@ -3,7 +3,8 @@ use Rattle.std.proofs.Common.{◌≡◌, ℕ, List, Some, refl, sym, ap, ◌∙�
 use Rattle.bq_insn.specs.declared.insn.Insn.{Insn}
 use Rattle.bq_flow.specs.Paths.{IsLongest}
 use Rattle.bq_meaning.specs.Answers.{IsAnswer}
-use Rattle.bq_check.specs.Certificate.{Certificate, IsCertified}
+use Rattle.bq_check.specs.Certificate.{Certificate}
+use Rattle.bq_check.specs.Certified.{IsCertified}
 use Rattle.sc_msg.specs.declared.version.Version.{Version}
 use Rattle.q_session.specs.Records.{view_records}
 use Rattle.q_session.specs.Right.{IsRight}

@@ -1,7 +1,7 @@
 -- The journal of a book as bytes of its version.
 use Rattle.std.specs.Prelude.{◌≡◌, ℕ, List, ◌++◌}
 use Rattle.std.specs.List.{flat_map, AllByRecursion}
-use Rattle.bq_check.specs.Certificate.{IsCertified}
+use Rattle.bq_check.specs.Certified.{IsCertified}
 use Rattle.sc_members.specs.Members.{IsConfig}
 use Rattle.sc_msg.specs.declared.version.Version.{Version}
 use Rattle.q_desk.specs.Answers.{AnswersAreRight}

@@ -29,6 +29,7 @@ pub fn fold_checked(certified: &Certified, view: &View, start: u64) -> Ran
     };
     // A record run takes at most 4,096 steps.
     let _longest = certified.longest();
+    certified.is_certified();
     let mut frame = [0; FRAME_LENGTH];
     let mut bytes = [0; RECORD_ROOM];
     let mut ran = Ran::begun(start);

@@ -21,6 +21,7 @@ pub fn run_fold(certified: &Certified, view: &View, start: u64, block: &mut Bloc
 {
     // A record run takes at most 4,096 steps.
     let _longest = certified.longest();
+    certified.is_certified();
     block.is_block();
     block.clear_frame();
     let mut ran = Ran::begun(start);

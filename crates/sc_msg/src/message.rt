@@ -9,7 +9,7 @@ use sc_view::value::VALUE_LENGTH;
 use sc_view::view::View;
 use std::alloc::AllocError;
 
-/// The most bytes of a message.
+/// The most bytes of a message that are read. No message is written with more than 57,629.
 pub const MOST_BYTES: usize = 60_000;
 
 /// What a message says.

@@ -1,5 +1,6 @@
-use Rattle.std.proofs.Common.{◌≡◌, Some, rules, sym, ◌∙◌}
+use Rattle.std.proofs.Common.{◌≡◌, Some, rules, sym, subst, ◌∙◌}
 use Rattle.std.specs.Prelude.{slice_get}
+use Rattle.bq_check.specs.Certified.{IsCertified}
 use Rattle.q_desk.specs.Desks.{is_job_of}
 use Rattle.q_desk.proofs.Jobs.{job-right}
 use Rattle.q_desk.proofs.same.is_job_of.Goals as goal
@@ -14,4 +15,6 @@ returns-then-is_same_view-clause-right c = λ s ran told programs right.
     let l = c.is_same_program.ensures.longest told in
     let text : job.certified.text ≡ program.text = cc in
     let longest : job.certified.longest ≡ program.longest = cc in
-    job-right s c.args.programs.now job c.args.query.now c.args.view.now ran program programs there (sym fits ∙ told) text longest right
+    let same : c.certified-then-is_same_view-2.result.now ≡ program = cc in
+    let certified : IsCertified program = subst IsCertified same c.is_same_program.ensures.certified in
+    job-right s c.args.programs.now job c.args.query.now c.args.view.now ran program programs there (sym fits ∙ told) certified text longest right

@@ -1,5 +1,6 @@
 use Rattle.std.proofs.Common.{rules, ◌≡◌, sym, ap, ◌∙◌, subst}
-use Rattle.bq_check.specs.Certificate.{Certificate, IsCertified}
+use Rattle.bq_check.specs.Certificate.{Certificate}
+use Rattle.bq_check.specs.Certified.{IsCertified}
 use Rattle.sc_msg.specs.declared.version.Version.{Version}
 use Rattle.q_desk.specs.declared.journal.Entry.TheVariants as entry
 use Rattle.q_book.specs.Books.{record_lengths}

@@ -39,6 +39,7 @@ returns c =
     let whole : map shown c.loop-id.yielded ≡ fin.entries c.args.view.now = all_read c.records-id-items.result c.loop-id.yielded c.into_iter-id-iterator.result c.loop-id.id-iterator c.next.new.self c.next.result c.into_iter-id-iterator.ensures.into_iter_gives c.loop-id.yielded_by c.in-None.is c.next.ensures.steps ∙ c.records-id-items.ensures.all in
     record {
       right = record {
+        certified = c.is_certified.ensures;
         meant = λ p is. (c.loop-id.frame, subst (λ xs. FoldsTo p c.args.certified.now.text (map record_bytes xs) c.args.start zero_frame c.loop-id.ran.acc c.loop-id.ran.steps c.loop-id.frame) whole (c.loop-id.invariant.folds p is));
         within = rw (len-entries, ← whole, length-map) c.loop-id.invariant.within;
       };

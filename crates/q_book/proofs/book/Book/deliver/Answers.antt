@@ -4,7 +4,7 @@ use Rattle.sc_msg.specs.Values.{value_lengths}
 use Rattle.sc_msg.proofs.Lengths.{message_told}
 use Rattle.sc_node.specs.Nodes as node
 use Rattle.bq_range.specs.Interval.{Interval}
-use Rattle.q_desk.specs.Answers.{EndsWithin}
+use Rattle.q_desk.specs.Keeping.{EndsWithin}
 use Rattle.q_desk.specs.State.{DeskState}
 use Rattle.q_desk.specs.Desks as desk
 use Rattle.q_desk.specs.declared.journal.Entry.TheVariants as entry

@@ -6,7 +6,7 @@ use Rattle.sc_node.specs.declared.answer.Begun.{Begun}
 use Rattle.sc_node.specs.declared.fault.NodeFault.TheVariants as fault
 use Rattle.q_session.specs.declared.query.Query.{Query}
 use Rattle.q_desk.specs.declared.journal.Entry.TheVariants as entry
-use Rattle.q_desk.specs.Answers.{IsDesk}
+use Rattle.q_desk.specs.Keeping.{IsDesk}
 use Rattle.q_desk.specs.Desks.{begun, how_many_run}
 use Rattle.q_desk.proofs.Accepted.{same_answer, spared}
 use Rattle.q_desk.proofs.Keeps.{desk-appended, desk-begun}

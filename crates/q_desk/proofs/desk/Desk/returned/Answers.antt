@@ -2,7 +2,7 @@ use Rattle.std.proofs.Common.{List, sym, subst, ◌∙◌, rules}
 use Rattle.q_session.specs.declared.query.Query.{Query}
 use Rattle.q_session.specs.Records.{HasRecordsWithin}
 use Rattle.q_desk.specs.State.{DeskState}
-use Rattle.q_desk.specs.Answers.{IsDesk}
+use Rattle.q_desk.specs.Keeping.{IsDesk}
 use Rattle.q_desk.proofs.Keeps.{desk-ready}
 use Rattle.q_desk.proofs.Running.{run-returned}
 use Rattle.q_desk.proofs.desk.Desk.returned.Goals as goal
