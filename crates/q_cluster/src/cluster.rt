@@ -3,9 +3,10 @@
 ghost use Rattle.std.specs.Prelude.{◌≡◌, ◌≢◌, ◌<◌, ℕ, List, Ok, Err, IfOk, IfErr, IfSome, is_some, option_copied, slice_get, length, vec_len, vec_capacity};
 ghost use Rattle.std.specs.FinMap as fin;
 ghost use Rattle.sc_msg.specs.Lengths.{Fits};
-ghost use Rattle.sc_world.specs.Records.{AreRecords};
-ghost use Rattle.sc_world.specs.Regular.{IsRegular};
+ghost use Rattle.sc_world.specs.Records.{AreRecords, AreSent};
+ghost use Rattle.sc_world.specs.Regular.{IsRegular, EndsAreRecorded, EndsAreTold};
 ghost use Rattle.sc_world.specs.Worlds as world;
+ghost use Rattle.sc_world.specs.Worlds.{IsHistory as IsWorldHistory};
 ghost use Rattle.forms.specs.Calls.{Steps, Gives};
 ghost use Rattle.q_session.specs.declared.ran.Ran.{Ran};
 ghost use Rattle.q_history.specs.Faults.{memory};
@@ -23,7 +24,7 @@ use q_history::event::{Answer, Event, Handed, Stepped, Told};
 use q_history::fault::ClusterFault;
 use q_history::laws::{
     answers_stay, every_answer_is_true, every_book_is_a_replay, every_message_fits,
-    every_view_is_returned,
+    every_view_is_returned, every_world_is_a_history,
 };
 use q_session::done::Done;
 use q_session::job::Job;
@@ -195,6 +196,15 @@ impl Cluster {
         let _jobs = self.jobs.len();
     }
 
+    /// A law of every cluster: its world is what the world's accepted events made of the founders. So all that is true
+    /// of every history of a world is true of it.
+    pub fn world_is_a_history(&self)
+        ensures { IsWorldHistory self.now.world }
+    {
+        every_world_is_a_history();
+        let _jobs = self.jobs.len();
+    }
+
     /// A law of every cluster: some list of events made it of its founders.
     pub fn comes_of_events(&self)
         ensures { IsHistory self.now }
@@ -207,6 +217,20 @@ impl Cluster {
         ensures { result ≡ self.now.version }
     {
         self.version
+    }
+
+    /// The fractions that set the nodes' thresholds.
+    pub fn config(&self) -> Config
+        ensures { result ≡ self.now.world.config }
+    {
+        self.ledger.config()
+    }
+
+    /// The ids of the founders, which rise strictly.
+    pub fn founders(&self) -> &[u64]
+        ensures { result.now ≡ self.now.world.founders }
+    {
+        self.ledger.founders()
     }
 
     /// The book of this node, also where it has left or crashed.
@@ -226,12 +250,26 @@ impl Cluster {
         }
     }
 
+    /// The accepted events of the world: those at which a node entered, left, crashed, began an operation or took a
+    /// message. A query stands there as its collect; programs and jobs do not. `Op::begin` and `Op::end` are places in
+    /// this list, which count from 0.
+    pub fn events(&self) -> &[WorldEvent]
+        ensures { result.now ≡ self.now.world.events }
+    {
+        self.ledger.events()
+    }
+
     /// The record of each operation, in the order in which they began. The views are regular, and what the records say
-    /// is true. Whether two of them meet is told by `sc_world::op::meets`.
+    /// is true. Each message was sent by the sender that it names, so each sender that a record counts sent its answer.
+    /// What the world's next event tells of an operation that ends is what its record then says, and each operation
+    /// whose record ends then is told. Whether two of them meet is told by `sc_world::op::meets`.
     pub fn ops(&self) -> &[Op]
         ensures ops { result.now ≡ self.now.world.ops }
         ensures regular { IsRegular self.now.world }
         ensures records { AreRecords self.now.world }
+        ensures senders { AreSent self.now.world }
+        ensures answers { EndsAreRecorded self.now.world }
+        ensures told { EndsAreTold self.now.world }
     {
         self.ledger.ops()
     }

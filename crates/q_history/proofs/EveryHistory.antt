@@ -10,7 +10,7 @@ use Rattle.sc_node.specs.declared.session.OperationKind.TheVariants as kind
 use Rattle.sc_node.specs.Sessions.{stored}
 use Rattle.sc_node.specs.State.{NodeState}
 use Rattle.sc_node.specs.Nodes.{founder}
-use Rattle.sc_world.specs.Worlds.{live_at, nodes_with}
+use Rattle.sc_world.specs.Worlds.{live_at, nodes_with, IsHistory as IsWorldHistory}
 use Rattle.sc_world.specs.Regular.{returned, returned_by}
 use Rattle.sc_world.proofs.Finite.{get-insert}
 use Rattle.sc_world.proofs.EveryHistory.{every_lawful, lawful_regular}
@@ -105,6 +105,11 @@ module _ (version : Version) (config : Config) (ids : List ℕ) where
     desks = λ id d at. start_desk id d (founders_new ids fin.empty fin.empty nobody id d at);
     jobs = λ k j at. absurd (no_some j at);
   }
+
+-- ---- what is said of the world
+
+pub every_world : (version : Version) (config : Config) (ids : List ℕ) (es : List Event) (c : ClusterState) → Reaches (start version config ids) es c → IsWorldHistory c.world
+every_world version config ids es c r = (run_kept es (start version config ids) c (start_kept version config ids) r).kept.world.history
 
 -- ---- what is said of answers
 

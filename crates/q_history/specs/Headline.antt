@@ -26,8 +26,9 @@ pub record IsReturned (w : WorldState) (node tag : ℕ) (view : ViewMap) : Type 
   pub returned : returned collect ≡ Some view
   pub holds : (s : Op) (e : Stored) → Among s w.ops → s.session.kind ≡ kind.Store e → IsBefore s collect → Meets s collect → Holds view s.node e.number
 
--- The answer of a query of this node is right: it is the meaning of the program that the query names, from the query's
--- start, over the view that the query's collect returned.
+-- The answer of a query of this node is right: the query names a program that the checker accepts; the answer is the
+-- meaning of its text, from the query's start, over the view that the query's collect returned; and the steps are at
+-- most its longest path times the records of that view.
 pub record IsTrue (c : ClusterState) (node : ℕ) (d : DeskState) (q : Query) (view : ViewMap) (ran : Ran) : Type 0 where
   pub answered : IsAnswered d q view ran
   pub returned : IsReturned c.world node q.tag view

@@ -10,7 +10,7 @@ use Rattle.sc_world.specs.declared.op.Op.{Op}
 use Rattle.sc_world.specs.State.{WorldState}
 use Rattle.sc_world.specs.Worlds.{clock, stepped, Reaches, start, IsHistory}
 use Rattle.sc_world.specs.Records.{beginning_of, AreRecords, AreSent}
-use Rattle.sc_world.specs.Regular.{IsRegular, IsGenuine, IsBefore, EndsAreRecorded}
+use Rattle.sc_world.specs.Regular.{IsRegular, IsGenuine, IsBefore, EndsAreRecorded, EndsAreTold}
 use Rattle.sc_world.proofs.Changes.{EndedBefore}
 use Rattle.sc_world.proofs.Soundness as sound
 use Rattle.sc_world.proofs.Truths.{IsTrue, limit_by}
@@ -20,6 +20,7 @@ use Rattle.sc_world.proofs.Histories.{history_next, start_history}
 use Rattle.sc_world.proofs.Tallies.{IsTallied, step_tallied, start_tallied}
 use Rattle.sc_world.proofs.Ledgers.{step_records}
 use Rattle.sc_world.proofs.Ends.{step_recorded}
+use Rattle.sc_world.proofs.EndsTold.{step_told}
 use Rattle.sc_world.proofs.Senders.{sent_next}
 
 -- what is true of every history
@@ -57,6 +58,9 @@ every_lawful c ids es w h = run_lawful es (start c ids) w (start_lawful c ids) h
 
 pub lawful_ends : (w : WorldState) → IsLawful w → EndsAreRecorded w
 lawful_ends w l e a w' h = step_recorded w l.invariant.linked l.tallied e a w' h
+
+pub lawful_told : (w : WorldState) → IsLawful w → EndsAreTold w
+lawful_told w l e a w' h = step_told w l.records e a w' h
 
 module _ (w : WorldState) (l : IsLawful w) where
   ended : (a b : Op) → IsBefore a b → EndedBefore a b

@@ -18,6 +18,7 @@ pub mod Answering
 pub mod Tallies
 pub mod Ledgers
 pub mod Ends
+pub mod EndsTold
 pub mod Senders
 pub mod EveryHistory
 pub mod Tables

@@ -73,6 +73,15 @@ pub record EndIsRecorded (w : WorldState) (e : Event) (told : Stepped) (next : W
 abbrev pub EndsAreRecorded : WorldState → Type 0
 EndsAreRecorded w = (e : Event) (told : Stepped) (next : WorldState) → stepped w e ≡ Ok (told, next) → EndIsRecorded w e told next
 
+-- an operation whose record ends at an event is that of the event's node, and the event tells that it ended
+pub record EndIsTold (w : WorldState) (e : Event) (says : Stepped) (next : WorldState) : Type 0 where
+  pub by : (o : Op) → Among o next.ops → o.end ≡ Some (clock w) → o.node ≡ node_of e
+  pub told : (o : Op) → Among o next.ops → o.end ≡ Some (clock w) → (x : Ended) × (says.ended ≡ Some x) × (x.tag ≡ o.tag)
+
+-- so it is at each event that may come next
+abbrev pub EndsAreTold : WorldState → Type 0
+EndsAreTold w = (e : Event) (says : Stepped) (next : WorldState) → stepped w e ≡ Ok (says, next) → EndIsTold w e says next
+
 -- the view has at least this number of the node
 abbrev pub Holds : ViewMap → ℕ → ℕ → Type 0
 Holds view node number = number ≤ number_at view node

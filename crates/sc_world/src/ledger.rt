@@ -146,6 +146,13 @@ impl Ledger {
         self.config
     }
 
+    /// The ids of the founders.
+    pub fn founders(&self) -> &[u64]
+        ensures { result.now ≡ self.now.past.founders }
+    {
+        &self.founders
+    }
+
     /// Whether the node of this id crashed.
     pub fn has_crashed(&self, id: u64) -> bool
         ensures { result ≡ set.contains self.now.past.crashed id }

@@ -1,7 +1,7 @@
 use Rattle.std.proofs.Common.{subst}
-use Rattle.sc_world.specs.Records.{AreRecords}
-use Rattle.sc_world.specs.Regular.{IsRegular}
-use Rattle.sc_world.proofs.EveryHistory.{lawful_regular}
+use Rattle.sc_world.specs.Records.{AreRecords, AreSent}
+use Rattle.sc_world.specs.Regular.{IsRegular, EndsAreRecorded, EndsAreTold}
+use Rattle.sc_world.proofs.EveryHistory.{lawful_regular, lawful_ends, lawful_told}
 use Rattle.q_history.specs.State.{ClusterState}
 use Rattle.q_history.proofs.Histories.{history_kept}
 use Rattle.q_cluster.specs.contracts.cluster.Cluster as cluster
@@ -16,3 +16,18 @@ pub returns-clause-records : goal.returns-clause-records
 returns-clause-records c =
     let v : ClusterState = cluster.the_view c.self.inside in
     subst (λ (x : ClusterState). AreRecords x.world) c.self.view_is (history_kept v c.self.invariant.history).world.records
+
+pub returns-clause-senders : goal.returns-clause-senders
+returns-clause-senders c =
+    let v : ClusterState = cluster.the_view c.self.inside in
+    subst (λ (x : ClusterState). AreSent x.world) c.self.view_is (history_kept v c.self.invariant.history).world.sent
+
+pub returns-clause-answers : goal.returns-clause-answers
+returns-clause-answers c =
+    let v : ClusterState = cluster.the_view c.self.inside in
+    subst (λ (x : ClusterState). EndsAreRecorded x.world) c.self.view_is (lawful_ends v.world (history_kept v c.self.invariant.history).world)
+
+pub returns-clause-told : goal.returns-clause-told
+returns-clause-told c =
+    let v : ClusterState = cluster.the_view c.self.inside in
+    subst (λ (x : ClusterState). EndsAreTold x.world) c.self.view_is (lawful_told v.world (history_kept v c.self.invariant.history).world)

@@ -1,0 +1,5 @@
+use Rattle.q_history.proofs.EveryHistory.{every_world}
+use Rattle.q_history.proofs.laws.every_world_is_a_history.Goals as goal
+
+pub returns : goal.returns
+returns c = λ version config founders events d h. every_world version config founders events d h
