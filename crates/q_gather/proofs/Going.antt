@@ -1,5 +1,8 @@
 -- The books are gathered by the events that are found, until none is.
-use Rattle.std.proofs.Common.{◌≡◌, ◌<◌, ℕ, List, [], ◌∷◌, ◌++◌, length, Some, refl, sym, ap, ◌∙◌, subst, slice_get, slice_set, get_or, arith, ◌+◌}
+use Rattle.std.proofs.Common.{◌≡◌, ◌<◌, ℕ, true, List, [], ◌∷◌, ◌++◌, length, length-append, Some, refl, sym, ap, ◌∙◌, subst, slice_get, slice_set, get_or, arith, ◌+◌, inl, inr}
+use Rattle.std.specs.List.{list_any}
+use Rattle.std.specs.Prelude.{nat_eq}
+use Rattle.std.proofs.lemmas.List.{append-nil}
 use Rattle.std.proofs.lemmas.Option.{slice_get-get_or}
 use Rattle.sc_msg.specs.declared.message.Message.{Message}
 use Rattle.q_desk.specs.declared.journal.Entry.{Entry}
@@ -10,21 +13,29 @@ use Rattle.q_history.specs.State.{ClusterState}
 use Rattle.q_history.specs.Calls.{Follows}
 use Rattle.q_history.proofs.Lists.{same_some, no_some}
 use Rattle.q_cluster.specs.Acts.{book_at}
-use Rattle.q_merge.specs.Merging.{Step, AreOver, Merges}
+use Rattle.q_merge.specs.Merging.{Step, CanGo, AreOver, Merges}
 use Rattle.q_merge.specs.Merging.Merges.{Over, Takes}
 use Rattle.q_merge.specs.Traces.{IsTraceFrom}
 use Rattle.q_merge.specs.Turns.{IsTurn}
 use Rattle.q_merge.specs.Numbers.{NumberList, AreNumbers}
 use Rattle.q_merge.specs.Gathered.{IsAt, Goes}
 use Rattle.q_merge.specs.Gathered.IsAt.{Away, There}
+use Rattle.q_merge.proofs.Lists.{get_after}
 use Rattle.q_merge.proofs.Merging.{merges_next, merges_stuck}
 use Rattle.q_merge.proofs.Gathering.{goes_by, gathered, done_at, over_at}
 use Rattle.q_merge.proofs.Tracing.{traces_one}
 use Rattle.q_gather.specs.Gather.{Merge}
-use Rattle.q_gather.specs.Gathering.{IsNextAmong, HasTaken, HaveTaken, IsGathering, IsMerged}
+use Rattle.q_gather.specs.Gathering.{IsNextOf, IsNextAmong, HasTaken, HaveTaken, AreIdle, IsGathering, IsMerged}
 use Rattle.q_gather.proofs.Turns.{Turn, left_by, all_left, turn_of, next_is, left_later, less_left, trace_length}
 
 -- ---- one event
+
+-- where no more was sent, the same was
+sent_same : (old new outs : List Message) → new ≡ old ++ outs → length new ≡ length old → new ≡ old
+sent_same old new [] is long = is ∙ append-nil old
+sent_same old new (m ∷ ms) is long =
+    let more : length old ≡ length old + length (m ∷ ms) = sym long ∙ ap (λ (xs : List Message). length xs) is ∙ length-append old (m ∷ ms) in
+    absurd (omega (arith, more))
 
 module _ (books : List BookState) (c later : ClusterState) (numbers after : NumberList) (g : IsGathering books c numbers) (ev : Event) (n : IsNextAmong c books ev) (told : Stepped) (f : Follows c ev told later) where
   abbrev turn : Turn c g.left n.place n.book ev
@@ -53,6 +64,29 @@ module _ (books : List BookState) (c later : ClusterState) (numbers after : Numb
       less_left c later books n.place n.book n.at
       (λ i b at away. ap (left_by b) (now.others b.id (λ same. away (g.under_way.distinct i n.place b n.book at n.at same))))
       (left_later c later g.left n.place n.book ev turn now)
+
+  -- the book that went was none of those that could not go on
+  not_idle : (places : List ℕ) → AreIdle c books places → (k : ℕ) (b : BookState) → k ≡ n.place → list_any (nat_eq k) places ≡ true → slice_get books k ≡ Some b → ⊥
+  not_idle places idle k b same among at =
+      let one : n.book ≡ b = same_some n.book b (sym n.at ∙ ap (slice_get books) (sym same) ∙ at) in
+      idle k b ev among at (subst (λ (x : BookState). IsNextOf c x ev) one n.next)
+
+  -- where the event sent nothing, those that could not go on still cannot
+  idle_on : (places : List ℕ) → AreIdle c books places → length later.world.sent ≡ length c.world.sent → AreIdle later books places
+  idle_on places idle long k b next among at is =
+      let rests : List (List (Step Message)) = slice_set g.left n.place turn.rest in
+      let same : later.world.sent ≡ c.world.sent = sent_same c.world.sent later.world.sent turn.step.gives (goes.sent told later f) long in
+      let now : Turn later rests k b next = turn_of books later rests (goes.goes told later f) k b at next is in
+      elim (get_after g.left n.place turn.rest k (now.step ∷ now.rest) now.at) [
+        | inl old ↦
+            let can : CanGo c.world.sent now.step = subst (λ (x : List Message). CanGo x now.step) same now.can in
+            let before = next_is books c g.left g.under_way k b at now.step now.rest can old in
+            idle k b before.0 among at before.1
+        | inr new ↦ not_idle places idle k b new.0 among at
+      ]
+
+  pub waiting_on : (places : List ℕ) (sent : ℕ) → sent ≡ length c.world.sent → AreIdle c books places → length later.world.sent ≡ sent → AreIdle later books places
+  waiting_on places sent is idle long = idle_on places idle (long ∙ is)
 
 -- ---- no event
 

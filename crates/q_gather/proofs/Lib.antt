@@ -4,6 +4,8 @@ pub mod Finding
 pub mod Adding
 pub mod Turns
 pub mod Numbering
+pub mod Waiting
 pub mod Going
 pub mod Agreeing
+pub mod Standing
 pub mod Replaying

@@ -1,5 +1,5 @@
--- Messages get their numbers one after another, and what is next is looked for book after book.
-use Rattle.std.proofs.Common.{◌≡◌, ◌<◌, ◌≤◌, ◌+◌, ℕ, Bool, true, false, List, [], ◌∷◌, ◌++◌, length, take, Option, Some, None, refl, sym, ap, ◌∙◌, subst, slice_get, arith, inl, inr}
+-- Messages get their numbers one after another, and what was taken is counted.
+use Rattle.std.proofs.Common.{◌≡◌, ◌<◌, ◌≤◌, ◌+◌, ℕ, Bool, true, false, List, [], ◌∷◌, ◌++◌, length, take, Some, refl, sym, ap, ◌∙◌, subst, slice_get, arith}
 use Rattle.std.specs.Prelude.{MatchBool, nat_eq}
 use Rattle.std.proofs.lemmas.Bool.{eqb-true, eqb-false}
 use Rattle.std.proofs.lemmas.List.{take_more, take-append-le, take_all, length-take-le}
@@ -8,14 +8,11 @@ use Rattle.sc_msg.specs.declared.message.Message.{Message}
 use Rattle.sc_msg.specs.declared.version.Version.TheVariants.{Second}
 use Rattle.sc_msg.specs.Messages.{message_bytes, IsMessage}
 use Rattle.q_book.specs.State.{BookState}
-use Rattle.q_history.specs.declared.event.Event.{Event}
 use Rattle.q_history.specs.State.{ClusterState}
 use Rattle.q_history.proofs.Lists.{same_some}
 use Rattle.q_cluster.specs.Acts.{book_at}
 use Rattle.q_merge.specs.Numbers.{NumberList, added, AreNumbers}
-use Rattle.q_gather.specs.Gathering.{IsNextOf, IsNextAmong, IsLesser, HasTaken}
-use Rattle.q_gather.specs.declared.gathering.Next.{Next}
-use Rattle.q_gather.proofs.Finding.{Below, below_next}
+use Rattle.q_gather.specs.Gathering.{HasTaken}
 
 abbrev pub OneMore : Type 0
 OneMore = (sent : List Message) (numbers : NumberList) (m : Message) → AreNumbers sent numbers → IsMessage Second m → AreNumbers (sent ++ m ∷ []) (added (message_bytes Second m) (length sent) numbers)
@@ -42,7 +39,7 @@ sent_before old new outs n numbers long is are =
     (λ i. take (long i) (is i)) ∙ take-append-le (length old) old outs le ∙ take_all (length old) old le in
     subst (λ (x : List Message). AreNumbers x numbers) (sym whole) are
 
--- ---- what is next
+-- ---- what was taken
 
 pub taken_test : (c : ClusterState) (whole b : BookState) (n m : ℕ) → Some b ≡ book_at c whole.id → n ≡ length b.desk.journal → m ≡ length whole.desk.journal → MatchBool (nat_eq n m) (HasTaken c whole) (HasTaken c whole → ⊥)
 taken_test c whole b n m at is are = go (nat_eq n m) refl
@@ -53,19 +50,3 @@ taken_test c whole b n m at is are = go (nat_eq n m) refl
         λ h.
         let one : h.book ≡ b = same_some h.book b (sym h.at ∙ sym at) in
         eqb-false n m other (is ∙ ap (λ (x : BookState). length x.desk.journal) (sym one) ∙ h.all ∙ sym are)
-
-abbrev pub IsLeastOf : ClusterState → List BookState → ℕ → Option Next → Type 0
-IsLeastOf c books i None = Below (λ (b : BookState). (ev : Event) → IsNextOf c b ev → ⊥) books i
-IsLeastOf c books i (Some next) = IsNextAmong c books next.event
-
-pub least_next : (c : ClusterState) (books : List BookState) (i : ℕ) (b : BookState) (least next : Option Next) → slice_get books i ≡ Some b → IsLeastOf c books i least → IsLesser c b least next → IsLeastOf c books (i + 1) next
-least_next c books i b least None here so is =
-    below_next (λ (x : BookState). (ev : Event) → IsNextOf c x ev → ⊥) books i b (subst (IsLeastOf c books i) is.0 so) here is.1
-least_next c books i b least (Some next) here so is = elim is [
-  | inl old ↦ subst (IsLeastOf c books i) old so
-  | inr new ↦ record { place = i; book = b; at = here; next = new }
-]
-
-pub lesser_same : (c : ClusterState) (whole : BookState) (least : Option Next) → ((ev : Event) → IsNextOf c whole ev → ⊥) → IsLesser c whole least least
-lesser_same c whole None none = (refl, none)
-lesser_same c whole (Some next) none = inl refl

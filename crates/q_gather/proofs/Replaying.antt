@@ -1,33 +1,21 @@
 -- Journals and their books, and that refusals exclude each other.
 use Rattle.std.proofs.Common.{◌≡◌, ◌<◌, ◌≤◌, ◌+◌, ℕ, zero, suc, Bool, true, false, nat_lt, List, [], ◌∷◌, ◌++◌, length, map, take, get_or, Some, Result, Ok, Err, refl, sym, ap, ◌∙◌, subst, slice_get, arith, Bor}
-use Rattle.std.specs.Prelude.{IfOk, IfErr, IsErrAnd, MatchResult}
+use Rattle.std.specs.Prelude.{IfOk, IfErr, MatchResult}
 use Rattle.std.specs.List.{AllByRecursion}
 use Rattle.std.proofs.lemmas.Bool.{ltb-true, ltb-false}
 use Rattle.std.proofs.lemmas.List.{map-append, take_more}
 use Rattle.std.proofs.lemmas.Option.{slice_get_within, get_or_from_slice_get}
-use Rattle.sc_members.specs.Members.{Config}
-use Rattle.sc_msg.specs.declared.message.Message.{Message}
-use Rattle.sc_msg.specs.declared.version.Version.{Version}
 use Rattle.q_book.specs.State.{BookState}
 use Rattle.q_history.specs.State.{ClusterState}
-use Rattle.q_history.specs.Clusters.{start}
 use Rattle.q_history.proofs.Lists.{same_some, no_some}
 use Rattle.q_replay.specs.Journal.{journal_of, IsJournalled}
 use Rattle.q_replay.specs.Replayed.{IsFault}
 use Rattle.q_replay.specs.declared.fault.ReplayFault.{ReplayFault}
 use Rattle.q_replay.specs.declared.fault.ReplayFault.TheVariants as replay_fault
-use Rattle.q_merge.specs.Merging.{Step}
-use Rattle.q_merge.specs.Traces.{IsTrace}
-use Rattle.q_merge.specs.Gathered.{AreDistinct, AreRight, AgreeOn, AreTraces, IsGathered}
+use Rattle.q_merge.specs.Gathered.{AreDistinct, IsGathered}
 use Rattle.q_merge.proofs.Merging.{same_first}
-use Rattle.q_merge.proofs.Tracing.{trace_some}
-use Rattle.q_merge.proofs.Beginning.{begins}
-use Rattle.q_merge.proofs.Finding.{no_numbers}
-use Rattle.q_gather.specs.Gather.{AreReplayed, Agree, Merge, Gathers, IsFaulty, IsRefused}
-use Rattle.q_merge.specs.Numbers.{NumberList}
+use Rattle.q_gather.specs.Gather.{AreReplayed, Agree, Merge, Gathers, GathersBooks, IsFaulty, IsRefused, AreRefused}
 use Rattle.q_gather.specs.Faults.{of_replay}
-use Rattle.q_gather.specs.Heads.{IsUnfounded}
-use Rattle.q_gather.specs.Gathering.{IsGathering, IsMerged, IsStuck}
 use Rattle.q_gather.specs.declared.fault.GatherFault.{GatherFault}
 use Rattle.q_gather.specs.declared.fault.GatherFault.TheVariants.{Journal, IdUsed, BadFounders, NeverSent, OutOfMemory}
 use Rattle.q_gather.proofs.Finding.{get_take}
@@ -59,47 +47,6 @@ replayed_text js books more place d b less before spelled is grows =
     let at = text_at js place d less in
     subst (AreReplayed (take (place + 1) journals)) (sym grows)
     (replayed_next journals books place b (slice_get_within journals place (get_or js place d).now at) before (get_or_from_slice_get journals place (get_or js place d).now [] at ∙ spelled) is)
-
-pub all_at : (books : List BookState) → AllByRecursion IsJournalled books → (k : ℕ) (b : BookState) → slice_get books k ≡ Some b → IsJournalled b
-all_at [] all k b at = absurd (no_some b at)
-all_at (x ∷ xs) all zero b at = subst IsJournalled (same_some x b at) all.0
-all_at (x ∷ xs) all (suc k) b at = all_at xs all.1 k b at
-
--- ---- the start
-
-module _ (x : BookState) (xs : List BookState) (steps : List (Step Message)) (own : IsTrace x steps) (lists : List (List (Step Message))) (t : AreTraces xs lists) where
-  each_with : (k : ℕ) (b : BookState) → slice_get (x ∷ xs) k ≡ Some b → (s : List (Step Message)) × (slice_get (steps ∷ lists) k ≡ Some s) × IsTrace b s
-  each_with zero b at = (steps, refl, subst (λ (y : BookState). IsTrace y steps) (same_some x b at) own)
-  each_with (suc k) b at = t.each k b at
-
-  few_with : (k : ℕ) (s : List (Step Message)) → slice_get (steps ∷ lists) k ≡ Some s → (b : BookState) × (slice_get (x ∷ xs) k ≡ Some b)
-  few_with zero s at = (x, refl)
-  few_with (suc k) s at = t.few k s at
-
-  traces_with : AreTraces (x ∷ xs) (steps ∷ lists)
-  traces_with = record { each = each_with; few = few_with }
-
-traces_some : (books : List BookState) → AllByRecursion IsJournalled books → (lists : List (List (Step Message))) × AreTraces books lists
-traces_some [] all = ([], record { each = λ k b at. absurd (no_some b at); few = λ k s at. absurd (no_some s at) })
-traces_some (x ∷ xs) all =
-    let own = trace_some x all.0.replay in
-    let rest = traces_some xs all.1 in
-    (own.0 ∷ rest.0, traces_with x xs own.0 own.1 rest.0 rest.1)
-
--- before any event
-pub gathering_starts : (books : List BookState) → AllByRecursion IsJournalled books → AreDistinct books → (version : Version) (config : Config) (founders : List ℕ) → AgreeOn books version config founders → IsGathering books (start version config founders) []
-gathering_starts books all distinct version config founders agree =
-    let t = traces_some books all in
-    let right : AreRight books = λ k b at. (all_at books all k b at).right in
-    record {
-      lists = t.0;
-      traces = t.1;
-      left = t.0;
-      under_way = begins version config founders books t.0 distinct right agree t.1;
-      on = λ m. m;
-      back = λ m. m;
-      numbered = no_numbers;
-    }
 
 -- ---- one answer
 
@@ -219,49 +166,23 @@ faulty journals place before bytes (replay_fault.Mismatch event) r at is =
     no_memory : (let f : ReplayFault = replay_fault.Mismatch event in f) ≡ replay_fault.OutOfMemory → ⊥
     no_memory e = cc
 
--- the books before any event
-pub begins_gathering : (items x y z : List BookState) → x ≡ items → y ≡ items → z ≡ items → AllByRecursion IsJournalled items → AreDistinct x → (c d : ClusterState)
-    → ((version : Version) × (config : Config) × (founders : List ℕ) × AgreeOn y version config founders × (c ≡ start version config founders)) → d ≡ c → (numbers : NumberList) → numbers ≡ [] → IsGathering z d numbers
-begins_gathering items x y z first second third all distinct c d agree same numbers none =
-    let begun : IsGathering items (start agree.0 agree.1 agree.2) [] =
-    gathering_starts items all (subst AreDistinct first distinct) agree.0 agree.1 agree.2 (subst (λ (b : List BookState). AgreeOn b agree.0 agree.1 agree.2) second agree.3) in
-    subst (λ (b : List BookState). IsGathering b d numbers) (sym third)
-    (subst (λ (s : ClusterState). IsGathering items s numbers) (sym (same ∙ agree.4)) (subst (λ (n : NumberList). IsGathering items (start agree.0 agree.1 agree.2) n) (sym none) begun))
+-- ---- journals whose books are gathered
 
-module _ (journals : List (List ℕ)) (items x y z : List BookState) (first : x ≡ items) (second : y ≡ items) (third : z ≡ items) (r : AreReplayed journals items) where
-  pub id_used : (AreDistinct x → ⊥) → IsRefused journals IdUsed
-  id_used none = (items, r, λ d. none (subst AreDistinct (sym first) d))
+module _ (journals : List (List ℕ)) (books : List BookState) (r : AreReplayed journals books) where
+  pub gathers_so : (c : ClusterState) → GathersBooks books c → Gathers journals c
+  gathers_so c g = record { books = books; replayed = r; distinct = g.distinct; agree = g.agree; merge = g.merge; gathered = g.gathered }
 
-  -- why no cluster was founded is why journals are not gathered
-  pub unfounded : AreDistinct x → (e : GatherFault) → IsUnfounded y e → IsRefused journals e
-  unfounded distinct BadFounders none = (items, r, subst AreDistinct first distinct, λ a. none (subst Agree (sym second) a))
-  unfounded distinct OutOfMemory none = tt
-  unfounded distinct (Journal place fault) none = absurd none
-  unfounded distinct IdUsed none = absurd none
-  unfounded distinct NeverSent none = absurd none
+  pub refused_so : (e : GatherFault) → AreRefused books e → IsRefused journals e
+  refused_so (Journal place fault) none = absurd none
+  refused_so IdUsed none = (books, r, none)
+  refused_so BadFounders none = (books, r, none.0, none.1)
+  refused_so NeverSent none = (books, r, none.0, none.1, none.2)
+  refused_so OutOfMemory none = tt
 
-  module _ (distinct : AreDistinct x) (version : Version) (config : Config) (founders : List ℕ) (agree : AgreeOn y version config founders) where
-    agreed : Agree items
-    agreed = (version, config, founders, subst (λ (b : List BookState). AgreeOn b version config founders) second agree)
+  pub gathered_so : (result : Result ClusterState GatherFault) → IfOk result (GathersBooks books) → IfOk result (Gathers journals)
+  gathered_so (Ok c) is = gathers_so c is
+  gathered_so (Err e) is = tt
 
-    pub stuck_on : (e : GatherFault) → IsStuck z e → IsRefused journals e
-    stuck_on NeverSent none = (items, r, subst AreDistinct first distinct, agreed, λ m. none (subst Merge (sym third) m))
-    stuck_on OutOfMemory none = tt
-    stuck_on (Journal place fault) none = absurd none
-    stuck_on IdUsed none = absurd none
-    stuck_on BadFounders none = absurd none
-
-    pub gathers_so : (c d : ClusterState) → IsMerged z c → d ≡ c → Gathers journals d
-    gathers_so c d m same = record {
-      books = items;
-      replayed = r;
-      distinct = subst AreDistinct first distinct;
-      agree = agreed;
-      merge = subst Merge third m.0;
-      gathered = subst (λ (s : ClusterState). IsGathered items s) (sym same) (subst (λ (b : List BookState). IsGathered b c) third m.1);
-    }
-
--- a refusal that a call passes on
-pub passed : {A : Type 0} (P : GatherFault → Type 0) (e : GatherFault) (r : Result A GatherFault) → IsErrAnd r (λ x. x ≡ e) → P e → IfErr r P
-passed P e (Ok a) is holds = tt
-passed P e (Err x) is holds = subst P (sym is) holds
+  pub left_so : (result : Result ClusterState GatherFault) → IfErr result (AreRefused books) → IfErr result (IsRefused journals)
+  left_so (Ok c) is = tt
+  left_so (Err e) is = refused_so e is

@@ -39,6 +39,13 @@ pub record Gathers (journals : List (List ℕ)) (c : ClusterState) : Type 0 wher
   pub merge : Merge books
   pub gathered : IsGathered books c
 
+-- the books merge, and the cluster is theirs
+pub record GathersBooks (books : List BookState) (c : ClusterState) : Type 0 where
+  pub distinct : AreDistinct books
+  pub agree : Agree books
+  pub merge : Merge books
+  pub gathered : IsGathered books c
+
 -- the bytes at this place are the first that are no journal
 pub record IsFaulty (journals : List (List ℕ)) (place : ℕ) (fault : ReplayFault) : Type 0 where
   pub before : List BookState
@@ -56,3 +63,12 @@ IsRefused journals IdUsed = (books : List BookState) × AreReplayed journals boo
 IsRefused journals BadFounders = (books : List BookState) × AreReplayed journals books × AreDistinct books × (Agree books → ⊥)
 IsRefused journals NeverSent = (books : List BookState) × AreReplayed journals books × AreDistinct books × Agree books × (Merge books → ⊥)
 IsRefused journals OutOfMemory = Unit {0}
+
+-- Why books that stand are not gathered: two of one node; no version, fractions and founders on which all agree; no
+-- order. These exclude each other, and each of them that the books are gathered.
+abbrev pub AreRefused : List BookState → GatherFault → Type 0
+AreRefused books (Journal place fault) = ⊥
+AreRefused books IdUsed = AreDistinct books → ⊥
+AreRefused books BadFounders = AreDistinct books × (Agree books → ⊥)
+AreRefused books NeverSent = AreDistinct books × Agree books × (Merge books → ⊥)
+AreRefused books OutOfMemory = Unit {0}

@@ -1,5 +1,6 @@
 -- How far books are gathered, and what is next.
-use Rattle.std.specs.Prelude.{◌≡◌, ℕ, List, [], length, Option, Some, None, slice_get, ◌⊎◌}
+use Rattle.std.specs.Prelude.{◌≡◌, ◌≤◌, ◌<◌, ℕ, nat_eq, true, List, [], length, Option, Some, None, slice_get}
+use Rattle.std.specs.List.{list_any}
 use Rattle.sc_msg.specs.declared.message.Message.{Message}
 use Rattle.q_desk.specs.declared.journal.Entry.{Entry}
 use Rattle.q_book.specs.State.{BookState}
@@ -12,7 +13,7 @@ use Rattle.q_merge.specs.Turns.{IsEventOf}
 use Rattle.q_merge.specs.Numbers.{NumberList, AreNumbers}
 use Rattle.q_merge.specs.Gathered.{AreTraces, IsGathered, IsUnderWay}
 use Rattle.q_gather.specs.Gather.{Merge}
-use Rattle.q_gather.specs.declared.gathering.Next.{Next}
+use Rattle.q_gather.specs.declared.rounds.Rounds.{Rounds}
 use Rattle.q_gather.specs.declared.fault.GatherFault.{GatherFault}
 use Rattle.q_gather.specs.declared.fault.GatherFault.TheVariants.{NeverSent, OutOfMemory}
 
@@ -42,10 +43,18 @@ pub record IsNextAmong (c : ClusterState) (books : List BookState) (ev : Event) 
   pub at : slice_get books place ≡ Some book
   pub next : IsNextOf c book ev
 
--- what is next after one more book was looked at: what was, or the event of this book
-abbrev pub IsLesser : ClusterState → BookState → Option Next → Option Next → Type 0
-IsLesser c whole least None = (least ≡ None) × ((ev : Event) → IsNextOf c whole ev → ⊥)
-IsLesser c whole least (Some next) = (least ≡ Some next) ⊎ IsNextOf c whole next.event
+-- the nodes of the books at these places cannot go on
+abbrev pub AreIdle : ClusterState → List BookState → List ℕ → Type 0
+AreIdle c books places = (k : ℕ) (b : BookState) (ev : Event) → list_any (nat_eq k) places ≡ true → slice_get books k ≡ Some b → IsNextOf c b ev → ⊥
+
+-- as long as no more was sent, those of which it was noted that they wait cannot go on
+abbrev pub AreWaiting : ClusterState → List BookState → Rounds → Type 0
+AreWaiting c books rounds = length c.world.sent ≡ rounds.sent → AreIdle c books rounds.waiting.keys
+
+-- what is next of the books from one place up to another: nothing, or the event of a book
+abbrev pub IsNextWithin : ClusterState → List BookState → ℕ → ℕ → Option Event → Type 0
+IsNextWithin c books first end None = (k : ℕ) (b : BookState) (ev : Event) → first ≤ k → k < end → slice_get books k ≡ Some b → IsNextOf c b ev → ⊥
+IsNextWithin c books first end (Some ev) = IsNextAmong c books ev
 
 -- the node has taken all entries of its book
 pub record HasTaken (c : ClusterState) (whole : BookState) : Type 0 where

@@ -4,12 +4,18 @@ use Rattle.std.specs.Ordering.{nat_cmp}
 use Rattle.std.specs.FinSet as set
 use Rattle.sc_members.specs.Members.{Config}
 use Rattle.sc_msg.specs.declared.version.Version.{Version}
+use Rattle.q_desk.specs.Answers.{AnswersAreRight}
 use Rattle.q_book.specs.State.{BookState}
+use Rattle.q_book.specs.Replays.{IsReplay}
 use Rattle.q_history.specs.Heads.{founders_for}
 use Rattle.q_merge.specs.Gathered.{HasBook}
 use Rattle.q_gather.specs.Gather.{Agree}
 use Rattle.q_gather.specs.declared.fault.GatherFault.{GatherFault}
 use Rattle.q_gather.specs.declared.fault.GatherFault.TheVariants.{BadFounders, OutOfMemory}
+
+-- each book is the replay of its journal, and its recorded answers are right
+abbrev pub AreReplays : List BookState → Type 0
+AreReplays books = (k : ℕ) (b : BookState) → slice_get books k ≡ Some b → IsReplay b × AnswersAreRight b.desk
 
 -- the book has this version and these fractions; and these founders, where its node is one
 abbrev pub IsHeaded : BookState → Version → Config → List ℕ → Type 0

@@ -4,11 +4,12 @@ ghost use Rattle.std.specs.Prelude.{◌≡◌, List, map, IfOk, IfErr, MatchResu
 ghost use Rattle.q_book.specs.State.{BookState};
 ghost use Rattle.q_merge.specs.Gathered.{AreDistinct, IsGathered};
 ghost use Rattle.q_gather.specs.Faults.{of_replay};
-ghost use Rattle.q_gather.specs.Gather.{AreReplayed, Agree, Merge, Gathers, IsRefused};
+ghost use Rattle.q_gather.specs.Gather.{AreReplayed, Agree, Merge, Gathers, GathersBooks, IsRefused, AreRefused};
 
 use crate::fault::GatherFault;
 use crate::gathering::Gathering;
-use crate::heads::{are_distinct, found};
+use crate::heads::{are_distinct, are_replays, found};
+use crate::rounds::take_all;
 use q_book::book::Book;
 use q_cluster::cluster::Cluster;
 use q_replay::fault::ReplayFault;
@@ -36,18 +37,42 @@ pub fn gather(alloc: Global, journals: &[&[u8]]) -> Result<Cluster, GatherFault>
     merged(alloc, journals)
 }
 
+/// The same of books that stand, which are not replayed: the cluster in which just what their journals say happened.
+/// Refused with the first of 44, 49 and 82. 99 OutOfMemory may stand in place of any of these answers.
+pub fn gather_books(alloc: Global, books: &[Book]) -> Result<Cluster, GatherFault>
+    // The books of the cluster are these.
+    ensures gathers { IfOk result (GathersBooks books.now) }
+
+    // Books that merge are gathered, unless memory runs out.
+    ensures all { AreDistinct books.now → Agree books.now → Merge books.now → MatchResult result (IsGathered books.now) (λ e. e ≡ GatherFault.OutOfMemory) }
+
+    // Which fault it is: never one of a journal.
+    ensures refused { IfErr result (AreRefused books.now) }
+{
+    merged_books(alloc, books)
+}
+
 /// What [`gather`] answers.
 fn merged(alloc: Global, journals: &[&[u8]]) -> Result<Cluster, GatherFault>
     ensures gathers { IfOk result (Gathers (map (λ bytes. bytes.now) journals.now)) }
     ensures refused { IfErr result (IsRefused (map (λ bytes. bytes.now) journals.now)) }
 {
     let books = replay_all(alloc, journals)?;
-    if !are_distinct(&books) {
+    merged_books(alloc, &books)
+}
+
+/// What [`gather_books`] answers.
+fn merged_books(alloc: Global, books: &[Book]) -> Result<Cluster, GatherFault>
+    ensures gathers { IfOk result (GathersBooks books.now) }
+    ensures refused { IfErr result (AreRefused books.now) }
+{
+    are_replays(books);
+    if !are_distinct(books) {
         return Err(GatherFault::IdUsed);
     }
-    let cluster = found(alloc, &books)?;
+    let cluster = found(alloc, books)?;
     let mut gathering = Gathering::new(alloc, cluster);
-    gathering.take_all(&books)?;
+    take_all(alloc, &mut gathering, books)?;
     Ok(gathering.into_cluster())
 }
 

@@ -1,28 +1,28 @@
 //! Books on their way into a cluster.
 
-ghost use Rattle.std.specs.Prelude.{◌≡◌, ◌++◌, ℕ, List, [], take, IfOk, OnOk, IfErr, MatchBool};
+ghost use Rattle.std.specs.Prelude.{◌≡◌, ◌++◌, ℕ, List, [], length, take, IfOk, OnOk, IfSome, MatchBool};
 ghost use Rattle.sc_msg.specs.declared.message.Message.{Message};
-ghost use Rattle.q_book.specs.State.{BookState};
 ghost use Rattle.q_history.specs.declared.event.Stepped.{Stepped};
 ghost use Rattle.q_history.specs.Calls.{Follows};
 ghost use Rattle.q_merge.specs.Numbers.{AreNumbers};
 ghost use Rattle.q_merge.specs.Turns.{IsEventOf, IsJobFor};
-ghost use Rattle.q_gather.specs.Gathering.{Finds, IsNextOf, IsNextAmong, IsLesser, HasTaken, HaveTaken, IsGathering, IsMerged, IsStuck};
+ghost use Rattle.q_gather.specs.Gathering.{Finds, IsNextOf, HasTaken, HaveTaken};
 
-use crate::fault::GatherFault;
+use crate::jobs::Jobs;
 use crate::numbers::Numbers;
 use q_book::book::Book;
 use q_cluster::cluster::Cluster;
 use q_desk::journal::Entry;
-use q_history::event::Event;
+use q_history::event::{Event, Told};
 use q_merge::laws::numbers_are_least;
 use std::alloc::{AllocError, Global};
 
-/// The cluster of what was gathered so far, and the number of each message that was sent in it.
+/// The cluster of what was gathered so far, the number of each message that was sent in it, and where its jobs stand.
 #[derive(Drop)]
 pub(crate) struct Gathering {
     cluster: Cluster,
     numbers: Numbers,
+    jobs: Jobs,
 }
 
 impl Gathering {
@@ -34,6 +34,7 @@ impl Gathering {
         Gathering {
             cluster,
             numbers: Numbers::new(alloc),
+            jobs: Jobs::new(alloc),
         }
     }
 
@@ -43,71 +44,34 @@ impl Gathering {
         let Gathering {
             cluster,
             numbers: _,
+            jobs: _,
         } = self;
         cluster
     }
 
-    /// Takes events of the books, each of the least node that can go on, until none can. Refused with 82 where some are
-    /// left.
-    pub(crate) fn take_all(&mut self, books: &[Book]) -> Result<(), GatherFault>
-        requires { IsGathering books.now self.old.cluster self.old.numbers }
-        ensures ok { OnOk result (IsMerged books.now self.new.cluster) }
-        ensures err { IfErr result (IsStuck books.now) }
+    /// How many messages were sent.
+    pub(crate) fn sent(&self) -> usize
+        ensures { result ≡ length self.now.cluster.world.sent }
     {
-        while let Some(event) = self.next(books)? {
-            self.take(&event)?;
-        }
-        if !self.have_taken(books) {
-            return Err(GatherFault::NeverSent);
-        }
-        Ok(())
+        self.cluster.sent()
     }
 
     /// Takes an event, and gives the messages that it sends their numbers.
-    fn take(&mut self, event: &Event) -> Result<(), AllocError>
+    pub(crate) fn take(&mut self, event: &Event) -> Result<(), AllocError>
         ensures event { OnOk result ((told : Stepped) × Follows self.old.cluster event.now told self.new.cluster) }
         ensures numbers { (outs : List Message) → AreNumbers self.old.cluster.world.sent self.old.numbers → self.new.cluster.world.sent ≡ self.old.cluster.world.sent ++ outs → OnOk result (AreNumbers self.new.cluster.world.sent self.new.numbers) }
     {
         let before = self.cluster.sent();
         // An event that can go is refused for want of memory alone.
-        let Ok(_stepped) = self.cluster.step(event) else {
+        let Ok(stepped) = self.cluster.step(event) else {
             return Err(AllocError);
         };
+        keep_job(&mut self.jobs, event, stepped.told)?;
         number_from(&self.cluster, &mut self.numbers, before)
     }
 
-    /// The event of the least node that can go on.
-    fn next(&self, books: &[Book]) -> Result<Option<Event>, AllocError>
-        ensures { AreNumbers self.now.cluster.world.sent self.now.numbers → IfOk result (Finds (IsNextAmong self.now.cluster books.now)) }
-    {
-        let mut least = None;
-        for book in books {
-            least = self.lesser(least, book)?;
-        }
-        match least {
-            Some(Next { id: _, event }) => Ok(Some(event)),
-            None => Ok(None),
-        }
-    }
-
-    /// What is next, this or that of a book: that of the lesser node which can go on.
-    fn lesser(&self, least: Option<Next>, book: &Book) -> Result<Option<Next>, AllocError>
-        ensures { AreNumbers self.now.cluster.world.sent self.now.numbers → IfOk result (IsLesser self.now.cluster book.now least) }
-    {
-        let id = book.id();
-        if let Some(next) = &least {
-            if next.id < id {
-                return Ok(least);
-            }
-        }
-        match self.next_of(book)? {
-            Some(event) => Ok(Some(Next { id, event })),
-            None => Ok(least),
-        }
-    }
-
     /// The event by which the node of a book goes on, where it can: it enters, or takes its next entry.
-    fn next_of(&self, book: &Book) -> Result<Option<Event>, AllocError>
+    pub(crate) fn next_of(&self, book: &Book) -> Result<Option<Event>, AllocError>
         ensures { AreNumbers self.now.cluster.world.sent self.now.numbers → IfOk result (Finds (IsNextOf self.now.cluster book.now)) }
     {
         let id = book.id();
@@ -160,6 +124,29 @@ impl Gathering {
     fn job_for(&self, node: u64, query: usize) -> Result<Option<usize>, AllocError>
         ensures { IfOk result (Finds (IsJobFor self.now.cluster.jobs node query)) }
     {
+        match self.kept_job_for(node, query) {
+            Some(number) => Ok(Some(number)),
+            None => self.first_job_for(node, query),
+        }
+    }
+
+    /// The number that was kept, where it is that of such a job.
+    fn kept_job_for(&self, node: u64, query: usize) -> Option<usize>
+        ensures { IfSome result (IsJobFor self.now.cluster.jobs node query) }
+    {
+        let number = self.jobs.get(node, query)?;
+        let job = self.cluster.job(number)?;
+        if job.node() == node && job.query() == query {
+            Some(number)
+        } else {
+            None
+        }
+    }
+
+    /// The first such number.
+    fn first_job_for(&self, node: u64, query: usize) -> Result<Option<usize>, AllocError>
+        ensures { IfOk result (Finds (IsJobFor self.now.cluster.jobs node query)) }
+    {
         for number in 0..usize::MAX {
             let Some(job) = self.cluster.job(number) else {
                 return Ok(None);
@@ -172,7 +159,7 @@ impl Gathering {
     }
 
     /// Whether the nodes have taken all entries of their books.
-    fn have_taken(&self, books: &[Book]) -> bool
+    pub(crate) fn have_taken(&self, books: &[Book]) -> bool
         ensures { MatchBool result (HaveTaken self.now.cluster books.now) (HaveTaken self.now.cluster books.now → ⊥) }
     {
         for book in books {
@@ -193,11 +180,14 @@ impl Gathering {
     }
 }
 
-/// The event by which a node goes on.
-#[derive(Drop)]
-struct Next {
-    id: u64,
-    event: Event,
+/// Keeps where the job stands that this event handed out.
+fn keep_job(jobs: &mut Jobs, event: &Event, told: Told) -> Result<(), AllocError> {
+    if let Event::HandOut(node) = event
+        && let Told::HandedOut(Some(handed)) = told
+    {
+        jobs.add(*node, handed)?;
+    }
+    Ok(())
 }
 
 /// Gives the messages from this number on their numbers.

@@ -1,4 +1,5 @@
-//! Whether books are of different nodes, and agree on their version, fractions and founders.
+//! What is true of all books, whether they are of different nodes, and whether they agree on their version, fractions
+//! and founders.
 
 ghost use Rattle.std.specs.Prelude.{◌≡◌, ℕ, List, Some, None, IfOk, IfErr, MatchBool, MatchOption, slice_get, true};
 ghost use Rattle.sc_members.specs.Members.{Config};
@@ -6,7 +7,7 @@ ghost use Rattle.q_book.specs.State.{BookState};
 ghost use Rattle.q_history.specs.Heads.{founders_for};
 ghost use Rattle.q_history.specs.Clusters.{start};
 ghost use Rattle.q_merge.specs.Gathered.{HasBook, AreDistinct, AgreeOn};
-ghost use Rattle.q_gather.specs.Heads.{IsHeaded, AreHeaded, AreThere, HasHead, IsUnfounded};
+ghost use Rattle.q_gather.specs.Heads.{AreReplays, IsHeaded, AreHeaded, AreThere, HasHead, IsUnfounded};
 
 use crate::fault::GatherFault;
 use q_book::book::Book;
@@ -14,6 +15,16 @@ use q_cluster::cluster::Cluster;
 use sc_members::config::Config;
 use sc_msg::version::Version;
 use std::alloc::Global;
+
+/// A law of books: each is the replay of its journal, and its recorded answers are right.
+pub(crate) fn are_replays(books: &[Book])
+    ensures { AreReplays books.now }
+{
+    for book in books {
+        let _journal = book.journal();
+        let _desk = book.desk();
+    }
+}
 
 /// Whether no two books are of one node.
 pub(crate) fn are_distinct(books: &[Book]) -> bool

@@ -1,5 +1,5 @@
 use Rattle.std.proofs.Common.{◌∙◌, sym}
-use Rattle.q_gather.proofs.gathering.Gathering.job_for.Goals as goal
+use Rattle.q_gather.proofs.gathering.Gathering.first_job_for.Goals as goal
 
 pub returns-then-query : goal.returns-then-query
 returns-then-query c = record {

@@ -1,0 +1,97 @@
+-- Rounds over the books: what is next, and which cannot go on.
+use Rattle.std.proofs.Common.{◌≡◌, ◌<◌, ◌≤◌, ◌+◌, ℕ, Bool, true, false, cond, nat_lt, List, [], ◌∷◌, length, Option, Some, None, Result, Ok, Err, refl, sym, ap, ◌∙◌, subst, slice_get, arith}
+use Rattle.std.specs.Prelude.{IfOk, nat_eq}
+use Rattle.std.specs.List.{list_any}
+use Rattle.std.proofs.lemmas.Bool.{eqb-true, ltb-true, ltb-false}
+use Rattle.std.proofs.lemmas.Option.{slice_get_within}
+use Rattle.q_book.specs.State.{BookState}
+use Rattle.q_history.specs.declared.event.Event.{Event}
+use Rattle.q_history.specs.State.{ClusterState}
+use Rattle.q_history.proofs.Lists.{same_some}
+use Rattle.q_gather.specs.Gathering.{Finds, IsNextOf, IsNextAmong, AreIdle, IsNextWithin}
+
+-- the node of the book cannot go on
+abbrev pub IsIdle : ClusterState → BookState → Type 0
+IsIdle c b = (ev : Event) → IsNextOf c b ev → ⊥
+
+-- no place is among none
+pub none_among : (places : List ℕ) (k : ℕ) → places ≡ [] → list_any (nat_eq k) places ≡ true → ⊥
+none_among [] k none among = absurd (cc)
+none_among (x ∷ xs) k none among = absurd (cc)
+
+module _ (c : ClusterState) (books : List BookState) where
+  -- ---- which cannot go on
+
+  -- none at no place
+  pub idle_none : (places : List ℕ) → places ≡ [] → AreIdle c books places
+  idle_none places none k b ev among at next = none_among places k none among
+
+  -- after those that wait were waked, where more was sent
+  pub idle_woken : (old new : List ℕ) (then now : ℕ) → ((k : ℕ) → list_any (nat_eq k) new ≡ true → (now ≡ then) × (list_any (nat_eq k) old ≡ true)) → now ≡ length c.world.sent
+      → (length c.world.sent ≡ then → AreIdle c books old) → AreIdle c books new
+  idle_woken old new then now kept is waits k b ev among at next =
+      let own = kept k among in
+      waits (sym is ∙ own.0) k b ev own.1 at next
+
+  -- nothing is next of one that waits
+  pub none_waiting : (places : List ℕ) (place : ℕ) → list_any (nat_eq place) places ≡ true → AreIdle c books places → IsNextWithin c books place (place + 1) None
+  none_waiting places place among idle k b ev low high at next =
+      let same : place ≡ k = omega (arith, low, high) in
+      idle k b ev (subst (λ (n : ℕ). list_any (nat_eq n) places ≡ true) same among) at next
+
+  module _ (place : ℕ) (own : BookState) (here : slice_get books place ≡ Some own) where
+    idle_by : (old : List ℕ) → IsIdle c own → AreIdle c books old → (k : ℕ) (b : BookState) (ev : Event) (t : Bool) → nat_eq place k ≡ t → cond t true (list_any (nat_eq k) old) ≡ true → slice_get books k ≡ Some b → IsNextOf c b ev → ⊥
+    idle_by old idle known k b ev true is among at next =
+        let same : own ≡ b = same_some own b (sym here ∙ ap (slice_get books) (eqb-true place k is) ∙ at) in
+        idle ev (subst (λ (x : BookState). IsNextOf c x ev) (sym same) next)
+    idle_by old idle known k b ev false is among at next = known k b ev among at next
+
+    -- one more that cannot
+    pub idle_more : (old new : List ℕ) → IsIdle c own → ((q : ℕ) → list_any (nat_eq q) new ≡ cond (nat_eq place q) true (list_any (nat_eq q) old)) → AreIdle c books old → AreIdle c books new
+    idle_more old new idle more known k b ev among at next = idle_by old idle known k b ev (nat_eq place k) refl (sym (more k) ∙ among) at next
+
+    -- ---- what is next
+
+    -- nothing, of the book at this place
+    pub none_at : IsIdle c own → IsNextWithin c books place (place + 1) None
+    none_at idle k b ev low high at next =
+        let same : place ≡ k = omega (arith, low, high) in
+        let one : own ≡ b = same_some own b (sym here ∙ ap (slice_get books) same ∙ at) in
+        idle ev (subst (λ (x : BookState). IsNextOf c x ev) (sym one) next)
+
+    -- what is found of it
+    pub found_at : (o : Option Event) → Finds (IsNextOf c own) o → IsNextWithin c books place (place + 1) o
+    found_at None none = none_at none
+    found_at (Some ev) is = record { place = place; book = own; at = here; next = is }
+
+  within_by : (first place k : ℕ) (b : BookState) (ev : Event) (t : Bool) → nat_lt k place ≡ t → IsNextWithin c books first place None → IsNextWithin c books place (place + 1) None → first ≤ k → k < place + 1 → slice_get books k ≡ Some b
+      → IsNextOf c b ev → ⊥
+  within_by first place k b ev true is before own low high at next = before k b ev low (ltb-true k place is) at next
+  within_by first place k b ev false is before own low high at next = own k b ev (ltb-false k place is) high at next
+
+  -- nothing, of one more
+  pub none_more : (first place : ℕ) → IsNextWithin c books first place None → IsNextWithin c books place (place + 1) None → IsNextWithin c books first (place + 1) None
+  none_more first place before own k b ev low high at next = within_by first place k b ev (nat_lt k place) refl before own low high at next
+
+  pub none_yet : (first : ℕ) → IsNextWithin c books first first None
+  none_yet first k b ev low high at next = absurd (omega (arith, low, high))
+
+  -- and so up to no later place
+  pub none_until : (first place end : ℕ) → end ≤ place → IsNextWithin c books first place None → IsNextWithin c books first end None
+  none_until first place end past none k b ev low high at next = none k b ev low (omega (arith, past, high)) at next
+
+  among_by : (first end : ℕ) → end ≡ length books → IsNextWithin c books first end None → IsNextWithin c books 0 first None → (ev : Event) (n : IsNextAmong c books ev) (t : Bool) → nat_lt n.place first ≡ t → ⊥
+  among_by first end all behind before ev n true is =
+      before n.place n.book ev (omega arith) (ltb-true n.place first is) n.at n.next
+  among_by first end all behind before ev n false is =
+      let within : n.place < length books = slice_get_within books n.place n.book n.at in
+      behind n.place n.book ev (ltb-false n.place first is) (omega (arith, within, all)) n.at n.next
+
+  -- of all, in a round
+  pub round : (first end : ℕ) → end ≡ length books → IsNextWithin c books first end None → (o : Option Event) → IsNextWithin c books 0 first o → Finds (IsNextAmong c books) o
+  round first end all behind None before = λ ev n. among_by first end all behind before ev n (nat_lt n.place first) refl
+  round first end all behind (Some ev) before = before
+
+  pub round_ok : {E : Type 0} (first end : ℕ) → end ≡ length books → IsNextWithin c books first end None → (r : Result (Option Event) E) → IfOk r (IsNextWithin c books 0 first) → IfOk r (Finds (IsNextAmong c books))
+  round_ok first end all behind (Ok o) before = round first end all behind o before
+  round_ok first end all behind (Err e) before = tt

@@ -1,0 +1,53 @@
+use Rattle.std.proofs.Common.{Option, None, subst}
+use Rattle.q_history.specs.declared.event.Event.{Event}
+use Rattle.q_gather.specs.Gathering.{Finds, IsNextAmong}
+use Rattle.q_gather.proofs.Waiting.{idle_none}
+use Rattle.q_gather.proofs.Going.{goes_on, goes_less, waiting_on, merged, stuck}
+use Rattle.q_gather.proofs.rounds.take_all.Goals as goal
+
+pub loop-rounds-init : goal.loop-rounds-init
+loop-rounds-init c = record {
+  gathering = c.requires;
+  waiting = λ long. idle_none c.args.gathering.now.cluster c.args.books.now c.new-rounds.result.waiting.keys c.new-rounds.ensures;
+}
+
+pub returns-then-not-have_taken-clause-err : goal.returns-then-not-have_taken-clause-err
+returns-then-not-have_taken-clause-err c =
+    let none : Finds (IsNextAmong c.loop-rounds.gathering.cluster c.args.books.now) None =
+    subst (λ (o : Option Event). Finds (IsNextAmong c.loop-rounds.gathering.cluster c.args.books.now) o) c.in_default.is (c.in_ok-event.ensures.next c.loop-rounds.invariant.gathering.numbered c.loop-rounds.invariant.waiting) in
+    stuck c.args.books.now c.loop-rounds.gathering.cluster c.loop-rounds.gathering.numbers c.loop-rounds.invariant.gathering none c.if-not-have_taken.ensures
+
+pub returns-clause-ok : goal.returns-clause-ok
+returns-clause-ok c = merged c.args.books.now c.loop-rounds.gathering.cluster c.loop-rounds.gathering.numbers c.loop-rounds.invariant.gathering c.if-not-have_taken.ensures
+
+pub loop-rounds-smaller-in_ok-take : goal.loop-rounds-smaller-in_ok-take
+loop-rounds-smaller-in_ok-take c =
+    let t = c.in_ok-take.ensures {u = tt} in
+    let found = subst (λ (o : Option Event). Finds (IsNextAmong c.loop-rounds.gathering.cluster c.args.books.now) o) c.in-Some.is (c.in_ok-event.ensures.next c.loop-rounds.invariant.gathering.numbered c.loop-rounds.invariant.waiting) in
+    goes_less c.args.books.now c.loop-rounds.gathering.cluster c.take.new.self.cluster c.loop-rounds.gathering.numbers c.take.new.self.numbers c.loop-rounds.invariant.gathering c.in-Some.event found t.event.0 t.event.1
+
+pub loop-rounds-smaller : goal.loop-rounds-smaller
+loop-rounds-smaller c =
+    let t = c.in_ok-take.ensures {u = tt} in
+    let found = subst (λ (o : Option Event). Finds (IsNextAmong c.loop-rounds.gathering.cluster c.args.books.now) o) c.in-Some.is (c.in_ok-event.ensures.next c.loop-rounds.invariant.gathering.numbered c.loop-rounds.invariant.waiting) in
+    goes_less c.args.books.now c.loop-rounds.gathering.cluster c.take.new.self.cluster c.loop-rounds.gathering.numbers c.take.new.self.numbers c.loop-rounds.invariant.gathering c.in-Some.event found t.event.0 t.event.1
+
+pub loop-rounds-preserved-in_ok-take : goal.loop-rounds-preserved-in_ok-take
+loop-rounds-preserved-in_ok-take c =
+    let t = c.in_ok-take.ensures {u = tt} in
+    let found = subst (λ (o : Option Event). Finds (IsNextAmong c.loop-rounds.gathering.cluster c.args.books.now) o) c.in-Some.is (c.in_ok-event.ensures.next c.loop-rounds.invariant.gathering.numbered c.loop-rounds.invariant.waiting) in
+    let idle = c.in_ok-event.ensures.waiting c.loop-rounds.invariant.gathering.numbered c.loop-rounds.invariant.waiting in
+    record {
+      gathering = goes_on c.args.books.now c.loop-rounds.gathering.cluster c.take.new.self.cluster c.loop-rounds.gathering.numbers c.take.new.self.numbers c.loop-rounds.invariant.gathering c.in-Some.event found t.event.0 t.event.1 t.numbers;
+      waiting = waiting_on c.args.books.now c.loop-rounds.gathering.cluster c.take.new.self.cluster c.loop-rounds.gathering.numbers c.take.new.self.numbers c.loop-rounds.invariant.gathering c.in-Some.event found t.event.0 t.event.1 c.next.new.self.waiting.keys c.next.new.self.sent c.next.ensures.sent idle;
+    }
+
+pub loop-rounds-preserved : goal.loop-rounds-preserved
+loop-rounds-preserved c =
+    let t = c.in_ok-take.ensures {u = tt} in
+    let found = subst (λ (o : Option Event). Finds (IsNextAmong c.loop-rounds.gathering.cluster c.args.books.now) o) c.in-Some.is (c.in_ok-event.ensures.next c.loop-rounds.invariant.gathering.numbered c.loop-rounds.invariant.waiting) in
+    let idle = c.in_ok-event.ensures.waiting c.loop-rounds.invariant.gathering.numbered c.loop-rounds.invariant.waiting in
+    record {
+      gathering = goes_on c.args.books.now c.loop-rounds.gathering.cluster c.take.new.self.cluster c.loop-rounds.gathering.numbers c.take.new.self.numbers c.loop-rounds.invariant.gathering c.in-Some.event found t.event.0 t.event.1 t.numbers;
+      waiting = waiting_on c.args.books.now c.loop-rounds.gathering.cluster c.take.new.self.cluster c.loop-rounds.gathering.numbers c.take.new.self.numbers c.loop-rounds.invariant.gathering c.in-Some.event found t.event.0 t.event.1 c.next.new.self.waiting.keys c.next.new.self.sent c.next.ensures.sent idle;
+    }
