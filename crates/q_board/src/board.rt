@@ -26,6 +26,8 @@ use q_slots::rule::{
 use q_slots::view::View;
 use std::alloc::{AllocError, Global};
 use std::collections::VecDeque;
+use std::sync::{Condvar, Wait};
+use std::time::Duration;
 
 /// The most askers of a board.
 pub const MOST_ASKERS: usize = 16;
@@ -33,11 +35,14 @@ pub const MOST_ASKERS: usize = 16;
 /// The most runners of a board.
 pub const MOST_RUNNERS: usize = 64;
 
-/// A board, which its askers and runners share. Each asker has a row of eight slots.
+/// A board, which its askers and runners share. Each asker has a row of eight slots. A bell wakes runners that wait
+/// for jobs; no clause speaks of it.
 #[derive(Drop)]
 pub struct Board {
     table: Table<Cell, View, u64, Order, Global>,
     lanes: usize,
+    // Rung where a slot was made ready.
+    bell: Condvar,
     ghost sized: { (table.shared.table_id.words ≡ lanes) × (table.shared.table_id.slots ≡ lanes) × (table.shared.key ≡ lanes) },
 }
 
@@ -93,6 +98,7 @@ impl Board {
         let shared = &self.table.shared;
         put(&mut seat.seat, shared, index, Cell::Offered(job));
         shared.store::<Publish>(&mut seat.seat, index, Found::Ready.word());
+        self.bell.notify_one();
         Ok(Slot { index })
     }
 
@@ -176,6 +182,24 @@ impl Board {
         let shared = &self.table.shared;
         fill(&mut seat.seat, &mut seat.claims, shared, slot, cell);
         shared.store::<GiveBack>(&mut seat.seat, slot, Found::Ready.word());
+        self.bell.notify_one();
+    }
+
+    /// How often the bell was rung so far, wrapping: once for each slot that an offer or a claim that was given back
+    /// made ready, and once for each [`Board::wake_all`].
+    pub fn offers(&self) -> u64 {
+        self.bell.notifications()
+    }
+
+    /// Sleeps until the bell is rung once more than so often, at most so long. It may return before. So a runner that
+    /// read how often it was rung, and then tried each slot, misses no job while it sleeps.
+    pub fn await_offer<R: Wait>(&self, rt: &R, rung: u64, most: Duration) {
+        self.bell.sleep(rt, rung, most);
+    }
+
+    /// Rings the bell for all runners that sleep, as the work ends.
+    pub fn wake_all(&self) {
+        self.bell.notify_all();
     }
 }
 
@@ -195,7 +219,10 @@ impl Board {
         }
         let key = lanes as u64;
         match Table::new(alloc, &words, cells, &key) {
-            Ok((table, seat)) => Ok((Board { table, lanes }, seat)),
+            Ok((table, seat)) => {
+                let bell = Condvar::new();
+                Ok((Board { table, lanes, bell }, seat))
+            }
             Err(Refused { slots: _ }) => Err(AllocError),
         }
     }

@@ -7,6 +7,7 @@ use crate::asker::{Asker, askers};
 use crate::founder::{Founder, Served};
 use crate::gate::passes_with;
 use crate::many::right_answers;
+use crate::muster::musters;
 use crate::runner::{Runner, runners};
 use crate::step::Outcome;
 use q_board::board::Board;
@@ -132,6 +133,7 @@ impl Cases<'_> {
         let alloc = self.alloc;
         match word {
             "gate" => passes_with(rt, alloc, first as usize, second),
+            "threads" => musters(rt, alloc, first as usize, second),
             "many" => right_answers(rt, alloc, first as usize, second as usize, third),
             "run" | "back" => self.runner_step(word, first, second),
             "pump" | "offer" | "receive" => self.asker_step(word, first),

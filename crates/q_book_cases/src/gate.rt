@@ -20,7 +20,7 @@ use std::thread::Threads;
 use std::time::{Clock, Duration};
 
 /// How long a nap lasts, which each side takes between two looks at whether the other has come on.
-const NAP_MICROS: u64 = 50;
+pub const NAP_MICROS: u64 = 50;
 
 /// What the two sides tell each other, and how often each looks.
 #[derive(Drop)]
@@ -50,6 +50,10 @@ struct Held<'a, R> {
 }
 
 impl<R: Clock> Gate for Held<'_, R> {
+    ghost entered = { λ _ _. Unit {0} };
+
+    ghost left = { λ _ _. Unit {0} };
+
     fn before(&self, query: usize) {
         if query == 1 {
             self.signs.began.store(true, SeqCst);

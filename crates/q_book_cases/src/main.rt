@@ -25,6 +25,7 @@
 //! | `receive PLACE` | records the result at this place of the asker's row: its query |
 //! | `pump` | receives and records all results, and offers what is ready: how many were recorded |
 //! | `gate RUNNERS LOOKS` | asks three queries of so many runners in threads, of which the second is held until the third is answered, or for so many looks: whether no run held another up, and all answers are right |
+//! | `threads RUNNERS LOOKS` | asks as many queries as there are runners in threads, where each run is held until all are, or for so many looks: whether all were held at once and let out, and all answers are right |
 //! | `many ASKERS RUNNERS QUERIES` | runs so many askers and runners in threads, where each asker asks so many queries: how many answers are right |
 //!
 //! The board of the steps has eight places, and is the same for all cases: each leaves it empty. What a call makes of a
@@ -40,6 +41,7 @@ mod cases;
 mod founder;
 mod gate;
 mod many;
+mod muster;
 mod requests;
 mod runner;
 mod step;

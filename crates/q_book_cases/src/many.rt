@@ -57,7 +57,7 @@ fn ask_of(asker: &mut Asker<'_>, founder: &mut Founder, queries: u64) -> u64 {
 }
 
 /// The same of a founder of its own.
-fn ask_all<R: Wait>(rt: &R, alloc: Global, asker: &mut Asker<'_>, queries: u64) -> u64 {
+pub fn ask_all<R: Wait>(rt: &R, alloc: Global, asker: &mut Asker<'_>, queries: u64) -> u64 {
     match furnished(rt, alloc) {
         Some(mut founder) => ask_of(asker, &mut founder, queries),
         None => 0,

@@ -1,4 +1,5 @@
 mod Rounds
+mod Passing
 mod Turning
 mod Pumping
 mod Looks

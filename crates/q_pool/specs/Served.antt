@@ -1,5 +1,5 @@
 -- What a runner's seat has done after some looks at slots in turn.
-use Rattle.std.specs.Prelude.{◌≡◌, ℕ, zero, suc, ◌+◌, ◌%◌, List, [], ◌∷◌, ◌++◌, length}
+use Rattle.std.specs.Prelude.{◌≡◌, ℕ, zero, suc, ◌+◌, ◌%◌, List, [], ◌∷◌, ◌++◌, length, All}
 use Rattle.q_session.specs.Done.{Finished}
 use Rattle.q_slots.specs.declared.found.Look.{Look}
 use Rattle.q_board.specs.RunnerModel.{RunnerModel}
@@ -29,3 +29,8 @@ pub record Served (old : RunnerModel) (n : ℕ) (count : ℕ) (new : RunnerModel
   pub board : new.table ≡ old.table
   pub lanes : new.lanes ≡ old.lanes
   pub number : new.number ≡ old.number
+
+-- each job that was finished from one time to another was let in and let out
+abbrev pub Passed : (ℕ → Type 0) → (ℕ → Type 0) → List Finished → List Finished → Type 0
+Passed entered left old new =
+    (done : List Finished) × (new ≡ old ++ done) × All (λ (d : Finished). entered d.job.query × left d.job.query) done

@@ -4,9 +4,9 @@
 //! its round, [`runners`] the threads. The pump of a node carries results from its asker's row into its book, and jobs
 //! from the book into the row: [`pump`]. A [`gate`] is told of each run.
 //!
-//! What a round makes of a runner's seat is said by `specs/Served`, what the pump makes of a row and a book by
-//! `specs/Pumped`: it holds in every schedule, since a seat's record tells of its own steps alone. That a thread gets
-//! on is said nowhere.
+//! What a round makes of a runner's seat, and that each job that it finished passed the gate, is said by
+//! `specs/Served`, what the pump makes of a row and a book by `specs/Pumped`: it holds in every schedule, since a seat's
+//! record tells of its own steps alone. That a thread gets on is said nowhere.
 #![tactic(auto)]
 
 pub mod gate;

@@ -6,7 +6,7 @@ ghost use Rattle.q_board.specs.BoardId.{board_id};
 use crate::gate::Gate;
 use crate::runner::run_some;
 use bq_frame::block::Block;
-use q_board::board::Board;
+use q_board::board::{Board, MOST_ASKERS};
 use q_board::seats::RunnerSeat;
 use std::alloc::{AllocError, Global};
 use std::sync::Wait;
@@ -14,14 +14,18 @@ use std::sync::atomic::AtomicBool;
 use std::sync::atomic::Ordering::SeqCst;
 use std::thread;
 use std::thread::{Scope, Threads};
+use std::time::Duration;
 
-/// How many slots a runner's thread tries before it looks whether the work is over, and gives way where none was ready: as
-/// many as one asker has. More of them slow the askers down, whose words they contend for.
+/// How many slots a runner's thread tries at once: as many as one asker has. More of them slow the askers down, whose
+/// words they contend for.
 const LOOKS: u32 = 8;
 
-/// Starts a thread for each seat, which runs the board's jobs over a block of its own, calls `work` in this thread, and
-/// then stops and joins the others. Where a block or a thread can't be had, `work` isn't called, the threads that were
-/// started are joined, and it is refused with 99 OutOfMemory. The seats are used up.
+/// For how long a runner's thread sleeps at most where no slot was ready.
+const NAP_MILLIS: u64 = 50;
+
+/// Starts a thread for each seat, which runs the board's jobs over a block of its own. Once all are started, calls
+/// `work` in this thread, and then stops and joins the others. Where a block or a thread can't be had, `work` isn't
+/// called, the threads that were started are joined, and it is refused with 99 OutOfMemory. The seats are used up.
 pub fn with_runners<R, G, T, W>(
     rt: &R,
     alloc: Global,
@@ -55,6 +59,7 @@ where
                 Err(AllocError)
             };
             over.store(true, SeqCst);
+            board.wake_all();
             answer
         },
     )
@@ -104,7 +109,8 @@ fn start<'s, E, R: Wait + Threads + Sync, G: Gate + Sync>(
         .is_ok()
 }
 
-// Runs the board's jobs until the work is over, and gives way where there was none.
+// Runs the board's jobs until the work is over, and sleeps while none is ready. The bell is read before all else, so an
+// offer that comes later, and the end of the work, end the sleep.
 fn run_until<R: Wait, G: Gate>(
     rt: &R,
     board: &Board,
@@ -116,11 +122,26 @@ fn run_until<R: Wait, G: Gate>(
     requires { seat.table ≡ board_id board.now }
 {
     for _ in rt.forever() {
+        let rung = board.offers();
         if over.load(SeqCst) {
             break;
         }
-        if run_some(board, &mut seat, &mut block, gate, LOOKS) == 0 {
-            thread::yield_now();
+        if !run_any(board, &mut seat, &mut block, gate) {
+            board.await_offer(rt, rung, Duration::from_millis(NAP_MILLIS));
         }
     }
+}
+
+// Tries as many slots as a board has at most, and gives way in between, until one was ready: whether one was.
+fn run_any<G: Gate>(board: &Board, seat: &mut RunnerSeat, block: &mut Block, gate: &G) -> bool
+    requires { seat.old.table ≡ board_id board.now }
+    ensures { seat.new.table ≡ seat.old.table }
+{
+    for _ in 0..MOST_ASKERS {
+        if run_some(board, seat, block, gate, LOOKS) > 0 {
+            return true;
+        }
+        thread::yield_now();
+    }
+    false
 }

@@ -1,6 +1,6 @@
 //! Datagrams over memory, that threads share.
 
-ghost use Rattle.std.specs.Prelude.{◌≡◌, ◌≤◌, ◌↔◌, ◌++◌, ◌∷◌, [], length, Err, IfOk, IfSome, IsSome, OnOk, OnErr, MatchOption};
+ghost use Rattle.std.specs.Prelude.{◌≡◌, ◌≢◌, ◌≤◌, ◌↔◌, ◌++◌, ◌∷◌, [], length, Err, IfErr, IfOk, IfSome, IsOk, IsSome, OnOk, OnErr, MatchOption};
 ghost use Rattle.q_wire.specs.Counts.{one_fewer, transport_count};
 ghost use Rattle.q_wire.specs.Peers.{HasMailbox};
 
@@ -9,7 +9,8 @@ use crate::transport::{Transport, count_failure, put_at_start};
 use std::alloc::{AllocError, Global};
 use std::collections::VecDeque;
 use std::marker::Model;
-use std::sync::{Mutex, Wait};
+use std::sync::{Condvar, Mutex, Wait};
+use std::time::Duration;
 
 /// What was sent to a node and what it did not receive yet. Contracts see the bytes of each datagram, in the order in
 /// which they were sent.
@@ -56,10 +57,45 @@ impl Mailbox {
     }
 }
 
+/// A mailbox with a lock of its own, and a bell that wakes whoever waits for a datagram there.
+#[derive(Drop)]
+struct Door {
+    mailbox: Mutex<Mailbox>,
+    bell: Condvar,
+}
+
+impl Door {
+    /// An empty mailbox.
+    fn new(alloc: Global) -> Door {
+        Door {
+            mailbox: Mutex::new(Mailbox::new(alloc)),
+            bell: Condvar::new(),
+        }
+    }
+
+    /// Puts a datagram behind those that wait, and rings.
+    fn put<R: Wait>(&self, rt: &R, bytes: &[u8]) -> Result<(), AllocError> {
+        self.mailbox.lock(rt).put(bytes)?;
+        self.bell.notify_one();
+        Ok(())
+    }
+
+    /// Takes the datagram that waits longest. Where none does it waits for one, no longer than so long.
+    fn take<R: Wait>(&self, rt: &R, patience: Duration) -> Option<Vec<u8>> {
+        let rung = self.bell.notifications();
+        let taken = self.mailbox.lock(rt).take();
+        if taken.is_some() || patience.is_zero() {
+            return taken;
+        }
+        self.bell.sleep(rt, rung, patience);
+        self.mailbox.lock(rt).take()
+    }
+}
+
 /// A mailbox with a lock of its own for each of some nodes, which are counted from 1. Contracts see how many.
 #[derive(Drop)]
 pub struct Hub {
-    mailboxes: Vec<Mutex<Mailbox>>,
+    mailboxes: Vec<Door>,
 }
 
 impl Model for Hub {
@@ -77,13 +113,13 @@ impl Hub {
     {
         let mut mailboxes = Vec::new(alloc);
         for _ in 0..nodes {
-            mailboxes.push(Mutex::new(Mailbox::new(alloc)))?;
+            mailboxes.push(Door::new(alloc))?;
         }
         Ok(Hub { mailboxes })
     }
 
     /// The mailbox of a node.
-    fn mailbox(&self, node: u64) -> Option<&Mutex<Mailbox>>
+    fn mailbox(&self, node: u64) -> Option<&Door>
         ensures { IsSome result ↔ HasMailbox self.now node }
     {
         let place = node.checked_sub(1)?;
@@ -92,10 +128,12 @@ impl Hub {
 }
 
 /// A node's end of a hub. A node that has no mailbox there hears nothing, and is told nothing: such calls fail. For
-/// tests one of the calls may be made to fail, which then reaches no mailbox.
+/// tests one of the calls may be made to fail, which then reaches no mailbox. No other call fails; a send may want
+/// memory.
 #[derive(Drop)]
 pub struct MemoryTransport<'a, R: Wait> {
     rt: &'a R,
+    patience: Duration,
     /// The mailboxes of all nodes.
     pub hub: &'a Hub,
     /// The node whose end it is.
@@ -107,8 +145,9 @@ pub struct MemoryTransport<'a, R: Wait> {
 }
 
 impl<'a, R: Wait> MemoryTransport<'a, R> {
-    /// The end of this node, with no call that is to fail.
-    pub fn new(rt: &'a R, hub: &'a Hub, node: u64) -> Self
+    /// The end of this node, with no call that is to fail. A call of `receive` waits no longer than so long for a
+    /// datagram.
+    pub fn new(rt: &'a R, hub: &'a Hub, node: u64, patience: Duration) -> Self
         ensures hub { result.hub.now ≡ hub.now }
         ensures node { result.node ≡ node }
         ensures failures { result.failures ≡ 0 }
@@ -116,6 +155,7 @@ impl<'a, R: Wait> MemoryTransport<'a, R> {
     {
         MemoryTransport {
             rt,
+            patience,
             hub,
             node,
             failures: 0,
@@ -144,6 +184,7 @@ impl<R: Wait> Transport for MemoryTransport<'_, R> {
         ensures node { self.new.node ≡ self.old.node }
         ensures failing { self.new.failing ≡ one_fewer self.old.failing }
         ensures fails { self.old.failing ≡ 1 → result ≡ Err TransportFault.Failed }
+        ensures sends { self.old.failing ≢ 1 → HasMailbox self.old.hub.now to → IfErr result (λ e. e ≡ TransportFault.OutOfMemory) }
     {
         if is_to_fail(&mut self.failing) {
             return Err(count_failure(&mut self.failures));
@@ -151,7 +192,7 @@ impl<R: Wait> Transport for MemoryTransport<'_, R> {
         let Some(mailbox) = self.hub.mailbox(to) else {
             return Err(count_failure(&mut self.failures));
         };
-        mailbox.lock(self.rt).put(bytes)?;
+        mailbox.put(self.rt, bytes)?;
         Ok(())
     }
 
@@ -165,6 +206,7 @@ impl<R: Wait> Transport for MemoryTransport<'_, R> {
         ensures failing { self.new.failing ≡ one_fewer self.old.failing }
         ensures fails { self.old.failing ≡ 1 → result ≡ Err TransportFault.Failed }
         ensures same_buffer { self.old.failing ≡ 1 → into.new ≡ into.old }
+        ensures hears { self.old.failing ≢ 1 → HasMailbox self.old.hub.now self.old.node → IsOk result }
     {
         if is_to_fail(&mut self.failing) {
             return Err(count_failure(&mut self.failures));
@@ -172,7 +214,7 @@ impl<R: Wait> Transport for MemoryTransport<'_, R> {
         let Some(mailbox) = self.hub.mailbox(self.node) else {
             return Err(count_failure(&mut self.failures));
         };
-        let taken = mailbox.lock(self.rt).take();
+        let taken = mailbox.take(self.rt, self.patience);
         Ok(taken.map(|bytes| put_at_start(bytes.as_slice(), into)))
     }
 

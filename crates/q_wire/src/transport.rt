@@ -15,7 +15,7 @@ pub trait Transport {
         ensures { failed self.new ≡ transport_count result (failed self.old) };
 
     /// Puts the next datagram at the start of a buffer and gives its length, or none where none is there. What does not
-    /// fit is lost. Refused with 86 where that fails.
+    /// fit is lost. It may wait a while for one; for how long no clause says. Refused with 86 where that fails.
     fn receive(&mut self, into: &mut [u8]) -> Result<Option<usize>, TransportFault>
         ensures counted { failed self.new ≡ transport_count result (failed self.old) }
         ensures len { length into.new ≡ length into.old }

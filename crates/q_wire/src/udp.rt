@@ -12,9 +12,6 @@ use std::io::ErrorKind;
 use std::net::{Ipv4Addr, Net, SocketAddr, UdpSocket};
 use std::time::Duration;
 
-// How long a call of `receive` waits for a datagram.
-const PATIENCE_MILLIS: u64 = 1;
-
 /// Where a node's socket is.
 #[derive(Clone, Copy)]
 pub struct Peer {
@@ -32,14 +29,24 @@ pub struct UdpTransport {
     pub failures: u64,
 }
 
+/// From now on a read of a socket waits no longer than so long for a datagram, or not at all.
+fn set_patience(socket: &UdpSocket, patience: Duration) -> io::Result<()> {
+    if patience.is_zero() {
+        socket.set_nonblocking(true)
+    } else {
+        socket.set_read_timeout(Some(patience))
+    }
+}
+
 impl UdpTransport {
-    /// A socket at a free port of loopback, which knows no peer yet.
-    pub fn open<R: Net>(rt: &R, alloc: Global) -> io::Result<UdpTransport>
+    /// A socket at a free port of loopback, which knows no peer yet. A call of `receive` waits no longer than so long for
+    /// a datagram.
+    pub fn open<R: Net>(rt: &R, alloc: Global, patience: Duration) -> io::Result<UdpTransport>
         ensures peers { IfOk result (λ t. t.peers.items ≡ []) }
         ensures failures { IfOk result (λ t. t.failures ≡ 0) }
     {
         let socket = UdpSocket::bind(rt, (Ipv4Addr::LOCALHOST, 0u16))?;
-        socket.set_read_timeout(Some(Duration::from_millis(PATIENCE_MILLIS)))?;
+        set_patience(&socket, patience)?;
         Ok(UdpTransport {
             socket,
             peers: Vec::new(alloc),
