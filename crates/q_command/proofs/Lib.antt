@@ -1,4 +1,5 @@
 mod Auditing
+mod Ends
 mod Lines
 mod Lists
 mod Refused

@@ -1,5 +1,5 @@
 -- What the commands answer, and why they are refused.
-use Rattle.std.specs.Prelude.{◌≡◌, ◌≢◌, ◌⊎◌, ℕ, Bool, true, false, List, [], ◌∷◌, ◌++◌, codes, IsUtf8, Option, Result, Ok, Err}
+use Rattle.std.specs.Prelude.{◌≡◌, ◌≢◌, ◌⊎◌, ◌&&◌, ℕ, Bool, false, List, [], ◌∷◌, ◌++◌, codes, IsUtf8, Option, Result, Ok, Err, if◌then◌else◌}
 use Rattle.std.specs.Fmt.{decimal}
 use Rattle.std.specs.Io.KnownBytes.{Appends}
 use Rattle.bq_insn.specs.declared.insn.Insn.{Insn}
@@ -28,10 +28,11 @@ use Rattle.q_command.specs.Listing.{listing_of}
 use Rattle.q_files.specs.declared.files.FileFault.{FileFault}
 use Rattle.q_command.specs.declared.denied.Denied.{Denied}
 use Rattle.q_command.specs.declared.perform.Outcome.{Outcome}
-use Rattle.q_command.specs.declared.perform.Outcome.TheVariants.{Answered, Unsaved, Refused, Unwritten}
+use Rattle.q_command.specs.declared.perform.Outcome.TheVariants.{Answered, Unsaved, LineRefused, Refused, Unwritten}
 use Rattle.q_command.specs.declared.perform.Work.{Work}
 use Rattle.q_command.specs.declared.perform.Work.TheVariants as work
 use Rattle.q_wire.specs.Counts.{one_more}
+use Rattle.q_words.specs.Words.{is_strict}
 use Rattle.q_words.specs.declared.words.FileCommand.{FileCommand}
 use Rattle.q_words.specs.declared.words.FileCommand.TheVariants.{Asm, Check, Run, Sim, Audit}
 
@@ -94,33 +95,35 @@ pub record Computes (lengths : Interval) (source : List ℕ) (start : ℕ) (list
   pub told : lines ≡ codes "acc " ++ (decimal acc ++ (codes " steps " ++ (decimal steps ++ 10 ∷ [])))
 
 -- the lines are what the script prints that the text spells, over files that stand thus before and after
-pub record IsSimulated {F : Type 0} (writes : Writing F) (source : List ℕ) (old : F) (lines : List ℕ) (unwritten : Bool) (new : F) : Type 0 where
+pub record IsSimulated {F : Type 0} (writes : Writing F) (source : List ℕ) (old : F) (lines : List ℕ) (unwritten refused : Bool) (new : F) : Type 0 where
   pub script : Script
   pub utf8 : IsUtf8 source
   pub spelled : IsScript source script
-  pub simulates : Simulates writes script old lines unwritten new
+  pub simulates : Simulates writes script old lines unwritten refused new
 
--- The file is read, and its bytes give these lines. It is told whether a journal was not written.
-abbrev pub AnswersFile : {F : Type 0} → (F → List ℕ → Result (List ℕ) FileFault → F → Type 0) → (List ℕ → List ℕ → Type 0) → List ℕ → F → List ℕ → Bool → F → Type 0
-AnswersFile reads gives name old lines unwritten new = (bytes : List ℕ) × reads old name (Ok bytes) new × gives bytes lines × (unwritten ≡ false)
+-- The file is read, and its bytes give these lines. Behind the lines it is told whether a journal was not written, and
+-- whether a line was refused.
+abbrev pub AnswersFile : {F : Type 0} → (F → List ℕ → Result (List ℕ) FileFault → F → Type 0) → (List ℕ → List ℕ → Type 0) → List ℕ → F → List ℕ → Bool → Bool → F → Type 0
+AnswersFile reads gives name old lines unwritten refused new =
+    (bytes : List ℕ) × reads old name (Ok bytes) new × gives bytes lines × (unwritten ≡ false) × (refused ≡ false)
 
 -- a program is read, and then records, and what it computes over them is these lines
-abbrev pub AnswersRun : {F : Type 0} → (F → List ℕ → Result (List ℕ) FileFault → F → Type 0) → Interval → List ℕ → ℕ → List ℕ → F → List ℕ → Bool → F → Type 0
-AnswersRun {F} reads lengths name start records old lines unwritten new =
-    (source : List ℕ) × (between : F) × reads old name (Ok source) between × AnswersFile reads (Computes lengths source start) records between lines unwritten new
+abbrev pub AnswersRun : {F : Type 0} → (F → List ℕ → Result (List ℕ) FileFault → F → Type 0) → Interval → List ℕ → ℕ → List ℕ → F → List ℕ → Bool → Bool → F → Type 0
+AnswersRun {F} reads lengths name start records old lines unwritten refused new =
+    (source : List ℕ) × (between : F) × reads old name (Ok source) between × AnswersFile reads (Computes lengths source start) records between lines unwritten refused new
 
 -- a script is read, and prints these lines
-abbrev pub AnswersScript : {F : Type 0} → (F → List ℕ → Result (List ℕ) FileFault → F → Type 0) → Writing F → List ℕ → F → List ℕ → Bool → F → Type 0
-AnswersScript {F} reads writes name old lines unwritten new =
-    (source : List ℕ) × (between : F) × reads old name (Ok source) between × IsSimulated writes source between lines unwritten new
+abbrev pub AnswersScript : {F : Type 0} → (F → List ℕ → Result (List ℕ) FileFault → F → Type 0) → Writing F → List ℕ → F → List ℕ → Bool → Bool → F → Type 0
+AnswersScript {F} reads writes name old lines unwritten refused new =
+    (source : List ℕ) × (between : F) × reads old name (Ok source) between × IsSimulated writes source between lines unwritten refused new
 
 -- the command answers these lines, over files that stand thus before and after
-abbrev pub Answers : {F : Type 0} → (F → List ℕ → Result (List ℕ) FileFault → F → Type 0) → Writing F → FileCommand → F → List ℕ → Bool → F → Type 0
-Answers reads writes (Asm file) old lines unwritten new = AnswersFile reads Lists file.now old lines unwritten new
-Answers reads writes (Check file lengths) old lines unwritten new = AnswersFile reads (Accepts lengths) file.now old lines unwritten new
-Answers reads writes (Run file start records lengths) old lines unwritten new = AnswersRun reads lengths file.now start records.now old lines unwritten new
-Answers reads writes (Sim script) old lines unwritten new = AnswersScript reads writes script.now old lines unwritten new
-Answers reads writes (Audit journal) old lines unwritten new = AnswersFile reads Audits journal.now old lines unwritten new
+abbrev pub Answers : {F : Type 0} → (F → List ℕ → Result (List ℕ) FileFault → F → Type 0) → Writing F → FileCommand → F → List ℕ → Bool → Bool → F → Type 0
+Answers reads writes (Asm file) old lines unwritten refused new = AnswersFile reads Lists file.now old lines unwritten refused new
+Answers reads writes (Check file lengths) old lines unwritten refused new = AnswersFile reads (Accepts lengths) file.now old lines unwritten refused new
+Answers reads writes (Run file start records lengths) old lines unwritten refused new = AnswersRun reads lengths file.now start records.now old lines unwritten refused new
+Answers reads writes (Sim script strict) old lines unwritten refused new = AnswersScript reads writes script.now old lines unwritten refused new
+Answers reads writes (Audit journal) old lines unwritten refused new = AnswersFile reads Audits journal.now old lines unwritten refused new
 
 -- ---- refusals
 
@@ -166,7 +169,7 @@ abbrev pub Refuses : {F : Type 0} → (F → List ℕ → Result (List ℕ) File
 Refuses reads (Asm file) old denied new = RefusesFile reads IsUnassembled file.now old denied new
 Refuses reads (Check file lengths) old denied new = RefusesFile reads (IsUnaccepted lengths) file.now old denied new
 Refuses reads (Run file start records lengths) old denied new = RefusesRun reads lengths file.now records.now old denied new
-Refuses reads (Sim script) old denied new = RefusesScript reads script.now old denied new
+Refuses reads (Sim script strict) old denied new = RefusesScript reads script.now old denied new
 Refuses reads (Audit journal) old denied new = RefusesFile reads IsUnaudited journal.now old denied new
 
 -- ---- commands over one file
@@ -185,14 +188,21 @@ IsUnmade work.Audit = IsUnaudited
 
 -- ---- ends
 
+-- How a command ends whose answer was written, which is strict or not: first, a journal was not written; then, a line was
+-- refused, where the command is strict.
+abbrev pub end_of : Bool → Bool → Bool → Outcome
+end_of strict unwritten refused = if unwritten then Unsaved else (if strict && refused then LineRefused else Answered)
+
 -- The command ends so, over files and a writer that stand thus before and after: the writer took exactly the lines of the
 -- answer, or exactly the line of the refusal. Where the writer failed, it was given one of the two, and may have taken a part.
 abbrev pub Ends : {F : Type 0} → (F → List ℕ → Result (List ℕ) FileFault → F → Type 0) → Writing F → FileCommand → F → Option (List ℕ) → Outcome → F → Option (List ℕ) → Type 0
-Ends reads writes line old before Answered new after = (lines : List ℕ) × Answers reads writes line old lines false new × Appends before after lines
-Ends reads writes line old before Unsaved new after = (lines : List ℕ) × Answers reads writes line old lines true new × Appends before after lines
 Ends reads writes line old before (Refused denied) new after = Refuses reads line old denied new × Appends before after (refusal_line denied.refusal)
 Ends reads writes line old before Unwritten new after =
-    ((lines : List ℕ) × (unwritten : Bool) × Answers reads writes line old lines unwritten new) ⊎ ((denied : Denied) × Refuses reads line old denied new)
+    ((lines : List ℕ) × (unwritten refused : Bool) × Answers reads writes line old lines unwritten refused new)
+    ⊎ ((denied : Denied) × Refuses reads line old denied new)
+Ends reads writes line old before outcome new after =
+    (lines : List ℕ) × (unwritten refused : Bool) × Answers reads writes line old lines unwritten refused new
+    × Appends before after lines × (outcome ≡ end_of (is_strict line) unwritten refused)
 
 -- How many calls of the writer failed so far, of which this many failed before the command: one more where it gave up,
 -- and else as many.
@@ -204,5 +214,6 @@ failures_after outcome before = before
 abbrev pub status_of : Outcome → ℕ
 status_of Answered = 0
 status_of Unsaved = 1
+status_of LineRefused = 1
 status_of (Refused denied) = 1
 status_of Unwritten = 1

@@ -1,7 +1,7 @@
 //! Why a command was refused, in words for a person.
 
-ghost use Rattle.std.specs.Prelude.{◌≡◌, ◌≢◌, true, false, IfOk, IsUtf8};
-ghost use Rattle.q_command.specs.Advice.{IsToldOf, Meets, IsExplained};
+ghost use Rattle.std.specs.Prelude.{◌≡◌, ◌≢◌, true, false, None, IfOk, IsUtf8};
+ghost use Rattle.q_command.specs.Advice.{IsToldOf, Meets, IsExplained, is_of_nodes};
 
 use crate::denied::Denied;
 use crate::program::program;
@@ -106,6 +106,54 @@ fn write_assembler(
     }
 }
 
+/// Which lines a script may have.
+#[derive(Clone, Copy)]
+enum ScriptKind {
+    /// Those of `sim`.
+    Events,
+    /// Those of `cluster`, which are some of them.
+    Nodes,
+}
+
+/// What the line of a script of `cluster` with this number, counted from 1, may say that begins as this text does.
+fn nodes_line(number: usize, text: &str) -> &'static str {
+    let (word, _) = text.split_once(' ').unwrap_or((text, ""));
+    let is_known = matches!(word, "nodes" | "program" | "store" | "ask");
+    if is_known || number <= 1 || text.contains('\r') {
+        script_line(number, text)
+    } else {
+        "No line of `cluster` begins so. They are program, store and ask, one a line, with no\nblank lines and no comments."
+    }
+}
+
+/// What is told of a script's fault.
+fn write_script(out: &mut String, denied: &Denied<'_>, kind: ScriptKind) -> Result<(), AllocError> {
+    let file = denied.file;
+    match denied.refusal {
+        Refusal::FileFailed => writeln!(out, "{file}: It is not UTF-8, which text files are."),
+        Refusal::Script(ScriptFault::Syntax { line }) => {
+            let line = line_of(denied, line);
+            let form = match kind {
+                ScriptKind::Events => script_line(line.number, line.text),
+                ScriptKind::Nodes => nodes_line(line.number, line.text),
+            };
+            write_form(out, line, form)
+        }
+        Refusal::Fraction(_) => writeln!(
+            out,
+            "{file}: A fraction is N/D with 1 <= N <= D <= 1000, as 4/5."
+        ),
+        Refusal::Cluster(_) => {
+            let most: u64 = match kind {
+                ScriptKind::Events => 256,
+                ScriptKind::Nodes => 16,
+            };
+            writeln!(out, "{file}: A cluster is founded by 1 to {most} nodes.")
+        }
+        _ => Ok(()),
+    }
+}
+
 /// How many bytes a record may have of which a command asks; any number where it asks of none.
 fn lengths_of(line: &FileCommand<'_>) -> Bounds {
     match line {
@@ -152,29 +200,19 @@ fn write_reason(
 ) -> Result<(), AllocError> {
     let file = denied.file;
     match denied.refusal {
-        Refusal::FileFailed => writeln!(out, "{file}: It is not UTF-8, which text files are."),
+        Refusal::FileFailed | Refusal::Script(_) | Refusal::Fraction(_) | Refusal::Cluster(_) =>
+            write_script(out, denied, ScriptKind::Events),
         Refusal::Assembler(fault) => write_assembler(out, denied, fault),
         Refusal::Program(fault) => write_program(alloc, out, denied, lengths_of(line), fault),
         Refusal::Records(RecordsFault::Line { line, fault }) => {
             write_form(out, line_of(denied, line), of_record(fault))
         }
-        Refusal::Script(ScriptFault::Syntax { line }) => {
-            let line = line_of(denied, line);
-            write_form(out, line, script_line(line.number, line.text))
-        }
-        Refusal::Fraction(_) => writeln!(
-            out,
-            "{file}: A fraction is N/D with 1 <= N <= D <= 1000, as 4/5."
-        ),
-        Refusal::Cluster(_) => writeln!(out, "{file}: A cluster is founded by 1 to 256 nodes."),
         Refusal::Journal(fault) => {
             let words = of_journal(fault);
             writeln!(out, "{file}: {words}")
         }
-        Refusal::Records(RecordsFault::OutOfMemory)
-        | Refusal::Script(ScriptFault::OutOfMemory)
-        | Refusal::Bytes(_)
-        | Refusal::OutOfMemory => Ok(()),
+        Refusal::Records(RecordsFault::OutOfMemory) | Refusal::Bytes(_) | Refusal::OutOfMemory =>
+            Ok(()),
     }
 }
 
@@ -188,8 +226,8 @@ fn is_explained(denied: &Denied<'_>) -> bool
     }
 }
 
-/// What explains a command's refusal, from the bytes that are refused; none of want of memory, and of a file that was not read, of
-/// which [`Folder`] tells.
+/// What explains a command's refusal, from the bytes that are refused; none of want of memory, and of a file that was
+/// not read, of which [`Folder`] tells.
 ///
 /// The one error is that memory ran out (99 OutOfMemory).
 ///
@@ -206,5 +244,35 @@ pub fn advice(
     }
     let mut out = String::new(alloc);
     write_reason(alloc, &mut out, line, denied)?;
+    Ok(Some(out))
+}
+
+/// Whether a refusal of `cluster` is one of its script, or of the nodes that it founds.
+fn is_of_nodes(refusal: Refusal) -> bool
+    ensures { result ≡ is_of_nodes refusal }
+{
+    match refusal {
+        Refusal::FileFailed | Refusal::Script(_) | Refusal::Fraction(_) => true,
+        Refusal::Cluster(_) => refusal.reason().number() == 49,
+        _ => false,
+    }
+}
+
+/// What explains why `cluster` refuses its script, from the bytes that are refused; none of what its lines or its nodes
+/// come to.
+///
+/// The one error is that memory ran out (99 OutOfMemory).
+pub fn nodes_advice(alloc: Global, denied: &Denied<'_>) -> Result<Option<String>, AllocError>
+    ensures told { is_of_nodes denied.now.refusal ≡ true → IfOk result (IsToldOf denied.now.refusal denied.now.bytes.items) }
+    ensures none { is_of_nodes denied.now.refusal ≡ false → IfOk result (λ told. told ≡ None) }
+{
+    if !is_of_nodes(denied.refusal) {
+        return Ok(None);
+    }
+    if !is_explained(denied) {
+        return Ok(None);
+    }
+    let mut out = String::new(alloc);
+    write_script(&mut out, denied, ScriptKind::Nodes)?;
     Ok(Some(out))
 }

@@ -2,7 +2,7 @@
 
 ghost use Rattle.std.specs.Prelude.{◌≡◌, ◌≢◌, ℕ, List, false, Ok, Err, IfOk, IfErr, string_bytes};
 ghost use Rattle.bq_sound.specs.Passes.{Passes};
-ghost use Rattle.q_command.specs.Perform.{Accepts, Answers, AnswersFile, AnswersRun, AnswersScript, Computes, Ends, IsProgram, IsSimulated, IsUnaccepted, IsUnassembled, IsUnlisted, IsUnmade, IsUnread, IsUnsimulated, Lists, Makes, Refuses, RefusesFile, RefusesRun, RefusesScript, failures_after, status_of};
+ghost use Rattle.q_command.specs.Perform.{Accepts, Answers, AnswersFile, AnswersRun, AnswersScript, Computes, Ends, IsProgram, IsSimulated, IsUnaccepted, IsUnassembled, IsUnlisted, IsUnmade, IsUnread, IsUnsimulated, Lists, Makes, Refuses, RefusesFile, RefusesRun, RefusesScript, end_of, failures_after, status_of};
 
 use crate::audit::audit;
 use crate::denied::Denied;
@@ -30,6 +30,8 @@ pub enum Outcome<'a> {
     Answered,
     /// It wrote its answer, but a journal was not written.
     Unsaved,
+    /// It wrote its answer and each journal, but is strict, and a line was refused.
+    LineRefused,
     /// It wrote its refusal.
     Refused(Denied<'a>),
     /// The writer failed.
@@ -37,13 +39,14 @@ pub enum Outcome<'a> {
 }
 
 impl Outcome<'_> {
-    /// The exit status: 0, or 1 after a refusal, where a journal was not written, or where the writer failed.
+    /// The exit status: 0, or 1 after a refusal, where a journal was not written or a line of a strict script was
+    /// refused, or where the writer failed.
     pub fn status(&self) -> u8
         ensures { result ≡ status_of self.now }
     {
         match self {
             Outcome::Answered => 0,
-            Outcome::Unsaved | Outcome::Refused(_) | Outcome::Unwritten => 1,
+            Outcome::Unsaved | Outcome::LineRefused | Outcome::Refused(_) | Outcome::Unwritten => 1,
         }
     }
 }
@@ -87,10 +90,10 @@ fn computed(
     Ok(format!(in alloc; "acc {acc} steps {steps}\n")?)
 }
 
-/// What `sim` prints of a script, whose journals are written. Refused are 87 FileFailed, where the bytes are not UTF-8, 9
-/// Syntax with the least line of another form, and what [`simulate`] refuses, in this order.
+/// What `sim` prints of a script, whose journals are written. Refused are 87 FileFailed, where the bytes are not UTF-8,
+/// 9 Syntax with the least line of another form, and what [`simulate`] refuses, in this order.
 fn simulated<F: Files>(alloc: Global, source: &[u8], files: &mut F) -> Result<Printed, Refusal>
-    ensures simulated { IfOk result (λ p. IsSimulated F.write_gives source.now files.old (string_bytes p.lines) p.unwritten files.new) }
+    ensures simulated { IfOk result (λ p. IsSimulated F.write_gives source.now files.old (string_bytes p.lines) p.unwritten p.refused files.new) }
     ensures refused { IfErr result (IsUnsimulated source.now) }
     ensures unbegun { IfErr result (λ r. r ≢ Refusal.OutOfMemory → files.new ≡ files.old) }
 {
@@ -114,19 +117,21 @@ fn read<'a, F: Files>(alloc: Global, file: &'a str, files: &mut F) -> Result<Vec
     }
 }
 
-/// What a command prints that writes no journal; or its refusal, with the bytes that are refused.
+/// What a command prints that writes no journal and of which no line is refused; or its refusal, with the bytes that
+/// are refused.
 fn told<'a>(
     answer: Result<String, Refusal>,
     file: &'a str,
     bytes: Vec<u8>,
 ) -> Result<Printed, Denied<'a>>
-    ensures told { IfOk result (λ p. (answer ≡ Ok p.lines) × (p.unwritten ≡ false)) }
+    ensures told { IfOk result (λ p. (answer ≡ Ok p.lines) × (p.unwritten ≡ false) × (p.refused ≡ false)) }
     ensures refused { IfErr result (λ denied. (answer ≡ Err denied.refusal) × (denied.file.now ≡ file.now) × (denied.bytes.items ≡ bytes.items)) }
 {
     match answer {
         Ok(lines) => Ok(Printed {
             lines,
             unwritten: false,
+            refused: false,
         }),
         Err(refusal) => Err(Denied {
             refusal,
@@ -166,7 +171,7 @@ fn file_answer<'a, F: Files>(
     file: &'a str,
     files: &mut F,
 ) -> Result<Printed, Denied<'a>>
-    ensures answered { IfOk result (λ p. AnswersFile F.read_gives (Makes work) file.now files.old (string_bytes p.lines) p.unwritten files.new) }
+    ensures answered { IfOk result (λ p. AnswersFile F.read_gives (Makes work) file.now files.old (string_bytes p.lines) p.unwritten p.refused files.new) }
     ensures refused { IfErr result (λ denied. RefusesFile F.read_gives (IsUnmade work) file.now files.old denied files.new) }
 {
     let bytes = read(alloc, file, files)?;
@@ -205,7 +210,7 @@ fn computed_file<'a, F: Files>(
     records: &'a str,
     files: &mut F,
 ) -> Result<Printed, Denied<'a>>
-    ensures answered { IfOk result (λ p. (source : List ℕ) → IsProgram source certified.now.text → AnswersFile F.read_gives (Computes certified.now.lengths source start) records.now files.old (string_bytes p.lines) p.unwritten files.new) }
+    ensures answered { IfOk result (λ p. (source : List ℕ) → IsProgram source certified.now.text → AnswersFile F.read_gives (Computes certified.now.lengths source start) records.now files.old (string_bytes p.lines) p.unwritten p.refused files.new) }
     ensures refused { IfErr result (λ denied. RefusesFile F.read_gives (IsUnlisted certified.now.lengths) records.now files.old denied files.new) }
 {
     let listed = read(alloc, records, files)?;
@@ -222,7 +227,7 @@ fn run_answer<'a, F: Files>(
     lengths: Bounds,
     files: &mut F,
 ) -> Result<Printed, Denied<'a>>
-    ensures answered { IfOk result (λ p. AnswersRun F.read_gives lengths file.now start records.now files.old (string_bytes p.lines) p.unwritten files.new) }
+    ensures answered { IfOk result (λ p. AnswersRun F.read_gives lengths file.now start records.now files.old (string_bytes p.lines) p.unwritten p.refused files.new) }
     ensures refused { IfErr result (λ denied. RefusesRun F.read_gives lengths file.now records.now files.old denied files.new) }
 {
     let certified = certified_file(alloc, file, lengths, files)?;
@@ -235,7 +240,7 @@ fn sim_answer<'a, F: Files>(
     script: &'a str,
     files: &mut F,
 ) -> Result<Printed, Denied<'a>>
-    ensures answered { IfOk result (λ p. AnswersScript F.read_gives F.write_gives script.now files.old (string_bytes p.lines) p.unwritten files.new) }
+    ensures answered { IfOk result (λ p. AnswersScript F.read_gives F.write_gives script.now files.old (string_bytes p.lines) p.unwritten p.refused files.new) }
     ensures refused { IfErr result (λ denied. RefusesScript F.read_gives script.now files.old denied files.new) }
 {
     let source = read(alloc, script, files)?;
@@ -255,7 +260,7 @@ fn answer<'a, F: Files>(
     line: &FileCommand<'a>,
     files: &mut F,
 ) -> Result<Printed, Denied<'a>>
-    ensures answered { IfOk result (λ p. Answers F.read_gives F.write_gives line.now files.old (string_bytes p.lines) p.unwritten files.new) }
+    ensures answered { IfOk result (λ p. Answers F.read_gives F.write_gives line.now files.old (string_bytes p.lines) p.unwritten p.refused files.new) }
     ensures refused { IfErr result (λ denied. Refuses F.read_gives line.now files.old denied files.new) }
 {
     match line {
@@ -269,9 +274,22 @@ fn answer<'a, F: Files>(
             records,
             lengths,
         } => run_answer(alloc, file, *start, records, *lengths, files),
-        FileCommand::Sim { script } => sim_answer(alloc, script, files),
+        FileCommand::Sim { script, .. } => sim_answer(alloc, script, files),
         FileCommand::Audit { journal } => file_answer(alloc, Work::Audit, journal, files),
     }
+}
+
+/// How a command ends that wrote its answer. That a journal was not written comes before a line that was refused.
+fn end_of<'a>(is_strict: bool, unwritten: bool, refused: bool) -> Outcome<'a>
+    ensures { result ≡ end_of is_strict unwritten refused }
+{
+    if unwritten {
+        return Outcome::Unsaved;
+    }
+    if is_strict && refused {
+        return Outcome::LineRefused;
+    }
+    Outcome::Answered
 }
 
 /// Runs a command, and writes its answer or its refusal.
@@ -287,9 +305,8 @@ pub fn carry_out<'a, F: Files, W: Write>(
     ensures counted { out.new.failures ≡ failures_after result out.old.failures }
 {
     match answer(alloc, line, files) {
-        Ok(Printed { lines, unwritten }) => match out.put(lines.as_bytes()) {
-            Ok(()) if unwritten => Outcome::Unsaved,
-            Ok(()) => Outcome::Answered,
+        Ok(printed) => match out.put(printed.lines.as_bytes()) {
+            Ok(()) => end_of(line.is_strict(), printed.unwritten, printed.refused),
             Err(_) => Outcome::Unwritten,
         },
         Err(denied) => match put_refusal(out, &denied.refusal) {

@@ -1,6 +1,6 @@
 //! Worked values of what commands answer, refuse and tell.
 
-ghost use Rattle.std.specs.Prelude.{◌≡◌, ℕ, List, [], ◌∷◌, Some, Ok, false, codes, replicate, IsUtf8};
+ghost use Rattle.std.specs.Prelude.{◌≡◌, ℕ, Bool, List, [], ◌∷◌, Some, Ok, true, false, codes, replicate, IsUtf8};
 ghost use Rattle.bq_asm.specs.Source.{IsSource};
 ghost use Rattle.bq_insn.specs.declared.insn.Insn.{Insn};
 ghost use Rattle.bq_range.specs.Interval.{Interval};
@@ -13,7 +13,7 @@ ghost use Rattle.q_words.specs.declared.words.FileCommand.{FileCommand};
 ghost use Rattle.q_command.specs.Advice.{IsToldOf};
 ghost use Rattle.q_command.specs.Audit.{answer_lines};
 ghost use Rattle.q_command.specs.Listing.{listing_of};
-ghost use Rattle.q_command.specs.Perform.{Answers, AnswersRun, Ends, IsProgram, IsUnassembled, RefusesFile, failures_after, status_of};
+ghost use Rattle.q_command.specs.Perform.{Answers, AnswersRun, Ends, IsProgram, IsUnassembled, RefusesFile, end_of, failures_after, status_of};
 ghost use Rattle.q_command.specs.declared.denied.Denied.{Denied};
 ghost use Rattle.q_command.specs.declared.perform.Outcome.TheVariants as outcome;
 
@@ -28,12 +28,17 @@ pub fn worked()
     ensures audited { (query : Query) → answer_in query.phase ≡ Some (record { acc = 5; steps = 9 }) → answer_lines 4 (query ∷ []) ≡ codes "answer 4 5 9\n" }
 
     // Answers and refusals.
-    ensures records_of_their_file { (lengths : Interval) (program records lines : List ℕ) (start : ℕ) (old new : Memory) → AnswersRun Reads lengths program start records old lines false new → (between : Memory) × (bytes : List ℕ) × Reads between records (Ok bytes) new }
+    ensures records_of_their_file { (lengths : Interval) (program records lines : List ℕ) (start : ℕ) (old new : Memory) → AnswersRun Reads lengths program start records old lines false false new → (between : Memory) × (bytes : List ℕ) × Reads between records (Ok bytes) new }
     ensures refused_bytes { (denied : Denied) (old new : Memory) → fails_next old.passing ≡ false → bytes_of old.files (codes "a") ≡ Some (255 ∷ []) → denied.refusal ≡ refused.FileFailed → RefusesFile Reads IsUnassembled (codes "a") old denied new → denied.bytes.items ≡ 255 ∷ [] }
     ensures no_advice_of_text { (told text : List ℕ) → IsUtf8 text → IsToldOf refused.FileFailed text (Some told) → ⊥ }
 
     // Ends.
-    ensures written_once { (line : FileCommand) (old new : Memory) (out : List ℕ) → Ends Reads (Writes {X = Unit {0}}) line old (Some []) outcome.Answered new (Some out) → Answers Reads (Writes {X = Unit {0}}) line old out false new }
+    ensures written_once { (line : FileCommand) (old new : Memory) (out : List ℕ) → Ends Reads (Writes {X = Unit {0}}) line old (Some []) outcome.Answered new (Some out) → (refused : Bool) × Answers Reads (Writes {X = Unit {0}}) line old out false refused new }
+    ensures unsaved_first { (strict refused : Bool) → end_of strict true refused ≡ outcome.Unsaved }
+    ensures strict { end_of true false true ≡ outcome.LineRefused }
+    ensures not_strict { (refused : Bool) → end_of false false refused ≡ outcome.Answered }
+    ensures none_refused { (strict : Bool) → end_of strict false false ≡ outcome.Answered }
+    ensures after_a_refused_line { status_of outcome.LineRefused ≡ 1 }
     ensures given_up { failures_after outcome.Unwritten 4 ≡ 5 }
     ensures went_well { failures_after outcome.Answered 4 ≡ 4 }
     ensures after_a_refusal { (denied : Denied) → status_of (outcome.Refused denied) ≡ 1 }

@@ -15,7 +15,8 @@ use Rattle.bq_check.specs.Faults.{IsFirstFault}
 use Rattle.bq_check.specs.Spelling.{short_bytes, long_bytes, notes_bytes, IsNotes}
 use Rattle.bq_check.specs.declared.form.Form.{Form}
 use Rattle.bq_check.specs.declared.form.Form.TheVariants as form
-use Rattle.bq_check.specs.Certificate.{Certificate, IsCertified}
+use Rattle.bq_check.specs.Certificate.{Certificate}
+use Rattle.bq_check.specs.Certified.{IsCertified}
 use Rattle.sc_msg.specs.declared.message.Message.{Message}
 use Rattle.sc_msg.specs.declared.version.Version.{Version}
 use Rattle.sc_msg.specs.declared.version.Version.TheVariants.{First, Second}

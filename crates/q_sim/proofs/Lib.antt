@@ -1,4 +1,4 @@
--- Deliveries in their order, lines in turn, and what is printed.
+-- Deliveries in their order, lines in turn, what is printed, and what is true of it.
 mod Pairs
 mod Goes
 mod Awaiting
@@ -10,7 +10,8 @@ mod Uncertified
 mod Founders
 mod Ids
 mod Told
-mod Steps
 mod Performing
-mod Saving
 mod Storing
+mod Leading
+mod Recording
+mod Truths

@@ -12,7 +12,7 @@ use Rattle.q_history.specs.declared.event.Event.TheVariants as event
 use Rattle.q_sim.specs.Delivered.{Deliveries}
 use Rattle.q_sim.specs.Refusal.{refusal_line}
 use Rattle.q_sim.specs.declared.refusal.Refusal.TheVariants as refusal
-use Rattle.q_sim.specs.Simulates.{SimState, Rises, Awaits, AwaitsNone, IsNext, Tries, DeliversAll}
+use Rattle.q_sim.specs.Simulates.{SimState, refusing, Rises, Awaits, AwaitsNone, IsNext, Tries, DeliversAll}
 use Rattle.q_sim.specs.Awaited.{AwaitsFrom, IsOnward}
 use Rattle.q_sim.proofs.Pairs.{in_itself}
 use Rattle.q_sim.proofs.Goes.{Goes, takes_goes}
@@ -120,9 +120,9 @@ module _ (t : SimState) (message place node : ℕ) (within : place < length t.no
     delivered_here v some tries =
         (one_more limit s left t v message node o some next tries, tried_over t v message place sent (subst (λ n. Tries t message n v) there tries) h)
 
-    -- memory is refused for it
-    pub refused_here : (v : SimState) → 0 < left → v ≡ t → DeliversAll limit s (refusal_line (refusal.Cluster memory)) v
+    -- memory is refused for it, and that is noted
+    pub refused_here : (v : SimState) → 0 < left → v ≡ t → DeliversAll limit s (refusal_line (refusal.Cluster memory)) (refusing v)
     refused_here v some same =
         let line = refusal_line (refusal.Cluster memory) in
         let count : suc (left - 1) ≡ left = omega arith in
-        o.rest line v (subst (λ n. DeliversAll n t line v) count (inr (inl ((message, node, next), same, refl))))
+        o.rest line (refusing v) (subst (λ n. DeliversAll n t line (refusing v)) count (inr (inl ((message, node, next), ap refusing same, refl))))

@@ -5,7 +5,7 @@ use Rattle.q_sim.specs.declared.refusal.Refusal.TheVariants as refusal
 use Rattle.q_sim.specs.declared.simulation.Spread.{Spread}
 use Rattle.q_sim.specs.declared.simulation.Spread.TheVariants as spread
 use Rattle.q_sim.specs.Refusal.{refusal_line}
-use Rattle.q_sim.specs.Simulates.{SimState, Awaits, Tries, DeliversAll}
+use Rattle.q_sim.specs.Simulates.{SimState, refusing, Awaits, Tries, DeliversAll}
 
 -- no message before this one awaits a delivery
 abbrev pub AwaitsFrom : ℕ → SimState → Type 0
@@ -23,8 +23,9 @@ pub record IsOnward (limit : ℕ) (s : SimState) (left : ℕ) (t : SimState) : T
   pub sent : length s.cluster.world.sent ≤ length t.cluster.world.sent
   pub rest : (text : List ℕ) (u : SimState) → DeliversAll left t text u → DeliversAll limit s text u
 
--- the message was delivered to each node that awaited it, or it is told why not
+-- The message was delivered to each node that awaited it, or it is told why not. Where memory was refused, that is
+-- still to be printed.
 abbrev pub IsSpread : ℕ → ℕ → SimState → Spread → SimState → Type 0
 IsSpread message limit s (spread.Whole left) t = IsOnward limit s left t × AwaitsFrom (message + 1) t
 IsSpread message limit s spread.LimitReached t = DeliversAll limit s [] t
-IsSpread message limit s spread.OutOfMemory t = DeliversAll limit s (refusal_line (refusal.Cluster memory)) t
+IsSpread message limit s spread.OutOfMemory t = DeliversAll limit s (refusal_line (refusal.Cluster memory)) (refusing t)

@@ -6,3 +6,4 @@ pub mod Programs
 pub mod Refusal
 pub mod Seen
 pub mod Simulates
+pub mod Truths

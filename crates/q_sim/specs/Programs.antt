@@ -4,7 +4,8 @@ use Rattle.bq_insn.specs.declared.insn.Insn.{Insn}
 use Rattle.bq_insn.specs.Slots.{IsText, spelling}
 use Rattle.bq_insn.specs.Fault as bytes
 use Rattle.bq_range.specs.Interval.{Interval}
-use Rattle.bq_check.specs.Certificate.{Certificate, IsCertified}
+use Rattle.bq_check.specs.Certificate.{Certificate}
+use Rattle.bq_check.specs.Certified.{IsCertified}
 use Rattle.bq_verify.specs.Least.{AreLeast}
 use Rattle.bq_verify.specs.Refused as verify
 use Rattle.sc_msg.specs.declared.version.Version.TheVariants.{Second}

@@ -41,6 +41,7 @@ pub record SimState : Type 0 where
   pub nodes : List ℕ  -- the ids that entered, in rising order
   pub delivered : Deliveries  -- what was delivered, or tried by `all`
   pub unwritten : Bool  -- whether a journal was not written
+  pub refused : Bool  -- whether a line was refused
 
 -- each id is greater than those before it
 abbrev pub Rises : List ℕ → Type 0
@@ -50,6 +51,10 @@ Rises ids = (i j : ℕ) → i < j → j < length ids → slice_index ids i < sli
 abbrev pub with_id : ℕ → List ℕ → List ℕ
 with_id id [] = id ∷ []
 with_id id (n ∷ ns) = if nat_lt id n then id ∷ n ∷ ns else n ∷ (if nat_lt n id then with_id id ns else ns)
+
+-- a line was refused
+abbrev pub refusing : SimState → SimState
+refusing s = record s { refused = true }
 
 -- ---- one event
 
@@ -63,6 +68,11 @@ abbrev pub noted : Event → Result Stepped ClusterFault → Deliveries → Deli
 noted (event.Deliver message node) (Ok told) d = set.insert d (message, node)
 noted e r d = d
 
+-- a refused event is a line that was refused
+abbrev pub or_refused : Result Stepped ClusterFault → Bool → Bool
+or_refused (Ok told) refused = refused
+or_refused (Err f) refused = true
+
 -- the event is taken or refused, and that is printed: a store of more bytes than a value has is one, and is refused
 pub record Acts (e : Event) (s : SimState) (text : List ℕ) (t : SimState) : Type 0 where
   pub result : Result Stepped ClusterFault
@@ -70,14 +80,15 @@ pub record Acts (e : Event) (s : SimState) (text : List ℕ) (t : SimState) : Ty
   pub nodes : t.nodes ≡ joined e result s.nodes
   pub delivered : t.delivered ≡ noted e result s.delivered
   pub unwritten : t.unwritten ≡ s.unwritten
+  pub refused : t.refused ≡ or_refused result s.refused
   pub says : text ≡ printed t.cluster result
 
--- The bytes spell a program that the verifier accepts, and it is registered; or what refuses them is printed, and
--- nothing is done.
+-- The bytes spell a program that the verifier accepts, and it is registered; or the line is refused, what refuses them
+-- is printed, and nothing else is done.
 abbrev pub Registers : ℕ → List ℕ → SimState → List ℕ → SimState → Type 0
 Registers node code s text t =
     ((program : Certificate) × IsProgram code program × Acts (event.Register node program) s text t)
-    ⊎ ((r : Refusal) × IsRefusal code r × (t ≡ s) × (text ≡ refusal_line r))
+    ⊎ ((r : Refusal) × IsRefusal code r × (t ≡ refusing s) × (text ≡ refusal_line r))
 
 -- ---- deliveries
 
@@ -93,7 +104,7 @@ pub record IsNext (s : SimState) (message node : ℕ) : Type 0 where
   pub awaits : Awaits s message node
   pub least : (m n : ℕ) → Awaits s m n → (message < m) ⊎ ((message ≡ m) × (node ≤ n))
 
--- the delivery is taken or refused, but not for want of memory, and not tried again
+-- The delivery is taken or refused, but not for want of memory, and not tried again. No line is refused by it.
 pub record Tries (s : SimState) (message node : ℕ) (t : SimState) : Type 0 where
   pub result : Result Stepped ClusterFault
   pub takes : Takes s.cluster (event.Deliver message node) t.cluster result
@@ -101,14 +112,15 @@ pub record Tries (s : SimState) (message node : ℕ) (t : SimState) : Type 0 whe
   pub nodes : t.nodes ≡ s.nodes
   pub delivered : t.delivered ≡ set.insert s.delivered (message, node)
   pub unwritten : t.unwritten ≡ s.unwritten
+  pub refused : t.refused ≡ s.refused
 
 -- no delivery is left
 abbrev pub AwaitsNone : SimState → Type 0
 AwaitsNone s = (m n : ℕ) → ¬ (Awaits s m n)
 
--- some delivery is next, and memory is refused for it: that is printed, and nothing is done
+-- some delivery is next, and memory is refused for it: the line is refused, that is printed, and nothing else is done
 abbrev pub WantsMemory : SimState → List ℕ → SimState → Type 0
-WantsMemory s text t = ((m n : ℕ) × IsNext s m n) × (t ≡ s) × (text ≡ refusal_line (refusal.Cluster memory))
+WantsMemory s text t = ((m n : ℕ) × IsNext s m n) × (t ≡ refusing s) × (text ≡ refusal_line (refusal.Cluster memory))
 
 -- so many deliveries, each of what is next then, of which nothing is printed; or fewer, where nothing is left, or where
 -- memory is refused
@@ -134,16 +146,16 @@ abbrev pub Writing : Type 0 → Type 1
 Writing F = F → List ℕ → List ℕ → Result (Unit {0}) FileFault → F → Type 0
 
 module _ {F : Type 0} (writes : Writing F) where
-  -- The journal of this book is written under this name, and the number of its events is printed; or the file fails, and
-  -- that is printed and kept.
+  -- The journal of this book is written under this name, and the number of its events is printed; or the file fails: so
+  -- the line is refused, and both are kept.
   abbrev pub SavesBook : BookState → List ℕ → SimState → F → List ℕ → SimState → F → Type 0
   SavesBook b name s before text t after =
       (writes before name (journal_of b) (Ok tt) after × (t ≡ s) × (text ≡ journal_line (length b.desk.journal)))
-      ⊎ (writes before name (journal_of b) (Err Failed) after × (t ≡ record s { unwritten = true }) × (text ≡ refusal_line refusal.FileFailed))
+      ⊎ (writes before name (journal_of b) (Err Failed) after × (t ≡ record s { unwritten = true; refused = true }) × (text ≡ refusal_line refusal.FileFailed))
 
-  -- the same of a book that may be none: then that is printed, and nothing is done
+  -- the same of a book that may be none: then the line is refused, that is printed, and nothing else is done
   abbrev pub SavesAny : Option BookState → List ℕ → SimState → F → List ℕ → SimState → F → Type 0
-  SavesAny None name s before text t after = (t ≡ s) × (after ≡ before) × (text ≡ refusal_line (refusal.Cluster (cluster_fault.World world_fault.NoSuchNode)))
+  SavesAny None name s before text t after = (t ≡ refusing s) × (after ≡ before) × (text ≡ refusal_line (refusal.Cluster (cluster_fault.World world_fault.NoSuchNode)))
   SavesAny (Some b) name s before text t after = SavesBook b name s before text t after
 
   -- the book of a node that was ever there, also where it has left or crashed
@@ -206,6 +218,7 @@ pub record Begins (f : Founding) (s : SimState) : Type 0 where
   pub nodes : s.nodes ≡ founders_of f
   pub delivered : s.delivered ≡ set.empty
   pub unwritten : s.unwritten ≡ false
+  pub refused : s.refused ≡ false
 
 -- why a script ends before any event
 abbrev pub IsSimulationFault : Founding → Refusal → Type 0
@@ -216,12 +229,13 @@ IsSimulationFault f r = ⊥
 
 -- The script's lines in turn make this cluster of its founders, over files that stand thus before and after, and print
 -- this text; and each answer that the cluster recorded is right, and each node with its desk is the replay of its
--- journal. It is told whether a journal was not written.
-pub record Simulates {F : Type 0} (writes : Writing F) (script : Script) (before : F) (text : List ℕ) (unwritten : Bool) (after : F) : Type 0 where
+-- journal. It is told whether a journal was not written, and whether a line was refused.
+pub record Simulates {F : Type 0} (writes : Writing F) (script : Script) (before : F) (text : List ℕ) (unwritten refused : Bool) (after : F) : Type 0 where
   pub first : SimState
   pub last : SimState
   pub begins : Begins script.founding first
   pub plays : Plays writes script.lines.items first before text last after
   pub told : unwritten ≡ last.unwritten
+  pub shown : refused ≡ last.refused
   pub answers : AnswersAreTrue last.cluster
   pub books : BooksAreReplays last.cluster

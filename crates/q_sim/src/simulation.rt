@@ -37,10 +37,12 @@ struct Simulation {
     awaited_from: usize,
     /// Whether a journal was not written.
     unwritten: bool,
+    /// Whether a line was refused.
+    refused: bool,
     lines: String,
     ghost rising: { Rises nodes.items },
     ghost sent: { awaited_from ≤ length cluster.world.sent },
-    ghost passed: { AwaitsFrom awaited_from (record { cluster = cluster; nodes = nodes.items; delivered = delivered; unwritten = unwritten }) },
+    ghost passed: { AwaitsFrom awaited_from (record { cluster = cluster; nodes = nodes.items; delivered = delivered; unwritten = unwritten; refused = refused }) },
 }
 
 /// How the deliveries of one message went.
@@ -61,15 +63,19 @@ pub struct Printed {
     pub lines: String,
     /// Whether a journal was not written, since its file failed.
     pub unwritten: bool,
+    /// Whether a line was refused: its refusal stands among the lines. Deliveries that an `all` tries, and that are
+    /// refused, print nothing and do not count, but for want of memory.
+    pub refused: bool,
 }
 
 /// Runs a script, and answers what it prints.
 ///
 /// Refused are 45 BadFraction and then 49 BadFounders, by which the script ends before any event, and 99 OutOfMemory.
 /// Each event is one step of the cluster; a refused one prints its refusal, and the script goes on. So does a script with
-/// a journal whose file fails. After each line it is told how many of all are done.
+/// a journal whose file fails. It is told whether a line was refused. After each line it is told how many of all are
+/// done.
 pub fn simulate<F: Files>(alloc: Global, script: Script, files: &mut F) -> Result<Printed, Refusal>
-    ensures printed { IfOk result (λ p. Simulates F.write_gives script files.old (string_bytes p.lines) p.unwritten files.new) }
+    ensures printed { IfOk result (λ p. Simulates F.write_gives script files.old (string_bytes p.lines) p.unwritten p.refused files.new) }
     ensures refused { IfErr result (IsSimulationFault script.founding) }
     ensures unbegun { IfErr result (λ r. r ≢ Refusal.OutOfMemory → files.new ≡ files.old) }
 {
@@ -86,10 +92,15 @@ pub fn simulate<F: Files>(alloc: Global, script: Script, files: &mut F) -> Resul
     simulation.cluster.books_are_replays();
     let Simulation {
         unwritten,
+        refused,
         lines,
         ..
     } = simulation;
-    Ok(Printed { lines, unwritten })
+    Ok(Printed {
+        lines,
+        unwritten,
+        refused,
+    })
 }
 
 /// The ids of so many founders, counted from 1: 257 of them at most, which is one more than a cluster takes.
@@ -124,7 +135,7 @@ impl Simulation {
     ghost use Rattle.std.specs.FinSet as set;
     ghost use Rattle.sc_world.specs.Worlds.{live_at};
     ghost use Rattle.q_history.specs.Calls.{Takes};
-    ghost use Rattle.q_sim.specs.Simulates.{Acts, Begins, Does, Registers, Saves, Spreads, Tells, joined, noted};
+    ghost use Rattle.q_sim.specs.Simulates.{Acts, Begins, Does, Registers, Saves, Spreads, Tells, joined, noted, or_refused, refusing};
     ghost use Rattle.q_sim.specs.Awaited.{Attempts, IsSpread};
     ghost use Rattle.q_sim.specs.Longer.{RefusesLonger};
     ghost use Rattle.q_sim.specs.Printing.{printed};
@@ -153,6 +164,7 @@ impl Simulation {
             delivered: Delivered::new(alloc),
             awaited_from: 0,
             unwritten: false,
+            refused: false,
             lines: String::new(alloc),
         })
     }
@@ -231,8 +243,8 @@ impl Simulation {
         ClusterFault::BadValue
     }
 
-    /// Takes one event, and prints what it tells or its refusal. A node that came and a delivery that is accepted are
-    /// noted.
+    /// Takes one event, and prints what it tells or its refusal. A node that came, a delivery that is accepted and a
+    /// refusal are noted.
     fn step(&mut self, event: &Event) -> Result<(), AllocError>
         ensures { OnOk result (Prints (Acts event.now) self.old self.new) }
     {
@@ -371,17 +383,18 @@ impl Simulation {
         }
     }
 
-    /// Prints a refusal.
+    /// Prints a refusal, and notes that a line was refused.
     fn refuse(&mut self, refusal: &Refusal) -> Result<(), AllocError>
-        ensures same { OnOk result (seen self.new ≡ seen self.old) }
+        ensures noted { OnOk result (seen self.new ≡ refusing (seen self.old)) }
         ensures line { OnOk result (string_bytes self.new.lines ≡ string_bytes self.old.lines ++ refusal_line refusal.now) }
     {
+        self.refused = true;
         writeln!(self.lines, "{refusal}")
     }
 
-    /// Prints what an event answered: what it tells and its messages, or its refusal.
+    /// Prints what an event answered: what it tells and its messages, or its refusal, which is noted.
     fn print(&mut self, answer: &Result<Stepped, ClusterFault>) -> Result<(), AllocError>
-        ensures same { OnOk result (seen self.new ≡ seen self.old) }
+        ensures noted { OnOk result (seen self.new ≡ record (seen self.old) { refused = or_refused answer.now self.old.refused }) }
         ensures lines { OnOk result (string_bytes self.new.lines ≡ string_bytes self.old.lines ++ printed self.old.cluster answer.now) }
     {
         match answer {

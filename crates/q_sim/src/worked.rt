@@ -1,6 +1,6 @@
 //! Worked values of what scripts do and print.
 
-ghost use Rattle.std.specs.Prelude.{◌≡◌, ℕ, List, [], ◌∷◌, length, true, false, Some, None, Err, codes};
+ghost use Rattle.std.specs.Prelude.{◌≡◌, ℕ, List, [], ◌∷◌, length, Bool, true, false, Some, None, Err, codes};
 ghost use Rattle.std.specs.FinSet as set;
 ghost use Rattle.bq_check.specs.Certificate.{Certificate};
 ghost use Rattle.bq_insn.specs.declared.fault.DecodeFault.TheVariants as decode_fault;
@@ -12,14 +12,17 @@ ghost use Rattle.q_files.specs.Memory.{Writes, fails_next};
 ghost use Rattle.q_files.specs.declared.memory.MemoryFiles.{MemoryFiles as Memory};
 ghost use Rattle.q_history.specs.Calls.{Takes};
 ghost use Rattle.q_history.specs.Faults.{memory};
+ghost use Rattle.q_history.specs.State.{ClusterState};
 ghost use Rattle.q_history.specs.declared.event.Event.TheVariants as event;
 ghost use Rattle.q_history.specs.declared.event.Told.TheVariants as told;
+ghost use Rattle.q_history.specs.declared.fault.ClusterFault.TheVariants as cluster_fault;
 ghost use Rattle.q_script.specs.declared.line.ScriptLine.TheVariants as line;
 ghost use Rattle.q_sim.specs.Delivered.{Deliveries};
 ghost use Rattle.q_sim.specs.Printing.{TellsPair, is_over, message_lines, pair_line, told_lines};
 ghost use Rattle.q_sim.specs.Programs.{IsProgram, program_lengths};
 ghost use Rattle.q_sim.specs.Refusal as refusal;
-ghost use Rattle.q_sim.specs.Simulates.{Awaits, DeliversAll, Plays, Saves, SavesBook, SimState, Tries};
+ghost use Rattle.q_sim.specs.Simulates.{Awaits, DeliversAll, Plays, Saves, SavesBook, SimState, Tries, WantsMemory, or_refused};
+ghost use Rattle.q_sim.specs.Truths.{AreTrueLines, IsTrueAnswer};
 ghost use Rattle.q_sim.specs.declared.refusal.Place.TheVariants as at;
 ghost use Rattle.q_sim.specs.declared.refusal.Refusal.TheVariants as refused;
 ghost use Rattle.sc_msg.specs.declared.message.Body.TheVariants as body;
@@ -43,7 +46,12 @@ pub fn worked()
     // is told.
     ensures one_is_tried { (s t : SimState) → Awaits s 7 3 → DeliversAll 1 s [] t → (m n : ℕ) × Tries s m n t }
     ensures want_of_memory_is_no_try { (s t : SimState) (h : Tries s 7 3 t) → h.result ≡ Err memory → ⊥ }
+    ensures want_of_memory_is_a_refusal { (s t : SimState) (text : List ℕ) → WantsMemory s text t → t.refused ≡ true }
     ensures want_of_memory_is_told { refusal.refusal_line (refused.Cluster memory) ≡ codes "refused 99 OutOfMemory\n" }
+
+    // Whether a line was refused: a refused event says so, and what `all` tries leaves it.
+    ensures refused_event { (before : Bool) → or_refused (Err cluster_fault.NoSuchJob) before ≡ true }
+    ensures refused_delivery { (s t : SimState) (h : Tries s 7 3 t) → s.refused ≡ false → t.refused ≡ false }
 
     // What is printed.
     ensures answer { told_lines (told.Finished (record { node = 1; query = 0; ran = record { acc = 5; steps = 9 } })) ≡ codes "answer 1 0 5 9\n" }
@@ -56,4 +64,7 @@ pub fn worked()
     ensures crash { (s t : SimState) (before after : Memory) (text : List ℕ) → Plays (Writes {X = Unit {0}}) (line.Crash 3 ∷ []) s before text t after → (result : _) × Takes s.cluster (event.Crash 3) t.cluster result }
     ensures no_such_node { (name text : List ℕ) (s t : SimState) (before after : Memory) → book_at s.cluster 3 ≡ None → Saves (Writes {X = Unit {0}}) 3 name s before text t after → after ≡ before }
     ensures file_fails { (book : BookState) (name text : List ℕ) (s t : SimState) (before after : Memory) → fails_next before.passing ≡ true → SavesBook (Writes {X = Unit {0}}) book name s before text t after → t.unwritten ≡ true }
+
+    // Where no line was refused, a `run` prints an answer that the cluster has recorded.
+    ensures unrefused_run { (c : ClusterState) (text : List ℕ) → AreTrueLines c false (line.Run 4 ∷ []) text → IsTrueAnswer c text }
 {}

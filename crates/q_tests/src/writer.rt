@@ -37,7 +37,7 @@ pub fn listed(alloc: Global, room: usize, file: &str) -> (&'static str, u8) {
     let mut out = Counted::new(Short { room });
     let outcome = carry_out(alloc, &FileCommand::Asm { file }, &mut files, &mut out);
     let end = match &outcome {
-        Outcome::Answered | Outcome::Unsaved => "answered",
+        Outcome::Answered | Outcome::Unsaved | Outcome::LineRefused => "answered",
         Outcome::Refused(_) => "refused",
         Outcome::Unwritten => "unwritten",
     };

@@ -1,5 +1,5 @@
 -- The command line of the program, and what its words say.
-use Rattle.std.specs.Prelude.{◌≡◌, ◌⊎◌, ℕ, List, [], ◌∷◌, Some, IsSomeAnd, unwrap_or, codes, true, Result, Ok, Err, ⊤}
+use Rattle.std.specs.Prelude.{◌≡◌, ◌⊎◌, ℕ, Bool, List, [], ◌∷◌, Some, IsSomeAnd, unwrap_or, bytes_eq, codes, true, false, Result, Ok, Err, ⊤}
 use Rattle.clap.specs.Words.{App, IsAmong, Row, Rule, Text, fault_of, first_of, kind_of, new_app, new_rule, subcommand_of, with_rule, with_subcommand}
 use Rattle.clap.specs.declared.error.Error.{Error}
 use Rattle.clap.specs.declared.error.kind.ErrorKind.TheVariants.{DisplayHelp}
@@ -7,7 +7,7 @@ use Rattle.clap.specs.declared.error.kind.ErrorKind.TheVariants as kind
 use Rattle.std.specs.IoError.{error_kind}
 use Rattle.std.specs.declared.io.Error as io
 use Rattle.std.specs.declared.io.ErrorKind.TheVariants as io_kind
-use Rattle.clap.specs.declared.builder.action.ArgAction.TheVariants.{Set}
+use Rattle.clap.specs.declared.builder.action.ArgAction.TheVariants.{Set, SetTrue}
 use Rattle.bq_range.specs.Interval.{Interval}
 use Rattle.bq_state.specs.Kinds.{AreLengths}
 use Rattle.q_words.specs.declared.words.FileCommand.{FileCommand}
@@ -28,6 +28,10 @@ operand name = record (new_rule name) { required = true; action = Some Set }
 abbrev pub option : Text → Text → Rule
 option name default = record (new_rule name) { long = Some name; value_names = 1; defaults = default ∷ []; action = Some Set }
 
+-- a flag
+abbrev pub flag : Text → Rule
+flag name = record (new_rule name) { long = Some name; action = Some SetTrue }
+
 -- a command with `--least` and `--most`
 abbrev pub with_lengths : App → App
 with_lengths app = with_rule (with_rule app (option (codes "least") (codes "16"))) (option (codes "most") (codes "128"))
@@ -44,13 +48,17 @@ check_app = with_lengths (with_rule (new_app (codes "check")) (operand (codes "F
 abbrev pub run_app : App
 run_app = with_lengths (with_rule (with_rule (with_rule (new_app (codes "run")) (operand (codes "FILE"))) (operand (codes "START"))) (operand (codes "RECORDS")))
 
+-- a command `NAME SCRIPT`, with the flag `--strict`
+abbrev pub script_app : Text → App
+script_app name = with_rule (with_rule (new_app name) (operand (codes "SCRIPT"))) (flag (codes "strict"))
+
 -- `sim SCRIPT`
 abbrev pub sim_app : App
-sim_app = with_rule (new_app (codes "sim")) (operand (codes "SCRIPT"))
+sim_app = script_app (codes "sim")
 
 -- `cluster SCRIPT`
 abbrev pub cluster_app : App
-cluster_app = with_rule (new_app (codes "cluster")) (operand (codes "SCRIPT"))
+cluster_app = script_app (codes "cluster")
 
 -- `audit JOURNAL`
 abbrev pub audit_app : App
@@ -74,6 +82,10 @@ bqview =
 abbrev pub operand_of : Text → List Row → Text
 operand_of name rows = unwrap_or (first_of name rows) []
 
+-- whether a flag was given: its text is `true` then, and else `false`
+abbrev pub is_given : Text → List Row → Bool
+is_given name rows = bytes_eq (operand_of name rows) (codes "true")
+
 -- these numbers were given for `--least` and `--most`
 abbrev pub AreGivenFor : List Row → ℕ → ℕ → Type 0
 AreGivenFor rows least most = IsNumeral (operand_of (codes "least") rows) least × IsNumeral (operand_of (codes "most") rows) most
@@ -93,13 +105,14 @@ HasCommand (Check file lengths) met = (met.0 ≡ codes "check") × (file.now ≡
 HasCommand (Run file start records lengths) met =
     (met.0 ≡ codes "run") × (file.now ≡ operand_of (codes "FILE") met.1) × IsNumeral (operand_of (codes "START") met.1) start
     × (records.now ≡ operand_of (codes "RECORDS") met.1) × AreGiven met.1 lengths
-HasCommand (Sim script) met = (met.0 ≡ codes "sim") × (script.now ≡ operand_of (codes "SCRIPT") met.1)
+HasCommand (Sim script strict) met = (met.0 ≡ codes "sim") × (script.now ≡ operand_of (codes "SCRIPT") met.1) × (strict ≡ is_given (codes "strict") met.1)
 HasCommand (Audit journal) met = (met.0 ≡ codes "audit") × (journal.now ≡ operand_of (codes "JOURNAL") met.1)
 
 -- what was met asks for this
 abbrev pub IsMet : Wanted → Text × List Row → Type 0
 IsMet (wanted.FileCommand line) met = HasCommand line met
-IsMet (wanted.Cluster script) met = (met.0 ≡ codes "cluster") × (script.now ≡ operand_of (codes "SCRIPT") met.1)
+IsMet (wanted.Cluster script strict) met =
+    (met.0 ≡ codes "cluster") × (script.now ≡ operand_of (codes "SCRIPT") met.1) × (strict ≡ is_given (codes "strict") met.1)
 
 -- the command `run` was met, and its START is no number
 abbrev pub HasBadStart : Text × List Row → Type 0
@@ -150,3 +163,8 @@ exit_status (Wrong e) = 2
 exit_status BadStart = 2
 exit_status BadLengths = 2
 exit_status NotUtf8 = 2
+
+-- whether a refused line of the command is told by its exit status
+abbrev pub is_strict : FileCommand → Bool
+is_strict (Sim script strict) = strict
+is_strict line = false

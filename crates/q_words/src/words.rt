@@ -8,13 +8,14 @@ ghost use Rattle.bq_state.specs.Kinds.{AreLengths};
 ghost use Rattle.clap.specs.Words.{app_of, found_of, rows_of, with_rule, with_subcommand};
 ghost use Rattle.clap.specs.declared.builder.command.Command.TheViews.{out-Command};
 ghost use Rattle.q_words.specs.declared.words.WordsFault.TheVariants.{OutOfMemory};
-ghost use Rattle.q_words.specs.Words.{asm_app, check_app, run_app, sim_app, cluster_app, audit_app, bare_app, bqview, operand, option, with_lengths, operand_of, AreGiven, AreBad, HasLineFault, IsMet, Reads, Tells, TellsUngiven, exit_status};
+ghost use Rattle.q_words.specs.Words.{asm_app, check_app, run_app, sim_app, cluster_app, audit_app, bare_app, bqview, flag, operand, option, with_lengths, operand_of, is_given, is_strict, AreGiven, AreBad, HasLineFault, IsMet, Reads, Tells, TellsUngiven, exit_status};
 
 use bq_state::bounds::Bounds;
 use clap::error::ErrorKind;
 use clap::{Arg, ArgAction, ArgMatches, Command, Error};
 use q_script::number::number;
 use std::alloc::{AllocError, Global};
+use std::convert::AsStr;
 use std::env::Args;
 use std::io;
 
@@ -48,12 +49,29 @@ pub enum FileCommand<'a> {
     Sim {
         /// The name of the file.
         script: &'a str,
+        /// Whether a refused line is to be told by the exit status.
+        strict: bool,
     },
     /// `audit JOURNAL`: replay the journal of a node.
     Audit {
         /// The name of the file.
         journal: &'a str,
     },
+}
+
+impl FileCommand<'_> {
+    /// Whether a refused line is to be told by the exit status, as `sim --strict` asks.
+    pub fn is_strict(&self) -> bool
+        ensures { result ≡ is_strict self.now }
+    {
+        match self {
+            FileCommand::Sim { strict, .. } => *strict,
+            FileCommand::Asm { .. }
+            | FileCommand::Check { .. }
+            | FileCommand::Run { .. }
+            | FileCommand::Audit { .. } => false,
+        }
+    }
 }
 
 /// What the words of a command line ask for.
@@ -65,6 +83,8 @@ pub enum Wanted<'a> {
     Cluster {
         /// The name of the file.
         script: &'a str,
+        /// Whether a line that is refused or unanswered is to be told by the exit status.
+        strict: bool,
     },
 }
 
@@ -181,6 +201,23 @@ fn with_option<'a>(
     command.arg(option)
 }
 
+/// The command with one more flag.
+fn with_flag<'a>(
+    alloc: Global,
+    command: Command<'a>,
+    name: &'a str,
+    help: &'a str,
+) -> Result<Command<'a>, AllocError>
+    ensures app { IfOk result (λ c. app_of c ≡ with_rule (app_of command.entry) (flag name.entry.now)) }
+    ensures local { IfOk result (λ c. (out-Command c).has_globals ≡ (out-Command command.entry).has_globals) }
+{
+    let flag = Arg::new(alloc, name)
+        .long(name)
+        .help(help)
+        .action(ArgAction::SetTrue);
+    command.arg(flag)
+}
+
 /// The command with the options `--least` and `--most`.
 fn with_lengths<'a>(alloc: Global, command: Command<'a>) -> Result<Command<'a>, AllocError>
     ensures app { IfOk result (λ c. app_of c ≡ with_lengths (app_of command.entry)) }
@@ -255,11 +292,17 @@ fn sim_command<'a>(alloc: Global) -> Result<Command<'a>, AllocError>
     let command = Command::new(alloc, "sim")
         .about("Runs a script over a cluster in memory, and prints what events tell")
         .after_help("Example: bqview sim examples/count.sim\nFormats: docs/FORMATS.md");
-    with_operand(
+    let command = with_operand(
         alloc,
         command,
         "SCRIPT",
         "A file of events, one a line, of which the first founds the cluster",
+    )?;
+    with_flag(
+        alloc,
+        command,
+        "strict",
+        "Ends with status 1 where a line was refused",
     )
 }
 
@@ -270,11 +313,17 @@ fn cluster_command<'a>(alloc: Global) -> Result<Command<'a>, AllocError>
     let command = Command::new(alloc, "cluster")
         .about("Runs a script over nodes with sockets, and prints what its lines tell")
         .after_help("Example: bqview cluster examples/three.cluster\nFormats: docs/FORMATS.md");
-    with_operand(
+    let command = with_operand(
         alloc,
         command,
         "SCRIPT",
         "A file of `nodes`, programs, stores and queries, one a line",
+    )?;
+    with_flag(
+        alloc,
+        command,
+        "strict",
+        "Ends with status 1 where a line was refused or unanswered",
     )
 }
 
@@ -332,6 +381,13 @@ fn operand_text<'a>(found: &ArgMatches<'a>, name: &str) -> &'a str
     found.get_str(name).unwrap_or("")
 }
 
+/// Whether a flag was given.
+fn is_given(found: &ArgMatches<'_>, name: &str) -> bool
+    ensures { result ≡ is_given name.now (rows_of (found_of found.now)) }
+{
+    operand_text(found, name) == "true"
+}
+
 /// The lengths from `least` to `most`, if they are in order and within 16 to 128.
 fn bounds(least: u64, most: u64) -> Option<Bounds>
     ensures { SomeIff result (AreLengths (between least most)) (between least most) }
@@ -375,6 +431,26 @@ fn run_line<'a>(found: &ArgMatches<'a>) -> Result<Wanted<'a>, WordsFault>
     }))
 }
 
+/// The command `sim` with what was found for its operand and its flag.
+fn sim_line<'a>(found: &ArgMatches<'a>) -> Wanted<'a>
+    ensures { IsMet result (codes "sim", rows_of (found_of found.now)) }
+{
+    Wanted::FileCommand(FileCommand::Sim {
+        script: operand_text(found, "SCRIPT"),
+        strict: is_given(found, "strict"),
+    })
+}
+
+/// The command `cluster` with what was found for its operand and its flag.
+fn cluster_line<'a>(found: &ArgMatches<'a>) -> Wanted<'a>
+    ensures { IsMet result (codes "cluster", rows_of (found_of found.now)) }
+{
+    Wanted::Cluster {
+        script: operand_text(found, "SCRIPT"),
+        strict: is_given(found, "strict"),
+    }
+}
+
 /// The words of the command line that the system gives, of which the first is the program's name.
 pub fn given_words(alloc: Global, given: io::Result<Args>) -> Result<Vec<String>, WordsFault>
     ensures words { IfOk given (λ args. MatchResult result (λ words. words.items ≡ into_iter_items args) (λ e. e ≡ OutOfMemory)) }
@@ -384,8 +460,8 @@ pub fn given_words(alloc: Global, given: io::Result<Args>) -> Result<Vec<String>
 }
 
 /// Reads the words of the command line, of which the first is the program's name.
-pub fn read_words<'a>(alloc: Global, words: &'a [&'a str]) -> Result<Wanted<'a>, WordsFault>
-    ensures { Reads (map (λ word. word.now) words.entry.now) result }
+pub fn read_words<'a, S: AsStr>(alloc: Global, words: &'a [S]) -> Result<Wanted<'a>, WordsFault>
+    ensures { Reads (map S.text words.entry.now) result }
 {
     let matches = program(alloc)?.try_get_matches_from(words)?;
     if let Some(found) = matches.subcommand_matches("asm") {
@@ -399,12 +475,10 @@ pub fn read_words<'a>(alloc: Global, words: &'a [&'a str]) -> Result<Wanted<'a>,
         return run_line(found);
     }
     if let Some(found) = matches.subcommand_matches("sim") {
-        let script = operand_text(found, "SCRIPT");
-        return Ok(Wanted::FileCommand(FileCommand::Sim { script }));
+        return Ok(sim_line(found));
     }
     if let Some(found) = matches.subcommand_matches("cluster") {
-        let script = operand_text(found, "SCRIPT");
-        return Ok(Wanted::Cluster { script });
+        return Ok(cluster_line(found));
     }
     match matches.subcommand_matches("audit") {
         Some(found) => Ok(Wanted::FileCommand(FileCommand::Audit {

@@ -1,18 +1,18 @@
 //! Worked values of what words say.
 
-ghost use Rattle.std.specs.Prelude.{◌≡◌, ℕ, List, codes};
+ghost use Rattle.std.specs.Prelude.{◌≡◌, ℕ, List, [], ◌∷◌, Bool, Some, true, false, codes, option_map};
 ghost use Rattle.std.specs.IoError.{error_kind};
 ghost use Rattle.std.specs.declared.io.ErrorKind.TheVariants as kind;
-ghost use Rattle.clap.specs.Words.{Row};
+ghost use Rattle.clap.specs.Words.{Row, subcommand_of};
 ghost use Rattle.bq_range.specs.Interval.{Interval};
 ghost use Rattle.q_script.specs.Words.{IsNumeral};
-ghost use Rattle.q_words.specs.Words.{AreGiven, HasCommand, IsMet, TellsUngiven, exit_status, operand_of};
+ghost use Rattle.q_words.specs.Words.{AreGiven, HasCommand, IsMet, TellsUngiven, bqview, exit_status, is_given, is_strict, operand_of};
 ghost use Rattle.q_words.specs.declared.words.FileCommand.TheVariants as line;
 ghost use Rattle.q_words.specs.declared.words.Wanted.TheVariants as wanted;
 ghost use Rattle.q_words.specs.declared.words.WordsFault.TheVariants as fault;
 
-/// Which command each word names, with its operands, and which numbers are the lengths of records. No two words name the
-/// same. What the system says where it gives no words.
+/// Which command each word names, with its operands and its flag, and which numbers are the lengths of records. No two
+/// words name the same. What the system says where it gives no words.
 pub fn worked()
     ensures asm { (rows : List Row) (file : _) → file.now ≡ operand_of (codes "FILE") rows → HasCommand (line.Asm file) (codes "asm", rows) }
     ensures check { (rows : List Row) (file lengths : _) → file.now ≡ operand_of (codes "FILE") rows → AreGiven rows lengths → HasCommand (line.Check file lengths) (codes "check", rows) }
@@ -21,10 +21,14 @@ pub fn worked()
     ensures run_over_the_records { (rows : List Row) (file start records lengths : _) → HasCommand (line.Run file start records lengths) (codes "run", rows) → records.now ≡ operand_of (codes "RECORDS") rows }
     ensures least { (rows : List Row) (lengths : Interval) → AreGiven rows lengths → IsNumeral (operand_of (codes "least") rows) lengths.lo }
     ensures most { (rows : List Row) (lengths : Interval) → AreGiven rows lengths → IsNumeral (operand_of (codes "most") rows) lengths.hi }
-    ensures sim { (rows : List Row) (script : _) → script.now ≡ operand_of (codes "SCRIPT") rows → HasCommand (line.Sim script) (codes "sim", rows) }
-    ensures cluster { (rows : List Row) (script : _) → script.now ≡ operand_of (codes "SCRIPT") rows → IsMet (wanted.Cluster script) (codes "cluster", rows) }
-    ensures cluster_is_no_sim { (rows : List Row) (script : _) → IsMet (wanted.Cluster script) (codes "sim", rows) → ⊥ }
-    ensures sim_is_no_cluster { (rows : List Row) (script : _) → IsMet (wanted.FileCommand (line.Sim script)) (codes "cluster", rows) → ⊥ }
+    ensures sim { (rows : List Row) (script : _) (strict : Bool) → script.now ≡ operand_of (codes "SCRIPT") rows → strict ≡ is_given (codes "strict") rows → HasCommand (line.Sim script strict) (codes "sim", rows) }
+    ensures cluster { (rows : List Row) (script : _) (strict : Bool) → script.now ≡ operand_of (codes "SCRIPT") rows → strict ≡ is_given (codes "strict") rows → IsMet (wanted.Cluster script strict) (codes "cluster", rows) }
+    ensures cluster_is_no_sim { (rows : List Row) (script : _) (strict : Bool) → IsMet (wanted.Cluster script strict) (codes "sim", rows) → ⊥ }
+    ensures sim_is_no_cluster { (rows : List Row) (script : _) (strict : Bool) → IsMet (wanted.FileCommand (line.Sim script strict)) (codes "cluster", rows) → ⊥ }
+    ensures strict { option_map (λ met. is_given (codes "strict") met.1) (subcommand_of bqview (codes "bqview" ∷ codes "sim" ∷ codes "--strict" ∷ codes "a" ∷ [])) ≡ Some true }
+    ensures not_strict { option_map (λ met. is_given (codes "strict") met.1) (subcommand_of bqview (codes "bqview" ∷ codes "cluster" ∷ codes "a" ∷ [])) ≡ Some false }
+    ensures strict_sim { (script : _) (strict : Bool) → is_strict (line.Sim script strict) ≡ strict }
+    ensures audits_are_not_strict { (journal : _) → is_strict (line.Audit journal) ≡ false }
     ensures audit { (rows : List Row) (journal : _) → journal.now ≡ operand_of (codes "JOURNAL") rows → HasCommand (line.Audit journal) (codes "audit", rows) }
     ensures not_utf8 { (error : _) → error_kind error ≡ kind.InvalidData → TellsUngiven error fault.NotUtf8 }
     ensures no_memory { (error : _) → error_kind error ≡ kind.OutOfMemory → TellsUngiven error fault.OutOfMemory }

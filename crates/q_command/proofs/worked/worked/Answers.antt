@@ -1,4 +1,4 @@
-use Rattle.std.proofs.Common.{◌≡◌, ℕ, false, true≢false, List, [], ◌∷◌, ◌++◌, Some, Err, refl, ap, sym, ◌∙◌, inl, inr, subst, codes}
+use Rattle.std.proofs.Common.{◌≡◌, ℕ, Bool, true, false, true≢false, List, [], ◌∷◌, ◌++◌, Some, Err, refl, ap, sym, ◌∙◌, inl, inr, subst, codes}
 use Rattle.std.specs.Fmt.{digits}
 use Rattle.hex.proofs.OnLiterals.{hex_on_literals}
 use Rattle.q_files.specs.Memory.{Reads, Writes, bytes_of, fails_next}
@@ -8,7 +8,9 @@ use Rattle.q_files.specs.declared.memory.MemoryFiles.{MemoryFiles}
 use Rattle.q_sim.specs.Refusal.{refusal_of}
 use Rattle.q_sim.specs.declared.refusal.Refusal.TheVariants.{FileFailed}
 use Rattle.q_command.specs.Audit.{answer_line, answer_lines}
-use Rattle.q_command.specs.Perform.{Answers}
+use Rattle.q_command.specs.Perform.{Answers, end_of}
+use Rattle.q_command.specs.declared.perform.Outcome.TheVariants.{Answered}
+use Rattle.q_words.specs.Words.{is_strict}
 use Rattle.q_command.proofs.worked.worked.Goals as goal
 
 pub returns-clause-of_the_text : goal.returns-clause-of_the_text
@@ -53,5 +55,21 @@ returns-clause-no_advice_of_text c = λ told text is h. h is
 
 -- ---- ends
 
+-- a command that ended so wrote each journal
+was_saved : (strict unwritten refused : Bool) → Answered ≡ end_of strict unwritten refused → unwritten ≡ false
+was_saved strict true refused e = absurd cc
+was_saved strict false refused e = refl
+
+none_refused : (strict : Bool) → end_of strict false false ≡ Answered
+none_refused true = refl
+none_refused false = refl
+
 pub returns-clause-written_once : goal.returns-clause-written_once
-returns-clause-written_once c = λ line old new out h. subst (λ (lines : List ℕ). Answers Reads (Writes {X = Unit {0}}) line old lines false new) (sym h.2) h.1
+returns-clause-written_once c = λ line old new out h. (
+  h.2,
+  subst (λ (lines : List ℕ). Answers Reads (Writes {X = Unit {0}}) line old lines false h.2 new) (sym h.4)
+      (subst (λ (u : Bool). Answers Reads (Writes {X = Unit {0}}) line old h.0 u h.2 new) (was_saved (is_strict line) h.1 h.2 h.5) h.3),
+)
+
+pub returns-clause-none_refused : goal.returns-clause-none_refused
+returns-clause-none_refused c = none_refused

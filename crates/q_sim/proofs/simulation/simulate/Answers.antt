@@ -32,6 +32,7 @@ returns-clause-printed g c =
       begins = c.in_ok-simulation.ensures.begun.0;
       plays = subst (λ (ls : List ScriptLine). Plays writes ls (seen c.in_ok-simulation.simulation) c.args.files.now (string_bytes c.loop-line.simulation.lines) (seen c.loop-line.simulation) c.loop-line.files) (sym (map-id c.loop-line.yielded) ∙ end.0) c.loop-line.invariant;
       told = refl;
+      shown = refl;
       answers = c.answers_are_true.ensures;
       books = c.books_are_replays.ensures;
     }

@@ -1,4 +1,4 @@
-use Rattle.std.proofs.Common.{◌≡◌, length, true≢false, refl, ap, sym, ◌∙◌, inl, inr, subst, arith}
+use Rattle.std.proofs.Common.{◌≡◌, ◌++◌, append-nil, length, true≢false, refl, ap, sym, ◌∙◌, inl, inr, subst, arith}
 use Rattle.std.specs.FinSet as set
 use Rattle.std.specs.Fmt.{digits}
 use Rattle.bq_insn.specs.Fields.{unit_bytes}
@@ -8,6 +8,7 @@ use Rattle.q_history.specs.Calls.{Takes}
 use Rattle.q_history.specs.declared.event.Event.TheVariants as event
 use Rattle.q_sim.specs.Delivered.{pair_cmp}
 use Rattle.q_sim.specs.Simulates.{SavesAny, SimState, Tries}
+use Rattle.q_sim.specs.Truths.{IsTrueAnswer}
 use Rattle.q_sim.proofs.Pairs.{pair_cmp_total}
 use Rattle.q_sim.proofs.worked.worked.Goals as goal
 
@@ -32,6 +33,12 @@ returns-clause-one_is_tried c = λ s t awaits h. elim h [
 
 pub returns-clause-want_of_memory_is_no_try : goal.returns-clause-want_of_memory_is_no_try
 returns-clause-want_of_memory_is_no_try c = λ s t h is. h.answered is
+
+pub returns-clause-want_of_memory_is_a_refusal : goal.returns-clause-want_of_memory_is_a_refusal
+returns-clause-want_of_memory_is_a_refusal c = λ s t text h. ap (λ (x : SimState). x.refused) h.1
+
+pub returns-clause-refused_delivery : goal.returns-clause-refused_delivery
+returns-clause-refused_delivery c = λ s t h before. h.refused ∙ before
 
 pub returns-clause-want_of_memory_is_told : goal.returns-clause-want_of_memory_is_told
 unfolding digits
@@ -60,4 +67,10 @@ pub returns-clause-file_fails : goal.returns-clause-file_fails
 returns-clause-file_fails c = λ book name text s t before after fails h. elim h [
   | inl written ↦ absurd (true≢false (sym fails ∙ written.0.0.0))
   | inr failed ↦ ap (λ (x : SimState). x.unwritten) failed.1
+]
+
+pub returns-clause-unrefused_run : goal.returns-clause-unrefused_run
+returns-clause-unrefused_run c = λ cluster text h. elim h.2 [
+  | inl answer ↦ subst (IsTrueAnswer cluster) (sym (h.4 ∙ ap (λ rest. h.0 ++ rest) h.3 ∙ append-nil h.0)) answer
+  | inr refused ↦ absurd (true≢false (sym refused.2))
 ]

@@ -1,5 +1,4 @@
 use Rattle.std.proofs.Common.{◌≤◌, length, refl, arith}
-use Rattle.q_history.specs.declared.event.Event.TheVariants as event
 use Rattle.q_sim.specs.Seen.{seen}
 use Rattle.q_sim.specs.Simulates.{SimState}
 use Rattle.q_sim.proofs.Goes.{takes_goes}
@@ -11,10 +10,10 @@ invariant_of-self-2 c =
     let s = c.args.self.now in
     let cluster = c.step-answer.new.self in
     let delivered = c.insert.new.self in
-    let goes = takes_goes s.cluster cluster (event.Deliver c.args.message c.args.node) c.step-answer.result (λ id is. absurd (cc)) c.step-answer.ensures.takes in
+    let goes = takes_goes s.cluster cluster _ c.step-answer.result (λ id is. absurd (cc)) c.step-answer.ensures.takes in
     let low : s.awaited_from ≤ length s.cluster.world.sent = s.sent in
     let more : length s.cluster.world.sent ≤ length cluster.world.sent = goes.sent in
-    let after : SimState = record { cluster = cluster; nodes = s.nodes.items; delivered = delivered; unwritten = s.unwritten } in
+    let after : SimState = record { cluster = cluster; nodes = s.nodes.items; delivered = delivered; unwritten = s.unwritten; refused = s.refused } in
     record {
       rising = s.rising;
       sent = omega (arith, low, more);

@@ -13,4 +13,4 @@ returns-in-Ok c =
 pub returns-in-Err : goal.returns-in-Err
 returns-in-Err c =
     longer_refused c.refuse.result (seen c.args.self.now) (seen c.refuse.new.self) c.args.node c.args.bytes.now c.longer_store-fault.result (string_bytes c.args.self.now.lines) (string_bytes c.refuse.new.self.lines)
-    c.longer_store-fault.ensures (longer c.args.bytes.now c.new.result _ c.in-Err.is c.new.ensures.bad) c.refuse.ensures.same c.refuse.ensures.line
+    c.longer_store-fault.ensures (longer c.args.bytes.now c.new.result _ c.in-Err.is c.new.ensures.bad) c.refuse.ensures.noted c.refuse.ensures.line

@@ -1,0 +1,108 @@
+-- Each line of a script leads to its next cluster by accepted events, and a line that was refused stays told.
+use Rattle.std.proofs.Common.{◌≡◌, inl, inr, ℕ, zero, suc, Bool, true, List, [], ◌∷◌, ◌++◌, Option, Some, None, refl, sym, ◌∙◌, subst, Result, Ok, Err, string_bytes}
+use Rattle.sc_members.specs.Members.{Config}
+use Rattle.sc_msg.specs.declared.version.Version.{Version}
+use Rattle.sc_world.specs.State.{WorldState}
+use Rattle.sc_world.specs.declared.fault.WorldFault.{WorldFault}
+use Rattle.sc_world.proofs.Inverts.{no_refusal, same_answer}
+use Rattle.q_book.specs.State.{BookState}
+use Rattle.q_script.specs.declared.line.ScriptLine.{ScriptLine}
+use Rattle.q_script.specs.declared.line.ScriptLine.TheVariants.{Program, Store, Ask, Deliver, All, Hand, Run, Enter, Leave, Crash, Pairs, Journal}
+use Rattle.q_history.specs.declared.event.Event.{Event}
+use Rattle.q_history.specs.declared.event.Event.TheVariants as event
+use Rattle.q_history.specs.declared.event.Stepped.{Stepped}
+use Rattle.q_history.specs.declared.fault.ClusterFault.{ClusterFault}
+use Rattle.q_history.specs.State.{ClusterState}
+use Rattle.q_history.specs.Calls.{Reaches, Takes}
+use Rattle.q_history.specs.Clusters.{founded, start}
+use Rattle.q_cluster.specs.Acts.{book_at}
+use Rattle.q_sim.specs.Simulates.{SimState, Writing, refusing, or_refused, Acts, Registers, Tries, DeliversAll, SavesAny, Does, Plays}
+
+-- some accepted events lead from one cluster to another
+abbrev pub Leads : ClusterState → ClusterState → Type 0
+Leads c d = (es : List Event) × Reaches c es d
+
+pub leads_itself : (c : ClusterState) → Leads c c
+leads_itself c = ([], refl)
+
+reaches_on : (es fs : List Event) (a b c : ClusterState) → Reaches a es b → Reaches b fs c → Reaches a (es ++ fs) c
+reaches_on [] fs a b c r q = subst (λ (x : ClusterState). Reaches x fs c) r q
+reaches_on (e ∷ es) fs a b c r q = (r.0, r.1, r.2, reaches_on es fs r.1 b c r.3 q)
+
+pub leads_on : (a b c : ClusterState) → Leads a b → Leads b c → Leads a c
+leads_on a b c h k = (h.0 ++ k.0, reaches_on h.0 k.0 a b c h.1 k.1)
+
+-- an event that is taken or refused
+takes_leads : (c d : ClusterState) (e : Event) (r : Result Stepped ClusterFault) → Takes c e d r → Leads c d
+takes_leads c d e (Ok told) h = (e ∷ [], (told, d, h, refl))
+takes_leads c d e (Err f) h = subst (Leads c) (sym h.0) (leads_itself c)
+
+-- ---- one state to another
+
+-- its cluster leads to the other's, and it stays told that a line was refused
+pub record IsLed (s t : SimState) : Type 0 where
+  pub leads : Leads s.cluster t.cluster
+  pub refused : s.refused ≡ true → t.refused ≡ true
+
+led_itself : (s t : SimState) → t ≡ s → IsLed s t
+led_itself s t same = subst (IsLed s) (sym same) (record { leads = leads_itself s.cluster; refused = λ h. h })
+
+led_refusing : (s t : SimState) → t ≡ refusing s → IsLed s t
+led_refusing s t same = subst (IsLed s) (sym same) (record { leads = leads_itself s.cluster; refused = λ h. refl })
+
+led_on : (s t u : SimState) → IsLed s t → IsLed t u → IsLed s u
+led_on s t u h k = record { leads = leads_on s.cluster t.cluster u.cluster h.leads k.leads; refused = λ told. k.refused (h.refused told) }
+
+still_refused : (r : Result Stepped ClusterFault) (refused : Bool) → refused ≡ true → or_refused r refused ≡ true
+still_refused (Ok told) refused h = h
+still_refused (Err f) refused h = refl
+
+pub acts_led : (e : Event) (s : SimState) (text : List ℕ) (t : SimState) → Acts e s text t → IsLed s t
+acts_led e s text t h = record { leads = takes_leads s.cluster t.cluster e h.result h.takes; refused = λ told. h.refused ∙ still_refused h.result s.refused told }
+
+tries_led : (s : SimState) (message node : ℕ) (t : SimState) → Tries s message node t → IsLed s t
+tries_led s message node t h = record { leads = takes_leads s.cluster t.cluster (event.Deliver message node) h.result h.takes; refused = λ told. h.refused ∙ told }
+
+registers_led : (node : ℕ) (code : List ℕ) (s : SimState) (text : List ℕ) (t : SimState) → Registers node code s text t → IsLed s t
+registers_led node code s text t h = elim h [ inl a ↦ acts_led (event.Register node a.0) s text t a.2 | inr r ↦ led_refusing s t r.2 ]
+
+delivers_led : (limit : ℕ) (s : SimState) (text : List ℕ) (t : SimState) → DeliversAll limit s text t → IsLed s t
+delivers_led zero s text t h = led_itself s t h.0
+delivers_led (suc n) s text t h = elim h [
+  | inl none ↦ led_itself s t none.1
+  | inr (inl wants) ↦ led_refusing s t wants.1
+  | inr (inr d) ↦ led_on s d.2 t (tries_led s d.0 d.1 d.2 d.4) (delivers_led n d.2 text t d.5)
+]
+
+saves_led : {F : Type 0} (writes : Writing F) (book : Option BookState) (name : List ℕ) (s : SimState) (before : F) (text : List ℕ) (t : SimState) (after : F)
+    → SavesAny writes book name s before text t after → IsLed s t
+saves_led writes None name s before text t after h = led_refusing s t h.0
+saves_led writes (Some b) name s before text t after h = elim h [
+  | inl written ↦ led_itself s t written.1
+  | inr failed ↦ subst (IsLed s) (sym failed.1) (record { leads = leads_itself s.cluster; refused = λ told. refl })
+]
+
+-- ---- lines
+
+pub does_led : {F : Type 0} (writes : Writing F) (l : ScriptLine) (s : SimState) (before : F) (text : List ℕ) (t : SimState) (after : F) → Does writes l s before text t after → IsLed s t
+does_led writes (Program node code) s before text t after h = registers_led node code.items s text t h.0
+does_led writes (Store node value) s before text t after h = acts_led _ s text t h.0
+does_led writes (Ask node program begin) s before text t after h = acts_led _ s text t h.0
+does_led writes (Deliver message node) s before text t after h = acts_led _ s text t h.0
+does_led writes (All limit) s before text t after h = delivers_led limit s text t h.0
+does_led writes (Hand node) s before text t after h = acts_led _ s text t h.0
+does_led writes (Run job) s before text t after h = acts_led _ s text t h.0
+does_led writes (Enter id) s before text t after h = acts_led _ s text t h.0
+does_led writes (Leave id) s before text t after h = acts_led _ s text t h.0
+does_led writes (Crash id) s before text t after h = acts_led _ s text t h.0
+does_led writes Pairs s before text t after h = led_itself s t h.0.1
+does_led writes (Journal node file) s before text t after h = saves_led writes (book_at s.cluster node) (string_bytes file) s before text t after h
+
+pub plays_led : {F : Type 0} (writes : Writing F) (ls : List ScriptLine) (s : SimState) (before : F) (text : List ℕ) (t : SimState) (after : F) → Plays writes ls s before text t after → IsLed s t
+plays_led writes [] s before text t after p = led_itself s t p.0
+plays_led writes (l ∷ ls) s before text t after p = led_on s p.0 t (does_led writes l s before p.2 p.0 p.1 p.4) (plays_led writes ls p.0 p.1 p.3 t after p.5)
+
+-- founders that are not refused are those of the first cluster
+pub founded_is : (version : Version) (config : Config) (ids : List ℕ) (r : Result WorldState WorldFault) (c : ClusterState) → founded version config ids r ≡ Ok c → start version config ids ≡ c
+founded_is version config ids (Ok w) c h = same_answer _ c h
+founded_is version config ids (Err e) c h = absurd (no_refusal _ c h)

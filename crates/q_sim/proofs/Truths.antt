@@ -1,0 +1,89 @@
+-- What each `run` line prints is recorded in the last cluster, and true.
+use Rattle.std.proofs.Common.{◌≡◌, inl, inr, ℕ, Bool, true, List, [], ◌∷◌, ◌++◌, refl, sym, ap, ◌∙◌, subst, append-nil, slice_get, Result, Ok, Err}
+use Rattle.sc_members.specs.Members.{Config}
+use Rattle.sc_msg.specs.declared.version.Version.{Version}
+use Rattle.sc_msg.specs.declared.version.Version.TheVariants.{Second}
+use Rattle.sc_world.specs.Worlds as world
+use Rattle.q_script.specs.declared.line.ScriptLine.{ScriptLine}
+use Rattle.q_script.specs.declared.line.ScriptLine.TheVariants.{Run}
+use Rattle.q_script.specs.declared.script.Script.{Script}
+use Rattle.q_history.specs.declared.event.Event.{Event}
+use Rattle.q_history.specs.declared.event.Event.TheVariants as event
+use Rattle.q_history.specs.declared.event.Stepped.{Stepped}
+use Rattle.q_history.specs.declared.event.Told.{Told}
+use Rattle.q_history.specs.declared.event.Told.TheVariants as told
+use Rattle.q_history.specs.declared.fault.ClusterFault.{ClusterFault}
+use Rattle.q_history.specs.State.{ClusterState}
+use Rattle.q_history.specs.Calls.{Reaches, Takes}
+use Rattle.q_history.specs.Clusters.{start}
+use Rattle.q_history.specs.Headline.{AnswersAreTrue, AnswersStay}
+use Rattle.q_sim.specs.Printing.{told_lines, message_lines, printed}
+use Rattle.q_sim.specs.Simulates.{SimState, Writing, or_refused, Does, Plays, Simulates, config_of, founders_of}
+use Rattle.q_sim.specs.Truths.{IsTrueAnswer, IsTrueLine, AreTrueLines}
+use Rattle.q_sim.proofs.Leading.{Leads, leads_itself, leads_on, IsLed, acts_led, does_led, plays_led, founded_is}
+use Rattle.q_sim.proofs.Recording.{IsRecorded, finish_recorded}
+
+-- what is printed of it is its line alone
+only_line : (c : ClusterState) (stepped : Stepped) (t : Told) → stepped.told ≡ t → stepped.sent.count ≡ 0 → printed c (Ok stepped) ≡ told_lines t
+only_line c stepped t tells silent =
+    ap (λ n. told_lines stepped.told ++ message_lines c.world.sent stepped.sent.first n) silent
+    ∙ append-nil (told_lines stepped.told)
+    ∙ ap told_lines tells
+
+module _ (last : ClusterState) (answers : AnswersAreTrue last) where
+  recorded_true : (c : ClusterState) (stepped : Stepped) (text : List ℕ) → IsRecorded stepped c → AnswersStay c last → text ≡ printed c (Ok stepped) → IsTrueAnswer last text
+  recorded_true c stepped text r stays is =
+      let kept = stays r.node r.query r.desk r.asked r.view r.ran r.at r.number r.answered in
+      record {
+        node = r.node;
+        query = r.query;
+        ran = r.ran;
+        line = is ∙ only_line c stepped (told.Finished (record { node = r.node; query = r.query; ran = r.ran })) r.tells r.silent;
+        desk = kept.0;
+        asked = r.asked;
+        view = r.view;
+        at = kept.1;
+        number = kept.2;
+        answered = r.answered;
+        is_true = answers r.node r.query kept.0 r.asked r.view r.ran kept.1 kept.2 r.answered;
+      }
+
+  ran_true : (c d : ClusterState) (job : ℕ) (text : List ℕ) (refused : Bool) (r : Result Stepped ClusterFault) → Takes c (event.Finish job) d r → AnswersStay d last
+      → ((f : ClusterFault) → r ≡ Err f → refused ≡ true) → text ≡ printed d r → IsTrueLine last refused (Run job) text
+  ran_true c d job text refused (Err f) h stays told is = inr (f, is, told f refl)
+  ran_true c d job text refused (Ok stepped) h stays told is = inl (recorded_true d stepped text (finish_recorded c h.ran (slice_get c.jobs job) (stepped, d) h.stepped) stays is)
+
+-- the answers of each cluster on the way from the first to the last stay
+module _ (first : ClusterState) (last : SimState) (stays : (c : ClusterState) → Leads first c → Leads c last.cluster → AnswersStay c last.cluster) (answers : AnswersAreTrue last.cluster) where
+  line_true : {F : Type 0} (writes : Writing F) (l : ScriptLine) (s : SimState) (before : F) (text : List ℕ) (t : SimState) (after : F) → Leads first s.cluster → IsLed t last
+      → Does writes l s before text t after → IsTrueLine last.cluster last.refused l text
+  line_true writes (Run job) s before text t after h k d =
+      let road = leads_on first s.cluster t.cluster h (acts_led (event.Finish job) s text t d.0).leads in
+      ran_true last.cluster answers s.cluster t.cluster job text last.refused d.0.result d.0.takes (stays t.cluster road k.leads)
+      (λ f is. k.refused (d.0.refused ∙ ap (λ (r : Result Stepped ClusterFault). or_refused r s.refused) is)) d.0.says
+  line_true writes l s before text t after h k d = tt
+
+  lines_true : {F : Type 0} (writes : Writing F) (ls : List ScriptLine) (s : SimState) (before : F) (text : List ℕ) (after : F) → Leads first s.cluster → Plays writes ls s before text last after
+      → AreTrueLines last.cluster last.refused ls text
+  lines_true writes [] s before text after h p = p.2
+  lines_true writes (l ∷ ls) s before text after h p = (
+    p.2,
+    p.3,
+    line_true writes l s before p.2 p.0 p.1 h (plays_led writes ls p.0 p.1 p.3 last after p.5) p.4,
+    lines_true writes ls p.0 p.1 p.3 after (leads_on first s.cluster p.0.cluster h (does_led writes l s before p.2 p.0 p.1 p.4).leads) p.5,
+    p.6,
+  )
+
+-- recorded answers stay in every history, so what a script printed is true
+pub printed_true : ((version : Version) (config : Config) (founders : List ℕ) (before after : List Event) (c later : ClusterState) → Reaches (start version config founders) before c → Reaches c after later
+    → AnswersStay c later)
+    → {F : Type 0} (writes : Writing F) (script : Script) (before : F) (text : List ℕ) (unwritten refused : Bool) (after : F) (s : Simulates writes script before text unwritten refused after)
+    → AreTrueLines s.last.cluster refused script.lines.items text
+printed_true stay writes script before text unwritten refused after s =
+    let config = config_of script.founding in
+    let ids = founders_of script.founding in
+    let first = start Second config ids in
+    let begun = founded_is Second config ids (world.started config ids) s.first.cluster s.begins.started in
+    subst (λ (b : Bool). AreTrueLines s.last.cluster b script.lines.items text) (sym s.shown)
+    (lines_true first s.last (λ c h k. stay Second config ids h.0 k.0 c s.last.cluster h.1 k.1) s.answers writes script.lines.items s.first before text after
+    (subst (Leads first) begun (leads_itself first)) s.plays)
