@@ -56,7 +56,7 @@ where
     R: Net + Wait + Threads + Clock + Alloc<A = Global> + Sync,
 {
     let start = Instant::now(rt)?;
-    let status = run_over_sockets(rt, rt.alloc(), script, printed, notes);
+    let status = run_over_sockets(rt, rt.alloc(), script, printed, notes).status(false);
     let taken = start.elapsed(rt)?;
     if status != 0 {
         bail!("the run ended with status {status}");

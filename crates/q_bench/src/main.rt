@@ -1,5 +1,6 @@
 //! How long a job takes over the job board, beside the same through two queues, each behind a lock; how long nodes with
-//! sockets take for stores and queries, and how long requests of clients take over memory.
+//! sockets take for stores and queries; how long requests of clients take over memory; and how long it takes to gather
+//! nodes that ran apart.
 //!
 //! | Words | What is timed |
 //! |---|---|
@@ -9,13 +10,17 @@
 //! | `asks NODES COUNT` | so many queries at node 1, each until its answer is printed, after one store |
 //! | `answers COUNT` | so many requests for an answer, read and replied to |
 //! | `registrations COUNT` | so many registrations of a program of three units, each decoded and checked |
+//! | `gather NODES STORES` | founders that each stored so often, gathered by their journals and by their books |
 //!
 //! Each job runs three instructions over one record; with `hand`, the time of a job that is run where it is comes last, and
 //! what a job takes beyond that is its hand-over.
 //!
-//! The last four are each done five times, and the least time is told. The count is of what ended in each of the five, so
-//! that a store or a query that was left unanswered is missing there; the time has the start and the end of the nodes in
-//! it.
+//! Stores, queries and requests are each done five times, and the least time is told. The count is of what ended in
+//! each of the five, so that a store or a query that was left unanswered is missing there; the time of stores and
+//! queries has the start and the end of the nodes in it.
+//!
+//! The nodes that are gathered ran one after another and without sockets, until each had taken every message. The
+//! count is that of their events, and they are gathered once.
 //!
 //! The counts go to the standard output and are the same at each run; the times go to the standard error. With no words it
 //! does a small run of each. To give the parts work is all that its functions do, so they promise nothing more than that
@@ -24,12 +29,14 @@
 
 mod board;
 mod cluster;
+mod gathers;
 mod jobs;
 mod measured;
 mod queues;
 mod requests;
 mod sizes;
 
+use crate::gathers::Gathered;
 use crate::jobs::Times;
 use crate::measured::tell;
 use crate::sizes::size;
@@ -62,7 +69,13 @@ where
         }
         "answers" => tell(rt, word, requests::answers(rt, size(words, 2, 4)?)?),
         "registrations" => tell(rt, word, requests::registrations(rt, size(words, 2, 4)?)?),
-        _ => bail!("{word:?} is none of hand, run, stores, asks, answers and registrations"),
+        "gather" => {
+            let (nodes, stores) = (size(words, 2, 3)?, size(words, 3, 2)?);
+            tell_gathered(rt, gathers::run(rt, nodes, stores)?)
+        }
+        _ => bail!(
+            "{word:?} is none of hand, run, stores, asks, answers, registrations and gather"
+        ),
     }
 }
 
@@ -71,7 +84,15 @@ fn run_all<R>(rt: &R) -> Result<()>
 where
     R: Net + Wait + Threads + Clock + Print + Eprint + Alloc<A = Global> + Sync,
 {
-    for word in ["hand", "run", "stores", "asks", "answers", "registrations"] {
+    for word in [
+        "hand",
+        "run",
+        "stores",
+        "asks",
+        "answers",
+        "registrations",
+        "gather",
+    ] {
         run_word(rt, word, &[])?;
     }
     Ok(())
@@ -116,6 +137,12 @@ fn tell_hand(rt: &(impl Print + Eprint), times: (Both, Times)) -> Result<()> {
     tell_both(rt, "hand", both)?;
     eprintln!(rt; "a job that is run where it is: {} ns", alone.nanos)?;
     Ok(())
+}
+
+/// Prints how many events were gathered, and how long it took.
+fn tell_gathered(rt: &(impl Print + Eprint), times: Gathered) -> Result<()> {
+    tell(rt, "gather", times.by_journals)?;
+    tell(rt, "gather of books", times.by_books)
 }
 
 /// Prints what was done, and how long a job took.

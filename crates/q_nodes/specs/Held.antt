@@ -1,5 +1,5 @@
 -- What is done to a node's book, and to the messages that wait to be sent, while its lock is held.
-use Rattle.std.specs.Prelude.{◌≡◌, ◌≢◌, ℕ, ◌+◌, ◌-◌, ◌^◌, min, List, ◌++◌, codes, decimal, Result, Ok, Err}
+use Rattle.std.specs.Prelude.{◌≡◌, ◌≢◌, ℕ, ◌+◌, ◌-◌, ◌^◌, min, ◌==◌, ◌&&◌, Bool, List, ◌++◌, codes, decimal, Result, Ok, Err}
 use Rattle.sc_msg.specs.Fault.{IsFault}
 use Rattle.sc_msg.specs.Messages.{message_bytes, IsMessage}
 use Rattle.sc_msg.specs.declared.message.Message.{Message}
@@ -13,6 +13,7 @@ use Rattle.q_book.specs.declared.fault.BookFault.{BookFault}
 use Rattle.q_nodes.specs.declared.held.Lost.{Lost}
 use Rattle.q_nodes.specs.declared.held.Lost.TheVariants as lost
 use Rattle.q_nodes.specs.declared.losses.Losses.{Losses}
+use Rattle.q_nodes.specs.declared.losses.Unsent.{Unsent}
 
 -- the book and what waits are as they were
 abbrev pub IsSame : BookState → List Message → BookState → List Message → Type 0
@@ -68,3 +69,19 @@ together l k = record { bytes = sum_of l.bytes k.bytes; book = sum_of l.book k.b
 abbrev pub losses_text : Losses → List ℕ
 losses_text l =
     codes "refused datagrams: " ++ (decimal l.bytes ++ (codes " that spell no message, " ++ (decimal l.book ++ (codes " by books, " ++ (decimal l.memory ++ codes " for want of memory")))))
+
+-- ---- what was not sent
+
+abbrev pub no_unsent : Unsent
+no_unsent = record { sends = 0; messages = 0 }
+
+abbrev pub both_unsent : Unsent → Unsent → Unsent
+both_unsent a b = record { sends = sum_of a.sends b.sends; messages = sum_of a.messages b.messages }
+
+abbrev pub is_all_sent : Unsent → Bool
+is_all_sent a = a.sends == 0 && a.messages == 0
+
+-- the line that tells it, without the line feed
+abbrev pub unsent_text : Unsent → List ℕ
+unsent_text a =
+    codes "not sent: " ++ (decimal a.sends ++ (codes " datagrams that failed, " ++ (decimal a.messages ++ codes " messages that have no bytes")))

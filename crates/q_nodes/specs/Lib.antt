@@ -1,7 +1,3 @@
--- Nodes in threads: what is done under a node's lock, and what the lines of a script may print.
-pub mod Faults
+-- Nodes in threads: what is done under a node's lock, and why no line is told.
 pub mod Held
-pub mod Seats
-pub mod Lines
-pub mod Scripts
-pub mod Runs
+pub mod Halts

@@ -3,9 +3,9 @@
 ghost use Rattle.std.specs.Prelude.{◌≡◌, ◌≤◌, ◌+◌, [], vec_len, vec_capacity, MatchResult};
 ghost use Rattle.q_board.specs.BoardId.{board_id};
 ghost use Rattle.q_pool.specs.Pumped.{Pumped, Stopped};
-ghost use Rattle.q_nodes.specs.Held.{Asks, Delivers, Hears, Stores, counted, no_losses};
+ghost use Rattle.q_nodes.specs.Held.{Asks, Delivers, Hears, Stores, both_unsent, counted, no_losses, no_unsent};
 
-use crate::losses::Losses;
+use crate::losses::{Losses, Unsent};
 use q_board::board::Board;
 use q_board::seats::AskerSeat;
 use q_book::answer::Asked;
@@ -27,6 +27,8 @@ pub struct Held<'b> {
     pub waiting: Vec<Message>,
     /// The datagrams that changed nothing so far.
     pub lost: Losses,
+    /// What the node's thread did not send so far.
+    pub unsent: Unsent,
     /// The board.
     pub board: &'b Board,
     /// The node's seat at this board.
@@ -52,12 +54,14 @@ impl<'b> Held<'b> {
         ensures book { result.book ≡ book }
         ensures waiting { result.waiting.items ≡ [] }
         ensures lost { result.lost ≡ no_losses }
+        ensures unsent { result.unsent ≡ no_unsent }
         ensures asker { result.asker ≡ asker }
     {
         Held {
             book,
             waiting: Vec::new(alloc),
             lost: Losses::none(),
+            unsent: Unsent::none(),
             board,
             asker,
         }
@@ -69,6 +73,7 @@ impl<'b> Held<'b> {
     pub fn hear(&mut self, alloc: Global, bytes: &[u8]) -> Result<(), Lost>
         ensures heard { Hears bytes.now self.old.book self.old.waiting.items result self.new.book self.new.waiting.items }
         ensures counted { self.new.lost ≡ counted result self.old.lost }
+        ensures unsent { self.new.unsent ≡ self.old.unsent }
         ensures asker { self.new.asker ≡ self.old.asker }
     {
         match self.take_bytes(alloc, bytes) {
@@ -84,6 +89,7 @@ impl<'b> Held<'b> {
     fn take_bytes(&mut self, alloc: Global, bytes: &[u8]) -> Result<(), Lost>
         ensures heard { Hears bytes.now self.old.book self.old.waiting.items result self.new.book self.new.waiting.items }
         ensures lost { self.new.lost ≡ self.old.lost }
+        ensures unsent { self.new.unsent ≡ self.old.unsent }
         ensures asker { self.new.asker ≡ self.old.asker }
     {
         let message = match decode_as(alloc, self.book.version(), bytes) {
@@ -101,6 +107,7 @@ impl<'b> Held<'b> {
         requires { vec_len self.old.waiting + 2 ≤ vec_capacity self.old.waiting }
         ensures delivered { Delivers message.now self.old.book self.old.waiting.items result self.new.book self.new.waiting.items }
         ensures lost { self.new.lost ≡ self.old.lost }
+        ensures unsent { self.new.unsent ≡ self.old.unsent }
         ensures asker { self.new.asker ≡ self.old.asker }
     {
         match self.book.deliver(message) {
@@ -116,6 +123,7 @@ impl<'b> Held<'b> {
     pub fn store(&mut self, value: &[u8]) -> Result<u64, BookFault>
         ensures stored { Stores value.now self.old.book self.old.waiting.items result self.new.book self.new.waiting.items }
         ensures lost { self.new.lost ≡ self.old.lost }
+        ensures unsent { self.new.unsent ≡ self.old.unsent }
         ensures asker { self.new.asker ≡ self.old.asker }
     {
         self.waiting.reserve(2)?;
@@ -129,6 +137,7 @@ impl<'b> Held<'b> {
     pub fn ask(&mut self, program: ProgramId, start: u64) -> Result<usize, BookFault>
         ensures asked { Asks program start self.old.book self.old.waiting.items result self.new.book self.new.waiting.items }
         ensures lost { self.new.lost ≡ self.old.lost }
+        ensures unsent { self.new.unsent ≡ self.old.unsent }
         ensures asker { self.new.asker ≡ self.old.asker }
     {
         self.waiting.reserve(2)?;
@@ -143,9 +152,21 @@ impl<'b> Held<'b> {
         ensures none { self.new.waiting.items ≡ [] }
         ensures book { self.new.book ≡ self.old.book }
         ensures lost { self.new.lost ≡ self.old.lost }
+        ensures unsent { self.new.unsent ≡ self.old.unsent }
         ensures asker { self.new.asker ≡ self.old.asker }
     {
         std::mem::replace(&mut self.waiting, Vec::new(alloc))
+    }
+
+    /// Counts what the node's thread did not send.
+    pub fn count_unsent(&mut self, unsent: Unsent)
+        ensures counted { self.new.unsent ≡ both_unsent self.old.unsent unsent }
+        ensures book { self.new.book ≡ self.old.book }
+        ensures waiting { self.new.waiting.items ≡ self.old.waiting.items }
+        ensures lost { self.new.lost ≡ self.old.lost }
+        ensures asker { self.new.asker ≡ self.old.asker }
+    {
+        self.unsent = self.unsent.and(unsent);
     }
 
     /// Posts the results that wait for the node at the board, and offers jobs of its ready queries there. Refused as
@@ -156,6 +177,7 @@ impl<'b> Held<'b> {
             (λ fault. Stopped self.old.asker self.old.book fault self.new.asker self.new.book) }
         ensures waiting { self.new.waiting.items ≡ self.old.waiting.items }
         ensures lost { self.new.lost ≡ self.old.lost }
+        ensures unsent { self.new.unsent ≡ self.old.unsent }
     {
         pump_once(self.board, &mut self.asker, &mut self.book)
     }

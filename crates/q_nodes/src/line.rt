@@ -1,27 +1,26 @@
-//! The lines of a script, one after the other.
+//! The calls that the lines of a script name, one after the other.
 
-ghost use Rattle.std.specs.Prelude.{◌≡◌, ◌++◌, ◌^◌, ◌-◌, min, IfSome, IsTrue, OnOk};
-ghost use Rattle.std.specs.Io.KnownBytes.{Appends};
-ghost use Rattle.q_nodes.specs.Lines.{Prints, TellsProgram, TellsEnd, TellsStore, TellsAnswer, TellsAsk, Tells, TellsAll, refused_line, unanswered_line, program_id};
-ghost use Rattle.q_nodes.specs.Seats.{HasEnded, IsRecorded};
-ghost use Rattle.q_history.specs.declared.event.Told.TheVariants as told;
-ghost use Rattle.q_sim.specs.Printing.{told_lines};
+ghost use Rattle.std.specs.Prelude.{IfErr, IfOk, MatchOption};
+ghost use Rattle.q_book.specs.State.{BookState};
+ghost use Rattle.q_lines.specs.Books.{BeginsQuery, BeginsStore, IsOther, Registers};
+ghost use Rattle.q_lines.specs.Lines.{CallsAt, ComesTo, ComesToProgram, InTurn};
+ghost use Rattle.q_nodes.specs.Halts.{IsHalt};
 
-use crate::fault::NodesFault;
+use crate::halt::Halt;
 use crate::held::Held;
-use crate::script::ClusterLine;
 use crate::seat;
 use crate::turn::pause;
-use q_session::ran::Ran;
+use q_lines::fault::NodesFault;
+use q_lines::outcome::Outcome;
+use q_lines::own;
+use q_lines::script::{ClusterLine, is_node, program_id};
 use q_sim::program::certified_code;
-use q_table::program::ProgramId;
+use q_table::program::{Program, ProgramId};
 use std::alloc::Global;
-use std::io;
-use std::io::Write;
 use std::sync::{Mutex, Wait};
 use std::time::Clock;
 
-/// After so many turns an operation or a query is left unanswered.
+/// After so many turns an operation or a query is no longer waited for.
 const MOST_TURNS: u32 = 100_000;
 
 /// Carries results and jobs between the board and the books of all nodes.
@@ -31,25 +30,22 @@ fn pump_all<R: Wait>(rt: &R, seats: &[Mutex<Held<'_>>]) {
     }
 }
 
-/// Takes turns until the operation with this tag has ended. Whether it has.
+/// Takes turns until the operation with this tag has ended.
 fn await_end<R: Wait + Clock>(
     rt: &R,
     seats: &[Mutex<Held<'_>>],
     held: &Mutex<Held<'_>>,
     node: u64,
     tag: u64,
-) -> bool
-    ensures { IsTrue result → HasEnded node tag }
-{
+) {
     for turn in 0..MOST_TURNS {
         pump_all(rt, seats);
-        let ended = seat::has_ended(&held.lock(rt).book, node, tag);
-        if ended {
-            return true;
+        let has_ended = own::has_ended(&held.lock(rt).book, node, tag);
+        if has_ended {
+            break;
         }
         pause(rt, turn);
     }
-    false
 }
 
 /// Takes turns until the answer of this query stands.
@@ -59,187 +55,187 @@ fn await_answer<R: Wait + Clock>(
     held: &Mutex<Held<'_>>,
     node: u64,
     query: usize,
-) -> Option<Ran>
-    ensures { IfSome result (IsRecorded node query) }
-{
+) {
     for turn in 0..MOST_TURNS {
         pump_all(rt, seats);
-        let answer = seat::answer(&held.lock(rt).book, node, query);
+        let answer = own::answer(&held.lock(rt).book, node, query);
         if answer.is_some() {
-            return answer;
+            break;
         }
         pause(rt, turn);
     }
-    None
 }
 
-/// Prints the line of a refusal.
-pub fn refuse<W: Write>(fault: NodesFault, out: &mut W) -> io::Result<()>
-    ensures { OnOk result (Appends (W.contents out.old) (W.contents out.new) (refused_line fault)) }
+/// Registers a program at a node.
+fn register<R: Wait>(
+    rt: &R,
+    seats: &[Mutex<Held<'_>>],
+    nodes: u64,
+    node: u64,
+    program: &Program,
+) -> Result<Outcome, Halt>
+    ensures came { IfOk result (CallsAt nodes node (Registers node program.now)) }
+    ensures halt { IfErr result (IsHalt nodes) }
 {
-    writeln!(out, "{fault}")
-}
-
-fn tell_program<W: Write>(id: ProgramId, out: &mut W) -> io::Result<()>
-    ensures { OnOk result (Appends (W.contents out.old) (W.contents out.new) (told_lines (told.Registered id))) }
-{
-    let number = id.number();
-    writeln!(out, "program {number}")
+    if !is_node(nodes, node) {
+        return Ok(Outcome::Refused(NodesFault::no_such_node()));
+    }
+    // There are as many locks as nodes.
+    let Some(held) = seat::seat(seats, node) else {
+        return Err(Halt::OutOfMemory);
+    };
+    match seat::register(&mut held.lock(rt), node, program) {
+        Some(outcome) => Ok(outcome),
+        None => Err(Halt::Astray),
+    }
 }
 
 /// `program NODE HEX`: the program is decoded, verified and checked before the node is looked for.
-fn run_program<R: Wait, W: Write>(
+fn run_program<R: Wait>(
     rt: &R,
     alloc: Global,
     seats: &[Mutex<Held<'_>>],
+    nodes: u64,
     node: u64,
     code: &[u8],
-    out: &mut W,
-) -> io::Result<()>
-    ensures { OnOk result (Prints (TellsProgram node code.now) (W.contents out.old) (W.contents out.new)) }
+) -> Result<Outcome, Halt>
+    ensures came { IfOk result (ComesToProgram nodes node code.now) }
+    ensures halt { IfErr result (IsHalt nodes) }
 {
-    let program = match certified_code(alloc, code) {
-        Ok(program) => program,
-        Err(refusal) => return refuse(NodesFault::Script(refusal), out),
-    };
-    let Some(held) = seat::seat(seats, node) else {
-        return refuse(NodesFault::no_such_node(), out);
-    };
-    let registered = seat::register(&mut held.lock(rt), node, &program);
-    match registered {
-        Ok(id) => tell_program(id, out),
-        Err(fault) => refuse(fault, out),
+    match certified_code(alloc, code) {
+        Ok(program) => register(rt, seats, nodes, node, &program),
+        Err(refusal) => Ok(Outcome::Refused(NodesFault::Script(refusal))),
     }
 }
 
-/// Waits for the end of a store that was begun, and prints what comes behind its tag.
-fn end_store<R: Wait + Clock, W: Write>(
+/// Begins to store a value at a node, and waits for the end.
+fn begin_store<R: Wait + Clock>(
     rt: &R,
     seats: &[Mutex<Held<'_>>],
     held: &Mutex<Held<'_>>,
     node: u64,
-    tag: u64,
-    out: &mut W,
-) -> io::Result<()>
-    ensures { OnOk result (Prints (TellsEnd node tag) (W.contents out.old) (W.contents out.new)) }
+    value: &[u8],
+) -> Option<Outcome>
+    ensures { MatchOption result ((b : BookState) × IsOther node b) (BeginsStore node value.now) }
 {
-    if await_end(rt, seats, held, node, tag) {
-        out.write_all(b"")
-    } else {
-        writeln!(out, "unanswered")
+    let begun = seat::store(&mut held.lock(rt), node, value);
+    if let Some(Outcome::Stored(tag)) = begun {
+        await_end(rt, seats, held, node, tag);
     }
+    begun
 }
 
 /// `store NODE VALUE`.
-fn run_store<R: Wait + Clock, W: Write>(
+fn run_store<R: Wait + Clock>(
     rt: &R,
     seats: &[Mutex<Held<'_>>],
+    nodes: u64,
     node: u64,
     value: &[u8],
-    out: &mut W,
-) -> io::Result<()>
-    ensures { OnOk result (Prints (TellsStore node value.now) (W.contents out.old) (W.contents out.new)) }
+) -> Result<Outcome, Halt>
+    ensures came { IfOk result (CallsAt nodes node (BeginsStore node value.now)) }
+    ensures halt { IfErr result (IsHalt nodes) }
 {
+    if !is_node(nodes, node) {
+        return Ok(Outcome::Refused(NodesFault::no_such_node()));
+    }
+    // There are as many locks as nodes.
     let Some(held) = seat::seat(seats, node) else {
-        return refuse(NodesFault::no_such_node(), out);
+        return Err(Halt::OutOfMemory);
     };
-    let begun = seat::store(&mut held.lock(rt), node, value);
-    match begun {
-        Ok(tag) => {
-            writeln!(out, "store {tag}")?;
-            end_store(rt, seats, held, node, tag, out)
-        }
-        Err(fault) => refuse(fault, out),
+    match begin_store(rt, seats, held, node, value) {
+        Some(outcome) => Ok(outcome),
+        None => Err(Halt::Astray),
     }
 }
 
-/// Waits for the answer of a query that was begun, and prints what comes behind its number.
-fn end_query<R: Wait + Clock, W: Write>(
+/// Begins a query at a node, and waits for the answer.
+fn begin_query<R: Wait + Clock>(
     rt: &R,
     seats: &[Mutex<Held<'_>>],
     held: &Mutex<Held<'_>>,
     node: u64,
-    query: usize,
-    out: &mut W,
-) -> io::Result<()>
-    ensures { OnOk result (Prints (TellsAnswer node query) (W.contents out.old) (W.contents out.new)) }
+    program: ProgramId,
+    start: u64,
+) -> Option<Outcome>
+    ensures { MatchOption result ((b : BookState) × IsOther node b) (BeginsQuery node program start) }
 {
-    match await_answer(rt, seats, held, node, query) {
-        Some(ran) => {
-            let acc = ran.acc;
-            let steps = ran.steps;
-            writeln!(out, "answer {node} {query} {acc} {steps}")
-        }
-        None => writeln!(out, "unanswered"),
+    let begun = seat::ask(&mut held.lock(rt), node, program, start);
+    if let Some(Outcome::Asked(query)) = begun {
+        await_answer(rt, seats, held, node, query);
     }
+    begun
 }
 
 /// `ask NODE PROGRAM START`.
-fn run_ask<R: Wait + Clock, W: Write>(
+fn run_ask<R: Wait + Clock>(
     rt: &R,
     seats: &[Mutex<Held<'_>>],
+    nodes: u64,
     node: u64,
-    program: u64,
+    program: ProgramId,
     start: u64,
-    out: &mut W,
-) -> io::Result<()>
-    ensures { OnOk result (Prints (TellsAsk node program start) (W.contents out.old) (W.contents out.new)) }
+) -> Result<Outcome, Halt>
+    ensures came { IfOk result (CallsAt nodes node (BeginsQuery node program start)) }
+    ensures halt { IfErr result (IsHalt nodes) }
 {
+    if !is_node(nodes, node) {
+        return Ok(Outcome::Refused(NodesFault::no_such_node()));
+    }
+    // There are as many locks as nodes.
     let Some(held) = seat::seat(seats, node) else {
-        return refuse(NodesFault::no_such_node(), out);
+        return Err(Halt::OutOfMemory);
     };
-    let begun = seat::ask(&mut held.lock(rt), node, program_id(program), start);
-    match begun {
-        Ok(query) => {
-            writeln!(out, "query {query}")?;
-            end_query(rt, seats, held, node, query, out)
-        }
-        Err(fault) => refuse(fault, out),
+    match begin_query(rt, seats, held, node, program, start) {
+        Some(outcome) => Ok(outcome),
+        None => Err(Halt::Astray),
     }
 }
 
-/// The id of this number. Of a number that is too large it is the greatest id, which no program has.
-fn program_id(number: u64) -> ProgramId
-    ensures { result ≡ program_id number }
-{
-    ProgramId::new(u32::try_from(number).unwrap_or(u32::MAX))
-}
-
-/// Runs a line, and prints what it tells. The one error is that the writer failed.
-pub fn run_line<R: Wait + Clock, W: Write>(
+/// Makes the call that a line names, and waits for the end of what it begins: what the call came to.
+fn run_line<R: Wait + Clock>(
     rt: &R,
     alloc: Global,
     seats: &[Mutex<Held<'_>>],
+    nodes: u64,
     line: &ClusterLine,
-    out: &mut W,
-) -> io::Result<()>
-    ensures { OnOk result (Prints (Tells line.now) (W.contents out.old) (W.contents out.new)) }
+) -> Result<Outcome, Halt>
+    ensures came { IfOk result (ComesTo nodes line.now) }
+    ensures halt { IfErr result (IsHalt nodes) }
 {
     match line {
         ClusterLine::Program { node, code } => {
-            run_program(rt, alloc, seats, *node, code.as_slice(), out)
+            run_program(rt, alloc, seats, nodes, *node, code.as_slice())
         }
-        ClusterLine::Store { node, value } => run_store(rt, seats, *node, value.as_slice(), out),
+        ClusterLine::Store { node, value } => run_store(rt, seats, nodes, *node, value.as_slice()),
         ClusterLine::Ask {
             node,
             program,
             start,
-        } => run_ask(rt, seats, *node, *program, *start, out),
+        } => run_ask(rt, seats, nodes, *node, program_id(*program), *start),
     }
 }
 
-/// Runs the lines in turn.
-pub fn run_lines<R: Wait + Clock, W: Write>(
+/// Makes the calls of the lines in turn: what each came to.
+pub(crate) fn run_lines<R: Wait + Clock>(
     rt: &R,
     alloc: Global,
     seats: &[Mutex<Held<'_>>],
+    nodes: u64,
     lines: &[ClusterLine],
-    out: &mut W,
-) -> io::Result<()>
-    ensures { OnOk result (Prints (TellsAll lines.now) (W.contents out.old) (W.contents out.new)) }
+) -> Result<Vec<Outcome>, Halt>
+    ensures came { IfOk result (λ outcomes. InTurn (ComesTo nodes) lines.now outcomes.items) }
+    ensures halt { IfErr result (IsHalt nodes) }
 {
+    let mut outcomes = Vec::new(alloc);
     for line in lines {
-        run_line(rt, alloc, seats, line, out)?;
+        let outcome = match run_line(rt, alloc, seats, nodes, line) {
+            Ok(outcome) => outcome,
+            Err(halt) => return Err(halt),
+        };
+        if outcomes.push(outcome).is_err() {
+            return Err(Halt::OutOfMemory);
+        }
     }
-    Ok(())
+    Ok(outcomes)
 }

@@ -3,12 +3,13 @@
 ghost use Rattle.std.specs.Prelude.{◌≡◌, ◌≤◌, length, IfSome};
 
 use crate::held::Held;
+use crate::losses::Unsent;
 use crate::turn::pause;
 use q_wire::transport::Transport;
 use sc_msg::encode::encode_fitting;
 use sc_msg::message::{MOST_BYTES, Message};
 use sc_msg::version::Version;
-use std::alloc::Global;
+use std::alloc::{AllocError, Global};
 use std::sync::atomic::{AtomicBool, Ordering};
 use std::sync::{Mutex, Wait};
 use std::time::Clock;
@@ -17,23 +18,51 @@ use std::time::Clock;
 /// the start of a longer datagram.
 const LOOKED_AT: usize = MOST_BYTES + 1;
 
-/// Sends a message to each of so many nodes, itself among them, in the version of their books. A datagram that is not
-/// sent is lost.
+/// What the thread of a node owns: its transport, and the buffer into which it receives.
+#[derive(Drop)]
+pub(crate) struct Wire<T> {
+    transport: T,
+    buffer: Vec<u8>,
+}
+
+/// A buffer for each transport. The one error is that memory ran out.
+pub(crate) fn wires<T: Transport + Drop>(
+    alloc: Global,
+    transports: Vec<T>,
+) -> Result<Vec<Wire<T>>, AllocError> {
+    let mut wires = Vec::new(alloc);
+    for transport in transports {
+        let buffer = vec![in alloc; 0u8; LOOKED_AT]?;
+        wires.push(Wire { transport, buffer })?;
+    }
+    Ok(wires)
+}
+
+/// Sends a datagram to each of so many nodes, itself among them. What is not sent is lost.
+fn send_all<T: Transport>(nodes: u64, transport: &mut T, bytes: &[u8]) -> Unsent {
+    let mut unsent = Unsent::none();
+    for to in 0..nodes {
+        if transport.send(to + 1, bytes).is_err() {
+            unsent = unsent.and(Unsent::send());
+        }
+    }
+    unsent
+}
+
+/// Sends a message to all nodes, in the version of their books.
 fn tell<T: Transport>(
     alloc: Global,
     nodes: u64,
     version: Version,
     transport: &mut T,
     message: &Message,
-) {
+) -> Unsent {
     if !message.fits(version) {
-        return;
+        return Unsent::message();
     }
-    let Ok(bytes) = encode_fitting(alloc, version, message) else {
-        return;
-    };
-    for to in 0..nodes {
-        let _ = transport.send(to + 1, bytes.as_slice());
+    match encode_fitting(alloc, version, message) {
+        Ok(bytes) => send_all(nodes, transport, bytes.as_slice()),
+        Err(_) => Unsent::message(),
     }
 }
 
@@ -60,6 +89,31 @@ fn version<R: Wait>(rt: &R, held: &Mutex<Held<'_>>) -> Version {
     held.lock(rt).book.version()
 }
 
+/// Counts what was not sent, under the lock.
+fn count_unsent<R: Wait>(rt: &R, held: &Mutex<Held<'_>>, unsent: Unsent) {
+    if !unsent.is_none() {
+        held.lock(rt).count_unsent(unsent);
+    }
+}
+
+/// Sends the messages that wait. Whether there was any.
+fn send_waiting<R: Wait, T: Transport>(
+    rt: &R,
+    alloc: Global,
+    nodes: u64,
+    version: Version,
+    held: &Mutex<Held<'_>>,
+    transport: &mut T,
+) -> bool {
+    let messages = take(rt, alloc, held);
+    let mut unsent = Unsent::none();
+    for message in &messages {
+        unsent = unsent.and(tell(alloc, nodes, version, transport, message));
+    }
+    count_unsent(rt, held, unsent);
+    !messages.is_empty()
+}
+
 /// One turn of a node: it hears a datagram, if there is one, and sends what waits. Whether there was anything to do.
 fn take_turn<R: Wait, T: Transport>(
     rt: &R,
@@ -74,11 +128,8 @@ fn take_turn<R: Wait, T: Transport>(
     if let Some(len) = received {
         hear(rt, alloc, held, &buffer[..len]);
     }
-    let messages = take(rt, alloc, held);
-    for message in &messages {
-        tell(alloc, nodes, version, transport, message);
-    }
-    received.is_some() || !messages.is_empty()
+    let sent = send_waiting(rt, alloc, nodes, version, held, transport);
+    received.is_some() || sent
 }
 
 /// Runs a node until the cluster is over: its thread hears and sends, and gives way where there is nothing to do.
@@ -88,11 +139,12 @@ pub(crate) fn tend<R: Wait + Clock, T: Transport + Drop>(
     nodes: u64,
     held: &Mutex<Held<'_>>,
     over: &AtomicBool,
-    mut transport: T,
+    wire: Wire<T>,
 ) {
-    let Ok(mut buffer) = vec![in alloc; 0u8; LOOKED_AT] else {
-        return;
-    };
+    let Wire {
+        mut transport,
+        mut buffer,
+    } = wire;
     let version = version(rt, held);
     let mut idle: u32 = 0;
     for _ in rt.forever() {

@@ -1,11 +1,13 @@
 //! Clusters whose nodes have a socket each.
 
-ghost use Rattle.q_nodes.specs.Runs.{Ends, IsWrittenFile, IsWrittenOf};
+ghost use Rattle.std.specs.Prelude.{◌≡◌};
+ghost use Rattle.q_lines.specs.Runs.{IsWrittenBytes, IsWrittenFile, IsWrittenOf, failures_after};
 
-use crate::fault::NodesFault;
-use crate::run::{print_refusal, run_cluster};
-use crate::script::ClusterScript;
+use crate::run::run_cluster;
 use q_files::files::Files;
+use q_lines::ending::{Ending, print_refusal};
+use q_lines::fault::NodesFault;
+use q_lines::script::ClusterScript;
 use q_sim::refusal::Refusal;
 use q_wire::counted::Counted;
 use q_wire::udp::{Peer, UdpTransport};
@@ -21,7 +23,7 @@ use std::{io, str};
 fn open_all<R: Net>(rt: &R, alloc: Global, nodes: u64) -> io::Result<Vec<UdpTransport>> {
     let mut transports = Vec::new(alloc);
     for _ in 0..nodes {
-        transports.push(UdpTransport::open(rt, alloc)?)?;
+        transports.push(UdpTransport::open(rt, alloc, std::time::Duration::from_millis(1))?)?;
     }
     Ok(transports)
 }
@@ -56,31 +58,48 @@ fn open_sockets<R: Net>(rt: &R, alloc: Global, nodes: u64) -> io::Result<Vec<Udp
     Ok(transports)
 }
 
-/// Runs the script that a text spells by a thread and a socket for each node, and prints what its lines tell; how many
-/// datagrams changed nothing goes to the notes. The exit status. A script that is refused prints its refusal, and a socket
-/// that can't be opened 86 TransportFailed.
+/// Runs the script that a text spells by a thread and a socket for each node, and prints what its lines tell; what
+/// `run_cluster` notes goes to the notes. A script that is refused prints its refusal, and a socket that can't be opened
+/// 86 TransportFailed: the notes say why.
 pub fn run_over_sockets<R: Net + Wait + Threads + Clock + Sync, W: Write, N: Write>(
     rt: &R,
     alloc: Global,
     source: &str,
     out: &mut Counted<W>,
     notes: &mut N,
-) -> u8
-    ensures { Ends (IsWrittenOf source.now) result
-        (W.contents out.old.inner) (W.contents out.new.inner) out.old.failures out.new.failures }
+) -> Ending
+    ensures written { IsWrittenOf source.now result (W.contents out.old.inner) (W.contents out.new.inner) }
+    ensures counted { out.new.failures ≡ failures_after result out.old.failures }
 {
     let script = match ClusterScript::read(alloc, source) {
         Ok(script) => script,
-        Err(fault) => return print_refusal(fault, out).status(),
+        Err(fault) => return print_refusal(fault, out),
     };
     match open_sockets(rt, alloc, script.nodes) {
         Ok(transports) => run_cluster(rt, alloc, &script, transports, out, notes),
-        Err(_) => print_refusal(NodesFault::TransportFailed, out).status(),
+        Err(error) => {
+            note_socket(notes, &error);
+            print_refusal(NodesFault::TransportFailed, out)
+        }
     }
 }
 
+/// Tells why a socket was not opened.
+fn note_socket<N: Write>(notes: &mut N, error: &io::Error) {
+    let _ = writeln!(notes, "a socket could not be opened: {error}");
+}
+
+/// How the run of a file's script ended.
+#[derive(Drop)]
+pub struct FileRun {
+    /// How it ended.
+    pub ending: Ending,
+    /// The bytes of the file; none where it failed.
+    pub source: Vec<u8>,
+}
+
 /// The command `cluster`: runs the script in the file of this name so. A file that fails, or is no UTF-8, is refused with
-/// 87 FileFailed.
+/// 87 FileFailed. The bytes that were read are answered, so that a refusal can be explained from them.
 pub fn run_file<R: Net + Wait + Threads + Clock + Sync, F: Files, W: Write, N: Write>(
     rt: &R,
     alloc: Global,
@@ -88,16 +107,38 @@ pub fn run_file<R: Net + Wait + Threads + Clock + Sync, F: Files, W: Write, N: W
     files: &mut F,
     out: &mut Counted<W>,
     notes: &mut N,
-) -> u8
-    ensures { Ends (IsWrittenFile F.read_gives name.now files.old files.new) result
-        (W.contents out.old.inner) (W.contents out.new.inner) out.old.failures out.new.failures }
+) -> FileRun
+    ensures written { IsWrittenFile F.read_gives name.now files.old files.new result.source.items result.ending
+        (W.contents out.old.inner) (W.contents out.new.inner) }
+    ensures counted { out.new.failures ≡ failures_after result.ending out.old.failures }
 {
-    let bytes = match files.read(alloc, name) {
+    let source = match files.read(alloc, name) {
         Ok(bytes) => bytes,
-        Err(fault) => return print_refusal(NodesFault::from(fault), out).status(),
+        Err(fault) => {
+            let ending = print_refusal(NodesFault::from(fault), out);
+            return FileRun {
+                ending,
+                source: Vec::new(alloc),
+            };
+        }
     };
-    match str::from_utf8(bytes.as_slice()) {
+    let ending = run_bytes(rt, alloc, source.as_slice(), out, notes);
+    FileRun { ending, source }
+}
+
+/// The same of the bytes of a file.
+fn run_bytes<R: Net + Wait + Threads + Clock + Sync, W: Write, N: Write>(
+    rt: &R,
+    alloc: Global,
+    bytes: &[u8],
+    out: &mut Counted<W>,
+    notes: &mut N,
+) -> Ending
+    ensures written { IsWrittenBytes bytes.now result (W.contents out.old.inner) (W.contents out.new.inner) }
+    ensures counted { out.new.failures ≡ failures_after result out.old.failures }
+{
+    match str::from_utf8(bytes) {
         Ok(source) => run_over_sockets(rt, alloc, source, out, notes),
-        Err(_) => print_refusal(NodesFault::Script(Refusal::FileFailed), out).status(),
+        Err(_) => print_refusal(NodesFault::Script(Refusal::FileFailed), out),
     }
 }

@@ -5,8 +5,9 @@ use crate::forged::{Forged, datagrams};
 use crate::noise::Noisy;
 use q_files::files::Files;
 use q_files::memory::MemoryFiles;
+use q_lines::ending::Ending;
+use q_lines::script::ClusterScript;
 use q_nodes::run::run_cluster;
-use q_nodes::script::ClusterScript;
 use q_nodes::sockets::{run_file, run_over_sockets};
 use q_script::number::number;
 use q_wire::counted::Counted;
@@ -18,7 +19,7 @@ use std::io::Write;
 use std::net::Net;
 use std::sync::Wait;
 use std::thread::Threads;
-use std::time::Clock;
+use std::time::{Clock, Duration};
 
 /// How the datagrams of a run over memory are disturbed.
 #[derive(Drop)]
@@ -27,6 +28,8 @@ struct Disturbed<'a> {
     deaf: u64,
     /// The node that sends nothing; 0 where each sends.
     mute: u64,
+    /// The node whose sends fail; 0 where none does.
+    failing: u64,
     /// The letters by which datagrams are disturbed.
     letters: &'a [u8],
     /// What node 1 hears before all else, the last one first.
@@ -39,6 +42,7 @@ impl<'a> Disturbed<'a> {
         let mut disturbed = Disturbed {
             deaf: 0,
             mute: 0,
+            failing: 0,
             letters: &[],
             before: Vec::new(alloc),
         };
@@ -46,6 +50,7 @@ impl<'a> Disturbed<'a> {
             "memory" => {}
             "deaf" => disturbed.deaf = number(rest).unwrap_or(0),
             "mute" => disturbed.mute = number(rest).unwrap_or(0),
+            "failing" => disturbed.failing = number(rest).unwrap_or(0),
             "noisy" => disturbed.letters = rest.as_bytes(),
             "forged" => disturbed.before = unsent(alloc, rest)?,
             _ => return Ok(None),
@@ -118,14 +123,21 @@ impl<'a, R: Net + Wait + Threads + Clock + Sync, W: Write> Cases<'a, R, W> {
 
     /// Runs the script as these words say, and prints what it notes where no datagrams are disturbed: the exit status.
     fn run(&mut self, words: &str) -> io::Result<u8> {
+        match words.split_once(' ') {
+            Some(("strict", words)) => self.run_script(words, true),
+            _ => self.run_script(words, false),
+        }
+    }
+
+    /// The same, strict or not.
+    fn run_script(&mut self, words: &str, is_strict: bool) -> io::Result<u8> {
         let (word, rest) = words.split_once(' ').unwrap_or((words, ""));
         let mut notes = Vec::new(self.alloc);
         let status = match Disturbed::read(self.alloc, word, rest)? {
-            Some(disturbed) => self.run_over_memory(disturbed, &mut notes)?,
-            None if word == "sockets" => {
-                let source = self.script.as_str();
-                run_over_sockets(self.rt, self.alloc, source, &mut self.out, &mut notes)
-            }
+            Some(disturbed) => self
+                .run_over_memory(disturbed, &mut notes)?
+                .status(is_strict),
+            None if word == "sockets" => self.run_over_sockets(&mut notes).status(is_strict),
             None => self.run_command(words, &mut notes)?,
         };
         if word != "noisy" {
@@ -134,11 +146,17 @@ impl<'a, R: Net + Wait + Threads + Clock + Sync, W: Write> Cases<'a, R, W> {
         Ok(status)
     }
 
+    /// Runs the script over a socket for each node.
+    fn run_over_sockets(&mut self, notes: &mut Vec<u8>) -> Ending {
+        let source = self.script.as_str();
+        run_over_sockets(self.rt, self.alloc, source, &mut self.out, notes)
+    }
+
     /// Runs the command of these words over a file `s`, which holds the script.
     fn run_command(&mut self, words: &str, notes: &mut Vec<u8>) -> io::Result<u8> {
         let words: Vec<&str> = words.split(' ').collect(self.alloc)?;
-        let name = match read_words(self.alloc, words.as_slice()) {
-            Ok(Wanted::Cluster { script }) => script,
+        let (name, is_strict) = match read_words(self.alloc, words.as_slice()) {
+            Ok(Wanted::Cluster { script, strict }) => (script, strict),
             Ok(Wanted::FileCommand(_)) => {
                 writeln!(self.out, "another command")?;
                 return Ok(0);
@@ -152,22 +170,28 @@ impl<'a, R: Net + Wait + Threads + Clock + Sync, W: Write> Cases<'a, R, W> {
         let _ = files.write("s", self.script.as_bytes());
         let _ = files.write("t", &[0xff]);
         let out = &mut self.out;
-        Ok(run_file(self.rt, self.alloc, name, &mut files, out, notes))
+        let run = run_file(self.rt, self.alloc, name, &mut files, out, notes);
+        Ok(run.ending.status(is_strict))
     }
 
     /// Runs the script over memory, or prints its refusal.
-    fn run_over_memory(&mut self, disturbed: Disturbed<'_>, notes: &mut Vec<u8>) -> io::Result<u8> {
+    fn run_over_memory(
+        &mut self,
+        disturbed: Disturbed<'_>,
+        notes: &mut Vec<u8>,
+    ) -> io::Result<Ending> {
         let script = match ClusterScript::read(self.alloc, self.script.as_str()) {
             Ok(script) => script,
             Err(fault) => {
                 writeln!(self.out, "{fault}")?;
-                return Ok(1);
+                return Ok(Ending::Refused(fault));
             }
         };
         let hub = Hub::open(self.alloc, script.nodes)?;
         let Disturbed {
             deaf,
             mute,
+            failing,
             letters,
             mut before,
         } = disturbed;
@@ -175,13 +199,14 @@ impl<'a, R: Net + Wait + Threads + Clock + Sync, W: Write> Cases<'a, R, W> {
         for known in 0..script.nodes {
             let id = known + 1;
             let forged = Forged {
-                inner: MemoryTransport::new(self.rt, &hub, id),
+                inner: MemoryTransport::new(self.rt, &hub, id, Duration::ZERO),
                 before: std::mem::replace(&mut before, Vec::new(self.alloc)),
             };
             ends.push(Deaf {
                 inner: Noisy::new(self.alloc, letters, forged),
                 is_deaf: id == deaf,
                 is_mute: id == mute,
+                is_failing: id == failing,
             })?;
         }
         let out = &mut self.out;

@@ -1,14 +1,16 @@
-//! A transport that hears nothing, or sends nothing.
+//! A transport that hears nothing, or sends nothing, or fails to send.
 
 use q_wire::fault::TransportFault;
 use q_wire::transport::Transport;
 
-/// A transport that hears nothing where it is deaf, and sends nothing where it is mute.
+/// A transport that hears nothing where it is deaf, sends nothing where it is mute, and fails at each send where it is
+/// failing.
 #[derive(Drop)]
 pub struct Deaf<T> {
     pub inner: T,
     pub is_deaf: bool,
     pub is_mute: bool,
+    pub is_failing: bool,
 }
 
 impl<T: Transport> Transport for Deaf<T> {
@@ -17,6 +19,9 @@ impl<T: Transport> Transport for Deaf<T> {
     fn send(&mut self, to: u64, bytes: &[u8]) -> Result<(), TransportFault> {
         if self.is_mute {
             return Ok(());
+        }
+        if self.is_failing {
+            return Err(TransportFault::OutOfMemory);
         }
         self.inner.send(to, bytes)
     }

@@ -8,12 +8,15 @@
 //! | `$ memory` | is printed, with what the script prints over memory, and the exit status |
 //! | `$ deaf NODE` | is printed, with what it prints over memory where this node hears nothing |
 //! | `$ mute NODE` | is printed, with what it prints over memory where this node sends nothing |
+//! | `$ failing NODE` | is printed, with what it prints over memory where each send of this node fails |
 //! | `$ noisy LETTERS` | is printed, with what it prints over memory where datagrams are disturbed by these letters |
 //! | `$ forged BYTES BOOK NEVER` | is printed, with what it prints over memory where node 1 first hears so many datagrams that spell no message, that no book takes, and of a message that was never sent |
+//! | `$ strict` and one of these | is printed, with the same, and the exit status of a strict run |
 //! | `$ WORDS` | is printed, with what the command of these words prints over the one file `s`, which holds the script |
 //! | any other | is added to the script as a line |
 //!
-//! What the run notes of datagrams that were refused is printed too, but where they are disturbed.
+//! What the run notes of datagrams that were refused, of lines that are unanswered and of what was not sent is printed
+//! too, but where datagrams are disturbed.
 #![tactic(auto)]
 
 mod cases;

@@ -1,9 +1,9 @@
-use Rattle.std.proofs.Common.{List, ℕ, inl, inr, subst}
-use Rattle.std.specs.Prelude.{IsUtf8}
+use Rattle.std.proofs.Common.{ℕ, List, inl, subst}
+use Rattle.q_lines.specs.Runs.{IsWrittenBytes}
 use Rattle.q_nodes.proofs.sockets.run_file.Goals as goal
 
-pub returns : goal.returns
-returns g c =
-    let refused = c.print_refusal-in-Err-from_utf8 in
-    let no_text : IsUtf8 c.in-Ok.bytes.items → ⊥ = subst (λ (xs : List ℕ). IsUtf8 xs → ⊥) c.as_slice.ensures.value c.in-Err-from_utf8.ensures.cases.0 in
-    (refused.result, inr (inl (c.in-Ok.bytes.items, c.in-Ok.ensures.bytes, no_text, refused.ensures.written)), c.status-in-Err-from_utf8.ensures, refused.ensures.counted)
+pub returns-clause-written : goal.returns-clause-written
+returns-clause-written g c =
+    let before = g.W.Write.contents c.args.out.now.inner in
+    let after = g.W.Write.contents c.run_bytes-ending.new.out.inner in
+    inl (c.in-Ok.ensures.bytes, subst (λ (source : List ℕ). IsWrittenBytes source c.run_bytes-ending.result before after) c.as_slice.ensures.value c.run_bytes-ending.ensures.written)

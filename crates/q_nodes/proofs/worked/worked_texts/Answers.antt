@@ -5,4 +5,4 @@ use Rattle.q_nodes.proofs.worked.worked_texts.Goals as goal
 
 pub returns : goal.returns
 unfolding digits
-returns c = record { losses_line = refl; refused = refl; refused_count = refl; answered = refl }
+returns c = record { losses_line = refl; unsent_line = refl }

@@ -1,0 +1,3 @@
+-- Proofs of what the program does.
+mod As
+mod Given

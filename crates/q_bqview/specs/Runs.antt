@@ -1,0 +1,74 @@
+-- What the program does for its words: its exit status, and what it does to files and to its standard output.
+use Rattle.std.specs.Prelude.{◌≡◌, ◌⊎◌, ℕ, Bool, List, Option, Result, Ok, Err}
+use Rattle.std.specs.Io.KnownBytes.{Appends}
+use Rattle.std.specs.declared.io.Error as io
+use Rattle.q_files.specs.declared.files.FileFault.{FileFault}
+use Rattle.q_sim.specs.Refusal.{refusal_line}
+use Rattle.q_sim.specs.Simulates.{Writing}
+use Rattle.q_sim.specs.declared.refusal.Refusal.TheVariants as refusal
+use Rattle.q_wire.specs.Counts.{one_more}
+use Rattle.q_words.specs.Words.{Reads, TellsUngiven, exit_status}
+use Rattle.q_words.specs.declared.words.FileCommand.{FileCommand}
+use Rattle.q_words.specs.declared.words.Wanted.{Wanted}
+use Rattle.q_words.specs.declared.words.Wanted.TheVariants as wanted
+use Rattle.q_words.specs.declared.words.WordsFault.{WordsFault}
+use Rattle.q_words.specs.declared.words.WordsFault.TheVariants.{Help, OutOfMemory}
+use Rattle.q_command.specs.Perform as command
+use Rattle.q_command.specs.declared.perform.Outcome.{Outcome}
+use Rattle.q_lines.specs.Runs as nodes
+use Rattle.q_lines.specs.declared.ending.Ending.{Ending}
+
+-- a standard output: what it took so far, where that is known, and how many of its calls failed
+pub record Output : Type 0 where
+  pub taken : Option (List ℕ)
+  pub failures : ℕ
+
+-- ---- words that ask for no command
+
+-- the output takes these bytes, and the exit status is this one; or it fails behind a part of them, and the status is 1
+abbrev pub Puts : List ℕ → ℕ → Output → ℕ → Output → Type 0
+Puts bytes wanted before status after =
+    (Appends before.taken after.taken bytes × (status ≡ wanted) × (after.failures ≡ before.failures))
+    ⊎ (((part : List ℕ) × Appends before.taken after.taken part) × (status ≡ 1) × (after.failures ≡ one_more before.failures))
+
+-- the line of the refusal for want of memory is put
+abbrev pub PutsMemory : Output → ℕ → Output → Type 0
+PutsMemory = Puts (refusal_line refusal.OutOfMemory) (exit_status OutOfMemory)
+
+-- Why no command runs is told: help on the output, where there is memory for its text; want of memory there, too; and
+-- nothing there of a mistake in the words, which is told in the notes.
+abbrev pub Explains : WordsFault → Output → ℕ → Output → Type 0
+Explains (Help e) before status after = ((text : List ℕ) × Puts text (exit_status (Help e)) before status after) ⊎ PutsMemory before status after
+Explains OutOfMemory before status after = PutsMemory before status after
+Explains fault before status after = (status ≡ exit_status fault) × (after ≡ before)
+
+-- ---- commands
+
+module _ {F : Type 0} (reads : F → List ℕ → Result (List ℕ) FileFault → F → Type 0) (writes : Writing F) where
+  -- a command over files comes to an end of its own, which has this exit status
+  abbrev pub CarriesOut : FileCommand → F → Output → ℕ → F → Output → Type 0
+  CarriesOut line old before status new after =
+      (outcome : Outcome) × command.Ends reads writes line old before.taken outcome new after.taken
+      × (status ≡ command.status_of outcome) × (after.failures ≡ command.failures_after outcome before.failures)
+
+  -- so does a run of the script in the file of this name by threads, which is strict or not
+  abbrev pub RunsNodes : List ℕ → Bool → F → Output → ℕ → F → Output → Type 0
+  RunsNodes name strict old before status new after =
+      (ending : Ending) × (source : List ℕ) × nodes.IsWrittenFile reads name old new source ending before.taken after.taken
+      × (status ≡ nodes.status_of strict ending) × (after.failures ≡ nodes.failures_after ending before.failures)
+
+  -- what is wanted is done
+  abbrev pub Does : Wanted → F → Output → ℕ → F → Output → Type 0
+  Does (wanted.FileCommand line) = CarriesOut line
+  Does (wanted.Cluster script strict) = RunsNodes script.now strict
+
+  -- The words ask for a command, and it is done; or they ask for none, and that is explained, and no file is touched.
+  abbrev pub Runs : List (List ℕ) → F → Output → ℕ → F → Output → Type 0
+  Runs words old before status new after =
+      ((asked : Wanted) × Reads words (Ok asked) × Does asked old before status new after)
+      ⊎ ((fault : WordsFault) × Reads words (Err fault) × Explains fault before status after × (new ≡ old))
+
+-- the system gives no words for this error: that is explained, and no file is touched
+abbrev pub IsUngiven : {F : Type 0} → io.Error → F → Output → ℕ → F → Output → Type 0
+IsUngiven error old before status new after =
+    (fault : WordsFault) × TellsUngiven error fault × Explains fault before status after × (new ≡ old)

@@ -1,0 +1,37 @@
+-- What is told of books that gather, and of books that do not.
+use Rattle.std.proofs.Common.{◌≡◌, ℕ, List, Option, None, sym, subst, inl, inr}
+use Rattle.std.specs.Prelude.{IfOk, Result, Ok, Err, string_bytes}
+use Rattle.q_book.specs.State.{BookState}
+use Rattle.q_gather.specs.Gather.{GathersBooks}
+use Rattle.q_history.specs.State.{ClusterState}
+use Rattle.q_lines.specs.Faults.{bad_founders}
+use Rattle.q_lines.specs.Lines.{InTurn, IsTold, Lacks, tally_of, texts_of}
+use Rattle.q_lines.specs.Runs.{IsClusterOf, IsFoundedBy, IsTelling, IsUngathered}
+use Rattle.q_lines.specs.declared.fault.NodesFault.{NodesFault}
+use Rattle.q_lines.specs.declared.report.Report.{Report}
+use Rattle.q_lines.specs.declared.report.Tally.{Tally}
+use Rattle.q_lines.specs.declared.script.ClusterScript.{ClusterScript}
+use Rattle.q_lines.specs.declared.telling.Telling.{Telling}
+
+-- ---- what is told
+
+pub told_whole : (script : ClusterScript) (c : ClusterState) (reports : List Report) (tally : Tally) (refusal : Option NodesFault) (text : List ℕ) → IsClusterOf script c → InTurn (IsTold script.nodes c) script.lines.items reports
+    → text ≡ texts_of reports → tally ≡ tally_of reports → refusal ≡ None → IsTelling script tally refusal text
+told_whole script c reports tally refusal text of told says counts none =
+    subst (λ (r : Option NodesFault). IsTelling script tally r text) (sym none) (record { cluster = c; is_cluster = of; reports = reports; told = told; says = says; counts = counts })
+
+-- ---- why there is no cluster of the script
+
+pub not_founded : (script : ClusterScript) (books : List BookState) (c : ClusterState) (f : NodesFault) → GathersBooks books c → f ≡ bad_founders → (IsFoundedBy script c → ⊥) → IsUngathered script f
+not_founded script books c f gathers is other = inr (books, c, gathers, is, inl other)
+
+pub not_there : (script : ClusterScript) (books : List BookState) (c : ClusterState) (f : NodesFault) → GathersBooks books c → f ≡ bad_founders → Lacks script.nodes c script.lines.items → IsUngathered script f
+not_there script books c f gathers is lacks = inr (books, c, gathers, is, inr lacks)
+
+-- ---- what a cluster lacks
+
+-- what is told of the cluster, where there was memory for it
+pub whole_told : {E : Type 0} (script : ClusterScript) (c : ClusterState) (reports : List Report) (r : Result Telling E) → IsClusterOf script c → InTurn (IsTold script.nodes c) script.lines.items reports
+    → IfOk r (λ t. string_bytes t.text ≡ texts_of reports) → IfOk r (λ t. t.tally ≡ tally_of reports) → IfOk r (λ t. t.refusal ≡ None) → IfOk r (λ t. IsTelling script t.tally t.refusal (string_bytes t.text))
+whole_told script c reports (Ok t) of told says counts none = told_whole script c reports t.tally t.refusal (string_bytes t.text) of told says counts none
+whole_told script c reports (Err e) of told says counts none = tt

@@ -1,0 +1,8 @@
+-- Scripts of nodes in threads: lemmas.
+pub mod Turns
+mod Filing
+mod Finding
+mod Gathering
+mod Truth
+mod Reading
+mod Endings

@@ -1,0 +1,16 @@
+use Rattle.std.proofs.Common.{◌≡◌, List, subst}
+use Rattle.sc_world.specs.Records.{Among}
+use Rattle.sc_world.specs.declared.op.Op.{Op}
+use Rattle.q_lines.specs.Found.{IsOnly}
+use Rattle.q_lines.proofs.Finding.{no_store, other_store}
+use Rattle.q_lines.proofs.found.store_of.Goals as goal
+
+pub returns-in_default : goal.returns-in_default
+returns-in_default c =
+    no_store c.args.cluster.now c.args.node c.args.tag c.args.bytes.now
+    (subst (λ (ops : List Op). (o : Op) → Among o ops → o.node ≡ c.args.node → o.tag ≡ c.args.tag → ⊥) c.ops.ensures.ops c.in_default.ensures)
+
+pub returns-else-stores : goal.returns-else-stores
+returns-else-stores c =
+    other_store c.args.cluster.now c.args.node c.args.tag c.args.bytes.now c.in-Some.op.now
+    (subst (λ (ops : List Op). IsOnly ops c.args.node c.args.tag c.in-Some.op.now) c.ops.ensures.ops c.in-Some.ensures) c.if-stores.ensures

@@ -1,0 +1,4 @@
+use Rattle.q_lines.proofs.telling.seek.Goals as goal
+
+pub returns-in-Ok : goal.returns-in-Ok
+returns-in-Ok c = c.look_up.ensures c.args.books.now c.in-Ok.ensures.gathers

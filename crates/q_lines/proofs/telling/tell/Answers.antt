@@ -1,0 +1,13 @@
+use Rattle.std.proofs.Common.{List, sym, subst}
+use Rattle.q_lines.specs.Found.{IsSought}
+use Rattle.q_lines.specs.Lines.{InTurn, IsTold}
+use Rattle.q_lines.specs.declared.report.Report.{Report}
+use Rattle.q_lines.proofs.Gathering.{whole_told}
+use Rattle.q_lines.proofs.telling.tell.Goals as goal
+
+pub returns-in-Told : goal.returns-in-Told
+returns-in-Told c =
+    let (cluster, of, told) = subst (IsSought c.args.script.now) c.in-Told.is c.in_ok-reports.ensures in
+    whole_told c.args.script.now cluster c.as_slice.result.now c.of.result of
+    (subst (λ (rs : List Report). InTurn (IsTold c.args.script.now.nodes cluster) c.args.script.now.lines.items rs) (sym c.as_slice.ensures.value) told)
+    c.of.ensures.text c.of.ensures.tally c.of.ensures.refusal

@@ -1,0 +1,42 @@
+-- What is true of every answer that is printed.
+use Rattle.std.specs.Prelude.{◌≡◌, ℕ, List, length, Option, Some, slice_get}
+use Rattle.std.specs.FinMap as fin
+use Rattle.std.specs.Io.KnownBytes.{Appends}
+use Rattle.sc_view.specs.Views.{ViewMap}
+use Rattle.q_session.specs.declared.query.Phase.TheVariants.{Answered}
+use Rattle.q_session.specs.declared.query.Query.{Query}
+use Rattle.q_session.specs.declared.ran.Ran.{Ran}
+use Rattle.q_desk.specs.State.{DeskState}
+use Rattle.q_history.specs.Headline.{IsTrue}
+use Rattle.q_history.specs.State.{ClusterState}
+use Rattle.q_lines.specs.Lines.{program_id, texts_of}
+use Rattle.q_lines.specs.Runs.{IsClusterOf}
+use Rattle.q_lines.specs.declared.report.Report.{Report}
+use Rattle.q_lines.specs.declared.report.Report.TheVariants.{Asked}
+use Rattle.q_lines.specs.declared.script.ClusterLine.TheVariants as line
+use Rattle.q_lines.specs.declared.script.ClusterScript.{ClusterScript}
+
+-- The cluster recorded this answer of the query of this number at the node, which asks for this program from this start;
+-- and it is true: it is the program's meaning over the view that the query's own collect returned, which holds each store
+-- that ended before the collect began and that meets it.
+pub record IsTrueAnswer (c : ClusterState) (node query program start : ℕ) (ran : Ran) : Type 0 where
+  pub desk : DeskState
+  pub at : fin.get c.desks node ≡ Some desk
+  pub asked : Query
+  pub numbered : slice_get desk.queries query ≡ Some asked
+  pub names : asked.program ≡ program
+  pub begins : asked.start ≡ start
+  pub view : ViewMap
+  pub recorded : asked.phase ≡ Answered view ran
+  pub is_true : IsTrue c node desk asked view ran
+
+-- The text that was written is that of reports of the script's lines, in turn; and there is one cluster of the script that
+-- recorded each answer which an `ask` line told, for the query that this line told, and it is true.
+pub record AnswersAreTrue (script : ClusterScript) (before after : Option (List ℕ)) : Type 0 where
+  pub cluster : ClusterState
+  pub is_cluster : IsClusterOf script cluster
+  pub reports : List Report
+  pub many : length reports ≡ length script.lines.items
+  pub written : Appends before after (texts_of reports)
+  pub each : (k node program start by query : ℕ) (ran : Ran) → slice_get script.lines.items k ≡ Some (line.Ask node program start)
+      → slice_get reports k ≡ Some (Asked by query (Some ran)) → (by ≡ node) × IsTrueAnswer cluster node query (program_id program) start ran

@@ -1,5 +1,0 @@
--- Nodes in threads: lemmas.
-mod Telling
-mod Reading
-mod Endings
-mod Founding

@@ -1,5 +1,0 @@
-use Rattle.std.proofs.Common.{inr}
-use Rattle.q_nodes.proofs.seat.register.Goals as goal
-
-pub returns-in-Err : goal.returns-in-Err
-returns-in-Err c = inr (c.args.held.now.book, c.in-Err.fault, c.if-not-is_of.ensures, c.from.ensures, c.in-Err.ensures.1)

@@ -1,0 +1,10 @@
+-- Why no line of a script is told.
+use Rattle.std.specs.Prelude.{ℕ}
+use Rattle.q_lines.specs.Runs.{IsAstray}
+use Rattle.q_nodes.specs.declared.halt.Halt.{Halt}
+use Rattle.q_nodes.specs.declared.halt.Halt.TheVariants.{Astray}
+
+-- the lock of one of so many nodes kept the book of another; of other causes nothing is said
+abbrev pub IsHalt : ℕ → Halt → Type 0
+IsHalt nodes Astray = IsAstray nodes
+IsHalt nodes h = Unit {0}
