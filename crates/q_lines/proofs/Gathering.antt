@@ -15,23 +15,23 @@ use Rattle.q_lines.specs.declared.telling.Telling.{Telling}
 
 -- ---- what is told
 
-pub told_whole : (script : ClusterScript) (c : ClusterState) (reports : List Report) (tally : Tally) (refusal : Option NodesFault) (text : List ℕ) → IsClusterOf script c → InTurn (IsTold script.nodes c) script.lines.items reports
-    → text ≡ texts_of reports → tally ≡ tally_of reports → refusal ≡ None → IsTelling script tally refusal text
-told_whole script c reports tally refusal text of told says counts none =
-    subst (λ (r : Option NodesFault). IsTelling script tally r text) (sym none) (record { cluster = c; is_cluster = of; reports = reports; told = told; says = says; counts = counts })
+pub told_whole : (script : ClusterScript) (books : List BookState) (c : ClusterState) (reports : List Report) (tally : Tally) (refusal : Option NodesFault) (text : List ℕ) → IsClusterOf script books c → InTurn (IsTold script.nodes c) script.lines.items reports
+    → text ≡ texts_of reports → tally ≡ tally_of reports → refusal ≡ None → IsTelling script books tally refusal text
+told_whole script books c reports tally refusal text of told says counts none =
+    subst (λ (r : Option NodesFault). IsTelling script books tally r text) (sym none) (record { cluster = c; is_cluster = of; reports = reports; told = told; says = says; counts = counts })
 
 -- ---- why there is no cluster of the script
 
-pub not_founded : (script : ClusterScript) (books : List BookState) (c : ClusterState) (f : NodesFault) → GathersBooks books c → f ≡ bad_founders → (IsFoundedBy script c → ⊥) → IsUngathered script f
-not_founded script books c f gathers is other = inr (books, c, gathers, is, inl other)
+pub not_founded : (script : ClusterScript) (books : List BookState) (c : ClusterState) (f : NodesFault) → GathersBooks books c → f ≡ bad_founders → (IsFoundedBy script c → ⊥) → IsUngathered script books f
+not_founded script books c f gathers is other = inr (c, gathers, is, inl other)
 
-pub not_there : (script : ClusterScript) (books : List BookState) (c : ClusterState) (f : NodesFault) → GathersBooks books c → f ≡ bad_founders → Lacks script.nodes c script.lines.items → IsUngathered script f
-not_there script books c f gathers is lacks = inr (books, c, gathers, is, inr lacks)
+pub not_there : (script : ClusterScript) (books : List BookState) (c : ClusterState) (f : NodesFault) → GathersBooks books c → f ≡ bad_founders → Lacks script.nodes c script.lines.items → IsUngathered script books f
+not_there script books c f gathers is lacks = inr (c, gathers, is, inr lacks)
 
 -- ---- what a cluster lacks
 
 -- what is told of the cluster, where there was memory for it
-pub whole_told : {E : Type 0} (script : ClusterScript) (c : ClusterState) (reports : List Report) (r : Result Telling E) → IsClusterOf script c → InTurn (IsTold script.nodes c) script.lines.items reports
-    → IfOk r (λ t. string_bytes t.text ≡ texts_of reports) → IfOk r (λ t. t.tally ≡ tally_of reports) → IfOk r (λ t. t.refusal ≡ None) → IfOk r (λ t. IsTelling script t.tally t.refusal (string_bytes t.text))
-whole_told script c reports (Ok t) of told says counts none = told_whole script c reports t.tally t.refusal (string_bytes t.text) of told says counts none
-whole_told script c reports (Err e) of told says counts none = tt
+pub whole_told : {E : Type 0} (script : ClusterScript) (books : List BookState) (c : ClusterState) (reports : List Report) (r : Result Telling E) → IsClusterOf script books c → InTurn (IsTold script.nodes c) script.lines.items reports
+    → IfOk r (λ t. string_bytes t.text ≡ texts_of reports) → IfOk r (λ t. t.tally ≡ tally_of reports) → IfOk r (λ t. t.refusal ≡ None) → IfOk r (λ t. IsTelling script books t.tally t.refusal (string_bytes t.text))
+whole_told script books c reports (Ok t) of told says counts none = told_whole script books c reports t.tally t.refusal (string_bytes t.text) of told says counts none
+whole_told script books c reports (Err e) of told says counts none = tt

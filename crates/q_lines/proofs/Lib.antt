@@ -1,5 +1,6 @@
 -- Scripts of nodes in threads: lemmas.
 pub mod Turns
+mod Nodes
 mod Filing
 mod Finding
 mod Gathering

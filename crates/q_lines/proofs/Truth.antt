@@ -13,10 +13,8 @@ use Rattle.q_session.specs.declared.ran.Ran.{Ran}
 use Rattle.q_desk.specs.State.{DeskState}
 use Rattle.q_desk.specs.Desks.{answer_in}
 use Rattle.q_book.specs.State.{BookState}
-use Rattle.q_book.specs.Replays.{IsReplay}
 use Rattle.q_cluster.specs.Acts.{booked}
 use Rattle.q_history.specs.declared.event.Event.{Event}
-use Rattle.q_history.specs.Books.{BooksAreReplays}
 use Rattle.q_history.specs.Calls.{IsHistory, Reaches}
 use Rattle.q_history.specs.Clusters.{start}
 use Rattle.q_history.specs.Headline as headline
@@ -36,21 +34,9 @@ use Rattle.q_lines.proofs.Turns.{turn_at, turn_length}
 
 -- ---- the cluster
 
-booked_replay : (c : ClusterState) (id : ℕ) (n : Option NodeState) (d : Option DeskState) (b : BookState) → BooksAreReplays c → fin.get c.world.nodes id ≡ n → fin.get c.desks id ≡ d → booked c id n d ≡ Some b → IsReplay b
-booked_replay c id (Some n) (Some d) b all at_n at_d is = subst IsReplay (same_some (book_of c id n d) b is) (all id n d at_n at_d)
-booked_replay c id (Some n) None b all at_n at_d is = absurd (no_some b is)
-booked_replay c id None (Some d) b all at_n at_d is = absurd (no_some b is)
-booked_replay c id None None b all at_n at_d is = absurd (no_some b is)
-
--- books that gather into a cluster of the script's founders are replays of their journals
-pub cluster_of_books : (script : ClusterScript) (c : ClusterState) (books : List BookState) → BooksAreReplays c → GathersBooks books c → IsFoundedBy script c → IsClusterOf script c
-cluster_of_books script c books all gathers founded = record {
-  history = gathers.gathered.history;
-  founded = founded;
-  books = books;
-  replays = λ k b at. booked_replay c b.id (fin.get c.world.nodes b.id) (fin.get c.desks b.id) b all refl refl (gathers.gathered.each k b at);
-  gathers = gathers;
-}
+-- books that gather into a cluster of the script's founders gather into a history
+pub cluster_of_books : (script : ClusterScript) (c : ClusterState) (books : List BookState) → GathersBooks books c → IsFoundedBy script c → IsClusterOf script books c
+cluster_of_books script c books gathers founded = record { history = gathers.gathered.history; founded = founded; gathers = gathers }
 
 -- ---- its answers
 
@@ -94,8 +80,11 @@ told_answer law nodes c node program start by query ran history told =
 
 pub all_true : EveryAnswer → (script : ClusterScript) (tally : Tally) (before after : Option (List ℕ)) → IsWritten script (ending.Gathered tally) before after → AnswersAreTrue script before after
 all_true law script tally before after written =
-    let (text, told, appends) = written in
+    let (text, gathered, appends) = written in
+    let told = gathered.tells in
     record {
+      books = gathered.books;
+      are_books = gathered.are_books;
       cluster = told.cluster;
       is_cluster = told.is_cluster;
       reports = told.reports;

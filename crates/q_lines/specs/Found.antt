@@ -2,6 +2,7 @@
 use Rattle.std.specs.Prelude.{◌≡◌, ℕ, List, Option, Some, None, slice_get}
 use Rattle.sc_world.specs.declared.op.Op.{Op}
 use Rattle.sc_world.specs.Records.{Among}
+use Rattle.q_book.specs.State.{BookState}
 use Rattle.q_history.specs.State.{ClusterState}
 use Rattle.q_lines.specs.Lines.{Has, InTurn, IsTold, Lacks}
 use Rattle.q_lines.specs.Runs.{IsClusterOf, IsUngathered}
@@ -33,7 +34,8 @@ abbrev pub FindsAll : ℕ → ClusterState → List ClusterLine → Option (List
 FindsAll nodes c ls (Some rs) = InTurn (IsTold nodes c) ls rs
 FindsAll nodes c ls None = Lacks nodes c ls
 
--- what the lines tell of the script's cluster; or why there is none
-abbrev pub IsSought : ClusterScript → Sought → Type 0
-IsSought script (Told reports) = (c : ClusterState) × IsClusterOf script c × InTurn (IsTold script.nodes c) script.lines.items reports.items
-IsSought script (Ungathered f) = IsUngathered script f
+-- what the lines tell of the script's cluster, into which these books gather; or why there is none
+abbrev pub IsSought : ClusterScript → List BookState → Sought → Type 0
+IsSought script books (Told reports) =
+    (c : ClusterState) × IsClusterOf script books c × InTurn (IsTold script.nodes c) script.lines.items reports.items
+IsSought script books (Ungathered f) = IsUngathered script books f

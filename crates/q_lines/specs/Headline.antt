@@ -6,9 +6,11 @@ use Rattle.sc_view.specs.Views.{ViewMap}
 use Rattle.q_session.specs.declared.query.Phase.TheVariants.{Answered}
 use Rattle.q_session.specs.declared.query.Query.{Query}
 use Rattle.q_session.specs.declared.ran.Ran.{Ran}
+use Rattle.q_book.specs.State.{BookState}
 use Rattle.q_desk.specs.State.{DeskState}
 use Rattle.q_history.specs.Headline.{IsTrue}
 use Rattle.q_history.specs.State.{ClusterState}
+use Rattle.q_lines.specs.Books.{AreBooksOf}
 use Rattle.q_lines.specs.Lines.{program_id, texts_of}
 use Rattle.q_lines.specs.Runs.{IsClusterOf}
 use Rattle.q_lines.specs.declared.report.Report.{Report}
@@ -16,9 +18,9 @@ use Rattle.q_lines.specs.declared.report.Report.TheVariants.{Asked}
 use Rattle.q_lines.specs.declared.script.ClusterLine.TheVariants as line
 use Rattle.q_lines.specs.declared.script.ClusterScript.{ClusterScript}
 
--- The cluster recorded this answer of the query of this number at the node, which asks for this program from this start;
--- and it is true: it is the program's meaning over the view that the query's own collect returned, which holds each store
--- that ended before the collect began and that meets it.
+-- The cluster recorded this answer of the query of this number at the node, which asks for this program from this
+-- start; and it is true: it is the program's meaning over the view that the query's own collect returned, which holds
+-- each store that ended before the collect began and that meets it.
 pub record IsTrueAnswer (c : ClusterState) (node query program start : ℕ) (ran : Ran) : Type 0 where
   pub desk : DeskState
   pub at : fin.get c.desks node ≡ Some desk
@@ -30,11 +32,14 @@ pub record IsTrueAnswer (c : ClusterState) (node query program start : ℕ) (ran
   pub recorded : asked.phase ≡ Answered view ran
   pub is_true : IsTrue c node desk asked view ran
 
--- The text that was written is that of reports of the script's lines, in turn; and there is one cluster of the script that
--- recorded each answer which an `ask` line told, for the query that this line told, and it is true.
+-- The text that was written is that of reports of the script's lines, in turn; and there is one cluster of the script,
+-- into which the books of its nodes gather, and which recorded each answer that an `ask` line told, for the query that
+-- this line told, and it is true.
 pub record AnswersAreTrue (script : ClusterScript) (before after : Option (List ℕ)) : Type 0 where
+  pub books : List BookState
+  pub are_books : AreBooksOf script.nodes books
   pub cluster : ClusterState
-  pub is_cluster : IsClusterOf script cluster
+  pub is_cluster : IsClusterOf script books cluster
   pub reports : List Report
   pub many : length reports ≡ length script.lines.items
   pub written : Appends before after (texts_of reports)

@@ -1,6 +1,7 @@
--- What the calls of a script's lines came to, and what the lines tell of it: looked up in the gathered cluster, or, where
--- the nodes were not gathered, in their own books.
-use Rattle.std.specs.Prelude.{◌≡◌, ◌⊎◌, ℕ, ◌-◌, ◌^◌, ◌≤◌, min, ◌==◌, ◌&&◌, Bool, true, false, not, is_some, List, [], ◌∷◌, ◌++◌, codes, filter, flat_map, length, Option, Some, None, IfSome, IsTrue, slice_get}
+-- What the calls of a script's lines came to, and what the lines tell of it: looked up in the gathered cluster, or,
+-- where the nodes were not gathered, in their own books.
+use Rattle.std.specs.Prelude.{◌≡◌, ◌⊎◌, ℕ, ◌-◌, ◌^◌, ◌≤◌, min, ◌==◌, ◌&&◌, Bool, true, false, not, is_some, List, [], ◌∷◌, ◌++◌, codes, filter, flat_map, length, Option, Some, None, slice_get}
+use Rattle.std.specs.FinMap as fin
 use Rattle.bq_check.specs.Certificate.{Certificate}
 use Rattle.bq_insn.specs.Slots.{spelling}
 use Rattle.sc_node.specs.declared.session.OperationKind.TheVariants as kind
@@ -17,7 +18,7 @@ use Rattle.q_history.specs.declared.event.Told.TheVariants as told
 use Rattle.q_sim.specs.Printing.{told_lines}
 use Rattle.q_sim.specs.Programs.{IsProgram, IsRefusal}
 use Rattle.q_sim.specs.declared.refusal.Refusal.{Refusal}
-use Rattle.q_lines.specs.Books.{BeginsQuery, BeginsStore, HasEnded, IsRecorded, Registers}
+use Rattle.q_lines.specs.Books.{BeginsQuery, BeginsStore, Registers, own_book, recorded}
 use Rattle.q_lines.specs.Faults.{no_such_node, text}
 use Rattle.q_lines.specs.declared.fault.NodesFault.{NodesFault}
 use Rattle.q_lines.specs.declared.fault.NodesFault.TheVariants.{Script}
@@ -123,13 +124,15 @@ IsTold nodes c (line.Ask node program start) (Asked by query answer) =
     IsNode nodes node × (by ≡ node) × ((q : Query) × IsQueryOf c node query (program_id program) start q × (answer ≡ answer_in q.phase))
 IsTold nodes c l r = ⊥
 
--- The same of nodes that were not gathered: what the call came to; and a store has ended, or an answer is recorded, in
--- some book of the node.
-abbrev pub IsToldApart : ℕ → ClusterLine → Report → Type 0
-IsToldApart nodes l (Refused f) = ComesTo nodes l (outcome.Refused f)
-IsToldApart nodes l (Registered id) = ComesTo nodes l (outcome.Registered id)
-IsToldApart nodes l (Stored tag ended) = ComesTo nodes l (outcome.Stored tag) × (IsTrue ended → HasEnded (node_of l) tag)
-IsToldApart nodes l (Asked node query answer) = ComesTo nodes l (outcome.Asked query) × (node ≡ node_of l) × IfSome answer (IsRecorded node query)
+-- The same of nodes whose books make no cluster of the script: what the call came to; and, in the node's own book,
+-- whether the store has ended, and the answer that is recorded, if there is one.
+abbrev pub IsToldApart : ℕ → List BookState → ClusterLine → Report → Type 0
+IsToldApart nodes books l (Refused f) = ComesTo nodes l (outcome.Refused f)
+IsToldApart nodes books l (Registered id) = ComesTo nodes l (outcome.Registered id)
+IsToldApart nodes books l (Stored tag ended) =
+    ComesTo nodes l (outcome.Stored tag) × ((b : BookState) × (own_book books (node_of l) ≡ Some b) × (ended ≡ not (is_some (fin.get b.node.sessions tag))))
+IsToldApart nodes books l (Asked node query answer) =
+    ComesTo nodes l (outcome.Asked query) × (node ≡ node_of l) × ((b : BookState) × (own_book books node ≡ Some b) × (answer ≡ recorded b query))
 
 -- ---- what is printed of it
 

@@ -1,9 +1,8 @@
 -- What a run of a script writes, by how it ends.
-use Rattle.std.specs.Prelude.{◌≡◌, ◌⊎◌, ℕ, zero, suc, ◌+◌, ◌≤◌, ◌&&◌, Bool, not, if◌then◌else◌, List, [], ◌∷◌, ◌++◌, Option, Some, None, Result, Ok, Err, IsUtf8, slice_get}
+use Rattle.std.specs.Prelude.{◌≡◌, ◌⊎◌, ℕ, zero, suc, ◌+◌, ◌≤◌, ◌&&◌, Bool, not, if◌then◌else◌, List, [], ◌∷◌, ◌++◌, Option, Some, None, Result, Ok, Err, IsUtf8}
 use Rattle.std.specs.Io.KnownBytes.{Appends}
 use Rattle.reasons.specs.declared.Reason.TheVariants.{OutOfMemory}
 use Rattle.q_book.specs.State.{BookState}
-use Rattle.q_book.specs.Replays.{IsReplay}
 use Rattle.q_files.specs.declared.files.FileFault.{FileFault}
 use Rattle.q_gather.specs.Gather.{AreRefused, GathersBooks}
 use Rattle.q_gather.specs.declared.fault.GatherFault.{GatherFault}
@@ -12,7 +11,7 @@ use Rattle.q_history.specs.State.{ClusterState}
 use Rattle.q_sim.specs.Refusal.{refusal_of}
 use Rattle.q_sim.specs.declared.refusal.Refusal.TheVariants as refusal
 use Rattle.q_wire.specs.Counts.{one_more}
-use Rattle.q_lines.specs.Books.{IsOther}
+use Rattle.q_lines.specs.Books.{AreBooksOf, IsOther}
 use Rattle.q_lines.specs.Faults.{bad_founders, of_gather, reason}
 use Rattle.q_lines.specs.Lines.{InTurn, IsNode, IsTold, IsToldApart, Lacks, is_clean, refused_line, tally_of, texts_of}
 use Rattle.q_lines.specs.Scripts.{IsClusterScript, IsRefused}
@@ -36,45 +35,49 @@ pub record IsFoundedBy (script : ClusterScript) (c : ClusterState) : Type 0 wher
   pub config : c.world.config ≡ script.config
   pub founders : c.world.founders ≡ ids_to script.nodes
 
--- The cluster is the script's: a history of its founders, into which books gather that are each the replay of its journal.
-pub record IsClusterOf (script : ClusterScript) (c : ClusterState) : Type 0 where
+-- the cluster is the script's: a history of its founders, into which these books gather
+pub record IsClusterOf (script : ClusterScript) (books : List BookState) (c : ClusterState) : Type 0 where
   pub history : IsHistory c
   pub founded : IsFoundedBy script c
-  pub books : List BookState
-  pub replays : (k : ℕ) (b : BookState) → slice_get books k ≡ Some b → IsReplay b
   pub gathers : GathersBooks books c
 
 -- ---- what is told
 
--- the text is what the lines tell of one cluster, which is the script's
-pub record TellsAll (script : ClusterScript) (tally : Tally) (text : List ℕ) : Type 0 where
+-- the text is what the lines tell of one cluster, which is the script's, and into which these books gather
+pub record TellsAll (script : ClusterScript) (books : List BookState) (tally : Tally) (text : List ℕ) : Type 0 where
   pub cluster : ClusterState
-  pub is_cluster : IsClusterOf script cluster
+  pub is_cluster : IsClusterOf script books cluster
   pub reports : List Report
   pub told : InTurn (IsTold script.nodes cluster) script.lines.items reports
   pub says : text ≡ texts_of reports
   pub counts : tally ≡ tally_of reports
 
--- why there is no such cluster: the books of the nodes do not gather; or they gather into a cluster of other fractions or
--- founders, or into one that lacks what the call of a line came to
-abbrev pub IsUngathered : ClusterScript → NodesFault → Type 0
-IsUngathered script f =
-    ((books : List BookState) × (g : GatherFault) × AreRefused books g × (f ≡ of_gather g))
-    ⊎ ((books : List BookState) × (c : ClusterState) × GathersBooks books c × (f ≡ bad_founders)
+-- why there is no such cluster: the books do not gather; or they gather into a cluster of other fractions or founders,
+-- or into one that lacks what the call of a line came to
+abbrev pub IsUngathered : ClusterScript → List BookState → NodesFault → Type 0
+IsUngathered script books f =
+    ((g : GatherFault) × AreRefused books g × (f ≡ of_gather g))
+    ⊎ ((c : ClusterState) × GathersBooks books c × (f ≡ bad_founders)
     × ((IsFoundedBy script c → ⊥) ⊎ Lacks script.nodes c script.lines.items))
 
--- the text is what the lines tell of nodes that were not gathered
-pub record TellsApart (script : ClusterScript) (f : NodesFault) (text : List ℕ) : Type 0 where
-  pub why : IsUngathered script f
+-- the text is what the lines tell of nodes whose books make no cluster of the script
+pub record TellsApart (script : ClusterScript) (books : List BookState) (f : NodesFault) (text : List ℕ) : Type 0 where
+  pub why : IsUngathered script books f
   pub reports : List Report
-  pub told : InTurn (IsToldApart script.nodes) script.lines.items reports
+  pub told : InTurn (IsToldApart script.nodes books) script.lines.items reports
   pub says : text ≡ texts_of reports
 
--- What is to be printed: what the lines tell of the cluster; or of nodes that were not gathered, where this refusal
--- comes behind it.
-abbrev pub IsTelling : ClusterScript → Tally → Option NodesFault → List ℕ → Type 0
-IsTelling script tally None text = TellsAll script tally text
-IsTelling script tally (Some f) text = TellsApart script f text
+-- What is to be printed: what the lines tell of the cluster of these books; or of nodes whose books make none, where
+-- this refusal comes behind it.
+abbrev pub IsTelling : ClusterScript → List BookState → Tally → Option NodesFault → List ℕ → Type 0
+IsTelling script books tally None text = TellsAll script books tally text
+IsTelling script books tally (Some f) text = TellsApart script books f text
+
+-- the same of the nodes' books
+pub record IsTellingOfNodes (script : ClusterScript) (tally : Tally) (refusal : Option NodesFault) (text : List ℕ) : Type 0 where
+  pub books : List BookState
+  pub are_books : AreBooksOf script.nodes books
+  pub tells : IsTelling script books tally refusal text
 
 -- ---- how a run ends
 
@@ -123,14 +126,24 @@ IsUntold nodes f =
     ⊎ (((f ≡ BadCount) × ¬ ((1 ≤ nodes) × (nodes ≤ 16)))
     ⊎ ((f ≡ bad_founders) × IsAstray nodes))
 
--- the text is what the lines tell of nodes that were not gathered, and the refusal behind it
-abbrev pub TellsRefusal : ClusterScript → NodesFault → List ℕ → Type 0
-TellsRefusal script f text = (told : List ℕ) × TellsApart script f told × (text ≡ told ++ refused_line f)
+-- the text is what the lines tell of nodes whose books make no cluster of the script, and the refusal behind it
+pub record TellsRefusal (script : ClusterScript) (f : NodesFault) (text : List ℕ) : Type 0 where
+  pub books : List BookState
+  pub are_books : AreBooksOf script.nodes books
+  pub told : List ℕ
+  pub apart : TellsApart script books f told
+  pub says : text ≡ told ++ refused_line f
 
--- What the lines tell of the script's cluster is written; or a refusal, alone or behind what they tell of nodes that were
--- not gathered; or the writer failed.
+-- the text is what the lines tell of the script's cluster, into which the nodes' books gather
+pub record TellsGathered (script : ClusterScript) (tally : Tally) (text : List ℕ) : Type 0 where
+  pub books : List BookState
+  pub are_books : AreBooksOf script.nodes books
+  pub tells : TellsAll script books tally text
+
+-- What the lines tell of the script's cluster is written; or a refusal, alone or behind what they tell of nodes whose
+-- books make none; or the writer failed.
 abbrev pub IsWritten : ClusterScript → Writing
-IsWritten script (ending.Gathered tally) before after = Prints (TellsAll script tally) before after
+IsWritten script (ending.Gathered tally) before after = Prints (TellsGathered script tally) before after
 IsWritten script (ending.Refused f) before after =
     (IsUntold script.nodes f × Appends before after (refused_line f)) ⊎ Prints (TellsRefusal script f) before after
 IsWritten script ending.Unwritten before after = IsUnwritten before after

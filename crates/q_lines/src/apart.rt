@@ -1,47 +1,39 @@
-//! What lines tell of nodes that were not gathered.
+//! What lines tell of nodes whose books make no cluster of the script.
 
-ghost use Rattle.std.specs.Prelude.{◌≡◌, IfOk, IfSome, IsTrue};
-ghost use Rattle.q_lines.specs.Lines.{ComesTo, InTurn, IsToldApart};
-ghost use Rattle.q_lines.specs.Books.{HasEnded, IsRecorded};
+ghost use Rattle.std.specs.Prelude.{◌≡◌, length, IfOk, Some};
+ghost use Rattle.q_lines.specs.Books.{AreBooksOf, own_book, recorded};
+ghost use Rattle.q_lines.specs.Lines.{ComesTo, InTurn, IsNode, IsToldApart};
 
 use crate::outcome::Outcome;
-use crate::own;
 use crate::report::Report;
 use crate::script::{ClusterLine, node_of};
 use q_book::book::Book;
 use q_session::ran::Ran;
 use std::alloc::{AllocError, Global};
 
-/// The book of this node, which is counted from 1.
-fn own_book(books: &[Book], node: u64) -> Option<&Book> {
-    let place = node.checked_sub(1)?;
-    books.get(place as usize)
+/// The book of this node.
+fn own_book(books: &[Book], node: u64) -> &Book
+    requires { IsNode (length books.now) node }
+    ensures { Some result.now ≡ own_book books.now node }
+{
+    &books[(node - 1) as usize]
 }
 
-/// Whether the operation with this tag has ended, by the node's own book.
-fn has_ended(books: &[Book], node: u64, tag: u64) -> bool
-    ensures { IsTrue result → HasEnded node tag }
+/// The answer of a query, if the book has recorded one.
+fn answer(book: &Book, query: usize) -> Option<Ran>
+    ensures { result ≡ recorded book.now query }
 {
-    match own_book(books, node) {
-        Some(book) => own::has_ended(book, node, tag),
-        None => false,
-    }
-}
-
-/// The answer of a query, if the node's own book has it.
-fn answer(books: &[Book], node: u64, query: usize) -> Option<Ran>
-    ensures { IfSome result (IsRecorded node query) }
-{
-    match own_book(books, node) {
-        Some(book) => own::answer(book, node, query),
-        None => None,
+    match book.answer(query) {
+        Ok(answer) => answer,
+        Err(_) => None,
     }
 }
 
 /// What a line tells whose call came to this.
 fn tell_line(books: &[Book], nodes: u64, line: &ClusterLine, outcome: Outcome) -> Report
-    requires { ComesTo nodes line.now outcome }
-    ensures { IsToldApart nodes line.now result }
+    requires books { AreBooksOf nodes books.now }
+    requires came { ComesTo nodes line.now outcome }
+    ensures { IsToldApart nodes books.now line.now result }
 {
     let node = node_of(line);
     match outcome {
@@ -49,12 +41,12 @@ fn tell_line(books: &[Book], nodes: u64, line: &ClusterLine, outcome: Outcome) -
         Outcome::Registered(id) => Report::Registered(id),
         Outcome::Stored(tag) => Report::Stored {
             tag,
-            ended: has_ended(books, node, tag),
+            ended: !own_book(books, node).is_open(tag),
         },
         Outcome::Asked(query) => Report::Asked {
             node,
             query,
-            answer: answer(books, node, query),
+            answer: answer(own_book(books, node), query),
         },
     }
 }
@@ -67,8 +59,9 @@ pub(crate) fn tell_apart(
     lines: &[ClusterLine],
     outcomes: &[Outcome],
 ) -> Result<Vec<Report>, AllocError>
-    requires { InTurn (ComesTo nodes) lines.now outcomes.now }
-    ensures { IfOk result (λ reports. InTurn (IsToldApart nodes) lines.now reports.items) }
+    requires books { AreBooksOf nodes books.now }
+    requires came { InTurn (ComesTo nodes) lines.now outcomes.now }
+    ensures { IfOk result (λ reports. InTurn (IsToldApart nodes books.now) lines.now reports.items) }
 {
     let mut reports = Vec::new(alloc);
     for (place, line) in lines.iter().enumerate() {

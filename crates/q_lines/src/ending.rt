@@ -1,7 +1,7 @@
 //! How a run ends, and what it prints then.
 
 ghost use Rattle.std.specs.Prelude.{◌≡◌, string_bytes};
-ghost use Rattle.q_lines.specs.Runs.{IsRefusedAlone, IsTelling, IsUntold, IsWritten, failures_after, status_of};
+ghost use Rattle.q_lines.specs.Runs.{IsRefusedAlone, IsTellingOfNodes, IsUntold, IsWritten, failures_after, status_of};
 
 use crate::fault::NodesFault;
 use crate::report::Tally;
@@ -14,11 +14,11 @@ use std::io::Write;
 /// How a run ended.
 #[derive(Clone, Copy)]
 pub enum Ending {
-    /// The books of the nodes gather into a cluster of the script, and what the lines tell of it was printed: so many of
-    /// them were refused or are unanswered.
+    /// The books of the nodes gather into a cluster of the script, and what the lines tell of it was printed: so many
+    /// of them were refused or are unanswered.
     Gathered(Tally),
-    /// This refusal was printed last: behind what the lines tell where the nodes make no cluster of the script, and else
-    /// alone.
+    /// This refusal was printed last: behind what the lines tell where the nodes make no cluster of the script, and
+    /// else alone.
     Refused(NodesFault),
     /// The writer failed.
     Unwritten,
@@ -66,7 +66,7 @@ pub fn print_telling<W: Write>(
     telling: &Telling,
     out: &mut Counted<W>,
 ) -> Ending
-    requires { IsTelling script.now telling.now.tally telling.now.refusal (string_bytes telling.now.text) }
+    requires { IsTellingOfNodes script.now telling.now.tally telling.now.refusal (string_bytes telling.now.text) }
     ensures written { IsWritten script.now result (W.contents out.old.inner) (W.contents out.new.inner) }
     ensures counted { out.new.failures ≡ failures_after result out.old.failures }
 {

@@ -1,28 +1,30 @@
 //! Scripts of nodes that run in threads: what the calls of their lines come to, and what the lines tell of one cluster.
 //!
-//! There are no threads here, and no locks. A script ([`script`]) founds nodes and names calls of their books, one a line.
-//! What each call came to ([`outcome`]) is what some book of the line's node answered, the replay of its journal. Once the
-//! nodes have ended, their books are gathered into one cluster, and what a line tells ([`report`]) is looked up in it, by
-//! what its call came to ([`telling`]). How the run ends, and with which exit status, follows from that ([`ending`]).
+//! There are no threads here, and no locks. A script ([`script`]) founds nodes and names calls of their books, one a
+//! line. What each call came to ([`outcome`]) is what some book of the line's node answered, the replay of its journal.
+//! Once the nodes have ended, their books are gathered into one cluster, and what a line tells ([`report`]) is looked
+//! up in it, by what its call came to ([`telling`]). How the run ends, and with which exit status, follows from that
+//! ([`ending`]).
 //!
-//! Proved of a run that ended with a gathered cluster (`IsWritten` in `specs/Runs.antt`): there is one cluster, a history of
-//! the founders 1 to N with the script's fractions, into which books gather that are each the replay of its journal. Of it
-//! each line of the script tells, in turn, and nothing else is written. `program P` is told of a program that the line's
-//! node has under that number, and whose bytes the line spells. `store TAG` is told of an operation of the node that
-//! stores the line's value under that tag, with nothing behind it exactly where the operation has ended, and else
-//! `unanswered`. `query Q` is told of the node's query of that number, which asks for the line's program from its start,
-//! with the recorded answer behind it exactly where there is one, and else `unanswered`. A refusal is 81 exactly where
-//! there is no such node, unless the bytes of the line are no program; else it is that of the bytes, or one with which some
-//! book of the node refuses the line's call. How many lines were refused or are unanswered is counted, and a strict run
-//! has the exit status 0 exactly where none is.
+//! Proved of a run that ended with a gathered cluster (`IsWritten` in `specs/Runs.antt`): there is one cluster, a
+//! history of the founders 1 to N with the script's fractions, into which the books of the nodes gather, one of each,
+//! each the replay of its journal. Of it each line of the script tells, in turn, and nothing else is written. `program
+//! P` is told of a program that the line's node has under that number, and whose bytes the line spells. `store TAG` is
+//! told of an operation of the node that stores the line's value under that tag, with nothing behind it exactly where
+//! the operation has ended, and else `unanswered`. `query Q` is told of the node's query of that number, which asks for
+//! the line's program from its start, with the recorded answer behind it exactly where there is one, and else
+//! `unanswered`. A refusal is 81 exactly where there is no such node, unless the bytes of the line are no program; else
+//! it is that of the bytes, or one with which some book of the node refuses the line's call. How many lines were
+//! refused or are unanswered is counted, and a strict run has the exit status 0 exactly where none is.
 //!
 //! So each printed answer is an answer of one cluster, and true: that is a law of the definition
 //! ([`laws::every_printed_answer_is_true`]).
 //!
-//! Proved of a run that ended with a refusal: it stands alone, where memory ran out, where there are not 1 to 16 nodes, or
-//! where a lock kept the book of another node (49; none does, but no contract of a lock says so); or it stands behind what
-//! the lines tell, where books do not gather, with that reason, or gather into a cluster that is not the script's, or lacks
-//! what the call of a line came to (49). What the lines tell then is what some books of their nodes answered and have.
+//! Proved of a run that ended with a refusal: it stands alone, where memory ran out, where there are not 1 to 16 nodes,
+//! or where a lock kept the book of another node (49; none does, but no contract of a lock says so); or it stands
+//! behind what the lines tell, where the nodes' books do not gather, with that reason, or gather into a cluster that is
+//! not the script's, or lacks what the call of a line came to (49). What the lines tell then is what their calls were
+//! answered, and what the node's own book has of it.
 //!
 //! Proved of how a script is read: a text is a script exactly where its first line founds 1 to 16 nodes and each other
 //! line is one of the three kinds; else what is first wrong is named.

@@ -1,10 +1,10 @@
-//! What the book of a node has, by itself.
+//! Whose book it is.
 
-ghost use Rattle.std.specs.Prelude.{IfSome, IsTrue, MatchBool};
-ghost use Rattle.q_lines.specs.Books.{HasEnded, IsBookOf, IsOther, IsRecorded};
+ghost use Rattle.std.specs.Prelude.{length, MatchBool};
+ghost use Rattle.q_lines.specs.Books.{AreBooksOf, IsBookOf, IsOther};
+ghost use Rattle.q_lines.specs.Runs.{IsAstray};
 
 use q_book::book::Book;
-use q_session::ran::Ran;
 
 /// Whether this is the book of the node. Every book is the replay of its journal, and its recorded answers are right.
 pub fn is_of(book: &Book, node: u64) -> bool
@@ -15,22 +15,14 @@ pub fn is_of(book: &Book, node: u64) -> bool
     book.id() == node
 }
 
-/// Whether the operation with this tag has ended, by the book of the node.
-pub fn has_ended(book: &Book, node: u64, tag: u64) -> bool
-    ensures { IsTrue result → HasEnded node tag }
+/// Whether these are the books of as many nodes, in the order of their ids, which are 1 to their number.
+pub fn are_of_nodes(books: &[Book]) -> bool
+    ensures { MatchBool result (AreBooksOf (length books.now) books.now) (IsAstray (length books.now)) }
 {
-    is_of(book, node) && !book.is_open(tag)
-}
-
-/// The answer of a query, if the book of the node has it.
-pub fn answer(book: &Book, node: u64, query: usize) -> Option<Ran>
-    ensures { IfSome result (IsRecorded node query) }
-{
-    if !is_of(book, node) {
-        return None;
+    for (place, book) in books.iter().enumerate() {
+        if !is_of(book, place as u64 + 1) {
+            return false;
+        }
     }
-    match book.answer(query) {
-        Ok(Some(ran)) => Some(ran),
-        Ok(None) | Err(_) => None,
-    }
+    true
 }

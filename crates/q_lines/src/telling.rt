@@ -3,6 +3,7 @@
 ghost use Rattle.std.specs.Prelude.{◌≡◌, List, IfOk, MatchBool, string_bytes};
 ghost use Rattle.q_book.specs.State.{BookState};
 ghost use Rattle.q_gather.specs.Gather.{GathersBooks};
+ghost use Rattle.q_lines.specs.Books.{AreBooksOf};
 ghost use Rattle.q_lines.specs.Found.{IsSought};
 ghost use Rattle.q_lines.specs.Lines.{ComesTo, InTurn, tally_of, texts_of};
 ghost use Rattle.q_lines.specs.Runs.{IsFoundedBy, IsTelling, ids_to};
@@ -74,9 +75,8 @@ fn look_up(
 ) -> Result<Sought, AllocError>
     requires ids { ids.now ≡ ids_to script.now.nodes }
     requires came { InTurn (ComesTo script.now.nodes) script.now.lines.items outcomes.now }
-    ensures { (books : List BookState) → GathersBooks books cluster.now → IfOk result (IsSought script.now) }
+    ensures { (books : List BookState) → GathersBooks books cluster.now → IfOk result (IsSought script.now books) }
 {
-    cluster.books_are_replays();
     if !is_founded_by(cluster, script, ids) {
         return Ok(Sought::Ungathered(NodesFault::bad_founders()));
     }
@@ -102,7 +102,7 @@ fn seek(
 ) -> Result<Sought, AllocError>
     requires ids { ids.now ≡ ids_to script.now.nodes }
     requires came { InTurn (ComesTo script.now.nodes) script.now.lines.items outcomes.now }
-    ensures { IfOk result (IsSought script.now) }
+    ensures { IfOk result (IsSought script.now books.now) }
 {
     match gather_books(alloc, books) {
         Ok(cluster) => look_up(alloc, script, ids, &cluster, outcomes),
@@ -130,8 +130,8 @@ impl Telling {
     }
 }
 
-/// What the lines tell of the cluster into which the books of the nodes gather, by what their calls came to; or of the
-/// books alone, and the refusal, where there is no such cluster. The one error is that memory ran out.
+/// What the lines tell of the cluster into which the books of the nodes gather, by what their calls came to; or, where
+/// there is no such cluster, of each node's own book, and the refusal. The one error is that memory ran out.
 pub fn tell(
     alloc: Global,
     script: &ClusterScript,
@@ -140,8 +140,9 @@ pub fn tell(
     outcomes: &[Outcome],
 ) -> Result<Telling, AllocError>
     requires ids { ids.now ≡ ids_to script.now.nodes }
+    requires books { AreBooksOf script.now.nodes books.now }
     requires came { InTurn (ComesTo script.now.nodes) script.now.lines.items outcomes.now }
-    ensures { IfOk result (λ t. IsTelling script.now t.tally t.refusal (string_bytes t.text)) }
+    ensures { IfOk result (λ t. IsTelling script.now books.now t.tally t.refusal (string_bytes t.text)) }
 {
     match seek(alloc, script, ids, books, outcomes)? {
         Sought::Told(reports) => Telling::of(alloc, reports.as_slice(), None),

@@ -12,7 +12,6 @@ use crate::seat;
 use crate::turn::pause;
 use q_lines::fault::NodesFault;
 use q_lines::outcome::Outcome;
-use q_lines::own;
 use q_lines::script::{ClusterLine, is_node, program_id};
 use q_sim::program::certified_code;
 use q_table::program::{Program, ProgramId};
@@ -31,17 +30,11 @@ fn pump_all<R: Wait>(rt: &R, seats: &[Mutex<Held<'_>>]) {
 }
 
 /// Takes turns until the operation with this tag has ended.
-fn await_end<R: Wait + Clock>(
-    rt: &R,
-    seats: &[Mutex<Held<'_>>],
-    held: &Mutex<Held<'_>>,
-    node: u64,
-    tag: u64,
-) {
+fn await_end<R: Wait + Clock>(rt: &R, seats: &[Mutex<Held<'_>>], held: &Mutex<Held<'_>>, tag: u64) {
     for turn in 0..MOST_TURNS {
         pump_all(rt, seats);
-        let has_ended = own::has_ended(&held.lock(rt).book, node, tag);
-        if has_ended {
+        let is_open = held.lock(rt).book.is_open(tag);
+        if !is_open {
             break;
         }
         pause(rt, turn);
@@ -53,13 +46,12 @@ fn await_answer<R: Wait + Clock>(
     rt: &R,
     seats: &[Mutex<Held<'_>>],
     held: &Mutex<Held<'_>>,
-    node: u64,
     query: usize,
 ) {
     for turn in 0..MOST_TURNS {
         pump_all(rt, seats);
-        let answer = own::answer(&held.lock(rt).book, node, query);
-        if answer.is_some() {
+        let answer = held.lock(rt).book.answer(query);
+        if let Ok(Some(_)) = answer {
             break;
         }
         pause(rt, turn);
@@ -120,7 +112,7 @@ fn begin_store<R: Wait + Clock>(
 {
     let begun = seat::store(&mut held.lock(rt), node, value);
     if let Some(Outcome::Stored(tag)) = begun {
-        await_end(rt, seats, held, node, tag);
+        await_end(rt, seats, held, tag);
     }
     begun
 }
@@ -162,7 +154,7 @@ fn begin_query<R: Wait + Clock>(
 {
     let begun = seat::ask(&mut held.lock(rt), node, program, start);
     if let Some(Outcome::Asked(query)) = begun {
-        await_answer(rt, seats, held, node, query);
+        await_answer(rt, seats, held, query);
     }
     begun
 }

@@ -1,9 +1,9 @@
 //! A whole cluster, run by threads.
 
-ghost use Rattle.std.specs.Prelude.{◌≡◌, ◌≤◌, All, IfErr, IfOk, string_bytes};
+ghost use Rattle.std.specs.Prelude.{◌≡◌, ◌≤◌, All, IfErr, IfOk, length, string_bytes};
 ghost use Rattle.q_board.specs.BoardId.{board_id};
 ghost use Rattle.q_lines.specs.Lines.{ComesTo, InTurn};
-ghost use Rattle.q_lines.specs.Runs.{IsTelling, IsUntold, IsWritten, failures_after, ids_to};
+ghost use Rattle.q_lines.specs.Runs.{IsTellingOfNodes, IsUntold, IsWritten, failures_after, ids_to};
 ghost use Rattle.q_nodes.specs.Halts.{IsHalt};
 
 use crate::halt::Halt;
@@ -18,6 +18,7 @@ use q_book::book::Book;
 use q_lines::ending::{Ending, print_telling, print_untold};
 use q_lines::fault::NodesFault;
 use q_lines::outcome::Outcome;
+use q_lines::own::are_of_nodes;
 use q_lines::report::Tally;
 use q_lines::script::{ClusterLine, ClusterScript};
 use q_lines::telling::{Telling, tell};
@@ -67,7 +68,7 @@ fn found_one<'b>(
     Ok(Mutex::new(Held::new(alloc, book, board, asker)))
 }
 
-/// The same of each founder. There are as many seats as ids.
+/// The same of each founder.
 fn found<'b>(
     alloc: Global,
     board: &'b Board,
@@ -75,12 +76,15 @@ fn found<'b>(
     config: Config,
     ids: &[u64],
 ) -> Result<Vec<Mutex<Held<'b>>>, AllocError>
-    requires { All (λ s. s.table ≡ board_id board.now) askers.items }
+    requires seated { All (λ s. s.table ≡ board_id board.now) askers.items }
+    requires many { length askers.items ≡ length ids.now }
+    ensures { IfOk result (λ seats. length seats.items ≡ length ids.now) }
 {
     let mut seats = Vec::new(alloc);
     for asker in askers {
+        // There are as many ids as seats at the board.
         let Some(id) = ids.get(seats.len()) else {
-            break;
+            return Err(AllocError);
         };
         let seat = found_one(alloc, board, asker, config, ids, *id)?;
         seats.push(seat)?;
@@ -194,7 +198,9 @@ struct Nodes {
 }
 
 /// What the locks kept.
-fn unlock(alloc: Global, seats: Vec<Mutex<Held<'_>>>) -> Result<Nodes, AllocError> {
+fn unlock(alloc: Global, seats: Vec<Mutex<Held<'_>>>) -> Result<Nodes, AllocError>
+    ensures { IfOk result (λ kept. length kept.books.items ≡ length seats.entry.items) }
+{
     let mut nodes = Nodes {
         books: Vec::new(alloc),
         lost: Losses::none(),
@@ -220,8 +226,8 @@ fn note_trouble<N: Write>(notes: &mut N, tally: Tally, unsent: Unsent) {
     }
 }
 
-/// Runs the lines at these seats, gathers the books of the nodes, and tells the lines; how many datagrams changed nothing,
-/// and what trouble there was, goes to the notes.
+/// Runs the lines at these seats, gathers the books of the nodes, and tells the lines; how many datagrams changed
+/// nothing, and what trouble there was, goes to the notes.
 fn run_seats<R: Wait + Threads + Clock + Sync, T: Transport + Send + Drop, N: Write>(
     rt: &R,
     alloc: Global,
@@ -234,12 +240,16 @@ fn run_seats<R: Wait + Threads + Clock + Sync, T: Transport + Send + Drop, N: Wr
     notes: &mut N,
 ) -> Result<Telling, Halt>
     requires seated { All (λ s. s.table ≡ board_id board.now) runners.items }
+    requires many { length seats.items ≡ script.now.nodes }
     requires ids { ids.now ≡ ids_to script.now.nodes }
-    ensures told { IfOk result (λ t. IsTelling script.now t.tally t.refusal (string_bytes t.text)) }
+    ensures told { IfOk result (λ t. IsTellingOfNodes script.now t.tally t.refusal (string_bytes t.text)) }
     ensures halt { IfErr result (IsHalt script.now.nodes) }
 {
     let outcomes = run_with_runners(rt, alloc, board, runners, seats.as_slice(), script, wires)?;
     let nodes = unlock(alloc, seats)?;
+    if !are_of_nodes(nodes.books.as_slice()) {
+        return Err(Halt::Astray);
+    }
     let lost = nodes.lost;
     let _ = writeln!(notes, "{lost}");
     let telling = tell(
@@ -265,9 +275,10 @@ fn run_founders<R: Wait + Threads + Clock + Sync, T: Transport + Send + Drop, N:
     notes: &mut N,
 ) -> Result<Telling, Halt>
     requires asking { All (λ s. s.table ≡ board_id board.now) askers.items }
+    requires many { length askers.items ≡ script.now.nodes }
     requires running { All (λ s. s.table ≡ board_id board.now) runners.items }
     requires few { script.now.nodes ≤ 16 }
-    ensures told { IfOk result (λ t. IsTelling script.now t.tally t.refusal (string_bytes t.text)) }
+    ensures told { IfOk result (λ t. IsTellingOfNodes script.now t.tally t.refusal (string_bytes t.text)) }
     ensures halt { IfErr result (IsHalt script.now.nodes) }
 {
     let ids = ids(alloc, script.nodes)?;

@@ -59,8 +59,8 @@ fn open_sockets<R: Net>(rt: &R, alloc: Global, nodes: u64) -> io::Result<Vec<Udp
 }
 
 /// Runs the script that a text spells by a thread and a socket for each node, and prints what its lines tell; what
-/// `run_cluster` notes goes to the notes. A script that is refused prints its refusal, and a socket that can't be opened
-/// 86 TransportFailed: the notes say why.
+/// `run_cluster` notes goes to the notes. A script that is refused prints its refusal, and a socket that can't be
+/// opened 86 TransportFailed: the notes say why.
 pub fn run_over_sockets<R: Net + Wait + Threads + Clock + Sync, W: Write, N: Write>(
     rt: &R,
     alloc: Global,
@@ -98,8 +98,8 @@ pub struct FileRun {
     pub source: Vec<u8>,
 }
 
-/// The command `cluster`: runs the script in the file of this name so. A file that fails, or is no UTF-8, is refused with
-/// 87 FileFailed. The bytes that were read are answered, so that a refusal can be explained from them.
+/// The command `cluster`: runs the script in the file of this name so. A file that fails, or is no UTF-8, is refused
+/// with 87 FileFailed. The bytes that were read are answered, so that a refusal can be explained from them.
 pub fn run_file<R: Net + Wait + Threads + Clock + Sync, F: Files, W: Write, N: Write>(
     rt: &R,
     alloc: Global,

@@ -1,12 +1,23 @@
-use Rattle.std.proofs.Common.{ℕ, subst}
-use Rattle.std.specs.Prelude.{IsTrue}
-use Rattle.q_lines.specs.Books.{HasEnded}
+use Rattle.std.proofs.Common.{◌≡◌, ℕ, Some, sym, ap, subst}
+use Rattle.std.specs.Prelude.{not}
+use Rattle.q_lines.specs.Books.{own_book}
 use Rattle.q_lines.specs.Lines.{ComesTo}
 use Rattle.q_lines.specs.declared.outcome.Outcome.{Outcome}
 use Rattle.q_lines.proofs.apart.tell_line.Goals as goal
 
 pub returns-in-Stored : goal.returns-in-Stored
 returns-in-Stored c = (
-  subst (λ (o : Outcome). ComesTo c.args.nodes c.args.line.now o) c.in-Stored.is c.requires,
-  subst (λ (node : ℕ). IsTrue c.has_ended.result → HasEnded node c.in-Stored.tag) c.node_of-node.ensures c.has_ended.ensures,
+  subst (λ (o : Outcome). ComesTo c.args.nodes c.args.line.now o) c.in-Stored.is c.requires.came,
+  (
+    c.own_book.result.now,
+    subst (λ (node : ℕ). own_book c.args.books.now node ≡ Some c.own_book.result.now) c.node_of-node.ensures (sym c.own_book.ensures),
+    ap not c.is_open.ensures,
+  ),
+)
+
+pub returns-in-Asked : goal.returns-in-Asked
+returns-in-Asked c = (
+  subst (λ (o : Outcome). ComesTo c.args.nodes c.args.line.now o) c.in-Asked.is c.requires.came,
+  c.node_of-node.ensures,
+  (c.own_book-in-Asked.result.now, sym c.own_book-in-Asked.ensures, c.answer.ensures),
 )

@@ -15,7 +15,7 @@ pub returns-in-Some : goal.returns-in-Some
 returns-in-Some c = λ books gathers.
     let found = subst (λ (ls : List ClusterLine). FindsAll c.args.script.now.nodes c.args.cluster.now ls (option_map (λ (v : Vec Report Global). v.items) c.in_ok-reports.field-0)) c.as_slice.ensures.value c.in_ok-reports.ensures in
     let told = subst (λ (o : Option (Vec Report Global)). FindsAll c.args.script.now.nodes c.args.cluster.now c.args.script.now.lines.items (option_map (λ (v : Vec Report Global). v.items) o)) c.in-Some.is found in
-    (c.args.cluster.now, cluster_of_books c.args.script.now c.args.cluster.now books c.books_are_replays.ensures gathers c.if-not-is_founded_by.ensures, told)
+    (c.args.cluster.now, cluster_of_books c.args.script.now c.args.cluster.now books gathers c.if-not-is_founded_by.ensures, told)
 
 pub returns-in-None : goal.returns-in-None
 returns-in-None c = λ books gathers.

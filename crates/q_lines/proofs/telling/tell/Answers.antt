@@ -7,7 +7,7 @@ use Rattle.q_lines.proofs.telling.tell.Goals as goal
 
 pub returns-in-Told : goal.returns-in-Told
 returns-in-Told c =
-    let (cluster, of, told) = subst (IsSought c.args.script.now) c.in-Told.is c.in_ok-reports.ensures in
-    whole_told c.args.script.now cluster c.as_slice.result.now c.of.result of
+    let (cluster, of, told) = subst (IsSought c.args.script.now c.args.books.now) c.in-Told.is c.in_ok-reports.ensures in
+    whole_told c.args.script.now c.args.books.now cluster c.as_slice.result.now c.of.result of
     (subst (λ (rs : List Report). InTurn (IsTold c.args.script.now.nodes cluster) c.args.script.now.lines.items rs) (sym c.as_slice.ensures.value) told)
     c.of.ensures.text c.of.ensures.tally c.of.ensures.refusal

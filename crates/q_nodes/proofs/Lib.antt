@@ -1,0 +1,2 @@
+-- Nodes in threads: lemmas.
+mod Counts
