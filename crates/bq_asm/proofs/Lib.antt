@@ -6,9 +6,6 @@ pub mod Again
 pub mod Spelled
 pub mod Sound
 pub mod Said
-pub mod First
-pub mod Repeating
-pub mod Resolving
 pub mod Unique
 pub mod Lines
 pub mod Writing

@@ -1,9 +1,9 @@
+pub use Rattle.bq_labels.specs.Labels
+pub use Rattle.bq_labels.specs.View
+pub use Rattle.bq_labels.specs.Placed
 pub mod Mnemonic
 pub mod Operands
 pub mod Line
-pub mod Labels
 pub mod Source
 pub mod Reading
-pub mod View
-pub mod Placed
 pub mod Steps

@@ -2,26 +2,13 @@
 use Rattle.std.specs.Prelude.{◌≡◌, ◌≢◌, ℕ, ◌<◌, ◌≤◌, Bool, ◌||◌, ◌==◌, IsTrue, List, [], ◌∷◌, ◌++◌, length}
 use Rattle.std.specs.List.{AllByRecursion}
 use Rattle.std.specs.Char.{is_ascii_digit, is_ascii_alphabetic}
-use Rattle.bq_insn.specs.declared.insn.Insn.{Insn}
 use Rattle.bq_insn.specs.Insn.{IsInsn, IsOperand}
+pub use Rattle.bq_labels.specs.Line.{Statement, Complete, JumpTo, Line, Blank, Label, Instruction}
 use Rattle.bq_asm.specs.declared.mnemonic.Mnemonic.{Mnemonic}
-use Rattle.bq_asm.specs.declared.jump.Jump.{Jump}
-use Rattle.bq_asm.specs.declared.jump.Jump.TheVariants as jumps
+use Rattle.bq_labels.specs.declared.jump.Jump.{Jump}
+use Rattle.bq_labels.specs.declared.jump.Jump.TheVariants as jumps
 use Rattle.bq_asm.specs.Mnemonic.{name}
 use Rattle.bq_asm.specs.Operands.{mnemonic_of, operands_of, jump_mnemonic, jump_operands}
-
--- ---- what a line says
-
--- an instruction, or a jump to a label
-pub data Statement : Type 0 where
-  Complete : Insn → Statement
-  JumpTo : Jump → List ℕ → Statement
-
--- nothing, the name of a label, or a statement
-pub data Line : Type 0 where
-  Blank : Line
-  Label : List ℕ → Line
-  Instruction : Statement → Line
 
 -- ---- names
 

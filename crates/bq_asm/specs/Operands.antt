@@ -5,10 +5,11 @@ use Rattle.bq_insn.specs.declared.insn.Operand.{Operand}
 use Rattle.bq_insn.specs.declared.insn.Operand.TheVariants as operands
 use Rattle.bq_insn.specs.declared.insn.Insn.{Insn}
 use Rattle.bq_insn.specs.declared.insn.Insn.TheVariants as insns
+pub use Rattle.bq_labels.specs.Jumps.{jump_insn}
 use Rattle.bq_asm.specs.declared.mnemonic.Mnemonic.{Mnemonic}
 use Rattle.bq_asm.specs.declared.mnemonic.Mnemonic.TheVariants as mnemonics
-use Rattle.bq_asm.specs.declared.jump.Jump.{Jump}
-use Rattle.bq_asm.specs.declared.jump.Jump.TheVariants as jumps
+use Rattle.bq_labels.specs.declared.jump.Jump.{Jump}
+use Rattle.bq_labels.specs.declared.jump.Jump.TheVariants as jumps
 
 -- `r0` to `r10`
 abbrev pub register : ℕ → List ℕ
@@ -29,12 +30,6 @@ abbrev pub memory : ℕ → ℤ → List ℕ
 memory base offset = codes "[" ++ register base ++ distance offset ++ codes "]"
 
 -- ---- jumps
-
--- the jump by a distance
-abbrev pub jump_insn : Jump → ℤ → Insn
-jump_insn jumps.Always d = insns.Jump d
-jump_insn jumps.Far d = insns.JumpFar d
-jump_insn (jumps.Branch w r dst x) d = insns.Branch w r dst x d
 
 abbrev pub jump_mnemonic : Jump → Mnemonic
 jump_mnemonic jumps.Always = mnemonics.Jump

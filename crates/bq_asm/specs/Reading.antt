@@ -3,19 +3,16 @@
 -- `specs/Line.antt`, a relation apart from the reader, which the public contracts cite by `specs/Source.antt`.
 use Rattle.std.specs.Prelude.{◌≡◌, ℕ, ◌-◌, ◌^◌, ℤ, pos, negsuc, Bool, false, not, ◌&&◌, ◌==◌, nat_lt, if◌then◌else◌, List, [], ◌∷◌, length, Option, Some, None, option_map}
 use Rattle.std.specs.List.{list_all}
-use Rattle.std.specs.Char.{is_ascii_digit}
-use Rattle.std.specs.Str.Parse.{digits_value}
 use Rattle.decimal.specs.Natural.{natural_at}
 use Rattle.bq_insn.specs.declared.insn.Operand.{Operand}
 use Rattle.bq_insn.specs.declared.insn.Operand.TheVariants as operands
-use Rattle.bq_insn.specs.declared.insn.Insn.{Insn}
 use Rattle.bq_insn.specs.declared.insn.Insn.TheVariants as insns
+pub use Rattle.bq_labels.specs.Jumps.{fits, jump_bits, jump_by}
 use Rattle.bq_asm.specs.declared.mnemonic.Mnemonic.{Mnemonic}
 use Rattle.bq_asm.specs.declared.mnemonic.Mnemonic.TheVariants as mnemonics
-use Rattle.bq_asm.specs.declared.jump.Jump.{Jump}
-use Rattle.bq_asm.specs.declared.jump.Jump.TheVariants as jumps
+use Rattle.bq_labels.specs.declared.jump.Jump.{Jump}
+use Rattle.bq_labels.specs.declared.jump.Jump.TheVariants as jumps
 use Rattle.bq_asm.specs.Mnemonic.{mnemonic_at}
-use Rattle.bq_asm.specs.Operands.{jump_insn}
 use Rattle.bq_asm.specs.Line.{Statement, Complete, JumpTo, Line, Blank, Label, Instruction, is_letter, is_name_byte}
 
 infixl 10 ◌>>=◌
@@ -92,11 +89,6 @@ distance_else text (Some digits) = positive_at digits
 unfoldable pub distance_at : List ℕ → Option ℤ
 distance_at text = distance_else text (strip 43 text)
 
--- it fits w bits with its sign
-abbrev pub fits : ℕ → ℤ → Bool
-fits w (pos n) = nat_lt n (2 ^ (w - 1))
-fits w (negsuc n) = nat_lt n (2 ^ (w - 1))
-
 abbrev pub fitting : ℕ → ℤ → Option ℤ
 fitting w z = if fits w z then Some z else None
 
@@ -148,13 +140,6 @@ memory_at text = do
 abbrev pub is_name : List ℕ → Bool
 is_name [] = false
 is_name (c ∷ cs) = is_letter c && list_all is_name_byte cs && nat_lt (length cs) 32
-
-abbrev pub jump_bits : Jump → ℕ
-jump_bits jumps.Far = 32
-jump_bits _ = 16
-
-abbrev pub jump_by : Jump → ℤ → Option Insn
-jump_by j z = if fits (jump_bits j) z then Some (jump_insn j z) else None
 
 abbrev pub target_else : Jump → List ℕ → Option ℤ → Option Statement
 target_else j text (Some z) = option_map Complete (jump_by j z)

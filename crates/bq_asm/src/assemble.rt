@@ -2,14 +2,15 @@ ghost use Rattle.std.specs.Prelude.{◌≡◌, IfOk, IfErr, MatchResult, List, m
 ghost use Rattle.bq_insn.specs.Slots.{IsText};
 ghost use Rattle.bq_asm.specs.Source.{Says, IsSource, IsFault};
 ghost use Rattle.bq_asm.specs.Steps.{IsReadFault, IsLengthFault, least};
-ghost use Rattle.bq_asm.specs.View.{line_view};
+ghost use Rattle.bq_labels.specs.View.{line_view};
 
 use crate::fault::AsmFault;
-use crate::labels::{first_repeated, resolve};
-use crate::line::Line;
+use crate::line::read_line;
 use bq_insn::fault::DecodeFault;
 use bq_insn::insn::Insn;
 use bq_insn::text::Text;
+use bq_labels::labels::{first_repeated, resolve};
+use bq_labels::line::Line;
 use std::alloc::Global;
 
 /// What the lines of a source say.
@@ -19,7 +20,7 @@ fn read_lines(alloc: Global, source: &str) -> Result<Vec<Line<'_>>, AsmFault>
 {
     let mut lines = Vec::new(alloc);
     for text in source.split('\n') {
-        let Some(line) = Line::read(text) else {
+        let Some(line) = read_line(text) else {
             return Err(AsmFault::Syntax {
                 line: lines.len() + 1,
             });

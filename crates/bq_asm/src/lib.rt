@@ -20,8 +20,8 @@
 //! 0, a place in memory is `[r1+16]` with the sign always written, and so is a jump's distance.
 //!
 //! What a source spells is defined in `specs/`, apart from the code: `Mnemonic` has the mnemonics,
-//! `Operands` the operands of each instruction, `Line` the grammar of a line, `Labels` what lines
-//! mean, and `Source` the spellings of a text, the one that is written, and which fault stands first.
+//! `Operands` the operands of each instruction, `Line` the grammar of a line, and `Source` the spellings of a
+//! text, the one that is written, and which fault stands first. What lines mean is `Labels` of the crate `bq_labels`.
 //!
 //! The program that reads files of assembler text stands on this crate.
 //!
@@ -33,8 +33,6 @@
 pub mod assemble;
 pub mod disassemble;
 pub mod fault;
-mod jump;
-mod labels;
 pub mod laws;
 mod line;
 mod mnemonic;

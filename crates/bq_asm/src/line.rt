@@ -2,31 +2,17 @@ ghost use Rattle.std.specs.Prelude.{◌≡◌};
 ghost use Rattle.std.specs.List.{list_all};
 ghost use Rattle.bq_asm.specs.Line.{Complete, is_name_byte};
 ghost use Rattle.bq_asm.specs.Reading.{Gives, is_name, is_comment, target_at, statement_at, instruction_at, words_at, label_else, cut, trimmed, line_at};
-ghost use Rattle.bq_asm.specs.View.{line_view, statement_view};
+ghost use Rattle.bq_labels.specs.View.{line_view, statement_view};
 
-use crate::jump::Jump;
 use crate::mnemonic::Mnemonic;
 use crate::number::distance;
 use crate::operand::{memory, operand, register};
 use crate::text::{cut, pair, trimmed};
 use bq_insn::insn::{Extension, Insn, Size};
+use bq_labels::jump::Jump;
+use bq_labels::line::{Line, Statement};
 use bq_word::{AluOp, Relation, SignBits, Width};
 use decimal::numeral::natural;
-
-/// An instruction, or a jump to a label.
-#[derive(Clone, Copy)]
-pub enum Statement<'a> {
-    Complete(Insn),
-    JumpTo { jump: Jump, label: &'a str },
-}
-
-/// What a line says.
-#[derive(Clone, Copy)]
-pub enum Line<'a> {
-    Blank,
-    Label(&'a str),
-    Instruction(Statement<'a>),
-}
 
 fn is_name_byte(byte: u8) -> bool
     ensures { result ≡ is_name_byte byte }
@@ -257,21 +243,19 @@ fn label_or_words(text: &str) -> Option<Line<'_>>
     }
 }
 
-impl<'a> Line<'a> {
-    /// What a line says, if it is of an allowed form.
-    #[tactic(auto, unfolding(crate::specs::Reading::line_at))]
-    pub fn read(text: &'a str) -> Option<Line<'a>>
-        ensures { Gives line_view result (line_at text.now) }
-    {
-        match cut(text, '#') {
-            Some((code, comment)) => {
-                if is_comment(comment) {
-                    words(code)
-                } else {
-                    None
-                }
+/// What a line says, if it is of an allowed form.
+#[tactic(auto, unfolding(crate::specs::Reading::line_at))]
+pub fn read_line(text: &str) -> Option<Line<'_>>
+    ensures { Gives line_view result (line_at text.now) }
+{
+    match cut(text, '#') {
+        Some((code, comment)) => {
+            if is_comment(comment) {
+                words(code)
+            } else {
+                None
             }
-            None => label_or_words(text),
         }
+        None => label_or_words(text),
     }
 }

@@ -9,14 +9,14 @@ ghost use Rattle.bq_insn.specs.Opcode.{opcode_at};
 ghost use Rattle.bq_insn.specs.Rows.{is_left_out, is_listed, unit_fault};
 ghost use Rattle.bq_insn.specs.Slots.{insn_at, units, IsText};
 ghost use Rattle.bq_insn.specs.declared.fault.DecodeFault.TheVariants as fault;
-ghost use Rattle.bq_insn.specs.declared.fault.UnitFault.TheVariants as wrong;
+ghost use Rattle.bq_fields.specs.declared.fault.UnitFault.TheVariants as wrong;
 ghost use Rattle.bq_insn.specs.declared.insn.Insn.{Insn};
 ghost use Rattle.bq_insn.specs.declared.insn.Insn.TheVariants as insn;
 ghost use Rattle.bq_insn.specs.declared.insn.Operand.TheVariants.{Register};
 ghost use Rattle.bq_insn.specs.declared.opcode.AluCode.TheVariants.{Add};
 ghost use Rattle.bq_insn.specs.declared.opcode.Opcode.TheVariants as opcode;
 ghost use Rattle.bq_insn.specs.declared.opcode.Source.TheVariants.{Number};
-ghost use Rattle.bq_insn.specs.declared.rows.FieldUse.TheVariants as uses;
+ghost use Rattle.bq_fields.specs.declared.uses.FieldUse.TheVariants as uses;
 ghost use Rattle.bq_word.specs.declared.AluOp.TheVariants.{SignedMod};
 ghost use Rattle.bq_word.specs.declared.Width.TheVariants.{W64};
 

@@ -67,16 +67,8 @@ impl Board {
             return Err(OpenFault::BadCount);
         }
         let (board, mut maker) = Board::lay(alloc, ROW * askers)?;
-        let mut asker_seats = Vec::with_capacity(alloc, askers)?;
-        for number in 0..askers {
-            let seat = board.seat_asker(alloc, &mut maker, number)?;
-            asker_seats.push_reserved(seat);
-        }
-        let mut runner_seats = Vec::with_capacity(alloc, runners)?;
-        for made in 0..runners {
-            let seat = board.seat_runner(alloc, &mut maker, askers + made)?;
-            runner_seats.push_reserved(seat);
-        }
+        let asker_seats = board.seat_askers(alloc, &mut maker, askers)?;
+        let runner_seats = board.seat_runners(alloc, &mut maker, askers, runners)?;
         Ok((board, asker_seats, runner_seats))
     }
 
@@ -225,6 +217,46 @@ impl Board {
             }
             Err(Refused { slots: _ }) => Err(AllocError),
         }
+    }
+
+    // A seat for each asker.
+    fn seat_askers(
+        &self,
+        alloc: Global,
+        maker: &mut Seat<Cell, View>,
+        askers: usize,
+    ) -> Result<Vec<AskerSeat>, AllocError>
+        requires board { maker.old.table_id ≡ board_id self.now }
+        requires next { (maker.old.me ≡ (making self.now.lanes 0, [])) × (8 * askers ≤ self.now.lanes) × (self.now.lanes ≤ 128) }
+        ensures maker { (maker.new.table_id ≡ maker.old.table_id) × (IfOk result (λ _. maker.new.me ≡ (making self.now.lanes askers, []))) }
+        ensures seats { IfOk result (λ seats. seats.items ≡ opened_askers (board_id self.now) askers) }
+    {
+        let mut seats = Vec::with_capacity(alloc, askers)?;
+        for number in 0..askers {
+            let seat = self.seat_asker(alloc, maker, number)?;
+            seats.push_reserved(seat);
+        }
+        Ok(seats)
+    }
+
+    // A seat for each runner, behind those of the askers.
+    fn seat_runners(
+        &self,
+        alloc: Global,
+        maker: &mut Seat<Cell, View>,
+        askers: usize,
+        runners: usize,
+    ) -> Result<Vec<RunnerSeat>, AllocError>
+        requires board { maker.old.table_id ≡ board_id self.now }
+        requires next { (maker.old.me ≡ (making self.now.lanes askers, [])) × (askers + runners ≤ 128) × (0 < self.now.lanes) × (self.now.lanes ≤ 128) }
+        ensures seats { IfOk result (λ seats. seats.items ≡ opened_runners (board_id self.now) self.now.lanes askers runners) }
+    {
+        let mut seats = Vec::with_capacity(alloc, runners)?;
+        for made in 0..runners {
+            let seat = self.seat_runner(alloc, maker, askers + made)?;
+            seats.push_reserved(seat);
+        }
+        Ok(seats)
     }
 
     // The next asker takes its row.

@@ -9,9 +9,9 @@ use Rattle.sc_msg.specs.Values.{value_lengths}
 use Rattle.sc_msg.specs.declared.version.Version.{Version}
 use Rattle.sc_msg.proofs.Lengths.{message_told}
 use Rattle.sc_node.specs.State.{NodeState}
-use Rattle.sc_node.specs.declared.answer.Completion.{Completion}
-use Rattle.sc_node.specs.declared.answer.Completion.TheVariants as completion
-use Rattle.sc_node.specs.declared.answer.Ended.{Ended}
+use Rattle.sc_operations.specs.declared.progress.Completion.{Completion}
+use Rattle.sc_operations.specs.declared.progress.Completion.TheVariants as completion
+use Rattle.sc_operations.specs.declared.progress.Ended.{Ended}
 use Rattle.sc_lengths.specs.Lengths.{NodeHasValuesWithin, CompletionHasValuesWithin, EndedHasValuesWithin}
 use Rattle.sc_lengths.proofs.Kept.{founder_kept, entered_kept, store_kept, collect_kept, leave_kept, delivery_kept}
 use Rattle.q_session.specs.Records.{HasRecordsWithin, records_of}

@@ -12,9 +12,9 @@ ghost use Rattle.sc_msg.specs.declared.version.Version.TheVariants.{First, Secon
 ghost use Rattle.sc_msg.specs.declared.message.Message.{Message};
 ghost use Rattle.sc_node.specs.Nodes.{is_view_full, stored_view};
 ghost use Rattle.sc_node.specs.State.{NodeState};
-ghost use Rattle.sc_node.specs.declared.answer.Completion.TheVariants as completion;
+ghost use Rattle.sc_operations.specs.declared.progress.Completion.TheVariants as completion;
 ghost use Rattle.sc_node.specs.declared.fault.NodeFault.TheVariants as node_fault;
-ghost use Rattle.sc_node.specs.declared.session.Session.{Session};
+ghost use Rattle.sc_operations.specs.declared.session.Session.{Session};
 ghost use Rattle.q_session.specs.declared.job.Job.{Job};
 ghost use Rattle.q_session.specs.declared.query.Phase.TheVariants.{Collecting, Ready};
 ghost use Rattle.q_session.specs.declared.ran.Ran.{Ran};

@@ -2,7 +2,7 @@
 use Rattle.std.proofs.Common.{◌≡◌, ℕ, List, Option, None, Result}
 use Rattle.sc_msg.specs.declared.message.Message.{Message}
 use Rattle.sc_node.specs.declared.answer.Begun.{Begun}
-use Rattle.sc_node.specs.declared.answer.Progress.{Progress}
+use Rattle.sc_operations.specs.declared.progress.Progress.{Progress}
 use Rattle.sc_world.specs.declared.act.Opened.{Opened}
 use Rattle.sc_world.specs.declared.event.Event.{Event as WorldEvent}
 use Rattle.sc_world.specs.declared.event.Event.TheVariants as world_event

@@ -1,13 +1,11 @@
 -- The books of the founders.
-use Rattle.std.proofs.Common.{◌≡◌, ◌≢◌, ℕ, Bool, true, false, cond, ◌==◌, ◌&&◌, List, [], ◌∷◌, Some, None, refl, sym, ap, subst, ◌∙◌, Result, Ok, Err}
+use Rattle.std.proofs.Common.{◌≡◌, ℕ, Bool, true, false, cond, ◌==◌, List, [], ◌∷◌, Some, None, refl, sym, ap, subst, ◌∙◌, Ok, Err}
 use Rattle.std.specs.Ordering.{nat_cmp}
 use Rattle.std.specs.FinMap as fin
-use Rattle.std.specs.FinSet as set
 use Rattle.sc_members.specs.Members.{Config}
 use Rattle.sc_msg.specs.declared.version.Version.{Version}
 use Rattle.sc_node.specs.State.{NodeState}
 use Rattle.sc_node.specs.Nodes.{founder, are_founders}
-use Rattle.sc_node.specs.declared.fault.NodeFault.{NodeFault}
 use Rattle.sc_node.specs.declared.fault.NodeFault.TheVariants as node_fault
 use Rattle.sc_world.specs.State.{Past, world_of}
 use Rattle.sc_world.specs.Ledgers.{first}
@@ -17,17 +15,14 @@ use Rattle.sc_world.specs.declared.fault.WorldFault.TheVariants as world_fault
 use Rattle.sc_world.proofs.Finite.{get-insert}
 use Rattle.q_session.specs.declared.job.Job.{Job}
 use Rattle.q_book.specs.State.{BookState}
-use Rattle.q_book.specs.Books as book
 use Rattle.q_book.specs.Books.{new_book}
-use Rattle.q_book.specs.Faults as book_faults
-use Rattle.q_book.specs.declared.fault.BookFault.{BookFault}
-use Rattle.q_book.specs.declared.fault.BookFault.TheVariants as fault
 use Rattle.q_history.specs.Clusters.{desks_with, start, founded, started}
 use Rattle.q_history.proofs.EveryBook.{IsAmong, among_first, among_rest}
 use Rattle.std.proofs.lemmas.Bool.{eqb-true}
-use Rattle.q_cluster.specs.Tables.{BookMap, each}
-use Rattle.q_cluster.specs.Acts.{cluster_of, IsHeaded, AreFiled, IsCluster, books_with}
-use Rattle.q_cluster.proofs.Tables.{same_some, each-insert, each-empty}
+use Rattle.q_shelf.specs.Tables.{BookMap, each}
+use Rattle.q_shelf.specs.Calls.{books_with}
+use Rattle.q_cluster.specs.Acts.{cluster_of, IsHeaded, AreFiled, IsCluster}
+use Rattle.q_shelf.proofs.Tables.{same_some, each-insert, each-empty}
 use Rattle.q_cluster.proofs.Going.{node_of, desk_of}
 
 module _ (version : Version) (c : Config) (ids : List ℕ) where
@@ -84,13 +79,3 @@ module _ (version : Version) (c : Config) (ids : List ℕ) where
 
   pub new_says : (books : BookMap) (past : Past) (jobs : List Job) → (are_founders ids ≡ true) × (books ≡ books_with version c ids fin.empty ids) → past ≡ first c ids → jobs ≡ [] → started version c ids ≡ Ok (cluster_of version books past jobs)
   new_says books past jobs made is none = starts (are_founders ids) refl made.0 ∙ (λ i. Ok (sym same_start i)) ∙ (λ i. Ok (cluster_of version (sym made.1 i) (sym is i) (sym none i)))
-
-  refused_by : (x : ℕ) (f : BookFault) (a b : Bool) → are_founders ids ≡ a → b ≡ true
-      → book.founds version x c ids (let r : Result NodeState NodeFault = cond (a && b) (Ok (founder c ids x)) (Err node_fault.BadFounders) in r) ≡ Err f → (are_founders ids ≡ false) × (f ≡ fault.Node node_fault.BadFounders)
-  refused_by x f a false is has h = absurd (cc)
-  refused_by x f true true is has h = absurd (cc)
-  refused_by x f false true is has h = let e : fault.Node node_fault.BadFounders ≡ f = cc in (is, sym e)
-
-  -- the refusal of one founder is that of all
-  pub found_refused : (x : ℕ) (f : BookFault) → IsAmong ids x → (f ≢ book_faults.memory → book.founded version c x ids ≡ Err f) → f ≢ book_faults.memory → (are_founders ids ≡ false) × (f ≡ fault.Node node_fault.BadFounders)
-  found_refused x f has h loud = refused_by x f (are_founders ids) (set.contains (set.from_list {R = nat_cmp} ids) x) refl has (h loud)

@@ -6,7 +6,7 @@ use Rattle.std.specs.FinMap as fin
 use Rattle.sc_node.specs.State.{NodeState}
 use Rattle.sc_node.specs.Nodes as node
 use Rattle.sc_node.specs.declared.answer.Delivered.{Delivered}
-use Rattle.sc_node.specs.declared.answer.Progress.{Progress}
+use Rattle.sc_operations.specs.declared.progress.Progress.{Progress}
 use Rattle.sc_msg.specs.declared.message.Message.{Message}
 use Rattle.sc_msg.specs.declared.version.Version.{Version}
 use Rattle.sc_world.specs.declared.counting.Counting.{Counting}
@@ -35,10 +35,11 @@ use Rattle.q_history.specs.Clusters.{Said, put, quiet, noted, lift, by_book, at,
 use Rattle.q_history.specs.Heads.{founders_for}
 use Rattle.q_history.proofs.Accepted.{at_live}
 use Rattle.q_history.proofs.Histories.{history_next, history_kept}
-use Rattle.q_cluster.specs.Tables.{BookMap}
-use Rattle.q_cluster.specs.Acts.{Doing, cluster_of, IsHeaded, AreFiled, IsCluster, StepsAt, IsThere, booked, book_at}
+use Rattle.q_shelf.specs.Tables.{BookMap}
+use Rattle.q_shelf.specs.Calls.{StepsAt}
+use Rattle.q_cluster.specs.Acts.{Doing, cluster_of, IsHeaded, AreFiled, IsCluster, IsThere, booked, book_at}
 use Rattle.q_cluster.proofs.Histories.{nothing}
-use Rattle.q_cluster.proofs.Tables.{same_some, get-each, each-insert}
+use Rattle.q_shelf.proofs.Tables.{same_some, get-each, each-insert}
 use Rattle.q_cluster.proofs.Heads.{Keeps}
 use Rattle.q_cluster.proofs.Calls.{Call, does, IsCall, Note, delivering}
 

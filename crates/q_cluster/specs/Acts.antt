@@ -1,25 +1,18 @@
 -- What the parts of a cluster are, and what they do at an event.
-use Rattle.std.specs.Prelude.{◌≡◌, ◌≢◌, ℕ, true, false, List, [], ◌∷◌, Option, Some, None, slice_get, Result, Ok, Err}
+use Rattle.std.specs.Prelude.{◌≡◌, ℕ, List, Option, Some, None, slice_get}
 use Rattle.std.specs.FinMap as fin
-use Rattle.sc_members.specs.Members.{Config}
 use Rattle.sc_msg.specs.declared.version.Version.{Version}
 use Rattle.sc_node.specs.State.{NodeState}
-use Rattle.sc_node.specs.Nodes.{founder, are_founders}
-use Rattle.sc_node.specs.declared.fault.NodeFault.TheVariants as node_fault
 use Rattle.sc_world.specs.State.{Past, world_of}
 use Rattle.sc_world.specs.Worlds.{live_at}
 use Rattle.q_desk.specs.State.{DeskState}
 use Rattle.q_book.specs.State.{BookState}
-use Rattle.q_book.specs.Books.{new_book}
-use Rattle.q_book.specs.declared.fault.BookFault.{BookFault}
-use Rattle.q_book.specs.declared.fault.BookFault.TheVariants as fault
-use Rattle.q_book.specs.Faults.{memory}
 use Rattle.q_session.specs.declared.job.Job.{Job}
 use Rattle.q_history.specs.State.{ClusterState}
 use Rattle.q_history.specs.Clusters.{Said}
 use Rattle.q_history.specs.Calls.{IsHistory}
 use Rattle.q_history.specs.Heads.{founders_for, book_of}
-use Rattle.q_cluster.specs.Tables.{BookMap, each}
+use Rattle.q_shelf.specs.Tables.{BookMap, each}
 
 -- a cluster by its parts
 abbrev pub cluster_of : Version → BookMap → Past → List Job → ClusterState
@@ -41,11 +34,6 @@ AreFiled version books past = (id : ℕ) (b : BookState) → fin.get books id �
 pub record IsCluster (version : Version) (books : BookMap) (past : Past) (jobs : List Job) : Type 0 where
   pub history : IsHistory (cluster_of version books past jobs)
   pub filed : AreFiled version books past
-
--- the book of that id does what is said, and the others are as they were; or it refuses, and all are
-abbrev pub StepsAt : {A : Type 0} → Result (A × BookState) BookFault → BookMap → BookMap → ℕ → Result A BookFault → Type 0
-StepsAt said old new id (Ok a) = (b : BookState) × (said ≡ Ok (a, b)) × (new ≡ fin.insert old id b)
-StepsAt said old new id (Err e) = (new ≡ old) × (e ≢ memory → said ≡ Err e)
 
 -- what a book makes of an event
 abbrev pub Doing : Type 0
@@ -70,14 +58,3 @@ booked c id n d = None
 -- the book of a node that was ever there
 abbrev pub book_at : ClusterState → ℕ → Option BookState
 book_at c id = booked c id (fin.get c.world.nodes id) (fin.get c.desks id)
-
--- these books, and those of the founders of these ids
-abbrev pub books_with : Version → Config → List ℕ → BookMap → List ℕ → BookMap
-books_with version c ids books [] = books
-books_with version c ids books (id ∷ rest) =
-    books_with version c ids (fin.insert books id (new_book version id c (Some ids) (founder c ids id))) rest
-
--- the books of the founders are given, or they are refused
-abbrev pub Founds : BookFault → Version → Config → List ℕ → Result BookMap BookFault → Type 0
-Founds e version c ids (Ok books) = (are_founders ids ≡ true) × (books ≡ books_with version c ids fin.empty ids)
-Founds e version c ids (Err f) = f ≢ e → (are_founders ids ≡ false) × (f ≡ fault.Node node_fault.BadFounders)

@@ -1,4 +1,4 @@
 -- What the parts of a cluster do at an event.
-pub mod Tables
+pub use Rattle.q_shelf.specs.Tables
 pub mod Acts
 pub mod Codes

@@ -16,7 +16,6 @@ ghost use Rattle.q_history.specs.Headline.{AnswersAreTrue, AnswersStay, ViewsAre
 ghost use Rattle.q_history.specs.Books.{BooksAreReplays};
 ghost use Rattle.q_cluster.specs.Acts.{Doing, IsThere, MayRun, book_at};
 
-use crate::books::{Books, found_books};
 use bq_frame::block::Block;
 use q_book::answer::{Asked, Taken};
 use q_book::book::Book;
@@ -28,6 +27,7 @@ use q_history::laws::{
 };
 use q_session::done::Done;
 use q_session::job::Job;
+use q_shelf::books::{Books, found_books};
 use q_table::program::{Program, ProgramId};
 use sc_members::config::Config;
 use sc_msg::message::Message;

@@ -9,6 +9,5 @@
 //! Each node with its desk is the replay of its own journal, also where it has left or crashed.
 #![tactic(auto)]
 
-mod books;
 pub mod cluster;
 pub mod worked;

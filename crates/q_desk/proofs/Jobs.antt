@@ -1,31 +1,27 @@
 -- What a job that is handed out or posted makes of a desk.
-use Rattle.std.proofs.Common.{◌≡◌, ◌+◌, ℕ, true, List, length, get_or, Option, Some, None, Ok, refl, sym, ap, subst, ◌∙◌, rules, eq-eqb}
-use Rattle.std.proofs.lemmas.Bool.{false≢true}
-use Rattle.std.proofs.lemmas.List.Quantifiers.{position-Some}
-use Rattle.std.proofs.lemmas.Option.{get_or_from_slice_get}
-use Rattle.std.specs.Prelude.{slice_get, position, nat_lt, option_map, ◌==◌, IfSome}
-use Rattle.std.specs.Cmp.{first_so, second_so, unsigned_Decides}
+use Rattle.std.proofs.Common.{◌≡◌, ◌<◌, ◌+◌, ℕ, true, List, length, Option, Some, None, Ok, refl, sym, ap, subst, ◌∙◌, rules}
+use Rattle.std.specs.Prelude.{slice_get, position, nat_lt, ◌==◌, IfSome}
 use Rattle.sc_view.specs.Views.{ViewMap}
 use Rattle.bq_range.specs.Interval.{Interval}
 use Rattle.bq_check.specs.Certificate.{Certificate}
-use Rattle.bq_check.specs.Certified.{IsCertified}
 use Rattle.q_session.specs.Right.{IsRight}
 use Rattle.q_session.specs.declared.ran.Ran.{Ran}
 use Rattle.q_session.specs.declared.query.Phase.{Phase}
-use Rattle.q_session.specs.declared.query.Phase.TheVariants.{Collecting, Ready, Running, Answered}
+use Rattle.q_session.specs.declared.query.Phase.TheVariants.{Ready, Running, Answered}
 use Rattle.q_session.specs.declared.query.Query.{Query}
 use Rattle.q_session.specs.declared.job.Job.{Job}
 use Rattle.q_desk.specs.State.{DeskState}
 use Rattle.q_desk.specs.declared.journal.Entry.{Entry}
 use Rattle.q_desk.specs.declared.journal.Entry.TheVariants as entry
-use Rattle.q_desk.specs.Desks.{most_events, how_many_run, with_phase, is_ready, is_same_view, is_job_of, ready_view, job_on, job_at, job_from, next_job, handed_out, posted}
-use Rattle.q_session.specs.Jobs.{view_in, job_over}
+use Rattle.q_desk.specs.Desks.{most_events, how_many_run, with_phase, is_ready, is_running, is_job_of, ready_view, job_at, job_from, next_job, handed_out, posted}
+use Rattle.q_queries.specs.Queries.{next_at, next_from, next_of, checked_at, checked, IsOfRunning}
+use Rattle.q_queries.specs.declared.unfit.Unfit.TheVariants as unfit
+use Rattle.q_session.specs.Jobs.{view_in}
 use Rattle.q_session.specs.Records.{HasRecordsWithin}
 use Rattle.q_desk.specs.Answers.{IsAnswered}
 use Rattle.q_desk.specs.Keeping.{IsDesk, ProgramsFit, ViewsFit, MayAllRun}
-use Rattle.q_desk.proofs.Running.{run-handed}
-use Rattle.q_desk.proofs.Views.{same-view, right-of_same}
-use Rattle.q_desk.proofs.Accepted.{IsReadyJob, next_is}
+use Rattle.q_desk.proofs.Running.{run-handed, run-some}
+use Rattle.q_desk.proofs.Accepted.{IsReadyJob, next_is, passed}
 use Rattle.q_desk.proofs.Keeps.{IsAppended, PhaseFits, desk-appended, desk-running, desk-with_phase}
 
 -- programs may run over views that have records of the lengths for which they were checked
@@ -33,34 +29,17 @@ pub may_all_run : (lengths : Interval) (programs : List Certificate) (queries : 
 may_all_run lengths programs queries checked fit k q program here named =
     subst (λ (l : Interval). IfSome (view_in q.phase) (HasRecordsWithin l)) (sym (checked q.program program named)) (fit k q here)
 
--- a ready query has its job
-job-ready : (node k : ℕ) (q : Query) (p : Phase) (c : Certificate) → is_ready p ≡ true → option_map (job_over node k q c) (view_in p) ≡ job_on node k q (ready_view p) (Some c)
-job-ready node k q (Ready view) c r = refl
-job-ready node k q Collecting c r = absurd (false≢true r)
-job-ready node k q (Running view) c r = absurd (false≢true r)
-job-ready node k q (Answered view ran) c r = absurd (false≢true r)
+-- the next job is seen by the desk's programs and queries alone
+next-same_at : (s : DeskState) (node k : ℕ) (o : Option Query) → next_at s.programs node k o ≡ job_at ready_view s node k o
+next-same_at s node k None = refl
+next-same_at s node k (Some q) = refl
 
-no-job : (node k : ℕ) (q : Query) (p : Phase) → job_on node k q (ready_view p) None ≡ None
-no-job node k q (Ready view) = refl
-no-job node k q Collecting = refl
-no-job node k q (Running view) = refl
-no-job node k q (Answered view ran) = refl
+next-same_from : (s : DeskState) (node : ℕ) (o : Option ℕ) → next_from s.programs s.queries node o ≡ job_from s node o
+next-same_from s node None = refl
+next-same_from s node (Some k) = next-same_at s node k (slice_get s.queries k)
 
--- what comes next, where this query is the first that is ready
-next-at : (s : DeskState) (node k : ℕ) (q : Query) (o : Option Certificate) → position (λ (x : Query). is_ready x.phase) s.queries ≡ Some k → slice_get s.queries k ≡ Some q → slice_get s.programs q.program ≡ o → job_on node k q (ready_view q.phase) o ≡ next_job s node
-next-at s node k q o first there named =
-    ap (job_on node k q (ready_view q.phase)) (sym named) ∙ ap (job_at ready_view s node k) (sym there) ∙ ap (job_from s node) (sym first)
-
-pub next-none : (s : DeskState) (node k : ℕ) (q : Query) → position (λ (x : Query). is_ready x.phase) s.queries ≡ Some k → slice_get s.queries k ≡ Some q → slice_get s.programs q.program ≡ None → None ≡ next_job s node
-next-none s node k q first there named =
-    sym (no-job node k q q.phase) ∙ next-at s node k q None first there named
-
-pub next-some : (s : DeskState) (node k : ℕ) (q : Query) (c : Certificate) → position (λ (x : Query). is_ready x.phase) s.queries ≡ Some k → slice_get s.queries k ≡ Some q → slice_get s.programs q.program ≡ Some c → option_map (job_over node k q c) (view_in q.phase) ≡ next_job s node
-next-some s node k q c first there named =
-    let passes = position-Some (λ (x : Query). is_ready x.phase) s.queries k q first in
-    let same : get_or s.queries k q ≡ q = get_or_from_slice_get s.queries k q q there in
-    let ready : is_ready q.phase ≡ true = ap (λ (x : Query). is_ready x.phase) (sym same) ∙ passes.1 in
-    job-ready node k q q.phase c ready ∙ next-at s node k q (Some c) first there named
+pub next-same : (s : DeskState) (node : ℕ) → next_of s.programs s.queries node ≡ next_job s node
+next-same s node = next-same_from s node (position (λ (q : Query). is_ready q.phase) s.queries)
 
 -- the query of this number is in the next phase, where it is in the first
 abbrev pub Moves : List Query → List Query → ℕ → Phase → Phase → Type 0
@@ -101,28 +80,23 @@ desk-posted s j ran q view queries journal d there right a after =
     subst (λ (x : List Query). IsDesk (record s { queries = x; journal = journal })) (sym after)
     (desk-appended (record s { queries = with_phase s.queries j.query (Answered view ran) }) (entry.Post j.query ran) journal (record { room = a.room; is = a.is }) kept)
 
-pub posts : (s : DeskState) (node : ℕ) (j : Job) (ran : Ran) (q : Query) (view : ViewMap) (queries : List Query) (journal : List Entry) → j.node ≡ node → slice_get s.queries j.query ≡ Some q → q.phase ≡ Running view → true ≡ is_job_of s.programs j q view → IsAppended s (entry.Post j.query ran) journal → queries ≡ with_phase s.queries j.query (Answered view ran) → posted s node j ran ≡ Ok (tt, record s { queries = queries; journal = journal })
+pub posts : (s : DeskState) (node : ℕ) (j : Job) (ran : Ran) (q : Query) (view : ViewMap) (queries : List Query) (journal : List Entry) → (j.node == node) ≡ true → slice_get s.queries j.query ≡ Some q → q.phase ≡ Running view → true ≡ is_job_of s.programs j q view → IsAppended s (entry.Post j.query ran) journal → queries ≡ with_phase s.queries j.query (Answered view ran) → posted s node j ran ≡ Ok (tt, record s { queries = queries; journal = journal })
 posts s node j ran q view queries journal own there phase fits a after =
-    let same : (j.node == node) ≡ true = eq-eqb j.node node own in
     let room = a.room in
     let small : nat_lt (length s.journal) most_events ≡ true = search rules in
-    rw (same, there, phase, ← fits, small, after, a.is) refl
+    rw (own, there, phase, ← fits, small, after, a.is) refl
 
--- ---- what passes the tests of a posted job
+-- ---- results that may be recorded
 
-job-fits : (programs : List Certificate) (j : Job) (q : Query) (view : ViewMap) → is_job_of programs j q view ≡ true → (j.start ≡ q.start) × (j.view ≡ view)
-job-fits programs j q view h =
-    let a = second_so (j.program == q.program) _ h in
-    let b = second_so (j.start == q.start) _ a in
-    ((unsigned_Decides j.start q.start).0 (first_so (j.start == q.start) _ a), same-view j.view view (first_so (is_same_view j.view view) _ b))
+-- it is one of this node
+pub own_result : (programs : List Certificate) (queries : List Query) (node : ℕ) (j : Job) (u : Unit {0}) → checked programs queries node j ≡ Ok u → (j.node == node) ≡ true
+own_result programs queries node j u h = (passed (j.node == node) unfit.Stranger (checked_at programs j (slice_get queries j.query)) u h).0
 
--- a right answer of the job is one of the query
-pub job-right : (s : DeskState) (programs : List Certificate) (j : Job) (q : Query) (view : ViewMap) (ran : Ran) (program : Certificate) → s.programs ≡ programs → slice_get programs q.program ≡ Some program → is_job_of programs j q view ≡ true → IsCertified program → j.certified.text ≡ program.text → j.certified.longest ≡ program.longest → IsRight j.certified j.view j.start ran → IsAnswered s q view ran
-job-right s programs j q view ran program same there fits certified text longest right =
-    let f = job-fits programs j q view fits in
-    let started : IsRight program j.view q.start ran = subst (λ n. IsRight program j.view n ran) f.0 (right-of_same j.certified program j.view j.start ran certified text longest right) in
-    record {
-      program = program;
-      named = ap (λ (ps : List Certificate). slice_get ps q.program) same ∙ there;
-      right = subst (λ (v : ViewMap). IsRight program v q.start ran) f.1 started;
-    }
+-- one query runs, its own
+pub some-runs : (programs : List Certificate) (held queries : List Query) (j : Job) → held ≡ queries → IsOfRunning programs held j → 0 < how_many_run queries
+some-runs programs held queries j same r =
+    subst (λ (qs : List Query). 0 < how_many_run qs) same (run-some held j.query r.query r.at (ap is_running r.phase))
+
+-- a right answer of a job whose query runs is one of the query
+pub answers : (s : DeskState) (j : Job) (ran : Ran) (r : IsOfRunning s.programs s.queries j) → IsRight j.certified j.view j.start ran → IsAnswered s r.query r.view ran
+answers s j ran r right = record { program = r.serves.program; named = r.serves.named; right = r.serves.right ran right }

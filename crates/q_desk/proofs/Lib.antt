@@ -1,7 +1,6 @@
--- What keeps a desk a desk, when a job is that of a query, and what each call makes of a desk.
+-- What keeps a desk a desk, which results it records, and what each call makes of a desk.
 mod Lists
 mod Keeps
-mod Texts
 pub mod Views
 mod Jobs
 mod Phases

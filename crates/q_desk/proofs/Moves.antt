@@ -2,9 +2,9 @@
 use Rattle.std.proofs.Common.{◌≡◌, ℕ, ◌==◌, true, nat_lt, List, [], ◌∷◌, ◌++◌, length, Option, Some, None, refl, sym, ap, ◌∙◌, subst, ◌⊎◌, inl, inr, slice_get, position, Result, Ok, Err}
 use Rattle.std.specs.Cmp.{second_so}
 use Rattle.sc_view.specs.Views.{ViewMap}
-use Rattle.sc_node.specs.declared.answer.Completion.{Completion}
-use Rattle.sc_node.specs.declared.answer.Completion.TheVariants as completion
-use Rattle.sc_node.specs.declared.answer.Ended.{Ended}
+use Rattle.sc_operations.specs.declared.progress.Completion.{Completion}
+use Rattle.sc_operations.specs.declared.progress.Completion.TheVariants as completion
+use Rattle.sc_operations.specs.declared.progress.Ended.{Ended}
 use Rattle.bq_check.specs.Certificate.{Certificate}
 use Rattle.q_table.specs.declared.fault.TableFault.{TableFault}
 use Rattle.q_table.specs.declared.fault.TableFault.TheVariants as table_fault

@@ -1,17 +1,14 @@
 -- What each call of a desk answers and does, or why it refuses.
-use Rattle.std.specs.Prelude.{ℕ, ◌+◌, ◌==◌, ◌&&◌, Bool, true, false, bytes_eq, nat_lt, List, [], ◌∷◌, ◌++◌, length, position, slice_get, slice_set, Option, Some, None, option_map, Result, Ok, Err, if◌then◌else◌}
-use Rattle.std.specs.Cmp.Lexicographic.{pointwise}
-use Rattle.std.specs.FinMap as fin
-use Rattle.sc_view.specs.declared.view.Stored.{Stored}
+use Rattle.std.specs.Prelude.{ℕ, ◌+◌, ◌==◌, ◌&&◌, Bool, true, false, nat_lt, List, [], ◌∷◌, ◌++◌, length, position, slice_get, slice_set, Option, Some, None, option_map, Result, Ok, Err, if◌then◌else◌}
 use Rattle.sc_view.specs.Views.{ViewMap}
 use Rattle.bq_range.specs.Interval.{Interval}
 use Rattle.bq_check.specs.Certificate.{Certificate}
 use Rattle.q_table.specs.declared.fault.TableFault.{TableFault}
 use Rattle.q_table.specs.Programs as table
 use Rattle.sc_node.specs.declared.answer.Begun.{Begun}
-use Rattle.sc_node.specs.declared.answer.Completion.{Completion}
-use Rattle.sc_node.specs.declared.answer.Completion.TheVariants as completion
-use Rattle.sc_node.specs.declared.answer.Ended.{Ended}
+use Rattle.sc_operations.specs.declared.progress.Completion.{Completion}
+use Rattle.sc_operations.specs.declared.progress.Completion.TheVariants as completion
+use Rattle.sc_operations.specs.declared.progress.Ended.{Ended}
 use Rattle.sc_node.specs.declared.fault.NodeFault.{NodeFault}
 use Rattle.sc_node.specs.Nodes as node
 use Rattle.sc_node.specs.State.{NodeState}
@@ -26,7 +23,8 @@ use Rattle.q_session.specs.declared.query.Phase.{Phase}
 use Rattle.q_session.specs.declared.query.Phase.TheVariants.{Collecting, Ready, Running, Answered}
 use Rattle.q_session.specs.declared.query.Query.{Query}
 use Rattle.q_session.specs.declared.job.Job.{Job}
-use Rattle.q_session.specs.Jobs.{job_over}
+pub use Rattle.q_same.specs.Same.{is_same_entry, is_same_view, is_same_program, is_job_of}
+pub use Rattle.q_queries.specs.Queries.{is_ready, ready_view, job_on, answer_in}
 use Rattle.q_desk.specs.declared.fault.CallFault.{CallFault}
 use Rattle.q_desk.specs.declared.fault.CallFault.TheVariants as call
 use Rattle.q_desk.specs.declared.fault.DeskFault.{DeskFault}
@@ -78,10 +76,6 @@ knows s program = nat_lt program (length s.programs)
 abbrev pub is_collecting : Phase → Bool
 is_collecting Collecting = true
 is_collecting p = false
-
-abbrev pub is_ready : Phase → Bool
-is_ready (Ready view) = true
-is_ready p = false
 
 abbrev pub is_running : Phase → Bool
 is_running (Running view) = true
@@ -163,22 +157,12 @@ asking s n program start = with_node (λ query begun. (query, begun)) (asked s n
 
 -- ---- jobs
 
--- the view over which a query that is ready is to run
-abbrev pub ready_view : Phase → Option ViewMap
-ready_view (Ready view) = Some view
-ready_view p = None
-
 -- the view over which a query runs
 abbrev pub running_view : Phase → Option ViewMap
 running_view (Running view) = Some view
 running_view p = None
 
--- the job of a query of this node over this view
-abbrev pub job_on : ℕ → ℕ → Query → Option ViewMap → Option Certificate → Option Job
-job_on node k q (Some view) (Some program) = Some (job_over node k q program view)
-job_on node k q view program = None
-
--- the same, over what this tells of the query's phase
+-- the job of a query, over what this tells of its phase
 abbrev pub job_at : (Phase → Option ViewMap) → DeskState → ℕ → ℕ → Option Query → Option Job
 job_at view_of s node k None = None
 job_at view_of s node k (Some q) = job_on node k q (view_of q.phase) (slice_get s.programs q.program)
@@ -205,22 +189,6 @@ handed_out s node = hands s (next_job s node)
 
 -- ---- answers
 
-abbrev pub is_same_entry : ℕ × Stored → ℕ × Stored → Bool
-is_same_entry a b = a.0 == b.0 && (a.1.number == b.1.number && bytes_eq a.1.value b.1.value)
-
--- the ids, the sequence numbers and the values are the same
-abbrev pub is_same_view : ViewMap → ViewMap → Bool
-is_same_view v w = pointwise is_same_entry (fin.entries v) (fin.entries w)
-
-abbrev pub is_same_program : Certificate → Option Certificate → Bool
-is_same_program c None = false
-is_same_program c (Some d) = table.is_same_text c.text d.text && c.longest == d.longest
-
--- the job is that of a query which runs over this view
-abbrev pub is_job_of : List Certificate → Job → Query → ViewMap → Bool
-is_job_of programs j q view =
-    j.program == q.program && (j.start == q.start && (is_same_view j.view view && is_same_program j.certified (slice_get programs q.program)))
-
 abbrev pub posted_to : DeskState → Job → Ran → Query → Phase → Result (Unit {0} × DeskState) DeskFault
 posted_to s j ran q (Answered view old) = Err fault.AlreadyAnswered
 posted_to s j ran q (Running view) =
@@ -236,10 +204,6 @@ posted_at s j ran (Some q) = posted_to s j ran q q.phase
 -- the result of a job of this node is recorded as its query's answer
 abbrev pub posted : DeskState → ℕ → Job → Ran → Result (Unit {0} × DeskState) DeskFault
 posted s node j ran = if j.node == node then posted_at s j ran (slice_get s.queries j.query) else Err fault.Stranger
-
-abbrev pub answer_in : Phase → Option Ran
-answer_in (Answered view ran) = Some ran
-answer_in p = None
 
 abbrev pub answer_at : Option Query → Result (Option Ran) DeskFault
 answer_at None = Err fault.NoSuchQuery

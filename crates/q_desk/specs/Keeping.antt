@@ -1,12 +1,13 @@
 -- Inner: what each desk keeps.
 use Rattle.std.specs.Prelude.{◌≡◌, ℕ, ◌+◌, ◌≤◌, ◌<◌, List, length, slice_get, Some, IfSome}
 use Rattle.bq_range.specs.Interval.{Interval}
-use Rattle.sc_node.specs.declared.answer.Completion.{Completion}
-use Rattle.sc_node.specs.declared.answer.Completion.TheVariants as completion
-use Rattle.sc_node.specs.declared.answer.Ended.{Ended}
+use Rattle.sc_operations.specs.declared.progress.Completion.{Completion}
+use Rattle.sc_operations.specs.declared.progress.Completion.TheVariants as completion
+use Rattle.sc_operations.specs.declared.progress.Ended.{Ended}
 use Rattle.bq_check.specs.Certificate.{Certificate}
 use Rattle.q_table.specs.Programs.{IsTable}
-use Rattle.q_session.specs.Jobs.{view_in, MayRun}
+use Rattle.q_session.specs.Jobs.{view_in}
+pub use Rattle.q_queries.specs.Queries.{MayAllRun}
 use Rattle.q_session.specs.Records.{HasRecordsWithin}
 use Rattle.q_desk.specs.State.{DeskState}
 use Rattle.q_desk.specs.Desks.{most_queries, most_events, how_many_run}
@@ -24,10 +25,6 @@ ProgramsFit lengths programs = (id : ℕ) (program : Certificate) → slice_get 
 -- each view over which a query is to run has records of these lengths
 abbrev pub ViewsFit : Interval → List Query → Type 0
 ViewsFit lengths queries = (k : ℕ) (q : Query) → slice_get queries k ≡ Some q → IfSome (view_in q.phase) (HasRecordsWithin lengths)
-
--- each query that is to run has a program that was checked for the records of its view
-abbrev pub MayAllRun : List Certificate → List Query → Type 0
-MayAllRun programs queries = (k : ℕ) (q : Query) (program : Certificate) → slice_get queries k ≡ Some q → slice_get programs q.program ≡ Some program → MayRun q program
 
 -- a view that an operation returned has records of these lengths
 abbrev pub CompletesWithin : Interval → Completion → Type 0

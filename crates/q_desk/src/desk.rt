@@ -10,13 +10,16 @@ ghost use Rattle.q_desk.specs.State.{DeskState, new_desk};
 ghost use Rattle.q_desk.specs.Desks as desk;
 ghost use Rattle.q_desk.specs.Faults.{memory};
 ghost use Rattle.q_desk.specs.Answers.{AnswersAreRight};
-ghost use Rattle.q_desk.specs.Keeping.{IsDesk, ProgramsAreKnown, ProgramsFit, ViewsFit, MayAllRun, EndsWithin};
+ghost use Rattle.q_desk.specs.Keeping.{IsDesk, ProgramsAreKnown, ProgramsFit, ViewsFit, EndsWithin};
 
 use crate::completed::Completed;
 use crate::fault::{CallFault, DeskFault};
 use crate::journal::Entry;
-use crate::same::is_job_of;
 use bq_state::bounds::Bounds;
+use q_entries::append::append;
+use q_queries::answer::answer_in;
+use q_queries::check::check_result;
+use q_queries::next::next_job;
 use q_session::done::Done;
 use q_session::job::Job;
 use q_session::query::{Phase, Query};
@@ -124,7 +127,7 @@ impl Desk {
         let registered = program.clone()?;
         let id = self.programs.take(keyed)?;
         let _count = self.programs.len();
-        self.journal.push_reserved(Entry::Register(registered));
+        append(&mut self.journal, Entry::Register(registered));
         Ok(id)
     }
 
@@ -151,7 +154,7 @@ impl Desk {
         }
         self.journal.reserve(self.running + 1)?;
         let outs = node.leave()?;
-        self.journal.push_reserved(Entry::Leave);
+        append(&mut self.journal, Entry::Leave);
         Ok(outs)
     }
 
@@ -164,7 +167,7 @@ impl Desk {
         }
         self.journal.reserve(self.running + 1)?;
         let begun = node.begin_store(value)?;
-        self.journal.push_reserved(Entry::Store(*value));
+        append(&mut self.journal, Entry::Store(*value));
         Ok(begun)
     }
 
@@ -177,9 +180,9 @@ impl Desk {
             return Err(CallFault::Desk(DeskFault::BookFull));
         }
         self.journal.reserve(self.running + 1)?;
-        let entry = Entry::Deliver(message.clone()?);
+        let kept = message.clone()?;
         let delivered = node.deliver(message)?;
-        self.journal.push_reserved(entry);
+        append(&mut self.journal, Entry::Deliver(kept));
         Ok(delivered)
     }
 
@@ -212,7 +215,7 @@ impl Desk {
             start,
             phase: Phase::Collecting,
         });
-        self.journal.push_reserved(Entry::Ask { program, start });
+        append(&mut self.journal, Entry::Ask { program, start });
         Ok((number, begun))
     }
 
@@ -258,7 +261,7 @@ impl Desk {
         self.journal.reserve(self.running + 2)?;
         run(&mut self.queries, job.query());
         self.running += 1;
-        self.journal.push_reserved(Entry::HandOut);
+        append(&mut self.journal, Entry::HandOut);
         Ok(Some(job))
     }
 
@@ -284,31 +287,15 @@ impl Desk {
         ensures { Does (desk.posted self.old node done.now.job done.now.ran) self.old self.new result }
     {
         let job = done.job();
-        let owner = job.node();
-        if owner != node {
-            return Err(DeskFault::Stranger);
-        }
-        let number = job.query();
-        let Some(query) = self.queries.get(number) else {
-            return Err(DeskFault::Stranger);
-        };
-        if answer_in(&query.phase).is_some() {
-            return Err(DeskFault::AlreadyAnswered);
-        }
-        let Phase::Running(view) = &query.phase else {
-            return Err(DeskFault::Stranger);
-        };
-        if !is_job_of(&self.programs, job, query, view) {
-            return Err(DeskFault::Stranger);
-        }
+        check_result(&self.programs, &self.queries, node, job)?;
         if !self.has_room() {
             return Err(DeskFault::BookFull);
         }
+        let query = job.query();
         let ran = done.ran();
-        record_answer(&mut self.queries, number, ran);
+        record_answer(&mut self.queries, query, ran);
         self.running -= 1;
-        self.journal
-            .push_reserved(Entry::Post { query: number, ran });
+        append(&mut self.journal, Entry::Post { query, ran });
         Ok(())
     }
 
@@ -342,15 +329,6 @@ impl Desk {
     }
 }
 
-fn answer_in(phase: &Phase) -> Option<Ran>
-    ensures { result ≡ desk.answer_in phase.now }
-{
-    match phase {
-        Phase::Answered(_, ran) => Some(*ran),
-        _ => None,
-    }
-}
-
 fn is_collecting(phase: &Phase) -> bool
     ensures { result ≡ desk.is_collecting phase.now }
 {
@@ -366,43 +344,12 @@ fn waiting(queries: &[Query], tag: u64) -> Option<usize>
         .position(|q| q.tag == tag && is_collecting(&q.phase))
 }
 
-// The number of the first query that is ready.
-fn first_ready(queries: &[Query]) -> Option<usize>
-    ensures { result ≡ position (λ q. desk.is_ready q.phase) queries.now }
-{
-    queries
-        .iter()
-        .position(|q| matches!(q.phase, Phase::Ready(_)))
-}
-
 fn set_phase(queries: &mut Vec<Query>, number: usize, phase: Phase)
     ensures { queries.new.items ≡ desk.with_phase queries.old.items number phase }
 {
     if number < queries.len() {
         queries[number].phase = phase;
     }
-}
-
-// The job of the ready query with the least number.
-fn next_job(
-    alloc: Global,
-    programs: &Programs,
-    queries: &[Query],
-    node: u64,
-) -> Result<Option<Job>, AllocError>
-    requires { MayAllRun programs.now queries.now }
-    ensures { (s : DeskState) → s.programs ≡ programs.now → s.queries ≡ queries.now → IfOk result (λ job. job ≡ desk.next_job s node) }
-{
-    let Some(number) = first_ready(queries) else {
-        return Ok(None);
-    };
-    let Some(query) = queries.get(number) else {
-        return Ok(None);
-    };
-    let Some(program) = programs.get(query.program) else {
-        return Ok(None);
-    };
-    Job::of(alloc, node, number, query, program)
 }
 
 // A ready query runs over its view.

@@ -1,8 +1,9 @@
 //! Why a desk refuses a call, and the reason that is told of each.
 
 ghost use Rattle.std.specs.Prelude.{◌≡◌};
-ghost use Rattle.q_desk.specs.Faults.{of_table, memory, reason};
+ghost use Rattle.q_desk.specs.Faults.{of_table, of_result, memory, reason};
 
+use q_queries::unfit::Unfit;
 use q_table::fault::TableFault;
 use reasons::{Reason, passed_on, told};
 use sc_node::fault::NodeFault;
@@ -44,6 +45,14 @@ impl From<TableFault> for DeskFault {
 
     fn from(refusal: TableFault) -> DeskFault {
         passed_on!(refusal, TableFault as DeskFault: Full => TableFull, OutOfMemory)
+    }
+}
+
+impl From<Unfit> for DeskFault {
+    ghost from_gives = { λ refusal e. e ≡ of_result refusal };
+
+    fn from(refusal: Unfit) -> DeskFault {
+        passed_on!(refusal, Unfit as DeskFault: Stranger, AlreadyAnswered)
     }
 }
 

@@ -19,5 +19,4 @@ pub mod completed;
 pub mod desk;
 pub mod fault;
 pub mod journal;
-mod same;
 pub mod worked;

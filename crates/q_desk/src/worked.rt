@@ -6,7 +6,7 @@ ghost use Rattle.bq_check.specs.Certificate.{Certificate};
 ghost use Rattle.sc_msg.specs.declared.message.Message.{Message};
 ghost use Rattle.sc_node.specs.State.{NodeState};
 ghost use Rattle.sc_node.specs.declared.answer.Begun.{Begun};
-ghost use Rattle.sc_node.specs.declared.answer.Completion.TheVariants as completion;
+ghost use Rattle.sc_operations.specs.declared.progress.Completion.TheVariants as completion;
 ghost use Rattle.sc_node.specs.declared.fault.NodeFault.TheVariants as node_fault;
 ghost use Rattle.sc_view.specs.Views.{ViewMap};
 ghost use Rattle.q_session.specs.Jobs.{job_over};

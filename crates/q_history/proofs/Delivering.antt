@@ -3,9 +3,9 @@ use Rattle.std.proofs.Common.{◌≡◌, ℕ, ◌==◌, Option, Some, None, refl
 use Rattle.std.proofs.lemmas.Bool.{eqb-true}
 use Rattle.sc_view.specs.Views.{ViewMap}
 use Rattle.sc_msg.specs.declared.message.Message.{Message}
-use Rattle.sc_node.specs.declared.answer.Completion.{Completion}
-use Rattle.sc_node.specs.declared.answer.Completion.TheVariants as completion
-use Rattle.sc_node.specs.declared.answer.Ended.{Ended}
+use Rattle.sc_operations.specs.declared.progress.Completion.{Completion}
+use Rattle.sc_operations.specs.declared.progress.Completion.TheVariants as completion
+use Rattle.sc_operations.specs.declared.progress.Ended.{Ended}
 use Rattle.sc_world.specs.declared.event.Event.{Event as WorldEvent}
 use Rattle.sc_world.specs.declared.event.Event.TheVariants as world_event
 use Rattle.sc_world.specs.State.{WorldState}

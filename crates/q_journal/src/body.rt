@@ -11,7 +11,7 @@ use crate::reader::Reader;
 use crate::written::Written;
 use bq_check::fault::NotesFault;
 use bq_check::notes::Notes;
-use sc_msg::decode::decode_as;
+use sc_decode::decode::decode_as;
 use sc_msg::version::Version;
 use sc_view::value::{Value, ValueFault};
 use std::alloc::Global;

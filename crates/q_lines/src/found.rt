@@ -3,7 +3,7 @@
 ghost use Rattle.std.specs.Prelude.{◌≡◌, ◌&&◌, ℕ, nat_eq, is_some, option_map, if◌then◌else◌, Some, None, IfOk, MatchBool, MatchOption};
 ghost use Rattle.indexmap.specs.IndexMap.{get};
 ghost use Rattle.bq_insn.specs.Slots.{spelling};
-ghost use Rattle.sc_node.specs.declared.session.OperationKind.TheVariants as kind;
+ghost use Rattle.sc_operations.specs.declared.session.OperationKind.TheVariants as kind;
 ghost use Rattle.sc_view.specs.declared.view.Stored.{Stored as Entry};
 ghost use Rattle.sc_world.specs.declared.op.Op.{Op as Record};
 ghost use Rattle.q_session.specs.declared.query.Query.{Query as QueryValue};

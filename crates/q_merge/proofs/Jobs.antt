@@ -3,9 +3,9 @@ use Rattle.std.proofs.Common.{◌≡◌, ℕ, ◌==◌, Bool, true, false, cond,
 use Rattle.std.proofs.lemmas.Bool.{eqb-true, eqb-false}
 use Rattle.std.specs.FinMap as fin
 use Rattle.sc_view.specs.Views.{ViewMap}
-use Rattle.sc_node.specs.declared.answer.Completion.{Completion}
-use Rattle.sc_node.specs.declared.answer.Completion.TheVariants as completion
-use Rattle.sc_node.specs.declared.answer.Ended.{Ended}
+use Rattle.sc_operations.specs.declared.progress.Completion.{Completion}
+use Rattle.sc_operations.specs.declared.progress.Completion.TheVariants as completion
+use Rattle.sc_operations.specs.declared.progress.Ended.{Ended}
 use Rattle.sc_world.proofs.Finite.{get-insert, get-insert_same}
 use Rattle.sc_world.proofs.Histories.{slice_get_front, slice_get_last}
 use Rattle.sc_world.proofs.Inverts.{same_answer, no_refusal}

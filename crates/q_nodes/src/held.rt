@@ -13,7 +13,7 @@ use q_book::book::Book;
 use q_book::fault::BookFault;
 use q_pool::pump::pump_once;
 use q_table::program::ProgramId;
-use sc_msg::decode::decode_as;
+use sc_decode::decode::decode_as;
 use sc_msg::fault::MessageFault;
 use sc_msg::message::Message;
 use std::alloc::Global;

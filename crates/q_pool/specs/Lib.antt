@@ -1,4 +1,5 @@
-pub mod Looks
-pub mod Served
-pub mod Pumped
-pub mod Turns
+-- What the runners and the pump of this crate do is said by those below.
+pub use Rattle.q_runner.specs.Looks
+pub use Rattle.q_runner.specs.Served
+pub use Rattle.q_pump.specs.Pumped
+pub use Rattle.q_pump.specs.Turns

@@ -5,12 +5,12 @@
 //! from the book into the row: [`pump`]. A [`gate`] is told of each run.
 //!
 //! What a round makes of a runner's seat, and that each job that it finished passed the gate, is said by
-//! `specs/Served`, what the pump makes of a row and a book by `specs/Pumped`: it holds in every schedule, since a seat's
-//! record tells of its own steps alone. That a thread gets on is said nowhere.
+//! `specs/Served` of `q_runner`, what the pump makes of a row and a book by `specs/Pumped` of `q_pump`: it holds in every
+//! schedule, since a seat's record tells of its own steps alone. That a thread gets on is said nowhere.
 #![tactic(auto)]
 
-pub mod gate;
-pub mod pump;
-pub mod runner;
 pub mod runners;
 pub mod worked;
+
+pub use q_pump::pump;
+pub use q_runner::{gate, runner};

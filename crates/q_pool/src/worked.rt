@@ -4,8 +4,8 @@ ghost use Rattle.std.specs.Prelude.{◌≡◌, [], ◌∷◌, Some, None};
 ghost use Rattle.q_session.specs.declared.job.Job.{Job};
 ghost use Rattle.q_board.specs.AskerModel.{AskerModel};
 ghost use Rattle.q_book.specs.State.{BookState};
-ghost use Rattle.q_pool.specs.Pumped.{Pumped, open_slots};
-ghost use Rattle.q_pool.specs.Served.{turns};
+ghost use Rattle.q_pump.specs.Pumped.{Pumped, open_slots};
+ghost use Rattle.q_runner.specs.Served.{turns};
 
 /// What the definitions say at telling operands.
 pub fn worked()

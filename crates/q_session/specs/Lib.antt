@@ -1,5 +1,5 @@
 -- Queries and their jobs, and when an answer is right.
-pub mod Records
+pub use Rattle.q_fold.specs.Records
 pub mod Right
 pub mod Jobs
 pub mod Done

@@ -5,7 +5,7 @@
 //! placement, in at most the longest path for each record. [`fold`] has the same by the machine that tests every access,
 //! for tests to compare with. A job that was run holds its right answer: [`done`]. No run takes memory.
 //!
-//! `specs/Records` says which bytes a record has, `specs/Right` when an answer is right.
+//! `specs/Records` of `q_fold` says which bytes a record has, `specs/Right` when an answer is right.
 #![tactic(auto)]
 
 pub mod done;

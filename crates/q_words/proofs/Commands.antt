@@ -10,7 +10,7 @@ use Rattle.q_script.specs.Words as words
 use Rattle.clap.specs.Words.{App, HasMatchesOf, fault_of, subcommand_name_of, subcommand_of, Row, Shape, Text, found_of, is_simple, is_simple_and_free, rows_of, subcommand_rows, subcommand_rows_of}
 use Rattle.clap.specs.Simple.{argument_words, built, entered, label_of, names_of, rows_at}
 use Rattle.clap.specs.Walk.{answers_to, stop_after}
-use Rattle.clap.specs.Words.{app_of, with_subcommand}
+use Rattle.clap.specs.Words.{Rule, app_of, rule_of, with_rule, with_subcommand}
 use Rattle.clap.specs.Built.{AddsArg, AddsSubcommand}
 use Rattle.clap.specs.declared.builder.arg.Arg.{Arg}
 use Rattle.clap.specs.declared.builder.command.Command.{Command}
@@ -22,7 +22,7 @@ use Rattle.clap.proofs.OnLiterals.{clap_on_literals}
 use Rattle.q_words.specs.declared.words.Wanted.{Wanted}
 use Rattle.q_words.specs.declared.words.WordsFault.{WordsFault}
 use Rattle.q_words.specs.declared.words.WordsFault.TheVariants.{Help, Wrong, BadStart, BadLengths, NotUtf8, OutOfMemory}
-use Rattle.q_words.specs.Words.{bqview, operand_of, AreBad, AreGiven, AreGivenFor, IsMet, HasLineFault, Reads}
+use Rattle.q_words.specs.Words.{Has, bqview, operand_of, AreBad, AreGiven, AreGivenFor, IsMet, HasLineFault, Reads}
 
 simple : is_simple bqview ≡ true
 unfolding clap_on_literals
@@ -113,25 +113,20 @@ pub or_false : (b c : Bool) → c ≡ false → (b || c) ≡ b
 or_false true c e = refl
 or_false false c e = e
 
-pub local_kept : {E : Type 0} (old : Command) (a : Arg) (r : Result Command E) → IfOk r (AddsArg old a) → a.global ≡ false → IfOk r (λ c. (out-Command c).has_globals ≡ (out-Command old).has_globals)
-local_kept old a (Ok c) h e = h.globals ∙ or_false (out-Command old).has_globals a.global e
-local_kept old a (Err e) h f = tt
+-- a command has one more argument
+pub with_one_more : {E : Type 0} (old : Command) (a : Arg) (r : Result Command E) (app : App) (rule : Rule) → IfOk r (AddsArg old a) → a.global ≡ false → rule_of a ≡ rule
+    → (app_of old ≡ app) × ((out-Command old).has_globals ≡ false) → Has r (with_rule app rule)
+with_one_more old a (Ok c) app rule h e f has = (h.shape e ∙ ap₂ with_rule has.0 f, h.globals ∙ or_false (out-Command old).has_globals a.global e ∙ has.1)
+with_one_more old a (Err e) app rule h l f has = tt
 
--- what a command has with one more command below it
-pub one_below : {E : Type 0} (old below : Command) (r : Result Command E) → IfOk r (AddsSubcommand old below) → (out-Command below).has_globals ≡ false → IfOk r (λ c. app_of c ≡ with_subcommand (app_of old) (app_of below).top)
-one_below old below (Ok c) h e = h.shape e
-one_below old below (Err e) h f = tt
-
-pub local_above : {E : Type 0} (old below : Command) (r : Result Command E) → IfOk r (AddsSubcommand old below) → (out-Command below).has_globals ≡ false → IfOk r (λ c. (out-Command c).has_globals ≡ (out-Command old).has_globals)
-local_above old below (Ok c) h e = h.globals ∙ or_false (out-Command old).has_globals (out-Command below).has_globals e
-local_above old below (Err e) h f = tt
-
-pub below_one_more : (a b s t : App) → a ≡ b → s ≡ t → with_subcommand a s.top ≡ with_subcommand b t.top
-below_one_more a b s t e f = ap₂ (λ (x y : App). with_subcommand x y.top) e f
-
-pub made : {E : Type 0} (r : Result Command E) (x y : App) (g : Bool) → IfOk r (λ c. app_of c ≡ x) → IfOk r (λ c. (out-Command c).has_globals ≡ g) → x ≡ y → g ≡ false → IfOk r (λ c. (app_of c ≡ y) × ((out-Command c).has_globals ≡ false))
-made (Ok c) x y g h k e f = (h ∙ e, k ∙ f)
-made (Err d) x y g h k e f = tt
+-- a command has one more command below it
+pub below_one_more : {E : Type 0} (old below : Command) (r : Result Command E) (app under : App) → IfOk r (AddsSubcommand old below)
+    → (app_of old ≡ app) × ((out-Command old).has_globals ≡ false) → (app_of below ≡ under) × ((out-Command below).has_globals ≡ false) → Has r (with_subcommand app under.top)
+below_one_more old below (Ok c) app under h has low = (
+  h.shape low.1 ∙ ap₂ (λ (x y : App). with_subcommand x y.top) has.0 low.0,
+  h.globals ∙ or_false (out-Command old).has_globals (out-Command below).has_globals low.1 ∙ has.1,
+)
+below_one_more old below (Err e) app under h has low = tt
 
 -- what is read where this command was met
 read_so : (words : List Text) (r : Result Wanted WordsFault) (met : Text × List Row) → fault_of bqview words ≡ [] → subcommand_of bqview words ≡ Some met

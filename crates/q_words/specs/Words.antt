@@ -1,6 +1,8 @@
 -- The command line of the program, and what its words say.
-use Rattle.std.specs.Prelude.{◌≡◌, ◌⊎◌, ℕ, Bool, List, [], ◌∷◌, Some, IsSomeAnd, unwrap_or, bytes_eq, codes, true, false, Result, Ok, Err, ⊤}
-use Rattle.clap.specs.Words.{App, IsAmong, Row, Rule, Text, fault_of, first_of, kind_of, new_app, new_rule, subcommand_of, with_rule, with_subcommand}
+use Rattle.std.specs.Prelude.{◌≡◌, ◌⊎◌, ℕ, Bool, List, [], ◌∷◌, Some, IsSomeAnd, unwrap_or, bytes_eq, codes, true, false, Result, Ok, Err, IfOk, ⊤}
+use Rattle.clap.specs.Words.{App, app_of, IsAmong, Row, Rule, Text, fault_of, first_of, kind_of, new_app, new_rule, subcommand_of, with_rule, with_subcommand}
+use Rattle.clap.specs.declared.builder.command.Command.{Command}
+use Rattle.clap.specs.declared.builder.command.Command.TheViews.{out-Command}
 use Rattle.clap.specs.declared.error.Error.{Error}
 use Rattle.clap.specs.declared.error.kind.ErrorKind.TheVariants.{DisplayHelp}
 use Rattle.clap.specs.declared.error.kind.ErrorKind.TheVariants as kind
@@ -75,6 +77,11 @@ abbrev pub bqview : App
 bqview =
     let asm_check_run = with_subcommand (with_subcommand (with_subcommand bare_app asm_app.top) check_app.top) run_app.top in
     with_subcommand (with_subcommand (with_subcommand asm_check_run sim_app.top) cluster_app.top) audit_app.top
+
+-- Inner words, of the private functions that put the commands together: the command is this one, with no option for the
+-- commands below it; or memory ran out.
+abbrev pub Has : {E : Type 0} → Result Command E → App → Type 0
+Has r app = IfOk r (λ c. (app_of c ≡ app) × ((out-Command c).has_globals ≡ false))
 
 -- ---- what the words say
 

@@ -5,10 +5,10 @@ ghost use Rattle.std.specs.Option.{SomeIff};
 ghost use Rattle.std.specs.Vec.Iter.{into_iter_items};
 ghost use Rattle.bq_range.specs.Interval.{between};
 ghost use Rattle.bq_state.specs.Kinds.{AreLengths};
-ghost use Rattle.clap.specs.Words.{app_of, found_of, rows_of, with_rule, with_subcommand};
+ghost use Rattle.clap.specs.Words.{App, app_of, found_of, new_app, rows_of, with_rule, with_subcommand};
 ghost use Rattle.clap.specs.declared.builder.command.Command.TheViews.{out-Command};
 ghost use Rattle.q_words.specs.declared.words.WordsFault.TheVariants.{OutOfMemory};
-ghost use Rattle.q_words.specs.Words.{asm_app, check_app, run_app, sim_app, cluster_app, audit_app, bare_app, bqview, flag, operand, option, with_lengths, operand_of, is_given, is_strict, AreGiven, AreBad, HasLineFault, IsMet, Reads, Tells, TellsUngiven, exit_status};
+ghost use Rattle.q_words.specs.Words.{Has, asm_app, check_app, run_app, sim_app, cluster_app, audit_app, bare_app, bqview, flag, operand, option, with_lengths, operand_of, is_given, is_strict, AreGiven, AreBad, HasLineFault, IsMet, Reads, Tells, TellsUngiven, exit_status};
 
 use bq_state::bounds::Bounds;
 use clap::error::ErrorKind;
@@ -164,16 +164,27 @@ impl From<AllocError> for WordsFault {
 /// What FILE names.
 const ASSEMBLER: &str = "A file of assembler text, one instruction a line";
 
-/// The command with one more operand, which must be there.
+/// A command of this name, with nothing below it yet.
+fn new_command<'a>(alloc: Global, name: &'a str, about: &'a str, after_help: &'a str) -> Command<'a>
+    ensures { (app_of result ≡ new_app name.entry.now) × ((out-Command result).has_globals ≡ false) }
+{
+    Command::new(alloc, name)
+        .about(about)
+        .after_help(after_help)
+}
+
+/// The command, if there is one, with one more operand, which must be there.
 fn with_operand<'a>(
     alloc: Global,
-    command: Command<'a>,
+    command: Result<Command<'a>, AllocError>,
     name: &'a str,
     help: &'a str,
 ) -> Result<Command<'a>, AllocError>
-    ensures app { IfOk result (λ c. app_of c ≡ with_rule (app_of command.entry) (operand name.entry.now)) }
-    ensures local { IfOk result (λ c. (out-Command c).has_globals ≡ (out-Command command.entry).has_globals) }
+    ensures { (app : App) → Has command.entry app → Has result (with_rule app (operand name.entry.now)) }
 {
+    let Ok(command) = command else {
+        return Err(AllocError);
+    };
     let operand = Arg::new(alloc, name)
         .help(help)
         .required(true)
@@ -181,17 +192,19 @@ fn with_operand<'a>(
     command.arg(operand)
 }
 
-/// The command with one more option, which stands for `default` where it is not given.
+/// The command, if there is one, with one more option, which stands for `default` where it is not given.
 fn with_option<'a>(
     alloc: Global,
-    command: Command<'a>,
+    command: Result<Command<'a>, AllocError>,
     name: &'a str,
     help: &'a str,
     default: &'a str,
 ) -> Result<Command<'a>, AllocError>
-    ensures app { IfOk result (λ c. app_of c ≡ with_rule (app_of command.entry) (option name.entry.now default.entry.now)) }
-    ensures local { IfOk result (λ c. (out-Command c).has_globals ≡ (out-Command command.entry).has_globals) }
+    ensures { (app : App) → Has command.entry app → Has result (with_rule app (option name.entry.now default.entry.now)) }
 {
+    let Ok(command) = command else {
+        return Err(AllocError);
+    };
     let option = Arg::new(alloc, name)
         .long(name)
         .value_name("BYTES")
@@ -201,16 +214,18 @@ fn with_option<'a>(
     command.arg(option)
 }
 
-/// The command with one more flag.
+/// The command, if there is one, with one more flag.
 fn with_flag<'a>(
     alloc: Global,
-    command: Command<'a>,
+    command: Result<Command<'a>, AllocError>,
     name: &'a str,
     help: &'a str,
 ) -> Result<Command<'a>, AllocError>
-    ensures app { IfOk result (λ c. app_of c ≡ with_rule (app_of command.entry) (flag name.entry.now)) }
-    ensures local { IfOk result (λ c. (out-Command c).has_globals ≡ (out-Command command.entry).has_globals) }
+    ensures { (app : App) → Has command.entry app → Has result (with_rule app (flag name.entry.now)) }
 {
+    let Ok(command) = command else {
+        return Err(AllocError);
+    };
     let flag = Arg::new(alloc, name)
         .long(name)
         .help(help)
@@ -218,21 +233,23 @@ fn with_flag<'a>(
     command.arg(flag)
 }
 
-/// The command with the options `--least` and `--most`.
-fn with_lengths<'a>(alloc: Global, command: Command<'a>) -> Result<Command<'a>, AllocError>
-    ensures app { IfOk result (λ c. app_of c ≡ with_lengths (app_of command.entry)) }
-    ensures local { IfOk result (λ c. (out-Command c).has_globals ≡ (out-Command command.entry).has_globals) }
+/// The command, if there is one, with the options `--least` and `--most`.
+fn with_lengths<'a>(
+    alloc: Global,
+    command: Result<Command<'a>, AllocError>,
+) -> Result<Command<'a>, AllocError>
+    ensures { (app : App) → Has command.entry app → Has result (with_lengths app) }
 {
-    let command = with_option(
+    let least = with_option(
         alloc,
         command,
         "least",
         "The fewest bytes of a record, from 16",
         "16",
-    )?;
+    );
     with_option(
         alloc,
-        command,
+        least,
         "most",
         "The most bytes of a record, to 128",
         "128",
@@ -241,66 +258,76 @@ fn with_lengths<'a>(alloc: Global, command: Command<'a>) -> Result<Command<'a>, 
 
 /// The command `asm`.
 fn asm_command<'a>(alloc: Global) -> Result<Command<'a>, AllocError>
-    ensures { IfOk result (λ c. (app_of c ≡ asm_app) × ((out-Command c).has_globals ≡ false)) }
+    ensures { Has result asm_app }
 {
-    let command = Command::new(alloc, "asm")
-        .about("Prints each unit of a program as 16 hexadecimal digits, one a line")
-        .after_help("Example: bqview asm examples/count.bpf\nFormats: docs/FORMATS.md");
-    with_operand(alloc, command, "FILE", ASSEMBLER)
+    let command = new_command(
+        alloc,
+        "asm",
+        "Prints each unit of a program as 16 hexadecimal digits, one a line",
+        "Example: bqview asm examples/count.bpf\nFormats: docs/FORMATS.md",
+    );
+    with_operand(alloc, Ok(command), "FILE", ASSEMBLER)
 }
 
 /// The command `check`.
 fn check_command<'a>(alloc: Global) -> Result<Command<'a>, AllocError>
-    ensures { IfOk result (λ c. (app_of c ≡ check_app) × ((out-Command c).has_globals ≡ false)) }
+    ensures { Has result check_app }
 {
-    let command = Command::new(alloc, "check")
-        .about("Proves that a program never faults, and prints its most steps")
-        .after_help("Example: bqview check examples/count.bpf\nFormats: docs/FORMATS.md");
-    let command = with_operand(alloc, command, "FILE", ASSEMBLER)?;
-    with_lengths(alloc, command)
+    let command = new_command(
+        alloc,
+        "check",
+        "Proves that a program never faults, and prints its most steps",
+        "Example: bqview check examples/count.bpf\nFormats: docs/FORMATS.md",
+    );
+    let file = with_operand(alloc, Ok(command), "FILE", ASSEMBLER);
+    with_lengths(alloc, file)
 }
 
 /// The command `run`.
 fn run_command<'a>(alloc: Global) -> Result<Command<'a>, AllocError>
-    ensures { IfOk result (λ c. (app_of c ≡ run_app) × ((out-Command c).has_globals ≡ false)) }
+    ensures { Has result run_app }
 {
-    let command = Command::new(alloc, "run")
-        .about("Runs a program over records, and prints the answer and the steps")
-        .after_help(
-            "Example: bqview run --least 64 examples/sum.bpf 0 examples/three.records\nFormats: docs/FORMATS.md",
-        );
-    let command = with_operand(alloc, command, "FILE", ASSEMBLER)?;
-    let command = with_operand(
+    let command = new_command(
         alloc,
-        command,
+        "run",
+        "Runs a program over records, and prints the answer and the steps",
+        "Example: bqview run --least 64 examples/sum.bpf 0 examples/three.records\nFormats: docs/FORMATS.md",
+    );
+    let file = with_operand(alloc, Ok(command), "FILE", ASSEMBLER);
+    let start = with_operand(
+        alloc,
+        file,
         "START",
         "The accumulator to begin with, a number below 2^64 in decimal",
-    )?;
-    let command = with_operand(
+    );
+    let records = with_operand(
         alloc,
-        command,
+        start,
         "RECORDS",
         "A file of lines `ID SEQ VALUE`, one for each record, by rising ids",
-    )?;
-    with_lengths(alloc, command)
+    );
+    with_lengths(alloc, records)
 }
 
 /// The command `sim`.
 fn sim_command<'a>(alloc: Global) -> Result<Command<'a>, AllocError>
-    ensures { IfOk result (λ c. (app_of c ≡ sim_app) × ((out-Command c).has_globals ≡ false)) }
+    ensures { Has result sim_app }
 {
-    let command = Command::new(alloc, "sim")
-        .about("Runs a script over a cluster in memory, and prints what events tell")
-        .after_help("Example: bqview sim examples/count.sim\nFormats: docs/FORMATS.md");
-    let command = with_operand(
+    let command = new_command(
         alloc,
-        command,
+        "sim",
+        "Runs a script over a cluster in memory, and prints what events tell",
+        "Example: bqview sim examples/count.sim\nFormats: docs/FORMATS.md",
+    );
+    let script = with_operand(
+        alloc,
+        Ok(command),
         "SCRIPT",
         "A file of events, one a line, of which the first founds the cluster",
-    )?;
+    );
     with_flag(
         alloc,
-        command,
+        script,
         "strict",
         "Ends with status 1 where a line was refused",
     )
@@ -308,20 +335,23 @@ fn sim_command<'a>(alloc: Global) -> Result<Command<'a>, AllocError>
 
 /// The command `cluster`.
 fn cluster_command<'a>(alloc: Global) -> Result<Command<'a>, AllocError>
-    ensures { IfOk result (λ c. (app_of c ≡ cluster_app) × ((out-Command c).has_globals ≡ false)) }
+    ensures { Has result cluster_app }
 {
-    let command = Command::new(alloc, "cluster")
-        .about("Runs a script over nodes with sockets, and prints what its lines tell")
-        .after_help("Example: bqview cluster examples/three.cluster\nFormats: docs/FORMATS.md");
-    let command = with_operand(
+    let command = new_command(
         alloc,
-        command,
+        "cluster",
+        "Runs a script over nodes with sockets, and prints what its lines tell",
+        "Example: bqview cluster examples/three.cluster\nFormats: docs/FORMATS.md",
+    );
+    let script = with_operand(
+        alloc,
+        Ok(command),
         "SCRIPT",
         "A file of `nodes`, programs, stores and queries, one a line",
-    )?;
+    );
     with_flag(
         alloc,
-        command,
+        script,
         "strict",
         "Ends with status 1 where a line was refused or unanswered",
     )
@@ -329,25 +359,35 @@ fn cluster_command<'a>(alloc: Global) -> Result<Command<'a>, AllocError>
 
 /// The command `audit`.
 fn audit_command<'a>(alloc: Global) -> Result<Command<'a>, AllocError>
-    ensures { IfOk result (λ c. (app_of c ≡ audit_app) × ((out-Command c).has_globals ≡ false)) }
+    ensures { Has result audit_app }
 {
-    let command = Command::new(alloc, "audit")
-        .about("Replays a node's journal, and prints the answers that it recorded")
-        .after_help("Example: bqview audit node.journal\nFormats: docs/FORMATS.md");
+    let command = new_command(
+        alloc,
+        "audit",
+        "Replays a node's journal, and prints the answers that it recorded",
+        "Example: bqview audit node.journal\nFormats: docs/FORMATS.md",
+    );
     with_operand(
         alloc,
-        command,
+        Ok(command),
         "JOURNAL",
         "A file that the line `journal NODE FILE` of a script wrote",
     )
 }
 
-/// The command with one more command below it.
-fn with_command<'a>(command: Command<'a>, below: Command<'a>) -> Result<Command<'a>, AllocError>
-    requires { (out-Command below).has_globals ≡ false }
-    ensures app { IfOk result (λ c. app_of c ≡ with_subcommand (app_of command.entry) (app_of below.entry).top) }
-    ensures local { IfOk result (λ c. (out-Command c).has_globals ≡ (out-Command command.entry).has_globals) }
+/// The command with one more command below it, if there are both.
+fn with_command<'a>(
+    command: Result<Command<'a>, AllocError>,
+    below: Result<Command<'a>, AllocError>,
+) -> Result<Command<'a>, AllocError>
+    ensures { (app under : App) → Has command.entry app → Has below.entry under → Has result (with_subcommand app under.top) }
 {
+    let Ok(command) = command else {
+        return Err(AllocError);
+    };
+    let Ok(below) = below else {
+        return Err(AllocError);
+    };
     command.subcommand(below)
 }
 
@@ -364,14 +404,14 @@ fn bare_program<'a>(alloc: Global) -> Command<'a>
 
 /// The program's command line.
 fn program<'a>(alloc: Global) -> Result<Command<'a>, AllocError>
-    ensures { IfOk result (λ c. (app_of c ≡ bqview) × ((out-Command c).has_globals ≡ false)) }
+    ensures { Has result bqview }
 {
-    let command = with_command(bare_program(alloc), asm_command(alloc)?)?;
-    let command = with_command(command, check_command(alloc)?)?;
-    let command = with_command(command, run_command(alloc)?)?;
-    let command = with_command(command, sim_command(alloc)?)?;
-    let command = with_command(command, cluster_command(alloc)?)?;
-    with_command(command, audit_command(alloc)?)
+    let asm = with_command(Ok(bare_program(alloc)), asm_command(alloc));
+    let check = with_command(asm, check_command(alloc));
+    let run = with_command(check, run_command(alloc));
+    let sim = with_command(run, sim_command(alloc));
+    let cluster = with_command(sim, cluster_command(alloc));
+    with_command(cluster, audit_command(alloc))
 }
 
 /// The text of an operand.

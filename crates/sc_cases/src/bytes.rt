@@ -1,8 +1,8 @@
 //! Lines about messages as bytes.
 
 use crate::views::first_byte;
+use sc_decode::decode::decode_as;
 use sc_members::facts::Facts;
-use sc_msg::decode::decode_as;
 use sc_msg::encode::{encode, encode_v1};
 use sc_msg::fault::MessageFault;
 use sc_msg::message::{Body, Message};

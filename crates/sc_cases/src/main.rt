@@ -29,13 +29,24 @@
 //!   the refusal.
 //! - `value COUNT`: how many bytes a value of so many bytes has, and how many a message that tells it, in version 2 and in
 //!   version 1; or the refusals.
+//! - `fits COUNT`: whether versions 1 and 2 know the length of a value of so many bytes, and whether a message that
+//!   tells it fits them.
+//! - `lengths LEAST MOST COUNT ..`: whether all values of a view have from so many to so many bytes, and the sum of
+//!   their lengths.
+//! - `laws`, `forms`, `again VERSION HEX`: see [`laws`].
+//! - `memory RUN`: see [`memory`]. With a word behind its name the program makes this run alone, and reads no line.
 //!
 //! Another line is printed as it stands.
 #![tactic(auto)]
 
 mod bytes;
 mod changed;
+mod churn;
+mod grown;
+mod laws;
+mod lengths;
 mod members;
+mod memory;
 mod values;
 mod views;
 mod words;
@@ -44,7 +55,7 @@ mod worlds;
 use crate::words::Case;
 use crate::worlds::Worlds;
 use std::alloc::Global;
-use std::io;
+use std::{env, io};
 
 fn answer(rt: &impl Print, alloc: Global, worlds: &mut Worlds, words: &[&str]) -> io::Result<()> {
     match Case::read(words) {
@@ -60,7 +71,7 @@ fn answer(rt: &impl Print, alloc: Global, worlds: &mut Worlds, words: &[&str]) -
         Some(Case::View(first, second)) => views::tell(rt, alloc, first, second),
         Some(Case::Share(ids, value)) => views::tell_shared(rt, alloc, ids, value),
         Some(Case::Value(count)) => values::tell(rt, alloc, count),
-        None => Ok(()),
+        None => laws::tell(rt, alloc, words),
     }
 }
 
@@ -71,11 +82,32 @@ fn tell(rt: &impl Print, alloc: Global, worlds: &mut Worlds, line: &str) -> io::
     answer(rt, alloc, worlds, words.as_slice())
 }
 
-fn main(rt: HostRuntime) -> io::Result<()> {
-    let alloc = rt.alloc();
+fn tell_lines(rt: &(impl Input + Print), alloc: Global) -> io::Result<()> {
     let mut worlds = Worlds::new(alloc);
     for line in rt.lines(alloc) {
-        tell(&rt, alloc, &mut worlds, &line?)?;
+        tell(rt, alloc, &mut worlds, &line?)?;
     }
     Ok(())
+}
+
+/// The first word behind the program's name.
+fn first_word(rt: &HostRuntime) -> io::Result<Option<String>> {
+    let mut words = env::args(rt)?;
+    let _ = words.next();
+    Ok(words.next())
+}
+
+/// The same, and once more where it is refused.
+fn first_word_again(rt: &HostRuntime) -> io::Result<Option<String>> {
+    match first_word(rt) {
+        Ok(word) => Ok(word),
+        Err(_) => first_word(rt),
+    }
+}
+
+fn main(rt: HostRuntime) -> io::Result<()> {
+    match first_word_again(&rt)? {
+        Some(name) => memory::tell(&rt, rt.alloc(), name.as_str()),
+        None => tell_lines(&rt, rt.alloc()),
+    }
 }

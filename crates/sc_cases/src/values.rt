@@ -8,7 +8,7 @@ use std::alloc::Global;
 use std::io;
 
 /// A message that tells this value of its sender.
-fn echo_of(alloc: Global, value: Value) -> Option<Message> {
+pub(crate) fn echo_of(alloc: Global, value: Value) -> Option<Message> {
     let mut view = View::new(alloc);
     view.put(1, Stored::new(1, value)?).ok()?;
     Some(Message {

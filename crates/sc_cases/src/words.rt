@@ -57,7 +57,7 @@ pub(crate) fn number(word: &str) -> Option<u64> {
     word.parse::<u64>().ok()
 }
 
-fn place(word: &str) -> Option<usize> {
+pub(crate) fn place(word: &str) -> Option<usize> {
     usize::try_from(number(word)?).ok()
 }
 
@@ -187,7 +187,7 @@ fn members_line<'a>(words: &'a [&'a str]) -> Option<MembersLine<'a>> {
     }
 }
 
-fn version_of(word: &str) -> Option<Version> {
+pub(crate) fn version_of(word: &str) -> Option<Version> {
     match word {
         "1" => Some(Version::First),
         "2" => Some(Version::Second),

@@ -115,7 +115,8 @@ fn tell_known(rt: &impl Print, world: &World, id: u64) -> io::Result<()> {
     println!(rt; "{}", if is_there { "" } else { " not there" })
 }
 
-fn founded(
+/// The world of so many founders from this id on.
+pub(crate) fn founded(
     alloc: Global,
     beta: Fraction,
     gamma: Fraction,

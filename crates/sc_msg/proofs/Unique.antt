@@ -189,7 +189,7 @@ no_head_fault : (version : Version) (bytes rest : List ℕ) (k : MessageKind) (f
 no_head_fault version bytes rest k f e small parts h = no_fault e (sym (head_sound version k f rest (omega (arith, small, ap length parts))) ∙ ap (head_fault version) (sym parts) ∙ h)
 
 -- behind a head that was read the answer is no fault of the head
-pub head_is_right : (version : Version) (bytes rest : List ℕ) (k : MessageKind) (f : ℕ) (r : Result Message MessageFault) → length bytes ≤ most_bytes → bytes ≡ head_bytes version k f ++ rest → (e : MessageFault) → head_fault version bytes ≡ Some e → r ≡ Err e
+pub head_is_right : {A : Type 0} (version : Version) (bytes rest : List ℕ) (k : MessageKind) (f : ℕ) (r : Result A MessageFault) → length bytes ≤ most_bytes → bytes ≡ head_bytes version k f ++ rest → (e : MessageFault) → head_fault version bytes ≡ Some e → r ≡ Err e
 head_is_right version bytes rest k f r small parts e h = absurd (no_head_fault version bytes rest k f e small parts h)
 
 -- a field that is faulty behind the head of what is spelled

@@ -1,20 +1,13 @@
--- Bytes behind a message.
-use Rattle.std.proofs.Common.{◌≡◌, ℕ, ◌<◌, ◌≤◌, ◌^◌, List, [], ◌∷◌, ◌++◌, length, refl, sym, ap, ◌∙◌, append_assoc, inr}
+-- A message, and the bytes behind it.
+use Rattle.std.proofs.Common.{◌≡◌, ℕ, List, ◌++◌, sym, ap, ◌∙◌, append_assoc}
 use Rattle.sc_msg.specs.declared.message.Body.{Body}
 use Rattle.sc_msg.specs.declared.kind.MessageKind.{MessageKind}
 use Rattle.sc_msg.specs.declared.version.Version.{Version}
-use Rattle.sc_msg.specs.declared.fault.MessageFault.TheVariants.{Extra}
 use Rattle.sc_msg.specs.Kinds.{kind_of}
 use Rattle.sc_msg.specs.Fields.{fields, fields_bytes}
 use Rattle.sc_msg.specs.Messages.{head_bytes, message_bytes, ReadsBody}
-use Rattle.sc_msg.specs.Fault.{most_bytes, IsFirstFault}
 
 pub whole : (version : Version) (bytes rest after : List ℕ) (kind : MessageKind) (from : ℕ) (body : Body) → bytes ≡ head_bytes version kind from ++ rest → ReadsBody version kind rest after body → bytes ≡ message_bytes version (record { from = from; body = body }) ++ after
 whole version bytes rest after kind from body parts read =
     parts ∙ ap (λ k. head_bytes version k from ++ rest) (sym read.kind) ∙ ap (λ (l : List ℕ). head_bytes version (kind_of body) from ++ l) read.parts
     ∙ sym (append_assoc (head_bytes version (kind_of body) from) (fields_bytes (fields version body)) after)
-
-pub extra : (version : Version) (bytes rest after : List ℕ) (kind : MessageKind) (from : ℕ) (body : Body) → length bytes ≤ most_bytes → from < 2 ^ 64 → bytes ≡ head_bytes version kind from ++ rest → ReadsBody version kind rest after body → (length after ≡ 0 → ⊥) → IsFirstFault version bytes Extra
-extra version bytes rest [] kind from body small fits parts read some = absurd (some refl)
-extra version bytes rest (next ∷ after) kind from body small fits parts read some =
-    inr (inr (record { small = small; message = record { from = from; body = body }; legal = record { from = fits; fields = read.legal }; next = next; rest = after; parts = whole version bytes rest (next ∷ after) kind from body parts read; is = refl }))

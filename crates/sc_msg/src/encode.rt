@@ -177,8 +177,8 @@ fn push_body(out: &mut Vec<u8>, version: Version, body: &Body) -> Result<(), All
 }
 
 /// The bytes of a message in a version that it is known to fit, at most 60,000. They are the only bytes that
-/// [`decode_as`](crate::decode::decode_as) reads in that version as this message. The one error is that memory ran out
-/// (99 OutOfMemory).
+/// `decode_as` of `sc_decode` reads in that version as this message. The one error is that memory ran out (99
+/// OutOfMemory).
 pub fn encode_fitting(
     alloc: Global,
     version: Version,

@@ -14,9 +14,9 @@
 //! - [`encode`](encode::encode) writes just the spelling of a message in version 2, `message_bytes` of
 //!   `specs/Messages.antt`. [`encode_v1`](encode::encode_v1) writes that of version 1, and refuses a message with a value
 //!   of another length than 48.
-//! - [`decode`](decode::decode) and [`decode_v1`](decode::decode_v1) answer the message that the bytes spell, and answer
-//!   it for all bytes that spell one; else they name the fault that stands first, `IsFault` of `specs/Fault.antt`. Want of
-//!   memory may come in place of either.
+//! - [`first_message`](front::first_message) answers the message that stands first in bytes, with the bytes behind it,
+//!   or names the fault that stands first, `IsFault` of `specs/Fault.antt`. Want of memory may come in place of either.
+//!   Whole messages are read by `sc_decode`, above.
 //! - In a version bytes spell one message at most, have one fault at most, and never both (`laws`).
 //!
 //! Definitions, the reader and the writer take the version as an argument, so nothing of them is said twice.
@@ -26,9 +26,9 @@
 #![tactic(auto)]
 
 mod body;
-pub mod decode;
 pub mod encode;
 pub mod fault;
+pub mod front;
 pub mod kind;
 pub mod laws;
 pub mod message;

@@ -1,3 +1,2 @@
--- Lemmas on tables of operations and on facts.
-pub mod Tables
+-- Lemmas on facts.
 pub mod Joining

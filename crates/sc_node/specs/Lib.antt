@@ -1,5 +1,5 @@
 -- What a node does.
-pub mod Sessions
+pub use Rattle.sc_operations.specs.Sessions
 pub mod State
 pub mod Nodes
 pub mod Faults

@@ -11,18 +11,19 @@ use Rattle.sc_members.specs.Members.{Facts, Config, is_overfull, no_facts, found
 use Rattle.sc_msg.specs.declared.message.Message.{Message}
 use Rattle.sc_msg.specs.declared.message.Body.{Body}
 use Rattle.sc_msg.specs.declared.message.Body.TheVariants.{Enter, EnterEcho, Join, JoinEcho, Leave, LeaveEcho, Store, StoreAck, StoreEcho, CollectQuery, CollectReply}
-use Rattle.sc_node.specs.declared.session.OperationKind.TheVariants as kind
-use Rattle.sc_node.specs.declared.session.Phase.{Phase}
-use Rattle.sc_node.specs.declared.session.Session.{Session}
-use Rattle.sc_node.specs.declared.answer.Advance.{Advance}
-use Rattle.sc_node.specs.declared.answer.Advance.TheVariants as advance
-use Rattle.sc_node.specs.declared.answer.Progress.{Progress}
+use Rattle.sc_operations.specs.declared.session.OperationKind.TheVariants as kind
+use Rattle.sc_operations.specs.declared.session.Phase.{Phase}
+use Rattle.sc_operations.specs.declared.session.Session.{Session}
+use Rattle.sc_operations.specs.declared.progress.Advance.{Advance}
+use Rattle.sc_operations.specs.declared.progress.Advance.TheVariants as advance
+use Rattle.sc_operations.specs.declared.progress.Progress.{Progress}
 use Rattle.sc_node.specs.declared.answer.Begun.{Begun}
 use Rattle.sc_node.specs.declared.answer.Delivered.{Delivered}
 use Rattle.sc_node.specs.declared.fault.NodeFault.{NodeFault}
 use Rattle.sc_node.specs.declared.fault.NodeFault.TheVariants as fault
-use Rattle.sc_node.specs.Sessions.{new_phase, count_sender, is_reached, querying, storing, apply, ends, ended_by}
+use Rattle.sc_operations.specs.Sessions.{new_phase, count_sender, is_reached, querying, storing, ended_by}
 use Rattle.sc_node.specs.State.{NodeState}
+pub use Rattle.sc_operations.specs.Sessions.{ack_progress, session_moved, sessions_after, ended_session}
 
 -- so many operations may be open, and so many may ever begin
 abbrev pub most_open : ℕ
@@ -89,11 +90,6 @@ view_after n (StoreEcho v) = merge n.view v
 view_after n (CollectReply to t v) = if is_reply n to t then merge n.view v else n.view
 view_after n b = n.view
 
-abbrev pub ack_progress : ℕ → ℕ → Option Phase → Option Progress
-ack_progress from tag None = None
-ack_progress from tag (Some p) =
-    Some (record { tag = tag; sender = from; advance = if is_reached (count_sender p from) then advance.Ended else advance.Counted })
-
 abbrev pub reply_progress : ℕ → ℕ → ViewMap → ℕ → Option Phase → Option Progress
 reply_progress from tag view next None = None
 reply_progress from tag view next (Some p) =
@@ -106,19 +102,6 @@ progress_of n from (StoreAck to t) = if to == n.id then ack_progress from t (sto
 progress_of n from (CollectReply to t v) =
     if to == n.id then reply_progress from t (merge n.view v) (beta_threshold n) (querying (fin.get n.sessions t)) else None
 progress_of n from b = None
-
-abbrev pub session_moved : fin.FinMap nat_cmp Session → Progress → Option Session → fin.FinMap nat_cmp Session
-session_moved m p None = m
-session_moved m p (Some s) = if ends p.advance then fin.remove m p.tag else fin.insert m p.tag (apply p s)
-
--- the open operations after a progress
-abbrev pub sessions_after : fin.FinMap nat_cmp Session → Option Progress → fin.FinMap nat_cmp Session
-sessions_after m None = m
-sessions_after m (Some p) = session_moved m p (fin.get m p.tag)
-
-abbrev pub ended_session : fin.FinMap nat_cmp Session → Option Progress → Option Session
-ended_session m None = None
-ended_session m (Some p) = fin.get m p.tag
 
 -- the echoes that are counted by a node that waits to join
 abbrev pub echoes_after : NodeState → ℕ → Body → Ids
@@ -272,6 +255,11 @@ with_value n e = if is_view_full (put n.view n.id e) then Err fault.ViewFull els
 
 abbrev pub session_of : NodeState → Stored → ViewMap → Session
 session_of n e view = record { kind = kind.Store e; query = None; back = Some (record { view = view; phase = new_phase (beta_threshold n) }) }
+
+-- a store that waits for so many acknowledgements
+abbrev pub waiting_store : ℕ → Stored → ViewMap → Session
+waiting_store threshold e view =
+    record { kind = kind.Store e; query = None; back = Some (record { view = view; phase = new_phase threshold }) }
 
 -- the store of a value is opened, with which the node's view is this
 abbrev pub store_opened : NodeState → Stored → ViewMap → Begun × NodeState

@@ -5,7 +5,7 @@ use Rattle.std.specs.FinMap as fin
 use Rattle.sc_view.specs.Views.{ViewMap}
 use Rattle.sc_members.specs.Ids.{Ids}
 use Rattle.sc_members.specs.Members.{Facts, Config}
-use Rattle.sc_node.specs.declared.session.Session.{Session}
+use Rattle.sc_operations.specs.declared.session.Session.{Session}
 
 pub record NodeState : Type 0 where
   pub id : ℕ

@@ -3,6 +3,7 @@
 //! A node knows who entered, joined and left, keeps a view, and has up to 64 operations open. A store puts a value
 //! into its view and waits until enough nodes acknowledged that view; a collect first asks for views, then stores
 //! back what it learned and returns that. Each call answers the messages that go to all nodes, the sender included.
+//! What an operation is, and how answers move it, stands in `sc_operations`.
 //!
 //! The definitions of every call stand in `specs/Nodes.antt`: the answer, the next state and the refusal together,
 //! refusals in the order in which they are tested. Each call meets its definition by the word `Steps`: it answers
@@ -11,9 +12,10 @@
 #![tactic(auto)]
 
 pub mod answer;
+mod copies;
 pub mod fault;
 pub mod node;
 pub mod outs;
-pub mod session;
-mod sessions;
 pub mod worked;
+
+pub use sc_operations::session;

@@ -8,9 +8,9 @@ ghost use Rattle.sc_msg.specs.declared.message.Body.TheVariants.{Enter, Leave, S
 ghost use Rattle.sc_node.specs.Sessions.{completed};
 ghost use Rattle.sc_node.specs.State.{NodeState};
 ghost use Rattle.sc_node.specs.Nodes.{delivered, entered, founded, founder, left, message_from, next_stored, progress_of};
-ghost use Rattle.sc_node.specs.declared.answer.Completion.TheVariants as completion;
+ghost use Rattle.sc_operations.specs.declared.progress.Completion.TheVariants as completion;
 ghost use Rattle.sc_node.specs.declared.fault.NodeFault.TheVariants as fault;
-ghost use Rattle.sc_node.specs.declared.session.OperationKind.TheVariants as kind;
+ghost use Rattle.sc_operations.specs.declared.session.OperationKind.TheVariants as kind;
 
 /// What the definitions say of founders and of a node that enters, of one that leaves or has left, of the number of a
 /// store, and of an acknowledgement for another node.

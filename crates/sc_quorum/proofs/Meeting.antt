@@ -4,7 +4,7 @@ use Rattle.std.proofs.Math.Nat.{mul-le-mul_right}
 use Rattle.std.specs.FinSet as set
 use Rattle.sc_members.specs.Ids.{Ids, IsLeastCommon}
 use Rattle.sc_node.specs.Sessions.{counted_in, ackers, repliers}
-use Rattle.sc_node.specs.declared.session.Phase.{Phase}
+use Rattle.sc_operations.specs.declared.session.Phase.{Phase}
 use Rattle.sc_world.specs.declared.op.Op.{Op}
 use Rattle.sc_world.specs.Regular.{IsMeeting}
 use Rattle.sc_quorum.specs.Quorums.{IsQuorum, IsQuorumPair}

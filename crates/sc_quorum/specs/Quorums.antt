@@ -2,7 +2,7 @@
 use Rattle.std.specs.Prelude.{◌≡◌, ℕ, ◌*◌, ◌<◌, ◌≤◌, Some}
 use Rattle.std.specs.FinSet as set
 use Rattle.sc_members.specs.Ids.{Ids, Has}
-use Rattle.sc_node.specs.declared.session.Phase.{Phase}
+use Rattle.sc_operations.specs.declared.session.Phase.{Phase}
 use Rattle.sc_node.specs.Sessions.{phase_in}
 use Rattle.sc_world.specs.declared.op.Op.{Op}
 

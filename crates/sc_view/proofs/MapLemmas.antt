@@ -15,7 +15,8 @@ use Rattle.sc_view.specs.declared.view.Stored.{Stored}
 use Rattle.sc_view.specs.Views.{ViewMap, IsView, is_newer, put, merge, number_of, IsBelow, HasSmallChunks, IsChunking}
 use Rattle.sc_view.specs.Rows.{Rises, from, count_lacking, count_newer, is_larger, IsRow, IsHeld, joined, HasAtMost, HasAtLeast}
 use Rattle.sc_view.proofs.RowLemmas.{row_short}
-use Rattle.sc_view.proofs.EntryLemmas.{sorted_from, cmp_greater, find_from, rises_put, rises_onward, find_here, find_behind}
+use Rattle.sc_chunk.proofs.EntryLemmas.{cmp_greater}
+use Rattle.sc_view.proofs.EntryLemmas.{sorted_from, find_from, rises_put, rises_onward, find_here, find_behind}
 use Rattle.sc_view.proofs.ViewLemmas.{news, lacks, put_all, put_all-is, len-put, not_learned, empty_valid, len-merge}
 
 pub entries_rising : (es : List (ℕ × Stored)) → Rises es → fin.entries (fin.from_entries {R = nat_cmp} es) ≡ es

@@ -9,7 +9,8 @@ use Rattle.std.specs.Ordering.{nat_cmp}
 use Rattle.std.specs.FinMap.Entries.{put, find}
 use Rattle.sc_view.specs.declared.view.Stored.{Stored}
 use Rattle.sc_view.specs.Rows.{Over, Under, Rises, joined, HasAtMost, HasAtLeast, IsRow, LearnsAt, starts_above}
-use Rattle.sc_view.proofs.EntryLemmas.{put_within, under_before, over_from, rises_right, put_longer, put_by_one, rises_put, find_within, rises_left}
+use Rattle.sc_chunk.proofs.EntryLemmas.{put_by_one}
+use Rattle.sc_view.proofs.EntryLemmas.{put_within, under_before, over_from, rises_right, put_longer, rises_put, find_within, rises_left}
 
 pub flat-append : (cs ds : List (List (ℕ × Stored))) → joined (cs ++ ds) ≡ joined cs ++ joined ds
 flat-append [] ds = refl

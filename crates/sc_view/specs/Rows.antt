@@ -1,21 +1,12 @@
 -- Rows of chunks: entries in rising id order, within each chunk and across them.
-use Rattle.std.specs.Prelude.{◌≡◌, ℕ, suc, ◌≤◌, ◌<◌, nat_le, nat_lt, slice_set, slice_index_or, ◌==◌, Bool, true, false, cond, length, map, List, [], ◌∷◌, Option, Some, None, is_some}
+use Rattle.std.specs.Prelude.{◌≡◌, ℕ, suc, ◌≤◌, ◌<◌, nat_lt, slice_set, slice_index_or, ◌==◌, Bool, true, false, cond, length, map, List, [], ◌∷◌, Option, Some, None, is_some}
 use Rattle.std.specs.Ordering.{nat_cmp}
 use Rattle.std.specs.FinMap.Entries.{find, put}
 use Rattle.std.specs.FinMap as fin
 use Rattle.sc_view.specs.declared.view.Stored.{Stored}
 use Rattle.sc_view.specs.Views.{IsView, is_newer}
 pub use Rattle.sc_view.specs.Views.{joined, HasAtLeast}
-
--- how many entries stand before the first that has this id or a larger one
-abbrev pub before : ℕ → List (ℕ × Stored) → ℕ
-before id [] = 0
-before id (e ∷ es) = cond (nat_le id e.0) 0 (suc (before id es))
-
--- the entries without the first, if it has this id
-abbrev pub without_first : ℕ → List (ℕ × Stored) → List (ℕ × Stored)
-without_first id [] = []
-without_first id (e ∷ es) = cond (e.0 == id) es (e ∷ es)
+pub use Rattle.sc_chunk.specs.Entries.{before, without_first, from, Learns, is_larger, Over, Under, Rises}
 
 -- whether there are entries, all of larger ids
 abbrev pub starts_above : ℕ → List (ℕ × Stored) → Bool
@@ -27,11 +18,6 @@ abbrev pub entry_at : ℕ → Option (ℕ × Stored) → Option Stored
 entry_at id None = None
 entry_at id (Some e) = cond (e.0 == id) (Some e.1) None
 
--- the entries from an id on
-abbrev pub from : ℕ → List (ℕ × Stored) → List (ℕ × Stored)
-from id [] = []
-from id (e ∷ es) = cond (nat_le id e.0) (e ∷ es) (from id es)
-
 -- how many of the entries have an id that isn't known
 abbrev pub count_lacking : List (ℕ × Stored) → List (ℕ × Stored) → ℕ
 count_lacking known [] = 0
@@ -42,35 +28,10 @@ abbrev pub count_newer : List (ℕ × Stored) → List (ℕ × Stored) → ℕ
 count_newer known [] = 0
 count_newer known (e ∷ es) = cond (is_newer (find nat_cmp e.0 known) e.1) (suc (count_newer known es)) (count_newer known es)
 
--- what a chunk has once it was asked to learn an entry in place, by whether it did
-abbrev pub Learns : ℕ → Stored → List (ℕ × Stored) → List (ℕ × Stored) → Bool → Type 0
-Learns id x old new true = (new ≡ put nat_cmp id x old) × (length new ≤ 32)
-Learns id x old new false = new ≡ old
-
 -- the same of the chunk at a place of a row
 abbrev pub LearnsAt : ℕ → ℕ → Stored → List (List (ℕ × Stored)) → List (List (ℕ × Stored)) → Bool → Type 0
 LearnsAt at id x old new true = (new ≡ slice_set old at (put nat_cmp id x (slice_index_or old at []))) × (length (put nat_cmp id x (slice_index_or old at [])) ≤ 32)
 LearnsAt at id x old new false = new ≡ old
-
--- whether a number is larger than what is known
-abbrev pub is_larger : Option ℕ → ℕ → Bool
-is_larger None n = true
-is_larger (Some known) n = nat_lt known n
-
--- all ids are larger
-abbrev pub Over : ℕ → List (ℕ × Stored) → Type 0
-Over id [] = Unit {0}
-Over id (e ∷ es) = (id < e.0) × Over id es
-
--- all ids are smaller
-abbrev pub Under : ℕ → List (ℕ × Stored) → Type 0
-Under id [] = Unit {0}
-Under id (e ∷ es) = (e.0 < id) × Under id es
-
--- the ids rise
-abbrev pub Rises : List (ℕ × Stored) → Type 0
-Rises [] = Unit {0}
-Rises (e ∷ es) = Over e.0 es × Rises es
 
 abbrev pub HasAtMost : ℕ → List (List (ℕ × Stored)) → Type 0
 HasAtMost n [] = Unit {0}

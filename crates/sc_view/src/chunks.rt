@@ -3,14 +3,14 @@ ghost use Rattle.std.specs.Prelude.{◌≡◌, length};
 ghost use Rattle.std.specs.List.{slice_get};
 ghost use Rattle.std.specs.Option.{option_copied};
 
-use crate::chunk::Chunk;
-use crate::view::Entry;
+use crate::view::{Entry, Stored};
+use sc_chunk::chunk::Chunk;
 use std::marker::Model;
 
 /// The entries of a view in rising id order, cut into chunks.
 #[derive(Drop)]
 pub struct Chunks<'a> {
-    chunks: &'a [Chunk],
+    chunks: &'a [Chunk<Stored>],
 }
 
 impl<'a> Model for Chunks<'a> {
@@ -23,7 +23,7 @@ impl<'a> Model for Chunks<'a> {
 }
 
 impl<'a> Chunks<'a> {
-    pub(crate) fn of(chunks: &'a [Chunk]) -> Chunks<'a>
+    pub(crate) fn of(chunks: &'a [Chunk<Stored>]) -> Chunks<'a>
         ensures { result ≡ chunks.now }
     {
         Chunks { chunks }

@@ -10,11 +10,10 @@
 //! each id, the order on views is a partial order, and a merge is the least view above both. Nodes, messages and the
 //! runs of programs over a collected view stand on this crate.
 //!
-//! A view keeps its entries in a row of chunks that it shares with its copies (`chunk`, `row`). `form` says what any
+//! A view keeps its entries in a row of chunks that it shares with its copies (`sc_chunk`, `row`). `form` says what any
 //! form of a view answers, by the map alone; `sorted` is a second form, for tests.
 #![tactic(auto)]
 
-mod chunk;
 pub mod chunks;
 pub mod form;
 pub mod laws;

@@ -2,25 +2,27 @@
 ghost use Rattle.std.specs.Prelude.{◌≡◌, ◌+◌, ◌≤◌, ◌<◌, ◌↔◌, [], length, All, IsTrue, IfOk, OnOk, OnErr, slice_index_or, slice_set, take, drop, ◌++◌};
 ghost use Rattle.std.specs.Ordering.{nat_cmp};
 ghost use Rattle.std.specs.FinMap.Entries.{put, find};
-ghost use Rattle.sc_view.specs.Rows.{joined, IsRow, Rises, Under, Over, LearnsAt, starts_above, from, count_lacking, count_newer, is_larger};
+ghost use Rattle.sc_view.specs.Rows.{joined, IsRow, Rises, Under, Over, LearnsAt, starts_above, from, count_lacking, count_newer};
 ghost use Rattle.std.specs.Option.{option_map};
 ghost use Rattle.std.specs.Map.Iter.{TakesFirst};
 ghost use Rattle.std.specs.FinMap as fin;
 ghost use Rattle.sc_view.specs.Values.{IsWithin, lengths};
 ghost use Rattle.sc_view.specs.Views.{merge};
 
-use crate::chunk::{Chunk, MOST, are_within, learn, with_entry};
+use crate::value::Value;
 use crate::view::{Entry, Stored};
 use arrayvec::ArrayVec;
+use sc_chunk::chunk::{Chunk, MOST, learn, with_entry};
+use sc_chunk::newer::is_larger;
 use std::alloc::{AllocError, Global};
 
 /// The fewest entries of a chunk, where there are several.
 const FEWEST: usize = 16;
 
-pub(crate) type Row = ArrayVec<Chunk, 16>;
+pub(crate) type Row = ArrayVec<Chunk<Stored>, 16>;
 
 /// The chunk where an id belongs: all ids before it are smaller, and all behind it are larger.
-pub(crate) fn place(row: &[Chunk], id: u64) -> usize
+pub(crate) fn place(row: &[Chunk<Stored>], id: u64) -> usize
     requires { IsRow row.now }
     ensures within { result < length row.now }
     ensures under { Under id (joined (take result row.now)) }
@@ -35,7 +37,7 @@ pub(crate) fn place(row: &[Chunk], id: u64) -> usize
 }
 
 // Whether all ids are larger.
-fn starts_above(chunk: &Chunk, id: u64) -> bool
+fn starts_above(chunk: &Chunk<Stored>, id: u64) -> bool
     ensures { result ≡ starts_above id chunk.now }
 {
     match chunk.as_slice().first() {
@@ -107,7 +109,7 @@ fn put_copy(
 }
 
 // Puts another chunk in the place of one.
-fn set(row: &mut Row, at: usize, chunk: Chunk)
+fn set(row: &mut Row, at: usize, chunk: Chunk<Stored>)
     requires { at < length row.old.items }
     ensures { row.new.items ≡ slice_set row.old.items at chunk }
 {
@@ -118,7 +120,7 @@ fn set(row: &mut Row, at: usize, chunk: Chunk)
 #[derive(Drop)]
 pub(crate) struct Rest<'a> {
     pub(crate) entries: &'a [Entry],
-    pub(crate) chunks: &'a [Chunk],
+    pub(crate) chunks: &'a [Chunk<Stored>],
 }
 
 /// The next entry that is to come.
@@ -164,12 +166,36 @@ pub(crate) fn seek(rest: &mut Rest<'_>, id: u64) -> Option<u64>
 }
 
 /// Whether each value of the chunks has at least and at most so many bytes.
-pub(crate) fn have_values_within(chunks: &[Chunk], least: usize, most: usize) -> bool
+pub(crate) fn have_values_within(chunks: &[Chunk<Stored>], least: usize, most: usize) -> bool
     ensures { IsTrue result ↔ All (λ chunk. All (λ e. IsWithin (length e.1.value) (lengths least most)) chunk) chunks.now }
 {
     chunks
         .iter()
-        .all(|chunk| are_within(chunk.as_slice(), least, most))
+        .all(|chunk| is_chunk_within(chunk, least, most))
+}
+
+// Whether each value of a chunk has.
+fn is_chunk_within(chunk: &Chunk<Stored>, least: usize, most: usize) -> bool
+    ensures { IsTrue result ↔ All (λ e. IsWithin (length e.1.value) (lengths least most)) chunk.now }
+{
+    are_within(chunk.as_slice(), least, most)
+}
+
+// Whether each value of the entries has at least and at most so many bytes.
+fn are_within(entries: &[Entry], least: usize, most: usize) -> bool
+    ensures { IsTrue result ↔ All (λ e. IsWithin (length e.1.value) (lengths least most)) entries.now }
+{
+    entries
+        .iter()
+        .all(|entry| is_within(entry.1.value(), least, most))
+}
+
+// Whether a value has at least and at most so many bytes.
+fn is_within(value: &Value, least: usize, most: usize) -> bool
+    ensures { IsTrue result ↔ IsWithin (length value.now) (lengths least most) }
+{
+    let bytes = value.bytes().len();
+    least <= bytes && bytes <= most
 }
 
 /// What one row tells beyond another.
@@ -182,7 +208,7 @@ pub(crate) struct News {
 }
 
 /// What the second row tells beyond the first.
-pub(crate) fn what_is_new(known: &[Chunk], more: &[Chunk]) -> News
+pub(crate) fn what_is_new(known: &[Chunk<Stored>], more: &[Chunk<Stored>]) -> News
     requires known { Rises (joined known.now) }
     requires more { Rises (joined more.now) }
     requires few { length (joined more.now) ≤ 256 }
@@ -207,19 +233,8 @@ pub(crate) fn what_is_new(known: &[Chunk], more: &[Chunk]) -> News
     News { ids, values }
 }
 
-// Whether a number is larger than what is known.
-#[inline]
-fn is_larger(known: Option<u64>, number: u64) -> bool
-    ensures { result ≡ is_larger known number }
-{
-    match known {
-        Some(known) => known < number,
-        None => true,
-    }
-}
-
 /// A row with all that either has, and at equal numbers the first row's value.
-pub(crate) fn merged(alloc: Global, known: &Row, more: &[Chunk]) -> Result<Row, AllocError>
+pub(crate) fn merged(alloc: Global, known: &Row, more: &[Chunk<Stored>]) -> Result<Row, AllocError>
     requires known { IsRow known.now.items }
     requires more { Rises (joined more.now) }
     requires room { fin.len (merge (fin.from_entries (joined known.now.items)) (fin.from_entries (joined more.now))) ≤ 256 }

@@ -11,7 +11,6 @@ ghost use Rattle.std.specs.Option.{option_copied, SomeIff};
 ghost use Rattle.sc_view.specs.declared.view.Stored.{Stored as StoredValue};
 ghost use Rattle.sc_view.specs.declared.view.ViewFault.TheVariants.{OutOfMemory};
 
-use crate::chunk::{Chunk, find};
 use crate::chunks::Chunks;
 use crate::row::{
     News, Rest, Row, have_values_within, merged, next_entry, place, put_entry, what_is_new,
@@ -19,6 +18,7 @@ use crate::row::{
 use crate::value::Value;
 use arrayvec::ArrayVec;
 use reasons::{Reason, told};
+use sc_chunk::chunk::{Chunk, find};
 use std::alloc::{AllocError, AllocFailed, Global};
 use std::marker::Model;
 

@@ -7,15 +7,15 @@ use Rattle.sc_view.specs.declared.view.Stored.{Stored}
 use Rattle.sc_view.specs.Views.{ViewMap}
 use Rattle.sc_msg.specs.declared.message.Message.{Message}
 use Rattle.sc_msg.specs.declared.message.Body.{Body}
-use Rattle.sc_node.specs.declared.session.OperationKind.{OperationKind}
-use Rattle.sc_node.specs.declared.session.OperationKind.TheVariants as kind
-use Rattle.sc_node.specs.declared.session.StoreBack.{StoreBack}
-use Rattle.sc_node.specs.declared.session.Session.{Session}
-use Rattle.sc_node.specs.declared.answer.Advance.{Advance}
-use Rattle.sc_node.specs.declared.answer.Advance.TheVariants as advance
-use Rattle.sc_node.specs.declared.answer.Progress.{Progress}
-use Rattle.sc_node.specs.declared.answer.Completion.TheVariants as completion
-use Rattle.sc_node.specs.declared.answer.Ended.{Ended}
+use Rattle.sc_operations.specs.declared.session.OperationKind.{OperationKind}
+use Rattle.sc_operations.specs.declared.session.OperationKind.TheVariants as kind
+use Rattle.sc_operations.specs.declared.session.StoreBack.{StoreBack}
+use Rattle.sc_operations.specs.declared.session.Session.{Session}
+use Rattle.sc_operations.specs.declared.progress.Advance.{Advance}
+use Rattle.sc_operations.specs.declared.progress.Advance.TheVariants as advance
+use Rattle.sc_operations.specs.declared.progress.Progress.{Progress}
+use Rattle.sc_operations.specs.declared.progress.Completion.TheVariants as completion
+use Rattle.sc_operations.specs.declared.progress.Ended.{Ended}
 use Rattle.sc_node.specs.Sessions.{stored, view_in, session_with, advanced_by, completed, ended_with, ended_at, ended_by}
 use Rattle.sc_node.specs.State.{NodeState}
 use Rattle.sc_node.specs.Nodes.{progress_of, ended_session}

@@ -2,8 +2,8 @@
 use Rattle.std.proofs.Common.{◌≡◌, ℕ, List, [], ◌∷◌, Option, Some, refl, sym, ap, ◌∙◌, subst, Ok}
 use Rattle.sc_view.specs.Views.{ViewMap}
 use Rattle.sc_members.specs.Members.{Config}
-use Rattle.sc_node.specs.declared.session.OperationKind.{OperationKind}
-use Rattle.sc_node.specs.declared.session.OperationKind.TheVariants as kind
+use Rattle.sc_operations.specs.declared.session.OperationKind.{OperationKind}
+use Rattle.sc_operations.specs.declared.session.OperationKind.TheVariants as kind
 use Rattle.sc_world.specs.declared.event.Event.{Event}
 use Rattle.sc_world.specs.declared.event.Stepped.{Stepped}
 use Rattle.sc_world.specs.declared.op.Op.{Op}

@@ -10,13 +10,13 @@ use Rattle.sc_members.specs.Members.{Config, with_left}
 use Rattle.sc_msg.specs.declared.message.Message.{Message}
 use Rattle.sc_msg.specs.declared.message.Body.{Body}
 use Rattle.sc_msg.specs.declared.message.Body.TheVariants.{Enter, EnterEcho, Join, Leave, Store, StoreAck, StoreEcho, CollectQuery, CollectReply}
-use Rattle.sc_node.specs.declared.session.OperationKind.TheVariants as kind
-use Rattle.sc_node.specs.declared.session.Phase.{Phase}
-use Rattle.sc_node.specs.declared.session.StoreBack.{StoreBack}
-use Rattle.sc_node.specs.declared.session.Session.{Session}
-use Rattle.sc_node.specs.declared.answer.Advance.{Advance}
-use Rattle.sc_node.specs.declared.answer.Advance.TheVariants as advance
-use Rattle.sc_node.specs.declared.answer.Progress.{Progress}
+use Rattle.sc_operations.specs.declared.session.OperationKind.TheVariants as kind
+use Rattle.sc_operations.specs.declared.session.Phase.{Phase}
+use Rattle.sc_operations.specs.declared.session.StoreBack.{StoreBack}
+use Rattle.sc_operations.specs.declared.session.Session.{Session}
+use Rattle.sc_operations.specs.declared.progress.Advance.{Advance}
+use Rattle.sc_operations.specs.declared.progress.Advance.TheVariants as advance
+use Rattle.sc_operations.specs.declared.progress.Progress.{Progress}
 use Rattle.sc_world.specs.declared.act.Opened.{Opened}
 use Rattle.sc_node.specs.Sessions.{stored, view_in, phase_in, counted_in, phase_with, session_with, advanced_by, apply, ends, is_reached, count_sender, querying, query_before, storing}
 use Rattle.sc_node.specs.State.{NodeState}

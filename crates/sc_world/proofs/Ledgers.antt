@@ -6,9 +6,9 @@ use Rattle.std.specs.FinMap as fin
 use Rattle.std.specs.FinSet as set
 use Rattle.sc_msg.specs.declared.message.Message.{Message}
 use Rattle.sc_view.specs.declared.view.Stored.{Stored}
-use Rattle.sc_node.specs.declared.answer.Progress.{Progress}
-use Rattle.sc_node.specs.declared.session.OperationKind.{OperationKind}
-use Rattle.sc_node.specs.declared.session.OperationKind.TheVariants as kind
+use Rattle.sc_operations.specs.declared.progress.Progress.{Progress}
+use Rattle.sc_operations.specs.declared.session.OperationKind.{OperationKind}
+use Rattle.sc_operations.specs.declared.session.OperationKind.TheVariants as kind
 use Rattle.sc_world.specs.declared.act.Opened.{Opened}
 use Rattle.sc_node.specs.Sessions.{new_phase}
 use Rattle.sc_node.specs.State.{NodeState}

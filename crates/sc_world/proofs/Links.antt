@@ -7,12 +7,12 @@ use Rattle.sc_view.specs.Views.{ViewMap, number_at, IsBelow, merge}
 use Rattle.sc_msg.specs.declared.message.Message.{Message}
 use Rattle.sc_msg.specs.declared.message.Body.{Body}
 use Rattle.sc_msg.specs.declared.message.Body.TheVariants.{StoreAck, CollectReply}
-use Rattle.sc_node.specs.declared.session.OperationKind.TheVariants as kind
-use Rattle.sc_node.specs.declared.session.Phase.{Phase}
-use Rattle.sc_node.specs.declared.session.StoreBack.{StoreBack}
-use Rattle.sc_node.specs.declared.session.Session.{Session}
-use Rattle.sc_node.specs.declared.answer.Advance.TheVariants as advance
-use Rattle.sc_node.specs.declared.answer.Progress.{Progress}
+use Rattle.sc_operations.specs.declared.session.OperationKind.TheVariants as kind
+use Rattle.sc_operations.specs.declared.session.Phase.{Phase}
+use Rattle.sc_operations.specs.declared.session.StoreBack.{StoreBack}
+use Rattle.sc_operations.specs.declared.session.Session.{Session}
+use Rattle.sc_operations.specs.declared.progress.Advance.TheVariants as advance
+use Rattle.sc_operations.specs.declared.progress.Progress.{Progress}
 use Rattle.sc_world.specs.declared.act.Opened.{Opened}
 use Rattle.sc_node.specs.Sessions.{stored, repliers, ackers, apply, ends, is_reached, count_sender}
 use Rattle.sc_node.specs.State.{NodeState}

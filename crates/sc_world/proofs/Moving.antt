@@ -10,13 +10,13 @@ use Rattle.std.specs.FinSet as set
 use Rattle.sc_msg.specs.declared.message.Message.{Message}
 use Rattle.sc_msg.specs.declared.message.Body.{Body}
 use Rattle.sc_msg.specs.declared.message.Body.TheVariants.{StoreAck, CollectReply}
-use Rattle.sc_node.specs.declared.session.Phase.{Phase}
-use Rattle.sc_node.specs.declared.session.StoreBack.{StoreBack}
-use Rattle.sc_node.specs.declared.session.Session.{Session}
-use Rattle.sc_node.specs.declared.answer.Advance.{Advance}
-use Rattle.sc_node.specs.declared.answer.Advance.TheVariants as advance
+use Rattle.sc_operations.specs.declared.session.Phase.{Phase}
+use Rattle.sc_operations.specs.declared.session.StoreBack.{StoreBack}
+use Rattle.sc_operations.specs.declared.session.Session.{Session}
+use Rattle.sc_operations.specs.declared.progress.Advance.{Advance}
+use Rattle.sc_operations.specs.declared.progress.Advance.TheVariants as advance
 use Rattle.sc_node.specs.declared.answer.Delivered.{Delivered}
-use Rattle.sc_node.specs.declared.answer.Progress.{Progress}
+use Rattle.sc_operations.specs.declared.progress.Progress.{Progress}
 use Rattle.sc_node.specs.Sessions.{open_phase, counting_phase, counted_in, is_reached, count_sender}
 use Rattle.sc_node.specs.State.{NodeState}
 use Rattle.sc_node.specs.Nodes.{progress_of, delivered}

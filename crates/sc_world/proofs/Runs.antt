@@ -10,7 +10,7 @@ use Rattle.sc_members.specs.Ids.{Ids}
 use Rattle.sc_members.specs.Members.{Config}
 use Rattle.sc_msg.specs.declared.message.Message.{Message}
 use Rattle.sc_msg.specs.declared.message.Body.TheVariants.{Enter}
-use Rattle.sc_node.specs.declared.session.OperationKind.TheVariants as kind
+use Rattle.sc_operations.specs.declared.session.OperationKind.TheVariants as kind
 use Rattle.sc_node.specs.State.{NodeState}
 use Rattle.sc_node.specs.Nodes.{message_from, founder, next_stored, store_session, collect_session}
 use Rattle.sc_world.specs.declared.event.Event.{Event}

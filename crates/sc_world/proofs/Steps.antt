@@ -6,10 +6,10 @@ use Rattle.sc_view.specs.Views.{ViewMap, IsBelow}
 use Rattle.sc_msg.specs.declared.message.Message.{Message}
 use Rattle.sc_msg.specs.declared.message.Body.{Body}
 use Rattle.sc_msg.specs.declared.message.Body.TheVariants.{StoreAck, CollectReply}
-use Rattle.sc_node.specs.declared.session.Session.{Session}
-use Rattle.sc_node.specs.declared.answer.Advance.{Advance}
-use Rattle.sc_node.specs.declared.answer.Advance.TheVariants as advance
-use Rattle.sc_node.specs.declared.answer.Progress.{Progress}
+use Rattle.sc_operations.specs.declared.session.Session.{Session}
+use Rattle.sc_operations.specs.declared.progress.Advance.{Advance}
+use Rattle.sc_operations.specs.declared.progress.Advance.TheVariants as advance
+use Rattle.sc_operations.specs.declared.progress.Progress.{Progress}
 use Rattle.sc_world.specs.declared.act.Opened.{Opened}
 use Rattle.sc_node.specs.Sessions.{stored, apply, ends}
 use Rattle.sc_node.specs.State.{NodeState}

@@ -8,8 +8,8 @@ use Rattle.std.specs.FinMap as fin
 use Rattle.std.specs.FinSet as set
 use Rattle.sc_members.specs.Members.{Config}
 use Rattle.sc_msg.specs.declared.message.Message.{Message}
-use Rattle.sc_node.specs.declared.session.Session.{Session}
-use Rattle.sc_node.specs.declared.answer.Progress.{Progress}
+use Rattle.sc_operations.specs.declared.session.Session.{Session}
+use Rattle.sc_operations.specs.declared.progress.Progress.{Progress}
 use Rattle.sc_node.specs.State.{NodeState}
 use Rattle.sc_node.specs.Nodes.{progress_of, founder, store_session, collect_session}
 use Rattle.sc_world.specs.declared.event.Event.{Event}

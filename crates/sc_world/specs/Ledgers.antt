@@ -3,7 +3,7 @@ use Rattle.std.specs.Prelude.{◌≡◌, ◌&&◌, ℕ, Bool, nat_lt, nat_le, �
 use Rattle.std.specs.FinSet as set
 use Rattle.sc_members.specs.Members.{Config}
 use Rattle.sc_msg.specs.declared.message.Message.{Message}
-use Rattle.sc_node.specs.declared.answer.Progress.{Progress}
+use Rattle.sc_operations.specs.declared.progress.Progress.{Progress}
 use Rattle.sc_world.specs.declared.act.Opened.{Opened}
 use Rattle.sc_world.specs.declared.counting.Counting.{Counting}
 use Rattle.sc_world.specs.declared.event.Event.{Event}

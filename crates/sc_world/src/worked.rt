@@ -7,7 +7,7 @@ ghost use Rattle.sc_msg.specs.declared.message.Message.{Message};
 ghost use Rattle.sc_msg.specs.declared.message.Body.TheVariants.{StoreAck};
 ghost use Rattle.sc_node.specs.Sessions.{ackers};
 ghost use Rattle.sc_node.specs.State.{NodeState};
-ghost use Rattle.sc_node.specs.declared.session.Session.{Session};
+ghost use Rattle.sc_operations.specs.declared.session.Session.{Session};
 ghost use Rattle.sc_world.specs.Acts.{answered, IsReady};
 ghost use Rattle.sc_world.specs.Ledgers.{first, has_room, recorded};
 ghost use Rattle.sc_world.specs.Regular.{IsMeeting};

@@ -4,12 +4,12 @@ ghost use Rattle.std.specs.Prelude.{◌≡◌, false, ◌&&◌, is_none, [], Som
 ghost use Rattle.std.specs.FinSet as set;
 ghost use Rattle.forms.specs.Calls.{Steps};
 ghost use Rattle.sc_node.specs.declared.fault.NodeFault.TheVariants as NodeFault;
-ghost use Rattle.sc_node.specs.Nodes.{message_from, delivered, learned, joining, echo_counted, sessions_moved, saying, gamma_threshold, is_met, query_ended};
-ghost use Rattle.sc_node.specs.declared.answer.Advance.TheVariants.{Turned};
+ghost use Rattle.sc_node.specs.Nodes.{message_from, delivered, learned, joining, echo_counted, saying, gamma_threshold, is_met, query_ended};
 ghost use Rattle.sc_msg.specs.declared.message.Body.TheVariants.{Enter, EnterEcho, Join, JoinEcho, Leave, LeaveEcho, Store, StoreAck, StoreEcho, CollectQuery, CollectReply};
 
 use super::Node;
-use crate::answer::{Advance, Delivered, Progress};
+use crate::answer::{Advance, Delivered};
+use crate::copies::Copies;
 use crate::fault::NodeFault;
 use crate::outs::Outs;
 use sc_members::facts::Facts;
@@ -33,7 +33,7 @@ impl Node {
         ensures { IfOk result (λ told. told ≡ saying self.now.id (EnterEcho to self.now.joined facts.now self.now.view)) }
     {
         let facts = facts.clone()?;
-        let view = self.view.clone()?;
+        let view = self.held.view.clone()?;
         Ok(self.sends(Body::EnterEcho {
             to,
             joined: self.joined,
@@ -84,13 +84,13 @@ impl Node {
         requires { self.old.gone ≡ false }
         ensures { Steps NodeFault.OutOfMemory (delivered self.old (message_from from (Store tag view.now))) self.old self.new result }
     {
-        let learned = self.view.merged(view)?;
+        let learned = self.held.view.merged(view)?;
         if !self.joined {
-            self.view = learned;
+            self.held.view = learned;
             return Ok(self.silent());
         }
         let told = learned.clone()?;
-        self.view = learned;
+        self.held.view = learned;
         let ack = self.says(Body::StoreAck { to: from, tag });
         let echo = self.says(Body::StoreEcho { view: told });
         Ok(Delivered::sending(Outs::two(self.alloc, ack, echo)))
@@ -100,7 +100,7 @@ impl Node {
         requires { self.old.gone ≡ false }
         ensures { Steps NodeFault.OutOfMemory (delivered self.old (message_from from (StoreEcho view.now))) self.old self.new result }
     {
-        self.view = self.view.merged(view)?;
+        self.held.view = self.held.view.merged(view)?;
         Ok(self.silent())
     }
 
@@ -110,7 +110,7 @@ impl Node {
         ensures { Steps NodeFault.OutOfMemory (delivered self.old (message_from from (CollectQuery tag))) self.old self.new result }
     {
         if self.joined {
-            let view = self.view.clone()?;
+            let view = self.held.view.clone()?;
             return Ok(self.sends(Body::CollectReply {
                 to: from,
                 tag,
@@ -142,9 +142,9 @@ impl Node {
     fn learn(&mut self, facts: &Facts, view: &View) -> Result<(), NodeFault>
         ensures { Steps NodeFault.OutOfMemory (learned self.old facts.now view.now) self.old self.new result }
     {
-        let both = self.view.merged(view)?;
+        let both = self.held.view.merged(view)?;
         self.facts = self.facts.united(facts)?;
-        self.view = both;
+        self.held.view = both;
         Ok(())
     }
 
@@ -160,7 +160,7 @@ impl Node {
         requires waits { self.old.joined ≡ false }
         ensures { Steps NodeFault.OutOfMemory (delivered self.old (message_from from (EnterEcho self.old.id joined facts.now view.now))) self.old self.new result }
     {
-        let learned = self.view.merged(view)?;
+        let learned = self.held.view.merged(view)?;
         let heard = self.facts.united(facts)?;
         let threshold = self.join_threshold_with(joined, &heard);
         if self.is_met_with(threshold, from) {
@@ -199,7 +199,7 @@ impl Node {
     {
         self.echoes.insert(from)?;
         self.facts = facts;
-        self.view = view;
+        self.held.view = view;
         self.join_threshold = threshold;
         Ok(())
     }
@@ -251,24 +251,12 @@ impl Node {
         if to != self.id {
             return Ok(self.silent());
         }
-        let Some(phase) = self.sessions.storing(tag) else {
-            return Ok(self.silent());
-        };
-        if phase.is_reached_with(from) {
-            let ended = self.sessions.end(tag);
-            return Ok(Delivered {
-                outs: Outs::none(self.alloc),
-                progress: Some(Progress {
-                    tag,
-                    sender: from,
-                    advance: Advance::Ended,
-                }),
-                ended,
-            });
-        }
-        self.sessions
-            .advance(self.alloc, tag, from, Advance::Counted)?;
-        Ok(Delivered::moving(Outs::none(self.alloc), tag, from, Advance::Counted))
+        let told = self.held.acknowledge(self.alloc, tag, from)?;
+        Ok(Delivered {
+            outs: Outs::none(self.alloc),
+            progress: told.progress,
+            ended: told.ended,
+        })
     }
 
     /// Counts the reply, and learns its view. At enough of them the view is stored back.
@@ -285,16 +273,14 @@ impl Node {
         if to != self.id {
             return Ok(self.silent());
         }
-        let Some(phase) = self.sessions.querying(tag) else {
+        let Some(phase) = self.held.sessions.querying(tag) else {
             return Ok(self.silent());
         };
-        let learned = self.view.merged(view)?;
+        let learned = self.held.view.merged(view)?;
         if phase.is_reached_with(from) {
             return self.store_back(from, tag, learned);
         }
-        self.sessions
-            .advance(self.alloc, tag, from, Advance::Counted)?;
-        self.view = learned;
+        self.held.count_reply(self.alloc, tag, from, learned)?;
         Ok(Delivered::moving(Outs::none(self.alloc), tag, from, Advance::Counted))
     }
 
@@ -303,25 +289,14 @@ impl Node {
         ensures { Steps NodeFault.OutOfMemory (Ok (query_ended self.old from tag view)) self.old self.new result }
     {
         let threshold = self.beta_threshold();
-        let told = view.clone()?;
-        let shown = view.clone()?;
-        let kept = view.clone()?;
-        self.turn(from, tag, threshold, kept)?;
-        self.view = view;
+        let copies = Copies::of(&view)?;
+        self.held.turn(self.alloc, tag, from, threshold, view)?;
+        let Copies { shown, told } = copies;
         let store = self.says(Body::Store { tag, view: told });
         let turned = Advance::Turned {
             threshold,
             view: shown,
         };
         Ok(Delivered::moving(Outs::one(self.alloc, store), tag, from, turned))
-    }
-
-    // The operation stores back the view, once this sender's reply is counted. At Err the node is as it was.
-    fn turn(&mut self, from: u64, tag: u64, threshold: u64, view: View) -> Result<(), AllocError>
-        ensures ok { OnOk result (self.new ≡ sessions_moved self.old (record { tag = tag; sender = from; advance = Turned threshold view })) }
-        ensures err { OnErr result (self.new ≡ self.old) }
-    {
-        let turned = Advance::Turned { threshold, view };
-        self.sessions.advance(self.alloc, tag, from, turned)
     }
 }

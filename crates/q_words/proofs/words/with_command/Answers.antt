@@ -1,8 +1,8 @@
-use Rattle.q_words.proofs.Commands.{local_above, one_below}
+use Rattle.std.proofs.Common.{subst}
+use Rattle.q_words.specs.Words.{Has}
+use Rattle.q_words.proofs.Commands.{below_one_more}
 use Rattle.q_words.proofs.words.with_command.Goals as goal
 
-pub returns-clause-app : goal.returns-clause-app
-returns-clause-app c = one_below c.args.command c.args.below c.subcommand.result c.subcommand.ensures c.requires
-
-pub returns-clause-local : goal.returns-clause-local
-returns-clause-local c = local_above c.args.command c.args.below c.subcommand.result c.subcommand.ensures c.requires
+pub returns : goal.returns
+returns c = λ app under has low.
+    below_one_more c.in-Ok.command c.in-Ok-below.below c.subcommand.result app under c.subcommand.ensures (subst (λ r. Has r app) c.in-Ok.is has) (subst (λ r. Has r under) c.in-Ok-below.is low)

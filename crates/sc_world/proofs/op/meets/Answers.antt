@@ -1,5 +1,5 @@
 use Rattle.std.proofs.Common.{sym, ap, Option}
-use Rattle.sc_node.specs.declared.session.StoreBack.{StoreBack}
+use Rattle.sc_operations.specs.declared.session.StoreBack.{StoreBack}
 use Rattle.sc_node.specs.Sessions.{counted_in, phase_in, ackers, repliers}
 use Rattle.sc_world.proofs.Meetings.{none_left, none_right}
 use Rattle.sc_world.proofs.op.meets.Goals as goal

@@ -27,7 +27,7 @@ invariant_of-self-2 c =
     let s = c.self.inside in
     let q = begun c.in_ok-begun.begun.tag c.args.program c.args.start in
     let pushed : s.queries.items ++ q ∷ [] ≡ c.push_reserved.new.self.items = search rules in (
-      subst (λ (queries : List Query). IsDesk (record { lengths = s.lengths; programs = s.programs; queries = queries; journal = c.push_reserved-2.new.self.items })) pushed
+      subst (λ (queries : List Query). IsDesk (record { lengths = s.lengths; programs = s.programs; queries = queries; journal = c.append.new.entries.items })) pushed
           (desk-appended _ (entry.Ask c.args.program c.args.start) _ (record { room = search rules; is = search rules }) (desk-begun _ q c.self.invariant.0 (search rules) (search rules) refl)),
       record { counted = c.self.invariant.1.counted ∙ sym (run-begun s.queries.items q refl) ∙ ap how_many_run pushed; fits = search rules },
     )

@@ -1,75 +1,67 @@
-use Rattle.std.proofs.Common.{◌≡◌, ℕ, List, [], ◌∷◌, ◌++◌, Some, true, rules, refl, sym, ap, subst, ◌∙◌, arith}
-use Rattle.std.proofs.lemmas.Option.{slice_get_read}
-use Rattle.std.specs.Prelude.{slice_get}
+use Rattle.std.proofs.Common.{◌≡◌, ℕ, List, [], ◌∷◌, ◌++◌, true, rules, sym, ap, subst, ◌∙◌, arith}
+use Rattle.std.specs.Prelude.{slice_get, ◌==◌}
 use Rattle.q_session.specs.Right.{IsRight}
 use Rattle.q_session.specs.declared.ran.Ran.{Ran}
 use Rattle.q_session.specs.declared.query.Phase.TheVariants.{Answered}
 use Rattle.q_session.specs.declared.query.Query.{Query}
 use Rattle.q_session.specs.declared.job.Job.{Job}
+use Rattle.q_queries.specs.Queries.{IsOfRunning}
 use Rattle.q_desk.specs.declared.journal.Entry.TheVariants as entry
 use Rattle.q_desk.specs.State.{DeskState}
-use Rattle.q_desk.specs.Desks.{posted, with_phase, is_job_of, is_running}
+use Rattle.q_desk.specs.Desks.{posted, with_phase}
 use Rattle.q_desk.proofs.Keeps.{IsAppended}
-use Rattle.q_desk.proofs.Jobs.{desk-posted, posts}
-use Rattle.q_desk.proofs.Running.{run-answered, run-some}
+use Rattle.q_desk.proofs.Jobs.{desk-posted, posts, answers, own_result, some-runs}
+use Rattle.q_desk.proofs.Running.{run-answered}
 use Rattle.q_desk.proofs.desk.Desk.post.Goals as goal
 
-abbrev inside : goal.After-push_reserved → DeskState
+abbrev inside : goal.After-append → DeskState
 inside c = record { lengths = c.self.inside.lengths; programs = c.self.inside.programs; queries = c.self.inside.queries.items; journal = c.self.inside.journal.items }
 
-numbered : (c : goal.After-push_reserved) → slice_get c.self.inside.queries.items c.query-number.result ≡ Some c.in-Some.query.now
-numbered c =
-    let at = c.in-Some.ensures.lookup in
-    ap (λ (xs : List Query). slice_get xs c.query-number.result) (sym c.deref.ensures.value)
-    ∙ slice_get_read c.deref.result.now _ c.query-number.result c.in-Some.query.now refl at.3.0 at.1
+-- the query that runs, whose job it is
+runs : (c : goal.After-append) → IsOfRunning (inside c).programs (inside c).queries c.job-job.result.now
+runs c = subst (λ (queries : List Query). IsOfRunning (inside c).programs queries c.job-job.result.now) c.deref.ensures.value c.in_ok-check_result.ensures.runs
 
-there : (c : goal.After-push_reserved) → slice_get c.self.inside.queries.items c.job-job.result.now.query ≡ Some c.in-Some.query.now
-there c = ap (λ (k : ℕ). slice_get c.self.inside.queries.items k) (sym c.query-number.ensures) ∙ numbered c
+own : (c : goal.After-append) → (c.job-job.result.now.node == c.args.node) ≡ true
+own c = own_result (inside c).programs c.deref.result.now c.args.node c.job-job.result.now tt (sym c.in_ok-check_result.ensures.told)
 
-sound : (c : goal.After-push_reserved) → IsRight c.job-job.result.now.certified c.job-job.result.now.view c.job-job.result.now.start c.ran-ran.result
+sound : (c : goal.After-append) → IsRight c.job-job.result.now.certified c.job-job.result.now.view c.job-job.result.now.start c.ran-ran.result
 sound c =
     let job = c.args.done.now.job in
     subst (λ (j : Job). IsRight j.certified j.view j.start c.ran-ran.result) (sym c.job-job.ensures.job)
     (subst (λ (r : Ran). IsRight job.certified job.view job.start r) (sym c.ran-ran.ensures) c.job-job.ensures.right)
 
-after : (c : goal.After-push_reserved) → c.record_answer.new.queries.items ≡ with_phase c.self.inside.queries.items c.job-job.result.now.query (Answered c.in-Running.view c.ran-ran.result)
+after : (c : goal.After-append) → c.record_answer.new.queries.items ≡ with_phase c.self.inside.queries.items c.job-job.result.now.query (Answered (runs c).view c.ran-ran.result)
 after c =
-    c.record_answer.ensures c.in-Some.query.now c.in-Running.view (numbered c) c.in-Running.is
-    ∙ ap (λ (k : ℕ). with_phase c.self.inside.queries.items k (Answered c.in-Running.view c.ran-ran.result)) c.query-number.ensures
+    c.record_answer.ensures (runs c).query (runs c).view (ap (λ (k : ℕ). slice_get c.self.inside.queries.items k) c.query-query.ensures ∙ (runs c).at) (runs c).phase
+    ∙ ap (λ (k : ℕ). with_phase c.self.inside.queries.items k (Answered (runs c).view c.ran-ran.result)) c.query-query.ensures
 
-appended : (c : goal.After-push_reserved) → IsAppended (inside c) (entry.Post c.job-job.result.now.query c.ran-ran.result) c.push_reserved.new.self.items
+appended : (c : goal.After-append) → IsAppended (inside c) (entry.Post c.job-job.result.now.query c.ran-ran.result) c.append.new.entries.items
 appended c =
-    let is : c.push_reserved.new.self.items ≡ c.self.inside.journal.items ++ entry.Post c.query-number.result c.ran-ran.result ∷ [] = search rules in
+    let is : c.append.new.entries.items ≡ c.self.inside.journal.items ++ entry.Post c.query-query.result c.ran-ran.result ∷ [] = search rules in
     record {
       room = search rules;
-      is = is ∙ ap (λ (k : ℕ). c.self.inside.journal.items ++ entry.Post k c.ran-ran.result ∷ []) c.query-number.ensures;
+      is = is ∙ ap (λ (k : ℕ). c.self.inside.journal.items ++ entry.Post k c.ran-ran.result ∷ []) c.query-query.ensures;
     }
 
 pub overflow_sub-self : goal.overflow_sub-self
 overflow_sub-self c =
-    let xs = c.self.inside.queries.items in
-    let at = c.in-Some.ensures.lookup in
-    let here = ap (λ (ys : List Query). slice_get ys c.query-number.result) (sym c.deref.ensures.value) ∙ slice_get_read c.deref.result.now _ c.query-number.result c.in-Some.query.now refl at.3.0 at.1 in
-    omega (arith, c.self.invariant.1.counted, run-some xs c.query-number.result c.in-Some.query.now here (ap is_running c.in-Running.is))
+    omega (arith, c.self.invariant.1.counted, some-runs c.self.inside.programs c.deref.result.now c.self.inside.queries.items c.job-job.result.now c.deref.ensures.value c.in_ok-check_result.ensures.runs)
 
-pub push_reserved-requires : goal.push_reserved-requires
-push_reserved-requires c =
-    let xs = c.self.inside.queries.items in
-    let at = c.in-Some.ensures.lookup in
-    let here = ap (λ (ys : List Query). slice_get ys c.query-number.result) (sym c.deref.ensures.value) ∙ slice_get_read c.deref.result.now _ c.query-number.result c.in-Some.query.now refl at.3.0 at.1 in
-    omega (arith, c.self.invariant.1.counted, c.self.invariant.1.fits, run-some xs c.query-number.result c.in-Some.query.now here (ap is_running c.in-Running.is))
+pub append-requires : goal.append-requires
+append-requires c =
+    omega (arith, c.self.invariant.1.counted, c.self.invariant.1.fits, some-runs c.self.inside.programs c.deref.result.now c.self.inside.queries.items c.job-job.result.now c.deref.ensures.value c.in_ok-check_result.ensures.runs)
 
 pub invariant_of-self : goal.invariant_of-self
 invariant_of-self c =
-    let right = c.is_job_of.ensures.right (inside c) c.ran-ran.result c.if-not-is_job_of.false refl (sound c) in (
-      desk-posted (inside c) c.job-job.result.now c.ran-ran.result c.in-Some.query.now c.in-Running.view c.record_answer.new.queries.items c.push_reserved.new.self.items c.self.invariant.0 (there c) right (appended c) (after c),
-      record { counted = omega (arith, c.self.invariant.1.counted, run-answered (inside c).queries c.record_answer.new.queries.items c.job-job.result.now.query c.in-Some.query.now c.in-Running.view c.ran-ran.result (there c) c.in-Running.is (after c)); fits = search rules },
+    let r = runs c in (
+      desk-posted (inside c) c.job-job.result.now c.ran-ran.result r.query r.view c.record_answer.new.queries.items c.append.new.entries.items c.self.invariant.0 r.at (answers (inside c) c.job-job.result.now c.ran-ran.result r (sound c)) (appended c) (after c),
+      record { counted = omega (arith, c.self.invariant.1.counted, run-answered (inside c).queries c.record_answer.new.queries.items c.job-job.result.now.query r.query r.view c.ran-ran.result r.at r.phase (after c)); fits = search rules },
     )
 
 pub returns : goal.returns
 returns c =
-    let fits : true ≡ is_job_of c.self.inside.programs c.job-job.result.now c.in-Some.query.now c.in-Running.view = sym c.if-not-is_job_of.false ∙ c.is_job_of.ensures.told in
+    let r = runs c in
     ap (λ (s : DeskState). posted s c.args.node c.args.done.now.job c.args.done.now.ran) (sym c.self.view_is)
     ∙ ap (λ (j : Job). posted (inside c) c.args.node j c.args.done.now.ran) (sym c.job-job.ensures.job)
-    ∙ ap (λ (r : Ran). posted (inside c) c.args.node c.job-job.result.now r) (sym c.ran-ran.ensures)
-    ∙ posts (inside c) c.args.node c.job-job.result.now c.ran-ran.result c.in-Some.query.now c.in-Running.view c.record_answer.new.queries.items c.push_reserved.new.self.items (sym c.node-owner.ensures ∙ c.if-owner-node.false) (there c) c.in-Running.is fits (appended c) (after c)
+    ∙ ap (λ (x : Ran). posted (inside c) c.args.node c.job-job.result.now x) (sym c.ran-ran.ensures)
+    ∙ posts (inside c) c.args.node c.job-job.result.now c.ran-ran.result r.query r.view c.record_answer.new.queries.items c.append.new.entries.items (own c) r.at r.phase (sym r.fits) (appended c) (after c)

@@ -1,0 +1,5 @@
+pub mod Jumps
+pub mod Line
+pub mod View
+pub mod Labels
+pub mod Placed

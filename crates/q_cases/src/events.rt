@@ -1,0 +1,110 @@
+//! Scripts as lists of events.
+
+use crate::program::program as certified;
+use q_cluster::cluster::Cluster;
+use q_history::event::Event;
+use q_script::founding::Founding;
+use q_script::line::ScriptLine;
+use q_script::script::Script;
+use q_table::program::ProgramId;
+use sc_members::config::Config;
+use sc_msg::version::Version;
+use sc_view::value::Value;
+use std::alloc::Global;
+
+/// The event of a line, at nodes of this version; none where it is a line of no event.
+fn event(alloc: Global, version: Version, line: &ScriptLine) -> Option<Event> {
+    match line {
+        ScriptLine::Program { node, code } => Some(Event::Register {
+            node: *node,
+            program: certified(alloc, version, code.as_slice())?,
+        }),
+        ScriptLine::Store { node, value } => Some(Event::Store {
+            node: *node,
+            value: Value::new(value.as_slice()).ok()?,
+        }),
+        ScriptLine::Ask {
+            node,
+            program,
+            start,
+        } => Some(Event::Ask {
+            node: *node,
+            program: ProgramId::new(u32::try_from(*program).ok()?),
+            start: *start,
+        }),
+        ScriptLine::Deliver { message, node } => Some(Event::Deliver {
+            message: *message as usize,
+            node: *node,
+        }),
+        ScriptLine::Hand { node } => Some(Event::HandOut(*node)),
+        ScriptLine::Run { job } => Some(Event::Finish(*job as usize)),
+        _ => None,
+    }
+}
+
+/// The events of a script, at nodes of this version; none where one of its lines is of no event.
+fn events(alloc: Global, version: Version, script: &Script) -> Option<Vec<Event>> {
+    let mut events = Vec::new(alloc);
+    for line in script.lines.iter() {
+        if events.push(event(alloc, version, line)?).is_err() {
+            return None;
+        }
+    }
+    Some(events)
+}
+
+/// The cluster of the founders, of this version. It is held in a box, since a proof writes out the drop of what is held
+/// by value.
+fn founded(alloc: Global, version: Version, founding: &Founding) -> Option<Box<Cluster>> {
+    let (beta, gamma) = (founding.beta, founding.gamma);
+    let config = Config::new(
+        beta.numerator,
+        beta.denominator,
+        gamma.numerator,
+        gamma.denominator,
+    );
+    let config = config.ok()?;
+    let ids: Vec<u64> = (1..=founding.count).collect(alloc).ok()?;
+    let cluster = Cluster::new_as(alloc, version, config, ids.as_slice()).ok()?;
+    Box::new(alloc, cluster).ok()
+}
+
+/// How the run of a list of events ends.
+#[derive(Clone, Copy)]
+pub enum Ending {
+    All,
+    /// The event at this place was refused with this number.
+    Refused(usize, u8),
+    /// There is no list, no cluster, or no memory.
+    Nothing,
+}
+
+/// Runs a list of events over a cluster.
+fn run_events(cluster: &mut Cluster, events: &[Event]) -> Ending {
+    match cluster.run(events) {
+        Ok(()) => Ending::All,
+        Err((place, fault)) => Ending::Refused(place, fault.reason().number()),
+    }
+}
+
+/// Runs a script's events over a cluster of its founders, of this version, which is put into `made`.
+fn run_script(
+    alloc: Global,
+    version: Version,
+    script: &Script,
+    made: &mut Option<Box<Cluster>>,
+) -> Ending {
+    *made = founded(alloc, version, &script.founding);
+    match (made, events(alloc, version, script)) {
+        (Some(cluster), Some(events)) => run_events(cluster, events.as_slice()),
+        _ => Ending::Nothing,
+    }
+}
+
+/// The same of the script that a text spells.
+pub fn run(alloc: Global, version: Version, text: &str, made: &mut Option<Box<Cluster>>) -> Ending {
+    match Script::read(alloc, text) {
+        Ok(script) => run_script(alloc, version, &script, made),
+        Err(_) => Ending::Nothing,
+    }
+}

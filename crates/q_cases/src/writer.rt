@@ -1,0 +1,49 @@
+//! Commands whose writer fails.
+
+use q_command::perform::{Outcome, carry_out};
+use q_files::files::Files;
+use q_files::memory::MemoryFiles;
+use q_wire::counted::Counted;
+use q_words::words::FileCommand;
+use std::alloc::Global;
+use std::io;
+use std::io::{ErrorKind, Write};
+
+/// A writer that takes a few bytes and then fails.
+#[derive(Drop)]
+struct Short {
+    room: usize,
+}
+
+impl Write for Short {
+    fn write(&mut self, buf: &[u8]) -> io::Result<usize> {
+        if self.room == 0 {
+            return Err(io::Error::from(ErrorKind::BrokenPipe));
+        }
+        let taken = self.room.min(buf.len());
+        self.room -= taken;
+        Ok(taken)
+    }
+
+    fn flush(&mut self) -> io::Result<()> {
+        Ok(())
+    }
+}
+
+/// How a command ended.
+fn end_of(outcome: &Outcome<'_>) -> &'static str {
+    match outcome {
+        Outcome::Answered | Outcome::Unsaved | Outcome::LineRefused => "answered",
+        Outcome::Refused(_) => "refused",
+        Outcome::Unwritten => "unwritten",
+    }
+}
+
+/// How the listing of a file ends, with room for so many bytes, and its status. The file `a` holds one instruction.
+pub fn listed(alloc: Global, room: usize, file: &str) -> (&'static str, u8) {
+    let mut files = MemoryFiles::new(alloc);
+    let _ = files.write("a", b"exit");
+    let mut out = Counted::new(Short { room });
+    let outcome = carry_out(alloc, &FileCommand::Asm { file }, &mut files, &mut out);
+    (end_of(&outcome), outcome.status())
+}

@@ -1,0 +1,2 @@
+-- The bytes of records, and the steps of a fold.
+pub mod Records

@@ -1,0 +1,15 @@
+-- What a program over the records of a view comes to.
+use Rattle.std.specs.Prelude.{ℕ, ◌*◌, ◌≤◌}
+use Rattle.std.specs.FinMap as fin
+use Rattle.sc_view.specs.Views.{ViewMap}
+use Rattle.bq_meaning.specs.Answers.{IsAnswer}
+use Rattle.bq_check.specs.Certificate.{Certificate}
+use Rattle.bq_check.specs.Certified.{IsCertified}
+use Rattle.q_fold.specs.Records.{view_records}
+
+-- the program is certified, the answer is the meaning of its text over the records from the start value, and the steps
+-- are at most those of the longest path for each record
+pub record IsFolded (program : Certificate) (view : ViewMap) (start acc steps : ℕ) : Type 0 where
+  pub certified : IsCertified program
+  pub meant : IsAnswer program.text (view_records view) start acc steps
+  pub within : steps ≤ program.longest * fin.len view

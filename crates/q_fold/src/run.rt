@@ -1,0 +1,54 @@
+//! The fold of a program over a view by the loop without tests.
+
+ghost use Rattle.std.specs.Prelude.{◌≡◌, ◌+◌, drop, length, take};
+ghost use Rattle.q_fold.specs.Folds.{IsFolded};
+ghost use Rattle.q_fold.specs.Records.{HasRecordsWithin, record_bytes};
+
+use bq_check::certified::Certified;
+use bq_frame::block::Block;
+use bq_meaning::laws::appended;
+use bq_meaning::placement::LEAST_RECORD;
+use bq_meaning::run::Ended;
+use bq_run::run::run_placed;
+use sc_view::view::{Stored, View};
+
+/// What a certified program over the records of a view comes to, from a start value: the accumulator after the last
+/// record, and all steps. It runs over a block, whose frame it clears first. The program was checked for records of the
+/// lengths that the view has, among others. Takes no memory, and has no failure.
+pub fn fold_view(certified: &Certified, view: &View, start: u64, block: &mut Block) -> Ended
+    requires { HasRecordsWithin certified.now.lengths view.now }
+    ensures { IsFolded certified.now view.now start result.acc result.steps }
+{
+    // A record run takes at most 4,096 steps.
+    let _longest = certified.longest();
+    certified.is_certified();
+    block.is_block();
+    block.clear_frame();
+    let mut ran = Ended {
+        acc: start,
+        steps: 0,
+    };
+    for (id, stored) in view.records() {
+        appended();
+        let length = place(block, id, stored);
+        let ended = run_placed(certified, length, ran.acc, block);
+        ran = Ended {
+            acc: ended.acc,
+            steps: ran.steps + ended.steps,
+        };
+    }
+    ran
+}
+
+// The bytes of an entry are put behind the frame; how many they are is answered.
+#[inline(always)]
+fn place(block: &mut Block, id: u64, stored: &Stored) -> usize
+    ensures frame { take 512 block.new ≡ take 512 block.old }
+    ensures length { result ≡ 16 + length stored.now.value }
+    ensures record { take result (drop 512 block.new) ≡ record_bytes (id, stored.now) }
+{
+    let value = stored.value();
+    let count = value.bytes().len();
+    block.set_entry(id, stored.number(), value.room(), count);
+    LEAST_RECORD + count
+}

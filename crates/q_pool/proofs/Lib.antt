@@ -1,5 +1,0 @@
-mod Rounds
-mod Passing
-mod Turning
-mod Pumping
-mod Looks

@@ -1,0 +1,2 @@
+-- The job of the first query that is ready.
+mod Jobs

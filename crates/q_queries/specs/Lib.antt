@@ -1,0 +1,2 @@
+-- What the queries of a node ask for.
+pub mod Queries

@@ -1,0 +1,3 @@
+mod Rounds
+mod Passing
+pub mod Looks

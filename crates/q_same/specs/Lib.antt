@@ -1,0 +1,2 @@
+-- When a job is that of a query.
+pub mod Same

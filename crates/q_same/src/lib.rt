@@ -1,0 +1,9 @@
+//! Whether a job is that of a query: [`is_job_of`] compares the program, the start value and the view, and not only
+//! their numbers. A right answer of such a job is then a right answer of the query. Takes no memory.
+//!
+//! `specs/Same` says when two views and two programs are the same.
+//!
+//! [`is_job_of`]: same::is_job_of
+#![tactic(auto)]
+
+pub mod same;

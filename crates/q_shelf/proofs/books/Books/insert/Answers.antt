@@ -1,0 +1,10 @@
+use Rattle.std.proofs.Common.{ap, ◌∙◌}
+use Rattle.std.specs.FinMap as fin
+use Rattle.sc_maps.proofs.Maps.{one_written}
+use Rattle.q_shelf.specs.Tables.{BookMap}
+use Rattle.q_shelf.proofs.books.Books.insert.Goals as goal
+
+pub returns-clause-ok : goal.returns-clause-ok
+returns-clause-ok c =
+    one_written c.self.inside.entries.entries c.insert.new.self.entries c.args.id c.args.book c.in_ok-insert.ensures.updates.0
+    ∙ ap (λ (m : BookMap). fin.insert m c.args.id c.args.book) c.self.view_is

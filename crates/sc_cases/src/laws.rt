@@ -1,0 +1,263 @@
+//! Laws, and calls that go both ways.
+//!
+//! - `laws`: each law is called.
+//! - `again VERSION HEX`: what is written of the message that these bytes spell in that version, and its sender once it
+//!   was written and read again, in version 1 in both versions.
+//! - `forms`: what a view and a sorted map reply to the same commands.
+
+use crate::bytes::bytes_of;
+use crate::words::version_of;
+use crate::{lengths, memory};
+use sc_decode::decode::decode_as;
+use sc_decode::laws::{
+    read_and_written, read_and_written_v1, written_and_read, written_and_read_v1,
+};
+use sc_lengths::laws::{
+    collect_keeps_lengths, delivery_keeps_lengths, leave_keeps_lengths, new_nodes_have_no_value,
+    store_keeps_lengths,
+};
+use sc_msg::encode::EncodeFault;
+use sc_msg::fault::MessageFault;
+use sc_msg::laws::{
+    first_fits_second, one_fault, one_spelling, spelled_has_no_fault, spelled_is_small,
+};
+use sc_msg::message::Message;
+use sc_msg::version::Version;
+use sc_view::form::{Command, Reply, ViewForm, run};
+use sc_view::laws::{
+    merge_has_the_newest, merge_is_idempotent, merge_is_least_upper_bound,
+    merge_takes_the_larger_number, order_is_partial,
+};
+use sc_view::sorted::SortedView;
+use sc_view::value::{VALUE_LENGTH, Value};
+use sc_view::view::{Stored, View};
+use sc_world::laws::regular;
+use std::alloc::{AllocError, Global};
+use std::io;
+
+fn laws_of_views() {
+    merge_has_the_newest();
+    merge_takes_the_larger_number();
+    order_is_partial();
+    merge_is_least_upper_bound();
+    merge_is_idempotent();
+}
+
+fn laws_of_messages() {
+    one_spelling();
+    one_fault();
+    spelled_has_no_fault();
+    spelled_is_small();
+    first_fits_second();
+}
+
+fn laws_of_lengths() {
+    new_nodes_have_no_value();
+    store_keeps_lengths();
+    collect_keeps_lengths();
+    leave_keeps_lengths();
+    delivery_keeps_lengths();
+}
+
+fn laws(rt: &impl Print) -> io::Result<()> {
+    laws_of_views();
+    laws_of_messages();
+    laws_of_lengths();
+    regular();
+    println!(rt; " called")
+}
+
+/// The sender of a message that was written and read again in version 1.
+fn sender_after_first(alloc: Global, message: &Message) -> Result<u64, EncodeFault> {
+    match written_and_read_v1(alloc, message) {
+        Ok(again) => Ok(again.from),
+        Err(fault) => Err(fault),
+    }
+}
+
+/// The sender of a message that was written and read again, in version 1 in both versions.
+fn sender_after(alloc: Global, version: Version, message: &Message) -> Result<u64, EncodeFault> {
+    match (version, written_and_read(alloc, message)) {
+        (Version::First, Ok(again)) => sender_after_first(alloc, &again),
+        (Version::Second, Ok(again)) => Ok(again.from),
+        (_, Err(_)) => Err(EncodeFault::OutOfMemory),
+    }
+}
+
+fn tell_sender(rt: &impl Print, sender: Result<u64, EncodeFault>) -> io::Result<()> {
+    match sender {
+        Ok(id) => println!(rt; " from {id}"),
+        Err(fault) => println!(rt; " refused {}", fault.reason()),
+    }
+}
+
+/// The bytes that are written of the message that bytes spell.
+fn written(alloc: Global, version: Version, bytes: &[u8]) -> Result<Vec<u8>, MessageFault> {
+    match version {
+        Version::First => read_and_written_v1(alloc, bytes),
+        Version::Second => read_and_written(alloc, bytes),
+    }
+}
+
+fn refuse(rt: &impl Print, fault: MessageFault) -> io::Result<()> {
+    println!(rt; " refused {}", fault.reason())
+}
+
+fn tell_written(rt: &impl Print, alloc: Global, version: Version, bytes: &[u8]) -> io::Result<()> {
+    match written(alloc, version, bytes) {
+        Ok(written) => println!(rt; " {}", hex::encode(alloc, written.as_slice())?),
+        Err(fault) => refuse(rt, fault),
+    }
+}
+
+fn tell_read(rt: &impl Print, alloc: Global, version: Version, bytes: &[u8]) -> io::Result<()> {
+    match decode_as(alloc, version, bytes) {
+        Ok(message) => tell_sender(rt, sender_after(alloc, version, &message)),
+        Err(fault) => refuse(rt, fault),
+    }
+}
+
+fn tell_both(rt: &impl Print, alloc: Global, version: Version, bytes: &[u8]) -> io::Result<()> {
+    tell_written(rt, alloc, version, bytes)?;
+    tell_read(rt, alloc, version, bytes)
+}
+
+fn again(rt: &impl Print, alloc: Global, version: Version, digits: &str) -> io::Result<()> {
+    match bytes_of(alloc, digits) {
+        Some(bytes) => tell_both(rt, alloc, version, bytes.as_slice()),
+        None => println!(rt; " no digits"),
+    }
+}
+
+fn tell_again(rt: &impl Print, alloc: Global, version: &str, digits: &str) -> io::Result<()> {
+    match version_of(version) {
+        Some(version) => again(rt, alloc, version, digits),
+        None => println!(rt; " no version"),
+    }
+}
+
+fn stored(number: u64) -> Option<Stored> {
+    Stored::new(number, Value::from(&[7; VALUE_LENGTH]))
+}
+
+/// What the other view is told first.
+fn told(newest: Stored, first: Stored) -> [Command; 2] {
+    [Command::Put(1, newest), Command::Put(2, first)]
+}
+
+fn asked(newer: Stored, first: Stored) -> [Command; 7] {
+    [
+        Command::Put(1, newer),
+        Command::Get(1),
+        Command::Merge,
+        Command::Get(1),
+        Command::Get(2),
+        Command::Get(3),
+        Command::Put(2, first),
+    ]
+}
+
+/// What a form replies.
+fn replies_of<V: ViewForm>(
+    alloc: Global,
+    view: &mut V,
+    other: &mut V,
+    told: &[Command],
+    asked: &[Command],
+) -> Result<Vec<Reply>, AllocError> {
+    let _told = run(alloc, other, view, told)?;
+    run(alloc, view, other, asked)
+}
+
+fn replies_of_chunks(
+    alloc: Global,
+    told: &[Command],
+    asked: &[Command],
+) -> Result<Vec<Reply>, AllocError> {
+    replies_of(
+        alloc,
+        &mut View::new(alloc),
+        &mut View::new(alloc),
+        told,
+        asked,
+    )
+}
+
+fn replies_of_a_sorted_map(
+    alloc: Global,
+    told: &[Command],
+    asked: &[Command],
+) -> Result<Vec<Reply>, AllocError> {
+    replies_of(
+        alloc,
+        &mut SortedView::new(alloc),
+        &mut SortedView::new(alloc),
+        told,
+        asked,
+    )
+}
+
+fn tell_reply(rt: &impl Print, reply: &Reply) -> io::Result<()> {
+    match reply {
+        Reply::Known(Some(stored)) => print!(rt; " {}", stored.number()),
+        Reply::Known(None) => print!(rt; " none"),
+        Reply::Learned(Ok(())) => print!(rt; " learned"),
+        Reply::Learned(Err(fault)) => print!(rt; " refused {}", fault.reason()),
+    }
+}
+
+fn tell_replies(rt: &impl Print, replies: &[Reply]) -> io::Result<()> {
+    for reply in replies {
+        tell_reply(rt, reply)?;
+    }
+    println!(rt; "")
+}
+
+fn tell_alike(rt: &impl Print, replies: &[Reply], others: &[Reply]) -> io::Result<()> {
+    tell_replies(rt, replies)?;
+    println!(rt;
+        "{}",
+        if replies == others {
+            " alike"
+        } else {
+            " not alike"
+        }
+    )
+}
+
+fn tell_forms(
+    rt: &impl Print,
+    alloc: Global,
+    told: &[Command],
+    asked: &[Command],
+) -> io::Result<()> {
+    match (
+        replies_of_chunks(alloc, told, asked),
+        replies_of_a_sorted_map(alloc, told, asked),
+    ) {
+        (Ok(replies), Ok(others)) => tell_alike(rt, replies.as_slice(), others.as_slice()),
+        _ => Err(AllocError.into()),
+    }
+}
+
+fn forms(rt: &impl Print, alloc: Global) -> io::Result<()> {
+    match (stored(1), stored(2), stored(3)) {
+        (Some(first), Some(newer), Some(newest)) => {
+            tell_forms(rt, alloc, &told(newest, first), &asked(newer, first))
+        }
+        _ => println!(rt; " no number"),
+    }
+}
+
+/// What a line about these asks for, or about lengths of values. Another line is left as it is.
+pub(crate) fn tell(rt: &impl Print, alloc: Global, words: &[&str]) -> io::Result<()> {
+    match words {
+        ["laws"] => laws(rt),
+        ["forms"] => forms(rt, alloc),
+        ["memory", name] => memory::tell(rt, alloc, name),
+        ["again", version, digits] => tell_again(rt, alloc, version, digits),
+        ["fits", count] => lengths::tell_fits(rt, alloc, count),
+        ["lengths", least, most, counts @ ..] => lengths::tell(rt, alloc, (least, most), counts),
+        _ => Ok(()),
+    }
+}

@@ -1,0 +1,2 @@
+-- Lemmas on entries.
+pub mod EntryLemmas

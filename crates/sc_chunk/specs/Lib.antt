@@ -1,0 +1,2 @@
+-- Entries in rising id order, and which number is newer.
+pub mod Entries

@@ -1,0 +1,2 @@
+-- Bytes behind a message.
+pub mod Extra

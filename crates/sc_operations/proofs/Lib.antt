@@ -1,0 +1,2 @@
+-- Lemmas on tables of operations.
+pub mod Tables

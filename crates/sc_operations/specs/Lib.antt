@@ -1,0 +1,2 @@
+-- What an operation is, and how it is moved.
+pub mod Sessions
