@@ -197,9 +197,17 @@ fn replies_of_a_sorted_map(
     )
 }
 
+/// The number of what is known, where it is what was put under that number.
+fn tell_known(rt: &impl Print, known: &Stored) -> io::Result<()> {
+    match stored(known.number()) {
+        Some(put) if put == *known => print!(rt; " {}", known.number()),
+        _ => print!(rt; " changed"),
+    }
+}
+
 fn tell_reply(rt: &impl Print, reply: &Reply) -> io::Result<()> {
     match reply {
-        Reply::Known(Some(stored)) => print!(rt; " {}", stored.number()),
+        Reply::Known(Some(known)) => tell_known(rt, known),
         Reply::Known(None) => print!(rt; " none"),
         Reply::Learned(Ok(())) => print!(rt; " learned"),
         Reply::Learned(Err(fault)) => print!(rt; " refused {}", fault.reason()),
