@@ -1,8 +1,8 @@
 -- The command that the words name.
-use Rattle.std.proofs.Common.{◌≡◌, ℕ, ◌∙◌, Bool, true, false, List, [], ◌∷◌, Option, Some, None, ap, ap₂, refl, sym, codes, Bor, option_map, unwrap_or, IsSomeAnd, is_some, map, cond, ◌⊎◌, inl, inr, subst, true≢false}
+use Rattle.std.proofs.Common.{◌≡◌, ℕ, ◌∙◌, Bool, true, false, List, [], ◌∷◌, Option, Some, None, MatchOption, ap, ap₂, refl, sym, codes, Bor, option_map, unwrap_or, IsSomeAnd, is_some, map, cond, ◌⊎◌, inl, inr, subst, true≢false}
 use Rattle.std.specs.Prelude.{Box, find, Result, Ok, Err, IfOk, MatchResult, ◌||◌}
 use Rattle.std.specs.Box.{box_value}
-use Rattle.std.specs.Option.{SomeIff, ok_or}
+use Rattle.std.specs.Option.{SomeIff}
 use Rattle.std.proofs.lemmas.Fmt.{decimal_injective}
 use Rattle.bq_range.specs.Interval.{Interval, between}
 use Rattle.bq_state.specs.Kinds.{AreLengths}
@@ -87,25 +87,29 @@ entered_in : (a : App) (stop : Option (Text × List Text)) (p : Text × List Row
 entered_in a None p e = absurd (not_some p e)
 entered_in a (Some q) p e = find_in (λ s. answers_to q.0 (label_of s)) a.subs q.1 p e
 
-all_names : names (built bqview).subs ≡ codes "asm" ∷ codes "check" ∷ codes "run" ∷ codes "sim" ∷ codes "cluster" ∷ codes "audit" ∷ []
+abbrev commands : List Text
+commands = codes "asm" ∷ codes "dis" ∷ codes "check" ∷ codes "run" ∷ codes "sim" ∷ codes "cluster" ∷ codes "audit" ∷ []
+
+all_names : names (built bqview).subs ≡ commands
 all_names = refl
 
-one_of_six : (n : Text) → In n (codes "asm" ∷ codes "check" ∷ codes "run" ∷ codes "sim" ∷ codes "cluster" ∷ codes "audit" ∷ []) → (n ≡ codes "asm" → ⊥) → (n ≡ codes "check" → ⊥) → (n ≡ codes "run" → ⊥) → (n ≡ codes "sim" → ⊥)
-    → (n ≡ codes "cluster" → ⊥) → (n ≡ codes "audit" → ⊥) → ⊥
-one_of_six n h a b c d f k = elim h [
-  | inl e ↦ a e
-  | inr h ↦ elim h [ inl e ↦ b e | inr h ↦ elim h [ inl e ↦ c e | inr h ↦ elim h [ inl e ↦ d e | inr h ↦ elim h [ inl e ↦ f e | inr h ↦ elim h [ inl e ↦ k e | inr h ↦ h ] ] ] ] ]
-]
+-- the name of what was met is none of these
+abbrev MetNone : Option Text → List Text → Type 0
+MetNone met [] = Unit {0}
+MetNone met (name ∷ others) = (met ≡ Some name → ⊥) × MetNone met others
 
+none_of : (n : Text) (ns : List Text) → In n ns → MetNone (Some n) ns → ⊥
+none_of n [] h k = h
+none_of n (m ∷ ms) h k = elim h [ inl e ↦ k.0 (ap (λ t. Some t) e) | inr h ↦ none_of n ms h k.1 ]
+
+-- a command was met, so its name is one of those
 pub other_command : {Z : Type 0} (o : Option (Box SubCommand Z)) (words : List Text) → is_some o ≡ true → subcommand_rows o ≡ subcommand_of bqview words
-    → let name = option_map (λ b. (out-SubCommand (box_value b)).name.now) o in (name ≡ Some (codes "asm") → ⊥) → (name ≡ Some (codes "check") → ⊥) → (name ≡ Some (codes "run") → ⊥) → (name ≡ Some (codes "sim") → ⊥)
-    → (name ≡ Some (codes "cluster") → ⊥) → (name ≡ Some (codes "audit") → ⊥) → ⊥
-other_command None words s e a b c d f k = true≢false (sym s)
-other_command (Some x) words s e a b c d f k =
+    → MetNone (option_map (λ b. (out-SubCommand (box_value b)).name.now) o) commands → ⊥
+other_command None words s e none = true≢false (sym s)
+other_command (Some x) words s e none =
     let n : Text = (out-SubCommand (box_value x)).name.now in
     let known = entered_in (built bqview) (stop_after (built bqview).top.rules (names_of (built bqview)) (argument_words bqview words)) (n, rows_of (found_of (out-SubCommand (box_value x)).matches)) (sym e) in
-    one_of_six n (subst (In n) all_names known) (λ h. a (ap (λ t. Some t) h)) (λ h. b (ap (λ t. Some t) h)) (λ h. c (ap (λ t. Some t) h)) (λ h. d (ap (λ t. Some t) h))
-    (λ h. f (ap (λ t. Some t) h)) (λ h. k (ap (λ t. Some t) h))
+    none_of n commands (subst (In n) all_names known) none
 
 -- ---- how commands are put together
 
@@ -132,8 +136,8 @@ below_one_more old below (Err e) app under h has low = tt
 read_so : (words : List Text) (r : Result Wanted WordsFault) (met : Text × List Row) → fault_of bqview words ≡ [] → subcommand_of bqview words ≡ Some met
     → MatchResult r (λ asked. IsMet asked met) (λ e. HasLineFault e met) → Reads words r
 read_so words (Ok asked) met n s h = (n, was_met (IsMet asked) _ met s h)
-read_so words (Err BadStart) met n s h = (n, was_met (HasLineFault BadStart) _ met s h)
-read_so words (Err BadLengths) met n s h = (n, was_met (HasLineFault BadLengths) _ met s h)
+read_so words (Err (BadStart start)) met n s h = (n, was_met (HasLineFault (BadStart start)) _ met s h)
+read_so words (Err (BadLengths command least most)) met n s h = (n, was_met (HasLineFault (BadLengths command least most)) _ met s h)
 read_so words (Err (Help e)) met n s h = absurd h
 read_so words (Err (Wrong e)) met n s h = absurd h
 read_so words (Err NotUtf8) met n s h = absurd h
@@ -149,28 +153,12 @@ was_named m words is kinds matches name rows named found r h =
 
 -- ---- lengths of records
 
-some_of : (o : Option ℕ) (n : ℕ) → Ok n ≡ ok_or o BadLengths → o ≡ Some n
-some_of None n h = absurd cc
-some_of (Some x) n h = cc
-
 -- a text spells one number
 same_number : (t : Text) (n m : ℕ) → words.IsNumeral t n → words.IsNumeral t m → n ≡ m
 same_number t n m h k = decimal_injective n m h.0 k.0 (sym h.1 ∙ k.1)
 
-given : (rows : List Row) (a b : Option ℕ) (n m : ℕ) → words.Reads words.IsNumeral (operand_of (codes "least") rows) a → words.Reads words.IsNumeral (operand_of (codes "most") rows) b → a ≡ Some n → b ≡ Some m
-    → AreGivenFor rows n m
-given rows a b n m h k e f = (subst (λ o. words.Reads words.IsNumeral (operand_of (codes "least") rows) o) e h, subst (λ o. words.Reads words.IsNumeral (operand_of (codes "most") rows) o) f k)
-
-bounded : (rows : List Row) (n m : ℕ) (o : Option Interval) → AreGivenFor rows n m → SomeIff o (AreLengths (between n m)) (between n m)
-    → MatchResult {E = WordsFault} (ok_or o BadLengths) (AreGiven rows) (λ e. (e ≡ BadLengths) × AreBad rows)
-bounded rows n m (Some l) g h = subst (AreGiven rows) (sym h.1) (h.0, g)
-bounded rows n m None g h = (
-  refl,
-  λ l k. h (subst AreLengths (ap₂ between (same_number (operand_of (codes "least") rows) l.lo n k.1.0 g.0) (same_number (operand_of (codes "most") rows) l.hi m k.1.1 g.1)) k.0),
-)
-
--- what is read of two numbers
-pub lengths_read : (rows : List Row) (a b : Option ℕ) (n m : ℕ) (o : Option Interval) (r : Result Interval WordsFault) → words.Reads words.IsNumeral (operand_of (codes "least") rows) a → words.Reads words.IsNumeral (operand_of (codes "most") rows) b
-    → Ok n ≡ ok_or a BadLengths → Ok m ≡ ok_or b BadLengths → SomeIff o (AreLengths (between n m)) (between n m) → r ≡ ok_or o BadLengths
-    → MatchResult r (AreGiven rows) (λ e. (e ≡ BadLengths) × AreBad rows)
-lengths_read rows a b n m o r h k e f i is = subst (λ r. MatchResult r (AreGiven rows) (λ e. (e ≡ BadLengths) × AreBad rows)) (sym is) (bounded rows n m o (given rows a b n m h k (some_of a n e) (some_of b m f)) i)
+-- the lengths that were read of two numbers, if they are some
+pub lengths_read : (rows : List Row) (n m : ℕ) (o : Option Interval) → AreGivenFor rows n m → SomeIff o (AreLengths (between n m)) (between n m) → MatchOption o (AreBad rows) (AreGiven rows)
+lengths_read rows n m (Some l) g h = subst (AreGiven rows) (sym h.1) (h.0, g)
+lengths_read rows n m None g h = λ l k.
+    h (subst AreLengths (ap₂ between (same_number (operand_of (codes "least") rows) l.lo n k.1.0 g.0) (same_number (operand_of (codes "most") rows) l.hi m k.1.1 g.1)) k.0)
