@@ -107,7 +107,7 @@ module _ (c : ClusterState) (id : ℕ) where
 
 -- what is printed of one
 pub longer_refused : {X E : Type 0} (r : Result X E) (s t : SimState) (node : ℕ) (value : List ℕ) (f : ClusterFault) (before after : List ℕ) → RefusesLonger s.cluster node f → most_bytes < length value
-    → OnOk r (t ≡ refusing s) → OnOk r (after ≡ before ++ refusal_line (refusal.Cluster f)) → OnOk r ((text : List ℕ) × Acts (event.Store node value) s text t × (after ≡ before ++ text))
+    → OnOk r (t ≡ refusing (refusal.Cluster f) s) → OnOk r (after ≡ before ++ refusal_line (refusal.Cluster f)) → OnOk r ((text : List ℕ) × Acts (event.Store node value) s text t × (after ≡ before ++ text))
 longer_refused (Err x) s t node value f before after refuses over same line = tt
 longer_refused (Ok x) s t node value f before after refuses over same line = (
   refusal_line (refusal.Cluster f),
@@ -117,7 +117,8 @@ longer_refused (Ok x) s t node value f before after refuses over same line = (
     nodes = ap (λ (x : SimState). x.nodes) same;
     delivered = ap (λ (x : SimState). x.delivered) same;
     unwritten = ap (λ (x : SimState). x.unwritten) same;
-    refused = ap (λ (x : SimState). x.refused) same;
+    line = ap (λ (x : SimState). x.line) same;
+    faults = ap (λ (x : SimState). x.faults) same;
     says = refl;
   },
   line,
