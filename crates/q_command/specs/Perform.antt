@@ -3,12 +3,12 @@ use Rattle.std.specs.Prelude.{◌≡◌, ◌≢◌, ◌⊎◌, ◌&&◌, ℕ, Bo
 use Rattle.std.specs.Fmt.{decimal}
 use Rattle.std.specs.Io.KnownBytes.{Appends}
 use Rattle.bq_insn.specs.declared.insn.Insn.{Insn}
-use Rattle.bq_insn.specs.Fault as bytes
+use Rattle.bq_insn.specs.Fault as decoder
 use Rattle.bq_insn.specs.Slots.{spelling, IsText}
 use Rattle.bq_asm.specs.Source as assembler
 use Rattle.bq_asm.specs.Source.{IsSource, disassembly}
 use Rattle.bq_check.specs.Spelling.{notes_bytes}
-use Rattle.bq_check.specs.declared.form.Form.TheVariants as notes_form
+use Rattle.bq_check.specs.declared.form.Form.TheVariants.{Second}
 use Rattle.bq_flow.specs.Paths.{IsLongest}
 use Rattle.bq_range.specs.Interval.{Interval}
 use Rattle.bq_state.specs.Kinds.{StateKinds}
@@ -30,7 +30,12 @@ use Rattle.q_sim.specs.Refusal.{refusal_line, refusal_of}
 use Rattle.q_sim.specs.Simulates.{IsSimulationFault, Simulates, Writing}
 use Rattle.q_command.specs.Audit.{Audits, IsUnaudited}
 use Rattle.q_command.specs.Listing.{listing_of}
+use Rattle.q_files.specs.Files.{Reading}
+use Rattle.q_files.specs.declared.TheConstants.{LONGEST_TEXT}
 use Rattle.q_files.specs.declared.files.FileFault.{FileFault}
+use Rattle.q_files.specs.declared.files.FileFault.TheVariants.{Failed}
+use Rattle.q_command.specs.declared.TheConstants.{LONGEST_JOURNAL}
+use Rattle.q_command.specs.declared.check.Check.{Check as Checking}
 use Rattle.q_command.specs.declared.denied.Denied.{Denied}
 use Rattle.q_command.specs.declared.perform.Outcome.{Outcome}
 use Rattle.q_command.specs.declared.perform.Outcome.TheVariants.{Answered, Unsaved, LineRefused, Refused, Unwritten}
@@ -42,6 +47,11 @@ use Rattle.q_words.specs.declared.words.FileCommand.{FileCommand}
 use Rattle.q_words.specs.declared.words.FileCommand.TheVariants.{Asm, Dis, Check, Run, Sim, Audit}
 use Rattle.q_words.specs.declared.words.Form.{Form}
 use Rattle.q_words.specs.declared.words.Form.TheVariants.{Text, Bytes}
+use denote.Ref.{Bor}
+
+-- what a read of a name may answer, of a file of some kind, over files that stand thus before and after
+abbrev pub ReadingOf : Type 0 → Type 1
+ReadingOf F = F → List ℕ → Result (List ℕ) FileFault → F → Type 0
 
 -- ---- programs
 
@@ -73,7 +83,7 @@ abbrev pub IsUnspelled : Form → List ℕ → Refusal → Type 0
 IsUnspelled Text source refusal.FileFailed = ¬ (IsUtf8 source)
 IsUnspelled Text source (refusal.Assembler f) = IsUtf8 source × assembler.IsFault source f
 IsUnspelled Text source refusal.OutOfMemory = IsUtf8 source
-IsUnspelled Bytes source (refusal.Bytes f) = bytes.IsFault source f
+IsUnspelled Bytes source (refusal.Bytes f) = decoder.IsFault source f
 IsUnspelled Bytes source refusal.OutOfMemory = (text : List Insn) × Spells Bytes source text
 IsUnspelled held source r = ⊥
 
@@ -96,27 +106,28 @@ pub record Disassembles (source lines : List ℕ) : Type 0 where
   pub program : Spells Bytes source text
   pub written : lines ≡ disassembly text
 
--- how long the longest path is, and then, where it is asked for, what is known at each unit
+-- what is told of an accepted program: how long its longest path is, and then, where it is asked for, what is known of the
+-- registers at each unit
 abbrev pub acceptance : Bool → List Insn → List (Option StateKinds) → ℕ → List ℕ
 acceptance states text notes longest =
-    codes "accepted longest " ++ (decimal longest ++ (10 ∷ [])) ++ (if states then states_text text notes else [])
+    (codes "accepted longest " ++ (decimal longest ++ 10 ∷ [])) ++ (if states then states_text text notes else [])
 
--- The lines tell of an accepted program, and its notes, where they are to be written, are written under this name. Or the
--- file fails, and that is told behind the lines.
+-- This is told. Where the notes are to be written, they are written under this name; or the file fails, and that is told
+-- after it.
 abbrev pub SavesNotes : {F : Type 0} → Writing F → Option (Bor (List ℕ)) → List (Option StateKinds) → List ℕ → F → List ℕ → Bool → F → Type 0
 SavesNotes writes None notes told before lines unwritten after = (lines ≡ told) × (unwritten ≡ false) × (after ≡ before)
-SavesNotes writes (Some out) notes told before lines unwritten after =
-    (writes before out.now (notes_bytes notes_form.Second notes) (Ok tt) after × (lines ≡ told) × (unwritten ≡ false))
-    ⊎ (writes before out.now (notes_bytes notes_form.Second notes) (Err Failed) after × (lines ≡ told ++ refusal_line refusal.FileFailed) × (unwritten ≡ true))
+SavesNotes writes (Some name) notes told before lines unwritten after =
+    (writes before name.now (notes_bytes Second notes) (Ok tt) after × (lines ≡ told) × (unwritten ≡ false))
+    ⊎ (writes before name.now (notes_bytes Second notes) (Err Failed) after × (lines ≡ told ++ refusal_line refusal.FileFailed) × (unwritten ≡ true))
 
--- what `check` says of a program, over files that stand thus before and after
-pub record Accepts {F : Type 0} (writes : Writing F) (held : Form) (lengths : Interval) (states : Bool) (out : Option (Bor (List ℕ))) (source : List ℕ) (before : F) (lines : List ℕ) (unwritten : Bool) (after : F) : Type 0 where
+-- what `check` tells of a program, over files that stand thus before and after
+pub record Accepts {F : Type 0} (writes : Writing F) (asked : Checking) (source : List ℕ) (before : F) (lines : List ℕ) (unwritten : Bool) (after : F) : Type 0 where
   pub text : List Insn
   pub notes : List (Option StateKinds)
   pub longest : ℕ
-  pub verified : IsVerified held lengths source text notes
+  pub verified : IsVerified asked.form asked.lengths source text notes
   pub is_longest : IsLongest text longest
-  pub told : SavesNotes writes out notes (acceptance states text notes longest) before lines unwritten after
+  pub told : SavesNotes writes asked.notes notes (acceptance asked.states text notes longest) before lines unwritten after
 
 -- the lines say what the program comes to over the records that are listed, each of one of the lengths, from the start
 -- value
@@ -140,33 +151,35 @@ pub record IsSimulated {F : Type 0} (writes : Writing F) (source : List ℕ) (ol
 
 -- The file is read, and its bytes give these lines. Behind the lines it is told whether a journal was not written, and
 -- whether a line was refused.
-abbrev pub AnswersFile : {F : Type 0} → (F → List ℕ → Result (List ℕ) FileFault → F → Type 0) → (List ℕ → List ℕ → Type 0) → List ℕ → F → List ℕ → Bool → Bool → F → Type 0
+abbrev pub AnswersFile : {F : Type 0} → ReadingOf F → (List ℕ → List ℕ → Type 0) → List ℕ → F → List ℕ → Bool → Bool → F → Type 0
 AnswersFile reads gives name old lines unwritten refused new =
     (bytes : List ℕ) × reads old name (Ok bytes) new × gives bytes lines × (unwritten ≡ false) × (refused ≡ false)
 
 -- a program is read, and then records, and what it computes over them is these lines
-abbrev pub AnswersRun : {F : Type 0} → (F → List ℕ → Result (List ℕ) FileFault → F → Type 0) → Form → Interval → List ℕ → ℕ → List ℕ → F → List ℕ → Bool → Bool → F → Type 0
+abbrev pub AnswersRun : {F : Type 0} → ReadingOf F → Form → Interval → List ℕ → ℕ → List ℕ → F → List ℕ → Bool → Bool → F → Type 0
 AnswersRun {F} reads held lengths name start records old lines unwritten refused new =
     (source : List ℕ) × (between : F) × reads old name (Ok source) between × AnswersFile reads (Computes held lengths source start) records between lines unwritten refused new
 
--- A program is read, and accepted with these lines. Where its notes are not written, that is a line that is refused.
-abbrev pub AnswersCheck : {F : Type 0} → (F → List ℕ → Result (List ℕ) FileFault → F → Type 0) → Writing F → Form → Interval → Bool → Option (Bor (List ℕ)) → List ℕ → F → List ℕ → Bool → Bool → F → Type 0
-AnswersCheck {F} reads writes held lengths states out name old lines unwritten refused new =
-    (source : List ℕ) × (between : F) × reads old name (Ok source) between × Accepts writes held lengths states out source between lines unwritten new × (refused ≡ unwritten)
+-- a program is read, and accepted with these lines: no line is refused
+abbrev pub AnswersCheck : {F : Type 0} → ReadingOf F → Writing F → Checking → List ℕ → F → List ℕ → Bool → Bool → F → Type 0
+AnswersCheck {F} reads writes asked name old lines unwritten refused new =
+    (source : List ℕ) × (between : F) × reads old name (Ok source) between × Accepts writes asked source between lines unwritten new × (refused ≡ false)
 
 -- a script is read, and prints these lines
-abbrev pub AnswersScript : {F : Type 0} → (F → List ℕ → Result (List ℕ) FileFault → F → Type 0) → Writing F → List ℕ → F → List ℕ → Bool → Bool → F → Type 0
+abbrev pub AnswersScript : {F : Type 0} → ReadingOf F → Writing F → List ℕ → F → List ℕ → Bool → Bool → F → Type 0
 AnswersScript {F} reads writes name old lines unwritten refused new =
     (source : List ℕ) × (between : F) × reads old name (Ok source) between × IsSimulated writes source between lines unwritten refused new
 
--- the command answers these lines, over files that stand thus before and after
-abbrev pub Answers : {F : Type 0} → (F → List ℕ → Result (List ℕ) FileFault → F → Type 0) → Writing F → FileCommand → F → List ℕ → Bool → Bool → F → Type 0
-Answers reads writes (Asm file) old lines unwritten refused new = AnswersFile reads Lists file.now old lines unwritten refused new
-Answers reads writes (Dis file) old lines unwritten refused new = AnswersFile reads Disassembles file.now old lines unwritten refused new
-Answers reads writes (Check file held lengths states out) old lines unwritten refused new = AnswersCheck reads writes held lengths states out file.now old lines unwritten refused new
-Answers reads writes (Run file held start records lengths) old lines unwritten refused new = AnswersRun reads held lengths file.now start records.now old lines unwritten refused new
-Answers reads writes (Sim script strict) old lines unwritten refused new = AnswersScript reads writes script.now old lines unwritten refused new
-Answers reads writes (Audit journal) old lines unwritten refused new = AnswersFile reads Audits journal.now old lines unwritten refused new
+-- The command answers these lines, over files that stand thus before and after. A file of text has 16 MB at most, and a
+-- journal 1,024.
+abbrev pub Answers : {F : Type 0} → Reading F → Writing F → FileCommand → F → List ℕ → Bool → Bool → F → Type 0
+Answers reads writes (Asm file) = AnswersFile (reads LONGEST_TEXT) Lists file.now
+Answers reads writes (Dis file) = AnswersFile (reads LONGEST_TEXT) Disassembles file.now
+Answers reads writes (Check file held lengths states notes) =
+    AnswersCheck (reads LONGEST_TEXT) writes (record { form = held; lengths = lengths; states = states; notes = notes }) file.now
+Answers reads writes (Run file held start records lengths) = AnswersRun (reads LONGEST_TEXT) held lengths file.now start records.now
+Answers reads writes (Sim script strict) = AnswersScript (reads LONGEST_TEXT) writes script.now
+Answers reads writes (Audit journal) = AnswersFile (reads LONGEST_JOURNAL) Audits journal.now
 
 -- ---- refusals
 
@@ -184,38 +197,38 @@ IsUnsimulated source (refusal.Script f) = IsUtf8 source × scripts.IsFault sourc
 IsUnsimulated source r = IsUtf8 source × ((script : Script) × IsScript source script × IsSimulationFault script.founding r)
 
 -- The file is not read, and nothing was read of it.
-abbrev pub IsUnread : {F : Type 0} → (F → List ℕ → Result (List ℕ) FileFault → F → Type 0) → List ℕ → F → Denied → F → Type 0
+abbrev pub IsUnread : {F : Type 0} → ReadingOf F → List ℕ → F → Denied → F → Type 0
 IsUnread reads name old denied new =
     (denied.file.now ≡ name) × (denied.bytes.items ≡ []) × ((fault : FileFault) × reads old name (Err fault) new × (denied.refusal ≡ refusal_of fault))
 
 -- The file is not read; or its bytes, which are handed out, are refused for this reason.
-abbrev pub RefusesFile : {F : Type 0} → (F → List ℕ → Result (List ℕ) FileFault → F → Type 0) → (List ℕ → Refusal → Type 0) → List ℕ → F → Denied → F → Type 0
+abbrev pub RefusesFile : {F : Type 0} → ReadingOf F → (List ℕ → Refusal → Type 0) → List ℕ → F → Denied → F → Type 0
 RefusesFile reads refuses name old denied new =
     IsUnread reads name old denied new
     ⊎ ((denied.file.now ≡ name) × reads old name (Ok denied.bytes.items) new × refuses denied.bytes.items denied.refusal)
 
 -- The program is refused, or it is accepted and the records are refused.
-abbrev pub RefusesRun : {F : Type 0} → (F → List ℕ → Result (List ℕ) FileFault → F → Type 0) → Form → Interval → List ℕ → List ℕ → F → Denied → F → Type 0
+abbrev pub RefusesRun : {F : Type 0} → ReadingOf F → Form → Interval → List ℕ → List ℕ → F → Denied → F → Type 0
 RefusesRun {F} reads held lengths name records old denied new =
     RefusesFile reads (IsUnaccepted held lengths) name old denied new
     ⊎ ((source : List ℕ) × (between : F) × reads old name (Ok source) between × IsAccepted held lengths source × RefusesFile reads (IsUnlisted lengths) records between denied new)
 
 -- The file is not read; or its bytes, which are handed out, are refused for this reason. Unless memory ran out, nothing is
 -- written.
-abbrev pub RefusesBeforeWrites : {F : Type 0} → (F → List ℕ → Result (List ℕ) FileFault → F → Type 0) → (List ℕ → Refusal → Type 0) → List ℕ → F → Denied → F → Type 0
+abbrev pub RefusesBeforeWrites : {F : Type 0} → ReadingOf F → (List ℕ → Refusal → Type 0) → List ℕ → F → Denied → F → Type 0
 RefusesBeforeWrites {F} reads refuses name old denied new =
     IsUnread reads name old denied new
     ⊎ ((between : F) × (denied.file.now ≡ name) × reads old name (Ok denied.bytes.items) between × refuses denied.bytes.items denied.refusal
     × (denied.refusal ≢ refusal.OutOfMemory → new ≡ between))
 
 -- the command is refused for this reason, over files that stand thus before and after
-abbrev pub Refuses : {F : Type 0} → (F → List ℕ → Result (List ℕ) FileFault → F → Type 0) → FileCommand → F → Denied → F → Type 0
-Refuses reads (Asm file) old denied new = RefusesFile reads (IsUnspelled Text) file.now old denied new
-Refuses reads (Dis file) old denied new = RefusesFile reads (IsUnspelled Bytes) file.now old denied new
-Refuses reads (Check file held lengths states out) old denied new = RefusesBeforeWrites reads (IsUnaccepted held lengths) file.now old denied new
-Refuses reads (Run file held start records lengths) old denied new = RefusesRun reads held lengths file.now records.now old denied new
-Refuses reads (Sim script strict) old denied new = RefusesBeforeWrites reads IsUnsimulated script.now old denied new
-Refuses reads (Audit journal) old denied new = RefusesFile reads IsUnaudited journal.now old denied new
+abbrev pub Refuses : {F : Type 0} → Reading F → FileCommand → F → Denied → F → Type 0
+Refuses reads (Asm file) = RefusesFile (reads LONGEST_TEXT) (IsUnspelled Text) file.now
+Refuses reads (Dis file) = RefusesFile (reads LONGEST_TEXT) (IsUnspelled Bytes) file.now
+Refuses reads (Check file held lengths states notes) = RefusesBeforeWrites (reads LONGEST_TEXT) (IsUnaccepted held lengths) file.now
+Refuses reads (Run file held start records lengths) = RefusesRun (reads LONGEST_TEXT) held lengths file.now records.now
+Refuses reads (Sim script strict) = RefusesBeforeWrites (reads LONGEST_TEXT) IsUnsimulated script.now
+Refuses reads (Audit journal) = RefusesFile (reads LONGEST_JOURNAL) IsUnaudited journal.now
 
 -- ---- commands over one file
 
@@ -240,7 +253,7 @@ end_of strict unwritten refused = if unwritten then Unsaved else (if strict && r
 
 -- The command ends so, over files and a writer that stand thus before and after: the writer took exactly the lines of the
 -- answer, or exactly the line of the refusal. Where the writer failed, it was given one of the two, and may have taken a part.
-abbrev pub Ends : {F : Type 0} → (F → List ℕ → Result (List ℕ) FileFault → F → Type 0) → Writing F → FileCommand → F → Option (List ℕ) → Outcome → F → Option (List ℕ) → Type 0
+abbrev pub Ends : {F : Type 0} → Reading F → Writing F → FileCommand → F → Option (List ℕ) → Outcome → F → Option (List ℕ) → Type 0
 Ends reads writes line old before (Refused denied) new after = Refuses reads line old denied new × Appends before after (refusal_line denied.refusal)
 Ends reads writes line old before Unwritten new after =
     ((lines : List ℕ) × (unwritten refused : Bool) × Answers reads writes line old lines unwritten refused new)

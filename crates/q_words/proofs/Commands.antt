@@ -157,6 +157,14 @@ was_named m words is kinds matches name rows named found r h =
 same_number : (t : Text) (n m : ℕ) → words.IsNumeral t n → words.IsNumeral t m → n ≡ m
 same_number t n m h k = decimal_injective n m h.0 k.0 (sym h.1 ∙ k.1)
 
+-- the numbers that were read of what was given
+pub were_given : (rows : List Row) (least most : Text) (a b : Option ℕ) (n m : ℕ) → least ≡ operand_of (codes "least") rows → most ≡ operand_of (codes "most") rows → words.Reads words.IsNumeral least a → words.Reads words.IsNumeral most b → a ≡ Some n → b ≡ Some m
+    → AreGivenFor rows n m
+were_given rows least most a b n m is_least is_most h k e f = (
+  subst (λ o. words.Reads words.IsNumeral (operand_of (codes "least") rows) o) e (subst (λ t. words.Reads words.IsNumeral t a) is_least h),
+  subst (λ o. words.Reads words.IsNumeral (operand_of (codes "most") rows) o) f (subst (λ t. words.Reads words.IsNumeral t b) is_most k),
+)
+
 -- the lengths that were read of two numbers, if they are some
 pub lengths_read : (rows : List Row) (n m : ℕ) (o : Option Interval) → AreGivenFor rows n m → SomeIff o (AreLengths (between n m)) (between n m) → MatchOption o (AreBad rows) (AreGiven rows)
 lengths_read rows n m (Some l) g h = subst (AreGiven rows) (sym h.1) (h.0, g)

@@ -198,10 +198,12 @@ impl From<AllocError> for WordsFault<'_> {
 pub const VERSION: &str = "0.1.0";
 
 /// What FILE names.
-const ASSEMBLER: &str = "A file of assembler text, one instruction a line; `-` is the standard input";
+const ASSEMBLER: &str =
+    "A file of assembler text, one instruction a line; `-` is the standard input";
 
 /// What FILE names where it may hold bytes.
-const PROGRAM: &str = "A file of assembler text, or with --bytes of the program's bytes; `-` is the standard input";
+const PROGRAM: &str =
+    "A file of assembler text, or with --bytes of the program's bytes; `-` is the standard input";
 
 /// A command of this name, with nothing below it yet.
 fn new_command<'a>(alloc: Global, name: &'a str, about: &'a str, after_help: &'a str) -> Command<'a>
@@ -506,7 +508,9 @@ fn bare_program<'a>(alloc: Global) -> Command<'a>
     Command::new(alloc, "bqview")
         .about("Programs of RFC 9669 over store-collect views")
         .version(VERSION)
-        .after_help("A file named `-` is the standard input. `bqview COMMAND --help` tells of a command.\nExit status: 0; 1 after a refusal, or where a file or the output fails; 2 for a wrong command line.\nExample: bqview sim examples/count.sim\nFormats: docs/FORMATS.md, refusals: docs/REFUSALS.md")
+        .after_help(
+            "A file named `-` is the standard input. `bqview COMMAND --help` tells of a command.\nExit status: 0; 1 after a refusal, or where a file or the output fails; 2 for a wrong command line.\nExample: bqview sim examples/count.sim\nFormats: docs/FORMATS.md, refusals: docs/REFUSALS.md",
+        )
         .subcommand_required(true)
         .disable_help_subcommand(true)
 }
@@ -654,10 +658,7 @@ pub fn given_words(
 }
 
 /// Reads the words of the command line, of which the first is the program's name.
-pub fn read_words<'a, S: AsStr>(
-    alloc: Global,
-    words: &'a [S],
-) -> Result<Wanted<'a>, WordsFault<'a>>
+pub fn read_words<'a, S: AsStr>(alloc: Global, words: &'a [S]) -> Result<Wanted<'a>, WordsFault<'a>>
     ensures { Reads (map S.text words.entry.now) result }
 {
     let matches = program(alloc)?.try_get_matches_from(words)?;

@@ -17,7 +17,7 @@ returns-in-Some g c =
 pub returns-in-Some-subcommand_matches : goal.returns-in-Some-subcommand_matches
 returns-in-Some-subcommand_matches g c =
     was_named c.in_ok-matches.matches (map g.S.AsStr.text c.args.words.now) c.in_ok-program.ensures.0 c.in_ok-matches.ensures.kinds c.in_ok-matches.ensures.matches
-    (codes "dis") (rows_of (found_of c.in-Some-subcommand_matches.found.now)) (search rules) c.in-Some-subcommand_matches.ensures.rows (Ok (FileCommand (Dis c.operand_text-file-2.result))) (refl, c.operand_text-file-2.ensures)
+    (codes "dis") (rows_of (found_of c.in-Some-subcommand_matches.found.now)) (search rules) c.in-Some-subcommand_matches.ensures.rows (Ok (FileCommand (Dis c.operand_text-file-in-Some-subcommand_matches.result))) (refl, c.operand_text-file-in-Some-subcommand_matches.ensures)
 
 pub returns-in-Some-subcommand_matches-2 : goal.returns-in-Some-subcommand_matches-2
 returns-in-Some-subcommand_matches-2 g c =
@@ -51,10 +51,20 @@ unreachable-requires g c =
     let needs : has_subcommand c.in_ok-matches.matches ≡ true = subcommand_required c.in_ok-program.field-0 c.in_ok-matches.matches c.in_ok-matches.ensures.parsed c.in_ok-program.ensures.1 (ap (λ (a : App). a.top.subcommand_required) is_app) in
     other_command (out-ArgMatches c.in_ok-matches.matches).subcommand words needs (found_said c.in_ok-matches.matches words is_app c.in_ok-matches.ensures.matches) (
       λ h. true≢false (sym (c.in_default.ensures.found.1 h)),
-      (λ h. true≢false (sym (c.in_default-subcommand_matches.ensures.found.1 h)),
-      (λ h. true≢false (sym (c.in_default-subcommand_matches-2.ensures.found.1 h)),
-      (λ h. true≢false (sym (c.in_default-subcommand_matches-3.ensures.found.1 h)),
-      (λ h. true≢false (sym (c.in_default-subcommand_matches-4.ensures.found.1 h)),
-      (λ h. true≢false (sym (c.in_default-subcommand_matches-5.ensures.found.1 h)),
-      (λ h. true≢false (sym (c.in-None.ensures.found.1 h)), tt)))))),
+      (
+        λ h. true≢false (sym (c.in_default-subcommand_matches.ensures.found.1 h)),
+        (
+          λ h. true≢false (sym (c.in_default-subcommand_matches-2.ensures.found.1 h)),
+          (
+            λ h. true≢false (sym (c.in_default-subcommand_matches-3.ensures.found.1 h)),
+            (
+              λ h. true≢false (sym (c.in_default-subcommand_matches-4.ensures.found.1 h)),
+              (
+                λ h. true≢false (sym (c.in_default-subcommand_matches-5.ensures.found.1 h)),
+                (λ h. true≢false (sym (c.in-None.ensures.found.1 h)), tt),
+              ),
+            ),
+          ),
+        ),
+      ),
     )
