@@ -5,6 +5,7 @@ ghost use Rattle.bq_sound.specs.Passes.{Passes};
 ghost use Rattle.bq_verify.specs.Least.{AreLeast};
 ghost use Rattle.q_command.specs.Perform.{Answers, AnswersCheck, AnswersFile, AnswersRun, AnswersScript, Computes, Disassembles, Ends, IsSimulated, IsUnaccepted, IsUnlisted, IsUnmade, IsUnread, IsUnspelled, IsUnsimulated, Lists, Makes, Refuses, RefusesBeforeWrites, RefusesFile, RefusesRun, Spells, end_of, failures_after, status_of};
 
+use crate::answer::Answer;
 use crate::audit::audit;
 use crate::check::{Check, checked};
 use crate::denied::Denied;
@@ -134,16 +135,19 @@ fn told<'a>(
     answer: Result<String, Refusal>,
     file: &'a str,
     bytes: Vec<u8>,
-) -> Result<Printed, Denied<'a>>
-    ensures told { IfOk result (λ p. (answer ≡ Ok p.lines) × (p.unwritten ≡ false) × (p.refused ≡ false)) }
+) -> Result<Answer, Denied<'a>>
+    ensures told { IfOk result (λ p. (answer ≡ Ok p.printed.lines) × (p.printed.unwritten ≡ false) × (p.printed.refused ≡ false)) }
     ensures refused { IfErr result (λ denied. (answer ≡ Err denied.refusal) × (denied.file.now ≡ file.now) × (denied.bytes.items ≡ bytes.items)) }
 {
     match answer {
-        Ok(lines) => Ok(Printed {
-            lines,
-            unwritten: false,
-            refused: false,
-            faults: Vec::new(alloc),
+        Ok(lines) => Ok(Answer {
+            printed: Printed {
+                lines,
+                unwritten: false,
+                refused: false,
+                faults: Vec::new(alloc),
+            },
+            source: Vec::new(alloc),
         }),
         Err(refusal) => Err(Denied {
             refusal,
@@ -189,7 +193,7 @@ fn file_answer<'a, F: Files>(
 {
     let bytes = read(alloc, file, most, files)?;
     let lines = made(alloc, work, bytes.as_slice());
-    Ok(Answer::of(alloc, told(alloc, lines, file, bytes)?))
+    told(alloc, lines, file, bytes)
 }
 
 /// What `check` prints.
@@ -204,7 +208,10 @@ fn check_answer<'a, F: Files>(
 {
     let source = read(alloc, file, LONGEST_TEXT, files)?;
     match checked(alloc, check, source.as_slice(), files) {
-        Ok(printed) => Ok(Answer::of(alloc, printed)),
+        Ok(printed) => Ok(Answer {
+            printed,
+            source: Vec::new(alloc),
+        }),
         Err(refusal) => Err(Denied {
             refusal,
             file,
@@ -251,7 +258,7 @@ fn computed_file<'a, F: Files>(
 {
     let listed = read(alloc, records, LONGEST_TEXT, files)?;
     let lines = computed(alloc, certified, start, listed.as_slice());
-    Ok(Answer::of(alloc, told(alloc, lines, records, listed)?))
+    told(alloc, lines, records, listed)
 }
 
 /// What `run` prints.
@@ -347,21 +354,6 @@ fn end_of<'a>(is_strict: bool, unwritten: bool, refused: bool) -> Outcome<'a>
     Outcome::Answered
 }
 
-/// Writes what a command answers: how it ends.
-fn put_answer<'a, W: Write>(
-    line: &FileCommand<'a>,
-    printed: &Printed,
-    out: &mut Counted<W>,
-) -> Outcome<'a>
-    ensures written { PutsAnswer line.now printed.now.unwritten printed.now.refused (string_bytes printed.now.lines) (W.contents out.old.inner) result (W.contents out.new.inner) }
-    ensures counted { out.new.failures ≡ failures_after result out.old.failures }
-{
-    match out.put(printed.lines.as_bytes()) {
-        Ok(()) => end_of(line.is_strict(), printed.unwritten, printed.refused),
-        Err(_) => Outcome::Unwritten,
-    }
-}
-
 /// Runs a command, and writes its answer or its refusal. What explains a refusal, and each refused line of a script, goes
 /// to the notes; that they fail changes nothing else.
 ///
@@ -378,9 +370,15 @@ pub fn carry_out<'a, F: Files, W: Write, N: Write>(
 {
     match answer(alloc, line, files) {
         Ok(answer) => {
-            let outcome = put_answer(line, &answer.printed, out);
+            let written = out.put(answer.printed.lines.as_bytes());
             tell_lines(alloc, line, &answer, notes);
-            outcome
+            let Printed {
+                unwritten, refused, ..
+            } = answer.printed;
+            match written {
+                Ok(()) => end_of(line.is_strict(), unwritten, refused),
+                Err(_) => Outcome::Unwritten,
+            }
         }
         Err(denied) => {
             let written = put_refusal(out, &denied.refusal);

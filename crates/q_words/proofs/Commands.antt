@@ -1,13 +1,13 @@
 -- The command that the words name.
 use Rattle.std.proofs.Common.{◌≡◌, ℕ, ◌∙◌, Bool, true, false, List, [], ◌∷◌, Option, Some, None, MatchOption, ap, ap₂, refl, sym, codes, Bor, option_map, unwrap_or, IsSomeAnd, is_some, map, cond, ◌⊎◌, inl, inr, subst, true≢false}
-use Rattle.std.specs.Prelude.{Box, find, Result, Ok, Err, IfOk, MatchResult, ◌||◌}
+use Rattle.std.specs.Prelude.{Box, find, Result, Ok, Err, IfOk, IsErrAnd, MatchResult, ◌||◌}
 use Rattle.std.specs.Box.{box_value}
 use Rattle.std.specs.Option.{SomeIff}
 use Rattle.std.proofs.lemmas.Fmt.{decimal_injective}
 use Rattle.bq_range.specs.Interval.{Interval, between}
 use Rattle.bq_state.specs.Kinds.{AreLengths}
 use Rattle.q_script.specs.Words as words
-use Rattle.clap.specs.Words.{App, HasMatchesOf, fault_of, subcommand_name_of, subcommand_of, Row, Shape, Text, found_of, is_simple, is_simple_and_free, rows_of, subcommand_rows, subcommand_rows_of}
+use Rattle.clap.specs.Words.{App, HasKind, HasMatchesOf, IsAmong, kind_of, fault_of, subcommand_name_of, subcommand_of, Row, Shape, Text, found_of, is_simple, is_simple_and_free, rows_of, subcommand_rows, subcommand_rows_of}
 use Rattle.clap.specs.Simple.{argument_words, built, entered, label_of, names_of, rows_at}
 use Rattle.clap.specs.Walk.{answers_to, stop_after}
 use Rattle.clap.specs.Words.{Rule, app_of, rule_of, with_rule, with_subcommand}
@@ -15,6 +15,7 @@ use Rattle.clap.specs.Built.{AddsArg, AddsSubcommand}
 use Rattle.clap.specs.declared.builder.arg.Arg.{Arg}
 use Rattle.clap.specs.declared.builder.command.Command.{Command}
 use Rattle.clap.specs.declared.builder.command.Command.TheViews.{out-Command}
+use Rattle.clap.specs.declared.error.Error.{Error}
 use Rattle.clap.specs.declared.parser.matches.SubCommand.{SubCommand}
 use Rattle.clap.specs.declared.parser.matches.ArgMatches.{ArgMatches}
 use Rattle.clap.specs.declared.parser.matches.ArgMatches.TheViews.{out-ArgMatches, out-SubCommand}
@@ -22,7 +23,7 @@ use Rattle.clap.proofs.OnLiterals.{clap_on_literals}
 use Rattle.q_words.specs.declared.words.Wanted.{Wanted}
 use Rattle.q_words.specs.declared.words.WordsFault.{WordsFault}
 use Rattle.q_words.specs.declared.words.WordsFault.TheVariants.{Help, Wrong, BadStart, BadLengths, NotUtf8, OutOfMemory}
-use Rattle.q_words.specs.Words.{Has, bqview, operand_of, AreBad, AreGiven, AreGivenFor, IsMet, HasLineFault, Reads}
+use Rattle.q_words.specs.Words.{Has, bqview, operand_of, AreBad, AreGiven, AreGivenFor, IsAskedFor, IsMet, HasFault, HasLineFault, Reads, Tells}
 
 simple : is_simple bqview ≡ true
 unfolding clap_on_literals
@@ -142,6 +143,27 @@ read_so words (Err (Help e)) met n s h = absurd h
 read_so words (Err (Wrong e)) met n s h = absurd h
 read_so words (Err NotUtf8) met n s h = absurd h
 read_so words (Err OutOfMemory) met n s h = absurd h
+
+-- the fault by what `clap` says
+faulty_so : (words : List Text) (error : Error) (e : WordsFault) → HasKind (fault_of bqview words) error → Tells error e → HasFault words e
+faulty_so words error (Help x) h t = elim h [
+  | inl memory ↦ elim t.1 [ inl asked ↦ absurd cc | inr asked ↦ absurd cc ]
+  | inr among ↦ (subst (λ y. IsAskedFor (kind_of y)) (sym t.0) t.1, subst (λ y. IsAmong (kind_of y) (fault_of bqview words)) (sym t.0) among)
+]
+faulty_so words error (Wrong x) h t = elim h [
+  | inl memory ↦ absurd (t.2 memory)
+  | inr among ↦ (subst (λ y. ¬ (IsAskedFor (kind_of y))) (sym t.0) t.1, subst (λ y. IsAmong (kind_of y) (fault_of bqview words)) (sym t.0) among)
+]
+faulty_so words error OutOfMemory h t = tt
+faulty_so words error (BadStart start) h t = absurd t
+faulty_so words error (BadLengths command least most) h t = absurd t
+faulty_so words error NotUtf8 h t = absurd t
+
+-- the parser fails
+pub failed_so : {a : App} (words : List Text) (error : Error) (r : Result Wanted WordsFault) → a ≡ bqview → (is_simple_and_free a ≡ true → HasKind (fault_of a words) error) → IsErrAnd r (Tells error) → Reads words r
+failed_so words error (Ok asked) is kinds h = absurd h
+failed_so words error (Err e) is kinds h =
+    faulty_so words error e (subst (λ (x : App). HasKind (fault_of x words) error) is (kinds (ap is_simple_and_free is ∙ free))) h
 
 -- the parser met the command of this name
 pub was_named : {a : App} (m : ArgMatches) (words : List Text) → a ≡ bqview → (is_simple_and_free a ≡ true → fault_of a words ≡ []) → HasMatchesOf a words m

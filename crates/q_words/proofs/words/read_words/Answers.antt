@@ -6,7 +6,7 @@ use Rattle.clap.proofs.CallerLemmas.{subcommand_required}
 use Rattle.q_words.specs.Words.{bqview}
 use Rattle.q_words.specs.declared.words.FileCommand.TheVariants.{Asm, Dis, Audit}
 use Rattle.q_words.specs.declared.words.Wanted.TheVariants.{FileCommand}
-use Rattle.q_words.proofs.Commands.{found_said, was_named, other_command}
+use Rattle.q_words.proofs.Commands.{failed_so, found_said, was_named, other_command}
 use Rattle.q_words.proofs.words.read_words.Goals as goal
 
 pub returns-in-Some : goal.returns-in-Some
@@ -43,6 +43,10 @@ pub returns : goal.returns
 returns g c =
     was_named c.in_ok-matches.matches (map g.S.AsStr.text c.args.words.now) c.in_ok-program.ensures.0 c.in_ok-matches.ensures.kinds c.in_ok-matches.ensures.matches
     (codes "audit") (rows_of (found_of c.in-Some-subcommand_matches-6.found.now)) (search rules) c.in-Some-subcommand_matches-6.ensures.rows (Ok (FileCommand (Audit c.operand_text.result))) (refl, c.operand_text.ensures)
+
+pub returns-in_err-matches : goal.returns-in_err-matches
+returns-in_err-matches g c =
+    failed_so (map g.S.AsStr.text c.args.words.now) c.in_err-matches.field-0.0 c.from_residual-in_err-matches.result c.in_ok-program.ensures.0 c.in_err-matches.ensures.kinds (search rules)
 
 pub unreachable-requires : goal.unreachable-requires
 unreachable-requires g c =
