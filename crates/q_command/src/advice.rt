@@ -57,7 +57,11 @@ fn write_assembler(
         AsmFault::Syntax { line } | AsmFault::Label { line } => {
             let source = text_of(denied.bytes.as_slice());
             let line = line_of(denied.file, source, line);
-            write_form(out, line, of_assembler(fault, source, line.number, line.text))
+            write_form(
+                out,
+                line,
+                of_assembler(fault, source, line.number, line.text),
+            )
         }
         _ => {
             let file = denied.file;
@@ -76,10 +80,7 @@ fn write_no_text(
     let file = denied.file;
     let words = match line {
         FileCommand::Asm { .. } | FileCommand::Check { .. } | FileCommand::Run { .. }
-            if is_object_file(denied.bytes.as_slice()) =>
-        {
-            OBJECT_FILE
-        }
+            if is_object_file(denied.bytes.as_slice()) => { OBJECT_FILE }
         FileCommand::Check { .. } | FileCommand::Run { .. } =>
             "It is not UTF-8, which text files are. The bytes of a program are passed with --bytes.",
         _ => "It is not UTF-8, which text files are.",
@@ -229,8 +230,11 @@ fn write_reason(
     let file = denied.file;
     match denied.refusal {
         Refusal::FileFailed => write_no_text(out, line, denied),
-        Refusal::Script(_) | Refusal::Fraction(_) | Refusal::Cluster(_) =>
-            write_script(out, denied, ScriptKind::Events),
+        Refusal::Script(_) | Refusal::Fraction(_) | Refusal::Cluster(_) => write_script(
+            out,
+            denied,
+            ScriptKind::Events,
+        ),
         Refusal::Assembler(fault) => write_assembler(out, denied, fault),
         Refusal::Bytes(fault) => write_bytes(alloc, out, denied, fault),
         Refusal::Program(fault) => write_program(alloc, out, line, denied, fault),

@@ -373,7 +373,9 @@ pub fn carry_out<'a, F: Files, W: Write, N: Write>(
             let written = out.put(answer.printed.lines.as_bytes());
             tell_lines(alloc, line, &answer, notes);
             let Printed {
-                unwritten, refused, ..
+                unwritten,
+                refused,
+                ..
             } = answer.printed;
             match written {
                 Ok(()) => end_of(line.is_strict(), unwritten, refused),

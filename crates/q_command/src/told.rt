@@ -36,11 +36,7 @@ fn code_of(alloc: Global, text: &str) -> Result<Vec<u8>, AllocError> {
 }
 
 /// What would satisfy what refuses a line of a script; none where nothing is told.
-fn of_line(
-    alloc: Global,
-    text: &str,
-    refusal: Refusal,
-) -> Result<Option<String>, AllocError> {
+fn of_line(alloc: Global, text: &str, refusal: Refusal) -> Result<Option<String>, AllocError> {
     match refusal {
         Refusal::Program(fault) => {
             let code = code_of(alloc, text)?;
@@ -58,11 +54,7 @@ fn of_line(
 }
 
 /// A line of a script that is refused: the line, its refusal, and what would satisfy it.
-fn refused_line(
-    alloc: Global,
-    line: Line<'_>,
-    refusal: Refusal,
-) -> Result<String, AllocError> {
+fn refused_line(alloc: Global, line: Line<'_>, refusal: Refusal) -> Result<String, AllocError> {
     let mut out = String::new(alloc);
     write_line(&mut out, line)?;
     writeln!(out, "{refusal}")?;
@@ -105,6 +97,12 @@ pub(crate) fn tell_lines<N: Write>(
 ) {
     if let FileCommand::Sim { script, .. } = line {
         let source = text_of(answer.source.as_slice());
-        tell_faults(alloc, script, source, answer.printed.faults.as_slice(), notes);
+        tell_faults(
+            alloc,
+            script,
+            source,
+            answer.printed.faults.as_slice(),
+            notes,
+        );
     }
 }
