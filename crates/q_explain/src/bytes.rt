@@ -7,7 +7,8 @@ use bq_insn::fault::{DecodeFault, UnitFault};
 use std::alloc::{AllocError, Global};
 
 /// What is told of bytes that are an object file.
-pub const OBJECT_FILE: &str = "It is an object file. Take the program out of it, and pass that with --bytes:\nllvm-objcopy -O binary --only-section=.text FILE.o FILE.bin";
+pub const OBJECT_FILE: &str =
+    "It is an object file. Take the program out of it, and pass that with --bytes:\nllvm-objcopy -O binary --only-section=.text FILE.o FILE.bin";
 
 /// Whether bytes are an object file, by how they begin.
 pub fn is_object_file(bytes: &[u8]) -> bool {
@@ -49,8 +50,9 @@ pub fn explain_bytes(
 {
     let mut out = String::new(alloc);
     match fault {
-        DecodeFault::BadLength =>
-            out.push_str("The bytes are no positive multiple of 8, which units have.\n")?,
+        DecodeFault::BadLength => out.push_str(
+            "The bytes are no positive multiple of 8, which units have.\n",
+        )?,
         DecodeFault::TooLong => out.push_str("The program has more than 4096 units.\n")?,
         DecodeFault::At { unit, fault } => {
             write!(out, "unit {unit}:")?;

@@ -22,7 +22,8 @@ pub fn of_event(reason: Reason) -> &'static str {
         Reason::NoSuchNode => "No node of this id is there: it never entered, left or crashed.",
         Reason::NeverSent =>
             "No message has this number: they are counted from 0, as printed where they are sent.",
-        Reason::NoSuchJob => "No job has this number: hand hands jobs out, and prints their numbers.",
+        Reason::NoSuchJob =>
+            "No job has this number: hand hands jobs out, and prints their numbers.",
         Reason::AlreadyAnswered => "The query of this job is answered.",
         Reason::FileFailed => "The journal's file could not be written.",
         _ => "",

@@ -90,12 +90,7 @@ fn broken_by(fault: CheckFault) -> Option<Broken>
 }
 
 /// Why a text is refused.
-fn told(
-    alloc: Global,
-    text: &Text,
-    bounds: Bounds,
-    broken: Broken,
-) -> Result<String, AllocError> {
+fn told(alloc: Global, text: &Text, bounds: Bounds, broken: Broken) -> Result<String, AllocError> {
     let mut out = String::new(alloc);
     match broken {
         Broken::Flow(unit, rule) => {

@@ -73,10 +73,18 @@ fn last_operand(instruction: &str) -> &str {
 
 /// What is wrong with the jump on a line of this number to a label.
 fn of_jump(source: &str, number: usize, label: &str) -> &'static str {
-    if source.split('\n').skip(number).any(|line| defines(line, label)) {
+    if source
+        .split('\n')
+        .skip(number)
+        .any(|line| defines(line, label))
+    {
         return "It jumps too far to the label. A jump spans 32767 units at most, and one without a\ncondition any number as ja32.";
     }
-    if source.split('\n').take(number).any(|line| defines(line, label)) {
+    if source
+        .split('\n')
+        .take(number)
+        .any(|line| defines(line, label))
+    {
         return "It jumps back to the label, which stands above. Jumps go forward, so programs have no\nloops.";
     }
     "It jumps to a label that no line defines. A label stands on a line of its own, with a\ncolon after it, as done:"
@@ -84,7 +92,10 @@ fn of_jump(source: &str, number: usize, label: &str) -> &'static str {
 
 /// What is wrong with the label on the line of this number, counted from 1, where the assembler refuses it (10 Label).
 pub fn of_label(source: &str, number: usize) -> &'static str {
-    let line = source.split('\n').nth(number.saturating_sub(1)).unwrap_or("");
+    let line = source
+        .split('\n')
+        .nth(number.saturating_sub(1))
+        .unwrap_or("");
     match content_of(line) {
         Content::Instruction(instruction) => of_jump(source, number, last_operand(instruction)),
         Content::Label(_) | Content::Nothing =>

@@ -90,17 +90,17 @@ fn write_register(
         Kind::Number(range) => {
             write_label(out, register)?;
             write_range(out, range)?;
-            out.push('\n')
+            out.push_str("\n")
         }
         Kind::Pointer(region, offsets) => {
             write_label(out, register)?;
             write_pointer(out, region, offsets)?;
-            out.push('\n')
+            out.push_str("\n")
         }
         Kind::Length => {
             write_label(out, register)?;
             write_length(out, lengths)?;
-            out.push('\n')
+            out.push_str("\n")
         }
     }
 }
