@@ -1,7 +1,7 @@
 //! What `check` prints, and the notes that it writes.
 
-ghost use Rattle.std.specs.Prelude.{◌≡◌, ◌≢◌, false, IfOk, IfErr, OnOk, string_bytes};
-ghost use Rattle.bq_verify.specs.Least.{AreLeast};
+ghost use Rattle.std.specs.Prelude.{◌≡◌, ◌≢◌, ◌++◌, [], false, IfOk, IfErr, OnOk, string_bytes, if◌then◌else◌};
+ghost use Rattle.q_explain.specs.Known.{states_text};
 ghost use Rattle.q_command.specs.Perform.{Accepts, IsUnaccepted, SavesNotes, acceptance};
 
 use crate::program::certified;
@@ -28,16 +28,29 @@ pub struct Check<'a> {
     pub notes: Option<&'a str>,
 }
 
+/// Writes what is known at each unit of an accepted program, where that is asked for.
+fn write_states(
+    alloc: Global,
+    certified: &Certified,
+    is_asked: bool,
+    lines: &mut String,
+) -> Result<(), AllocError>
+    ensures { OnOk result (string_bytes lines.new ≡ string_bytes lines.old ++ (if is_asked then states_text certified.now.text certified.now.notes else [])) }
+{
+    if !is_asked {
+        return Ok(());
+    }
+    let known = states(alloc, certified.text(), certified.notes())?;
+    lines.push_str(known.as_str())
+}
+
 /// What is told of an accepted program.
 fn told(alloc: Global, certified: &Certified, with_states: bool) -> Result<String, AllocError>
     ensures { IfOk result (λ lines. string_bytes lines ≡ acceptance with_states certified.now.text certified.now.notes certified.now.longest) }
 {
     let longest = certified.longest();
     let mut lines = format!(in alloc; "accepted longest {longest}\n")?;
-    if with_states {
-        let known = states(alloc, certified.text(), certified.notes())?;
-        lines.push_str(known.as_str())?;
-    }
+    write_states(alloc, certified, with_states, &mut lines)?;
     Ok(lines)
 }
 

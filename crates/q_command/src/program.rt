@@ -1,6 +1,7 @@
 //! Programs of files, and their certificates.
 
 ghost use Rattle.std.specs.Prelude.{◌≡◌, IfOk, IfErr, IsUtf8};
+ghost use Rattle.bq_flow.specs.Paths.{IsLongest};
 ghost use Rattle.bq_sound.specs.Passes.{Passes};
 ghost use Rattle.bq_verify.specs.Least.{AreLeast};
 ghost use Rattle.q_command.specs.Perform.{IsUnaccepted, IsUnspelled, Spells};
@@ -59,6 +60,7 @@ pub fn program(alloc: Global, form: Form, source: &[u8]) -> Result<Text, Refusal
 
 /// The program that a file of this form spells, with its certificate for records of these lengths and the verifier's
 /// notes. Refused as [`program`], and then as [`certified_text`].
+#[tactic(auto, using(crate::proofs::Programs::unspelled, crate::proofs::Programs::uncertified))]
 pub fn certified(
     alloc: Global,
     form: Form,
@@ -69,10 +71,12 @@ pub fn certified(
     ensures lengths { IfOk result (λ certified. certified.lengths ≡ lengths) }
     ensures passes { IfOk result (λ certified. Passes lengths certified.text certified.notes) }
     ensures least { IfOk result (λ certified. AreLeast lengths certified.text certified.notes) }
+    ensures longest { IfOk result (λ certified. IsLongest certified.text certified.longest) }
     ensures refused { IfErr result (IsUnaccepted form lengths source.now) }
 {
     let text = program(alloc, form, source)?;
     let certified = certified_text(alloc, text, lengths)?;
     let _notes = certified.notes();
+    let _longest = certified.longest();
     Ok(certified)
 }
