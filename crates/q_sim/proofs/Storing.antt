@@ -15,13 +15,12 @@ use Rattle.sc_node.specs.State.{NodeState}
 use Rattle.sc_node.specs.declared.fault.NodeFault.TheVariants as node_fault
 use Rattle.sc_world.specs.Worlds.{live, live_at}
 use Rattle.sc_world.specs.declared.fault.WorldFault.TheVariants as world_fault
-use Rattle.q_session.specs.declared.ran.Ran.{Ran}
 use Rattle.q_desk.specs.State.{DeskState}
 use Rattle.q_book.specs.State.{BookState}
 use Rattle.q_book.specs.Books as book
 use Rattle.q_book.specs.declared.fault.BookFault.{BookFault}
 use Rattle.q_book.specs.declared.fault.BookFault.TheVariants as book_fault
-use Rattle.q_history.specs.Clusters.{by_book, lift, stores, stored, stepped}
+use Rattle.q_history.specs.Clusters.{by_book, lift, stores, stored}
 use Rattle.q_history.specs.Faults.{of_book}
 use Rattle.q_history.specs.Heads.{book_of}
 use Rattle.q_history.specs.State.{ClusterState}
