@@ -3,7 +3,6 @@ use Rattle.std.specs.Prelude.{◌≡◌, ◌⊎◌, ℕ, Bool, List, Option, Ok,
 use Rattle.std.specs.Io.KnownBytes.{Appends}
 use Rattle.std.specs.declared.io.Error as io
 use Rattle.q_files.specs.Files.{Reading}
-use Rattle.q_files.specs.declared.TheConstants.{LONGEST_TEXT}
 use Rattle.q_sim.specs.Refusal.{refusal_line}
 use Rattle.q_sim.specs.Simulates.{Writing}
 use Rattle.q_sim.specs.declared.refusal.Refusal.TheVariants as refusal
@@ -55,7 +54,7 @@ module _ {F : Type 0} (reads : Reading F) (writes : Writing F) where
   -- so does a run of the script in the file of this name by threads, which is strict or not
   abbrev pub RunsNodes : List ℕ → Bool → F → Output → ℕ → F → Output → Type 0
   RunsNodes name strict old before status new after =
-      (ending : Ending) × (source : List ℕ) × nodes.IsWrittenFile (reads LONGEST_TEXT) name old new source ending before.taken after.taken
+      (ending : Ending) × (source : List ℕ) × nodes.IsWrittenFile (reads command.longest_text) name old new source ending before.taken after.taken
       × (status ≡ nodes.status_of strict ending) × (after.failures ≡ nodes.failures_after ending before.failures)
 
   -- what is wanted is done

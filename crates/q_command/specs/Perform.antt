@@ -1,5 +1,5 @@
 -- What the commands answer, and why they are refused.
-use Rattle.std.specs.Prelude.{◌≡◌, ◌≢◌, ◌⊎◌, ◌&&◌, ℕ, Bool, false, List, [], ◌∷◌, ◌++◌, codes, IsUtf8, Option, Result, Ok, Err, if◌then◌else◌}
+use Rattle.std.specs.Prelude.{◌≡◌, ◌≢◌, ◌⊎◌, ◌&&◌, ℕ, Bool, false, List, [], ◌∷◌, ◌++◌, true, codes, IsUtf8, Option, Some, None, Result, Ok, Err, if◌then◌else◌}
 use Rattle.std.specs.Fmt.{decimal}
 use Rattle.std.specs.Io.KnownBytes.{Appends}
 use Rattle.bq_insn.specs.declared.insn.Insn.{Insn}
@@ -31,10 +31,8 @@ use Rattle.q_sim.specs.Simulates.{IsSimulationFault, Simulates, Writing}
 use Rattle.q_command.specs.Audit.{Audits, IsUnaudited}
 use Rattle.q_command.specs.Listing.{listing_of}
 use Rattle.q_files.specs.Files.{Reading}
-use Rattle.q_files.specs.declared.TheConstants.{LONGEST_TEXT}
 use Rattle.q_files.specs.declared.files.FileFault.{FileFault}
 use Rattle.q_files.specs.declared.files.FileFault.TheVariants.{Failed}
-use Rattle.q_command.specs.declared.TheConstants.{LONGEST_JOURNAL}
 use Rattle.q_command.specs.declared.check.Check.{Check as Checking}
 use Rattle.q_command.specs.declared.denied.Denied.{Denied}
 use Rattle.q_command.specs.declared.perform.Outcome.{Outcome}
@@ -52,6 +50,14 @@ use denote.Ref.{Bor}
 -- what a read of a name may answer, of a file of some kind, over files that stand thus before and after
 abbrev pub ReadingOf : Type 0 → Type 1
 ReadingOf F = F → List ℕ → Result (List ℕ) FileFault → F → Type 0
+
+-- the most bytes of a file of text, 16 MB
+abbrev pub longest_text : ℕ
+longest_text = 16777216
+
+-- the most bytes of a journal that is read, 1,024 MB
+abbrev pub longest_journal : ℕ
+longest_journal = 1073741824
 
 -- ---- programs
 
@@ -170,16 +176,15 @@ abbrev pub AnswersScript : {F : Type 0} → ReadingOf F → Writing F → List �
 AnswersScript {F} reads writes name old lines unwritten refused new =
     (source : List ℕ) × (between : F) × reads old name (Ok source) between × IsSimulated writes source between lines unwritten refused new
 
--- The command answers these lines, over files that stand thus before and after. A file of text has 16 MB at most, and a
--- journal 1,024.
+-- the command answers these lines, over files that stand thus before and after
 abbrev pub Answers : {F : Type 0} → Reading F → Writing F → FileCommand → F → List ℕ → Bool → Bool → F → Type 0
-Answers reads writes (Asm file) = AnswersFile (reads LONGEST_TEXT) Lists file.now
-Answers reads writes (Dis file) = AnswersFile (reads LONGEST_TEXT) Disassembles file.now
+Answers reads writes (Asm file) = AnswersFile (reads longest_text) Lists file.now
+Answers reads writes (Dis file) = AnswersFile (reads longest_text) Disassembles file.now
 Answers reads writes (Check file held lengths states notes) =
-    AnswersCheck (reads LONGEST_TEXT) writes (record { form = held; lengths = lengths; states = states; notes = notes }) file.now
-Answers reads writes (Run file held start records lengths) = AnswersRun (reads LONGEST_TEXT) held lengths file.now start records.now
-Answers reads writes (Sim script strict) = AnswersScript (reads LONGEST_TEXT) writes script.now
-Answers reads writes (Audit journal) = AnswersFile (reads LONGEST_JOURNAL) Audits journal.now
+    AnswersCheck (reads longest_text) writes (record { form = held; lengths = lengths; states = states; notes = notes }) file.now
+Answers reads writes (Run file held start records lengths) = AnswersRun (reads longest_text) held lengths file.now start records.now
+Answers reads writes (Sim script strict) = AnswersScript (reads longest_text) writes script.now
+Answers reads writes (Audit journal) = AnswersFile (reads longest_journal) Audits journal.now
 
 -- ---- refusals
 
@@ -223,12 +228,12 @@ RefusesBeforeWrites {F} reads refuses name old denied new =
 
 -- the command is refused for this reason, over files that stand thus before and after
 abbrev pub Refuses : {F : Type 0} → Reading F → FileCommand → F → Denied → F → Type 0
-Refuses reads (Asm file) = RefusesFile (reads LONGEST_TEXT) (IsUnspelled Text) file.now
-Refuses reads (Dis file) = RefusesFile (reads LONGEST_TEXT) (IsUnspelled Bytes) file.now
-Refuses reads (Check file held lengths states notes) = RefusesBeforeWrites (reads LONGEST_TEXT) (IsUnaccepted held lengths) file.now
-Refuses reads (Run file held start records lengths) = RefusesRun (reads LONGEST_TEXT) held lengths file.now records.now
-Refuses reads (Sim script strict) = RefusesBeforeWrites (reads LONGEST_TEXT) IsUnsimulated script.now
-Refuses reads (Audit journal) = RefusesFile (reads LONGEST_JOURNAL) IsUnaudited journal.now
+Refuses reads (Asm file) = RefusesFile (reads longest_text) (IsUnspelled Text) file.now
+Refuses reads (Dis file) = RefusesFile (reads longest_text) (IsUnspelled Bytes) file.now
+Refuses reads (Check file held lengths states notes) = RefusesBeforeWrites (reads longest_text) (IsUnaccepted held lengths) file.now
+Refuses reads (Run file held start records lengths) = RefusesRun (reads longest_text) held lengths file.now records.now
+Refuses reads (Sim script strict) = RefusesBeforeWrites (reads longest_text) IsUnsimulated script.now
+Refuses reads (Audit journal) = RefusesFile (reads longest_journal) IsUnaudited journal.now
 
 -- ---- commands over one file
 

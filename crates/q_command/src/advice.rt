@@ -99,9 +99,12 @@ fn write_bytes(
     if is_object_file(denied.bytes.as_slice()) {
         return writeln!(out, "{file}: {OBJECT_FILE}");
     }
-    match explain_bytes(alloc, denied.bytes.as_slice(), fault)? {
-        Some(told) => write!(out, "{file}, {told}"),
-        None => Ok(()),
+    let Some(told) = explain_bytes(alloc, denied.bytes.as_slice(), fault)? else {
+        return Ok(());
+    };
+    match fault {
+        DecodeFault::At { .. } => write!(out, "{file}, {told}"),
+        _ => write!(out, "{file}: {told}"),
     }
 }
 

@@ -3,7 +3,7 @@
 ghost use Rattle.std.specs.Prelude.{◌≡◌, ◌≢◌, ℕ, List, false, Ok, Err, IfOk, IfErr, string_bytes};
 ghost use Rattle.bq_sound.specs.Passes.{Passes};
 ghost use Rattle.bq_verify.specs.Least.{AreLeast};
-ghost use Rattle.q_command.specs.Perform.{Answers, AnswersCheck, AnswersFile, AnswersRun, AnswersScript, Computes, Disassembles, Ends, IsSimulated, IsUnaccepted, IsUnlisted, IsUnmade, IsUnread, IsUnspelled, IsUnsimulated, Lists, Makes, Refuses, RefusesBeforeWrites, RefusesFile, RefusesRun, Spells, end_of, failures_after, status_of};
+ghost use Rattle.q_command.specs.Perform.{Answers, AnswersCheck, AnswersFile, AnswersRun, AnswersScript, Computes, Disassembles, Ends, IsSimulated, IsUnaccepted, IsUnlisted, IsUnmade, IsUnread, IsUnspelled, IsUnsimulated, Lists, Makes, Refuses, RefusesBeforeWrites, RefusesFile, RefusesRun, Spells, end_of, failures_after, longest_text, status_of};
 
 use crate::answer::Answer;
 use crate::audit::audit;
@@ -203,8 +203,8 @@ fn check_answer<'a, F: Files>(
     check: &Check<'_>,
     files: &mut F,
 ) -> Result<Answer, Denied<'a>>
-    ensures answered { IfOk result (λ p. AnswersCheck (F.read_gives LONGEST_TEXT) F.write_gives check.now file.now files.old (string_bytes p.printed.lines) p.printed.unwritten p.printed.refused files.new) }
-    ensures refused { IfErr result (λ denied. RefusesBeforeWrites (F.read_gives LONGEST_TEXT) (IsUnaccepted check.now.form check.now.lengths) file.now files.old denied files.new) }
+    ensures answered { IfOk result (λ p. AnswersCheck (F.read_gives longest_text) F.write_gives check.now file.now files.old (string_bytes p.printed.lines) p.printed.unwritten p.printed.refused files.new) }
+    ensures refused { IfErr result (λ denied. RefusesBeforeWrites (F.read_gives longest_text) (IsUnaccepted check.now.form check.now.lengths) file.now files.old denied files.new) }
 {
     let source = read(alloc, file, LONGEST_TEXT, files)?;
     match checked(alloc, check, source.as_slice(), files) {
@@ -228,11 +228,11 @@ fn certified_file<'a, F: Files>(
     lengths: Bounds,
     files: &mut F,
 ) -> Result<Certified, Denied<'a>>
-    ensures certified { IfOk result (λ c. (source : List ℕ) × F.read_gives LONGEST_TEXT files.old file.now (Ok source) files.new × Spells form source c.text) }
+    ensures certified { IfOk result (λ c. (source : List ℕ) × F.read_gives longest_text files.old file.now (Ok source) files.new × Spells form source c.text) }
     ensures lengths { IfOk result (λ c. c.lengths ≡ lengths) }
     ensures passes { IfOk result (λ c. Passes lengths c.text c.notes) }
     ensures least { IfOk result (λ c. AreLeast lengths c.text c.notes) }
-    ensures refused { IfErr result (λ denied. RefusesFile (F.read_gives LONGEST_TEXT) (IsUnaccepted form lengths) file.now files.old denied files.new) }
+    ensures refused { IfErr result (λ denied. RefusesFile (F.read_gives longest_text) (IsUnaccepted form lengths) file.now files.old denied files.new) }
 {
     let source = read(alloc, file, LONGEST_TEXT, files)?;
     match certified(alloc, form, source.as_slice(), lengths) {
@@ -253,8 +253,8 @@ fn computed_file<'a, F: Files>(
     records: &'a str,
     files: &mut F,
 ) -> Result<Answer, Denied<'a>>
-    ensures answered { IfOk result (λ p. (held : _) (source : List ℕ) → Spells held source certified.now.text → AnswersFile (F.read_gives LONGEST_TEXT) (Computes held certified.now.lengths source start) records.now files.old (string_bytes p.printed.lines) p.printed.unwritten p.printed.refused files.new) }
-    ensures refused { IfErr result (λ denied. RefusesFile (F.read_gives LONGEST_TEXT) (IsUnlisted certified.now.lengths) records.now files.old denied files.new) }
+    ensures answered { IfOk result (λ p. (held : _) (source : List ℕ) → Spells held source certified.now.text → AnswersFile (F.read_gives longest_text) (Computes held certified.now.lengths source start) records.now files.old (string_bytes p.printed.lines) p.printed.unwritten p.printed.refused files.new) }
+    ensures refused { IfErr result (λ denied. RefusesFile (F.read_gives longest_text) (IsUnlisted certified.now.lengths) records.now files.old denied files.new) }
 {
     let listed = read(alloc, records, LONGEST_TEXT, files)?;
     let lines = computed(alloc, certified, start, listed.as_slice());
@@ -271,8 +271,8 @@ fn run_answer<'a, F: Files>(
     lengths: Bounds,
     files: &mut F,
 ) -> Result<Answer, Denied<'a>>
-    ensures answered { IfOk result (λ p. AnswersRun (F.read_gives LONGEST_TEXT) form lengths file.now start records.now files.old (string_bytes p.printed.lines) p.printed.unwritten p.printed.refused files.new) }
-    ensures refused { IfErr result (λ denied. RefusesRun (F.read_gives LONGEST_TEXT) form lengths file.now records.now files.old denied files.new) }
+    ensures answered { IfOk result (λ p. AnswersRun (F.read_gives longest_text) form lengths file.now start records.now files.old (string_bytes p.printed.lines) p.printed.unwritten p.printed.refused files.new) }
+    ensures refused { IfErr result (λ denied. RefusesRun (F.read_gives longest_text) form lengths file.now records.now files.old denied files.new) }
 {
     let certified = certified_file(alloc, file, form, lengths, files)?;
     computed_file(alloc, &certified, start, records, files)
@@ -284,8 +284,8 @@ fn sim_answer<'a, F: Files>(
     script: &'a str,
     files: &mut F,
 ) -> Result<Answer, Denied<'a>>
-    ensures answered { IfOk result (λ p. AnswersScript (F.read_gives LONGEST_TEXT) F.write_gives script.now files.old (string_bytes p.printed.lines) p.printed.unwritten p.printed.refused files.new) }
-    ensures refused { IfErr result (λ denied. RefusesBeforeWrites (F.read_gives LONGEST_TEXT) IsUnsimulated script.now files.old denied files.new) }
+    ensures answered { IfOk result (λ p. AnswersScript (F.read_gives longest_text) F.write_gives script.now files.old (string_bytes p.printed.lines) p.printed.unwritten p.printed.refused files.new) }
+    ensures refused { IfErr result (λ denied. RefusesBeforeWrites (F.read_gives longest_text) IsUnsimulated script.now files.old denied files.new) }
 {
     let source = read(alloc, script, LONGEST_TEXT, files)?;
     match simulated(alloc, source.as_slice(), files) {
