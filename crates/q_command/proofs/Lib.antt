@@ -1,5 +1,4 @@
 mod Auditing
-mod Ends
 mod Lines
 mod Lists
 mod Programs

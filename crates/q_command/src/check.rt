@@ -62,7 +62,7 @@ fn save_as<F: Files>(
     lines: &mut String,
     files: &mut F,
 ) -> Result<bool, AllocError>
-    ensures saved { IfOk result (λ unwritten. SavesNotes F.write_gives (Some name) notes.now (string_bytes lines.old) files.old (string_bytes lines.new) unwritten files.new) }
+    ensures saved { IfOk result (λ unwritten. SavesNotes F.write_gives (Some name.entry) notes.now (string_bytes lines.old) files.old (string_bytes lines.new) unwritten files.new) }
 {
     let bytes = notes.bytes(alloc)?;
     match files.write(name, bytes.as_slice()) {
@@ -84,7 +84,7 @@ fn save<F: Files>(
     lines: &mut String,
     files: &mut F,
 ) -> Result<bool, AllocError>
-    ensures saved { IfOk result (λ unwritten. SavesNotes F.write_gives name notes.now (string_bytes lines.old) files.old (string_bytes lines.new) unwritten files.new) }
+    ensures saved { IfOk result (λ unwritten. SavesNotes F.write_gives name.entry notes.now (string_bytes lines.old) files.old (string_bytes lines.new) unwritten files.new) }
 {
     match name {
         Some(name) => save_as(alloc, name, notes, lines, files),

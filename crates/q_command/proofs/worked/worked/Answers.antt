@@ -33,7 +33,7 @@ returns-clause-accepted_alone c = λ notes. refl
 
 pub returns-clause-saved : goal.returns-clause-saved
 returns-clause-saved c = λ old new name notes told lines is h. elim h [
-  | inl saved ↦ (subst (λ (n : List ℕ). Writes old n (notes_bytes Second notes) (Ok tt) new) is saved.0).0.1 (codes "a")
+  | inl saved ↦ (subst (λ (n : List ℕ). Writes old n (notes_bytes Second notes) (Ok (tt {0})) new) is saved.0).0.1 (codes "a")
   | inr failed ↦ absurd (true≢false (sym failed.2))
 ]
 
