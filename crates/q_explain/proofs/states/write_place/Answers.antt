@@ -1,4 +1,4 @@
-use Rattle.std.proofs.Common.{◌≡◌, ◌∙◌, ◌++◌, ap, codes, string_bytes}
+use Rattle.std.proofs.Common.{◌∙◌, ◌++◌, ap, codes, string_bytes}
 use Rattle.bq_state.specs.Regions.{region_name}
 use Rattle.q_explain.specs.Known.{offsets_text}
 use Rattle.q_explain.proofs.Writing.{both}

@@ -1,4 +1,4 @@
-use Rattle.std.proofs.Common.{◌≡◌, ◌∙◌, ◌∷◌, [], ◌++◌, ap, string_bytes, sym, subst}
+use Rattle.std.proofs.Common.{◌≡◌, ◌∷◌, [], ◌++◌, string_bytes, sym, subst}
 use Rattle.std.specs.Prelude.{OnOk}
 use Rattle.bq_state.specs.declared.kind.Kind.{Kind}
 use Rattle.q_explain.specs.Known.{label_text, length_text, pointer_text, register_line}
