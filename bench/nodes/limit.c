@@ -17,8 +17,8 @@ enum { MOST_NODES = 16, MOST_OPEN = 64, BUFFER = 60001 };
 // What the first byte of a datagram says. Its second byte is the number of the operation.
 enum { QUERY = 1, REPLY, STORE, ACKNOWLEDGEMENT, ECHO };
 
-// How many bytes the datagrams have: 12 bytes of head, then a tag, an addressee, and a view whose one value is a number.
-enum { QUERY_BYTES = 20, REPLY_BYTES = 62, STORE_BYTES = 54, ACKNOWLEDGEMENT_BYTES = 28, ECHO_BYTES = 46 };
+// How many bytes the datagrams have, where the view has one value of 48 bytes, as that of a number.
+enum { QUERY_BYTES = 20, REPLY_BYTES = 95, STORE_BYTES = 87, ACKNOWLEDGEMENT_BYTES = 28, ECHO_BYTES = 79 };
 
 static int nodes, needed, is_ask;
 static int sockets[MOST_NODES + 1];
