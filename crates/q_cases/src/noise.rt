@@ -48,7 +48,7 @@ fn sent_before(letter: u8, bytes: &[u8]) -> Option<&[u8]> {
     }
 }
 
-impl<'a, T> Noisy<'a, T> {
+impl<'a, T: Drop> Noisy<'a, T> {
     /// Disturbs by these letters what is sent over a transport to so many nodes. The second transport is the same end,
     /// which does not wait.
     pub fn new(
@@ -110,7 +110,7 @@ impl<'a, T> Noisy<'a, T> {
     }
 }
 
-impl<T: Transport> Transport for Noisy<'_, T> {
+impl<T: Transport + Drop> Transport for Noisy<'_, T> {
     ghost failed = { λ t. T.failed t.inner };
 
     fn send(&mut self, to: u64, bytes: &[u8]) -> Result<(), TransportFault> {

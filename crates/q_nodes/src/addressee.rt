@@ -1,12 +1,16 @@
 //! For whom a message is meant, and what it asks for.
 
-ghost use Rattle.std.specs.Prelude.{◌≡◌};
+ghost use Rattle.std.specs.Prelude.{◌≡◌, ◌==◌, ℕ, false, [], None, Ok};
+ghost use Rattle.sc_msg.specs.declared.message.Body.TheVariants.{StoreAck, CollectReply};
+ghost use Rattle.sc_view.specs.Views.{ViewMap};
+ghost use Rattle.sc_node.specs.State.{NodeState};
+ghost use Rattle.sc_node.specs.Nodes.{delivered, message_from};
 ghost use Rattle.q_nodes.specs.Addressees.{addressee_of, asking_tag};
 
 use sc_msg::message::{Body, Message};
 
-/// The one node that does something with the message; none where each node may. An acknowledgement and a reply name
-/// the node that asked, and no other takes anything from them.
+/// The one node that takes anything from the message; none where each node may. An acknowledgement and a reply name the
+/// node that asked.
 pub fn addressee(message: &Message) -> Option<u64>
     ensures { result ≡ addressee_of message.now.body }
 {
@@ -25,3 +29,9 @@ pub fn asking_operation(message: &Message) -> Option<u64>
         _ => None,
     }
 }
+
+/// A law of every node: an acknowledgement and a reply for another leave it as it is, and it says nothing of them.
+pub fn others_take_nothing()
+    ensures acknowledgement { (n : NodeState) (from to tag : ℕ) → n.gone ≡ false → (to == n.id) ≡ false → delivered n (message_from from (StoreAck to tag)) ≡ Ok (record { outs = []; progress = None; ended = None }, n) }
+    ensures reply { (n : NodeState) (from to tag : ℕ) (v : ViewMap) → n.gone ≡ false → (to == n.id) ≡ false → delivered n (message_from from (CollectReply to tag v)) ≡ Ok (record { outs = []; progress = None; ended = None }, n) }
+{}

@@ -1,5 +1,6 @@
 //! Operations and queries that were begun and are waited for.
 
+use crate::clock::has_passed;
 use crate::held::Held;
 use crate::seat;
 use q_lines::outcome::Outcome;
@@ -108,8 +109,7 @@ impl<'a, T: Transport + Drop> Flight<'a, T> {
         for _ in 0..MOST_LOOKS {
             // The bell is read before the books, so what ends later ends the sleep.
             let rung = self.bell.notifications();
-            self.begun
-                .retain(|begun| !is_settled(rt, seats, begun) && !is_late(rt, begun));
+            self.begun.retain(|begun| !is_settled(rt, seats, begun) && !is_late(rt, begun));
             if self.begun.len() < many {
                 break;
             }
@@ -138,13 +138,5 @@ fn is_late<R: Clock>(rt: &R, begun: &Begun) -> bool {
     match begun.since {
         Some(since) => has_passed(rt, since, Duration::from_secs(MOST_SECONDS)),
         None => false,
-    }
-}
-
-/// Whether so long has passed. Where the clock cannot be read it has not.
-pub(crate) fn has_passed<R: Clock>(rt: &R, since: Instant, long: Duration) -> bool {
-    match since.elapsed(rt) {
-        Ok(passed) => passed >= long,
-        Err(_) => false,
     }
 }

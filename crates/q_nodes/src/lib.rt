@@ -34,6 +34,7 @@
 pub mod addressee;
 mod asked;
 pub mod calls;
+mod clock;
 mod flight;
 pub mod halt;
 pub mod held;

@@ -5,10 +5,10 @@ ghost use Rattle.q_lines.specs.Books.{BeginsQuery, BeginsStore, Registers};
 ghost use Rattle.q_lines.specs.Lines.{CallsAt, ComesTo, ComesToProgram, InTurn};
 ghost use Rattle.q_nodes.specs.Halts.{IsHalt};
 
+use crate::flight::Flight;
 use crate::halt::Halt;
 use crate::held::Held;
 use crate::seat;
-use crate::flight::Flight;
 use q_lines::fault::NodesFault;
 use q_lines::outcome::Outcome;
 use q_lines::script::{ClusterLine, is_node, node_of, program_id};

@@ -4,7 +4,7 @@ ghost use Rattle.std.specs.Prelude.{◌≡◌, ◌≤◌, length, IfSome};
 
 use crate::addressee::addressee;
 use crate::asked::Asked;
-use crate::flight::has_passed;
+use crate::clock::has_passed;
 use crate::held::Held;
 use crate::losses::Unsent;
 use q_desk::completed::Completed;
