@@ -62,22 +62,24 @@ fn refuse<T>(fault: NodesFault) -> Result<T> {
     bail!("refused: {fault}")
 }
 
-/// Whether what a call at node 1 began has ended.
-fn has_ended(calls: &Calls, outcome: Outcome) -> bool {
+/// Whether a call at node 1 began such an operation, which has ended.
+fn has_ended(calls: &Calls, operation: Operation, outcome: Outcome) -> bool {
     let Some(book) = calls.books.first() else {
         return false;
     };
-    match outcome {
-        Outcome::Stored(tag) => !book.is_open(tag),
-        Outcome::Asked(query) => matches!(book.answer(query), Ok(Some(_))),
-        Outcome::Refused(_) | Outcome::Registered(_) => false,
+    match (operation, outcome) {
+        (Operation::Store, Outcome::Stored(tag)) => !book.is_open(tag),
+        (Operation::Ask, Outcome::Asked(query)) => matches!(book.answer(query), Ok(Some(_))),
+        _ => false,
     }
 }
 
-/// Makes the calls of a script once, so many in flight: how many have ended, and how long the lines took.
+/// Makes the calls of a script once, so many in flight: how many such operations have ended, and how long the lines
+/// took.
 fn call_once<R>(
     rt: &R,
     script: &ClusterScript,
+    operation: Operation,
     in_flight: u64,
     transports: Vec<UdpTransport>,
 ) -> Result<Measured>
@@ -91,7 +93,7 @@ where
     };
     let mut done: u64 = 0;
     for outcome in &calls.outcomes {
-        done = done.saturating_add(u64::from(has_ended(&calls, *outcome)));
+        done = done.saturating_add(u64::from(has_ended(&calls, operation, *outcome)));
     }
     Ok(Measured {
         done,
@@ -115,7 +117,7 @@ where
     let mut least: Option<Measured> = None;
     for _ in 0..RUNS {
         let transports = open_sockets(rt, rt.alloc(), nodes)?;
-        let measured = call_once(rt, &script, in_flight, transports)?;
+        let measured = call_once(rt, &script, operation, in_flight, transports)?;
         least = Some(match least {
             Some(least) => least.least(measured),
             None => measured,
@@ -159,5 +161,5 @@ where
         let patience = Duration::from_millis(50);
         transports.push(UdpTransport::open(rt, rt.alloc(), patience)?)?;
     }
-    call_once(rt, &script, 1, transports)
+    call_once(rt, &script, Operation::Store, 1, transports)
 }

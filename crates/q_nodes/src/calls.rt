@@ -178,8 +178,9 @@ fn run_threads<R: Wait + Threads + Clock + Sync, T: Transport + Send + Drop>(
     bell: &Condvar,
     over: &AtomicBool,
     lines: &[ClusterLine],
+    in_flight: usize,
     wires: Vec<Wire<T>>,
-    mut flight: Flight<'_, T>,
+    end: Option<T>,
 ) -> Result<Made, Halt>
     ensures came { IfOk result (λ made. InTurn (ComesTo nodes) lines.now made.outcomes.items) }
     ensures halt { IfErr result (IsHalt nodes) }
@@ -191,6 +192,7 @@ fn run_threads<R: Wait + Threads + Clock + Sync, T: Transport + Send + Drop>(
             ensures came { IfOk result (λ made. InTurn (ComesTo nodes) lines.entry.now made.outcomes.items) }
             ensures halt { IfErr result (IsHalt nodes) }
         {
+            let mut flight = Flight::new(alloc, in_flight, bell, end);
             let made = match start_all(scope, rt, alloc, nodes, seats, bell, over, wires) {
                 Ok(()) => time_lines(rt, alloc, seats, nodes, lines, &mut flight),
                 Err(halt) => Err(halt),
@@ -233,13 +235,12 @@ fn run_with_runners<R: Wait + Threads + Clock + Sync, T: Transport + Send + Drop
     let rings = Rings { bell };
     let nodes = script.nodes;
     let end = own_end(nodes, &mut transports);
-    let flight = Flight::new(alloc, in_flight, bell, end)?;
     let wires = wires(alloc, transports)?;
     let lines = script.lines.as_slice();
     let work = move || -> Result<Made, Halt>
         ensures came { IfOk result (λ made. InTurn (ComesTo nodes) lines.entry.now made.outcomes.items) }
         ensures halt { IfErr result (IsHalt nodes) }
-    { run_threads(rt, alloc, nodes, seats, bell, over, lines, wires, flight) };
+    { run_threads(rt, alloc, nodes, seats, bell, over, lines, in_flight, wires, end) };
     match with_runners(rt, alloc, board, runners, &rings, work) {
         Ok(made) => made,
         Err(AllocError) => Err(Halt::OutOfMemory),

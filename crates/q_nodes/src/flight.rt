@@ -5,7 +5,7 @@ use crate::held::Held;
 use crate::seat;
 use q_lines::outcome::Outcome;
 use q_wire::transport::Transport;
-use std::alloc::{AllocError, Global};
+use std::alloc::Global;
 use std::sync::{Condvar, Mutex, Wait};
 use std::time::{Clock, Duration, Instant};
 
@@ -47,19 +47,14 @@ pub(crate) struct Flight<'a, T> {
 }
 
 impl<'a, T: Transport + Drop> Flight<'a, T> {
-    /// Nothing was begun. The one error is that memory ran out.
-    pub(crate) fn new(
-        alloc: Global,
-        most: usize,
-        bell: &'a Condvar,
-        end: Option<T>,
-    ) -> Result<Flight<'a, T>, AllocError> {
-        Ok(Flight {
+    /// Nothing was begun.
+    pub(crate) fn new(alloc: Global, most: usize, bell: &'a Condvar, end: Option<T>) -> Self {
+        Flight {
             most,
-            begun: Vec::with_capacity(alloc, most)?,
+            begun: Vec::new(alloc),
             bell,
             end,
-        })
+        }
     }
 
     /// Wakes the thread of a node by an empty datagram.
@@ -76,17 +71,18 @@ impl<'a, T: Transport + Drop> Flight<'a, T> {
         }
     }
 
-    /// Waits for what a call at a node began, unless less is waited for than at most: what the call came to.
+    /// After a call at a node, which came to this: wakes the node's thread if something began, and waits until there is
+    /// room for more. Where memory runs out for it, it is not waited for.
     pub(crate) fn join<R: Wait + Clock>(
         &mut self,
         rt: &R,
         seats: &[Mutex<Held<'_>>],
         node: u64,
-        outcome: Outcome,
+        outcome: &Outcome,
     ) {
         let awaited = match outcome {
-            Outcome::Stored(tag) => Awaited::End(tag),
-            Outcome::Asked(query) => Awaited::Answer(query),
+            Outcome::Stored(tag) => Awaited::End(*tag),
+            Outcome::Asked(query) => Awaited::Answer(*query),
             Outcome::Refused(_) | Outcome::Registered(_) => return,
         };
         let since = Instant::now(rt).ok();

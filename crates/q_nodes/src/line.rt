@@ -153,7 +153,7 @@ pub(crate) fn run_lines<R: Wait + Clock, T: Transport + Drop>(
             Ok(outcome) => outcome,
             Err(halt) => return Err(halt),
         };
-        flight.join(rt, seats, node_of(line), outcome);
+        flight.join(rt, seats, node_of(line), &outcome);
         if outcomes.push(outcome).is_err() {
             return Err(Halt::OutOfMemory);
         }
