@@ -6,13 +6,13 @@ ghost use Rattle.q_lines.specs.Lines.{ComesTo, InTurn};
 ghost use Rattle.q_lines.specs.Runs.{ids_to};
 ghost use Rattle.q_nodes.specs.Halts.{IsHalt};
 
+use crate::bell::Bell;
 use crate::flight::Flight;
 use crate::halt::Halt;
 use crate::held::Held;
 use crate::line::run_lines;
 use crate::losses::{Losses, Unsent};
 use crate::node::{Wire, tend, wires};
-use crate::rings::Rings;
 use q_board::board::Board;
 use q_board::seats::{AskerSeat, RunnerSeat};
 use q_book::book::Book;
@@ -23,7 +23,7 @@ use q_wire::transport::Transport;
 use sc_members::config::Config;
 use std::alloc::{AllocError, Global};
 use std::sync::atomic::{AtomicBool, Ordering};
-use std::sync::{Condvar, Mutex, Wait};
+use std::sync::{Mutex, Wait};
 use std::thread;
 use std::thread::{Scope, Threads};
 use std::time::{Clock, Duration, Instant};
@@ -114,7 +114,7 @@ fn start<'s, 'b, E, R: Wait + Threads + Clock + Sync, T: Transport + Send + Drop
     alloc: Global,
     nodes: u64,
     held: &'s Mutex<Held<'b>>,
-    bell: &'s Condvar,
+    bell: &'s Bell,
     over: &'s AtomicBool,
     wire: Wire<T>,
 ) -> bool {
@@ -130,7 +130,7 @@ fn start_all<'s, 'b, E, R: Wait + Threads + Clock + Sync, T: Transport + Send + 
     alloc: Global,
     nodes: u64,
     seats: &'s [Mutex<Held<'b>>],
-    bell: &'s Condvar,
+    bell: &'s Bell,
     over: &'s AtomicBool,
     wires: Vec<Wire<T>>,
 ) -> Result<(), Halt>
@@ -175,7 +175,7 @@ fn run_threads<R: Wait + Threads + Clock + Sync, T: Transport + Send + Drop>(
     alloc: Global,
     nodes: u64,
     seats: &[Mutex<Held<'_>>],
-    bell: &Condvar,
+    bell: &Bell,
     over: &AtomicBool,
     lines: &[ClusterLine],
     in_flight: usize,
@@ -220,6 +220,7 @@ fn run_with_runners<R: Wait + Threads + Clock + Sync, T: Transport + Send + Drop
     board: &Board,
     runners: Vec<RunnerSeat>,
     seats: &[Mutex<Held<'_>>],
+    bell: &Bell,
     script: &ClusterScript,
     in_flight: usize,
     mut transports: Vec<T>,
@@ -230,9 +231,6 @@ fn run_with_runners<R: Wait + Threads + Clock + Sync, T: Transport + Send + Drop
 {
     let over = AtomicBool::new(false);
     let over = &over;
-    let bell = Condvar::new();
-    let bell = &bell;
-    let rings = Rings { bell };
     let nodes = script.nodes;
     let end = own_end(nodes, &mut transports);
     let wires = wires(alloc, transports)?;
@@ -240,32 +238,41 @@ fn run_with_runners<R: Wait + Threads + Clock + Sync, T: Transport + Send + Drop
     let work = move || -> Result<Made, Halt>
         ensures came { IfOk result (λ made. InTurn (ComesTo nodes) lines.entry.now made.outcomes.items) }
         ensures halt { IfErr result (IsHalt nodes) }
-    { run_threads(rt, alloc, nodes, seats, bell, over, lines, in_flight, wires, end) };
-    match with_runners(rt, alloc, board, runners, &rings, work) {
+    {
+        run_threads(
+            rt, alloc, nodes, seats, bell, over, lines, in_flight, wires, end,
+        )
+    };
+    match with_runners(rt, alloc, board, runners, bell, work) {
         Ok(made) => made,
         Err(AllocError) => Err(Halt::OutOfMemory),
     }
 }
 
-/// The books that the locks kept.
-fn unlock(alloc: Global, seats: Vec<Mutex<Held<'_>>>, made: Made) -> Result<Calls, AllocError>
-    ensures books { IfOk result (λ calls. length calls.books.items ≡ length seats.entry.items) }
-    ensures outcomes { IfOk result (λ calls. calls.outcomes.items ≡ made.outcomes.items) }
+/// What nodes are when their threads have ended.
+#[derive(Drop)]
+struct Nodes {
+    books: Vec<Book>,
+    lost: Losses,
+    unsent: Unsent,
+}
+
+/// What the locks kept.
+fn unlock(alloc: Global, seats: Vec<Mutex<Held<'_>>>) -> Result<Nodes, AllocError>
+    ensures { IfOk result (λ kept. length kept.books.items ≡ length seats.entry.items) }
 {
-    let mut calls = Calls {
-        outcomes: made.outcomes,
-        taken: made.taken,
+    let mut nodes = Nodes {
         books: Vec::new(alloc),
         lost: Losses::none(),
         unsent: Unsent::none(),
     };
     for seat in seats {
         let held = seat.into_inner();
-        calls.lost = calls.lost.and(held.lost);
-        calls.unsent = calls.unsent.and(held.unsent);
-        calls.books.push(held.book)?;
+        nodes.lost = nodes.lost.and(held.lost);
+        nodes.unsent = nodes.unsent.and(held.unsent);
+        nodes.books.push(held.book)?;
     }
-    Ok(calls)
+    Ok(nodes)
 }
 
 /// Founds the nodes of a script, whose board this is, and makes the calls of its lines.
@@ -289,12 +296,14 @@ fn call_founders<R: Wait + Threads + Clock + Sync, T: Transport + Send + Drop>(
 {
     let ids = ids(alloc, script.nodes)?;
     let seats = found(alloc, board, askers, script.config, ids.as_slice())?;
+    let bell = Bell::new();
     let made = match run_with_runners(
         rt,
         alloc,
         board,
         runners,
         seats.as_slice(),
+        &bell,
         script,
         in_flight,
         transports,
@@ -302,8 +311,14 @@ fn call_founders<R: Wait + Threads + Clock + Sync, T: Transport + Send + Drop>(
         Ok(made) => made,
         Err(halt) => return Err(halt),
     };
-    let calls = unlock(alloc, seats, made)?;
-    Ok(calls)
+    let nodes = unlock(alloc, seats)?;
+    Ok(Calls {
+        outcomes: made.outcomes,
+        taken: made.taken,
+        books: nodes.books,
+        lost: nodes.lost,
+        unsent: nodes.unsent,
+    })
 }
 
 /// Founds the nodes of a script, each with a thread and one of these transports, and makes the calls of its lines in

@@ -1,12 +1,13 @@
 //! Operations and queries that were begun and are waited for.
 
+use crate::bell::Bell;
 use crate::clock::has_passed;
 use crate::held::Held;
 use crate::seat;
 use q_lines::outcome::Outcome;
 use q_wire::transport::Transport;
 use std::alloc::Global;
-use std::sync::{Condvar, Mutex, Wait};
+use std::sync::{Mutex, Wait};
 use std::time::{Clock, Duration, Instant};
 
 /// For how long an operation or a query is waited for.
@@ -42,13 +43,13 @@ struct Begun {
 pub(crate) struct Flight<'a, T> {
     most: usize,
     begun: Vec<Begun>,
-    bell: &'a Condvar,
+    bell: &'a Bell,
     end: Option<T>,
 }
 
 impl<'a, T: Transport + Drop> Flight<'a, T> {
     /// Nothing was begun.
-    pub(crate) fn new(alloc: Global, most: usize, bell: &'a Condvar, end: Option<T>) -> Self {
+    pub(crate) fn new(alloc: Global, most: usize, bell: &'a Bell, end: Option<T>) -> Self {
         Flight {
             most,
             begun: Vec::new(alloc),
@@ -104,12 +105,13 @@ impl<'a, T: Transport + Drop> Flight<'a, T> {
     ) {
         for _ in 0..MOST_LOOKS {
             // The bell is read before the books, so what ends later ends the sleep.
-            let rung = self.bell.notifications();
+            let rung = self.bell.rings();
             self.begun.retain(|begun| !is_settled(rt, seats, begun) && !is_late(rt, begun));
             if self.begun.len() < many {
                 break;
             }
-            self.bell.sleep(rt, rung, Duration::from_millis(NAP_MILLIS));
+            self.bell
+                .await_ring(rt, rung, Duration::from_millis(NAP_MILLIS));
         }
     }
 }

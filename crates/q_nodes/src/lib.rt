@@ -33,6 +33,7 @@
 
 pub mod addressee;
 mod asked;
+mod bell;
 pub mod calls;
 mod clock;
 mod flight;
@@ -41,7 +42,6 @@ pub mod held;
 mod line;
 pub mod losses;
 mod node;
-mod rings;
 pub mod run;
 mod seat;
 pub mod sockets;

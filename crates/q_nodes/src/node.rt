@@ -4,6 +4,7 @@ ghost use Rattle.std.specs.Prelude.{◌≡◌, ◌≤◌, length, IfSome};
 
 use crate::addressee::addressee;
 use crate::asked::Asked;
+use crate::bell::Bell;
 use crate::clock::has_passed;
 use crate::held::Held;
 use crate::losses::Unsent;
@@ -15,7 +16,7 @@ use sc_msg::message::{MOST_BYTES, Message};
 use sc_msg::version::Version;
 use std::alloc::{AllocError, Global};
 use std::sync::atomic::{AtomicBool, Ordering};
-use std::sync::{Condvar, Mutex, Wait};
+use std::sync::{Mutex, Wait};
 use std::thread;
 use std::time::{Clock, Duration, Instant};
 
@@ -199,7 +200,7 @@ fn take_turn<R: Wait + Clock, T: Transport>(
     nodes: u64,
     version: Version,
     held: &Mutex<Held<'_>>,
-    bell: &Condvar,
+    bell: &Bell,
     asked: &mut Asked,
     wire: &mut Wire<T>,
 ) {
@@ -207,7 +208,7 @@ fn take_turn<R: Wait + Clock, T: Transport>(
     let len = received.unwrap_or(0);
     let heard = hear(rt, alloc, held, asked, &wire.buffer.as_slice()[..len]);
     if heard.has_stored {
-        bell.notify_one();
+        bell.ring();
     }
     let unsent = tell_all(
         alloc,
@@ -249,7 +250,7 @@ pub(crate) fn tend<R: Wait + Clock, T: Transport + Drop>(
     alloc: Global,
     nodes: u64,
     held: &Mutex<Held<'_>>,
-    bell: &Condvar,
+    bell: &Bell,
     over: &AtomicBool,
     mut wire: Wire<T>,
 ) {

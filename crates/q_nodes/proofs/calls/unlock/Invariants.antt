@@ -2,4 +2,4 @@ use Rattle.std.proofs.Common.{◌≡◌, length}
 use Rattle.q_nodes.proofs.calls.unlock.Given as goal
 
 abbrev pub invariant-loop-seat : goal.invariant-loop-seat
-invariant-loop-seat l = length l.calls.books.items ≡ length l.yielded
+invariant-loop-seat l = length l.nodes.books.items ≡ length l.yielded
