@@ -31,7 +31,13 @@
 //! [`Held`]: held::Held
 #![tactic(auto)]
 
-mod halt;
+pub mod addressee;
+mod asked;
+mod bell;
+pub mod calls;
+mod clock;
+mod flight;
+pub mod halt;
 pub mod held;
 mod line;
 pub mod losses;
@@ -39,5 +45,4 @@ mod node;
 pub mod run;
 mod seat;
 pub mod sockets;
-mod turn;
 pub mod worked;
