@@ -4,11 +4,11 @@
  *
  *     u64 program(const struct record *record, u64 length, u64 accumulator);
  *
- * It returns the new accumulator. It may read the record's `length` bytes, 16 to 128, and nothing behind them; it may
+ * It returns the new accumulator. It may read the record's `length` bytes, 16 to 128, and nothing after them; it may
  * not write the record. So ask `length` before you read a value, or have the program checked for longer records alone
  * (`check --least 64`). Numbers have their lowest byte first, as BPF has them.
  *
- * clang is told `-target bpf -O2 -mcpu=v3 -fno-builtin`; the script `build` does that. What C has and a program has not:
+ * clang is told `-target bpf -O2 -mcpu=v3 -fno-builtin`, as the script `build` does. What C has and a program has not:
  *
  * - calls: helpers are `static inline`; `-fno-builtin` keeps clang from making calls of memset and memcpy of loops;
  * - loops: a loop needs a fixed number of rounds and `#pragma clang loop unroll(full)` above it;
