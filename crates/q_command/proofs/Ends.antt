@@ -1,7 +1,7 @@
 -- How a command ends that wrote its answer.
-use Rattle.std.proofs.Common.{◌≡◌, ℕ, Bool, true, false, List, Option, Result, refl, sym, subst}
+use Rattle.std.proofs.Common.{◌≡◌, ℕ, Bool, true, false, List, Option, refl, sym, subst}
 use Rattle.std.specs.Io.KnownBytes.{Appends}
-use Rattle.q_files.specs.declared.files.FileFault.{FileFault}
+use Rattle.q_files.specs.Files.{Reading}
 use Rattle.q_sim.specs.Simulates.{Writing}
 use Rattle.q_words.specs.Words.{is_strict}
 use Rattle.q_words.specs.declared.words.FileCommand.{FileCommand}
@@ -9,7 +9,7 @@ use Rattle.q_command.specs.Perform.{Answers, Ends, end_of, failures_after}
 use Rattle.q_command.specs.declared.perform.Outcome.{Outcome}
 
 -- the writer took the answer
-pub wrote : {F : Type 0} (reads : F → List ℕ → Result (List ℕ) FileFault → F → Type 0) (writes : Writing F) (line : FileCommand) (old new : F) (before after : Option (List ℕ)) (lines : List ℕ) (strict unwritten refused : Bool) (o : Outcome)
+pub wrote : {F : Type 0} (reads : Reading F) (writes : Writing F) (line : FileCommand) (old new : F) (before after : Option (List ℕ)) (lines : List ℕ) (strict unwritten refused : Bool) (o : Outcome)
     → strict ≡ is_strict line → Answers reads writes line old lines unwritten refused new → Appends before after lines → o ≡ end_of strict unwritten refused
     → Ends reads writes line old before o new after
 wrote reads writes line old new before after lines strict true refused o s h k e =

@@ -2,4 +2,5 @@ mod Auditing
 mod Ends
 mod Lines
 mod Lists
+mod Programs
 mod Refused
