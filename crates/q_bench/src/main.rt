@@ -6,8 +6,10 @@
 //! |---|---|
 //! | `hand JOBS` | one thread offers, takes, runs, finishes and polls each job, one behind the other |
 //! | `run JOBS RUNNERS` | one thread offers and polls, so many others take, run and finish |
-//! | `stores NODES COUNT` | so many stores at node 1, one behind the other, over sockets of loopback |
-//! | `asks NODES COUNT` | so many queries at node 1, each until its answer is printed, after one store |
+//! | `stores NODES COUNT FLIGHT` | so many stores at node 1 over sockets of loopback, FLIGHT of them open at once, without the start and the end of the nodes |
+//! | `asks NODES COUNT FLIGHT` | the same of queries, after one store |
+//! | `script NODES COUNT` | a script of so many stores at node 1, one after the other, as `bqview cluster` runs it |
+//! | `idle NODES` | four seconds of so many nodes that have nothing to do |
 //! | `answers COUNT` | so many requests for an answer, read and replied to |
 //! | `registrations COUNT` | so many registrations of a program of three units, each decoded and checked |
 //! | `gather NODES STORES` | founders that each stored so often, gathered by their journals and by their books |
@@ -16,8 +18,7 @@
 //! what a job takes beyond that is its hand-over.
 //!
 //! Stores, queries and requests are each done five times, and the least time is told. The count is of what ended in
-//! each of the five, so that a store or a query that was left unanswered is missing there; the time of stores and
-//! queries has the start and the end of the nodes in it.
+//! each of the five, so that a store or a query that was left unanswered is missing there.
 //!
 //! The nodes that are gathered ran one after another and without sockets, until each had taken every message. The
 //! count is that of their events, and they are gathered once.
@@ -36,9 +37,10 @@ mod queues;
 mod requests;
 mod sizes;
 
+use crate::cluster::Operation;
 use crate::gathers::Gathered;
 use crate::jobs::Times;
-use crate::measured::tell;
+use crate::measured::{Measured, tell};
 use crate::sizes::size;
 use anyhow::{Result, bail};
 use std::alloc::Global;
@@ -59,14 +61,13 @@ where
             let (jobs, runners) = (size(words, 2, 64)?, size(words, 3, 2)?);
             tell_both(rt, "run", run(rt, jobs as usize, runners as usize)?)
         }
-        "stores" => {
+        "stores" => tell(rt, word, operations(rt, words, Operation::Store)?),
+        "asks" => tell(rt, word, operations(rt, words, Operation::Ask)?),
+        "script" => {
             let (nodes, count) = (size(words, 2, 3)?, size(words, 3, 4)?);
-            tell(rt, word, cluster::stores(rt, nodes, count)?)
+            tell(rt, word, cluster::run_script(rt, nodes, count)?)
         }
-        "asks" => {
-            let (nodes, count) = (size(words, 2, 3)?, size(words, 3, 4)?);
-            tell(rt, word, cluster::asks(rt, nodes, count)?)
-        }
+        "idle" => tell(rt, word, cluster::idle(rt, size(words, 2, 16)?)?),
         "answers" => tell(rt, word, requests::answers(rt, size(words, 2, 4)?)?),
         "registrations" => tell(rt, word, requests::registrations(rt, size(words, 2, 4)?)?),
         "gather" => {
@@ -74,12 +75,21 @@ where
             tell_gathered(rt, gathers::run(rt, nodes, stores)?)
         }
         _ => bail!(
-            "{word:?} is none of hand, run, stores, asks, answers, registrations and gather"
+            "{word:?} is none of hand, run, stores, asks, script, idle, answers, registrations and gather"
         ),
     }
 }
 
-/// A small run of each.
+/// Times so many operations of nodes with sockets.
+fn operations<R>(rt: &R, words: &[String], operation: Operation) -> Result<Measured>
+where
+    R: Net + Wait + Threads + Clock + Alloc<A = Global> + Sync,
+{
+    let (nodes, count, flight) = (size(words, 2, 3)?, size(words, 3, 4)?, size(words, 4, 1)?);
+    cluster::operations(rt, nodes, operation, count, flight)
+}
+
+/// A small run of each, but of nodes that have nothing to do.
 fn run_all<R>(rt: &R) -> Result<()>
 where
     R: Net + Wait + Threads + Clock + Print + Eprint + Alloc<A = Global> + Sync,
@@ -89,6 +99,7 @@ where
         "run",
         "stores",
         "asks",
+        "script",
         "answers",
         "registrations",
         "gather",

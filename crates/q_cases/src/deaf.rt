@@ -27,10 +27,8 @@ impl<T: Transport> Transport for Deaf<T> {
     }
 
     fn receive(&mut self, into: &mut [u8]) -> Result<Option<usize>, TransportFault> {
-        if self.is_deaf {
-            return Ok(None);
-        }
-        self.inner.receive(into)
+        let received = self.inner.receive(into)?;
+        Ok(if self.is_deaf { None } else { received })
     }
 
     fn failures(&self) -> u64 {

@@ -55,13 +55,16 @@
 //! | `$ mute NODE` | is printed, with what it prints over memory where this node sends nothing |
 //! | `$ failing NODE` | is printed, with what it prints over memory where each send of this node fails |
 //! | `$ noisy LETTERS` | is printed, with what it prints over memory where datagrams are disturbed by these letters |
+//! | `$ unrung` | is printed, with what it prints over memory where nothing wakes the nodes' threads |
+//! | `$ flood COUNT` | is printed, with what it prints over sockets where so many datagrams that are no message come before each that is sent |
+//! | `$ runs COUNT WORDS` | is printed, with what the first of so many runs prints, how many print the same as it, and its exit status |
 //! | `$ forged BYTES BOOK NEVER` | is printed, with what it prints over memory where node 1 first hears so many datagrams that spell no message, that no book takes, and of a message that was never sent |
 //! | `$ strict` and one of these | is printed, with the same, and the exit status of a strict run |
 //! | `$ WORDS` | is printed, with what the command of these words prints over the one file `s`, which holds the script |
 //! | any other | is added to the script as a line |
 //!
 //! What the run notes of datagrams that were refused, of lines that are unanswered and of what was not sent is printed
-//! too, but where datagrams are disturbed.
+//! too, but where datagrams are disturbed by letters or a flood.
 #![tactic(auto)]
 
 mod calls;

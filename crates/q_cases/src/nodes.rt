@@ -3,16 +3,18 @@
 use crate::commands::tell_fault;
 use crate::deaf::Deaf;
 use crate::forged::{Forged, datagrams};
-use crate::noise::Noisy;
+use crate::noise::{Flooding, Noisy};
 use q_files::files::Files;
 use q_files::memory::MemoryFiles;
 use q_lines::ending::Ending;
+use q_lines::fault::NodesFault;
 use q_lines::script::ClusterScript;
 use q_nodes::run::run_cluster;
-use q_nodes::sockets::{run_file, run_over_sockets};
+use q_nodes::sockets::{open_sockets, run_file, run_over_sockets};
 use q_script::number::number;
 use q_wire::counted::Counted;
 use q_wire::memory::{Hub, MemoryTransport};
+use q_wire::udp::UdpTransport;
 use q_words::words::{Wanted, read_words};
 use std::alloc::{AllocError, Global};
 use std::io;
@@ -35,6 +37,8 @@ struct Disturbed<'a> {
     letters: &'a [u8],
     /// What node 1 hears before all else, the last one first.
     before: Vec<Vec<u8>>,
+    /// Whether the nodes' threads are woken, by an end of the caller's own.
+    has_bells: bool,
 }
 
 impl<'a> Disturbed<'a> {
@@ -46,9 +50,11 @@ impl<'a> Disturbed<'a> {
             failing: 0,
             letters: &[],
             before: Vec::new(alloc),
+            has_bells: true,
         };
         match word {
             "memory" => {}
+            "unrung" => disturbed.has_bells = false,
             "deaf" => disturbed.deaf = number(rest).unwrap_or(0),
             "mute" => disturbed.mute = number(rest).unwrap_or(0),
             "failing" => disturbed.failing = number(rest).unwrap_or(0),
@@ -72,30 +78,76 @@ fn unsent(alloc: Global, counts: &str) -> Result<Vec<Vec<u8>>, AllocError> {
     )
 }
 
+/// How long a node waits for a datagram.
+const PATIENCE_MILLIS: u64 = 50;
+
 /// The end of a node, whose datagrams are disturbed.
 type End<'a, R> = Deaf<Noisy<'a, Forged<MemoryTransport<'a, R>>>>;
+
+/// The end of this node, which hears these datagrams before all else.
+fn plain<'a, R: Wait>(
+    rt: &'a R,
+    hub: &'a Hub,
+    id: u64,
+    patience: Duration,
+    before: Vec<Vec<u8>>,
+) -> Forged<MemoryTransport<'a, R>> {
+    Forged {
+        inner: MemoryTransport::new(rt, hub, id, patience),
+        before,
+    }
+}
+
+/// The end of this node, which is disturbed by these letters.
+fn noisy<'a, R: Wait>(
+    rt: &'a R,
+    alloc: Global,
+    hub: &'a Hub,
+    nodes: u64,
+    id: u64,
+    letters: &'a [u8],
+    before: Vec<Vec<u8>>,
+) -> Result<Noisy<'a, Forged<MemoryTransport<'a, R>>>, AllocError> {
+    let patience = Duration::from_millis(PATIENCE_MILLIS);
+    let patient = plain(rt, hub, id, patience, before);
+    let at_once = plain(rt, hub, id, Duration::ZERO, Vec::new(alloc));
+    Noisy::new(alloc, letters, nodes, patient, at_once)
+}
 
 /// The end of this node. What is heard before all else goes to the first that is made.
 fn end<'a, 'l: 'a, R: Wait>(
     rt: &'a R,
     alloc: Global,
     hub: &'a Hub,
+    nodes: u64,
     id: u64,
     disturbed: &mut Disturbed<'l>,
-) -> End<'a, R> {
-    let forged = Forged {
-        inner: MemoryTransport::new(rt, hub, id, Duration::ZERO),
-        before: std::mem::replace(&mut disturbed.before, Vec::new(alloc)),
-    };
-    Deaf {
-        inner: Noisy::new(alloc, disturbed.letters, forged),
+) -> Result<End<'a, R>, AllocError> {
+    let before = std::mem::replace(&mut disturbed.before, Vec::new(alloc));
+    Ok(Deaf {
+        inner: noisy(rt, alloc, hub, nodes, id, disturbed.letters, before)?,
         is_deaf: id == disturbed.deaf,
         is_mute: id == disturbed.mute,
         is_failing: id == disturbed.failing,
-    }
+    })
 }
 
-/// The ends of so many nodes.
+/// The end of the caller, by which it wakes the nodes, and which nothing disturbs.
+fn caller_end<'a, R: Wait>(
+    rt: &'a R,
+    alloc: Global,
+    hub: &'a Hub,
+    nodes: u64,
+) -> Result<End<'a, R>, AllocError> {
+    Ok(Deaf {
+        inner: noisy(rt, alloc, hub, nodes, 0, &[], Vec::new(alloc))?,
+        is_deaf: false,
+        is_mute: false,
+        is_failing: false,
+    })
+}
+
+/// The ends of so many nodes, and the caller's, if it has one.
 fn ends<'a, 'l: 'a, R: Wait>(
     rt: &'a R,
     alloc: Global,
@@ -105,7 +157,25 @@ fn ends<'a, 'l: 'a, R: Wait>(
 ) -> Result<Vec<End<'a, R>>, AllocError> {
     let mut ends = Vec::new(alloc);
     for known in 0..nodes {
-        ends.push(end(rt, alloc, hub, known.wrapping_add(1), disturbed))?;
+        let id = known.wrapping_add(1);
+        ends.push(end(rt, alloc, hub, nodes, id, disturbed)?)?;
+    }
+    if disturbed.has_bells {
+        ends.push(caller_end(rt, alloc, hub, nodes)?)?;
+    }
+    Ok(ends)
+}
+
+/// Ends at sockets, each of which floods the nodes to which it sends.
+fn flooding<R: Net>(
+    rt: &R,
+    alloc: Global,
+    nodes: u64,
+    many: u64,
+) -> io::Result<Vec<Flooding<UdpTransport>>> {
+    let mut ends = Vec::new(alloc);
+    for inner in open_sockets(rt, alloc, nodes)? {
+        ends.push(Flooding { inner, many })?;
     }
     Ok(ends)
 }
@@ -172,8 +242,33 @@ impl<'a, R: Net + Wait + Threads + Clock + Sync, W: Write> Nodes<'a, R, W> {
     fn run(&mut self, words: &str) -> io::Result<u8> {
         match words.split_once(' ') {
             Some(("strict", words)) => self.run_script(words, true),
+            Some(("runs", words)) => self.run_often(words),
             _ => self.run_script(words, false),
         }
+    }
+
+    /// Runs the script so often as these words say, prints what the first run prints, and how many printed the same.
+    fn run_often(&mut self, words: &str) -> io::Result<u8> {
+        let (count, words) = words.split_once(' ').unwrap_or((words, ""));
+        let (first, status) = self.run_apart(words)?;
+        let mut same: u64 = 1;
+        for _ in 1..number(count).unwrap_or(0) {
+            let (printed, _) = self.run_apart(words)?;
+            if printed.as_slice() == first.as_slice() {
+                same = same.saturating_add(1);
+            }
+        }
+        self.out.write_all(first.as_slice())?;
+        writeln!(self.out, "{same} runs that print the same")?;
+        Ok(status)
+    }
+
+    /// Runs the script: what it prints, and the exit status.
+    fn run_apart(&self, words: &str) -> io::Result<(Vec<u8>, u8)> {
+        let mut nodes = Nodes::new(self.rt, self.alloc, Vec::new(self.alloc));
+        nodes.script.push_str(self.script.as_str())?;
+        let status = nodes.run_script(words, false)?;
+        Ok((nodes.out.inner, status))
     }
 
     /// The same, strict or not.
@@ -182,9 +277,10 @@ impl<'a, R: Net + Wait + Threads + Clock + Sync, W: Write> Nodes<'a, R, W> {
         let mut notes = Vec::new(self.alloc);
         let status = match word {
             "sockets" => self.run_over_sockets(&mut notes).status(is_strict),
+            "flood" => self.run_flooded(rest, &mut notes)?.status(is_strict),
             _ => self.run_word(words, word, rest, is_strict, &mut notes)?,
         };
-        if word != "noisy" {
+        if word != "noisy" && word != "flood" {
             self.out.write_all(notes.as_slice())?;
         }
         Ok(status)
@@ -212,6 +308,25 @@ impl<'a, R: Net + Wait + Threads + Clock + Sync, W: Write> Nodes<'a, R, W> {
     fn run_over_sockets(&mut self, notes: &mut Vec<u8>) -> Ending {
         let source = self.script.as_str();
         run_over_sockets(self.rt, self.alloc, source, &mut self.out, notes)
+    }
+
+    /// Runs the script over a socket for each node, in a flood of so many datagrams for each that is sent.
+    fn run_flooded(&mut self, many: &str, notes: &mut Vec<u8>) -> io::Result<Ending> {
+        match ClusterScript::read(self.alloc, self.script.as_str()) {
+            Ok(script) => {
+                let many = number(many).unwrap_or(0);
+                let ends = flooding(self.rt, self.alloc, script.nodes, many)?;
+                let out = &mut self.out;
+                Ok(run_cluster(self.rt, self.alloc, &script, ends, out, notes))
+            }
+            Err(fault) => self.refuse(fault),
+        }
+    }
+
+    /// Prints the refusal of a script.
+    fn refuse(&mut self, fault: NodesFault) -> io::Result<Ending> {
+        writeln!(self.out, "{fault}")?;
+        Ok(Ending::Refused(fault))
     }
 
     /// Runs the command of these words over a file `s`, which holds the script.
@@ -245,10 +360,7 @@ impl<'a, R: Net + Wait + Threads + Clock + Sync, W: Write> Nodes<'a, R, W> {
     ) -> io::Result<Ending> {
         match ClusterScript::read(self.alloc, self.script.as_str()) {
             Ok(script) => self.run_read(&script, disturbed, notes),
-            Err(fault) => {
-                writeln!(self.out, "{fault}")?;
-                Ok(Ending::Refused(fault))
-            }
+            Err(fault) => self.refuse(fault),
         }
     }
 

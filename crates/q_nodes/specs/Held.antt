@@ -1,5 +1,5 @@
 -- What is done to a node's book, and to the messages that wait to be sent, while its lock is held.
-use Rattle.std.specs.Prelude.{◌≡◌, ◌≢◌, ℕ, ◌+◌, ◌-◌, ◌^◌, min, ◌==◌, ◌&&◌, Bool, List, ◌++◌, codes, decimal, Result, Ok, Err}
+use Rattle.std.specs.Prelude.{◌≡◌, ◌≢◌, ℕ, ◌+◌, ◌-◌, ◌^◌, min, ◌==◌, ◌&&◌, Bool, List, [], ◌∷◌, ◌++◌, codes, decimal, Result, Ok, Err}
 use Rattle.sc_msg.specs.Fault.{IsFault}
 use Rattle.sc_msg.specs.Messages.{message_bytes, IsMessage}
 use Rattle.sc_msg.specs.declared.message.Message.{Message}
@@ -61,6 +61,12 @@ with_one l lost.OutOfMemory = record l { memory = sum_of l.memory 1 }
 abbrev pub counted : Result (Unit {0}) Lost → Losses → Losses
 counted (Ok u) l = l
 counted (Err e) l = with_one l e
+
+-- an empty datagram is a bell, and changes nothing; any other is heard, and counted where it changes nothing
+abbrev pub Receives : List ℕ → BookState → List Message → Losses → BookState → List Message → Losses → Type 0
+Receives [] b had l c has k = IsSame b had c has × (k ≡ l)
+Receives (byte ∷ bytes) b had l c has k =
+    (r : Result (Unit {0}) Lost) × Hears (byte ∷ bytes) b had r c has × (k ≡ counted r l)
 
 abbrev pub together : Losses → Losses → Losses
 together l k = record { bytes = sum_of l.bytes k.bytes; book = sum_of l.book k.book; memory = sum_of l.memory k.memory }

@@ -1,15 +1,18 @@
 //! Why no line of a script is told.
 
-ghost use Rattle.std.specs.Prelude.{ℕ};
+ghost use Rattle.std.specs.Prelude.{◌≡◌, ◌≤◌, ℕ};
 ghost use Rattle.q_lines.specs.Runs.{IsUntold};
 ghost use Rattle.q_nodes.specs.Halts.{IsHalt};
 
+use q_board::fault::OpenFault;
 use q_lines::fault::NodesFault;
 use std::alloc::AllocError;
 
-/// Why no line of a script of 1 to 16 nodes is told.
+/// Why no line of a script is told.
 #[derive(Clone, Copy)]
-pub(crate) enum Halt {
+pub enum Halt {
+    /// There are not 1 to 16 nodes.
+    BadCount,
     /// Memory ran out, or the thread of a runner was not started.
     OutOfMemory,
     /// The thread of this node was not started.
@@ -20,12 +23,24 @@ pub(crate) enum Halt {
 
 impl Halt {
     /// The refusal by which it is told.
-    pub(crate) fn fault(self) -> NodesFault
+    pub fn fault(self) -> NodesFault
         ensures { (nodes : ℕ) → IsHalt nodes self → IsUntold nodes result }
     {
         match self {
             Halt::OutOfMemory | Halt::Thread(_) => NodesFault::from(AllocError),
             Halt::Astray => NodesFault::bad_founders(),
+            Halt::BadCount => NodesFault::BadCount,
+        }
+    }
+
+    /// Why there is no board for so many nodes and four runners.
+    pub(crate) fn of_board(fault: OpenFault, nodes: u64) -> Halt
+        requires { fault ≡ OpenFault.BadCount → ¬ ((1 ≤ nodes) × (nodes ≤ 16)) }
+        ensures { IsHalt nodes result }
+    {
+        match fault {
+            OpenFault::BadCount => Halt::BadCount,
+            OpenFault::OutOfMemory => Halt::OutOfMemory,
         }
     }
 }

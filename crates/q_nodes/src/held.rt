@@ -1,9 +1,9 @@
 //! What the lock of a node keeps.
 
-ghost use Rattle.std.specs.Prelude.{◌≡◌, ◌≤◌, ◌+◌, [], vec_len, vec_capacity, MatchResult};
+ghost use Rattle.std.specs.Prelude.{◌≡◌, ◌≤◌, ◌+◌, [], vec_len, vec_capacity, MatchResult, None};
 ghost use Rattle.q_board.specs.BoardId.{board_id};
 ghost use Rattle.q_pool.specs.Pumped.{Pumped, Stopped};
-ghost use Rattle.q_nodes.specs.Held.{Asks, Delivers, Hears, Stores, both_unsent, counted, no_losses, no_unsent};
+ghost use Rattle.q_nodes.specs.Held.{Asks, Delivers, Hears, Receives, Stores, both_unsent, counted, no_losses, no_unsent};
 
 use crate::losses::{Losses, Unsent};
 use q_board::board::Board;
@@ -11,6 +11,7 @@ use q_board::seats::AskerSeat;
 use q_book::answer::Asked;
 use q_book::book::Book;
 use q_book::fault::BookFault;
+use q_desk::completed::Completed;
 use q_pool::pump::pump_once;
 use q_table::program::ProgramId;
 use sc_decode::decode::decode_as;
@@ -29,6 +30,8 @@ pub struct Held<'b> {
     pub lost: Losses,
     /// What the node's thread did not send so far.
     pub unsent: Unsent,
+    /// The last operation that ended, unless it was asked for since.
+    pub ended: Option<Completed>,
     /// The board.
     pub board: &'b Board,
     /// The node's seat at this board.
@@ -62,8 +65,21 @@ impl<'b> Held<'b> {
             waiting: Vec::new(alloc),
             lost: Losses::none(),
             unsent: Unsent::none(),
+            ended: None,
             board,
             asker,
+        }
+    }
+
+    /// Takes a datagram that was received. An empty one is a bell, which only wakes the node's thread: it is not heard,
+    /// and not lost. Any other is heard, as by [`Held::hear`].
+    pub fn receive(&mut self, alloc: Global, datagram: &[u8])
+        ensures received { Receives datagram.now self.old.book self.old.waiting.items self.old.lost self.new.book self.new.waiting.items self.new.lost }
+        ensures unsent { self.new.unsent ≡ self.old.unsent }
+        ensures asker { self.new.asker ≡ self.old.asker }
+    {
+        if !datagram.is_empty() {
+            let _ = self.hear(alloc, datagram);
         }
     }
 
@@ -112,6 +128,9 @@ impl<'b> Held<'b> {
     {
         match self.book.deliver(message) {
             Ok(taken) => {
+                if taken.completed.is_some() {
+                    self.ended = taken.completed;
+                }
                 taken.outs.append_to(&mut self.waiting);
                 Ok(())
             }
@@ -156,6 +175,19 @@ impl<'b> Held<'b> {
         ensures asker { self.new.asker ≡ self.old.asker }
     {
         std::mem::replace(&mut self.waiting, Vec::new(alloc))
+    }
+
+    /// The operation that ended last, if any did since this was last asked.
+    pub fn take_ended(&mut self) -> Option<Completed>
+        ensures given { result ≡ self.old.ended }
+        ensures none { self.new.ended ≡ None }
+        ensures book { self.new.book ≡ self.old.book }
+        ensures waiting { self.new.waiting.items ≡ self.old.waiting.items }
+        ensures lost { self.new.lost ≡ self.old.lost }
+        ensures unsent { self.new.unsent ≡ self.old.unsent }
+        ensures asker { self.new.asker ≡ self.old.asker }
+    {
+        self.ended.take()
     }
 
     /// Counts what the node's thread did not send.

@@ -31,13 +31,18 @@
 //! [`Held`]: held::Held
 #![tactic(auto)]
 
-mod halt;
+pub mod addressee;
+mod asked;
+pub mod calls;
+mod clock;
+mod flight;
+pub mod halt;
 pub mod held;
 mod line;
 pub mod losses;
 mod node;
+mod rings;
 pub mod run;
 mod seat;
 pub mod sockets;
-mod turn;
 pub mod worked;

@@ -13,7 +13,7 @@ use q_lines::fault::NodesFault;
 use q_lines::outcome::Outcome;
 use q_lines::own::is_of;
 use q_table::program::{Program, ProgramId};
-use std::sync::{Mutex, Wait};
+use std::sync::Mutex;
 
 /// The lock of this node, which is counted from 1.
 pub(crate) fn seat<'s, 'b>(seats: &'s [Mutex<Held<'b>>], node: u64) -> Option<&'s Mutex<Held<'b>>> {
@@ -58,10 +58,4 @@ pub(crate) fn ask(held: &mut Held<'_>, node: u64, program: ProgramId, start: u64
         Ok(query) => Some(Outcome::Asked(query)),
         Err(fault) => Some(Outcome::Refused(NodesFault::from(fault))),
     }
-}
-
-/// Carries results from the board into the book of a node, and jobs from the book to the board. What stops the pump
-/// stops it at the next call too, and loses nothing.
-pub(crate) fn pump<R: Wait>(rt: &R, held: &Mutex<Held<'_>>) {
-    let _ = held.lock(rt).pump();
 }

@@ -16,15 +16,20 @@ use std::io::Write;
 use std::net::Net;
 use std::sync::Wait;
 use std::thread::Threads;
-use std::time::Clock;
+use std::time::{Clock, Duration};
 use std::{io, str};
 
-/// A socket for each node. None knows a peer yet.
+/// For how long a socket waits for a datagram.
+const PATIENCE_MILLIS: u64 = 50;
+
+/// A socket for each node, and one for the thread that makes the calls. None knows a peer yet.
 fn open_all<R: Net>(rt: &R, alloc: Global, nodes: u64) -> io::Result<Vec<UdpTransport>> {
+    let patience = Duration::from_millis(PATIENCE_MILLIS);
     let mut transports = Vec::new(alloc);
     for _ in 0..nodes {
-        transports.push(UdpTransport::open(rt, alloc, std::time::Duration::from_millis(1))?)?;
+        transports.push(UdpTransport::open(rt, alloc, patience)?)?;
     }
+    transports.push(UdpTransport::open(rt, alloc, patience)?)?;
     Ok(transports)
 }
 
@@ -48,8 +53,9 @@ fn meet_all(transport: &mut UdpTransport, peers: &[Peer]) -> io::Result<()> {
     Ok(())
 }
 
-/// A socket for each of so many nodes, at free ports of loopback, each of which knows all.
-fn open_sockets<R: Net>(rt: &R, alloc: Global, nodes: u64) -> io::Result<Vec<UdpTransport>> {
+/// A socket for each of so many nodes, and one more for the thread that makes the calls, at free ports of loopback, each
+/// of which knows all.
+pub fn open_sockets<R: Net>(rt: &R, alloc: Global, nodes: u64) -> io::Result<Vec<UdpTransport>> {
     let mut transports = open_all(rt, alloc, nodes)?;
     let peers = peers(alloc, transports.as_slice())?;
     for transport in transports.as_mut_slice() {

@@ -1,8 +1,11 @@
-//! Worked values of losses, and of what is done under a lock.
+//! Worked values of losses, of what is done under a lock, and of addressees.
 
-ghost use Rattle.std.specs.Prelude.{◌≡◌, ◌++◌, ℕ, List, [], codes, Ok, Err};
+ghost use Rattle.std.specs.Prelude.{◌≡◌, ◌++◌, ℕ, List, [], codes, Ok, Err, Some, None, Result, true, ◌∷◌};
 ghost use Rattle.sc_msg.specs.declared.fault.MessageFault.{MessageFault};
 ghost use Rattle.sc_msg.specs.declared.message.Message.{Message as Sent};
+ghost use Rattle.sc_msg.specs.declared.message.Body.TheVariants as body;
+ghost use Rattle.sc_members.specs.Members.{Facts};
+ghost use Rattle.sc_view.specs.Views.{ViewMap};
 ghost use Rattle.sc_node.specs.declared.answer.Begun.{Begun as Started};
 ghost use Rattle.q_board.specs.AskerModel.{AskerModel};
 ghost use Rattle.q_book.specs.State.{BookState};
@@ -11,8 +14,11 @@ ghost use Rattle.q_book.specs.declared.answer.Asked.{Asked};
 ghost use Rattle.q_book.specs.declared.answer.Taken.{Taken};
 ghost use Rattle.q_book.specs.declared.fault.BookFault.TheVariants as book;
 ghost use Rattle.q_pool.specs.Pumped.{Pumped};
-ghost use Rattle.q_nodes.specs.Held.{Asks, Delivers, Hears, Stores, both_unsent, counted, losses_text, no_losses, sum_of, together, unsent_text, with_one};
+ghost use Rattle.q_nodes.specs.Held.{Asks, Delivers, Hears, Receives, Stores, both_unsent, counted, losses_text, no_losses, sum_of, together, unsent_text, with_one};
+ghost use Rattle.q_nodes.specs.Addressees.{addressee_of, asking_tag};
+ghost use Rattle.q_nodes.specs.declared.held.Lost.{Lost};
 ghost use Rattle.q_nodes.specs.declared.held.Lost.TheVariants as lost;
+ghost use Rattle.q_nodes.specs.declared.losses.Losses.{Losses as Counts};
 
 /// What counts as lost, and what as not sent.
 pub fn worked()
@@ -39,8 +45,20 @@ pub fn worked_texts()
 /// What is done under a lock, where the call of the book answers this.
 pub fn worked_calls()
     ensures delivered { (m : Sent) (b c d : BookState) (had has : List Sent) (a : Taken) → delivered b m ≡ Ok (a, d) → Delivers m b had (Ok tt) c has → (c ≡ d) × (has ≡ had ++ a.outs) }
+    ensures bell { (b c : BookState) (had has : List Sent) (l k : Counts) → Receives [] b had l c has k → (c ≡ b) × (has ≡ had) × (k ≡ l) }
+    ensures no_bell { (b c : BookState) (had has : List Sent) (l k : Counts) → Receives (1 ∷ []) b had l c has k → (r : Result (Unit {0}) Lost) × (k ≡ counted r l) × Hears (1 ∷ []) b had r c has }
     ensures not_spelled { (b c : BookState) (had has : List Sent) (f : MessageFault) → Hears [] b had (Err (lost.Bytes f)) c has → (c ≡ b) × (has ≡ had) }
     ensures stored { (value : List ℕ) (tag : ℕ) (b c d : BookState) (had has : List Sent) (a : Started) → stored b value ≡ Ok (a, d) → Stores value b had (Ok tag) c has → (tag ≡ a.tag) × (has ≡ had ++ a.outs) }
     ensures asked { (program start query : ℕ) (b c d : BookState) (had has : List Sent) (a : Asked) → asked b program start ≡ Ok (a, d) → Asks program start b had (Ok query) c has → (query ≡ a.query) × (has ≡ had ++ a.begun.outs) }
     ensures pumped { (a a' : AskerModel) (b b' : BookState) (p : Pumped a b 0 a' b') → p.carries.accepted ≡ [] }
+{}
+
+/// For whom a message is meant, and which operation waits for answers to it.
+pub fn worked_addressees()
+    ensures acknowledgement { addressee_of (body.StoreAck 3 7) ≡ Some 3 }
+    ensures reply { (v : ViewMap) → addressee_of (body.CollectReply 3 7 v) ≡ Some 3 }
+    ensures all { (v : ViewMap) → (addressee_of (body.Store 7 v) ≡ None) × (addressee_of (body.StoreEcho v) ≡ None) × (addressee_of (body.CollectQuery 7) ≡ None) }
+    ensures entering { (f : Facts) (v : ViewMap) → addressee_of (body.EnterEcho 3 true f v) ≡ None }
+    ensures asks { (v : ViewMap) → (asking_tag (body.Store 7 v) ≡ Some 7) × (asking_tag (body.CollectQuery 7) ≡ Some 7) }
+    ensures asks_nothing { (v : ViewMap) → (asking_tag (body.StoreAck 3 7) ≡ None) × (asking_tag (body.StoreEcho v) ≡ None) }
 {}

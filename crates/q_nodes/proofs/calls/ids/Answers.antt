@@ -1,6 +1,6 @@
 use Rattle.std.proofs.Common.{◌≡◌, ◌∙◌, ap, arith}
 use Rattle.q_lines.specs.Runs.{ids_to}
-use Rattle.q_nodes.proofs.run.ids.Goals as goal
+use Rattle.q_nodes.proofs.calls.ids.Goals as goal
 
 pub returns : goal.returns
 returns c =

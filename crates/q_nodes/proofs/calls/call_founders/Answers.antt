@@ -1,6 +1,6 @@
 use Rattle.std.proofs.Common.{◌∙◌, ℕ, length, sym, ap}
 use Rattle.q_nodes.proofs.Counts.{ids_many}
-use Rattle.q_nodes.proofs.run.run_founders.Goals as goal
+use Rattle.q_nodes.proofs.calls.call_founders.Goals as goal
 
 pub found-requires-clause-many : goal.found-requires-clause-many
 found-requires-clause-many g c = c.requires.many ∙ sym (ap (length {A = ℕ}) (c.as_slice.ensures.value ∙ c.in_ok-ids.ensures) ∙ ids_many c.args.script.now.nodes)

@@ -1,5 +1,5 @@
 use Rattle.std.proofs.Common.{◌≡◌, length}
-use Rattle.q_nodes.proofs.run.found.Given as goal
+use Rattle.q_nodes.proofs.calls.found.Given as goal
 
 abbrev pub invariant-loop-asker : goal.invariant-loop-asker
 invariant-loop-asker l = length l.seats.items ≡ length l.yielded
