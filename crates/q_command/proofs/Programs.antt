@@ -1,5 +1,5 @@
 -- Why a file spells no program that is accepted, from what refuses a part of it.
-use Rattle.std.proofs.Common.{◌≡◌, ℕ, List, Option, subst}
+use Rattle.std.proofs.Common.{ℕ, List}
 use Rattle.bq_insn.specs.declared.insn.Insn.{Insn}
 use Rattle.bq_range.specs.Interval.{Interval}
 use Rattle.bq_check.specs.declared.fault.CheckFault.{CheckFault}

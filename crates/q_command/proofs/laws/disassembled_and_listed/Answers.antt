@@ -1,4 +1,4 @@
-use Rattle.std.proofs.Common.{◌≡◌, ◌∙◌, ℕ, List, ap, subst, sym}
+use Rattle.std.proofs.Common.{◌∙◌, ℕ, List, ap, subst, sym}
 use Rattle.bq_asm.specs.Source.{IsSource}
 use Rattle.bq_insn.specs.Slots.{spelling}
 use Rattle.bq_insn.specs.declared.insn.Insn.{Insn}
