@@ -52,6 +52,18 @@ pub operand_text : (o : Option (Bor Text)) (d file : Bor Text) (t : Option Text)
 operand_text None d file t e f g = ap (λ s. s.now) f ∙ g ∙ ap (λ x. unwrap_or x []) e
 operand_text (Some s) d file t e f g = ap (λ s. s.now) f ∙ ap (λ x. unwrap_or x []) e
 
+-- the texts that were found for an operand
+pub texts_found : (o : Option (Bor (List (Bor Text)))) (s : Bor (List (Bor Text))) (given : Option (List Text)) (items : List (Bor Text)) → option_map (λ s. map (λ v. v.now) s.now) o ≡ given → o ≡ Some s → items ≡ s.now
+    → map (λ v. v.now) items ≡ unwrap_or given []
+texts_found o s given items e is same =
+    ap (λ (l : List (Bor Text)). map (λ v. v.now) l) same ∙ ap (λ (o : Option (Bor (List (Bor Text)))). unwrap_or (option_map (λ s. map (λ v. v.now) s.now) o) []) (sym is) ∙ ap (λ g. unwrap_or g []) e
+
+-- none were found
+pub texts_missing : (o : Option (Bor (List (Bor Text)))) (given : Option (List Text)) (items : List (Bor Text)) → option_map (λ s. map (λ v. v.now) s.now) o ≡ given → o ≡ None → items ≡ []
+    → map (λ v. v.now) items ≡ unwrap_or given []
+texts_missing o given items e is same =
+    ap (λ (l : List (Bor Text)). map (λ v. v.now) l) same ∙ ap (λ (o : Option (Bor (List (Bor Text)))). unwrap_or (option_map (λ s. map (λ v. v.now) s.now) o) []) (sym is) ∙ ap (λ g. unwrap_or g []) e
+
 -- what the parser found is what the words of `bqview` say
 pub found_said : {a : App} (m : ArgMatches) (words : List Text) → a ≡ bqview → HasMatchesOf a words m → subcommand_rows_of m ≡ subcommand_of bqview words
 found_said m words is matches = (matches (ap is_simple is ∙ simple)).1 ∙ ap (λ (x : App). subcommand_of x words) is
@@ -89,7 +101,7 @@ entered_in a None p e = absurd (not_some p e)
 entered_in a (Some q) p e = find_in (λ s. answers_to q.0 (label_of s)) a.subs q.1 p e
 
 abbrev commands : List Text
-commands = codes "asm" ∷ codes "dis" ∷ codes "check" ∷ codes "run" ∷ codes "sim" ∷ codes "cluster" ∷ codes "audit" ∷ []
+commands = codes "asm" ∷ codes "dis" ∷ codes "check" ∷ codes "run" ∷ codes "sim" ∷ codes "cluster" ∷ codes "audit" ∷ codes "gather" ∷ []
 
 all_names : names (built bqview).subs ≡ commands
 all_names = refl
@@ -142,7 +154,7 @@ read_so words (Err (BadLengths command least most)) met n s h = (n, was_met (Has
 read_so words (Err (Help e)) met n s h = absurd h
 read_so words (Err (Wrong e)) met n s h = absurd h
 read_so words (Err NotUtf8) met n s h = absurd h
-read_so words (Err OutOfMemory) met n s h = absurd h
+read_so words (Err OutOfMemory) met n s h = tt
 
 -- the fault by what `clap` says
 faulty_so : (words : List Text) (error : Error) (e : WordsFault) → HasKind (fault_of bqview words) error → Tells error e → HasFault words e

@@ -1,7 +1,8 @@
 -- The command line of the program, and what its words say.
-use Rattle.std.specs.Prelude.{◌≡◌, ◌⊎◌, ℕ, Bool, List, [], ◌∷◌, Some, IsSomeAnd, option_map, unwrap_or, bytes_eq, codes, true, false, Result, Ok, Err, IfOk, ⊤, if◌then◌else◌}
+use Rattle.std.specs.Prelude.{◌≡◌, ◌⊎◌, ℕ, Bool, List, [], ◌∷◌, Some, IsSomeAnd, option_map, unwrap_or, bytes_eq, codes, true, false, Result, Ok, Err, IfOk, map, ⊤, if◌then◌else◌}
 use denote.Ref.{Bor}
-use Rattle.clap.specs.Words.{App, app_of, IsAmong, Row, Rule, Text, fault_of, first_of, kind_of, new_app, new_rule, subcommand_of, with_rule, with_subcommand}
+use Rattle.clap.specs.Lexer.{usize_max}
+use Rattle.clap.specs.Words.{App, all_of, app_of, IsAmong, Row, Rule, Text, fault_of, first_of, kind_of, new_app, new_rule, subcommand_of, with_rule, with_subcommand}
 use Rattle.clap.specs.declared.builder.command.Command.{Command}
 use Rattle.clap.specs.declared.builder.command.Command.TheViews.{out-Command}
 use Rattle.clap.specs.declared.error.Error.{Error}
@@ -29,6 +30,10 @@ use Rattle.q_script.specs.Words.{IsNumeral}
 -- an operand that must be there
 abbrev pub operand : Text → Rule
 operand name = record (new_rule name) { required = true; action = Some Set }
+
+-- an operand of which there may be several, and must be one
+abbrev pub operands : Text → Rule
+operands name = record (operand name) { range = Some (record { start_inclusive = 1; end_inclusive = usize_max }) }
 
 -- an option that stands for a default where it is not given
 abbrev pub option : Text → Text → Rule
@@ -84,6 +89,10 @@ cluster_app = script_app (codes "cluster")
 abbrev pub audit_app : App
 audit_app = with_rule (new_app (codes "audit")) (operand (codes "JOURNAL"))
 
+-- `gather JOURNAL..`, with the flag `--pairs`
+abbrev pub gather_app : App
+gather_app = with_rule (with_rule (new_app (codes "gather")) (operands (codes "JOURNAL"))) (flag (codes "pairs"))
+
 -- the program, of which one command or the version is wanted, with none below it
 abbrev pub bare_app : App
 bare_app =
@@ -95,7 +104,8 @@ abbrev pub bqview : App
 bqview =
     let asm_dis = with_subcommand (with_subcommand bare_app asm_app.top) dis_app.top in
     let check_run = with_subcommand (with_subcommand asm_dis check_app.top) run_app.top in
-    with_subcommand (with_subcommand (with_subcommand check_run sim_app.top) cluster_app.top) audit_app.top
+    let scripts = with_subcommand (with_subcommand check_run sim_app.top) cluster_app.top in
+    with_subcommand (with_subcommand scripts audit_app.top) gather_app.top
 
 -- Inner words, of the private functions that put the commands together: the command is this one, with no option for the
 -- commands below it; or memory ran out.
@@ -107,6 +117,10 @@ Has r app = IfOk r (λ c. (app_of c ≡ app) × ((out-Command c).has_globals ≡
 -- the text of an operand or an option
 abbrev pub operand_of : Text → List Row → Text
 operand_of name rows = unwrap_or (first_of name rows) []
+
+-- the texts of an operand of which there may be several
+abbrev pub operands_of : Text → List Row → List Text
+operands_of name rows = unwrap_or (all_of name rows) []
 
 -- whether a flag was given: its text is `true` then, and else `false`
 abbrev pub is_given : Text → List Row → Bool
@@ -150,6 +164,8 @@ abbrev pub IsMet : Wanted → Text × List Row → Type 0
 IsMet (wanted.FileCommand line) met = HasCommand line met
 IsMet (wanted.Cluster script strict) met =
     (met.0 ≡ codes "cluster") × (script.now ≡ operand_of (codes "SCRIPT") met.1) × (strict ≡ is_given (codes "strict") met.1)
+IsMet (wanted.Gather journals pairs) met =
+    (met.0 ≡ codes "gather") × (map (λ name. name.now) journals.items ≡ operands_of (codes "JOURNAL") met.1) × (pairs ≡ is_given (codes "pairs") met.1)
 
 -- the command `run` was met, and its START is no number
 abbrev pub HasBadStart : Text × List Row → Type 0
@@ -165,6 +181,7 @@ HasLineFault (BadStart start) met = HasBadStart met × (start.now ≡ operand_of
 HasLineFault (BadLengths command least most) met =
     HasLengths met × AreBad met.1 × (command.now ≡ met.0)
     × (least.now ≡ operand_of (codes "least") met.1) × (most.now ≡ operand_of (codes "most") met.1)
+HasLineFault OutOfMemory met = ⊤
 HasLineFault e met = ⊥
 
 -- help or the version is asked for

@@ -8,7 +8,7 @@ ghost use Rattle.bq_state.specs.Kinds.{AreLengths};
 ghost use Rattle.clap.specs.Words.{App, app_of, first_of, found_of, new_app, rows_of, with_rule, with_subcommand};
 ghost use Rattle.clap.specs.declared.builder.command.Command.TheViews.{out-Command};
 ghost use Rattle.q_words.specs.declared.words.WordsFault.TheVariants.{OutOfMemory};
-ghost use Rattle.q_words.specs.Words.{Has, asm_app, dis_app, check_app, run_app, sim_app, cluster_app, audit_app, bare_app, bqview, flag, operand, option, optional, with_bytes, with_lengths, form_of, operand_of, is_given, is_strict, AreGiven, AreBad, HasLengths, HasLineFault, IsMet, Reads, Tells, TellsUngiven, exit_status};
+ghost use Rattle.q_words.specs.Words.{Has, asm_app, dis_app, check_app, run_app, sim_app, cluster_app, audit_app, gather_app, bare_app, bqview, flag, operand, operands, option, optional, with_bytes, with_lengths, form_of, operand_of, operands_of, is_given, is_strict, AreGiven, AreBad, HasLengths, HasLineFault, IsMet, Reads, Tells, TellsUngiven, exit_status};
 
 use bq_state::bounds::Bounds;
 use clap::error::ErrorKind;
@@ -98,7 +98,7 @@ impl FileCommand<'_> {
 }
 
 /// What the words of a command line ask for.
-#[derive(Clone, Copy)]
+#[derive(Drop)]
 pub enum Wanted<'a> {
     /// A command over files.
     FileCommand(FileCommand<'a>),
@@ -108,6 +108,13 @@ pub enum Wanted<'a> {
         script: &'a str,
         /// Whether a line that is refused or unanswered is to be told by the exit status.
         strict: bool,
+    },
+    /// `gather JOURNAL..`: gather the journals of all nodes of a run.
+    Gather {
+        /// The names of the files, at least one.
+        journals: Vec<&'a str>,
+        /// Whether it is to be told where stores and later collects meet.
+        pairs: bool,
     },
 }
 
@@ -229,6 +236,26 @@ fn with_operand<'a>(
     let operand = Arg::new(alloc, name)
         .help(help)
         .required(true)
+        .action(ArgAction::Set);
+    command.arg(operand)
+}
+
+/// The command, if there is one, with one more operand, of which there may be several, and must be one.
+fn with_operands<'a>(
+    alloc: Global,
+    command: Result<Command<'a>, AllocError>,
+    name: &'a str,
+    help: &'a str,
+) -> Result<Command<'a>, AllocError>
+    ensures { (app : App) → Has command.entry app → Has result (with_rule app (operands name.entry.now)) }
+{
+    let Ok(command) = command else {
+        return Err(AllocError);
+    };
+    let operand = Arg::new(alloc, name)
+        .help(help)
+        .required(true)
+        .num_args(1..)
         .action(ArgAction::Set);
     command.arg(operand)
 }
@@ -485,6 +512,30 @@ fn audit_command<'a>(alloc: Global) -> Result<Command<'a>, AllocError>
     )
 }
 
+/// The command `gather`.
+fn gather_command<'a>(alloc: Global) -> Result<Command<'a>, AllocError>
+    ensures { Has result gather_app }
+{
+    let command = new_command(
+        alloc,
+        "gather",
+        "Gathers the journals of all nodes of a run, and prints its answers with their views",
+        "Prints a line for each journal: its node, its events, and the bytes of a last event that is not whole; then each recorded answer with the view that it saw, and `journals ok`: the journals are of one run, and each answer is its program's meaning over that view. It says so from the bytes of the journals alone.\nAll is printed at the end. What explains a refusal goes to the standard error.\nExit status: 0; 1 after a refusal, or where the output fails; 2 for a wrong command line.\nExample: bqview gather one.journal two.journal three.journal\nFormats: docs/FORMATS.md, \"Journals that are gathered\"",
+    );
+    let journals = with_operands(
+        alloc,
+        Ok(command),
+        "JOURNAL",
+        "Files of journals, one for each node that ever was in the cluster",
+    );
+    with_flag(
+        alloc,
+        journals,
+        "pairs",
+        "Prints for each ended store and each collect that began later the least node where they meet",
+    )
+}
+
 /// The command with one more command below it, if there are both.
 fn with_command<'a>(
     command: Result<Command<'a>, AllocError>,
@@ -525,7 +576,8 @@ fn program<'a>(alloc: Global) -> Result<Command<'a>, AllocError>
     let run = with_command(check, run_command(alloc));
     let sim = with_command(run, sim_command(alloc));
     let cluster = with_command(sim, cluster_command(alloc));
-    with_command(cluster, audit_command(alloc))
+    let audit = with_command(cluster, audit_command(alloc));
+    with_command(audit, gather_command(alloc))
 }
 
 /// The text of an operand.
@@ -646,6 +698,32 @@ fn cluster_line<'a>(found: &ArgMatches<'a>) -> Wanted<'a>
     }
 }
 
+/// The texts of an operand of which there may be several. The one error is that memory ran out.
+fn operand_texts<'a>(
+    alloc: Global,
+    found: &ArgMatches<'a>,
+    name: &str,
+) -> Result<Vec<&'a str>, WordsFault<'a>>
+    ensures texts { IfOk result (λ texts. map (λ t. t.now) texts.items ≡ operands_of name.now (rows_of (found_of found.now))) }
+    ensures memory { IfErr result (λ e. e ≡ OutOfMemory) }
+{
+    match found.get_strs(name) {
+        Some(texts) => Ok(Vec::from_slice(alloc, texts)?),
+        None => Ok(Vec::new(alloc)),
+    }
+}
+
+/// The command `gather` with what was found for its operand and its flag.
+fn gather_line<'a>(alloc: Global, found: &ArgMatches<'a>) -> Result<Wanted<'a>, WordsFault<'a>>
+    ensures { MatchResult result (λ wanted. IsMet wanted (codes "gather", rows_of (found_of found.now))) (λ e. HasLineFault e (codes "gather", rows_of (found_of found.now))) }
+{
+    let journals = operand_texts(alloc, found, "JOURNAL")?;
+    Ok(Wanted::Gather {
+        journals,
+        pairs: is_given(found, "pairs"),
+    })
+}
+
 /// The words of the command line that the system gives, of which the first is the program's name.
 pub fn given_words(
     alloc: Global,
@@ -682,10 +760,12 @@ pub fn read_words<'a, S: AsStr>(alloc: Global, words: &'a [S]) -> Result<Wanted<
     if let Some(found) = matches.subcommand_matches("cluster") {
         return Ok(cluster_line(found));
     }
-    match matches.subcommand_matches("audit") {
-        Some(found) => Ok(Wanted::FileCommand(FileCommand::Audit {
-            journal: operand_text(found, "JOURNAL"),
-        })),
+    if let Some(found) = matches.subcommand_matches("audit") {
+        let journal = operand_text(found, "JOURNAL");
+        return Ok(Wanted::FileCommand(FileCommand::Audit { journal }));
+    }
+    match matches.subcommand_matches("gather") {
+        Some(found) => gather_line(alloc, found),
         None => unreachable!(),
     }
 }

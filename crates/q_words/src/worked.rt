@@ -1,12 +1,12 @@
 //! Worked values of what words say.
 
-ghost use Rattle.std.specs.Prelude.{◌≡◌, ℕ, List, [], ◌∷◌, Bool, Some, None, true, false, codes, option_map};
+ghost use Rattle.std.specs.Prelude.{◌≡◌, ℕ, List, [], ◌∷◌, Bool, Some, None, true, false, codes, map, option_map};
 ghost use Rattle.std.specs.IoError.{error_kind};
 ghost use Rattle.std.specs.declared.io.ErrorKind.TheVariants as kind;
 ghost use Rattle.clap.specs.Words.{Row, first_of, subcommand_of};
 ghost use Rattle.bq_range.specs.Interval.{Interval};
 ghost use Rattle.q_script.specs.Words.{IsNumeral};
-ghost use Rattle.q_words.specs.Words.{AreGiven, HasCommand, HasLineFault, HasProgram, IsMet, TellsUngiven, bqview, exit_status, form_of, is_given, is_strict, operand_of};
+ghost use Rattle.q_words.specs.Words.{AreGiven, HasCommand, HasLineFault, HasProgram, IsMet, TellsUngiven, bqview, exit_status, form_of, is_given, is_strict, operand_of, operands_of};
 ghost use Rattle.q_words.specs.declared.words.Form.TheVariants as form;
 ghost use Rattle.q_words.specs.declared.words.FileCommand.TheVariants as line;
 ghost use Rattle.q_words.specs.declared.words.Wanted.TheVariants as wanted;
@@ -38,6 +38,11 @@ pub fn worked()
     ensures strict_sim { (script : _) (strict : Bool) → is_strict (line.Sim script strict) ≡ strict }
     ensures audits_are_not_strict { (journal : _) → is_strict (line.Audit journal) ≡ false }
     ensures audit { (rows : List Row) (journal : _) → journal.now ≡ operand_of (codes "JOURNAL") rows → HasCommand (line.Audit journal) (codes "audit", rows) }
+    ensures gather { (rows : List Row) (journals : _) (pairs : Bool) → map (λ name. name.now) journals.items ≡ operands_of (codes "JOURNAL") rows → pairs ≡ is_given (codes "pairs") rows → IsMet (wanted.Gather journals pairs) (codes "gather", rows) }
+    ensures gather_is_no_audit { (rows : List Row) (journals : _) (pairs : Bool) → IsMet (wanted.Gather journals pairs) (codes "audit", rows) → ⊥ }
+    ensures journals { option_map (λ met. operands_of (codes "JOURNAL") met.1) (subcommand_of bqview (codes "bqview" ∷ codes "gather" ∷ codes "b" ∷ codes "a" ∷ codes "b" ∷ [])) ≡ Some (codes "b" ∷ codes "a" ∷ codes "b" ∷ []) }
+    ensures pairs { option_map (λ met. is_given (codes "pairs") met.1) (subcommand_of bqview (codes "bqview" ∷ codes "gather" ∷ codes "a" ∷ codes "--pairs" ∷ [])) ≡ Some true }
+    ensures no_pairs { option_map (λ met. is_given (codes "pairs") met.1) (subcommand_of bqview (codes "bqview" ∷ codes "gather" ∷ codes "a" ∷ [])) ≡ Some false }
     ensures not_utf8 { (error : _) → error_kind error ≡ kind.InvalidData → TellsUngiven error fault.NotUtf8 }
     ensures no_memory { (error : _) → error_kind error ≡ kind.OutOfMemory → TellsUngiven error fault.OutOfMemory }
     ensures no_memory_is_told_as_such { (error : _) → error_kind error ≡ kind.OutOfMemory → TellsUngiven error fault.NotUtf8 → ⊥ }

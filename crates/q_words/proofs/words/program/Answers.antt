@@ -8,4 +8,5 @@ returns c =
     let four = c.with_command-run.ensures _ _ three c.run_command.ensures in
     let five = c.with_command-sim.ensures _ _ four c.sim_command.ensures in
     let six = c.with_command-cluster.ensures _ _ five c.cluster_command.ensures in
-    c.with_command.ensures _ _ six c.audit_command.ensures
+    let seven = c.with_command-audit.ensures _ _ six c.audit_command.ensures in
+    c.with_command.ensures _ _ seven c.gather_command.ensures

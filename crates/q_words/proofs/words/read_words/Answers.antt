@@ -39,10 +39,15 @@ returns-in-Some-subcommand_matches-5 g c =
     was_named c.in_ok-matches.matches (map g.S.AsStr.text c.args.words.now) c.in_ok-program.ensures.0 c.in_ok-matches.ensures.kinds c.in_ok-matches.ensures.matches
     (codes "cluster") (rows_of (found_of c.in-Some-subcommand_matches-5.found.now)) (search rules) c.in-Some-subcommand_matches-5.ensures.rows (Ok c.cluster_line.result) c.cluster_line.ensures
 
+pub returns-in-Some-subcommand_matches-6 : goal.returns-in-Some-subcommand_matches-6
+returns-in-Some-subcommand_matches-6 g c =
+    was_named c.in_ok-matches.matches (map g.S.AsStr.text c.args.words.now) c.in_ok-program.ensures.0 c.in_ok-matches.ensures.kinds c.in_ok-matches.ensures.matches
+    (codes "audit") (rows_of (found_of c.in-Some-subcommand_matches-6.found.now)) (search rules) c.in-Some-subcommand_matches-6.ensures.rows (Ok (FileCommand (Audit c.operand_text-journal.result))) (refl, c.operand_text-journal.ensures)
+
 pub returns : goal.returns
 returns g c =
     was_named c.in_ok-matches.matches (map g.S.AsStr.text c.args.words.now) c.in_ok-program.ensures.0 c.in_ok-matches.ensures.kinds c.in_ok-matches.ensures.matches
-    (codes "audit") (rows_of (found_of c.in-Some-subcommand_matches-6.found.now)) (search rules) c.in-Some-subcommand_matches-6.ensures.rows (Ok (FileCommand (Audit c.operand_text.result))) (refl, c.operand_text.ensures)
+    (codes "gather") (rows_of (found_of c.in-Some-subcommand_matches-7.found.now)) (search rules) c.in-Some-subcommand_matches-7.ensures.rows c.gather_line.result c.gather_line.ensures
 
 pub returns-in_err-matches : goal.returns-in_err-matches
 returns-in_err-matches g c =
@@ -53,22 +58,5 @@ unreachable-requires g c =
     let words = map g.S.AsStr.text c.args.words.now in
     let is_app : app_of c.in_ok-program.field-0 ≡ bqview = c.in_ok-program.ensures.0 in
     let needs : has_subcommand c.in_ok-matches.matches ≡ true = subcommand_required c.in_ok-program.field-0 c.in_ok-matches.matches c.in_ok-matches.ensures.parsed c.in_ok-program.ensures.1 (ap (λ (a : App). a.top.subcommand_required) is_app) in
-    other_command (out-ArgMatches c.in_ok-matches.matches).subcommand words needs (found_said c.in_ok-matches.matches words is_app c.in_ok-matches.ensures.matches) (
-      λ h. true≢false (sym (c.in_default.ensures.found.1 h)),
-      (
-        λ h. true≢false (sym (c.in_default-subcommand_matches.ensures.found.1 h)),
-        (
-          λ h. true≢false (sym (c.in_default-subcommand_matches-2.ensures.found.1 h)),
-          (
-            λ h. true≢false (sym (c.in_default-subcommand_matches-3.ensures.found.1 h)),
-            (
-              λ h. true≢false (sym (c.in_default-subcommand_matches-4.ensures.found.1 h)),
-              (
-                λ h. true≢false (sym (c.in_default-subcommand_matches-5.ensures.found.1 h)),
-                (λ h. true≢false (sym (c.in-None.ensures.found.1 h)), tt),
-              ),
-            ),
-          ),
-        ),
-      ),
-    )
+    other_command (out-ArgMatches c.in_ok-matches.matches).subcommand words needs (found_said c.in_ok-matches.matches words is_app c.in_ok-matches.ensures.matches)
+    (λ h. true≢false (sym (c.in_default.ensures.found.1 h)), (λ h. true≢false (sym (c.in_default-subcommand_matches.ensures.found.1 h)), (λ h. true≢false (sym (c.in_default-subcommand_matches-2.ensures.found.1 h)), (λ h. true≢false (sym (c.in_default-subcommand_matches-3.ensures.found.1 h)), (λ h. true≢false (sym (c.in_default-subcommand_matches-4.ensures.found.1 h)), (λ h. true≢false (sym (c.in_default-subcommand_matches-5.ensures.found.1 h)), (λ h. true≢false (sym (c.in_default-subcommand_matches-6.ensures.found.1 h)), (λ h. true≢false (sym (c.in-None.ensures.found.1 h)), tt))))))))
