@@ -1,0 +1,1 @@
+-- That the longest beginning is the longest, and that what is told is true.

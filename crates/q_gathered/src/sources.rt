@@ -1,0 +1,106 @@
+//! Files that are read, one after the other.
+
+ghost use Rattle.std.specs.Prelude.{◌≡◌, ◌++◌, ◌-◌, ℕ, List, map, length, Ok, IfOk, IfErr, OnOk, string_bytes};
+ghost use Rattle.std.specs.List.{flat_map};
+ghost use Rattle.q_gathered.specs.Beginning.{IsBeginning};
+ghost use Rattle.q_gathered.specs.Files.{AreRead, IsUnread, RefusesFile, Source, books_of, names_of, source_line};
+ghost use Rattle.q_gathered.specs.Lines as line;
+ghost use Rattle.q_gathered.specs.Tells as tells;
+
+use crate::beginning::beginning;
+use crate::notes::note_journal;
+use q_book::book::Book;
+use q_files::files::Files;
+use q_gather::fault::GatherFault;
+use q_history::fault::ClusterFault;
+use q_sim::refusal::Refusal;
+use sc_node::fault::NodeFault;
+use sc_world::fault::WorldFault;
+use std::alloc::{AllocError, Global};
+use std::io::Write;
+
+/// What was read of files: the lines that tell of each, and the book of each.
+#[derive(Drop)]
+pub(crate) struct Sources {
+    pub(crate) lines: String,
+    pub(crate) books: Vec<Book>,
+}
+
+/// The refusal by which it is told that books do not gather.
+pub(crate) fn of_gather(fault: GatherFault) -> Refusal
+    ensures { result ≡ tells.of_gather fault }
+{
+    match fault {
+        GatherFault::Journal { fault, .. } => Refusal::Journal(fault),
+        GatherFault::IdUsed => Refusal::Cluster(ClusterFault::World(WorldFault::IdUsed)),
+        GatherFault::BadFounders => {
+            Refusal::Cluster(ClusterFault::World(WorldFault::Node(NodeFault::BadFounders)))
+        }
+        GatherFault::NeverSent => Refusal::Cluster(ClusterFault::World(WorldFault::NeverSent)),
+        GatherFault::OutOfMemory => Refusal::OutOfMemory,
+    }
+}
+
+/// Prints the end of a file's line: how many bytes were cut, if any were.
+fn print_cut(lines: &mut String, cut: usize) -> Result<(), AllocError>
+    ensures { OnOk result (string_bytes lines.new ≡ string_bytes lines.old ++ line.cut_text cut) }
+{
+    if cut == 0 {
+        Ok(())
+    } else {
+        write!(lines, " cut {cut} bytes")
+    }
+}
+
+/// Prints the line of a file that has the journal of this book, and so many bytes behind it.
+fn print_journal(
+    lines: &mut String,
+    name: &str,
+    book: &Book,
+    cut: usize,
+) -> Result<(), AllocError>
+    ensures { OnOk result (string_bytes lines.new ≡ string_bytes lines.old ++ line.journal_line name.now book.now cut) }
+{
+    let node = book.id();
+    let events = book.events();
+    write!(lines, "{name} node {node} events {events}")?;
+    print_cut(lines, cut)?;
+    writeln!(lines, "")
+}
+
+/// Reads a file, and takes the longest beginning of its bytes that is a journal.
+fn read_one<F: Files, N: Write>(
+    alloc: Global,
+    name: &str,
+    lines: &mut String,
+    files: &mut F,
+    notes: &mut N,
+) -> Result<Book, Refusal> {
+    let bytes = files.read(alloc, name)?;
+    match beginning(alloc, &bytes) {
+        Ok(begins) => {
+            print_journal(lines, name, &begins.book, bytes.len() - begins.kept)?;
+            Ok(begins.book)
+        }
+        Err(fault) => {
+            note_journal(notes, name, fault);
+            Err(Refusal::Journal(fault))
+        }
+    }
+}
+
+/// Reads the files with these names in turn.
+pub(crate) fn read_all<F: Files, N: Write>(
+    alloc: Global,
+    names: &[&str],
+    files: &mut F,
+    notes: &mut N,
+) -> Result<Sources, Refusal> {
+    let mut lines = String::new(alloc);
+    let mut books = Vec::new(alloc);
+    for name in names {
+        let book = read_one(alloc, name, &mut lines, files, notes)?;
+        books.push(book).map_err(AllocError::from)?;
+    }
+    Ok(Sources { lines, books })
+}
