@@ -35,8 +35,8 @@ pub record IsRefused (bytes : List ℕ) (fault : ReplayFault) : Type 0 where
 
 -- ---- on the way
 
--- a head of this version and so many events of it stand first in the bytes, and these behind them
-pub record IsBehind (version : Version) (bytes : List ℕ) (count : ℕ) (rest : List ℕ) : Type 0 where
+-- a head of this version and so many events of it stand first in the bytes, and these after them
+pub record IsAfter (version : Version) (bytes : List ℕ) (count : ℕ) (rest : List ℕ) : Type 0 where
   pub head : Head
   pub legal : IsHead head
   pub is_version : head.version ≡ version

@@ -35,10 +35,23 @@ abbrev pub names_of : List Source → List (List ℕ)
 names_of sources = map (λ (s : Source). s.name) sources
 
 module _ {F : Type 0} (reads : F → List ℕ → Result (List ℕ) FileFault → F → Type 0) where
-  -- the files are read in turn, and each begins with a journal
+  -- the file is read, and begins with a journal
+  pub record IsRead (old : F) (s : Source) (new : F) : Type 0 where
+    pub read : reads old s.name (Ok s.bytes) new
+    pub begins : IsBeginning s.bytes s.kept s.book
+
+  -- so are these, in turn
   abbrev pub AreRead : F → List Source → F → Type 0
   AreRead old [] new = new ≡ old
-  AreRead old (s ∷ ss) new = (between : F) × reads old s.name (Ok s.bytes) between × IsBeginning s.bytes s.kept s.book × AreRead between ss new
+  AreRead old (s ∷ ss) new = (between : F) × IsRead old s between × AreRead between ss new
+
+  -- what was read of files: the lines that tell of each, and the book of each
+  pub record AreSources (names : List (List ℕ)) (old : F) (lines : List ℕ) (books : List BookState) (new : F) : Type 0 where
+    pub sources : List Source
+    pub named : names ≡ names_of sources
+    pub read : AreRead old sources new
+    pub told : lines ≡ flat_map source_line sources
+    pub are : books ≡ books_of sources
 
   -- The files with these names are read, their journals gather into one cluster, and the text tells of each file and then
   -- what the books tell.
@@ -57,7 +70,7 @@ module _ {F : Type 0} (reads : F → List ℕ → Result (List ℕ) FileFault �
       ((fault : FileFault) × reads old name (Err fault) new × (r ≡ refusal_of fault))
       ⊎ ((bytes : List ℕ) × (fault : ReplayFault) × reads old name (Ok bytes) new × IsRefused bytes fault × (r ≡ refusal.Journal fault))
 
-  -- the first file that is refused, behind those that were read
+  -- the first file that is refused, after those that were read
   pub record RefusesFile (names : List (List ℕ)) (old : F) (r : Refusal) (new : F) : Type 0 where
     pub sources : List Source
     pub between : F

@@ -14,12 +14,12 @@ use Rattle.q_sim.specs.Printing.{is_store}
 
 -- ---- journals
 
--- what stands behind the number of events: nothing where no byte was cut
+-- what stands after the number of events: nothing where no byte was cut
 abbrev pub cut_text : ℕ → List ℕ
 cut_text zero = []
 cut_text (suc n) = codes " cut " ++ (decimal (suc n) ++ codes " bytes")
 
--- the file of this name has the journal of this book, and so many bytes behind it
+-- the file of this name has the journal of this book, and so many bytes after it
 abbrev pub journal_line : List ℕ → BookState → ℕ → List ℕ
 journal_line name b cut =
     name ++ (codes " node " ++ (decimal b.id ++ (codes " events " ++ (decimal (length b.desk.journal) ++ (cut_text cut ++ 10 ∷ [])))))

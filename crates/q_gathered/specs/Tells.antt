@@ -12,11 +12,13 @@ use Rattle.q_sim.specs.declared.refusal.Refusal.TheVariants as refusal
 use Rattle.sc_node.specs.declared.fault.NodeFault.TheVariants as node
 use Rattle.sc_world.specs.declared.fault.WorldFault.TheVariants as world
 use Rattle.q_gathered.specs.Lines.{answers_of, pairs_of}
+use Rattle.q_gathered.specs.Truth.{AnswersAreTrue}
 
--- The books gather into the cluster, and the text is what they tell: the answers that they record, the pairs of the
--- cluster's operations where these are wanted, and that the journals are right.
+-- The books gather into the cluster, where each answer that they record is true; and the text is what they tell: those
+-- answers, the pairs of the cluster's operations where these are asked for, and that the journals are right.
 pub record Tells (c : ClusterState) (books : List BookState) (pairs : Bool) (text : List ℕ) : Type 0 where
   pub gathers : GathersBooks books c
+  pub are_true : AnswersAreTrue c books
   pub met : List ℕ
   pub tells_pairs : TellsPairs (if pairs then pairs_of c.world.ops else []) met
   pub says : text ≡ answers_of books ++ (met ++ codes "journals ok\n")

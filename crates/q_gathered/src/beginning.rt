@@ -1,7 +1,11 @@
 //! The longest beginning of bytes that is a journal.
 
-ghost use Rattle.std.specs.Prelude.{◌≤◌, ℕ, List, length, take, IfOk, IfErr, MatchBool};
-ghost use Rattle.q_gathered.specs.Beginning.{IsBeginning, IsBehind, IsCut, IsRefused};
+ghost use Rattle.std.specs.Prelude.{◌≡◌, ◌<◌, ◌≤◌, ◌^◌, ◌∷◌, ◌++◌, [], ℕ, List, length, take, IfOk, IfErr, IfSome, IfNone, MatchBool};
+ghost use Rattle.sc_msg.specs.Numbers.{number_bytes};
+ghost use Rattle.q_journal.specs.Spelling.{event_bytes, IsWritten};
+ghost use Rattle.q_journal.specs.declared.written.Written.{Written as WrittenEvent};
+ghost use Rattle.q_replay.specs.Replayed.{IsFault};
+ghost use Rattle.q_gathered.specs.Beginning.{IsBeginning, IsAfter, IsCut, IsRefused};
 
 use q_book::book::Book;
 use q_journal::laws::{one_event, one_head};
@@ -9,76 +13,149 @@ use q_journal::read::{read_event, read_head};
 use q_replay::fault::ReplayFault;
 use q_replay::laws::one_fault;
 use q_replay::replay::replay;
+use sc_msg::version::Version;
 use std::alloc::{AllocError, Global};
 
-/// The longest beginning of some bytes that is a journal.
+/// The journal with which some bytes begin.
 #[derive(Drop)]
-pub struct Beginning {
+pub struct Journal {
     /// The book of which it is the journal.
     pub book: Book,
     /// How many bytes it has.
     pub kept: usize,
 }
 
-/// The longest beginning of the bytes that is a journal, behind which at most an event stands that is not whole.
+/// The longest beginning of the bytes that is a journal. What is left is nothing, or too little for an event.
 ///
 /// Refused with what is first wrong: 57 with event 0, where no head stands first, also where the head is not whole; 57
-/// with the number of an event that is whole and of no form; 58 of an event that does not follow, or of the head. 99
-/// OutOfMemory may stand in place of any answer.
-pub fn beginning(alloc: Global, bytes: &[u8]) -> Result<Beginning, ReplayFault>
-    ensures begins { IfOk result (λ b. IsBeginning bytes.now (take b.kept bytes.now) b.book) }
-    ensures within { IfOk result (λ b. b.kept ≤ length bytes.now) }
+/// with the number of an event that is whole and of no form; 58 with that of an event that does not follow, or with 0
+/// where the head is refused. 99 OutOfMemory may stand in place of any answer.
+pub fn beginning(alloc: Global, bytes: &[u8]) -> Result<Journal, ReplayFault>
+    ensures begins { IfOk result (λ j. IsBeginning bytes.now (take j.kept bytes.now) j.book) }
+    ensures within { IfOk result (λ j. j.kept ≤ length bytes.now) }
+
+    // Bytes that have such a beginning are refused only where memory runs out.
+    ensures refused { IfErr result (IsRefused bytes.now) }
+{
+    match replay(alloc, bytes) {
+        Ok(book) => Ok(Journal {
+            book,
+            kept: bytes.len(),
+        }),
+        Err(fault) => beginning_before(alloc, bytes, fault),
+    }
+}
+
+/// The same of bytes that have this fault.
+fn beginning_before(
+    alloc: Global,
+    bytes: &[u8],
+    fault: ReplayFault,
+) -> Result<Journal, ReplayFault>
+    requires { IsFault bytes.now fault }
+    ensures begins { IfOk result (λ j. IsBeginning bytes.now (take j.kept bytes.now) j.book) }
+    ensures within { IfOk result (λ j. j.kept ≤ length bytes.now) }
     ensures refused { IfErr result (IsRefused bytes.now) }
 {
     one_head();
     one_event();
     one_fault();
-    match replay(alloc, bytes) {
-        Ok(book) => Ok(Beginning {
-            book,
-            kept: bytes.len(),
-        }),
-        Err(ReplayFault::Form { event }) if event > 0 => before_cut(alloc, bytes, event - 1),
-        Err(fault) => Err(fault),
+    match fault {
+        ReplayFault::Form { event } if event > 0 => beginning_up_to(alloc, bytes, event),
+        _ => Err(fault),
     }
 }
 
-/// The same of bytes in which so many events are taken, and none of the form stands behind them.
-fn before_cut(alloc: Global, bytes: &[u8], count: usize) -> Result<Beginning, ReplayFault>
+/// The same of bytes in which this event is the first of which the bytes have no form.
+fn beginning_up_to(alloc: Global, bytes: &[u8], event: usize) -> Result<Journal, ReplayFault>
+    requires some { 0 < event }
+    requires is_fault { IsFault bytes.now (ReplayFault.Form event) }
+    ensures begins { IfOk result (λ j. IsBeginning bytes.now (take j.kept bytes.now) j.book) }
+    ensures within { IfOk result (λ j. j.kept ≤ length bytes.now) }
+    ensures refused { IfErr result (IsRefused bytes.now) }
 {
-    let rest = behind(alloc, bytes, count)?;
-    if !is_cut(rest) {
-        return Err(ReplayFault::Form { event: count + 1 });
+    one_head();
+    one_event();
+    one_fault();
+    let left = after_events(alloc, bytes, event - 1)?;
+    if !is_cut(left) {
+        return Err(ReplayFault::Form { event });
     }
-    let kept = bytes.len() - rest.len();
-    // It is a journal: memory alone may be short.
+    let kept = bytes.len() - left.len();
+    // These are a journal: memory alone may be short.
     match replay(alloc, &bytes[..kept]) {
-        Ok(book) => Ok(Beginning { book, kept }),
+        Ok(book) => Ok(Journal { book, kept }),
         Err(_) => Err(ReplayFault::OutOfMemory),
     }
 }
 
-/// The bytes behind a head and so many events, where these stand first. The one error is then that memory ran out.
-fn behind(alloc: Global, bytes: &[u8], count: usize) -> Result<&[u8], AllocError>
+/// The bytes after a head and so many events, where these stand first. The one error is then that memory ran out.
+fn after_events(alloc: Global, bytes: &[u8], count: usize) -> Result<&[u8], AllocError>
+    ensures rest { (version : Version) (rest : List ℕ) → IsAfter version bytes.now count rest → IfOk result (λ r. r.now ≡ rest) }
+    ensures within { IfOk result (λ r. length r.now ≤ length bytes.now) }
 {
-    let Ok((head, mut rest)) = read_head(alloc, bytes) else {
-        return Err(AllocError);
-    };
+    one_head();
+    one_event();
+    let (version, mut rest) = after_head(alloc, bytes)?;
     for _ in 0..count {
-        let Ok((_event, more)) = read_event(alloc, head.version, rest) else {
-            return Err(AllocError);
-        };
-        rest = more;
+        rest = after_event(alloc, version, rest)?;
     }
     Ok(rest)
 }
 
-/// Whether bytes are too few for an event.
+/// The version that a head tells, and what stands after it. There is a head: memory alone may be short.
+fn after_head(alloc: Global, bytes: &[u8]) -> Result<(Version, &[u8]), AllocError>
+    ensures { IfOk result (λ r. IsAfter r.0 bytes.now 0 r.1.now) }
+{
+    match read_head(alloc, bytes) {
+        Ok((head, rest)) => Ok((head.version, rest)),
+        Err(_) => Err(AllocError),
+    }
+}
+
+/// What stands after an event of that version. There is one: memory alone may be short.
+fn after_event(alloc: Global, version: Version, bytes: &[u8]) -> Result<&[u8], AllocError>
+    ensures { IfOk result (λ r. (w : WrittenEvent) × IsWritten version w × (bytes.now ≡ event_bytes version w ++ r.now)) }
+{
+    match read_event(alloc, version, bytes) {
+        Ok((_event, rest)) => Ok(rest),
+        Err(_) => Err(AllocError),
+    }
+}
+
+/// The first byte, and what stands after it; none where there is no byte.
+fn byte(bytes: &[u8]) -> Option<(u8, &[u8])>
+    ensures told { IfSome result (λ r. bytes.now ≡ r.0 ∷ r.1.now) }
+    ensures none { IfNone result (bytes.now ≡ []) }
+{
+    match bytes {
+        [byte, rest @ ..] => Some((*byte, rest)),
+        [] => None,
+    }
+}
+
+/// A number of four bytes, and what stands after it; none where the bytes are fewer.
+#[tactic(auto, unfolding(sc_msg::specs::Numbers::number_bytes))]
+fn word(bytes: &[u8]) -> Option<(u32, &[u8])>
+    ensures told { IfSome result (λ r. bytes.now ≡ number_bytes 4 r.0 ++ r.1.now) }
+    ensures fits { IfSome result (λ r. r.0 < 2 ^ 32) }
+    ensures none { IfNone result (length bytes.now < 4) }
+{
+    match bytes {
+        [a, b, c, d, rest @ ..] => Some((u32::from_le_bytes([*a, *b, *c, *d]), rest)),
+        _ => None,
+    }
+}
+
+/// Whether the bytes are too few for an event.
 fn is_cut(bytes: &[u8]) -> bool
     ensures { MatchBool result (IsCut bytes.now) (IsCut bytes.now → ⊥) }
 {
-    match bytes {
-        [_, a, b, c, d, body @ ..] => body.len() < u32::from_le_bytes([*a, *b, *c, *d]) as usize,
-        _ => true,
+    let Some((_kind, rest)) = byte(bytes) else {
+        return true;
+    };
+    match word(rest) {
+        Some((told, body)) => body.len() < told as usize,
+        None => true,
     }
 }

@@ -6,7 +6,7 @@ ghost use Rattle.q_gathered.specs.Files.{status_of};
 use q_sim::refusal::Refusal;
 
 /// How gathering files ended.
-#[derive(Clone, Copy, Debug, PartialEq, Eq)]
+#[derive(Clone, Copy)]
 pub enum Ending {
     /// The journals gather, and what they tell was written.
     Gathered,

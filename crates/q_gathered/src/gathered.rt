@@ -8,6 +8,7 @@ ghost use Rattle.q_gathered.specs.Lines.{pairs_of};
 ghost use Rattle.q_gathered.specs.Tells.{Tells};
 
 use crate::answers::print_answers;
+use crate::laws::every_gathered_answer_is_true;
 use crate::pairs::print_pairs;
 use q_book::book::Book;
 use q_cluster::cluster::Cluster;
@@ -17,7 +18,7 @@ use sc_world::op::Op;
 use std::alloc::{AllocError, Global};
 
 /// Gathers the books into one cluster, and answers what they tell: the answers that they record, by books and by the
-/// numbers of the queries; where stores and collects of the cluster meet, if that is wanted; and `journals ok`.
+/// numbers of the queries; where stores and collects of the cluster meet, if that is asked for; and `journals ok`.
 ///
 /// Refused with the first of: 44, where two books are of one node; 49, where they disagree on the version, the fractions
 /// or the founders, or the book of a founder is missing; 82, where there is no order in which each message that is
@@ -39,15 +40,16 @@ fn told(
 ) -> Result<String, AllocError>
     ensures { GathersBooks books.now cluster.now → IfOk result (λ lines. Tells cluster.now books.now pairs (string_bytes lines)) }
 {
+    every_gathered_answer_is_true();
     let mut lines = String::new(alloc);
     print_answers(&mut lines, books)?;
-    print_wanted(&mut lines, cluster.ops(), pairs)?;
+    print_pairs_if(&mut lines, pairs, cluster.ops())?;
     lines.push_str("journals ok\n")?;
     Ok(lines)
 }
 
-/// Prints the pairs of operations, if they are wanted.
-fn print_wanted(lines: &mut String, ops: &[Op], pairs: bool) -> Result<(), AllocError>
+/// Prints the pairs of operations, if they are asked for.
+fn print_pairs_if(lines: &mut String, pairs: bool, ops: &[Op]) -> Result<(), AllocError>
     ensures { OnOk result (AddsPairs (if pairs then pairs_of ops.now else []) (string_bytes lines.old) (string_bytes lines.new)) }
 {
     if pairs {

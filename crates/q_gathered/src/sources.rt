@@ -1,9 +1,7 @@
 //! Files that are read, one after the other.
 
-ghost use Rattle.std.specs.Prelude.{◌≡◌, ◌++◌, ◌-◌, ℕ, List, map, length, Ok, IfOk, IfErr, OnOk, string_bytes};
-ghost use Rattle.std.specs.List.{flat_map};
-ghost use Rattle.q_gathered.specs.Beginning.{IsBeginning};
-ghost use Rattle.q_gathered.specs.Files.{AreRead, IsUnread, RefusesFile, Source, books_of, names_of, source_line};
+ghost use Rattle.std.specs.Prelude.{◌≡◌, ◌⊎◌, ◌++◌, map, IfOk, IfErr, OnOk, string_bytes};
+ghost use Rattle.q_gathered.specs.Files.{AreSources, IsRead, IsUnread, RefusesFile, Source, source_line};
 ghost use Rattle.q_gathered.specs.Lines as line;
 ghost use Rattle.q_gathered.specs.Tells as tells;
 
@@ -52,7 +50,7 @@ fn print_cut(lines: &mut String, cut: usize) -> Result<(), AllocError>
     }
 }
 
-/// Prints the line of a file that has the journal of this book, and so many bytes behind it.
+/// Prints the line of a file that has the journal of this book, and so many bytes after it.
 fn print_journal(
     lines: &mut String,
     name: &str,
@@ -68,19 +66,22 @@ fn print_journal(
     writeln!(lines, "")
 }
 
-/// Reads a file, and takes the longest beginning of its bytes that is a journal.
+/// Reads a file, prints its line, and answers the book of the longest beginning of its bytes that is a journal.
 fn read_one<F: Files, N: Write>(
     alloc: Global,
     name: &str,
     lines: &mut String,
     files: &mut F,
     notes: &mut N,
-) -> Result<Book, Refusal> {
+) -> Result<Book, Refusal>
+    ensures read { IfOk result (λ b. (s : Source) × IsRead F.read_gives files.old s files.new × (s.name ≡ name.now) × (s.book ≡ b) × (string_bytes lines.new ≡ string_bytes lines.old ++ source_line s)) }
+    ensures refused { IfErr result (λ r. IsUnread F.read_gives files.old name.now r files.new ⊎ (r ≡ Refusal.OutOfMemory)) }
+{
     let bytes = files.read(alloc, name)?;
     match beginning(alloc, &bytes) {
-        Ok(begins) => {
-            print_journal(lines, name, &begins.book, bytes.len() - begins.kept)?;
-            Ok(begins.book)
+        Ok(journal) => {
+            print_journal(lines, name, &journal.book, bytes.len() - journal.kept)?;
+            Ok(journal.book)
         }
         Err(fault) => {
             note_journal(notes, name, fault);
@@ -89,13 +90,16 @@ fn read_one<F: Files, N: Write>(
     }
 }
 
-/// Reads the files with these names in turn.
+/// Reads the files with these names in turn, up to the first that is refused.
 pub(crate) fn read_all<F: Files, N: Write>(
     alloc: Global,
     names: &[&str],
     files: &mut F,
     notes: &mut N,
-) -> Result<Sources, Refusal> {
+) -> Result<Sources, Refusal>
+    ensures read { IfOk result (λ s. AreSources F.read_gives (map (λ name. name.now) names.now) files.old (string_bytes s.lines) s.books.items files.new) }
+    ensures refused { IfErr result (λ r. RefusesFile F.read_gives (map (λ name. name.now) names.now) files.old r files.new ⊎ (r ≡ Refusal.OutOfMemory)) }
+{
     let mut lines = String::new(alloc);
     let mut books = Vec::new(alloc);
     for name in names {
