@@ -93,6 +93,14 @@ begin_after bytes kept b i = journal_after bytes b i.left i.journalled (i.parts 
 no_mismatch : (n : ℕ) → Mismatch n ≡ OutOfMemory → ⊥
 no_mismatch n h = cc
 
+-- memory may run out at any bytes
+pub no_memory : (bytes : List ℕ) → IsRefused bytes OutOfMemory
+no_memory bytes = record { is_fault = tt; none = λ kept b i. refl }
+
+-- the event before
+pub one_less : (event : ℕ) → 0 < event → event ≡ suc (event - 1)
+one_less event some = omega (arith, some)
+
 module _ (one_head : OneHead) (one_event : OneEvent) (no_fault : NoFault) where
   no_unbegun : (bytes kept : List ℕ) (b : BookState) → IsUnbegun bytes → IsBeginning bytes kept b → ⊥
   no_unbegun bytes kept b u i =

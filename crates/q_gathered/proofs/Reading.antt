@@ -1,7 +1,7 @@
 -- Files that are read, one after the other.
-use Rattle.std.proofs.Common.{◌≡◌, ℕ, ◌⊎◌, inl, inr, List, [], ◌∷◌, ◌++◌, map, refl, sym, ap, ◌∙◌, subst, append_assoc, append-nil, flat_map, Result, Ok, Err, Bool}
+use Rattle.std.proofs.Common.{◌≡◌, ℕ, ◌≤◌, ◌-◌, ◌⊎◌, inl, inr, List, length, take, [], ◌∷◌, ◌++◌, map, refl, sym, ap, ◌∙◌, subst, append_assoc, append-nil, flat_map, Result, Ok, Err, Bool}
 use Rattle.std.proofs.lemmas.Grind.{flat_map-append}
-use Rattle.std.proofs.lemmas.List.{map-append}
+use Rattle.std.proofs.lemmas.List.{map-append, length-take-le}
 use Rattle.q_book.specs.State.{BookState}
 use Rattle.q_files.specs.declared.files.FileFault.{FileFault}
 use Rattle.q_gather.specs.Gather.{AreRefused}
@@ -9,8 +9,22 @@ use Rattle.q_gather.specs.declared.fault.GatherFault.{GatherFault}
 use Rattle.q_history.specs.State.{ClusterState}
 use Rattle.q_sim.specs.declared.refusal.Refusal.{Refusal}
 use Rattle.q_sim.specs.declared.refusal.Refusal.TheVariants as refusal
+use Rattle.q_gathered.specs.Beginning.{IsBeginning}
 use Rattle.q_gathered.specs.Tells.{Tells, of_gather}
+use Rattle.q_gathered.specs.Lines.{journal_line}
 use Rattle.q_gathered.specs.Files.{Source, source_line, books_of, names_of, IsRead, AreRead, AreSources, TellsFiles, IsUnread, RefusesFile, RefusesBooks, Refuses}
+
+-- the file that these bytes are, whose line is printed
+pub one_source : (name bytes : List ℕ) (kept : ℕ) (b : BookState) (before after : List ℕ) → IsBeginning bytes (take kept bytes) b → kept ≤ length bytes → after ≡ before ++ journal_line name b (length bytes - kept)
+    → (s : Source) × (s.name ≡ name) × (s.bytes ≡ bytes) × (s.book ≡ b) × IsBeginning s.bytes s.kept s.book × (after ≡ before ++ source_line s)
+one_source name bytes kept b before after begins within grown = (
+  record { name = name; bytes = bytes; kept = take kept bytes; book = b },
+  refl,
+  refl,
+  refl,
+  begins,
+  grown ∙ ap (λ (n : ℕ). before ++ journal_line name b (length bytes - n)) (sym (length-take-le kept bytes within)),
+)
 
 module _ {F : Type 0} (reads : F → List ℕ → Result (List ℕ) FileFault → F → Type 0) where
   pub no_sources : (old : F) → AreSources reads [] old [] [] old
@@ -38,6 +52,13 @@ module _ {F : Type 0} (reads : F → List ℕ → Result (List ℕ) FileFault �
   file_refused names before name later old between new lines books r a is (inl why) =
       inl (record { sources = a.sources; between = between; read = a.read; name = name; later = later; named = is ∙ ap (λ (x : List (List ℕ)). x ++ name ∷ later) a.named; why = why })
   file_refused names before name later old between new lines books r a is (inr none) = inr none
+
+  -- one file
+  pub one_read : (old new : F) (name bytes : List ℕ) (s : Source) → s.name ≡ name → s.bytes ≡ bytes → reads old name (Ok bytes) new → IsBeginning s.bytes s.kept s.book → IsRead reads old s new
+  one_read old new name bytes s named are r begins = record {
+    read = subst (λ (x : List ℕ). reads old x (Ok s.bytes) new) (sym named) (subst (λ (x : List ℕ). reads old name (Ok x) new) (sym are) r);
+    begins = begins;
+  }
 
   -- ---- what they tell
 

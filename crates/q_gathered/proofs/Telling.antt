@@ -1,5 +1,5 @@
 -- That what is told of a history is true.
-use Rattle.std.proofs.Common.{◌≡◌, ℕ, List, Option, Some, None, refl, sym, ap, ◌∙◌, subst, slice_get}
+use Rattle.std.proofs.Common.{◌≡◌, ℕ, Bool, cond, List, [], ◌∷◌, ◌++◌, codes, Option, Some, None, refl, sym, ap, ◌∙◌, subst, append_assoc, slice_get}
 use Rattle.std.specs.FinMap as fin
 use Rattle.sc_members.specs.Members.{Config}
 use Rattle.sc_msg.specs.declared.version.Version.{Version}
@@ -27,6 +27,9 @@ use Rattle.q_history.specs.Heads.{book_of}
 use Rattle.q_history.specs.State.{ClusterState}
 use Rattle.q_history.proofs.Lists.{same_some, no_some}
 use Rattle.q_gather.specs.Gather.{GathersBooks}
+use Rattle.q_sim.specs.Printing.{TellsPairs, AddsPairs}
+use Rattle.q_gathered.specs.Lines.{answers_of, pairs_of}
+use Rattle.q_gathered.specs.Tells.{Tells}
 use Rattle.q_gathered.specs.Truth.{AnswersAreTrue, IsTrueAnswer}
 
 -- laws of the crates below
@@ -69,3 +72,15 @@ all_true answers worlds regular books c gathers place query b q view ran at numb
       is_true = true_one;
       genuine = λ end ended. lawful.genuine collect view end true_one.returned.among (view_stored collect.session.kind collect.end (stored collect.session) view true_one.returned.returned) ended;
     }
+
+-- what is printed of books that gather
+pub all_told : ((books : List BookState) (c : ClusterState) → GathersBooks books c → AnswersAreTrue c books) → (c : ClusterState) (books : List BookState) (pairs : Bool) (ops : List Op) (first second third last : List ℕ)
+    → GathersBooks books c → ops ≡ c.world.ops → first ≡ [] → second ≡ first ++ answers_of books → AddsPairs (cond pairs (pairs_of ops) []) second third → last ≡ third ++ codes "journals ok\n" → Tells c books pairs last
+all_told law c books pairs ops first second third last gathers are none answers met end = record {
+  gathers = gathers;
+  are_true = law books c gathers;
+  met = met.0;
+  tells_pairs = subst (λ (os : List Op). TellsPairs (cond pairs (pairs_of os) []) met.0) are met.1;
+  says = end ∙ ap (λ (x : List ℕ). x ++ codes "journals ok\n") (met.2 ∙ ap (λ (x : List ℕ). x ++ met.0) (answers ∙ ap (λ (x : List ℕ). x ++ answers_of books) none))
+      ∙ append_assoc (answers_of books) met.0 (codes "journals ok\n");
+}

@@ -1,6 +1,6 @@
 //! The longest beginning of bytes that is a journal.
 
-ghost use Rattle.std.specs.Prelude.{◌≡◌, ◌<◌, ◌≤◌, ◌^◌, ◌∷◌, ◌++◌, [], ℕ, List, length, take, IfOk, IfErr, IfSome, IfNone, MatchBool};
+ghost use Rattle.std.specs.Prelude.{◌≡◌, ◌<◌, ◌≤◌, ◌-◌, ◌^◌, ◌∷◌, ◌++◌, [], ℕ, List, length, take, IfOk, IfErr, IfSome, IfNone, MatchBool, MatchOption};
 ghost use Rattle.sc_msg.specs.Numbers.{number_bytes};
 ghost use Rattle.q_journal.specs.Spelling.{event_bytes, IsWritten};
 ghost use Rattle.q_journal.specs.declared.written.Written.{Written as WrittenEvent};
@@ -60,9 +60,22 @@ fn beginning_before(
     one_head();
     one_event();
     one_fault();
+    match unread_event(fault) {
+        Some(event) => beginning_up_to(alloc, bytes, event),
+        None => Err(fault),
+    }
+}
+
+/// The event of which bytes with this fault have no form, if it is one.
+fn unread_event(fault: ReplayFault) -> Option<usize>
+    ensures { MatchOption result
+        ((event : ℕ) → 0 < event → fault ≡ ReplayFault.Form event → ⊥)
+        (λ event. (0 < event) × (fault ≡ ReplayFault.Form event)) }
+{
     match fault {
-        ReplayFault::Form { event } if event > 0 => beginning_up_to(alloc, bytes, event),
-        _ => Err(fault),
+        ReplayFault::Form { event: 0 } => None,
+        ReplayFault::Form { event } => Some(event),
+        ReplayFault::Mismatch { .. } | ReplayFault::OutOfMemory => None,
     }
 }
 
@@ -77,7 +90,30 @@ fn beginning_up_to(alloc: Global, bytes: &[u8], event: usize) -> Result<Journal,
     one_head();
     one_event();
     one_fault();
-    let left = after_events(alloc, bytes, event - 1)?;
+    match after_events(alloc, bytes, event - 1) {
+        Ok(left) => beginning_without(alloc, bytes, event, left),
+        Err(_) => Err(ReplayFault::OutOfMemory),
+    }
+}
+
+/// The same where these are the bytes from that event on.
+fn beginning_without(
+    alloc: Global,
+    bytes: &[u8],
+    event: usize,
+    left: &[u8],
+) -> Result<Journal, ReplayFault>
+    requires some { 0 < event }
+    requires is_fault { IsFault bytes.now (ReplayFault.Form event) }
+    requires is_left { (version : Version) (rest : List ℕ) → IsAfter version bytes.now (event - 1) rest → left.now ≡ rest }
+    requires within { length left.now ≤ length bytes.now }
+    ensures begins { IfOk result (λ j. IsBeginning bytes.now (take j.kept bytes.now) j.book) }
+    ensures within { IfOk result (λ j. j.kept ≤ length bytes.now) }
+    ensures refused { IfErr result (IsRefused bytes.now) }
+{
+    one_head();
+    one_event();
+    one_fault();
     if !is_cut(left) {
         return Err(ReplayFault::Form { event });
     }

@@ -1,6 +1,10 @@
 //! Files whose journals are gathered.
 
-ghost use Rattle.std.specs.Prelude.{◌≡◌, ℕ, List, map, IfOk, IfErr, string_bytes};
+ghost use Rattle.std.specs.Prelude.{◌≡◌, ◌⊎◌, ◌++◌, ℕ, List, map, IfOk, IfErr, string_bytes};
+ghost use Rattle.q_gather.specs.Gather.{AreRefused};
+ghost use Rattle.q_gather.specs.declared.fault.GatherFault.{GatherFault};
+ghost use Rattle.q_history.specs.State.{ClusterState};
+ghost use Rattle.q_gathered.specs.Tells.{Tells, of_gather};
 ghost use Rattle.q_gathered.specs.Files.{IsWritten, Refuses, TellsFiles, failures_after};
 
 use crate::ending::Ending;
@@ -57,12 +61,29 @@ fn told<F: Files, N: Write>(
     ensures told { IfOk result (λ lines. TellsFiles F.read_gives (map (λ name. name.now) names.now) pairs files.old (string_bytes lines) files.new) }
     ensures refused { IfErr result (λ r. Refuses F.read_gives (map (λ name. name.now) names.now) files.old r files.new) }
 {
-    let Sources { mut lines, books } = read_all(alloc, names, files, notes)?;
+    match read_all(alloc, names, files, notes) {
+        Ok(sources) => told_of(alloc, names, pairs, sources, notes),
+        Err(refusal) => Err(refusal),
+    }
+}
+
+/// The same of the files with these names, of which this was read.
+fn told_of<N: Write>(
+    alloc: Global,
+    names: &[&str],
+    pairs: bool,
+    sources: Sources,
+    notes: &mut N,
+) -> Result<String, Refusal>
+    ensures told { IfOk result (λ text. (told : List ℕ) × (c : ClusterState) × Tells c sources.books.items pairs told × (string_bytes text ≡ string_bytes sources.lines ++ told)) }
+    ensures refused { IfErr result (λ r. ((fault : GatherFault) × AreRefused sources.books.items fault × (r ≡ of_gather fault)) ⊎ (r ≡ Refusal.OutOfMemory)) }
+{
+    let Sources { mut lines, books } = sources;
     match gathered(alloc, &books, pairs) {
-        Ok(told) => {
-            lines.push_str(told.as_str())?;
-            Ok(lines)
-        }
+        Ok(told) => match lines.push_str(told.as_str()) {
+            Ok(()) => Ok(lines),
+            Err(_) => Err(Refusal::OutOfMemory),
+        },
         Err(fault) => {
             note_gather(notes, names, &books, fault);
             Err(of_gather(fault))

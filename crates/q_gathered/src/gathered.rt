@@ -28,7 +28,10 @@ pub fn gathered(alloc: Global, books: &[Book], pairs: bool) -> Result<String, Ga
     ensures refused { IfErr result (AreRefused books.now) }
 {
     let cluster = gather_books(alloc, books)?;
-    Ok(told(alloc, &cluster, books, pairs)?)
+    match told(alloc, &cluster, books, pairs) {
+        Ok(lines) => Ok(lines),
+        Err(_) => Err(GatherFault::OutOfMemory),
+    }
 }
 
 /// What the books tell that gather into this cluster.

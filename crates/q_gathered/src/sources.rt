@@ -1,6 +1,8 @@
 //! Files that are read, one after the other.
 
 ghost use Rattle.std.specs.Prelude.{◌≡◌, ◌⊎◌, ◌++◌, map, IfOk, IfErr, OnOk, string_bytes};
+ghost use Rattle.q_replay.specs.declared.fault.ReplayFault.{ReplayFault};
+ghost use Rattle.q_gathered.specs.Beginning.{IsBeginning, IsRefused};
 ghost use Rattle.q_gathered.specs.Files.{AreSources, IsRead, IsUnread, RefusesFile, Source, source_line};
 ghost use Rattle.q_gathered.specs.Lines as line;
 ghost use Rattle.q_gathered.specs.Tells as tells;
@@ -77,11 +79,30 @@ fn read_one<F: Files, N: Write>(
     ensures read { IfOk result (λ b. (s : Source) × IsRead F.read_gives files.old s files.new × (s.name ≡ name.now) × (s.book ≡ b) × (string_bytes lines.new ≡ string_bytes lines.old ++ source_line s)) }
     ensures refused { IfErr result (λ r. IsUnread F.read_gives files.old name.now r files.new ⊎ (r ≡ Refusal.OutOfMemory)) }
 {
-    let bytes = files.read(alloc, name)?;
-    match beginning(alloc, &bytes) {
+    match files.read(alloc, name) {
+        Ok(bytes) => take_one(alloc, name, &bytes, lines, notes),
+        Err(fault) => Err(Refusal::from(fault)),
+    }
+}
+
+/// The same of the bytes that were read.
+fn take_one<N: Write>(
+    alloc: Global,
+    name: &str,
+    bytes: &[u8],
+    lines: &mut String,
+    notes: &mut N,
+) -> Result<Book, Refusal>
+    ensures begins { IfOk result (λ b. (s : Source) × (s.name ≡ name.now) × (s.bytes ≡ bytes.now) × (s.book ≡ b) × IsBeginning s.bytes s.kept s.book × (string_bytes lines.new ≡ string_bytes lines.old ++ source_line s)) }
+    ensures refused { IfErr result (λ r. ((fault : ReplayFault) × IsRefused bytes.now fault × (r ≡ Refusal.Journal fault)) ⊎ (r ≡ Refusal.OutOfMemory)) }
+{
+    match beginning(alloc, bytes) {
         Ok(journal) => {
-            print_journal(lines, name, &journal.book, bytes.len() - journal.kept)?;
-            Ok(journal.book)
+            let cut = bytes.len() - journal.kept;
+            match print_journal(lines, name, &journal.book, cut) {
+                Ok(()) => Ok(journal.book),
+                Err(_) => Err(Refusal::OutOfMemory),
+            }
         }
         Err(fault) => {
             note_journal(notes, name, fault);
@@ -103,8 +124,10 @@ pub(crate) fn read_all<F: Files, N: Write>(
     let mut lines = String::new(alloc);
     let mut books = Vec::new(alloc);
     for name in names {
-        let book = read_one(alloc, name, &mut lines, files, notes)?;
-        books.push(book).map_err(AllocError::from)?;
+        match read_one(alloc, name, &mut lines, files, notes) {
+            Ok(book) => books.push(book).map_err(AllocError::from)?,
+            Err(refusal) => return Err(refusal),
+        }
     }
     Ok(Sources { lines, books })
 }
