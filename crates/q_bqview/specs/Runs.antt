@@ -1,5 +1,5 @@
 -- What the program does for its words: its exit status, and what it does to files and to its standard output.
-use Rattle.std.specs.Prelude.{◌≡◌, ◌⊎◌, ℕ, Bool, List, Option, Ok, Err}
+use Rattle.std.specs.Prelude.{◌≡◌, ◌⊎◌, ℕ, Bool, List, Option, Ok, Err, map}
 use Rattle.std.specs.Io.KnownBytes.{Appends}
 use Rattle.std.specs.declared.io.Error as io
 use Rattle.q_files.specs.Files.{Reading}
@@ -15,6 +15,8 @@ use Rattle.q_words.specs.declared.words.WordsFault.{WordsFault}
 use Rattle.q_words.specs.declared.words.WordsFault.TheVariants.{Help, OutOfMemory}
 use Rattle.q_command.specs.Perform as command
 use Rattle.q_command.specs.declared.perform.Outcome.{Outcome}
+use Rattle.q_gathered.specs.Files as gathered
+use Rattle.q_gathered.specs.declared.ending.Ending as gathered_ending
 use Rattle.q_lines.specs.Runs as nodes
 use Rattle.q_lines.specs.declared.ending.Ending.{Ending}
 
@@ -57,10 +59,17 @@ module _ {F : Type 0} (reads : Reading F) (writes : Writing F) where
       (ending : Ending) × (source : List ℕ) × nodes.IsWrittenFile (reads command.longest_text) name old new source ending before.taken after.taken
       × (status ≡ nodes.status_of strict ending) × (after.failures ≡ nodes.failures_after ending before.failures)
 
+  -- so does the gathering of the journals in the files of these names, with where operations meet or without
+  abbrev pub Gathers : List (List ℕ) → Bool → F → Output → ℕ → F → Output → Type 0
+  Gathers names pairs old before status new after =
+      (ending : gathered_ending.Ending) × gathered.IsWritten reads names pairs old before.taken ending new after.taken
+      × (status ≡ gathered.status_of ending) × (after.failures ≡ gathered.failures_after ending before.failures)
+
   -- what is wanted is done
   abbrev pub Does : Wanted → F → Output → ℕ → F → Output → Type 0
   Does (wanted.FileCommand line) = CarriesOut line
   Does (wanted.Cluster script strict) = RunsNodes script.now strict
+  Does (wanted.Gather journals pairs) = Gathers (map (λ name. name.now) journals.items) pairs
 
   -- The words ask for a command, and it is done; or they ask for none, and that is explained, and no file is touched.
   abbrev pub Runs : List (List ℕ) → F → Output → ℕ → F → Output → Type 0

@@ -3,12 +3,13 @@
 ghost use Rattle.std.specs.Prelude.{◌≡◌, ◌⊎◌, ℕ, List, IfOk, IfErr, map, string_bytes};
 ghost use Rattle.std.specs.Vec.Iter.{into_iter_items};
 ghost use Rattle.q_words.specs.Words.{exit_status};
-ghost use Rattle.q_bqview.specs.Runs.{CarriesOut, Does, Explains, IsUngiven, Puts, PutsMemory, Runs, RunsNodes};
+ghost use Rattle.q_bqview.specs.Runs.{CarriesOut, Does, Explains, Gathers, IsUngiven, Puts, PutsMemory, Runs, RunsNodes};
 
 use q_command::advice::nodes_advice;
 use q_command::denied::Denied;
 use q_command::perform::carry_out;
 use q_files::files::Files;
+use q_gathered::files::gather_files;
 use q_lines::ending::Ending;
 use q_lines::fault::NodesFault;
 use q_nodes::sockets::{FileRun, run_file};
@@ -210,6 +211,22 @@ fn run_nodes<R: Net + Wait + Threads + Clock + Sync, F: Files, W: Write, N: Writ
     ending.status(is_strict)
 }
 
+/// Gathers the journals of files, and explains their refusal: the exit status.
+fn run_gather<F: Files, W: Write, N: Write>(
+    alloc: Global,
+    journals: &[&str],
+    pairs: bool,
+    files: &mut F,
+    out: &mut Counted<W>,
+    notes: &mut N,
+) -> u8
+    ensures { Gathers F.read_gives F.write_gives (map (λ name. name.now) journals.now) pairs files.old
+        (record { taken = W.contents out.old.inner; failures = out.old.failures }) result files.new
+        (record { taken = W.contents out.new.inner; failures = out.new.failures }) }
+{
+    gather_files(alloc, journals, pairs, files, out, notes).status()
+}
+
 /// Does what is wanted: the exit status.
 fn do_wanted<R: Net + Wait + Threads + Clock + Sync, F: Files, W: Write, N: Write>(
     rt: &R,
@@ -227,6 +244,9 @@ fn do_wanted<R: Net + Wait + Threads + Clock + Sync, F: Files, W: Write, N: Writ
         Wanted::FileCommand(line) => run_line(alloc, line, files, out, notes),
         Wanted::Cluster { script, strict } => {
             run_nodes(rt, alloc, script, *strict, files, out, notes)
+        }
+        Wanted::Gather { journals, pairs } => {
+            run_gather(alloc, journals.as_slice(), *pairs, files, out, notes)
         }
     }
 }

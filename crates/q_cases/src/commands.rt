@@ -4,6 +4,7 @@ use crate::line::CaseLine;
 use q_command::perform::carry_out;
 use q_files::files::{Files, LONGEST_TEXT};
 use q_files::memory::MemoryFiles;
+use q_gathered::files::gather_files;
 use q_wire::counted::Counted;
 use q_words::words::{FileCommand, Wanted, WordsFault, read_words};
 use std::alloc::{AllocError, Global};
@@ -27,6 +28,11 @@ fn carry<F: Files, W: Write>(
         Wanted::FileCommand(line) => {
             let mut unseen = Vec::new(alloc);
             Ok(carry_out(alloc, line, files, out, &mut unseen).status())
+        }
+        Wanted::Gather { journals, pairs } => {
+            let mut unseen = Vec::new(alloc);
+            let names = journals.as_slice();
+            Ok(gather_files(alloc, names, *pairs, files, out, &mut unseen).status())
         }
         Wanted::Cluster { .. } => {
             writeln!(out, "no command over files")?;
@@ -60,30 +66,45 @@ pub fn explained<F: Files, W: Write>(
     notes
 }
 
-/// Writes what explains the refusal of a command or of its lines, and that nothing does.
-fn explain_line<F: Files, W: Write>(
+/// Gathers the journals of files: what explains their refusal.
+pub fn gathered_notes<F: Files, W: Write>(
     alloc: Global,
-    line: &FileCommand<'_>,
+    journals: &[&str],
+    pairs: bool,
     files: &mut F,
     out: &mut Counted<W>,
-) -> io::Result<()> {
-    let mut unseen = Counted::new(Vec::new(alloc));
-    let told = explained(alloc, line, files, &mut unseen);
+) -> Vec<u8> {
+    let mut notes = Vec::new(alloc);
+    let _ending = gather_files(alloc, journals, pairs, files, out, &mut notes);
+    notes
+}
+
+/// Writes what explains a refusal, or that nothing does.
+fn write_told<W: Write>(told: &[u8], out: &mut Counted<W>) -> io::Result<()> {
     if told.is_empty() {
         return writeln!(out, "nothing to explain");
     }
-    out.write_all(told.as_slice())
+    out.write_all(told)
 }
 
-/// The same of what is wanted.
+/// Writes what explains the refusal of what is wanted or of its lines, and that nothing does.
 fn explain_wanted<F: Files, W: Write>(
     alloc: Global,
     wanted: &Wanted<'_>,
     files: &mut F,
     out: &mut Counted<W>,
 ) -> io::Result<()> {
+    let mut unseen = Counted::new(Vec::new(alloc));
     match wanted {
-        Wanted::FileCommand(line) => explain_line(alloc, line, files, out),
+        Wanted::FileCommand(line) => {
+            let told = explained(alloc, line, files, &mut unseen);
+            write_told(told.as_slice(), out)
+        }
+        Wanted::Gather { journals, pairs } => {
+            let names = journals.as_slice();
+            let told = gathered_notes(alloc, names, *pairs, files, &mut unseen);
+            write_told(told.as_slice(), out)
+        }
         Wanted::Cluster { .. } => writeln!(out, "no command"),
     }
 }

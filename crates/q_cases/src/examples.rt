@@ -7,7 +7,7 @@
 //! The refusals are the rows `| NUMBER | NAME |` that `docs/REFUSALS.md` has; those that a command prints, which
 //! `docs/FORMATS.md` has too, end with "printed". `./check-documents` looks them up there.
 
-use crate::commands::explained;
+use crate::commands::{explained, gathered_notes};
 use q_files::files::{Files, LONGEST_TEXT};
 use q_files::folder::Folder;
 use q_wire::counted::Counted;
@@ -39,6 +39,18 @@ fn print_line<F: Files>(
     out.write_all(told.as_slice())
 }
 
+/// What gathering journals prints, and then what explains their refusal.
+fn print_gathered<F: Files>(
+    alloc: Global,
+    journals: &[&str],
+    pairs: bool,
+    files: &mut F,
+    out: &mut Counted<Vec<u8>>,
+) -> io::Result<()> {
+    let told = gathered_notes(alloc, journals, pairs, files, out);
+    out.write_all(told.as_slice())
+}
+
 /// What the command of these words prints.
 fn print_words<F: Files>(
     alloc: Global,
@@ -48,6 +60,9 @@ fn print_words<F: Files>(
 ) -> io::Result<()> {
     match read_words(alloc, words) {
         Ok(Wanted::FileCommand(line)) => print_line(alloc, &line, files, out),
+        Ok(Wanted::Gather { journals, pairs }) => {
+            print_gathered(alloc, journals.as_slice(), pairs, files, out)
+        }
         Ok(Wanted::Cluster { .. }) => Ok(()),
         Err(fault) => write!(out, "{fault}"),
     }

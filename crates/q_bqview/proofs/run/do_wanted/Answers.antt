@@ -6,3 +6,6 @@ returns-in-FileCommand g c = done_as g.F.Files.read_gives g.F.Files.write_gives 
 
 pub returns-in-Cluster : goal.returns-in-Cluster
 returns-in-Cluster g c = done_as g.F.Files.read_gives g.F.Files.write_gives c.args.wanted.now _ _ _ _ _ _ c.in-Cluster.is c.run_nodes.ensures
+
+pub returns-in-Gather : goal.returns-in-Gather
+returns-in-Gather g c = done_as g.F.Files.read_gives g.F.Files.write_gives c.args.wanted.now _ _ _ _ _ _ c.in-Gather.is c.run_gather.ensures
