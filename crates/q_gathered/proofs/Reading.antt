@@ -1,5 +1,5 @@
 -- Files that are read, one after the other.
-use Rattle.std.proofs.Common.{◌≡◌, ℕ, ◌≤◌, ◌-◌, ◌⊎◌, inl, inr, List, length, take, [], ◌∷◌, ◌++◌, map, refl, sym, ap, ◌∙◌, subst, append_assoc, append-nil, flat_map, Result, Ok, Err, Bool}
+use Rattle.std.proofs.Common.{◌≡◌, ℕ, ◌≤◌, ◌-◌, ◌⊎◌, inl, inr, List, length, take, [], ◌∷◌, ◌++◌, map, refl, sym, ap, ◌∙◌, subst, append_assoc, append-nil, flat_map, Result, Ok, Err, IfOk, IfErr, Bool}
 use Rattle.std.proofs.lemmas.Grind.{flat_map-append}
 use Rattle.std.proofs.lemmas.List.{map-append, length-take-le}
 use Rattle.q_book.specs.State.{BookState}
@@ -7,9 +7,10 @@ use Rattle.q_files.specs.declared.files.FileFault.{FileFault}
 use Rattle.q_gather.specs.Gather.{AreRefused}
 use Rattle.q_gather.specs.declared.fault.GatherFault.{GatherFault}
 use Rattle.q_history.specs.State.{ClusterState}
+use Rattle.q_replay.specs.declared.fault.ReplayFault.{ReplayFault}
 use Rattle.q_sim.specs.declared.refusal.Refusal.{Refusal}
 use Rattle.q_sim.specs.declared.refusal.Refusal.TheVariants as refusal
-use Rattle.q_gathered.specs.Beginning.{IsBeginning}
+use Rattle.q_gathered.specs.Beginning.{IsBeginning, IsRefused}
 use Rattle.q_gathered.specs.Tells.{Tells, of_gather}
 use Rattle.q_gathered.specs.Lines.{journal_line}
 use Rattle.q_gathered.specs.Files.{Source, source_line, books_of, names_of, IsRead, AreRead, AreSources, TellsFiles, IsUnread, RefusesFile, RefusesBooks, Refuses}
@@ -60,6 +61,22 @@ module _ {F : Type 0} (reads : F → List ℕ → Result (List ℕ) FileFault �
     begins = begins;
   }
 
+  -- what is made of the bytes that were read
+  pub read_on : (old new : F) (name bytes before after : List ℕ) (r : Result BookState Refusal) → reads old name (Ok bytes) new
+      → IfOk r (λ b. (s : Source) × (s.name ≡ name) × (s.bytes ≡ bytes) × (s.book ≡ b) × IsBeginning s.bytes s.kept s.book × (after ≡ before ++ source_line s))
+      → IfOk r (λ b. (s : Source) × IsRead reads old s new × (s.name ≡ name) × (s.book ≡ b) × (after ≡ before ++ source_line s))
+  read_on old new name bytes before after (Ok b) is h =
+      let (s, named, are, book, begins, grown) = h in
+      (s, one_read old new name bytes s named are is begins, named, book, grown)
+  read_on old new name bytes before after (Err e) is h = tt
+
+  pub unread_on : (old new : F) (name bytes : List ℕ) (r : Result BookState Refusal) → reads old name (Ok bytes) new
+      → IfErr r (λ e. ((fault : ReplayFault) × IsRefused bytes fault × (e ≡ refusal.Journal fault)) ⊎ (e ≡ refusal.OutOfMemory))
+      → IfErr r (λ e. IsUnread reads old name e new ⊎ (e ≡ refusal.OutOfMemory))
+  unread_on old new name bytes (Ok b) is h = tt
+  unread_on old new name bytes (Err e) is (inl why) = inl (inr (bytes, why.0, is, why.1, why.2))
+  unread_on old new name bytes (Err e) is (inr none) = inr none
+
   -- ---- what they tell
 
   pub files_tell : (names : List (List ℕ)) (pairs : Bool) (old new : F) (lines told text : List ℕ) (books : List BookState) (c : ClusterState) → AreSources reads names old lines books new
@@ -82,3 +99,14 @@ module _ {F : Type 0} (reads : F → List ℕ → Result (List ℕ) FileFault �
       → r ≡ of_gather fault → Refuses reads names old r new
   books_refuse names old new lines books fault r a why is =
       inr (inl (record { sources = a.sources; named = a.named; read = a.read; fault = fault; refused = subst (λ (bs : List BookState). AreRefused bs fault) a.are why; is = is }))
+
+  pub told_on : (names : List (List ℕ)) (pairs : Bool) (old new : F) (lines : List ℕ) (books : List BookState) {X : Type 0} (bytes_of : X → List ℕ) (r : Result X Refusal) → AreSources reads names old lines books new
+      → IfOk r (λ text. (told : List ℕ) × (c : ClusterState) × Tells c books pairs told × (bytes_of text ≡ lines ++ told)) → IfOk r (λ text. TellsFiles reads names pairs old (bytes_of text) new)
+  told_on names pairs old new lines books bytes_of (Ok text) a h = let (told, c, tells, is) = h in files_tell names pairs old new lines told (bytes_of text) books c a tells is
+  told_on names pairs old new lines books bytes_of (Err e) a h = tt
+
+  pub refused_on : (names : List (List ℕ)) (old new : F) (lines : List ℕ) (books : List BookState) {X : Type 0} (r : Result X Refusal) → AreSources reads names old lines books new
+      → IfErr r (λ e. ((fault : GatherFault) × AreRefused books fault × (e ≡ of_gather fault)) ⊎ (e ≡ refusal.OutOfMemory)) → IfErr r (λ e. Refuses reads names old e new)
+  refused_on names old new lines books (Ok text) a h = tt
+  refused_on names old new lines books (Err e) a (inl why) = books_refuse names old new lines books why.0 e a why.1 why.2
+  refused_on names old new lines books (Err e) a (inr none) = inr (inr none)

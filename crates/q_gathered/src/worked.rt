@@ -1,40 +1,22 @@
-//! Worked values of what is told.
+//! Worked values of the lines that tell what was gathered.
 
-#[cfg(test)]
-mod tests {
-    use crate::beginning::beginning;
-    use crate::files::gather_files;
-    use q_book::book::Book;
-    use q_files::files::Files;
-    use q_files::memory::MemoryFiles;
-    use q_replay::write::journal_bytes;
-    use q_wire::counted::Counted;
-    use sc_members::config::Config;
-    use std::test::Fail;
+ghost use Rattle.std.specs.Prelude.{◌≡◌, ◌∷◌, [], length, codes};
+ghost use Rattle.std.specs.FinMap as fin;
+ghost use Rattle.sc_view.specs.Views.{ViewMap};
+ghost use Rattle.q_session.specs.declared.query.Phase.TheVariants as phase;
+ghost use Rattle.q_book.specs.State.{BookState};
+ghost use Rattle.q_gathered.specs.Beginning.{IsCut};
+ghost use Rattle.q_gathered.specs.Files.{status_of};
+ghost use Rattle.q_gathered.specs.Lines.{answer_line, journal_line};
+ghost use Rattle.q_gathered.specs.declared.ending.Ending.TheVariants as ending;
 
-    #[test]
-    fn cut_and_gathered(rt: HostRuntime) -> Result<(), Fail> {
-        let alloc = rt.alloc();
-        let config = Config::new(2, 3, 2, 3)?;
-        let mut book = Book::founder(alloc, config, 1, &[1])?;
-        let _begun = book.store(b"abcdefgh")?;
-        let bytes = journal_bytes(alloc, &book)?;
-        let whole = beginning(alloc, &bytes)?;
-        assert_eq!(rt; whole.kept, bytes.len());
-        assert_eq!(rt; whole.book.events(), 1);
-        let cut = beginning(alloc, &bytes[..bytes.len().saturating_sub(1)])?;
-        assert_eq!(rt; cut.book.events(), 0);
-        let mut files = MemoryFiles::new(alloc);
-        assert!(rt; files.write("j1", &bytes).is_ok());
-        assert!(rt; files.write("j2", &bytes[..bytes.len().saturating_sub(1)]).is_ok());
-        let mut out: Counted<Vec<u8>> = Counted::new(Vec::new(alloc));
-        let mut notes: Vec<u8> = Vec::new(alloc);
-        let _ending = gather_files(alloc, &["j1"], true, &mut files, &mut out, &mut notes);
-        let _ending = gather_files(alloc, &["j2"], true, &mut files, &mut out, &mut notes);
-        let _ending = gather_files(alloc, &["j2", "j1"], true, &mut files, &mut out, &mut notes);
-        let text = out.inner.as_slice();
-        println!(rt; "{}", std::str::from_utf8(text)?)?;
-        println!(rt; "{}", std::str::from_utf8(&notes)?)?;
-        Ok(())
-    }
-}
+/// What the definitions say of a file, of an answer and of how gathering ends.
+pub fn worked()
+    ensures whole { (b : BookState) → b.id ≡ 2 → length b.desk.journal ≡ 114 → journal_line (codes "j2") b 0 ≡ codes "j2 node 2 events 114\n" }
+    ensures cut { (b : BookState) → b.id ≡ 2 → length b.desk.journal ≡ 114 → journal_line (codes "j2") b 144 ≡ codes "j2 node 2 events 114 cut 144 bytes\n" }
+    ensures answered { (view : ViewMap) → fin.entries view ≡ (1, record { number = 2; value = [] }) ∷ (4, record { number = 1; value = [] }) ∷ [] → answer_line 4 0 (phase.Answered view (record { acc = 3; steps = 9 })) ≡ codes "answer 4 0 3 9 view 1:2 4:1\n" }
+    ensures unanswered { answer_line 4 0 phase.Collecting ≡ [] }
+    ensures too_few { IsCut (7 ∷ 24 ∷ 0 ∷ 0 ∷ []) }
+    ensures gathered { status_of ending.Gathered ≡ 0 }
+    ensures unwritten { status_of ending.Unwritten ≡ 1 }
+{}
