@@ -25,3 +25,15 @@ returns-clause-strict c = refl
 pub returns-clause-not_strict : goal.returns-clause-not_strict
 unfolding clap_on_literals
 returns-clause-not_strict c = refl
+
+pub returns-clause-journals : goal.returns-clause-journals
+unfolding clap_on_literals
+returns-clause-journals c = refl
+
+pub returns-clause-pairs : goal.returns-clause-pairs
+unfolding clap_on_literals
+returns-clause-pairs c = refl
+
+pub returns-clause-no_pairs : goal.returns-clause-no_pairs
+unfolding clap_on_literals
+returns-clause-no_pairs c = refl
