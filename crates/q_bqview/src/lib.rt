@@ -9,7 +9,7 @@
 //! | `sim [--strict] SCRIPT` | what each event of a script tells, over a cluster in memory |
 //! | `cluster [--strict] SCRIPT` | what each line of a script tells, over nodes with a thread and a UDP socket of loopback each |
 //! | `audit JOURNAL` | `answer Q ACC STEPS` for each answer that a node recorded, by the numbers of its queries; then `journal ok` |
-//! | `gather [--pairs] JOURNAL..` | what the journals of all nodes of a run say together: a line for each, the answers with their views, then `journals ok` |
+//! | `gather [--pairs] JOURNAL..` | each answer of the journals of all nodes, with its view; then `journals ok` |
 //!
 //! FILE of `asm` holds assembler text, FILE of `dis` a program's bytes, eight a unit. That of `check` and `run` holds
 //! assembler text, or with `--bytes` a program's bytes. `check --states` prints after its line, for each unit where an
@@ -60,32 +60,32 @@
 //! `unanswered`. The standard error tells how many datagrams were refused, and why, and what else was lost
 //! (`docs/FORMATS.md`).
 //!
-//! `gather` prints for each JOURNAL, in the order of the words, `JOURNAL node N events E`, and ` cut B bytes` behind that
-//! where the file ends in an event that is not whole, which is left out. Then, in the same order, `answer N Q ACC STEPS
-//! view ID:NUMBER ..` for each answer that node N recorded, by the numbers of its queries: the view that the query saw,
-//! by rising ids, and of each id how many values its node had begun to store. With `--pairs` lines as those of `pairs`
-//! follow: first the node of each. The last line is `journals ok`: the journals are those of one run of one cluster,
-//! which all its nodes are in, and each answer is the meaning of its query's program over that view. No node, no clock
-//! and no other file is asked. ([`gather_files`] has it exactly.)
+//! `gather` prints for each JOURNAL, in the order of the words, `JOURNAL node N events E`, and ` cut B bytes` after
+//! that where the file ends in an event that is not whole, which is left out. Then, in the same order, `answer N Q ACC
+//! STEPS view ID:NUMBER ..` for each answer that node N recorded, by the numbers of its queries: the view that the
+//! query saw, by rising ids, and of each node the number of its store that the view has. With `--pairs` lines as those
+//! of `pairs` follow. The last line is `journals ok`: the journals fit together as those of one run of one cluster, and
+//! each answer is the meaning of its query's program over that view. All this is found in the bytes of the files alone.
 //!
 //! A refusal prints `refused N Name`, then ` at U` where it carries a unit or a journal's event, or ` line L` where a
 //! line ([`Refusal`]). `run` finds faults in this order: FILE, its text, the verifier and the checker, RECORDS, its
 //! lines. `sim` finds them in this: SCRIPT, its text, its founders; and `cluster` too, which then finds the sockets
-//! that can't be opened (86). `audit` finds a fault of JOURNAL, and then of its least faulty event. `gather` finds the first JOURNAL that
-//! is refused, and then 44 of two journals of one node, 49 of heads that differ and of a founder's journal that is
-//! missing, and 82 of a message that no journal sent. 99, out of memory,
-//! may stand in place of any answer, of any other refusal and of what is said of a wrong command line. The exit status
-//! is 0; or 1 after a refusal, or where a journal or notes were not written or the standard output failed, which is told
-//! once on the standard error, or as `--strict` says; or 2 for a wrong command line, as one with a word that is not UTF-8,
-//! which is explained there. `--help` and `--version` print what they ask for.
+//! that can't be opened (86). `audit` finds a fault of JOURNAL, and then of its least faulty event. `gather` finds the
+//! first JOURNAL that is refused, and then 44 of two journals of one node, 49 of heads that differ and of a founder's
+//! journal that is missing, and 82 of a message that no journal sent. 99, out of memory, may stand in place of any
+//! answer, of any other refusal and of what is said of a wrong command line. The exit status is 0; or 1 after a
+//! refusal, or where a journal or notes were not written or the standard output failed, which is told once on the
+//! standard error, or as `--strict` says; or 2 for a wrong command line, as one with a word that is not UTF-8, which is
+//! explained there. `--help` and `--version` print what they ask for.
 //!
-//! [`run`] takes the words that the system gives, files, an output and notes, and answers the exit status; [`run_words`]
-//! does the same of any words. Their contracts say what the status is, and what the output took and the files came to:
-//! where the words ask for a command over files, an end of [`carry_out`]; for `cluster`, one of [`run_file`]; for `gather`, one of [`gather_files`]; and where
-//! they ask for none ([`read_words`]), no file is touched, and the output takes the help, the refusal 99, or
-//! nothing. What explains a refusal ([`carry_out`], [`nodes_advice`]), a refused line of a script or a wrong command line
-//! goes to the notes, of which no clause speaks. The program hands over the machine: its words, its files, its standard output, and
-//! its standard error as the notes. Why the system refuses a file is told on the standard error, too.
+//! [`run`] takes the words that the system gives, files, an output and notes, and answers the exit status;
+//! [`run_words`] does the same of any words. Their contracts say what the status is, and what the output took and the
+//! files came to: where the words ask for a command over files, an end of [`carry_out`]; for `cluster`, one of
+//! [`run_file`]; for `gather`, one of [`gather_files`]; and where they ask for none ([`read_words`]), no file is
+//! touched, and the output takes the help, the refusal 99, or nothing. What explains a refusal ([`carry_out`],
+//! [`nodes_advice`]), a refused line of a script or a wrong command line goes to the notes, of which no clause speaks.
+//! The program hands over the machine: its words, its files, its standard output, and its standard error as the notes.
+//! Why the system refuses a file is told on the standard error, too.
 //!
 //! [`Refusal`]: q_sim::refusal::Refusal
 //! [`run`]: run::run

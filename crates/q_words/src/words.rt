@@ -520,7 +520,7 @@ fn gather_command<'a>(alloc: Global) -> Result<Command<'a>, AllocError>
         alloc,
         "gather",
         "Gathers the journals of all nodes of a run, and prints its answers with their views",
-        "Prints a line for each journal: its node, its events, and the bytes of a last event that is not whole; then each recorded answer with the view that it saw, and `journals ok`: the journals are of one run, and each answer is its program's meaning over that view. It says so from the bytes of the journals alone.\nAll is printed at the end. What explains a refusal goes to the standard error.\nExit status: 0; 1 after a refusal, or where the output fails; 2 for a wrong command line.\nExample: bqview gather one.journal two.journal three.journal\nFormats: docs/FORMATS.md, \"Journals that are gathered\"",
+        "Prints a line for each journal: its node, its events, and the bytes of a last event that is not whole; then each recorded answer with the view that it saw, and `journals ok`: the journals fit together as those of one run, and each answer is its program's meaning over that view. It says so from the bytes of the journals alone.\nAll is printed at the end. What explains a refusal goes to the standard error.\nExit status: 0; 1 after a refusal, or where the output fails; 2 for a wrong command line.\nExample: bqview gather one.journal two.journal three.journal\nFormats: docs/FORMATS.md, \"Journals that are gathered\"",
     );
     let journals = with_operands(
         alloc,
