@@ -1,92 +1,20 @@
 //! The explanation of a refusal.
 
 ghost use Rattle.std.specs.Prelude.{IfOk};
-ghost use Rattle.q_explain.specs.Told.{IsKnown, IsTold};
+ghost use Rattle.q_explain.specs.Told.{IsKnown, IsTold, IsToldOfCode};
 
-use crate::advice::{of_flow, of_rule};
-use bq_asm::disassemble::disassemble;
+use crate::advice::{of_flow, of_rule, of_rule_at};
+use crate::states::{write_state, write_unit};
 use bq_check::fault::CheckFault;
+use bq_flow::fault::FlowRule;
+use bq_insn::decode::decode;
+use bq_insn::fault::DecodeFault;
 use bq_insn::text::Text;
-use bq_range::range::Range;
 use bq_state::bounds::Bounds;
-use bq_state::kind::Kind;
-use bq_state::offsets::Offsets;
-use bq_state::region::Region;
+use bq_state::rule::Rule;
 use bq_state::state::State;
 use bq_verify::verify::state_at;
 use std::alloc::{AllocError, Global};
-
-/// The instruction at a unit, as assembler text.
-fn write_instruction(
-    alloc: Global,
-    out: &mut String,
-    text: &Text,
-    unit: usize,
-) -> Result<(), AllocError> {
-    let source = disassemble(alloc, text)?;
-    let mut before = 0_usize;
-    for below in 0..unit {
-        if text.at(below).is_some() {
-            before = before.saturating_add(1);
-        }
-    }
-    write!(out, "unit {unit}")?;
-    if let Some(line) = source.lines().nth(before) {
-        write!(out, ": {line}")?;
-    }
-    out.push('\n')
-}
-
-fn write_range(out: &mut String, range: Range) -> Result<(), AllocError> {
-    let (lo, hi) = (range.lo(), range.hi());
-    if lo == hi {
-        write!(out, "the number {lo}")
-    } else if lo == 0 && hi == u64::MAX {
-        out.push_str("any number")
-    } else {
-        write!(out, "a number from {lo} to {hi}")
-    }
-}
-
-fn write_pointer(out: &mut String, region: Region, offsets: Offsets) -> Result<(), AllocError> {
-    let region = region.name();
-    let (lo, hi) = (offsets.lo(), offsets.hi());
-    if lo == hi {
-        write!(out, "a pointer to the {region}'s start plus {lo}")
-    } else {
-        write!(out, "a pointer to the {region}'s start plus {lo} to {hi}")
-    }
-}
-
-fn write_length(out: &mut String, lengths: Bounds) -> Result<(), AllocError> {
-    let (least, most) = (lengths.least(), lengths.most());
-    write!(out, "the record's length, {least} to {most}")
-}
-
-/// What is known of a register; nothing is written where nothing is.
-fn write_register(out: &mut String, register: u8, state: &State) -> Result<(), AllocError> {
-    let kind = state.kind(register);
-    if let Kind::Unset = kind {
-        return Ok(());
-    }
-    write!(out, "  r{register}: ")?;
-    match kind {
-        Kind::Unset => {}
-        Kind::Number(range) => write_range(out, range)?,
-        Kind::Pointer(region, offsets) => write_pointer(out, region, offsets)?,
-        Kind::Length => write_length(out, state.lengths())?,
-    }
-    out.push('\n')
-}
-
-/// What is known of the registers; of the others nothing is.
-fn write_state(out: &mut String, state: &State) -> Result<(), AllocError> {
-    out.push_str("known of the registers there (of the others nothing):\n")?;
-    for register in 0..11_u8 {
-        write_register(out, register, state)?;
-    }
-    Ok(())
-}
 
 /// What is known of the registers at a unit; none where nothing reaches it, and where the flow or a
 /// unit below is refused.
@@ -105,37 +33,80 @@ fn known(
     }
 }
 
-/// Why a text is refused at a unit, with this advice.
-fn told(
+/// The words of an advice, on lines of their own.
+fn write_advice(out: &mut String, advice: &str) -> Result<(), AllocError> {
+    out.push_str(advice)?;
+    out.push('\n')
+}
+
+/// The line of a unit of a text.
+fn write_place(
     alloc: Global,
+    out: &mut String,
+    text: &Text,
+    unit: usize,
+) -> Result<(), AllocError> {
+    match text.at(unit) {
+        Some(insn) => write_unit(alloc, out, unit, insn),
+        None => writeln!(out, "unit {unit}"),
+    }
+}
+
+/// What is known of the registers at a unit, and why a rule is broken there.
+fn write_rule(
+    alloc: Global,
+    out: &mut String,
     text: &Text,
     bounds: Bounds,
     unit: usize,
-    advice: &str,
-) -> Result<String, AllocError> {
-    let mut out = String::new(alloc);
-    write_instruction(alloc, &mut out, text, unit)?;
-    if let Some(state) = known(alloc, text, bounds, unit)? {
-        write_state(&mut out, &state)?;
-    }
-    out.push_str(advice)?;
-    out.push('\n')?;
-    Ok(out)
+    rule: Rule,
+) -> Result<(), AllocError> {
+    let (Some(state), Some(insn)) = (known(alloc, text, bounds, unit)?, text.at(unit)) else {
+        return write_advice(out, of_rule(rule));
+    };
+    out.push_str("known of the registers there (of the others nothing):\n")?;
+    write_state(out, &state)?;
+    write_advice(out, of_rule_at(rule, &insn, &state))
 }
 
-/// The unit of a fault of an instruction, and what would satisfy the rule that it breaks.
-fn advice(fault: CheckFault) -> Option<(usize, &'static str)>
+/// What a fault of an instruction breaks, and where.
+#[derive(Clone, Copy)]
+enum Broken {
+    /// Legal flow, at this unit.
+    Flow(usize, FlowRule),
+    /// A rule of the verifier, at this unit.
+    Rule(usize, Rule),
+}
+
+/// What a fault breaks, if it is of an instruction.
+fn broken_by(fault: CheckFault) -> Option<Broken>
     ensures { IsTold fault result }
 {
     match fault {
-        CheckFault::Rule { unit, rule } => Some((unit, of_rule(rule))),
-        CheckFault::Flow { unit, rule } => Some((unit, of_flow(rule))),
+        CheckFault::Rule { unit, rule } => Some(Broken::Rule(unit, rule)),
+        CheckFault::Flow { unit, rule } => Some(Broken::Flow(unit, rule)),
         _ => None,
     }
 }
 
+/// Why a text is refused.
+fn told(alloc: Global, text: &Text, bounds: Bounds, broken: Broken) -> Result<String, AllocError> {
+    let mut out = String::new(alloc);
+    match broken {
+        Broken::Flow(unit, rule) => {
+            write_place(alloc, &mut out, text, unit)?;
+            write_advice(&mut out, of_flow(rule))?;
+        }
+        Broken::Rule(unit, rule) => {
+            write_place(alloc, &mut out, text, unit)?;
+            write_rule(alloc, &mut out, text, bounds, unit, rule)?;
+        }
+    }
+    Ok(out)
+}
+
 /// Why the verifier refuses a text for records of these lengths for this fault, in a few lines; none where the fault is
-/// of no instruction.
+/// of no instruction. The first line is that of the unit: `unit U: ` and the instruction as assembler text.
 ///
 /// The one error is that memory ran out (99 OutOfMemory).
 pub fn explain(
@@ -146,8 +117,24 @@ pub fn explain(
 ) -> Result<Option<String>, AllocError>
     ensures { IfOk result (IsTold fault) }
 {
-    match advice(fault) {
-        Some((unit, advice)) => Ok(Some(told(alloc, text, bounds, unit, advice)?)),
+    match broken_by(fault) {
+        Some(broken) => Ok(Some(told(alloc, text, bounds, broken)?)),
         None => Ok(None),
+    }
+}
+
+/// As [`explain`], of the text that these bytes spell; none too where they spell none.
+pub fn explain_code(
+    alloc: Global,
+    code: &[u8],
+    bounds: Bounds,
+    fault: CheckFault,
+) -> Result<Option<String>, AllocError>
+    ensures { IfOk result (IsToldOfCode code.now fault) }
+{
+    match decode(alloc, code) {
+        Ok(text) => explain(alloc, &text, bounds, fault),
+        Err(DecodeFault::OutOfMemory) => Err(AllocError),
+        Err(_) => Ok(None),
     }
 }

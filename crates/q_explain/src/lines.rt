@@ -20,10 +20,10 @@ fn stem(word: &str) -> &str {
 fn instruction(word: &str) -> &'static str {
     let stem = stem(word);
     if ARITHMETIC.contains(&stem) {
-        return "Arithmetic has its width behind its name, and takes a register, a comma, and a\nregister or a number from -2147483648 to 2147483647: add64 r1, r2 or mov32 r0, -5.";
+        return "Arithmetic has its width after its name, and takes a register, a comma, and a\nregister or a number from -2147483648 to 2147483647: add64 r1, r2 or mov32 r0, -5.";
     }
     if BRANCHES.contains(&stem) {
-        return "A conditional jump has its width behind its name, and takes a register, a register\nor a number, and a later label or a distance, with commas between:\njlt64 r4, 10, done or jlt64 r4, 10, +2.";
+        return "A conditional jump has its width after its name, and takes a register, a register\nor a number, and a later label or a distance, with commas between:\njlt64 r4, 10, done or jlt64 r4, 10, +2.";
     }
     match stem {
         "load" | "loads" =>
@@ -34,7 +34,7 @@ fn instruction(word: &str) -> &'static str {
             "ja and ja32 take a label of a later line, or a distance with its sign: ja done or ja +2.",
         "neg" => "neg32 and neg64 take a register: neg64 r0.",
         "le" | "be" | "swap" =>
-            "Byte orders have 16, 32 or 64 behind their name, and take a register: be16 r0.",
+            "Byte orders have 16, 32 or 64 after their name, and take a register: be16 r0.",
         "mov32s" | "mov64s" =>
             "Moves with a sign are mov32s8, mov32s16, mov64s8, mov64s16 and mov64s32, and take\ntwo registers: mov64s8 r0, r4.",
         "wide" => "wide takes a register and a number below 2^64: wide r0, 1099511627785.",
@@ -46,6 +46,12 @@ fn instruction(word: &str) -> &'static str {
 
 /// What an assembler line may say that begins as this text does.
 pub fn assembler_line(text: &str) -> &'static str {
+    if text.starts_with('\u{feff}') {
+        return "It begins with a byte order mark. Save the file as UTF-8 without one.";
+    }
+    if !text.is_ascii() {
+        return "It has a letter that is not ASCII. Lines are ASCII, comments too.";
+    }
     if text.contains('\r') {
         return "It has a carriage return. Lines end with a line feed alone.";
     }
@@ -86,6 +92,9 @@ fn event(word: &str) -> &'static str {
 pub fn script_line(number: usize, text: &str) -> &'static str {
     if text.contains('\r') {
         return "It has a carriage return. Lines end with a line feed alone.";
+    }
+    if text.starts_with('\u{feff}') {
+        return "It begins with a byte order mark. Save the file as UTF-8 without one.";
     }
     if number <= 1 {
         return "The first line founds the cluster: nodes N B/B G/G, as nodes 3 4/5 4/5.";

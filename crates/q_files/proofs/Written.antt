@@ -1,11 +1,11 @@
 -- A file that is written stands under its name.
-use Rattle.std.proofs.Common.{◌≡◌, ◌∙◌, ℕ, List, Bool, true, false, Option, Some, None, ap, refl, sym, subst, inr, option_map, cond}
+use Rattle.std.proofs.Common.{◌≡◌, ◌∙◌, ◌<◌, ℕ, List, length, Bool, true, false, Option, Some, None, ap, refl, sym, subst, inr, option_map, cond}
 use Rattle.std.specs.Prelude.{String, Vec, string_bytes, Err}
 use Rattle.std.specs.BTreeMap.{BTreeMap, Updates, get_by_text}
 use Rattle.std.specs.String.{string_cmp}
 use Rattle.std.specs.Str.{bytes_eq}
 use Rattle.std.proofs.lemmas.Map.Text.{btree_map_updates_text}
-use Rattle.q_files.specs.Memory.{bytes_of, Finds, IsWritten}
+use Rattle.q_files.specs.Memory.{bytes_of, Finds, IsNoneWithin, IsWritten}
 use Rattle.q_files.specs.declared.files.FileFault.{FileFault}
 use Rattle.q_files.specs.declared.files.FileFault.TheVariants.{Failed}
 use Rattle.q_files.specs.declared.memory.MemoryFiles.{MemoryFiles}
@@ -23,5 +23,9 @@ written key value old new updates name bytes e f =
     subst (λ (n : List ℕ). IsWritten old n bytes new) e (subst (λ (b : List ℕ). IsWritten old (string_bytes key) b new) f under)
 
 -- a read of a file that is not there fails
-pub missing : (old : MemoryFiles) (name : List ℕ) (fault : FileFault) → fault ≡ Failed → bytes_of old.files name ≡ None → Finds old name (Err fault)
-missing old name fault e f = subst (λ (x : FileFault). Finds old name (Err x)) (sym e) (inr f)
+pub missing : (most : ℕ) (old : MemoryFiles) (name : List ℕ) (fault : FileFault) → fault ≡ Failed → bytes_of old.files name ≡ None → Finds most old name (Err fault)
+missing most old name fault e f = subst (λ (x : FileFault). Finds most old name (Err x)) (sym e) (inr (subst (IsNoneWithin most) (sym f) tt))
+
+-- and so does a read of one that has more bytes than may be read
+pub too_long : (most : ℕ) (old : MemoryFiles) (name bytes : List ℕ) (fault : FileFault) → fault ≡ Failed → bytes_of old.files name ≡ Some bytes → most < length bytes → Finds most old name (Err fault)
+too_long most old name bytes fault e f long = subst (λ (x : FileFault). Finds most old name (Err x)) (sym e) (inr (subst (IsNoneWithin most) (sym f) long))

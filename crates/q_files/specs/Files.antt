@@ -1,5 +1,5 @@
 -- What files keep and answer.
-use Rattle.std.specs.Prelude.{ℕ, ◌+◌, ◌-◌, ◌^◌, min, Result, Ok, Err}
+use Rattle.std.specs.Prelude.{ℕ, ◌+◌, ◌-◌, ◌^◌, min, List, Result, Ok, Err}
 use Rattle.q_files.specs.declared.files.FileFault.{FileFault}
 use Rattle.q_files.specs.declared.files.FileFault.TheVariants.{Failed, OutOfMemory}
 
@@ -17,3 +17,7 @@ failures_after (Ok x) n = n
 abbrev pub seen_as : {X Y : Type 0} → (X → Y) → Result X FileFault → Result Y FileFault
 seen_as f (Ok x) = Ok (f x)
 seen_as f (Err e) = Err e
+
+-- what a read of a name may answer, of at most so many bytes, over files that stand thus before and after
+abbrev pub Reading : Type 0 → Type 1
+Reading F = ℕ → F → List ℕ → Result (List ℕ) FileFault → F → Type 0

@@ -1,5 +1,5 @@
 -- Files in memory, and what reads and writes do with them.
-use Rattle.std.specs.Prelude.{◌≡◌, ◌⊎◌, ◌==◌, ℕ, zero, suc, List, Bool, false, true, Option, Some, None, option_map, Result, Ok, Err, String, Vec}
+use Rattle.std.specs.Prelude.{◌≡◌, ◌⊎◌, ◌==◌, ◌<◌, ◌≤◌, ℕ, zero, suc, List, length, Bool, false, true, Option, Some, None, option_map, Result, Ok, Err, String, Vec}
 use Rattle.std.specs.BTreeMap.{BTreeMap, get_by_text, IsUnchanged}
 use Rattle.std.specs.Map.{update}
 use Rattle.std.specs.Str.{bytes_eq}
@@ -27,15 +27,21 @@ after_call None = None
 after_call (Some zero) = None
 after_call (Some (suc passing)) = Some passing
 
--- what a read answers: it fails where it is to, and where there is no such file
-abbrev pub Finds : MemoryFiles → List ℕ → Result (List ℕ) FileFault → Type 0
-Finds old name (Ok bytes) = (fails_next old.passing ≡ false) × (bytes_of old.files name ≡ Some bytes)
-Finds old name (Err Failed) = (fails_next old.passing ≡ true) ⊎ (bytes_of old.files name ≡ None)
-Finds old name (Err OutOfMemory) = fails_next old.passing ≡ false
+-- there is no file with these bytes, or there are more than so many
+abbrev pub IsNoneWithin : ℕ → Option (List ℕ) → Type 0
+IsNoneWithin most None = Unit {0}
+IsNoneWithin most (Some bytes) = most < length bytes
+
+-- what a read of at most so many bytes answers: it fails where it is to, where there is no such file, and where that has
+-- more
+abbrev pub Finds : ℕ → MemoryFiles → List ℕ → Result (List ℕ) FileFault → Type 0
+Finds most old name (Ok bytes) = (fails_next old.passing ≡ false) × (bytes_of old.files name ≡ Some bytes) × (length bytes ≤ most)
+Finds most old name (Err Failed) = (fails_next old.passing ≡ true) ⊎ IsNoneWithin most (bytes_of old.files name)
+Finds most old name (Err OutOfMemory) = fails_next old.passing ≡ false
 
 -- what a read answers and leaves: the files stay
-abbrev pub Reads : MemoryFiles → List ℕ → Result (List ℕ) FileFault → MemoryFiles → Type 0
-Reads old name answer new = Finds old name answer × IsUnchanged old.files new.files × (new.passing ≡ after_call old.passing)
+abbrev pub Reads : ℕ → MemoryFiles → List ℕ → Result (List ℕ) FileFault → MemoryFiles → Type 0
+Reads most old name answer new = Finds most old name answer × IsUnchanged old.files new.files × (new.passing ≡ after_call old.passing)
 
 -- what a write leaves: it fails where it is to, and then, or for want of memory, the files stay
 abbrev pub Replaces : {X : Type 0} → MemoryFiles → List ℕ → List ℕ → Result X FileFault → MemoryFiles → Type 0

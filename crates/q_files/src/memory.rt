@@ -92,12 +92,17 @@ impl Files for MemoryFiles {
 
     ghost write_gives = { λ old name bytes answer new. Writes old name bytes answer new };
 
-    fn read(&mut self, alloc: Global, name: &str) -> Result<Vec<u8>, FileFault> {
+    fn read(&mut self, alloc: Global, name: &str, most: usize) -> Result<Vec<u8>, FileFault> {
         if self.begin_call() {
             return Err(self.fail());
         }
         match self.files.get(name) {
-            Some(bytes) => Ok(Vec::from_slice(alloc, bytes.as_slice())?),
+            Some(bytes) => {
+                if bytes.len() > most {
+                    return Err(self.fail());
+                }
+                Ok(Vec::from_slice(alloc, bytes.as_slice())?)
+            }
             None => Err(self.fail()),
         }
     }

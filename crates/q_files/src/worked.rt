@@ -9,6 +9,7 @@ ghost use Rattle.q_files.specs.declared.memory.MemoryFiles.{MemoryFiles as Memor
 use crate::files::Files;
 use crate::folder::Folder;
 use std::alloc::Global;
+use std::io::Input;
 use std::rt::{Clock, Files as SystemFiles};
 
 /// Which calls are counted, and that a read and a write are of the file with that name and of no other.
@@ -19,14 +20,15 @@ pub fn worked()
     ensures went_well { failures_after {X = ℕ} (Ok 7) 4 ≡ 4 }
     ensures fails { fails_next (Some 0) ≡ true }
     ensures goes_through { fails_next (Some 1) ≡ false }
-    ensures read { (old new : Memory) (bytes : List ℕ) → bytes_of old.files (codes "a") ≡ Some (7 ∷ []) → Reads old (codes "a") (Ok bytes) new → bytes ≡ 7 ∷ [] }
-    ensures not_found { (old new : Memory) (bytes : List ℕ) → bytes_of old.files (codes "a") ≡ None → Reads old (codes "a") (Ok bytes) new → ⊥ }
+    ensures read { (old new : Memory) (bytes : List ℕ) → bytes_of old.files (codes "a") ≡ Some (7 ∷ []) → Reads 8 old (codes "a") (Ok bytes) new → bytes ≡ 7 ∷ [] }
+    ensures not_found { (old new : Memory) (bytes : List ℕ) → bytes_of old.files (codes "a") ≡ None → Reads 8 old (codes "a") (Ok bytes) new → ⊥ }
+    ensures too_long { (old new : Memory) (bytes : List ℕ) → bytes_of old.files (codes "a") ≡ Some (7 ∷ 7 ∷ []) → Reads 1 old (codes "a") (Ok bytes) new → ⊥ }
     ensures written { (old new : Memory) → Writes old (codes "a") (7 ∷ []) (Ok (tt {0})) new → bytes_of new.files (codes "a") ≡ Some (7 ∷ []) }
     ensures others_stay { (old new : Memory) → Writes old (codes "a") (7 ∷ []) (Ok (tt {0})) new → bytes_of new.files (codes "b") ≡ bytes_of old.files (codes "b") }
 {}
 
 /// The count of a folder is the one that it keeps.
-pub fn worked_folder<'a, R: SystemFiles + Alloc<A = Global> + Eprint + Clock>(
+pub fn worked_folder<'a, R: SystemFiles + Alloc<A = Global> + Eprint + Clock + Input>(
     folder: &Folder<'a, R>,
 )
     ensures { ⟦<Folder<'a, R> as Files>⟧.failed folder.now ≡ folder.now.failures }

@@ -1,5 +1,5 @@
 -- Each line of a script leads to its next cluster by accepted events, and a line that was refused stays told.
-use Rattle.std.proofs.Common.{◌≡◌, inl, inr, ℕ, zero, suc, Bool, true, List, [], ◌∷◌, ◌++◌, Option, Some, None, refl, sym, ◌∙◌, subst, Result, Ok, Err, string_bytes}
+use Rattle.std.proofs.Common.{◌≡◌, inl, inr, ℕ, zero, suc, true, List, [], ◌∷◌, ◌++◌, Option, Some, None, refl, sym, ap, ◌∙◌, subst, Result, Ok, Err, string_bytes}
 use Rattle.sc_members.specs.Members.{Config}
 use Rattle.sc_msg.specs.declared.version.Version.{Version}
 use Rattle.sc_world.specs.State.{WorldState}
@@ -16,7 +16,10 @@ use Rattle.q_history.specs.State.{ClusterState}
 use Rattle.q_history.specs.Calls.{Reaches, Takes}
 use Rattle.q_history.specs.Clusters.{founded, start}
 use Rattle.q_cluster.specs.Acts.{book_at}
-use Rattle.q_sim.specs.Simulates.{SimState, Writing, refusing, or_refused, Acts, Registers, Tries, DeliversAll, SavesAny, Does, Plays}
+use Rattle.q_sim.specs.declared.refusal.LineFault.{LineFault}
+use Rattle.q_sim.specs.declared.refusal.Refusal.{Refusal}
+use Rattle.q_sim.specs.declared.refusal.Refusal.TheVariants.{FileFailed, Cluster, OutOfMemory}
+use Rattle.q_sim.specs.Simulates.{SimState, Writing, at_next_line, is_any, no_such_node, refusing, or_refused, with_fault, Acts, Registers, Tries, DeliversAll, SavesAny, Does, Plays}
 
 -- some accepted events lead from one cluster to another
 abbrev pub Leads : ClusterState → ClusterState → Type 0
@@ -39,47 +42,56 @@ takes_leads c d e (Err f) h = subst (Leads c) (sym h.0) (leads_itself c)
 
 -- ---- one state to another
 
+-- some fault is one of these and one more
+pub any_with : (faults : List LineFault) (line : ℕ) (r : Refusal) → is_any (with_fault line r faults) ≡ true
+any_with [] line r = refl
+any_with (f ∷ fs) line r = refl
+
 -- its cluster leads to the other's, and it stays told that a line was refused
 pub record IsLed (s t : SimState) : Type 0 where
   pub leads : Leads s.cluster t.cluster
-  pub refused : s.refused ≡ true → t.refused ≡ true
+  pub refused : is_any s.faults ≡ true → is_any t.faults ≡ true
 
 led_itself : (s t : SimState) → t ≡ s → IsLed s t
 led_itself s t same = subst (IsLed s) (sym same) (record { leads = leads_itself s.cluster; refused = λ h. h })
 
-led_refusing : (s t : SimState) → t ≡ refusing s → IsLed s t
-led_refusing s t same = subst (IsLed s) (sym same) (record { leads = leads_itself s.cluster; refused = λ h. refl })
+led_refusing : (s t : SimState) (r : Refusal) → t ≡ refusing r s → IsLed s t
+led_refusing s t r same = subst (IsLed s) (sym same) (record { leads = leads_itself s.cluster; refused = λ h. any_with s.faults s.line r })
+
+-- the next line is run
+led_next : (s : SimState) → IsLed s (at_next_line s)
+led_next s = record { leads = leads_itself s.cluster; refused = λ h. h }
 
 led_on : (s t u : SimState) → IsLed s t → IsLed t u → IsLed s u
 led_on s t u h k = record { leads = leads_on s.cluster t.cluster u.cluster h.leads k.leads; refused = λ told. k.refused (h.refused told) }
 
-still_refused : (r : Result Stepped ClusterFault) (refused : Bool) → refused ≡ true → or_refused r refused ≡ true
-still_refused (Ok told) refused h = h
-still_refused (Err f) refused h = refl
+still_refused : (line : ℕ) (r : Result Stepped ClusterFault) (faults : List LineFault) → is_any faults ≡ true → is_any (or_refused line r faults) ≡ true
+still_refused line (Ok told) faults h = h
+still_refused line (Err f) faults h = any_with faults line (Cluster f)
 
 pub acts_led : (e : Event) (s : SimState) (text : List ℕ) (t : SimState) → Acts e s text t → IsLed s t
-acts_led e s text t h = record { leads = takes_leads s.cluster t.cluster e h.result h.takes; refused = λ told. h.refused ∙ still_refused h.result s.refused told }
+acts_led e s text t h = record { leads = takes_leads s.cluster t.cluster e h.result h.takes; refused = λ told. ap is_any h.faults ∙ still_refused s.line h.result s.faults told }
 
 tries_led : (s : SimState) (message node : ℕ) (t : SimState) → Tries s message node t → IsLed s t
-tries_led s message node t h = record { leads = takes_leads s.cluster t.cluster (event.Deliver message node) h.result h.takes; refused = λ told. h.refused ∙ told }
+tries_led s message node t h = record { leads = takes_leads s.cluster t.cluster (event.Deliver message node) h.result h.takes; refused = λ told. ap is_any h.faults ∙ told }
 
 registers_led : (node : ℕ) (code : List ℕ) (s : SimState) (text : List ℕ) (t : SimState) → Registers node code s text t → IsLed s t
-registers_led node code s text t h = elim h [ inl a ↦ acts_led (event.Register node a.0) s text t a.2 | inr r ↦ led_refusing s t r.2 ]
+registers_led node code s text t h = elim h [ inl a ↦ acts_led (event.Register node a.0) s text t a.2 | inr r ↦ led_refusing s t r.0 r.2 ]
 
 delivers_led : (limit : ℕ) (s : SimState) (text : List ℕ) (t : SimState) → DeliversAll limit s text t → IsLed s t
 delivers_led zero s text t h = led_itself s t h.0
 delivers_led (suc n) s text t h = elim h [
   | inl none ↦ led_itself s t none.1
-  | inr (inl wants) ↦ led_refusing s t wants.1
+  | inr (inl wants) ↦ led_refusing s t OutOfMemory wants.1
   | inr (inr d) ↦ led_on s d.2 t (tries_led s d.0 d.1 d.2 d.4) (delivers_led n d.2 text t d.5)
 ]
 
 saves_led : {F : Type 0} (writes : Writing F) (book : Option BookState) (name : List ℕ) (s : SimState) (before : F) (text : List ℕ) (t : SimState) (after : F)
     → SavesAny writes book name s before text t after → IsLed s t
-saves_led writes None name s before text t after h = led_refusing s t h.0
+saves_led writes None name s before text t after h = led_refusing s t no_such_node h.0
 saves_led writes (Some b) name s before text t after h = elim h [
   | inl written ↦ led_itself s t written.1
-  | inr failed ↦ subst (IsLed s) (sym failed.1) (record { leads = leads_itself s.cluster; refused = λ told. refl })
+  | inr failed ↦ subst (IsLed s) (sym failed.1) (record { leads = leads_itself s.cluster; refused = λ told. any_with s.faults s.line FileFailed })
 ]
 
 -- ---- lines
@@ -100,7 +112,7 @@ does_led writes (Journal node file) s before text t after h = saves_led writes (
 
 pub plays_led : {F : Type 0} (writes : Writing F) (ls : List ScriptLine) (s : SimState) (before : F) (text : List ℕ) (t : SimState) (after : F) → Plays writes ls s before text t after → IsLed s t
 plays_led writes [] s before text t after p = led_itself s t p.0
-plays_led writes (l ∷ ls) s before text t after p = led_on s p.0 t (does_led writes l s before p.2 p.0 p.1 p.4) (plays_led writes ls p.0 p.1 p.3 t after p.5)
+plays_led writes (l ∷ ls) s before text t after p = led_on s p.0 t (led_on s (at_next_line s) p.0 (led_next s) (does_led writes l (at_next_line s) before p.2 p.0 p.1 p.4)) (plays_led writes ls p.0 p.1 p.3 t after p.5)
 
 -- founders that are not refused are those of the first cluster
 pub founded_is : (version : Version) (config : Config) (ids : List ℕ) (r : Result WorldState WorldFault) (c : ClusterState) → founded version config ids r ≡ Ok c → start version config ids ≡ c

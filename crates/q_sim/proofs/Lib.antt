@@ -13,5 +13,6 @@ mod Told
 mod Performing
 mod Storing
 mod Leading
+mod Counting
 mod Recording
 mod Truths

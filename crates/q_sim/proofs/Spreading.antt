@@ -7,7 +7,6 @@ use Rattle.std.specs.Option.{IsSome}
 use Rattle.std.specs.Bool.{IsFalse}
 use Rattle.sc_world.specs.Worlds.{live_at}
 use Rattle.std.specs.FinSet as set
-use Rattle.q_history.specs.Faults.{memory}
 use Rattle.q_history.specs.declared.event.Event.TheVariants as event
 use Rattle.q_sim.specs.Delivered.{Deliveries}
 use Rattle.q_sim.specs.Refusal.{refusal_line}
@@ -121,8 +120,9 @@ module _ (t : SimState) (message place node : ℕ) (within : place < length t.no
         (one_more limit s left t v message node o some next tries, tried_over t v message place sent (subst (λ n. Tries t message n v) there tries) h)
 
     -- memory is refused for it, and that is noted
-    pub refused_here : (v : SimState) → 0 < left → v ≡ t → DeliversAll limit s (refusal_line (refusal.Cluster memory)) (refusing v)
+    pub refused_here : (v : SimState) → 0 < left → v ≡ t → DeliversAll limit s (refusal_line refusal.OutOfMemory) (refusing refusal.OutOfMemory v)
     refused_here v some same =
-        let line = refusal_line (refusal.Cluster memory) in
+        let line = refusal_line refusal.OutOfMemory in
+        let told : SimState = refusing refusal.OutOfMemory v in
         let count : suc (left - 1) ≡ left = omega arith in
-        o.rest line (refusing v) (subst (λ n. DeliversAll n t line (refusing v)) count (inr (inl ((message, node, next), ap refusing same, refl))))
+        o.rest line told (subst (λ n. DeliversAll n t line told) count (inr (inl ((message, node, next), ap (refusing refusal.OutOfMemory) same, refl))))

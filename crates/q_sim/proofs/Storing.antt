@@ -15,13 +15,12 @@ use Rattle.sc_node.specs.State.{NodeState}
 use Rattle.sc_node.specs.declared.fault.NodeFault.TheVariants as node_fault
 use Rattle.sc_world.specs.Worlds.{live, live_at}
 use Rattle.sc_world.specs.declared.fault.WorldFault.TheVariants as world_fault
-use Rattle.q_session.specs.declared.ran.Ran.{Ran}
 use Rattle.q_desk.specs.State.{DeskState}
 use Rattle.q_book.specs.State.{BookState}
 use Rattle.q_book.specs.Books as book
 use Rattle.q_book.specs.declared.fault.BookFault.{BookFault}
 use Rattle.q_book.specs.declared.fault.BookFault.TheVariants as book_fault
-use Rattle.q_history.specs.Clusters.{by_book, lift, stores, stored, stepped}
+use Rattle.q_history.specs.Clusters.{by_book, lift, stores, stored}
 use Rattle.q_history.specs.Faults.{of_book}
 use Rattle.q_history.specs.Heads.{book_of}
 use Rattle.q_history.specs.State.{ClusterState}
@@ -107,7 +106,7 @@ module _ (c : ClusterState) (id : ℕ) where
 
 -- what is printed of one
 pub longer_refused : {X E : Type 0} (r : Result X E) (s t : SimState) (node : ℕ) (value : List ℕ) (f : ClusterFault) (before after : List ℕ) → RefusesLonger s.cluster node f → most_bytes < length value
-    → OnOk r (t ≡ refusing s) → OnOk r (after ≡ before ++ refusal_line (refusal.Cluster f)) → OnOk r ((text : List ℕ) × Acts (event.Store node value) s text t × (after ≡ before ++ text))
+    → OnOk r (t ≡ refusing (refusal.Cluster f) s) → OnOk r (after ≡ before ++ refusal_line (refusal.Cluster f)) → OnOk r ((text : List ℕ) × Acts (event.Store node value) s text t × (after ≡ before ++ text))
 longer_refused (Err x) s t node value f before after refuses over same line = tt
 longer_refused (Ok x) s t node value f before after refuses over same line = (
   refusal_line (refusal.Cluster f),
@@ -117,7 +116,8 @@ longer_refused (Ok x) s t node value f before after refuses over same line = (
     nodes = ap (λ (x : SimState). x.nodes) same;
     delivered = ap (λ (x : SimState). x.delivered) same;
     unwritten = ap (λ (x : SimState). x.unwritten) same;
-    refused = ap (λ (x : SimState). x.refused) same;
+    line = ap (λ (x : SimState). x.line) same;
+    faults = ap (λ (x : SimState). x.faults) same;
     says = refl;
   },
   line,

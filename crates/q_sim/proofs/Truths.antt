@@ -17,10 +17,11 @@ use Rattle.q_history.specs.State.{ClusterState}
 use Rattle.q_history.specs.Calls.{Reaches, Takes}
 use Rattle.q_history.specs.Clusters.{start}
 use Rattle.q_history.specs.Headline.{AnswersAreTrue, AnswersStay}
+use Rattle.q_sim.specs.declared.refusal.Refusal.TheVariants.{Cluster}
 use Rattle.q_sim.specs.Printing.{told_lines, message_lines, printed}
-use Rattle.q_sim.specs.Simulates.{SimState, Writing, or_refused, Does, Plays, Simulates, config_of, founders_of}
+use Rattle.q_sim.specs.Simulates.{SimState, Writing, at_next_line, is_any, or_refused, Does, Plays, Simulates, config_of, founders_of}
 use Rattle.q_sim.specs.Truths.{IsTrueAnswer, IsTrueLine, AreTrueLines}
-use Rattle.q_sim.proofs.Leading.{Leads, leads_itself, leads_on, IsLed, acts_led, does_led, plays_led, founded_is}
+use Rattle.q_sim.proofs.Leading.{Leads, any_with, leads_itself, leads_on, IsLed, acts_led, does_led, plays_led, founded_is}
 use Rattle.q_sim.proofs.Recording.{IsRecorded, finish_recorded}
 
 -- what is printed of it is its line alone
@@ -56,21 +57,21 @@ module _ (last : ClusterState) (answers : AnswersAreTrue last) where
 -- the answers of each cluster on the way from the first to the last stay
 module _ (first : ClusterState) (last : SimState) (stays : (c : ClusterState) → Leads first c → Leads c last.cluster → AnswersStay c last.cluster) (answers : AnswersAreTrue last.cluster) where
   line_true : {F : Type 0} (writes : Writing F) (l : ScriptLine) (s : SimState) (before : F) (text : List ℕ) (t : SimState) (after : F) → Leads first s.cluster → IsLed t last
-      → Does writes l s before text t after → IsTrueLine last.cluster last.refused l text
+      → Does writes l s before text t after → IsTrueLine last.cluster (is_any last.faults) l text
   line_true writes (Run job) s before text t after h k d =
       let road = leads_on first s.cluster t.cluster h (acts_led (event.Finish job) s text t d.0).leads in
-      ran_true last.cluster answers s.cluster t.cluster job text last.refused d.0.result d.0.takes (stays t.cluster road k.leads)
-      (λ f is. k.refused (d.0.refused ∙ ap (λ (r : Result Stepped ClusterFault). or_refused r s.refused) is)) d.0.says
+      ran_true last.cluster answers s.cluster t.cluster job text (is_any last.faults) d.0.result d.0.takes (stays t.cluster road k.leads)
+      (λ f is. k.refused (ap is_any (d.0.faults ∙ ap (λ (r : Result Stepped ClusterFault). or_refused s.line r s.faults) is) ∙ any_with s.faults s.line (Cluster f))) d.0.says
   line_true writes l s before text t after h k d = tt
 
   lines_true : {F : Type 0} (writes : Writing F) (ls : List ScriptLine) (s : SimState) (before : F) (text : List ℕ) (after : F) → Leads first s.cluster → Plays writes ls s before text last after
-      → AreTrueLines last.cluster last.refused ls text
+      → AreTrueLines last.cluster (is_any last.faults) ls text
   lines_true writes [] s before text after h p = p.2
   lines_true writes (l ∷ ls) s before text after h p = (
     p.2,
     p.3,
-    line_true writes l s before p.2 p.0 p.1 h (plays_led writes ls p.0 p.1 p.3 last after p.5) p.4,
-    lines_true writes ls p.0 p.1 p.3 after (leads_on first s.cluster p.0.cluster h (does_led writes l s before p.2 p.0 p.1 p.4).leads) p.5,
+    line_true writes l (at_next_line s) before p.2 p.0 p.1 h (plays_led writes ls p.0 p.1 p.3 last after p.5) p.4,
+    lines_true writes ls p.0 p.1 p.3 after (leads_on first s.cluster p.0.cluster h (does_led writes l (at_next_line s) before p.2 p.0 p.1 p.4).leads) p.5,
     p.6,
   )
 

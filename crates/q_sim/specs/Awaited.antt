@@ -1,6 +1,5 @@
 -- Inner words, of the private functions of `all` alone: how it goes from message to message.
 use Rattle.std.specs.Prelude.{◌≡◌, ℕ, ◌≤◌, ◌+◌, Bool, true, false, List, [], length}
-use Rattle.q_history.specs.Faults.{memory}
 use Rattle.q_sim.specs.declared.refusal.Refusal.TheVariants as refusal
 use Rattle.q_sim.specs.declared.simulation.Spread.{Spread}
 use Rattle.q_sim.specs.declared.simulation.Spread.TheVariants as spread
@@ -28,4 +27,4 @@ pub record IsOnward (limit : ℕ) (s : SimState) (left : ℕ) (t : SimState) : T
 abbrev pub IsSpread : ℕ → ℕ → SimState → Spread → SimState → Type 0
 IsSpread message limit s (spread.Whole left) t = IsOnward limit s left t × AwaitsFrom (message + 1) t
 IsSpread message limit s spread.LimitReached t = DeliversAll limit s [] t
-IsSpread message limit s spread.OutOfMemory t = DeliversAll limit s (refusal_line (refusal.Cluster memory)) (refusing t)
+IsSpread message limit s spread.OutOfMemory t = DeliversAll limit s (refusal_line refusal.OutOfMemory) (refusing refusal.OutOfMemory t)

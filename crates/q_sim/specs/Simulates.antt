@@ -1,5 +1,5 @@
 -- What a script does to a cluster and to files, and what it prints.
-use Rattle.std.specs.Prelude.{◌≡◌, ◌≢◌, ◌⊎◌, ℕ, ◌<◌, ◌≤◌, ◌-◌, ◌^◌, zero, suc, min, nat_lt, if◌then◌else◌, Bool, true, false, List, [], ◌∷◌, ◌++◌, length, slice_index, string_bytes, Option, Some, None, Result, Ok, Err, IsFalse}
+use Rattle.std.specs.Prelude.{◌≡◌, ◌≢◌, ◌⊎◌, ℕ, ◌<◌, ◌≤◌, ◌+◌, ◌-◌, ◌^◌, zero, suc, min, nat_lt, if◌then◌else◌, Bool, true, false, List, [], ◌∷◌, ◌++◌, length, slice_index, string_bytes, Option, Some, None, Result, Ok, Err, IsFalse}
 use Rattle.std.specs.List.{Contains}
 use Rattle.std.specs.Option.{IsSome}
 use Rattle.std.specs.FinSet as set
@@ -28,6 +28,7 @@ use Rattle.q_cluster.specs.Acts.{book_at}
 use Rattle.q_replay.specs.Journal.{journal_of}
 use Rattle.q_files.specs.declared.files.FileFault.{FileFault}
 use Rattle.q_files.specs.declared.files.FileFault.TheVariants.{Failed}
+use Rattle.q_sim.specs.declared.refusal.LineFault.{LineFault}
 use Rattle.q_sim.specs.declared.refusal.Refusal.{Refusal}
 use Rattle.q_sim.specs.declared.refusal.Refusal.TheVariants as refusal
 use Rattle.q_sim.specs.Delivered.{Deliveries}
@@ -41,7 +42,8 @@ pub record SimState : Type 0 where
   pub nodes : List ℕ  -- the ids that entered, in rising order
   pub delivered : Deliveries  -- what was delivered, or tried by `all`
   pub unwritten : Bool  -- whether a journal was not written
-  pub refused : Bool  -- whether a line was refused
+  pub line : ℕ  -- the number of the line that is run, where the founding line is 1
+  pub faults : List LineFault  -- the lines that were refused, in turn, each with its refusal
 
 -- each id is greater than those before it
 abbrev pub Rises : List ℕ → Type 0
@@ -52,9 +54,22 @@ abbrev pub with_id : ℕ → List ℕ → List ℕ
 with_id id [] = id ∷ []
 with_id id (n ∷ ns) = if nat_lt id n then id ∷ n ∷ ns else n ∷ (if nat_lt n id then with_id id ns else ns)
 
--- a line was refused
-abbrev pub refusing : SimState → SimState
-refusing s = record s { refused = true }
+-- these faults and that this line is refused
+abbrev pub with_fault : ℕ → Refusal → List LineFault → List LineFault
+with_fault line r faults = faults ++ (record { line = line; refusal = r }) ∷ []
+
+-- the line is refused
+abbrev pub refusing : Refusal → SimState → SimState
+refusing r s = record s { faults = with_fault s.line r s.faults }
+
+-- some line was refused
+abbrev pub is_any : List LineFault → Bool
+is_any [] = false
+is_any (f ∷ fs) = true
+
+-- the next line is run
+abbrev pub at_next_line : SimState → SimState
+at_next_line s = record s { line = s.line + 1 }
 
 -- ---- one event
 
@@ -68,10 +83,10 @@ abbrev pub noted : Event → Result Stepped ClusterFault → Deliveries → Deli
 noted (event.Deliver message node) (Ok told) d = set.insert d (message, node)
 noted e r d = d
 
--- a refused event is a line that was refused
-abbrev pub or_refused : Result Stepped ClusterFault → Bool → Bool
-or_refused (Ok told) refused = refused
-or_refused (Err f) refused = true
+-- where the event is refused, so is the line
+abbrev pub or_refused : ℕ → Result Stepped ClusterFault → List LineFault → List LineFault
+or_refused line (Ok told) faults = faults
+or_refused line (Err f) faults = with_fault line (refusal.Cluster f) faults
 
 -- the event is taken or refused, and that is printed: a store of more bytes than a value has is one, and is refused
 pub record Acts (e : Event) (s : SimState) (text : List ℕ) (t : SimState) : Type 0 where
@@ -80,7 +95,8 @@ pub record Acts (e : Event) (s : SimState) (text : List ℕ) (t : SimState) : Ty
   pub nodes : t.nodes ≡ joined e result s.nodes
   pub delivered : t.delivered ≡ noted e result s.delivered
   pub unwritten : t.unwritten ≡ s.unwritten
-  pub refused : t.refused ≡ or_refused result s.refused
+  pub line : t.line ≡ s.line
+  pub faults : t.faults ≡ or_refused s.line result s.faults
   pub says : text ≡ printed t.cluster result
 
 -- The bytes spell a program that the verifier accepts, and it is registered; or the line is refused, what refuses them
@@ -88,7 +104,7 @@ pub record Acts (e : Event) (s : SimState) (text : List ℕ) (t : SimState) : Ty
 abbrev pub Registers : ℕ → List ℕ → SimState → List ℕ → SimState → Type 0
 Registers node code s text t =
     ((program : Certificate) × IsProgram code program × Acts (event.Register node program) s text t)
-    ⊎ ((r : Refusal) × IsRefusal code r × (t ≡ refusing s) × (text ≡ refusal_line r))
+    ⊎ ((r : Refusal) × IsRefusal code r × (t ≡ refusing r s) × (text ≡ refusal_line r))
 
 -- ---- deliveries
 
@@ -112,7 +128,8 @@ pub record Tries (s : SimState) (message node : ℕ) (t : SimState) : Type 0 whe
   pub nodes : t.nodes ≡ s.nodes
   pub delivered : t.delivered ≡ set.insert s.delivered (message, node)
   pub unwritten : t.unwritten ≡ s.unwritten
-  pub refused : t.refused ≡ s.refused
+  pub line : t.line ≡ s.line
+  pub faults : t.faults ≡ s.faults
 
 -- no delivery is left
 abbrev pub AwaitsNone : SimState → Type 0
@@ -120,7 +137,7 @@ AwaitsNone s = (m n : ℕ) → ¬ (Awaits s m n)
 
 -- some delivery is next, and memory is refused for it: the line is refused, that is printed, and nothing else is done
 abbrev pub WantsMemory : SimState → List ℕ → SimState → Type 0
-WantsMemory s text t = ((m n : ℕ) × IsNext s m n) × (t ≡ refusing s) × (text ≡ refusal_line (refusal.Cluster memory))
+WantsMemory s text t = ((m n : ℕ) × IsNext s m n) × (t ≡ refusing refusal.OutOfMemory s) × (text ≡ refusal_line refusal.OutOfMemory)
 
 -- so many deliveries, each of what is next then, of which nothing is printed; or fewer, where nothing is left, or where
 -- memory is refused
@@ -145,17 +162,21 @@ Tells s text t = TellsPairs (pairs_of s.cluster.world.ops) text × (t ≡ s)
 abbrev pub Writing : Type 0 → Type 1
 Writing F = F → List ℕ → List ℕ → Result (Unit {0}) FileFault → F → Type 0
 
+-- there never was such a node
+abbrev pub no_such_node : Refusal
+no_such_node = refusal.Cluster (cluster_fault.World world_fault.NoSuchNode)
+
 module _ {F : Type 0} (writes : Writing F) where
   -- The journal of this book is written under this name, and the number of its events is printed; or the file fails: so
   -- the line is refused, and both are kept.
   abbrev pub SavesBook : BookState → List ℕ → SimState → F → List ℕ → SimState → F → Type 0
   SavesBook b name s before text t after =
       (writes before name (journal_of b) (Ok tt) after × (t ≡ s) × (text ≡ journal_line (length b.desk.journal)))
-      ⊎ (writes before name (journal_of b) (Err Failed) after × (t ≡ record s { unwritten = true; refused = true }) × (text ≡ refusal_line refusal.FileFailed))
+      ⊎ (writes before name (journal_of b) (Err Failed) after × (t ≡ record (refusing refusal.FileFailed s) { unwritten = true }) × (text ≡ refusal_line refusal.FileFailed))
 
   -- the same of a book that may be none: then the line is refused, that is printed, and nothing else is done
   abbrev pub SavesAny : Option BookState → List ℕ → SimState → F → List ℕ → SimState → F → Type 0
-  SavesAny None name s before text t after = (t ≡ refusing s) × (after ≡ before) × (text ≡ refusal_line (refusal.Cluster (cluster_fault.World world_fault.NoSuchNode)))
+  SavesAny None name s before text t after = (t ≡ refusing no_such_node s) × (after ≡ before) × (text ≡ refusal_line no_such_node)
   SavesAny (Some b) name s before text t after = SavesBook b name s before text t after
 
   -- the book of a node that was ever there, also where it has left or crashed
@@ -183,11 +204,11 @@ module _ {F : Type 0} (writes : Writing F) where
   Does Pairs = LeavesFiles Tells
   Does (Journal node file) = Saves writes node (string_bytes file)
 
-  -- the lines in turn, and all that they print
+  -- the lines in turn, each the next after the one before, and all that they print
   abbrev pub Plays : List ScriptLine → SimState → F → List ℕ → SimState → F → Type 0
   Plays [] s before text t after = (t ≡ s) × (after ≡ before) × (text ≡ [])
   Plays (l ∷ ls) s before text t after =
-      (between : SimState) × (files : F) × (first rest : List ℕ) × Does l s before first between files × Plays ls between files rest t after × (text ≡ first ++ rest)
+      (between : SimState) × (files : F) × (first rest : List ℕ) × Does l (at_next_line s) before first between files × Plays ls between files rest t after × (text ≡ first ++ rest)
 
 -- ---- scripts
 
@@ -218,7 +239,8 @@ pub record Begins (f : Founding) (s : SimState) : Type 0 where
   pub nodes : s.nodes ≡ founders_of f
   pub delivered : s.delivered ≡ set.empty
   pub unwritten : s.unwritten ≡ false
-  pub refused : s.refused ≡ false
+  pub line : s.line ≡ 1
+  pub faults : s.faults ≡ []
 
 -- why a script ends before any event
 abbrev pub IsSimulationFault : Founding → Refusal → Type 0
@@ -236,6 +258,11 @@ pub record Simulates {F : Type 0} (writes : Writing F) (script : Script) (before
   pub begins : Begins script.founding first
   pub plays : Plays writes script.lines.items first before text last after
   pub told : unwritten ≡ last.unwritten
-  pub shown : refused ≡ last.refused
+  pub shown : refused ≡ is_any last.faults
   pub answers : AnswersAreTrue last.cluster
   pub books : BooksAreReplays last.cluster
+
+-- the same, where it is told which lines were refused
+abbrev pub TellsFaults : {F : Type 0} → Writing F → Script → F → List ℕ → Bool → Bool → List LineFault → F → Type 0
+TellsFaults writes script before text unwritten refused faults after =
+    (s : Simulates writes script before text unwritten refused after) × (s.last.faults ≡ faults)

@@ -44,6 +44,15 @@ pub enum Refusal {
     OutOfMemory,
 }
 
+/// A line of a script that was refused.
+#[derive(Clone, Copy, Debug, PartialEq, Eq)]
+pub struct LineFault {
+    /// The line of the script's file, counted from 1: the founding line is 1.
+    pub line: usize,
+    /// The refusal that was printed.
+    pub refusal: Refusal,
+}
+
 /// Where a refusal arose, as its line tells it.
 #[derive(Clone, Copy)]
 pub enum Place {

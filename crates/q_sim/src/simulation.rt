@@ -1,13 +1,13 @@
 //! Scripts, run over a cluster in memory.
 
-ghost use Rattle.std.specs.Prelude.{◌≡◌, ◌≢◌, ℕ, ◌<◌, ◌≤◌, ◌↔◌, ◌++◌, ◌-◌, ◌^◌, [], length, min, IfOk, IfErr, OnOk, OnErr, IsTrue, IsFalse, string_bytes};
-ghost use Rattle.q_sim.specs.Simulates.{IsSimulationFault, Rises, Simulates, first_ids, with_id};
+ghost use Rattle.std.specs.Prelude.{◌≡◌, ◌≢◌, ℕ, ◌<◌, ◌≤◌, ◌↔◌, ◌++◌, ◌+◌, ◌-◌, ◌^◌, [], length, min, IfOk, IfErr, OnOk, OnErr, IsTrue, IsFalse, string_bytes};
+ghost use Rattle.q_sim.specs.Simulates.{IsSimulationFault, Rises, Simulates, TellsFaults, first_ids, with_id};
 ghost use Rattle.q_sim.specs.Awaited.{AwaitsFrom};
 
 use crate::delivered::Delivered;
 use crate::printing::{print_messages, print_pairs, print_told};
 use crate::program::certified_code;
-use crate::refusal::Refusal;
+use crate::refusal::{LineFault, Refusal};
 use q_cluster::cluster::Cluster;
 use q_files::files::{FileFault, Files};
 use q_history::event::{Event, Stepped};
@@ -37,12 +37,14 @@ struct Simulation {
     awaited_from: usize,
     /// Whether a journal was not written.
     unwritten: bool,
-    /// Whether a line was refused.
-    refused: bool,
+    /// The number of the line that is run.
+    line: usize,
+    /// The lines that were refused.
+    faults: Vec<LineFault>,
     lines: String,
     ghost rising: { Rises nodes.items },
     ghost sent: { awaited_from ≤ length cluster.world.sent },
-    ghost passed: { AwaitsFrom awaited_from (record { cluster = cluster; nodes = nodes.items; delivered = delivered; unwritten = unwritten; refused = refused }) },
+    ghost passed: { AwaitsFrom awaited_from (record { cluster = cluster; nodes = nodes.items; delivered = delivered; unwritten = unwritten; line = line; faults = faults.items }) },
 }
 
 /// How the deliveries of one message went.
@@ -64,18 +66,21 @@ pub struct Printed {
     /// Whether a journal was not written, since its file failed.
     pub unwritten: bool,
     /// Whether a line was refused: its refusal stands among the lines. Deliveries that an `all` tries, and that are
-    /// refused, print nothing and do not count, but for want of memory.
+    /// refused, print nothing and do not count, unless memory ran out.
     pub refused: bool,
+    /// The lines that were refused, in their order, each with the refusal that it printed.
+    pub faults: Vec<LineFault>,
 }
 
 /// Runs a script, and answers what it prints.
 ///
 /// Refused are 45 BadFraction and then 49 BadFounders, by which the script ends before any event, and 99 OutOfMemory.
 /// Each event is one step of the cluster; a refused one prints its refusal, and the script goes on. So does a script with
-/// a journal whose file fails. It is told whether a line was refused. After each line it is told how many of all are
+/// a journal whose file fails. It is told which lines were refused. After each line it is told how many of all are
 /// done.
 pub fn simulate<F: Files>(alloc: Global, script: Script, files: &mut F) -> Result<Printed, Refusal>
     ensures printed { IfOk result (λ p. Simulates F.write_gives script files.old (string_bytes p.lines) p.unwritten p.refused files.new) }
+    ensures faults { IfOk result (λ p. TellsFaults F.write_gives script files.old (string_bytes p.lines) p.unwritten p.refused p.faults.items files.new) }
     ensures refused { IfErr result (IsSimulationFault script.founding) }
     ensures unbegun { IfErr result (λ r. r ≢ Refusal.OutOfMemory → files.new ≡ files.old) }
 {
@@ -84,6 +89,7 @@ pub fn simulate<F: Files>(alloc: Global, script: Script, files: &mut F) -> Resul
     let all = lines.len();
     let mut done: usize = 0;
     for line in lines {
+        simulation.go_on();
         simulation.perform(line, files)?;
         done = done.saturating_add(1);
         files.tell(done, all);
@@ -92,14 +98,15 @@ pub fn simulate<F: Files>(alloc: Global, script: Script, files: &mut F) -> Resul
     simulation.cluster.books_are_replays();
     let Simulation {
         unwritten,
-        refused,
+        faults,
         lines,
         ..
     } = simulation;
     Ok(Printed {
         lines,
         unwritten,
-        refused,
+        refused: !faults.is_empty(),
+        faults,
     })
 }
 
@@ -135,7 +142,7 @@ impl Simulation {
     ghost use Rattle.std.specs.FinSet as set;
     ghost use Rattle.sc_world.specs.Worlds.{live_at};
     ghost use Rattle.q_history.specs.Calls.{Takes};
-    ghost use Rattle.q_sim.specs.Simulates.{Acts, Begins, Does, Registers, Saves, Spreads, Tells, joined, noted, or_refused, refusing};
+    ghost use Rattle.q_sim.specs.Simulates.{Acts, Begins, Does, Registers, Saves, Spreads, Tells, at_next_line, joined, noted, or_refused, refusing};
     ghost use Rattle.q_sim.specs.Awaited.{Attempts, IsSpread};
     ghost use Rattle.q_sim.specs.Longer.{RefusesLonger};
     ghost use Rattle.q_sim.specs.Printing.{printed};
@@ -164,9 +171,19 @@ impl Simulation {
             delivered: Delivered::new(alloc),
             awaited_from: 0,
             unwritten: false,
-            refused: false,
+            line: 1,
+            faults: Vec::new(alloc),
             lines: String::new(alloc),
         })
+    }
+
+    /// Goes on to the next line.
+    fn go_on(&mut self)
+        requires { self.old.line + 1 < 2 ^ 64 }
+        ensures next { seen self.new ≡ at_next_line (seen self.old) }
+        ensures silent { self.new.lines ≡ self.old.lines }
+    {
+        self.line += 1;
     }
 
     /// Runs a line.
@@ -383,18 +400,20 @@ impl Simulation {
         }
     }
 
-    /// Prints a refusal, and notes that a line was refused.
+    /// Prints a refusal, and notes that the line was refused.
     fn refuse(&mut self, refusal: &Refusal) -> Result<(), AllocError>
-        ensures noted { OnOk result (seen self.new ≡ refusing (seen self.old)) }
+        ensures noted { OnOk result (seen self.new ≡ refusing refusal.now (seen self.old)) }
         ensures line { OnOk result (string_bytes self.new.lines ≡ string_bytes self.old.lines ++ refusal_line refusal.now) }
     {
-        self.refused = true;
+        let line = self.line;
+        let refusal = *refusal;
+        self.faults.push(LineFault { line, refusal })?;
         writeln!(self.lines, "{refusal}")
     }
 
     /// Prints what an event answered: what it tells and its messages, or its refusal, which is noted.
     fn print(&mut self, answer: &Result<Stepped, ClusterFault>) -> Result<(), AllocError>
-        ensures noted { OnOk result (seen self.new ≡ record (seen self.old) { refused = or_refused answer.now self.old.refused }) }
+        ensures noted { OnOk result (seen self.new ≡ record (seen self.old) { faults = or_refused self.old.line answer.now self.old.faults.items }) }
         ensures lines { OnOk result (string_bytes self.new.lines ≡ string_bytes self.old.lines ++ printed self.old.cluster answer.now) }
     {
         match answer {

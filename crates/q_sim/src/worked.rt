@@ -17,11 +17,12 @@ ghost use Rattle.q_history.specs.declared.event.Event.TheVariants as event;
 ghost use Rattle.q_history.specs.declared.event.Told.TheVariants as told;
 ghost use Rattle.q_history.specs.declared.fault.ClusterFault.TheVariants as cluster_fault;
 ghost use Rattle.q_script.specs.declared.line.ScriptLine.TheVariants as line;
+ghost use Rattle.q_script.specs.declared.founding.Founding.{Founding};
 ghost use Rattle.q_sim.specs.Delivered.{Deliveries};
 ghost use Rattle.q_sim.specs.Printing.{TellsPair, is_over, message_lines, pair_line, told_lines};
 ghost use Rattle.q_sim.specs.Programs.{IsProgram, program_lengths};
 ghost use Rattle.q_sim.specs.Refusal as refusal;
-ghost use Rattle.q_sim.specs.Simulates.{Awaits, DeliversAll, Plays, Saves, SavesBook, SimState, Tries, WantsMemory, or_refused};
+ghost use Rattle.q_sim.specs.Simulates.{Awaits, Begins, DeliversAll, Plays, Saves, SavesBook, SimState, Tries, WantsMemory, at_next_line, or_refused, with_fault};
 ghost use Rattle.q_sim.specs.Truths.{AreTrueLines, IsTrueAnswer};
 ghost use Rattle.q_sim.specs.declared.refusal.Place.TheVariants as at;
 ghost use Rattle.q_sim.specs.declared.refusal.Refusal.TheVariants as refused;
@@ -46,12 +47,14 @@ pub fn worked()
     // is told.
     ensures one_is_tried { (s t : SimState) → Awaits s 7 3 → DeliversAll 1 s [] t → (m n : ℕ) × Tries s m n t }
     ensures want_of_memory_is_no_try { (s t : SimState) (h : Tries s 7 3 t) → h.result ≡ Err memory → ⊥ }
-    ensures want_of_memory_is_a_refusal { (s t : SimState) (text : List ℕ) → WantsMemory s text t → t.refused ≡ true }
-    ensures want_of_memory_is_told { refusal.refusal_line (refused.Cluster memory) ≡ codes "refused 99 OutOfMemory\n" }
+    ensures want_of_memory_is_a_refusal { (s t : SimState) (text : List ℕ) → WantsMemory s text t → t.faults ≡ with_fault s.line refused.OutOfMemory s.faults }
+    ensures want_of_memory_is_told { refusal.refusal_line refused.OutOfMemory ≡ codes "refused 99 OutOfMemory\n" }
 
-    // Whether a line was refused: a refused event says so, and what `all` tries leaves it.
-    ensures refused_event { (before : Bool) → or_refused (Err cluster_fault.NoSuchJob) before ≡ true }
-    ensures refused_delivery { (s t : SimState) (h : Tries s 7 3 t) → s.refused ≡ false → t.refused ≡ false }
+    // Which lines were refused: a refused event's is one, and no delivery that `all` tries is. The first event of a
+    // script is on line 2.
+    ensures refused_event { or_refused 7 (Err cluster_fault.NoSuchJob) [] ≡ (record { line = 7; refusal = refused.Cluster cluster_fault.NoSuchJob }) ∷ [] }
+    ensures refused_delivery { (s t : SimState) (h : Tries s 7 3 t) → t.faults ≡ s.faults }
+    ensures first_event { (f : Founding) (s : SimState) → Begins f s → (at_next_line s).line ≡ 2 }
 
     // What is printed.
     ensures answer { told_lines (told.Finished (record { node = 1; query = 0; ran = record { acc = 5; steps = 9 } })) ≡ codes "answer 1 0 5 9\n" }

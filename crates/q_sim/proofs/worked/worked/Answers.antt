@@ -1,4 +1,4 @@
-use Rattle.std.proofs.Common.{◌≡◌, ◌++◌, append-nil, length, true≢false, refl, ap, sym, ◌∙◌, inl, inr, subst, arith}
+use Rattle.std.proofs.Common.{◌≡◌, ◌+◌, ◌++◌, append-nil, length, true≢false, refl, ap, sym, ◌∙◌, inl, inr, subst, arith}
 use Rattle.std.specs.FinSet as set
 use Rattle.std.specs.Fmt.{digits}
 use Rattle.bq_insn.specs.Fields.{unit_bytes}
@@ -35,10 +35,13 @@ pub returns-clause-want_of_memory_is_no_try : goal.returns-clause-want_of_memory
 returns-clause-want_of_memory_is_no_try c = λ s t h is. h.answered is
 
 pub returns-clause-want_of_memory_is_a_refusal : goal.returns-clause-want_of_memory_is_a_refusal
-returns-clause-want_of_memory_is_a_refusal c = λ s t text h. ap (λ (x : SimState). x.refused) h.1
+returns-clause-want_of_memory_is_a_refusal c = λ s t text h. ap (λ (x : SimState). x.faults) h.1
 
 pub returns-clause-refused_delivery : goal.returns-clause-refused_delivery
-returns-clause-refused_delivery c = λ s t h before. h.refused ∙ before
+returns-clause-refused_delivery c = λ s t h. h.faults
+
+pub returns-clause-first_event : goal.returns-clause-first_event
+returns-clause-first_event c = λ f s h. ap (λ n. n + 1) h.line
 
 pub returns-clause-want_of_memory_is_told : goal.returns-clause-want_of_memory_is_told
 unfolding digits

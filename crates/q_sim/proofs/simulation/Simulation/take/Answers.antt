@@ -12,7 +12,7 @@ invariant_of-self-in_default c =
     let goes = takes_goes s.cluster cluster c.args.event.now (Ok c.in_ok-stepped.stepped) c.in_default.not-Enter c.in_ok-stepped.ensures.takes in
     let low : s.awaited_from ≤ length s.cluster.world.sent = s.sent in
     let more : length s.cluster.world.sent ≤ length cluster.world.sent = goes.sent in
-    let after : SimState = record { cluster = cluster; nodes = s.nodes.items; delivered = s.delivered; unwritten = s.unwritten; refused = s.refused } in
+    let after : SimState = record { cluster = cluster; nodes = s.nodes.items; delivered = s.delivered; unwritten = s.unwritten; line = s.line; faults = s.faults.items } in
     record {
       rising = s.rising;
       sent = omega (arith, low, more);

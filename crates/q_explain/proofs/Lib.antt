@@ -1,0 +1,2 @@
+-- Texts that are written in parts.
+mod Writing

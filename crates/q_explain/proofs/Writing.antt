@@ -1,0 +1,14 @@
+-- Texts that are written in parts.
+use Rattle.std.proofs.Common.{◌≡◌, ◌∙◌, ℕ, List, ◌++◌, ap, append_assoc}
+use Rattle.std.specs.Prelude.{Result, Ok, Err, OnOk, if◌then◌else◌}
+use Rattle.std.specs.Result.{is_ok}
+
+-- the first part stands there, and then the rest
+pub both : {X E : Type 0} (r : Result X E) (before first rest between after : List ℕ) → between ≡ before ++ first → OnOk r (after ≡ between ++ rest) → OnOk r (after ≡ before ++ (first ++ rest))
+both (Ok x) before first rest between after h k = k ∙ ap (λ text. text ++ rest) h ∙ append_assoc before first rest
+both (Err e) before first rest between after h k = tt
+
+-- what is appended stands there where the call went well
+pub appended : {X E : Type 0} (r : Result X E) (after more same : List ℕ) → after ≡ (if is_ok r then more else same) → OnOk r (after ≡ more)
+appended (Ok x) after more same h = h
+appended (Err e) after more same h = tt

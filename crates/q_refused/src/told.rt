@@ -1,0 +1,72 @@
+//! A line of a script that was refused, in words for a person.
+
+use bq_state::bounds::Bounds;
+use q_explain::bytes::explain_bytes;
+use q_explain::event::of_event;
+use q_explain::explain::explain_code;
+use q_explain::shown::write_shown;
+use q_script::line::{Line, LineFault as Unread, ScriptLine};
+use q_sim::refusal::{LineFault, Refusal};
+use std::alloc::{AllocError, Global};
+
+/// The bytes of the program that a line registers; none where it registers none.
+fn code_of(alloc: Global, text: &str) -> Result<Vec<u8>, AllocError> {
+    match ScriptLine::read(alloc, text) {
+        Ok(ScriptLine::Program { code, .. }) => Ok(code),
+        Ok(_) | Err(Unread::Form) => Ok(Vec::new(alloc)),
+        Err(Unread::OutOfMemory) => Err(AllocError),
+    }
+}
+
+/// Writes what is told, if anything is.
+fn write_any(out: &mut String, told: Option<String>) -> Result<(), AllocError> {
+    match told {
+        Some(told) => out.push_str(told.as_str()),
+        None => Ok(()),
+    }
+}
+
+/// What would satisfy what refuses a line with this text.
+fn write_reason(
+    alloc: Global,
+    out: &mut String,
+    text: &str,
+    refusal: &Refusal,
+) -> Result<(), AllocError> {
+    match refusal {
+        Refusal::Program(fault) => {
+            let code = code_of(alloc, text)?;
+            let told = explain_code(alloc, code.as_slice(), Bounds::all(), *fault)?;
+            write_any(out, told)
+        }
+        Refusal::Bytes(fault) => {
+            let code = code_of(alloc, text)?;
+            let told = explain_bytes(alloc, code.as_slice(), *fault)?;
+            write_any(out, told)
+        }
+        refusal => {
+            let words = of_event(refusal.reason());
+            if words.is_empty() {
+                return Ok(());
+            }
+            writeln!(out, "{words}")
+        }
+    }
+}
+
+/// Writes the number of a line of a script that was refused and the line itself; then its refusal; and then what would
+/// satisfy it, of a program the instruction with what is known there.
+///
+/// The one error is that memory ran out (99 OutOfMemory); a part may have been written then.
+pub fn write_refused_line(
+    alloc: Global,
+    out: &mut String,
+    fault: LineFault,
+    text: &str,
+) -> Result<(), AllocError> {
+    let LineFault { line, refusal } = fault;
+    write!(out, "line {line}: ")?;
+    write_shown(out, text)?;
+    writeln!(out, "\n{refusal}")?;
+    write_reason(alloc, out, text, &refusal)
+}
