@@ -1,6 +1,6 @@
 -- What is explained and what is done, of a value that is known in another way.
-use Rattle.std.proofs.Common.{◌≡◌, ℕ, List, Result, sym, subst}
-use Rattle.q_files.specs.declared.files.FileFault.{FileFault}
+use Rattle.std.proofs.Common.{◌≡◌, ℕ, List, sym, subst}
+use Rattle.q_files.specs.Files.{Reading}
 use Rattle.q_sim.specs.Simulates.{Writing}
 use Rattle.q_words.specs.declared.words.Wanted.{Wanted}
 use Rattle.q_words.specs.declared.words.WordsFault.{WordsFault}
@@ -9,6 +9,6 @@ use Rattle.q_bqview.specs.Runs.{Does, Explains, Output}
 pub explained_as : (f g : WordsFault) (before : Output) (status : ℕ) (after : Output) → f ≡ g → Explains g before status after → Explains f before status after
 explained_as f g before status after e h = subst (λ (f : WordsFault). Explains f before status after) (sym e) h
 
-pub done_as : {F : Type 0} (reads : F → List ℕ → Result (List ℕ) FileFault → F → Type 0) (writes : Writing F) (w v : Wanted) (old : F) (before : Output) (status : ℕ) (new : F) (after : Output)
+pub done_as : {F : Type 0} (reads : Reading F) (writes : Writing F) (w v : Wanted) (old : F) (before : Output) (status : ℕ) (new : F) (after : Output)
     → w ≡ v → Does reads writes v old before status new after → Does reads writes w old before status new after
 done_as reads writes w v old before status new after e h = subst (λ (w : Wanted). Does reads writes w old before status new after) (sym e) h

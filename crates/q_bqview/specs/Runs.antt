@@ -1,8 +1,8 @@
 -- What the program does for its words: its exit status, and what it does to files and to its standard output.
-use Rattle.std.specs.Prelude.{◌≡◌, ◌⊎◌, ℕ, Bool, List, Option, Result, Ok, Err}
+use Rattle.std.specs.Prelude.{◌≡◌, ◌⊎◌, ℕ, Bool, List, Option, Ok, Err}
 use Rattle.std.specs.Io.KnownBytes.{Appends}
 use Rattle.std.specs.declared.io.Error as io
-use Rattle.q_files.specs.declared.files.FileFault.{FileFault}
+use Rattle.q_files.specs.Files.{Reading}
 use Rattle.q_sim.specs.Refusal.{refusal_line}
 use Rattle.q_sim.specs.Simulates.{Writing}
 use Rattle.q_sim.specs.declared.refusal.Refusal.TheVariants as refusal
@@ -44,7 +44,7 @@ Explains fault before status after = (status ≡ exit_status fault) × (after �
 
 -- ---- commands
 
-module _ {F : Type 0} (reads : F → List ℕ → Result (List ℕ) FileFault → F → Type 0) (writes : Writing F) where
+module _ {F : Type 0} (reads : Reading F) (writes : Writing F) where
   -- a command over files comes to an end of its own, which has this exit status
   abbrev pub CarriesOut : FileCommand → F → Output → ℕ → F → Output → Type 0
   CarriesOut line old before status new after =
@@ -54,7 +54,7 @@ module _ {F : Type 0} (reads : F → List ℕ → Result (List ℕ) FileFault �
   -- so does a run of the script in the file of this name by threads, which is strict or not
   abbrev pub RunsNodes : List ℕ → Bool → F → Output → ℕ → F → Output → Type 0
   RunsNodes name strict old before status new after =
-      (ending : Ending) × (source : List ℕ) × nodes.IsWrittenFile reads name old new source ending before.taken after.taken
+      (ending : Ending) × (source : List ℕ) × nodes.IsWrittenFile (reads command.longest_text) name old new source ending before.taken after.taken
       × (status ≡ nodes.status_of strict ending) × (after.failures ≡ nodes.failures_after ending before.failures)
 
   -- what is wanted is done

@@ -3,13 +3,18 @@
 //! | Command | Output |
 //! |---|---|
 //! | `asm FILE` | each unit of the program as 16 lower-case hexadecimal digits, one a line |
+//! | `dis FILE` | the assembler text of a program's bytes, one instruction a line |
 //! | `check FILE` | `accepted longest L`: the program never faults, and does L steps for a record at most |
 //! | `run FILE START RECORDS` | `acc A steps S`: the last accumulator, and all steps |
 //! | `sim [--strict] SCRIPT` | what each event of a script tells, over a cluster in memory |
 //! | `cluster [--strict] SCRIPT` | what each line of a script tells, over nodes with a thread and a UDP socket of loopback each |
 //! | `audit JOURNAL` | `answer Q ACC STEPS` for each answer that a node recorded, by the numbers of its queries; then `journal ok` |
 //!
-//! FILE holds assembler text. START is a number in decimal. RECORDS holds a line `ID SEQ VALUE` for each record, by
+//! FILE of `asm` holds assembler text, FILE of `dis` a program's bytes, eight a unit. That of `check` and `run` holds
+//! assembler text, or with `--bytes` a program's bytes. `check --states` prints after its line, for each unit where an
+//! instruction begins, `unit U: ` and the instruction, and then `  rK: ` and what is known of the register there, for each
+//! of which something is known. `check --notes OUT` writes the program's notes to OUT; where OUT fails, `refused 87
+//! FileFailed` is printed last. A file of the name `-` is the standard input. START is a number in decimal. RECORDS holds a line `ID SEQ VALUE` for each record, by
 //! rising ids: the node, the sequence number of its store, and the value that it stored. VALUE is a number, whose eight
 //! bytes are the first of a value of 48, or `x` and two hexadecimal digits for each byte of the value, 112 at most.
 //!
@@ -57,17 +62,18 @@
 //! A refusal prints `refused N Name`, then ` at U` where it carries a unit or a journal's event, or ` line L` where a
 //! line ([`Refusal`]). `run` finds faults in this order: FILE, its text, the verifier and the checker, RECORDS, its
 //! lines. `sim` finds them in this: SCRIPT, its text, its founders; and `cluster` too, which then finds the sockets
-//! that can't be opened (86). `audit` finds a fault of JOURNAL, and then of its least faulty event. Want of memory, 99,
+//! that can't be opened (86). `audit` finds a fault of JOURNAL, and then of its least faulty event. 99, out of memory,
 //! may stand in place of any answer, of any other refusal and of what is said of a wrong command line. The exit status
-//! is 0; or 1 after a refusal, or where a journal was not written or the standard output failed, or as `--strict` says;
-//! or 2 for a wrong command line, as one with a word that is not UTF-8, which is explained on the standard error.
+//! is 0; or 1 after a refusal, or where a journal or notes were not written or the standard output failed, which is told
+//! once on the standard error, or as `--strict` says; or 2 for a wrong command line, as one with a word that is not UTF-8,
+//! which is explained there. `--help` and `--version` print what they ask for.
 //!
 //! [`run`] takes the words that the system gives, files, an output and notes, and answers the exit status; [`run_words`]
 //! does the same of any words. Their contracts say what the status is, and what the output took and the files came to:
 //! where the words ask for a command over files, an end of [`carry_out`]; for `cluster`, one of [`run_file`]; and where
-//! they ask for none ([`read_words`]), no file is touched, and the output takes the help, the refusal for want of
-//! memory, or nothing. What explains a refusal ([`advice`], [`nodes_advice`]) or a wrong command line goes to the
-//! notes, of which no clause speaks. The program hands over the machine: its words, its files, its standard output, and
+//! they ask for none ([`read_words`]), no file is touched, and the output takes the help, the refusal 99, or
+//! nothing. What explains a refusal ([`carry_out`], [`nodes_advice`]), a refused line of a script or a wrong command line
+//! goes to the notes, of which no clause speaks. The program hands over the machine: its words, its files, its standard output, and
 //! its standard error as the notes. Why the system refuses a file is told on the standard error, too.
 //!
 //! [`Refusal`]: q_sim::refusal::Refusal
@@ -76,7 +82,6 @@
 //! [`read_words`]: q_words::words::read_words
 //! [`carry_out`]: q_command::perform::carry_out
 //! [`run_file`]: q_nodes::sockets::run_file
-//! [`advice`]: q_command::advice::advice
 //! [`nodes_advice`]: q_command::advice::nodes_advice
 #![tactic(auto)]
 

@@ -5,9 +5,9 @@ ghost use Rattle.std.specs.Vec.Iter.{into_iter_items};
 ghost use Rattle.q_words.specs.Words.{exit_status};
 ghost use Rattle.q_bqview.specs.Runs.{CarriesOut, Does, Explains, IsUngiven, Puts, PutsMemory, Runs, RunsNodes};
 
-use q_command::advice::{advice, nodes_advice};
+use q_command::advice::nodes_advice;
 use q_command::denied::Denied;
-use q_command::perform::{Outcome, carry_out};
+use q_command::perform::carry_out;
 use q_files::files::Files;
 use q_lines::ending::Ending;
 use q_lines::fault::NodesFault;
@@ -53,12 +53,12 @@ fn put_memory<W: Write>(out: &mut Counted<W>) -> u8
 }
 
 /// The text of a fault.
-fn text_of(alloc: Global, fault: &WordsFault) -> Result<String, AllocError> {
+fn text_of(alloc: Global, fault: &WordsFault<'_>) -> Result<String, AllocError> {
     format!(in alloc; "{fault}")
 }
 
 /// Writes the help, whose text needs memory: the exit status.
-fn put_help<W: Write>(alloc: Global, fault: &WordsFault, out: &mut Counted<W>) -> u8
+fn put_help<W: Write>(alloc: Global, fault: &WordsFault<'_>, out: &mut Counted<W>) -> u8
     ensures { ((text : List ℕ) × Puts text 0
         (record { taken = W.contents out.old.inner; failures = out.old.failures }) result
         (record { taken = W.contents out.new.inner; failures = out.new.failures }))
@@ -73,7 +73,7 @@ fn put_help<W: Write>(alloc: Global, fault: &WordsFault, out: &mut Counted<W>) -
 }
 
 /// Says in the notes what is wrong with the words: the exit status.
-fn note_fault<N: Write>(fault: &WordsFault, notes: &mut N) -> u8
+fn note_fault<N: Write>(fault: &WordsFault<'_>, notes: &mut N) -> u8
     ensures { result ≡ exit_status fault.now }
 {
     let _ = write!(notes, "{fault}");
@@ -81,9 +81,9 @@ fn note_fault<N: Write>(fault: &WordsFault, notes: &mut N) -> u8
 }
 
 /// Says why no command runs: the exit status.
-fn explain<W: Write, N: Write>(
+fn tell_fault<W: Write, N: Write>(
     alloc: Global,
-    fault: &WordsFault,
+    fault: &WordsFault<'_>,
     out: &mut Counted<W>,
     notes: &mut N,
 ) -> u8
@@ -95,10 +95,36 @@ fn explain<W: Write, N: Write>(
         WordsFault::Help(_) => put_help(alloc, fault, out),
         WordsFault::OutOfMemory => put_memory(out),
         WordsFault::Wrong(_)
-        | WordsFault::BadStart
-        | WordsFault::BadLengths
+        | WordsFault::BadStart { .. }
+        | WordsFault::BadLengths { .. }
         | WordsFault::NotUtf8 => note_fault(fault, notes),
     }
+}
+
+/// Says in the notes that the output failed, if a call of it failed since so many had.
+fn note_failure<W: Write, N: Write>(out: &Counted<W>, before: u64, notes: &mut N) {
+    if out.failures != before {
+        let _ = notes.write_all(
+            b"error: the standard output failed, and did not take all of the answer\n",
+        );
+    }
+}
+
+/// Says why no command runs, and where the output fails: the exit status.
+fn explain<W: Write, N: Write>(
+    alloc: Global,
+    fault: &WordsFault<'_>,
+    out: &mut Counted<W>,
+    notes: &mut N,
+) -> u8
+    ensures { Explains fault.now
+        (record { taken = W.contents out.old.inner; failures = out.old.failures }) result
+        (record { taken = W.contents out.new.inner; failures = out.new.failures }) }
+{
+    let before = out.failures;
+    let status = tell_fault(alloc, fault, out, notes);
+    note_failure(out, before, notes);
+    status
 }
 
 // ---- what explains a refusal
@@ -108,18 +134,6 @@ fn explain<W: Write, N: Write>(
 fn note<N: Write>(told: Result<Option<String>, AllocError>, notes: &mut N) {
     if let Ok(Some(text)) = told {
         let _ = notes.write_all(text.as_bytes());
-    }
-}
-
-/// Explains how a command over files ended, if it was refused.
-fn note_outcome<N: Write>(
-    alloc: Global,
-    line: &FileCommand<'_>,
-    outcome: &Outcome<'_>,
-    notes: &mut N,
-) {
-    if let Outcome::Refused(denied) = outcome {
-        note(advice(alloc, line, denied), notes);
     }
 }
 
@@ -174,9 +188,7 @@ fn run_line<F: Files, W: Write, N: Write>(
         (record { taken = W.contents out.old.inner; failures = out.old.failures }) result files.new
         (record { taken = W.contents out.new.inner; failures = out.new.failures }) }
 {
-    let outcome = carry_out(alloc, line, files, out);
-    note_outcome(alloc, line, &outcome, notes);
-    outcome.status()
+    carry_out(alloc, line, files, out, notes).status()
 }
 
 /// Runs a script by a thread and a socket for each node, and explains its refusal: the exit status.
@@ -199,7 +211,7 @@ fn run_nodes<R: Net + Wait + Threads + Clock + Sync, F: Files, W: Write, N: Writ
 }
 
 /// Does what is wanted: the exit status.
-fn run_wanted<R: Net + Wait + Threads + Clock + Sync, F: Files, W: Write, N: Write>(
+fn do_wanted<R: Net + Wait + Threads + Clock + Sync, F: Files, W: Write, N: Write>(
     rt: &R,
     alloc: Global,
     wanted: &Wanted<'_>,
@@ -219,10 +231,29 @@ fn run_wanted<R: Net + Wait + Threads + Clock + Sync, F: Files, W: Write, N: Wri
     }
 }
 
+/// Does what is wanted, and says in the notes where the output fails: the exit status.
+fn run_wanted<R: Net + Wait + Threads + Clock + Sync, F: Files, W: Write, N: Write>(
+    rt: &R,
+    alloc: Global,
+    wanted: &Wanted<'_>,
+    files: &mut F,
+    out: &mut Counted<W>,
+    notes: &mut N,
+) -> u8
+    ensures { Does F.read_gives F.write_gives wanted.now files.old
+        (record { taken = W.contents out.old.inner; failures = out.old.failures }) result files.new
+        (record { taken = W.contents out.new.inner; failures = out.new.failures }) }
+{
+    let before = out.failures;
+    let status = do_wanted(rt, alloc, wanted, files, out, notes);
+    note_failure(out, before, notes);
+    status
+}
+
 /// Runs the command of these words, of which the first is the program's name: the exit status.
 ///
-/// What explains a refusal, and what is wrong with words that ask for no command, goes to the notes. That they fail
-/// changes nothing else.
+/// What explains a refusal, what is wrong with words that ask for no command, and that the output failed go to the notes.
+/// That they fail changes nothing else.
 pub fn run_words<R, S, F, W, N>(
     rt: &R,
     alloc: Global,

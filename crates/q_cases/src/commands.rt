@@ -1,9 +1,8 @@
 //! The files of cases, and what their commands print.
 
 use crate::line::CaseLine;
-use q_command::advice::advice;
-use q_command::perform::{Outcome, carry_out};
-use q_files::files::Files;
+use q_command::perform::carry_out;
+use q_files::files::{Files, LONGEST_TEXT};
 use q_files::memory::MemoryFiles;
 use q_wire::counted::Counted;
 use q_words::words::{FileCommand, Wanted, WordsFault, read_words};
@@ -12,7 +11,7 @@ use std::io;
 use std::io::Write;
 
 /// Writes what is wrong with words: the exit status.
-pub fn tell_fault<W: Write>(fault: &WordsFault, out: &mut W) -> io::Result<u8> {
+pub fn tell_fault<W: Write>(fault: &WordsFault<'_>, out: &mut W) -> io::Result<u8> {
     writeln!(out, "{fault}")?;
     Ok(fault.status())
 }
@@ -25,7 +24,10 @@ fn carry<F: Files, W: Write>(
     out: &mut Counted<W>,
 ) -> io::Result<u8> {
     match wanted {
-        Wanted::FileCommand(line) => Ok(carry_out(alloc, line, files, out).status()),
+        Wanted::FileCommand(line) => {
+            let mut unseen = Vec::new(alloc);
+            Ok(carry_out(alloc, line, files, out, &mut unseen).status())
+        }
         Wanted::Cluster { .. } => {
             writeln!(out, "no command over files")?;
             Ok(0)
@@ -46,30 +48,19 @@ fn perform<F: Files, W: Write>(
     }
 }
 
-/// What explains how a command ended, if something does.
-fn explanation(
-    alloc: Global,
-    line: &FileCommand<'_>,
-    outcome: &Outcome<'_>,
-) -> Result<Option<String>, AllocError> {
-    match outcome {
-        Outcome::Refused(denied) => advice(alloc, line, denied),
-        _ => Ok(None),
-    }
-}
-
-/// Runs a command: what explains its refusal, if something does.
+/// Runs a command: what explains its refusal and refused lines.
 pub fn explained<F: Files, W: Write>(
     alloc: Global,
     line: &FileCommand<'_>,
     files: &mut F,
     out: &mut Counted<W>,
-) -> Result<Option<String>, AllocError> {
-    let outcome = carry_out(alloc, line, files, out);
-    explanation(alloc, line, &outcome)
+) -> Vec<u8> {
+    let mut notes = Vec::new(alloc);
+    let _outcome = carry_out(alloc, line, files, out, &mut notes);
+    notes
 }
 
-/// Writes what explains the refusal of a command, and that nothing does.
+/// Writes what explains the refusal of a command or of its lines, and that nothing does.
 fn explain_line<F: Files, W: Write>(
     alloc: Global,
     line: &FileCommand<'_>,
@@ -77,11 +68,11 @@ fn explain_line<F: Files, W: Write>(
     out: &mut Counted<W>,
 ) -> io::Result<()> {
     let mut unseen = Counted::new(Vec::new(alloc));
-    match explained(alloc, line, files, &mut unseen) {
-        Ok(Some(text)) => write!(out, "{text}"),
-        Ok(None) => writeln!(out, "nothing to explain"),
-        Err(_) => writeln!(out, "no memory"),
+    let told = explained(alloc, line, files, &mut unseen);
+    if told.is_empty() {
+        return writeln!(out, "nothing to explain");
     }
+    out.write_all(told.as_slice())
 }
 
 /// The same of what is wanted.
@@ -182,7 +173,7 @@ impl Commands {
     /// Goes on with a file that is there.
     fn take_up(&mut self, name: &str) -> io::Result<()> {
         self.end_file();
-        match self.files.read(self.alloc, name) {
+        match self.files.read(self.alloc, name, LONGEST_TEXT) {
             Ok(bytes) => self.bytes = bytes,
             Err(_) => return Err(io::Error::from(io::ErrorKind::NotFound)),
         }

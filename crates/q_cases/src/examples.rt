@@ -8,7 +8,7 @@
 //! `docs/FORMATS.md` has too, end with "printed". `./check-documents` looks them up there.
 
 use crate::commands::explained;
-use q_files::files::Files;
+use q_files::files::{Files, LONGEST_TEXT};
 use q_files::folder::Folder;
 use q_wire::counted::Counted;
 use q_words::words::{FileCommand, Wanted, read_words};
@@ -35,10 +35,8 @@ fn print_line<F: Files>(
     files: &mut F,
     out: &mut Counted<Vec<u8>>,
 ) -> io::Result<()> {
-    if let Some(text) = explained(alloc, line, files, out)? {
-        write!(out, "{text}")?;
-    }
-    Ok(())
+    let told = explained(alloc, line, files, out);
+    out.write_all(told.as_slice())
 }
 
 /// What the command of these words prints.
@@ -129,7 +127,7 @@ fn text_of(bytes: &[u8]) -> io::Result<&str> {
 
 /// The bytes of a document.
 fn read<F: Files>(alloc: Global, name: &str, files: &mut F) -> io::Result<Vec<u8>> {
-    match files.read(alloc, name) {
+    match files.read(alloc, name, LONGEST_TEXT) {
         Ok(bytes) => Ok(bytes),
         Err(_) => Err(io::Error::from(ErrorKind::NotFound)),
     }

@@ -44,6 +44,8 @@ pub fn listed(alloc: Global, room: usize, file: &str) -> (&'static str, u8) {
     let mut files = MemoryFiles::new(alloc);
     let _ = files.write("a", b"exit");
     let mut out = Counted::new(Short { room });
-    let outcome = carry_out(alloc, &FileCommand::Asm { file }, &mut files, &mut out);
+    let mut unseen = Vec::new(alloc);
+    let line = FileCommand::Asm { file };
+    let outcome = carry_out(alloc, &line, &mut files, &mut out, &mut unseen);
     (end_of(&outcome), outcome.status())
 }

@@ -1,5 +1,5 @@
 mod Auditing
-mod Ends
 mod Lines
 mod Lists
+mod Programs
 mod Refused

@@ -1,6 +1,6 @@
 -- Why a command is refused, from what refuses a part of it.
 use Rattle.std.proofs.Common.{ℕ, List}
-use Rattle.std.specs.Prelude.{IsUtf8, Result}
+use Rattle.std.specs.Prelude.{IsUtf8}
 use Rattle.q_script.specs.Script.{IsScript}
 use Rattle.q_script.specs.declared.script.Script.{Script as Events}
 use Rattle.q_sim.specs.Simulates.{IsSimulationFault}
@@ -8,7 +8,7 @@ use Rattle.q_sim.specs.declared.refusal.Refusal.{Refusal}
 use Rattle.q_sim.specs.declared.refusal.Refusal.TheVariants.{FileFailed, Script}
 use Rattle.q_command.specs.Perform.{IsUnsimulated, Refuses}
 use Rattle.q_command.specs.declared.denied.Denied.{Denied}
-use Rattle.q_files.specs.declared.files.FileFault.{FileFault}
+use Rattle.q_files.specs.Files.{Reading}
 use Rattle.q_words.specs.declared.words.FileCommand.{FileCommand}
 
 -- a script that is read is not run
@@ -19,6 +19,6 @@ unsimulated_script bytes script (Script f) utf8 spelled h = absurd h
 unsimulated_script bytes script r utf8 spelled h = (utf8, (script, spelled, h))
 
 -- a command that is refused, whichever the refusal
-pub some_refusal : {F : Type 0} (reads : F → List ℕ → Result (List ℕ) FileFault → F → Type 0) (line : FileCommand) (old new : F) (denied : Denied)
+pub some_refusal : {F : Type 0} (reads : Reading F) (line : FileCommand) (old new : F) (denied : Denied)
     → Refuses reads line old denied new → (d : Denied) × Refuses reads line old d new
 some_refusal reads line old new denied refused = (denied, refused)

@@ -1,15 +1,20 @@
 -- What the commands answer, and why they are refused.
-use Rattle.std.specs.Prelude.{◌≡◌, ◌≢◌, ◌⊎◌, ◌&&◌, ℕ, Bool, false, List, [], ◌∷◌, ◌++◌, codes, IsUtf8, Option, Result, Ok, Err, if◌then◌else◌}
+use Rattle.std.specs.Prelude.{◌≡◌, ◌≢◌, ◌⊎◌, ◌&&◌, ℕ, Bool, false, List, [], ◌∷◌, ◌++◌, true, codes, IsUtf8, Option, Some, None, Result, Ok, Err, if◌then◌else◌}
 use Rattle.std.specs.Fmt.{decimal}
 use Rattle.std.specs.Io.KnownBytes.{Appends}
 use Rattle.bq_insn.specs.declared.insn.Insn.{Insn}
+use Rattle.bq_insn.specs.Fault as decoder
 use Rattle.bq_insn.specs.Slots.{spelling, IsText}
 use Rattle.bq_asm.specs.Source as assembler
-use Rattle.bq_asm.specs.Source.{IsSource}
+use Rattle.bq_asm.specs.Source.{IsSource, disassembly}
+use Rattle.bq_check.specs.Spelling.{notes_bytes}
+use Rattle.bq_check.specs.declared.form.Form.TheVariants.{Second}
 use Rattle.bq_flow.specs.Paths.{IsLongest}
 use Rattle.bq_range.specs.Interval.{Interval}
 use Rattle.bq_state.specs.Kinds.{StateKinds}
 use Rattle.bq_sound.specs.Passes.{Passes}
+use Rattle.bq_verify.specs.Least.{AreLeast}
+use Rattle.q_explain.specs.Known.{states_text}
 use Rattle.bq_meaning.specs.Answers.{IsAnswer}
 use Rattle.sc_view.specs.Views.{ViewMap}
 use Rattle.q_session.specs.Records.{view_records}
@@ -25,7 +30,10 @@ use Rattle.q_sim.specs.Refusal.{refusal_line, refusal_of}
 use Rattle.q_sim.specs.Simulates.{IsSimulationFault, Simulates, Writing}
 use Rattle.q_command.specs.Audit.{Audits, IsUnaudited}
 use Rattle.q_command.specs.Listing.{listing_of}
+use Rattle.q_files.specs.Files.{Reading}
 use Rattle.q_files.specs.declared.files.FileFault.{FileFault}
+use Rattle.q_files.specs.declared.files.FileFault.TheVariants.{Failed}
+use Rattle.q_command.specs.declared.check.Check.{Check as Checking}
 use Rattle.q_command.specs.declared.denied.Denied.{Denied}
 use Rattle.q_command.specs.declared.perform.Outcome.{Outcome}
 use Rattle.q_command.specs.declared.perform.Outcome.TheVariants.{Answered, Unsaved, LineRefused, Refused, Unwritten}
@@ -34,7 +42,22 @@ use Rattle.q_command.specs.declared.perform.Work.TheVariants as work
 use Rattle.q_wire.specs.Counts.{one_more}
 use Rattle.q_words.specs.Words.{is_strict}
 use Rattle.q_words.specs.declared.words.FileCommand.{FileCommand}
-use Rattle.q_words.specs.declared.words.FileCommand.TheVariants.{Asm, Check, Run, Sim, Audit}
+use Rattle.q_words.specs.declared.words.FileCommand.TheVariants.{Asm, Dis, Check, Run, Sim, Audit}
+use Rattle.q_words.specs.declared.words.Form.{Form}
+use Rattle.q_words.specs.declared.words.Form.TheVariants.{Text, Bytes}
+use denote.Ref.{Bor}
+
+-- what a read of a name may answer, of a file of some kind, over files that stand thus before and after
+abbrev pub ReadingOf : Type 0 → Type 1
+ReadingOf F = F → List ℕ → Result (List ℕ) FileFault → F → Type 0
+
+-- the most bytes of a file of text, 16 MB
+abbrev pub longest_text : ℕ
+longest_text = 16777216
+
+-- the most bytes of a journal that is read, 1,024 MB
+abbrev pub longest_journal : ℕ
+longest_journal = 1073741824
 
 -- ---- programs
 
@@ -44,24 +67,36 @@ pub record IsProgram (source : List ℕ) (text : List Insn) : Type 0 where
   pub legal : IsText text
   pub spelled : IsSource source text
 
--- the bytes spell a program whose notes pass for records of these lengths
-pub record IsAccepted (lengths : Interval) (source : List ℕ) : Type 0 where
-  pub text : List Insn
-  pub notes : List (Option StateKinds)
-  pub program : IsProgram source text
+-- what a file of this form holds spells the program: assembler text, or the program's bytes
+abbrev pub Spells : Form → List ℕ → List Insn → Type 0
+Spells Text source text = IsProgram source text
+Spells Bytes source text = IsText text × (source ≡ spelling text)
+
+-- What is spelled is this program, and these are its notes: they pass for records of these lengths, and no notes that pass
+-- say more.
+pub record IsVerified (held : Form) (lengths : Interval) (source : List ℕ) (text : List Insn) (notes : List (Option StateKinds)) : Type 0 where
+  pub program : Spells held source text
   pub passes : Passes lengths text notes
+  pub least : AreLeast lengths text notes
 
--- why bytes spell no program: they are not UTF-8, or what is first wrong with the text
-abbrev pub IsUnassembled : List ℕ → Refusal → Type 0
-IsUnassembled source refusal.FileFailed = ¬ (IsUtf8 source)
-IsUnassembled source (refusal.Assembler f) = IsUtf8 source × assembler.IsFault source f
-IsUnassembled source refusal.OutOfMemory = IsUtf8 source
-IsUnassembled source r = ⊥
+-- what is spelled is a program whose notes pass for records of these lengths
+abbrev pub IsAccepted : Form → Interval → List ℕ → Type 0
+IsAccepted held lengths source = (text : List Insn) × (notes : List (Option StateKinds)) × IsVerified held lengths source text notes
 
--- why bytes spell no program that the verifier accepts for records of these lengths
-abbrev pub IsUnaccepted : Interval → List ℕ → Refusal → Type 0
-IsUnaccepted lengths source (refusal.Program f) = (text : List Insn) × IsProgram source text × IsUncertified lengths text (refusal.Program f)
-IsUnaccepted lengths source r = IsUnassembled source r
+-- Why a file of this form spells no program: it is not UTF-8, or what is first wrong with the text; or what is first wrong
+-- with the bytes.
+abbrev pub IsUnspelled : Form → List ℕ → Refusal → Type 0
+IsUnspelled Text source refusal.FileFailed = ¬ (IsUtf8 source)
+IsUnspelled Text source (refusal.Assembler f) = IsUtf8 source × assembler.IsFault source f
+IsUnspelled Text source refusal.OutOfMemory = IsUtf8 source
+IsUnspelled Bytes source (refusal.Bytes f) = decoder.IsFault source f
+IsUnspelled Bytes source refusal.OutOfMemory = (text : List Insn) × Spells Bytes source text
+IsUnspelled held source r = ⊥
+
+-- why it spells no program that the verifier accepts for records of these lengths
+abbrev pub IsUnaccepted : Form → Interval → List ℕ → Refusal → Type 0
+IsUnaccepted held lengths source (refusal.Program f) = (text : List Insn) × Spells held source text × IsUncertified lengths text (refusal.Program f)
+IsUnaccepted held lengths source r = IsUnspelled held source r
 
 -- ---- answers
 
@@ -71,24 +106,43 @@ pub record Lists (source lines : List ℕ) : Type 0 where
   pub program : IsProgram source text
   pub listed : lines ≡ listing_of (spelling text)
 
--- the lines say how long the longest path of the program is, whose notes pass for records of these lengths
-pub record Accepts (lengths : Interval) (source lines : List ℕ) : Type 0 where
+-- the lines are the assembler text that is written of the program of these bytes
+pub record Disassembles (source lines : List ℕ) : Type 0 where
+  pub text : List Insn
+  pub program : Spells Bytes source text
+  pub written : lines ≡ disassembly text
+
+-- what is told of an accepted program: how long its longest path is, and then, where it is asked for, what is known of the
+-- registers at each unit
+abbrev pub acceptance : Bool → List Insn → List (Option StateKinds) → ℕ → List ℕ
+acceptance states text notes longest =
+    (codes "accepted longest " ++ (decimal longest ++ 10 ∷ [])) ++ (if states then states_text text notes else [])
+
+-- This is told. Where the notes are to be written, they are written under this name; or the file fails, and that is told
+-- after it.
+abbrev pub SavesNotes : {F : Type 0} → Writing F → Option (Bor (List ℕ)) → List (Option StateKinds) → List ℕ → F → List ℕ → Bool → F → Type 0
+SavesNotes writes None notes told before lines unwritten after = (lines ≡ told) × (unwritten ≡ false) × (after ≡ before)
+SavesNotes writes (Some name) notes told before lines unwritten after =
+    (writes before name.now (notes_bytes Second notes) (Ok tt) after × (lines ≡ told) × (unwritten ≡ false))
+    ⊎ (writes before name.now (notes_bytes Second notes) (Err Failed) after × (lines ≡ told ++ refusal_line refusal.FileFailed) × (unwritten ≡ true))
+
+-- what `check` tells of a program, over files that stand thus before and after
+pub record Accepts {F : Type 0} (writes : Writing F) (asked : Checking) (source : List ℕ) (before : F) (lines : List ℕ) (unwritten : Bool) (after : F) : Type 0 where
   pub text : List Insn
   pub notes : List (Option StateKinds)
   pub longest : ℕ
-  pub program : IsProgram source text
-  pub passes : Passes lengths text notes
+  pub verified : IsVerified asked.form asked.lengths source text notes
   pub is_longest : IsLongest text longest
-  pub told : lines ≡ codes "accepted longest " ++ (decimal longest ++ 10 ∷ [])
+  pub told : SavesNotes writes asked.notes notes (acceptance asked.states text notes longest) before lines unwritten after
 
 -- the lines say what the program comes to over the records that are listed, each of one of the lengths, from the start
 -- value
-pub record Computes (lengths : Interval) (source : List ℕ) (start : ℕ) (listed lines : List ℕ) : Type 0 where
+pub record Computes (held : Form) (lengths : Interval) (source : List ℕ) (start : ℕ) (listed lines : List ℕ) : Type 0 where
   pub text : List Insn
   pub view : ViewMap
   pub acc : ℕ
   pub steps : ℕ
-  pub program : IsProgram source text
+  pub program : Spells held source text
   pub utf8 : IsUtf8 listed
   pub is_view : IsView lengths listed view
   pub right : IsAnswer text (view_records view) start acc steps
@@ -103,27 +157,34 @@ pub record IsSimulated {F : Type 0} (writes : Writing F) (source : List ℕ) (ol
 
 -- The file is read, and its bytes give these lines. Behind the lines it is told whether a journal was not written, and
 -- whether a line was refused.
-abbrev pub AnswersFile : {F : Type 0} → (F → List ℕ → Result (List ℕ) FileFault → F → Type 0) → (List ℕ → List ℕ → Type 0) → List ℕ → F → List ℕ → Bool → Bool → F → Type 0
+abbrev pub AnswersFile : {F : Type 0} → ReadingOf F → (List ℕ → List ℕ → Type 0) → List ℕ → F → List ℕ → Bool → Bool → F → Type 0
 AnswersFile reads gives name old lines unwritten refused new =
     (bytes : List ℕ) × reads old name (Ok bytes) new × gives bytes lines × (unwritten ≡ false) × (refused ≡ false)
 
 -- a program is read, and then records, and what it computes over them is these lines
-abbrev pub AnswersRun : {F : Type 0} → (F → List ℕ → Result (List ℕ) FileFault → F → Type 0) → Interval → List ℕ → ℕ → List ℕ → F → List ℕ → Bool → Bool → F → Type 0
-AnswersRun {F} reads lengths name start records old lines unwritten refused new =
-    (source : List ℕ) × (between : F) × reads old name (Ok source) between × AnswersFile reads (Computes lengths source start) records between lines unwritten refused new
+abbrev pub AnswersRun : {F : Type 0} → ReadingOf F → Form → Interval → List ℕ → ℕ → List ℕ → F → List ℕ → Bool → Bool → F → Type 0
+AnswersRun {F} reads held lengths name start records old lines unwritten refused new =
+    (source : List ℕ) × (between : F) × reads old name (Ok source) between × AnswersFile reads (Computes held lengths source start) records between lines unwritten refused new
+
+-- a program is read, and accepted with these lines: no line is refused
+abbrev pub AnswersCheck : {F : Type 0} → ReadingOf F → Writing F → Checking → List ℕ → F → List ℕ → Bool → Bool → F → Type 0
+AnswersCheck {F} reads writes asked name old lines unwritten refused new =
+    (source : List ℕ) × (between : F) × reads old name (Ok source) between × Accepts writes asked source between lines unwritten new × (refused ≡ false)
 
 -- a script is read, and prints these lines
-abbrev pub AnswersScript : {F : Type 0} → (F → List ℕ → Result (List ℕ) FileFault → F → Type 0) → Writing F → List ℕ → F → List ℕ → Bool → Bool → F → Type 0
+abbrev pub AnswersScript : {F : Type 0} → ReadingOf F → Writing F → List ℕ → F → List ℕ → Bool → Bool → F → Type 0
 AnswersScript {F} reads writes name old lines unwritten refused new =
     (source : List ℕ) × (between : F) × reads old name (Ok source) between × IsSimulated writes source between lines unwritten refused new
 
 -- the command answers these lines, over files that stand thus before and after
-abbrev pub Answers : {F : Type 0} → (F → List ℕ → Result (List ℕ) FileFault → F → Type 0) → Writing F → FileCommand → F → List ℕ → Bool → Bool → F → Type 0
-Answers reads writes (Asm file) old lines unwritten refused new = AnswersFile reads Lists file.now old lines unwritten refused new
-Answers reads writes (Check file lengths) old lines unwritten refused new = AnswersFile reads (Accepts lengths) file.now old lines unwritten refused new
-Answers reads writes (Run file start records lengths) old lines unwritten refused new = AnswersRun reads lengths file.now start records.now old lines unwritten refused new
-Answers reads writes (Sim script strict) old lines unwritten refused new = AnswersScript reads writes script.now old lines unwritten refused new
-Answers reads writes (Audit journal) old lines unwritten refused new = AnswersFile reads Audits journal.now old lines unwritten refused new
+abbrev pub Answers : {F : Type 0} → Reading F → Writing F → FileCommand → F → List ℕ → Bool → Bool → F → Type 0
+Answers reads writes (Asm file) = AnswersFile (reads longest_text) Lists file.now
+Answers reads writes (Dis file) = AnswersFile (reads longest_text) Disassembles file.now
+Answers reads writes (Check file held lengths states notes) =
+    AnswersCheck (reads longest_text) writes (record { form = held; lengths = lengths; states = states; notes = notes }) file.now
+Answers reads writes (Run file held start records lengths) = AnswersRun (reads longest_text) held lengths file.now start records.now
+Answers reads writes (Sim script strict) = AnswersScript (reads longest_text) writes script.now
+Answers reads writes (Audit journal) = AnswersFile (reads longest_journal) Audits journal.now
 
 -- ---- refusals
 
@@ -141,49 +202,51 @@ IsUnsimulated source (refusal.Script f) = IsUtf8 source × scripts.IsFault sourc
 IsUnsimulated source r = IsUtf8 source × ((script : Script) × IsScript source script × IsSimulationFault script.founding r)
 
 -- The file is not read, and nothing was read of it.
-abbrev pub IsUnread : {F : Type 0} → (F → List ℕ → Result (List ℕ) FileFault → F → Type 0) → List ℕ → F → Denied → F → Type 0
+abbrev pub IsUnread : {F : Type 0} → ReadingOf F → List ℕ → F → Denied → F → Type 0
 IsUnread reads name old denied new =
     (denied.file.now ≡ name) × (denied.bytes.items ≡ []) × ((fault : FileFault) × reads old name (Err fault) new × (denied.refusal ≡ refusal_of fault))
 
 -- The file is not read; or its bytes, which are handed out, are refused for this reason.
-abbrev pub RefusesFile : {F : Type 0} → (F → List ℕ → Result (List ℕ) FileFault → F → Type 0) → (List ℕ → Refusal → Type 0) → List ℕ → F → Denied → F → Type 0
+abbrev pub RefusesFile : {F : Type 0} → ReadingOf F → (List ℕ → Refusal → Type 0) → List ℕ → F → Denied → F → Type 0
 RefusesFile reads refuses name old denied new =
     IsUnread reads name old denied new
     ⊎ ((denied.file.now ≡ name) × reads old name (Ok denied.bytes.items) new × refuses denied.bytes.items denied.refusal)
 
--- the program is refused, or it is accepted and the records are refused
-abbrev pub RefusesRun : {F : Type 0} → (F → List ℕ → Result (List ℕ) FileFault → F → Type 0) → Interval → List ℕ → List ℕ → F → Denied → F → Type 0
-RefusesRun {F} reads lengths name records old denied new =
-    RefusesFile reads (IsUnaccepted lengths) name old denied new
-    ⊎ ((source : List ℕ) × (between : F) × reads old name (Ok source) between × IsAccepted lengths source × RefusesFile reads (IsUnlisted lengths) records between denied new)
+-- The program is refused, or it is accepted and the records are refused.
+abbrev pub RefusesRun : {F : Type 0} → ReadingOf F → Form → Interval → List ℕ → List ℕ → F → Denied → F → Type 0
+RefusesRun {F} reads held lengths name records old denied new =
+    RefusesFile reads (IsUnaccepted held lengths) name old denied new
+    ⊎ ((source : List ℕ) × (between : F) × reads old name (Ok source) between × IsAccepted held lengths source × RefusesFile reads (IsUnlisted lengths) records between denied new)
 
--- The script is not read, or it is not run. Unless memory ran out, nothing is written.
-abbrev pub RefusesScript : {F : Type 0} → (F → List ℕ → Result (List ℕ) FileFault → F → Type 0) → List ℕ → F → Denied → F → Type 0
-RefusesScript {F} reads name old denied new =
+-- The file is not read; or its bytes, which are handed out, are refused for this reason. Unless memory ran out, nothing is
+-- written.
+abbrev pub RefusesBeforeWrites : {F : Type 0} → ReadingOf F → (List ℕ → Refusal → Type 0) → List ℕ → F → Denied → F → Type 0
+RefusesBeforeWrites {F} reads refuses name old denied new =
     IsUnread reads name old denied new
-    ⊎ ((between : F) × (denied.file.now ≡ name) × reads old name (Ok denied.bytes.items) between × IsUnsimulated denied.bytes.items denied.refusal
+    ⊎ ((between : F) × (denied.file.now ≡ name) × reads old name (Ok denied.bytes.items) between × refuses denied.bytes.items denied.refusal
     × (denied.refusal ≢ refusal.OutOfMemory → new ≡ between))
 
 -- the command is refused for this reason, over files that stand thus before and after
-abbrev pub Refuses : {F : Type 0} → (F → List ℕ → Result (List ℕ) FileFault → F → Type 0) → FileCommand → F → Denied → F → Type 0
-Refuses reads (Asm file) old denied new = RefusesFile reads IsUnassembled file.now old denied new
-Refuses reads (Check file lengths) old denied new = RefusesFile reads (IsUnaccepted lengths) file.now old denied new
-Refuses reads (Run file start records lengths) old denied new = RefusesRun reads lengths file.now records.now old denied new
-Refuses reads (Sim script strict) old denied new = RefusesScript reads script.now old denied new
-Refuses reads (Audit journal) old denied new = RefusesFile reads IsUnaudited journal.now old denied new
+abbrev pub Refuses : {F : Type 0} → Reading F → FileCommand → F → Denied → F → Type 0
+Refuses reads (Asm file) = RefusesFile (reads longest_text) (IsUnspelled Text) file.now
+Refuses reads (Dis file) = RefusesFile (reads longest_text) (IsUnspelled Bytes) file.now
+Refuses reads (Check file held lengths states notes) = RefusesBeforeWrites (reads longest_text) (IsUnaccepted held lengths) file.now
+Refuses reads (Run file held start records lengths) = RefusesRun (reads longest_text) held lengths file.now records.now
+Refuses reads (Sim script strict) = RefusesBeforeWrites (reads longest_text) IsUnsimulated script.now
+Refuses reads (Audit journal) = RefusesFile (reads longest_journal) IsUnaudited journal.now
 
 -- ---- commands over one file
 
 -- the lines are what the command makes of the bytes
 abbrev pub Makes : Work → List ℕ → List ℕ → Type 0
 Makes work.Listing = Lists
-Makes (work.Acceptance lengths) = Accepts lengths
+Makes work.Disassembly = Disassembles
 Makes work.Audit = Audits
 
 -- why it makes nothing of them
 abbrev pub IsUnmade : Work → List ℕ → Refusal → Type 0
-IsUnmade work.Listing = IsUnassembled
-IsUnmade (work.Acceptance lengths) = IsUnaccepted lengths
+IsUnmade work.Listing = IsUnspelled Text
+IsUnmade work.Disassembly = IsUnspelled Bytes
 IsUnmade work.Audit = IsUnaudited
 
 -- ---- ends
@@ -195,7 +258,7 @@ end_of strict unwritten refused = if unwritten then Unsaved else (if strict && r
 
 -- The command ends so, over files and a writer that stand thus before and after: the writer took exactly the lines of the
 -- answer, or exactly the line of the refusal. Where the writer failed, it was given one of the two, and may have taken a part.
-abbrev pub Ends : {F : Type 0} → (F → List ℕ → Result (List ℕ) FileFault → F → Type 0) → Writing F → FileCommand → F → Option (List ℕ) → Outcome → F → Option (List ℕ) → Type 0
+abbrev pub Ends : {F : Type 0} → Reading F → Writing F → FileCommand → F → Option (List ℕ) → Outcome → F → Option (List ℕ) → Type 0
 Ends reads writes line old before (Refused denied) new after = Refuses reads line old denied new × Appends before after (refusal_line denied.refusal)
 Ends reads writes line old before Unwritten new after =
     ((lines : List ℕ) × (unwritten refused : Bool) × Answers reads writes line old lines unwritten refused new)

@@ -4,63 +4,24 @@ ghost use Rattle.std.specs.Prelude.{◌≡◌, ◌≢◌, true, false, None, IfO
 ghost use Rattle.q_command.specs.Advice.{IsToldOf, Meets, IsExplained, is_of_nodes};
 
 use crate::denied::Denied;
+use crate::line::{line_of, text_of, write_form};
 use crate::program::program;
 use bq_asm::fault::AsmFault;
 use bq_check::fault::CheckFault;
+use bq_insn::fault::DecodeFault;
+use bq_insn::text::Text;
 use bq_state::bounds::Bounds;
+use q_explain::bytes::{OBJECT_FILE, explain_bytes, is_object_file};
 use q_explain::explain::explain;
 use q_explain::lines::{assembler_line, script_line};
+use q_explain::source::{line_of_unit, of_label};
 use q_replay::fault::ReplayFault;
 use q_script::records::{RecordFault, RecordsFault};
 use q_script::script::ScriptFault;
 use q_sim::refusal::Refusal;
-use q_words::words::FileCommand;
+use q_words::words::{FileCommand, Form};
 use std::alloc::{AllocError, Global};
 use std::str;
-
-/// Of a line, this many characters are shown.
-const SHOWN: usize = 72;
-
-/// A line of a file.
-#[derive(Clone, Copy)]
-struct Line<'a> {
-    /// The name of the file.
-    file: &'a str,
-    /// The number of the line, counted from 1.
-    number: usize,
-    /// The line itself; empty where there is none.
-    text: &'a str,
-}
-
-/// The line with this number of the file that is refused.
-fn line_of<'a>(denied: &'a Denied<'_>, number: usize) -> Line<'a> {
-    let text = match str::from_utf8(denied.bytes.as_slice()) {
-        Ok(text) => text.split('\n').nth(number.saturating_sub(1)).unwrap_or(""),
-        Err(_) => "",
-    };
-    Line {
-        file: denied.file,
-        number,
-        text,
-    }
-}
-
-/// A line as it is shown: its first characters, and a question mark for each that is not to be printed.
-fn write_line(out: &mut String, line: &str) -> Result<(), AllocError> {
-    for letter in line.chars().take(SHOWN) {
-        out.push(if letter.is_control() { '?' } else { letter })?;
-    }
-    out.push('\n')
-}
-
-/// A line that is of no form, and what may stand there.
-fn write_form(out: &mut String, line: Line<'_>, form: &str) -> Result<(), AllocError> {
-    let Line { file, number, text } = line;
-    write!(out, "{file}, line {number}: ")?;
-    write_line(out, text)?;
-    writeln!(out, "{form}")?;
-    out.push_str("docs/FORMATS.md lists each form.\n")
-}
 
 /// What a list of records asks of the line that breaks it.
 fn of_record(fault: RecordFault) -> &'static str {
@@ -75,12 +36,11 @@ fn of_record(fault: RecordFault) -> &'static str {
     }
 }
 
-/// What assembler text asks, where it is refused for this.
-fn of_assembler(fault: AsmFault, line: &str) -> &'static str {
+/// What assembler text asks, where it is refused for this on the line of this number.
+fn of_assembler(fault: AsmFault, source: &str, number: usize, line: &str) -> &'static str {
     match fault {
         AsmFault::Syntax { .. } => assembler_line(line),
-        AsmFault::Label { .. } =>
-            "It defines a label again, or jumps to a label that no later line defines, or too\nfar. Jumps go forward.",
+        AsmFault::Label { .. } => of_label(source, number),
         AsmFault::BadLength => "The file has no instruction.",
         AsmFault::TooLong => "The program has more than 4096 units.",
         AsmFault::OutOfMemory => "",
@@ -95,14 +55,56 @@ fn write_assembler(
 ) -> Result<(), AllocError> {
     match fault {
         AsmFault::Syntax { line } | AsmFault::Label { line } => {
-            let line = line_of(denied, line);
-            write_form(out, line, of_assembler(fault, line.text))
+            let source = text_of(denied.bytes.as_slice());
+            let line = line_of(denied.file, source, line);
+            write_form(
+                out,
+                line,
+                of_assembler(fault, source, line.number, line.text),
+            )
         }
         _ => {
             let file = denied.file;
-            let words = of_assembler(fault, "");
+            let words = of_assembler(fault, "", 0, "");
             writeln!(out, "{file}: {words}")
         }
+    }
+}
+
+/// What is told of a file that is read as text and is none.
+fn write_no_text(
+    out: &mut String,
+    line: &FileCommand<'_>,
+    denied: &Denied<'_>,
+) -> Result<(), AllocError> {
+    let file = denied.file;
+    let words = match line {
+        FileCommand::Asm { .. } | FileCommand::Check { .. } | FileCommand::Run { .. }
+            if is_object_file(denied.bytes.as_slice()) => { OBJECT_FILE }
+        FileCommand::Check { .. } | FileCommand::Run { .. } =>
+            "It is not UTF-8, which text files are. The bytes of a program are passed with --bytes.",
+        _ => "It is not UTF-8, which text files are.",
+    };
+    writeln!(out, "{file}: {words}")
+}
+
+/// What is told of bytes that are no program.
+fn write_bytes(
+    alloc: Global,
+    out: &mut String,
+    denied: &Denied<'_>,
+    fault: DecodeFault,
+) -> Result<(), AllocError> {
+    let file = denied.file;
+    if is_object_file(denied.bytes.as_slice()) {
+        return writeln!(out, "{file}: {OBJECT_FILE}");
+    }
+    let Some(told) = explain_bytes(alloc, denied.bytes.as_slice(), fault)? else {
+        return Ok(());
+    };
+    match fault {
+        DecodeFault::At { .. } => write!(out, "{file}, {told}"),
+        _ => write!(out, "{file}: {told}"),
     }
 }
 
@@ -132,7 +134,8 @@ fn write_script(out: &mut String, denied: &Denied<'_>, kind: ScriptKind) -> Resu
     match denied.refusal {
         Refusal::FileFailed => writeln!(out, "{file}: It is not UTF-8, which text files are."),
         Refusal::Script(ScriptFault::Syntax { line }) => {
-            let line = line_of(denied, line);
+            let source = text_of(denied.bytes.as_slice());
+            let line = line_of(denied.file, source, line);
             let form = match kind {
                 ScriptKind::Events => script_line(line.number, line.text),
                 ScriptKind::Nodes => nodes_line(line.number, line.text),
@@ -162,20 +165,49 @@ fn lengths_of(line: &FileCommand<'_>) -> Bounds {
     }
 }
 
-/// What is told of a program that the verifier refuses for records of these lengths.
+/// What the file of a program holds of which a command asks; assembler text where it asks of none.
+fn form_of(line: &FileCommand<'_>) -> Form {
+    match line {
+        FileCommand::Dis { .. } => Form::Bytes,
+        FileCommand::Check { form, .. } | FileCommand::Run { form, .. } => *form,
+        _ => Form::Text,
+    }
+}
+
+/// The line of the unit of a fault, where the file is assembler text.
+fn write_unit_line(
+    out: &mut String,
+    form: Form,
+    source: &[u8],
+    text: &Text,
+    fault: CheckFault,
+) -> Result<(), AllocError> {
+    let (Form::Text, Some(unit)) = (form, fault.unit()) else {
+        return Ok(());
+    };
+    match line_of_unit(text_of(source), text, unit) {
+        Some(line) => write!(out, "line {line}, "),
+        None => Ok(()),
+    }
+}
+
+/// What is told of a program that the verifier refuses.
 fn write_program(
     alloc: Global,
     out: &mut String,
+    line: &FileCommand<'_>,
     denied: &Denied<'_>,
-    lengths: Bounds,
     fault: CheckFault,
 ) -> Result<(), AllocError> {
     let file = denied.file;
-    write!(out, "{file}, ")?;
-    let Ok(text) = program(alloc, denied.bytes.as_slice()) else {
+    let form = form_of(line);
+    let source = denied.bytes.as_slice();
+    let Ok(text) = program(alloc, form, source) else {
         return Err(AllocError);
     };
-    match explain(alloc, &text, lengths, fault)? {
+    write!(out, "{file}, ")?;
+    write_unit_line(out, form, source, &text, fault)?;
+    match explain(alloc, &text, lengths_of(line), fault)? {
         Some(told) => out.push_str(told.as_str()),
         None => out.push('\n'),
     }
@@ -200,19 +232,24 @@ fn write_reason(
 ) -> Result<(), AllocError> {
     let file = denied.file;
     match denied.refusal {
-        Refusal::FileFailed | Refusal::Script(_) | Refusal::Fraction(_) | Refusal::Cluster(_) =>
-            write_script(out, denied, ScriptKind::Events),
+        Refusal::FileFailed => write_no_text(out, line, denied),
+        Refusal::Script(_) | Refusal::Fraction(_) | Refusal::Cluster(_) => write_script(
+            out,
+            denied,
+            ScriptKind::Events,
+        ),
         Refusal::Assembler(fault) => write_assembler(out, denied, fault),
-        Refusal::Program(fault) => write_program(alloc, out, denied, lengths_of(line), fault),
+        Refusal::Bytes(fault) => write_bytes(alloc, out, denied, fault),
+        Refusal::Program(fault) => write_program(alloc, out, line, denied, fault),
         Refusal::Records(RecordsFault::Line { line, fault }) => {
-            write_form(out, line_of(denied, line), of_record(fault))
+            let source = text_of(denied.bytes.as_slice());
+            write_form(out, line_of(file, source, line), of_record(fault))
         }
         Refusal::Journal(fault) => {
             let words = of_journal(fault);
             writeln!(out, "{file}: {words}")
         }
-        Refusal::Records(RecordsFault::OutOfMemory) | Refusal::Bytes(_) | Refusal::OutOfMemory =>
-            Ok(()),
+        Refusal::Records(RecordsFault::OutOfMemory) | Refusal::OutOfMemory => Ok(()),
     }
 }
 
@@ -226,8 +263,8 @@ fn is_explained(denied: &Denied<'_>) -> bool
     }
 }
 
-/// What explains a command's refusal, from the bytes that are refused; none of want of memory, and of a file that was
-/// not read, of which [`Folder`] tells.
+/// What explains a command's refusal, from the bytes that are refused; none where memory ran out, and of a file that
+/// was not read, of which [`Folder`] tells.
 ///
 /// The one error is that memory ran out (99 OutOfMemory).
 ///

@@ -1,18 +1,21 @@
 //! The commands of the program `bqview`, over any files and any writer.
 //!
 //! - [`carry_out`] runs a command over any [`Files`] and any writer, and says how it ended. Where it answered, the
-//!   writer took exactly the text that the command answers: the listing of the program that FILE spells; the longest
-//!   path of that program, whose notes pass; what that program means over the records that RECORDS lists, from START;
-//!   what the script prints that SCRIPT spells; the answers that the journal JOURNAL recorded. It says whether a
-//!   journal was not written, or else whether a line was refused of a script that is strict. Where it was refused, the
-//!   writer took exactly the line of the refusal, whose reason holds of the files. It gives up only where a write
-//!   failed, which the writer counted.
-//!   It hands out what was read and refused ([`Denied`]), and gives the exit status.
-//! - [`program`] has programs from assembler text, with their certificates.
-//! - [`listing`] is the text that `asm` prints.
+//!   writer took exactly the text that the command answers: the listing of the program that FILE spells; the assembler
+//!   text of its bytes; the longest path of that program, whose notes pass, what those notes know at each unit, and the
+//!   notes themselves in the file OUT; what that program means over the records that RECORDS lists, from START; what the
+//!   script prints that SCRIPT spells; the answers that the journal JOURNAL recorded. It says whether a file was not
+//!   written, or else whether a line was refused of a script that is strict. Where it was refused, the writer took
+//!   exactly the line of the refusal, whose reason holds of the files. It gives up only where a write failed, which the
+//!   writer counted.
+//!   It hands out what was read and refused ([`Denied`]), gives the exit status, and tells in the notes, of which no clause
+//!   speaks, what explains a refusal.
+//! - [`program`] has programs from assembler text and from bytes, with their certificates.
+//! - [`listing`] is the text that `asm` prints, and [`checked`] what `check` prints and writes.
 //! - [`audit`] is the text that `audit` prints: the answers of a journal that is replayed.
-//! - [`advice`] explains a refusal in words, from the bytes that were read: any but want of memory, and a file that was
-//!   not read. [`nodes_advice`] explains so why the command `cluster`, which runs in another crate, refuses its script.
+//! - [`advice`] explains a refusal in words, from the bytes that were read: any but that memory ran out, and a file that
+//!   was not read. [`nodes_advice`] explains so why the command `cluster`, which runs in another crate, refuses its script.
+//! - What `dis` prints is assembled to the bytes that it was given: [`laws`].
 //!
 //! Scripts are run by [`simulate`], of the crate below: it takes each event of a script as one step of a cluster, whose
 //! type keeps that every recorded answer is true, and answers the lines of what the steps tell.
@@ -26,12 +29,18 @@
 //! [`advice`]: advice::advice
 //! [`nodes_advice`]: advice::nodes_advice
 //! [`audit`]: audit::audit
+//! [`checked`]: check::checked
 #![tactic(auto)]
 
 pub mod advice;
+mod answer;
 pub mod audit;
+pub mod check;
 pub mod denied;
+pub mod laws;
+mod line;
 pub mod listing;
 pub mod perform;
 pub mod program;
+mod told;
 pub mod worked;

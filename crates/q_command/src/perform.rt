@@ -2,16 +2,21 @@
 
 ghost use Rattle.std.specs.Prelude.{◌≡◌, ◌≢◌, ℕ, List, false, Ok, Err, IfOk, IfErr, string_bytes};
 ghost use Rattle.bq_sound.specs.Passes.{Passes};
-ghost use Rattle.q_command.specs.Perform.{Accepts, Answers, AnswersFile, AnswersRun, AnswersScript, Computes, Ends, IsProgram, IsSimulated, IsUnaccepted, IsUnassembled, IsUnlisted, IsUnmade, IsUnread, IsUnsimulated, Lists, Makes, Refuses, RefusesFile, RefusesRun, RefusesScript, end_of, failures_after, status_of};
+ghost use Rattle.bq_verify.specs.Least.{AreLeast};
+ghost use Rattle.q_command.specs.Perform.{Answers, AnswersCheck, AnswersFile, AnswersRun, AnswersScript, Computes, Disassembles, Ends, IsSimulated, IsUnaccepted, IsUnlisted, IsUnmade, IsUnread, IsUnspelled, IsUnsimulated, Lists, Makes, Refuses, RefusesBeforeWrites, RefusesFile, RefusesRun, Spells, end_of, failures_after, longest_text, status_of};
 
+use crate::answer::Answer;
 use crate::audit::audit;
+use crate::check::{Check, checked};
 use crate::denied::Denied;
 use crate::listing::listing;
 use crate::program::{certified, program, utf8};
+use crate::told::{tell_lines, tell_refusal};
+use bq_asm::disassemble::disassemble;
 use bq_check::certified::Certified;
 use bq_frame::block::Block;
 use bq_state::bounds::Bounds;
-use q_files::files::Files;
+use q_files::files::{Files, LONGEST_TEXT};
 use q_refused::line::put_refusal;
 use q_script::records::read_records;
 use q_script::script::Script;
@@ -19,18 +24,21 @@ use q_session::run::run_fold;
 use q_sim::refusal::Refusal;
 use q_sim::simulation::{Printed, simulate};
 use q_wire::counted::Counted;
-use q_words::words::FileCommand;
+use q_words::words::{FileCommand, Form};
 use std::alloc::Global;
 use std::io::Write;
+
+/// The most bytes that a journal has which is read: 1,024 MB.
+pub const LONGEST_JOURNAL: usize = 1024 * 1024 * 1024;
 
 /// How a command ended.
 #[derive(Drop)]
 pub enum Outcome<'a> {
-    /// It wrote its answer, and each journal that it was to write.
+    /// It wrote its answer, and each file that it was to write.
     Answered,
-    /// It wrote its answer, but a journal was not written.
+    /// It wrote its answer, but a journal or notes were not written.
     Unsaved,
-    /// It wrote its answer and each journal, but is strict, and a line was refused.
+    /// It wrote its answer and each file, but is strict, and a line was refused.
     LineRefused,
     /// It wrote its refusal.
     Refused(Denied<'a>),
@@ -39,8 +47,8 @@ pub enum Outcome<'a> {
 }
 
 impl Outcome<'_> {
-    /// The exit status: 0, or 1 after a refusal, where a journal was not written or a line of a strict script was
-    /// refused, or where the writer failed.
+    /// The exit status: 0, or 1 after a refusal, where a journal or notes were not written or a line of a strict script
+    /// was refused, or where the writer failed.
     pub fn status(&self) -> u8
         ensures { result ≡ status_of self.now }
     {
@@ -52,23 +60,21 @@ impl Outcome<'_> {
 }
 
 /// The listing of the program that assembler text spells, refused as [`program`].
-fn assembled(alloc: Global, source: &[u8]) -> Result<String, Refusal>
+fn listed(alloc: Global, source: &[u8]) -> Result<String, Refusal>
     ensures listed { IfOk result (λ lines. Lists source.now (string_bytes lines)) }
-    ensures refused { IfErr result (IsUnassembled source.now) }
+    ensures refused { IfErr result (IsUnspelled Form.Text source.now) }
 {
-    let text = program(alloc, source)?;
+    let text = program(alloc, Form::Text, source)?;
     Ok(listing(alloc, &text)?)
 }
 
-/// What `check` prints of assembler text.
-fn accepted(alloc: Global, source: &[u8], lengths: Bounds) -> Result<String, Refusal>
-    ensures accepted { IfOk result (λ lines. Accepts lengths source.now (string_bytes lines)) }
-    ensures refused { IfErr result (IsUnaccepted lengths source.now) }
+/// The assembler text of the program of these bytes, refused as [`program`].
+fn disassembled(alloc: Global, source: &[u8]) -> Result<String, Refusal>
+    ensures written { IfOk result (λ lines. Disassembles source.now (string_bytes lines)) }
+    ensures refused { IfErr result (IsUnspelled Form.Bytes source.now) }
 {
-    let certified = certified(alloc, source, lengths)?;
-    let longest = certified.longest();
-    let _notes = certified.notes();
-    Ok(format!(in alloc; "accepted longest {longest}\n")?)
+    let text = program(alloc, Form::Bytes, source)?;
+    Ok(disassemble(alloc, &text)?)
 }
 
 /// What `run` prints of a program over the records that a text lists.
@@ -78,7 +84,7 @@ fn computed(
     start: u64,
     listed: &[u8],
 ) -> Result<String, Refusal>
-    ensures computed { IfOk result (λ lines. (source : List ℕ) → IsProgram source certified.now.text → Computes certified.now.lengths source start listed.now (string_bytes lines)) }
+    ensures computed { IfOk result (λ lines. (held : _) (source : List ℕ) → Spells held source certified.now.text → Computes held certified.now.lengths source start listed.now (string_bytes lines)) }
     ensures refused { IfErr result (IsUnlisted certified.now.lengths listed.now) }
 {
     let listed = utf8(listed)?;
@@ -102,12 +108,17 @@ fn simulated<F: Files>(alloc: Global, source: &[u8], files: &mut F) -> Result<Pr
     simulate(alloc, script, files)
 }
 
-/// The bytes of a file.
-fn read<'a, F: Files>(alloc: Global, file: &'a str, files: &mut F) -> Result<Vec<u8>, Denied<'a>>
-    ensures read { IfOk result (λ bytes. F.read_gives files.old file.now (Ok bytes.items) files.new) }
-    ensures refused { IfErr result (λ denied. IsUnread F.read_gives file.now files.old denied files.new) }
+/// The bytes of a file, which has no more than `most`.
+fn read<'a, F: Files>(
+    alloc: Global,
+    file: &'a str,
+    most: usize,
+    files: &mut F,
+) -> Result<Vec<u8>, Denied<'a>>
+    ensures read { IfOk result (λ bytes. F.read_gives most files.old file.now (Ok bytes.items) files.new) }
+    ensures refused { IfErr result (λ denied. IsUnread (F.read_gives most) file.now files.old denied files.new) }
 {
-    match files.read(alloc, file) {
+    match files.read(alloc, file, most) {
         Ok(bytes) => Ok(bytes),
         Err(fault) => Err(Denied {
             refusal: Refusal::from(fault),
@@ -117,21 +128,26 @@ fn read<'a, F: Files>(alloc: Global, file: &'a str, files: &mut F) -> Result<Vec
     }
 }
 
-/// What a command prints that writes no journal and of which no line is refused; or its refusal, with the bytes that
-/// are refused.
+/// What a command prints that writes no file and of which no line is refused; or its refusal, with the bytes that are
+/// refused.
 fn told<'a>(
+    alloc: Global,
     answer: Result<String, Refusal>,
     file: &'a str,
     bytes: Vec<u8>,
-) -> Result<Printed, Denied<'a>>
-    ensures told { IfOk result (λ p. (answer ≡ Ok p.lines) × (p.unwritten ≡ false) × (p.refused ≡ false)) }
+) -> Result<Answer, Denied<'a>>
+    ensures told { IfOk result (λ p. (answer ≡ Ok p.printed.lines) × (p.printed.unwritten ≡ false) × (p.printed.refused ≡ false)) }
     ensures refused { IfErr result (λ denied. (answer ≡ Err denied.refusal) × (denied.file.now ≡ file.now) × (denied.bytes.items ≡ bytes.items)) }
 {
     match answer {
-        Ok(lines) => Ok(Printed {
-            lines,
-            unwritten: false,
-            refused: false,
+        Ok(lines) => Ok(Answer {
+            printed: Printed {
+                lines,
+                unwritten: false,
+                refused: false,
+                faults: Vec::new(alloc),
+            },
+            source: Vec::new(alloc),
         }),
         Err(refusal) => Err(Denied {
             refusal,
@@ -146,8 +162,8 @@ fn told<'a>(
 enum Work {
     /// `asm`: the listing of the program that they spell.
     Listing,
-    /// `check`: how long its longest path is, over records of these lengths.
-    Acceptance(Bounds),
+    /// `dis`: the assembler text of the program that they are.
+    Disassembly,
     /// `audit`: the answers of the journal that they are.
     Audit,
 }
@@ -158,41 +174,68 @@ fn made(alloc: Global, work: Work, bytes: &[u8]) -> Result<String, Refusal>
     ensures refused { IfErr result (IsUnmade work bytes.now) }
 {
     match work {
-        Work::Listing => assembled(alloc, bytes),
-        Work::Acceptance(lengths) => accepted(alloc, bytes, lengths),
+        Work::Listing => listed(alloc, bytes),
+        Work::Disassembly => disassembled(alloc, bytes),
         Work::Audit => audit(alloc, bytes),
     }
 }
 
-/// What a command prints of its one file.
+/// What a command prints of its one file, which has no more than so many bytes.
 fn file_answer<'a, F: Files>(
     alloc: Global,
     work: Work,
     file: &'a str,
+    most: usize,
     files: &mut F,
-) -> Result<Printed, Denied<'a>>
-    ensures answered { IfOk result (λ p. AnswersFile F.read_gives (Makes work) file.now files.old (string_bytes p.lines) p.unwritten p.refused files.new) }
-    ensures refused { IfErr result (λ denied. RefusesFile F.read_gives (IsUnmade work) file.now files.old denied files.new) }
+) -> Result<Answer, Denied<'a>>
+    ensures answered { IfOk result (λ p. AnswersFile (F.read_gives most) (Makes work) file.now files.old (string_bytes p.printed.lines) p.printed.unwritten p.printed.refused files.new) }
+    ensures refused { IfErr result (λ denied. RefusesFile (F.read_gives most) (IsUnmade work) file.now files.old denied files.new) }
 {
-    let bytes = read(alloc, file, files)?;
+    let bytes = read(alloc, file, most, files)?;
     let lines = made(alloc, work, bytes.as_slice());
-    told(lines, file, bytes)
+    told(alloc, lines, file, bytes)
+}
+
+/// What `check` prints.
+fn check_answer<'a, F: Files>(
+    alloc: Global,
+    file: &'a str,
+    check: &Check<'_>,
+    files: &mut F,
+) -> Result<Answer, Denied<'a>>
+    ensures answered { IfOk result (λ p. AnswersCheck (F.read_gives longest_text) F.write_gives check.now file.now files.old (string_bytes p.printed.lines) p.printed.unwritten p.printed.refused files.new) }
+    ensures refused { IfErr result (λ denied. RefusesBeforeWrites (F.read_gives longest_text) (IsUnaccepted check.now.form check.now.lengths) file.now files.old denied files.new) }
+{
+    let source = read(alloc, file, LONGEST_TEXT, files)?;
+    match checked(alloc, check, source.as_slice(), files) {
+        Ok(printed) => Ok(Answer {
+            printed,
+            source: Vec::new(alloc),
+        }),
+        Err(refusal) => Err(Denied {
+            refusal,
+            file,
+            bytes: source,
+        }),
+    }
 }
 
 /// The program of a file, with its certificate for records of these lengths.
 fn certified_file<'a, F: Files>(
     alloc: Global,
     file: &'a str,
+    form: Form,
     lengths: Bounds,
     files: &mut F,
 ) -> Result<Certified, Denied<'a>>
-    ensures certified { IfOk result (λ c. (source : List ℕ) × F.read_gives files.old file.now (Ok source) files.new × IsProgram source c.text) }
+    ensures certified { IfOk result (λ c. (source : List ℕ) × F.read_gives longest_text files.old file.now (Ok source) files.new × Spells form source c.text) }
     ensures lengths { IfOk result (λ c. c.lengths ≡ lengths) }
     ensures passes { IfOk result (λ c. Passes lengths c.text c.notes) }
-    ensures refused { IfErr result (λ denied. RefusesFile F.read_gives (IsUnaccepted lengths) file.now files.old denied files.new) }
+    ensures least { IfOk result (λ c. AreLeast lengths c.text c.notes) }
+    ensures refused { IfErr result (λ denied. RefusesFile (F.read_gives longest_text) (IsUnaccepted form lengths) file.now files.old denied files.new) }
 {
-    let source = read(alloc, file, files)?;
-    match certified(alloc, source.as_slice(), lengths) {
+    let source = read(alloc, file, LONGEST_TEXT, files)?;
+    match certified(alloc, form, source.as_slice(), lengths) {
         Ok(certified) => Ok(certified),
         Err(refusal) => Err(Denied {
             refusal,
@@ -209,28 +252,29 @@ fn computed_file<'a, F: Files>(
     start: u64,
     records: &'a str,
     files: &mut F,
-) -> Result<Printed, Denied<'a>>
-    ensures answered { IfOk result (λ p. (source : List ℕ) → IsProgram source certified.now.text → AnswersFile F.read_gives (Computes certified.now.lengths source start) records.now files.old (string_bytes p.lines) p.unwritten p.refused files.new) }
-    ensures refused { IfErr result (λ denied. RefusesFile F.read_gives (IsUnlisted certified.now.lengths) records.now files.old denied files.new) }
+) -> Result<Answer, Denied<'a>>
+    ensures answered { IfOk result (λ p. (held : _) (source : List ℕ) → Spells held source certified.now.text → AnswersFile (F.read_gives longest_text) (Computes held certified.now.lengths source start) records.now files.old (string_bytes p.printed.lines) p.printed.unwritten p.printed.refused files.new) }
+    ensures refused { IfErr result (λ denied. RefusesFile (F.read_gives longest_text) (IsUnlisted certified.now.lengths) records.now files.old denied files.new) }
 {
-    let listed = read(alloc, records, files)?;
+    let listed = read(alloc, records, LONGEST_TEXT, files)?;
     let lines = computed(alloc, certified, start, listed.as_slice());
-    told(lines, records, listed)
+    told(alloc, lines, records, listed)
 }
 
 /// What `run` prints.
 fn run_answer<'a, F: Files>(
     alloc: Global,
     file: &'a str,
+    form: Form,
     start: u64,
     records: &'a str,
     lengths: Bounds,
     files: &mut F,
-) -> Result<Printed, Denied<'a>>
-    ensures answered { IfOk result (λ p. AnswersRun F.read_gives lengths file.now start records.now files.old (string_bytes p.lines) p.unwritten p.refused files.new) }
-    ensures refused { IfErr result (λ denied. RefusesRun F.read_gives lengths file.now records.now files.old denied files.new) }
+) -> Result<Answer, Denied<'a>>
+    ensures answered { IfOk result (λ p. AnswersRun (F.read_gives longest_text) form lengths file.now start records.now files.old (string_bytes p.printed.lines) p.printed.unwritten p.printed.refused files.new) }
+    ensures refused { IfErr result (λ denied. RefusesRun (F.read_gives longest_text) form lengths file.now records.now files.old denied files.new) }
 {
-    let certified = certified_file(alloc, file, lengths, files)?;
+    let certified = certified_file(alloc, file, form, lengths, files)?;
     computed_file(alloc, &certified, start, records, files)
 }
 
@@ -239,13 +283,13 @@ fn sim_answer<'a, F: Files>(
     alloc: Global,
     script: &'a str,
     files: &mut F,
-) -> Result<Printed, Denied<'a>>
-    ensures answered { IfOk result (λ p. AnswersScript F.read_gives F.write_gives script.now files.old (string_bytes p.lines) p.unwritten p.refused files.new) }
-    ensures refused { IfErr result (λ denied. RefusesScript F.read_gives script.now files.old denied files.new) }
+) -> Result<Answer, Denied<'a>>
+    ensures answered { IfOk result (λ p. AnswersScript (F.read_gives longest_text) F.write_gives script.now files.old (string_bytes p.printed.lines) p.printed.unwritten p.printed.refused files.new) }
+    ensures refused { IfErr result (λ denied. RefusesBeforeWrites (F.read_gives longest_text) IsUnsimulated script.now files.old denied files.new) }
 {
-    let source = read(alloc, script, files)?;
+    let source = read(alloc, script, LONGEST_TEXT, files)?;
     match simulated(alloc, source.as_slice(), files) {
-        Ok(printed) => Ok(printed),
+        Ok(printed) => Ok(Answer { printed, source }),
         Err(refusal) => Err(Denied {
             refusal,
             file: script,
@@ -259,27 +303,45 @@ fn answer<'a, F: Files>(
     alloc: Global,
     line: &FileCommand<'a>,
     files: &mut F,
-) -> Result<Printed, Denied<'a>>
-    ensures answered { IfOk result (λ p. Answers F.read_gives F.write_gives line.now files.old (string_bytes p.lines) p.unwritten p.refused files.new) }
+) -> Result<Answer, Denied<'a>>
+    ensures answered { IfOk result (λ p. Answers F.read_gives F.write_gives line.now files.old (string_bytes p.printed.lines) p.printed.unwritten p.printed.refused files.new) }
     ensures refused { IfErr result (λ denied. Refuses F.read_gives line.now files.old denied files.new) }
 {
     match line {
-        FileCommand::Asm { file } => file_answer(alloc, Work::Listing, file, files),
-        FileCommand::Check { file, lengths } => {
-            file_answer(alloc, Work::Acceptance(*lengths), file, files)
+        FileCommand::Asm { file } => file_answer(alloc, Work::Listing, file, LONGEST_TEXT, files),
+        FileCommand::Dis { file } => {
+            file_answer(alloc, Work::Disassembly, file, LONGEST_TEXT, files)
+        }
+        FileCommand::Check {
+            file,
+            form,
+            lengths,
+            states,
+            notes,
+        } => {
+            let check = Check {
+                form: *form,
+                lengths: *lengths,
+                states: *states,
+                notes: *notes,
+            };
+            check_answer(alloc, file, &check, files)
         }
         FileCommand::Run {
             file,
+            form,
             start,
             records,
             lengths,
-        } => run_answer(alloc, file, *start, records, *lengths, files),
+        } => run_answer(alloc, file, *form, *start, records, *lengths, files),
         FileCommand::Sim { script, .. } => sim_answer(alloc, script, files),
-        FileCommand::Audit { journal } => file_answer(alloc, Work::Audit, journal, files),
+        FileCommand::Audit { journal } => {
+            file_answer(alloc, Work::Audit, journal, LONGEST_JOURNAL, files)
+        }
     }
 }
 
-/// How a command ends that wrote its answer. That a journal was not written comes before a line that was refused.
+/// How a command ends that wrote its answer. That a file was not written comes before a line that was refused.
 fn end_of<'a>(is_strict: bool, unwritten: bool, refused: bool) -> Outcome<'a>
     ensures { result ≡ end_of is_strict unwritten refused }
 {
@@ -292,26 +354,41 @@ fn end_of<'a>(is_strict: bool, unwritten: bool, refused: bool) -> Outcome<'a>
     Outcome::Answered
 }
 
-/// Runs a command, and writes its answer or its refusal.
+/// Runs a command, and writes its answer or its refusal. What explains a refusal, and each refused line of a script, goes
+/// to the notes; that they fail changes nothing else.
 ///
 /// It gives up only where a write failed, which the writer counted.
-pub fn carry_out<'a, F: Files, W: Write>(
+pub fn carry_out<'a, F: Files, W: Write, N: Write>(
     alloc: Global,
     line: &FileCommand<'a>,
     files: &mut F,
     out: &mut Counted<W>,
+    notes: &mut N,
 ) -> Outcome<'a>
     ensures ended { Ends F.read_gives F.write_gives line.now files.old (W.contents out.old.inner) result files.new (W.contents out.new.inner) }
     ensures counted { out.new.failures ≡ failures_after result out.old.failures }
 {
     match answer(alloc, line, files) {
-        Ok(printed) => match out.put(printed.lines.as_bytes()) {
-            Ok(()) => end_of(line.is_strict(), printed.unwritten, printed.refused),
-            Err(_) => Outcome::Unwritten,
-        },
-        Err(denied) => match put_refusal(out, &denied.refusal) {
-            Ok(()) => Outcome::Refused(denied),
-            Err(_) => Outcome::Unwritten,
-        },
+        Ok(answer) => {
+            let written = out.put(answer.printed.lines.as_bytes());
+            tell_lines(alloc, line, &answer, notes);
+            let Printed {
+                unwritten,
+                refused,
+                ..
+            } = answer.printed;
+            match written {
+                Ok(()) => end_of(line.is_strict(), unwritten, refused),
+                Err(_) => Outcome::Unwritten,
+            }
+        }
+        Err(denied) => {
+            let written = put_refusal(out, &denied.refusal);
+            tell_refusal(alloc, line, &denied, notes);
+            match written {
+                Ok(()) => Outcome::Refused(denied),
+                Err(_) => Outcome::Unwritten,
+            }
+        }
     }
 }

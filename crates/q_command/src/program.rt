@@ -1,15 +1,19 @@
-//! Programs from assembler text, and their certificates.
+//! Programs of files, and their certificates.
 
 ghost use Rattle.std.specs.Prelude.{◌≡◌, IfOk, IfErr, IsUtf8};
+ghost use Rattle.bq_flow.specs.Paths.{IsLongest};
 ghost use Rattle.bq_sound.specs.Passes.{Passes};
-ghost use Rattle.q_command.specs.Perform.{IsProgram, IsUnaccepted, IsUnassembled};
+ghost use Rattle.bq_verify.specs.Least.{AreLeast};
+ghost use Rattle.q_command.specs.Perform.{IsUnaccepted, IsUnspelled, Spells};
 
 use bq_asm::assemble::assemble;
 use bq_check::certified::Certified;
+use bq_insn::decode::decode;
 use bq_insn::text::Text;
 use bq_state::bounds::Bounds;
 use q_sim::program::certified_text;
 use q_sim::refusal::Refusal;
+use q_words::words::Form;
 use std::alloc::Global;
 use std::str;
 
@@ -24,26 +28,55 @@ pub fn utf8(bytes: &[u8]) -> Result<&str, Refusal>
 }
 
 /// The program that assembler text spells.
-///
-/// Refused are 87 FileFailed, where the bytes are not UTF-8, and what the assembler refuses.
-pub fn program(alloc: Global, source: &[u8]) -> Result<Text, Refusal>
-    ensures spelled { IfOk result (IsProgram source.now) }
-    ensures refused { IfErr result (IsUnassembled source.now) }
+fn assembled(alloc: Global, source: &[u8]) -> Result<Text, Refusal>
+    ensures spelled { IfOk result (Spells Form.Text source.now) }
+    ensures refused { IfErr result (IsUnspelled Form.Text source.now) }
 {
     let source = utf8(source)?;
     Ok(assemble(alloc, source)?)
 }
 
-/// The program that assembler text spells, with its certificate for records of these lengths. Refused as [`program`],
-/// and then as [`certified_text`].
-pub fn certified(alloc: Global, source: &[u8], lengths: Bounds) -> Result<Certified, Refusal>
-    ensures spelled { IfOk result (λ certified. IsProgram source.now certified.text) }
+/// The program of these bytes.
+fn decoded(alloc: Global, source: &[u8]) -> Result<Text, Refusal>
+    ensures spelled { IfOk result (Spells Form.Bytes source.now) }
+    ensures refused { IfErr result (IsUnspelled Form.Bytes source.now) }
+{
+    Ok(decode(alloc, source)?)
+}
+
+/// The program that a file of this form spells.
+///
+/// Refused are, of assembler text, 87 FileFailed, where it is not UTF-8, and what the assembler refuses (9, 10, 1, 2); and
+/// of bytes what decoding refuses (1 to 8).
+pub fn program(alloc: Global, form: Form, source: &[u8]) -> Result<Text, Refusal>
+    ensures spelled { IfOk result (Spells form source.now) }
+    ensures refused { IfErr result (IsUnspelled form source.now) }
+{
+    match form {
+        Form::Text => assembled(alloc, source),
+        Form::Bytes => decoded(alloc, source),
+    }
+}
+
+/// The program that a file of this form spells, with its certificate for records of these lengths and the verifier's
+/// notes. Refused as [`program`], and then as [`certified_text`].
+#[tactic(auto, using(crate::proofs::Programs::unspelled, crate::proofs::Programs::uncertified))]
+pub fn certified(
+    alloc: Global,
+    form: Form,
+    source: &[u8],
+    lengths: Bounds,
+) -> Result<Certified, Refusal>
+    ensures spelled { IfOk result (λ certified. Spells form source.now certified.text) }
     ensures lengths { IfOk result (λ certified. certified.lengths ≡ lengths) }
     ensures passes { IfOk result (λ certified. Passes lengths certified.text certified.notes) }
-    ensures refused { IfErr result (IsUnaccepted lengths source.now) }
+    ensures least { IfOk result (λ certified. AreLeast lengths certified.text certified.notes) }
+    ensures longest { IfOk result (λ certified. IsLongest certified.text certified.longest) }
+    ensures refused { IfErr result (IsUnaccepted form lengths source.now) }
 {
-    let text = program(alloc, source)?;
+    let text = program(alloc, form, source)?;
     let certified = certified_text(alloc, text, lengths)?;
     let _notes = certified.notes();
+    let _longest = certified.longest();
     Ok(certified)
 }

@@ -1,6 +1,6 @@
 //! Worked values of what commands answer, refuse and tell.
 
-ghost use Rattle.std.specs.Prelude.{◌≡◌, ℕ, Bool, List, [], ◌∷◌, Some, Ok, true, false, codes, replicate, IsUtf8};
+ghost use Rattle.std.specs.Prelude.{◌≡◌, ◌++◌, ℕ, Bool, List, [], ◌∷◌, Option, Some, Ok, true, false, codes, replicate, IsUtf8};
 ghost use Rattle.bq_asm.specs.Source.{IsSource};
 ghost use Rattle.bq_insn.specs.declared.insn.Insn.{Insn};
 ghost use Rattle.bq_range.specs.Interval.{Interval};
@@ -10,10 +10,15 @@ ghost use Rattle.q_files.specs.declared.memory.MemoryFiles.{MemoryFiles as Memor
 ghost use Rattle.q_session.specs.declared.query.Query.{Query};
 ghost use Rattle.q_sim.specs.declared.refusal.Refusal.TheVariants as refused;
 ghost use Rattle.q_words.specs.declared.words.FileCommand.{FileCommand};
+ghost use Rattle.q_words.specs.declared.words.Form.TheVariants as form;
+ghost use Rattle.bq_check.specs.Spelling.{notes_bytes};
+ghost use Rattle.bq_check.specs.declared.form.Form.TheVariants.{Second};
+ghost use Rattle.bq_insn.specs.Slots.{spelling};
+ghost use Rattle.bq_state.specs.Kinds.{StateKinds};
 ghost use Rattle.q_command.specs.Advice.{IsToldOf};
 ghost use Rattle.q_command.specs.Audit.{answer_lines};
 ghost use Rattle.q_command.specs.Listing.{listing_of};
-ghost use Rattle.q_command.specs.Perform.{Answers, AnswersRun, Ends, IsProgram, IsUnassembled, RefusesFile, end_of, failures_after, status_of};
+ghost use Rattle.q_command.specs.Perform.{Answers, AnswersRun, Ends, IsProgram, IsUnspelled, RefusesFile, SavesNotes, Spells, acceptance, end_of, failures_after, status_of};
 ghost use Rattle.q_command.specs.declared.denied.Denied.{Denied};
 ghost use Rattle.q_command.specs.declared.perform.Outcome.TheVariants as outcome;
 
@@ -21,15 +26,22 @@ ghost use Rattle.q_command.specs.declared.perform.Outcome.TheVariants as outcome
 pub fn worked()
     // Programs and their listings.
     ensures of_the_text { (source : List ℕ) (text : List Insn) → IsProgram source text → IsSource source text }
-    ensures no_text { (source : List ℕ) → (IsUtf8 source → ⊥) → IsUnassembled source refused.OutOfMemory → ⊥ }
+    ensures no_text { (source : List ℕ) → (IsUtf8 source → ⊥) → IsUnspelled form.Text source refused.OutOfMemory → ⊥ }
+    ensures bytes_are_no_text { (source : List ℕ) → IsUnspelled form.Bytes source refused.FileFailed → ⊥ }
+    ensures of_the_bytes { (text : List Insn) → Spells form.Bytes [] text → spelling text ≡ [] }
     ensures listed { listing_of (149 ∷ replicate 7 0) ≡ codes "9500000000000000\n" }
+
+    // What `check` tells and writes.
+    ensures accepted_alone { (notes : List (Option StateKinds)) → acceptance false [] notes 7 ≡ codes "accepted longest 7\n" }
+    ensures saved { (old new : Memory) (name notes told lines : _) → name.now ≡ codes "a" → SavesNotes (Writes {X = Unit {0}}) (Some name) notes told old lines false new → bytes_of new.files (codes "a") ≡ Some (notes_bytes Second notes) }
+    ensures unsaved { (old new : Memory) (name notes told lines : _) → SavesNotes (Writes {X = Unit {0}}) (Some name) notes told old lines true new → lines ≡ told ++ codes "refused 87 FileFailed\n" }
 
     // Journals.
     ensures audited { (query : Query) → answer_in query.phase ≡ Some (record { acc = 5; steps = 9 }) → answer_lines 4 (query ∷ []) ≡ codes "answer 4 5 9\n" }
 
     // Answers and refusals.
-    ensures records_of_their_file { (lengths : Interval) (program records lines : List ℕ) (start : ℕ) (old new : Memory) → AnswersRun Reads lengths program start records old lines false false new → (between : Memory) × (bytes : List ℕ) × Reads between records (Ok bytes) new }
-    ensures refused_bytes { (denied : Denied) (old new : Memory) → fails_next old.passing ≡ false → bytes_of old.files (codes "a") ≡ Some (255 ∷ []) → denied.refusal ≡ refused.FileFailed → RefusesFile Reads IsUnassembled (codes "a") old denied new → denied.bytes.items ≡ 255 ∷ [] }
+    ensures records_of_their_file { (lengths : Interval) (program records lines : List ℕ) (start : ℕ) (old new : Memory) → AnswersRun (Reads 99) form.Text lengths program start records old lines false false new → (between : Memory) × (bytes : List ℕ) × Reads 99 between records (Ok bytes) new }
+    ensures refused_bytes { (denied : Denied) (old new : Memory) → fails_next old.passing ≡ false → bytes_of old.files (codes "a") ≡ Some (255 ∷ []) → denied.refusal ≡ refused.FileFailed → RefusesFile (Reads 99) (IsUnspelled form.Text) (codes "a") old denied new → denied.bytes.items ≡ 255 ∷ [] }
     ensures no_advice_of_text { (told text : List ℕ) → IsUtf8 text → IsToldOf refused.FileFailed text (Some told) → ⊥ }
 
     // Ends.

@@ -1,13 +1,13 @@
 -- The command that the words name.
-use Rattle.std.proofs.Common.{◌≡◌, ℕ, ◌∙◌, Bool, true, false, List, [], ◌∷◌, Option, Some, None, ap, ap₂, refl, sym, codes, Bor, option_map, unwrap_or, IsSomeAnd, is_some, map, cond, ◌⊎◌, inl, inr, subst, true≢false}
-use Rattle.std.specs.Prelude.{Box, find, Result, Ok, Err, IfOk, MatchResult, ◌||◌}
+use Rattle.std.proofs.Common.{◌≡◌, ℕ, ◌∙◌, Bool, true, false, List, [], ◌∷◌, Option, Some, None, MatchOption, ap, ap₂, refl, sym, codes, Bor, option_map, unwrap_or, IsSomeAnd, is_some, map, cond, ◌⊎◌, inl, inr, subst, true≢false}
+use Rattle.std.specs.Prelude.{Box, find, Result, Ok, Err, IfOk, IsErrAnd, MatchResult, ◌||◌}
 use Rattle.std.specs.Box.{box_value}
-use Rattle.std.specs.Option.{SomeIff, ok_or}
+use Rattle.std.specs.Option.{SomeIff}
 use Rattle.std.proofs.lemmas.Fmt.{decimal_injective}
 use Rattle.bq_range.specs.Interval.{Interval, between}
 use Rattle.bq_state.specs.Kinds.{AreLengths}
 use Rattle.q_script.specs.Words as words
-use Rattle.clap.specs.Words.{App, HasMatchesOf, fault_of, subcommand_name_of, subcommand_of, Row, Shape, Text, found_of, is_simple, is_simple_and_free, rows_of, subcommand_rows, subcommand_rows_of}
+use Rattle.clap.specs.Words.{App, HasKind, HasMatchesOf, IsAmong, kind_of, fault_of, subcommand_name_of, subcommand_of, Row, Shape, Text, found_of, is_simple, is_simple_and_free, rows_of, subcommand_rows, subcommand_rows_of}
 use Rattle.clap.specs.Simple.{argument_words, built, entered, label_of, names_of, rows_at}
 use Rattle.clap.specs.Walk.{answers_to, stop_after}
 use Rattle.clap.specs.Words.{Rule, app_of, rule_of, with_rule, with_subcommand}
@@ -15,6 +15,7 @@ use Rattle.clap.specs.Built.{AddsArg, AddsSubcommand}
 use Rattle.clap.specs.declared.builder.arg.Arg.{Arg}
 use Rattle.clap.specs.declared.builder.command.Command.{Command}
 use Rattle.clap.specs.declared.builder.command.Command.TheViews.{out-Command}
+use Rattle.clap.specs.declared.error.Error.{Error}
 use Rattle.clap.specs.declared.parser.matches.SubCommand.{SubCommand}
 use Rattle.clap.specs.declared.parser.matches.ArgMatches.{ArgMatches}
 use Rattle.clap.specs.declared.parser.matches.ArgMatches.TheViews.{out-ArgMatches, out-SubCommand}
@@ -22,7 +23,7 @@ use Rattle.clap.proofs.OnLiterals.{clap_on_literals}
 use Rattle.q_words.specs.declared.words.Wanted.{Wanted}
 use Rattle.q_words.specs.declared.words.WordsFault.{WordsFault}
 use Rattle.q_words.specs.declared.words.WordsFault.TheVariants.{Help, Wrong, BadStart, BadLengths, NotUtf8, OutOfMemory}
-use Rattle.q_words.specs.Words.{Has, bqview, operand_of, AreBad, AreGiven, AreGivenFor, IsMet, HasLineFault, Reads}
+use Rattle.q_words.specs.Words.{Has, bqview, operand_of, AreBad, AreGiven, AreGivenFor, IsAskedFor, IsMet, HasFault, HasLineFault, Reads, Tells}
 
 simple : is_simple bqview ≡ true
 unfolding clap_on_literals
@@ -87,25 +88,29 @@ entered_in : (a : App) (stop : Option (Text × List Text)) (p : Text × List Row
 entered_in a None p e = absurd (not_some p e)
 entered_in a (Some q) p e = find_in (λ s. answers_to q.0 (label_of s)) a.subs q.1 p e
 
-all_names : names (built bqview).subs ≡ codes "asm" ∷ codes "check" ∷ codes "run" ∷ codes "sim" ∷ codes "cluster" ∷ codes "audit" ∷ []
+abbrev commands : List Text
+commands = codes "asm" ∷ codes "dis" ∷ codes "check" ∷ codes "run" ∷ codes "sim" ∷ codes "cluster" ∷ codes "audit" ∷ []
+
+all_names : names (built bqview).subs ≡ commands
 all_names = refl
 
-one_of_six : (n : Text) → In n (codes "asm" ∷ codes "check" ∷ codes "run" ∷ codes "sim" ∷ codes "cluster" ∷ codes "audit" ∷ []) → (n ≡ codes "asm" → ⊥) → (n ≡ codes "check" → ⊥) → (n ≡ codes "run" → ⊥) → (n ≡ codes "sim" → ⊥)
-    → (n ≡ codes "cluster" → ⊥) → (n ≡ codes "audit" → ⊥) → ⊥
-one_of_six n h a b c d f k = elim h [
-  | inl e ↦ a e
-  | inr h ↦ elim h [ inl e ↦ b e | inr h ↦ elim h [ inl e ↦ c e | inr h ↦ elim h [ inl e ↦ d e | inr h ↦ elim h [ inl e ↦ f e | inr h ↦ elim h [ inl e ↦ k e | inr h ↦ h ] ] ] ] ]
-]
+-- the name of what was met is none of these
+abbrev MetNone : Option Text → List Text → Type 0
+MetNone met [] = Unit {0}
+MetNone met (name ∷ others) = (met ≡ Some name → ⊥) × MetNone met others
 
+none_of : (n : Text) (ns : List Text) → In n ns → MetNone (Some n) ns → ⊥
+none_of n [] h k = h
+none_of n (m ∷ ms) h k = elim h [ inl e ↦ k.0 (ap (λ t. Some t) e) | inr h ↦ none_of n ms h k.1 ]
+
+-- a command was met, so its name is one of those
 pub other_command : {Z : Type 0} (o : Option (Box SubCommand Z)) (words : List Text) → is_some o ≡ true → subcommand_rows o ≡ subcommand_of bqview words
-    → let name = option_map (λ b. (out-SubCommand (box_value b)).name.now) o in (name ≡ Some (codes "asm") → ⊥) → (name ≡ Some (codes "check") → ⊥) → (name ≡ Some (codes "run") → ⊥) → (name ≡ Some (codes "sim") → ⊥)
-    → (name ≡ Some (codes "cluster") → ⊥) → (name ≡ Some (codes "audit") → ⊥) → ⊥
-other_command None words s e a b c d f k = true≢false (sym s)
-other_command (Some x) words s e a b c d f k =
+    → MetNone (option_map (λ b. (out-SubCommand (box_value b)).name.now) o) commands → ⊥
+other_command None words s e none = true≢false (sym s)
+other_command (Some x) words s e none =
     let n : Text = (out-SubCommand (box_value x)).name.now in
     let known = entered_in (built bqview) (stop_after (built bqview).top.rules (names_of (built bqview)) (argument_words bqview words)) (n, rows_of (found_of (out-SubCommand (box_value x)).matches)) (sym e) in
-    one_of_six n (subst (In n) all_names known) (λ h. a (ap (λ t. Some t) h)) (λ h. b (ap (λ t. Some t) h)) (λ h. c (ap (λ t. Some t) h)) (λ h. d (ap (λ t. Some t) h))
-    (λ h. f (ap (λ t. Some t) h)) (λ h. k (ap (λ t. Some t) h))
+    none_of n commands (subst (In n) all_names known) none
 
 -- ---- how commands are put together
 
@@ -132,12 +137,33 @@ below_one_more old below (Err e) app under h has low = tt
 read_so : (words : List Text) (r : Result Wanted WordsFault) (met : Text × List Row) → fault_of bqview words ≡ [] → subcommand_of bqview words ≡ Some met
     → MatchResult r (λ asked. IsMet asked met) (λ e. HasLineFault e met) → Reads words r
 read_so words (Ok asked) met n s h = (n, was_met (IsMet asked) _ met s h)
-read_so words (Err BadStart) met n s h = (n, was_met (HasLineFault BadStart) _ met s h)
-read_so words (Err BadLengths) met n s h = (n, was_met (HasLineFault BadLengths) _ met s h)
+read_so words (Err (BadStart start)) met n s h = (n, was_met (HasLineFault (BadStart start)) _ met s h)
+read_so words (Err (BadLengths command least most)) met n s h = (n, was_met (HasLineFault (BadLengths command least most)) _ met s h)
 read_so words (Err (Help e)) met n s h = absurd h
 read_so words (Err (Wrong e)) met n s h = absurd h
 read_so words (Err NotUtf8) met n s h = absurd h
 read_so words (Err OutOfMemory) met n s h = absurd h
+
+-- the fault by what `clap` says
+faulty_so : (words : List Text) (error : Error) (e : WordsFault) → HasKind (fault_of bqview words) error → Tells error e → HasFault words e
+faulty_so words error (Help x) h t = elim h [
+  | inl memory ↦ elim t.1 [ inl asked ↦ absurd cc | inr asked ↦ absurd cc ]
+  | inr among ↦ (subst (λ y. IsAskedFor (kind_of y)) (sym t.0) t.1, subst (λ y. IsAmong (kind_of y) (fault_of bqview words)) (sym t.0) among)
+]
+faulty_so words error (Wrong x) h t = elim h [
+  | inl memory ↦ absurd (t.2 memory)
+  | inr among ↦ (subst (λ y. ¬ (IsAskedFor (kind_of y))) (sym t.0) t.1, subst (λ y. IsAmong (kind_of y) (fault_of bqview words)) (sym t.0) among)
+]
+faulty_so words error OutOfMemory h t = tt
+faulty_so words error (BadStart start) h t = absurd t
+faulty_so words error (BadLengths command least most) h t = absurd t
+faulty_so words error NotUtf8 h t = absurd t
+
+-- the parser fails
+pub failed_so : {a : App} (words : List Text) (error : Error) (r : Result Wanted WordsFault) → a ≡ bqview → (is_simple_and_free a ≡ true → HasKind (fault_of a words) error) → IsErrAnd r (Tells error) → Reads words r
+failed_so words error (Ok asked) is kinds h = absurd h
+failed_so words error (Err e) is kinds h =
+    faulty_so words error e (subst (λ (x : App). HasKind (fault_of x words) error) is (kinds (ap is_simple_and_free is ∙ free))) h
 
 -- the parser met the command of this name
 pub was_named : {a : App} (m : ArgMatches) (words : List Text) → a ≡ bqview → (is_simple_and_free a ≡ true → fault_of a words ≡ []) → HasMatchesOf a words m
@@ -149,28 +175,20 @@ was_named m words is kinds matches name rows named found r h =
 
 -- ---- lengths of records
 
-some_of : (o : Option ℕ) (n : ℕ) → Ok n ≡ ok_or o BadLengths → o ≡ Some n
-some_of None n h = absurd cc
-some_of (Some x) n h = cc
-
 -- a text spells one number
 same_number : (t : Text) (n m : ℕ) → words.IsNumeral t n → words.IsNumeral t m → n ≡ m
 same_number t n m h k = decimal_injective n m h.0 k.0 (sym h.1 ∙ k.1)
 
-given : (rows : List Row) (a b : Option ℕ) (n m : ℕ) → words.Reads words.IsNumeral (operand_of (codes "least") rows) a → words.Reads words.IsNumeral (operand_of (codes "most") rows) b → a ≡ Some n → b ≡ Some m
+-- the numbers that were read of what was given
+pub were_given : (rows : List Row) (least most : Text) (a b : Option ℕ) (n m : ℕ) → least ≡ operand_of (codes "least") rows → most ≡ operand_of (codes "most") rows → words.Reads words.IsNumeral least a → words.Reads words.IsNumeral most b → a ≡ Some n → b ≡ Some m
     → AreGivenFor rows n m
-given rows a b n m h k e f = (subst (λ o. words.Reads words.IsNumeral (operand_of (codes "least") rows) o) e h, subst (λ o. words.Reads words.IsNumeral (operand_of (codes "most") rows) o) f k)
-
-bounded : (rows : List Row) (n m : ℕ) (o : Option Interval) → AreGivenFor rows n m → SomeIff o (AreLengths (between n m)) (between n m)
-    → MatchResult {E = WordsFault} (ok_or o BadLengths) (AreGiven rows) (λ e. (e ≡ BadLengths) × AreBad rows)
-bounded rows n m (Some l) g h = subst (AreGiven rows) (sym h.1) (h.0, g)
-bounded rows n m None g h = (
-  refl,
-  λ l k. h (subst AreLengths (ap₂ between (same_number (operand_of (codes "least") rows) l.lo n k.1.0 g.0) (same_number (operand_of (codes "most") rows) l.hi m k.1.1 g.1)) k.0),
+were_given rows least most a b n m is_least is_most h k e f = (
+  subst (λ o. words.Reads words.IsNumeral (operand_of (codes "least") rows) o) e (subst (λ t. words.Reads words.IsNumeral t a) is_least h),
+  subst (λ o. words.Reads words.IsNumeral (operand_of (codes "most") rows) o) f (subst (λ t. words.Reads words.IsNumeral t b) is_most k),
 )
 
--- what is read of two numbers
-pub lengths_read : (rows : List Row) (a b : Option ℕ) (n m : ℕ) (o : Option Interval) (r : Result Interval WordsFault) → words.Reads words.IsNumeral (operand_of (codes "least") rows) a → words.Reads words.IsNumeral (operand_of (codes "most") rows) b
-    → Ok n ≡ ok_or a BadLengths → Ok m ≡ ok_or b BadLengths → SomeIff o (AreLengths (between n m)) (between n m) → r ≡ ok_or o BadLengths
-    → MatchResult r (AreGiven rows) (λ e. (e ≡ BadLengths) × AreBad rows)
-lengths_read rows a b n m o r h k e f i is = subst (λ r. MatchResult r (AreGiven rows) (λ e. (e ≡ BadLengths) × AreBad rows)) (sym is) (bounded rows n m o (given rows a b n m h k (some_of a n e) (some_of b m f)) i)
+-- the lengths that were read of two numbers, if they are some
+pub lengths_read : (rows : List Row) (n m : ℕ) (o : Option Interval) → AreGivenFor rows n m → SomeIff o (AreLengths (between n m)) (between n m) → MatchOption o (AreBad rows) (AreGiven rows)
+lengths_read rows n m (Some l) g h = subst (AreGiven rows) (sym h.1) (h.0, g)
+lengths_read rows n m None g h = λ l k.
+    h (subst AreLengths (ap₂ between (same_number (operand_of (codes "least") rows) l.lo n k.1.0 g.0) (same_number (operand_of (codes "most") rows) l.hi m k.1.1 g.1)) k.0)

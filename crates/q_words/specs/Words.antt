@@ -1,10 +1,12 @@
 -- The command line of the program, and what its words say.
-use Rattle.std.specs.Prelude.{◌≡◌, ◌⊎◌, ℕ, Bool, List, [], ◌∷◌, Some, IsSomeAnd, unwrap_or, bytes_eq, codes, true, false, Result, Ok, Err, IfOk, ⊤}
+use Rattle.std.specs.Prelude.{◌≡◌, ◌⊎◌, ℕ, Bool, List, [], ◌∷◌, Some, IsSomeAnd, option_map, unwrap_or, bytes_eq, codes, true, false, Result, Ok, Err, IfOk, ⊤, if◌then◌else◌}
+use denote.Ref.{Bor}
 use Rattle.clap.specs.Words.{App, app_of, IsAmong, Row, Rule, Text, fault_of, first_of, kind_of, new_app, new_rule, subcommand_of, with_rule, with_subcommand}
 use Rattle.clap.specs.declared.builder.command.Command.{Command}
 use Rattle.clap.specs.declared.builder.command.Command.TheViews.{out-Command}
 use Rattle.clap.specs.declared.error.Error.{Error}
-use Rattle.clap.specs.declared.error.kind.ErrorKind.TheVariants.{DisplayHelp}
+use Rattle.clap.specs.declared.error.kind.ErrorKind.{ErrorKind}
+use Rattle.clap.specs.declared.error.kind.ErrorKind.TheVariants.{DisplayHelp, DisplayVersion}
 use Rattle.clap.specs.declared.error.kind.ErrorKind.TheVariants as kind
 use Rattle.std.specs.IoError.{error_kind}
 use Rattle.std.specs.declared.io.Error as io
@@ -13,7 +15,9 @@ use Rattle.clap.specs.declared.builder.action.ArgAction.TheVariants.{Set, SetTru
 use Rattle.bq_range.specs.Interval.{Interval}
 use Rattle.bq_state.specs.Kinds.{AreLengths}
 use Rattle.q_words.specs.declared.words.FileCommand.{FileCommand}
-use Rattle.q_words.specs.declared.words.FileCommand.TheVariants.{Asm, Check, Run, Sim, Audit}
+use Rattle.q_words.specs.declared.words.FileCommand.TheVariants.{Asm, Dis, Check, Run, Sim, Audit}
+use Rattle.q_words.specs.declared.words.Form.{Form}
+use Rattle.q_words.specs.declared.words.Form.TheVariants as form
 use Rattle.q_words.specs.declared.words.Wanted.{Wanted}
 use Rattle.q_words.specs.declared.words.Wanted.TheVariants as wanted
 use Rattle.q_words.specs.declared.words.WordsFault.{WordsFault}
@@ -30,6 +34,10 @@ operand name = record (new_rule name) { required = true; action = Some Set }
 abbrev pub option : Text → Text → Rule
 option name default = record (new_rule name) { long = Some name; value_names = 1; defaults = default ∷ []; action = Some Set }
 
+-- an option that may be left out
+abbrev pub optional : Text → Rule
+optional name = record (new_rule name) { long = Some name; value_names = 1; action = Some Set }
+
 -- a flag
 abbrev pub flag : Text → Rule
 flag name = record (new_rule name) { long = Some name; action = Some SetTrue }
@@ -38,17 +46,27 @@ flag name = record (new_rule name) { long = Some name; action = Some SetTrue }
 abbrev pub with_lengths : App → App
 with_lengths app = with_rule (with_rule app (option (codes "least") (codes "16"))) (option (codes "most") (codes "128"))
 
+-- a command with `--bytes`
+abbrev pub with_bytes : App → App
+with_bytes app = with_rule app (flag (codes "bytes"))
+
 -- `asm FILE`
 abbrev pub asm_app : App
 asm_app = with_rule (new_app (codes "asm")) (operand (codes "FILE"))
 
--- `check FILE`
+-- `dis FILE`
+abbrev pub dis_app : App
+dis_app = with_rule (new_app (codes "dis")) (operand (codes "FILE"))
+
+-- `check FILE`, with `--states` and `--notes`
 abbrev pub check_app : App
-check_app = with_lengths (with_rule (new_app (codes "check")) (operand (codes "FILE")))
+check_app =
+    let program = with_bytes (with_rule (new_app (codes "check")) (operand (codes "FILE"))) in
+    with_lengths (with_rule (with_rule program (flag (codes "states"))) (optional (codes "notes")))
 
 -- `run FILE START RECORDS`
 abbrev pub run_app : App
-run_app = with_lengths (with_rule (with_rule (with_rule (new_app (codes "run")) (operand (codes "FILE"))) (operand (codes "START"))) (operand (codes "RECORDS")))
+run_app = with_lengths (with_bytes (with_rule (with_rule (with_rule (new_app (codes "run")) (operand (codes "FILE"))) (operand (codes "START"))) (operand (codes "RECORDS"))))
 
 -- a command `NAME SCRIPT`, with the flag `--strict`
 abbrev pub script_app : Text → App
@@ -66,17 +84,18 @@ cluster_app = script_app (codes "cluster")
 abbrev pub audit_app : App
 audit_app = with_rule (new_app (codes "audit")) (operand (codes "JOURNAL"))
 
--- the program, of which one command is wanted, with none below it
+-- the program, of which one command or the version is wanted, with none below it
 abbrev pub bare_app : App
 bare_app =
     let plain = new_app (codes "bqview") in
-    record plain { top = record plain.top { subcommand_required = true; disable_help_subcommand = true } }
+    record plain { top = record plain.top { has_version = true; subcommand_required = true; disable_help_subcommand = true } }
 
 -- the program
 abbrev pub bqview : App
 bqview =
-    let asm_check_run = with_subcommand (with_subcommand (with_subcommand bare_app asm_app.top) check_app.top) run_app.top in
-    with_subcommand (with_subcommand (with_subcommand asm_check_run sim_app.top) cluster_app.top) audit_app.top
+    let asm_dis = with_subcommand (with_subcommand bare_app asm_app.top) dis_app.top in
+    let check_run = with_subcommand (with_subcommand asm_dis check_app.top) run_app.top in
+    with_subcommand (with_subcommand (with_subcommand check_run sim_app.top) cluster_app.top) audit_app.top
 
 -- Inner words, of the private functions that put the commands together: the command is this one, with no option for the
 -- commands below it; or memory ran out.
@@ -93,6 +112,10 @@ operand_of name rows = unwrap_or (first_of name rows) []
 abbrev pub is_given : Text → List Row → Bool
 is_given name rows = bytes_eq (operand_of name rows) (codes "true")
 
+-- what the file of a program holds, as `--bytes` says
+abbrev pub form_of : List Row → Form
+form_of rows = if is_given (codes "bytes") rows then form.Bytes else form.Text
+
 -- these numbers were given for `--least` and `--most`
 abbrev pub AreGivenFor : List Row → ℕ → ℕ → Type 0
 AreGivenFor rows least most = IsNumeral (operand_of (codes "least") rows) least × IsNumeral (operand_of (codes "most") rows) most
@@ -105,13 +128,20 @@ AreGiven rows lengths = AreLengths lengths × AreGivenFor rows lengths.lo length
 abbrev pub AreBad : List Row → Type 0
 AreBad rows = (lengths : Interval) → AreGiven rows lengths → ⊥
 
+-- a program is in this file, of this form, for records of these lengths
+abbrev pub HasProgram : Bor Text → Form → Interval → List Row → Type 0
+HasProgram file held lengths rows = (file.now ≡ operand_of (codes "FILE") rows) × (held ≡ form_of rows) × AreGiven rows lengths
+
 -- the command over files that was met, by its name and what was found for its operands
 abbrev pub HasCommand : FileCommand → Text × List Row → Type 0
 HasCommand (Asm file) met = (met.0 ≡ codes "asm") × (file.now ≡ operand_of (codes "FILE") met.1)
-HasCommand (Check file lengths) met = (met.0 ≡ codes "check") × (file.now ≡ operand_of (codes "FILE") met.1) × AreGiven met.1 lengths
-HasCommand (Run file start records lengths) met =
-    (met.0 ≡ codes "run") × (file.now ≡ operand_of (codes "FILE") met.1) × IsNumeral (operand_of (codes "START") met.1) start
-    × (records.now ≡ operand_of (codes "RECORDS") met.1) × AreGiven met.1 lengths
+HasCommand (Dis file) met = (met.0 ≡ codes "dis") × (file.now ≡ operand_of (codes "FILE") met.1)
+HasCommand (Check file held lengths states notes) met =
+    (met.0 ≡ codes "check") × HasProgram file held lengths met.1 × (states ≡ is_given (codes "states") met.1)
+    × (option_map (λ name. name.now) notes ≡ first_of (codes "notes") met.1)
+HasCommand (Run file held start records lengths) met =
+    (met.0 ≡ codes "run") × HasProgram file held lengths met.1 × IsNumeral (operand_of (codes "START") met.1) start
+    × (records.now ≡ operand_of (codes "RECORDS") met.1)
 HasCommand (Sim script strict) met = (met.0 ≡ codes "sim") × (script.now ≡ operand_of (codes "SCRIPT") met.1) × (strict ≡ is_given (codes "strict") met.1)
 HasCommand (Audit journal) met = (met.0 ≡ codes "audit") × (journal.now ≡ operand_of (codes "JOURNAL") met.1)
 
@@ -129,16 +159,22 @@ HasBadStart met = (met.0 ≡ codes "run") × ((n : ℕ) → IsNumeral (operand_o
 abbrev pub HasLengths : Text × List Row → Type 0
 HasLengths met = (met.0 ≡ codes "check") ⊎ ((met.0 ≡ codes "run") × ((n : ℕ) × IsNumeral (operand_of (codes "START") met.1) n))
 
--- a command was met, and what `clap` lets pass is wrong with its operands
+-- a command was met, and what `clap` lets pass is wrong with its operands: the fault has what was given for them
 abbrev pub HasLineFault : WordsFault → Text × List Row → Type 0
-HasLineFault BadStart met = HasBadStart met
-HasLineFault BadLengths met = HasLengths met × AreBad met.1
+HasLineFault (BadStart start) met = HasBadStart met × (start.now ≡ operand_of (codes "START") met.1)
+HasLineFault (BadLengths command least most) met =
+    HasLengths met × AreBad met.1 × (command.now ≡ met.0)
+    × (least.now ≡ operand_of (codes "least") met.1) × (most.now ≡ operand_of (codes "most") met.1)
 HasLineFault e met = ⊥
+
+-- help or the version is asked for
+abbrev pub IsAskedFor : ErrorKind → Type 0
+IsAskedFor asked = (asked ≡ DisplayHelp) ⊎ (asked ≡ DisplayVersion)
 
 -- the fault tells what the error of `clap` says
 abbrev pub Tells : Error → WordsFault → Type 0
-Tells error (Help e) = (e ≡ error) × (kind_of error ≡ DisplayHelp)
-Tells error (Wrong e) = (e ≡ error) × (kind_of error ≡ DisplayHelp → ⊥) × (kind_of error ≡ kind.OutOfMemory → ⊥)
+Tells error (Help e) = (e ≡ error) × IsAskedFor (kind_of error)
+Tells error (Wrong e) = (e ≡ error) × ¬ (IsAskedFor (kind_of error)) × (kind_of error ≡ kind.OutOfMemory → ⊥)
 Tells error OutOfMemory = kind_of error ≡ kind.OutOfMemory
 Tells error e = ⊥
 
@@ -148,11 +184,11 @@ TellsUngiven error OutOfMemory = error_kind error ≡ io_kind.OutOfMemory
 TellsUngiven error NotUtf8 = error_kind error ≡ io_kind.OutOfMemory → ⊥
 TellsUngiven error e = ⊥
 
--- help is asked for, the words have a mistake of one of the kinds, a number among them is none or out of bounds, or
--- memory ran out
+-- help or the version is asked for, the words have a mistake of one of the kinds, a number among them is none or out of
+-- bounds, or memory ran out
 abbrev pub HasFault : List Text → WordsFault → Type 0
-HasFault words (Help e) = (kind_of e ≡ DisplayHelp) × IsAmong DisplayHelp (fault_of bqview words)
-HasFault words (Wrong e) = (kind_of e ≡ DisplayHelp → ⊥) × IsAmong (kind_of e) (fault_of bqview words)
+HasFault words (Help e) = IsAskedFor (kind_of e) × IsAmong (kind_of e) (fault_of bqview words)
+HasFault words (Wrong e) = ¬ (IsAskedFor (kind_of e)) × IsAmong (kind_of e) (fault_of bqview words)
 HasFault words OutOfMemory = ⊤
 HasFault words e = (fault_of bqview words ≡ []) × IsSomeAnd (subcommand_of bqview words) (HasLineFault e)
 
@@ -167,8 +203,8 @@ abbrev pub exit_status : WordsFault → ℕ
 exit_status (Help e) = 0
 exit_status OutOfMemory = 1
 exit_status (Wrong e) = 2
-exit_status BadStart = 2
-exit_status BadLengths = 2
+exit_status (BadStart start) = 2
+exit_status (BadLengths command least most) = 2
 exit_status NotUtf8 = 2
 
 -- whether a refused line of the command is told by its exit status

@@ -1,14 +1,14 @@
 //! The words of the command line.
 
-ghost use Rattle.std.specs.Prelude.{◌≡◌, codes, IfOk, IfErr, IsErrAnd, MatchResult, map, false, true};
+ghost use Rattle.std.specs.Prelude.{◌≡◌, codes, IfOk, IfErr, IsErrAnd, MatchOption, MatchResult, map, option_map, false, true};
 ghost use Rattle.std.specs.Option.{SomeIff};
 ghost use Rattle.std.specs.Vec.Iter.{into_iter_items};
 ghost use Rattle.bq_range.specs.Interval.{between};
 ghost use Rattle.bq_state.specs.Kinds.{AreLengths};
-ghost use Rattle.clap.specs.Words.{App, app_of, found_of, new_app, rows_of, with_rule, with_subcommand};
+ghost use Rattle.clap.specs.Words.{App, app_of, first_of, found_of, new_app, rows_of, with_rule, with_subcommand};
 ghost use Rattle.clap.specs.declared.builder.command.Command.TheViews.{out-Command};
 ghost use Rattle.q_words.specs.declared.words.WordsFault.TheVariants.{OutOfMemory};
-ghost use Rattle.q_words.specs.Words.{Has, asm_app, check_app, run_app, sim_app, cluster_app, audit_app, bare_app, bqview, flag, operand, option, with_lengths, operand_of, is_given, is_strict, AreGiven, AreBad, HasLineFault, IsMet, Reads, Tells, TellsUngiven, exit_status};
+ghost use Rattle.q_words.specs.Words.{Has, asm_app, dis_app, check_app, run_app, sim_app, cluster_app, audit_app, bare_app, bqview, flag, operand, option, optional, with_bytes, with_lengths, form_of, operand_of, is_given, is_strict, AreGiven, AreBad, HasLengths, HasLineFault, IsMet, Reads, Tells, TellsUngiven, exit_status};
 
 use bq_state::bounds::Bounds;
 use clap::error::ErrorKind;
@@ -19,6 +19,15 @@ use std::convert::AsStr;
 use std::env::Args;
 use std::io;
 
+/// What a file of a program holds.
+#[derive(Clone, Copy, Debug, PartialEq, Eq)]
+pub enum Form {
+    /// Assembler text.
+    Text,
+    /// The bytes of the program, as `--bytes` says: eight a unit (RFC 9669, section 3.1).
+    Bytes,
+}
+
 /// A command over files, with its operands.
 #[derive(Clone, Copy)]
 pub enum FileCommand<'a> {
@@ -27,17 +36,30 @@ pub enum FileCommand<'a> {
         /// The name of the file.
         file: &'a str,
     },
-    /// `check FILE`: check the program that a file of assembler text spells.
+    /// `dis FILE`: write the program of these bytes as assembler text.
+    Dis {
+        /// The name of the file.
+        file: &'a str,
+    },
+    /// `check FILE`: check the program of a file.
     Check {
         /// The name of the file.
         file: &'a str,
+        /// What the file holds.
+        form: Form,
         /// How many bytes a record may have.
         lengths: Bounds,
+        /// Whether what is known of the registers at each unit is to be told.
+        states: bool,
+        /// The name of the file to which the program's notes are to be written, if they are.
+        notes: Option<&'a str>,
     },
-    /// `run FILE START RECORDS`: run the program that a file of assembler text spells over records.
+    /// `run FILE START RECORDS`: run the program of a file over records.
     Run {
         /// The name of the file.
         file: &'a str,
+        /// What the file holds.
+        form: Form,
         /// The accumulator that the program begins with.
         start: u64,
         /// The name of the file that lists the records.
@@ -67,6 +89,7 @@ impl FileCommand<'_> {
         match self {
             FileCommand::Sim { strict, .. } => *strict,
             FileCommand::Asm { .. }
+            | FileCommand::Dis { .. }
             | FileCommand::Check { .. }
             | FileCommand::Run { .. }
             | FileCommand::Audit { .. } => false,
@@ -90,8 +113,8 @@ pub enum Wanted<'a> {
 
 /// Why the words name no command. Its text is what the program prints.
 #[derive(Debug, Drop, thiserror::Error)]
-pub enum WordsFault {
-    /// They ask for help, which is the text of this. It belongs to the standard output.
+pub enum WordsFault<'a> {
+    /// They ask for help or for the version, which is the text of this. It belongs to the standard output.
     #[error(transparent)]
     Help(Error),
     /// They are no command line. The text says what is wrong with them, and belongs to the standard
@@ -99,11 +122,21 @@ pub enum WordsFault {
     #[error(transparent)]
     Wrong(Error),
     /// The START of `run` is no number. The text belongs to the standard error.
-    #[error("error: START is the accumulator to begin with: a number from 0 to 18446744073709551615 in decimal, with no zero in front of other digits and no sign\n\nFor more information, try 'bqview run --help'.\n")]
-    BadStart,
+    #[error("error: START is the accumulator to begin with, and '{start}' is none: write a number from 0 to 18446744073709551615 in decimal, with no zero in front of other digits and no sign\n\nFor more information, try 'bqview run --help'.\n")]
+    BadStart {
+        /// What was given for START.
+        start: &'a str,
+    },
     /// The lengths of records are none. The text belongs to the standard error.
-    #[error("error: --least and --most are the fewest and the most bytes that a record may have: numbers in decimal with 16 <= least <= most <= 128\n\nFor more information, try 'bqview check --help'.\n")]
-    BadLengths,
+    #[error("error: --least '{least}' and --most '{most}' are not the fewest and the most bytes that a record may have: write numbers in decimal with 16 <= least <= most <= 128\n\nFor more information, try 'bqview {command} --help'.\n")]
+    BadLengths {
+        /// The command whose lengths they are.
+        command: &'a str,
+        /// What was given for `--least`, or stands for it.
+        least: &'a str,
+        /// What was given for `--most`, or stands for it.
+        most: &'a str,
+    },
     /// A word of them is not UTF-8. The text belongs to the standard error.
     #[error("error: a word of the command line is not UTF-8 text\n\nFor more information, try 'bqview --help'.\n")]
     NotUtf8,
@@ -112,9 +145,9 @@ pub enum WordsFault {
     OutOfMemory,
 }
 
-impl WordsFault {
-    /// The exit status of the program: 0 where help was asked for, 1 for want of memory, 2 where the words are no command
-    /// line.
+impl WordsFault<'_> {
+    /// The exit status of the program: 0 where help or the version was asked for, 1 where memory ran out, 2 where the
+    /// words are no command line.
     pub fn status(&self) -> u8
         ensures { result ≡ exit_status self.now }
     {
@@ -122,19 +155,19 @@ impl WordsFault {
             WordsFault::Help(_) => 0,
             WordsFault::OutOfMemory => 1,
             WordsFault::Wrong(_)
-            | WordsFault::BadStart
-            | WordsFault::BadLengths
+            | WordsFault::BadStart { .. }
+            | WordsFault::BadLengths { .. }
             | WordsFault::NotUtf8 => 2,
         }
     }
 }
 
-impl From<Error> for WordsFault {
+impl From<Error> for WordsFault<'_> {
     ghost from_gives = { Tells };
 
     fn from(error: Error) -> Self {
         match error.kind() {
-            ErrorKind::DisplayHelp => WordsFault::Help(error),
+            ErrorKind::DisplayHelp | ErrorKind::DisplayVersion => WordsFault::Help(error),
             ErrorKind::OutOfMemory => WordsFault::OutOfMemory,
             _ => WordsFault::Wrong(error),
         }
@@ -142,7 +175,7 @@ impl From<Error> for WordsFault {
 }
 
 /// Why the system gives no words.
-impl From<io::Error> for WordsFault {
+impl From<io::Error> for WordsFault<'_> {
     ghost from_gives = { TellsUngiven };
 
     fn from(error: io::Error) -> Self {
@@ -153,7 +186,7 @@ impl From<io::Error> for WordsFault {
     }
 }
 
-impl From<AllocError> for WordsFault {
+impl From<AllocError> for WordsFault<'_> {
     ghost from_gives = { λ _ e. e ≡ OutOfMemory };
 
     fn from(_error: AllocError) -> Self {
@@ -161,8 +194,16 @@ impl From<AllocError> for WordsFault {
     }
 }
 
+/// The version of the program, which `bqview --version` prints.
+pub const VERSION: &str = "0.1.0";
+
 /// What FILE names.
-const ASSEMBLER: &str = "A file of assembler text, one instruction a line";
+const ASSEMBLER: &str =
+    "A file of assembler text, one instruction a line; `-` is the standard input";
+
+/// What FILE names where it may hold bytes.
+const PROGRAM: &str =
+    "A file of assembler text, or with --bytes of the program's bytes; `-` is the standard input";
 
 /// A command of this name, with nothing below it yet.
 fn new_command<'a>(alloc: Global, name: &'a str, about: &'a str, after_help: &'a str) -> Command<'a>
@@ -214,6 +255,27 @@ fn with_option<'a>(
     command.arg(option)
 }
 
+/// The command, if there is one, with one more option, which may be left out.
+fn with_optional<'a>(
+    alloc: Global,
+    command: Result<Command<'a>, AllocError>,
+    name: &'a str,
+    help: &'a str,
+    value: &'a str,
+) -> Result<Command<'a>, AllocError>
+    ensures { (app : App) → Has command.entry app → Has result (with_rule app (optional name.entry.now)) }
+{
+    let Ok(command) = command else {
+        return Err(AllocError);
+    };
+    let option = Arg::new(alloc, name)
+        .long(name)
+        .value_name(value)
+        .help(help)
+        .action(ArgAction::Set);
+    command.arg(option)
+}
+
 /// The command, if there is one, with one more flag.
 fn with_flag<'a>(
     alloc: Global,
@@ -256,6 +318,21 @@ fn with_lengths<'a>(
     )
 }
 
+/// The command, if there is one, with the flag `--bytes`.
+fn with_bytes<'a>(
+    alloc: Global,
+    command: Result<Command<'a>, AllocError>,
+) -> Result<Command<'a>, AllocError>
+    ensures { (app : App) → Has command.entry app → Has result (with_bytes app) }
+{
+    with_flag(
+        alloc,
+        command,
+        "bytes",
+        "FILE holds the program's bytes, as `llvm-objcopy -O binary --only-section=.text` leaves them",
+    )
+}
+
 /// The command `asm`.
 fn asm_command<'a>(alloc: Global) -> Result<Command<'a>, AllocError>
     ensures { Has result asm_app }
@@ -264,9 +341,27 @@ fn asm_command<'a>(alloc: Global) -> Result<Command<'a>, AllocError>
         alloc,
         "asm",
         "Prints each unit of a program as 16 hexadecimal digits, one a line",
-        "Example: bqview asm examples/count.bpf\nFormats: docs/FORMATS.md",
+        "All is printed at the end. What explains a refusal goes to the standard error.\nExit status: 0; 1 after a refusal, or where the output fails; 2 for a wrong command line.\nExample: bqview asm examples/count.bpf\nFormats: docs/FORMATS.md, \"Assembler text\"",
     );
     with_operand(alloc, Ok(command), "FILE", ASSEMBLER)
+}
+
+/// The command `dis`.
+fn dis_command<'a>(alloc: Global) -> Result<Command<'a>, AllocError>
+    ensures { Has result dis_app }
+{
+    let command = new_command(
+        alloc,
+        "dis",
+        "Prints the assembler text of a program's bytes, one instruction a line",
+        "All is printed at the end. What explains a refusal goes to the standard error.\nExit status: 0; 1 after a refusal, or where the output fails; 2 for a wrong command line.\nExample: bqview dis count.text\nFormats: docs/FORMATS.md, \"Assembler text\"",
+    );
+    with_operand(
+        alloc,
+        Ok(command),
+        "FILE",
+        "A file of a program's bytes, eight a unit; `-` is the standard input",
+    )
 }
 
 /// The command `check`.
@@ -277,10 +372,24 @@ fn check_command<'a>(alloc: Global) -> Result<Command<'a>, AllocError>
         alloc,
         "check",
         "Proves that a program never faults, and prints its most steps",
-        "Example: bqview check examples/count.bpf\nFormats: docs/FORMATS.md",
+        "All is printed at the end. What explains a refusal goes to the standard error.\nExit status: 0; 1 after a refusal, or where OUT or the output fails; 2 for a wrong command line.\nExample: bqview check --states examples/count.bpf\nFormats: docs/FORMATS.md, \"Assembler text\" and \"Notes\"",
     );
-    let file = with_operand(alloc, Ok(command), "FILE", ASSEMBLER);
-    with_lengths(alloc, file)
+    let file = with_operand(alloc, Ok(command), "FILE", PROGRAM);
+    let form = with_bytes(alloc, file);
+    let states = with_flag(
+        alloc,
+        form,
+        "states",
+        "Prints for each unit what is known of the registers there",
+    );
+    let notes = with_optional(
+        alloc,
+        states,
+        "notes",
+        "Writes the program's notes to this file, for a client to send",
+        "OUT",
+    );
+    with_lengths(alloc, notes)
 }
 
 /// The command `run`.
@@ -291,9 +400,9 @@ fn run_command<'a>(alloc: Global) -> Result<Command<'a>, AllocError>
         alloc,
         "run",
         "Runs a program over records, and prints the answer and the steps",
-        "Example: bqview run --least 64 examples/sum.bpf 0 examples/three.records\nFormats: docs/FORMATS.md",
+        "All is printed at the end. What explains a refusal goes to the standard error.\nExit status: 0; 1 after a refusal, or where the output fails; 2 for a wrong command line.\nExample: bqview run --least 64 examples/sum.bpf 0 examples/three.records\nFormats: docs/FORMATS.md, \"Assembler text\" and \"Lists of records\"",
     );
-    let file = with_operand(alloc, Ok(command), "FILE", ASSEMBLER);
+    let file = with_operand(alloc, Ok(command), "FILE", PROGRAM);
     let start = with_operand(
         alloc,
         file,
@@ -304,9 +413,10 @@ fn run_command<'a>(alloc: Global) -> Result<Command<'a>, AllocError>
         alloc,
         start,
         "RECORDS",
-        "A file of lines `ID SEQ VALUE`, one for each record, by rising ids",
+        "A file of lines `ID SEQ VALUE`, one for each record, by rising ids; `-` is the standard input",
     );
-    with_lengths(alloc, records)
+    let form = with_bytes(alloc, records);
+    with_lengths(alloc, form)
 }
 
 /// The command `sim`.
@@ -317,13 +427,13 @@ fn sim_command<'a>(alloc: Global) -> Result<Command<'a>, AllocError>
         alloc,
         "sim",
         "Runs a script over a cluster in memory, and prints what events tell",
-        "Example: bqview sim examples/count.sim\nFormats: docs/FORMATS.md",
+        "All is printed at the end. What explains refused lines goes to the standard error.\nExit status: 0; 1 after a refusal of the script, where a journal or the output fails, or as --strict says; 2 for a wrong command line.\nExample: bqview sim examples/count.sim\nFormats: docs/FORMATS.md, \"Scripts\"",
     );
     let script = with_operand(
         alloc,
         Ok(command),
         "SCRIPT",
-        "A file of events, one a line, of which the first founds the cluster",
+        "A file of events, one a line, of which the first founds the cluster; `-` is the standard input",
     );
     with_flag(
         alloc,
@@ -341,13 +451,13 @@ fn cluster_command<'a>(alloc: Global) -> Result<Command<'a>, AllocError>
         alloc,
         "cluster",
         "Runs a script over nodes with sockets, and prints what its lines tell",
-        "Example: bqview cluster examples/three.cluster\nFormats: docs/FORMATS.md",
+        "All is printed at the end. What explains refusals goes to the standard error.\nExit status: 0; 1 where a refusal ends the run or the output fails, or as --strict says; 2 for a wrong command line.\nExample: bqview cluster examples/three.cluster\nFormats: docs/FORMATS.md, \"Scripts of nodes with sockets\"",
     );
     let script = with_operand(
         alloc,
         Ok(command),
         "SCRIPT",
-        "A file of `nodes`, programs, stores and queries, one a line",
+        "A file of `nodes`, programs, stores and queries, one a line; `-` is the standard input",
     );
     with_flag(
         alloc,
@@ -365,13 +475,13 @@ fn audit_command<'a>(alloc: Global) -> Result<Command<'a>, AllocError>
         alloc,
         "audit",
         "Replays a node's journal, and prints the answers that it recorded",
-        "Example: bqview audit node.journal\nFormats: docs/FORMATS.md",
+        "All is printed at the end. What explains a refusal goes to the standard error.\nExit status: 0; 1 after a refusal, or where the output fails; 2 for a wrong command line.\nExample: bqview audit node.journal\nFormats: docs/FORMATS.md, \"Journals\"",
     );
     with_operand(
         alloc,
         Ok(command),
         "JOURNAL",
-        "A file that the line `journal NODE FILE` of a script wrote",
+        "A file that the line `journal NODE FILE` of a script wrote; `-` is the standard input",
     )
 }
 
@@ -397,7 +507,10 @@ fn bare_program<'a>(alloc: Global) -> Command<'a>
 {
     Command::new(alloc, "bqview")
         .about("Programs of RFC 9669 over store-collect views")
-        .after_help("Example: bqview sim examples/count.sim\nFormats: docs/FORMATS.md")
+        .version(VERSION)
+        .after_help(
+            "A file named `-` is the standard input. `bqview COMMAND --help` tells of a command.\nExit status: 0; 1 after a refusal, or where a file or the output fails; 2 for a wrong command line.\nExample: bqview sim examples/count.sim\nFormats: docs/FORMATS.md, refusals: docs/REFUSALS.md",
+        )
         .subcommand_required(true)
         .disable_help_subcommand(true)
 }
@@ -407,7 +520,8 @@ fn program<'a>(alloc: Global) -> Result<Command<'a>, AllocError>
     ensures { Has result bqview }
 {
     let asm = with_command(Ok(bare_program(alloc)), asm_command(alloc));
-    let check = with_command(asm, check_command(alloc));
+    let dis = with_command(asm, dis_command(alloc));
+    let check = with_command(dis, check_command(alloc));
     let run = with_command(check, run_command(alloc));
     let sim = with_command(run, sim_command(alloc));
     let cluster = with_command(sim, cluster_command(alloc));
@@ -428,6 +542,24 @@ fn is_given(found: &ArgMatches<'_>, name: &str) -> bool
     operand_text(found, name) == "true"
 }
 
+/// The text of an option that may be left out, if it was given.
+fn optional_text<'a>(found: &ArgMatches<'a>, name: &str) -> Option<&'a str>
+    ensures { option_map (λ text. text.now) result ≡ first_of name.now (rows_of (found_of found.now)) }
+{
+    found.get_str(name)
+}
+
+/// What the file of a program holds.
+fn program_form(found: &ArgMatches<'_>) -> Form
+    ensures { result ≡ form_of (rows_of (found_of found.now)) }
+{
+    if is_given(found, "bytes") {
+        Form::Bytes
+    } else {
+        Form::Text
+    }
+}
+
 /// The lengths from `least` to `most`, if they are in order and within 16 to 128.
 fn bounds(least: u64, most: u64) -> Option<Bounds>
     ensures { SomeIff result (AreLengths (between least most)) (between least most) }
@@ -437,34 +569,57 @@ fn bounds(least: u64, most: u64) -> Option<Bounds>
     Bounds::new(least, most)
 }
 
-/// The lengths of records that were given.
-fn lengths<'a>(found: &ArgMatches<'a>) -> Result<Bounds, WordsFault>
-    ensures { MatchResult result (AreGiven (rows_of (found_of found.now))) (λ e. (e ≡ WordsFault.BadLengths) × AreBad (rows_of (found_of found.now))) }
+/// The lengths of records that were given, if they are some.
+fn lengths<'a>(found: &ArgMatches<'a>) -> Option<Bounds>
+    ensures { MatchOption result (AreBad (rows_of (found_of found.now))) (AreGiven (rows_of (found_of found.now))) }
 {
-    let least = number(operand_text(found, "least")).ok_or(WordsFault::BadLengths)?;
-    let most = number(operand_text(found, "most")).ok_or(WordsFault::BadLengths)?;
-    bounds(least, most).ok_or(WordsFault::BadLengths)
+    let least = number(operand_text(found, "least"))?;
+    let most = number(operand_text(found, "most"))?;
+    bounds(least, most)
+}
+
+/// That what was given to a command for the lengths of records is none.
+fn bad_lengths<'a>(found: &ArgMatches<'a>, command: &'a str) -> WordsFault<'a>
+    requires { AreBad (rows_of (found_of found.now)) }
+    ensures { HasLengths (command.entry.now, rows_of (found_of found.now)) → HasLineFault result (command.entry.now, rows_of (found_of found.now)) }
+{
+    WordsFault::BadLengths {
+        command,
+        least: operand_text(found, "least"),
+        most: operand_text(found, "most"),
+    }
 }
 
 /// The command `check` with what was found for its operands.
-fn check_line<'a>(found: &ArgMatches<'a>) -> Result<Wanted<'a>, WordsFault>
+fn check_line<'a>(found: &ArgMatches<'a>) -> Result<Wanted<'a>, WordsFault<'a>>
     ensures { MatchResult result (λ wanted. IsMet wanted (codes "check", rows_of (found_of found.now))) (λ e. HasLineFault e (codes "check", rows_of (found_of found.now))) }
 {
-    let lengths = lengths(found)?;
+    let Some(lengths) = lengths(found) else {
+        return Err(bad_lengths(found, "check"));
+    };
     Ok(Wanted::FileCommand(FileCommand::Check {
         file: operand_text(found, "FILE"),
+        form: program_form(found),
         lengths,
+        states: is_given(found, "states"),
+        notes: optional_text(found, "notes"),
     }))
 }
 
 /// The command `run` with what was found for its operands.
-fn run_line<'a>(found: &ArgMatches<'a>) -> Result<Wanted<'a>, WordsFault>
+fn run_line<'a>(found: &ArgMatches<'a>) -> Result<Wanted<'a>, WordsFault<'a>>
     ensures { MatchResult result (λ wanted. IsMet wanted (codes "run", rows_of (found_of found.now))) (λ e. HasLineFault e (codes "run", rows_of (found_of found.now))) }
 {
-    let start = number(operand_text(found, "START")).ok_or(WordsFault::BadStart)?;
-    let lengths = lengths(found)?;
+    let text = operand_text(found, "START");
+    let Some(start) = number(text) else {
+        return Err(WordsFault::BadStart { start: text });
+    };
+    let Some(lengths) = lengths(found) else {
+        return Err(bad_lengths(found, "run"));
+    };
     Ok(Wanted::FileCommand(FileCommand::Run {
         file: operand_text(found, "FILE"),
+        form: program_form(found),
         start,
         records: operand_text(found, "RECORDS"),
         lengths,
@@ -492,7 +647,10 @@ fn cluster_line<'a>(found: &ArgMatches<'a>) -> Wanted<'a>
 }
 
 /// The words of the command line that the system gives, of which the first is the program's name.
-pub fn given_words(alloc: Global, given: io::Result<Args>) -> Result<Vec<String>, WordsFault>
+pub fn given_words(
+    alloc: Global,
+    given: io::Result<Args>,
+) -> Result<Vec<String>, WordsFault<'static>>
     ensures words { IfOk given (λ args. MatchResult result (λ words. words.items ≡ into_iter_items args) (λ e. e ≡ OutOfMemory)) }
     ensures ungiven { IfErr given (λ error. IsErrAnd result (TellsUngiven error)) }
 {
@@ -500,13 +658,17 @@ pub fn given_words(alloc: Global, given: io::Result<Args>) -> Result<Vec<String>
 }
 
 /// Reads the words of the command line, of which the first is the program's name.
-pub fn read_words<'a, S: AsStr>(alloc: Global, words: &'a [S]) -> Result<Wanted<'a>, WordsFault>
+pub fn read_words<'a, S: AsStr>(alloc: Global, words: &'a [S]) -> Result<Wanted<'a>, WordsFault<'a>>
     ensures { Reads (map S.text words.entry.now) result }
 {
     let matches = program(alloc)?.try_get_matches_from(words)?;
     if let Some(found) = matches.subcommand_matches("asm") {
         let file = operand_text(found, "FILE");
         return Ok(Wanted::FileCommand(FileCommand::Asm { file }));
+    }
+    if let Some(found) = matches.subcommand_matches("dis") {
+        let file = operand_text(found, "FILE");
+        return Ok(Wanted::FileCommand(FileCommand::Dis { file }));
     }
     if let Some(found) = matches.subcommand_matches("check") {
         return check_line(found);

@@ -1,12 +1,13 @@
 //! Worked values of what words say.
 
-ghost use Rattle.std.specs.Prelude.{◌≡◌, ℕ, List, [], ◌∷◌, Bool, Some, true, false, codes, option_map};
+ghost use Rattle.std.specs.Prelude.{◌≡◌, ℕ, List, [], ◌∷◌, Bool, Some, None, true, false, codes, option_map};
 ghost use Rattle.std.specs.IoError.{error_kind};
 ghost use Rattle.std.specs.declared.io.ErrorKind.TheVariants as kind;
-ghost use Rattle.clap.specs.Words.{Row, subcommand_of};
+ghost use Rattle.clap.specs.Words.{Row, first_of, subcommand_of};
 ghost use Rattle.bq_range.specs.Interval.{Interval};
 ghost use Rattle.q_script.specs.Words.{IsNumeral};
-ghost use Rattle.q_words.specs.Words.{AreGiven, HasCommand, IsMet, TellsUngiven, bqview, exit_status, is_given, is_strict, operand_of};
+ghost use Rattle.q_words.specs.Words.{AreGiven, HasCommand, HasLineFault, HasProgram, IsMet, TellsUngiven, bqview, exit_status, form_of, is_given, is_strict, operand_of};
+ghost use Rattle.q_words.specs.declared.words.Form.TheVariants as form;
 ghost use Rattle.q_words.specs.declared.words.FileCommand.TheVariants as line;
 ghost use Rattle.q_words.specs.declared.words.Wanted.TheVariants as wanted;
 ghost use Rattle.q_words.specs.declared.words.WordsFault.TheVariants as fault;
@@ -15,10 +16,17 @@ ghost use Rattle.q_words.specs.declared.words.WordsFault.TheVariants as fault;
 /// words name the same. What the system says where it gives no words.
 pub fn worked()
     ensures asm { (rows : List Row) (file : _) → file.now ≡ operand_of (codes "FILE") rows → HasCommand (line.Asm file) (codes "asm", rows) }
-    ensures check { (rows : List Row) (file lengths : _) → file.now ≡ operand_of (codes "FILE") rows → AreGiven rows lengths → HasCommand (line.Check file lengths) (codes "check", rows) }
+    ensures dis { (rows : List Row) (file : _) → file.now ≡ operand_of (codes "FILE") rows → HasCommand (line.Dis file) (codes "dis", rows) }
+    ensures dis_is_no_asm { (rows : List Row) (file : _) → HasCommand (line.Asm file) (codes "dis", rows) → ⊥ }
+    ensures check { (rows : List Row) (file held lengths states notes : _) → HasProgram file held lengths rows → states ≡ is_given (codes "states") rows → option_map (λ name. name.now) notes ≡ first_of (codes "notes") rows → HasCommand (line.Check file held lengths states notes) (codes "check", rows) }
     ensures check_is_no_asm { (rows : List Row) (file : _) → HasCommand (line.Asm file) (codes "check", rows) → ⊥ }
-    ensures run { (rows : List Row) (file start records lengths : _) → file.now ≡ operand_of (codes "FILE") rows → IsNumeral (operand_of (codes "START") rows) start → records.now ≡ operand_of (codes "RECORDS") rows → AreGiven rows lengths → HasCommand (line.Run file start records lengths) (codes "run", rows) }
-    ensures run_over_the_records { (rows : List Row) (file start records lengths : _) → HasCommand (line.Run file start records lengths) (codes "run", rows) → records.now ≡ operand_of (codes "RECORDS") rows }
+    ensures run { (rows : List Row) (file held start records lengths : _) → HasProgram file held lengths rows → IsNumeral (operand_of (codes "START") rows) start → records.now ≡ operand_of (codes "RECORDS") rows → HasCommand (line.Run file held start records lengths) (codes "run", rows) }
+    ensures run_over_the_records { (rows : List Row) (file held start records lengths : _) → HasCommand (line.Run file held start records lengths) (codes "run", rows) → records.now ≡ operand_of (codes "RECORDS") rows }
+    ensures bytes { option_map (λ met. form_of met.1) (subcommand_of bqview (codes "bqview" ∷ codes "check" ∷ codes "--bytes" ∷ codes "a" ∷ [])) ≡ Some form.Bytes }
+    ensures text { option_map (λ met. form_of met.1) (subcommand_of bqview (codes "bqview" ∷ codes "check" ∷ codes "a" ∷ [])) ≡ Some form.Text }
+    ensures notes { option_map (λ met. first_of (codes "notes") met.1) (subcommand_of bqview (codes "bqview" ∷ codes "check" ∷ codes "--notes" ∷ codes "b" ∷ codes "a" ∷ [])) ≡ Some (Some (codes "b")) }
+    ensures no_notes { option_map (λ met. first_of (codes "notes") met.1) (subcommand_of bqview (codes "bqview" ∷ codes "check" ∷ codes "a" ∷ [])) ≡ Some None }
+    ensures bad_lengths { (rows : List Row) (command least most : _) → HasLineFault (fault.BadLengths command least most) (codes "run", rows) → (command.now ≡ codes "run") × (least.now ≡ operand_of (codes "least") rows) }
     ensures least { (rows : List Row) (lengths : Interval) → AreGiven rows lengths → IsNumeral (operand_of (codes "least") rows) lengths.lo }
     ensures most { (rows : List Row) (lengths : Interval) → AreGiven rows lengths → IsNumeral (operand_of (codes "most") rows) lengths.hi }
     ensures sim { (rows : List Row) (script : _) (strict : Bool) → script.now ≡ operand_of (codes "SCRIPT") rows → strict ≡ is_given (codes "strict") rows → HasCommand (line.Sim script strict) (codes "sim", rows) }

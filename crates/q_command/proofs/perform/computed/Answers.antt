@@ -10,7 +10,7 @@ run_fold-ran-requires c = subst (λ (l : Interval). HasRecordsWithin l c.in_ok-v
 pub returns-clause-computed : goal.returns-clause-computed
 returns-clause-computed c =
     let read = subst (λ (l : Interval). IsView l c.in_ok-listed.listed.now c.in_ok-view.view) c.lengths.ensures.value c.in_ok-view.ensures.read in
-    λ source program. record {
+    λ held source program. record {
       text = c.args.certified.now.text;
       view = c.in_ok-view.view;
       acc = c.run_fold-ran.result.acc;

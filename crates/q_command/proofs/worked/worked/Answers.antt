@@ -1,7 +1,9 @@
-use Rattle.std.proofs.Common.{◌≡◌, ℕ, Bool, true, false, true≢false, List, [], ◌∷◌, ◌++◌, Some, Err, refl, ap, sym, ◌∙◌, inl, inr, subst, codes}
+use Rattle.bq_check.specs.Spelling.{notes_bytes}
+use Rattle.bq_check.specs.declared.form.Form.TheVariants.{Second}
+use Rattle.std.proofs.Common.{◌≡◌, ℕ, Bool, true, false, true≢false, List, [], ◌∷◌, ◌++◌, Some, Ok, Err, refl, ap, sym, ◌∙◌, inl, inr, subst, codes, arith, ◌<◌}
 use Rattle.std.specs.Fmt.{digits}
 use Rattle.hex.proofs.OnLiterals.{hex_on_literals}
-use Rattle.q_files.specs.Memory.{Reads, Writes, bytes_of, fails_next}
+use Rattle.q_files.specs.Memory.{IsNoneWithin, Reads, Writes, bytes_of, fails_next}
 use Rattle.q_files.specs.declared.files.FileFault.{FileFault}
 use Rattle.q_files.specs.declared.files.FileFault.TheVariants.{Failed, OutOfMemory}
 use Rattle.q_files.specs.declared.memory.MemoryFiles.{MemoryFiles}
@@ -23,6 +25,25 @@ pub returns-clause-listed : goal.returns-clause-listed
 unfolding hex_on_literals
 returns-clause-listed c = refl
 
+-- ---- what `check` tells and writes
+
+pub returns-clause-accepted_alone : goal.returns-clause-accepted_alone
+unfolding digits
+returns-clause-accepted_alone c = λ notes. refl
+
+pub returns-clause-saved : goal.returns-clause-saved
+returns-clause-saved c = λ old new name notes told lines is h. elim h [
+  | inl saved ↦ (subst (λ (n : List ℕ). Writes old n (notes_bytes Second notes) (Ok (tt {0})) new) is saved.0).0.1 (codes "a")
+  | inr failed ↦ absurd (true≢false (sym failed.2))
+]
+
+pub returns-clause-unsaved : goal.returns-clause-unsaved
+unfolding digits
+returns-clause-unsaved c = λ old new name notes told lines h. elim h [
+  | inl saved ↦ absurd (true≢false saved.2)
+  | inr failed ↦ failed.1
+]
+
 -- ---- journals
 
 pub returns-clause-audited : goal.returns-clause-audited
@@ -34,19 +55,19 @@ returns-clause-audited c = λ query is. ap (λ o. answer_line 4 o ++ answer_line
 pub returns-clause-records_of_their_file : goal.returns-clause-records_of_their_file
 returns-clause-records_of_their_file c = λ lengths program records lines start old new h. (h.1, h.3.0, h.3.1)
 
-was_read : (old new : MemoryFiles) (fault : FileFault) (bytes : List ℕ) → fails_next old.passing ≡ false → bytes_of old.files (codes "a") ≡ Some bytes → Reads old (codes "a") (Err fault) new → FileFailed ≡ refusal_of fault → ⊥
-was_read old new Failed bytes goes there h is = elim h.0 [
+was_read : (old new : MemoryFiles) (fault : FileFault) → fails_next old.passing ≡ false → bytes_of old.files (codes "a") ≡ Some (255 ∷ []) → Reads 99 old (codes "a") (Err fault) new → FileFailed ≡ refusal_of fault → ⊥
+was_read old new Failed goes there h is = elim h.0 [
   | inl fails ↦ true≢false (sym fails ∙ goes)
-  | inr none ↦ let e = sym none ∙ there in absurd cc
+  | inr none ↦ let longer : 99 < 1 = subst (IsNoneWithin 99) there none in absurd (omega arith)
 ]
-was_read old new OutOfMemory bytes goes there h is = absurd cc
+was_read old new OutOfMemory goes there h is = absurd cc
 
 some_is : (a b : List ℕ) → Some a ≡ Some b → a ≡ b
 some_is a b e = cc
 
 pub returns-clause-refused_bytes : goal.returns-clause-refused_bytes
 returns-clause-refused_bytes c = λ denied old new goes there failed h. elim h [
-  | inl unread ↦ absurd (was_read old new unread.2.0 (255 ∷ []) goes there unread.2.1 (sym failed ∙ unread.2.2))
+  | inl unread ↦ absurd (was_read old new unread.2.0 goes there unread.2.1 (sym failed ∙ unread.2.2))
   | inr read ↦ some_is denied.bytes.items (255 ∷ []) (sym read.1.0.1 ∙ there)
 ]
 

@@ -1,11 +1,13 @@
-use Rattle.std.proofs.Common.{subst}
+use Rattle.std.proofs.Common.{rules, ◌≡◌, Some}
 use Rattle.clap.specs.Words.{found_of, rows_of}
-use Rattle.q_script.specs.Words.{IsNumeral, Reads}
-use Rattle.q_words.proofs.Commands.{lengths_read}
+use Rattle.q_words.proofs.Commands.{lengths_read, were_given}
 use Rattle.q_words.proofs.words.lengths.Goals as goal
 
 pub returns : goal.returns
 returns c =
-    lengths_read (rows_of (found_of c.args.found.now)) c.number.result c.number-2.result c.in_ok-least.least c.in_ok-most.most c.bounds.result c.ok_or-3.result
-    (subst (λ t. Reads IsNumeral t c.number.result) c.operand_text.ensures c.number.ensures)
-    (subst (λ t. Reads IsNumeral t c.number-2.result) c.operand_text-2.ensures c.number-2.ensures) c.in_ok-least.ensures.value c.in_ok-most.ensures.value c.bounds.ensures c.ok_or-3.ensures.value
+    let rows = rows_of (found_of c.args.found.now) in
+    let least : c.number.result ≡ Some c.in_ok-least.least = search rules in
+    let most : c.number-2.result ≡ Some c.in_ok-most.most = search rules in
+    let given = were_given rows c.operand_text.result.now c.operand_text-2.result.now c.number.result c.number-2.result c.in_ok-least.least c.in_ok-most.most
+    c.operand_text.ensures c.operand_text-2.ensures c.number.ensures c.number-2.ensures least most in
+    lengths_read rows c.in_ok-least.least c.in_ok-most.most c.bounds.result given c.bounds.ensures

@@ -1,5 +1,5 @@
 use Rattle.q_bqview.proofs.As.{done_as}
-use Rattle.q_bqview.proofs.run.run_wanted.Goals as goal
+use Rattle.q_bqview.proofs.run.do_wanted.Goals as goal
 
 pub returns-in-FileCommand : goal.returns-in-FileCommand
 returns-in-FileCommand g c = done_as g.F.Files.read_gives g.F.Files.write_gives c.args.wanted.now _ _ _ _ _ _ c.in-FileCommand.is c.run_line.ensures

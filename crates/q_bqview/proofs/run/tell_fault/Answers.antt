@@ -1,5 +1,5 @@
 use Rattle.q_bqview.proofs.As.{explained_as}
-use Rattle.q_bqview.proofs.run.explain.Goals as goal
+use Rattle.q_bqview.proofs.run.tell_fault.Goals as goal
 
 pub returns-in-Help : goal.returns-in-Help
 returns-in-Help g c = explained_as c.args.fault.now _ _ _ _ c.in-Help.is c.put_help.ensures

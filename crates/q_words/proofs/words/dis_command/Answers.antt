@@ -1,0 +1,4 @@
+use Rattle.q_words.proofs.words.dis_command.Goals as goal
+
+pub returns : goal.returns
+returns c = c.with_operand.ensures _ c.new_command-command.ensures

@@ -1,0 +1,4 @@
+use Rattle.q_words.proofs.words.with_bytes.Goals as goal
+
+pub returns : goal.returns
+returns c = λ app has. c.with_flag.ensures app has
