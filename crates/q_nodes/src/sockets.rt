@@ -106,7 +106,8 @@ pub struct FileRun {
 }
 
 /// The command `cluster`: runs the script in the file of this name so. A file that fails, has more than 16 MiB, or is no
-/// UTF-8, is refused with 87 FileFailed. The bytes that were read are answered, so that a refusal can be explained from them.
+/// UTF-8, is refused with 87 FileFailed. The bytes that were read are answered, so that a refusal can be explained from
+/// them.
 pub fn run_file<R: Net + Wait + Threads + Clock + Sync, F: Files, W: Write, N: Write>(
     rt: &R,
     alloc: Global,
