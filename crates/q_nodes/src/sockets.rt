@@ -2,9 +2,10 @@
 
 ghost use Rattle.std.specs.Prelude.{◌≡◌};
 ghost use Rattle.q_lines.specs.Runs.{IsWrittenBytes, IsWrittenFile, IsWrittenOf, failures_after};
+ghost use Rattle.q_nodes.specs.Files.{longest_script};
 
 use crate::run::run_cluster;
-use q_files::files::Files;
+use q_files::files::{Files, LONGEST_TEXT};
 use q_lines::ending::{Ending, print_refusal};
 use q_lines::fault::NodesFault;
 use q_lines::script::ClusterScript;
@@ -104,8 +105,9 @@ pub struct FileRun {
     pub source: Vec<u8>,
 }
 
-/// The command `cluster`: runs the script in the file of this name so. A file that fails, or is no UTF-8, is refused
-/// with 87 FileFailed. The bytes that were read are answered, so that a refusal can be explained from them.
+/// The command `cluster`: runs the script in the file of this name so. A file that fails, has more than 16 MiB, or is no
+/// UTF-8, is refused with 87 FileFailed. The bytes that were read are answered, so that a refusal can be explained from
+/// them.
 pub fn run_file<R: Net + Wait + Threads + Clock + Sync, F: Files, W: Write, N: Write>(
     rt: &R,
     alloc: Global,
@@ -114,11 +116,11 @@ pub fn run_file<R: Net + Wait + Threads + Clock + Sync, F: Files, W: Write, N: W
     out: &mut Counted<W>,
     notes: &mut N,
 ) -> FileRun
-    ensures written { IsWrittenFile F.read_gives name.now files.old files.new result.source.items result.ending
+    ensures written { IsWrittenFile (F.read_gives longest_script) name.now files.old files.new result.source.items result.ending
         (W.contents out.old.inner) (W.contents out.new.inner) }
     ensures counted { out.new.failures ≡ failures_after result.ending out.old.failures }
 {
-    let source = match files.read(alloc, name) {
+    let source = match files.read(alloc, name, LONGEST_TEXT) {
         Ok(bytes) => bytes,
         Err(fault) => {
             let ending = print_refusal(NodesFault::from(fault), out);

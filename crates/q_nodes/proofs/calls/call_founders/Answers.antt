@@ -5,5 +5,5 @@ use Rattle.q_nodes.proofs.calls.call_founders.Goals as goal
 pub found-requires-clause-many : goal.found-requires-clause-many
 found-requires-clause-many g c = c.requires.many ∙ sym (ap (length {A = ℕ}) (c.as_slice.ensures.value ∙ c.in_ok-ids.ensures) ∙ ids_many c.args.script.now.nodes)
 
-pub run_seats-requires-clause-many : goal.run_seats-requires-clause-many
-run_seats-requires-clause-many g c κs within = c.in_ok-seats.ensures ∙ ap (length {A = ℕ}) (c.as_slice.ensures.value ∙ c.in_ok-ids.ensures) ∙ ids_many c.args.script.now.nodes
+pub returns-clause-books : goal.returns-clause-books
+returns-clause-books g c = c.in_ok-nodes.ensures ∙ c.in_ok-seats.ensures ∙ ap (length {A = ℕ}) (c.as_slice.ensures.value ∙ c.in_ok-ids.ensures) ∙ ids_many c.args.script.now.nodes
