@@ -28,8 +28,8 @@ one_source name bytes kept b before after begins within grown = (
 )
 
 module _ {F : Type 0} (reads : F → List ℕ → Result (List ℕ) FileFault → F → Type 0) where
-  pub no_sources : (old : F) → AreSources reads [] old [] [] old
-  no_sources old = record { sources = []; named = refl; read = refl; told = refl; are = refl }
+  pub no_sources : (old : F) (lines : List ℕ) (books : List BookState) → lines ≡ [] → books ≡ [] → AreSources reads [] old lines books old
+  no_sources old lines books p q = record { sources = []; named = refl; read = refl; told = p; are = q }
 
   one_more : (ss : List Source) (s : Source) (old between new : F) → AreRead reads old ss between → IsRead reads between s new → AreRead reads old (ss ++ s ∷ []) new
   one_more [] s old between new r is = (new, subst (λ (f : F). IsRead reads f s new) r is, refl)
