@@ -1,11 +1,16 @@
-use Rattle.std.proofs.Common.{rules}
+-- The digits of the numbers, computed.
+use Rattle.std.proofs.Common.{refl}
+use Rattle.std.specs.Fmt.{digits}
 use Rattle.q_gathered.proofs.worked.worked.Goals as goal
 
 pub returns-clause-whole : goal.returns-clause-whole
-returns-clause-whole c = λ b id many. rw (id, many) (search rules)
+unfolding digits
+returns-clause-whole c = λ b id many. rw (id, many) refl
 
 pub returns-clause-cut : goal.returns-clause-cut
-returns-clause-cut c = λ b id many. rw (id, many) (search rules)
+unfolding digits
+returns-clause-cut c = λ b id many. rw (id, many) refl
 
 pub returns-clause-answered : goal.returns-clause-answered
-returns-clause-answered c = λ view entries. rw entries (search rules)
+unfolding digits
+returns-clause-answered c = λ view entries. rw entries refl
