@@ -87,7 +87,7 @@ headed : (bytes kept : List ℕ) (b : BookState) (i : IsBeginning bytes kept b) 
 headed bytes kept b i =
     i.parts ∙ ap (λ (x : List ℕ). x ++ i.left) i.journal ∙ append_assoc (head_bytes (head_of b)) (entries_bytes b.version b.desk.journal) i.left
 
-begin_after : (bytes kept : List ℕ) (b : BookState) (i : IsBeginning bytes kept b) → IsAfter b.version bytes (length b.desk.journal) i.left
+abbrev begin_after : (bytes kept : List ℕ) (b : BookState) (i : IsBeginning bytes kept b) → IsAfter b.version bytes (length b.desk.journal) i.left
 begin_after bytes kept b i = journal_after bytes b i.left i.journalled (i.parts ∙ ap (λ (x : List ℕ). x ++ i.left) i.journal)
 
 no_mismatch : (n : ℕ) → Mismatch n ≡ OutOfMemory → ⊥

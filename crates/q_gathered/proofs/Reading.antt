@@ -1,7 +1,7 @@
 -- Files that are read, one after the other.
-use Rattle.std.proofs.Common.{◌≡◌, ℕ, ◌≤◌, ◌-◌, ◌⊎◌, inl, inr, List, length, take, [], ◌∷◌, ◌++◌, map, refl, sym, ap, ◌∙◌, subst, append_assoc, append-nil, flat_map, Result, Ok, Err, IfOk, IfErr, Bool}
+use Rattle.std.proofs.Common.{◌≡◌, ℕ, ◌+◌, ◌<◌, ◌≤◌, ◌-◌, ◌⊎◌, inl, inr, List, length, take, drop, get_or, Bor, [], ◌∷◌, ◌++◌, map, refl, sym, ap, ◌∙◌, subst, append_assoc, append-nil, flat_map, Result, Ok, Err, IfOk, IfErr, Bool}
 use Rattle.std.proofs.lemmas.Grind.{flat_map-append}
-use Rattle.std.proofs.lemmas.List.{map-append, length-take-le}
+use Rattle.std.proofs.lemmas.List.{map-append, length-take-le, take_more, take-append-drop}
 use Rattle.q_book.specs.State.{BookState}
 use Rattle.q_files.specs.declared.files.FileFault.{FileFault}
 use Rattle.q_gather.specs.Gather.{AreRefused}
@@ -14,6 +14,18 @@ use Rattle.q_gathered.specs.Beginning.{IsBeginning, IsRefused}
 use Rattle.q_gathered.specs.Tells.{Tells, of_gather}
 use Rattle.q_gathered.specs.Lines.{journal_line}
 use Rattle.q_gathered.specs.Files.{Source, source_line, books_of, names_of, IsRead, AreRead, AreSources, TellsFiles, IsUnread, RefusesFile, RefusesBooks, Refuses}
+
+-- the names up to the next one, and all of them around it
+pub one_name : (names : List (Bor (List ℕ))) (i : ℕ) (d : Bor (List ℕ)) → i < length names → map (λ (n : Bor (List ℕ)). n.now) (take (i + 1) names) ≡ map (λ (n : Bor (List ℕ)). n.now) (take i names) ++ (get_or names i d).now ∷ []
+one_name names i d lt =
+    ap (map (λ (n : Bor (List ℕ)). n.now)) (take_more names i d lt) ∙ map-append (λ (n : Bor (List ℕ)). n.now) (take i names) (get_or names i d ∷ [])
+
+pub around : (names : List (Bor (List ℕ))) (i : ℕ) (d : Bor (List ℕ)) → i < length names
+    → map (λ (n : Bor (List ℕ)). n.now) names ≡ map (λ (n : Bor (List ℕ)). n.now) (take i names) ++ (get_or names i d).now ∷ map (λ (n : Bor (List ℕ)). n.now) (drop (i + 1) names)
+around names i d lt =
+    let later : List (List ℕ) = map (λ (n : Bor (List ℕ)). n.now) (drop (i + 1) names) in
+    ap (map (λ (n : Bor (List ℕ)). n.now)) (sym (take-append-drop (i + 1) names)) ∙ map-append (λ (n : Bor (List ℕ)). n.now) (take (i + 1) names) (drop (i + 1) names)
+    ∙ ap (λ (x : List (List ℕ)). x ++ later) (one_name names i d lt) ∙ append_assoc (map (λ (n : Bor (List ℕ)). n.now) (take i names)) ((get_or names i d).now ∷ []) later
 
 -- the file that these bytes are, whose line is printed
 pub one_source : (name bytes : List ℕ) (kept : ℕ) (b : BookState) (before after : List ℕ) → IsBeginning bytes (take kept bytes) b → kept ≤ length bytes → after ≡ before ++ journal_line name b (length bytes - kept)
@@ -28,8 +40,8 @@ one_source name bytes kept b before after begins within grown = (
 )
 
 module _ {F : Type 0} (reads : F → List ℕ → Result (List ℕ) FileFault → F → Type 0) where
-  pub no_sources : (old : F) → AreSources reads [] old [] [] old
-  no_sources old = record { sources = []; named = refl; read = refl; told = refl; are = refl }
+  pub no_sources : (old : F) (lines : List ℕ) (books : List BookState) → lines ≡ [] → books ≡ [] → AreSources reads [] old lines books old
+  no_sources old lines books p q = record { sources = []; named = refl; read = refl; told = p; are = q }
 
   one_more : (ss : List Source) (s : Source) (old between new : F) → AreRead reads old ss between → IsRead reads between s new → AreRead reads old (ss ++ s ∷ []) new
   one_more [] s old between new r is = (new, subst (λ (f : F). IsRead reads f s new) r is, refl)

@@ -27,22 +27,22 @@ NoEvent version bytes = BeginsNone (event_bytes version) (IsWritten version) byt
 
 -- ---- what stands after so many events
 
-pub leads_after : (bytes : List ℕ) (count : ℕ) (b : BookState) (rest : List ℕ) (l : Leads bytes count b rest) → IsAfter l.head.version bytes count rest
+abbrev pub leads_after : (bytes : List ℕ) (count : ℕ) (b : BookState) (rest : List ℕ) (l : Leads bytes count b rest) → IsAfter l.head.version bytes count rest
 leads_after bytes count b rest l =
     record { head = l.head; legal = l.legal; is_version = refl; events = l.events; written = l.written; parts = l.parts; many = l.many }
 
-all_written : (version : Version) (es : List Entry) → AllByRecursion (IsEntry version) es → AllByRecursion (IsWritten version) (map written_of es)
+pub all_written : (version : Version) (es : List Entry) → AllByRecursion (IsEntry version) es → AllByRecursion (IsWritten version) (map written_of es)
 all_written version [] a = tt
 all_written version (e ∷ es) a = (a.0.0, all_written version es a.1)
 
-map_many : (es : List Entry) → length es ≡ length (map written_of es)
+pub map_many : (es : List Entry) → length es ≡ length (map written_of es)
 map_many [] = refl
 map_many (e ∷ es) = ap suc (map_many es)
 
 pub entries_events : (version : Version) (es : List Entry) → entries_bytes version es ≡ flat_map (event_bytes version) (map written_of es)
 entries_events version es = sym (flat_map-map (event_bytes version) written_of es)
 
-pub journal_after : (bytes : List ℕ) (b : BookState) (left : List ℕ) → IsJournalled b → bytes ≡ journal_of b ++ left → IsAfter b.version bytes (length b.desk.journal) left
+abbrev pub journal_after : (bytes : List ℕ) (b : BookState) (left : List ℕ) → IsJournalled b → bytes ≡ journal_of b ++ left → IsAfter b.version bytes (length b.desk.journal) left
 journal_after bytes b left j parts = record {
   head = head_of b;
   legal = j.head;

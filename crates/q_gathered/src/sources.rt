@@ -1,6 +1,6 @@
 //! Files that are read, one after the other.
 
-ghost use Rattle.std.specs.Prelude.{◌≡◌, ◌⊎◌, ◌++◌, map, IfOk, IfErr, OnOk, string_bytes};
+ghost use Rattle.std.specs.Prelude.{◌≡◌, ◌⊎◌, [], ◌∷◌, ◌++◌, map, IfOk, IfErr, OnOk, string_bytes};
 ghost use Rattle.q_replay.specs.declared.fault.ReplayFault.{ReplayFault};
 ghost use Rattle.q_gathered.specs.Beginning.{IsBeginning, IsRefused};
 ghost use Rattle.q_gathered.specs.Files.{AreSources, IsRead, IsUnread, RefusesFile, Source, source_line};
@@ -111,6 +111,14 @@ fn take_one<N: Write>(
     }
 }
 
+/// Puts a book after the others.
+fn push_book(books: &mut Vec<Book>, book: Book) -> Result<(), AllocError>
+    ensures { OnOk result (books.new.items ≡ books.old.items ++ book ∷ []) }
+{
+    books.push(book)?;
+    Ok(())
+}
+
 /// Reads the files with these names in turn, up to the first that is refused.
 pub(crate) fn read_all<F: Files, N: Write>(
     alloc: Global,
@@ -125,7 +133,7 @@ pub(crate) fn read_all<F: Files, N: Write>(
     let mut books = Vec::new(alloc);
     for name in names {
         match read_one(alloc, name, &mut lines, files, notes) {
-            Ok(book) => books.push(book).map_err(AllocError::from)?,
+            Ok(book) => push_book(&mut books, book)?,
             Err(refusal) => return Err(refusal),
         }
     }

@@ -1,3 +1,5 @@
+use Rattle.std.proofs.Common.{rules, ◌≡◌, ℕ, subst}
+use Rattle.q_gathered.specs.Beginning.{IsAfter}
 use Rattle.q_gathered.proofs.Splitting.{after_more, after_one}
 use Rattle.q_gathered.proofs.beginning.after_events.Goals as goal
 
@@ -8,4 +10,6 @@ loop-preserved c =
 
 pub returns-clause-rest : goal.returns-clause-rest
 returns-clause-rest c =
-    λ version rest b. after_one c.one_head.ensures c.one_event.ensures c.in_ok-version.version version c.args.bytes.now c.args.count c.loop.rest.now rest c.loop.invariant b
+    let all : c.loop.counter ≡ c.args.count = search rules in
+    let last = subst (λ (n : ℕ). IsAfter c.in_ok-version.version c.args.bytes.now n c.loop.rest.now) all c.loop.invariant in
+    λ version rest b. after_one c.one_head.ensures c.one_event.ensures c.in_ok-version.version version c.args.bytes.now c.args.count c.loop.rest.now rest last b
