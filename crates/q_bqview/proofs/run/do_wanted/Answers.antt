@@ -1,4 +1,4 @@
-use Rattle.q_bqview.proofs.As.{done_as}
+use Rattle.q_bqview.proofs.As.{done_as, gathered_as}
 use Rattle.q_bqview.proofs.run.do_wanted.Goals as goal
 
 pub returns-in-FileCommand : goal.returns-in-FileCommand
@@ -8,4 +8,5 @@ pub returns-in-Cluster : goal.returns-in-Cluster
 returns-in-Cluster g c = done_as g.F.Files.read_gives g.F.Files.write_gives c.args.wanted.now _ _ _ _ _ _ c.in-Cluster.is c.run_nodes.ensures
 
 pub returns-in-Gather : goal.returns-in-Gather
-returns-in-Gather g c = done_as g.F.Files.read_gives g.F.Files.write_gives c.args.wanted.now _ _ _ _ _ _ c.in-Gather.is c.run_gather.ensures
+returns-in-Gather g c =
+    gathered_as g.F.Files.read_gives g.F.Files.write_gives c.args.wanted.now _ _ c.as_slice.result.now _ _ _ _ _ c.in-Gather.is c.as_slice.ensures.value c.run_gather.ensures
