@@ -10,7 +10,7 @@ ghost use Rattle.q_gathered.specs.Files.{IsWritten, Refuses, TellsFiles, failure
 use crate::ending::Ending;
 use crate::gathered::gathered;
 use crate::notes::note_gather;
-use crate::sources::{Sources, read_all, of_gather};
+use crate::sources::{Sources, of_gather, read_all};
 use q_files::files::Files;
 use q_refused::line::put_refusal;
 use q_sim::refusal::Refusal;

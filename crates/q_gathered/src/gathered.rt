@@ -35,12 +35,7 @@ pub fn gathered(alloc: Global, books: &[Book], pairs: bool) -> Result<String, Ga
 }
 
 /// What the books tell that gather into this cluster.
-fn told(
-    alloc: Global,
-    cluster: &Cluster,
-    books: &[Book],
-    pairs: bool,
-) -> Result<String, AllocError>
+fn told(alloc: Global, cluster: &Cluster, books: &[Book], pairs: bool) -> Result<String, AllocError>
     ensures { GathersBooks books.now cluster.now → IfOk result (λ lines. Tells cluster.now books.now pairs (string_bytes lines)) }
 {
     every_gathered_answer_is_true();
