@@ -1,21 +1,21 @@
 -- Which beginning of bytes is the longest that is a journal, and that bytes with a fault have none.
-use Rattle.std.proofs.Common.{◌≡◌, ℕ, zero, suc, ◌<◌, ◌≤◌, ◌-◌, inl, inr, List, [], ◌∷◌, ◌++◌, length, take, map, refl, sym, ap, ◌∙◌, subst, append_assoc, append-nil, length-append, flat_map, arith}
+use Rattle.std.proofs.Common.{◌≡◌, ℕ, zero, suc, ◌<◌, ◌≤◌, ◌-◌, inl, inr, List, [], ◌∷◌, ◌++◌, length, take, refl, sym, ap, ◌∙◌, subst, append_assoc, append-nil, length-append, flat_map, arith}
 use Rattle.std.proofs.lemmas.List.{take_at}
 use Rattle.std.specs.List.{AllByRecursion}
 use Rattle.sc_msg.specs.Numbers.{number_bytes}
 use Rattle.sc_msg.specs.declared.version.Version.{Version}
 use Rattle.q_book.specs.State.{BookState}
 use Rattle.q_journal.specs.Head.{Head}
-use Rattle.q_journal.specs.Spelling.{head_bytes, event_bytes, IsHead, IsWritten}
+use Rattle.q_journal.specs.Spelling.{head_bytes, event_bytes, IsWritten}
 use Rattle.q_journal.specs.declared.written.Written.{Written}
 use Rattle.q_journal.proofs.Events.{no_first, no_second, no_third}
-use Rattle.q_replay.specs.Journal.{written_of, head_of, entries_bytes, journal_of, IsJournalled}
-use Rattle.q_replay.specs.Replayed.{Leads, Takes, IsUnspelled, IsUntaken, IsUnbegun, IsFault}
+use Rattle.q_replay.specs.Journal.{head_of, entries_bytes, journal_of, IsJournalled}
+use Rattle.q_replay.specs.Replayed.{Leads, IsUnspelled, IsUntaken, IsUnbegun, IsFault}
 use Rattle.q_replay.specs.declared.fault.ReplayFault.{ReplayFault}
 use Rattle.q_replay.specs.declared.fault.ReplayFault.TheVariants.{Form, Mismatch, OutOfMemory}
 use Rattle.q_gathered.specs.Beginning.{IsBeginning, IsAfter, IsCut, IsRefused}
 use Rattle.q_gathered.proofs.Heading.{leads-version}
-use Rattle.q_gathered.proofs.Splitting.{OneHead, OneEvent, NoEvent, IsWithin, AreWithin, leads_after, journal_after, entries_events, both, after_one}
+use Rattle.q_gathered.proofs.Splitting.{OneHead, OneEvent, NoEvent, AreWithin, leads_after, journal_after, entries_events, both}
 
 -- a law of the crate of replays
 abbrev pub NoFault : Type 0
@@ -146,6 +146,7 @@ module _ (one_head : OneHead) (one_event : OneEvent) (no_fault : NoFault) where
       version : b.version ≡ u.book.version
       version =
           sym (alike bytes kept b u.book n u.rest u.leads i).version_is ∙ sym (leads-version bytes n u.book u.rest u.leads)
+
       go : (ws : List Written) → AllByRecursion (IsWritten b.version) ws → u.rest ≡ flat_map (event_bytes b.version) ws ++ i.left → ⊥
       go [] p is = whole (subst IsCut (sym is) i.cut)
       go (w ∷ ws) p is =
@@ -160,6 +161,7 @@ module _ (one_head : OneHead) (one_event : OneEvent) (no_fault : NoFault) where
       version : b.version ≡ u.book.version
       version =
           sym (alike bytes kept b u.book n u.rest u.leads i).version_is ∙ sym (leads-version bytes n u.book u.rest u.leads)
+
       go : (ws : List Written) → AllByRecursion (IsWritten b.version) ws → u.rest ≡ flat_map (event_bytes b.version) ws ++ i.left → Leads (journal_of b) n u.book (flat_map (event_bytes b.version) ws) → ⊥
       go [] p is l = (cut_none u.book.version i.left i.cut).none u.event u.more u.legal (sym is ∙ u.parts)
       go (w ∷ ws) p is l =

@@ -13,7 +13,7 @@ use Rattle.q_book.specs.Replays.{Follows}
 use Rattle.q_book.proofs.Followed.{follows-next}
 use Rattle.q_journal.specs.Head.{Head}
 use Rattle.q_journal.specs.declared.written.Written.{Written}
-use Rattle.q_replay.specs.Replayed.{begun, Takes, TakesAll, Leads}
+use Rattle.q_replay.specs.Replayed.{begun, TakesAll, Leads}
 
 follows-version : (b : BookState) (e : Entry) (c : BookState) → Follows b e c → c.version ≡ b.version
 follows-version b e c f = sym (ap (λ (x : BookState). x.version) (follows-next b e c f).same)

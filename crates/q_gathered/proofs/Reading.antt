@@ -13,7 +13,7 @@ use Rattle.q_sim.specs.declared.refusal.Refusal.TheVariants as refusal
 use Rattle.q_gathered.specs.Beginning.{IsBeginning, IsRefused}
 use Rattle.q_gathered.specs.Tells.{Tells, of_gather}
 use Rattle.q_gathered.specs.Lines.{journal_line}
-use Rattle.q_gathered.specs.Files.{Source, source_line, books_of, names_of, IsRead, AreRead, AreSources, TellsFiles, IsUnread, RefusesFile, RefusesBooks, Refuses}
+use Rattle.q_gathered.specs.Files.{Source, source_line, IsRead, AreRead, AreSources, TellsFiles, IsUnread, RefusesFile, Refuses}
 
 -- the names up to the next one, and all of them around it
 pub one_name : (names : List (Bor (List ℕ))) (i : ℕ) (d : Bor (List ℕ)) → i < length names → map (λ (n : Bor (List ℕ)). n.now) (take (i + 1) names) ≡ map (λ (n : Bor (List ℕ)). n.now) (take i names) ++ (get_or names i d).now ∷ []

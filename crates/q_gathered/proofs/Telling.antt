@@ -1,5 +1,5 @@
 -- That what is told of a history is true.
-use Rattle.std.proofs.Common.{◌≡◌, ℕ, Bool, cond, List, [], ◌∷◌, ◌++◌, codes, Option, Some, None, refl, sym, ap, ◌∙◌, subst, append_assoc, slice_get}
+use Rattle.std.proofs.Common.{◌≡◌, ℕ, Bool, cond, List, [], ◌++◌, codes, Option, Some, None, ap, ◌∙◌, subst, append_assoc}
 use Rattle.std.specs.FinMap as fin
 use Rattle.sc_members.specs.Members.{Config}
 use Rattle.sc_msg.specs.declared.version.Version.{Version}
@@ -10,12 +10,9 @@ use Rattle.sc_operations.specs.declared.session.OperationKind.TheVariants as kin
 use Rattle.sc_view.specs.Views.{ViewMap}
 use Rattle.sc_world.specs.State.{WorldState}
 use Rattle.sc_world.specs.Worlds as world
-use Rattle.sc_world.specs.Regular.{IsGenuine, IsRegular, returned, returned_by}
+use Rattle.sc_world.specs.Regular.{IsRegular, returned_by}
 use Rattle.sc_world.specs.declared.event.Event.{Event as WorldEvent}
 use Rattle.sc_world.specs.declared.op.Op.{Op}
-use Rattle.q_session.specs.declared.query.Phase.TheVariants.{Answered}
-use Rattle.q_session.specs.declared.query.Query.{Query}
-use Rattle.q_session.specs.declared.ran.Ran.{Ran}
 use Rattle.q_desk.specs.State.{DeskState}
 use Rattle.q_book.specs.State.{BookState}
 use Rattle.q_cluster.specs.Acts.{booked}
@@ -30,7 +27,7 @@ use Rattle.q_gather.specs.Gather.{GathersBooks}
 use Rattle.q_sim.specs.Printing.{TellsPairs, AddsPairs}
 use Rattle.q_gathered.specs.Lines.{answers_of, pairs_of}
 use Rattle.q_gathered.specs.Tells.{Tells}
-use Rattle.q_gathered.specs.Truth.{AnswersAreTrue, IsTrueAnswer}
+use Rattle.q_gathered.specs.Truth.{AnswersAreTrue}
 
 -- laws of the crates below
 abbrev pub EveryAnswer : Type 0

@@ -12,8 +12,8 @@ use Rattle.q_replay.specs.Replayed.{IsFault}
 use Rattle.q_replay.specs.declared.fault.ReplayFault.{ReplayFault}
 use Rattle.q_replay.specs.declared.fault.ReplayFault.TheVariants.{OutOfMemory}
 
--- The bytes are too few for an event: for its kind and the length of its body, or for a body of the length that they tell.
--- No bytes are.
+-- The bytes are too few for an event: for its kind and the length of its body, or for a body of the length that they
+-- tell. No bytes are.
 abbrev pub IsCut : List ℕ → Type 0
 IsCut bytes =
     (length bytes < 5)

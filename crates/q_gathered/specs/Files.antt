@@ -53,8 +53,8 @@ module _ {F : Type 0} (reads : F → List ℕ → Result (List ℕ) FileFault �
     pub told : lines ≡ flat_map source_line sources
     pub are : books ≡ books_of sources
 
-  -- The files with these names are read, their journals gather into one cluster, and the text tells of each file and then
-  -- what the books tell.
+  -- The files with these names are read, their journals gather into one cluster, and the text tells of each file and
+  -- then what the books tell.
   pub record TellsFiles (names : List (List ℕ)) (pairs : Bool) (old : F) (text : List ℕ) (new : F) : Type 0 where
     pub sources : List Source
     pub named : names ≡ names_of sources
@@ -93,8 +93,8 @@ module _ {F : Type 0} (reads : F → List ℕ → Result (List ℕ) FileFault �
   abbrev pub Refuses : List (List ℕ) → F → Refusal → F → Type 0
   Refuses names old r new = RefusesFile names old r new ⊎ (RefusesBooks names old r new ⊎ (r ≡ refusal.OutOfMemory))
 
-  -- What is written of the files with these names, by how it ends: exactly the text, or exactly the line of the refusal.
-  -- Where the writer failed it was given one of the two, and may have taken a part.
+  -- What is written of the files with these names, by how it ends: exactly the text, or exactly the line of the
+  -- refusal. Where the writer failed it was given one of the two, and may have taken a part.
   abbrev pub IsWritten : List (List ℕ) → Bool → F → Option (List ℕ) → Ending → F → Option (List ℕ) → Type 0
   IsWritten names pairs old before Gathered new after = (text : List ℕ) × TellsFiles names pairs old text new × Appends before after text
   IsWritten names pairs old before (Refused r) new after = Refuses names old r new × Appends before after (refusal_line r)

@@ -1,5 +1,5 @@
 -- The lines that tell what was gathered.
-use Rattle.std.specs.Prelude.{ℕ, zero, suc, ◌-◌, ◌&&◌, Bool, not, is_some, List, [], ◌∷◌, ◌++◌, codes, filter, length, map}
+use Rattle.std.specs.Prelude.{ℕ, zero, suc, ◌&&◌, Bool, not, is_some, List, [], ◌∷◌, ◌++◌, codes, filter, length, map}
 use Rattle.std.specs.List.{flat_map}
 use Rattle.std.specs.Fmt.{decimal}
 use Rattle.std.specs.FinMap as fin

@@ -11,10 +11,10 @@ use Rattle.q_desk.specs.State.{DeskState}
 use Rattle.q_history.specs.Headline.{IsTrue}
 use Rattle.q_history.specs.State.{ClusterState}
 
--- The cluster recorded this answer of the node's query of this number, over this view; and it is true: it is the meaning
--- of the query's program over that view, which is the one that the query's own collect returned, and which holds each
--- store that ended before the collect began and that meets it. The view has only what nodes began to store before the
--- collect ended.
+-- The cluster recorded this answer of the node's query of this number, over this view; and it is true: it is the
+-- meaning of the query's program over that view, which is the one that the query's own collect returned, and which
+-- holds each store that ended before the collect began and that meets it. The view has only what nodes began to store
+-- before the collect ended.
 pub record IsTrueAnswer (c : ClusterState) (node query : ℕ) (asked : Query) (view : ViewMap) (ran : Ran) : Type 0 where
   pub desk : DeskState
   pub at : fin.get c.desks node ≡ Some desk

@@ -47,11 +47,7 @@ pub fn beginning(alloc: Global, bytes: &[u8]) -> Result<Journal, ReplayFault>
 }
 
 /// The same of bytes that have this fault.
-fn beginning_before(
-    alloc: Global,
-    bytes: &[u8],
-    fault: ReplayFault,
-) -> Result<Journal, ReplayFault>
+fn beginning_before(alloc: Global, bytes: &[u8], fault: ReplayFault) -> Result<Journal, ReplayFault>
     requires { IsFault bytes.now fault }
     ensures begins { IfOk result (λ j. IsBeginning bytes.now (take j.kept bytes.now) j.book) }
     ensures within { IfOk result (λ j. j.kept ≤ length bytes.now) }

@@ -10,7 +10,7 @@ ghost use Rattle.q_gathered.specs.Files.{IsWritten, Refuses, TellsFiles, failure
 use crate::ending::Ending;
 use crate::gathered::gathered;
 use crate::notes::note_gather;
-use crate::sources::{Sources, read_all, of_gather};
+use crate::sources::{Sources, of_gather, read_all};
 use q_files::files::Files;
 use q_refused::line::put_refusal;
 use q_sim::refusal::Refusal;
@@ -18,13 +18,13 @@ use q_wire::counted::Counted;
 use std::alloc::Global;
 use std::io::Write;
 
-/// Gathers the journals of the files with these names, and writes what they tell: of each file its node, how many events
-/// it has and how many bytes were cut; then the answers of all, by the order of the files; the pairs of operations, if
-/// they are asked for; and `journals ok`. Or it writes the line of its refusal.
+/// Gathers the journals of the files with these names, and writes what they tell: of each file its node, how many
+/// events it has and how many bytes were cut; then the answers of all, by the order of the files; the pairs of
+/// operations, if they are asked for; and `journals ok`. Or it writes the line of its refusal.
 ///
 /// Files are read in their order, up to the first that is refused: 87 of a file that is not read, 57 or 58 of one that
-/// begins with no journal. Then 44, 49 and 82 as [`gathered`] refuses its books; 99 may stand in place of any answer. What
-/// explains a refusal, with the name of the file, goes to the notes.
+/// begins with no journal. Then 44, 49 and 82 as [`gathered`] refuses its books; 99 may stand in place of any answer.
+/// What explains a refusal, with the name of the file, goes to the notes.
 ///
 /// It gives up only where a write failed, which the writer counted.
 pub fn gather_files<F: Files, W: Write, N: Write>(

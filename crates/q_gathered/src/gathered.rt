@@ -20,9 +20,9 @@ use std::alloc::{AllocError, Global};
 /// Gathers the books into one cluster, and answers what they tell: the answers that they record, by books and by the
 /// numbers of the queries; where stores and collects of the cluster meet, if that is asked for; and `journals ok`.
 ///
-/// Refused with the first of: 44, where two books are of one node; 49, where they disagree on the version, the fractions
-/// or the founders, or the book of a founder is missing; 82, where there is no order in which each message that is
-/// delivered was sent before. 99 OutOfMemory may stand in place of any answer.
+/// Refused with the first of: 44, where two books are of one node; 49, where they disagree on the version, the
+/// fractions or the founders, or the book of a founder is missing; 82, where there is no order in which each message
+/// that is delivered was sent before. 99 OutOfMemory may stand in place of any answer.
 pub fn gathered(alloc: Global, books: &[Book], pairs: bool) -> Result<String, GatherFault>
     ensures told { IfOk result (λ lines. (c : ClusterState) × Tells c books.now pairs (string_bytes lines)) }
     ensures refused { IfErr result (AreRefused books.now) }
@@ -35,12 +35,7 @@ pub fn gathered(alloc: Global, books: &[Book], pairs: bool) -> Result<String, Ga
 }
 
 /// What the books tell that gather into this cluster.
-fn told(
-    alloc: Global,
-    cluster: &Cluster,
-    books: &[Book],
-    pairs: bool,
-) -> Result<String, AllocError>
+fn told(alloc: Global, cluster: &Cluster, books: &[Book], pairs: bool) -> Result<String, AllocError>
     ensures { GathersBooks books.now cluster.now → IfOk result (λ lines. Tells cluster.now books.now pairs (string_bytes lines)) }
 {
     every_gathered_answer_is_true();

@@ -9,7 +9,10 @@ use std::io::Write;
 pub(crate) fn note_journal<N: Write>(notes: &mut N, name: &str, fault: ReplayFault) {
     let _ = match fault {
         ReplayFault::Form { event: 0 } => {
-            writeln!(notes, "{name}: It does not begin with the head of a journal.")
+            writeln!(
+                notes,
+                "{name}: It does not begin with the head of a journal."
+            )
         }
         ReplayFault::Form { event } => writeln!(
             notes,

@@ -53,12 +53,7 @@ fn print_cut(lines: &mut String, cut: usize) -> Result<(), AllocError>
 }
 
 /// Prints the line of a file that has the journal of this book, and so many bytes after it.
-fn print_journal(
-    lines: &mut String,
-    name: &str,
-    book: &Book,
-    cut: usize,
-) -> Result<(), AllocError>
+fn print_journal(lines: &mut String, name: &str, book: &Book, cut: usize) -> Result<(), AllocError>
     ensures { OnOk result (string_bytes lines.new ≡ string_bytes lines.old ++ line.journal_line name.now book.now cut) }
 {
     let node = book.id();

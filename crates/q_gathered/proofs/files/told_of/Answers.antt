@@ -6,9 +6,12 @@ use Rattle.q_gathered.proofs.files.told_of.Goals as goal
 
 pub returns-in-Ok-push_str-clause-told : goal.returns-in-Ok-push_str-clause-told
 returns-in-Ok-push_str-clause-told g c =
-    let told : List ℕ = string_bytes c.in-Ok.told in
-    (told, c.in-Ok.ensures.told.0, subst (λ (bs : List BookState). Tells c.in-Ok.ensures.told.0 bs c.args.pairs told) c.deref.ensures.value c.in-Ok.ensures.told.1,
-    c.in-Ok-push_str.ensures.bytes ∙ ap (λ (x : List ℕ). string_bytes c.args.sources.lines ++ x) c.as_str.ensures.value)
+    let told : List ℕ = string_bytes c.in-Ok.told in (
+      told,
+      c.in-Ok.ensures.told.0,
+      subst (λ (bs : List BookState). Tells c.in-Ok.ensures.told.0 bs c.args.pairs told) c.deref.ensures.value c.in-Ok.ensures.told.1,
+      c.in-Ok-push_str.ensures.bytes ∙ ap (λ (x : List ℕ). string_bytes c.args.sources.lines ++ x) c.as_str.ensures.value,
+    )
 
 pub returns-in-Err-clause-refused : goal.returns-in-Err-clause-refused
 returns-in-Err-clause-refused g c =
