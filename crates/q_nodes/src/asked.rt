@@ -12,8 +12,18 @@ pub(crate) struct Question {
     tag: u64,
     /// What it asks.
     pub(crate) message: Message,
-    /// Whether it was sent before the last look at all questions.
-    pub(crate) is_due: bool,
+    /// How many looks at all questions came since it was sent.
+    looks: u32,
+}
+
+impl Question {
+    /// Counts one look more, and says whether the question is sent again at it: after 1, 2, 4, 8 .. looks, so that a node
+    /// that is flooded is asked ever less often.
+    pub(crate) fn is_due(&mut self) -> bool {
+        let is_due = self.looks.is_power_of_two();
+        self.looks = self.looks.saturating_add(1);
+        is_due
+    }
 }
 
 /// The questions of a node's operations. A question whose operation has ended stays until [`Asked::forget_ended`]; a
@@ -37,7 +47,7 @@ impl Asked {
             let _ = self.questions.push(Question {
                 tag,
                 message,
-                is_due: false,
+                looks: 0,
             });
         }
     }

@@ -174,6 +174,10 @@ impl<'b> Held<'b> {
         ensures unsent { self.new.unsent ≡ self.old.unsent }
         ensures asker { self.new.asker ≡ self.old.asker }
     {
+        if self.waiting.is_empty() {
+            // The room for the next ones stays.
+            return Vec::new(alloc);
+        }
         std::mem::replace(&mut self.waiting, Vec::new(alloc))
     }
 

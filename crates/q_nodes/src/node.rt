@@ -24,7 +24,7 @@ use std::time::{Clock, Duration, Instant};
 /// the start of a longer datagram.
 const LOOKED_AT: usize = MOST_BYTES + 1;
 
-/// What an open operation asked is asked again this often, since datagrams are lost.
+/// A node looks at what its open operations asked this often, since datagrams are lost.
 const AGAIN_MILLIS: u64 = 50;
 
 /// How long a thread sleeps whose transport does not wait for a datagram, or fails.
@@ -228,7 +228,7 @@ fn look_through<R: Wait>(rt: &R, held: &Mutex<Held<'_>>, asked: &mut Asked) {
     asked.forget_ended(&held.book);
 }
 
-/// Sends again what operations that are open asked before the last call. That it is not sent counts nowhere.
+/// Sends again what operations that are open asked, where that is due. That it is not sent counts nowhere.
 fn ask_again<T: Transport>(
     alloc: Global,
     nodes: u64,
@@ -237,10 +237,9 @@ fn ask_again<T: Transport>(
     asked: &mut Asked,
 ) {
     for question in &mut asked.questions {
-        if question.is_due {
+        if question.is_due() {
             let _ = tell(alloc, nodes, version, transport, &question.message);
         }
-        question.is_due = true;
     }
 }
 
@@ -270,7 +269,7 @@ pub(crate) fn tend<R: Wait + Clock, T: Transport + Drop>(
     }
 }
 
-/// Whether it is time to ask again.
+/// Whether it is time to look.
 fn is_due<R: Clock>(rt: &R, since: Option<Instant>) -> bool {
     since.is_none_or(|since| has_passed(rt, since, Duration::from_millis(AGAIN_MILLIS)))
 }

@@ -9,13 +9,17 @@ use crate::calls::{Calls, ids, make_calls};
 use crate::halt::Halt;
 use crate::losses::Unsent;
 use q_lines::ending::{Ending, print_telling, print_untold};
+use q_lines::fault::NodesFault;
+use q_lines::outcome::Outcome;
 use q_lines::own::are_of_nodes;
 use q_lines::report::Tally;
 use q_lines::script::ClusterScript;
 use q_lines::telling::{Telling, tell};
+use q_refused::told::write_refused_line;
+use q_sim::refusal::LineFault;
 use q_wire::counted::Counted;
 use q_wire::transport::Transport;
-use std::alloc::Global;
+use std::alloc::{AllocError, Global};
 use std::io::Write;
 use std::sync::Wait;
 use std::thread::Threads;
@@ -32,11 +36,31 @@ fn note_trouble<N: Write>(notes: &mut N, tally: Tally, unsent: Unsent) {
     }
 }
 
-/// Gathers the books of the nodes, and tells the lines; how many datagrams changed nothing, and what trouble there was,
-/// goes to the notes.
+/// A line that was refused, its refusal, and what would satisfy it.
+fn refused_line(alloc: Global, fault: LineFault, text: &str) -> Result<String, AllocError> {
+    let mut out = String::new(alloc);
+    write_refused_line(alloc, &mut out, fault, text)?;
+    Ok(out)
+}
+
+/// Tells why lines were refused. Nothing is told of a line for which memory runs out.
+fn note_refused<N: Write>(alloc: Global, source: &str, outcomes: &[Outcome], notes: &mut N) {
+    for (place, (text, outcome)) in source.split('\n').skip(1).zip(outcomes).enumerate() {
+        if let Outcome::Refused(NodesFault::Script(refusal)) = *outcome {
+            let line = place.saturating_add(2);
+            if let Ok(told) = refused_line(alloc, LineFault { line, refusal }, text) {
+                let _ = notes.write_all(told.as_bytes());
+            }
+        }
+    }
+}
+
+/// Gathers the books of the nodes, and tells the lines; how many datagrams changed nothing, why lines were refused, and
+/// what trouble there was, goes to the notes.
 fn tell_calls<N: Write>(
     alloc: Global,
     script: &ClusterScript,
+    source: &str,
     calls: &Calls,
     notes: &mut N,
 ) -> Result<Telling, Halt>
@@ -51,6 +75,7 @@ fn tell_calls<N: Write>(
     }
     let lost = calls.lost;
     let _ = writeln!(notes, "{lost}");
+    note_refused(alloc, source, calls.outcomes.as_slice(), notes);
     let ids = ids(alloc, script.nodes)?;
     let telling = tell(
         alloc,
@@ -68,6 +93,7 @@ fn tell_script<R: Wait + Threads + Clock + Sync, T: Transport + Send + Drop, N: 
     rt: &R,
     alloc: Global,
     script: &ClusterScript,
+    source: &str,
     transports: Vec<T>,
     notes: &mut N,
 ) -> Result<Telling, Halt>
@@ -75,7 +101,7 @@ fn tell_script<R: Wait + Threads + Clock + Sync, T: Transport + Send + Drop, N: 
     ensures halt { IfErr result (IsHalt script.now.nodes) }
 {
     match make_calls(rt, alloc, script, 1, transports) {
-        Ok(calls) => tell_calls(alloc, script, &calls, notes),
+        Ok(calls) => tell_calls(alloc, script, source, &calls, notes),
         Err(halt) => Err(halt),
     }
 }
@@ -107,7 +133,29 @@ where
     ensures written { IsWritten script.now result (W.contents out.old.inner) (W.contents out.new.inner) }
     ensures counted { out.new.failures ≡ failures_after result out.old.failures }
 {
-    match tell_script(rt, alloc, script, transports, notes) {
+    run_script(rt, alloc, script, "", transports, out, notes)
+}
+
+/// The same of the script that a text spells: from it the notes tell why lines were refused. Of an empty text they do
+/// not.
+pub(crate) fn run_script<R, T, W, N>(
+    rt: &R,
+    alloc: Global,
+    script: &ClusterScript,
+    source: &str,
+    transports: Vec<T>,
+    out: &mut Counted<W>,
+    notes: &mut N,
+) -> Ending
+where
+    R: Wait + Threads + Clock + Sync,
+    T: Transport + Send + Drop,
+    W: Write,
+    N: Write,
+    ensures written { IsWritten script.now result (W.contents out.old.inner) (W.contents out.new.inner) }
+    ensures counted { out.new.failures ≡ failures_after result out.old.failures }
+{
+    match tell_script(rt, alloc, script, source, transports, notes) {
         Ok(telling) => print_telling(script, &telling, out),
         Err(halt) => {
             note_halt(notes, halt);

@@ -4,7 +4,7 @@ ghost use Rattle.std.specs.Prelude.{◌≡◌};
 ghost use Rattle.q_lines.specs.Runs.{IsWrittenBytes, IsWrittenFile, IsWrittenOf, failures_after};
 ghost use Rattle.q_nodes.specs.Files.{longest_script};
 
-use crate::run::run_cluster;
+use crate::run::run_script;
 use q_files::files::{Files, LONGEST_TEXT};
 use q_lines::ending::{Ending, print_refusal};
 use q_lines::fault::NodesFault;
@@ -66,7 +66,7 @@ pub fn open_sockets<R: Net>(rt: &R, alloc: Global, nodes: u64) -> io::Result<Vec
 }
 
 /// Runs the script that a text spells by a thread and a socket for each node, and prints what its lines tell; what
-/// `run_cluster` notes goes to the notes. A script that is refused prints its refusal, and a socket that can't be
+/// `run_cluster` notes goes to the notes, and why lines were refused. A script that is refused prints its refusal, and a socket that can't be
 /// opened 86 TransportFailed: the notes say why.
 pub fn run_over_sockets<R: Net + Wait + Threads + Clock + Sync, W: Write, N: Write>(
     rt: &R,
@@ -83,7 +83,7 @@ pub fn run_over_sockets<R: Net + Wait + Threads + Clock + Sync, W: Write, N: Wri
         Err(fault) => return print_refusal(fault, out),
     };
     match open_sockets(rt, alloc, script.nodes) {
-        Ok(transports) => run_cluster(rt, alloc, &script, transports, out, notes),
+        Ok(transports) => run_script(rt, alloc, &script, source, transports, out, notes),
         Err(error) => {
             note_socket(notes, &error);
             print_refusal(NodesFault::TransportFailed, out)
