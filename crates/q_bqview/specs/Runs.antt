@@ -62,7 +62,7 @@ module _ {F : Type 0} (reads : Reading F) (writes : Writing F) where
   -- so does the gathering of the journals in the files of these names, with where operations meet or without
   abbrev pub Gathers : List (List ℕ) → Bool → F → Output → ℕ → F → Output → Type 0
   Gathers names pairs old before status new after =
-      (ending : gathered_ending.Ending) × gathered.IsWritten reads names pairs old before.taken ending new after.taken
+      (ending : gathered_ending.Ending) × gathered.IsWritten (reads gathered.longest_journal) names pairs old before.taken ending new after.taken
       × (status ≡ gathered.status_of ending) × (after.failures ≡ gathered.failures_after ending before.failures)
 
   -- what is wanted is done

@@ -18,6 +18,10 @@ use Rattle.q_gathered.specs.Tells.{Tells, of_gather}
 use Rattle.q_gathered.specs.declared.ending.Ending.{Ending}
 use Rattle.q_gathered.specs.declared.ending.Ending.TheVariants.{Gathered, Refused, Unwritten}
 
+-- the most bytes of a journal that are read
+abbrev pub longest_journal : ℕ
+longest_journal = 1073741824
+
 -- a file: its name, its bytes, their longest beginning that is a journal, and the book of that
 pub record Source : Type 0 where
   pub name : List ℕ

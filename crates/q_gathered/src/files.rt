@@ -5,7 +5,7 @@ ghost use Rattle.q_gather.specs.Gather.{AreRefused};
 ghost use Rattle.q_gather.specs.declared.fault.GatherFault.{GatherFault};
 ghost use Rattle.q_history.specs.State.{ClusterState};
 ghost use Rattle.q_gathered.specs.Tells.{Tells, of_gather};
-ghost use Rattle.q_gathered.specs.Files.{IsWritten, Refuses, TellsFiles, failures_after};
+ghost use Rattle.q_gathered.specs.Files.{IsWritten, Refuses, TellsFiles, failures_after, longest_journal};
 
 use crate::ending::Ending;
 use crate::gathered::gathered;
@@ -35,7 +35,7 @@ pub fn gather_files<F: Files, W: Write, N: Write>(
     out: &mut Counted<W>,
     notes: &mut N,
 ) -> Ending
-    ensures written { IsWritten F.read_gives (map (λ name. name.now) names.now) pairs files.old (W.contents out.old.inner) result files.new (W.contents out.new.inner) }
+    ensures written { IsWritten (F.read_gives longest_journal) (map (λ name. name.now) names.now) pairs files.old (W.contents out.old.inner) result files.new (W.contents out.new.inner) }
     ensures counted { out.new.failures ≡ failures_after result out.old.failures }
 {
     match told(alloc, names, pairs, files, notes) {
@@ -58,8 +58,8 @@ fn told<F: Files, N: Write>(
     files: &mut F,
     notes: &mut N,
 ) -> Result<String, Refusal>
-    ensures told { IfOk result (λ lines. TellsFiles F.read_gives (map (λ name. name.now) names.now) pairs files.old (string_bytes lines) files.new) }
-    ensures refused { IfErr result (λ r. Refuses F.read_gives (map (λ name. name.now) names.now) files.old r files.new) }
+    ensures told { IfOk result (λ lines. TellsFiles (F.read_gives longest_journal) (map (λ name. name.now) names.now) pairs files.old (string_bytes lines) files.new) }
+    ensures refused { IfErr result (λ r. Refuses (F.read_gives longest_journal) (map (λ name. name.now) names.now) files.old r files.new) }
 {
     match read_all(alloc, names, files, notes) {
         Ok(sources) => told_of(alloc, names, pairs, sources, notes),

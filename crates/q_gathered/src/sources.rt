@@ -3,7 +3,7 @@
 ghost use Rattle.std.specs.Prelude.{◌≡◌, ◌⊎◌, [], ◌∷◌, ◌++◌, map, IfOk, IfErr, OnOk, string_bytes};
 ghost use Rattle.q_replay.specs.declared.fault.ReplayFault.{ReplayFault};
 ghost use Rattle.q_gathered.specs.Beginning.{IsBeginning, IsRefused};
-ghost use Rattle.q_gathered.specs.Files.{AreSources, IsRead, IsUnread, RefusesFile, Source, source_line};
+ghost use Rattle.q_gathered.specs.Files.{AreSources, IsRead, IsUnread, RefusesFile, Source, longest_journal, source_line};
 ghost use Rattle.q_gathered.specs.Lines as line;
 ghost use Rattle.q_gathered.specs.Tells as tells;
 
@@ -18,6 +18,9 @@ use sc_node::fault::NodeFault;
 use sc_world::fault::WorldFault;
 use std::alloc::{AllocError, Global};
 use std::io::Write;
+
+/// The most bytes of a journal that are read: 1,024 MB.
+const LONGEST_JOURNAL: usize = 1024 * 1024 * 1024;
 
 /// What was read of files: the lines that tell of each, and the book of each.
 #[derive(Drop)]
@@ -71,10 +74,10 @@ fn read_one<F: Files, N: Write>(
     files: &mut F,
     notes: &mut N,
 ) -> Result<Book, Refusal>
-    ensures read { IfOk result (λ b. (s : Source) × IsRead F.read_gives files.old s files.new × (s.name ≡ name.now) × (s.book ≡ b) × (string_bytes lines.new ≡ string_bytes lines.old ++ source_line s)) }
-    ensures refused { IfErr result (λ r. IsUnread F.read_gives files.old name.now r files.new ⊎ (r ≡ Refusal.OutOfMemory)) }
+    ensures read { IfOk result (λ b. (s : Source) × IsRead (F.read_gives longest_journal) files.old s files.new × (s.name ≡ name.now) × (s.book ≡ b) × (string_bytes lines.new ≡ string_bytes lines.old ++ source_line s)) }
+    ensures refused { IfErr result (λ r. IsUnread (F.read_gives longest_journal) files.old name.now r files.new ⊎ (r ≡ Refusal.OutOfMemory)) }
 {
-    match files.read(alloc, name) {
+    match files.read(alloc, name, LONGEST_JOURNAL) {
         Ok(bytes) => take_one(alloc, name, &bytes, lines, notes),
         Err(fault) => Err(Refusal::from(fault)),
     }
@@ -121,8 +124,8 @@ pub(crate) fn read_all<F: Files, N: Write>(
     files: &mut F,
     notes: &mut N,
 ) -> Result<Sources, Refusal>
-    ensures read { IfOk result (λ s. AreSources F.read_gives (map (λ name. name.now) names.now) files.old (string_bytes s.lines) s.books.items files.new) }
-    ensures refused { IfErr result (λ r. RefusesFile F.read_gives (map (λ name. name.now) names.now) files.old r files.new ⊎ (r ≡ Refusal.OutOfMemory)) }
+    ensures read { IfOk result (λ s. AreSources (F.read_gives longest_journal) (map (λ name. name.now) names.now) files.old (string_bytes s.lines) s.books.items files.new) }
+    ensures refused { IfErr result (λ r. RefusesFile (F.read_gives longest_journal) (map (λ name. name.now) names.now) files.old r files.new ⊎ (r ≡ Refusal.OutOfMemory)) }
 {
     let mut lines = String::new(alloc);
     let mut books = Vec::new(alloc);

@@ -1,16 +1,16 @@
 use Rattle.std.proofs.Common.{ℕ, ◌+◌, List, [], ◌∷◌, ◌++◌, map, take, drop, get_or, Bor, sym, subst, string_bytes}
 use Rattle.q_book.specs.State.{BookState}
-use Rattle.q_gathered.specs.Files.{AreSources}
+use Rattle.q_gathered.specs.Files.{AreSources, longest_journal}
 use Rattle.q_gathered.proofs.Reading.{no_sources, more_sources, file_refused, one_name, around}
 use Rattle.q_gathered.proofs.sources.read_all.Goals as goal
 
 pub loop-name-init : goal.loop-name-init
-loop-name-init g c = no_sources g.F.Files.read_gives c.args.files.now (string_bytes c.new-lines.result) c.new-books.result.items c.new-lines.ensures.bytes c.new-books.ensures.items
+loop-name-init g c = no_sources (g.F.Files.read_gives longest_journal) c.args.files.now (string_bytes c.new-lines.result) c.new-books.result.items c.new-lines.ensures.bytes c.new-books.ensures.items
 
 pub loop-name-preserved : goal.loop-name-preserved
 loop-name-preserved g c =
     let d : Bor (List ℕ) = record { ref_ptr = (0, 0); now = [] } in
-    let reads = g.F.Files.read_gives in
+    let reads = (g.F.Files.read_gives longest_journal) in
     let names = c.args.names.now in
     let i = c.loop-name.name-index in
     let lines : List ℕ = string_bytes c.read_one.new.lines in
@@ -25,5 +25,5 @@ returns-in-Err-clause-refused g c =
     let d : Bor (List ℕ) = record { ref_ptr = (0, 0); now = [] } in
     let names = c.args.names.now in
     let i = c.loop-name.name-index in
-    file_refused g.F.Files.read_gives (map (λ (n : Bor (List ℕ)). n.now) names) (map (λ (n : Bor (List ℕ)). n.now) (take i names)) (get_or names i d).now (map (λ (n : Bor (List ℕ)). n.now) (drop (i + 1) names)) c.args.files.now c.loop-name.files
+    file_refused (g.F.Files.read_gives longest_journal) (map (λ (n : Bor (List ℕ)). n.now) names) (map (λ (n : Bor (List ℕ)). n.now) (take i names)) (get_or names i d).now (map (λ (n : Bor (List ℕ)). n.now) (drop (i + 1) names)) c.args.files.now c.loop-name.files
     c.read_one.new.files (string_bytes c.loop-name.lines) c.loop-name.books.items c.in-Err.refusal c.loop-name.invariant (around names i d c.loop-name-test.true) c.in-Err.ensures.refused
