@@ -17,8 +17,8 @@ pub(crate) struct Question {
 }
 
 impl Question {
-    /// Counts one look more, and says whether the question is sent again at it: after 1, 2, 4, 8 .. looks, so that a node
-    /// that is flooded is asked ever less often.
+    /// Counts one look more, and says whether the question is sent again at it: after 1, 2, 4, 8 .. looks, so that a
+    /// node that is flooded is asked ever less often.
     pub(crate) fn is_due(&mut self) -> bool {
         let is_due = self.looks.is_power_of_two();
         self.looks = self.looks.saturating_add(1);

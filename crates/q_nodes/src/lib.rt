@@ -1,19 +1,20 @@
 //! A cluster whose nodes run in threads of their own, each with a transport and with its book behind a lock.
 //!
 //! [`run_cluster`] takes a script ([`ClusterScript`]): the founders and, in turn, programs, stores and queries. The
-//! thread of a node (module `node`) receives datagrams, delivers each message to its book under the lock, and sends
-//! what the book gives with the lock free. The caller's thread takes one line of the script after the other (module
-//! `line`): it makes the call of the book under its lock, and looks at all books again and again until the operation
-//! has ended or the answer stands, 100,000 times at most. At each look it pumps the books: results come in from a board
-//! of jobs, and jobs go out to it, which four runners run in threads of their own. At the end all threads are joined,
-//! and the books of the nodes are gathered into one cluster. What a line tells is then looked up in that cluster, by
-//! what its call was answered (`q_lines`). [`sockets`] gives each node a UDP socket of loopback, and runs the script of
-//! a file.
+//! thread of a node (module `node`) waits for a datagram, delivers its message to its book under the lock, and sends
+//! what the book gives with the lock free: an acknowledgement and a reply to their addressee alone ([`addressee`]), all
+//! else to all. What an open operation asks is sent again, ever less often (module `asked`). The caller's thread takes
+//! one line of the script after the other (module `line`): it makes the call of the book under its lock, wakes the
+//! node's thread by an empty datagram, and sleeps until a bell says that an operation has ended or an answer is there
+//! (module `flight`), four seconds at most. Where a collect has ended, the node's thread offers the query's job to a
+//! board of jobs, which four runners run in threads of their own. At the end all threads are joined, and the books of
+//! the nodes are gathered into one cluster. What a line tells is then looked up in that cluster, by what its call was
+//! answered (`q_lines`). [`sockets`] gives each node a UDP socket of loopback, and runs the script of a file.
 //!
 //! What the lines are, what they tell and how a run ends is said by the crate `q_lines`: of a run with the exit status
 //! 0 each printed line is looked up in one cluster, and each printed answer is true. A second writer is told how many
-//! datagrams changed nothing and what was not sent ([`losses`]), how many lines are unanswered, and why a thread or a
-//! socket is missing.
+//! datagrams changed nothing and what was not sent ([`losses`]), why lines were refused, how many are unanswered, and
+//! why a thread or a socket is missing.
 //!
 //! Proved of what is done under a lock ([`held`]): a datagram changes nothing, or the message that its bytes spell is
 //! delivered and what the book gives waits to be sent; the datagrams that change nothing are counted, by why; each

@@ -54,8 +54,8 @@ fn meet_all(transport: &mut UdpTransport, peers: &[Peer]) -> io::Result<()> {
     Ok(())
 }
 
-/// A socket for each of so many nodes, and one more for the thread that makes the calls, at free ports of loopback, each
-/// of which knows all.
+/// A socket for each of so many nodes, and one more for the thread that makes the calls, at free ports of loopback,
+/// each of which knows all.
 pub fn open_sockets<R: Net>(rt: &R, alloc: Global, nodes: u64) -> io::Result<Vec<UdpTransport>> {
     let mut transports = open_all(rt, alloc, nodes)?;
     let peers = peers(alloc, transports.as_slice())?;
@@ -66,8 +66,8 @@ pub fn open_sockets<R: Net>(rt: &R, alloc: Global, nodes: u64) -> io::Result<Vec
 }
 
 /// Runs the script that a text spells by a thread and a socket for each node, and prints what its lines tell; what
-/// `run_cluster` notes goes to the notes, and why lines were refused. A script that is refused prints its refusal, and a socket that can't be
-/// opened 86 TransportFailed: the notes say why.
+/// `run_cluster` notes goes to the notes, and why lines were refused. A script that is refused prints its refusal, and
+/// a socket that can't be opened 86 TransportFailed: the notes say why.
 pub fn run_over_sockets<R: Net + Wait + Threads + Clock + Sync, W: Write, N: Write>(
     rt: &R,
     alloc: Global,
@@ -105,9 +105,9 @@ pub struct FileRun {
     pub source: Vec<u8>,
 }
 
-/// The command `cluster`: runs the script in the file of this name so. A file that fails, has more than 16 MiB, or is no
-/// UTF-8, is refused with 87 FileFailed. The bytes that were read are answered, so that a refusal can be explained from
-/// them.
+/// The command `cluster`: runs the script in the file of this name so. A file that fails, has more than 16 MiB, or is
+/// no UTF-8, is refused with 87 FileFailed. The bytes that were read are answered, so that a refusal can be explained
+/// from them.
 pub fn run_file<R: Net + Wait + Threads + Clock + Sync, F: Files, W: Write, N: Write>(
     rt: &R,
     alloc: Global,
