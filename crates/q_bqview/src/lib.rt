@@ -53,12 +53,12 @@
 //! SCRIPT of `cluster` has the lines `nodes`, with 1 to 16 nodes, `program`, `store` and `ask` alone. Nothing is
 //! delivered by lines: the nodes send their messages over the sockets, and four runners run the jobs. `store TAG` and
 //! `query Q` stand alone on their lines, with no messages behind them; `answer NODE Q ACC STEPS` stands behind `query Q`.
-//! The next line of the script is taken once the store has ended or the query has its answer, or after 100,000 turns.
-//! Behind the last line the journals of the nodes are gathered into one cluster, and what is printed is looked up there:
+//! The next line of the script is taken once the store has ended or the query has its answer, or after four seconds.
+//! After the last line the journals of the nodes are gathered into one cluster, and what is printed is looked up there:
 //! `unanswered` stands where the store has not ended in it, or the query has no answer. Where the journals do not
 //! gather, their refusal is printed last. With `--strict` the exit status is 1 where a line was refused or is
-//! `unanswered`. The standard error tells how many datagrams were refused, and why, and what else was lost
-//! (`docs/FORMATS.md`).
+//! `unanswered`. The standard error tells how many datagrams were refused, and why, which lines were refused, with what
+//! would satisfy them, and what else was lost (`docs/FORMATS.md`).
 //!
 //! `gather` prints for each JOURNAL, in the order of the words, `JOURNAL node N events E`, and ` cut B bytes` after
 //! that where the file ends in an event that is not whole, which is left out. Then, in the same order, `answer N Q ACC
