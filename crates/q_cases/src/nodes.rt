@@ -14,7 +14,7 @@ use q_nodes::sockets::{open_sockets, run_file, run_over_sockets};
 use q_script::number::number;
 use q_wire::counted::Counted;
 use q_wire::memory::{Hub, MemoryTransport};
-use q_wire::udp::UdpTransport;
+use q_wire::udp::{Peer, UdpTransport};
 use q_words::words::{Wanted, read_words};
 use std::alloc::{AllocError, Global};
 use std::io;
@@ -166,7 +166,16 @@ fn ends<'a, 'l: 'a, R: Wait>(
     Ok(ends)
 }
 
-/// Ends at sockets, each of which floods the nodes to which it sends.
+/// A stranger's socket that knows where nodes are.
+fn stranger<R: Net>(rt: &R, alloc: Global, peers: &[Peer]) -> io::Result<UdpTransport> {
+    let mut socket = UdpTransport::open(rt, alloc, Duration::ZERO)?;
+    for peer in peers {
+        socket.meet(peer.id, peer.address)?;
+    }
+    Ok(socket)
+}
+
+/// Ends at sockets, each of which has a stranger who floods the nodes to which it sends.
 fn flooding<R: Net>(
     rt: &R,
     alloc: Global,
@@ -175,7 +184,12 @@ fn flooding<R: Net>(
 ) -> io::Result<Vec<Flooding<UdpTransport>>> {
     let mut ends = Vec::new(alloc);
     for inner in open_sockets(rt, alloc, nodes)? {
-        ends.push(Flooding { inner, many })?;
+        let stranger = stranger(rt, alloc, inner.peers.as_slice())?;
+        ends.push(Flooding {
+            inner,
+            stranger,
+            many,
+        })?;
     }
     Ok(ends)
 }

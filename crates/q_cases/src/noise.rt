@@ -135,7 +135,7 @@ impl<T: Transport + Drop> Transport for Noisy<'_, T> {
             return Ok(None);
         };
         let first = Vec::from_slice(self.alloc, &into[..len])?;
-        if let Some(second) = self.at_once.receive(into)? {
+        if let Ok(Some(second)) = self.at_once.receive(into) {
             self.kept = Some(first);
             return Ok(Some(second));
         }
@@ -147,20 +147,28 @@ impl<T: Transport + Drop> Transport for Noisy<'_, T> {
     }
 }
 
-/// Sends so many datagrams that are no message before each datagram, to the same node.
+/// A transport whose every datagram comes after so many of a stranger's, to the same node, that are no message.
 #[derive(Drop)]
 pub struct Flooding<T> {
     pub inner: T,
+    /// The stranger's end, which knows where the nodes are.
+    pub stranger: T,
     pub many: u64,
+}
+
+/// Sends so many datagrams that are no message to a node. That one is not sent matters to nobody.
+fn flood<T: Transport>(stranger: &mut T, to: u64, many: u64) {
+    for _ in 0..many {
+        let _ = stranger.send(to, &FORGED);
+    }
 }
 
 impl<T: Transport> Transport for Flooding<T> {
     ghost failed = { λ t. T.failed t.inner };
 
     fn send(&mut self, to: u64, bytes: &[u8]) -> Result<(), TransportFault> {
-        for _ in 0..self.many {
-            self.inner.send(to, &FORGED)?;
-        }
+        let many = self.many;
+        flood(&mut self.stranger, to, many);
         self.inner.send(to, bytes)
     }
 
