@@ -12,6 +12,7 @@ ghost use Rattle.q_board.specs.Places.{times, jobs, bare};
 ghost use Rattle.q_board.specs.Calls.{is_at, SameAsker, SameRunner, Offers, LooksOnly, Receives, Misses, Claims, Finishes, GivesBack};
 
 use crate::claim::Claim;
+use crate::drowsy::Drowsy;
 use crate::fault::{OpenFault, RowFull};
 use crate::seats::{AskerSeat, ROW, RunnerSeat, Slot};
 use atomic_table::{Refused, Seat, Shared, Table};
@@ -26,6 +27,8 @@ use q_slots::rule::{
 use q_slots::view::View;
 use std::alloc::{AllocError, Global};
 use std::collections::VecDeque;
+use std::sync::atomic::AtomicUsize;
+use std::sync::atomic::Ordering::SeqCst;
 use std::sync::{Condvar, Wait};
 use std::time::Duration;
 
@@ -35,13 +38,15 @@ pub const MOST_ASKERS: usize = 16;
 /// The most runners of a board.
 pub const MOST_RUNNERS: usize = 64;
 
-/// A board, which its askers and runners share. Each asker has a row of eight slots. A bell wakes runners that wait
-/// for jobs; no clause speaks of it.
+/// A board, which its askers and runners share. Each asker has a row of eight slots. A bell wakes runners that sleep
+/// while there are no jobs; no clause speaks of it.
 #[derive(Drop)]
 pub struct Board {
     table: Table<Cell, View, u64, Order, Global>,
     lanes: usize,
-    // Rung where a slot was made ready.
+    // How many runners sleep, or look once more before they do.
+    drowsy: AtomicUsize,
+    // Rung where a slot was made ready and a runner is drowsy.
     bell: Condvar,
     ghost sized: { (table.shared.table_id.words ≡ lanes) × (table.shared.table_id.slots ≡ lanes) × (table.shared.key ≡ lanes) },
 }
@@ -90,7 +95,7 @@ impl Board {
         let shared = &self.table.shared;
         put(&mut seat.seat, shared, index, Cell::Offered(job));
         shared.store::<Publish>(&mut seat.seat, index, Found::Ready.word());
-        self.bell.notify_one();
+        self.ring();
         Ok(Slot { index })
     }
 
@@ -174,19 +179,30 @@ impl Board {
         let shared = &self.table.shared;
         fill(&mut seat.seat, &mut seat.claims, shared, slot, cell);
         shared.store::<GiveBack>(&mut seat.seat, slot, Found::Ready.word());
-        self.bell.notify_one();
+        self.ring();
     }
 
-    /// How often the bell was rung so far, wrapping: once for each slot that an offer or a claim that was given back
-    /// made ready, and once for each [`Board::wake_all`].
-    pub fn offers(&self) -> u64 {
-        self.bell.notifications()
+    /// Says that a runner is about to sleep. From now on, and until it is roused or has slept, each slot that is made
+    /// ready rings the bell. So a runner that tries every slot once more behind this, and sleeps where none was ready,
+    /// misses no job.
+    pub fn drowse(&self) -> Drowsy {
+        let _ = self.drowsy.fetch_add(1, SeqCst);
+        Drowsy {
+            rung: self.bell.notifications(),
+        }
     }
 
-    /// Sleeps until the bell is rung once more than so often, at most so long. It may return before. So a runner that
-    /// read how often it was rung, and then tried each slot, misses no job while it sleeps.
-    pub fn await_offer<R: Wait>(&self, rt: &R, rung: u64, most: Duration) {
-        self.bell.sleep(rt, rung, most);
+    /// Sleeps until the bell is rung once more than it was as the runner grew drowsy, at most so long. It may return
+    /// before.
+    pub fn sleep<R: Wait>(&self, rt: &R, drowsy: Drowsy, most: Duration) {
+        self.bell.sleep(rt, drowsy.rung, most);
+        self.rouse(drowsy);
+    }
+
+    /// Says that a drowsy runner does not sleep.
+    pub fn rouse(&self, drowsy: Drowsy) {
+        let Drowsy { rung: _ } = drowsy;
+        let _ = self.drowsy.fetch_sub(1, SeqCst);
     }
 
     /// Rings the bell for all runners that sleep, as the work ends.
@@ -212,10 +228,24 @@ impl Board {
         let key = lanes as u64;
         match Table::new(alloc, &words, cells, &key) {
             Ok((table, seat)) => {
-                let bell = Condvar::new();
-                Ok((Board { table, lanes, bell }, seat))
+                let board = Board {
+                    table,
+                    lanes,
+                    drowsy: AtomicUsize::new(0),
+                    bell: Condvar::new(),
+                };
+                Ok((board, seat))
             }
             Err(Refused { slots: _ }) => Err(AllocError),
+        }
+    }
+
+    // Wakes a runner where one sleeps or is about to. The slot was made ready before: a runner that grew drowsy behind
+    // this look sees it. Both go by one order of all such steps, which a weaker order of memory would not give.
+    #[inline(always)]
+    fn ring(&self) {
+        if self.drowsy.load(SeqCst) > 0 {
+            self.bell.notify_one();
         }
     }
 

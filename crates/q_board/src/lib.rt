@@ -10,6 +10,7 @@
 
 pub mod board;
 pub mod claim;
+pub mod drowsy;
 pub mod fault;
 pub mod seats;
 pub mod worked;

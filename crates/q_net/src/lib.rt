@@ -29,7 +29,7 @@
 //! [`serve`]: serve::serve
 #![tactic(auto)]
 
-mod incoming;
+pub mod incoming;
 mod pieces;
 pub mod reply;
 pub mod request;

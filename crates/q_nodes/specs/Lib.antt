@@ -1,5 +1,3 @@
--- Nodes in threads: what is done under a lock, for whom a message is meant, how long a file is, why no line is told.
-pub mod Held
-pub mod Addressees
+-- Nodes in threads: how long a file is, why no line is told.
 pub mod Files
 pub mod Halts

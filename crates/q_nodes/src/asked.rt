@@ -1,7 +1,7 @@
 //! What the open operations of a node asked.
 
-use crate::addressee::asking_operation;
 use q_book::book::Book;
+use q_held::addressee::asking_operation;
 use sc_msg::message::Message;
 use std::alloc::Global;
 

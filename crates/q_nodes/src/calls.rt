@@ -9,13 +9,13 @@ ghost use Rattle.q_nodes.specs.Halts.{IsHalt};
 use crate::bell::Bell;
 use crate::flight::Flight;
 use crate::halt::Halt;
-use crate::held::Held;
 use crate::line::run_lines;
-use crate::losses::{Losses, Unsent};
 use crate::node::{Wire, tend, wires};
 use q_board::board::Board;
 use q_board::seats::{AskerSeat, RunnerSeat};
 use q_book::book::Book;
+use q_held::held::Held;
+use q_held::losses::{Losses, Unsent};
 use q_lines::outcome::Outcome;
 use q_lines::script::{ClusterLine, ClusterScript};
 use q_pool::runners::with_runners;
@@ -24,8 +24,8 @@ use sc_members::config::Config;
 use std::alloc::{AllocError, Global};
 use std::sync::atomic::{AtomicBool, Ordering};
 use std::sync::{Mutex, Wait};
-use std::thread;
 use std::thread::{Scope, Threads};
+use std::thread;
 use std::time::{Clock, Duration, Instant};
 
 /// How many threads run jobs.

@@ -2,8 +2,8 @@
 
 use crate::bell::Bell;
 use crate::clock::has_passed;
-use crate::held::Held;
 use crate::seat;
+use q_held::held::Held;
 use q_lines::outcome::Outcome;
 use q_wire::transport::Transport;
 use std::alloc::Global;

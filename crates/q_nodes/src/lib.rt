@@ -2,7 +2,7 @@
 //!
 //! [`run_cluster`] takes a script ([`ClusterScript`]): the founders and, in turn, programs, stores and queries. The
 //! thread of a node (module `node`) waits for a datagram, delivers its message to its book under the lock, and sends
-//! what the book gives with the lock free: an acknowledgement and a reply to their addressee alone ([`addressee`]), all
+//! what the book gives with the lock free: an acknowledgement and a reply to their addressee alone (`q_held::addressee`), all
 //! else to all. What an open operation asks is sent again, ever less often (module `asked`). The caller's thread takes
 //! one line of the script after the other (module `line`): it makes the call of the book under its lock, wakes the
 //! node's thread by an empty datagram, and sleeps until a bell says that an operation has ended or an answer is there
@@ -13,14 +13,10 @@
 //!
 //! What the lines are, what they tell and how a run ends is said by the crate `q_lines`: of a run with the exit status
 //! 0 each printed line is looked up in one cluster, and each printed answer is true. A second writer is told how many
-//! datagrams changed nothing and what was not sent ([`losses`]), why lines were refused, how many are unanswered, and
-//! why a thread or a socket is missing.
+//! datagrams changed nothing and what was not sent (`q_held::losses`), why lines were refused, how many are unanswered,
+//! and why a thread or a socket is missing.
 //!
-//! Proved of what is done under a lock ([`held`]): a datagram changes nothing, or the message that its bytes spell is
-//! delivered and what the book gives waits to be sent; the datagrams that change nothing are counted, by why; each
-//! other call is one of the book, exact, and what the book gives waits too; the pump carries results and jobs. The book
-//! is always the replay of its journal, since its type keeps that. What other threads did between two looks no contract
-//! can say.
+//! What is done under a lock is proved by `q_held`. What other threads did between two looks no contract can say.
 //!
 //! Proved of a run ([`run`], [`sockets`]): it writes just what `IsWritten` of `q_lines` says, by how it ended.
 //!
@@ -29,21 +25,16 @@
 //!
 //! [`run_cluster`]: run::run_cluster
 //! [`ClusterScript`]: q_lines::script::ClusterScript
-//! [`Held`]: held::Held
 #![tactic(auto)]
 
-pub mod addressee;
 mod asked;
 mod bell;
 pub mod calls;
 mod clock;
 mod flight;
 pub mod halt;
-pub mod held;
 mod line;
-pub mod losses;
 mod node;
 pub mod run;
 mod seat;
 pub mod sockets;
-pub mod worked;

@@ -7,8 +7,8 @@ ghost use Rattle.q_nodes.specs.Halts.{IsHalt};
 
 use crate::flight::Flight;
 use crate::halt::Halt;
-use crate::held::Held;
 use crate::seat;
+use q_held::held::Held;
 use q_lines::fault::NodesFault;
 use q_lines::outcome::Outcome;
 use q_lines::script::{ClusterLine, is_node, node_of, program_id};

@@ -2,13 +2,13 @@
 
 ghost use Rattle.std.specs.Prelude.{◌≡◌, ◌≤◌, length, IfSome};
 
-use crate::addressee::addressee;
 use crate::asked::Asked;
 use crate::bell::Bell;
 use crate::clock::has_passed;
-use crate::held::Held;
-use crate::losses::Unsent;
 use q_desk::completed::Completed;
+use q_held::addressee::addressee;
+use q_held::held::Held;
+use q_held::losses::Unsent;
 use q_lines::script::is_node;
 use q_wire::transport::Transport;
 use sc_msg::encode::encode_fitting;

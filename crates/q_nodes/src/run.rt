@@ -7,7 +7,7 @@ ghost use Rattle.q_nodes.specs.Halts.{IsHalt};
 
 use crate::calls::{Calls, ids, make_calls};
 use crate::halt::Halt;
-use crate::losses::Unsent;
+use q_held::losses::Unsent;
 use q_lines::ending::{Ending, print_telling, print_untold};
 use q_lines::fault::NodesFault;
 use q_lines::outcome::Outcome;

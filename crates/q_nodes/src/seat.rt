@@ -8,7 +8,7 @@ ghost use Rattle.std.specs.Prelude.{MatchOption};
 ghost use Rattle.q_book.specs.State.{BookState};
 ghost use Rattle.q_lines.specs.Books.{BeginsQuery, BeginsStore, IsOther, Registers};
 
-use crate::held::Held;
+use q_held::held::Held;
 use q_lines::fault::NodesFault;
 use q_lines::outcome::Outcome;
 use q_lines::own::is_of;

@@ -21,7 +21,7 @@ use std::time::Duration;
 const LOOKS: u32 = 8;
 
 /// For how long a runner's thread sleeps at most where no slot was ready.
-const NAP_MILLIS: u64 = 50;
+const NAP_MILLIS: u64 = 1_000;
 
 /// Starts a thread for each seat, which runs the board's jobs over a block of its own. Once all are started, calls
 /// `work` in this thread, and then stops and joins the others. Where a block or a thread can't be had, `work` isn't
@@ -109,8 +109,7 @@ fn start<'s, E, R: Wait + Threads + Sync, G: Gate + Sync>(
         .is_ok()
 }
 
-// Runs the board's jobs until the work is over, and sleeps while none is ready. The bell is read before all else, so an
-// offer that comes later, and the end of the work, end the sleep.
+// Runs the board's jobs until the work is over, and sleeps while none is ready.
 fn run_until<R: Wait, G: Gate>(
     rt: &R,
     board: &Board,
@@ -122,13 +121,33 @@ fn run_until<R: Wait, G: Gate>(
     requires { seat.table ≡ board_id board.now }
 {
     for _ in rt.forever() {
-        let rung = board.offers();
         if over.load(SeqCst) {
             break;
         }
         if !run_any(board, &mut seat, &mut block, gate) {
-            board.await_offer(rt, rung, Duration::from_millis(NAP_MILLIS));
+            nap(rt, board, &mut seat, &mut block, gate, over);
         }
+    }
+}
+
+// Looks once more, as one who is about to sleep, and sleeps where there was nothing to do. So an offer that comes
+// later, and the end of the work, end the sleep.
+fn nap<R: Wait, G: Gate>(
+    rt: &R,
+    board: &Board,
+    seat: &mut RunnerSeat,
+    block: &mut Block,
+    gate: &G,
+    over: &AtomicBool,
+)
+    requires { seat.old.table ≡ board_id board.now }
+    ensures { seat.new.table ≡ seat.old.table }
+{
+    let drowsy = board.drowse();
+    if over.load(SeqCst) || run_any(board, seat, block, gate) {
+        board.rouse(drowsy);
+    } else {
+        board.sleep(rt, drowsy, Duration::from_millis(NAP_MILLIS));
     }
 }
 

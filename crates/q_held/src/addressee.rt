@@ -5,7 +5,7 @@ ghost use Rattle.sc_msg.specs.declared.message.Body.TheVariants.{StoreAck, Colle
 ghost use Rattle.sc_view.specs.Views.{ViewMap};
 ghost use Rattle.sc_node.specs.State.{NodeState};
 ghost use Rattle.sc_node.specs.Nodes.{delivered, message_from};
-ghost use Rattle.q_nodes.specs.Addressees.{addressee_of, asking_tag};
+ghost use Rattle.q_held.specs.Addressees.{addressee_of, asking_tag};
 
 use sc_msg::message::{Body, Message};
 

@@ -1,7 +1,7 @@
 -- The digits of the numbers, computed.
 use Rattle.std.proofs.Common.{refl}
 use Rattle.std.specs.Fmt.{digits}
-use Rattle.q_nodes.proofs.worked.worked_texts.Goals as goal
+use Rattle.q_held.proofs.worked.worked_texts.Goals as goal
 
 pub returns : goal.returns
 unfolding digits

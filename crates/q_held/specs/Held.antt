@@ -10,10 +10,10 @@ use Rattle.q_book.specs.Faults.{memory}
 use Rattle.q_book.specs.declared.answer.Asked.{Asked}
 use Rattle.q_book.specs.declared.answer.Taken.{Taken}
 use Rattle.q_book.specs.declared.fault.BookFault.{BookFault}
-use Rattle.q_nodes.specs.declared.held.Lost.{Lost}
-use Rattle.q_nodes.specs.declared.held.Lost.TheVariants as lost
-use Rattle.q_nodes.specs.declared.losses.Losses.{Losses}
-use Rattle.q_nodes.specs.declared.losses.Unsent.{Unsent}
+use Rattle.q_held.specs.declared.held.Lost.{Lost}
+use Rattle.q_held.specs.declared.held.Lost.TheVariants as lost
+use Rattle.q_held.specs.declared.losses.Losses.{Losses}
+use Rattle.q_held.specs.declared.losses.Unsent.{Unsent}
 
 -- the book and what waits are as they were
 abbrev pub IsSame : BookState → List Message → BookState → List Message → Type 0

@@ -2,8 +2,8 @@
 
 ghost use Rattle.std.specs.Prelude.{◌≡◌, ◌≤◌, ◌+◌, [], vec_len, vec_capacity, MatchResult, None};
 ghost use Rattle.q_board.specs.BoardId.{board_id};
-ghost use Rattle.q_pool.specs.Pumped.{Pumped, Stopped};
-ghost use Rattle.q_nodes.specs.Held.{Asks, Delivers, Hears, Receives, Stores, both_unsent, counted, no_losses, no_unsent};
+ghost use Rattle.q_pump.specs.Pumped.{Pumped, Stopped};
+ghost use Rattle.q_held.specs.Held.{Asks, Delivers, Hears, Receives, Stores, both_unsent, counted, no_losses, no_unsent};
 
 use crate::losses::{Losses, Unsent};
 use q_board::board::Board;
@@ -12,7 +12,7 @@ use q_book::answer::Asked;
 use q_book::book::Book;
 use q_book::fault::BookFault;
 use q_desk::completed::Completed;
-use q_pool::pump::pump_once;
+use q_pump::pump::pump_once;
 use q_table::program::ProgramId;
 use sc_decode::decode::decode_as;
 use sc_msg::fault::MessageFault;

@@ -1,7 +1,7 @@
 //! Datagrams that changed nothing, and what was not sent.
 
 ghost use Rattle.std.specs.Prelude.{◌≡◌};
-ghost use Rattle.q_nodes.specs.Held.{both_unsent, is_all_sent, losses_text, no_losses, no_unsent, together, unsent_text, with_one};
+ghost use Rattle.q_held.specs.Held.{both_unsent, is_all_sent, losses_text, no_losses, no_unsent, together, unsent_text, with_one};
 
 use crate::held::Lost;
 use std::fmt;
