@@ -5,7 +5,7 @@ use Rattle.sc_msg.specs.Messages.{message_bytes, IsMessage}
 use Rattle.sc_msg.specs.declared.message.Message.{Message}
 use Rattle.sc_node.specs.declared.answer.Begun.{Begun}
 use Rattle.q_book.specs.State.{BookState}
-use Rattle.q_book.specs.Books.{asked, delivered, stored}
+use Rattle.q_book.specs.Books.{asked, delivered, left, stored}
 use Rattle.q_book.specs.Faults.{memory}
 use Rattle.q_book.specs.declared.answer.Asked.{Asked}
 use Rattle.q_book.specs.declared.answer.Taken.{Taken}
@@ -41,6 +41,11 @@ Stores value b had (Err f) c has = IsSame b had c has × (f ≢ memory → store
 abbrev pub Asks : ℕ → ℕ → BookState → List Message → Result ℕ BookFault → BookState → List Message → Type 0
 Asks program start b had (Ok query) c has = (a : Asked) × (asked b program start ≡ Ok (a, c)) × (query ≡ a.query) × (has ≡ had ++ a.begun.outs)
 Asks program start b had (Err f) c has = IsSame b had c has × (f ≢ memory → asked b program start ≡ Err f)
+
+-- the node leaves for good, and what the book gives waits behind what waited; or that is refused
+abbrev pub Leaves : BookState → List Message → Result (Unit {0}) BookFault → BookState → List Message → Type 0
+Leaves b had (Ok u) c has = (outs : List Message) × (left b ≡ Ok (outs, c)) × (has ≡ had ++ outs)
+Leaves b had (Err f) c has = IsSame b had c has × (f ≢ memory → left b ≡ Err f)
 
 -- ---- datagrams that changed nothing
 

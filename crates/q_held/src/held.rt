@@ -3,7 +3,7 @@
 ghost use Rattle.std.specs.Prelude.{◌≡◌, ◌≤◌, ◌+◌, [], vec_len, vec_capacity, MatchResult, None};
 ghost use Rattle.q_board.specs.BoardId.{board_id};
 ghost use Rattle.q_pump.specs.Pumped.{Pumped, Stopped};
-ghost use Rattle.q_held.specs.Held.{Asks, Delivers, Hears, Receives, Stores, both_unsent, counted, no_losses, no_unsent};
+ghost use Rattle.q_held.specs.Held.{Asks, Delivers, Hears, Leaves, Receives, Stores, both_unsent, counted, no_losses, no_unsent};
 
 use crate::losses::{Losses, Unsent};
 use q_board::board::Board;
@@ -163,6 +163,19 @@ impl<'b> Held<'b> {
         let Asked { query, begun } = self.book.ask(program, start)?;
         begun.outs.append_to(&mut self.waiting);
         Ok(query)
+    }
+
+    /// Leaves for good. What the book gives waits.
+    pub fn leave(&mut self) -> Result<(), BookFault>
+        ensures left { Leaves self.old.book self.old.waiting.items result self.new.book self.new.waiting.items }
+        ensures lost { self.new.lost ≡ self.old.lost }
+        ensures unsent { self.new.unsent ≡ self.old.unsent }
+        ensures asker { self.new.asker ≡ self.old.asker }
+    {
+        self.waiting.reserve(2)?;
+        let outs = self.book.leave()?;
+        outs.append_to(&mut self.waiting);
+        Ok(())
     }
 
     /// The messages that wait, which wait no longer.
