@@ -24,8 +24,8 @@ use sc_members::config::Config;
 use std::alloc::{AllocError, Global};
 use std::sync::atomic::{AtomicBool, Ordering};
 use std::sync::{Mutex, Wait};
-use std::thread::{Scope, Threads};
 use std::thread;
+use std::thread::{Scope, Threads};
 use std::time::{Clock, Duration, Instant};
 
 /// How many threads run jobs.
