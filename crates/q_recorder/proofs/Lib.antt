@@ -1,0 +1,6 @@
+-- What stands in a file after writes of a journal, and how books grow.
+mod Parts
+mod Growing
+mod Recorded
+mod Checked
+mod LeftOut

@@ -1,0 +1,5 @@
+use Rattle.q_recorder.proofs.Growing.{grows_none, grows_again, grows_call, grows_calls}
+use Rattle.q_recorder.proofs.laws.books_grow.Goals as goal
+
+pub returns : goal.returns
+returns c = record { same = grows_none; again = grows_again; call = grows_call; calls = grows_calls }

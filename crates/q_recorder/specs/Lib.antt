@@ -1,0 +1,4 @@
+-- What a recorder does with the journal of a book.
+pub mod State
+pub mod Recording
+pub mod Faults

@@ -1,0 +1,74 @@
+//! The bytes of a journal: of its head, and of the entries behind so many.
+
+ghost use Rattle.std.specs.Prelude.{◌≡◌, All, IfOk, OnOk, drop};
+ghost use Rattle.q_book.specs.Replays.{EntryFits};
+ghost use Rattle.q_journal.specs.Spelling.{event_bytes, head_bytes as bytes_of_head};
+ghost use Rattle.q_journal.specs.Writing.{with_more};
+ghost use Rattle.q_replay.specs.Journal.{written_of, head_of, entries_bytes as bytes_of_entries};
+ghost use Rattle.q_replay.specs.Checked.{IsChecked};
+
+use q_book::book::Book;
+use q_desk::journal::Entry;
+use q_journal::write::Writer;
+use std::alloc::{AllocError, Global};
+
+/// The head of a book's journal. The one error is that memory ran out (99 OutOfMemory).
+pub fn head_bytes(alloc: Global, book: &Book) -> Result<Vec<u8>, AllocError>
+    ensures { IfOk result (λ bytes. bytes.items ≡ bytes_of_head (head_of book.now)) }
+{
+    let mut writer = Writer::new(alloc, book.version());
+    writer.head(book.id(), book.config(), book.founders())?;
+    Ok(writer.bytes())
+}
+
+/// The entries of a book's journal behind the first so many: none where it has no more. The one error is that memory
+/// ran out (99 OutOfMemory).
+pub fn entries_bytes(alloc: Global, book: &Book, first: usize) -> Result<Vec<u8>, AllocError>
+    ensures { IfOk result (λ bytes. bytes.items ≡ bytes_of_entries book.now.version (drop first book.now.desk.journal)) }
+{
+    let _desk = book.desk();
+    let mut writer = Writer::new(alloc, book.version());
+    write_entries(&mut writer, behind(book.journal(), first))?;
+    Ok(writer.bytes())
+}
+
+/// The entries behind the first so many.
+fn behind(journal: &[Entry], first: usize) -> &[Entry]
+    ensures { result.now ≡ drop first journal.now }
+{
+    match journal.split_at_checked(first) {
+        Some((_, rest)) => rest,
+        None => &[],
+    }
+}
+
+fn write_entries(writer: &mut Writer, entries: &[Entry]) -> Result<(), AllocError>
+    requires fits { All (EntryFits writer.old.version) entries.now }
+    requires checked { All (IsChecked writer.old.version) entries.now }
+    ensures { OnOk result (writer.new ≡ with_more writer.old (bytes_of_entries writer.old.version entries.now)) }
+{
+    for entry in entries {
+        write_entry(writer, entry)?;
+    }
+    Ok(())
+}
+
+fn write_entry(writer: &mut Writer, entry: &Entry) -> Result<(), AllocError>
+    requires fits { EntryFits writer.old.version entry.now }
+    requires checked { IsChecked writer.old.version entry.now }
+    ensures { OnOk result (writer.new ≡ with_more writer.old (event_bytes writer.old.version (written_of entry.now))) }
+{
+    match entry {
+        Entry::Leave => writer.leave(),
+        Entry::Register(program) => {
+            let certified = program.certified();
+            let _longest = certified.longest();
+            writer.register(certified.text(), certified.notes())
+        }
+        Entry::Ask { program, start } => writer.ask(program.number(), *start),
+        Entry::Store(value) => writer.store(value),
+        Entry::Deliver(message) => writer.deliver(message),
+        Entry::HandOut => writer.hand_out(),
+        Entry::Post { query, ran } => writer.post(*query as u64, ran.acc, ran.steps),
+    }
+}

@@ -1,0 +1,35 @@
+//! Worked values of what a recorder writes and of what stands in its file.
+
+ghost use Rattle.std.specs.Prelude.{◌≡◌, ◌++◌, ℕ, List, [], ◌∷◌, Some, Ok, Err, true, false};
+ghost use Rattle.reasons.specs.declared.Reason.TheVariants as reasons;
+ghost use Rattle.q_desk.specs.declared.journal.Entry.{Entry};
+ghost use Rattle.q_desk.specs.declared.journal.Entry.TheVariants as entry;
+ghost use Rattle.q_book.specs.State.{BookState};
+ghost use Rattle.q_journal.specs.Spelling.{head_bytes};
+ghost use Rattle.q_replay.specs.Journal.{head_of, journal_of};
+ghost use Rattle.q_recorder.specs.State.{RecorderState};
+ghost use Rattle.q_recorder.specs.Faults.{reason};
+ghost use Rattle.q_recorder.specs.Recording.{Grows, IsRecorded, Records, lacking_bytes, recorded_bytes};
+ghost use Rattle.q_recorder.specs.declared.fault.Unrecorded.TheVariants as fault;
+
+/// What the definitions say at telling operands, of a book whose journal is a hand-out and a leave.
+#[tactic(auto, unfolding(sc_msg::specs::Numbers::number_bytes))]
+pub fn worked()
+    ensures failed { reason fault.Failed ≡ reasons.FileFailed }
+
+    // Of a journal that did not begin all lacks, and else the entries behind those that were written.
+    ensures all_lacks { (r : RecorderState) (b : BookState) → r.begun ≡ false → r.written ≡ 0 → lacking_bytes r b ≡ journal_of b }
+    ensures last_lacks { (r : RecorderState) (b : BookState) → b.desk.journal ≡ entry.HandOut ∷ entry.Leave ∷ [] → r.begun ≡ true → r.written ≡ 1 → lacking_bytes r b ≡ 1 ∷ 0 ∷ 0 ∷ 0 ∷ 0 ∷ [] }
+    ensures none_lacks { (r : RecorderState) (b : BookState) → b.desk.journal ≡ entry.HandOut ∷ entry.Leave ∷ [] → r.begun ≡ true → r.written ≡ 2 → lacking_bytes r b ≡ [] }
+    ensures first_is_there { (r : RecorderState) (b : BookState) → b.desk.journal ≡ entry.HandOut ∷ entry.Leave ∷ [] → r.begun ≡ true → r.written ≡ 1 → recorded_bytes r b ≡ head_bytes (head_of b) ++ (6 ∷ 0 ∷ 0 ∷ 0 ∷ 0 ∷ []) }
+
+    // A recorder that is broken writes nothing and never succeeds.
+    ensures broken_writes_nothing { (r s : RecorderState) (b : BookState) → r.broken ≡ true → Records r b (Err fault.Failed) s → s ≡ r }
+    ensures broken_fails { (r s : RecorderState) (b : BookState) → r.broken ≡ true → Records r b (Ok (tt {0})) s → ⊥ }
+    ensures breaks { (r s : RecorderState) (b : BookState) → Records r b (Err fault.Failed) s → s.broken ≡ true }
+    ensures kept { (r s : RecorderState) (b : BookState) (bytes : List ℕ) → r.keeps ≡ true → s.kept ≡ Some bytes → Records r b (Ok (tt {0})) s → s.file ≡ Some bytes }
+
+    // No entry is left out, also by a recorder that is broken, and a book does not grow by losing entries.
+    ensures no_hole { (r : RecorderState) (b : BookState) → b.desk.journal ≡ entry.HandOut ∷ entry.Leave ∷ [] → r.file ≡ Some (head_bytes (head_of b) ++ (1 ∷ 0 ∷ 0 ∷ 0 ∷ 0 ∷ [])) → IsRecorded (Some []) b r → ⊥ }
+    ensures no_shorter { (b c : BookState) (e : Entry) → b.desk.journal ≡ e ∷ [] → c.desk.journal ≡ [] → Grows b c → ⊥ }
+{}
