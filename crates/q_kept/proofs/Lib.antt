@@ -1,0 +1,7 @@
+mod Letters
+mod Targets
+mod Each
+mod Gifts
+mod Growing
+mod Looks
+mod Settling

@@ -1,0 +1,92 @@
+-- What settling does, out of the pump, the recorder and what is given.
+use Rattle.std.proofs.Common.{◌≡◌, Bool, true, false, List, [], ◌∷◌, sym, ap, ◌∙◌, subst, Option, Some, Result, Ok, Err, inl, inr}
+use Rattle.std.specs.Io.KnownBytes.{Appends}
+use Rattle.sc_msg.specs.declared.message.Message.{Message}
+use Rattle.q_held.specs.declared.losses.Unsent.{Unsent}
+use Rattle.std.specs.Prelude.{if◌then◌else◌, MatchResult, ℕ}
+use Rattle.q_session.specs.declared.job.Job.{Job}
+use Rattle.q_session.specs.Done.{Finished}
+use Rattle.q_board.specs.AskerModel.{AskerModel}
+use Rattle.q_desk.specs.State.{DeskState}
+use Rattle.q_desk.specs.Desks as desk
+use Rattle.q_desk.specs.declared.fault.DeskFault.{DeskFault}
+use Rattle.q_book.specs.State.{BookState}
+use Rattle.q_book.specs.Books.{by_desk, with_desk}
+use Rattle.q_book.specs.declared.fault.BookFault.{BookFault}
+use Rattle.q_pump.specs.Pumped.{Carries, HandsOut, Posts, Pumped, Stopped}
+use Rattle.q_replay.specs.Journal.{head_of, journal_of}
+use Rattle.q_recorder.specs.State.{RecorderState}
+use Rattle.q_recorder.specs.Recording.{Grows, IsRecorded, Records, RecordsAll}
+use Rattle.q_recorder.specs.declared.fault.Unrecorded.{Unrecorded}
+use Rattle.q_recorder.specs.declared.fault.Unrecorded.TheVariants.{Failed, OutOfMemory}
+use Rattle.q_kept.specs.Giving.{Gives, outbox}
+use Rattle.q_kept.specs.Settling.{GivesNone, GivesWritten, Pumps}
+use Rattle.q_kept.specs.declared.letter.Letter.{Letter}
+use Rattle.q_kept.specs.declared.question.Question.{Question}
+
+-- a call of the desk leaves the head as it is
+head_stays : {A : Type 0} (gone : Bool) (f : BookFault) (r : Result (A × DeskState) DeskFault) (b c : BookState) (a : A)
+    → (if gone then Err f else by_desk (with_desk b) r) ≡ Ok (a, c) → head_of c ≡ head_of b
+head_stays true f r b c a e = absurd (cc)
+head_stays false f (Err x) b c a e = absurd (cc)
+head_stays {A} false f (Ok x) b c a e =
+    let made : BookState = record b { desk = x.1 } in
+    let is : ◌≡◌ {A = A × BookState} (x.0, made) (a, c) = cc in
+    sym (ap (λ (p : A × BookState). head_of p.1) is)
+
+posts_stay : (b c : BookState) (ds accepted : List Finished) → Posts b ds accepted c → head_of c ≡ head_of b
+posts_stay b c [] accepted p = ap head_of p.1
+posts_stay b c (d ∷ ds) accepted (inl p) =
+    posts_stay p.0 c ds p.1 p.4 ∙ head_stays b.node.gone _ (desk.posted b.desk b.id d.job d.ran) b p.0 tt p.2
+posts_stay b c (d ∷ ds) accepted (inr p) = posts_stay b c ds accepted p.3
+
+hands_stay : (b c : BookState) (js : List Job) → HandsOut b js c → head_of c ≡ head_of b
+hands_stay b c [] h = ap head_of h
+hands_stay b c (j ∷ js) h = hands_stay h.0 c js h.2 ∙ head_stays b.node.gone _ (desk.handed_out b.desk b.id) b h.0 (Some j) h.1
+
+carries_grow : (a a' : AskerModel) (b b' : BookState) → Carries a b a' b' → Grows b b'
+carries_grow a a' b b' k = record {
+  head = hands_stay k.between b' k.handed k.hands ∙ posts_stay b k.between k.results k.accepted k.posts;
+  more = _;
+  journal = k.journal;
+}
+
+pub pumps_grow : (a a' : AskerModel) (b b' : BookState) → Pumps a b a' b' → Grows b b'
+pumps_grow a a' b b' (inl p) = carries_grow a a' b b' p.1.carries
+pumps_grow a a' b b' (inr p) = carries_grow a a' b b' p.1.carries
+
+-- whatever the pump answered
+pub pumps_either : (a a' : AskerModel) (b b' : BookState) (r : Result ℕ BookFault)
+    → MatchResult r (λ posted. Pumped a b posted a' b') (λ fault. Stopped a b fault a' b') → Pumps a b a' b'
+pumps_either a a' b b' (Ok posted) p = inl (posted, p)
+pumps_either a a' b b' (Err fault) p = inr (fault, p)
+
+-- what comes later leaves the seat and the book as they are
+pub pumps_after : (a a' a'' : AskerModel) (b b' b'' : BookState) → Pumps a b a' b' → a'' ≡ a' → b'' ≡ b' → Pumps a b a'' b''
+pumps_after a a' a'' b b' b'' p e k = subst (λ (x : AskerModel × BookState). Pumps a b x.0 x.1) (λ i. (sym e i, sym k i)) p
+
+-- a recorder that was broken is as it was
+pub stays_broken : (old new : RecorderState) (b : BookState) (e : Unrecorded) → Records old b (Err e) new → old.broken ≡ true → new ≡ old
+stays_broken old new b Failed r t = r.before t
+stays_broken old new b OutOfMemory r t = r.1
+
+-- one that records is not broken
+pub is_sound : (old new : RecorderState) (b : BookState) → RecordsAll old b new → old.broken ≡ true → ⊥
+is_sound old new b r t = let e : true ≡ false = sym t ∙ r.sound in absurd (cc)
+
+-- what was given after the book's journal was recorded, of a book that was b before the pump, c after it, and is d
+pub gives_written : (r r' : RecorderState) (b c d : BookState) (had pumped has : List Message) (qs asks : List Question) (u w x : Unsent) (ls : List Letter)
+    → Grows b c → d ≡ c → RecordsAll r c r' → ((first : Option (List ℕ)) (e : BookState) → Grows e c → IsRecorded first e r → Appends first r'.file (journal_of c))
+    → pumped ≡ had → w ≡ u → Gives c.version (outbox pumped qs w) ls (outbox has asks x) → GivesWritten r b d (outbox had qs u) ls r' (outbox has asks x)
+gives_written r r' b c d had pumped has qs asks u w x ls grows same records whole waits counts gives =
+    subst (λ (y : BookState). GivesWritten r b y (outbox had qs u) ls r' (outbox has asks x)) (sym same)
+    (record {
+      written = records;
+      whole = λ first h. whole first b grows h;
+      given = subst (λ o. Gives c.version o ls (outbox has asks x)) (λ i. outbox (waits i) qs (counts i)) gives;
+    })
+
+-- nothing was given
+pub gives_none : (r r' : RecorderState) (c : BookState) (had has : List Message) (qs : List Question) (u w : Unsent) (e : Unrecorded) → Records r c (Err e) r' → has ≡ had → w ≡ u
+    → GivesNone r c (outbox had qs u) r' (outbox has qs w)
+gives_none r r' c had has qs u w e records waits counts = record { why = e; unwritten = records; same = λ i. outbox (waits i) qs (counts i) }

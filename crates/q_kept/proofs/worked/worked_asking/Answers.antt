@@ -1,0 +1,8 @@
+use Rattle.q_kept.proofs.Looks.{due_at, no_powers, not_due_at, powers}
+use Rattle.q_kept.proofs.worked.worked_asking.Goals as goal
+
+pub returns-clause-due : goal.returns-clause-due
+returns-clause-due c = λ v m e. (due_at 1 v m powers.0 e, due_at 2 v m powers.1 e, due_at 4 v m powers.2 e, due_at 8 v m powers.3 e)
+
+pub returns-clause-not_due : goal.returns-clause-not_due
+returns-clause-not_due c = λ v m. (not_due_at 0 v m no_powers.0, not_due_at 3 v m no_powers.1, not_due_at 5 v m no_powers.2, not_due_at 6 v m no_powers.3, not_due_at 7 v m no_powers.4)

@@ -1,0 +1,69 @@
+//! Worked values of letters, of what goes again, and of what settling says.
+
+ghost use Rattle.std.specs.Prelude.{◌≡◌, ◌++◌, ℕ, List, [], ◌∷◌, Option, Some, None, true, false, length};
+ghost use Rattle.std.specs.FinMap as fin;
+ghost use Rattle.std.specs.FinSet as set;
+ghost use Rattle.sc_view.specs.Views.{ViewMap};
+ghost use Rattle.sc_msg.specs.Lengths.{fits};
+ghost use Rattle.sc_msg.specs.declared.message.Body.TheVariants as body;
+ghost use Rattle.sc_msg.specs.declared.message.Message.{Message as Said};
+ghost use Rattle.sc_msg.specs.declared.version.Version.{Version as Wire};
+ghost use Rattle.sc_operations.specs.declared.session.Phase.{Phase as Waiting};
+ghost use Rattle.sc_operations.specs.declared.session.Session.{Session as Operation};
+ghost use Rattle.sc_operations.specs.declared.session.StoreBack.{StoreBack as Back};
+ghost use Rattle.sc_node.specs.State.{NodeState};
+ghost use Rattle.q_book.specs.State.{BookState};
+ghost use Rattle.q_replay.specs.Journal.{journal_of};
+ghost use Rattle.q_recorder.specs.State.{RecorderState};
+ghost use Rattle.q_recorder.specs.Recording.{IsRecorded};
+ghost use Rattle.q_held.specs.declared.losses.Unsent.{Unsent as Lost};
+ghost use Rattle.q_kept.specs.Giving.{Gives, Outbox, outbox};
+ghost use Rattle.q_kept.specs.Letters.{addressed, message_to};
+ghost use Rattle.q_kept.specs.Questions.{asking_phase, due_of, goes_again, is_due, is_kept, looked_at, new_question, targets, uncounted};
+ghost use Rattle.q_kept.specs.Settling.{GivesNone, GivesWritten};
+ghost use Rattle.q_kept.specs.declared.letter.Letter.{Letter as Sent};
+ghost use Rattle.q_kept.specs.declared.question.Question.{Question as Asking};
+
+/// To whom messages go, and which go again.
+pub fn worked()
+    ensures to_one { (from : ℕ) → (addressed (record { from = from; body = body.StoreAck 3 7 })).to ≡ Some 3 }
+    ensures to_all { (from : ℕ) → (addressed (record { from = from; body = body.CollectQuery 7 })).to ≡ None }
+    ensures again { (v : ViewMap) → (goes_again body.Enter ≡ true) × (goes_again body.Join ≡ true) × (goes_again body.Leave ≡ true) × (goes_again (body.Store 7 v) ≡ true) × (goes_again (body.CollectQuery 7) ≡ true) }
+    ensures not_again { (v : ViewMap) → (goes_again (body.StoreAck 3 7) ≡ false) × (goes_again (body.StoreEcho v) ≡ false) × (goes_again (body.CollectReply 3 7 v) ≡ false) × (goes_again (body.JoinEcho 3) ≡ false) × (goes_again (body.LeaveEcho 3) ≡ false) }
+{}
+
+/// For how long a question is kept.
+pub fn worked_keeping()
+    // An enter until the node has joined, or has left.
+    ensures enters { (n : NodeState) → n.gone ≡ false → n.joined ≡ false → is_kept n 1000 body.Enter ≡ true }
+    ensures has_joined { (n : NodeState) → n.gone ≡ false → n.joined ≡ true → is_kept n 0 body.Enter ≡ false }
+    ensures has_left { (n : NodeState) (v : ViewMap) → n.gone ≡ true → (is_kept n 0 body.Enter ≡ false) × (is_kept n 0 (body.Store 7 v) ≡ false) × (is_kept n 0 (body.CollectQuery 7) ≡ false) }
+
+    // A join and a leave up to the third look at which they are due.
+    ensures tells { (n : NodeState) → (is_kept n 4 body.Join ≡ true) × (is_kept n 4 body.Leave ≡ true) }
+    ensures told { (n : NodeState) → (is_kept n 5 body.Join ≡ false) × (is_kept n 5 body.Leave ≡ false) }
+
+    // What an operation asks while its phase is open.
+    ensures ended { (n : NodeState) (v : ViewMap) → fin.get n.sessions 7 ≡ None → (is_kept n 0 (body.Store 7 v) ≡ false) × (is_kept n 0 (body.CollectQuery 7) ≡ false) }
+    ensures queries { (n : NodeState) (s : Operation) (p : Waiting) → n.gone ≡ false → fin.get n.sessions 7 ≡ Some s → s.back ≡ None → s.query ≡ Some p → is_kept n 1000 (body.CollectQuery 7) ≡ true }
+    ensures stores_back { (n : NodeState) (s : Operation) (b : Back) (v : ViewMap) → n.gone ≡ false → fin.get n.sessions 7 ≡ Some s → s.back ≡ Some b → (is_kept n 1000 (body.Store 7 v) ≡ true) × (is_kept n 0 (body.CollectQuery 7) ≡ false) }
+{}
+
+/// To whom a question goes, and at which looks.
+pub fn worked_asking()
+    ensures uncounted { (p : Waiting) → set.contains p.counted 3 ≡ true → set.contains p.counted 4 ≡ false → uncounted (Some p) (3 ∷ 4 ∷ []) ≡ 4 ∷ [] }
+    ensures to_all { (n : NodeState) (nodes : List ℕ) → (targets n nodes body.Enter ≡ None ∷ []) × (targets n nodes body.Join ≡ None ∷ []) × (targets n nodes body.Leave ≡ None ∷ []) }
+    ensures asked { (n : NodeState) (p : Waiting) → asking_phase n (body.CollectQuery 7) ≡ Some p → set.contains p.counted 3 ≡ true → set.contains p.counted 4 ≡ false → targets n (3 ∷ 4 ∷ []) (body.CollectQuery 7) ≡ Some 4 ∷ [] }
+    ensures due { (v : Wire) (m : Said) → fits v m ≡ true → (is_due v (record { message = m; looks = 1 }) ≡ true) × (is_due v (record { message = m; looks = 2 }) ≡ true) × (is_due v (record { message = m; looks = 4 }) ≡ true) × (is_due v (record { message = m; looks = 8 }) ≡ true) }
+    ensures not_due { (v : Wire) (m : Said) → (is_due v (new_question m) ≡ false) × (is_due v (record { message = m; looks = 3 }) ≡ false) × (is_due v (record { message = m; looks = 5 }) ≡ false) × (is_due v (record { message = m; looks = 6 }) ≡ false) × (is_due v (record { message = m; looks = 7 }) ≡ false) }
+    ensures looked { (m : Said) → looked_at (new_question m) ≡ record { message = m; looks = 1 } }
+    ensures most { (m : Said) → looked_at (record { message = m; looks = 4294967295 }) ≡ record { message = m; looks = 4294967295 } }
+{}
+
+/// What settling says, where the file was empty at first.
+pub fn worked_settling()
+    ensures written { (r : RecorderState) (b c : BookState) (old : Outbox) (letters : List Sent) (r' : RecorderState) (new : Outbox) → IsRecorded (Some []) b r → GivesWritten r b c old letters r' new → r'.file ≡ Some (journal_of c) }
+    ensures sound { (r : RecorderState) (b c : BookState) (old : Outbox) (letters : List Sent) (r' : RecorderState) (new : Outbox) → GivesWritten r b c old letters r' new → (r.broken ≡ false) × (r'.broken ≡ false) }
+    ensures waits { (r : RecorderState) (c : BookState) (old : Outbox) (r' : RecorderState) (new : Outbox) → GivesNone r c old r' new → new.waiting ≡ old.waiting }
+    ensures nothing_waits { (v : Wire) (qs asks : List Asking) (u w : Lost) (letters : List Sent) (has : List Said) → Gives v (outbox [] qs u) letters (outbox has asks w) → (length letters ≡ 0) × (has ≡ []) }
+{}
