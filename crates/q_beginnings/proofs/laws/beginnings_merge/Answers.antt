@@ -1,0 +1,8 @@
+use Rattle.q_beginnings.proofs.Gathering.{parts_merge, hold_all}
+use Rattle.q_beginnings.proofs.laws.beginnings_merge.Goals as goal
+
+pub returns : goal.returns
+returns c = record {
+  merges = λ wholes parts lists held distinct traces merges begun own hold. parts_merge wholes parts distinct begun lists held traces own merges hold;
+  only = λ books lists traces merges. hold_all books lists traces merges;
+}

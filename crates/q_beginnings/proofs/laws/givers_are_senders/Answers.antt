@@ -1,0 +1,8 @@
+use Rattle.q_beginnings.proofs.Cutting.{gives_more, given_own}
+use Rattle.q_beginnings.proofs.laws.givers_are_senders.Goals as goal
+
+pub returns : goal.returns
+returns c = record {
+  sender = λ m b g. given_own m b g;
+  more = λ m part whole r k g. gives_more m part whole r k g;
+}

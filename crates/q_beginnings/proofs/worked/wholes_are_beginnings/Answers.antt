@@ -1,0 +1,8 @@
+use Rattle.q_beginnings.proofs.Heads.{whole_begun, wholes_begun}
+use Rattle.q_beginnings.proofs.worked.wholes_are_beginnings.Goals as goal
+
+pub returns : goal.returns
+returns c = record {
+  one = λ b r. whole_begun b r;
+  all = λ books version config founders may. wholes_begun books version config founders may;
+}
