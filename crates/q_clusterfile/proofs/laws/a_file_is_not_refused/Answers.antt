@@ -1,0 +1,5 @@
+use Rattle.q_clusterfile.proofs.Refusals.{not_refused}
+use Rattle.q_clusterfile.proofs.laws.a_file_is_not_refused.Goals as goal
+
+pub returns : goal.returns
+returns c = not_refused
