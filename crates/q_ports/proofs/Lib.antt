@@ -1,0 +1,2 @@
+-- Proofs of datagrams.
+pub mod Senders

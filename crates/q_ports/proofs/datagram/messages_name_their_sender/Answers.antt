@@ -1,0 +1,5 @@
+use Rattle.q_ports.proofs.Senders.{named}
+use Rattle.q_ports.proofs.datagram.messages_name_their_sender.Goals as goal
+
+pub returns : goal.returns
+returns c = named
