@@ -1,0 +1,26 @@
+//! A node as its clients see it.
+
+ghost use Rattle.std.specs.Prelude.{◌≡◌, ℕ, IfSome};
+ghost use Rattle.sc_msg.specs.declared.version.Version.{Version as BookVersion};
+ghost use Rattle.q_clients.specs.Clients.{IsSaid};
+
+use q_net::reply::Reply;
+use q_net::request::Request;
+use sc_msg::version::Version;
+use std::alloc::Global;
+
+/// A node as its clients see it, each of which is served by a thread of its own.
+pub trait Serving {
+    // The id of the node, and the version of its book.
+    ghost id: { Self → ℕ };
+
+    ghost version: { Self → BookVersion };
+
+    /// The version of its book, by which requests are read.
+    fn version(&self) -> Version
+        ensures { result ≡ version self.now };
+
+    /// The reply to a request, given when it is due, so it may wait; none where the node says no more.
+    fn reply(&self, alloc: Global, request: &Request) -> Option<Reply>
+        ensures { IfSome result (IsSaid (id self.now) request.now) };
+}
