@@ -1,0 +1,10 @@
+-- Proofs of a client.
+mod Reading
+mod Heard
+mod Writing
+mod Scripts
+mod Moves
+mod Beginnings
+mod Looking
+mod Running
+mod Halting

@@ -1,0 +1,11 @@
+-- The reasons by which it is told that there is no reply.
+use Rattle.reasons.specs.declared.Reason.{Reason}
+use Rattle.reasons.specs.declared.Reason.TheVariants as reasons
+use Rattle.q_asker.specs.declared.exchange.ExchangeFault.{ExchangeFault}
+use Rattle.q_asker.specs.declared.exchange.ExchangeFault.TheVariants as fault
+
+abbrev pub reason : ExchangeFault → Reason
+reason fault.Unsent = reasons.TransportFailed
+reason fault.Unheard = reasons.TransportFailed
+reason fault.NoReply = reasons.TransportFailed
+reason fault.OutOfMemory = reasons.OutOfMemory

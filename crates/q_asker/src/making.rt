@@ -1,0 +1,45 @@
+//! The requests that lines make.
+
+ghost use Rattle.std.specs.Prelude.{◌≡◌, ◌<◌, length, IfErr, IfOk, MatchOption};
+ghost use Rattle.q_sim.specs.Programs.{IsRefusal};
+ghost use Rattle.q_asker.specs.Makes.{IsRegistration, program_number, most_value};
+ghost use Rattle.q_net.specs.declared.request.Request.TheVariants as request;
+
+use q_net::request::{Blob, Request, Short};
+use q_sim::program::certified_code;
+use q_sim::refusal::Refusal;
+use std::alloc::Global;
+
+/// The request that registers the program of these bytes, with the notes that the verifier finds for records of 16 to
+/// 128 bytes. Refused is what decoding and then verifying refuse, or 99.
+pub fn registration(alloc: Global, code: &[u8]) -> Result<Request, Refusal>
+    ensures made { IfOk result (IsRegistration code.now) }
+    ensures refused { IfErr result (IsRefusal code.now) }
+{
+    let program = certified_code(alloc, code)?;
+    let notes = program.certified().notes().bytes(alloc)?;
+    let text = Vec::from_slice(alloc, code)?;
+    Ok(Request::Register {
+        text: Blob::new(text),
+        notes: Blob::new(notes),
+    })
+}
+
+/// The request that stores a value of these bytes; none of more than 255, which no request has.
+pub fn storing(value: &[u8]) -> Option<Request>
+    ensures { MatchOption result (most_value < length value.now) (λ r. r ≡ request.StoreOf value.now) }
+{
+    let Ok(len) = u8::try_from(value.len()) else {
+        return None;
+    };
+    let mut bytes = [0u8; 255];
+    bytes[..value.len()].copy_from_slice(value);
+    Some(Request::StoreOf(Short::new(bytes, len)))
+}
+
+/// The number of a program in a request. Of a number that is too large it is the greatest, which no program has.
+pub fn program_number(number: u64) -> u32
+    ensures { result ≡ program_number number }
+{
+    u32::try_from(number).unwrap_or(u32::MAX)
+}

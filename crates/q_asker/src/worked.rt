@@ -1,0 +1,55 @@
+//! Worked values of a client's lines, requests, replies, steps and endings.
+
+ghost use Rattle.std.specs.Prelude.{◌≡◌, ℕ, List, [], ◌∷◌, ◌++◌, codes, false, true};
+ghost use Rattle.q_net.specs.declared.reply.Reply.TheVariants as reply;
+ghost use Rattle.q_net.specs.declared.request.Request.TheVariants as request;
+ghost use Rattle.q_asker.specs.Makes.{program_number};
+ghost use Rattle.q_asker.specs.Replies.{CanBe, expected};
+ghost use Rattle.q_asker.specs.Runs.{status_of};
+ghost use Rattle.q_asker.specs.Script.{AreLines, SpellsLine};
+ghost use Rattle.q_asker.specs.Steps.{AreOf, Exchanged, GaveUp, StepTells, Tells, all_done, heard_by, sent_by};
+ghost use Rattle.q_asker.specs.declared.ending.Ending.TheVariants as ending;
+ghost use Rattle.q_asker.specs.declared.replies.ReplyKind.TheVariants as kind;
+ghost use Rattle.q_asker.specs.declared.script.ClientLine.TheVariants as line;
+
+/// What the definitions say of telling lines, replies, steps and endings.
+#[tactic(auto, unfolding(bq_check::specs::Spelling::short_bytes, bq_check::specs::Spelling::long_bytes))]
+pub fn worked()
+    // Lines: no node stands in them, and an empty text has none.
+    ensures stored { (value : _) → value.items ≡ 5 ∷ 255 ∷ [] → SpellsLine (codes "store x05fF") (line.Store value) }
+    ensures asked { SpellsLine (codes "ask 3 7") (line.Ask 3 7) }
+    ensures no_line { AreLines [] [] }
+
+    // The number of a program that is too large for a request.
+    ensures small { program_number 4294967295 ≡ 4294967295 }
+    ensures large { program_number 4294967296 ≡ 4294967295 }
+
+    // Replies: what a reply may be goes by its request.
+    ensures look { expected (request.Answer 7) ≡ kind.Answer }
+    ensures stores { expected (request.StoreOf []) ≡ kind.Number }
+    ensures still_open { CanBe kind.Answer reply.Open }
+    ensures open_store { CanBe kind.Number reply.Open → ⊥ }
+    ensures number_of_a_program { CanBe kind.Program (reply.Number 7) → ⊥ }
+
+    // What replies tell.
+    ensures program { (text : List ℕ) → Tells (request.Register [] []) (reply.Program 3) text → text ≡ codes "program 3\n" }
+    ensures tag { (text : List ℕ) → Tells (request.StoreOf []) (reply.Number 8) text → text ≡ codes "store 8\n" }
+    ensures query { (text : List ℕ) → Tells (request.Ask 0 5) (reply.Number 2) text → text ≡ codes "query 2\n" }
+    ensures answer { (text : List ℕ) → Tells (request.Answer 2) (reply.Answer 9 6) text → text ≡ codes "answer 2 9 6\n" }
+    ensures no_answer { (text : List ℕ) → Tells (request.Answer 2) reply.Open text → text ≡ [] }
+    ensures gave_up { (text : List ℕ) → StepTells GaveUp text → text ≡ codes "unanswered\n" }
+
+    // Steps: what they send and hear, and that an ask is done only with its looks.
+    ensures sent { sent_by (Exchanged (request.StoreOf (7 ∷ [])) (reply.Refused 50)) ≡ 5 ∷ 1 ∷ 7 ∷ [] }
+    ensures heard { heard_by (Exchanged (request.StoreOf (7 ∷ [])) (reply.Refused 50)) ≡ 50 ∷ [] }
+    ensures given_up_sends_nothing { sent_by GaveUp ≡ [] }
+    ensures not_looked_for { AreOf (line.Ask 0 5) (Exchanged (request.Ask 0 5) (reply.Number 2) ∷ []) → ⊥ }
+    ensures refused { all_done (Exchanged (request.Ask 0 5) (reply.Refused 51) ∷ []) ≡ false }
+    ensures unanswered { all_done (GaveUp ∷ []) ≡ false }
+
+    // The exit status.
+    ensures done { status_of true (ending.Done true) ≡ 0 }
+    ensures unclean { status_of false (ending.Done false) ≡ 0 }
+    ensures strict { status_of true (ending.Done false) ≡ 1 }
+    ensures lost { status_of false ending.Lost ≡ 1 }
+{}
