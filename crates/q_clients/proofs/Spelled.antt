@@ -11,8 +11,7 @@ use Rattle.q_net.specs.declared.reply.Reply.TheVariants as reply
 use Rattle.q_net.specs.Requests.{Place, before, spelling, spellings, IsStop, text_length, in_text, notes_length, in_notes, program_number, start_value, in_value, query_number, value_length, in_bytes}
 use Rattle.q_net.specs.Replies.{reply_bytes, stop_number}
 use Rattle.q_net.specs.Serves.{IsLast, last_reply}
-use Rattle.q_clients.specs.Clients.{IsSaid}
-use Rattle.q_clients.specs.Serves.{replies_bytes}
+use Rattle.q_clients.specs.Serves.{Giving, IsTold, replies_bytes}
 
 -- every request and every reply has a byte
 pub request_has_bytes : (r : Request) → 1 ≤ length (spelling r)
@@ -49,11 +48,11 @@ no_stop version LongText h = let is = h.3 in absurd (cc)
 no_stop version LongNotes h = let is = h.5 in absurd (cc)
 
 -- where nothing was written, nothing was read
-pub nothing_read : (version : Version) (node : ℕ) (rs : List Request) (bs : List Reply) (ended : Option Stop) (last : List ℕ) → AllZip (IsSaid node) rs bs → IsLast version last ended
+pub nothing_read : (version : Version) (node : ℕ) (gives : Giving) (rs : List Request) (bs : List Reply) (ended : Option Stop) (last : List ℕ) → AllZip (IsTold node gives) rs bs → IsLast version last ended
     → length (replies_bytes bs ++ last_reply ended) ≡ 0 → length (spellings rs ++ last) ≡ 0
-nothing_read version node rs bs (Some stop) last said is_last none = absurd (omega (arith, none, length-append (replies_bytes bs) (stop_number stop ∷ [])))
-nothing_read version node [] [] None last said is_last none = ap length is_last
-nothing_read version node [] (b ∷ bs) None last said is_last none = absurd said
-nothing_read version node (r ∷ rs) [] None last said is_last none = absurd said
-nothing_read version node (r ∷ rs) (b ∷ bs) None last said is_last none =
+nothing_read version node gives rs bs (Some stop) last said is_last none = absurd (omega (arith, none, length-append (replies_bytes bs) (stop_number stop ∷ [])))
+nothing_read version node gives [] [] None last said is_last none = ap length is_last
+nothing_read version node gives [] (b ∷ bs) None last said is_last none = absurd said
+nothing_read version node gives (r ∷ rs) [] None last said is_last none = absurd said
+nothing_read version node gives (r ∷ rs) (b ∷ bs) None last said is_last none =
     absurd (omega (arith, none, length-append (reply_bytes b ++ replies_bytes bs) [], length-append (reply_bytes b) (replies_bytes bs), reply_has_bytes b))

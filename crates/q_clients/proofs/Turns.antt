@@ -13,10 +13,9 @@ use Rattle.q_net.specs.declared.reply.Reply.{Reply}
 use Rattle.q_net.specs.declared.reply.Reply.TheVariants.{Refused}
 use Rattle.q_net.specs.Requests.{IsGot, IsRequest, spelling}
 use Rattle.q_net.specs.Serves.{last_reply}
-use Rattle.q_clients.specs.Clients.{IsSaid}
 use Rattle.q_clients.specs.declared.serve.Served.{Served}
 use Rattle.q_clients.specs.declared.serve.Served.TheVariants.{Ended, Silent}
-use Rattle.q_clients.specs.Serves.{Exchanges, IsAtHand, IsEnd, IsTaken, IsTurn}
+use Rattle.q_clients.specs.Serves.{Exchanges, Giving, IsAtHand, IsEnd, IsTaken, IsTold, IsTurn}
 use Rattle.q_clients.proofs.Exchanged.{exchanges_more, exchanges_then}
 use Rattle.q_clients.proofs.Lost.{lost_said}
 
@@ -29,19 +28,19 @@ whole_read version input left n r is got =
     (whole.0, subst (Consumes input left) whole.1 consumed)
 
 -- a turn fails
-pub fails : {E : Type 0} (P : E → Type 0) (version : Version) (node : ℕ) (input left before after : Option (List ℕ)) (r : Result (Option Served) E) (read part : List ℕ) → IsErrAnd r P
-    → Consumes input left read → Appends before after part → IsAtHand version node read part
-    → IsTurn version node input left before after r
-fails P version node input left before after (Ok o) read part h consumed written at_hand = absurd h
-fails P version node input left before after (Err e) read part h consumed written at_hand = (read, part, consumed, written, at_hand)
+pub fails : {E : Type 0} (P : E → Type 0) (version : Version) (node : ℕ) (gives : Giving) (input left before after : Option (List ℕ)) (r : Result (Option Served) E) (read part : List ℕ) → IsErrAnd r P
+    → Consumes input left read → Appends before after part → IsAtHand version node gives read part
+    → IsTurn version node gives input left before after r
+fails P version node gives input left before after (Ok o) read part h consumed written at_hand = absurd h
+fails P version node gives input left before after (Err e) read part h consumed written at_hand = (read, part, consumed, written, at_hand)
 
 -- a reply to a request is not written whole
-pub reply_fails : {E : Type 0} (P : E → Type 0) (version : Version) (node : ℕ) (input left before after : Option (List ℕ)) (result : Result (Option Served) E) (r : Request) (a : Reply)
-    → IsErrAnd result P → IsRequest version r × Consumes input left (spelling r) → IsSaid node r a
+pub reply_fails : {E : Type 0} (P : E → Type 0) (version : Version) (node : ℕ) (gives : Giving) (input left before after : Option (List ℕ)) (result : Result (Option Served) E) (r : Request) (a : Reply)
+    → IsErrAnd result P → IsRequest version r × Consumes input left (spelling r) → IsTold node gives r a
     → (part : List ℕ) × Appends before after part
-    → IsTurn version node input left before after result
-reply_fails P version node input left before after result r a h read said written =
-    fails P version node input left before after result (spelling r) written.0 h read.1 written.1 (inr (inr (r, a, read.0, refl, said)))
+    → IsTurn version node gives input left before after result
+reply_fails P version node gives input left before after result r a h read said written =
+    fails P version node gives input left before after result (spelling r) written.0 h read.1 written.1 (inr (inr (r, a, read.0, refl, said)))
 
 -- there was no memory for the bytes of this registration
 lost_read : (version : Version) (input left : Option (List ℕ)) (n : Next) → n ≡ next.Lost
@@ -54,71 +53,71 @@ lost_read version input left n is got =
     (text, notes, (legal, subst (Consumes input left) spelled consumed))
 
 -- requests stop, and that is replied to
-pub stops : (version : Version) (node : ℕ) (input left before after : Option (List ℕ)) (n : Next) (stop : Stop) (bytes : List ℕ) → n ≡ next.Ended stop → IsGot version [] input left n
+pub stops : (version : Version) (node : ℕ) (gives : Giving) (input left before after : Option (List ℕ)) (n : Next) (stop : Stop) (bytes : List ℕ) → n ≡ next.Ended stop → IsGot version [] input left n
     → bytes ≡ last_reply (Some stop) → Appends before after bytes
-    → IsTaken version node input left before after (Some Ended)
-stops version node input left before after n stop bytes is got said written =
+    → IsTaken version node gives input left before after (Some Ended)
+stops version node gives input left before after n stop bytes is got said written =
     let g : IsGot version [] input left (next.Ended stop) = subst (IsGot version [] input left) is got in
     let (read, consumed, is_stop, at_end) = g in
     (Some stop, read, is_stop, consumed, at_end, subst (Appends before after) said written)
 
 -- that is replied to with 99
-pub loses : (version : Version) (node : ℕ) (input left before after : Option (List ℕ)) (n : Next) → n ≡ next.Lost
+pub loses : (version : Version) (node : ℕ) (gives : Giving) (input left before after : Option (List ℕ)) (n : Next) → n ≡ next.Lost
     → IsGot version [] input left n
-    → Appends before after (99 ∷ []) → IsTaken version node input left before after None
-loses version node input left before after n is got written =
+    → Appends before after (99 ∷ []) → IsTaken version node gives input left before after None
+loses version node gives input left before after n is got written =
     let (text, notes, read) = lost_read version input left n is got in
-    (Register text notes, Refused 99, read.0, read.1, lost_said node text notes, written)
+    (Register text notes, Refused 99, read.0, read.1, (lost_said node text notes, inr refl), written)
 
 -- or not written whole
-pub lost_fails : {E : Type 0} (P : E → Type 0) (version : Version) (node : ℕ) (input left before after : Option (List ℕ)) (result : Result (Option Served) E) (n : Next) → IsErrAnd result P
+pub lost_fails : {E : Type 0} (P : E → Type 0) (version : Version) (node : ℕ) (gives : Giving) (input left before after : Option (List ℕ)) (result : Result (Option Served) E) (n : Next) → IsErrAnd result P
     → n ≡ next.Lost → IsGot version [] input left n → (part : List ℕ) × Appends before after part
-    → IsTurn version node input left before after result
-lost_fails P version node input left before after result n h is got written =
+    → IsTurn version node gives input left before after result
+lost_fails P version node gives input left before after result n h is got written =
     let (text, notes, read) = lost_read version input left n is got in
-    reply_fails P version node input left before after result (Register text notes) (Refused 99) h read (lost_said node text notes) written
+    reply_fails P version node gives input left before after result (Register text notes) (Refused 99) h read (lost_said node text notes, inr refl) written
 
 -- requests go on
-pub goes_on : (version : Version) (node : ℕ) (input mid left before between after : Option (List ℕ)) (o : Option Served) → o ≡ None
-    → Exchanges version node input mid before between [] [] → IsTaken version node mid left between after o
-    → Exchanges version node input left before after [] []
-goes_on version node input mid left before between after o is e turn =
-    let (r, a, legal, consumed, said, written) = subst (IsTaken version node mid left between after) is turn in
-    exchanges_more version node input mid left before between after r a e legal consumed said written
+pub goes_on : (version : Version) (node : ℕ) (gives : Giving) (input mid left before between after : Option (List ℕ)) (o : Option Served) → o ≡ None
+    → Exchanges version node gives input mid before between [] [] → IsTaken version node gives mid left between after o
+    → Exchanges version node gives input left before after [] []
+goes_on version node gives input mid left before between after o is e turn =
+    let (r, a, legal, consumed, said, written) = subst (IsTaken version node gives mid left between after) is turn in
+    exchanges_more version node gives input mid left before between after r a e legal consumed said written
 
 -- they end
-ends : (version : Version) (node : ℕ) (input mid left before between after : Option (List ℕ)) (served : Served)
-    → Exchanges version node input mid before between [] []
-    → IsTaken version node mid left between after (Some served) → IsEnd version node input left before after (Ok served)
-ends version node input mid left before between after Ended e turn =
+ends : (version : Version) (node : ℕ) (gives : Giving) (input mid left before between after : Option (List ℕ)) (served : Served)
+    → Exchanges version node gives input mid before between [] []
+    → IsTaken version node gives mid left between after (Some served) → IsEnd version node gives input left before after (Ok served)
+ends version node gives input mid left before between after Ended e turn =
     let (ended, last, is_last, consumed, read, written) = turn in
     record {
       ended = ended;
       last = last;
       is_last = is_last;
       read = read;
-      exchanged = exchanges_then version node input mid left before between after last (last_reply ended) e consumed written;
+      exchanged = exchanges_then version node gives input mid left before between after last (last_reply ended) e consumed written;
     }
-ends version node input mid left before between after Silent e turn =
-    let (r, legal, consumed, written) = turn in
-    record { request = r; is_request = legal; exchanged = exchanges_then version node input mid left before between after (spelling r) [] e consumed written }
+ends version node gives input mid left before between after Silent e turn =
+    let (r, legal, consumed, none, written) = turn in
+    record { request = r; is_request = legal; none = none; exchanged = exchanges_then version node gives input mid left before between after (spelling r) [] e consumed written }
 
-pub turn_ends : (version : Version) (node : ℕ) (input mid left before between after : Option (List ℕ)) (o : Option Served) (served : Served) → o ≡ Some served
-    → Exchanges version node input mid before between [] [] → IsTaken version node mid left between after o
-    → IsEnd version node input left before after (Ok served)
-turn_ends version node input mid left before between after o served is e turn =
-    ends version node input mid left before between after served e (subst (IsTaken version node mid left between after) is turn)
+pub turn_ends : (version : Version) (node : ℕ) (gives : Giving) (input mid left before between after : Option (List ℕ)) (o : Option Served) (served : Served) → o ≡ Some served
+    → Exchanges version node gives input mid before between [] [] → IsTaken version node gives mid left between after o
+    → IsEnd version node gives input left before after (Ok served)
+turn_ends version node gives input mid left before between after o served is e turn =
+    ends version node gives input mid left before between after served e (subst (IsTaken version node gives mid left between after) is turn)
 
 -- a turn failed, behind what was served
-pub breaks : {F : Type 0} (P : TransportFailed → Type 0) (version : Version) (node : ℕ) (input mid left before between after : Option (List ℕ)) (r : Result Served TransportFailed) (f : F)
-    → IsErrAnd r P → Exchanges version node input mid before between [] []
-    → IsTurn version node mid left between after (Err f) → IsEnd version node input left before after r
-breaks P version node input mid left before between after (Ok served) f h e turn = absurd h
-breaks P version node input mid left before between after (Err x) f h e turn =
+pub breaks : {F : Type 0} (P : TransportFailed → Type 0) (version : Version) (node : ℕ) (gives : Giving) (input mid left before between after : Option (List ℕ)) (r : Result Served TransportFailed) (f : F)
+    → IsErrAnd r P → Exchanges version node gives input mid before between [] []
+    → IsTurn version node gives mid left between after (Err f) → IsEnd version node gives input left before after r
+breaks P version node gives input mid left before between after (Ok served) f h e turn = absurd h
+breaks P version node gives input mid left before between after (Err x) f h e turn =
     let (read, part, consumed, written, at_hand) = turn in
     record {
       read = read;
       part = part;
       at_hand = at_hand;
-      exchanged = exchanges_then version node input mid left before between after read part e consumed written;
+      exchanged = exchanges_then version node gives input mid left before between after read part e consumed written;
     }

@@ -2,3 +2,4 @@
 pub mod Books
 pub mod Clients
 pub mod Serves
+pub mod Sample

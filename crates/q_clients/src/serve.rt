@@ -49,7 +49,7 @@ fn take_turn<N: Serving, R: Read, W: Write>(
     input: &mut Counted<R>,
     out: &mut Counted<W>,
 ) -> Result<Option<Served>, TransportFailed>
-    ensures turn { IsTurn version (N.id node.now)
+    ensures turn { IsTurn version (N.id node.now) (N.gives node.now)
         (R.remaining input.old.inner) (R.remaining input.new.inner)
         (W.contents out.old.inner) (W.contents out.new.inner) result }
     ensures counted { Counts result input.old.failures input.new.failures out.old.failures out.new.failures }
@@ -75,9 +75,10 @@ fn take_turn<N: Serving, R: Read, W: Write>(
 }
 
 /// Serves one client until its requests end or the node says no more. Each request is read while nothing of the node is
-/// held, and each reply is what some book of the node replies, written when it is due. A registration for whose bytes
-/// there is no memory is replied to with 99, and the next request follows. Refused with 86 TransportFailed where a read
-/// or a write fails: then the requests before were served whole, and the one at hand whole or not at all.
+/// held, and each reply is one that the node gives, and so what some book of it replies, written when it is due. A
+/// registration for whose bytes there is no memory is replied to with 99, and the next request follows. Refused with 86
+/// TransportFailed where a read or a write fails: then the requests before were served whole, and the one at hand whole
+/// or not at all.
 pub fn serve_node<T: Wait, N: Serving, R: Read, W: Write>(
     rt: &T,
     alloc: Global,
@@ -86,7 +87,7 @@ pub fn serve_node<T: Wait, N: Serving, R: Read, W: Write>(
     out: &mut Counted<W>,
 ) -> Result<Served, TransportFailed>
     // What was read, and what was written.
-    ensures served { IsEnd (N.version node.now) (N.id node.now)
+    ensures served { IsEnd (N.version node.now) (N.id node.now) (N.gives node.now)
         (R.remaining input.old.inner) (R.remaining input.new.inner)
         (W.contents out.old.inner) (W.contents out.new.inner) result }
 

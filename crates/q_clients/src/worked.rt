@@ -10,7 +10,8 @@ ghost use Rattle.q_net.specs.declared.reply.Reply.TheVariants as reply;
 ghost use Rattle.q_net.specs.declared.request.Request.TheVariants as request;
 ghost use Rattle.q_clients.specs.Books.{HasEndedIn, HasEnded, IsBookOf};
 ghost use Rattle.q_clients.specs.Clients.{IsSaid, due_of};
-ghost use Rattle.q_clients.specs.Serves.{IsAtHand, IsServed, IsSilent};
+ghost use Rattle.q_clients.specs.Sample.{gives_all, gives_nothing};
+ghost use Rattle.q_clients.specs.Serves.{IsAtHand, IsServed, IsSilent, IsTold};
 ghost use Rattle.q_clients.specs.declared.due.Due.TheVariants as due;
 
 /// What the definitions say at telling operands.
@@ -35,12 +36,20 @@ pub fn worked()
 
     // A request that was read whole has a reply, unless the node says no more, and then there was one.
     ensures not_replied_to { (version : Version)
-        → IsServed version 1 (Some (spelling (request.Answer 7))) (Some []) (Some []) (Some []) → ⊥ }
+        → IsServed version 1 gives_all (Some (spelling (request.Answer 7))) (Some []) (Some []) (Some []) → ⊥ }
     ensures none_unanswered { (version : Version) (before after : Option (List ℕ))
-        → IsSilent version 1 (Some []) (Some []) before after → ⊥ }
+        → IsSilent version 1 gives_all (Some []) (Some []) before after → ⊥ }
     ensures replied_to { (version : Version)
-        → IsSilent version 1 (Some (spelling (request.Answer 7))) (Some []) (Some []) (Some (0 ∷ 0 ∷ [])) → ⊥ }
+        → IsSilent version 1 gives_all (Some (spelling (request.Answer 7))) (Some []) (Some []) (Some (0 ∷ 0 ∷ [])) → ⊥ }
+
+    // What is told to a request is what the node gave, or 99 where a registration was lost; and it gave none where it
+    // says no more.
+    ensures not_given { IsTold 1 gives_nothing (request.Ask 0 5) (reply.Number 7) → ⊥ }
+    ensures lost { IsTold 1 gives_nothing (request.Register [] []) (reply.Refused 99) }
+    ensures not_lost { IsTold 1 gives_nothing (request.Register [] []) (reply.Refused 52) → ⊥ }
+    ensures never_silent { (version : Version) (input left before after : Option (List ℕ))
+        → IsSilent version 1 gives_nothing input left before after → ⊥ }
 
     // Where nothing was read, nothing is written.
-    ensures unasked { (version : Version) → IsAtHand version 1 [] (7 ∷ []) → ⊥ }
+    ensures unasked { (version : Version) → IsAtHand version 1 gives_all [] (7 ∷ []) → ⊥ }
 {}

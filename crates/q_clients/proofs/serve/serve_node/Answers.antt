@@ -4,10 +4,10 @@ use Rattle.q_clients.proofs.Turns.{breaks, goes_on}
 use Rattle.q_clients.proofs.serve.serve_node.Goals as goal
 
 pub loop-init : goal.loop-init
-loop-init g c = (tt, tt, exchanges_none _ _ _ _, refl, refl)
+loop-init g c = (tt, tt, exchanges_none _ _ (g.N.Serving.gives c.args.node.now) _ _, refl, refl)
 
 pub returns-in_err-served-clause-served : goal.returns-in_err-served-clause-served
-returns-in_err-served-clause-served g c = breaks _ _ _ _ _ _ _ _ _ c.from_residual.result c.in_err-served.field-0.0 c.from_residual.ensures.1 c.loop.invariant.2 (rw c.version-version.ensures at c.in_err-served.ensures.turn)
+returns-in_err-served-clause-served g c = breaks _ _ _ (g.N.Serving.gives c.args.node.now) _ _ _ _ _ _ c.from_residual.result c.in_err-served.field-0.0 c.from_residual.ensures.1 c.loop.invariant.2 (rw c.version-version.ensures at c.in_err-served.ensures.turn)
 
 pub loop-preserved : goal.loop-preserved
-loop-preserved g c = (tt, tt, goes_on _ _ _ _ _ _ _ _ c.in_ok-served.field-0 (search rules) c.loop.invariant.2 (rw c.version-version.ensures at c.in_ok-served.ensures.turn), search rules, search rules)
+loop-preserved g c = (tt, tt, goes_on _ _ (g.N.Serving.gives c.args.node.now) _ _ _ _ _ _ c.in_ok-served.field-0 (search rules) c.loop.invariant.2 (rw c.version-version.ensures at c.in_ok-served.ensures.turn), search rules, search rules)

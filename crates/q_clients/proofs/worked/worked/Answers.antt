@@ -1,4 +1,4 @@
-use Rattle.std.proofs.Common.{◌≡◌, ℕ, List, [], ◌∷◌, ◌++◌, length, get_or, ap, inl, inr, lit<, arith, length-append}
+use Rattle.std.proofs.Common.{◌≡◌, ℕ, List, [], ◌∷◌, ◌++◌, length, get_or, ap, refl, inl, inr, lit<, arith, length-append}
 use Rattle.std.specs.FinMap as fin
 use Rattle.std.specs.List.{AllZip}
 use Rattle.std.specs.Ordering.{nat_cmp}
@@ -8,8 +8,9 @@ use Rattle.q_net.specs.declared.request.Request.{Request}
 use Rattle.q_net.specs.declared.request.Request.TheVariants.{Register, Ask, Store, Answer, StoreOf}
 use Rattle.q_net.specs.declared.reply.Reply.{Reply}
 use Rattle.q_net.specs.Requests.{spelling, spellings}
-use Rattle.q_clients.specs.Clients.{IsSaid}
-use Rattle.q_clients.specs.Serves.{IsAtHand, replies_bytes}
+use Rattle.q_clients.specs.Sample.{gives_all}
+use Rattle.q_clients.specs.Serves.{IsAtHand, IsTold, replies_bytes}
+use Rattle.q_clients.proofs.Lost.{lost_said}
 use Rattle.q_clients.proofs.Spelled.{no_stop, nothing_read, request_has_bytes}
 use Rattle.q_clients.proofs.worked.worked.Goals as goal
 
@@ -19,7 +20,7 @@ returns-clause-ended c = λ b n. record { begun = lit< tt; closed = fin.get-empt
 pub returns-clause-not_replied_to : goal.returns-clause-not_replied_to
 returns-clause-not_replied_to c = λ version h.
     let e = h.exchanged in
-    let none : length (spellings e.requests ++ h.last) ≡ 0 = nothing_read version 1 e.requests e.replies h.ended h.last e.said h.is_last (omega (arith, ap length e.written)) in
+    let none : length (spellings e.requests ++ h.last) ≡ 0 = nothing_read version 1 gives_all e.requests e.replies h.ended h.last e.said h.is_last (omega (arith, ap length e.written)) in
     omega (arith, none, ap length e.consumed, length-append (spellings e.requests ++ h.last) [])
 
 pub returns-clause-none_unanswered : goal.returns-clause-none_unanswered
@@ -28,7 +29,7 @@ returns-clause-none_unanswered c = λ version before after h.
     omega (arith, request_has_bytes h.request, ap length e.consumed, length-append (spellings e.requests ++ spelling h.request) [], length-append (spellings e.requests) (spelling h.request))
 
 -- an answer is asked for by as many bytes as these are
-no_second : (rs : List Request) (bs : List Reply) (q : Request) → AllZip (IsSaid 1) rs bs
+no_second : (rs : List Request) (bs : List Reply) (q : Request) → AllZip (IsTold 1 gives_all) rs bs
     → 4 ∷ long_bytes 7 ≡ (spellings rs ++ spelling q) ++ [] → 0 ∷ 0 ∷ [] ≡ (replies_bytes bs ++ []) → ⊥
 unfolding long_bytes
 no_second [] [] q said read written = let h : 2 ≡ 0 = ap length written in omega (arith, h)
@@ -46,10 +47,13 @@ pub returns-clause-replied_to : goal.returns-clause-replied_to
 returns-clause-replied_to c = λ version h. no_second h.exchanged.requests h.exchanged.replies h.request h.exchanged.said h.exchanged.consumed h.exchanged.written
 
 -- what is written where nothing was read
-unasked : (version : Version) → IsAtHand version 1 [] (7 ∷ []) → ⊥
+unasked : (version : Version) → IsAtHand version 1 gives_all [] (7 ∷ []) → ⊥
 unasked version (inl none) = absurd (cc)
 unasked version (inr (inl h)) = no_stop version h.0 h.1
 unasked version (inr (inr h)) = omega (arith, ap length h.3, request_has_bytes h.0)
 
 pub returns-clause-unasked : goal.returns-clause-unasked
 returns-clause-unasked c = unasked
+
+pub returns-clause-lost : goal.returns-clause-lost
+returns-clause-lost c = (lost_said 1 [] [], inr refl)
