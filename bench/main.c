@@ -27,25 +27,6 @@ struct result {
     double times[CONTENDERS]; // nanoseconds of a record
 };
 
-// A row of numbers that look random.
-static uint64_t next(uint64_t *state) {
-    *state = *state * 6364136223846793005u + 1442695040888963407u;
-    return *state >> 33;
-}
-
-// Each record has an id, the number of its store and a value, as a view's records have.
-static void fill(uint8_t *records) {
-    uint64_t state = 1;
-    for (uint64_t k = 0; k < RECORDS; k++) {
-        uint8_t *record = records + k * RECORD_LENGTH;
-        uint64_t id = k + 1, number = 1 + next(&state) % 1000;
-        memcpy(record, &id, 8);
-        memcpy(record + 8, &number, 8);
-        for (size_t at = 16; at < RECORD_LENGTH; at++)
-            record[at] = next(&state);
-    }
-}
-
 static void fail(const char *what, const char *path) {
     fprintf(stderr, "%s: %s\n", path, what);
     exit(1);
@@ -77,8 +58,8 @@ static struct burst agreed(const struct job *job, uint64_t folds, int contender,
 }
 
 static struct result measured(const char *path, const uint8_t *records, int bursts) {
-    static uint8_t program[4096 * 8];
-    struct job job = {program, program_of(path, program, sizeof program), records, 3};
+    static uint8_t program[MOST_UNITS * 8];
+    struct job job = {program, program_of(path, program, sizeof program), records, RECORDS, 3, false};
     struct burst first = by_checked_c(&job, 1);
     struct result result = {.steps = (double)first.steps / RECORDS};
     const char *name = strrchr(path, '/');
@@ -122,7 +103,8 @@ int main(int count, char **words) {
     static struct result results[64];
     if (count < 3 || count > 66)
         fail("give the number of bursts, and programs", words[0]);
-    fill(records);
+    uint64_t state = 1;
+    fill("random", records, RECORDS, &state);
     for (int k = 2; k < count; k++) {
         results[k - 2] = measured(words[k], records, atoi(words[1]));
         fprintf(stderr, "%s\n", results[k - 2].name);
