@@ -1,5 +1,5 @@
 -- The command that the words name.
-use Rattle.std.proofs.Common.{◌≡◌, ℕ, ◌∙◌, Bool, true, false, List, [], ◌∷◌, Option, Some, None, MatchOption, ap, ap₂, refl, sym, codes, Bor, option_map, unwrap_or, IsSomeAnd, is_some, map, cond, ◌⊎◌, inl, inr, subst, true≢false}
+use Rattle.std.proofs.Common.{◌≡◌, ◌<◌, ◌≤◌, ℕ, ◌∙◌, Bool, true, false, List, [], ◌∷◌, Option, Some, None, MatchOption, ap, ap₂, refl, sym, codes, Bor, option_map, unwrap_or, IsSomeAnd, is_some, map, cond, ◌⊎◌, inl, inr, subst, true≢false, arith}
 use Rattle.std.specs.Prelude.{Box, find, Result, Ok, Err, IfOk, IsErrAnd, MatchResult, ◌||◌}
 use Rattle.std.specs.Box.{box_value}
 use Rattle.std.specs.Option.{SomeIff}
@@ -22,8 +22,8 @@ use Rattle.clap.specs.declared.parser.matches.ArgMatches.TheViews.{out-ArgMatche
 use Rattle.clap.proofs.OnLiterals.{clap_on_literals}
 use Rattle.q_words.specs.declared.words.Wanted.{Wanted}
 use Rattle.q_words.specs.declared.words.WordsFault.{WordsFault}
-use Rattle.q_words.specs.declared.words.WordsFault.TheVariants.{Help, Wrong, BadStart, BadLengths, NotUtf8, OutOfMemory}
-use Rattle.q_words.specs.Words.{Has, bqview, operand_of, AreBad, AreGiven, AreGivenFor, IsAskedFor, IsMet, HasFault, HasLineFault, Reads, Tells}
+use Rattle.q_words.specs.declared.words.WordsFault.TheVariants.{Help, Wrong, BadStart, BadLengths, BadId, BadRunners, NotUtf8, OutOfMemory}
+use Rattle.q_words.specs.Words.{Has, bqview, operand_of, AreBad, AreGiven, AreGivenFor, IsAskedFor, IsMet, HasFault, HasLineFault, IsRunners, Reads, Tells}
 
 simple : is_simple bqview ≡ true
 unfolding clap_on_literals
@@ -101,7 +101,7 @@ entered_in a None p e = absurd (not_some p e)
 entered_in a (Some q) p e = find_in (λ s. answers_to q.0 (label_of s)) a.subs q.1 p e
 
 abbrev commands : List Text
-commands = codes "asm" ∷ codes "dis" ∷ codes "check" ∷ codes "run" ∷ codes "sim" ∷ codes "cluster" ∷ codes "audit" ∷ codes "gather" ∷ []
+commands = codes "asm" ∷ codes "dis" ∷ codes "check" ∷ codes "run" ∷ codes "sim" ∷ codes "cluster" ∷ codes "audit" ∷ codes "gather" ∷ codes "node" ∷ codes "client" ∷ []
 
 all_names : names (built bqview).subs ≡ commands
 all_names = refl
@@ -151,6 +151,8 @@ read_so : (words : List Text) (r : Result Wanted WordsFault) (met : Text × List
 read_so words (Ok asked) met n s h = (n, was_met (IsMet asked) _ met s h)
 read_so words (Err (BadStart start)) met n s h = (n, was_met (HasLineFault (BadStart start)) _ met s h)
 read_so words (Err (BadLengths command least most)) met n s h = (n, was_met (HasLineFault (BadLengths command least most)) _ met s h)
+read_so words (Err (BadId id)) met n s h = (n, was_met (HasLineFault (BadId id)) _ met s h)
+read_so words (Err (BadRunners runners)) met n s h = (n, was_met (HasLineFault (BadRunners runners)) _ met s h)
 read_so words (Err (Help e)) met n s h = absurd h
 read_so words (Err (Wrong e)) met n s h = absurd h
 read_so words (Err NotUtf8) met n s h = absurd h
@@ -169,6 +171,8 @@ faulty_so words error (Wrong x) h t = elim h [
 faulty_so words error OutOfMemory h t = tt
 faulty_so words error (BadStart start) h t = absurd t
 faulty_so words error (BadLengths command least most) h t = absurd t
+faulty_so words error (BadId id) h t = absurd t
+faulty_so words error (BadRunners runners) h t = absurd t
 faulty_so words error NotUtf8 h t = absurd t
 
 -- the parser fails
@@ -204,3 +208,11 @@ pub lengths_read : (rows : List Row) (n m : ℕ) (o : Option Interval) → AreGi
 lengths_read rows n m (Some l) g h = subst (AreGiven rows) (sym h.1) (h.0, g)
 lengths_read rows n m None g h = λ l k.
     h (subst AreLengths (ap₂ between (same_number (operand_of (codes "least") rows) l.lo n k.1.0 g.0) (same_number (operand_of (codes "most") rows) l.hi m k.1.1 g.1)) k.0)
+
+-- ---- runners
+
+-- a text that spells a number which is none of 1 to 64 spells no count of threads
+pub no_runners : (t : Text) (n : ℕ) → words.IsNumeral t n → (n < 1) ⊎ ((1 ≤ n) × (64 < n)) → (m : ℕ) → IsRunners t m → ⊥
+no_runners t n h out m k =
+    let e : m ≡ n = same_number t m n k.0 h in
+    elim out [ inl low ↦ absurd (omega (arith, e, low, k.1)) | inr high ↦ absurd (omega (arith, e, high.1, k.2)) ]

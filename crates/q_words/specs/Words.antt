@@ -1,5 +1,5 @@
 -- The command line of the program, and what its words say.
-use Rattle.std.specs.Prelude.{◌≡◌, ◌⊎◌, ℕ, Bool, List, [], ◌∷◌, Some, IsSomeAnd, option_map, unwrap_or, bytes_eq, codes, true, false, Result, Ok, Err, IfOk, map, ⊤, if◌then◌else◌}
+use Rattle.std.specs.Prelude.{◌≡◌, ◌≤◌, ◌⊎◌, ℕ, Bool, List, [], ◌∷◌, Some, IsSomeAnd, option_map, unwrap_or, bytes_eq, codes, true, false, Result, Ok, Err, IfOk, map, ⊤, if◌then◌else◌}
 use denote.Ref.{Bor}
 use Rattle.clap.specs.Lexer.{usize_max}
 use Rattle.clap.specs.Words.{App, all_of, app_of, IsAmong, Row, Rule, Text, fault_of, first_of, kind_of, new_app, new_rule, subcommand_of, with_rule, with_subcommand}
@@ -19,10 +19,11 @@ use Rattle.q_words.specs.declared.words.FileCommand.{FileCommand}
 use Rattle.q_words.specs.declared.words.FileCommand.TheVariants.{Asm, Dis, Check, Run, Sim, Audit}
 use Rattle.q_words.specs.declared.words.Form.{Form}
 use Rattle.q_words.specs.declared.words.Form.TheVariants as form
+use Rattle.q_words.specs.declared.words.NodeCommand.{NodeCommand}
 use Rattle.q_words.specs.declared.words.Wanted.{Wanted}
 use Rattle.q_words.specs.declared.words.Wanted.TheVariants as wanted
 use Rattle.q_words.specs.declared.words.WordsFault.{WordsFault}
-use Rattle.q_words.specs.declared.words.WordsFault.TheVariants.{Help, Wrong, BadStart, BadLengths, NotUtf8, OutOfMemory}
+use Rattle.q_words.specs.declared.words.WordsFault.TheVariants.{Help, Wrong, BadStart, BadLengths, BadId, BadRunners, NotUtf8, OutOfMemory}
 use Rattle.q_script.specs.Words.{IsNumeral}
 
 -- ---- the command line
@@ -42,6 +43,10 @@ option name default = record (new_rule name) { long = Some name; value_names = 1
 -- an option that may be left out
 abbrev pub optional : Text → Rule
 optional name = record (new_rule name) { long = Some name; value_names = 1; action = Some Set }
+
+-- an option that must be given
+abbrev pub demanded : Text → Rule
+demanded name = record (new_rule name) { long = Some name; value_names = 1; required = true; action = Some Set }
 
 -- a flag
 abbrev pub flag : Text → Rule
@@ -93,6 +98,17 @@ audit_app = with_rule (new_app (codes "audit")) (operand (codes "JOURNAL"))
 abbrev pub gather_app : App
 gather_app = with_rule (with_rule (new_app (codes "gather")) (operands (codes "JOURNAL"))) (flag (codes "pairs"))
 
+-- `node FILE ID`, with `--clients` and `--journal`, which must be given, and `--runners` and `--sync`
+abbrev pub node_app : App
+node_app =
+    let operands = with_rule (with_rule (new_app (codes "node")) (operand (codes "FILE"))) (operand (codes "ID")) in
+    let places = with_rule (with_rule operands (demanded (codes "clients"))) (demanded (codes "journal")) in
+    with_rule (with_rule places (option (codes "runners") (codes "2"))) (flag (codes "sync"))
+
+-- `client ADDR SCRIPT`, with the flag `--strict`
+abbrev pub client_app : App
+client_app = with_rule (with_rule (with_rule (new_app (codes "client")) (operand (codes "ADDR"))) (operand (codes "SCRIPT"))) (flag (codes "strict"))
+
 -- the program, of which one command or the version is wanted, with none below it
 abbrev pub bare_app : App
 bare_app =
@@ -105,7 +121,8 @@ bqview =
     let asm_dis = with_subcommand (with_subcommand bare_app asm_app.top) dis_app.top in
     let check_run = with_subcommand (with_subcommand asm_dis check_app.top) run_app.top in
     let scripts = with_subcommand (with_subcommand check_run sim_app.top) cluster_app.top in
-    with_subcommand (with_subcommand scripts audit_app.top) gather_app.top
+    let journals = with_subcommand (with_subcommand scripts audit_app.top) gather_app.top in
+    with_subcommand (with_subcommand journals node_app.top) client_app.top
 
 -- Inner words, of the private functions that put the commands together: the command is this one, with no option for the
 -- commands below it; or memory ran out.
@@ -142,6 +159,18 @@ AreGiven rows lengths = AreLengths lengths × AreGivenFor rows lengths.lo length
 abbrev pub AreBad : List Row → Type 0
 AreBad rows = (lengths : Interval) → AreGiven rows lengths → ⊥
 
+-- the text spells this count of threads, from 1 to 64
+abbrev pub IsRunners : Text → ℕ → Type 0
+IsRunners text n = IsNumeral text n × (1 ≤ n) × (n ≤ 64)
+
+-- this count of threads was given for `--runners`, or stands for it
+abbrev pub AreRunners : List Row → ℕ → Type 0
+AreRunners rows n = IsRunners (operand_of (codes "runners") rows) n
+
+-- what was given for `--runners` is no count of threads
+abbrev pub AreBadRunners : List Row → Type 0
+AreBadRunners rows = (n : ℕ) → AreRunners rows n → ⊥
+
 -- a program is in this file, of this form, for records of these lengths
 abbrev pub HasProgram : Bor Text → Form → Interval → List Row → Type 0
 HasProgram file held lengths rows = (file.now ≡ operand_of (codes "FILE") rows) × (held ≡ form_of rows) × AreGiven rows lengths
@@ -159,6 +188,15 @@ HasCommand (Run file held start records lengths) met =
 HasCommand (Sim script strict) met = (met.0 ≡ codes "sim") × (script.now ≡ operand_of (codes "SCRIPT") met.1) × (strict ≡ is_given (codes "strict") met.1)
 HasCommand (Audit journal) met = (met.0 ≡ codes "audit") × (journal.now ≡ operand_of (codes "JOURNAL") met.1)
 
+-- the node with what was found for its operands and options
+pub record HasNode (line : NodeCommand) (rows : List Row) : Type 0 where
+  pub file : line.file.now ≡ operand_of (codes "FILE") rows
+  pub id : IsNumeral (operand_of (codes "ID") rows) line.id
+  pub clients : line.clients.now ≡ operand_of (codes "clients") rows
+  pub journal : line.journal.now ≡ operand_of (codes "journal") rows
+  pub runners : AreRunners rows line.runners
+  pub sync : line.sync ≡ is_given (codes "sync") rows
+
 -- what was met asks for this
 abbrev pub IsMet : Wanted → Text × List Row → Type 0
 IsMet (wanted.FileCommand line) met = HasCommand line met
@@ -166,6 +204,10 @@ IsMet (wanted.Cluster script strict) met =
     (met.0 ≡ codes "cluster") × (script.now ≡ operand_of (codes "SCRIPT") met.1) × (strict ≡ is_given (codes "strict") met.1)
 IsMet (wanted.Gather journals pairs) met =
     (met.0 ≡ codes "gather") × (map (λ name. name.now) journals.items ≡ operands_of (codes "JOURNAL") met.1) × (pairs ≡ is_given (codes "pairs") met.1)
+IsMet (wanted.Node line) met = (met.0 ≡ codes "node") × HasNode line met.1
+IsMet (wanted.Client place script strict) met =
+    (met.0 ≡ codes "client") × (place.now ≡ operand_of (codes "ADDR") met.1) × (script.now ≡ operand_of (codes "SCRIPT") met.1)
+    × (strict ≡ is_given (codes "strict") met.1)
 
 -- the command `run` was met, and its START is no number
 abbrev pub HasBadStart : Text × List Row → Type 0
@@ -175,12 +217,22 @@ HasBadStart met = (met.0 ≡ codes "run") × ((n : ℕ) → IsNumeral (operand_o
 abbrev pub HasLengths : Text × List Row → Type 0
 HasLengths met = (met.0 ≡ codes "check") ⊎ ((met.0 ≡ codes "run") × ((n : ℕ) × IsNumeral (operand_of (codes "START") met.1) n))
 
+-- the command `node` was met, and its ID is no number
+abbrev pub HasBadId : Text × List Row → Type 0
+HasBadId met = (met.0 ≡ codes "node") × ((n : ℕ) → IsNumeral (operand_of (codes "ID") met.1) n → ⊥)
+
+-- the command `node` was met with an ID that is a number, and what was given for its runners is no count of threads
+abbrev pub HasBadRunners : Text × List Row → Type 0
+HasBadRunners met = (met.0 ≡ codes "node") × ((n : ℕ) × IsNumeral (operand_of (codes "ID") met.1) n) × AreBadRunners met.1
+
 -- a command was met, and what `clap` lets pass is wrong with its operands: the fault has what was given for them
 abbrev pub HasLineFault : WordsFault → Text × List Row → Type 0
 HasLineFault (BadStart start) met = HasBadStart met × (start.now ≡ operand_of (codes "START") met.1)
 HasLineFault (BadLengths command least most) met =
     HasLengths met × AreBad met.1 × (command.now ≡ met.0)
     × (least.now ≡ operand_of (codes "least") met.1) × (most.now ≡ operand_of (codes "most") met.1)
+HasLineFault (BadId id) met = HasBadId met × (id.now ≡ operand_of (codes "ID") met.1)
+HasLineFault (BadRunners runners) met = HasBadRunners met × (runners.now ≡ operand_of (codes "runners") met.1)
 HasLineFault OutOfMemory met = ⊤
 HasLineFault e met = ⊥
 
@@ -209,8 +261,8 @@ HasFault words (Wrong e) = ¬ (IsAskedFor (kind_of e)) × IsAmong (kind_of e) (f
 HasFault words OutOfMemory = ⊤
 HasFault words e = (fault_of bqview words ≡ []) × IsSomeAnd (subcommand_of bqview words) (HasLineFault e)
 
--- a command is read exactly where the words have no fault by the rules of `clap`, START is a number, and the lengths are
--- in order and within bounds
+-- a command is read exactly where the words have no fault by the rules of `clap`, START and ID are numbers, the lengths
+-- are in order and within bounds, and so is the count of runners
 abbrev pub Reads : List Text → Result Wanted WordsFault → Type 0
 Reads words (Ok asked) = (fault_of bqview words ≡ []) × IsSomeAnd (subcommand_of bqview words) (IsMet asked)
 Reads words (Err e) = HasFault words e
@@ -222,6 +274,8 @@ exit_status OutOfMemory = 1
 exit_status (Wrong e) = 2
 exit_status (BadStart start) = 2
 exit_status (BadLengths command least most) = 2
+exit_status (BadId id) = 2
+exit_status (BadRunners runners) = 2
 exit_status NotUtf8 = 2
 
 -- whether a refused line of the command is told by its exit status

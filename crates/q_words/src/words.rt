@@ -1,6 +1,6 @@
 //! The words of the command line.
 
-ghost use Rattle.std.specs.Prelude.{◌≡◌, codes, IfOk, IfErr, IsErrAnd, MatchOption, MatchResult, map, option_map, false, true};
+ghost use Rattle.std.specs.Prelude.{◌≡◌, ℕ, codes, IfOk, IfErr, IsErrAnd, MatchOption, MatchResult, map, option_map, false, true};
 ghost use Rattle.std.specs.Option.{SomeIff};
 ghost use Rattle.std.specs.Vec.Iter.{into_iter_items};
 ghost use Rattle.bq_range.specs.Interval.{between};
@@ -8,7 +8,7 @@ ghost use Rattle.bq_state.specs.Kinds.{AreLengths};
 ghost use Rattle.clap.specs.Words.{App, app_of, first_of, found_of, new_app, rows_of, with_rule, with_subcommand};
 ghost use Rattle.clap.specs.declared.builder.command.Command.TheViews.{out-Command};
 ghost use Rattle.q_words.specs.declared.words.WordsFault.TheVariants.{OutOfMemory};
-ghost use Rattle.q_words.specs.Words.{Has, asm_app, dis_app, check_app, run_app, sim_app, cluster_app, audit_app, gather_app, bare_app, bqview, flag, operand, operands, option, optional, with_bytes, with_lengths, form_of, operand_of, operands_of, is_given, is_strict, AreGiven, AreBad, HasLengths, HasLineFault, IsMet, Reads, Tells, TellsUngiven, exit_status};
+ghost use Rattle.q_words.specs.Words.{Has, asm_app, dis_app, check_app, run_app, sim_app, cluster_app, audit_app, gather_app, node_app, client_app, bare_app, bqview, flag, operand, operands, option, optional, demanded, with_bytes, with_lengths, form_of, operand_of, operands_of, is_given, is_strict, AreBadRunners, AreGiven, AreBad, AreRunners, HasLengths, HasLineFault, IsMet, IsRunners, Reads, Tells, TellsUngiven, exit_status};
 
 use bq_state::bounds::Bounds;
 use clap::error::ErrorKind;
@@ -97,6 +97,23 @@ impl FileCommand<'_> {
     }
 }
 
+/// The command `node FILE ID`, with its operands and options: a node that runs as a process of its own.
+#[derive(Clone, Copy)]
+pub struct NodeCommand<'a> {
+    /// The name of the file of the cluster.
+    pub file: &'a str,
+    /// The id of the node.
+    pub id: u64,
+    /// Where its clients come in: a host and a port, or the path of a Unix socket.
+    pub clients: &'a str,
+    /// The name of the file to which its journal is to be written.
+    pub journal: &'a str,
+    /// How many threads run programs, from 1 to 64.
+    pub runners: usize,
+    /// Whether each part of the journal is to be kept on the disk before anything is sent.
+    pub sync: bool,
+}
+
 /// What the words of a command line ask for.
 #[derive(Drop)]
 pub enum Wanted<'a> {
@@ -115,6 +132,17 @@ pub enum Wanted<'a> {
         journals: Vec<&'a str>,
         /// Whether it is to be told where stores and later collects meet.
         pairs: bool,
+    },
+    /// `node FILE ID`: run a node of a cluster whose nodes run apart.
+    Node(NodeCommand<'a>),
+    /// `client ADDR SCRIPT`: run a script over a connection with such a node.
+    Client {
+        /// Where the node is: a host and a port, or the path of a Unix socket.
+        place: &'a str,
+        /// The name of the file.
+        script: &'a str,
+        /// Whether a line that is refused or unanswered is to be told by the exit status.
+        strict: bool,
     },
 }
 
@@ -144,6 +172,18 @@ pub enum WordsFault<'a> {
         /// What was given for `--most`, or stands for it.
         most: &'a str,
     },
+    /// The ID of `node` is no number. The text belongs to the standard error.
+    #[error("error: ID is the node's id, and '{id}' is none: write a number from 0 to 18446744073709551615 in decimal, with no zero in front of other digits and no sign\n\nFor more information, try 'bqview node --help'.\n")]
+    BadId {
+        /// What was given for ID.
+        id: &'a str,
+    },
+    /// The runners of `node` are none. The text belongs to the standard error.
+    #[error("error: --runners '{runners}' is not the count of the threads that run programs: write a number in decimal from 1 to 64\n\nFor more information, try 'bqview node --help'.\n")]
+    BadRunners {
+        /// What was given for `--runners`, or stands for it.
+        runners: &'a str,
+    },
     /// A word of them is not UTF-8. The text belongs to the standard error.
     #[error("error: a word of the command line is not UTF-8 text\n\nFor more information, try 'bqview --help'.\n")]
     NotUtf8,
@@ -164,6 +204,8 @@ impl WordsFault<'_> {
             WordsFault::Wrong(_)
             | WordsFault::BadStart { .. }
             | WordsFault::BadLengths { .. }
+            | WordsFault::BadId { .. }
+            | WordsFault::BadRunners { .. }
             | WordsFault::NotUtf8 => 2,
         }
     }
@@ -266,6 +308,7 @@ fn with_option<'a>(
     command: Result<Command<'a>, AllocError>,
     name: &'a str,
     help: &'a str,
+    value: &'a str,
     default: &'a str,
 ) -> Result<Command<'a>, AllocError>
     ensures { (app : App) → Has command.entry app → Has result (with_rule app (option name.entry.now default.entry.now)) }
@@ -275,7 +318,7 @@ fn with_option<'a>(
     };
     let option = Arg::new(alloc, name)
         .long(name)
-        .value_name("BYTES")
+        .value_name(value)
         .help(help)
         .default_value(default)
         .action(ArgAction::Set);
@@ -299,6 +342,28 @@ fn with_optional<'a>(
         .long(name)
         .value_name(value)
         .help(help)
+        .action(ArgAction::Set);
+    command.arg(option)
+}
+
+/// The command, if there is one, with one more option, which must be given.
+fn with_demanded<'a>(
+    alloc: Global,
+    command: Result<Command<'a>, AllocError>,
+    name: &'a str,
+    help: &'a str,
+    value: &'a str,
+) -> Result<Command<'a>, AllocError>
+    ensures { (app : App) → Has command.entry app → Has result (with_rule app (demanded name.entry.now)) }
+{
+    let Ok(command) = command else {
+        return Err(AllocError);
+    };
+    let option = Arg::new(alloc, name)
+        .long(name)
+        .value_name(value)
+        .help(help)
+        .required(true)
         .action(ArgAction::Set);
     command.arg(option)
 }
@@ -334,6 +399,7 @@ fn with_lengths<'a>(
         command,
         "least",
         "The fewest bytes of a record, from 16",
+        "BYTES",
         "16",
     );
     with_option(
@@ -341,6 +407,7 @@ fn with_lengths<'a>(
         least,
         "most",
         "The most bytes of a record, to 128",
+        "BYTES",
         "128",
     )
 }
@@ -536,6 +603,88 @@ fn gather_command<'a>(alloc: Global) -> Result<Command<'a>, AllocError>
     )
 }
 
+/// The command `node`.
+fn node_command<'a>(alloc: Global) -> Result<Command<'a>, AllocError>
+    ensures { Has result node_app }
+{
+    let command = new_command(
+        alloc,
+        "node",
+        "Runs a node of a cluster as a process of its own",
+        "There is no authentication and no encryption. An address that is not loopback is open to all who reach it. A Unix socket's file mode decides who may connect.\nThe standard input is the node's console, one command a line: `status` tells how it is, `leave` leaves the cluster for good, and `end` ends the node, as the end of the input does.\nWhat explains a refusal goes to the standard error.\nExit status: 0; 1 after a refusal, or where the journal or the output fails; 2 for a wrong command line.\nExample: bqview node examples/apart/three.nodes 1 --clients 127.0.0.1:8001 --journal one.journal\nFormats: docs/FORMATS.md, \"Clusters of nodes apart\"",
+    );
+    let file = with_operand(
+        alloc,
+        Ok(command),
+        "FILE",
+        "The file of the cluster, one for all machines",
+    );
+    let id = with_operand(
+        alloc,
+        file,
+        "ID",
+        "The node's id, a number below 2^64 in decimal",
+    );
+    let clients = with_demanded(
+        alloc,
+        id,
+        "clients",
+        "Where clients connect: an address, as 10.88.0.1:8000, or the path of a Unix socket",
+        "ADDR",
+    );
+    let journal = with_demanded(
+        alloc,
+        clients,
+        "journal",
+        "Writes the node's journal to this file, which must not be there yet",
+        "FILE",
+    );
+    let runners = with_option(
+        alloc,
+        journal,
+        "runners",
+        "How many threads run programs, from 1 to 64",
+        "R",
+        "2",
+    );
+    with_flag(
+        alloc,
+        runners,
+        "sync",
+        "Asks the system to keep each part of the journal on the disk before anything is sent",
+    )
+}
+
+/// The command `client`.
+fn client_command<'a>(alloc: Global) -> Result<Command<'a>, AllocError>
+    ensures { Has result client_app }
+{
+    let command = new_command(
+        alloc,
+        "client",
+        "Runs a client's script over a connection with a node, and prints what its lines tell",
+        "What a line tells is printed once its reply came. What explains refused lines goes to the standard error. There is no authentication and no encryption.\nExit status: 0; 1 after a refusal of the script, where the connection or the output fails, or as --strict says; 2 for a wrong command line.\nExample: bqview client 127.0.0.1:8001 examples/apart/count.client\nFormats: docs/FORMATS.md, \"Scripts of clients\"",
+    );
+    let place = with_operand(
+        alloc,
+        Ok(command),
+        "ADDR",
+        "Where the node's clients connect: an address, as 10.88.0.1:8000, or the path of a Unix socket, which has a slash",
+    );
+    let script = with_operand(
+        alloc,
+        place,
+        "SCRIPT",
+        "A file of programs, stores and queries, one a line; `-` is the standard input",
+    );
+    with_flag(
+        alloc,
+        script,
+        "strict",
+        "Ends with status 1 where a line was refused or unanswered",
+    )
+}
+
 /// The command with one more command below it, if there are both.
 fn with_command<'a>(
     command: Result<Command<'a>, AllocError>,
@@ -577,7 +726,9 @@ fn program<'a>(alloc: Global) -> Result<Command<'a>, AllocError>
     let sim = with_command(run, sim_command(alloc));
     let cluster = with_command(sim, cluster_command(alloc));
     let audit = with_command(cluster, audit_command(alloc));
-    with_command(audit, gather_command(alloc))
+    let gather = with_command(audit, gather_command(alloc));
+    let node = with_command(gather, node_command(alloc));
+    with_command(node, client_command(alloc))
 }
 
 /// The text of an operand.
@@ -724,6 +875,53 @@ fn gather_line<'a>(alloc: Global, found: &ArgMatches<'a>) -> Result<Wanted<'a>, 
     })
 }
 
+/// The count of threads that a text spells, if it spells one from 1 to 64.
+fn runners(text: &str) -> Option<usize>
+    ensures { MatchOption result ((n : ℕ) → IsRunners text.now n → ⊥) (IsRunners text.now) }
+{
+    let count = number(text)?;
+    if count < 1 || count > 64 {
+        return None;
+    }
+    Some(count as usize)
+}
+
+/// The command `node` with what was found for its operands and options.
+fn node_line<'a>(found: &ArgMatches<'a>) -> Result<Wanted<'a>, WordsFault<'a>>
+    ensures { MatchResult result (λ wanted. IsMet wanted (codes "node", rows_of (found_of found.now))) (λ e. HasLineFault e (codes "node", rows_of (found_of found.now))) }
+{
+    let id_text = operand_text(found, "ID");
+    let Some(id) = number(id_text) else {
+        return Err(WordsFault::BadId { id: id_text });
+    };
+    let runners_text = operand_text(found, "runners");
+    let Some(runners) = runners(runners_text) else {
+        return Err(WordsFault::BadRunners {
+            runners: runners_text,
+        });
+    };
+    Ok(Wanted::Node(NodeCommand {
+        file: operand_text(found, "FILE"),
+        id,
+        clients: operand_text(found, "clients"),
+        journal: operand_text(found, "journal"),
+        runners,
+        sync: is_given(found, "sync"),
+    }))
+}
+
+/// The command `client` with what was found for its operands and its flag.
+fn client_line<'a>(found: &ArgMatches<'a>) -> Wanted<'a>
+    ensures { IsMet result (codes "client", rows_of (found_of found.now)) }
+{
+    let strict = is_given(found, "strict");
+    Wanted::Client {
+        place: operand_text(found, "ADDR"),
+        script: operand_text(found, "SCRIPT"),
+        strict,
+    }
+}
+
 /// The words of the command line that the system gives, of which the first is the program's name.
 pub fn given_words(
     alloc: Global,
@@ -764,8 +962,14 @@ pub fn read_words<'a, S: AsStr>(alloc: Global, words: &'a [S]) -> Result<Wanted<
         let journal = operand_text(found, "JOURNAL");
         return Ok(Wanted::FileCommand(FileCommand::Audit { journal }));
     }
-    match matches.subcommand_matches("gather") {
-        Some(found) => gather_line(alloc, found),
+    if let Some(found) = matches.subcommand_matches("gather") {
+        return gather_line(alloc, found);
+    }
+    if let Some(found) = matches.subcommand_matches("node") {
+        return node_line(found);
+    }
+    match matches.subcommand_matches("client") {
+        Some(found) => Ok(client_line(found)),
         None => unreachable!(),
     }
 }

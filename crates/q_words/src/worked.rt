@@ -3,10 +3,11 @@
 ghost use Rattle.std.specs.Prelude.{◌≡◌, ℕ, List, [], ◌∷◌, Bool, Some, None, true, false, codes, map, option_map};
 ghost use Rattle.std.specs.IoError.{error_kind};
 ghost use Rattle.std.specs.declared.io.ErrorKind.TheVariants as kind;
-ghost use Rattle.clap.specs.Words.{Row, first_of, subcommand_of};
+ghost use Rattle.clap.specs.Words.{Row, fault_of, first_of, subcommand_of};
+ghost use Rattle.clap.specs.declared.error.kind.ErrorKind.TheVariants as clap_kind;
 ghost use Rattle.bq_range.specs.Interval.{Interval};
 ghost use Rattle.q_script.specs.Words.{IsNumeral};
-ghost use Rattle.q_words.specs.Words.{AreGiven, HasCommand, HasLineFault, HasProgram, IsMet, TellsUngiven, bqview, exit_status, form_of, is_given, is_strict, operand_of, operands_of};
+ghost use Rattle.q_words.specs.Words.{AreGiven, HasCommand, HasLineFault, HasNode, HasProgram, IsMet, IsRunners, TellsUngiven, bqview, exit_status, form_of, is_given, is_strict, operand_of, operands_of};
 ghost use Rattle.q_words.specs.declared.words.Form.TheVariants as form;
 ghost use Rattle.q_words.specs.declared.words.FileCommand.TheVariants as line;
 ghost use Rattle.q_words.specs.declared.words.Wanted.TheVariants as wanted;
@@ -43,6 +44,23 @@ pub fn worked()
     ensures journals { option_map (λ met. operands_of (codes "JOURNAL") met.1) (subcommand_of bqview (codes "bqview" ∷ codes "gather" ∷ codes "b" ∷ codes "a" ∷ codes "b" ∷ [])) ≡ Some (codes "b" ∷ codes "a" ∷ codes "b" ∷ []) }
     ensures pairs { option_map (λ met. is_given (codes "pairs") met.1) (subcommand_of bqview (codes "bqview" ∷ codes "gather" ∷ codes "a" ∷ codes "--pairs" ∷ [])) ≡ Some true }
     ensures no_pairs { option_map (λ met. is_given (codes "pairs") met.1) (subcommand_of bqview (codes "bqview" ∷ codes "gather" ∷ codes "a" ∷ [])) ≡ Some false }
+    ensures node { (rows : List Row) (line : _) → HasNode line rows → IsMet (wanted.Node line) (codes "node", rows) }
+    ensures node_is_no_client { (rows : List Row) (line : _) → IsMet (wanted.Node line) (codes "client", rows) → ⊥ }
+    ensures id { option_map (λ met. operand_of (codes "ID") met.1) (subcommand_of bqview (codes "bqview" ∷ codes "node" ∷ codes "a" ∷ codes "7" ∷ codes "--clients" ∷ codes "b" ∷ codes "--journal" ∷ codes "c" ∷ [])) ≡ Some (codes "7") }
+    ensures clients { option_map (λ met. operand_of (codes "clients") met.1) (subcommand_of bqview (codes "bqview" ∷ codes "node" ∷ codes "a" ∷ codes "7" ∷ codes "--clients" ∷ codes "b" ∷ codes "--journal" ∷ codes "c" ∷ [])) ≡ Some (codes "b") }
+    ensures two_runners { option_map (λ met. operand_of (codes "runners") met.1) (subcommand_of bqview (codes "bqview" ∷ codes "node" ∷ codes "a" ∷ codes "7" ∷ codes "--clients" ∷ codes "b" ∷ codes "--journal" ∷ codes "c" ∷ [])) ≡ Some (codes "2") }
+    ensures sync { option_map (λ met. is_given (codes "sync") met.1) (subcommand_of bqview (codes "bqview" ∷ codes "node" ∷ codes "a" ∷ codes "7" ∷ codes "--clients" ∷ codes "b" ∷ codes "--journal" ∷ codes "c" ∷ codes "--sync" ∷ [])) ≡ Some true }
+    ensures no_sync { option_map (λ met. is_given (codes "sync") met.1) (subcommand_of bqview (codes "bqview" ∷ codes "node" ∷ codes "a" ∷ codes "7" ∷ codes "--clients" ∷ codes "b" ∷ codes "--journal" ∷ codes "c" ∷ [])) ≡ Some false }
+    ensures a_journal_is_demanded { fault_of bqview (codes "bqview" ∷ codes "node" ∷ codes "a" ∷ codes "7" ∷ codes "--clients" ∷ codes "b" ∷ []) ≡ clap_kind.MissingRequiredArgument ∷ [] }
+    ensures clients_are_demanded { fault_of bqview (codes "bqview" ∷ codes "node" ∷ codes "a" ∷ codes "7" ∷ codes "--journal" ∷ codes "c" ∷ []) ≡ clap_kind.MissingRequiredArgument ∷ [] }
+    ensures no_runners { IsRunners (codes "0") 0 → ⊥ }
+    ensures too_many_runners { IsRunners (codes "65") 65 → ⊥ }
+    ensures bad_id { (rows : List Row) (id : _) → HasLineFault (fault.BadId id) (codes "node", rows) → id.now ≡ operand_of (codes "ID") rows }
+    ensures bad_runners { (rows : List Row) (runners : _) → HasLineFault (fault.BadRunners runners) (codes "node", rows) → runners.now ≡ operand_of (codes "runners") rows }
+    ensures client { (rows : List Row) (place script : _) (strict : Bool) → place.now ≡ operand_of (codes "ADDR") rows → script.now ≡ operand_of (codes "SCRIPT") rows → strict ≡ is_given (codes "strict") rows → IsMet (wanted.Client place script strict) (codes "client", rows) }
+    ensures client_is_no_cluster { (rows : List Row) (place script : _) (strict : Bool) → IsMet (wanted.Client place script strict) (codes "cluster", rows) → ⊥ }
+    ensures place { option_map (λ met. operand_of (codes "ADDR") met.1) (subcommand_of bqview (codes "bqview" ∷ codes "client" ∷ codes "a" ∷ codes "b" ∷ [])) ≡ Some (codes "a") }
+    ensures client_script { option_map (λ met. operand_of (codes "SCRIPT") met.1) (subcommand_of bqview (codes "bqview" ∷ codes "client" ∷ codes "--strict" ∷ codes "a" ∷ codes "b" ∷ [])) ≡ Some (codes "b") }
     ensures not_utf8 { (error : _) → error_kind error ≡ kind.InvalidData → TellsUngiven error fault.NotUtf8 }
     ensures no_memory { (error : _) → error_kind error ≡ kind.OutOfMemory → TellsUngiven error fault.OutOfMemory }
     ensures no_memory_is_told_as_such { (error : _) → error_kind error ≡ kind.OutOfMemory → TellsUngiven error fault.NotUtf8 → ⊥ }

@@ -9,4 +9,6 @@ returns c =
     let five = c.with_command-sim.ensures _ _ four c.sim_command.ensures in
     let six = c.with_command-cluster.ensures _ _ five c.cluster_command.ensures in
     let seven = c.with_command-audit.ensures _ _ six c.audit_command.ensures in
-    c.with_command.ensures _ _ seven c.gather_command.ensures
+    let eight = c.with_command-gather.ensures _ _ seven c.gather_command.ensures in
+    let nine = c.with_command-node.ensures _ _ eight c.node_command.ensures in
+    c.with_command.ensures _ _ nine c.client_command.ensures

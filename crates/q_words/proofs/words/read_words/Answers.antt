@@ -44,10 +44,20 @@ returns-in-Some-subcommand_matches-6 g c =
     was_named c.in_ok-matches.matches (map g.S.AsStr.text c.args.words.now) c.in_ok-program.ensures.0 c.in_ok-matches.ensures.kinds c.in_ok-matches.ensures.matches
     (codes "audit") (rows_of (found_of c.in-Some-subcommand_matches-6.found.now)) (search rules) c.in-Some-subcommand_matches-6.ensures.rows (Ok (FileCommand (Audit c.operand_text-journal.result))) (refl, c.operand_text-journal.ensures)
 
+pub returns-in-Some-subcommand_matches-7 : goal.returns-in-Some-subcommand_matches-7
+returns-in-Some-subcommand_matches-7 g c =
+    was_named c.in_ok-matches.matches (map g.S.AsStr.text c.args.words.now) c.in_ok-program.ensures.0 c.in_ok-matches.ensures.kinds c.in_ok-matches.ensures.matches
+    (codes "gather") (rows_of (found_of c.in-Some-subcommand_matches-7.found.now)) (search rules) c.in-Some-subcommand_matches-7.ensures.rows c.gather_line.result c.gather_line.ensures
+
+pub returns-in-Some-subcommand_matches-8 : goal.returns-in-Some-subcommand_matches-8
+returns-in-Some-subcommand_matches-8 g c =
+    was_named c.in_ok-matches.matches (map g.S.AsStr.text c.args.words.now) c.in_ok-program.ensures.0 c.in_ok-matches.ensures.kinds c.in_ok-matches.ensures.matches
+    (codes "node") (rows_of (found_of c.in-Some-subcommand_matches-8.found.now)) (search rules) c.in-Some-subcommand_matches-8.ensures.rows c.node_line.result c.node_line.ensures
+
 pub returns : goal.returns
 returns g c =
     was_named c.in_ok-matches.matches (map g.S.AsStr.text c.args.words.now) c.in_ok-program.ensures.0 c.in_ok-matches.ensures.kinds c.in_ok-matches.ensures.matches
-    (codes "gather") (rows_of (found_of c.in-Some-subcommand_matches-7.found.now)) (search rules) c.in-Some-subcommand_matches-7.ensures.rows c.gather_line.result c.gather_line.ensures
+    (codes "client") (rows_of (found_of c.in-Some-subcommand_matches-9.found.now)) (search rules) c.in-Some-subcommand_matches-9.ensures.rows (Ok c.client_line.result) c.client_line.ensures
 
 pub returns-in_err-matches : goal.returns-in_err-matches
 returns-in_err-matches g c =
@@ -59,4 +69,4 @@ unreachable-requires g c =
     let is_app : app_of c.in_ok-program.field-0 ≡ bqview = c.in_ok-program.ensures.0 in
     let needs : has_subcommand c.in_ok-matches.matches ≡ true = subcommand_required c.in_ok-program.field-0 c.in_ok-matches.matches c.in_ok-matches.ensures.parsed c.in_ok-program.ensures.1 (ap (λ (a : App). a.top.subcommand_required) is_app) in
     other_command (out-ArgMatches c.in_ok-matches.matches).subcommand words needs (found_said c.in_ok-matches.matches words is_app c.in_ok-matches.ensures.matches)
-    (λ h. true≢false (sym (c.in_default.ensures.found.1 h)), (λ h. true≢false (sym (c.in_default-subcommand_matches.ensures.found.1 h)), (λ h. true≢false (sym (c.in_default-subcommand_matches-2.ensures.found.1 h)), (λ h. true≢false (sym (c.in_default-subcommand_matches-3.ensures.found.1 h)), (λ h. true≢false (sym (c.in_default-subcommand_matches-4.ensures.found.1 h)), (λ h. true≢false (sym (c.in_default-subcommand_matches-5.ensures.found.1 h)), (λ h. true≢false (sym (c.in_default-subcommand_matches-6.ensures.found.1 h)), (λ h. true≢false (sym (c.in-None.ensures.found.1 h)), tt))))))))
+    (λ h. true≢false (sym (c.in_default.ensures.found.1 h)), (λ h. true≢false (sym (c.in_default-subcommand_matches.ensures.found.1 h)), (λ h. true≢false (sym (c.in_default-subcommand_matches-2.ensures.found.1 h)), (λ h. true≢false (sym (c.in_default-subcommand_matches-3.ensures.found.1 h)), (λ h. true≢false (sym (c.in_default-subcommand_matches-4.ensures.found.1 h)), (λ h. true≢false (sym (c.in_default-subcommand_matches-5.ensures.found.1 h)), (λ h. true≢false (sym (c.in_default-subcommand_matches-6.ensures.found.1 h)), (λ h. true≢false (sym (c.in_default-subcommand_matches-7.ensures.found.1 h)), (λ h. true≢false (sym (c.in_default-subcommand_matches-8.ensures.found.1 h)), (λ h. true≢false (sym (c.in-None.ensures.found.1 h)), tt))))))))))

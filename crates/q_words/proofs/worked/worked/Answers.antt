@@ -37,3 +37,39 @@ returns-clause-pairs c = refl
 pub returns-clause-no_pairs : goal.returns-clause-no_pairs
 unfolding clap_on_literals
 returns-clause-no_pairs c = refl
+
+pub returns-clause-id : goal.returns-clause-id
+unfolding clap_on_literals
+returns-clause-id c = refl
+
+pub returns-clause-clients : goal.returns-clause-clients
+unfolding clap_on_literals
+returns-clause-clients c = refl
+
+pub returns-clause-two_runners : goal.returns-clause-two_runners
+unfolding clap_on_literals
+returns-clause-two_runners c = refl
+
+pub returns-clause-sync : goal.returns-clause-sync
+unfolding clap_on_literals
+returns-clause-sync c = refl
+
+pub returns-clause-no_sync : goal.returns-clause-no_sync
+unfolding clap_on_literals
+returns-clause-no_sync c = refl
+
+pub returns-clause-place : goal.returns-clause-place
+unfolding clap_on_literals
+returns-clause-place c = refl
+
+pub returns-clause-client_script : goal.returns-clause-client_script
+unfolding clap_on_literals
+returns-clause-client_script c = refl
+
+pub returns-clause-a_journal_is_demanded : goal.returns-clause-a_journal_is_demanded
+unfolding clap_on_literals
+returns-clause-a_journal_is_demanded c = refl
+
+pub returns-clause-clients_are_demanded : goal.returns-clause-clients_are_demanded
+unfolding clap_on_literals
+returns-clause-clients_are_demanded c = refl
