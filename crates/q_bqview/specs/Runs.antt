@@ -13,11 +13,16 @@ use Rattle.q_words.specs.declared.words.Wanted.{Wanted}
 use Rattle.q_words.specs.declared.words.Wanted.TheVariants as wanted
 use Rattle.q_words.specs.declared.words.WordsFault.{WordsFault}
 use Rattle.q_words.specs.declared.words.WordsFault.TheVariants.{Help, OutOfMemory}
+use Rattle.q_asker.specs.Runs as asker
+use Rattle.q_asker.specs.declared.ending.Ending as asker_ending
 use Rattle.q_command.specs.Perform as command
 use Rattle.q_command.specs.declared.perform.Outcome.{Outcome}
 use Rattle.q_gathered.specs.Files as gathered
 use Rattle.q_gathered.specs.declared.ending.Ending as gathered_ending
 use Rattle.q_lines.specs.Runs as nodes
+use Rattle.q_node.specs.Files as node_files
+use Rattle.q_node.specs.Runs as node
+use Rattle.q_node.specs.declared.ending.Ending as node_ending
 use Rattle.q_lines.specs.declared.ending.Ending.{Ending}
 
 -- a standard output: what it took so far, where that is known, and how many of its calls failed
@@ -65,11 +70,25 @@ module _ {F : Type 0} (reads : Reading F) (writes : Writing F) where
       (ending : gathered_ending.Ending) × gathered.IsWritten (reads gathered.longest_journal) names pairs old before.taken ending new after.taken
       × (status ≡ gathered.status_of ending) × (after.failures ≡ gathered.failures_after ending before.failures)
 
+  -- so does a run of the script in the file of this name over a connection with a node, which is strict or not
+  abbrev pub RunsClient : List ℕ → Bool → F → Output → ℕ → F → Output → Type 0
+  RunsClient name strict old before status new after =
+      (ending : asker_ending.Ending) × (source : List ℕ) × asker.RunsFile (reads asker.longest_script) name old new source before.taken after.taken ending
+      × (status ≡ asker.status_of strict ending) × (after.failures ≡ asker.failures_after ending before.failures)
+
+  -- so does a run of the node of this id by itself, whose cluster is in the file of this name
+  abbrev pub RunsApart : List ℕ → ℕ → F → Output → ℕ → F → Output → Type 0
+  RunsApart name id old before status new after =
+      (ending : node_ending.Ending) × node_files.IsWrittenFile (reads node_files.longest_file) name id old new ending before.taken after.taken
+      × (status ≡ node.status_of ending) × (after.failures ≡ node.failures_after ending before.failures)
+
   -- what is wanted is done
   abbrev pub Does : Wanted → F → Output → ℕ → F → Output → Type 0
   Does (wanted.FileCommand line) = CarriesOut line
   Does (wanted.Cluster script strict) = RunsNodes script.now strict
   Does (wanted.Gather journals pairs) = Gathers (map (λ name. name.now) journals.items) pairs
+  Does (wanted.Node line) = RunsApart line.file.now line.id
+  Does (wanted.Client place script strict) = RunsClient script.now strict
 
   -- The words ask for a command, and it is done; or they ask for none, and that is explained, and no file is touched.
   abbrev pub Runs : List (List ℕ) → F → Output → ℕ → F → Output → Type 0

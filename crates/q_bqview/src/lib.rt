@@ -10,6 +10,8 @@
 //! | `cluster [--strict] SCRIPT` | what each line of a script tells, over nodes with a thread and a UDP socket of loopback each |
 //! | `audit JOURNAL` | `answer Q ACC STEPS` for each answer that a node recorded, by the numbers of its queries; then `journal ok` |
 //! | `gather [--pairs] JOURNAL..` | each answer of the journals of all nodes, with its view; then `journals ok` |
+//! | `node FILE ID --clients ADDR --journal JOURNAL` | where a node that runs by itself hears, what its console answers, and how many events its journal has |
+//! | `client [--strict] ADDR SCRIPT` | what each line of a client's script tells, over a connection with a node that runs by itself |
 //!
 //! FILE of `asm` holds assembler text, FILE of `dis` a program's bytes, eight a unit. That of `check` and `run` holds
 //! assembler text, or with `--bytes` a program's bytes. `check --states` prints after its line, for each unit where an
@@ -67,6 +69,15 @@
 //! of `pairs` follow. The last line is `journals ok`: the journals fit together as those of one run of one cluster, and
 //! each answer is the meaning of its query's program over that view. All this is found in the bytes of the files alone.
 //!
+//! FILE of `node` is the file of a cluster whose nodes run apart, one for all machines, and ID the node's id. Its console is
+//! the standard input, with the lines `status`, `leave` and `end`; the node ends where that ends. There is no
+//! authentication and no encryption: whoever reaches the address of `--clients` is a client (`q_node`).
+//!
+//! SCRIPT of `client` has lines `program HEX`, `store VALUE` and `ask PROGRAM START`, and ADDR is a host and a port, or the
+//! path of a Unix socket, which has a slash. What a line tells is printed once its reply came (`q_asker`). A refused line
+//! prints its refusal, and the script goes on; with `--strict` the exit status is 1 where a line was refused or is
+//! `unanswered`. Where there is no connection or it fails, 86 is printed last.
+//!
 //! A refusal prints `refused N Name`, then ` at U` where it carries a unit or a journal's event, or ` line L` where a
 //! line ([`Refusal`]). `run` finds faults in this order: FILE, its text, the verifier and the checker, RECORDS, its
 //! lines. `sim` finds them in this: SCRIPT, its text, its founders; and `cluster` too, which then finds the sockets
@@ -81,7 +92,8 @@
 //! [`run`] takes the words that the system gives, files, an output and notes, and answers the exit status;
 //! [`run_words`] does the same of any words. Their contracts say what the status is, and what the output took and the
 //! files came to: where the words ask for a command over files, an end of [`carry_out`]; for `cluster`, one of
-//! [`run_file`]; for `gather`, one of [`gather_files`]; and where they ask for none ([`read_words`]), no file is
+//! [`run_file`]; for `gather`, one of [`gather_files`]; for `client`, one of [`asker::run_file`];
+//! for `node`, one of [`node::run_file`]; and where they ask for none ([`read_words`]), no file is
 //! touched, and the output takes the help, the refusal 99, or nothing. What explains a refusal ([`carry_out`],
 //! [`nodes_advice`]), a refused line of a script or a wrong command line goes to the notes, of which no clause speaks.
 //! The program hands over the machine: its words, its files, its standard output, and its standard error as the notes.
@@ -94,8 +106,11 @@
 //! [`carry_out`]: q_command::perform::carry_out
 //! [`run_file`]: q_nodes::sockets::run_file
 //! [`gather_files`]: q_gathered::files::gather_files
+//! [`asker::run_file`]: q_asker::command::run_file
+//! [`node::run_file`]: q_node::command::run_file
 //! [`nodes_advice`]: q_command::advice::nodes_advice
 #![tactic(auto)]
 
+mod client;
 pub mod run;
 pub mod worked;

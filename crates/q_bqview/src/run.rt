@@ -3,8 +3,11 @@
 ghost use Rattle.std.specs.Prelude.{◌≡◌, ◌⊎◌, ℕ, List, IfOk, IfErr, map, string_bytes};
 ghost use Rattle.std.specs.Vec.Iter.{into_iter_items};
 ghost use Rattle.q_words.specs.Words.{exit_status};
-ghost use Rattle.q_bqview.specs.Runs.{CarriesOut, Does, Explains, Gathers, IsUngiven, Puts, PutsMemory, Runs, RunsNodes};
+ghost use Rattle.q_bqview.specs.Runs.{CarriesOut, Does, Explains, Gathers, IsUngiven, Puts, PutsMemory, Runs, RunsApart, RunsClient, RunsNodes};
 
+use crate::client::client_advice;
+use q_asker::command as asker;
+use q_asker::ending::Ending as ClientEnding;
 use q_command::advice::nodes_advice;
 use q_command::denied::Denied;
 use q_command::perform::carry_out;
@@ -12,17 +15,19 @@ use q_files::files::Files;
 use q_gathered::files::gather_files;
 use q_lines::ending::Ending;
 use q_lines::fault::NodesFault;
+use q_node::command as node;
 use q_nodes::sockets::{FileRun, run_file};
 use q_refused::line::put_refusal;
 use q_sim::refusal::Refusal;
 use q_wire::counted::Counted;
-use q_words::words::{FileCommand, Wanted, WordsFault, given_words, read_words};
+use q_words::words::{FileCommand, NodeCommand, Wanted, WordsFault, given_words, read_words};
 use std::alloc::{AllocError, Global};
 use std::convert::AsStr;
 use std::env::Args;
+use std::fs::Files as SystemFiles;
 use std::io;
-use std::io::Write;
-use std::net::Net;
+use std::io::{Eprint, Input, Write};
+use std::net::{Net, TcpListener, TcpStream};
 use std::sync::Wait;
 use std::thread::Threads;
 use std::time::Clock;
@@ -98,6 +103,8 @@ fn tell_fault<W: Write, N: Write>(
         WordsFault::Wrong(_)
         | WordsFault::BadStart { .. }
         | WordsFault::BadLengths { .. }
+        | WordsFault::BadId { .. }
+        | WordsFault::BadRunners { .. }
         | WordsFault::NotUtf8 => note_fault(fault, notes),
     }
 }
@@ -175,6 +182,19 @@ fn note_ending<N: Write>(
     }
 }
 
+/// Explains how a client's run ended, if its script was refused.
+fn note_client<N: Write>(
+    alloc: Global,
+    script: &str,
+    source: &[u8],
+    ending: ClientEnding,
+    notes: &mut N,
+) {
+    if let ClientEnding::Refused(refusal) = ending {
+        note(client_advice(alloc, script, source, refusal), notes);
+    }
+}
+
 // ---- commands
 
 /// Carries out a command over files, and explains its refusal: the exit status.
@@ -227,8 +247,68 @@ fn run_gather<F: Files, W: Write, N: Write>(
     gather_files(alloc, journals, pairs, files, out, notes).status()
 }
 
+/// Runs a client's script over a connection with the node at a place, and explains its refusal: the exit status.
+fn run_client<R: Net + Clock, F: Files, W: Write, N: Write>(
+    rt: &R,
+    alloc: Global,
+    place: &str,
+    script: &str,
+    is_strict: bool,
+    files: &mut F,
+    out: &mut Counted<W>,
+    notes: &mut N,
+) -> u8
+    ensures { RunsClient F.read_gives F.write_gives script.now is_strict files.old
+        (record { taken = W.contents out.old.inner; failures = out.old.failures }) result files.new
+        (record { taken = W.contents out.new.inner; failures = out.new.failures }) }
+{
+    let asker::FileRun { ending, source } = asker::run_file(
+        rt, alloc, place, script, files, out, notes,
+    );
+    note_client(alloc, script, source.as_slice(), ending, notes);
+    ending.status(is_strict)
+}
+
+/// Runs a node by itself, whose console is the standard input: the exit status.
+fn run_node<R, F, W, N>(
+    rt: &R,
+    alloc: Global,
+    command: &NodeCommand<'_>,
+    files: &mut F,
+    out: &mut Counted<W>,
+    notes: &mut N,
+) -> u8
+where
+    R: Net<Listener = TcpListener, Stream = TcpStream>
+        + SystemFiles
+        + Input
+        + Eprint
+        + Wait
+        + Threads
+        + Clock
+        + Sync,
+    R::File: Send,
+    F: Files,
+    W: Write,
+    N: Write,
+    ensures { RunsApart F.read_gives F.write_gives command.now.file.now command.now.id files.old
+        (record { taken = W.contents out.old.inner; failures = out.old.failures }) result files.new
+        (record { taken = W.contents out.new.inner; failures = out.new.failures }) }
+{
+    let words = node::NodeWords {
+        file: command.file,
+        id: command.id,
+        clients: command.clients,
+        journal: command.journal,
+        runners: command.runners,
+        sync: command.sync,
+    };
+    let mut console = rt.reader();
+    node::run_file(rt, alloc, &words, files, &mut console, out, notes).status()
+}
+
 /// Does what is wanted: the exit status.
-fn do_wanted<R: Net + Wait + Threads + Clock + Sync, F: Files, W: Write, N: Write>(
+fn do_wanted<R, F, W, N>(
     rt: &R,
     alloc: Global,
     wanted: &Wanted<'_>,
@@ -236,6 +316,19 @@ fn do_wanted<R: Net + Wait + Threads + Clock + Sync, F: Files, W: Write, N: Writ
     out: &mut Counted<W>,
     notes: &mut N,
 ) -> u8
+where
+    R: Net<Listener = TcpListener, Stream = TcpStream>
+        + SystemFiles
+        + Input
+        + Eprint
+        + Wait
+        + Threads
+        + Clock
+        + Sync,
+    R::File: Send,
+    F: Files,
+    W: Write,
+    N: Write,
     ensures { Does F.read_gives F.write_gives wanted.now files.old
         (record { taken = W.contents out.old.inner; failures = out.old.failures }) result files.new
         (record { taken = W.contents out.new.inner; failures = out.new.failures }) }
@@ -248,11 +341,17 @@ fn do_wanted<R: Net + Wait + Threads + Clock + Sync, F: Files, W: Write, N: Writ
         Wanted::Gather { journals, pairs } => {
             run_gather(alloc, journals.as_slice(), *pairs, files, out, notes)
         }
+        Wanted::Client {
+            place,
+            script,
+            strict,
+        } => run_client(rt, alloc, place, script, *strict, files, out, notes),
+        Wanted::Node(command) => run_node(rt, alloc, command, files, out, notes),
     }
 }
 
 /// Does what is wanted, and says in the notes where the output fails: the exit status.
-fn run_wanted<R: Net + Wait + Threads + Clock + Sync, F: Files, W: Write, N: Write>(
+fn run_wanted<R, F, W, N>(
     rt: &R,
     alloc: Global,
     wanted: &Wanted<'_>,
@@ -260,6 +359,19 @@ fn run_wanted<R: Net + Wait + Threads + Clock + Sync, F: Files, W: Write, N: Wri
     out: &mut Counted<W>,
     notes: &mut N,
 ) -> u8
+where
+    R: Net<Listener = TcpListener, Stream = TcpStream>
+        + SystemFiles
+        + Input
+        + Eprint
+        + Wait
+        + Threads
+        + Clock
+        + Sync,
+    R::File: Send,
+    F: Files,
+    W: Write,
+    N: Write,
     ensures { Does F.read_gives F.write_gives wanted.now files.old
         (record { taken = W.contents out.old.inner; failures = out.old.failures }) result files.new
         (record { taken = W.contents out.new.inner; failures = out.new.failures }) }
@@ -283,7 +395,15 @@ pub fn run_words<R, S, F, W, N>(
     notes: &mut N,
 ) -> u8
 where
-    R: Net + Wait + Threads + Clock + Sync,
+    R: Net<Listener = TcpListener, Stream = TcpStream>
+        + SystemFiles
+        + Input
+        + Eprint
+        + Wait
+        + Threads
+        + Clock
+        + Sync,
+    R::File: Send,
     S: AsStr,
     F: Files,
     W: Write,
@@ -308,7 +428,15 @@ pub fn run<R, F, W, N>(
     notes: &mut N,
 ) -> u8
 where
-    R: Net + Wait + Threads + Clock + Sync,
+    R: Net<Listener = TcpListener, Stream = TcpStream>
+        + SystemFiles
+        + Input
+        + Eprint
+        + Wait
+        + Threads
+        + Clock
+        + Sync,
+    R::File: Send,
     F: Files,
     W: Write,
     N: Write,

@@ -34,7 +34,7 @@ fn carry<F: Files, W: Write>(
             let names = journals.as_slice();
             Ok(gather_files(alloc, names, *pairs, files, out, &mut unseen).status())
         }
-        Wanted::Cluster { .. } => {
+        Wanted::Cluster { .. } | Wanted::Node(_) | Wanted::Client { .. } => {
             writeln!(out, "no command over files")?;
             Ok(0)
         }
@@ -105,7 +105,10 @@ fn explain_wanted<F: Files, W: Write>(
             let told = gathered_notes(alloc, names, *pairs, files, &mut unseen);
             write_told(told.as_slice(), out)
         }
-        Wanted::Cluster { .. } => writeln!(out, "no command"),
+        Wanted::Cluster { .. } | Wanted::Node(_) | Wanted::Client { .. } => writeln!(
+            out,
+            "no command"
+        ),
     }
 }
 

@@ -63,7 +63,7 @@ fn print_words<F: Files>(
         Ok(Wanted::Gather { journals, pairs }) => {
             print_gathered(alloc, journals.as_slice(), pairs, files, out)
         }
-        Ok(Wanted::Cluster { .. }) => Ok(()),
+        Ok(Wanted::Cluster { .. } | Wanted::Node(_) | Wanted::Client { .. }) => Ok(()),
         Err(fault) => write!(out, "{fault}"),
     }
 }

@@ -348,7 +348,12 @@ impl<'a, R: Net + Wait + Threads + Clock + Sync, W: Write> Nodes<'a, R, W> {
         let words: Vec<&str> = words.split(' ').collect(self.alloc)?;
         match read_words(self.alloc, words.as_slice()) {
             Ok(Wanted::Cluster { script, strict }) => Ok(self.run_file(script, strict, notes)),
-            Ok(Wanted::FileCommand(_) | Wanted::Gather { .. }) => {
+            Ok(
+                Wanted::FileCommand(_)
+                | Wanted::Gather { .. }
+                | Wanted::Node(_)
+                | Wanted::Client { .. },
+            ) => {
                 writeln!(self.out, "another command")?;
                 Ok(0)
             }

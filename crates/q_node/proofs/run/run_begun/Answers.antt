@@ -1,0 +1,13 @@
+use Rattle.q_node.proofs.run.run_begun.Goals as goal
+
+pub returns-clause-written : goal.returns-clause-written
+returns-clause-written g c = c.close.ensures.written _ _ _ c.begin_and_run-talk.ensures.said
+
+pub returns-clause-journal : goal.returns-clause-journal
+returns-clause-journal g c = c.close.ensures.journal _ _ _ c.end-ended.ensures
+
+pub returns-clause-begun : goal.returns-clause-begun
+returns-clause-begun g c = c.close.ensures.begun
+
+pub returns-clause-counted : goal.returns-clause-counted
+returns-clause-counted g c = c.close.ensures.counted _ c.begin_and_run-talk.ensures.counted

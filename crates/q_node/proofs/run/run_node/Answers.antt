@@ -1,0 +1,15 @@
+use Rattle.std.proofs.Common.{subst, sym}
+use Rattle.q_recorder.specs.State.{RecorderState}
+use Rattle.q_node.specs.Faults.{IsUnbegun}
+use Rattle.q_node.specs.Runs.{IsJournal}
+use Rattle.q_node.proofs.run.run_node.Goals as goal
+
+pub returns-in-Err-clause-journal : goal.returns-in-Err-clause-journal
+returns-in-Err-clause-journal g c =
+    subst (λ (r : RecorderState). IsJournal c.args.setup.now.id r.file c.refuse.result.recorder.file c.refuse.result.ending)
+    c.new-recorder.ensures.new (c.refuse.ensures.journal c.args.setup.now.id)
+
+pub returns-in-Err-clause-unbegun : goal.returns-in-Err-clause-unbegun
+returns-in-Err-clause-unbegun g c fault is =
+    subst (IsUnbegun c.args.setup.now.file.now c.args.setup.now.id c.args.setup.now.runners) (sym (c.refuse.ensures.fault fault is))
+    (c.unseated.ensures c.args.setup.now.file.now c.args.setup.now.id)

@@ -1,0 +1,339 @@
+//! The command `node`: a node whose cluster's file, door and journal are named by words.
+
+ghost use Rattle.std.specs.Prelude.{◌≡◌};
+ghost use Rattle.q_node.specs.Files.{IsWrittenFile, RunsBytes, RunsNode, RunsText, longest_file};
+ghost use Rattle.q_node.specs.Runs.{IsRun, IsWritten, failures_after};
+
+use crate::ending::{Ending, print_refusal};
+use crate::fault::NodeFault;
+use crate::run::{Setup, run_node};
+use q_board::board::MOST_RUNNERS;
+use q_clusterfile::fault::ClusterFileFault;
+use q_clusterfile::file::{ClusterFile, read_cluster};
+use q_files::files::{FileFault, Files, LONGEST_TEXT};
+use q_ports::datagram::address_of;
+use q_ports::door::ClientDoor;
+use q_ports::fault::PostFault;
+use q_ports::place::Place;
+use q_ports::udp::UdpPost;
+use q_recorder::file::DiskFile;
+use q_wire::counted::Counted;
+use std::alloc::{AllocError, Global};
+use std::fs::{File, Files as SystemFiles};
+use std::io::{BufRead, Eprint, Write};
+use std::net::{Net, TcpListener, TcpStream};
+use std::str;
+use std::sync::Wait;
+use std::thread::Threads;
+use std::time::{Clock, Duration};
+
+/// For how many milliseconds the socket waits for a datagram.
+const PATIENCE: u64 = 100;
+
+/// What the words of the command say.
+#[derive(Clone, Copy)]
+pub struct NodeWords<'a> {
+    /// The name of the file of the cluster.
+    pub file: &'a str,
+    /// The id of the node.
+    pub id: u64,
+    /// Where clients come in: a TCP address, or the path of a Unix socket.
+    pub clients: &'a str,
+    /// The name of the journal's file, which must not be there yet.
+    pub journal: &'a str,
+    /// How many threads run jobs: 1 to 64.
+    pub runners: usize,
+    /// Whether the system is asked to keep each part of the journal before anything is sent.
+    pub sync: bool,
+}
+
+impl From<FileFault> for NodeFault {
+    ghost use Rattle.std.specs.Prelude.{◌≡◌};
+    ghost use Rattle.q_node.specs.Files.{fault_of};
+
+    ghost from_gives = { λ f e. e ≡ fault_of f };
+
+    fn from(fault: FileFault) -> NodeFault {
+        match fault {
+            FileFault::Failed => NodeFault::FileFailed,
+            FileFault::OutOfMemory => NodeFault::OutOfMemory,
+        }
+    }
+}
+
+/// What would satisfy the reader of a cluster's file.
+fn advice(fault: ClusterFileFault) -> &'static str {
+    match fault {
+        ClusterFileFault::Syntax { .. } => {
+            "The first line is 'cluster NUMBER BETA GAMMA', as 'cluster 7310582 2/3 2/3'; each other line is \
+             'founder ID ADDRESS' or 'node ID ADDRESS', as 'founder 1 10.88.0.1:7000'; 1,024 at most."
+        }
+        ClusterFileFault::BadFraction => { "A fraction is NUM/DEN with 1 <= NUM <= DEN <= 1,000." }
+        ClusterFileFault::BadFounders => {
+            "There are 1 to 256 founders, whose ids rise from line to line."
+        }
+        ClusterFileFault::IdUsed => "No two lines have one id or one address.",
+        ClusterFileFault::OutOfMemory => "Memory ran out.",
+    }
+}
+
+/// The line that is printed once the node hears.
+fn greeting<R: Net<Listener = TcpListener, Stream = TcpStream>>(
+    alloc: Global,
+    words: &NodeWords<'_>,
+    post: &UdpPost,
+    door: &ClientDoor<'_, R>,
+) -> Result<String, AllocError> {
+    let id = words.id;
+    let clients = words.clients;
+    match (post.address(), door.address()) {
+        (Ok(messages), Ok(address)) => {
+            format!(in alloc; "node {id} messages {messages} clients {address}")
+        }
+        (Ok(messages), Err(_)) => {
+            format!(in alloc; "node {id} messages {messages} clients {clients}")
+        }
+        (Err(_), _) => format!(in alloc; "node {id} clients {clients}"),
+    }
+}
+
+/// Makes the journal's file, and runs the node.
+fn run_with_journal<R, C, W, N>(
+    rt: &R,
+    alloc: Global,
+    words: &NodeWords<'_>,
+    file: &ClusterFile,
+    post: &UdpPost,
+    door: &ClientDoor<'_, R>,
+    console: &mut C,
+    out: &mut Counted<W>,
+    notes: &mut N,
+) -> Ending
+where
+    R: Net<Listener = TcpListener, Stream = TcpStream>
+        + SystemFiles
+        + Wait
+        + Threads
+        + Clock
+        + Eprint
+        + Sync,
+    R::File: Send,
+    C: BufRead,
+    W: Write,
+    N: Write,
+    ensures written { IsRun words.now.id result (W.contents out.old.inner) (W.contents out.new.inner) }
+    ensures counted { out.new.failures ≡ failures_after result out.old.failures }
+{
+    let Ok(greeting) = greeting(alloc, words, post, door) else {
+        return print_refusal(NodeFault::OutOfMemory, out);
+    };
+    let setup = Setup {
+        file,
+        id: words.id,
+        runners: words.runners,
+        keeps: words.sync,
+        greeting: greeting.as_str(),
+    };
+    match File::create_new(rt, words.journal) {
+        Ok(journal) => {
+            let journal = DiskFile { file: journal };
+            run_node(rt, alloc, &setup, post, door, journal, console, out).ending
+        }
+        Err(error) => {
+            let name = words.journal;
+            let _ = writeln!(notes, "{name}: {error}");
+            print_refusal(NodeFault::NoJournal, out)
+        }
+    }
+}
+
+/// Opens the door, runs the node, and closes the door.
+fn run_with_door<R, C, W, N>(
+    rt: &R,
+    alloc: Global,
+    words: &NodeWords<'_>,
+    file: &ClusterFile,
+    post: &UdpPost,
+    console: &mut C,
+    out: &mut Counted<W>,
+    notes: &mut N,
+) -> Ending
+where
+    R: Net<Listener = TcpListener, Stream = TcpStream>
+        + SystemFiles
+        + Wait
+        + Threads
+        + Clock
+        + Eprint
+        + Sync,
+    R::File: Send,
+    C: BufRead,
+    W: Write,
+    N: Write,
+    ensures written { IsRun words.now.id result (W.contents out.old.inner) (W.contents out.new.inner) }
+    ensures counted { out.new.failures ≡ failures_after result out.old.failures }
+{
+    match ClientDoor::open(rt, Place::of(words.clients)) {
+        Ok(door) => {
+            let ending = run_with_journal(rt, alloc, words, file, post, &door, console, out, notes);
+            door.close();
+            ending
+        }
+        Err(error) => {
+            let clients = words.clients;
+            let _ = writeln!(notes, "{clients}: {error}");
+            print_refusal(NodeFault::TransportFailed, out)
+        }
+    }
+}
+
+/// Whether a board takes so many runners.
+fn is_runners(runners: usize) -> bool {
+    (1..=MOST_RUNNERS).contains(&runners)
+}
+
+/// Opens the node's socket, and runs it.
+fn run_of<R, C, W, N>(
+    rt: &R,
+    alloc: Global,
+    words: &NodeWords<'_>,
+    file: &ClusterFile,
+    console: &mut C,
+    out: &mut Counted<W>,
+    notes: &mut N,
+) -> Ending
+where
+    R: Net<Listener = TcpListener, Stream = TcpStream>
+        + SystemFiles
+        + Wait
+        + Threads
+        + Clock
+        + Eprint
+        + Sync,
+    R::File: Send,
+    C: BufRead,
+    W: Write,
+    N: Write,
+    ensures written { RunsNode file.now words.now.id result (W.contents out.old.inner) (W.contents out.new.inner) }
+    ensures counted { out.new.failures ≡ failures_after result out.old.failures }
+{
+    let Some(address) = address_of(&file.nodes, words.id) else {
+        return print_refusal(NodeFault::NoSuchNode, out);
+    };
+    if !is_runners(words.runners) {
+        return print_refusal(NodeFault::BadCount, out);
+    }
+    match UdpPost::open(rt, alloc, file, words.id, Duration::from_millis(PATIENCE)) {
+        Ok(post) => run_with_door(rt, alloc, words, file, &post, console, out, notes),
+        Err(PostFault::OutOfMemory) => print_refusal(NodeFault::OutOfMemory, out),
+        Err(PostFault::Failed | PostFault::NoSuchNode) => {
+            let _ = writeln!(
+                notes,
+                "{address}: the address is in use, or not one of this machine's"
+            );
+            print_refusal(NodeFault::TransportFailed, out)
+        }
+    }
+}
+
+/// Runs the node of the file that a text spells.
+fn run_text<R, C, W, N>(
+    rt: &R,
+    alloc: Global,
+    words: &NodeWords<'_>,
+    source: &str,
+    console: &mut C,
+    out: &mut Counted<W>,
+    notes: &mut N,
+) -> Ending
+where
+    R: Net<Listener = TcpListener, Stream = TcpStream>
+        + SystemFiles
+        + Wait
+        + Threads
+        + Clock
+        + Eprint
+        + Sync,
+    R::File: Send,
+    C: BufRead,
+    W: Write,
+    N: Write,
+    ensures written { RunsText source.now words.now.id result (W.contents out.old.inner) (W.contents out.new.inner) }
+    ensures counted { out.new.failures ≡ failures_after result out.old.failures }
+{
+    match read_cluster(alloc, source) {
+        Ok(file) => run_of(rt, alloc, words, &file, console, out, notes),
+        Err(fault) => {
+            let name = words.file;
+            let advice = advice(fault);
+            let _ = writeln!(notes, "{name}: {advice}");
+            print_refusal(NodeFault::Cluster(fault), out)
+        }
+    }
+}
+
+/// The same of bytes, which may be no text.
+fn run_bytes<R, C, W, N>(
+    rt: &R,
+    alloc: Global,
+    words: &NodeWords<'_>,
+    bytes: &[u8],
+    console: &mut C,
+    out: &mut Counted<W>,
+    notes: &mut N,
+) -> Ending
+where
+    R: Net<Listener = TcpListener, Stream = TcpStream>
+        + SystemFiles
+        + Wait
+        + Threads
+        + Clock
+        + Eprint
+        + Sync,
+    R::File: Send,
+    C: BufRead,
+    W: Write,
+    N: Write,
+    ensures written { RunsBytes bytes.now words.now.id result (W.contents out.old.inner) (W.contents out.new.inner) }
+    ensures counted { out.new.failures ≡ failures_after result out.old.failures }
+{
+    match str::from_utf8(bytes) {
+        Ok(source) => run_text(rt, alloc, words, source, console, out, notes),
+        Err(_) => print_refusal(NodeFault::FileFailed, out),
+    }
+}
+
+/// The command `node`: runs the node of the cluster's file of this name so. Refused are, in this order: 87 where the file
+/// is not read, has more than 16 MiB or is no UTF-8; 9, 45, 49 and 44 for its text; 81 where it lacks the node; 62 where
+/// there are not 1 to 64 runners; 86 where the node's socket or the door cannot be opened; 87 where the journal's file is
+/// there already or cannot be made. 99 may come at any time. Why is explained in the notes.
+pub fn run_file<R, F, C, W, N>(
+    rt: &R,
+    alloc: Global,
+    words: &NodeWords<'_>,
+    files: &mut F,
+    console: &mut C,
+    out: &mut Counted<W>,
+    notes: &mut N,
+) -> Ending
+where
+    R: Net<Listener = TcpListener, Stream = TcpStream>
+        + SystemFiles
+        + Wait
+        + Threads
+        + Clock
+        + Eprint
+        + Sync,
+    R::File: Send,
+    F: Files,
+    C: BufRead,
+    W: Write,
+    N: Write,
+    ensures written { IsWrittenFile (F.read_gives longest_file) words.now.file.now words.now.id files.old files.new result (W.contents out.old.inner) (W.contents out.new.inner) }
+    ensures counted { out.new.failures ≡ failures_after result out.old.failures }
+{
+    match files.read(alloc, words.file, LONGEST_TEXT) {
+        Ok(bytes) => run_bytes(rt, alloc, words, bytes.as_slice(), console, out, notes),
+        Err(fault) => print_refusal(NodeFault::from(fault), out),
+    }
+}

@@ -1,0 +1,410 @@
+//! A node, run over any socket, door, journal's file, console and output.
+
+ghost use Rattle.std.specs.Prelude.{◌≡◌, ◌≤◌, All, IfErr, IfOk, ℕ, List, Option};
+ghost use Rattle.q_board.specs.BoardId.{board_id};
+ghost use Rattle.q_book.specs.State.{BookState};
+ghost use Rattle.q_recorder.specs.Recording.{IsRecorded};
+ghost use Rattle.q_clusterfile.specs.declared.file.ClusterFile.{ClusterFile as File};
+ghost use Rattle.q_node.specs.Faults.{IsUnbegun};
+ghost use Rattle.q_node.specs.Own.{IsKept, IsOwn};
+ghost use Rattle.q_node.specs.Runs.{Closes, IsJournal, IsWritten, failures_after};
+ghost use Rattle.q_node.specs.Talks.{Talks, talk_count};
+ghost use Rattle.q_node.specs.declared.ending.Ending.TheVariants.{Refused};
+ghost use Rattle.q_node.specs.declared.fault.NodeFault.{NodeFault as Fault};
+
+use crate::doorway::shut_door;
+use crate::ending::{Ending, print_end, print_refusal};
+use crate::fault::NodeFault;
+use crate::own::{Ended, Own};
+use crate::process::Process;
+use crate::start::Start;
+use crate::talk::{Talk, hold_talk};
+use crate::threads::{Crew, run_threads};
+use q_board::board::Board;
+use q_board::fault::OpenFault;
+use q_board::seats::{AskerSeat, RunnerSeat};
+use q_book::book::Book;
+use q_clusterfile::file::ClusterFile;
+use q_held::held::Held;
+use q_kept::kept::Kept;
+use q_ports::door::Door;
+use q_ports::post::Post;
+use q_recorder::fault::Unrecorded;
+use q_recorder::file::JournalFile;
+use q_recorder::recorder::Recorder;
+use q_wire::counted::Counted;
+use std::alloc::{AllocError, Global};
+use std::io::{BufRead, Eprint, Write};
+use std::marker::Brand;
+use std::sync::Wait;
+use std::thread;
+use std::thread::Threads;
+use std::time::Clock;
+
+/// Which node is run, and how.
+#[derive(Clone, Copy)]
+pub struct Setup<'f> {
+    /// The file of its cluster.
+    pub file: &'f ClusterFile,
+    /// Its id.
+    pub id: u64,
+    /// How many threads run jobs: 1 to 64.
+    pub runners: usize,
+    /// Whether the system is asked to keep each part of the journal before anything is sent.
+    pub keeps: bool,
+    /// The line that is printed once the node hears, without the feed at its end.
+    pub greeting: &'f str,
+}
+
+/// How the run of a node ended, and the recorder of its journal, with the file.
+#[derive(Drop)]
+pub struct NodeRun<J: JournalFile> {
+    /// How it ended.
+    pub ending: Ending,
+    /// The recorder.
+    pub recorder: Recorder<J>,
+}
+
+// ---- the threads and the conversation
+
+/// Runs the threads of a node while its console is minded, and ends them then.
+fn run_minded<D, R, P, J, S, C, W>(
+    process: &Process<'_, '_, R, P, J, S>,
+    alloc: Global,
+    greeting: &[u8],
+    door: &D,
+    crew: Crew<'_>,
+    console: &mut C,
+    out: &mut Counted<W>,
+) -> Talk
+where
+    D: Door + Sync,
+    D::Stream: Send + Drop,
+    R: Wait + Threads + Clock + Eprint + Sync,
+    P: Post + Sync,
+    J: JournalFile + Send,
+    S: Start + Send,
+    C: BufRead,
+    W: Write,
+    ensures said { Talks S.id greeting.now (W.contents out.old.inner) result (W.contents out.new.inner) }
+    ensures counted { out.new.failures ≡ talk_count result out.old.failures }
+{
+    let mut crew = Some(crew);
+    let (_, talk) = thread::join_mut(
+        process.rt,
+        &mut || {
+            if let Some(crew) = crew.take() {
+                run_threads(process, alloc, door, crew);
+            }
+        },
+        &mut || -> Talk
+            ensures said { Talks S.id greeting.entry.now (W.contents out.entry.now.inner) result (W.contents out.exit.now.inner) }
+            ensures counted { out.exit.now.failures ≡ talk_count result out.entry.now.failures }
+        {
+            let talk = hold_talk(process, alloc, greeting, console, out);
+            process.end();
+            shut_door(process, door);
+            talk
+        },
+    );
+    talk
+}
+
+/// The last line of a node whose threads were not started, or whose journal could not be begun.
+fn close_unstarted<W: Write>(events: Result<usize, Unrecorded>, out: &mut Counted<W>) -> Ending
+    ensures written { (node : ℕ) (greeting : List ℕ) → IsWritten node greeting result (W.contents out.old.inner) (W.contents out.new.inner) }
+    ensures journal { (node : ℕ) (first file : Option (List ℕ)) → IsKept node first file events → IsJournal node first file result }
+    ensures begun { (fault : Fault) → result ≡ Refused fault → ⊥ }
+    ensures counted { out.new.failures ≡ failures_after result out.old.failures }
+{
+    let fault = events.err().unwrap_or(Unrecorded::OutOfMemory);
+    print_end(Err(fault), out)
+}
+
+/// The last line of a run whose conversation ended so, and whose journal was written so.
+fn close<W: Write>(talk: Talk, events: Result<usize, Unrecorded>, out: &mut Counted<W>) -> Ending
+    ensures written { (node : ℕ) (greeting : List ℕ) (before : Option (List ℕ)) → Talks node greeting before talk (W.contents out.old.inner) → IsWritten node greeting result before (W.contents out.new.inner) }
+    ensures journal { (node : ℕ) (first file : Option (List ℕ)) → IsKept node first file events → IsJournal node first file result }
+    ensures begun { (fault : Fault) → result ≡ Refused fault → ⊥ }
+    ensures counted { (n : ℕ) → out.old.failures ≡ talk_count talk n → out.new.failures ≡ failures_after result n }
+{
+    match talk {
+        Talk::Ended => print_end(events, out),
+        Talk::Unstarted => close_unstarted(events, out),
+        Talk::Unwritten => Ending::Unwritten,
+    }
+}
+
+/// Tells on the standard error which datagrams changed nothing, and what was not sent.
+fn note_losses<R: Eprint, J: JournalFile>(rt: &R, ended: &Ended<J>, strangers: u64) {
+    let lost = ended.lost;
+    let _ = eprintln!(rt; "{lost}; {strangers} from strangers");
+    let unsent = ended.unsent;
+    if !unsent.is_none() {
+        let _ = eprintln!(rt; "{unsent}");
+    }
+}
+
+/// Writes the beginning of the journal, sends what waits, and runs the node. Where the journal is not written, nothing
+/// runs.
+fn begin_and_run<D, R, P, J, S, C, W>(
+    process: &Process<'_, '_, R, P, J, S>,
+    alloc: Global,
+    greeting: &[u8],
+    door: &D,
+    crew: Crew<'_>,
+    console: &mut C,
+    out: &mut Counted<W>,
+) -> Talk
+where
+    D: Door + Sync,
+    D::Stream: Send + Drop,
+    R: Wait + Threads + Clock + Eprint + Sync,
+    P: Post + Sync,
+    J: JournalFile + Send,
+    S: Start + Send,
+    C: BufRead,
+    W: Write,
+    ensures said { Talks S.id greeting.now (W.contents out.old.inner) result (W.contents out.new.inner) }
+    ensures counted { out.new.failures ≡ talk_count result out.old.failures }
+{
+    if !process.settle(alloc) {
+        return Talk::Unstarted;
+    }
+    run_minded(process, alloc, greeting, door, crew, console, out)
+}
+
+/// Runs a node that was just begun, to its end.
+fn run_begun<D, R, P, J, S, C, W>(
+    rt: &R,
+    alloc: Global,
+    greeting: &[u8],
+    nodes: &[u64],
+    kept: Kept<'_, J>,
+    crew: Crew<'_>,
+    post: &P,
+    door: &D,
+    console: &mut C,
+    out: &mut Counted<W>,
+) -> NodeRun<J>
+where
+    D: Door + Sync,
+    D::Stream: Send + Drop,
+    R: Wait + Threads + Clock + Eprint + Sync,
+    P: Post + Sync,
+    J: JournalFile + Send,
+    S: Start + Send,
+    C: BufRead,
+    W: Write,
+    requires { IsOwn S.id S.first kept.held.book kept.recorder }
+    ensures written { IsWritten S.id greeting.now result.ending (W.contents out.old.inner) (W.contents out.new.inner) }
+    ensures journal { IsJournal S.id S.first result.recorder.file result.ending }
+    ensures begun { (fault : Fault) → result.ending ≡ Refused fault → ⊥ }
+    ensures counted { out.new.failures ≡ failures_after result.ending out.old.failures }
+{
+    let process: Process<'_, '_, R, P, J, S> = Process::new(rt, post, nodes, Own::new(kept));
+    let talk = begin_and_run(&process, alloc, greeting, door, crew, console, out);
+    let strangers = process.strangers();
+    let ended = process.own.into_inner().end(alloc);
+    note_losses(rt, &ended, strangers);
+    NodeRun {
+        ending: close(talk, ended.events, out),
+        recorder: ended.recorder,
+    }
+}
+
+// ---- the beginning
+
+/// The book of a node that enters, with what it sends first.
+fn enter<'b>(
+    alloc: Global,
+    setup: &Setup<'_>,
+    board: &'b Board,
+    asker: AskerSeat,
+) -> Result<Held<'b>, NodeFault>
+    requires { asker.table ≡ board_id board.now }
+    ensures own { IfOk result (λ held. held.book.id ≡ setup.now.id) }
+    ensures fault { IfErr result (λ fault. fault ≡ NodeFault.OutOfMemory) }
+{
+    let Ok((book, outs)) = Book::entering(alloc, setup.file.config, setup.id) else {
+        return Err(NodeFault::OutOfMemory);
+    };
+    let mut held = Held::new(alloc, book, board, asker);
+    held.waiting.reserve(2)?;
+    outs.append_to(&mut held.waiting);
+    Ok(held)
+}
+
+/// The book of a founder.
+fn found<'b>(
+    alloc: Global,
+    setup: &Setup<'_>,
+    board: &'b Board,
+    asker: AskerSeat,
+) -> Result<Held<'b>, NodeFault>
+    requires { asker.table ≡ board_id board.now }
+    ensures own { IfOk result (λ held. held.book.id ≡ setup.now.id) }
+    ensures fault { IfErr result (IsUnbegun setup.now.file.now setup.now.id setup.now.runners) }
+{
+    let founders = setup.file.founders(alloc)?;
+    match Book::founder(alloc, setup.file.config, setup.id, founders.as_slice()) {
+        Ok(book) => Ok(Held::new(alloc, book, board, asker)),
+        Err(fault) => Err(NodeFault::Book(fault)),
+    }
+}
+
+/// The book of the node, with its seat at the board.
+fn begin<'b>(
+    alloc: Global,
+    setup: &Setup<'_>,
+    board: &'b Board,
+    mut askers: Vec<AskerSeat>,
+) -> Result<Held<'b>, NodeFault>
+    requires { All (λ s. s.table ≡ board_id board.now) askers.items }
+    ensures own { IfOk result (λ held. held.book.id ≡ setup.now.id) }
+    ensures fault { IfErr result (IsUnbegun setup.now.file.now setup.now.id setup.now.runners) }
+{
+    let Some(line) = setup.file.node(setup.id) else {
+        return Err(NodeFault::NoSuchNode);
+    };
+    // The board has one seat for one who asks.
+    let Some(asker) = askers.pop() else {
+        return Err(NodeFault::OutOfMemory);
+    };
+    if line.is_founder {
+        found(alloc, setup, board, asker)
+    } else {
+        enter(alloc, setup, board, asker)
+    }
+}
+
+/// The ids of the cluster's nodes.
+fn ids(alloc: Global, file: &ClusterFile) -> Result<Vec<u64>, AllocError> {
+    file.nodes.iter().map(|node| node.id).collect(alloc)
+}
+
+/// A node that does not begin.
+fn refuse<J: JournalFile, W: Write>(
+    fault: NodeFault,
+    recorder: Recorder<J>,
+    out: &mut Counted<W>,
+) -> NodeRun<J>
+    ensures written { (node : ℕ) (greeting : List ℕ) → IsWritten node greeting result.ending (W.contents out.old.inner) (W.contents out.new.inner) }
+    ensures journal { (node : ℕ) → IsJournal node recorder.file result.recorder.file result.ending }
+    ensures fault { (f : Fault) → result.ending ≡ Refused f → f ≡ fault }
+    ensures counted { out.new.failures ≡ failures_after result.ending out.old.failures }
+{
+    NodeRun {
+        ending: print_refusal(fault, out),
+        recorder,
+    }
+}
+
+/// Begins a node whose board this is, and runs it to its end.
+fn run_at<D, R, P, J, C, W>(
+    rt: &R,
+    alloc: Global,
+    setup: &Setup<'_>,
+    board: &Board,
+    askers: Vec<AskerSeat>,
+    seats: Vec<RunnerSeat>,
+    recorder: Recorder<J>,
+    post: &P,
+    door: &D,
+    console: &mut C,
+    out: &mut Counted<W>,
+) -> NodeRun<J>
+where
+    D: Door + Sync,
+    D::Stream: Send + Drop,
+    R: Wait + Threads + Clock + Eprint + Sync,
+    P: Post + Sync,
+    J: JournalFile + Send,
+    C: BufRead,
+    W: Write,
+    requires asking { All (λ s. s.table ≡ board_id board.now) askers.items }
+    requires running { All (λ s. s.table ≡ board_id board.now) seats.items }
+    requires fresh { (b : BookState) → IsRecorded recorder.file b recorder }
+    ensures written { IsWritten setup.now.id setup.now.greeting.now result.ending (W.contents out.old.inner) (W.contents out.new.inner) }
+    ensures journal { IsJournal setup.now.id recorder.file result.recorder.file result.ending }
+    ensures unbegun { (fault : Fault) → result.ending ≡ Refused fault → IsUnbegun setup.now.file.now setup.now.id setup.now.runners fault }
+    ensures counted { out.new.failures ≡ failures_after result.ending out.old.failures }
+{
+    let Ok(nodes) = ids(alloc, setup.file) else {
+        return refuse(NodeFault::OutOfMemory, recorder, out);
+    };
+    let held = match begin(alloc, setup, board, askers) {
+        Ok(held) => held,
+        Err(fault) => return refuse(fault, recorder, out),
+    };
+    run_begun::<D, R, P, J, Brand, C, W>(
+        rt,
+        alloc,
+        setup.greeting.as_bytes(),
+        nodes.as_slice(),
+        Kept::new(alloc, held, recorder),
+        Crew { board, seats },
+        post,
+        door,
+        console,
+        out,
+    )
+}
+
+/// Why there is no board for so many runners.
+fn unseated(fault: OpenFault, runners: usize) -> NodeFault
+    requires { fault ≡ OpenFault.BadCount → ¬ ((1 ≤ runners) × (runners ≤ 64)) }
+    ensures { (file : File) (id : ℕ) → IsUnbegun file id runners result }
+{
+    match fault {
+        OpenFault::BadCount => NodeFault::BadCount,
+        OpenFault::OutOfMemory => NodeFault::OutOfMemory,
+    }
+}
+
+/// Runs a node until its console, or the console's input, ends it, and gives what its journal's file holds then.
+///
+/// Its first line comes once all threads run: one that hears, one that asks again, one at the door with one for each
+/// client, and the runners. The lines of the console are `status`, `leave` and `end`. The last line tells how many events
+/// the journal has, or why it is not whole. What else an operator has to know goes to the standard error: that nine
+/// tenths of a limit are used, that the journal cannot be written, and at the end which datagrams changed nothing and
+/// what was not sent.
+///
+/// It does not begin where there are not 1 to 64 runners (62), the file lacks the node (81), its founders are refused
+/// (49), or memory runs out (99): these come in this order, and then nothing is written to the journal's file.
+pub fn run_node<D, R, P, J, C, W>(
+    rt: &R,
+    alloc: Global,
+    setup: &Setup<'_>,
+    post: &P,
+    door: &D,
+    file: J,
+    console: &mut C,
+    out: &mut Counted<W>,
+) -> NodeRun<J>
+where
+    D: Door + Sync,
+    D::Stream: Send + Drop,
+    R: Wait + Threads + Clock + Eprint + Sync,
+    P: Post + Sync,
+    J: JournalFile + Send,
+    C: BufRead,
+    W: Write,
+    // What is printed, by how it ends.
+    ensures written { IsWritten setup.now.id setup.now.greeting.now result.ending (W.contents out.old.inner) (W.contents out.new.inner) }
+
+    // What stands in the file: the whole journal of a book of this node where it was ended, and else a beginning of it.
+    ensures journal { IsJournal setup.now.id (J.contents file) result.recorder.file result.ending }
+
+    // Why it does not begin.
+    ensures unbegun { (fault : Fault) → result.ending ≡ Refused fault → IsUnbegun setup.now.file.now setup.now.id setup.now.runners fault }
+    ensures counted { out.new.failures ≡ failures_after result.ending out.old.failures }
+{
+    let recorder = Recorder::new(file, setup.keeps);
+    match Board::open(alloc, 1, setup.runners) {
+        Ok((board, askers, seats)) => run_at(
+            rt, alloc, setup, &board, askers, seats, recorder, post, door, console, out,
+        ),
+        Err(fault) => refuse(unseated(fault, setup.runners), recorder, out),
+    }
+}
