@@ -1,0 +1,207 @@
+//! The clients of a case: scripts, and connections whose bytes stand in the steps.
+
+use crate::console::{MAILBOXES, end_at};
+use crate::masks::spelled;
+use crate::plan::first;
+use crate::stage::{LOOKS, NAP, Stage, place_of};
+use q_asker::command::run_text;
+use q_wire::counted::Counted;
+use q_wire::memory::Hub;
+use q_wire::transport::Transport;
+use std::alloc::{AllocError, Global};
+use std::fs::Files;
+use std::io::{Eprint, ErrorKind, Read, Write};
+use std::net::{Net, Shutdown, TcpListener, TcpStream};
+use std::sync::Wait;
+use std::thread::{Scope, Threads};
+use std::time::{Clock, Duration};
+use std::{io, str, thread};
+
+/// For how many seconds a connection waits for bytes.
+const PATIENCE: u64 = 30;
+
+/// The most bytes that a client prints.
+const MOST: usize = 4096;
+
+/// What a client prints that is done when its connection fails.
+const LOST: &[u8] = b"refused 86 TransportFailed\n";
+
+/// What the run of a script at a place prints.
+fn ask<R: Net + Clock>(rt: &R, alloc: Global, place: &str, script: &str) -> Vec<u8> {
+    let mut out = Counted::new(Vec::new(alloc));
+    let mut notes = Vec::new(alloc);
+    run_text(rt, alloc, place, script, &mut out, &mut notes);
+    out.inner
+}
+
+/// Writes each line that a client printed.
+fn tell_client<W: Write>(id: u64, printed: &[u8], out: &mut W) -> io::Result<()> {
+    for line in str::from_utf8(printed).unwrap_or("no text").lines() {
+        writeln!(out, "at {id}: {line}")?;
+    }
+    Ok(())
+}
+
+/// The bytes that a text spells: hexadecimal digits, so many times where `COUNT*` stands before them.
+pub fn bytes_of(alloc: Global, text: &str) -> io::Result<Vec<u8>> {
+    let (count, digits) = match text.split_once('*') {
+        Some((count, digits)) => (first(count).0, digits),
+        None => (1, text),
+    };
+    let Ok(piece) = hex::decode(alloc, digits) else {
+        return Err(io::Error::from(ErrorKind::InvalidInput));
+    };
+    let mut bytes = Vec::new(alloc);
+    for _ in 0..count {
+        bytes.extend_from_slice(piece.as_slice())?;
+    }
+    Ok(bytes)
+}
+
+/// Reads so many bytes, fewer where the connection ends before. Whether it ended.
+fn read_some<S: Read>(stream: &mut S, count: u64, into: &mut Vec<u8>) -> Result<bool, AllocError> {
+    for _ in 0..count {
+        let mut byte = [0u8; 1];
+        match stream.read(&mut byte) {
+            Ok(1) => into.push(byte[0])?,
+            _ => return Ok(true),
+        }
+    }
+    Ok(false)
+}
+
+/// The mailbox of the client at this place.
+fn mailbox(nodes: usize, place: usize) -> u64 {
+    let nodes = (nodes as u64).wrapping_mul(MAILBOXES);
+    nodes.wrapping_add(place as u64).wrapping_add(1)
+}
+
+/// What came at the mailbox of a client.
+fn heard<R: Wait>(rt: &R, hub: &Hub, from: u64, into: &mut [u8]) -> usize {
+    let mut end = end_at(rt, hub, from);
+    for _ in 0..LOOKS {
+        if let Ok(Some(len)) = end.receive(into) {
+            return len;
+        }
+    }
+    0
+}
+
+impl<'s, R> Stage<'s, R>
+where
+    R: Net<Listener = TcpListener, Stream = TcpStream>
+        + Files
+        + Wait
+        + Threads
+        + Clock
+        + Eprint
+        + Sync,
+{
+    /// Where the clients of a node connect.
+    pub fn place(&self, id: u64) -> &str {
+        match self.places.get(place_of(id)) {
+            Some(place) => place.as_str(),
+            None => "",
+        }
+    }
+
+    /// Starts a client in a thread of its own, and puts what it prints into a mailbox.
+    fn start_client<E>(&self, scope: &Scope<'s, E>, to: u64, words: &str) -> io::Result<()> {
+        let (rt, alloc, common) = (self.rt, self.alloc, self.common);
+        let (id, script) = first(words);
+        let place = String::from_str(alloc, self.place(id))?;
+        let script = spelled(alloc, script, "")?;
+        scope.spawn(move || {
+            let printed = ask(rt, alloc, place.as_str(), script.as_str());
+            let _ = end_at(rt, &common.hub, to).send(to, printed.as_slice());
+        })?;
+        Ok(())
+    }
+
+    /// Runs clients at once, and writes in turn what they print.
+    pub fn run_clients<E, W: Write>(
+        &self,
+        scope: &Scope<'s, E>,
+        rest: &str,
+        out: &mut W,
+    ) -> io::Result<()> {
+        let nodes = self.places.len();
+        for (place, words) in rest.split('|').enumerate() {
+            self.start_client(scope, mailbox(nodes, place), words)?;
+        }
+        let mut buffer = vec![in self.alloc; 0u8; MOST]?;
+        for (place, words) in rest.split('|').enumerate() {
+            let from = mailbox(nodes, place);
+            let len = heard(self.rt, &self.common.hub, from, &mut buffer);
+            tell_client(first(words).0, buffer.get(..len).unwrap_or(&[]), out)?;
+        }
+        Ok(())
+    }
+
+    /// Runs a client again and again until it loses its connection, or until it does not, and writes what it prints then.
+    fn insist<W: Write>(&self, words: &str, is_lost: bool, out: &mut W) -> io::Result<()> {
+        let (id, script) = first(words);
+        let script = spelled(self.alloc, script, "")?;
+        for _ in 0..LOOKS {
+            let printed = ask(self.rt, self.alloc, self.place(id), script.as_str());
+            if printed.ends_with(LOST) == is_lost {
+                let last = if is_lost { LOST } else { printed.as_slice() };
+                return tell_client(id, last, out);
+            }
+            thread::sleep(self.rt, Duration::from_millis(NAP));
+        }
+        writeln!(out, "at {id}: no end")
+    }
+
+    /// Opens so many connections with a node, and writes these bytes over each.
+    fn connect(&mut self, words: &str) -> io::Result<()> {
+        let (id, rest) = first(words);
+        let (count, bytes) = first(rest);
+        let bytes = bytes_of(self.alloc, bytes)?;
+        for _ in 0..count {
+            let mut stream = TcpStream::connect(self.rt, self.place(id))?;
+            stream.set_read_timeout(Some(Duration::from_secs(PATIENCE)))?;
+            stream.write_all(bytes.as_slice())?;
+            self.streams.push(stream)?;
+        }
+        Ok(())
+    }
+
+    /// Does a step over the connection with this number.
+    fn step_over<W: Write>(&mut self, word: &str, words: &str, out: &mut W) -> io::Result<()> {
+        let (number, rest) = first(words);
+        let alloc = self.alloc;
+        let Some(stream) = self.streams.get_mut(place_of(number)) else {
+            return writeln!(out, "no connection {number}");
+        };
+        match word {
+            "write" => stream.write_all(bytes_of(alloc, rest)?.as_slice()),
+            "shut" => stream.shutdown(Shutdown::Write),
+            _ => {
+                let mut bytes = Vec::new(alloc);
+                let is_ended = read_some(stream, first(rest).0, &mut bytes)?;
+                let digits = hex::encode(alloc, bytes.as_slice())?;
+                let end = if is_ended { "the end" } else { "open" };
+                writeln!(out, "connection {number}: [{digits}] {end}")
+            }
+        }
+    }
+
+    /// Does a step of a client. Whether it is one.
+    pub fn step_of_client<W: Write>(
+        &mut self,
+        word: &str,
+        rest: &str,
+        out: &mut W,
+    ) -> io::Result<bool> {
+        match word {
+            "drown" => self.insist(rest, true, out)?,
+            "insist" => self.insist(rest, false, out)?,
+            "connect" => self.connect(rest)?,
+            "write" | "shut" | "read" => self.step_over(word, rest, out)?,
+            "disperse" => self.streams.clear(),
+            _ => return Ok(false),
+        }
+        Ok(true)
+    }
+}

@@ -1,0 +1,181 @@
+//! The sockets, doors and mailboxes of a case.
+
+use crate::console::MAILBOXES;
+use crate::disturbed::Disturbed;
+use crate::plan::{Part, Plan};
+use crate::role::Role;
+use q_clusterfile::file::{ClusterFile, read_cluster};
+use q_ports::door::ClientDoor;
+use q_ports::place::Place;
+use q_ports::udp::UdpPost;
+use q_recorder::memory::MemoryFile;
+use q_wire::counted::Counted;
+use q_wire::memory::Hub;
+use std::alloc::{AllocError, Global};
+use std::fs::Files;
+use std::io;
+use std::io::ErrorKind;
+use std::net::{IpAddr, Ipv4Addr, Net, SocketAddr, TcpListener, TcpStream};
+use std::sync::atomic::AtomicU64;
+use std::time::Duration;
+
+/// For how many milliseconds a socket waits for a datagram.
+const PATIENCE: u64 = 50;
+
+/// The number of each case's run.
+pub const NUMBER: u64 = 7;
+
+/// How many clients run at once at most.
+pub const CLIENTS: u64 = 8;
+
+/// What the nodes of a case share.
+#[derive(Drop)]
+pub struct Common {
+    /// The file of their cluster.
+    pub file: ClusterFile,
+    /// Their mailboxes, and behind these one for each client.
+    pub hub: Hub,
+    /// How many datagrams of strangers each of them was sent.
+    pub strangers: Vec<AtomicU64>,
+}
+
+/// A socket that knows no node yet.
+fn bind<R: Net>(rt: &R, alloc: Global) -> io::Result<UdpPost> {
+    let at = SocketAddr::new(IpAddr::V4(Ipv4Addr::new(127, 0, 0, 1)), 0);
+    UdpPost::bind(rt, alloc, at, NUMBER, Duration::from_millis(PATIENCE))
+}
+
+/// So many sockets.
+fn bind_all<R: Net>(rt: &R, alloc: Global, count: usize) -> io::Result<Vec<UdpPost>> {
+    let mut posts = Vec::new(alloc);
+    for _ in 0..count {
+        posts.push(bind(rt, alloc)?)?;
+    }
+    Ok(posts)
+}
+
+/// The file of the cluster whose nodes have these sockets.
+fn file_of(alloc: Global, plan: &Plan<'_>, posts: &[UdpPost]) -> io::Result<ClusterFile> {
+    let heading = plan.heading;
+    let mut text = format!(in alloc; "cluster {heading}\n")?;
+    for (before, post) in posts.iter().enumerate() {
+        let before = before as u64;
+        let word = if before < plan.founders {
+            "founder"
+        } else {
+            "node"
+        };
+        let id = before.saturating_add(1);
+        let address = post.address()?;
+        writeln!(text, "{word} {id} {address}")?;
+    }
+    match read_cluster(alloc, text.as_str()) {
+        Ok(file) => Ok(file),
+        Err(_) => Err(io::Error::from(ErrorKind::InvalidInput)),
+    }
+}
+
+/// So many counters.
+fn counters(alloc: Global, count: usize) -> Result<Vec<AtomicU64>, AllocError> {
+    let mut counters = Vec::new(alloc);
+    for _ in 0..count {
+        counters.push(AtomicU64::new(0))?;
+    }
+    Ok(counters)
+}
+
+/// The sockets of the nodes of a plan, and behind them one of a stranger, which all know all nodes; and what they share.
+pub fn open<R: Net>(
+    rt: &R,
+    alloc: Global,
+    plan: &Plan<'_>,
+) -> io::Result<(Common, Vec<UdpPost>, UdpPost)> {
+    let count = plan.parts.len();
+    let mut posts = bind_all(rt, alloc, count)?;
+    let mut stranger = bind(rt, alloc)?;
+    let file = file_of(alloc, plan, posts.as_slice())?;
+    for post in &mut posts {
+        post.meet(&file.nodes)?;
+    }
+    stranger.meet(&file.nodes)?;
+    let mailboxes = (count as u64)
+        .saturating_mul(MAILBOXES)
+        .saturating_add(CLIENTS);
+    let common = Common {
+        file,
+        hub: Hub::open(alloc, mailboxes)?,
+        strangers: counters(alloc, count)?,
+    };
+    Ok((common, posts, stranger))
+}
+
+/// Where the clients of a node connect: a free port, where its plan leaves that open.
+fn place_of<R: Net<Listener = TcpListener, Stream = TcpStream> + Files>(
+    rt: &R,
+    alloc: Global,
+    door: &str,
+) -> io::Result<String> {
+    if !door.ends_with(":0") {
+        return Ok(String::from_str(alloc, door)?);
+    }
+    let tried = ClientDoor::open(rt, Place::of(door))?;
+    let address = tried.address()?;
+    tried.close();
+    Ok(format!(in alloc; "{address}")?)
+}
+
+/// What the node with this id is run with.
+fn role<'a, R: Net<Listener = TcpListener, Stream = TcpStream> + Files>(
+    rt: &R,
+    alloc: Global,
+    id: u64,
+    part: &Part<'a>,
+    inner: UdpPost,
+    strangers: &'a AtomicU64,
+) -> io::Result<Role<'a>> {
+    let mut journal = Counted::new(MemoryFile::new(alloc, part.room));
+    journal.fail_at(part.call);
+    Ok(Role {
+        id,
+        post: Disturbed {
+            inner,
+            letters: part.letters,
+            sent: AtomicU64::new(0),
+            strangers,
+        },
+        place: place_of(rt, alloc, part.door)?,
+        journal,
+        runners: part.runners,
+        write: part.write,
+    })
+}
+
+/// What each node of a plan is run with.
+pub fn roles<'a, R: Net<Listener = TcpListener, Stream = TcpStream> + Files>(
+    rt: &R,
+    alloc: Global,
+    plan: &Plan<'a>,
+    posts: Vec<UdpPost>,
+    strangers: &'a [AtomicU64],
+) -> io::Result<Vec<Option<Role<'a>>>> {
+    let mut roles = Vec::new(alloc);
+    let parts = plan.parts.iter().zip(strangers).zip(posts);
+    for (before, ((part, strangers), post)) in parts.enumerate() {
+        let id = (before as u64).saturating_add(1);
+        roles.push(Some(role(rt, alloc, id, part, post, strangers)?))?;
+    }
+    Ok(roles)
+}
+
+/// Where the clients of each node connect.
+pub fn places(alloc: Global, roles: &[Option<Role<'_>>]) -> io::Result<Vec<String>> {
+    let mut places = Vec::new(alloc);
+    for role in roles {
+        let place = match role {
+            Some(role) => role.place.clone()?,
+            None => String::new(alloc),
+        };
+        places.push(place)?;
+    }
+    Ok(places)
+}
