@@ -2,20 +2,17 @@
 
 use crate::console::{Console, Mailbox, Paper, end_at, number_of};
 use crate::disturbed::Disturbed;
+use crate::door::PolledDoor;
 use crate::sockets::Common;
 use q_clusterfile::file::ClusterFile;
 use q_node::run::{Setup, run_node};
-use q_ports::door::ClientDoor;
-use q_ports::place::Place;
 use q_recorder::memory::MemoryFile;
 use q_wire::counted::Counted;
 use q_wire::memory::Hub;
 use q_wire::transport::Transport;
 use std::alloc::Global;
-use std::fs::Files;
 use std::io;
 use std::io::{BufReader, Eprint, Write};
-use std::net::{Net, TcpListener, TcpStream};
 use std::sync::Wait;
 use std::thread::{Scope, Threads};
 use std::time::Clock;
@@ -25,6 +22,7 @@ use std::time::Clock;
 pub struct Role<'a> {
     pub id: u64,
     pub post: Disturbed<'a>,
+    pub door: PolledDoor,
     /// Where its clients come in.
     pub place: String,
     pub journal: Counted<MemoryFile>,
@@ -52,23 +50,17 @@ fn hand_over<R: Wait>(rt: &R, hub: &Hub, id: u64, journal: &[u8], status: u8) ->
 /// Runs a node to its end.
 fn act<R>(rt: &R, alloc: Global, file: &ClusterFile, hub: &Hub, role: Role<'_>) -> io::Result<()>
 where
-    R: Net<Listener = TcpListener, Stream = TcpStream>
-        + Files
-        + Wait
-        + Threads
-        + Clock
-        + Eprint
-        + Sync,
+    R: Wait + Threads + Clock + Eprint + Sync,
 {
     let Role {
         id,
         post,
-        place,
+        door,
         journal,
         runners,
         write,
+        ..
     } = role;
-    let door = ClientDoor::open(rt, Place::of(place.as_str()))?;
     let greeting = format!(in alloc; "node {id} hears")?;
     let setup = Setup {
         file,
@@ -91,7 +83,6 @@ where
         &mut console,
         &mut out,
     );
-    door.close();
     let journal = run.recorder.file().inner.bytes.as_slice();
     hand_over(rt, hub, id, journal, run.ending.status())
 }
@@ -105,13 +96,7 @@ pub fn start<'s, E, R>(
     role: Role<'s>,
 ) -> io::Result<()>
 where
-    R: Net<Listener = TcpListener, Stream = TcpStream>
-        + Files
-        + Wait
-        + Threads
-        + Clock
-        + Eprint
-        + Sync,
+    R: Wait + Threads + Clock + Eprint + Sync,
 {
     scope.spawn(move || {
         let _ = act(rt, alloc, &common.file, &common.hub, role);

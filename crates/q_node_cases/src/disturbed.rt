@@ -14,7 +14,7 @@ use std::sync::atomic::Ordering::SeqCst;
 #[derive(Drop)]
 pub struct Disturbed<'a> {
     pub inner: UdpPost,
-    pub letters: &'a [u8],
+    pub letters: Vec<u8>,
     /// How many datagrams were sent.
     pub sent: AtomicU64,
     /// How many datagrams came from strangers.

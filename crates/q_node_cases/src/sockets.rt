@@ -2,10 +2,10 @@
 
 use crate::console::MAILBOXES;
 use crate::disturbed::Disturbed;
+use crate::door::PolledDoor;
 use crate::plan::{Part, Plan};
 use crate::role::Role;
 use q_clusterfile::file::{ClusterFile, read_cluster};
-use q_ports::door::ClientDoor;
 use q_ports::place::Place;
 use q_ports::udp::UdpPost;
 use q_recorder::memory::MemoryFile;
@@ -109,41 +109,32 @@ pub fn open<R: Net>(
     Ok((common, posts, stranger))
 }
 
-/// Where the clients of a node connect: a free port, where its plan leaves that open.
-fn place_of<R: Net<Listener = TcpListener, Stream = TcpStream> + Files>(
-    rt: &R,
-    alloc: Global,
-    door: &str,
-) -> io::Result<String> {
-    if !door.ends_with(":0") {
-        return Ok(String::from_str(alloc, door)?);
-    }
-    let tried = ClientDoor::open(rt, Place::of(door))?;
-    let address = tried.address()?;
-    tried.close();
-    Ok(format!(in alloc; "{address}")?)
-}
-
 /// What the node with this id is run with.
 fn role<'a, R: Net<Listener = TcpListener, Stream = TcpStream> + Files>(
     rt: &R,
     alloc: Global,
     id: u64,
-    part: &Part<'a>,
+    part: &Part<'_>,
     inner: UdpPost,
     strangers: &'a AtomicU64,
 ) -> io::Result<Role<'a>> {
     let mut journal = Counted::new(MemoryFile::new(alloc, part.room));
     journal.fail_at(part.call);
+    let door = PolledDoor::open(rt, Place::of(part.door))?;
+    let place = match door.address() {
+        Some(address) => format!(in alloc; "{address}")?,
+        None => String::from_str(alloc, part.door)?,
+    };
     Ok(Role {
         id,
         post: Disturbed {
             inner,
-            letters: part.letters,
+            letters: Vec::from_slice(alloc, part.letters)?,
             sent: AtomicU64::new(0),
             strangers,
         },
-        place: place_of(rt, alloc, part.door)?,
+        door,
+        place,
         journal,
         runners: part.runners,
         write: part.write,
@@ -154,7 +145,7 @@ fn role<'a, R: Net<Listener = TcpListener, Stream = TcpStream> + Files>(
 pub fn roles<'a, R: Net<Listener = TcpListener, Stream = TcpStream> + Files>(
     rt: &R,
     alloc: Global,
-    plan: &Plan<'a>,
+    plan: &Plan<'_>,
     posts: Vec<UdpPost>,
     strangers: &'a [AtomicU64],
 ) -> io::Result<Vec<Option<Role<'a>>>> {

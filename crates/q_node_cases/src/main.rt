@@ -44,6 +44,7 @@
 mod clients;
 mod console;
 mod disturbed;
+mod door;
 mod files;
 mod masks;
 mod plan;
@@ -68,7 +69,7 @@ use std::{io, thread};
 fn play<'a, R, W>(
     rt: &'a R,
     alloc: Global,
-    plan: &Plan<'a>,
+    plan: &Plan<'_>,
     steps: &[String],
     out: &mut W,
 ) -> io::Result<()>

@@ -14,7 +14,7 @@ use std::net::{Net, TcpListener, TcpStream};
 use std::sync::Wait;
 use std::thread::{Scope, Threads};
 use std::time::{Clock, Duration};
-use std::{io, thread};
+use std::{fs, io, thread};
 
 /// How often something is looked for.
 pub const LOOKS: u32 = 400;
@@ -166,6 +166,15 @@ where
         Ok(())
     }
 
+    /// Removes the files of doors at Unix sockets.
+    fn remove_doors(&self) {
+        for place in &self.places {
+            if place.contains('/') {
+                let _ = fs::remove_file(self.rt, place.as_str());
+            }
+        }
+    }
+
     /// Does these steps, and then ends the consoles of all nodes.
     pub fn play<E, W: Write>(
         mut self,
@@ -177,6 +186,7 @@ where
         for before in 0..self.places.len() {
             self.give((before as u64).saturating_add(1), &[]);
         }
+        self.remove_doors();
         done
     }
 }
