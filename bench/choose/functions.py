@@ -40,11 +40,14 @@ def contract(word, clauses):
 
 
 def function(code, first, requires, ensures, body):
-    """A function of these parts, where `first` are the parameters before those that the code holds."""
+    """A function of these parts, where `first` are the parameters before those that the code holds.
+
+    It has no mark to be built in always: with such marks `advance` would lose its own (docs/LOOP.md).
+    """
     name = RENAMED.get(code.snake_name, code.snake_name)
     variables = VARIABLES[:len(code.forms)]
     held = [f"{variable}: &{of}" for variable, of in zip(variables, code.held)]
-    text = f"#[inline(always)]\npub(crate) fn {name}({', '.join(first + held)}) -> Next\n"
+    text = f"pub(crate) fn {name}({', '.join(first + held)}) -> Next\n"
     text += contract("requires", requires) + contract("ensures", ensures)
     text += "{\n" + "".join(f"    {line}\n" for line in body) + "}\n\n"
     words = ", ".join([parameter.split(":")[0] for parameter in first] + list(variables))

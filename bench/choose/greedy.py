@@ -37,10 +37,8 @@ ROOM = {
     END: 3,
 }
 
-# The one match of all codes is built into the loop only while LLVM holds it to be cheap enough: some 15,000 by its count
-# for a function that is called once. With all codes that the answers have room for it was too dear, by a seventh, and the
-# loop took twice as long. So at last the codes that gain least are left again: so many of two steps, and so many of the
-# others stay. One of three stays with that of its first two.
+# At last the codes that gain least are left again, since they gain nothing that can be measured, and each has to be
+# proved: so many of two steps, and so many of the others stay. One of three stays with that of its first two.
 LEFT_OF_TWO = 8
 STAY_OF_THREE = 21
 STAY_OF_CHOICE = 13

@@ -29,13 +29,12 @@ IN_BODIES = {
         "branched branched_behind limit_holds number_holds number_test register_holds register_test",
     "crate::operations":
         "by_number by_register cell_onto moved moved_from number_onto operated register_onto set",
-    "bq_code::code":
+    "bq_code":
         "ByNumber ByRegister Dst Limit LoadTo NumberBranch NumberTest Place RegisterBranch RegisterTest Src StoreFrom "
         "Whole",
-    "bq_frame::block": "Block",
-    "bq_insn::insn": "Size",
-    "bq_steps::cells": "Cells answer_behind",
-    "bq_steps::next": "Next",
+    "bq_frame": "Block",
+    "bq_insn": "Size",
+    "bq_steps": "Cells Next answer_behind",
 }
 
 # What both may name.

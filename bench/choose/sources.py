@@ -97,7 +97,7 @@ def advance_with(root, made):
     source.replace(start, source.find("    }", start), ["        " + function.arm for function in made])
     old = r"^use crate::(?:" + "|".join(heads.TITLES) + r")::[^;]*;\n"
     source.lines = re.sub(old, "", "\n".join(source.lines), flags=re.MULTILINE).splitlines()
-    at = source.find_once("use bq_code::code::Code;")
+    at = source.find_once("use bq_code::Code;")
     imports = [f"use crate::{file}::{{{', '.join(sorted(names_of(file, made)))}}};"
                for file in heads.TITLES if names_of(file, made)]
     source.replace(at, at, imports)

@@ -5,10 +5,8 @@
 
 use crate::Size;
 use anyhow::{Result, anyhow};
-use bq_asm::assemble::assemble;
-use bq_asm::disassemble::disassemble;
-use bq_asm::fault::AsmFault;
-use bq_insn::text::Text;
+use bq_asm::{AsmFault, assemble, disassemble};
+use bq_insn::Text;
 use std::alloc::{AllocError, Global};
 use std::time::{Clock, Duration, Instant};
 

@@ -5,13 +5,9 @@
 
 use crate::Size;
 use anyhow::{Result, anyhow};
-use bq_check::check::check;
-use bq_check::fault::CheckFault;
-use bq_check::notes::Notes;
-use bq_insn::decode::decode;
-use bq_insn::fault::DecodeFault;
-use bq_insn::text::Text;
-use bq_verify::verify::verify;
+use bq_check::{CheckFault, Notes, check};
+use bq_insn::{DecodeFault, Text, decode};
+use bq_verify::verify;
 use std::alloc::{AllocError, Global};
 use std::time::{Clock, Duration, Instant};
 

@@ -1,10 +1,8 @@
 //! A world under load.
 
-use sc_members::config::Config;
-use sc_view::value::{VALUE_LENGTH, Value};
-use sc_world::event::Event;
-use sc_world::fault::WorldFault;
-use sc_world::world::World;
+use sc_members::Config;
+use sc_view::{VALUE_LENGTH, Value};
+use sc_world::{World, WorldEvent, WorldFault};
 use std::alloc::Global;
 use std::mem;
 
@@ -36,7 +34,7 @@ fn value(number: u64) -> Value {
 }
 
 /// An event. Gives the number of the first message that it sent.
-fn step(world: &mut World, event: Event) -> Result<Option<usize>, WorldFault> {
+fn step(world: &mut World, event: WorldEvent) -> Result<Option<usize>, WorldFault> {
     let sent = world.step(event)?.sent;
     match sent.count {
         0 => Ok(None),
@@ -46,7 +44,7 @@ fn step(world: &mut World, event: Event) -> Result<Option<usize>, WorldFault> {
 
 /// A message reaches a node. Gives the number of the first message that the node sends then.
 fn deliver(world: &mut World, message: usize, node: u64) -> Result<Option<usize>, WorldFault> {
-    step(world, Event::Deliver { message, node })
+    step(world, WorldEvent::Deliver { message, node })
 }
 
 impl Cluster {
@@ -64,11 +62,11 @@ impl Cluster {
     /// Of so many founders all but 32 store and leave, and then the others store.
     pub(crate) fn begin(&mut self, ids: u64) -> Result<(), WorldFault> {
         for node in 0..first_staying(ids) {
-            self.tell(Event::Store {
+            self.tell(WorldEvent::Store {
                 node,
                 value: value(node),
             })?;
-            self.tell(Event::Leave(node))?;
+            self.tell(WorldEvent::Leave(node))?;
         }
         for node in first_staying(ids)..ids {
             self.store(node)?;
@@ -102,7 +100,7 @@ impl Cluster {
 
     /// A node stores, until the store ends.
     fn store(&mut self, node: u64) -> Result<(), WorldFault> {
-        let event = Event::Store {
+        let event = WorldEvent::Store {
             node,
             value: value(node),
         };
@@ -114,7 +112,7 @@ impl Cluster {
 
     /// A node collects, until the collect ends.
     fn collect(&mut self, node: u64) -> Result<(), WorldFault> {
-        let Some(query) = step(&mut self.world, Event::Collect(node))? else {
+        let Some(query) = step(&mut self.world, WorldEvent::Collect(node))? else {
             return Ok(());
         };
         if let Some(store) = self.ask(node, query)? {
@@ -132,12 +130,12 @@ impl Cluster {
             return Ok(());
         };
         let left = mem::replace(newest, node);
-        self.tell(Event::Leave(left))
+        self.tell(WorldEvent::Leave(left))
     }
 
     /// A node enters and joins.
     fn enter(&mut self, node: u64) -> Result<(), WorldFault> {
-        if let Some(enter) = step(&mut self.world, Event::Enter(node))? {
+        if let Some(enter) = step(&mut self.world, WorldEvent::Enter(node))? {
             if let Some(join) = self.ask(node, enter)? {
                 self.spread(join)?;
             }
@@ -146,7 +144,7 @@ impl Cluster {
     }
 
     /// An event, of which all nodes are told.
-    fn tell(&mut self, event: Event) -> Result<(), WorldFault> {
+    fn tell(&mut self, event: WorldEvent) -> Result<(), WorldFault> {
         match step(&mut self.world, event)? {
             Some(message) => self.spread(message),
             None => Ok(()),
@@ -187,7 +185,7 @@ impl Cluster {
     pub(crate) fn deliveries(&self) -> usize {
         let events = self.world.events().iter();
         events
-            .filter(|event| matches!(event, Event::Deliver { .. }))
+            .filter(|event| matches!(event, WorldEvent::Deliver { .. }))
             .count()
     }
 

@@ -3,11 +3,10 @@
 use crate::Size;
 use crate::values::{USUAL, each, learn, view_of};
 use anyhow::{Result, anyhow};
-use sc_members::config::Config;
-use sc_msg::message::{Body, Message};
-use sc_node::fault::NodeFault;
-use sc_node::node::Node;
-use sc_view::view::View;
+use sc_members::Config;
+use sc_msg::{Body, Message};
+use sc_node::{Node, NodeFault};
+use sc_view::View;
 use std::alloc::Global;
 use std::time::{Clock, Duration, Instant};
 

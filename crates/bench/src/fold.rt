@@ -16,19 +16,15 @@ ghost use Rattle.q_session.specs.Records.{HasRecordsWithin};
 
 use crate::{asm, check, values};
 use anyhow::{Context, Result, bail};
-use bq_asm::assemble::assemble;
-use bq_check::certified::Certified;
-use bq_check::check::check_within;
-use bq_frame::block::Block;
-use bq_state::bounds::Bounds;
-use bq_verify::verify::verify_within;
-use q_session::fold::fold_checked;
+use bq_asm::assemble;
+use bq_check::{Certified, check_within};
+use bq_frame::Block;
+use bq_state::Bounds;
+use bq_verify::verify_within;
 use q_session::laws::records_of_values;
-use q_session::ran::Ran;
-use q_session::run::run_fold;
-use q_table::program::Program;
-use sc_view::value::{VALUE_LENGTH, Value};
-use sc_view::view::{Stored, View};
+use q_session::{Ran, fold_checked, run_fold};
+use q_table::Program;
+use sc_view::{Stored, VALUE_LENGTH, Value, View};
 use std::alloc::{AllocError, Global};
 use std::time::{Clock, Duration, Instant};
 

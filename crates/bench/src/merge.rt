@@ -3,7 +3,7 @@
 use crate::Size;
 use crate::values::{USUAL, each, learn, refused, view_of};
 use anyhow::Result;
-use sc_view::view::View;
+use sc_view::View;
 use std::alloc::Global;
 use std::time::{Clock, Duration, Instant};
 

@@ -7,7 +7,7 @@
 use crate::Size;
 use crate::cluster::Cluster;
 use anyhow::{Result, anyhow};
-use sc_world::fault::WorldFault;
+use sc_world::WorldFault;
 use std::alloc::Global;
 use std::time::{Clock, Duration, Instant};
 

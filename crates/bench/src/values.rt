@@ -1,8 +1,7 @@
 //! Values and views to measure with.
 
 use anyhow::{Context, Result, anyhow};
-use sc_view::value::{VALUE_LENGTH, Value};
-use sc_view::view::{Stored, View, ViewFault};
+use sc_view::{Stored, VALUE_LENGTH, Value, View, ViewFault};
 use std::alloc::Global;
 use std::time::Duration;
 

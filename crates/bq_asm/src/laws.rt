@@ -4,11 +4,10 @@ ghost use Rattle.std.specs.Prelude.{◌≡◌, ℕ, List, MatchResult};
 ghost use Rattle.bq_insn.specs.Slots.{IsText};
 ghost use Rattle.bq_asm.specs.Source.{IsSource, HasOneFault, disassembly};
 
-use crate::assemble::assemble;
-use crate::disassemble::disassemble;
+use crate::assembler::assemble;
+use crate::disassembler::disassemble;
 use crate::fault::AsmFault;
-use bq_insn::insn::Insn;
-use bq_insn::text::Text;
+use bq_insn::{Insn, Text};
 use std::alloc::Global;
 
 /// A source spells one text at most.

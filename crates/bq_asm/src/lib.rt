@@ -24,15 +24,11 @@
 //! text, the one that is written, and which fault stands first. What lines mean is `Labels` of the crate `bq_labels`.
 //!
 //! The program that reads files of assembler text stands on this crate.
-//!
-//! [`assemble`]: assemble::assemble
-//! [`disassemble`]: disassemble::disassemble
-//! [`laws`]: laws
 #![tactic(auto)]
 
-pub mod assemble;
-pub mod disassemble;
-pub mod fault;
+mod assembler;
+mod disassembler;
+mod fault;
 pub mod laws;
 mod line;
 mod mnemonic;
@@ -40,3 +36,7 @@ mod number;
 mod operand;
 mod text;
 pub mod worked;
+
+pub use assembler::assemble;
+pub use disassembler::disassemble;
+pub use fault::AsmFault;

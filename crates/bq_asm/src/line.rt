@@ -8,11 +8,10 @@ use crate::mnemonic::Mnemonic;
 use crate::number::distance;
 use crate::operand::{memory, operand, register};
 use crate::text::{cut, pair, trimmed};
-use bq_insn::insn::{Extension, Insn, Size};
-use bq_labels::jump::Jump;
-use bq_labels::line::{Line, Statement};
+use bq_insn::{Extension, Insn, Size};
+use bq_labels::{Jump, Line, Statement};
 use bq_word::{AluOp, Relation, SignBits, Width};
-use decimal::numeral::natural;
+use decimal::natural;
 
 fn is_name_byte(byte: u8) -> bool
     ensures { result ≡ is_name_byte byte }

@@ -2,7 +2,7 @@ ghost use Rattle.std.specs.Prelude.{◌≡◌, ◌++◌, find};
 ghost use Rattle.std.specs.Str.{bytes_eq};
 ghost use Rattle.bq_asm.specs.Mnemonic.{name, op_name, width_name, relation_name, extension_name, order_name, bits_name, mnemonic_at};
 
-use bq_insn::insn::{ByteOrder, Extension, Size};
+use bq_insn::{ByteOrder, Extension, Size};
 use bq_word::{AluOp, Relation, SignBits, SwapBits, Width};
 
 /// What the first word of an instruction says.

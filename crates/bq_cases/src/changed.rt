@@ -12,15 +12,10 @@
 use crate::raw::{certified_with, fold};
 use crate::text::fault_of;
 use crate::words::{bytes, number, numbers};
-use bq_check::fault::{CheckFault, NotesFault};
-use bq_check::form::Form;
-use bq_check::notes::Notes;
-use bq_frame::block::Block;
-use bq_insn::decode::decode;
-use bq_insn::encode::encode;
-use bq_insn::fault::DecodeFault;
-use bq_insn::text::Text;
-use bq_meaning::run::Ended;
+use bq_check::{CheckFault, Notes, NotesFault, NotesForm};
+use bq_frame::Block;
+use bq_insn::{DecodeFault, Text, decode, encode};
+use bq_meaning::Ended;
 use std::alloc::Global;
 use std::io;
 
@@ -31,13 +26,13 @@ const FIRST_WORD: u64 = 0x9e37_79b9_7f4a_7c15;
 #[derive(Clone, Copy)]
 enum Kind {
     Text,
-    Notes(Form),
+    Notes(NotesForm),
 }
 
-fn form_of(word: &str) -> Option<Form> {
+fn form_of(word: &str) -> Option<NotesForm> {
     match word {
-        "first" => Some(Form::First),
-        "second" => Some(Form::Second),
+        "first" => Some(NotesForm::First),
+        "second" => Some(NotesForm::Second),
         _ => None,
     }
 }
@@ -50,18 +45,26 @@ fn kind_of(word: &str) -> Option<Kind> {
 }
 
 /// The notes that bytes spell in a form.
-pub(crate) fn read_notes(alloc: Global, form: Form, bytes: &[u8]) -> Result<Notes, NotesFault> {
+pub(crate) fn read_notes(
+    alloc: Global,
+    form: NotesForm,
+    bytes: &[u8],
+) -> Result<Notes, NotesFault> {
     match form {
-        Form::First => Notes::read_v1(alloc, bytes),
-        Form::Second => Notes::read(alloc, bytes),
+        NotesForm::First => Notes::read_v1(alloc, bytes),
+        NotesForm::Second => Notes::read(alloc, bytes),
     }
 }
 
 /// The bytes of notes in a form.
-pub(crate) fn notes_bytes(alloc: Global, form: Form, notes: &Notes) -> Result<Vec<u8>, NotesFault> {
+pub(crate) fn notes_bytes(
+    alloc: Global,
+    form: NotesForm,
+    notes: &Notes,
+) -> Result<Vec<u8>, NotesFault> {
     match form {
-        Form::First => notes.bytes_v1(alloc),
-        Form::Second => Ok(notes.bytes(alloc)?),
+        NotesForm::First => notes.bytes_v1(alloc),
+        NotesForm::Second => Ok(notes.bytes(alloc)?),
     }
 }
 
@@ -95,7 +98,7 @@ fn is_told_as_text(alloc: Global, bytes: &[u8]) -> bool {
 }
 
 /// The same of notes.
-fn is_told_as_notes(alloc: Global, form: Form, bytes: &[u8]) -> bool {
+fn is_told_as_notes(alloc: Global, form: NotesForm, bytes: &[u8]) -> bool {
     match read_notes(alloc, form, bytes) {
         Ok(notes) => match notes_bytes(alloc, form, &notes) {
             Ok(written) => written.as_slice() == bytes,
@@ -159,7 +162,7 @@ fn print_changed(
 #[derive(Clone, Copy)]
 struct Kept<'a> {
     text: &'a [u8],
-    form: Form,
+    form: NotesForm,
     values: &'a [u64],
     ended: Ended,
 }

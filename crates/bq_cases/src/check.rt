@@ -18,18 +18,12 @@ use crate::refusal::print_refusal;
 use crate::run::print_ended;
 use crate::state::print_register;
 use crate::words::{bytes, number, print_digits, small_number, text};
-use bq_check::certified::Certified;
-use bq_check::check::check_within;
-use bq_check::fault::CheckFault;
-use bq_check::form::Form;
-use bq_check::notes::Notes;
-use bq_flow::fault::FlowFault;
-use bq_flow::flow::Flow;
-use bq_flow::successors::Successors;
-use bq_insn::text::Text;
-use bq_meaning::placement::Placement;
-use bq_state::bounds::Bounds;
-use bq_verify::verify::{state_at, verify_within};
+use bq_check::{Certified, CheckFault, Notes, NotesForm, check_within};
+use bq_flow::{Flow, FlowFault, Successors};
+use bq_insn::Text;
+use bq_meaning::Placement;
+use bq_state::Bounds;
+use bq_verify::{state_at, verify_within};
 use std::alloc::Global;
 use std::io;
 
@@ -37,7 +31,7 @@ use std::io;
 #[derive(Clone, Copy)]
 pub(crate) struct Asked {
     bounds: Bounds,
-    form: Form,
+    form: NotesForm,
 }
 
 impl Asked {
@@ -45,7 +39,7 @@ impl Asked {
     pub(crate) fn of_views() -> Asked {
         Asked {
             bounds: Bounds::of_views(),
-            form: Form::First,
+            form: NotesForm::First,
         }
     }
 
@@ -53,7 +47,7 @@ impl Asked {
     fn within(least: &str, most: &str) -> Option<Asked> {
         Some(Asked {
             bounds: Bounds::new(small_number(least)?, small_number(most)?)?,
-            form: Form::Second,
+            form: NotesForm::Second,
         })
     }
 }
@@ -100,7 +94,7 @@ fn print_longest(rt: &impl Print, answer: Result<Certified, CheckFault>) -> io::
     }
 }
 
-fn print_notes(rt: &impl Print, alloc: Global, form: Form, notes: &Notes) -> io::Result<()> {
+fn print_notes(rt: &impl Print, alloc: Global, form: NotesForm, notes: &Notes) -> io::Result<()> {
     match notes_bytes(alloc, form, notes) {
         Ok(bytes) => print_digits(rt, alloc, bytes.as_slice()),
         Err(fault) => print_refusal(rt, fault.reason(), None),
@@ -110,7 +104,7 @@ fn print_notes(rt: &impl Print, alloc: Global, form: Form, notes: &Notes) -> io:
 fn print_certified(
     rt: &impl Print,
     alloc: Global,
-    form: Form,
+    form: NotesForm,
     certified: &Certified,
 ) -> io::Result<()> {
     print_notes(rt, alloc, form, certified.notes())?;
@@ -125,7 +119,7 @@ fn verify(rt: &impl Print, alloc: Global, asked: Asked, text: Text) -> io::Resul
 }
 
 /// Prints how many bytes notes have.
-fn print_size(rt: &impl Print, alloc: Global, form: Form, notes: &Notes) -> io::Result<()> {
+fn print_size(rt: &impl Print, alloc: Global, form: NotesForm, notes: &Notes) -> io::Result<()> {
     match notes_bytes(alloc, form, notes) {
         Ok(bytes) => println!(rt; " {} bytes", bytes.len()),
         Err(fault) => print_refusal(rt, fault.reason(), None),
@@ -257,7 +251,7 @@ fn answer_within(rt: &impl Print, alloc: Global, rest: &str) -> io::Result<()> {
     }
     let first = Asked {
         bounds: asked.bounds,
-        form: Form::First,
+        form: NotesForm::First,
     };
     let (verb, rest) = rest.split_once(' ').unwrap_or((rest, ""));
     answer_to(rt, alloc, first, verb, rest)

@@ -30,7 +30,7 @@ mod word;
 mod words;
 
 use crate::run::Setting;
-use bq_frame::block::Block;
+use bq_frame::Block;
 use std::alloc::Global;
 use std::io;
 

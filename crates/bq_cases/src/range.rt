@@ -8,8 +8,8 @@
 
 use crate::word::parts;
 use crate::words::{insn, number, numbers};
-use bq_insn::insn::{ByteOrder, Insn};
-use bq_range::range::Range;
+use bq_insn::{ByteOrder, Insn};
+use bq_range::Range;
 use std::alloc::{AllocError, Global};
 use std::io;
 

@@ -12,10 +12,8 @@ ghost use Rattle.std.specs.Prelude.{◌≤◌};
 
 use crate::refusal::print_refusal;
 use crate::words::{number, numbers, text};
-use bq_insn::text::Text;
-use bq_meaning::fault::Fault;
-use bq_meaning::placement::{LEAST_RECORD, Placement, RECORD_LENGTH, RECORD_ROOM};
-use bq_meaning::run::{Ended, run_checked};
+use bq_insn::Text;
+use bq_meaning::{Ended, Fault, LEAST_RECORD, Placement, RECORD_LENGTH, RECORD_ROOM, run_checked};
 use std::alloc::Global;
 use std::io;
 

@@ -9,14 +9,9 @@
 
 use crate::refusal::print_refusal;
 use crate::words::{insn, number, numbers};
-use bq_insn::insn::Insn;
-use bq_range::range::Range;
-use bq_state::bounds::Bounds;
-use bq_state::edges::Edge;
-use bq_state::kind::Kind;
-use bq_state::offsets::Offsets;
-use bq_state::region::Region;
-use bq_state::state::State;
+use bq_insn::Insn;
+use bq_range::Range;
+use bq_state::{Bounds, Edge, Kind, Offsets, Region, State};
 use std::alloc::Global;
 use std::io;
 

@@ -10,14 +10,8 @@
 
 use crate::refusal::print_refusal;
 use crate::words::{assembled, bytes, number, print_digits};
-use bq_asm::assemble::assemble;
-use bq_asm::disassemble::disassemble;
-use bq_asm::fault::AsmFault;
-use bq_insn::decode::decode;
-use bq_insn::encode::encode;
-use bq_insn::fault::DecodeFault;
-use bq_insn::register::Register;
-use bq_insn::text::Text;
+use bq_asm::{AsmFault, assemble, disassemble};
+use bq_insn::{DecodeFault, Register, Text, decode, encode};
 use std::alloc::{AllocError, Global};
 use std::io;
 

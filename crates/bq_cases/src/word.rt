@@ -2,7 +2,7 @@
 //! instruction makes of words, or whether the relation of a branch holds between them.
 
 use crate::words::{insn, numbers};
-use bq_insn::insn::{Extension, Insn};
+use bq_insn::{Extension, Insn};
 use bq_word::{SignBits, Width, alu, extend, relates, swap};
 use std::alloc::Global;
 use std::io;

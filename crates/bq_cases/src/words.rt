@@ -1,9 +1,7 @@
 //! The words of a line.
 
-use bq_asm::assemble::assemble;
-use bq_asm::fault::AsmFault;
-use bq_insn::insn::Insn;
-use bq_insn::text::Text;
+use bq_asm::{AsmFault, assemble};
+use bq_insn::{Insn, Text};
 use std::alloc::{AllocError, Global};
 use std::io;
 

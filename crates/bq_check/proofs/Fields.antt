@@ -11,8 +11,8 @@ use Rattle.bq_state.specs.Kinds.{StateKinds, state_of}
 use Rattle.bq_state.specs.declared.kind.Kind.TheVariants.{Unset, Number, Pointer, Length}
 use Rattle.bq_state.specs.declared.region.Region.{Region}
 use Rattle.bq_state.specs.declared.region.Region.TheVariants.{Frame, Record}
-use Rattle.bq_check.specs.declared.form.Form.{Form}
-use Rattle.bq_check.specs.declared.form.Form.TheVariants.{First, Second}
+use Rattle.bq_check.specs.declared.form.NotesForm.{NotesForm}
+use Rattle.bq_check.specs.declared.form.NotesForm.TheVariants.{First, Second}
 use Rattle.bq_check.specs.Spelling.{short_bytes, long_bytes, range_bytes, offset_bytes, span_bytes, region_byte, kind_bytes, kinds_bytes, lengths_bytes, state_bytes, note_bytes, notes_bytes, IsKind, IsKinds, HasLengths, IsState, IsNote, IsNotes}
 use Rattle.bq_check.proofs.Codes.{IsCode, once}
 
@@ -136,7 +136,7 @@ one_region Record Record e = refl
 one_region Frame Record e = absurd (omega (arith, e))
 one_region Record Frame e = absurd (omega (arith, e))
 
-one_kind : (form : Form) (a b : Kind) (x y : List ℕ) → IsKind form a → IsKind form b → kind_bytes a ++ x ≡ kind_bytes b ++ y → (a ≡ b) × (x ≡ y)
+one_kind : (form : NotesForm) (a b : Kind) (x y : List ℕ) → IsKind form a → IsKind form b → kind_bytes a ++ x ≡ kind_bytes b ++ y → (a ≡ b) × (x ≡ y)
 one_kind form Unset Unset x y p q e = (refl, (one_byte 0 0 x y e).1)
 one_kind form Unset (Number b) x y p q e = absurd (other 0 1 _ _ (λ h. omega (arith, h)) e)
 one_kind form Unset (Pointer r b) x y p q e = absurd (region_above 0 r (omega arith) (one_byte 0 (region_byte r) _ _ e).0)
@@ -161,14 +161,14 @@ one_kind form Length Length x y p q e = (refl, (one_byte 4 4 x y e).1)
 
 -- ---- lengths
 
-one_lengths : (form : Form) (a b : Interval) (x y : List ℕ) → HasLengths form a → HasLengths form b → lengths_bytes form a ++ x ≡ lengths_bytes form b ++ y → (a ≡ b) × (x ≡ y)
+one_lengths : (form : NotesForm) (a b : Interval) (x y : List ℕ) → HasLengths form a → HasLengths form b → lengths_bytes form a ++ x ≡ lengths_bytes form b ++ y → (a ≡ b) × (x ≡ y)
 one_lengths First a b x y p q e = (p ∙ sym q, e)
 one_lengths Second a b x y p q e =
     let s = one_byte a.lo b.lo (a.hi ∷ x) (b.hi ∷ y) e in
     let t = one_byte a.hi b.hi x y s.1 in
     (range_is a b s.0 t.0, t.1)
 
-module _ (form : Form) where
+module _ (form : NotesForm) where
   pub kind_is_code : IsCode kind_bytes (IsKind form)
   kind_is_code = record { one = λ a b x y p q e. one_kind form a b x y p q e }
 

@@ -9,7 +9,7 @@ use Rattle.bq_state.specs.Plain.{IsPlainKind}
 use Rattle.bq_state.specs.declared.kind.Kind.{Kind}
 use Rattle.bq_state.specs.declared.kind.Kind.TheVariants.{Unset, Number, Pointer, Length}
 use Rattle.bq_sound.specs.Passes.{note_at, IsSuited, AreSuited}
-use Rattle.bq_check.specs.declared.form.Form.TheVariants.{First, Second}
+use Rattle.bq_check.specs.declared.form.NotesForm.TheVariants.{First, Second}
 use Rattle.bq_check.specs.Spelling.{IsKind, IsState, IsNote, IsNotes}
 
 -- ---- the first form

@@ -14,8 +14,8 @@ use Rattle.bq_state.specs.declared.kind.Kind.TheVariants.{Unset, Number, Pointer
 use Rattle.bq_state.specs.declared.region.Region.TheVariants.{Frame, Record}
 use Rattle.bq_check.specs.declared.fault.NotesFault.{NotesFault}
 use Rattle.bq_check.specs.declared.fault.NotesFault.TheVariants.{NoteForm, OutOfMemory}
-use Rattle.bq_check.specs.declared.form.Form.{Form}
-use Rattle.bq_check.specs.declared.form.Form.TheVariants.{Second}
+use Rattle.bq_check.specs.declared.form.NotesForm.{NotesForm}
+use Rattle.bq_check.specs.declared.form.NotesForm.TheVariants.{Second}
 use Rattle.bq_check.specs.Spelling.{short_bytes, long_bytes, range_bytes, offset_bytes, span_bytes, kind_bytes, kinds_bytes, lengths_bytes, state_bytes, note_bytes, notes_bytes, TellsLengths, IsKind, IsKinds, HasLengths, IsState, IsNote, IsNotes, BeginsNone}
 use Rattle.bq_check.proofs.Codes.{flat_map_push, all_push, stops}
 use Rattle.bq_check.proofs.Fields.{length-short, length-long, short_front, long_front, kind_is_code, lengths_are_code, note_is_code, notes_are_code, one_byte, counted, headed, AreLimited, are_limited, offset_small}
@@ -103,7 +103,7 @@ no_lengths bytes middle rest least most first second apart = record { none = λ 
         let high = is.most in
         apart (record { least = omega (arith, s.0, low); ordered = omega (arith, s.0, t.0, ordered); most = omega (arith, t.0, high) })
 
-module _ (form : Form) where
+module _ (form : NotesForm) where
   -- ---- kinds
 
   pub no_kind_left : (bytes : List ℕ) → bytes ≡ [] → BeginsNone kind_bytes (IsKind form) bytes

@@ -10,8 +10,8 @@ use Rattle.bq_state.specs.Kinds.{StateKinds, AreLengths, view_lengths}
 use Rattle.bq_state.specs.declared.kind.Kind.TheVariants.{Unset, Number, Pointer, Length}
 use Rattle.bq_state.specs.declared.region.Region.{Region}
 use Rattle.bq_state.specs.declared.region.Region.TheVariants.{Frame, Record}
-use Rattle.bq_check.specs.declared.form.Form.{Form}
-use Rattle.bq_check.specs.declared.form.Form.TheVariants.{First, Second}
+use Rattle.bq_check.specs.declared.form.NotesForm.{NotesForm}
+use Rattle.bq_check.specs.declared.form.NotesForm.TheVariants.{First, Second}
 
 -- ---- the bytes, those of a number from the lowest
 
@@ -45,52 +45,52 @@ abbrev pub kinds_bytes : List Kind → List ℕ
 kinds_bytes kinds = flat_map kind_bytes kinds
 
 -- the first form does not tell the lengths that records may have
-abbrev pub lengths_bytes : Form → Interval → List ℕ
+abbrev pub lengths_bytes : NotesForm → Interval → List ℕ
 lengths_bytes First l = []
 lengths_bytes Second l = l.lo ∷ l.hi ∷ []
 
-abbrev pub state_bytes : Form → StateKinds → List ℕ
+abbrev pub state_bytes : NotesForm → StateKinds → List ℕ
 state_bytes form state = lengths_bytes form state.lengths ++ kinds_bytes state.kinds
 
-abbrev pub note_bytes : Form → Option StateKinds → List ℕ
+abbrev pub note_bytes : NotesForm → Option StateKinds → List ℕ
 note_bytes form None = 0 ∷ []
 note_bytes form (Some state) = 1 ∷ state_bytes form state
 
-abbrev pub notes_bytes : Form → List (Option StateKinds) → List ℕ
+abbrev pub notes_bytes : NotesForm → List (Option StateKinds) → List ℕ
 notes_bytes form notes = short_bytes (length notes) ++ flat_map (note_bytes form) notes
 
 -- ---- the notes that have bytes
 
 -- a register may be known as the record's length
-abbrev pub TellsLengths : Form → Type 0
+abbrev pub TellsLengths : NotesForm → Type 0
 TellsLengths First = ⊥
 TellsLengths Second = Unit {0}
 
-abbrev pub IsKind : Form → Kind → Type 0
+abbrev pub IsKind : NotesForm → Kind → Type 0
 IsKind form Unset = Unit {0}
 IsKind form (Number a) = IsInterval a
 IsKind form (Pointer region s) = IsSpan s
 IsKind form Length = TellsLengths form
 
-abbrev pub HasLengths : Form → Interval → Type 0
+abbrev pub HasLengths : NotesForm → Interval → Type 0
 HasLengths First l = l ≡ view_lengths
 HasLengths Second l = AreLengths l
 
 -- the kinds of eleven registers
-pub record IsKinds (form : Form) (kinds : List Kind) : Type 0 where
+pub record IsKinds (form : NotesForm) (kinds : List Kind) : Type 0 where
   pub count : length kinds ≡ 11
   pub each : AllByRecursion (IsKind form) kinds
 
-pub record IsState (form : Form) (state : StateKinds) : Type 0 where
+pub record IsState (form : NotesForm) (state : StateKinds) : Type 0 where
   pub lengths : HasLengths form state.lengths
   pub kinds : IsKinds form state.kinds
 
-abbrev pub IsNote : Form → Option StateKinds → Type 0
+abbrev pub IsNote : NotesForm → Option StateKinds → Type 0
 IsNote form None = Unit {0}
 IsNote form (Some state) = IsState form state
 
 -- at most 4,096 notes
-pub record IsNotes (form : Form) (notes : List (Option StateKinds)) : Type 0 where
+pub record IsNotes (form : NotesForm) (notes : List (Option StateKinds)) : Type 0 where
   pub few : length notes ≤ 4096
   pub each : AllByRecursion (IsNote form) notes
 

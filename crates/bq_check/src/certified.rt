@@ -10,14 +10,14 @@ ghost use Rattle.bq_sound.specs.Safe.{IsSafe};
 ghost use Rattle.bq_check.specs.Certified.{IsCertified};
 
 use crate::notes::Notes;
-use bq_code::code::Code;
-use bq_insn::text::Text;
+use bq_code::Code;
+use bq_insn::Text;
 use bq_sound::laws::passing_is_safe;
-use bq_state::bounds::Bounds;
+use bq_state::Bounds;
 use std::marker::Model;
 
 /// A text whose notes pass for records of some lengths, with these notes and lengths, its longest path and its codes,
-/// which follow from the text. Contracts see the first four. [`check_within`](crate::check::check_within) alone makes
+/// which follow from the text. Contracts see the first four. [`check_within`](crate::check_within) alone makes
 /// one.
 #[derive(Drop)]
 pub struct Certified {

@@ -5,8 +5,8 @@ ghost use Rattle.std.specs.Prelude.{◌≡◌};
 ghost use Rattle.bq_check.specs.Reasons.{reason, fault_unit, notes_reason, flow_refusal};
 ghost use Rattle.bq_check.specs.declared.fault.NotesFault.TheVariants.{OutOfMemory};
 
-use bq_flow::fault::{FlowFault, FlowRule};
-use bq_state::rule::Rule;
+use bq_flow::{FlowFault, FlowRule};
+use bq_state::Rule;
 use reasons::{Reason, told};
 use std::alloc::{AllocError, AllocFailed};
 

@@ -2,7 +2,7 @@
 
 /// How the bytes of notes spell a state.
 #[derive(Clone, Copy, Debug, PartialEq, Eq)]
-pub enum Form {
+pub enum NotesForm {
     /// The kinds of the registers alone: each state is for records of 64 bytes, and no register is known as
     /// the record's length.
     First,

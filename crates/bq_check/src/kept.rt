@@ -4,12 +4,10 @@ ghost use Rattle.bq_range.specs.Interval.{IsInterval};
 ghost use Rattle.bq_state.specs.Offsets.{IsSpan};
 ghost use Rattle.bq_check.specs.Spelling.{IsKind, IsState, IsNote, IsNotes};
 
-use crate::form::Form;
+use crate::form::NotesForm;
 use crate::notes::Notes;
-use bq_range::range::Range;
-use bq_state::kind::Kind;
-use bq_state::offsets::Offsets;
-use bq_state::state::State;
+use bq_range::Range;
+use bq_state::{Kind, Offsets, State};
 
 pub(crate) fn is_interval(range: Range)
     ensures { IsInterval range }
@@ -24,7 +22,7 @@ pub(crate) fn is_span(offsets: Offsets)
 }
 
 fn is_kind(kind: Kind)
-    ensures { IsKind Form.Second kind }
+    ensures { IsKind NotesForm.Second kind }
 {
     match kind {
         Kind::Unset | Kind::Length => {}
@@ -34,7 +32,7 @@ fn is_kind(kind: Kind)
 }
 
 fn is_state(state: &State)
-    ensures { IsState Form.Second state.now }
+    ensures { IsState NotesForm.Second state.now }
 {
     let _least = state.lengths().least();
     for kind in state.kinds() {
@@ -43,7 +41,7 @@ fn is_state(state: &State)
 }
 
 fn is_note(note: &Option<State>)
-    ensures { IsNote Form.Second note.now }
+    ensures { IsNote NotesForm.Second note.now }
 {
     if let Some(state) = note {
         is_state(state);
@@ -55,7 +53,7 @@ impl Notes {
     /// each range is of words and each offset within -65,536 to 65,536, the least first. Its time is that of reading the
     /// notes; it takes no memory.
     pub fn are_notes(&self)
-        ensures { IsNotes Form.Second self.now }
+        ensures { IsNotes NotesForm.Second self.now }
     {
         for note in &self.states {
             is_note(note);

@@ -8,7 +8,7 @@ ghost use Rattle.bq_state.specs.Kinds.{StateKinds};
 ghost use Rattle.bq_sound.specs.Passes.{Passes};
 ghost use Rattle.bq_check.specs.declared.fault.CheckFault.{CheckFault};
 ghost use Rattle.bq_check.specs.declared.fault.CheckFault.TheVariants.{OutOfMemory};
-ghost use Rattle.bq_check.specs.declared.form.Form.{Form};
+ghost use Rattle.bq_check.specs.declared.form.NotesForm.{NotesForm};
 ghost use Rattle.bq_check.specs.Faults.{IsFirstFault};
 ghost use Rattle.bq_check.specs.Spelling.{notes_bytes, IsNotes};
 
@@ -24,5 +24,5 @@ pub fn one_first_fault()
 
 /// In each form notes have bytes that no other notes have.
 pub fn one_spelling()
-    ensures { (form : Form) (notes other : List (Option StateKinds)) → IsNotes form notes → IsNotes form other → notes_bytes form notes ≡ notes_bytes form other → notes ≡ other }
+    ensures { (form : NotesForm) (notes other : List (Option StateKinds)) → IsNotes form notes → IsNotes form other → notes_bytes form notes ≡ notes_bytes form other → notes ≡ other }
 {}

@@ -24,26 +24,23 @@
 //! certificate holds, `Spelling` the bytes of notes, and `Reasons` what is told of faults. When
 //! notes pass is defined one crate below. `laws` has what follows: notes that pass have no fault,
 //! others have one first fault, and notes have bytes of their own in each form.
-//!
-//! [`check_within`]: check::check_within
-//! [`check`]: check::check
-//! [`Certified`]: certified::Certified
-//! [`Notes`]: notes::Notes
-//! [`Notes::read`]: notes::Notes::read
-//! [`Notes::bytes`]: notes::Notes::bytes
-//! [`Notes::read_v1`]: notes::Notes::read_v1
-//! [`Notes::bytes_v1`]: notes::Notes::bytes_v1
 #![tactic(auto)]
 
-pub mod certified;
-pub mod check;
-pub mod fault;
-pub mod form;
+mod certified;
+mod checker;
+mod fault;
+mod form;
 mod kept;
 pub mod laws;
-pub mod notes;
+mod notes;
 mod reading;
 mod run;
 mod suited;
 pub mod worked;
 mod writing;
+
+pub use certified::Certified;
+pub use checker::{check, check_within};
+pub use fault::{CheckFault, NotesFault};
+pub use form::NotesForm;
+pub use notes::Notes;

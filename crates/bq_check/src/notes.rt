@@ -3,7 +3,7 @@
 ghost use Rattle.std.specs.Prelude.{◌≡◌, ◌≤◌, length, option_copied};
 ghost use Rattle.bq_sound.specs.Passes.{note_at};
 
-use bq_state::state::State;
+use bq_state::State;
 use std::marker::Model;
 
 /// For each unit of a text the state there, or none: at most 4,096. Contracts see it as the list of these.

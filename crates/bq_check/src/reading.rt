@@ -8,15 +8,11 @@ ghost use Rattle.bq_state.specs.Kinds.{StateKinds};
 ghost use Rattle.bq_check.specs.Spelling.{short_bytes, long_bytes, range_bytes, span_bytes, kind_bytes, kinds_bytes, lengths_bytes, note_bytes, state_bytes, notes_bytes, IsKind, IsKinds, HasLengths, IsState, IsNote, IsNotes, BeginsNone};
 
 use crate::fault::NotesFault;
-use crate::form::Form;
+use crate::form::NotesForm;
 use crate::notes::Notes;
-use bq_insn::text::MOST_UNITS;
-use bq_range::range::Range;
-use bq_state::bounds::Bounds;
-use bq_state::kind::Kind;
-use bq_state::offsets::Offsets;
-use bq_state::region::Region;
-use bq_state::state::State;
+use bq_insn::MOST_UNITS;
+use bq_range::Range;
+use bq_state::{Bounds, Kind, Offsets, Region, State};
 use std::alloc::Global;
 
 /// What is left of the bytes of notes. After a refusal it is not used again.
@@ -85,7 +81,7 @@ impl<'a> Reader<'a> {
         Offsets::new(lo, hi)
     }
 
-    fn kind(&mut self, form: Form) -> Option<Kind>
+    fn kind(&mut self, form: NotesForm) -> Option<Kind>
         ensures legal { IfSome result (IsKind form) }
         ensures parts { IfSome result (λ k. self.old.rest.now ≡ kind_bytes k ++ self.new.rest.now) }
         ensures none { IfNone result (BeginsNone kind_bytes (IsKind form) self.old.rest.now) }
@@ -96,15 +92,15 @@ impl<'a> Reader<'a> {
             2 => Some(Kind::Pointer(Region::Frame, self.offsets()?)),
             3 => Some(Kind::Pointer(Region::Record, self.offsets()?)),
             4 => match form {
-                Form::First => None,
-                Form::Second => Some(Kind::Length),
+                NotesForm::First => None,
+                NotesForm::Second => Some(Kind::Length),
             },
             _ => None,
         }
     }
 
     /// The kinds of the eleven registers.
-    fn kinds(&mut self, form: Form) -> Option<[Kind; 11]>
+    fn kinds(&mut self, form: NotesForm) -> Option<[Kind; 11]>
         ensures legal { IfSome result (IsKinds form) }
         ensures parts { IfSome result (λ ks. self.old.rest.now ≡ kinds_bytes ks ++ self.new.rest.now) }
         ensures none { IfNone result (BeginsNone kinds_bytes (IsKinds form) self.old.rest.now) }
@@ -120,14 +116,14 @@ impl<'a> Reader<'a> {
     }
 
     /// The lengths that the record may have.
-    fn lengths(&mut self, form: Form) -> Option<Bounds>
+    fn lengths(&mut self, form: NotesForm) -> Option<Bounds>
         ensures legal { IfSome result (HasLengths form) }
         ensures parts { IfSome result (λ l. self.old.rest.now ≡ lengths_bytes form l ++ self.new.rest.now) }
         ensures none { IfNone result (BeginsNone (lengths_bytes form) (HasLengths form) self.old.rest.now) }
     {
         match form {
-            Form::First => Some(Bounds::of_views()),
-            Form::Second => {
+            NotesForm::First => Some(Bounds::of_views()),
+            NotesForm::Second => {
                 let least = self.byte()?;
                 let most = self.byte()?;
                 Bounds::new(least, most)
@@ -135,7 +131,7 @@ impl<'a> Reader<'a> {
         }
     }
 
-    fn state(&mut self, form: Form) -> Option<State>
+    fn state(&mut self, form: NotesForm) -> Option<State>
         ensures legal { IfSome result (IsState form) }
         ensures parts { IfSome result (λ s. self.old.rest.now ≡ state_bytes form s ++ self.new.rest.now) }
         ensures none { IfNone result (BeginsNone (state_bytes form) (IsState form) self.old.rest.now) }
@@ -146,7 +142,7 @@ impl<'a> Reader<'a> {
     }
 
     /// The state of one unit, or none.
-    fn note(&mut self, form: Form) -> Option<Option<State>>
+    fn note(&mut self, form: NotesForm) -> Option<Option<State>>
         ensures legal { IfSome result (IsNote form) }
         ensures parts { IfSome result (λ s. self.old.rest.now ≡ note_bytes form s ++ self.new.rest.now) }
         ensures none { IfNone result (BeginsNone (note_bytes form) (IsNote form) self.old.rest.now) }
@@ -158,7 +154,7 @@ impl<'a> Reader<'a> {
         }
     }
 
-    fn notes(&mut self, alloc: Global, form: Form) -> Result<Notes, NotesFault>
+    fn notes(&mut self, alloc: Global, form: NotesForm) -> Result<Notes, NotesFault>
         ensures legal { IfOk result (IsNotes form) }
         ensures parts { IfOk result (λ n. self.old.rest.now ≡ notes_bytes form n ++ self.new.rest.now) }
         ensures fault { IfErr result (λ e. e ≡ NotesFault.NoteForm → BeginsNone (notes_bytes form) (IsNotes form) self.old.rest.now) }
@@ -181,7 +177,7 @@ impl<'a> Reader<'a> {
 }
 
 /// The notes that the bytes spell in a form.
-fn notes_of(alloc: Global, form: Form, bytes: &[u8]) -> Result<Notes, NotesFault>
+fn notes_of(alloc: Global, form: NotesForm, bytes: &[u8]) -> Result<Notes, NotesFault>
     ensures legal { IfOk result (IsNotes form) }
     ensures spelled { IfOk result (λ n. bytes.now ≡ notes_bytes form n) }
     ensures refused { IfErr result (λ e. e ≡ NotesFault.NoteForm → (n : List (Option StateKinds)) → IsNotes form n → bytes.now ≡ notes_bytes form n → ⊥) }
@@ -207,13 +203,13 @@ impl Notes {
     /// 99 OutOfMemory may stand in place of either answer.
     pub fn read(alloc: Global, bytes: &[u8]) -> Result<Notes, NotesFault>
         // What is read are notes that are spelled so.
-        ensures legal { IfOk result (IsNotes Form.Second) }
-        ensures spelled { IfOk result (λ n. bytes.now ≡ notes_bytes Form.Second n) }
+        ensures legal { IfOk result (IsNotes NotesForm.Second) }
+        ensures spelled { IfOk result (λ n. bytes.now ≡ notes_bytes NotesForm.Second n) }
 
         // What spells notes is read as these, unless memory runs out.
-        ensures all { (n : List (Option StateKinds)) → IsNotes Form.Second n → bytes.now ≡ notes_bytes Form.Second n → MatchResult result (λ m. m ≡ n) (λ e. e ≡ NotesFault.OutOfMemory) }
+        ensures all { (n : List (Option StateKinds)) → IsNotes NotesForm.Second n → bytes.now ≡ notes_bytes NotesForm.Second n → MatchResult result (λ m. m ≡ n) (λ e. e ≡ NotesFault.OutOfMemory) }
     {
-        notes_of(alloc, Form::Second, bytes)
+        notes_of(alloc, NotesForm::Second, bytes)
     }
 
     /// The notes that the bytes spell in the first form, or 31 NoteForm where they spell none so: as those that
@@ -222,12 +218,12 @@ impl Notes {
     /// 99 OutOfMemory may stand in place of either answer.
     pub fn read_v1(alloc: Global, bytes: &[u8]) -> Result<Notes, NotesFault>
         // What is read are notes that are spelled so.
-        ensures legal { IfOk result (IsNotes Form.First) }
-        ensures spelled { IfOk result (λ n. bytes.now ≡ notes_bytes Form.First n) }
+        ensures legal { IfOk result (IsNotes NotesForm.First) }
+        ensures spelled { IfOk result (λ n. bytes.now ≡ notes_bytes NotesForm.First n) }
 
         // What spells notes is read as these, unless memory runs out.
-        ensures all { (n : List (Option StateKinds)) → IsNotes Form.First n → bytes.now ≡ notes_bytes Form.First n → MatchResult result (λ m. m ≡ n) (λ e. e ≡ NotesFault.OutOfMemory) }
+        ensures all { (n : List (Option StateKinds)) → IsNotes NotesForm.First n → bytes.now ≡ notes_bytes NotesForm.First n → MatchResult result (λ m. m ≡ n) (λ e. e ≡ NotesFault.OutOfMemory) }
     {
-        notes_of(alloc, Form::First, bytes)
+        notes_of(alloc, NotesForm::First, bytes)
     }
 }

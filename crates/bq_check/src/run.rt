@@ -6,8 +6,7 @@ ghost use Rattle.bq_meaning.specs.Runs.{RecordRun};
 ghost use Rattle.bq_range.specs.Interval.{IsIn};
 
 use crate::certified::Certified;
-use bq_meaning::placement::{FRAME_LENGTH, Placement};
-use bq_meaning::run::{Ended, run_checked};
+use bq_meaning::{Ended, FRAME_LENGTH, Placement, run_checked};
 
 // Each byte is below 256.
 fn are_bytes(bytes: &[u8])

@@ -4,8 +4,7 @@ ghost use Rattle.std.specs.Prelude.{◌↔◌, IsTrue};
 ghost use Rattle.bq_sound.specs.Passes.{AreSuited, IsSuited};
 
 use crate::notes::Notes;
-use bq_state::bounds::Bounds;
-use bq_state::state::State;
+use bq_state::{Bounds, State};
 
 /// Whether a state is suited: where records have one length alone it is plain of that length.
 pub(crate) fn is_suited(bounds: Bounds, state: &State) -> bool

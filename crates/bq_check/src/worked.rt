@@ -14,7 +14,7 @@ ghost use Rattle.bq_state.specs.declared.region.Region.TheVariants as region;
 ghost use Rattle.bq_state.specs.declared.rule.Rule.TheVariants.{AnswerKind};
 ghost use Rattle.bq_check.specs.declared.fault.CheckFault.TheVariants as fault;
 ghost use Rattle.bq_check.specs.declared.fault.NotesFault.TheVariants as notes;
-ghost use Rattle.bq_check.specs.declared.form.Form.TheVariants.{First, Second};
+ghost use Rattle.bq_check.specs.declared.form.NotesForm.TheVariants.{First, Second};
 ghost use Rattle.bq_check.specs.Reasons.{reason, fault_unit, flow_refusal, notes_reason};
 ghost use Rattle.bq_check.specs.Spelling.{short_bytes, long_bytes, kind_bytes, note_bytes, notes_bytes};
 

@@ -6,14 +6,10 @@ ghost use Rattle.bq_sound.specs.Passes.{AreSuited};
 ghost use Rattle.bq_check.specs.Spelling.{short_bytes, long_bytes, range_bytes, span_bytes, region_byte, kind_bytes, lengths_bytes, note_bytes, state_bytes, notes_bytes, IsNotes};
 
 use crate::fault::NotesFault;
-use crate::form::Form;
+use crate::form::NotesForm;
 use crate::notes::Notes;
-use bq_range::range::Range;
-use bq_state::bounds::Bounds;
-use bq_state::kind::Kind;
-use bq_state::offsets::Offsets;
-use bq_state::region::Region;
-use bq_state::state::State;
+use bq_range::Range;
+use bq_state::{Bounds, Kind, Offsets, Region, State};
 use std::alloc::{AllocError, Global};
 
 // After an error the vector may hold a part of what was to be written.
@@ -72,19 +68,19 @@ fn push_kind(out: &mut Vec<u8>, kind: Kind) -> Result<(), AllocError>
     }
 }
 
-fn push_lengths(out: &mut Vec<u8>, form: Form, lengths: Bounds) -> Result<(), AllocError>
+fn push_lengths(out: &mut Vec<u8>, form: NotesForm, lengths: Bounds) -> Result<(), AllocError>
     ensures { OnOk result (out.new.items ≡ out.old.items ++ lengths_bytes form lengths) }
 {
     match form {
-        Form::First => Ok(()),
-        Form::Second => {
+        NotesForm::First => Ok(()),
+        NotesForm::Second => {
             out.push(lengths.least())?;
             Ok(out.push(lengths.most())?)
         }
     }
 }
 
-fn push_state(out: &mut Vec<u8>, form: Form, state: &State) -> Result<(), AllocError>
+fn push_state(out: &mut Vec<u8>, form: NotesForm, state: &State) -> Result<(), AllocError>
     ensures { OnOk result (out.new.items ≡ out.old.items ++ state_bytes form state.now) }
 {
     push_lengths(out, form, state.lengths())?;
@@ -94,7 +90,7 @@ fn push_state(out: &mut Vec<u8>, form: Form, state: &State) -> Result<(), AllocE
     Ok(())
 }
 
-fn push_note(out: &mut Vec<u8>, form: Form, note: &Option<State>) -> Result<(), AllocError>
+fn push_note(out: &mut Vec<u8>, form: NotesForm, note: &Option<State>) -> Result<(), AllocError>
     ensures { OnOk result (out.new.items ≡ out.old.items ++ note_bytes form note.now) }
 {
     match note {
@@ -108,7 +104,7 @@ fn push_note(out: &mut Vec<u8>, form: Form, note: &Option<State>) -> Result<(), 
 
 impl Notes {
     // The bytes of the notes in a form.
-    fn spelled(&self, alloc: Global, form: Form) -> Result<Vec<u8>, AllocError>
+    fn spelled(&self, alloc: Global, form: NotesForm) -> Result<Vec<u8>, AllocError>
         ensures { IfOk result (λ bytes. bytes.items ≡ notes_bytes form self.now) }
     {
         let mut out = Vec::new(alloc);
@@ -123,11 +119,11 @@ impl Notes {
     ///
     /// The one error is that memory ran out (99 OutOfMemory).
     pub fn bytes(&self, alloc: Global) -> Result<Vec<u8>, AllocError>
-        ensures legal { IfOk result (λ bytes. IsNotes Form.Second self.now) }
-        ensures spelled { IfOk result (λ bytes. bytes.items ≡ notes_bytes Form.Second self.now) }
+        ensures legal { IfOk result (λ bytes. IsNotes NotesForm.Second self.now) }
+        ensures spelled { IfOk result (λ bytes. bytes.items ≡ notes_bytes NotesForm.Second self.now) }
     {
         self.are_notes();
-        self.spelled(alloc, Form::Second)
+        self.spelled(alloc, NotesForm::Second)
     }
 
     /// The bytes of the notes in the first form, or 31 NoteForm where a state is not for records of 64 bytes alone: it
@@ -136,8 +132,8 @@ impl Notes {
     ///
     /// The other error is that memory ran out (99 OutOfMemory).
     pub fn bytes_v1(&self, alloc: Global) -> Result<Vec<u8>, NotesFault>
-        ensures legal { IfOk result (λ bytes. IsNotes Form.First self.now) }
-        ensures spelled { IfOk result (λ bytes. bytes.items ≡ notes_bytes Form.First self.now) }
+        ensures legal { IfOk result (λ bytes. IsNotes NotesForm.First self.now) }
+        ensures spelled { IfOk result (λ bytes. bytes.items ≡ notes_bytes NotesForm.First self.now) }
 
         // What is refused.
         ensures suited { IfOk result (λ bytes. AreSuited view_lengths self.now) }
@@ -147,6 +143,6 @@ impl Notes {
         if !self.are_suited(Bounds::of_views()) {
             return Err(NotesFault::NoteForm);
         }
-        Ok(self.spelled(alloc, Form::First)?)
+        Ok(self.spelled(alloc, NotesForm::First)?)
     }
 }

@@ -8,11 +8,10 @@
 //!
 //! The definitions are `Uses` and `Reasons` of `specs/`. Which opcode makes what of its fields is a table of the crate
 //! above, which reads and writes instructions.
-//!
-//! [`FieldUses`]: uses::FieldUses
-//! [`FieldUses::fault`]: uses::FieldUses::fault
-//! [`UnitFault`]: fault::UnitFault
 #![tactic(auto)]
 
-pub mod fault;
-pub mod uses;
+mod fault;
+mod uses;
+
+pub use fault::UnitFault;
+pub use uses::{FieldUse, FieldUses};

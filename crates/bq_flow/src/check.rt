@@ -8,8 +8,7 @@ ghost use Rattle.bq_flow.specs.Faults.{place_fault, flow_fault, NoFlowFault, IsF
 
 use crate::fault::{FlowFault, FlowRule};
 use crate::successors::{destination, distance_of, unit_behind};
-use bq_insn::insn::Insn;
-use bq_insn::text::Text;
+use bq_insn::{Insn, Text};
 
 /// What is first wrong with where a jump leads.
 fn place_fault(text: &Text, unit: usize, distance: i32) -> Option<FlowRule>

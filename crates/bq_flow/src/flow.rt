@@ -10,7 +10,7 @@ use crate::check::check;
 use crate::fault::FlowFault;
 use crate::longest::longest;
 use crate::successors::{Successors, successors_at};
-use bq_insn::text::Text;
+use bq_insn::Text;
 use std::alloc::Global;
 use std::marker::Model;
 

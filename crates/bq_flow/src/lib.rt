@@ -20,16 +20,16 @@
 //! worked by hand, is the contract of [`worked`](worked::worked).
 //!
 //! The checker and the verifier stand on this crate.
-//!
-//! [`Flow::of`]: flow::Flow::of
-//! [`Flow::successors`]: flow::Flow::successors
-//! [`Flow::longest`]: flow::Flow::longest
 #![tactic(auto)]
 
 mod check;
-pub mod fault;
-pub mod flow;
+mod fault;
+mod flow;
 pub mod laws;
 mod longest;
-pub mod successors;
+mod successors;
 pub mod worked;
+
+pub use fault::{FlowFault, FlowRule};
+pub use flow::Flow;
+pub use successors::Successors;

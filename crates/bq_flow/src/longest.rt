@@ -7,7 +7,7 @@ ghost use Rattle.bq_flow.specs.Paths.{IsLegalFlow, IsLongest};
 ghost use Rattle.bq_flow.specs.Table.{IsTable, IsLongestFrom};
 
 use crate::successors::{Successors, successors_at};
-use bq_insn::text::Text;
+use bq_insn::Text;
 use std::alloc::{AllocError, Global};
 
 /// The longest path from a unit, by those from the units behind it.

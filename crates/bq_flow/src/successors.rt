@@ -5,8 +5,7 @@ ghost use Rattle.bq_flow.specs.Successors.{distance_of, destination, unit_of};
 ghost use Rattle.bq_flow.specs.Paths.{IsLegalFlow};
 ghost use Rattle.bq_flow.specs.Flow.{unit_behind, unit_jumped_to, place_of, successors_at, places, AreNext};
 
-use bq_insn::insn::Insn;
-use bq_insn::text::Text;
+use bq_insn::{Insn, Text};
 
 /// The units where control may be after an instruction. Where there are two, the first is the unit
 /// behind the instruction and the second is where its jump leads.

@@ -12,18 +12,10 @@
 //! - [`Block::clear_frame`], and [`Block::set_record`] or [`Block::set_entry`], prepare a run.
 //!
 //! Only [`Block::new`] may fail, where memory runs out. No other call takes memory, and none refuses anything.
-//!
-//! [`Block`]: block::Block
-//! [`Block::new`]: block::Block::new
-//! [`Block::load1`]: block::Block::load1
-//! [`Block::load8`]: block::Block::load8
-//! [`Block::store1`]: block::Block::store1
-//! [`Block::store8`]: block::Block::store8
-//! [`Block::clear_frame`]: block::Block::clear_frame
-//! [`Block::set_record`]: block::Block::set_record
-//! [`Block::set_entry`]: block::Block::set_entry
 #![tactic(auto)]
 
-pub mod block;
+mod block;
 mod raw;
 pub mod worked;
+
+pub use block::{BLOCK_LENGTH, Block, RECORD_AT, ROOM_LENGTH};

@@ -3,8 +3,7 @@
 ghost use Rattle.std.specs.Prelude.{◌≡◌};
 ghost use Rattle.bq_labels.specs.Jumps.{jump_by};
 
-use bq_insn::insn::{Insn, Operand};
-use bq_insn::register::Register;
+use bq_insn::{Insn, Operand, Register};
 use bq_word::{Relation, Width};
 
 /// A jump without its distance.

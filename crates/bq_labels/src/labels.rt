@@ -7,7 +7,7 @@ ghost use Rattle.bq_labels.specs.Placed.{IsPlaced};
 ghost use Rattle.bq_labels.specs.View.{line_view, statement_view};
 
 use crate::line::{Line, Statement};
-use bq_insn::insn::Insn;
+use bq_insn::Insn;
 use std::alloc::{AllocError, Global};
 use std::collections::{HashMap, HashSet};
 

@@ -12,11 +12,12 @@
 //! wrong with a label, and `Jumps` the jump by a distance.
 //!
 //! How lines are spelled is no matter here. The assembler stands on this crate.
-//!
-//! [`first_repeated`]: labels::first_repeated
-//! [`resolve`]: labels::resolve
 #![tactic(auto)]
 
-pub mod jump;
-pub mod labels;
-pub mod line;
+mod jump;
+mod labels;
+mod line;
+
+pub use jump::Jump;
+pub use labels::{Resolved, first_repeated, resolve};
+pub use line::{Line, Statement};

@@ -1,7 +1,7 @@
 //! What a line of assembler text says.
 
 use crate::jump::Jump;
-use bq_insn::insn::Insn;
+use bq_insn::Insn;
 
 /// An instruction, or a jump to a label.
 #[derive(Clone, Copy)]

@@ -23,21 +23,20 @@
 //!
 //! The checker, the loop that runs checked programs without tests, and all that speaks of an answer
 //! stand on these definitions.
-//!
-//! [`FRAME_LENGTH`]: placement::FRAME_LENGTH
-//! [`LEAST_RECORD`]: placement::LEAST_RECORD
-//! [`RECORD_ROOM`]: placement::RECORD_ROOM
-//! [`Placement`]: placement::Placement
-//! [`step_checked`]: step::step_checked
-//! [`run_checked`]: run::run_checked
 #![tactic(auto)]
 
-pub mod fault;
+mod fault;
 pub mod laws;
-pub mod machine;
+mod machine;
 mod memory;
 mod perform;
-pub mod placement;
-pub mod run;
-pub mod step;
+mod placement;
+mod run;
+mod step;
 pub mod worked;
+
+pub use fault::Fault;
+pub use machine::{Location, Machine};
+pub use placement::{FRAME_LENGTH, LEAST_RECORD, Placement, RECORD_LENGTH, RECORD_ROOM};
+pub use run::{Ended, run_checked};
+pub use step::{Step, step_checked};

@@ -7,8 +7,7 @@ ghost use Rattle.bq_meaning.specs.Runs.{entry_machine};
 
 use crate::fault::Fault;
 use crate::placement::{FRAME_LENGTH, Placement};
-use bq_insn::insn::Operand;
-use bq_insn::register::Register;
+use bq_insn::{Operand, Register};
 use bq_word::AluOp;
 use std::marker::Model;
 

@@ -10,8 +10,7 @@ use crate::fault::Fault;
 use crate::machine::Machine;
 use crate::placement::Placement;
 use crate::step::Step;
-use bq_insn::insn::{ByteOrder, Extension, Insn, Operand, Size};
-use bq_insn::register::Register;
+use bq_insn::{ByteOrder, Extension, Insn, Operand, Register, Size};
 use bq_word::{AluOp, Relation, SignBits, SwapBits, Width, alu, extend, low_bits, relates, swap};
 
 fn writable(dst: Register) -> Result<(), Fault>

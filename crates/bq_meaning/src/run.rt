@@ -8,7 +8,7 @@ use crate::fault::Fault;
 use crate::machine::Machine;
 use crate::placement::{FRAME_LENGTH, Placement};
 use crate::step::{Step, step_checked};
-use bq_insn::text::Text;
+use bq_insn::Text;
 
 /// How a record run ended: r0 at its exit, and how many steps it took, the exit among them.
 #[derive(Clone, Copy, Debug, PartialEq, Eq, Drop)]

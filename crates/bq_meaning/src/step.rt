@@ -8,8 +8,7 @@ ghost use Rattle.bq_meaning.specs.Runs.{StepAnswers};
 use crate::fault::Fault;
 use crate::machine::Machine;
 use crate::placement::Placement;
-use bq_insn::insn::Insn;
-use bq_insn::text::Text;
+use bq_insn::{Insn, Text};
 
 /// What a step gives.
 #[derive(Clone, Copy, Debug, PartialEq, Eq, Drop)]

@@ -28,5 +28,7 @@
 #![tactic(auto)]
 
 pub mod laws;
-pub mod range;
+mod range;
 pub mod worked;
+
+pub use range::Range;

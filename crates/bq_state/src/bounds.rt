@@ -6,8 +6,8 @@ ghost use Rattle.bq_range.specs.Interval.{Within, between, join, meet};
 ghost use Rattle.bq_state.specs.Kinds.{AreLengths, all_lengths, length_kind, view_lengths};
 
 use crate::kind::Kind;
-use bq_meaning::placement::{LEAST_RECORD, RECORD_LENGTH, RECORD_ROOM};
-use bq_range::range::Range;
+use bq_meaning::{LEAST_RECORD, RECORD_LENGTH, RECORD_ROOM};
+use bq_range::Range;
 use std::marker::Model;
 
 /// How many bytes a record may have: from a least to a greatest length, both within 16 to 128.

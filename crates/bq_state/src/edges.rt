@@ -13,9 +13,8 @@ ghost use Rattle.bq_state.specs.Onward.{IsOnward};
 use crate::kind::Kind;
 use crate::state::State;
 use crate::transfer::word_of;
-use bq_insn::insn::{Insn, Operand};
-use bq_insn::register::Register;
-use bq_range::range::Range;
+use bq_insn::{Insn, Operand, Register};
+use bq_range::Range;
 use bq_word::{Relation, Width};
 
 /// A way on from an instruction.

@@ -10,8 +10,8 @@ use crate::bounds::Bounds;
 use crate::offsets::Offsets;
 use crate::region::Region;
 use crate::rule::Rule;
-use bq_meaning::placement::FRAME_LENGTH;
-use bq_range::range::Range;
+use bq_meaning::FRAME_LENGTH;
+use bq_range::Range;
 use bq_word::{AluOp, Width};
 
 /// What is known of a register.

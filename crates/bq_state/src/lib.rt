@@ -31,31 +31,23 @@
 //! `laws` has what follows for all states. No call takes memory, and none refuses an input.
 //!
 //! The soundness of the rules, the checker and the verifier stand on this crate.
-//!
-//! [`State`]: state::State
-//! [`State::entry`]: state::State::entry
-//! [`State::transfer`]: state::State::transfer
-//! [`State::apply`]: state::State::apply
-//! [`State::follow`]: state::State::follow
-//! [`State::join_with`]: state::State::join_with
-//! [`State::edges`]: state::State::edges
-//! [`way_on`]: edges::way_on
-//! [`State::covers`]: state::State::covers
-//! [`State::join`]: state::State::join
-//! [`Bounds`]: bounds::Bounds
-//! [`Kind`]: kind::Kind
-//! [`Offsets`]: offsets::Offsets
-//! [`Region`]: region::Region
-//! [`Rule`]: rule::Rule
 #![tactic(auto)]
 
-pub mod bounds;
-pub mod edges;
-pub mod kind;
+mod bounds;
+mod edges;
+mod kind;
 pub mod laws;
-pub mod offsets;
-pub mod region;
-pub mod rule;
-pub mod state;
+mod offsets;
+mod region;
+mod rule;
+mod state;
 mod transfer;
 pub mod worked;
+
+pub use bounds::Bounds;
+pub use edges::{Edge, Edges, Onward, way_on};
+pub use kind::Kind;
+pub use offsets::Offsets;
+pub use region::Region;
+pub use rule::Rule;
+pub use state::State;

@@ -5,7 +5,7 @@ ghost use Rattle.bq_state.specs.Offsets.{Span, IsSpan, SpanWithin, IsOffset, at_
 ghost use Rattle.bq_range.specs.Interval.{Interval};
 ghost use Rattle.std.specs.Option.{SomeIff};
 
-use bq_range::range::Range;
+use bq_range::Range;
 use std::marker::Model;
 
 /// The least and the greatest offset that a pointer may have.

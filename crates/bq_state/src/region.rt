@@ -6,7 +6,7 @@ ghost use Rattle.bq_state.specs.Rules.{extent, outside};
 
 use crate::bounds::Bounds;
 use crate::rule::Rule;
-use bq_meaning::placement::FRAME_LENGTH;
+use bq_meaning::FRAME_LENGTH;
 
 /// What a pointer points into.
 #[derive(Clone, Copy, Debug, PartialEq, Eq)]

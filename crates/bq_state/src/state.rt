@@ -8,9 +8,9 @@ use crate::bounds::Bounds;
 use crate::kind::Kind;
 use crate::offsets::Offsets;
 use crate::region::Region;
-use bq_insn::register::Register;
-use bq_meaning::placement::FRAME_LENGTH;
-use bq_range::range::Range;
+use bq_insn::Register;
+use bq_meaning::FRAME_LENGTH;
+use bq_range::Range;
 use std::marker::Model;
 
 /// What is known of the registers r0 to r10, and the lengths that the record may have. Contracts see it as the list of

@@ -9,9 +9,8 @@ ghost use Rattle.bq_state.specs.Rules.{and_then, known, number, writable, ordere
 use crate::kind::Kind;
 use crate::rule::Rule;
 use crate::state::State;
-use bq_insn::insn::{ByteOrder, Extension, Insn, Operand, Size};
-use bq_insn::register::Register;
-use bq_range::range::Range;
+use bq_insn::{ByteOrder, Extension, Insn, Operand, Register, Size};
+use bq_range::Range;
 use bq_word::{AluOp, Relation, SwapBits, Width};
 
 // Instructions write r0 to r9.

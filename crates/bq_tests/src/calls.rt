@@ -1,35 +1,22 @@
 //! Public calls that no case of text makes.
 
-use bq_asm::assemble::assemble;
+use bq_asm::assemble;
 use bq_asm::laws::written_and_assembled;
-use bq_check::check::check;
+use bq_check::check;
 use bq_flow::laws::{
     destination_in_words, faulty_is_not_legal, first_unit_begins, one_first_fault, one_longest,
 };
-use bq_frame::block::Block;
-use bq_insn::decode::decode;
-use bq_insn::encode::encode;
-use bq_insn::fault::UnitFault;
-use bq_insn::fields::{Fields, read_unit};
-use bq_insn::insn::Insn;
+use bq_frame::Block;
 use bq_insn::laws::{
     one_fault, one_spelling, read_and_written, wide_takes_two_units, written_and_read,
 };
-use bq_insn::opcode::Opcode;
-use bq_insn::register::Register;
-use bq_insn::rows::FieldUse;
-use bq_insn::text::Text;
-use bq_meaning::fault::Fault;
-use bq_meaning::machine::Machine;
-use bq_meaning::placement::Placement;
-use bq_meaning::step::{Step, step_checked};
-use bq_range::range::Range;
-use bq_state::bounds::Bounds;
-use bq_state::kind::Kind;
-use bq_state::offsets::Offsets;
-use bq_state::region::Region;
-use bq_state::state::State;
-use bq_verify::verify::verify;
+use bq_insn::{
+    FieldUse, Fields, Insn, Opcode, Register, Text, UnitFault, decode, encode, read_unit,
+};
+use bq_meaning::{Fault, Machine, Placement, Step, step_checked};
+use bq_range::Range;
+use bq_state::{Bounds, Kind, Offsets, Region, State};
+use bq_verify::verify;
 use std::test::Fail;
 
 /// `wide r0, 1099511627785`

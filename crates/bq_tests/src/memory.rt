@@ -1,16 +1,10 @@
 //! Each of these is run with any one allocation refused: each call gives its answer or names the want of memory.
 
-use bq_asm::assemble::assemble;
-use bq_asm::disassemble::disassemble;
-use bq_asm::fault::AsmFault;
-use bq_check::fault::{CheckFault, NotesFault};
-use bq_check::notes::Notes;
-use bq_flow::fault::FlowFault;
-use bq_flow::flow::Flow;
-use bq_insn::decode::decode;
-use bq_insn::encode::encode;
-use bq_insn::fault::DecodeFault;
-use bq_verify::verify::verify;
+use bq_asm::{AsmFault, assemble, disassemble};
+use bq_check::{CheckFault, Notes, NotesFault};
+use bq_flow::{Flow, FlowFault};
+use bq_insn::{DecodeFault, decode, encode};
+use bq_verify::verify;
 
 #[test]
 fn sources_are_assembled(rt: HostRuntime) {

@@ -15,12 +15,10 @@
 //!
 //! The definitions are in `specs/`: `States` has the states of a text, `Refused` what is refused and
 //! `Least` what makes the states the best. `laws` has that they are, for all texts.
-//!
-//! [`verify_within`]: verify::verify_within
-//! [`verify`]: verify::verify
-//! [`state_at`]: verify::state_at
 #![tactic(auto)]
 
 pub mod laws;
-pub mod verify;
+mod verifier;
 pub mod worked;
+
+pub use verifier::{state_at, verify, verify_within};

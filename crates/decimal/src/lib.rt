@@ -4,10 +4,10 @@
 //! What it reads is what is written of a number, and nothing else: [`laws`].
 //!
 //! The assembler and the scripts read their numbers by this crate.
-//!
-//! [`natural`]: numeral::natural
 #![tactic(auto)]
 
 pub mod laws;
-pub mod numeral;
+mod numeral;
 pub mod worked;
+
+pub use numeral::natural;

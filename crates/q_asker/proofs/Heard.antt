@@ -10,8 +10,8 @@ use Rattle.reasons.specs.declared.Reason.TheVariants as reasons
 use Rattle.bq_check.specs.Spelling.{short_bytes, long_bytes}
 use Rattle.bq_check.proofs.Fields.{length-short, length-long, one_byte, short_front, long_front}
 use Rattle.q_net.specs.Replies.{reply_bytes}
-use Rattle.q_net.specs.declared.reply.Reply.{Reply}
-use Rattle.q_net.specs.declared.reply.Reply.TheVariants.{Program, Number, Open, Answer, Refused}
+use Rattle.q_net.specs.declared.replies.Reply.{Reply}
+use Rattle.q_net.specs.declared.replies.Reply.TheVariants.{Program, Number, Open, Answer, Refused}
 use Rattle.q_asker.specs.declared.replies.ReplyKind.{ReplyKind}
 use Rattle.q_asker.specs.declared.replies.ReplyKind.TheVariants as kind
 use Rattle.q_asker.specs.Replies.{BeginsNone, CanBe, Hears, HearsBehind, IsRefusal}

@@ -6,10 +6,10 @@ use Rattle.std.proofs.lemmas.List.Concat.{flat_map-append}
 use Rattle.std.proofs.lemmas.List.Folds.{list_all-append}
 use Rattle.reasons.specs.declared.Reason.{Reason}
 use Rattle.q_refused.specs.Line.{line_of}
-use Rattle.q_sim.specs.declared.refusal.Place.{Place}
+use Rattle.q_sim.specs.declared.refusal.RefusalPlace.{RefusalPlace}
 use Rattle.q_net.specs.declared.request.Request.{Request}
-use Rattle.q_asker.specs.declared.exchange.ExchangeFault.{ExchangeFault}
-use Rattle.q_asker.specs.declared.exchange.ExchangeFault.TheVariants.{Unsent, Unheard, NoReply, OutOfMemory}
+use Rattle.q_asker.specs.declared.connection.ExchangeFault.{ExchangeFault}
+use Rattle.q_asker.specs.declared.connection.ExchangeFault.TheVariants.{Unsent, Unheard, NoReply, OutOfMemory}
 use Rattle.q_asker.specs.Exchanges.{Exchanges}
 use Rattle.q_asker.specs.Runs.{GivesPart, TakesPart}
 use Rattle.q_asker.specs.Steps.{GaveUp, Moves, Step, StepTells, StepsTell, Streams, Unmade, all_done, heard_by, is_done, sent_by, unanswered_line}
@@ -70,7 +70,7 @@ same_heard : (a b : Option (List ℕ)) → b ≡ a → Consumes a b []
 same_heard a b e = subst (λ (x : Option (List ℕ)). Consumes a x []) (sym e) (Consumes-nil a)
 
 -- no request was made
-pub moves_unmade : (why : Reason) (at : Place) (a b : Streams) → b.sent ≡ a.sent → b.heard ≡ a.heard → Appends a.printed b.printed (line_of why at) → Moves (Unmade why at ∷ []) a b
+pub moves_unmade : (why : Reason) (at : RefusalPlace) (a b : Streams) → b.sent ≡ a.sent → b.heard ≡ a.heard → Appends a.printed b.printed (line_of why at) → Moves (Unmade why at ∷ []) a b
 moves_unmade why at a b sent heard prints = moves_one (Unmade why at) a b (line_of why at) (same_sent a.sent b.sent sent) (same_heard a.heard b.heard heard) refl prints
 
 -- a query was given up

@@ -5,10 +5,10 @@ use Rattle.std.specs.declared.alloc.Global.{Global}
 use Rattle.reasons.specs.declared.Reason.{Reason}
 use Rattle.reasons.specs.declared.Reason.TheVariants as reasons
 use Rattle.q_refused.specs.Line.{line_of}
-use Rattle.q_sim.specs.declared.refusal.Place.{Place}
-use Rattle.q_sim.specs.declared.refusal.Place.TheVariants.{Untold}
-use Rattle.q_net.specs.declared.reply.Reply.{Reply}
-use Rattle.q_net.specs.declared.reply.Reply.TheVariants as reply
+use Rattle.q_sim.specs.declared.refusal.RefusalPlace.{RefusalPlace}
+use Rattle.q_sim.specs.declared.refusal.RefusalPlace.TheVariants.{Untold}
+use Rattle.q_net.specs.declared.replies.Reply.{Reply}
+use Rattle.q_net.specs.declared.replies.Reply.TheVariants as reply
 use Rattle.q_net.specs.declared.request.Request.{Request}
 use Rattle.q_net.specs.declared.request.Request.TheVariants as request
 use Rattle.q_asker.specs.declared.step.Halt.{Halt}
@@ -78,7 +78,7 @@ pub stops_behind : (l : ClientLine) (h : Halt) (steps more : List Step) (a b c :
 stops_behind l h steps more a b c of m s = record { steps = steps; begin = begin_first l [] steps more of; between = b; moves = m; stops = s }
 
 -- no request was made of a line, which was told
-pub line_unmade : (l : ClientLine) (why : Reason) (at : Place) (a b : Streams) (r : Result LineEnd Halt) → MakesNone l why at → b.sent ≡ a.sent → b.heard ≡ a.heard
+pub line_unmade : (l : ClientLine) (why : Reason) (at : RefusalPlace) (a b : Streams) (r : Result LineEnd Halt) → MakesNone l why at → b.sent ≡ a.sent → b.heard ≡ a.heard
     → Prints (line_of why at) a.printed b.printed r → IfOk r (λ e. is_done_end e ≡ false) → RunsLine l a b r
 line_unmade l why at a b (Ok e) none sent heard prints refused = (Unmade why at ∷ [], (none, refl), moves_unmade why at a b sent heard prints, refused)
 line_unmade l why at a b (Err Unwritten) none sent heard prints refused = stops_first l Unwritten a b (unwritten_at a b sent heard prints)
@@ -128,7 +128,7 @@ pub program_requested : (l : ClientLine) (code : Vec ℕ Global) (bytes : List �
 program_requested l code bytes q a b r is same made h =
     subst (λ (x : ClientLine). RunsLine x a b r) (sym is) (line_requested (line.Program code) q a b r (subst (λ (x : List ℕ). IsRegistration x q) same made) (λ said. refl) h)
 
-pub program_unmade : (l : ClientLine) (code : Vec ℕ Global) (bytes : List ℕ) (refused : Refusal) (why : Reason) (at : Place) (a b : Streams) (r : Result LineEnd Halt) → l ≡ line.Program code → bytes ≡ code.items → IsRefusal bytes refused
+pub program_unmade : (l : ClientLine) (code : Vec ℕ Global) (bytes : List ℕ) (refused : Refusal) (why : Reason) (at : RefusalPlace) (a b : Streams) (r : Result LineEnd Halt) → l ≡ line.Program code → bytes ≡ code.items → IsRefusal bytes refused
     → why ≡ refusal.reason refused → at ≡ refusal.place refused → b.sent ≡ a.sent → b.heard ≡ a.heard → Prints (line_of why at) a.printed b.printed r → IfOk r (λ e. is_done_end e ≡ false) → RunsLine l a b r
 program_unmade l code bytes refused why at a b r is same bad because there sent heard prints ends =
     subst (λ (x : ClientLine). RunsLine x a b r) (sym is) (line_unmade (line.Program code) why at a b r (inr (refused, subst (λ (x : List ℕ). IsRefusal x refused) same bad, because, there)) sent heard prints ends)

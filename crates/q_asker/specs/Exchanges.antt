@@ -3,11 +3,11 @@ use Rattle.std.specs.Prelude.{◌≡◌, ℕ, List, Option, Result, Ok, Err}
 use Rattle.std.specs.Io.KnownBytes.{Appends, Consumes}
 use Rattle.q_net.specs.Replies.{reply_bytes}
 use Rattle.q_net.specs.Requests.{spelling}
-use Rattle.q_net.specs.declared.reply.Reply.{Reply}
+use Rattle.q_net.specs.declared.replies.Reply.{Reply}
 use Rattle.q_net.specs.declared.request.Request.{Request}
 use Rattle.q_asker.specs.Replies.{MayReply}
-use Rattle.q_asker.specs.declared.exchange.ExchangeFault.{ExchangeFault}
-use Rattle.q_asker.specs.declared.exchange.ExchangeFault.TheVariants.{OutOfMemory}
+use Rattle.q_asker.specs.declared.connection.ExchangeFault.{ExchangeFault}
+use Rattle.q_asker.specs.declared.connection.ExchangeFault.TheVariants.{OutOfMemory}
 
 -- The request's bytes were written, and those of the reply that is answered were read. Where memory ran out nothing
 -- was; at another fault some bytes may have been.

@@ -1,8 +1,8 @@
 -- The reasons by which it is told that there is no reply.
 use Rattle.reasons.specs.declared.Reason.{Reason}
 use Rattle.reasons.specs.declared.Reason.TheVariants as reasons
-use Rattle.q_asker.specs.declared.exchange.ExchangeFault.{ExchangeFault}
-use Rattle.q_asker.specs.declared.exchange.ExchangeFault.TheVariants as fault
+use Rattle.q_asker.specs.declared.connection.ExchangeFault.{ExchangeFault}
+use Rattle.q_asker.specs.declared.connection.ExchangeFault.TheVariants as fault
 
 abbrev pub reason : ExchangeFault → Reason
 reason fault.Unsent = reasons.TransportFailed

@@ -4,11 +4,11 @@ use Rattle.reasons.specs.declared.Reason.{Reason}
 use Rattle.reasons.specs.declared.Reason.TheVariants as reasons
 use Rattle.bq_check.specs.Certificate.{Certificate}
 use Rattle.bq_check.specs.Spelling.{notes_bytes}
-use Rattle.bq_check.specs.declared.form.Form.TheVariants as form
+use Rattle.bq_check.specs.declared.form.NotesForm.TheVariants as form
 use Rattle.q_sim.specs.Programs.{IsProgram, IsRefusal}
 use Rattle.q_sim.specs.Refusal as refusal
-use Rattle.q_sim.specs.declared.refusal.Place.{Place}
-use Rattle.q_sim.specs.declared.refusal.Place.TheVariants.{Untold}
+use Rattle.q_sim.specs.declared.refusal.RefusalPlace.{RefusalPlace}
+use Rattle.q_sim.specs.declared.refusal.RefusalPlace.TheVariants.{Untold}
 use Rattle.q_sim.specs.declared.refusal.Refusal.{Refusal}
 use Rattle.q_net.specs.declared.request.Request.{Request}
 use Rattle.q_net.specs.declared.request.Request.TheVariants as request
@@ -36,16 +36,16 @@ Makes (line.Store value) r = r ≡ request.StoreOf value.items
 Makes (line.Ask program start) r = r ≡ request.Ask (program_number program) start
 
 -- why a line has none: its bytes are no program that the verifier takes, or its value is too long for a request
-abbrev pub IsUnfit : ClientLine → Reason → Place → Type 0
+abbrev pub IsUnfit : ClientLine → Reason → RefusalPlace → Type 0
 IsUnfit (line.Program code) why at =
     (r : Refusal) × IsRefusal code.items r × (why ≡ refusal.reason r) × (at ≡ refusal.place r)
 IsUnfit (line.Store value) why at = (most_value < length value.items) × (why ≡ reasons.BadValue) × (at ≡ Untold)
 IsUnfit (line.Ask program start) why at = ⊥
 
 -- memory ran out
-abbrev pub IsMemory : Reason → Place → Type 0
+abbrev pub IsMemory : Reason → RefusalPlace → Type 0
 IsMemory why at = (why ≡ reasons.OutOfMemory) × (at ≡ Untold)
 
 -- why no request was made of a line
-abbrev pub MakesNone : ClientLine → Reason → Place → Type 0
+abbrev pub MakesNone : ClientLine → Reason → RefusalPlace → Type 0
 MakesNone l why at = IsMemory why at ⊎ IsUnfit l why at

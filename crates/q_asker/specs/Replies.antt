@@ -4,8 +4,8 @@ use Rattle.std.specs.Io.KnownBytes.{Consumes}
 use Rattle.reasons.specs.Table.{number}
 use Rattle.reasons.specs.declared.Reason.{Reason}
 use Rattle.q_net.specs.Replies.{reply_bytes}
-use Rattle.q_net.specs.declared.reply.Reply.{Reply}
-use Rattle.q_net.specs.declared.reply.Reply.TheVariants as reply
+use Rattle.q_net.specs.declared.replies.Reply.{Reply}
+use Rattle.q_net.specs.declared.replies.Reply.TheVariants as reply
 use Rattle.q_net.specs.declared.request.Request.{Request}
 use Rattle.q_net.specs.declared.request.Request.TheVariants as request
 use Rattle.q_asker.specs.declared.replies.ReplyKind.{ReplyKind}

@@ -7,10 +7,10 @@ use Rattle.q_files.specs.declared.files.FileFault.{FileFault}
 use Rattle.q_refused.specs.Line.{line_of}
 use Rattle.q_script.specs.declared.script.ScriptFault.{ScriptFault}
 use Rattle.q_sim.specs.Refusal.{refusal_line, refusal_of}
-use Rattle.q_sim.specs.declared.refusal.Place.TheVariants.{Untold}
+use Rattle.q_sim.specs.declared.refusal.RefusalPlace.TheVariants.{Untold}
 use Rattle.q_sim.specs.declared.refusal.Refusal.{Refusal}
 use Rattle.q_sim.specs.declared.refusal.Refusal.TheVariants as refusal
-use Rattle.q_net.specs.declared.reply.Reply.{Reply}
+use Rattle.q_net.specs.declared.replies.Reply.{Reply}
 use Rattle.q_net.specs.declared.request.Request.{Request}
 use Rattle.q_wire.specs.Counts.{one_more}
 use Rattle.q_asker.specs.Replies.{MayReply}

@@ -6,12 +6,12 @@ use Rattle.std.specs.List.{flat_map, list_all}
 use Rattle.reasons.specs.Table.{number}
 use Rattle.reasons.specs.declared.Reason.{Reason}
 use Rattle.q_refused.specs.Line.{line_of}
-use Rattle.q_sim.specs.declared.refusal.Place.{Place}
-use Rattle.q_sim.specs.declared.refusal.Place.TheVariants.{Untold}
+use Rattle.q_sim.specs.declared.refusal.RefusalPlace.{RefusalPlace}
+use Rattle.q_sim.specs.declared.refusal.RefusalPlace.TheVariants.{Untold}
 use Rattle.q_net.specs.Replies.{reply_bytes}
 use Rattle.q_net.specs.Requests.{spelling}
-use Rattle.q_net.specs.declared.reply.Reply.{Reply}
-use Rattle.q_net.specs.declared.reply.Reply.TheVariants as reply
+use Rattle.q_net.specs.declared.replies.Reply.{Reply}
+use Rattle.q_net.specs.declared.replies.Reply.TheVariants as reply
 use Rattle.q_net.specs.declared.request.Request.{Request}
 use Rattle.q_net.specs.declared.request.Request.TheVariants as request
 use Rattle.q_asker.specs.Makes.{IsMemory, Makes, MakesNone}
@@ -53,7 +53,7 @@ unanswered_line = codes "unanswered\n"
 
 -- no request was made of a line, for this reason; or a request was made, and had this reply; or a query was given up
 pub data Step : Type 0 where
-  Unmade : Reason → Place → Step
+  Unmade : Reason → RefusalPlace → Step
   Exchanged : Request → Reply → Step
   GaveUp : Step
 

@@ -4,7 +4,7 @@ ghost use Rattle.std.specs.Prelude.{◌≡◌, ◌∷◌, ◌++◌, length, IfOk
 ghost use Rattle.bq_check.specs.Spelling.{short_bytes, long_bytes};
 ghost use Rattle.q_net.specs.Requests.{spelling};
 
-use q_net::request::Request;
+use q_net::Request;
 use std::alloc::{AllocError, Global};
 
 // After an error the vector may hold a part of what was to be written.

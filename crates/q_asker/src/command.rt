@@ -4,14 +4,14 @@ ghost use Rattle.std.specs.Prelude.{◌≡◌};
 ghost use Rattle.q_asker.specs.Runs.{RunsBytes, RunsFile, RunsOver, RunsText, failures_after, longest_script};
 
 use crate::connect::{Both, connect_tcp, connect_unix, is_path};
+use crate::connection::Connection;
 use crate::ending::{Ending, print_refusal};
-use crate::exchange::Connection;
 use crate::notes::note_unconnected;
 use crate::run::{print_lost, run_lines};
 use crate::script::{ClientLine, read_client_script};
-use q_files::files::{Files, LONGEST_TEXT};
-use q_sim::refusal::Refusal;
-use q_wire::counted::Counted;
+use q_files::{Files, LONGEST_TEXT};
+use q_sim::Refusal;
+use q_wire::Counted;
 use std::alloc::Global;
 use std::io::{Read, Write};
 use std::net::Net;

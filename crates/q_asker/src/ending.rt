@@ -3,9 +3,9 @@
 ghost use Rattle.std.specs.Prelude.{◌≡◌};
 ghost use Rattle.q_asker.specs.Runs.{IsRefusedAlone, failures_after, status_of};
 
-use q_refused::line::put_refusal;
-use q_sim::refusal::Refusal;
-use q_wire::counted::Counted;
+use q_refused::put_refusal;
+use q_sim::Refusal;
+use q_wire::Counted;
 use std::io::Write;
 
 /// How a run ended.

@@ -25,32 +25,32 @@
 //!
 //! [`run_file`] reads the script, connects and runs it. What a socket holds no contract says. Tested alone: that a
 //! reply comes in time, and what the notes tell of refused lines.
-//!
-//! [`request_bytes`]: bytes::request_bytes
-//! [`read_reply`]: replies::read_reply
-//! [`exchange`]: exchange::exchange
-//! [`read_client_script`]: script::read_client_script
-//! [`run_client`]: run::run_client
-//! [`run_file`]: command::run_file
 #![tactic(auto)]
 
-pub mod bytes;
+mod bytes;
 mod clock;
-pub mod command;
+mod command;
 mod connect;
-pub mod ending;
-pub mod exchange;
+mod connection;
+mod ending;
 mod line;
 mod looks;
-pub mod making;
+mod making;
 mod notes;
 mod operands;
 mod pieces;
 mod printing;
-pub mod replies;
-pub mod run;
-pub mod script;
+mod replies;
+mod run;
+mod script;
 mod step;
-#[cfg(test)]
-mod tests;
 pub mod worked;
+
+pub use bytes::request_bytes;
+pub use command::{FileRun, run_file, run_text};
+pub use connection::{Connection, ExchangeFault, exchange};
+pub use ending::{Ending, print_refusal};
+pub use making::{program_number, registration, storing};
+pub use replies::{ReplyKind, expected, read_reply, reason_of};
+pub use run::run_client;
+pub use script::{ClientLine, read_client_script};

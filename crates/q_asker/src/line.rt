@@ -4,15 +4,14 @@ ghost use Rattle.std.specs.Prelude.{◌≡◌, ℕ, MatchOption};
 ghost use Rattle.q_asker.specs.Runs.{RunsLine, RunsRequest, count_after};
 ghost use Rattle.q_asker.specs.declared.script.ClientLine.TheVariants as line;
 
-use crate::exchange::Connection;
+use crate::connection::Connection;
 use crate::looks::look;
 use crate::making::{program_number, registration, storing};
 use crate::script::ClientLine;
 use crate::step::{Cause, Halt, LineEnd, end_of, refuse_line, tell_exchange};
-use q_net::reply::Reply;
-use q_net::request::Request;
-use q_sim::refusal::Place;
-use q_wire::counted::Counted;
+use q_net::{Reply, Request};
+use q_sim::RefusalPlace;
+use q_wire::Counted;
 use reasons::Reason;
 use std::alloc::Global;
 use std::io::{Read, Write};
@@ -125,7 +124,7 @@ pub fn run_line<T: Clock, R: Read, W: Write, O: Write>(
             Some(request) => run_request(alloc, &request, connection, out),
             None => {
                 let cause = Cause::Unmade(Reason::BadValue);
-                refuse_line(out, Reason::BadValue, Place::Untold, cause)
+                refuse_line(out, Reason::BadValue, RefusalPlace::Untold, cause)
             }
         },
         ClientLine::Ask { program, start } => {

@@ -4,11 +4,10 @@ ghost use Rattle.std.specs.Prelude.{◌≡◌, MatchBool};
 ghost use Rattle.q_asker.specs.Runs.{Looks, count_after};
 
 use crate::clock::has_passed;
-use crate::exchange::Connection;
+use crate::connection::Connection;
 use crate::step::{Cause, Halt, LineEnd, end_of, give_up, tell_exchange};
-use q_net::reply::Reply;
-use q_net::request::Request;
-use q_wire::counted::Counted;
+use q_net::{Reply, Request};
+use q_wire::Counted;
 use reasons::Reason;
 use std::alloc::Global;
 use std::io::{Read, Write};

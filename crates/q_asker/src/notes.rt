@@ -1,16 +1,13 @@
 //! What is told to a person of lines that were not done. No contract speaks of these words.
 
-use crate::exchange::ExchangeFault;
+use crate::connection::ExchangeFault;
 use crate::replies::reason_of;
 use crate::script::{ClientLine, read_line};
 use crate::step::{Cause, LineEnd};
-use bq_state::bounds::Bounds;
-use q_explain::bytes::explain_bytes;
-use q_explain::event::of_event;
-use q_explain::explain::explain_code;
-use q_explain::shown::write_shown;
-use q_script::line::LineFault;
-use q_sim::refusal::Refusal;
+use bq_state::Bounds;
+use q_explain::{explain_bytes, explain_code, of_event, write_shown};
+use q_script::LineFault;
+use q_sim::Refusal;
 use reasons::Reason;
 use std::alloc::{AllocError, Global};
 use std::io;

@@ -7,9 +7,7 @@ ghost use Rattle.q_asker.specs.Script.{IsAsk, IsProgram, IsStore};
 
 use crate::script::ClientLine;
 use hex::FromHexError;
-use q_script::line::LineFault;
-use q_script::number::{number, pair};
-use q_script::records::value_bytes;
+use q_script::{LineFault, number, pair, value_bytes};
 use std::alloc::Global;
 
 /// The bytes that hexadecimal digits spell.

@@ -5,8 +5,7 @@ ghost use Rattle.bq_check.specs.Spelling.{short_bytes, long_bytes};
 ghost use Rattle.q_net.specs.Requests.{Gets};
 ghost use Rattle.q_wire.specs.Counts.{count_after};
 
-use q_wire::counted::Counted;
-use q_wire::fault::TransportFailed;
+use q_wire::{Counted, TransportFailed};
 use std::io::Read;
 
 /// The number of these four bytes.

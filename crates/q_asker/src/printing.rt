@@ -12,12 +12,10 @@ ghost use Rattle.q_asker.specs.Steps.{Tells, number_word, query_of, spaced, told
 
 use crate::replies::reason_of;
 use itoa::Buffer;
-use q_net::reply::Reply;
-use q_net::request::Request;
-use q_refused::line::put_line;
-use q_sim::refusal::Place;
-use q_wire::counted::Counted;
-use q_wire::fault::TransportFailed;
+use q_net::{Reply, Request};
+use q_refused::put_line;
+use q_sim::RefusalPlace;
+use q_wire::{Counted, TransportFailed};
 use std::io::Write;
 
 /// Writes a space and a number in decimal.
@@ -88,7 +86,7 @@ fn query_of(request: &Request) -> u64
 fn put_refused<O: Write>(out: &mut Counted<O>, number: u8) -> Result<(), TransportFailed>
     requires { IsRefusal number }
     ensures written { OnOk result ((why : Why) × (table.number why ≡ number)
-        × Appends (O.contents out.old.inner) (O.contents out.new.inner) (line_of why Place.Untold)) }
+        × Appends (O.contents out.old.inner) (O.contents out.new.inner) (line_of why RefusalPlace.Untold)) }
     ensures failed { OnErr result ((part : List ℕ) × Appends
         (O.contents out.old.inner) (O.contents out.new.inner) part) }
     ensures counted { out.new.failures ≡ count_after result out.old.failures }
@@ -96,7 +94,7 @@ fn put_refused<O: Write>(out: &mut Counted<O>, number: u8) -> Result<(), Transpo
     let Some(reason) = reason_of(number) else {
         unreachable!()
     };
-    put_line(out, reason, Place::Untold)
+    put_line(out, reason, RefusalPlace::Untold)
 }
 
 /// Writes what the reply to a request tells: a line, or nothing where a query has no answer yet.

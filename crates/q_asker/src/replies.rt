@@ -4,16 +4,14 @@ ghost use Rattle.std.specs.Prelude.{◌≡◌, ◌∷◌, ◌++◌, [], ℕ, Lis
 ghost use Rattle.reasons.specs.Table as table;
 ghost use Rattle.reasons.specs.declared.Reason.{Reason as Why};
 ghost use Rattle.q_net.specs.Replies.{reply_bytes};
-ghost use Rattle.q_net.specs.declared.reply.Reply.{Reply as Said};
+ghost use Rattle.q_net.specs.declared.replies.Reply.{Reply as Said};
 ghost use Rattle.q_wire.specs.Counts.{count_after};
 ghost use Rattle.q_asker.specs.Replies.{CanBe, Hears, HearsBehind, IsRefusal, expected};
 ghost use Rattle.q_asker.specs.declared.replies.ReplyKind.TheVariants as kind;
 
 use crate::pieces::{read_byte, read_long, read_short};
-use q_net::reply::Reply;
-use q_net::request::Request;
-use q_wire::counted::Counted;
-use q_wire::fault::TransportFailed;
+use q_net::{Reply, Request};
+use q_wire::{Counted, TransportFailed};
 use reasons::Reason;
 use std::io::Read;
 

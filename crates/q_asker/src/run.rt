@@ -4,15 +4,15 @@ ghost use Rattle.std.specs.Prelude.{◌≡◌, ◌&&◌};
 ghost use Rattle.q_asker.specs.Runs.{Halts, PrintsLost, RunsScript, RunsTo};
 ghost use Rattle.q_asker.specs.Runs.{failures_after, failures_halted, is_done_end};
 
+use crate::connection::Connection;
 use crate::ending::{Ending, print_refusal};
-use crate::exchange::Connection;
 use crate::line::run_line;
 use crate::notes::{note_line, note_lost};
 use crate::script::{ClientLine, read_client_script};
 use crate::step::{Halt, LineEnd};
-use q_refused::line::put_line;
-use q_sim::refusal::{Place, Refusal};
-use q_wire::counted::Counted;
+use q_refused::put_line;
+use q_sim::{Refusal, RefusalPlace};
+use q_wire::Counted;
 use reasons::Reason;
 use std::alloc::Global;
 use std::io::{Read, Write};
@@ -23,7 +23,7 @@ pub(crate) fn print_lost<O: Write>(out: &mut Counted<O>) -> Ending
     ensures written { PrintsLost result (O.contents out.old.inner) (O.contents out.new.inner) }
     ensures counted { out.new.failures ≡ failures_after result out.old.failures }
 {
-    match put_line(out, Reason::TransportFailed, Place::Untold) {
+    match put_line(out, Reason::TransportFailed, RefusalPlace::Untold) {
         Ok(()) => Ending::Lost,
         Err(_) => Ending::Unwritten,
     }

@@ -6,8 +6,7 @@ ghost use Rattle.q_script.specs.Lines.{without_last_feed};
 ghost use Rattle.q_asker.specs.Script.{AreLines, IsFault, SpellsLine};
 
 use crate::operands::{ask, program, store};
-use q_script::line::LineFault;
-use q_script::script::ScriptFault;
+use q_script::{LineFault, ScriptFault};
 use std::alloc::Global;
 
 /// A line of a client's script.

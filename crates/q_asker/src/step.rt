@@ -5,13 +5,12 @@ ghost use Rattle.q_refused.specs.Line.{line_of};
 ghost use Rattle.q_asker.specs.Runs.{Prints, Takes, count_after, is_done_end};
 ghost use Rattle.q_asker.specs.Steps.{is_done_reply, unanswered_line};
 
-use crate::exchange::{Connection, ExchangeFault, exchange};
+use crate::connection::{Connection, ExchangeFault, exchange};
 use crate::printing::put_told;
-use q_net::reply::Reply;
-use q_net::request::Request;
-use q_refused::line::put_line;
-use q_sim::refusal::{Place, Refusal};
-use q_wire::counted::Counted;
+use q_net::{Reply, Request};
+use q_refused::put_line;
+use q_sim::{Refusal, RefusalPlace};
+use q_wire::Counted;
 use reasons::Reason;
 use std::alloc::Global;
 use std::io::{Read, Write};
@@ -71,7 +70,7 @@ pub fn tell_exchange<R: Read, W: Write, O: Write>(
     let said = match exchange(alloc, request, connection) {
         Ok(said) => said,
         Err(ExchangeFault::OutOfMemory) => {
-            refuse(out, Reason::OutOfMemory, Place::Untold)?;
+            refuse(out, Reason::OutOfMemory, RefusalPlace::Untold)?;
             return Ok(None);
         }
         Err(fault) => return Err(Halt::Lost(fault)),
@@ -83,7 +82,11 @@ pub fn tell_exchange<R: Read, W: Write, O: Write>(
 }
 
 /// Tells that no request was made of a line, and why.
-pub fn refuse<O: Write>(out: &mut Counted<O>, reason: Reason, place: Place) -> Result<(), Halt>
+pub fn refuse<O: Write>(
+    out: &mut Counted<O>,
+    reason: Reason,
+    place: RefusalPlace,
+) -> Result<(), Halt>
     ensures told { Prints (line_of reason place) (O.contents out.old.inner) (O.contents out.new.inner) result }
     ensures counted { out.new.failures ≡ count_after result out.old.failures }
 {
@@ -97,7 +100,7 @@ pub fn refuse<O: Write>(out: &mut Counted<O>, reason: Reason, place: Place) -> R
 pub fn refuse_line<O: Write>(
     out: &mut Counted<O>,
     reason: Reason,
-    place: Place,
+    place: RefusalPlace,
     cause: Cause,
 ) -> Result<LineEnd, Halt>
     ensures told { Prints (line_of reason place) (O.contents out.old.inner) (O.contents out.new.inner) result }

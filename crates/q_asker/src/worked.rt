@@ -1,13 +1,19 @@
 //! Worked values of a client's lines, requests, replies, steps and endings.
 
-ghost use Rattle.std.specs.Prelude.{◌≡◌, ℕ, List, [], ◌∷◌, ◌++◌, codes, false, true};
-ghost use Rattle.q_net.specs.declared.reply.Reply.TheVariants as reply;
+ghost use Rattle.std.specs.Prelude.{◌≡◌, ℕ, List, [], ◌∷◌, ◌++◌, codes, false, true, Option, Some, Ok};
+ghost use Rattle.q_files.specs.declared.files.FileFault.TheVariants as file_fault;
+ghost use Rattle.q_net.specs.declared.replies.Reply.TheVariants as reply;
 ghost use Rattle.q_net.specs.declared.request.Request.TheVariants as request;
-ghost use Rattle.q_asker.specs.Makes.{program_number};
+ghost use Rattle.q_script.specs.Records.{record_lines};
+ghost use Rattle.q_script.specs.declared.script.ScriptFault.TheVariants as script_fault;
+ghost use Rattle.q_sim.specs.Refusal.{refusal_of};
+ghost use Rattle.q_sim.specs.declared.refusal.Refusal.TheVariants as refusal;
+ghost use Rattle.q_asker.specs.Exchanges.{Exchanges};
+ghost use Rattle.q_asker.specs.Makes.{IsRegistration, program_number};
 ghost use Rattle.q_asker.specs.Replies.{CanBe, expected};
-ghost use Rattle.q_asker.specs.Runs.{status_of};
-ghost use Rattle.q_asker.specs.Script.{AreLines, SpellsLine};
-ghost use Rattle.q_asker.specs.Steps.{AreOf, Exchanged, GaveUp, StepTells, Tells, all_done, heard_by, sent_by};
+ghost use Rattle.q_asker.specs.Runs.{IsRefusedAlone, PrintsLost, status_of};
+ghost use Rattle.q_asker.specs.Script.{AreLines, IsFault, SpellsLine};
+ghost use Rattle.q_asker.specs.Steps.{AreOf, Exchanged, GaveUp, StepTells, Tells, all_done, heard_by, most_looks, sent_by};
 ghost use Rattle.q_asker.specs.declared.ending.Ending.TheVariants as ending;
 ghost use Rattle.q_asker.specs.declared.replies.ReplyKind.TheVariants as kind;
 ghost use Rattle.q_asker.specs.declared.script.ClientLine.TheVariants as line;
@@ -52,4 +58,33 @@ pub fn worked()
     ensures unclean { status_of false (ending.Done false) ≡ 0 }
     ensures strict { status_of true (ending.Done false) ≡ 1 }
     ensures lost { status_of false ending.Lost ≡ 1 }
+{}
+
+/// What the definitions say of lines and replies that are told wrongly, and of the last line of a run.
+#[tactic(auto, unfolding(bq_check::specs::Spelling::long_bytes))]
+pub fn worked_faults()
+    // A text of one line is not refused at its second, and what is registered is the program's own bytes.
+    ensures second_of_one { (source : List ℕ) → record_lines source ≡ codes "x" ∷ []
+        → IsFault source (script_fault.Syntax 2) → ⊥ }
+    ensures registered { (code text notes : List ℕ) → IsRegistration code (request.Register text notes) → text ≡ code }
+
+    // A reply is that to a request which was written, and its numbers stand in their places.
+    ensures unsent { (heard hearing : Option (List ℕ))
+        → Exchanges (request.StoreOf (7 ∷ [])) (Some []) (Some []) heard hearing (Ok (reply.Refused 50)) → ⊥ }
+    ensures answered { heard_by (Exchanged (request.Answer 2) (reply.Answer 1 3))
+        ≡ 0 ∷ 1 ∷ 1 ∷ 0 ∷ 0 ∷ 0 ∷ 0 ∷ 0 ∷ 0 ∷ 0 ∷ 3 ∷ 0 ∷ 0 ∷ 0 ∷ 0 ∷ 0 ∷ 0 ∷ 0 ∷ [] }
+    ensures looks { most_looks ≡ 1000 }
+
+    // One refusal is enough, whatever comes behind it.
+    ensures refused_before { all_done (Exchanged (request.Ask 0 5) (reply.Refused 51)
+        ∷ Exchanged (request.StoreOf []) (reply.Number 8) ∷ []) ≡ false }
+
+    // The last line of a run that does not come to its end.
+    ensures lost { (after : List ℕ) → PrintsLost ending.Lost (Some []) (Some after)
+        → after ≡ codes "refused 86 TransportFailed\n" }
+    ensures refused { (after : List ℕ)
+        → IsRefusedAlone refusal.FileFailed (ending.Refused refusal.FileFailed) (Some []) (Some after)
+        → after ≡ codes "refused 87 FileFailed\n" }
+    ensures failed_file { (before after : Option (List ℕ))
+        → IsRefusedAlone (refusal_of file_fault.Failed) (ending.Refused refusal.OutOfMemory) before after → ⊥ }
 {}

@@ -9,11 +9,13 @@ use Rattle.q_book.specs.State.{BookState}
 use Rattle.q_book.specs.Books.{new_book}
 use Rattle.q_book.specs.Replays.{Replays, IsFirst, IsReplay}
 use Rattle.q_merge.specs.Merging.{Step}
-use Rattle.q_merge.proofs.Tracing.{follows_one, trace_some}
+use Rattle.q_book.proofs.Followed.{follows_one}
+use Rattle.q_book.proofs.Replays.{replays_later}
+use Rattle.q_merge.proofs.Tracing.{trace_some}
 use Rattle.q_beginnings.specs.Beginnings.{IsBeginningOf, IsGivenBy}
-use Rattle.q_beginnings.proofs.Lists.{front_read}
+use Rattle.q_beginnings.proofs.Lists.{get-front}
 use Rattle.q_beginnings.proofs.Senders.{trace_own}
-use Rattle.q_beginnings.proofs.Tracing.{first_same, headed, replays_onward, trace_front}
+use Rattle.q_beginnings.proofs.Tracing.{first_same, headed, trace_front}
 
 -- ---- there is one
 
@@ -42,7 +44,7 @@ module _ (whole : BookState) where
       let es = take entries whole.desk.journal in
       let s = split es (drop entries whole.desk.journal) (begins r.first) whole (subst (λ (x : List Entry). Replays (begins r.first) x whole) (sym (take-append-drop entries whole.desk.journal)) r.replayed) in
       let c = s.0 in
-      let on = replays_onward es (begins r.first) c s.1 in
+      let on = replays_later es (begins r.first) c s.1 in
       let part : BookState = record whole { node = c.node; desk = c.desk } in (
         part,
         record {
@@ -51,14 +53,15 @@ module _ (whole : BookState) where
           config = refl;
           founders = refl;
           entries = entries;
-          journal = on.journal;
+          journal = on.adds;
           replay = record {
             first = r.first;
             begun = first_on c.node c.desk r.first whole.founders r.begun;
-            replayed = subst (λ (x : List Entry). Replays (begins r.first) x part) (sym on.journal) (subst (λ (x : BookState). Replays (begins r.first) es x) (sym on.same) s.1);
+            replayed = subst (λ (x : List Entry). Replays (begins r.first) x part) (sym on.adds)
+                (subst (λ (x : BookState). Replays (begins r.first) es x) (sym on.same) s.1);
           };
         },
-        on.journal,
+        on.adds,
       )
 
   headed_one : (n m : NodeState) (d e : DeskState) → IsReplay (record whole { node = n; desk = d }) → IsReplay (record whole { node = m; desk = e }) → d.journal ≡ e.journal
@@ -113,7 +116,7 @@ gives_more m part whole r k g =
       trace = t.1;
       place = g.place;
       step = g.step;
-      at = ap (λ (x : List (Step Message)). slice_get x g.place) front.1 ∙ front_read g.steps front.0 g.place g.step g.at;
+      at = ap (λ (x : List (Step Message)). slice_get x g.place) front.1 ∙ get-front g.steps front.0 g.place g.step g.at;
       gives = g.gives;
     }
 

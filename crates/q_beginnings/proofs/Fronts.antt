@@ -7,9 +7,9 @@ use Rattle.std.proofs.lemmas.Option.{get_or_from_slice_get, slice_get_within, sl
 use Rattle.q_history.proofs.Lists.{same_some, no_some, get_elsewhere}
 use Rattle.q_merge.specs.Merging.{Step, CanGo, AreOver, Merges}
 use Rattle.q_merge.specs.Merging.Merges.{Over, Takes}
-use Rattle.q_merge.proofs.Lists.{get_written, get_after}
+use Rattle.q_merge.proofs.Lists.{get-same, get_after}
 use Rattle.q_merge.proofs.Merging.{same_first}
-use Rattle.q_beginnings.proofs.Lists.{IsFront, front_read, get_other, find_place}
+use Rattle.q_beginnings.proofs.Lists.{IsFront, get-front, get_other, find_place}
 
 -- ---- the steps of lists
 
@@ -48,7 +48,7 @@ module _ {M : Type 0} (lists : List (List (Step M))) (j : ℕ) (s : Step M) (res
 
   later : (t : Step M) (place : ℕ) → slice_get (s ∷ rest) place ≡ Some t → (s ≡ t) ⊎ HasStep (slice_set lists j rest) j t
   later t zero there = inl (same_some s t there)
-  later t (suc place) there = inr (record { steps = rest; at = get_written lists j (s ∷ rest) rest at; place = place; there = there })
+  later t (suc place) there = inr (record { steps = rest; at = get-same lists j (s ∷ rest) rest at; place = place; there = there })
 
   after_by : (i : ℕ) (t : Step M) (h : HasStep lists i t) (b : Bool) → (i == j) ≡ b → (s ≡ t) ⊎ HasStep (slice_set lists j rest) i t
   after_by i t h true is =
@@ -118,7 +118,7 @@ module _ {M : Type 0} (From : ℕ → ℕ → Type 0) (once : (i k j : ℕ) → 
           steps = p.whole;
           at = ap (slice_get lists) (one k j p.list comes p.comes) ∙ p.at;
           place = h.place;
-          there = ap (λ (x : List (Step M)). slice_get x h.place) p.front.1 ∙ front_read h.steps p.front.0 h.place t h.there;
+          there = ap (λ (x : List (Step M)). slice_get x h.place) p.front.1 ∙ get-front h.steps p.front.0 h.place t h.there;
         }
 
     -- the first step of a list goes
@@ -142,7 +142,7 @@ module _ {M : Type 0} (From : ℕ → ℕ → Type 0) (once : (i k j : ℕ) → 
               list = j;
               comes = subst (From k) same p.comes;
               whole = rest;
-              at = get_written lists j (s ∷ rest) rest at;
+              at = get-same lists j (s ∷ rest) rest at;
               front = (rest, ap (λ (x : List (Step M)). x ++ rest) (sym (none k steps here (subst (From k) same p.comes))));
             }
         skipped_front k steps p here false is = front_elsewhere k steps p (eqb-false p.list j is)
@@ -176,12 +176,12 @@ module _ {M : Type 0} (From : ℕ → ℕ → Type 0) (once : (i k j : ℕ) → 
         front_by : (i : ℕ) (steps : List (Step M)) (b : Bool) → (i == k) ≡ b → slice_get (slice_set kept k left) i ≡ Some steps → IsFrontOf (slice_set lists j rest) i steps
         front_by i steps true is now =
             let same : i ≡ k = eqb-true i k is in
-            let one_left : left ≡ steps = same_some left steps (sym (get_written kept k (s ∷ left) left here) ∙ ap (slice_get (slice_set kept k left)) (sym same) ∙ now) in
+            let one_left : left ≡ steps = same_some left steps (sym (get-same kept k (s ∷ left) left here) ∙ ap (slice_get (slice_set kept k left)) (sym same) ∙ now) in
             record {
               list = j;
               comes = subst (λ (x : ℕ). From x j) (sym same) comes;
               whole = rest;
-              at = get_written lists j (s ∷ rest) rest at;
+              at = get-same lists j (s ∷ rest) rest at;
               front = subst (λ (x : List (Step M)). IsFront x rest) one_left front;
             }
         front_by i steps false is now =

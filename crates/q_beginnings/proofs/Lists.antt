@@ -2,16 +2,12 @@
 use Rattle.std.proofs.Common.{◌≡◌, ℕ, zero, suc, ◌==◌, Bool, true, false, List, [], ◌∷◌, ◌++◌, Some, refl, subst, ◌⊎◌, inl, inr, ⊎_elim, slice_get, slice_set}
 use Rattle.std.proofs.lemmas.Bool.{eqb-true, eqb-false}
 use Rattle.q_history.proofs.Lists.{no_some}
+pub use Rattle.q_desk.proofs.Lists.{get-front}
 use Rattle.q_merge.proofs.Lists.{get_after}
 
 -- one list is the first part of another
 abbrev pub IsFront : {X : Type 0} → List X → List X → Type 0
 IsFront {X} front whole = (rest : List X) × (whole ≡ front ++ rest)
-
-pub front_read : {X : Type 0} (front rest : List X) (k : ℕ) (x : X) → slice_get front k ≡ Some x → slice_get (front ++ rest) k ≡ Some x
-front_read [] rest k x h = absurd (no_some x h)
-front_read (y ∷ ys) rest zero x h = h
-front_read (y ∷ ys) rest (suc k) x h = front_read ys rest k x h
 
 -- what stands elsewhere stood there
 pub get_other : {X : Type 0} (xs : List X) (i : ℕ) (y : X) (k : ℕ) (x : X) → (k ≡ i → ⊥) → slice_get (slice_set xs i y) k ≡ Some x → slice_get xs k ≡ Some x

@@ -14,7 +14,7 @@ use Rattle.q_book.specs.State.{BookState}
 use Rattle.q_book.specs.Books as book
 use Rattle.q_book.specs.Replays as replays
 use Rattle.q_book.specs.Replays.{IsReplay}
-use Rattle.q_history.specs.declared.event.Event.{Event}
+use Rattle.q_history.specs.declared.event.ClusterEvent.{ClusterEvent}
 use Rattle.q_history.specs.State.{ClusterState}
 use Rattle.q_history.specs.Heads.{book_of}
 use Rattle.q_history.specs.Clusters.{start}
@@ -29,24 +29,26 @@ use Rattle.q_merge.specs.Traces.{step_of, IsTraceFrom, IsTrace}
 use Rattle.q_merge.specs.Turns.{IsTurn}
 use Rattle.q_merge.specs.Gathered.{AreDistinct, HasBook, AreRight, AgreeOn, IsGathered, IsAt}
 use Rattle.q_merge.specs.Gathered.IsAt.{Away, There}
-use Rattle.q_merge.proofs.Lists.{get_written, get_after}
+use Rattle.q_merge.proofs.Lists.{get-same, get_after}
 use Rattle.q_merge.proofs.EveryJob.{history_jobs}
 use Rattle.q_merge.proofs.Gathering.{IsPlaced}
 use Rattle.q_merge.proofs.Beginning.{begins}
-use Rattle.q_merge.proofs.Tracing.{follows_one, trace_one}
+use Rattle.q_book.proofs.Followed.{follows_one}
+use Rattle.q_book.proofs.Replays.{IsLater, replays_later}
+use Rattle.q_merge.proofs.Keeping.{trace_replays}
+use Rattle.q_merge.proofs.Tracing.{trace_one}
 use Rattle.q_beginnings.specs.Beginnings.{MayGather}
 use Rattle.q_beginnings.proofs.Moving.{IsMove, event_moves}
 use Rattle.q_beginnings.proofs.Moving.IsMove.{Rests, Goes, Enters}
 use Rattle.q_beginnings.proofs.Gathering.{all_traced}
-use Rattle.q_beginnings.proofs.Tracing.{IsOnward, from_replays, replays_onward}
 
 abbrev Steps : Type 0
 Steps = List (Step Message)
 
 -- ---- one list of steps is left
 
-from_onward : (es : List Entry) (b c : BookState) (steps : Steps) → IsTraceFrom b es steps c → IsOnward b es c
-from_onward es b c steps t = replays_onward es b c (from_replays es b c steps t)
+from_onward : (es : List Entry) (b c : BookState) (steps : Steps) → IsTraceFrom b es steps c → IsLater b es c
+from_onward es b c steps t = replays_later es b c (trace_replays es b c steps t)
 
 from_one : (es : List Entry) (b c : BookState) (steps others : Steps) → IsTraceFrom b es steps c → IsTraceFrom b es others c → steps ≡ others
 from_one [] b c steps others t u = t.0 ∙ sym u.0
@@ -60,7 +62,7 @@ module _ (c : ClusterState) (whole : BookState) (steps others : Steps) where
   there_one : (b d : BookState) (es fs : List Entry) → b ≡ d → IsTraceFrom b es steps whole → IsTraceFrom d fs others whole → steps ≡ others
   there_one b d es fs same t u =
       let v = subst (λ (x : BookState). IsTraceFrom x fs others whole) (sym same) u in
-      let entries : fs ≡ es = append_cancel_left b.desk.journal fs es (sym (from_onward fs b whole others v).journal ∙ (from_onward es b whole steps t).journal) in
+      let entries : fs ≡ es = append_cancel_left b.desk.journal fs es (sym (from_onward fs b whole others v).adds ∙ (from_onward es b whole steps t).adds) in
       from_one es b whole steps others t (subst (λ (x : List Entry). IsTraceFrom b x others whole) entries v)
 
   at_one : (es fs : List Entry) → IsAt c whole es steps → IsAt c whole fs others → steps ≡ others
@@ -111,7 +113,7 @@ module _ (books : List BookState) (distinct : AreDistinct books) (c later : Clus
         let place : i ≡ k = eqb-true i k is in
         let one : whole ≡ b = same_some whole b (sym mine ∙ ap (slice_get books) (sym place) ∙ here) in
         subst (IsPlaced c (slice_set lists k (s ∷ steps)) i) one
-        (s ∷ steps, ap (slice_get (slice_set lists k (s ∷ steps))) place ∙ get_written lists k steps (s ∷ steps) there, left, was)
+        (s ∷ steps, ap (slice_get (slice_set lists k (s ∷ steps))) place ∙ get-same lists k steps (s ∷ steps) there, left, was)
     placed_by i b false is here =
         let away : i ≡ k → ⊥ = eqb-false i k is in
         let p = coming.at i b here in (
@@ -130,7 +132,7 @@ module _ (books : List BookState) (distinct : AreDistinct books) (c later : Clus
 
     merges_back : Merges Message c.world.sent (slice_set lists k (s ∷ steps))
     merges_back =
-        Takes k s steps (get_written lists k steps (s ∷ steps) there) can
+        Takes k s steps (get-same lists k steps (s ∷ steps) there) can
         (subst (λ (x : List Steps). Merges Message (c.world.sent ++ s.gives) x) (sym (set_back lists k (s ∷ steps) steps there))
         (subst (λ (x : List Message). Merges Message x lists) (turn.sent ∙ ap (λ (x : List Message). c.world.sent ++ x) (sym sends)) coming.merges))
 
@@ -164,13 +166,13 @@ module _ (books : List BookState) (distinct : AreDistinct books) (c later : Clus
     abbrev first : Step Message
     first = record { wants = None; gives = (book.entered c.version c.world.config id).1 }
 
-    on : IsOnward new left whole
+    on : IsLater new left whole
     on = from_onward left new whole steps t
 
     entered_trace : IsTrace whole (first ∷ steps)
     entered_trace =
         let later_book : BookState = record new { node = whole.node; desk = whole.desk } in
-        let entries : left ≡ whole.desk.journal = sym on.journal in
+        let entries : left ≡ whole.desk.journal = sym on.adds in
         subst (λ (x : BookState). IsTrace x (first ∷ steps)) on.same
         (record {
           first = (node.entered c.world.config id).0;
@@ -200,7 +202,7 @@ module _ (books : List BookState) (distinct : AreDistinct books) (c later : Clus
   back (Goes id b d e here f can turn) = goes_back id b d e here f can turn
   back (Enters id absent turn) = enters_back id absent turn
 
-run_back : (books : List BookState) → AreDistinct books → (es : List Event) (c d : ClusterState) → IsHistory c → Reaches c es d → (lists : List Steps) → IsComing books d lists → (more : List Steps) × IsComing books c more
+run_back : (books : List BookState) → AreDistinct books → (es : List ClusterEvent) (c d : ClusterState) → IsHistory c → Reaches c es d → (lists : List Steps) → IsComing books d lists → (more : List Steps) × IsComing books c more
 run_back books distinct [] c d h r lists coming = (lists, subst (λ (x : ClusterState). IsComing books x lists) r coming)
 run_back books distinct (e ∷ es) c d h r lists coming =
     let rest = run_back books distinct es r.1 d (history_next c r.1 e r.0 h r.2) r.3 lists coming in

@@ -14,19 +14,16 @@ use Rattle.sc_node.specs.declared.fault.NodeFault.{NodeFault}
 use Rattle.sc_node.specs.declared.fault.NodeFault.TheVariants as node_fault
 use Rattle.sc_world.specs.Worlds.{Outcome, of_begun, of_left, of_delivered, by_node}
 use Rattle.sc_world.proofs.Inverts.{stores-ok, collects-ok, leaves-ok, delivers-ok}
-use Rattle.q_session.specs.declared.job.Job.{Job}
-use Rattle.q_desk.specs.Desks as desk
 use Rattle.q_desk.specs.declared.journal.Entry.{Entry}
 use Rattle.q_desk.specs.declared.journal.Entry.TheVariants as entry
 use Rattle.q_desk.proofs.Accepted.{same_some, no_some, same_answer, passed}
 use Rattle.q_book.specs.State.{BookState}
 use Rattle.q_book.specs.Books as book
 use Rattle.q_book.specs.Replays.{Follows, IsFirst}
-use Rattle.q_book.specs.declared.answer.Asked.{Asked}
-use Rattle.q_book.specs.declared.answer.Taken.{Taken}
-use Rattle.q_book.proofs.Parts.{left-parts, delivered-parts, stored-parts, asked-parts, desk-parts}
+use Rattle.q_book.proofs.Followed.{NodeDid, sends, follows-accepted}
 use Rattle.q_merge.specs.Merging.{Step}
-use Rattle.q_merge.specs.Traces.{sent_by, gives, step_of, IsTraceFrom, entering, IsTrace}
+use Rattle.q_merge.proofs.Keeping.{gives_is}
+use Rattle.q_merge.specs.Traces.{gives, step_of, IsTraceFrom, entering, IsTrace}
 
 -- each of these messages names this sender
 abbrev pub AreOwn : ℕ → List Message → Type 0
@@ -63,37 +60,19 @@ module _ (n : NodeState) where
 
 -- ---- the calls of a book
 
-module _ (b c : BookState) where
-  -- a call of the desk alone
-  quiet_own : c.node ≡ b.node → IsOwn b.node [] c.node
-  quiet_own same = record { stays = ap (λ (x : NodeState). x.id) same; own = λ k m h. absurd (no_some m h) }
+did_own : (b : BookState) (e : Entry) (outs : List Message) (n : NodeState) → NodeDid b e outs n → IsOwn b.node outs n
+did_own b entry.Leave outs n d = subst (λ (x : List Message). IsOwn b.node x n) d.2 (leave_own b.node (d.0, n) d.1)
+did_own b (entry.Ask program start) outs n d = subst (λ (x : List Message). IsOwn b.node x n) d.2 (collect_own b.node (d.0, n) d.1)
+did_own b (entry.Store value) outs n d = subst (λ (x : List Message). IsOwn b.node x n) d.2 (store_own b.node value (d.0, n) d.1)
+did_own b (entry.Deliver m) outs n d = subst (λ (x : List Message). IsOwn b.node x n) d.2 (deliver_own b.node m (d.0, n) d.1)
+did_own b e outs n d = record {
+  stays = ap (λ (x : NodeState). x.id) d.0;
+  own = λ k m h. absurd (no_some m (ap (λ (x : List Message). slice_get x k) (sym d.1) ∙ h));
+}
 
-  sends_own : (outs others : List Message) → outs ≡ others → IsOwn b.node others c.node → IsOwn b.node outs c.node
-  sends_own outs others is own = subst (λ (x : List Message). IsOwn b.node x c.node) (sym is) own
-
-  entry_own : (e : Entry) → Follows b e c → IsOwn b.node (gives b e) c.node
-  entry_own entry.Leave f =
-      let a = left-parts b (f.0, c) f.1 in
-      sends_own _ f.0 (ap (sent_by (λ (x : List Message). x)) f.1) (subst (λ (z : List Message × BookState). IsOwn b.node z.0 z.1.node) a.2 (leave_own b.node a.0 a.1))
-  entry_own (entry.Register program) f =
-      let a = desk-parts b (desk.registered b.desk program) (f.0, c) f.1 in
-      quiet_own (ap (λ (z : ℕ × BookState). z.1.node) (sym a.2))
-  entry_own (entry.Ask program start) f =
-      let a = asked-parts b program start (f.0, c) f.1 in
-      sends_own _ f.0.begun.outs (ap (sent_by (λ (x : Asked). x.begun.outs)) f.1)
-      (subst (λ (z : Asked × BookState). IsOwn b.node z.0.begun.outs z.1.node) a.4 (collect_own b.node a.2 a.3))
-  entry_own (entry.Store value) f =
-      let a = stored-parts b value (f.0, c) f.1 in
-      sends_own _ f.0.outs (ap (sent_by (λ (x : Begun). x.outs)) f.1) (subst (λ (z : Begun × BookState). IsOwn b.node z.0.outs z.1.node) a.2 (store_own b.node value a.0 a.1))
-  entry_own (entry.Deliver m) f =
-      let a = delivered-parts b m (f.0, c) f.1 in
-      sends_own _ f.0.outs (ap (sent_by (λ (x : Taken). x.outs)) f.1) (subst (λ (z : Taken × BookState). IsOwn b.node z.0.outs z.1.node) a.2 (deliver_own b.node m a.0 a.1))
-  entry_own entry.HandOut f =
-      let a = desk-parts b (desk.handed_out b.desk b.id) (Some f.0, c) f.1 in
-      quiet_own (ap (λ (z : Option Job × BookState). z.1.node) (sym a.2))
-  entry_own (entry.Post query ran) f =
-      let a = desk-parts b (desk.posted b.desk b.id f.0 ran) (tt, c) f.3 in
-      quiet_own (ap (λ (z : Unit {0} × BookState). z.1.node) (sym a.2))
+entry_own : (b c : BookState) (e : Entry) → Follows b e c → IsOwn b.node (gives b e) c.node
+entry_own b c e f =
+    subst (λ (x : List Message). IsOwn b.node x c.node) (sym (gives_is b e)) (did_own b e (sends b e) c.node (follows-accepted b e c f).node)
 
 -- ---- the steps of a trace
 

@@ -1,5 +1,5 @@
 -- The trace of a beginning is a front of the whole book's, and its steps are its entries.
-use Rattle.std.proofs.Common.{◌≡◌, ℕ, zero, suc, List, [], ◌∷◌, ◌++◌, take, drop, Option, Some, None, refl, sym, ap, ◌∙◌, subst, slice_get, take-append-drop, append-nil, append_assoc}
+use Rattle.std.proofs.Common.{◌≡◌, ℕ, zero, suc, List, [], ◌∷◌, ◌++◌, take, drop, Option, Some, None, refl, sym, ap, ◌∙◌, subst, slice_get, take-append-drop, append_assoc}
 use Rattle.sc_msg.specs.declared.message.Message.{Message}
 use Rattle.sc_node.specs.State.{NodeState}
 use Rattle.sc_node.specs.Nodes as node
@@ -10,12 +10,12 @@ use Rattle.q_desk.specs.declared.journal.Entry.TheVariants as entry
 use Rattle.q_desk.proofs.Accepted.{same_some, no_some, same_answer, Keeps}
 use Rattle.q_book.specs.State.{BookState}
 use Rattle.q_book.specs.Books.{new_book}
-use Rattle.q_book.specs.Replays.{Replays, IsFirst, IsReplay}
-use Rattle.q_book.proofs.Followed.{follows-next}
+use Rattle.q_book.specs.Replays.{IsFirst, IsReplay}
+use Rattle.q_book.proofs.Followed.{follows_one}
+use Rattle.q_book.proofs.Replays.{replays_later}
 use Rattle.q_merge.specs.Merging.{Step}
 use Rattle.q_merge.specs.Traces.{wants, step_of, IsTraceFrom, entering, IsTrace}
-use Rattle.q_merge.proofs.Keeping.{trace_keeps}
-use Rattle.q_merge.proofs.Tracing.{follows_one}
+use Rattle.q_merge.proofs.Keeping.{trace_replays}
 use Rattle.q_beginnings.specs.Beginnings.{IsBeginningOf}
 use Rattle.q_beginnings.proofs.Lists.{IsFront}
 
@@ -65,7 +65,7 @@ module _ (whole : BookState) (n : NodeState) (d : DeskState) where
           u.is ∙ ap (λ (x : Steps). entering whole whole.founders ++ x) r.1 ∙ sym (append_assoc (entering whole whole.founders) t.rest r.0)
               ∙ ap (λ (x : Steps). (x ++ t.rest) ++ r.0) (sym (entering_same whole.founders)) ∙ ap (λ (x : Steps). x ++ r.0) (sym t.is),
         ),
-        trace_keeps rest part r.0 whole r.2,
+        (replays_later rest part whole (trace_replays rest part whole r.0 r.2)).keeps,
       )
 
 module _ (part whole : BookState) (k : IsBeginningOf part whole) where
@@ -84,30 +84,11 @@ module _ (part whole : BookState) (k : IsBeginningOf part whole) where
 
 -- ---- a trace as a replay
 
-pub from_replays : (es : List Entry) (b c : BookState) (steps : Steps) → IsTraceFrom b es steps c → Replays b es c
-from_replays [] b c steps t = t.1
-from_replays (e ∷ es) b c steps t = (t.0, t.1, from_replays es t.0 c t.2 t.4)
-
--- the later book has the head of the first, and these entries behind its journal
-pub record IsOnward (b : BookState) (es : List Entry) (c : BookState) : Type 0 where
-  pub same : record b { node = c.node; desk = c.desk } ≡ c
-  pub journal : c.desk.journal ≡ b.desk.journal ++ es
-
-pub replays_onward : (es : List Entry) (b c : BookState) → Replays b es c → IsOnward b es c
-replays_onward [] b c r = subst (IsOnward b []) (sym r) (record { same = refl; journal = sym (append-nil b.desk.journal) })
-replays_onward (e ∷ es) b c r =
-    let first = follows-next b e r.0 r.1 in
-    let rest = replays_onward es r.0 c r.2 in
-    record {
-      same = ap (λ (x : BookState). record x { node = c.node; desk = c.desk }) first.same ∙ rest.same;
-      journal = rest.journal ∙ ap (λ (x : List Entry). x ++ es) first.adds ∙ append_assoc b.desk.journal (e ∷ []) es;
-    }
-
 pub trace_replay : (b : BookState) (steps : Steps) → IsTrace b steps → IsReplay b
 trace_replay b steps t = record {
   first = t.first;
   begun = t.begun;
-  replayed = from_replays b.desk.journal (new_book b.version b.id b.config b.founders t.first) b t.rest t.trace;
+  replayed = trace_replays b.desk.journal (new_book b.version b.id b.config b.founders t.first) b t.rest t.trace;
 }
 
 -- ---- steps and entries

@@ -6,14 +6,10 @@ ghost use Rattle.q_board.specs.Calls.{SameAsker, SameRunner};
 
 use crate::jobs::Times;
 use anyhow::{Result, anyhow, bail};
-use bq_frame::block::Block;
-use q_board::board::Board;
-use q_board::seats::{AskerSeat, ROW, RunnerSeat};
-use q_pool::gate::Open;
-use q_pool::runners::with_runners;
-use q_session::done::Done;
-use q_session::job::Job;
-use q_session::run::run_fold;
+use bq_frame::Block;
+use q_board::{AskerSeat, Board, ROW, RunnerSeat};
+use q_pool::{Open, with_runners};
+use q_session::{Done, Job, run_fold};
 use std::alloc::{AllocError, Global};
 use std::sync::Wait;
 use std::thread;

@@ -2,13 +2,9 @@
 
 use crate::measured::{Measured, RUNS};
 use anyhow::{Context, Result, bail};
-use q_lines::fault::NodesFault;
-use q_lines::outcome::Outcome;
-use q_lines::script::ClusterScript;
-use q_nodes::calls::{Calls, make_calls};
-use q_nodes::sockets::{open_sockets, run_over_sockets};
-use q_wire::counted::Counted;
-use q_wire::udp::UdpTransport;
+use q_lines::{ClusterScript, NodesFault, Outcome};
+use q_nodes::{Calls, make_calls, open_sockets, run_over_sockets};
+use q_wire::{Counted, UdpTransport};
 use std::alloc::{AllocError, Global};
 use std::net::Net;
 use std::sync::Wait;
@@ -126,8 +122,8 @@ where
     least.context("nothing was run")
 }
 
-/// Runs a script of so many stores as `bqview cluster` does, with the start and the end of the nodes: how many lines are
-/// printed, and how long it took.
+/// Runs a script of so many stores as `bqview cluster` does, with the start and the end of the nodes: how many lines
+/// are printed, and how long it took.
 pub(crate) fn run_script<R>(rt: &R, nodes: u64, count: u64) -> Result<Measured>
 where
     R: Net + Wait + Threads + Clock + Alloc<A = Global> + Sync,

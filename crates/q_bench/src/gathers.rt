@@ -2,14 +2,12 @@
 
 use crate::measured::Measured;
 use anyhow::{Result, anyhow, bail};
-use q_book::answer::Taken;
-use q_book::book::Book;
-use q_gather::gather::{gather, gather_books};
-use q_replay::write::journal_bytes;
-use sc_members::config::Config;
-use sc_msg::message::Message;
-use sc_node::answer::Begun;
-use sc_node::outs::Outs;
+use q_book::{Book, Taken};
+use q_gather::{gather, gather_books};
+use q_replay::journal_bytes;
+use sc_members::Config;
+use sc_msg::Message;
+use sc_node::{Begun, Outs};
 use std::alloc::{AllocError, Global};
 use std::time::{Clock, Instant};
 

@@ -4,13 +4,11 @@ ghost use Rattle.std.specs.Prelude.{◌≡◌};
 ghost use Rattle.q_sim.specs.Programs.{program_lengths};
 
 use anyhow::{Context, Result, anyhow};
-use q_session::job::Job;
 use q_session::laws::records_of_values;
-use q_session::query::{Phase, Query};
-use q_sim::program::certified_code;
-use q_table::program::{Program, ProgramId};
-use sc_view::value::{VALUE_LENGTH, Value};
-use sc_view::view::{Stored, View};
+use q_session::{Job, Phase, Query};
+use q_sim::certified_code;
+use q_table::{Program, ProgramId};
+use sc_view::{Stored, VALUE_LENGTH, Value, View};
 use std::alloc::Global;
 use std::time::Duration;
 

@@ -2,9 +2,8 @@
 
 use crate::jobs::Times;
 use anyhow::Result;
-use bq_frame::block::Block;
-use q_session::done::Done;
-use q_session::job::Job;
+use bq_frame::Block;
+use q_session::{Done, Job};
 use std::alloc::Global;
 use std::collections::VecDeque;
 use std::sync::atomic::AtomicBool;

@@ -2,10 +2,10 @@
 
 use crate::measured::{Measured, RUNS};
 use anyhow::{Result, anyhow};
-use q_book::book::Book;
-use q_net::serve::serve;
-use q_wire::counted::Counted;
-use sc_members::config::Config;
+use q_book::Book;
+use q_net::serve;
+use q_wire::Counted;
+use sc_members::Config;
 use std::alloc::Global;
 use std::sync::Wait;
 use std::time::{Clock, Duration, Instant};

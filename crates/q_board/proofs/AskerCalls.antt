@@ -14,11 +14,11 @@ use Rattle.q_board.specs.AskerModel.{AskerModel, asker_model, IsAsker}
 use Rattle.q_board.specs.Calls.{Offers, LooksOnly, Receives}
 use Rattle.q_session.specs.declared.job.Job.{Job}
 use Rattle.q_session.specs.Done.{Finished}
-use Rattle.q_slots.specs.declared.cell.Cell.{Cell}
-use Rattle.q_slots.specs.declared.cell.Cell.TheVariants as cell
+use Rattle.q_slots.specs.declared.cell.Content.{Content}
+use Rattle.q_slots.specs.declared.cell.Content.TheVariants as cell
 use Rattle.q_slots.specs.declared.view.Asking.{Asking}
-use Rattle.q_slots.specs.declared.view.View.{View}
-use Rattle.q_slots.specs.declared.view.View.TheVariants.{Asker}
+use Rattle.q_slots.specs.declared.view.Holder.{Holder}
+use Rattle.q_slots.specs.declared.view.Holder.TheVariants.{Asker}
 use Rattle.q_slots.proofs.Moves.{at_lt}
 use Rattle.q_slots.proofs.AskerSteps.{publishes, looks, takes_result}
 use Rattle.q_slots.specs.Words.{found_of}
@@ -26,7 +26,7 @@ use Rattle.q_slots.specs.declared.found.Found.TheVariants as found
 use Rattle.q_board.proofs.Rows.{times_here, lacks_at, lacks_set_some, lacks_set_none, jobs_set}
 
 -- the same at other names for the same numbers
-pub publish_allowed : (key slots id n k word : ℕ) (m : Sat) (a : Asking) (j : Job) (more : List (ℕ × Cell)) → slots ≡ key → a.number ≡ n → m ≡ (Asker a, (8 * n + k, cell.Offered j) ∷ more)
+pub publish_allowed : (key slots id n k word : ℕ) (m : Sat) (a : Asking) (j : Job) (more : List (ℕ × Content)) → slots ≡ key → a.number ≡ n → m ≡ (Asker a, (8 * n + k, cell.Offered j) ∷ more)
     → k < 8 → a.opened ≡ 8 → get_elem? a.row k ≡ some None → word ≡ 1
     → Allows (Orderly key) slots id m (8 * n + k) (λ _. word) (λ _. published (step slots (8 * n + k) word 0 none) m word)
 publish_allowed key slots id n k word m a j more sized num is near all free ready =
@@ -61,19 +61,19 @@ module _ (z : TableId) (me : Sat) (n place : ℕ) (all free : List ℕ) (count c
   rest_is = ap (λ (m : Sat). rest m.1) inv.0 ∙ ap (λ (ks : List ℕ). rest (bare (8 * n) ks)) popped
 
   pub first_is : me.1 ≡ (8 * n + place, cell.Vacant) ∷ rest me.1
-  first_is = ap (λ (m : Sat). m.1) inv.0 ∙ ap (bare (8 * n)) popped ∙ ap (λ (l : List (ℕ × Cell)). (8 * n + place, cell.Vacant) ∷ l) (sym rest_is)
+  first_is = ap (λ (m : Sat). m.1) inv.0 ∙ ap (bare (8 * n)) popped ∙ ap (λ (l : List (ℕ × Content)). (8 * n + place, cell.Vacant) ∷ l) (sym rest_is)
 
   module _ (j : Job) (m : Sat) (m_is : m ≡ (me.0, (8 * n + place, cell.Offered j) ∷ rest me.1)) where
     pub offer_allowed : (key slots id word : ℕ) → slots ≡ key → word ≡ 1
         → Allows (Orderly key) slots id m (8 * n + place) (λ _. word) (λ _. published (step slots (8 * n + place) word 0 none) m word)
-    offer_allowed key slots id word sized ready = publish_allowed key slots id n place word m a j (rest me.1) sized inv.1 (m_is ∙ ap (λ (v : View). (v, (8 * n + place, cell.Offered j) ∷ rest me.1)) (ap (λ (x : Sat). x.0) inv.0)) is_near inv.2 is_free ready
+    offer_allowed key slots id word sized ready = publish_allowed key slots id n place word m a j (rest me.1) sized inv.1 (m_is ∙ ap (λ (v : Holder). (v, (8 * n + place, cell.Offered j) ∷ rest me.1)) (ap (λ (x : Sat). x.0) inv.0)) is_near inv.2 is_free ready
 
     module _ (slots : ℕ) (w : Sat) (told : published (step slots (8 * n + place) 1 0 none) m 1 w) where
       abbrev b : Asking
       b = offering a (8 * n + place) (cell.Offered j)
 
       w_is : w ≡ (Asker b, bare (8 * n) free)
-      w_is = told ∙ ap (λ (x : Sat). (Asker (offering (asking x.0) (8 * n + place) (front x.1)), rest x.1)) m_is ∙ ap (λ (l : List (ℕ × Cell)). (Asker b, l)) rest_is
+      w_is = told ∙ ap (λ (x : Sat). (Asker (offering (asking x.0) (8 * n + place) (front x.1)), rest x.1)) m_is ∙ ap (λ (l : List (ℕ × Content)). (Asker b, l)) rest_is
 
       view_is : asking w.0 ≡ b
       view_is = ap (λ (x : Sat). asking x.0) w_is
@@ -118,7 +118,7 @@ module _ (z : TableId) (me : Sat) (n k : ℕ) (free : List ℕ) (count cap : ℕ
 
   module _ (i slots r : ℕ) (m : Sat) (told : looked (step slots i 0 0 none) me r m) where
     m_is : m ≡ (Asker (looking a₀ i r), bare (8 * n) free)
-    m_is = told ∙ ap (λ (l : List (ℕ × Cell)). (Asker (looking a₀ i r), l)) (ap (λ (x : Sat). x.1) inv.0)
+    m_is = told ∙ ap (λ (l : List (ℕ × Content)). (Asker (looking a₀ i r), l)) (ap (λ (x : Sat). x.1) inv.0)
 
     asks : asking m.0 ≡ looking a₀ i r
     asks = ap (λ (x : Sat). asking x.0) m_is
@@ -151,7 +151,7 @@ module _ (z : TableId) (me : Sat) (n k : ℕ) (free : List ℕ) (count cap : ℕ
       abbrev d : Finished
       d = told.0
 
-      pub take_has : (c : Cell) × (w.1 ≡ (i, c) ∷ rest w.1)
+      pub take_has : (c : Content) × (w.1 ≡ (i, c) ∷ rest w.1)
       take_has = (cell.Finished d, ap (λ (y : Sat). y.1) told.3 ∙ ap (λ (y : Sat). (i, cell.Finished d) ∷ rest y.1) (sym told.3))
 
       spot_is : i - 8 * a₀.number ≡ k
@@ -163,7 +163,7 @@ module _ (z : TableId) (me : Sat) (n k : ℕ) (free : List ℕ) (count cap : ℕ
       pub take_room : count < cap
       take_room = omega (arith, inv.4, inv.6, jobs_set a₀.row k (Some d.job) None open_at)
 
-      module _ (c : Cell) (u : Sat) (was : w.1 ≡ (i, c) ∷ rest w.1) (u_is : u ≡ (w.0, (i, cell.Vacant) ∷ rest w.1)) where
+      module _ (c : Content) (u : Sat) (was : w.1 ≡ (i, c) ∷ rest w.1) (u_is : u ≡ (w.0, (i, cell.Vacant) ∷ rest w.1)) where
         take_cell : c ≡ cell.Finished d
         take_cell = let e : (i, cell.Finished d) ∷ me.1 ≡ (i, c) ∷ rest w.1 = sym (ap (λ (y : Sat). y.1) told.3) ∙ was in ap front (sym e)
 
@@ -172,7 +172,7 @@ module _ (z : TableId) (me : Sat) (n k : ℕ) (free : List ℕ) (count cap : ℕ
 
         took : u ≡ (Asker b₀, bare (8 * n) (k ∷ free))
         took = u_is ∙ ap (λ (y : Sat). (y.0, (i, cell.Vacant) ∷ rest y.1)) told.3
-            ∙ ap (λ (l : List (ℕ × Cell)). (Asker b₀, (i, cell.Vacant) ∷ l)) (ap (λ (y : Sat). y.1) inv.0)
+            ∙ ap (λ (l : List (ℕ × Content)). (Asker b₀, (i, cell.Vacant) ∷ l)) (ap (λ (y : Sat). y.1) inv.0)
             ∙ ap (λ (x : ℕ). (Asker b₀, (x, cell.Vacant) ∷ bare (8 * n) free)) at
 
         row_now : b₀.row ≡ set a₀.row k None
@@ -188,7 +188,7 @@ module _ (z : TableId) (me : Sat) (n k : ℕ) (free : List ℕ) (count cap : ℕ
             as_large)
 
         -- me is the seat after the look, and first the seat before it
-        pub take_told : (done : Finished) → c ≡ cell.Finished done → (z' : TableId) → z' ≡ z → (first : View) (found : ℕ) → found ≡ 2 → a₀ ≡ looking (asking first) i found → (old : AskerModel) → old ≡ asker_model z first → Receives old i done (asker_model z' u.0)
+        pub take_told : (done : Finished) → c ≡ cell.Finished done → (z' : TableId) → z' ≡ z → (first : Holder) (found : ℕ) → found ≡ 2 → a₀ ≡ looking (asking first) i found → (old : AskerModel) → old ≡ asker_model z first → Receives old i done (asker_model z' u.0)
         take_told done c_is z' same first found found_is look_is old old_is =
             let done_is : d ≡ done = let e = sym take_cell ∙ c_is in cc in
             let P : AskerModel → Type 0 = λ y. Receives y i done (asker_model z' u.0) in

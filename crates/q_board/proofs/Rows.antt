@@ -9,8 +9,8 @@ use lib.ListN.{get_elem?}
 use Rattle.atomic_table.specs.Table.{turned}
 use Rattle.q_board.specs.Places.{times, one, none, has, lacks, jobs, bare}
 use Rattle.q_session.specs.declared.job.Job.{Job}
-use Rattle.q_slots.specs.declared.cell.Cell.{Cell}
-use Rattle.q_slots.specs.declared.cell.Cell.TheVariants.{Vacant}
+use Rattle.q_slots.specs.declared.cell.Content.{Content}
+use Rattle.q_slots.specs.declared.cell.Content.TheVariants.{Vacant}
 
 -- 1 where the two are one number
 abbrev pub tally : ℕ → ℕ → ℕ
@@ -84,7 +84,7 @@ times-append k (x ∷ xs) ys = omega (arith, times-append k xs ys)
 
 pub bare-append : (n : ℕ) (xs ys : List ℕ) → bare n (xs ++ ys) ≡ bare n xs ++ bare n ys
 bare-append n [] ys = refl
-bare-append n (x ∷ xs) ys = ap (λ (l : List (ℕ × Cell)). (n + x, Vacant) ∷ l) (bare-append n xs ys)
+bare-append n (x ∷ xs) ys = ap (λ (l : List (ℕ × Content)). (n + x, Vacant) ∷ l) (bare-append n xs ys)
 
 -- one turn of a queue
 module _ (k x : ℕ) (xs old new : List ℕ) (old_is : old ≡ x ∷ xs) (new_is : new ≡ xs ++ x ∷ []) where
@@ -94,7 +94,7 @@ module _ (k x : ℕ) (xs old new : List ℕ) (old_is : old ≡ x ∷ xs) (new_is
   pub turn_times : (i : ℕ) → times i new ≡ times i old
   turn_times i = omega (arith, ap (times i) old_is, ap (times i) new_is, times-append i xs (x ∷ []))
 
-  pub turn_bare : (mine : List (ℕ × Cell)) → mine ≡ bare 0 old → turned mine ≡ bare 0 new
+  pub turn_bare : (mine : List (ℕ × Content)) → mine ≡ bare 0 old → turned mine ≡ bare 0 new
   turn_bare mine e = ap turned e ∙ ap (λ (l : List ℕ). turned (bare 0 l)) old_is ∙ sym (bare-append 0 xs (x ∷ [])) ∙ ap (bare 0) (sym new_is)
 
   pub turn_length : length new ≡ length old

@@ -19,11 +19,11 @@ use Rattle.q_board.specs.Calls.{is_at, Misses, Claims, Finishes, GivesBack}
 use Rattle.q_session.specs.declared.job.Job.{Job}
 use Rattle.q_session.specs.declared.ran.Ran.{Ran}
 use Rattle.q_session.specs.Done.{Finished}
-use Rattle.q_slots.specs.declared.cell.Cell.{Cell}
-use Rattle.q_slots.specs.declared.cell.Cell.TheVariants as cell
+use Rattle.q_slots.specs.declared.cell.Content.{Content}
+use Rattle.q_slots.specs.declared.cell.Content.TheVariants as cell
 use Rattle.q_slots.specs.declared.found.Found.TheVariants as found
 use Rattle.q_slots.specs.declared.view.Running.{Running}
-use Rattle.q_slots.specs.declared.view.View.TheVariants.{Runner}
+use Rattle.q_slots.specs.declared.view.Holder.TheVariants.{Runner}
 use Rattle.q_slots.proofs.Moves.{at_lt}
 use Rattle.q_slots.proofs.RunnerSteps.{tries, finishes, gives_back}
 use Rattle.q_board.proofs.Rows.{has_at, has_set_none, has_set_some, jobs_set, jobs_room, jobs_nones, has_nones}
@@ -81,7 +81,7 @@ module _ (s : Inside) (left : List ℕ) (slot : ℕ) (j : Job)
   mine : get_elem? r.held slot ≡ some (Some j)
   mine = subst (λ (x : RunnerModel). is_at x.held slot (Some j)) old_is own
 
-  filled : (c : Cell) (w : Sat) → w ≡ (me.0, (slot, c) ∷ bare 0 left) → w ≡ (Runner r, (slot, c) ∷ bare 0 left)
+  filled : (c : Content) (w : Sat) → w ≡ (me.0, (slot, c) ∷ bare 0 left) → w ≡ (Runner r, (slot, c) ∷ bare 0 left)
   filled c w is = is ∙ ap (λ (x : Sat). (x.0, (slot, c) ∷ bare 0 left)) inv.0
 
   module _ (t : TableId) (on : old.table ≡ t) where
@@ -174,7 +174,7 @@ module _ (z : TableId) (me : Sat) (n : ℕ) (claims : List ℕ) (count cap lanes
   -- it missed
   module _ (slots word x : ℕ) (w : Sat) (miss : x ≢ 1) (told : tried (step slots i 1 word none) me x w) where
     missed : w ≡ (Runner (trying r₀ i x), bare 0 claims)
-    missed = told.1 miss ∙ ap (λ (l : List (ℕ × Cell)). (Runner (trying r₀ i x), l)) (ap (λ (y : Sat). y.1) inv.0)
+    missed = told.1 miss ∙ ap (λ (l : List (ℕ × Content)). (Runner (trying r₀ i x), l)) (ap (λ (y : Sat). y.1) inv.0)
 
     pub miss_keeps : (z' : TableId) → z' ≡ z → IsRunner z' w n claims count cap lanes next
     miss_keeps z' same = runner_keeps z me n claims count cap lanes next inv z' w (trying r₀ i x) claims count cap same missed refl refl refl inv.4 refl
@@ -188,20 +188,20 @@ module _ (z : TableId) (me : Sat) (n : ℕ) (claims : List ℕ) (count cap lanes
     abbrev got : (j : Job) × (get_elem? (running me.0).held i ≡ some None) × (w ≡ (Runner (claiming (running me.0) i j), (i, cell.Offered j) ∷ me.1))
     got = told.0 hit
 
-    pub hit_has : (c : Cell) × (w.1 ≡ (i, c) ∷ rest w.1)
+    pub hit_has : (c : Content) × (w.1 ≡ (i, c) ∷ rest w.1)
     hit_has = (cell.Offered got.0, ap (λ (y : Sat). y.1) got.2 ∙ ap (λ (y : Sat). (i, cell.Offered got.0) ∷ rest y.1) (sym got.2))
 
     pub hit_room : count < cap
     hit_room = omega (arith, inv.3, inv.2, inv.5, jobs_room r₀.held i got.1)
 
-    module _ (c : Cell) (u : Sat) (was : w.1 ≡ (i, c) ∷ rest w.1) (u_is : u ≡ (w.0, (i, cell.Vacant) ∷ rest w.1)) where
+    module _ (c : Content) (u : Sat) (was : w.1 ≡ (i, c) ∷ rest w.1) (u_is : u ≡ (w.0, (i, cell.Vacant) ∷ rest w.1)) where
       pub hit_cell : c ≡ cell.Offered got.0
       hit_cell = let e : (i, cell.Offered got.0) ∷ me.1 ≡ (i, c) ∷ rest w.1 = sym (ap (λ (y : Sat). y.1) got.2) ∙ was in
-          ap (λ (l : List (ℕ × Cell)). front l) (sym e)
+          ap (λ (l : List (ℕ × Content)). front l) (sym e)
 
       hit_seat : u ≡ (Runner (claiming r₀ i got.0), bare 0 (i ∷ claims))
       hit_seat = u_is ∙ ap (λ (y : Sat). (y.0, (i, cell.Vacant) ∷ rest y.1)) got.2
-          ∙ ap (λ (l : List (ℕ × Cell)). (Runner (claiming r₀ i got.0), (i, cell.Vacant) ∷ l)) (ap (λ (y : Sat). y.1) inv.0)
+          ∙ ap (λ (l : List (ℕ × Content)). (Runner (claiming r₀ i got.0), (i, cell.Vacant) ∷ l)) (ap (λ (y : Sat). y.1) inv.0)
           ∙ ap (λ (k : ℕ). (Runner (claiming r₀ i got.0), (k, cell.Vacant) ∷ bare 0 claims)) (sym (zero-add i))
 
       pub hit_keeps : (z' : TableId) → z' ≡ z → (count' : ℕ) → count' ≡ count + 1 → (cap' : ℕ) → cap' ≡ cap → (now_claims : List ℕ) → now_claims ≡ i ∷ claims → IsRunner z' u n now_claims count' cap' lanes next

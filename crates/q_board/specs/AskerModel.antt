@@ -4,10 +4,10 @@ use Rattle.atomic_table.specs.Seated.{TableId}
 use Rattle.atomic_table.specs.Table.{Me}
 use Rattle.q_session.specs.declared.job.Job.{Job}
 use Rattle.q_session.specs.Done.{Finished}
-use Rattle.q_slots.specs.declared.cell.Cell.{Cell}
+use Rattle.q_slots.specs.declared.cell.Content.{Content}
 use Rattle.q_slots.specs.declared.found.Look.{Look}
-use Rattle.q_slots.specs.declared.view.View.{View}
-use Rattle.q_slots.specs.declared.view.View.TheVariants.{Asker}
+use Rattle.q_slots.specs.declared.view.Holder.{Holder}
+use Rattle.q_slots.specs.declared.view.Holder.TheVariants.{Asker}
 use Rattle.q_slots.specs.Plays.{asking, new_asking}
 use Rattle.q_board.specs.Places.{times, lacks, jobs, bare}
 
@@ -19,10 +19,10 @@ pub record AskerModel : Type 0 where
   pub row : List (Option Job)
   pub looks : List Look
 
-abbrev pub asker_model : TableId → View → AskerModel
+abbrev pub asker_model : TableId → Holder → AskerModel
 asker_model z v = record { table = z; number = (asking v).number; offered = (asking v).offered; received = (asking v).received; row = (asking v).row; looks = (asking v).looks }
 
-abbrev pub IsAsker : TableId → Me Cell View → ℕ → List ℕ → ℕ → ℕ → Type 0
+abbrev pub IsAsker : TableId → Me Content Holder → ℕ → List ℕ → ℕ → ℕ → Type 0
 IsAsker z me number free count capacity =
     (me ≡ (Asker (asking me.0), bare (8 * number) free))
     × ((asking me.0).number ≡ number)

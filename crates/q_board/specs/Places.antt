@@ -1,8 +1,8 @@
 -- Places in a row of jobs.
 use Rattle.std.specs.Prelude.{ℕ, zero, suc, ◌+◌, ◌==◌, cond, List, [], ◌∷◌, map, Option, Some, None}
 use Rattle.q_session.specs.declared.job.Job.{Job}
-use Rattle.q_slots.specs.declared.cell.Cell.{Cell}
-use Rattle.q_slots.specs.declared.cell.Cell.TheVariants.{Vacant}
+use Rattle.q_slots.specs.declared.cell.Content.{Content}
+use Rattle.q_slots.specs.declared.cell.Content.TheVariants.{Vacant}
 
 -- how often k stands in the list
 abbrev pub times : ℕ → List ℕ → ℕ
@@ -34,5 +34,5 @@ jobs [] = 0
 jobs (x ∷ xs) = one x + jobs xs
 
 -- the slots of a row that a seat has, with nothing in them
-abbrev pub bare : ℕ → List ℕ → List (ℕ × Cell)
+abbrev pub bare : ℕ → List ℕ → List (ℕ × Content)
 bare from ks = map (λ k. (from + k, Vacant)) ks

@@ -4,10 +4,10 @@ use Rattle.atomic_table.specs.Seated.{TableId}
 use Rattle.atomic_table.specs.Table.{Me}
 use Rattle.q_session.specs.declared.job.Job.{Job}
 use Rattle.q_session.specs.Done.{Finished}
-use Rattle.q_slots.specs.declared.cell.Cell.{Cell}
+use Rattle.q_slots.specs.declared.cell.Content.{Content}
 use Rattle.q_slots.specs.declared.found.Look.{Look}
-use Rattle.q_slots.specs.declared.view.View.{View}
-use Rattle.q_slots.specs.declared.view.View.TheVariants.{Runner}
+use Rattle.q_slots.specs.declared.view.Holder.{Holder}
+use Rattle.q_slots.specs.declared.view.Holder.TheVariants.{Runner}
 use Rattle.q_slots.specs.Plays.{running, new_running}
 use Rattle.q_board.specs.Places.{times, has, jobs, bare}
 
@@ -20,10 +20,10 @@ pub record RunnerModel : Type 0 where
   pub lanes : ℕ
   pub next : ℕ
 
-abbrev pub runner_model : TableId → View → ℕ → ℕ → RunnerModel
+abbrev pub runner_model : TableId → Holder → ℕ → ℕ → RunnerModel
 runner_model z v lanes next = record { table = z; number = (running v).number; held = (running v).held; finished = (running v).finished; looks = (running v).looks; lanes = lanes; next = next }
 
-abbrev pub IsRunner : TableId → Me Cell View → ℕ → List ℕ → ℕ → ℕ → ℕ → ℕ → Type 0
+abbrev pub IsRunner : TableId → Me Content Holder → ℕ → List ℕ → ℕ → ℕ → ℕ → ℕ → Type 0
 IsRunner z me number claims count capacity lanes next =
     (me ≡ (Runner (running me.0), bare 0 claims))
     × ((running me.0).number ≡ number)

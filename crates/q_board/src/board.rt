@@ -16,15 +16,11 @@ use crate::drowsy::Drowsy;
 use crate::fault::{OpenFault, RowFull};
 use crate::seats::{AskerSeat, ROW, RunnerSeat, Slot};
 use atomic_table::{Refused, Seat, Shared, Table};
-use q_session::done::Done;
-use q_session::job::Job;
-use q_session::ran::Ran;
-use q_slots::cell::Cell;
-use q_slots::found::Found;
-use q_slots::rule::{
-    Finish, GiveBack, MakeAsker, MakeRunner, Order, Publish, See, Take, TakeHome, Try,
+use q_session::{Done, Job, Ran};
+use q_slots::{
+    Content, Finish, Found, GiveBack, Holder, MakeAsker, MakeRunner, Order, Publish, See, Take,
+    TakeHome, Try,
 };
-use q_slots::view::View;
 use std::alloc::{AllocError, Global};
 use std::collections::VecDeque;
 use std::sync::atomic::AtomicUsize;
@@ -42,7 +38,7 @@ pub const MOST_RUNNERS: usize = 64;
 /// while there are no jobs; no clause speaks of it.
 #[derive(Drop)]
 pub struct Board {
-    table: Table<Cell, View, u64, Order, Global>,
+    table: Table<Content, Holder, u64, Order, Global>,
     lanes: usize,
     // How many runners sleep, or look once more before they do.
     drowsy: AtomicUsize,
@@ -54,8 +50,8 @@ pub struct Board {
 impl Board {
     ghost use Rattle.q_board.specs.BoardId.{board_id};
 
-    /// Opens a board, with a seat for each asker and each runner. Refused with 62 where there are not 1 to 16 askers and
-    /// 1 to 64 runners, or with 99.
+    /// Opens a board, with a seat for each asker and each runner. Refused with 62 where there are not 1 to 16 askers
+    /// and 1 to 64 runners, or with 99.
     pub fn open(
         alloc: Global,
         askers: usize,
@@ -77,8 +73,8 @@ impl Board {
         Ok((board, asker_seats, runner_seats))
     }
 
-    /// Puts a job into a free slot of the seat's row. Refused with 61, and the same job, exactly where eight jobs of the
-    /// seat are open: offered, and not yet received.
+    /// Puts a job into a free slot of the seat's row. Refused with 61, and the same job, exactly where eight jobs of
+    /// the seat are open: offered, and not yet received.
     pub fn offer(&self, seat: &mut AskerSeat, job: Job) -> Result<Slot, (RowFull, Job)>
         requires { seat.old.table ≡ board_id self.now }
         ensures offered { MatchResult result
@@ -93,14 +89,14 @@ impl Board {
         };
         let index = ROW * seat.number + place;
         let shared = &self.table.shared;
-        put(&mut seat.seat, shared, index, Cell::Offered(job));
+        put(&mut seat.seat, shared, index, Content::Offered(job));
         shared.store::<Publish>(&mut seat.seat, index, Found::Ready.word());
         self.ring();
         Ok(Slot { index })
     }
 
-    /// Looks once at a slot of the seat's own. Where the look shows a finished job, takes its result, which is the right
-    /// answer of the job that was open in the slot.
+    /// Looks once at a slot of the seat's own. Where the look shows a finished job, takes its result, which is the
+    /// right answer of the job that was open in the slot.
     pub fn poll(&self, seat: &mut AskerSeat, slot: Slot) -> Option<Done>
         requires board { seat.old.table ≡ board_id self.now }
         requires own { (8 * seat.old.number ≤ slot.index) × (slot.index < 8 * seat.old.number + 8) }
@@ -117,14 +113,14 @@ impl Board {
         }
         let empty = Found::Empty.word();
         shared.compare_exchange::<Take>(&mut seat.seat, index, finished, empty);
-        let taken = shared.exchange(&mut seat.seat, index, Cell::Vacant);
+        let taken = shared.exchange(&mut seat.seat, index, Content::Vacant);
         seat.free.push_front_reserved(index - ROW * seat.number);
         match taken {
-            Cell::Finished(done) => {
+            Content::Finished(done) => {
                 let _job = done.job();
                 Some(done)
             }
-            Cell::Vacant | Cell::Offered(_) => unreachable!(),
+            Content::Vacant | Content::Offered(_) => unreachable!(),
         }
     }
 
@@ -143,11 +139,11 @@ impl Board {
         if shared.compare_exchange::<Try>(&mut seat.seat, index, ready, claimed) != ready {
             return None;
         }
-        let taken = shared.exchange(&mut seat.seat, index, Cell::Vacant);
+        let taken = shared.exchange(&mut seat.seat, index, Content::Vacant);
         seat.claims.push_front_reserved(index);
         match taken {
-            Cell::Offered(job) => Some(Claim { slot: index, job }),
-            Cell::Vacant | Cell::Finished(_) => unreachable!(),
+            Content::Offered(job) => Some(Claim { slot: index, job }),
+            Content::Vacant | Content::Finished(_) => unreachable!(),
         }
     }
 
@@ -161,7 +157,7 @@ impl Board {
     {
         let Claim { slot, job } = claim;
         let done = Done::of(job, ran);
-        let cell = Cell::Finished(done);
+        let cell = Content::Finished(done);
         let shared = &self.table.shared;
         fill(&mut seat.seat, &mut seat.claims, shared, slot, cell);
         shared.store::<Finish>(&mut seat.seat, slot, Found::Finished.word());
@@ -175,7 +171,7 @@ impl Board {
         ensures same { SameRunner seat.old seat.new }
     {
         let Claim { slot, job } = claim;
-        let cell = Cell::Offered(job);
+        let cell = Content::Offered(job);
         let shared = &self.table.shared;
         fill(&mut seat.seat, &mut seat.claims, shared, slot, cell);
         shared.store::<GiveBack>(&mut seat.seat, slot, Found::Ready.word());
@@ -215,7 +211,7 @@ impl Board {
     ghost use Rattle.q_board.specs.BoardId.{board_id};
 
     // An empty board, and the seat that makes the others.
-    fn lay(alloc: Global, lanes: usize) -> Result<(Board, Seat<Cell, View>), AllocError>
+    fn lay(alloc: Global, lanes: usize) -> Result<(Board, Seat<Content, Holder>), AllocError>
         requires { lanes ≤ 128 }
         ensures { IfOk result (λ made. (made.0.lanes ≡ lanes) × (made.1.table_id ≡ board_id made.0) × (made.1.me ≡ (making lanes 0, []))) }
     {
@@ -223,7 +219,7 @@ impl Board {
         let mut cells = Vec::with_capacity(alloc, lanes)?;
         for _ in 0..lanes {
             words.push_reserved(0);
-            cells.push_reserved(Cell::Vacant);
+            cells.push_reserved(Content::Vacant);
         }
         let key = lanes as u64;
         match Table::new(alloc, &words, cells, &key) {
@@ -253,7 +249,7 @@ impl Board {
     fn seat_askers(
         &self,
         alloc: Global,
-        maker: &mut Seat<Cell, View>,
+        maker: &mut Seat<Content, Holder>,
         askers: usize,
     ) -> Result<Vec<AskerSeat>, AllocError>
         requires board { maker.old.table_id ≡ board_id self.now }
@@ -273,7 +269,7 @@ impl Board {
     fn seat_runners(
         &self,
         alloc: Global,
-        maker: &mut Seat<Cell, View>,
+        maker: &mut Seat<Content, Holder>,
         askers: usize,
         runners: usize,
     ) -> Result<Vec<RunnerSeat>, AllocError>
@@ -293,7 +289,7 @@ impl Board {
     fn seat_asker(
         &self,
         alloc: Global,
-        maker: &mut Seat<Cell, View>,
+        maker: &mut Seat<Content, Holder>,
         number: usize,
     ) -> Result<AskerSeat, AllocError>
         requires board { maker.old.table_id ≡ board_id self.now }
@@ -316,7 +312,7 @@ impl Board {
     fn seat_runner(
         &self,
         alloc: Global,
-        maker: &mut Seat<Cell, View>,
+        maker: &mut Seat<Content, Holder>,
         made: usize,
     ) -> Result<RunnerSeat, AllocError>
         requires board { maker.old.table_id ≡ board_id self.now }
@@ -339,12 +335,12 @@ impl Board {
 // Puts something into the slot that the seat took last.
 #[inline(always)]
 fn put(
-    seat: &mut Seat<Cell, View>,
-    shared: &Shared<Cell, View, u64, Order>,
+    seat: &mut Seat<Content, Holder>,
+    shared: &Shared<Content, Holder, u64, Order>,
     slot: usize,
-    cell: Cell,
+    cell: Content,
 )
-    requires { (seat.old.table_id ≡ shared.now.table_id) × ((old : Cell) × (seat.old.me.1 ≡ (slot, old) ∷ rest seat.old.me.1)) }
+    requires { (seat.old.table_id ≡ shared.now.table_id) × ((old : Content) × (seat.old.me.1 ≡ (slot, old) ∷ rest seat.old.me.1)) }
     ensures board { seat.new.table_id ≡ seat.old.table_id }
     ensures seat { seat.new.id ≡ seat.old.id }
     ensures there { seat.new.me ≡ (seat.old.me.0, (slot, cell) ∷ rest seat.old.me.1) }
@@ -355,11 +351,11 @@ fn put(
 // Takes a claimed slot off the claims and puts something into it; the seat has it before all others.
 #[inline(always)]
 fn fill(
-    seat: &mut Seat<Cell, View>,
+    seat: &mut Seat<Content, Holder>,
     claims: &mut VecDeque<usize>,
-    shared: &Shared<Cell, View, u64, Order>,
+    shared: &Shared<Content, Holder, u64, Order>,
     slot: usize,
-    cell: Cell,
+    cell: Content,
 )
     requires { (seat.old.table_id ≡ shared.now.table_id) × (seat.old.me.1 ≡ bare 0 claims.old.items) × (0 < times slot claims.old.items) }
     ensures same { (seat.new.table_id ≡ seat.old.table_id) × (seat.new.id ≡ seat.old.id) }
@@ -372,7 +368,7 @@ fn fill(
 }
 
 // Brings a claimed slot to the front of the seat, and takes it off the claims.
-fn bring(seat: &mut Seat<Cell, View>, claims: &mut VecDeque<usize>, slot: usize)
+fn bring(seat: &mut Seat<Content, Holder>, claims: &mut VecDeque<usize>, slot: usize)
     requires { (seat.old.me.1 ≡ bare 0 claims.old.items) × (0 < times slot claims.old.items) }
     ensures same { (seat.new.table_id ≡ seat.old.table_id) × (seat.new.id ≡ seat.old.id) × (seat.new.me.0 ≡ seat.old.me.0) }
     ensures front { seat.new.me.1 ≡ bare 0 (slot ∷ claims.new.items) }

@@ -2,7 +2,7 @@
 
 ghost use Rattle.std.specs.Prelude.{◌≡◌};
 
-use q_session::job::Job;
+use q_session::Job;
 
 /// The right to a slot's job, and the duty to finish it or to give it back: a claim that is dropped does not compile.
 /// Contracts see it as the record of the slot and the job.

@@ -12,8 +12,7 @@ ghost use Rattle.q_board.specs.AskerModel.{AskerModel, asker_model, IsAsker};
 ghost use Rattle.q_board.specs.RunnerModel.{RunnerModel, runner_model, IsRunner};
 
 use atomic_table::Seat;
-use q_slots::cell::Cell;
-use q_slots::view::View;
+use q_slots::{Content, Holder};
 use std::collections::VecDeque;
 use std::marker::Model;
 
@@ -30,7 +29,7 @@ pub struct Slot {
 /// board, its number and what it has done.
 #[derive(Drop)]
 pub struct AskerSeat {
-    pub(crate) seat: Seat<Cell, View>,
+    pub(crate) seat: Seat<Content, Holder>,
     pub(crate) number: usize,
     // The places in the row with no open job. The one that the seat took last is first.
     pub(crate) free: VecDeque<usize>,
@@ -73,7 +72,7 @@ impl AskerSeat {
 /// number, what it has done and the slot whose turn it is.
 #[derive(Drop)]
 pub struct RunnerSeat {
-    pub(crate) seat: Seat<Cell, View>,
+    pub(crate) seat: Seat<Content, Holder>,
     pub(crate) number: u32,
     // The slots that it has claimed. The one that it took last is first.
     pub(crate) claims: VecDeque<usize>,

@@ -1,5 +1,5 @@
 -- That a book keeps what each book keeps at each of its calls.
-use Rattle.std.proofs.Common.{◌≡◌, ◌≢◌, ℕ, Bool, true, false, cond, length, List, Option, Some, None, Result, Ok, Err, refl, sym, ap, subst, ◌∙◌, if◌then◌else◌}
+use Rattle.std.proofs.Common.{◌≡◌, ◌≢◌, ℕ, Bool, true, false, cond, length, List, Option, Some, None, Result, Ok, Err, refl, sym, ap, subst, ◌∙◌}
 use Rattle.std.specs.Prelude.{nat_le}
 use Rattle.std.specs.FinMap as fin
 use Rattle.std.specs.Result.{IsErrAnd}
@@ -46,54 +46,53 @@ use Rattle.q_book.proofs.Replays.{with, book_next}
 abbrev pub Test : Type 0
 Test = Result (Unit {0}) BookFault
 
-here-flag : {A : Type 0} (gone : Bool) (u : Unit {0}) (rest : Result A BookFault)
-    → (let t : Test = Ok u in t) ≡ (if gone then Err (fault.Node node_fault.Gone) else Ok tt)
-    → (if gone then Err (fault.Node node_fault.Gone) else rest) ≡ rest
-here-flag false u rest h = refl
-here-flag true u rest h = absurd (cc)
+-- a test that was passed is passed whatever follows
+unless_passed : {A B : Type 0} (t : Bool) (e : BookFault) (r : Result A BookFault) (y : A) (rest : Result B BookFault)
+    → (let x : Result A BookFault = Ok y in x) ≡ cond t (Err e) r → (cond t (Err e) rest ≡ rest) × ((let x : Result A BookFault = Ok y in x) ≡ r)
+unless_passed false e r y rest h = (refl, h)
+unless_passed true e r y rest h = absurd (no_refusal e y (sym h))
+
+where_passed : {A B : Type 0} (t : Bool) (e : BookFault) (r : Result A BookFault) (y : A) (rest : Result B BookFault)
+    → (let x : Result A BookFault = Ok y in x) ≡ cond t r (Err e) → (t ≡ true) × (cond t rest (Err e) ≡ rest) × ((let x : Result A BookFault = Ok y in x) ≡ r)
+where_passed true e r y rest h = (refl, refl, h)
+where_passed false e r y rest h = absurd (no_refusal e y (sym h))
 
 pub passes-here : {A : Type 0} (b : BookState) (u : Unit {0}) (rest : Result A BookFault) → (let t : Test = Ok u in t) ≡ here b (Ok tt) → here b rest ≡ rest
-passes-here b u rest h = here-flag b.node.gone u rest h
+passes-here b u rest h = (unless_passed b.node.gone (fault.Node node_fault.Gone) (Ok tt) u rest h).0
 
 -- the value of the bytes
 abbrev pub Valued : Type 0
 Valued = Result (List ℕ) BookFault
 
-storing-flags : {A : Type 0} (gone joins fits full : Bool) (v value : List ℕ) (rest : Result A BookFault)
-    → (let t : Valued = Ok v in t) ≡ (if gone then Err (fault.Node node_fault.Gone) else (if joins then (if fits then (if full then Err (fault.Node node_fault.SessionsFull) else Ok value) else Err fault.BadValue) else Err (fault.Node node_fault.NotJoined)))
-    → (v ≡ value) × ((if gone then Err (fault.Node node_fault.Gone) else (if joins then (if fits then (if full then Err (fault.Node node_fault.SessionsFull) else rest) else Err fault.BadValue) else Err (fault.Node node_fault.NotJoined))) ≡ rest)
-storing-flags false true true false v value rest h = (same_answer v value h, refl)
-storing-flags true joins fits full v value rest h = absurd (cc)
-storing-flags false false fits full v value rest h = absurd (cc)
-storing-flags false true false full v value rest h = absurd (cc)
-storing-flags false true true true v value rest h = absurd (cc)
-
 -- the value is of the bytes, which have a length of the book's version, and the rest follows
-pub passes-storing : {A : Type 0} (b : BookState) (fits : Bool) (v value : List ℕ) (rest : Result A BookFault) → (let t : Valued = Ok v in t) ≡ here b (joined b (fitting fits (free b (Ok value)))) → (v ≡ value) × (here b (joined b (fitting fits (free b rest))) ≡ rest)
-passes-storing b fits v value rest h = storing-flags b.node.gone b.node.joined fits (nat_le node.most_open (fin.len b.node.sessions)) v value rest h
-
-taking-flags : {A : Type 0} (gone fits : Bool) (u : Unit {0}) (rest : Result A BookFault)
-    → (let t : Test = Ok u in t) ≡ (if gone then Err (fault.Node node_fault.Gone) else (if fits then Ok tt else Err fault.BadValue))
-    → (fits ≡ true) × ((if gone then Err (fault.Node node_fault.Gone) else (if fits then rest else Err fault.BadValue)) ≡ rest)
-taking-flags false true u rest h = (refl, refl)
-taking-flags true fits u rest h = absurd (cc)
-taking-flags false false u rest h = absurd (cc)
+pub passes-storing : {A : Type 0} (b : BookState) (fits : Bool) (v value : List ℕ) (rest : Result A BookFault)
+    → (let t : Valued = Ok v in t) ≡ here b (joined b (fitting fits (free b (Ok value))))
+    → (v ≡ value) × (here b (joined b (fitting fits (free b rest))) ≡ rest)
+passes-storing b fits v value rest h =
+    let there = unless_passed b.node.gone (fault.Node node_fault.Gone) (joined b (fitting fits (free b (Ok value)))) v
+    (joined b (fitting fits (free b rest))) h in
+    let joins = where_passed b.node.joined (fault.Node node_fault.NotJoined) (fitting fits (free b (Ok value))) v (fitting fits (free b rest)) there.1 in
+    let fit = where_passed fits fault.BadValue (free b (Ok value)) v (free b rest) joins.2 in
+    let few = unless_passed (nat_le node.most_open (fin.len b.node.sessions)) (fault.Node node_fault.SessionsFull) (Ok value) v rest fit.2 in
+    (same_answer v value few.1, there.0 ∙ joins.1 ∙ fit.1 ∙ few.0)
 
 -- the message fits the book's version, and the rest follows
-pub passes-taking : {A : Type 0} (b : BookState) (fits : Bool) (u : Unit {0}) (rest : Result A BookFault) → (let t : Test = Ok u in t) ≡ here b (fitting fits (Ok tt)) → (fits ≡ true) × (here b (fitting fits rest) ≡ rest)
-passes-taking b fits u rest h = taking-flags b.node.gone fits u rest h
+pub passes-taking : {A : Type 0} (b : BookState) (fits : Bool) (u : Unit {0}) (rest : Result A BookFault)
+    → (let t : Test = Ok u in t) ≡ here b (fitting fits (Ok tt)) → (fits ≡ true) × (here b (fitting fits rest) ≡ rest)
+passes-taking b fits u rest h =
+    let there = unless_passed b.node.gone (fault.Node node_fault.Gone) (fitting fits (Ok tt)) u (fitting fits rest) h in
+    let fit = where_passed fits fault.BadValue (Ok tt) u rest there.1 in
+    (fit.0, there.0 ∙ fit.1)
 
-asking-flags : {A : Type 0} (gone joins knows full : Bool) (u : Unit {0}) (rest : Result A BookFault)
-    → (let t : Test = Ok u in t) ≡ (if gone then Err (fault.Node node_fault.Gone) else (if joins then (if knows then (if full then Err (fault.Node node_fault.SessionsFull) else Ok tt) else Err (fault.Desk desk_fault.UnknownProgram)) else Err (fault.Node node_fault.NotJoined)))
-    → (if gone then Err (fault.Node node_fault.Gone) else (if joins then (if knows then (if full then Err (fault.Node node_fault.SessionsFull) else rest) else Err (fault.Desk desk_fault.UnknownProgram)) else Err (fault.Node node_fault.NotJoined))) ≡ rest
-asking-flags false true true false u rest h = refl
-asking-flags true joins knows full u rest h = absurd (cc)
-asking-flags false false knows full u rest h = absurd (cc)
-asking-flags false true false full u rest h = absurd (cc)
-asking-flags false true true true u rest h = absurd (cc)
-
-pub passes-asking : {A : Type 0} (b : BookState) (program : ℕ) (u : Unit {0}) (rest : Result A BookFault) → (let t : Test = Ok u in t) ≡ here b (joined b (known b program (free b (Ok tt)))) → here b (joined b (known b program (free b rest))) ≡ rest
-passes-asking b program u rest h = asking-flags b.node.gone b.node.joined (desk.knows b.desk program) (nat_le node.most_open (fin.len b.node.sessions)) u rest h
+pub passes-asking : {A : Type 0} (b : BookState) (program : ℕ) (u : Unit {0}) (rest : Result A BookFault)
+    → (let t : Test = Ok u in t) ≡ here b (joined b (known b program (free b (Ok tt)))) → here b (joined b (known b program (free b rest))) ≡ rest
+passes-asking b program u rest h =
+    let there = unless_passed b.node.gone (fault.Node node_fault.Gone) (joined b (known b program (free b (Ok tt)))) u
+    (joined b (known b program (free b rest))) h in
+    let joins = where_passed b.node.joined (fault.Node node_fault.NotJoined) (known b program (free b (Ok tt))) u (known b program (free b rest)) there.1 in
+    let knows = where_passed (desk.knows b.desk program) (fault.Desk desk_fault.UnknownProgram) (free b (Ok tt)) u (free b rest) joins.2 in
+    let few = unless_passed (nat_le node.most_open (fin.len b.node.sessions)) (fault.Node node_fault.SessionsFull) (Ok tt) u rest knows.2 in
+    there.0 ∙ joins.1 ∙ knows.1 ∙ few.0
 
 -- ---- a book whose parts are as they were
 

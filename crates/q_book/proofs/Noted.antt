@@ -1,5 +1,5 @@
 -- What posts and hand-outs add to a book's journal, and why a post is refused.
-use Rattle.std.proofs.Common.{◌≡◌, Bool, true, false, ◌⊎◌, inl, inr, Option, Some, None, Result, Ok, Err, refl, sym, ap, ◌∙◌, subst, if◌then◌else◌}
+use Rattle.std.proofs.Common.{◌≡◌, Bool, true, false, ◌⊎◌, inl, inr, Option, Some, None, Result, Ok, Err, refl, sym, ap, subst, if◌then◌else◌}
 use Rattle.std.specs.Prelude.{slice_get, ◌==◌}
 use Rattle.sc_node.specs.declared.fault.NodeFault.TheVariants as node_fault
 use Rattle.q_session.specs.declared.ran.Ran.{Ran}
@@ -17,9 +17,7 @@ use Rattle.q_book.specs.Faults.{of_desk}
 use Rattle.q_book.specs.State.{BookState}
 use Rattle.q_book.specs.Books.{with_desk, by_desk}
 use Rattle.q_book.specs.Noted.{IsResultFault, PostsAreNoted, RoomLeavesResultFaults, HandOutsAreNoted, NoneChangesNothing}
-use Rattle.q_desk.proofs.Moves.{IsHanded, handed_out-ok}
-use Rattle.q_book.proofs.Parts.{desk-parts}
-use Rattle.q_book.proofs.Followed.{handed-next, posted-next}
+use Rattle.q_book.proofs.Followed.{handed-accepted, none-handed, posted-accepted}
 
 abbrev Desked : Type 0 → Type 0
 Desked A = Result (A × DeskState) DeskFault
@@ -30,17 +28,13 @@ Booked A = Result (A × BookState) BookFault
 -- ---- an accepted call of the desk
 
 pub posts_noted : PostsAreNoted
-posts_noted b j ran c h = (posted-next b j ran c h).adds
+posts_noted b j ran c h = (posted-accepted b j ran c h).adds
 
 pub hand_outs_noted : HandOutsAreNoted
-hand_outs_noted b j c h = (handed-next b j c h).adds
+hand_outs_noted b j c h = (handed-accepted b j c h).adds
 
 pub none_changes : NoneChangesNothing
-none_changes b c h =
-    let a = desk-parts b (desk.handed_out b.desk b.id) (None, c) h in
-    let none : a.0.0 ≡ None = ap (λ (x : Option Job × BookState). x.0) a.2 in
-    let same = subst (λ (o : Option Job). IsHanded b.desk b.id a.0.1 o) none (handed_out-ok b.desk b.id a.0 a.1) in
-    sym (ap (λ (x : Option Job × BookState). x.1) a.2) ∙ ap (λ (d : DeskState). let y : BookState = record b { desk = d } in y) (sym same)
+none_changes b c h = sym (none-handed b c h)
 
 -- ---- a refused post
 

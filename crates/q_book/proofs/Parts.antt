@@ -47,6 +47,10 @@ module _ (b : BookState) where
   pub here-ok : {B : Type 0} (r : Result B BookFault) (z : B) → book.here b r ≡ Ok z → r ≡ Ok z
   here-ok r z h = (spared b.node.gone (fault.Node node_fault.Gone) r z h).1
 
+  -- the node had not left
+  pub is_there : {B : Type 0} (r : Result B BookFault) (z : B) → book.here b r ≡ Ok z → b.node.gone ≡ false
+  is_there r z h = (spared b.node.gone (fault.Node node_fault.Gone) r z h).0
+
   pub joined-ok : {B : Type 0} (r : Result B BookFault) (z : B) → book.joined b r ≡ Ok z → r ≡ Ok z
   joined-ok r z h = (passed b.node.joined (fault.Node node_fault.NotJoined) r z h).1
 

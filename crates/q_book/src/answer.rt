@@ -1,8 +1,7 @@
 //! What calls of a book answer.
 
-use q_desk::completed::Completed;
-use sc_node::answer::{Begun, Progress};
-use sc_node::outs::Outs;
+use q_desk::Completed;
+use sc_node::{Begun, Outs, Progress};
 
 /// A query that began.
 #[derive(Drop)]

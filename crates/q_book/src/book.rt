@@ -19,23 +19,15 @@ ghost use Rattle.q_book.specs.Replays.{IsReplay, EntryFits};
 use crate::answer::{Asked, Taken};
 use crate::fault::BookFault;
 use crate::lengths::record_lengths;
-use q_desk::desk::Desk;
-use q_desk::fault::DeskFault;
-use q_desk::journal::Entry;
-use q_session::done::Done;
-use q_session::job::Job;
+use q_desk::{Desk, DeskFault, Entry};
 use q_session::laws::records_of_values;
-use q_session::ran::Ran;
-use q_table::program::{Program, ProgramId};
+use q_session::{Done, Job, Ran};
+use q_table::{Program, ProgramId};
 use sc_lengths::laws::delivery_keeps_lengths;
-use sc_members::config::Config;
-use sc_msg::message::Message;
-use sc_msg::version::Version;
-use sc_node::answer::{Begun, Delivered};
-use sc_node::fault::NodeFault;
-use sc_node::node::{MOST_OPEN, Node};
-use sc_node::outs::Outs;
-use sc_view::value::Value;
+use sc_members::Config;
+use sc_msg::{Message, Version};
+use sc_node::{Begun, Delivered, MOST_OPEN, Node, NodeFault, Outs};
+use sc_view::Value;
 use std::alloc::{AllocError, Global};
 use std::marker::Model;
 
@@ -202,8 +194,8 @@ impl Book {
         Ok(())
     }
 
-    /// Whether a post is refused for the node or for the journal's room, before its result is looked at: after Ok a post
-    /// that is the next call is refused with none but 55 and 56. Refused with 42, 53. Takes no memory.
+    /// Whether a post is refused for the node or for the journal's room, before its result is looked at: after Ok a
+    /// post that is the next call is refused with none but 55 and 56. Refused with 42, 53. Takes no memory.
     pub fn room_for_post(&self) -> Result<(), BookFault>
         ensures { result ≡ room_for_post self.now }
     {

@@ -3,9 +3,9 @@
 ghost use Rattle.std.specs.Prelude.{◌≡◌};
 ghost use Rattle.q_book.specs.Faults.{reason, of_desk, of_call, memory};
 
-use q_desk::fault::{CallFault, DeskFault};
+use q_desk::{CallFault, DeskFault};
 use reasons::{Reason, told};
-use sc_node::fault::NodeFault;
+use sc_node::NodeFault;
 use std::alloc::AllocError;
 
 /// Why a book refuses a call. After a refusal the book is as it was. Where several hold, the first of 42, 41, 51, 59,

@@ -3,8 +3,8 @@
 ghost use Rattle.std.specs.Prelude.{◌≡◌};
 ghost use Rattle.q_book.specs.Books.{record_lengths};
 
-use bq_state::bounds::Bounds;
-use sc_msg::version::Version;
+use bq_state::Bounds;
+use sc_msg::Version;
 
 /// The lengths for which a program is checked that a book of this version registers: 64 bytes in version 1, where each
 /// value has 48, and 16 to 128 in version 2, where a value has 0 to 112.

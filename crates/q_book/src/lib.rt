@@ -12,14 +12,16 @@
 //! Its type keeps that a book is the replay of its journal: the calls that the journal names, from the first state of
 //! its node, lead to this book and to no other entry of the journal. So each recorded answer is the meaning of its
 //! query's program, folded over the view that its own collect returned.
-//!
-//! [`Book`]: book::Book
-//! [`record_lengths`]: lengths::record_lengths
 #![tactic(auto)]
 
-pub mod answer;
-pub mod book;
-pub mod fault;
+mod answer;
+mod book;
+mod fault;
 pub mod laws;
-pub mod lengths;
+mod lengths;
 pub mod worked;
+
+pub use answer::{Asked, Taken};
+pub use book::Book;
+pub use fault::BookFault;
+pub use lengths::record_lengths;

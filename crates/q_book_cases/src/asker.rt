@@ -4,12 +4,10 @@ ghost use Rattle.std.specs.Prelude.{◌≡◌, All};
 ghost use Rattle.q_board.specs.BoardId.{board_id};
 
 use crate::step::Outcome;
-use q_board::board::Board;
-use q_board::seats::{AskerSeat, ROW};
-use q_book::book::Book;
-use q_pool::pump::pump_once;
-use q_session::done::Done;
-use q_session::job::Job;
+use q_board::{AskerSeat, Board, ROW};
+use q_book::Book;
+use q_pool::pump_once;
+use q_session::{Done, Job};
 use std::alloc::Global;
 
 /// An asker's seat, and the board where it is.

@@ -2,17 +2,14 @@
 
 use crate::step::Outcome;
 use crate::stream::{Input, Output};
-use bq_frame::block::Block;
-use q_book::book::Book;
-use q_net::serve::serve;
-use q_session::done::Done;
-use q_session::job::Job;
-use q_session::ran::Ran;
-use q_table::program::ProgramId;
-use q_wire::counted::Counted;
-use sc_members::config::Config;
-use sc_msg::message::Message;
-use sc_msg::version::Version;
+use bq_frame::Block;
+use q_book::Book;
+use q_net::serve;
+use q_session::{Done, Job, Ran};
+use q_table::ProgramId;
+use q_wire::Counted;
+use sc_members::Config;
+use sc_msg::{Message, Version};
 use std::alloc::Global;
 use std::sync::Wait;
 

@@ -49,7 +49,7 @@ mod stream;
 
 use crate::cases::{Cases, seated};
 use crate::requests::want_of_memory_is_answered;
-use q_board::board::Board;
+use q_board::Board;
 use std::alloc::Global;
 use std::io;
 use std::sync::Wait;

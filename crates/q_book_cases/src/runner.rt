@@ -4,11 +4,9 @@ ghost use Rattle.std.specs.Prelude.{◌≡◌, All};
 ghost use Rattle.q_board.specs.BoardId.{board_id};
 
 use crate::step::Outcome;
-use bq_frame::block::Block;
-use q_board::board::Board;
-use q_board::seats::RunnerSeat;
-use q_pool::gate::Open;
-use q_pool::runner::run_some;
+use bq_frame::Block;
+use q_board::{Board, RunnerSeat};
+use q_pool::{Open, run_some};
 use std::alloc::Global;
 
 /// At how many slots a runner looks: the row of one asker.

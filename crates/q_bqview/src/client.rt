@@ -1,8 +1,8 @@
 //! What explains why `client` refuses a script. No contract speaks of these words.
 
-use q_explain::shown::write_shown;
-use q_script::script::ScriptFault;
-use q_sim::refusal::Refusal;
+use q_explain::write_shown;
+use q_script::ScriptFault;
+use q_sim::Refusal;
 use std::alloc::{AllocError, Global};
 use std::str;
 
@@ -54,7 +54,7 @@ fn line_advice(
 /// What explains why the script in the file of this name is refused, from its bytes; none of a file that was not read,
 /// of which [`Folder`] tells, and where memory ran out.
 ///
-/// [`Folder`]: q_files::folder::Folder
+/// [`Folder`]: q_files::Folder
 pub(crate) fn client_advice(
     alloc: Global,
     script: &str,

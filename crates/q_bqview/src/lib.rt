@@ -15,11 +15,12 @@
 //!
 //! FILE of `asm` holds assembler text, FILE of `dis` a program's bytes, eight a unit. That of `check` and `run` holds
 //! assembler text, or with `--bytes` a program's bytes. `check --states` prints after its line, for each unit where an
-//! instruction begins, `unit U: ` and the instruction, and then `  rK: ` and what is known of the register there, for each
-//! of which something is known. `check --notes OUT` writes the program's notes to OUT; where OUT fails, `refused 87
-//! FileFailed` is printed last. A file of the name `-` is the standard input. START is a number in decimal. RECORDS holds a line `ID SEQ VALUE` for each record, by
-//! rising ids: the node, the sequence number of its store, and the value that it stored. VALUE is a number, whose eight
-//! bytes are the first of a value of 48, or `x` and two hexadecimal digits for each byte of the value, 112 at most.
+//! instruction begins, `unit U: ` and the instruction, and then `  rK: ` and what is known of the register there, for
+//! each of which something is known. `check --notes OUT` writes the program's notes to OUT; where OUT fails, `refused
+//! 87 FileFailed` is printed last. A file of the name `-` is the standard input. START is a number in decimal. RECORDS
+//! holds a line `ID SEQ VALUE` for each record, by rising ids: the node, the sequence number of its store, and the
+//! value that it stored. VALUE is a number, whose eight bytes are the first of a value of 48, or `x` and two
+//! hexadecimal digits for each byte of the value, 112 at most.
 //!
 //! `check` and `run` take `--least` and `--most`, the fewest and the most bytes that a record may have: 16 and 128
 //! where they are not given, and a wrong command line unless 16 <= least <= most <= 128. A program that is accepted
@@ -54,11 +55,11 @@
 //!
 //! SCRIPT of `cluster` has the lines `nodes`, with 1 to 16 nodes, `program`, `store` and `ask` alone. Nothing is
 //! delivered by lines: the nodes send their messages over the sockets, and four runners run the jobs. `store TAG` and
-//! `query Q` stand alone on their lines, with no messages behind them; `answer NODE Q ACC STEPS` stands behind `query Q`.
-//! The next line of the script is taken once the store has ended or the query has its answer, or after four seconds.
-//! After the last line the journals of the nodes are gathered into one cluster, and what is printed is looked up there:
-//! `unanswered` stands where the store has not ended in it, or the query has no answer. Where the journals do not
-//! gather, their refusal is printed last. With `--strict` the exit status is 1 where a line was refused or is
+//! `query Q` stand alone on their lines, with no messages behind them; `answer NODE Q ACC STEPS` stands behind `query
+//! Q`. The next line of the script is taken once the store has ended or the query has its answer, or after four
+//! seconds. After the last line the journals of the nodes are gathered into one cluster, and what is printed is looked
+//! up there: `unanswered` stands where the store has not ended in it, or the query has no answer. Where the journals do
+//! not gather, their refusal is printed last. With `--strict` the exit status is 1 where a line was refused or is
 //! `unanswered`. The standard error tells how many datagrams were refused, and why, which lines were refused, with what
 //! would satisfy them, and what else was lost (`docs/FORMATS.md`).
 //!
@@ -69,14 +70,14 @@
 //! of `pairs` follow. The last line is `journals ok`: the journals fit together as those of one run of one cluster, and
 //! each answer is the meaning of its query's program over that view. All this is found in the bytes of the files alone.
 //!
-//! FILE of `node` is the file of a cluster whose nodes run apart, one for all machines, and ID the node's id. Its console is
-//! the standard input, with the lines `status`, `leave` and `end`; the node ends where that ends. There is no
-//! authentication and no encryption: whoever reaches the address of `--clients` is a client (`q_node`).
+//! FILE of `node` is the file of a cluster whose nodes run apart, one for all machines, and ID the node's id. Its
+//! console is the standard input, with the lines `status`, `leave` and `end`; the node ends where that ends. There is
+//! no authentication and no encryption: whoever reaches the address of `--clients` is a client (`q_node`).
 //!
-//! SCRIPT of `client` has lines `program HEX`, `store VALUE` and `ask PROGRAM START`, and ADDR is a host and a port, or the
-//! path of a Unix socket, which has a slash. What a line tells is printed once its reply came (`q_asker`). A refused line
-//! prints its refusal, and the script goes on; with `--strict` the exit status is 1 where a line was refused or is
-//! `unanswered`. Where there is no connection or it fails, 86 is printed last.
+//! SCRIPT of `client` has lines `program HEX`, `store VALUE` and `ask PROGRAM START`, and ADDR is a host and a port, or
+//! the path of a Unix socket, which has a slash. What a line tells is printed once its reply came (`q_asker`). A
+//! refused line prints its refusal, and the script goes on; with `--strict` the exit status is 1 where a line was
+//! refused or is `unanswered`. Where there is no connection or it fails, 86 is printed last.
 //!
 //! A refusal prints `refused N Name`, then ` at U` where it carries a unit or a journal's event, or ` line L` where a
 //! line ([`Refusal`]). `run` finds faults in this order: FILE, its text, the verifier and the checker, RECORDS, its
@@ -92,25 +93,23 @@
 //! [`run`] takes the words that the system gives, files, an output and notes, and answers the exit status;
 //! [`run_words`] does the same of any words. Their contracts say what the status is, and what the output took and the
 //! files came to: where the words ask for a command over files, an end of [`carry_out`]; for `cluster`, one of
-//! [`run_file`]; for `gather`, one of [`gather_files`]; for `client`, one of [`asker::run_file`];
-//! for `node`, one of [`node::run_file`]; and where they ask for none ([`read_words`]), no file is
+//! [`run_file`]; for `gather`, one of [`gather_files`]; for `client`, one of [`q_asker::run_file`];
+//! for `node`, one of [`q_node::run_file`]; and where they ask for none ([`read_words`]), no file is
 //! touched, and the output takes the help, the refusal 99, or nothing. What explains a refusal ([`carry_out`],
 //! [`nodes_advice`]), a refused line of a script or a wrong command line goes to the notes, of which no clause speaks.
 //! The program hands over the machine: its words, its files, its standard output, and its standard error as the notes.
 //! Why the system refuses a file is told on the standard error, too.
 //!
-//! [`Refusal`]: q_sim::refusal::Refusal
-//! [`run`]: run::run
-//! [`run_words`]: run::run_words
-//! [`read_words`]: q_words::words::read_words
-//! [`carry_out`]: q_command::perform::carry_out
-//! [`run_file`]: q_nodes::sockets::run_file
-//! [`gather_files`]: q_gathered::files::gather_files
-//! [`asker::run_file`]: q_asker::command::run_file
-//! [`node::run_file`]: q_node::command::run_file
-//! [`nodes_advice`]: q_command::advice::nodes_advice
+//! [`Refusal`]: q_sim::Refusal
+//! [`read_words`]: q_words::read_words
+//! [`carry_out`]: q_command::carry_out
+//! [`run_file`]: q_nodes::run_file
+//! [`gather_files`]: q_gathered::gather_files
+//! [`nodes_advice`]: q_command::nodes_advice
 #![tactic(auto)]
 
 mod client;
-pub mod run;
+mod program;
 pub mod worked;
+
+pub use program::{run, run_words};

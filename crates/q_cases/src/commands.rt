@@ -1,12 +1,11 @@
 //! The files of cases, and what their commands print.
 
 use crate::line::CaseLine;
-use q_command::perform::carry_out;
-use q_files::files::{Files, LONGEST_TEXT};
-use q_files::memory::MemoryFiles;
-use q_gathered::files::gather_files;
-use q_wire::counted::Counted;
-use q_words::words::{FileCommand, Wanted, WordsFault, read_words};
+use q_command::carry_out;
+use q_files::{Files, LONGEST_TEXT, MemoryFiles};
+use q_gathered::gather_files;
+use q_wire::Counted;
+use q_words::{FileCommand, Wanted, WordsFault, read_words};
 use std::alloc::{AllocError, Global};
 use std::io;
 use std::io::Write;

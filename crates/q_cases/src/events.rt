@@ -1,25 +1,23 @@
 //! Scripts as lists of events.
 
 use crate::program::program as certified;
-use q_cluster::cluster::Cluster;
-use q_history::event::Event;
-use q_script::founding::Founding;
-use q_script::line::ScriptLine;
-use q_script::script::Script;
-use q_table::program::ProgramId;
-use sc_members::config::Config;
-use sc_msg::version::Version;
-use sc_view::value::Value;
+use q_cluster::Cluster;
+use q_history::ClusterEvent;
+use q_script::{Founding, Script, ScriptLine};
+use q_table::ProgramId;
+use sc_members::Config;
+use sc_msg::Version;
+use sc_view::Value;
 use std::alloc::Global;
 
 /// The event of a line, at nodes of this version; none where it is a line of no event.
-fn event(alloc: Global, version: Version, line: &ScriptLine) -> Option<Event> {
+fn event(alloc: Global, version: Version, line: &ScriptLine) -> Option<ClusterEvent> {
     match line {
-        ScriptLine::Program { node, code } => Some(Event::Register {
+        ScriptLine::Program { node, code } => Some(ClusterEvent::Register {
             node: *node,
             program: certified(alloc, version, code.as_slice())?,
         }),
-        ScriptLine::Store { node, value } => Some(Event::Store {
+        ScriptLine::Store { node, value } => Some(ClusterEvent::Store {
             node: *node,
             value: Value::new(value.as_slice()).ok()?,
         }),
@@ -27,23 +25,23 @@ fn event(alloc: Global, version: Version, line: &ScriptLine) -> Option<Event> {
             node,
             program,
             start,
-        } => Some(Event::Ask {
+        } => Some(ClusterEvent::Ask {
             node: *node,
             program: ProgramId::new(u32::try_from(*program).ok()?),
             start: *start,
         }),
-        ScriptLine::Deliver { message, node } => Some(Event::Deliver {
+        ScriptLine::Deliver { message, node } => Some(ClusterEvent::Deliver {
             message: *message as usize,
             node: *node,
         }),
-        ScriptLine::Hand { node } => Some(Event::HandOut(*node)),
-        ScriptLine::Run { job } => Some(Event::Finish(*job as usize)),
+        ScriptLine::Hand { node } => Some(ClusterEvent::HandOut(*node)),
+        ScriptLine::Run { job } => Some(ClusterEvent::Finish(*job as usize)),
         _ => None,
     }
 }
 
 /// The events of a script, at nodes of this version; none where one of its lines is of no event.
-fn events(alloc: Global, version: Version, script: &Script) -> Option<Vec<Event>> {
+fn events(alloc: Global, version: Version, script: &Script) -> Option<Vec<ClusterEvent>> {
     let mut events = Vec::new(alloc);
     for line in script.lines.iter() {
         if events.push(event(alloc, version, line)?).is_err() {
@@ -80,7 +78,7 @@ pub enum Ending {
 }
 
 /// Runs a list of events over a cluster.
-fn run_events(cluster: &mut Cluster, events: &[Event]) -> Ending {
+fn run_events(cluster: &mut Cluster, events: &[ClusterEvent]) -> Ending {
     match cluster.run(events) {
         Ok(()) => Ending::All,
         Err((place, fault)) => Ending::Refused(place, fault.reason().number()),

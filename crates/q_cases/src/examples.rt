@@ -1,17 +1,16 @@
 //! Runs the commands of documents as they are written there, over the files that they name, and lists the refusals.
 //!
 //! In a document's blocks that begin with a line "```console" a line `$ ./bqview WORDS`, or `$ ./look WORDS`, is a
-//! command, and what stands behind it, up to the next or to the block's end, is what it prints: its standard output, and
-//! then what explains its refusal. Each command is printed, with whether it prints just that.
+//! command, and what stands behind it, up to the next or to the block's end, is what it prints: its standard output,
+//! and then what explains its refusal. Each command is printed, with whether it prints just that.
 //!
 //! The refusals are the rows `| NUMBER | NAME |` that `docs/REFUSALS.md` has; those that a command prints, which
 //! `docs/FORMATS.md` has too, end with "printed". `./check-documents` looks them up there.
 
 use crate::commands::{explained, gathered_notes};
-use q_files::files::{Files, LONGEST_TEXT};
-use q_files::folder::Folder;
-use q_wire::counted::Counted;
-use q_words::words::{FileCommand, Wanted, read_words};
+use q_files::{Files, Folder, LONGEST_TEXT};
+use q_wire::Counted;
+use q_words::{FileCommand, Wanted, read_words};
 use reasons::Reason;
 use std::alloc::Global;
 use std::io::{ErrorKind, Write};

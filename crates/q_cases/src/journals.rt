@@ -1,14 +1,12 @@
 //! Journals that are gathered, cut and changed.
 
-use q_book::book::Book;
-use q_cluster::cluster::Cluster;
-use q_gather::gather::gather;
-use q_history::event::Event;
-use q_replay::fault::ReplayFault;
-use q_replay::replay::replay;
-use q_replay::write::journal_bytes;
-use q_script::number::number;
-use q_session::ran::Ran;
+use q_book::Book;
+use q_cluster::Cluster;
+use q_gather::gather;
+use q_history::ClusterEvent;
+use q_replay::{ReplayFault, journal_bytes, replay};
+use q_script::number;
+use q_session::Ran;
 use std::alloc::Global;
 
 /// The length of the head of a journal with three founders.
@@ -58,8 +56,8 @@ fn other_head(alloc: Global, cluster: &Cluster, node: &str) -> Option<Vec<u8>> {
     Some(bytes)
 }
 
-/// The bytes of the journal that a word names; of its head alone where `-` stands behind the node, and of that head in the
-/// other version where `~` does.
+/// The bytes of the journal that a word names; of its head alone where `-` stands behind the node, and of that head in
+/// the other version where `~` does.
 fn named(alloc: Global, cluster: &Cluster, word: &str) -> Option<Vec<u8>> {
     if let Some(node) = word.strip_suffix("-") {
         return head(alloc, cluster, node);
@@ -89,7 +87,7 @@ fn all_named(alloc: Global, cluster: &Cluster, words: &str) -> Option<Vec<Vec<u8
 
 /// The version of the book of a node that enters, by the byte that names it; 0 where it does not.
 fn entered(cluster: &mut Cluster, id: u64) -> u8 {
-    if cluster.step(&Event::Enter(id)).is_err() {
+    if cluster.step(&ClusterEvent::Enter(id)).is_err() {
         return 0;
     }
     match cluster.book(id) {
@@ -120,8 +118,8 @@ fn gathered_all(
     }
 }
 
-/// Gathers the journals of the nodes that the words name: what the cluster tells of a node's query, or the number of the
-/// refusal; none where there are no such journals.
+/// Gathers the journals of the nodes that the words name: what the cluster tells of a node's query, or the number of
+/// the refusal; none where there are no such journals.
 pub fn gathered(
     alloc: Global,
     cluster: &Cluster,

@@ -1,6 +1,6 @@
 //! The lines of cases.
 
-use q_script::number::number;
+use q_script::number;
 
 /// A line of cases.
 #[derive(Clone, Copy)]

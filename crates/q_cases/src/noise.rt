@@ -2,8 +2,7 @@
 
 ghost use Rattle.std.specs.Prelude.{◌≡◌};
 
-use q_wire::fault::TransportFault;
-use q_wire::transport::{Transport, put_at_start};
+use q_wire::{Transport, TransportFault, put_at_start};
 use std::alloc::{AllocError, Global};
 
 /// Bytes that are no message.
@@ -19,10 +18,10 @@ struct Lost {
     bytes: Vec<u8>,
 }
 
-/// Disturbs datagrams by a list of letters, as if each were sent to all nodes in turn: the first letter is for the first
-/// datagram to node 1, the next one for the first to node 2. `x` loses it, `o` loses it unless it lost the same one
-/// before, `2` sends it twice, `c` sends a part of it before, `f` a forged one, `l` a long one and `e` an empty one; any
-/// other sends it as it is. Of two that wait it gives the second one first. An empty list disturbs nothing.
+/// Disturbs datagrams by a list of letters, as if each were sent to all nodes in turn: the first letter is for the
+/// first datagram to node 1, the next one for the first to node 2. `x` loses it, `o` loses it unless it lost the same
+/// one before, `2` sends it twice, `c` sends a part of it before, `f` a forged one, `l` a long one and `e` an empty
+/// one; any other sends it as it is. Of two that wait it gives the second one first. An empty list disturbs nothing.
 #[derive(Drop)]
 pub struct Noisy<'a, T> {
     inner: T,

@@ -1,15 +1,13 @@
 //! Programs for records of some lengths, and who takes them.
 
-use bq_check::certified::Certified;
-use bq_check::check::check_within;
-use bq_insn::decode::decode;
-use bq_state::bounds::Bounds;
-use bq_verify::verify::verify_within;
-use q_book::book::Book;
-use q_book::lengths::record_lengths;
-use q_table::program::Program;
-use sc_members::config::Config;
-use sc_msg::version::Version;
+use bq_check::{Certified, check_within};
+use bq_insn::decode;
+use bq_state::Bounds;
+use bq_verify::verify_within;
+use q_book::{Book, record_lengths};
+use q_table::Program;
+use sc_members::Config;
+use sc_msg::Version;
 use std::alloc::Global;
 
 /// `mov64 r0, r2 / exit`
@@ -27,7 +25,8 @@ pub fn program(alloc: Global, version: Version, code: &[u8]) -> Option<Program> 
     Program::new(alloc, certified(alloc, code, record_lengths(version))?).ok()
 }
 
-/// The book of a founder that is alone. It is held in a box, since a proof writes out the drop of what is held by value.
+/// The book of a founder that is alone. It is held in a box, since a proof writes out the drop of what is held by
+/// value.
 fn founder(alloc: Global, version: Version) -> Option<Box<Book>> {
     let config = Config::new(4, 5, 4, 5).ok()?;
     let book = Book::founder_as(alloc, version, config, 1, &[1]).ok()?;
@@ -50,8 +49,8 @@ fn refusal_of(mut book: Box<Book>, is_gone: bool, program: &Program) -> Option<u
     Some(registered(&mut book, program))
 }
 
-/// The number with which a founder of this version, which has left where that is said, refuses a program that was checked
-/// for records of these lengths, 0 where it takes it; none where there is no such program.
+/// The number with which a founder of this version, which has left where that is said, refuses a program that was
+/// checked for records of these lengths, 0 where it takes it; none where there is no such program.
 pub fn refusal(alloc: Global, version: Version, is_gone: bool, lengths: Bounds) -> Option<u8> {
     let program = Program::new(alloc, certified(alloc, &LENGTH, lengths)?).ok()?;
     refusal_of(founder(alloc, version)?, is_gone, &program)

@@ -1,10 +1,9 @@
 //! Commands whose writer fails.
 
-use q_command::perform::{Outcome, carry_out};
-use q_files::files::Files;
-use q_files::memory::MemoryFiles;
-use q_wire::counted::Counted;
-use q_words::words::FileCommand;
+use q_command::{Outcome, carry_out};
+use q_files::{Files, MemoryFiles};
+use q_wire::Counted;
+use q_words::FileCommand;
 use std::alloc::Global;
 use std::io;
 use std::io::{ErrorKind, Write};

@@ -5,7 +5,7 @@ use Rattle.std.specs.Io.KnownBytes.{Appends, Consumes}
 use Rattle.std.proofs.KnownBytes.{Appends-nil, Appends-trans, Consumes-nil, Consumes-trans}
 use Rattle.sc_msg.specs.declared.version.Version.{Version}
 use Rattle.q_net.specs.declared.request.Request.{Request}
-use Rattle.q_net.specs.declared.reply.Reply.{Reply}
+use Rattle.q_net.specs.declared.replies.Reply.{Reply}
 use Rattle.q_net.specs.Requests.{spelling, spellings, IsRequest}
 use Rattle.q_net.specs.Replies.{reply_bytes}
 use Rattle.q_clients.specs.Serves.{Exchanges, Giving, IsTold, replies_bytes}

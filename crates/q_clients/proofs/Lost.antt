@@ -7,7 +7,7 @@ use Rattle.bq_insn.specs.declared.fault.DecodeFault.TheVariants as decode_fault
 use Rattle.q_book.specs.State.{BookState}
 use Rattle.q_book.specs.Books.{entered}
 use Rattle.q_net.specs.declared.request.Request.TheVariants.{Register}
-use Rattle.q_net.specs.declared.reply.Reply.TheVariants.{Refused}
+use Rattle.q_net.specs.declared.replies.Reply.TheVariants.{Refused}
 use Rattle.q_net.specs.declared.served.Registered.TheVariants as registered
 use Rattle.q_clients.specs.Books.{IsBookOf}
 use Rattle.q_clients.specs.Clients.{IsSaid}

@@ -4,13 +4,13 @@ use Rattle.std.specs.Prelude.{IsErrAnd}
 use Rattle.std.specs.Io.KnownBytes.{Appends, Consumes}
 use Rattle.sc_msg.specs.declared.version.Version.{Version}
 use Rattle.q_wire.specs.declared.fault.TransportFailed.{TransportFailed}
-use Rattle.q_net.specs.declared.incoming.Next.{Next}
-use Rattle.q_net.specs.declared.incoming.Next.TheVariants as next
+use Rattle.q_net.specs.declared.incoming.Incoming.{Incoming}
+use Rattle.q_net.specs.declared.incoming.Incoming.TheVariants as next
 use Rattle.q_net.specs.declared.request.Request.{Request}
 use Rattle.q_net.specs.declared.request.Request.TheVariants.{Register}
-use Rattle.q_net.specs.declared.request.Stop.{Stop}
-use Rattle.q_net.specs.declared.reply.Reply.{Reply}
-use Rattle.q_net.specs.declared.reply.Reply.TheVariants.{Refused}
+use Rattle.q_net.specs.declared.request.StreamEnd.{StreamEnd}
+use Rattle.q_net.specs.declared.replies.Reply.{Reply}
+use Rattle.q_net.specs.declared.replies.Reply.TheVariants.{Refused}
 use Rattle.q_net.specs.Requests.{IsGot, IsRequest, spelling}
 use Rattle.q_net.specs.Serves.{last_reply}
 use Rattle.q_clients.specs.declared.serve.Served.{Served}
@@ -20,7 +20,7 @@ use Rattle.q_clients.proofs.Exchanged.{exchanges_more, exchanges_then}
 use Rattle.q_clients.proofs.Lost.{lost_said}
 
 -- a request was read
-pub whole_read : (version : Version) (input left : Option (List ℕ)) (n : Next) (r : Request) → n ≡ next.Whole r
+pub whole_read : (version : Version) (input left : Option (List ℕ)) (n : Incoming) (r : Request) → n ≡ next.Whole r
     → IsGot version [] input left n → IsRequest version r × Consumes input left (spelling r)
 whole_read version input left n r is got =
     let g : IsGot version [] input left (next.Whole r) = subst (IsGot version [] input left) is got in
@@ -43,7 +43,7 @@ reply_fails P version node gives input left before after result r a h read said 
     fails P version node gives input left before after result (spelling r) written.0 h read.1 written.1 (inr (inr (r, a, read.0, refl, said)))
 
 -- there was no memory for the bytes of this registration
-lost_read : (version : Version) (input left : Option (List ℕ)) (n : Next) → n ≡ next.Lost
+lost_read : (version : Version) (input left : Option (List ℕ)) (n : Incoming) → n ≡ next.Lost
     → IsGot version [] input left n
     → (text notes : List ℕ) × (IsRequest version (Register text notes) × Consumes input left (spelling (Register text notes)))
 lost_read version input left n is got =
@@ -53,7 +53,7 @@ lost_read version input left n is got =
     (text, notes, (legal, subst (Consumes input left) spelled consumed))
 
 -- requests stop, and that is replied to
-pub stops : (version : Version) (node : ℕ) (gives : Giving) (input left before after : Option (List ℕ)) (n : Next) (stop : Stop) (bytes : List ℕ) → n ≡ next.Ended stop → IsGot version [] input left n
+pub stops : (version : Version) (node : ℕ) (gives : Giving) (input left before after : Option (List ℕ)) (n : Incoming) (stop : StreamEnd) (bytes : List ℕ) → n ≡ next.Ended stop → IsGot version [] input left n
     → bytes ≡ last_reply (Some stop) → Appends before after bytes
     → IsTaken version node gives input left before after (Some Ended)
 stops version node gives input left before after n stop bytes is got said written =
@@ -62,7 +62,7 @@ stops version node gives input left before after n stop bytes is got said writte
     (Some stop, read, is_stop, consumed, at_end, subst (Appends before after) said written)
 
 -- that is replied to with 99
-pub loses : (version : Version) (node : ℕ) (gives : Giving) (input left before after : Option (List ℕ)) (n : Next) → n ≡ next.Lost
+pub loses : (version : Version) (node : ℕ) (gives : Giving) (input left before after : Option (List ℕ)) (n : Incoming) → n ≡ next.Lost
     → IsGot version [] input left n
     → Appends before after (99 ∷ []) → IsTaken version node gives input left before after None
 loses version node gives input left before after n is got written =
@@ -70,7 +70,7 @@ loses version node gives input left before after n is got written =
     (Register text notes, Refused 99, read.0, read.1, (lost_said node text notes, inr refl), written)
 
 -- or not written whole
-pub lost_fails : {E : Type 0} (P : E → Type 0) (version : Version) (node : ℕ) (gives : Giving) (input left before after : Option (List ℕ)) (result : Result (Option Served) E) (n : Next) → IsErrAnd result P
+pub lost_fails : {E : Type 0} (P : E → Type 0) (version : Version) (node : ℕ) (gives : Giving) (input left before after : Option (List ℕ)) (result : Result (Option Served) E) (n : Incoming) → IsErrAnd result P
     → n ≡ next.Lost → IsGot version [] input left n → (part : List ℕ) × Appends before after part
     → IsTurn version node gives input left before after result
 lost_fails P version node gives input left before after result n h is got written =

@@ -4,8 +4,8 @@ use Rattle.sc_msg.specs.declared.message.Message.{Message}
 use Rattle.q_book.specs.State.{BookState}
 use Rattle.q_net.specs.declared.request.Request.{Request}
 use Rattle.q_net.specs.declared.request.Request.TheVariants.{Store, Answer, StoreOf}
-use Rattle.q_net.specs.declared.reply.Reply.{Reply}
-use Rattle.q_net.specs.declared.reply.Reply.TheVariants as reply
+use Rattle.q_net.specs.declared.replies.Reply.{Reply}
+use Rattle.q_net.specs.declared.replies.Reply.TheVariants as reply
 use Rattle.q_net.specs.Replies.{Replies}
 use Rattle.q_clients.specs.declared.due.Due.{Due}
 use Rattle.q_clients.specs.declared.due.Due.TheVariants.{AtOnce, AtEnd, AtAnswer}

@@ -6,9 +6,9 @@ use Rattle.sc_msg.specs.declared.version.Version.{Version}
 use Rattle.q_wire.specs.declared.fault.TransportFailed.{TransportFailed}
 use Rattle.q_net.specs.declared.request.Request.{Request}
 use Rattle.q_net.specs.declared.request.Request.TheVariants.{Register}
-use Rattle.q_net.specs.declared.request.Stop.{Stop}
-use Rattle.q_net.specs.declared.reply.Reply.{Reply}
-use Rattle.q_net.specs.declared.reply.Reply.TheVariants.{Refused}
+use Rattle.q_net.specs.declared.request.StreamEnd.{StreamEnd}
+use Rattle.q_net.specs.declared.replies.Reply.{Reply}
+use Rattle.q_net.specs.declared.replies.Reply.TheVariants.{Refused}
 use Rattle.q_net.specs.Requests.{spelling, spellings, IsRequest, IsStop, IsRead}
 use Rattle.q_net.specs.Replies.{reply_bytes}
 use Rattle.q_net.specs.Serves.{IsLast, last_reply}
@@ -47,7 +47,7 @@ pub record Exchanges (version : Version) (node : ℕ) (gives : Giving) (input le
 
 -- All was served: behind the requests stands how they ended, and behind the replies the reply to that.
 pub record IsServed (version : Version) (node : ℕ) (gives : Giving) (input left before after : Option (List ℕ)) : Type 0 where
-  pub ended : Option Stop
+  pub ended : Option StreamEnd
   pub last : List ℕ
   pub is_last : IsLast version last ended
   pub read : IsRead left ended
@@ -66,7 +66,7 @@ pub record IsSilent (version : Version) (node : ℕ) (gives : Giving) (input lef
 abbrev pub IsAtHand : Version → ℕ → Giving → List ℕ → List ℕ → Type 0
 IsAtHand version node gives read part =
     (part ≡ [])
-    ⊎ (((stop : Stop) × IsStop version read stop)
+    ⊎ (((stop : StreamEnd) × IsStop version read stop)
     ⊎ ((r : Request) × (said : Reply) × IsRequest version r × (read ≡ spelling r) × IsTold node gives r said))
 
 -- A read or a write failed: the requests before were served whole, and the one at hand whole or not at all.
@@ -91,7 +91,7 @@ IsTaken version node gives input left before after None =
     (r : Request) × (said : Reply) × IsRequest version r × Consumes input left (spelling r) × IsTold node gives r said
     × Appends before after (reply_bytes said)
 IsTaken version node gives input left before after (Some Ended) =
-    (ended : Option Stop) × (last : List ℕ) × IsLast version last ended × Consumes input left last × IsRead left ended
+    (ended : Option StreamEnd) × (last : List ℕ) × IsLast version last ended × Consumes input left last × IsRead left ended
     × Appends before after (last_reply ended)
 IsTaken version node gives input left before after (Some Silent) =
     (r : Request) × IsRequest version r × Consumes input left (spelling r) × gives r None × Appends before after []

@@ -3,7 +3,7 @@
 ghost use Rattle.std.specs.Prelude.{◌↔◌, IsTrue};
 ghost use Rattle.q_clients.specs.Books.{HasEndedIn, IsBookOf};
 
-use q_book::book::Book;
+use q_book::Book;
 
 /// Whether this is the book of the node. Every book is the replay of its journal, and its recorded answers are right.
 pub fn is_of(book: &Book, node: u64) -> bool

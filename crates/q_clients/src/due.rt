@@ -3,8 +3,7 @@
 ghost use Rattle.std.specs.Prelude.{◌≡◌};
 ghost use Rattle.q_clients.specs.Clients.{due_of};
 
-use q_net::reply::Reply;
-use q_net::request::Request;
+use q_net::{Reply, Request};
 
 /// When a reply to a request is due.
 #[derive(Clone, Copy)]

@@ -10,14 +10,15 @@
 //! same holds of the requests before, and the one at hand was served whole or not at all; and just one failure was
 //! counted, at the reader or at the writer. How long a client waits, and that the threads of a node go on, no statement
 //! says.
-//!
-//! [`Serving`]: serving::Serving
-//! [`Due`]: due::Due
-//! [`serve_node`]: serve::serve_node
 #![tactic(auto)]
 
-pub mod books;
-pub mod due;
-pub mod serve;
-pub mod serving;
+mod books;
+mod due;
+mod serve;
+mod serving;
 pub mod worked;
+
+pub use books::{has_ended, is_of};
+pub use due::Due;
+pub use serve::{Served, serve_node};
+pub use serving::Serving;

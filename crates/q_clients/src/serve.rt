@@ -8,13 +8,10 @@ ghost use Rattle.q_wire.specs.Counts.{Counts};
 ghost use Rattle.q_clients.specs.Serves.{IsEnd, IsTurn};
 
 use crate::serving::Serving;
-use q_net::incoming::{Next, read_next};
-use q_net::reply::Reply;
-use q_net::request::Stop;
-use q_wire::counted::Counted;
-use q_wire::fault::TransportFailed;
+use q_net::{Incoming, Reply, StreamEnd, read_next};
+use q_wire::{Counted, TransportFailed};
 use reasons::Reason;
-use sc_msg::version::Version;
+use sc_msg::Version;
 use std::alloc::Global;
 use std::io::{Read, Write};
 use std::sync::Wait;
@@ -29,14 +26,14 @@ pub enum Served {
 }
 
 /// The reply at which requests stop.
-fn refusal(stop: Stop) -> Reply
+fn refusal(stop: StreamEnd) -> Reply
     ensures { reply_bytes result ≡ last_reply (Some stop) }
 {
     let reason = match stop {
-        Stop::Unknown => Reason::BadRequest,
-        Stop::Cut => Reason::CutRequest,
-        Stop::LongText => Reason::TooLong,
-        Stop::LongNotes => Reason::NoteForm,
+        StreamEnd::Unknown => Reason::BadRequest,
+        StreamEnd::Cut => Reason::CutRequest,
+        StreamEnd::LongText => Reason::TooLong,
+        StreamEnd::LongNotes => Reason::NoteForm,
     };
     Reply::Refused(reason.number())
 }
@@ -55,16 +52,16 @@ fn take_turn<N: Serving, R: Read, W: Write>(
     ensures counted { Counts result input.old.failures input.new.failures out.old.failures out.new.failures }
 {
     match read_next(alloc, version, input)? {
-        Next::End => Ok(Some(Served::Ended)),
-        Next::Ended(stop) => {
+        Incoming::End => Ok(Some(Served::Ended)),
+        Incoming::Ended(stop) => {
             refusal(stop).write(out)?;
             Ok(Some(Served::Ended))
         }
-        Next::Lost => {
+        Incoming::Lost => {
             Reply::Refused(99).write(out)?;
             Ok(None)
         }
-        Next::Whole(request) => {
+        Incoming::Whole(request) => {
             let Some(said) = node.reply(alloc, &request) else {
                 return Ok(Some(Served::Silent));
             };

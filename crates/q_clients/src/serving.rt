@@ -2,13 +2,12 @@
 
 ghost use Rattle.std.specs.Prelude.{◌≡◌, ℕ, Option, IfSome};
 ghost use Rattle.sc_msg.specs.declared.version.Version.{Version as BookVersion};
-ghost use Rattle.q_net.specs.declared.reply.Reply.{Reply as Said};
+ghost use Rattle.q_net.specs.declared.replies.Reply.{Reply as Said};
 ghost use Rattle.q_net.specs.declared.request.Request.{Request as Asked};
 ghost use Rattle.q_clients.specs.Clients.{IsSaid};
 
-use q_net::reply::Reply;
-use q_net::request::Request;
-use sc_msg::version::Version;
+use q_net::{Reply, Request};
+use sc_msg::Version;
 use std::alloc::Global;
 
 /// A node as its clients see it, each of which is served by a thread of its own.

@@ -6,7 +6,7 @@ ghost use Rattle.sc_msg.specs.declared.version.Version.{Version};
 ghost use Rattle.sc_node.specs.State.{NodeState};
 ghost use Rattle.q_book.specs.State.{BookState};
 ghost use Rattle.q_net.specs.Requests.{spelling};
-ghost use Rattle.q_net.specs.declared.reply.Reply.TheVariants as reply;
+ghost use Rattle.q_net.specs.declared.replies.Reply.TheVariants as reply;
 ghost use Rattle.q_net.specs.declared.request.Request.TheVariants as request;
 ghost use Rattle.q_clients.specs.Books.{HasEndedIn, HasEnded, IsBookOf};
 ghost use Rattle.q_clients.specs.Clients.{IsSaid, due_of};

@@ -1,11 +1,11 @@
 -- The events that are calls of one book, and what the ledger records of them.
-use Rattle.std.proofs.Common.{◌≡◌, ℕ, List, Option, None, Result}
+use Rattle.std.proofs.Common.{◌≡◌, ℕ, List, Option, Some, None, Result, Ok, ap, sym, ◌∙◌}
 use Rattle.sc_msg.specs.declared.message.Message.{Message}
 use Rattle.sc_node.specs.declared.answer.Begun.{Begun}
 use Rattle.sc_operations.specs.declared.progress.Progress.{Progress}
 use Rattle.sc_world.specs.declared.act.Opened.{Opened}
-use Rattle.sc_world.specs.declared.event.Event.{Event as WorldEvent}
-use Rattle.sc_world.specs.declared.event.Event.TheVariants as world_event
+use Rattle.sc_world.specs.declared.event.WorldEvent.{WorldEvent}
+use Rattle.sc_world.specs.declared.event.WorldEvent.TheVariants as world_event
 use Rattle.bq_check.specs.Certificate.{Certificate}
 use Rattle.q_session.specs.declared.job.Job.{Job}
 use Rattle.q_session.specs.declared.ran.Ran.{Ran}
@@ -14,23 +14,31 @@ use Rattle.q_book.specs.Books as book
 use Rattle.q_book.specs.declared.answer.Asked.{Asked}
 use Rattle.q_book.specs.declared.answer.Taken.{Taken}
 use Rattle.q_book.specs.declared.fault.BookFault.{BookFault}
-use Rattle.q_history.specs.declared.event.Event.{Event}
-use Rattle.q_history.specs.declared.event.Event.TheVariants as event
-use Rattle.q_history.specs.declared.event.Stepped.{Stepped}
+use Rattle.q_history.specs.declared.event.ClusterEvent.{ClusterEvent}
+use Rattle.q_history.specs.declared.event.ClusterEvent.TheVariants as event
+use Rattle.q_history.specs.declared.event.ClusterStep.{ClusterStep}
 use Rattle.q_history.specs.declared.event.Told.{Told}
 use Rattle.q_history.specs.declared.event.Told.TheVariants as told
 use Rattle.q_history.specs.State.{ClusterState}
 use Rattle.q_history.specs.Clusters.{lift, at, stepped, opened, registers, asks, stores, delivers, hands, posts, leaves}
 use Rattle.q_history.specs.Calls.{AnswersTo}
 use Rattle.q_cluster.specs.Acts.{Doing}
-use Rattle.q_cluster.proofs.Heads.{Keeps, registered_keeps, handed_keeps, posted_keeps, asked_keeps, stored_keeps, delivered_keeps, left_keeps}
+use Rattle.q_book.proofs.Followed.{registered-accepted, handed-accepted, none-handed, posted-accepted, asked-accepted, stored-accepted, delivered-accepted, left-accepted}
+
+-- where it is accepted, nothing but the node and the desk of the book changes
+abbrev pub Keeps : {A : Type 0} → BookState → Result (A × BookState) BookFault → Type 0
+Keeps {A} b r = (a : A) (c : BookState) → r ≡ Ok (a, c) → record b { node = c.node; desk = c.desk } ≡ c
+
+pub handed_keeps : (b : BookState) → Keeps b (book.handed_out b)
+handed_keeps b None c h = ap (λ (x : BookState). let y : BookState = record b { node = x.node; desk = x.desk } in y) (sym (none-handed b c h)) ∙ none-handed b c h
+handed_keeps b (Some j) c h = (handed-accepted b j c h).same
 
 -- an event, what the book does at it, and what its cluster makes of that
 pub record Call (A : Type 0) : Type 0 where
-  pub event : Event
+  pub event : ClusterEvent
   pub said : BookState → Result (A × BookState) BookFault
   pub keeps : (b : BookState) → Keeps b (said b)
-  pub next : ClusterState → A → BookState → Stepped × ClusterState
+  pub next : ClusterState → A → BookState → ClusterStep × ClusterState
 
 abbrev pub does : {A : Type 0} → Call A → ClusterState → Doing
 does k c b = lift (k.next c) (k.said b)
@@ -48,40 +56,56 @@ pub record Note : Type 0 where
   pub begun : Option Opened
 
 abbrev pub registering : ℕ → Certificate → Call ℕ
-registering id program =
-    record { event = event.Register id program; said = λ b. book.registered b program; keeps = λ b. registered_keeps b program; next = λ c. registers c id }
+registering id program = record {
+  event = event.Register id program;
+  said = λ b. book.registered b program;
+  keeps = λ b a c h. (registered-accepted b program (a, c) h).same;
+  next = λ c. registers c id;
+}
 
 abbrev pub handing : ℕ → Call (Option Job)
 handing id = record { event = event.HandOut id; said = λ b. book.handed_out b; keeps = λ b. handed_keeps b; next = λ c. hands c id }
 
 abbrev pub posting : ℕ → Job → Ran → Call (Unit {0})
 posting number j ran =
-    record { event = event.Finish number; said = λ b. book.posted b j ran; keeps = λ b. posted_keeps b j ran; next = λ c. posts c j ran }
+    record { event = event.Finish number; said = λ b. book.posted b j ran; keeps = λ b a c h. (posted-accepted b j ran c h).same; next = λ c. posts c j ran }
 
 abbrev pub asking : ℕ → ℕ → ℕ → Call Asked
-asking id program start =
-    record { event = event.Ask id program start; said = λ b. book.asked b program start; keeps = λ b. asked_keeps b program start; next = λ c. asks c id }
+asking id program start = record {
+  event = event.Ask id program start;
+  said = λ b. book.asked b program start;
+  keeps = λ b a c h. (asked-accepted b program start (a, c) h).same;
+  next = λ c. asks c id;
+}
 
 abbrev pub asks_note : ℕ → Asked → Note
 asks_note id a = record { told = told.Asked a.query; act = world_event.Collect id; outs = a.begun.outs; progress = None; begun = opened a.begun }
 
 abbrev pub storing : ℕ → List ℕ → Call Begun
-storing id value =
-    record { event = event.Store id value; said = λ b. book.stored b value; keeps = λ b. stored_keeps b value; next = λ c. stores c id value }
+storing id value = record {
+  event = event.Store id value;
+  said = λ b. book.stored b value;
+  keeps = λ b a c h. (stored-accepted b value (a, c) h).same;
+  next = λ c. stores c id value;
+}
 
 abbrev pub stores_note : ℕ → List ℕ → Begun → Note
 stores_note id value a = record { told = told.Stored a.tag; act = world_event.Store id value; outs = a.outs; progress = None; begun = opened a }
 
 abbrev pub delivering : ℕ → Message → ℕ → Call Taken
-delivering number m id =
-    record { event = event.Deliver number id; said = λ b. book.delivered b m; keeps = λ b. delivered_keeps b m; next = λ c. delivers c number id }
+delivering number m id = record {
+  event = event.Deliver number id;
+  said = λ b. book.delivered b m;
+  keeps = λ b a c h. (delivered-accepted b m (a, c) h).same;
+  next = λ c. delivers c number id;
+}
 
 abbrev pub delivers_note : ℕ → ℕ → Taken → Note
 delivers_note number id a =
     record { told = told.Delivered a.completed; act = world_event.Deliver number id; outs = a.outs; progress = a.progress; begun = None }
 
 abbrev pub leaving : ℕ → Call (List Message)
-leaving id = record { event = event.Leave id; said = λ b. book.left b; keeps = λ b. left_keeps b; next = λ c. leaves c id }
+leaving id = record { event = event.Leave id; said = λ b. book.left b; keeps = λ b a c h. (left-accepted b (a, c) h).same; next = λ c. leaves c id }
 
 abbrev pub leaves_note : ℕ → List Message → Note
 leaves_note id outs = record { told = told.Left; act = world_event.Leave id; outs = outs; progress = None; begun = None }

@@ -7,7 +7,7 @@ use Rattle.std.specs.FinSet as set
 use Rattle.sc_node.specs.State.{NodeState}
 use Rattle.sc_msg.specs.declared.message.Message.{Message}
 use Rattle.sc_msg.specs.declared.version.Version.{Version}
-use Rattle.sc_world.specs.declared.event.Event.TheVariants as world_event
+use Rattle.sc_world.specs.declared.event.WorldEvent.TheVariants as world_event
 use Rattle.sc_world.specs.declared.event.Sent.{Sent}
 use Rattle.sc_world.specs.declared.fault.WorldFault.TheVariants as world_fault
 use Rattle.sc_world.specs.Ledgers.{recorded, numbered, stopped}
@@ -16,8 +16,8 @@ use Rattle.sc_world.specs.Worlds.{live_at}
 use Rattle.q_session.specs.declared.job.Job.{Job}
 use Rattle.q_book.specs.State.{BookState}
 use Rattle.q_book.specs.Books as book
-use Rattle.q_history.specs.declared.event.Event.TheVariants as event
-use Rattle.q_history.specs.declared.event.Stepped.{Stepped}
+use Rattle.q_history.specs.declared.event.ClusterEvent.TheVariants as event
+use Rattle.q_history.specs.declared.event.ClusterStep.{ClusterStep}
 use Rattle.q_history.specs.declared.event.Told.TheVariants as told
 use Rattle.q_history.specs.declared.fault.ClusterFault.TheVariants as fault
 use Rattle.q_history.specs.State.{ClusterState}
@@ -55,18 +55,18 @@ module _ (version : Version) (books : BookMap) (past : Past) (jobs : List Job) (
 
   -- ---- a node stops
 
-  crashed_by : (o : Option NodeState) → true ≡ is_some o → (past' : Past) (t : Stepped) → past' ≡ stopped past id → t ≡ record { told = told.Crashed; sent = record { first = length past.sent; count = 0 } }
+  crashed_by : (o : Option NodeState) → true ≡ is_some o → (past' : Past) (t : ClusterStep) → past' ≡ stopped past id → t ≡ record { told = told.Crashed; sent = record { first = length past.sent; count = 0 } }
       → crashed c id o ≡ Ok (t, cluster_of version books past' jobs)
   crashed_by None h past' t is tells = absurd (cc)
   crashed_by (Some n) h past' t is tells = λ i. Ok (sym tells i, cluster_of version books (sym is i) jobs)
 
   module _ (past' : Past) (sent : Sent) (is : past' ≡ stopped past id) (numbers : sent ≡ record { first = length past.sent; count = 0 }) (lives : true ≡ is_some (live_at c.world id)) where
-    pub crash_says : (t : Stepped) → t ≡ record { told = told.Crashed; sent = sent } → crashed c id (live_at c.world id) ≡ Ok (t, cluster_of version books past' jobs)
-    crash_says t tells = crashed_by (live_at c.world id) lives past' t is (tells ∙ ap (λ (s : Sent). let x : Stepped = record { told = told.Crashed; sent = s } in x) numbers)
+    pub crash_says : (t : ClusterStep) → t ≡ record { told = told.Crashed; sent = sent } → crashed c id (live_at c.world id) ≡ Ok (t, cluster_of version books past' jobs)
+    crash_says t tells = crashed_by (live_at c.world id) lives past' t is (tells ∙ ap (λ (s : Sent). let x : ClusterStep = record { told = told.Crashed; sent = s } in x) numbers)
 
     pub crash_goes : IsCluster version books past jobs → IsCluster version books past' jobs
     crash_goes old =
-        let t : Stepped = record { told = told.Crashed; sent = sent } in
+        let t : ClusterStep = record { told = told.Crashed; sent = sent } in
         record {
           history = history_next c (cluster_of version books past' jobs) (event.Crash id) t old.history
               (follows c (event.Crash id) t (cluster_of version books past' jobs) (λ _. tt) (λ _. crash_says t refl));
@@ -94,10 +94,10 @@ module _ (version : Version) (books : BookMap) (past : Past) (jobs : List Job) (
     no_node : fin.get c.world.nodes id ≡ None
     no_node = get-each node_of books id ∙ ap (option_map node_of) absent
 
-    pub enter_says : (t : Stepped) → t ≡ record { told = told.Entered; sent = sent } → entered c id (fin.get c.world.nodes id) ≡ Ok (t, cluster_of version books' past' jobs)
+    pub enter_says : (t : ClusterStep) → t ≡ record { told = told.Entered; sent = sent } → entered c id (fin.get c.world.nodes id) ≡ Ok (t, cluster_of version books' past' jobs)
     enter_says t tells =
         ap (entered c id) no_node ∙ ap (λ (e : BookState × List Message). let r : Said = Ok (enters c id e) in r) made
-        ∙ (λ i. Ok (sym (tells ∙ ap (λ (s : Sent). let x : Stepped = record { told = told.Entered; sent = s } in x) numbers) i, put c (sym records i) jobs id b))
+        ∙ (λ i. Ok (sym (tells ∙ ap (λ (s : Sent). let x : ClusterStep = record { told = told.Entered; sent = s } in x) numbers) i, put c (sym records i) jobs id b))
         ∙ ap (λ (d : ClusterState). let r : Said = Ok (t, d) in r) (put_is version books past jobs past' jobs id b books' put_in)
 
     no_founder : (k : Bool) → set.contains (set.from_list {R = nat_cmp} past.founders) id ≡ k → (let o : Option (List ℕ) = None in o) ≡ cond k (Some past.founders) None
@@ -114,7 +114,7 @@ module _ (version : Version) (books : BookMap) (past : Past) (jobs : List Job) (
 
     pub enter_goes : IsCluster version books' past' jobs
     enter_goes =
-        let t : Stepped = record { told = told.Entered; sent = sent } in
+        let t : ClusterStep = record { told = told.Entered; sent = sent } in
         let d : ClusterState = cluster_of version books' past' jobs in
         record {
           history = history_next c d (event.Enter id) t old.history (follows c (event.Enter id) t d (λ _. tt) (λ _. enter_says t refl));

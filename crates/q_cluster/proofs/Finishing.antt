@@ -11,8 +11,8 @@ use Rattle.q_session.specs.declared.ran.Ran.{Ran}
 use Rattle.q_book.specs.State.{BookState}
 use Rattle.q_book.specs.Books as book
 use Rattle.q_book.specs.declared.fault.BookFault.{BookFault}
-use Rattle.q_history.specs.declared.event.Event.TheVariants as event
-use Rattle.q_history.specs.declared.event.Stepped.{Stepped}
+use Rattle.q_history.specs.declared.event.ClusterEvent.TheVariants as event
+use Rattle.q_history.specs.declared.event.ClusterStep.{ClusterStep}
 use Rattle.q_history.specs.declared.event.Told.TheVariants as told
 use Rattle.q_history.specs.declared.fault.ClusterFault.{ClusterFault}
 use Rattle.q_history.specs.Faults.{of_book}
@@ -60,11 +60,11 @@ module _ {version : Version} {books : BookMap} {past : Past} {jobs : List Job} {
   finish_stays right y posts = stays call s f.ran (so right) y books' (posts_at (Err y) posts) refl refl
 
   -- the book refuses
-  pub finish_turns : (y : BookFault) → Posts (Err y) → (e : ClusterFault) → e ≡ of_book y → (t : Result Stepped ClusterFault) → t ≡ Err e → Takes x (event.Finish number) (cluster_of version books' past jobs) t
+  pub finish_turns : (y : BookFault) → Posts (Err y) → (e : ClusterFault) → e ≡ of_book y → (t : Result ClusterStep ClusterFault) → t ≡ Err e → Takes x (event.Finish number) (cluster_of version books' past jobs) t
   finish_turns y posts' e why t tells =
       let steps = posts_at (Err y) posts' s.book s.has in
       subst (λ (z : ClusterState). Takes z (event.Finish number) (cluster_of version books' past jobs) t) is
-      (subst (λ (z : Result Stepped ClusterFault). Takes c (event.Finish number) (cluster_of version books' past jobs) z) (sym tells) (
+      (subst (λ (z : Result ClusterStep ClusterFault). Takes c (event.Finish number) (cluster_of version books' past jobs) z) (sym tells) (
         ap (λ (m : BookMap). cluster_of version m past jobs) steps.0,
         λ loud r.
             turns r ∙ ap (lift (posts c f.job r)) (refused_so s.book f.job f.ran r y (steps.1 (λ same. loud (why ∙ ap of_book same))))
@@ -72,10 +72,10 @@ module _ {version : Version} {books : BookMap} {past : Past} {jobs : List Job} {
       ))
 
   -- the book records the answer
-  module _ (right : IsFinished f) (posts' : Posts (Ok tt)) {sent : Sent} {t : Stepped} (numbers : sent ≡ record { first = length past.sent; count = 0 })
+  module _ (right : IsFinished f) (posts' : Posts (Ok tt)) {sent : Sent} {t : ClusterStep} (numbers : sent ≡ record { first = length past.sent; count = 0 })
       (tells : t ≡ record { told = told.Finished (record { node = k.node; query = k.query; ran = f.ran }); sent = sent }) where
     of_job : t ≡ record { told = told.Finished (record { node = f.job.node; query = f.job.query; ran = f.ran }); sent = sent }
-    of_job = tells ∙ ap (λ (q : Job). let z : Stepped = record { told = told.Finished (record { node = q.node; query = q.query; ran = f.ran }); sent = sent } in z) same
+    of_job = tells ∙ ap (λ (q : Job). let z : ClusterStep = record { told = told.Finished (record { node = q.node; query = q.query; ran = f.ran }); sent = sent } in z) same
 
     pub finish_says : Follows x (event.Finish number) t (cluster_of version books' past jobs)
     finish_says = record {

@@ -26,7 +26,7 @@ use Rattle.q_book.specs.Books as book
 use Rattle.q_book.proofs.Parts.{delivered-parts}
 use Rattle.q_book.specs.declared.answer.Taken.{Taken}
 use Rattle.q_book.specs.declared.fault.BookFault.{BookFault}
-use Rattle.q_history.specs.declared.event.Stepped.{Stepped}
+use Rattle.q_history.specs.declared.event.ClusterStep.{ClusterStep}
 use Rattle.q_history.specs.declared.event.Told.{Told}
 use Rattle.q_history.specs.declared.fault.ClusterFault.{ClusterFault}
 use Rattle.q_history.specs.Faults.{memory, of_book}
@@ -40,8 +40,7 @@ use Rattle.q_shelf.specs.Calls.{StepsAt}
 use Rattle.q_cluster.specs.Acts.{Doing, cluster_of, IsHeaded, AreFiled, IsCluster, IsThere, booked, book_at}
 use Rattle.q_cluster.proofs.Histories.{nothing}
 use Rattle.q_shelf.proofs.Tables.{same_some, get-each, each-insert}
-use Rattle.q_cluster.proofs.Heads.{Keeps}
-use Rattle.q_cluster.proofs.Calls.{Call, does, IsCall, Note, delivering}
+use Rattle.q_cluster.proofs.Calls.{Keeps, Call, does, IsCall, Note, delivering}
 
 abbrev pub node_of : BookState → NodeState
 node_of b = b.node
@@ -110,15 +109,20 @@ module _ (version : Version) (books : BookMap) (past : Past) (jobs : List Job) w
   -- a call keeps the head
   pub headed : {A : Type 0} (id : ℕ) (b c : BookState) (a : A) (said : Result (A × BookState) BookFault) → Keeps b said → said ≡ Ok (a, c) → IsHeaded version past id b → IsHeaded version past id c
   headed id b c a said keeps is h =
-      let k = keeps a c is in
-      record { version = k.0 ∙ h.version; id = k.1 ∙ h.id; config = k.2 ∙ h.config; founders = k.3 ∙ h.founders }
+      let k = sym (keeps a c is) in
+      record {
+        version = ap (λ (x : BookState). x.version) k ∙ h.version;
+        id = ap (λ (x : BookState). x.id) k ∙ h.id;
+        config = ap (λ (x : BookState). x.config) k ∙ h.config;
+        founders = ap (λ (x : BookState). x.founders) k ∙ h.founders;
+      }
 
 -- what a call of the book at id makes of the table
 abbrev pub CallsAt : {A : Type 0} → Call A → BookMap → BookMap → ℕ → Result A BookFault → Type 0
 CallsAt k old new id r = (b : BookState) → fin.get old id ≡ Some b → StepsAt (k.said b) old new id r
 
 -- a refusal of a book, as its cluster answers it
-abbrev pub IsRefused : Result Stepped ClusterFault → BookFault → Type 0
+abbrev pub IsRefused : Result ClusterStep ClusterFault → BookFault → Type 0
 IsRefused r y = (f : ClusterFault) × (r ≡ Err f) × (f ≡ of_book y)
 
 module _ {A : Type 0} {version : Version} {books : BookMap} {past : Past} {jobs : List Job} {x : ClusterState} {id : ℕ} (k : Call A) (s : Stands version books past jobs x id) (ran : Ran) (so : IsCall k (cluster_of version books past jobs) id ran) where
@@ -138,10 +142,10 @@ module _ {A : Type 0} {version : Version} {books : BookMap} {past : Past} {jobs 
         subst (λ (m : BookMap). IsCluster version m past' jobs') (sym same_books)
         (subst (λ (p : Past). IsCluster version books p jobs') (sym same_past) (subst (λ (js : List Job). IsCluster version books past js) (sym same_jobs) s.old))
 
-    pub refuses : (r : Result Stepped ClusterFault) → IsRefused r y → Steps memory (stepped ran x k.event) x (cluster_of version books' past' jobs') r
+    pub refuses : (r : Result ClusterStep ClusterFault) → IsRefused r y → Steps memory (stepped ran x k.event) x (cluster_of version books' past' jobs') r
     refuses r h =
         subst (λ (z : ClusterState). Steps memory (stepped ran z k.event) z (cluster_of version books' past' jobs') r) s.is
-        (subst (λ (z : Result Stepped ClusterFault). Steps memory (stepped ran c k.event) c (cluster_of version books' past' jobs') z) (sym h.1) (
+        (subst (λ (z : Result ClusterStep ClusterFault). Steps memory (stepped ran c k.event) c (cluster_of version books' past' jobs') z) (sym h.1) (
           (λ i. cluster_of version (same_books i) (same_past i) (same_jobs i)),
           λ loud.
               turns ∙ ap (lift (k.next c)) ((calls s.book s.has).1 (λ same. loud (h.2 ∙ ap of_book same)))
@@ -154,10 +158,10 @@ module _ {A : Type 0} {version : Version} {books : BookMap} {past : Past} {jobs 
     new = (calls s.book s.has).0
 
     -- and the cluster goes on to this past and these jobs
-    module _ (past' : Past) (jobs' : List Job) (t : Stepped) (is : k.next c a new ≡ (t, put c past' jobs' id new)) where
+    module _ (past' : Past) (jobs' : List Job) (t : ClusterStep) (is : k.next c a new ≡ (t, put c past' jobs' id new)) where
       went : stepped ran c k.event ≡ Ok (t, cluster_of version books' past' jobs')
       went =
-          turns ∙ ap (lift (k.next c)) (calls s.book s.has).1 ∙ ap (λ (p : Stepped × ClusterState). let r : Said = Ok p in r) is
+          turns ∙ ap (lift (k.next c)) (calls s.book s.has).1 ∙ ap (λ (p : ClusterStep × ClusterState). let r : Said = Ok p in r) is
           ∙ ap (λ (d : ClusterState). let r : Said = Ok (t, d) in r) (put_is version books past jobs past' jobs' id new books' (calls s.book s.has).2)
 
       says : stepped ran x k.event ≡ Ok (t, cluster_of version books' past' jobs')
@@ -171,9 +175,9 @@ module _ {A : Type 0} {version : Version} {books : BookMap} {past : Past} {jobs 
       }
 
     -- nothing is recorded
-    module _ (tell : Told) (jobs' : List Job) (does_so : k.next c a new ≡ quiet c tell jobs' id new) {sent : Sent} {t : Stepped} (numbers : sent ≡ record { first = length past.sent; count = 0 }) (tells : t ≡ record { told = tell; sent = sent }) where
+    module _ (tell : Told) (jobs' : List Job) (does_so : k.next c a new ≡ quiet c tell jobs' id new) {sent : Sent} {t : ClusterStep} (numbers : sent ≡ record { first = length past.sent; count = 0 }) (tells : t ≡ record { told = tell; sent = sent }) where
       quiet_is : k.next c a new ≡ (t, put c past jobs' id new)
-      quiet_is = does_so ∙ (λ i. ((ap (λ (s : Sent). let x : Stepped = record { told = tell; sent = s } in x) (sym numbers) ∙ sym tells) i, put c past jobs' id new))
+      quiet_is = does_so ∙ (λ i. ((ap (λ (s : Sent). let x : ClusterStep = record { told = tell; sent = s } in x) (sym numbers) ∙ sym tells) i, put c past jobs' id new))
 
       pub quiet_says : stepped ran x k.event ≡ Ok (t, cluster_of version books' past jobs')
       quiet_says = says past jobs' t quiet_is
@@ -182,13 +186,13 @@ module _ {A : Type 0} {version : Version} {books : BookMap} {past : Past} {jobs 
       quiet_goes = goes past jobs' t quiet_is refl refl
 
     -- the ledger records it
-    module _ (n : Note) (does_so : k.next c a new ≡ noted c n.told n.act id n.outs n.progress n.begun new) {reserved : Past} {past' : Past} {sent : Sent} {t : Stepped} (kept : reserved ≡ past)
+    module _ (n : Note) (does_so : k.next c a new ≡ noted c n.told n.act id n.outs n.progress n.begun new) {reserved : Past} {past' : Past} {sent : Sent} {t : ClusterStep} (kept : reserved ≡ past)
         (records : past' ≡ recorded reserved n.act id n.outs n.progress n.begun) (numbers : sent ≡ numbered reserved n.outs) (tells : t ≡ record { told = n.told; sent = sent }) where
       past_is : past' ≡ recorded past n.act id n.outs n.progress n.begun
       past_is = records ∙ ap (λ (p : Past). recorded p n.act id n.outs n.progress n.begun) kept
 
       told_is : t ≡ record { told = n.told; sent = numbered past n.outs }
-      told_is = tells ∙ ap (λ (s : Sent). let x : Stepped = record { told = n.told; sent = s } in x) (numbers ∙ ap (λ (p : Past). numbered p n.outs) kept)
+      told_is = tells ∙ ap (λ (s : Sent). let x : ClusterStep = record { told = n.told; sent = s } in x) (numbers ∙ ap (λ (p : Past). numbered p n.outs) kept)
 
       noted_is : k.next c a new ≡ (t, put c past' jobs id new)
       noted_is = does_so ∙ (λ i. (sym told_is i, put c (sym past_is i) jobs id new))

@@ -2,8 +2,8 @@
 use Rattle.std.proofs.Common.{◌≡◌, refl, ℕ, List, [], ◌∷◌, take, ◌∙◌, Result, Ok, Err}
 use Rattle.forms.specs.Calls.{Steps}
 use Rattle.q_session.specs.declared.ran.Ran.{Ran}
-use Rattle.q_history.specs.declared.event.Event.{Event}
-use Rattle.q_history.specs.declared.event.Stepped.{Stepped}
+use Rattle.q_history.specs.declared.event.ClusterEvent.{ClusterEvent}
+use Rattle.q_history.specs.declared.event.ClusterStep.{ClusterStep}
 use Rattle.q_history.specs.declared.fault.ClusterFault.{ClusterFault}
 use Rattle.q_history.specs.Faults.{memory}
 use Rattle.q_history.specs.State.{ClusterState}
@@ -14,20 +14,20 @@ abbrev pub nothing : Ran
 nothing = record { acc = 0; steps = 0 }
 
 -- an event that finishes no job does what is said
-pub follows : (c : ClusterState) (e : Event) (told : Stepped) (d : ClusterState) → ((ran : Ran) → AnswersTo c e ran) → ((ran : Ran) → stepped ran c e ≡ Ok (told, d)) → Follows c e told d
+pub follows : (c : ClusterState) (e : ClusterEvent) (told : ClusterStep) (d : ClusterState) → ((ran : Ran) → AnswersTo c e ran) → ((ran : Ran) → stepped ran c e ≡ Ok (told, d)) → Follows c e told d
 follows c e told d any is = record { ran = nothing; right = any nothing; stepped = is nothing }
 
-pub takes : (c : ClusterState) (e : Event) (d : ClusterState) (said : Result (Stepped × ClusterState) ClusterFault) (r : Result Stepped ClusterFault)
+pub takes : (c : ClusterState) (e : ClusterEvent) (d : ClusterState) (said : Result (ClusterStep × ClusterState) ClusterFault) (r : Result ClusterStep ClusterFault)
     → ((ran : Ran) → AnswersTo c e ran) → ((ran : Ran) → stepped ran c e ≡ said) → Steps memory said c d r → Takes c e d r
 takes c e d said (Ok told) any is h = follows c e told d any (λ ran. is ran ∙ h)
 takes c e d said (Err f) any is h = (h.0, λ loud ran. is ran ∙ h.1 loud)
 
 -- what a run leads to, some events lead to
-pub runs_reach : (c : ClusterState) (es : List Event) (d : ClusterState) (r : Result (Unit {0}) (ℕ × ClusterFault)) → Runs c es d r → (fs : List Event) × Reaches c fs d
+pub runs_reach : (c : ClusterState) (es : List ClusterEvent) (d : ClusterState) (r : Result (Unit {0}) (ℕ × ClusterFault)) → Runs c es d r → (fs : List ClusterEvent) × Reaches c fs d
 runs_reach c es d (Ok u) h = (es, h)
 runs_reach c es d (Err x) h = (take x.0 es, h.0)
 
 -- what one event leads to, some events lead to
-pub takes_reach : (c : ClusterState) (e : Event) (d : ClusterState) (r : Result Stepped ClusterFault) → Takes c e d r → (fs : List Event) × Reaches c fs d
+pub takes_reach : (c : ClusterState) (e : ClusterEvent) (d : ClusterState) (r : Result ClusterStep ClusterFault) → Takes c e d r → (fs : List ClusterEvent) × Reaches c fs d
 takes_reach c e d (Ok told) h = (e ∷ [], (told, d, h, refl))
 takes_reach c e d (Err f) h = ([], h.0)

@@ -1,6 +1,5 @@
 -- What the parts of an event make together.
 pub mod Histories
-pub mod Heads
 pub mod Calls
 pub mod Posting
 pub mod Going

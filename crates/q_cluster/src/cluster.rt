@@ -16,29 +16,21 @@ ghost use Rattle.q_history.specs.Headline.{AnswersAreTrue, AnswersStay, ViewsAre
 ghost use Rattle.q_history.specs.Books.{BooksAreReplays};
 ghost use Rattle.q_cluster.specs.Acts.{Doing, IsThere, MayRun, book_at};
 
-use bq_frame::block::Block;
-use q_book::answer::{Asked, Taken};
-use q_book::book::Book;
-use q_history::event::{Answer, Event, Handed, Stepped, Told};
-use q_history::fault::ClusterFault;
+use bq_frame::Block;
+use q_book::{Asked, Book, Taken};
 use q_history::laws::{
     answers_stay, every_answer_is_true, every_book_is_a_replay, every_message_fits,
     every_view_is_returned, every_world_is_a_history,
 };
-use q_session::done::Done;
-use q_session::job::Job;
-use q_shelf::books::{Books, found_books};
-use q_table::program::{Program, ProgramId};
-use sc_members::config::Config;
-use sc_msg::message::Message;
-use sc_msg::version::Version;
-use sc_node::answer::Begun;
-use sc_view::value::Value;
-use sc_world::act::Opened;
-use sc_world::event::{Event as WorldEvent, Sent};
-use sc_world::fault::WorldFault;
-use sc_world::ledger::Ledger;
-use sc_world::op::Op;
+use q_history::{Answer, ClusterEvent, ClusterFault, ClusterStep, Handed, Told};
+use q_session::{Done, Job};
+use q_shelf::{Books, found_books};
+use q_table::{Program, ProgramId};
+use sc_members::Config;
+use sc_msg::{Message, Version};
+use sc_node::Begun;
+use sc_view::Value;
+use sc_world::{Ledger, Op, Opened, Sent, WorldEvent, WorldFault};
 use std::alloc::Global;
 use std::marker::Model;
 
@@ -103,7 +95,7 @@ impl Cluster {
     /// Takes an event, or refuses it with the first of 83, 81, 82, 42, 41, 51, 59, 50, 52, 56, 55, 43, 53, 48, 46 and
     /// 47, with 44, or with 99; then the cluster is as it was. Whether accepted or refused, each recorded answer is
     /// true, those that were recorded before stay, and each node with its desk is the replay of its own journal.
-    pub fn step(&mut self, event: &Event) -> Result<Stepped, ClusterFault>
+    pub fn step(&mut self, event: &ClusterEvent) -> Result<ClusterStep, ClusterFault>
         ensures takes { Takes self.old event.now self.new result }
         ensures answers { AnswersAreTrue self.new }
         ensures views { ViewsAreReturned self.new }
@@ -119,30 +111,30 @@ impl Cluster {
         stepped
     }
 
-    fn take(&mut self, event: &Event) -> Result<Stepped, ClusterFault>
+    fn take(&mut self, event: &ClusterEvent) -> Result<ClusterStep, ClusterFault>
         ensures { Takes self.old event.now self.new result }
     {
         match event {
-            Event::Enter(node) => self.enter(*node),
-            Event::Leave(node) => self.leave(*node),
-            Event::Crash(node) => self.crash(*node),
-            Event::Register { node, program } => self.register(*node, program),
-            Event::Ask {
+            ClusterEvent::Enter(node) => self.enter(*node),
+            ClusterEvent::Leave(node) => self.leave(*node),
+            ClusterEvent::Crash(node) => self.crash(*node),
+            ClusterEvent::Register { node, program } => self.register(*node, program),
+            ClusterEvent::Ask {
                 node,
                 program,
                 start,
             } => self.ask(*node, *program, *start),
-            Event::Store { node, value } => self.store(*node, value),
-            Event::Deliver { message, node } => self.deliver(*message, *node),
-            Event::HandOut(node) => self.hand_out(*node),
-            Event::Finish(job) => self.finish(*job),
+            ClusterEvent::Store { node, value } => self.store(*node, value),
+            ClusterEvent::Deliver { message, node } => self.deliver(*message, *node),
+            ClusterEvent::HandOut(node) => self.hand_out(*node),
+            ClusterEvent::Finish(job) => self.finish(*job),
         }
     }
 
     /// Takes the events in turn, up to the first that is refused, which is answered by its place with its refusal. Each
-    /// recorded answer is true, those that were recorded before stay, and each node with its desk is the replay of its own
-    /// journal.
-    pub fn run(&mut self, events: &[Event]) -> Result<(), (usize, ClusterFault)>
+    /// recorded answer is true, those that were recorded before stay, and each node with its desk is the replay of its
+    /// own journal.
+    pub fn run(&mut self, events: &[ClusterEvent]) -> Result<(), (usize, ClusterFault)>
         ensures runs { Runs self.old events.now self.new result }
         ensures answers { AnswersAreTrue self.new }
         ensures views { ViewsAreReturned self.new }
@@ -158,7 +150,7 @@ impl Cluster {
         ran
     }
 
-    fn take_all(&mut self, events: &[Event]) -> Result<(), (usize, ClusterFault)>
+    fn take_all(&mut self, events: &[ClusterEvent]) -> Result<(), (usize, ClusterFault)>
         ensures { Runs self.old events.now self.new result }
     {
         for (place, event) in events.iter().enumerate() {
@@ -187,8 +179,8 @@ impl Cluster {
         let _jobs = self.jobs.len();
     }
 
-    /// A law of every cluster: each node with its desk is the replay of its own journal, also where the node has left or
-    /// crashed.
+    /// A law of every cluster: each node with its desk is the replay of its own journal, also where the node has left
+    /// or crashed.
     pub fn books_are_replays(&self)
         ensures { BooksAreReplays self.now }
     {
@@ -262,7 +254,7 @@ impl Cluster {
     /// The record of each operation, in the order in which they began. The views are regular, and what the records say
     /// is true. Each message was sent by the sender that it names, so each sender that a record counts sent its answer.
     /// What the world's next event tells of an operation that ends is what its record then says, and each operation
-    /// whose record ends then is told. Whether two of them meet is told by `sc_world::op::meets`.
+    /// whose record ends then is told. Whether two of them meet is told by `sc_world::meets`.
     pub fn ops(&self) -> &[Op]
         ensures ops { result.now ≡ self.now.world.ops }
         ensures regular { IsRegular self.now.world }
@@ -299,7 +291,7 @@ impl Cluster {
 }
 
 impl Cluster {
-    fn enter(&mut self, id: u64) -> Result<Stepped, ClusterFault>
+    fn enter(&mut self, id: u64) -> Result<ClusterStep, ClusterFault>
         ensures { Steps memory (entered self.old id (fin.get self.old.world.nodes id)) self.old self.new result }
     {
         if self.books.get(id).is_some() {
@@ -314,7 +306,7 @@ impl Cluster {
         Ok(told(Told::Entered, sent))
     }
 
-    fn leave(&mut self, id: u64) -> Result<Stepped, ClusterFault>
+    fn leave(&mut self, id: u64) -> Result<ClusterStep, ClusterFault>
         ensures { Steps memory (at self.old id (left self.old id)) self.old self.new result }
     {
         self.check_live(id)?;
@@ -326,7 +318,7 @@ impl Cluster {
         Ok(told(Told::Left, sent))
     }
 
-    fn crash(&mut self, id: u64) -> Result<Stepped, ClusterFault>
+    fn crash(&mut self, id: u64) -> Result<ClusterStep, ClusterFault>
         ensures { Steps memory (crashed self.old id (world.live_at self.old.world id)) self.old self.new result }
     {
         if !self.is_live(id) {
@@ -336,7 +328,7 @@ impl Cluster {
         Ok(told(Told::Crashed, sent))
     }
 
-    fn register(&mut self, id: u64, program: &Program) -> Result<Stepped, ClusterFault>
+    fn register(&mut self, id: u64, program: &Program) -> Result<ClusterStep, ClusterFault>
         ensures { Steps memory (at self.old id (registered self.old id program.now)) self.old self.new result }
     {
         self.check_live(id)?;
@@ -344,7 +336,7 @@ impl Cluster {
         Ok(told(Told::Registered(program), self.ledger.silent()))
     }
 
-    fn ask(&mut self, id: u64, program: ProgramId, start: u64) -> Result<Stepped, ClusterFault>
+    fn ask(&mut self, id: u64, program: ProgramId, start: u64) -> Result<ClusterStep, ClusterFault>
         ensures { Steps memory (at self.old id (asked self.old id program start)) self.old self.new result }
     {
         self.check_live(id)?;
@@ -358,7 +350,7 @@ impl Cluster {
         Ok(told(Told::Asked(query), sent))
     }
 
-    fn store(&mut self, id: u64, value: &Value) -> Result<Stepped, ClusterFault>
+    fn store(&mut self, id: u64, value: &Value) -> Result<ClusterStep, ClusterFault>
         ensures { Steps memory (at self.old id (stored self.old id value.now)) self.old self.new result }
     {
         self.check_live(id)?;
@@ -373,7 +365,7 @@ impl Cluster {
         Ok(told(Told::Stored(tag), sent))
     }
 
-    fn deliver(&mut self, message: usize, id: u64) -> Result<Stepped, ClusterFault>
+    fn deliver(&mut self, message: usize, id: u64) -> Result<ClusterStep, ClusterFault>
         ensures { Steps memory (at self.old id (delivered self.old message id)) self.old self.new result }
     {
         self.check_live(id)?;
@@ -394,7 +386,7 @@ impl Cluster {
         Ok(told(Told::Delivered(completed), sent))
     }
 
-    fn hand_out(&mut self, id: u64) -> Result<Stepped, ClusterFault>
+    fn hand_out(&mut self, id: u64) -> Result<ClusterStep, ClusterFault>
         ensures { Steps memory (at self.old id (handed_out self.old id)) self.old self.new result }
     {
         self.check_live(id)?;
@@ -404,8 +396,8 @@ impl Cluster {
         Ok(told(Told::HandedOut(handed), self.ledger.silent()))
     }
 
-    fn finish(&mut self, number: usize) -> Result<Stepped, ClusterFault>
-        ensures { Takes self.old (Event.Finish number) self.new result }
+    fn finish(&mut self, number: usize) -> Result<ClusterStep, ClusterFault>
+        ensures { Takes self.old (ClusterEvent.Finish number) self.new result }
     {
         let done = Done::run(self.job_to_run(number)?, &mut self.block);
         let job = done.job();
@@ -463,8 +455,8 @@ fn put_job(jobs: &mut Vec<Job>, job: Option<Job>) -> Option<Handed>
     Some(handed)
 }
 
-fn told(told: Told, sent: Sent) -> Stepped
+fn told(told: Told, sent: Sent) -> ClusterStep
     ensures { result ≡ record { told = told; sent = sent } }
 {
-    Stepped { told, sent }
+    ClusterStep { told, sent }
 }

@@ -1,6 +1,6 @@
 //! A cluster: the nodes of a store-collect object, a desk at each node, and the jobs that desks handed out.
 //!
-//! [`cluster`] takes events one at a time or a list of them. Each event is taken or refused as the definitions of
+//! A [`Cluster`] takes events one at a time or a list of them. Each event is taken or refused as the definitions of
 //! histories say, which pin the answer, the new state and the refusal that comes first; after a refusal, 99 OutOfMemory
 //! among them, the cluster is as it was. So every cluster is what some list of events made of its founders, and each
 //! answer that any of its desks recorded is true: the meaning of its query's program over the view that the query's own
@@ -9,5 +9,7 @@
 //! Each node with its desk is the replay of its own journal, also where it has left or crashed.
 #![tactic(auto)]
 
-pub mod cluster;
+mod cluster;
 pub mod worked;
+
+pub use cluster::Cluster;

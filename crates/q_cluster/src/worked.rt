@@ -15,8 +15,8 @@ ghost use Rattle.q_history.specs.Calls.{Takes, Runs};
 ghost use Rattle.q_history.specs.Clusters.{enters, handed, with_job, start, started};
 ghost use Rattle.q_history.specs.Heads.{book_of};
 ghost use Rattle.q_history.specs.State.{ClusterState};
-ghost use Rattle.q_history.specs.declared.event.Event.{Event};
-ghost use Rattle.q_history.specs.declared.event.Event.TheVariants as event;
+ghost use Rattle.q_history.specs.declared.event.ClusterEvent.{ClusterEvent};
+ghost use Rattle.q_history.specs.declared.event.ClusterEvent.TheVariants as event;
 ghost use Rattle.q_history.specs.declared.fault.ClusterFault.{ClusterFault};
 ghost use Rattle.q_history.specs.declared.fault.ClusterFault.TheVariants as fault;
 ghost use Rattle.q_cluster.specs.Acts.{book_at};
@@ -30,7 +30,7 @@ pub fn worked()
 
     // A new id is taken, and events are refused by their own places.
     ensures taken { (c d : ClusterState) → fin.get c.world.nodes 7 ≡ None → Takes c (event.Enter 7) d (Err fault.NoSuchJob) → ⊥ }
-    ensures own_place { (c d : ClusterState) (e : Event) (f : ClusterFault) → Runs c (e ∷ []) d (Err (1, f)) → ⊥ }
+    ensures own_place { (c d : ClusterState) (e : ClusterEvent) (f : ClusterFault) → Runs c (e ∷ []) d (Err (1, f)) → ⊥ }
 
     // A node is there until it leaves or crashes, and its book stays.
     ensures live { (w : WorldState) (n : NodeState) → set.contains w.crashed 7 ≡ false → fin.get w.nodes 7 ≡ Some n → n.gone ≡ false → live_at w 7 ≡ Some n }

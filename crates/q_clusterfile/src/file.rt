@@ -11,9 +11,8 @@ ghost use Rattle.q_clusterfile.specs.File.{AreApart, IsApart, IsFault, IsFaulty,
 use crate::fault::ClusterFileFault;
 use crate::line::{Heading, NodeLine};
 use crate::text::{cut, without_last_feed};
-use sc_members::config::Config;
-use sc_members::facts::MOST_FACTS;
-use sc_node::node::MOST_FOUNDERS;
+use sc_members::{Config, MOST_FACTS};
+use sc_node::MOST_FOUNDERS;
 use std::alloc::{AllocError, Global};
 
 /// What the file of a cluster says.

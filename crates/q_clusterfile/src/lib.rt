@@ -27,14 +27,15 @@
 //! from the code. That a text which spells a file is never refused but for want of memory is a law: [`laws`].
 //!
 //! Whether a node can be reached at its address is not judged here. The sockets of nodes stand on this crate.
-//!
-//! [`read_cluster`]: file::read_cluster
-//! [`ClusterFile`]: file::ClusterFile
 #![tactic(auto)]
 
-pub mod fault;
-pub mod file;
+mod fault;
+mod file;
 pub mod laws;
-pub mod line;
+mod line;
 mod text;
 pub mod worked;
+
+pub use fault::ClusterFileFault;
+pub use file::{ClusterFile, read_cluster};
+pub use line::{Heading, NodeLine};

@@ -6,8 +6,7 @@ ghost use Rattle.q_script.specs.Founding.{SpellsFraction};
 ghost use Rattle.q_clusterfile.specs.Line.{IsNodeWord, SpellsHeading, SpellsNode};
 
 use crate::text::cut;
-use q_script::founding::Fraction;
-use q_script::number::{leading, pair};
+use q_script::{Fraction, leading, pair};
 use std::net::SocketAddr;
 
 /// The first line of a file.

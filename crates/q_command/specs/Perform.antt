@@ -8,7 +8,7 @@ use Rattle.bq_insn.specs.Slots.{spelling, IsText}
 use Rattle.bq_asm.specs.Source as assembler
 use Rattle.bq_asm.specs.Source.{IsSource, disassembly}
 use Rattle.bq_check.specs.Spelling.{notes_bytes}
-use Rattle.bq_check.specs.declared.form.Form.TheVariants.{Second}
+use Rattle.bq_check.specs.declared.form.NotesForm.TheVariants.{Second}
 use Rattle.bq_flow.specs.Paths.{IsLongest}
 use Rattle.bq_range.specs.Interval.{Interval}
 use Rattle.bq_state.specs.Kinds.{StateKinds}
@@ -43,8 +43,8 @@ use Rattle.q_wire.specs.Counts.{one_more}
 use Rattle.q_words.specs.Words.{is_strict}
 use Rattle.q_words.specs.declared.words.FileCommand.{FileCommand}
 use Rattle.q_words.specs.declared.words.FileCommand.TheVariants.{Asm, Dis, Check, Run, Sim, Audit}
-use Rattle.q_words.specs.declared.words.Form.{Form}
-use Rattle.q_words.specs.declared.words.Form.TheVariants.{Text, Bytes}
+use Rattle.q_words.specs.declared.words.ProgramForm.{ProgramForm}
+use Rattle.q_words.specs.declared.words.ProgramForm.TheVariants.{Text, Bytes}
 use denote.Ref.{Bor}
 
 -- what a read of a name may answer, of a file of some kind, over files that stand thus before and after
@@ -68,24 +68,24 @@ pub record IsProgram (source : List ℕ) (text : List Insn) : Type 0 where
   pub spelled : IsSource source text
 
 -- what a file of this form holds spells the program: assembler text, or the program's bytes
-abbrev pub Spells : Form → List ℕ → List Insn → Type 0
+abbrev pub Spells : ProgramForm → List ℕ → List Insn → Type 0
 Spells Text source text = IsProgram source text
 Spells Bytes source text = IsText text × (source ≡ spelling text)
 
 -- What is spelled is this program, and these are its notes: they pass for records of these lengths, and no notes that pass
 -- say more.
-pub record IsVerified (held : Form) (lengths : Interval) (source : List ℕ) (text : List Insn) (notes : List (Option StateKinds)) : Type 0 where
+pub record IsVerified (held : ProgramForm) (lengths : Interval) (source : List ℕ) (text : List Insn) (notes : List (Option StateKinds)) : Type 0 where
   pub program : Spells held source text
   pub passes : Passes lengths text notes
   pub least : AreLeast lengths text notes
 
 -- what is spelled is a program whose notes pass for records of these lengths
-abbrev pub IsAccepted : Form → Interval → List ℕ → Type 0
+abbrev pub IsAccepted : ProgramForm → Interval → List ℕ → Type 0
 IsAccepted held lengths source = (text : List Insn) × (notes : List (Option StateKinds)) × IsVerified held lengths source text notes
 
 -- Why a file of this form spells no program: it is not UTF-8, or what is first wrong with the text; or what is first wrong
 -- with the bytes.
-abbrev pub IsUnspelled : Form → List ℕ → Refusal → Type 0
+abbrev pub IsUnspelled : ProgramForm → List ℕ → Refusal → Type 0
 IsUnspelled Text source refusal.FileFailed = ¬ (IsUtf8 source)
 IsUnspelled Text source (refusal.Assembler f) = IsUtf8 source × assembler.IsFault source f
 IsUnspelled Text source refusal.OutOfMemory = IsUtf8 source
@@ -94,7 +94,7 @@ IsUnspelled Bytes source refusal.OutOfMemory = (text : List Insn) × Spells Byte
 IsUnspelled held source r = ⊥
 
 -- why it spells no program that the verifier accepts for records of these lengths
-abbrev pub IsUnaccepted : Form → Interval → List ℕ → Refusal → Type 0
+abbrev pub IsUnaccepted : ProgramForm → Interval → List ℕ → Refusal → Type 0
 IsUnaccepted held lengths source (refusal.Program f) = (text : List Insn) × Spells held source text × IsUncertified lengths text (refusal.Program f)
 IsUnaccepted held lengths source r = IsUnspelled held source r
 
@@ -137,7 +137,7 @@ pub record Accepts {F : Type 0} (writes : Writing F) (asked : Checking) (source 
 
 -- the lines say what the program comes to over the records that are listed, each of one of the lengths, from the start
 -- value
-pub record Computes (held : Form) (lengths : Interval) (source : List ℕ) (start : ℕ) (listed lines : List ℕ) : Type 0 where
+pub record Computes (held : ProgramForm) (lengths : Interval) (source : List ℕ) (start : ℕ) (listed lines : List ℕ) : Type 0 where
   pub text : List Insn
   pub view : ViewMap
   pub acc : ℕ
@@ -162,7 +162,7 @@ AnswersFile reads gives name old lines unwritten refused new =
     (bytes : List ℕ) × reads old name (Ok bytes) new × gives bytes lines × (unwritten ≡ false) × (refused ≡ false)
 
 -- a program is read, and then records, and what it computes over them is these lines
-abbrev pub AnswersRun : {F : Type 0} → ReadingOf F → Form → Interval → List ℕ → ℕ → List ℕ → F → List ℕ → Bool → Bool → F → Type 0
+abbrev pub AnswersRun : {F : Type 0} → ReadingOf F → ProgramForm → Interval → List ℕ → ℕ → List ℕ → F → List ℕ → Bool → Bool → F → Type 0
 AnswersRun {F} reads held lengths name start records old lines unwritten refused new =
     (source : List ℕ) × (between : F) × reads old name (Ok source) between × AnswersFile reads (Computes held lengths source start) records between lines unwritten refused new
 
@@ -213,7 +213,7 @@ RefusesFile reads refuses name old denied new =
     ⊎ ((denied.file.now ≡ name) × reads old name (Ok denied.bytes.items) new × refuses denied.bytes.items denied.refusal)
 
 -- The program is refused, or it is accepted and the records are refused.
-abbrev pub RefusesRun : {F : Type 0} → ReadingOf F → Form → Interval → List ℕ → List ℕ → F → Denied → F → Type 0
+abbrev pub RefusesRun : {F : Type 0} → ReadingOf F → ProgramForm → Interval → List ℕ → List ℕ → F → Denied → F → Type 0
 RefusesRun {F} reads held lengths name records old denied new =
     RefusesFile reads (IsUnaccepted held lengths) name old denied new
     ⊎ ((source : List ℕ) × (between : F) × reads old name (Ok source) between × IsAccepted held lengths source × RefusesFile reads (IsUnlisted lengths) records between denied new)

@@ -1,6 +1,6 @@
 //! What a command answers.
 
-use q_sim::simulation::Printed;
+use q_sim::Printed;
 
 /// What a command answers.
 #[derive(Drop)]

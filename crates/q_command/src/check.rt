@@ -4,22 +4,20 @@ ghost use Rattle.std.specs.Prelude.{◌≡◌, ◌≢◌, ◌++◌, [], false, I
 ghost use Rattle.q_explain.specs.Known.{states_text};
 ghost use Rattle.q_command.specs.Perform.{Accepts, IsUnaccepted, SavesNotes, acceptance};
 
-use crate::program::certified;
-use bq_check::certified::Certified;
-use bq_check::notes::Notes;
-use bq_state::bounds::Bounds;
-use q_explain::states::states;
-use q_files::files::{FileFault, Files};
-use q_sim::refusal::Refusal;
-use q_sim::simulation::Printed;
-use q_words::words::Form;
+use crate::sources::certified;
+use bq_check::{Certified, Notes};
+use bq_state::Bounds;
+use q_explain::states;
+use q_files::{FileFault, Files};
+use q_sim::{Printed, Refusal};
+use q_words::ProgramForm;
 use std::alloc::{AllocError, Global};
 
 /// What `check` is asked of the program in a file.
 #[derive(Clone, Copy)]
 pub struct Check<'a> {
     /// What the file holds.
-    pub form: Form,
+    pub form: ProgramForm,
     /// How many bytes a record may have.
     pub lengths: Bounds,
     /// Whether what is known at each unit is to be told.

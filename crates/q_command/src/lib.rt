@@ -10,7 +10,7 @@
 //!   writer counted.
 //!   It hands out what was read and refused ([`Denied`]), gives the exit status, and tells in the notes, of which no clause
 //!   speaks, what explains a refusal.
-//! - [`program`] has programs from assembler text and from bytes, with their certificates.
+//! - [`certified`] makes programs from assembler text and from bytes, with their certificates.
 //! - [`listing`] is the text that `asm` prints, and [`checked`] what `check` prints and writes.
 //! - [`audit`] is the text that `audit` prints: the answers of a journal that is replayed.
 //! - [`advice`] explains a refusal in words, from the bytes that were read: any but that memory ran out, and a file that
@@ -20,27 +20,27 @@
 //! Scripts are run by [`simulate`], of the crate below: it takes each event of a script as one step of a cluster, whose
 //! type keeps that every recorded answer is true, and answers the lines of what the steps tell.
 //!
-//! [`carry_out`]: perform::carry_out
-//! [`Denied`]: denied::Denied
-//! [`program`]: program::certified
-//! [`Files`]: q_files::files::Files
-//! [`simulate`]: q_sim::simulation::simulate
-//! [`listing`]: listing::listing
-//! [`advice`]: advice::advice
-//! [`nodes_advice`]: advice::nodes_advice
-//! [`audit`]: audit::audit
-//! [`checked`]: check::checked
+//! [`Files`]: q_files::Files
+//! [`simulate`]: q_sim::simulate
 #![tactic(auto)]
 
-pub mod advice;
+mod advising;
 mod answer;
-pub mod audit;
-pub mod check;
-pub mod denied;
+mod auditor;
+mod check;
+mod denied;
 pub mod laws;
 mod line;
-pub mod listing;
-pub mod perform;
-pub mod program;
+mod lister;
+mod perform;
+mod sources;
 mod told;
 pub mod worked;
+
+pub use advising::{advice, nodes_advice};
+pub use auditor::audit;
+pub use check::{Check, checked};
+pub use denied::Denied;
+pub use lister::listing;
+pub use perform::{LONGEST_JOURNAL, Outcome, carry_out};
+pub use sources::{certified, program, utf8};

@@ -1,6 +1,6 @@
 //! Lines of a file that is refused.
 
-use q_explain::shown::write_shown;
+use q_explain::write_shown;
 use std::alloc::AllocError;
 use std::str;
 

@@ -6,25 +6,23 @@ ghost use Rattle.bq_verify.specs.Least.{AreLeast};
 ghost use Rattle.q_command.specs.Perform.{Answers, AnswersCheck, AnswersFile, AnswersRun, AnswersScript, Computes, Disassembles, Ends, IsSimulated, IsUnaccepted, IsUnlisted, IsUnmade, IsUnread, IsUnspelled, IsUnsimulated, Lists, Makes, Refuses, RefusesBeforeWrites, RefusesFile, RefusesRun, Spells, end_of, failures_after, longest_text, status_of};
 
 use crate::answer::Answer;
-use crate::audit::audit;
+use crate::auditor::audit;
 use crate::check::{Check, checked};
 use crate::denied::Denied;
-use crate::listing::listing;
-use crate::program::{certified, program, utf8};
+use crate::lister::listing;
+use crate::sources::{certified, program, utf8};
 use crate::told::{tell_lines, tell_refusal};
-use bq_asm::disassemble::disassemble;
-use bq_check::certified::Certified;
-use bq_frame::block::Block;
-use bq_state::bounds::Bounds;
-use q_files::files::{Files, LONGEST_TEXT};
-use q_refused::line::put_refusal;
-use q_script::records::read_records;
-use q_script::script::Script;
-use q_session::run::run_fold;
-use q_sim::refusal::Refusal;
-use q_sim::simulation::{Printed, simulate};
-use q_wire::counted::Counted;
-use q_words::words::{FileCommand, Form};
+use bq_asm::disassemble;
+use bq_check::Certified;
+use bq_frame::Block;
+use bq_state::Bounds;
+use q_files::{Files, LONGEST_TEXT};
+use q_refused::put_refusal;
+use q_script::{Script, read_records};
+use q_session::run_fold;
+use q_sim::{Printed, Refusal, simulate};
+use q_wire::Counted;
+use q_words::{FileCommand, ProgramForm};
 use std::alloc::Global;
 use std::io::Write;
 
@@ -62,18 +60,18 @@ impl Outcome<'_> {
 /// The listing of the program that assembler text spells, refused as [`program`].
 fn listed(alloc: Global, source: &[u8]) -> Result<String, Refusal>
     ensures listed { IfOk result (λ lines. Lists source.now (string_bytes lines)) }
-    ensures refused { IfErr result (IsUnspelled Form.Text source.now) }
+    ensures refused { IfErr result (IsUnspelled ProgramForm.Text source.now) }
 {
-    let text = program(alloc, Form::Text, source)?;
+    let text = program(alloc, ProgramForm::Text, source)?;
     Ok(listing(alloc, &text)?)
 }
 
 /// The assembler text of the program of these bytes, refused as [`program`].
 fn disassembled(alloc: Global, source: &[u8]) -> Result<String, Refusal>
     ensures written { IfOk result (λ lines. Disassembles source.now (string_bytes lines)) }
-    ensures refused { IfErr result (IsUnspelled Form.Bytes source.now) }
+    ensures refused { IfErr result (IsUnspelled ProgramForm.Bytes source.now) }
 {
-    let text = program(alloc, Form::Bytes, source)?;
+    let text = program(alloc, ProgramForm::Bytes, source)?;
     Ok(disassemble(alloc, &text)?)
 }
 
@@ -224,7 +222,7 @@ fn check_answer<'a, F: Files>(
 fn certified_file<'a, F: Files>(
     alloc: Global,
     file: &'a str,
-    form: Form,
+    form: ProgramForm,
     lengths: Bounds,
     files: &mut F,
 ) -> Result<Certified, Denied<'a>>
@@ -265,7 +263,7 @@ fn computed_file<'a, F: Files>(
 fn run_answer<'a, F: Files>(
     alloc: Global,
     file: &'a str,
-    form: Form,
+    form: ProgramForm,
     start: u64,
     records: &'a str,
     lengths: Bounds,
@@ -354,8 +352,8 @@ fn end_of<'a>(is_strict: bool, unwritten: bool, refused: bool) -> Outcome<'a>
     Outcome::Answered
 }
 
-/// Runs a command, and writes its answer or its refusal. What explains a refusal, and each refused line of a script, goes
-/// to the notes; that they fail changes nothing else.
+/// Runs a command, and writes its answer or its refusal. What explains a refusal, and each refused line of a script,
+/// goes to the notes; that they fail changes nothing else.
 ///
 /// It gives up only where a write failed, which the writer counted.
 pub fn carry_out<'a, F: Files, W: Write, N: Write>(

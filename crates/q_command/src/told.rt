@@ -1,12 +1,12 @@
 //! What is told of a command besides what it answers.
 
-use crate::advice::advice;
+use crate::advising::advice;
 use crate::answer::Answer;
 use crate::denied::Denied;
 use crate::line::text_of;
-use q_refused::told::write_refused_line;
-use q_sim::refusal::LineFault;
-use q_words::words::FileCommand;
+use q_refused::write_refused_line;
+use q_sim::RefusedLine;
+use q_words::FileCommand;
 use std::alloc::{AllocError, Global};
 use std::io::Write;
 
@@ -33,7 +33,7 @@ pub(crate) fn tell_refusal<N: Write>(
 fn refused_line(
     alloc: Global,
     file: &str,
-    fault: LineFault,
+    fault: RefusedLine,
     text: &str,
 ) -> Result<String, AllocError> {
     let mut out = format!(in alloc; "{file}, ")?;
@@ -46,7 +46,7 @@ fn tell_faults<N: Write>(
     alloc: Global,
     file: &str,
     source: &str,
-    faults: &[LineFault],
+    faults: &[RefusedLine],
     notes: &mut N,
 ) {
     let mut left = faults;

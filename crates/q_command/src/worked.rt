@@ -10,9 +10,9 @@ ghost use Rattle.q_files.specs.declared.memory.MemoryFiles.{MemoryFiles as Memor
 ghost use Rattle.q_session.specs.declared.query.Query.{Query};
 ghost use Rattle.q_sim.specs.declared.refusal.Refusal.TheVariants as refused;
 ghost use Rattle.q_words.specs.declared.words.FileCommand.{FileCommand};
-ghost use Rattle.q_words.specs.declared.words.Form.TheVariants as form;
+ghost use Rattle.q_words.specs.declared.words.ProgramForm.TheVariants as form;
 ghost use Rattle.bq_check.specs.Spelling.{notes_bytes};
-ghost use Rattle.bq_check.specs.declared.form.Form.TheVariants.{Second};
+ghost use Rattle.bq_check.specs.declared.form.NotesForm.TheVariants.{Second};
 ghost use Rattle.bq_insn.specs.Slots.{spelling};
 ghost use Rattle.bq_state.specs.Kinds.{StateKinds};
 ghost use Rattle.q_command.specs.Advice.{IsToldOf};

@@ -163,3 +163,13 @@ module _ (d : DeskState) (j : Job) (ran : Ran) (y : Unit {0} × DeskState) where
   posted_is node h =
       let own = passed (j.node == node) fault.Stranger _ y h in
       (own.0, posted_at-is (slice_get d.queries j.query) refl own.1)
+
+same_running : (v w : ViewMap) → Running v ≡ Running w → v ≡ w
+same_running v w h = cc
+
+-- what was recorded is seen by the query's number alone
+pub posted_one : (d : DeskState) (i j : Job) (ran : Ran) (e f : DeskState) → i.query ≡ j.query → IsPosted d i ran e → IsPosted d j ran f → e ≡ f
+posted_one d i j ran e f same p q =
+    let query : p.query ≡ q.query = same_some p.query q.query (sym p.at ∙ ap (slice_get d.queries) same ∙ q.at) in
+    let view : p.view ≡ q.view = same_running p.view q.view (sym p.phase ∙ ap (λ (x : Query). x.phase) query ∙ q.phase) in
+    sym p.is ∙ ap (λ (k : ℕ). answered d k p.view ran) same ∙ ap (λ (v : ViewMap). answered d j.query v ran) view ∙ q.is

@@ -1,5 +1,5 @@
 -- What keeps a desk a desk, which results it records, and what each call makes of a desk.
-mod Lists
+pub mod Lists
 mod Keeps
 pub mod Views
 mod Jobs
@@ -7,3 +7,5 @@ mod Phases
 mod Running
 pub mod Accepted
 pub mod Moves
+pub mod Changes
+pub mod Own

@@ -19,3 +19,8 @@ get-written (z ∷ xs) zero y zero x h = inr (refl, cc)
 get-written (z ∷ xs) zero y (suc k) x h = inl ((λ e. absurd (cc)), h)
 get-written (z ∷ xs) (suc i) y zero x h = inl ((λ e. absurd (cc)), h)
 get-written (z ∷ xs) (suc i) y (suc k) x h = ⊎_elim (λ a. inl ((λ e. a.0 (cc)), a.1)) (λ b. inr (ap suc b.0, b.1)) (get-written xs i y k x h)
+
+pub get-same : {X : Type 0} (xs : List X) (k : ℕ) (x y : X) → slice_get xs k ≡ Some x → slice_get (slice_set xs k y) k ≡ Some y
+get-same [] k x y h = absurd (cc)
+get-same (z ∷ xs) zero x y h = refl
+get-same (z ∷ xs) (suc k) x y h = get-same xs k x y h

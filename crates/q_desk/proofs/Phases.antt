@@ -5,11 +5,7 @@ use Rattle.std.specs.Prelude.{slice_get, slice_set}
 use Rattle.q_session.specs.declared.query.Phase.{Phase}
 use Rattle.q_session.specs.declared.query.Query.{Query}
 use Rattle.q_desk.specs.Desks.{in_phase, with_phase}
-
-get-same : {X : Type 0} (xs : List X) (k : ℕ) (x y : X) → slice_get xs k ≡ Some x → slice_get (slice_set xs k y) k ≡ Some y
-get-same [] k x y h = absurd (cc)
-get-same (z ∷ xs) zero x y h = refl
-get-same (z ∷ xs) (suc k) x y h = get-same xs k x y h
+use Rattle.q_desk.proofs.Lists.{get-same}
 
 set-twice : {X : Type 0} (xs : List X) (k : ℕ) (y z : X) → slice_set (slice_set xs k y) k z ≡ slice_set xs k z
 set-twice [] k y z = refl

@@ -15,23 +15,14 @@ ghost use Rattle.q_desk.specs.Keeping.{IsDesk, ProgramsAreKnown, ProgramsFit, Vi
 use crate::completed::Completed;
 use crate::fault::{CallFault, DeskFault};
 use crate::journal::Entry;
-use bq_state::bounds::Bounds;
-use q_entries::append::append;
-use q_queries::answer::answer_in;
-use q_queries::check::check_result;
-use q_queries::next::next_job;
-use q_session::done::Done;
-use q_session::job::Job;
-use q_session::query::{Phase, Query};
-use q_session::ran::Ran;
-use q_table::program::{Program, ProgramId};
-use q_table::programs::Programs;
-use sc_msg::message::Message;
-use sc_node::answer::{Begun, Completion, Delivered, Ended};
-use sc_node::node::Node;
-use sc_node::outs::Outs;
-use sc_view::value::Value;
-use sc_view::view::View;
+use bq_state::Bounds;
+use q_entries::append;
+use q_queries::{answer_in, check_result, next_job};
+use q_session::{Done, Job, Phase, Query, Ran};
+use q_table::{Program, ProgramId, Programs};
+use sc_msg::Message;
+use sc_node::{Begun, Completion, Delivered, Ended, Node, Outs};
+use sc_view::{Value, View};
 use std::alloc::{AllocError, Global};
 use std::marker::Model;
 use std::mem;
@@ -282,7 +273,8 @@ impl Desk {
         Job::of(*self.queries.allocator(), node, query, asked, program)
     }
 
-    /// Records the result of a job as its query's answer, as desk of this node. Refused with 56, 55, 53. Takes no memory.
+    /// Records the result of a job as its query's answer, as desk of this node. Refused with 56, 55, 53. Takes no
+    /// memory.
     pub fn post(&mut self, node: u64, done: &Done) -> Result<(), DeskFault>
         ensures { Does (desk.posted self.old node done.now.job done.now.ran) self.old self.new result }
     {
@@ -309,8 +301,8 @@ impl Desk {
         }
     }
 
-    /// The queries, by their numbers. Each names a program of the desk, each recorded answer is right, and each view over
-    /// which a query is to run has records of the desk's lengths, for which each program was checked.
+    /// The queries, by their numbers. Each names a program of the desk, each recorded answer is right, and each view
+    /// over which a query is to run has records of the desk's lengths, for which each program was checked.
     pub fn queries(&self) -> &[Query]
         ensures queries { result.now ≡ self.now.queries }
         ensures known { ProgramsAreKnown self.now }

@@ -3,10 +3,10 @@
 ghost use Rattle.std.specs.Prelude.{◌≡◌};
 ghost use Rattle.q_desk.specs.Faults.{of_table, of_result, memory, reason};
 
-use q_queries::unfit::Unfit;
-use q_table::fault::TableFault;
+use q_queries::Unfit;
+use q_table::TableFault;
 use reasons::{Reason, passed_on, told};
-use sc_node::fault::NodeFault;
+use sc_node::NodeFault;
 use std::alloc::AllocError;
 
 /// Why a desk refuses a call. After a refusal the desk is as it was. Where several hold, the first of 51, 59, 52, 56,

@@ -1,9 +1,9 @@
 //! What the journal of a node holds.
 
-use q_session::ran::Ran;
-use q_table::program::{Program, ProgramId};
-use sc_msg::message::Message;
-use sc_view::value::Value;
+use q_session::Ran;
+use q_table::{Program, ProgramId};
+use sc_msg::Message;
+use sc_view::Value;
 
 /// An entry of a node's journal: a call that the node accepted and that changed it.
 #[derive(Drop)]

@@ -1,22 +1,25 @@
 //! Desks: the programs and queries of one node, and its journal.
 //!
-//! A [`Desk`] registers certified programs and takes queries of them. A query collects until its collect returns a view,
-//! is handed out as a job, and its answer is posted once the job was run. Each recorded answer is right: the meaning of
-//! the query's program, folded over the view that its collect returned.
+//! A [`Desk`] registers certified programs and takes queries of them. A query collects until its collect returns a
+//! view, is handed out as a job, and its answer is posted once the job was run. Each recorded answer is right: the
+//! meaning of the query's program, folded over the view that its collect returned.
 //!
 //! Each call that is accepted and changes something puts one entry into the desk's journal, which also holds what its
-//! node did: stores, deliveries, collects and its leave. Such a call of the node is made by the desk, which is given the
-//! node: the journal has room for the entry before the node acts, so both do their part, or neither. No call drops or
-//! changes an earlier entry.
+//! node did: stores, deliveries, collects and its leave. Such a call of the node is made by the desk, which is given
+//! the node: the journal has room for the entry before the node acts, so both do their part, or neither. No call drops
+//! or changes an earlier entry.
 //!
 //! Each call is exact: `specs/Desks` says what it answers and which state it leaves, or with which fault it refuses.
 //! After a refusal the desk is as it was.
-//!
-//! [`Desk`]: desk::Desk
 #![tactic(auto)]
 
-pub mod completed;
-pub mod desk;
-pub mod fault;
-pub mod journal;
+mod completed;
+mod desk;
+mod fault;
+mod journal;
 pub mod worked;
+
+pub use completed::Completed;
+pub use desk::{Desk, MOST_EVENTS, MOST_QUERIES};
+pub use fault::{CallFault, DeskFault};
+pub use journal::Entry;

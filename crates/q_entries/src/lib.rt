@@ -2,8 +2,8 @@
 //!
 //! [`append`] puts one entry behind the others. It drops none and changes none, and wants no memory: whoever calls it
 //! made the room before.
-//!
-//! [`append`]: append::append
 #![tactic(auto)]
 
-pub mod append;
+mod entries;
+
+pub use entries::append;

@@ -1,10 +1,8 @@
 //! What would satisfy a rule.
 
-use bq_flow::fault::FlowRule;
-use bq_insn::insn::{Insn, Operand};
-use bq_state::kind::Kind;
-use bq_state::rule::Rule;
-use bq_state::state::State;
+use bq_flow::FlowRule;
+use bq_insn::{Insn, Operand};
+use bq_state::{Kind, Rule, State};
 
 /// Whether an instruction stores a pointer.
 fn stores_pointer(insn: &Insn, state: &State) -> bool {

@@ -3,7 +3,7 @@
 ghost use Rattle.std.specs.Prelude.{◌↔◌, ◌≡◌, IfOk, None};
 ghost use Rattle.bq_insn.specs.declared.fault.DecodeFault.TheVariants.{OutOfMemory};
 
-use bq_insn::fault::{DecodeFault, UnitFault};
+use bq_insn::{DecodeFault, UnitFault};
 use std::alloc::{AllocError, Global};
 
 /// What is told of bytes that are an object file.

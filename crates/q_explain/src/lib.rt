@@ -11,25 +11,22 @@
 //! - [`of_event`] tells what an event of a script wants that a cluster refuses.
 //!
 //! But for `states`, what they say is for reading: no contract speaks of it, and tests show it.
-//!
-//! [`explain`]: explain::explain
-//! [`explain_code`]: explain::explain_code
-//! [`explain_bytes`]: bytes::explain_bytes
-//! [`states`]: states::states
-//! [`assembler_line`]: lines::assembler_line
-//! [`script_line`]: lines::script_line
-//! [`of_label`]: source::of_label
-//! [`line_of_unit`]: source::line_of_unit
-//! [`write_shown`]: shown::write_shown
-//! [`of_event`]: event::of_event
 #![tactic(auto)]
 
 mod advice;
-pub mod bytes;
-pub mod event;
-pub mod explain;
-pub mod lines;
-pub mod shown;
-pub mod source;
-pub mod states;
+mod bytes;
+mod event;
+mod explainer;
+mod lines;
+mod listing;
+mod shown;
+mod source;
 pub mod worked;
+
+pub use bytes::{OBJECT_FILE, explain_bytes, is_object_file};
+pub use event::of_event;
+pub use explainer::{explain, explain_code};
+pub use lines::{assembler_line, script_line};
+pub use listing::{states, write_state, write_unit};
+pub use shown::write_shown;
+pub use source::{line_of_unit, of_label};

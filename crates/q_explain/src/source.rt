@@ -1,6 +1,6 @@
 //! Where an instruction stands in assembler text, and what is wrong with a label there.
 
-use bq_insn::text::Text;
+use bq_insn::Text;
 
 /// What a line of assembler text has, if it is of a form.
 #[derive(Clone, Copy)]

@@ -4,13 +4,13 @@
 //!   by two relations of the implementing type, and count the calls that failed. It is told how far long work is.
 //! - [`Folder`] is the machine's files, of which no contract says what they hold.
 //! - [`MemoryFiles`] is files in memory, of which each call's contract does.
-//!
-//! [`Files`]: files::Files
-//! [`Folder`]: folder::Folder
-//! [`MemoryFiles`]: memory::MemoryFiles
 #![tactic(auto)]
 
-pub mod files;
-pub mod folder;
-pub mod memory;
+mod files;
+mod folder;
+mod memory;
 pub mod worked;
+
+pub use files::{FileFault, Files, LONGEST_TEXT};
+pub use folder::Folder;
+pub use memory::MemoryFiles;

@@ -4,8 +4,8 @@
 //! and has no failure.
 //!
 //! `specs/Records` says which bytes a record has, `specs/Folds` what a fold comes to.
-//!
-//! [`fold_view`]: run::fold_view
 #![tactic(auto)]
 
-pub mod run;
+mod run;
+
+pub use run::fold_view;

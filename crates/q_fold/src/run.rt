@@ -4,13 +4,12 @@ ghost use Rattle.std.specs.Prelude.{◌≡◌, ◌+◌, drop, length, take};
 ghost use Rattle.q_fold.specs.Folds.{IsFolded};
 ghost use Rattle.q_fold.specs.Records.{HasRecordsWithin, record_bytes};
 
-use bq_check::certified::Certified;
-use bq_frame::block::Block;
+use bq_check::Certified;
+use bq_frame::Block;
 use bq_meaning::laws::appended;
-use bq_meaning::placement::LEAST_RECORD;
-use bq_meaning::run::Ended;
-use bq_run::run::run_placed;
-use sc_view::view::{Stored, View};
+use bq_meaning::{Ended, LEAST_RECORD};
+use bq_run::run_placed;
+use sc_view::{Stored, View};
 
 /// What a certified program over the records of a view comes to, from a start value: the accumulator after the last
 /// record, and all steps. It runs over a block, whose frame it clears first. The program was checked for records of the

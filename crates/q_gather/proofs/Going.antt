@@ -7,8 +7,8 @@ use Rattle.std.proofs.lemmas.Option.{slice_get-get_or}
 use Rattle.sc_msg.specs.declared.message.Message.{Message}
 use Rattle.q_desk.specs.declared.journal.Entry.{Entry}
 use Rattle.q_book.specs.State.{BookState}
-use Rattle.q_history.specs.declared.event.Event.{Event}
-use Rattle.q_history.specs.declared.event.Stepped.{Stepped}
+use Rattle.q_history.specs.declared.event.ClusterEvent.{ClusterEvent}
+use Rattle.q_history.specs.declared.event.ClusterStep.{ClusterStep}
 use Rattle.q_history.specs.State.{ClusterState}
 use Rattle.q_history.specs.Calls.{Follows}
 use Rattle.q_history.proofs.Lists.{same_some, no_some}
@@ -37,7 +37,7 @@ sent_same old new (m ∷ ms) is long =
     let more : length old ≡ length old + length (m ∷ ms) = sym long ∙ ap (λ (xs : List Message). length xs) is ∙ length-append old (m ∷ ms) in
     absurd (omega (arith, more))
 
-module _ (books : List BookState) (c later : ClusterState) (numbers after : NumberList) (g : IsGathering books c numbers) (ev : Event) (n : IsNextAmong c books ev) (told : Stepped) (f : Follows c ev told later) where
+module _ (books : List BookState) (c later : ClusterState) (numbers after : NumberList) (g : IsGathering books c numbers) (ev : ClusterEvent) (n : IsNextAmong c books ev) (told : ClusterStep) (f : Follows c ev told later) where
   abbrev turn : Turn c g.left n.place n.book ev
   turn = turn_of books c g.left g.under_way n.place n.book n.at ev n.next
 
@@ -137,7 +137,7 @@ module _ (books : List BookState) (c : ClusterState) (numbers : NumberList) (g :
       }
 
   -- where no event is next and some entries are left, they do not merge
-  pub stuck : ((ev : Event) → IsNextAmong c books ev → ⊥) → (HaveTaken c books → ⊥) → Merge books → ⊥
+  pub stuck : ((ev : ClusterEvent) → IsNextAmong c books ev → ⊥) → (HaveTaken c books → ⊥) → Merge books → ⊥
   stuck none some m =
       let same : m.lists ≡ g.lists = traces_one books m.lists g.lists m.traces g.traces in
       let on : Merges Message c.world.sent g.left = g.on (subst (Merges Message []) same m.merges) in

@@ -1,7 +1,6 @@
 -- That the events which are found gather the books.
 pub mod Table
 pub mod Finding
-pub mod Adding
 pub mod Turns
 pub mod Numbering
 pub mod Waiting

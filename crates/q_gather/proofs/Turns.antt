@@ -7,8 +7,8 @@ use Rattle.q_desk.specs.declared.journal.Entry.{Entry}
 use Rattle.q_desk.specs.declared.journal.Entry.TheVariants as entry
 use Rattle.q_book.specs.State.{BookState}
 use Rattle.q_book.specs.Books as book
-use Rattle.q_history.specs.declared.event.Event.{Event}
-use Rattle.q_history.specs.declared.event.Event.TheVariants as event
+use Rattle.q_history.specs.declared.event.ClusterEvent.{ClusterEvent}
+use Rattle.q_history.specs.declared.event.ClusterEvent.TheVariants as event
 use Rattle.q_history.specs.State.{ClusterState}
 use Rattle.q_history.proofs.Lists.{same_some, no_some}
 use Rattle.q_cluster.specs.Acts.{book_at}
@@ -19,9 +19,13 @@ use Rattle.q_merge.specs.Gathered.{IsAt, IsUnderWay}
 use Rattle.q_merge.specs.Gathered.IsAt.{Away, There}
 use Rattle.q_merge.proofs.Gathering.{NodeGoes, enter_goes, entry_goes, entry_event}
 use Rattle.q_gather.specs.Gathering.{IsNextEntry, IsNextAfter, IsNextOf}
-use Rattle.q_gather.proofs.Adding.{trace_adds}
+use Rattle.q_book.proofs.Replays.{replays_later}
+use Rattle.q_merge.proofs.Keeping.{trace_replays}
 
 -- ---- the journal of a later book
+
+trace_adds : (es : List Entry) (b : BookState) (steps : List (Step Message)) (c : BookState) → IsTraceFrom b es steps c → c.desk.journal ≡ b.desk.journal ++ es
+trace_adds es b steps c t = (replays_later es b c (trace_replays es b c steps t)).adds
 
 pub trace_length : (es : List Entry) (b : BookState) (steps : List (Step Message)) (c : BookState) → IsTraceFrom b es steps c → length c.desk.journal ≡ length b.desk.journal + length es
 trace_length es b steps c t = ap (λ (xs : List Entry). length xs) (trace_adds es b steps c t) ∙ length-append b.desk.journal es
@@ -52,7 +56,7 @@ left_there es b steps whole c t at =
 -- ---- the next event
 
 -- the event takes the first step of this list, and the node has these entries left
-pub record Turn (c : ClusterState) (lists : List (List (Step Message))) (k : ℕ) (whole : BookState) (ev : Event) : Type 0 where
+pub record Turn (c : ClusterState) (lists : List (List (Step Message))) (k : ℕ) (whole : BookState) (ev : ClusterEvent) : Type 0 where
   pub step : Step Message
   pub rest : List (Step Message)
   pub at : slice_get lists k ≡ Some (step ∷ rest)
@@ -65,7 +69,7 @@ pub record Turn (c : ClusterState) (lists : List (List (Step Message))) (k : ℕ
 sent_is : (sent : List Message) (number : ℕ) (m : Message) → slice_get sent number ≡ Some m → Contains sent m
 sent_is sent number m at = (number, slice_get_within sent number m at, get_or_from_slice_get sent number m m at)
 
-can_go : (c : ClusterState) (id : ℕ) (ev : Event) (e : Entry) → IsEventOf c id e ev → IfSome (wants e) (Contains c.world.sent)
+can_go : (c : ClusterState) (id : ℕ) (ev : ClusterEvent) (e : Entry) → IsEventOf c id e ev → IfSome (wants e) (Contains c.world.sent)
 can_go c id ev (entry.Deliver m) is = sent_is c.world.sent is.0 m is.1
 can_go c id ev entry.Leave is = tt
 can_go c id ev (entry.Register program) is = tt
@@ -78,7 +82,7 @@ some_list : (xs : List (Step Message)) (ys : List (Step Message)) → xs ≡ ys 
 some_list xs ys same = ap (λ (x : List (Step Message)). let o : Option (List (Step Message)) = Some x in o) same
 
 module _ (books : List BookState) (c : ClusterState) (lists : List (List (Step Message))) (u : IsUnderWay books c lists) (k : ℕ) (whole : BookState) (mine : slice_get books k ≡ Some whole) where
-  module _ (ev : Event) (next : IsNextOf c whole ev) where
+  module _ (ev : ClusterEvent) (next : IsNextOf c whole ev) where
     entry_is : (b : BookState) → book_at c whole.id ≡ Some b → (left : List Entry) (steps : List (Step Message)) → IsTraceFrom b left steps whole → IsNextEntry c whole.id (slice_get left 0) ev
     entry_is b here left steps t =
         let after : IsNextAfter c whole (Some b) ev = subst (λ (o : Option BookState). IsNextAfter c whole o ev) here next in
@@ -113,7 +117,7 @@ module _ (books : List BookState) (c : ClusterState) (lists : List (List (Step M
           can = tt;
           left = whole.desk.journal;
           goes =
-              subst (λ (x : Event). NodeGoes c whole s t.rest x whole.desk.journal) (sym enters)
+              subst (λ (x : ClusterEvent). NodeGoes c whole s t.rest x whole.desk.journal) (sym enters)
               (enter_goes c whole s t.rest u.history (u.versions k whole mine) (u.same k whole mine) absent none (subst (IsTrace whole) is t));
           before = ap (left_by whole) absent;
         }
@@ -122,7 +126,7 @@ module _ (books : List BookState) (c : ClusterState) (lists : List (List (Step M
     turn_of = let p = u.at k whole mine in turn_by p.0 p.1 p.2 p.3
 
   module _ (s : Step Message) (rest : List (Step Message)) (can : CanGo c.world.sent s) where
-    next_there : (b : BookState) → book_at c whole.id ≡ Some b → (left : List Entry) → IsTraceFrom b left (s ∷ rest) whole → (ev : Event) × IsNextOf c whole ev
+    next_there : (b : BookState) → book_at c whole.id ≡ Some b → (left : List Entry) → IsTraceFrom b left (s ∷ rest) whole → (ev : ClusterEvent) × IsNextOf c whole ev
     next_there b here [] t = absurd (no_step s rest t.0)
       where
         no_step : (x : Step Message) (xs : List (Step Message)) → x ∷ xs ≡ [] → ⊥
@@ -133,12 +137,12 @@ module _ (books : List BookState) (c : ClusterState) (lists : List (List (Step M
         let after : IsNextAfter c whole (Some b) ev.0 = subst (λ (o : Option Entry). IsNextEntry c whole.id o ev.0) (sym (entry_behind (e ∷ es) b (s ∷ rest) whole t)) own in
         (ev.0, subst (λ (o : Option BookState). IsNextAfter c whole o ev.0) (sym here) after)
 
-    next_by : (left : List Entry) → IsAt c whole left (s ∷ rest) → (ev : Event) × IsNextOf c whole ev
+    next_by : (left : List Entry) → IsAt c whole left (s ∷ rest) → (ev : ClusterEvent) × IsNextOf c whole ev
     next_by left (There b here t) = next_there b here left t
     next_by left (Away absent none left_is t) = (event.Enter whole.id, subst (λ (o : Option BookState). IsNextAfter c whole o (event.Enter whole.id)) (sym absent) refl)
 
     -- where the first step can go, there is an event
-    pub next_is : slice_get lists k ≡ Some (s ∷ rest) → (ev : Event) × IsNextOf c whole ev
+    pub next_is : slice_get lists k ≡ Some (s ∷ rest) → (ev : ClusterEvent) × IsNextOf c whole ev
     next_is at =
         let p = u.at k whole mine in
         next_by p.2 (subst (IsAt c whole p.2) (same_some p.0 (s ∷ rest) (sym p.1 ∙ at)) p.3)
@@ -146,7 +150,7 @@ module _ (books : List BookState) (c : ClusterState) (lists : List (List (Step M
 -- ---- less is left
 
 -- after the turn, one step less of this book
-pub left_later : (c later : ClusterState) (lists : List (List (Step Message))) (k : ℕ) (whole : BookState) (ev : Event) (t : Turn c lists k whole ev) → IsTurn c whole.id t.goes.book t.step.gives later → left_of later whole < left_of c whole
+pub left_later : (c later : ClusterState) (lists : List (List (Step Message))) (k : ℕ) (whole : BookState) (ev : ClusterEvent) (t : Turn c lists k whole ev) → IsTurn c whole.id t.goes.book t.step.gives later → left_of later whole < left_of c whole
 left_later c later lists k whole ev t turn =
     let now : left_of later whole ≡ length t.left = left_there t.left t.goes.book t.rest whole later t.goes.trace turn.book in
     let before : left_of c whole ≡ suc (length t.left) = t.before in

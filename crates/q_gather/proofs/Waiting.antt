@@ -5,14 +5,14 @@ use Rattle.std.specs.List.{list_any}
 use Rattle.std.proofs.lemmas.Bool.{eqb-true, ltb-true, ltb-false}
 use Rattle.std.proofs.lemmas.Option.{slice_get_within}
 use Rattle.q_book.specs.State.{BookState}
-use Rattle.q_history.specs.declared.event.Event.{Event}
+use Rattle.q_history.specs.declared.event.ClusterEvent.{ClusterEvent}
 use Rattle.q_history.specs.State.{ClusterState}
 use Rattle.q_history.proofs.Lists.{same_some}
 use Rattle.q_gather.specs.Gathering.{Finds, IsNextOf, IsNextAmong, AreIdle, IsNextWithin}
 
 -- the node of the book cannot go on
 abbrev pub IsIdle : ClusterState → BookState → Type 0
-IsIdle c b = (ev : Event) → IsNextOf c b ev → ⊥
+IsIdle c b = (ev : ClusterEvent) → IsNextOf c b ev → ⊥
 
 -- no place is among none
 pub none_among : (places : List ℕ) (k : ℕ) → places ≡ [] → list_any (nat_eq k) places ≡ true → ⊥
@@ -40,7 +40,7 @@ module _ (c : ClusterState) (books : List BookState) where
       idle k b ev (subst (λ (n : ℕ). list_any (nat_eq n) places ≡ true) same among) at next
 
   module _ (place : ℕ) (own : BookState) (here : slice_get books place ≡ Some own) where
-    idle_by : (old : List ℕ) → IsIdle c own → AreIdle c books old → (k : ℕ) (b : BookState) (ev : Event) (t : Bool) → nat_eq place k ≡ t → cond t true (list_any (nat_eq k) old) ≡ true → slice_get books k ≡ Some b → IsNextOf c b ev → ⊥
+    idle_by : (old : List ℕ) → IsIdle c own → AreIdle c books old → (k : ℕ) (b : BookState) (ev : ClusterEvent) (t : Bool) → nat_eq place k ≡ t → cond t true (list_any (nat_eq k) old) ≡ true → slice_get books k ≡ Some b → IsNextOf c b ev → ⊥
     idle_by old idle known k b ev true is among at next =
         let same : own ≡ b = same_some own b (sym here ∙ ap (slice_get books) (eqb-true place k is) ∙ at) in
         idle ev (subst (λ (x : BookState). IsNextOf c x ev) (sym same) next)
@@ -60,11 +60,11 @@ module _ (c : ClusterState) (books : List BookState) where
         idle ev (subst (λ (x : BookState). IsNextOf c x ev) (sym one) next)
 
     -- what is found of it
-    pub found_at : (o : Option Event) → Finds (IsNextOf c own) o → IsNextWithin c books place (place + 1) o
+    pub found_at : (o : Option ClusterEvent) → Finds (IsNextOf c own) o → IsNextWithin c books place (place + 1) o
     found_at None none = none_at none
     found_at (Some ev) is = record { place = place; book = own; at = here; next = is }
 
-  within_by : (first place k : ℕ) (b : BookState) (ev : Event) (t : Bool) → nat_lt k place ≡ t → IsNextWithin c books first place None → IsNextWithin c books place (place + 1) None → first ≤ k → k < place + 1 → slice_get books k ≡ Some b
+  within_by : (first place k : ℕ) (b : BookState) (ev : ClusterEvent) (t : Bool) → nat_lt k place ≡ t → IsNextWithin c books first place None → IsNextWithin c books place (place + 1) None → first ≤ k → k < place + 1 → slice_get books k ≡ Some b
       → IsNextOf c b ev → ⊥
   within_by first place k b ev true is before own low high at next = before k b ev low (ltb-true k place is) at next
   within_by first place k b ev false is before own low high at next = own k b ev (ltb-false k place is) high at next
@@ -80,7 +80,7 @@ module _ (c : ClusterState) (books : List BookState) where
   pub none_until : (first place end : ℕ) → end ≤ place → IsNextWithin c books first place None → IsNextWithin c books first end None
   none_until first place end past none k b ev low high at next = none k b ev low (omega (arith, past, high)) at next
 
-  among_by : (first end : ℕ) → end ≡ length books → IsNextWithin c books first end None → IsNextWithin c books 0 first None → (ev : Event) (n : IsNextAmong c books ev) (t : Bool) → nat_lt n.place first ≡ t → ⊥
+  among_by : (first end : ℕ) → end ≡ length books → IsNextWithin c books first end None → IsNextWithin c books 0 first None → (ev : ClusterEvent) (n : IsNextAmong c books ev) (t : Bool) → nat_lt n.place first ≡ t → ⊥
   among_by first end all behind before ev n true is =
       before n.place n.book ev (omega arith) (ltb-true n.place first is) n.at n.next
   among_by first end all behind before ev n false is =
@@ -88,10 +88,10 @@ module _ (c : ClusterState) (books : List BookState) where
       behind n.place n.book ev (ltb-false n.place first is) (omega (arith, within, all)) n.at n.next
 
   -- of all, in a round
-  pub round : (first end : ℕ) → end ≡ length books → IsNextWithin c books first end None → (o : Option Event) → IsNextWithin c books 0 first o → Finds (IsNextAmong c books) o
+  pub round : (first end : ℕ) → end ≡ length books → IsNextWithin c books first end None → (o : Option ClusterEvent) → IsNextWithin c books 0 first o → Finds (IsNextAmong c books) o
   round first end all behind None before = λ ev n. among_by first end all behind before ev n (nat_lt n.place first) refl
   round first end all behind (Some ev) before = before
 
-  pub round_ok : {E : Type 0} (first end : ℕ) → end ≡ length books → IsNextWithin c books first end None → (r : Result (Option Event) E) → IfOk r (IsNextWithin c books 0 first) → IfOk r (Finds (IsNextAmong c books))
+  pub round_ok : {E : Type 0} (first end : ℕ) → end ≡ length books → IsNextWithin c books first end None → (r : Result (Option ClusterEvent) E) → IfOk r (IsNextWithin c books 0 first) → IfOk r (Finds (IsNextAmong c books))
   round_ok first end all behind (Ok o) before = round first end all behind o before
   round_ok first end all behind (Err e) before = tt

@@ -4,8 +4,8 @@ use Rattle.std.specs.List.{list_any}
 use Rattle.sc_msg.specs.declared.message.Message.{Message}
 use Rattle.q_desk.specs.declared.journal.Entry.{Entry}
 use Rattle.q_book.specs.State.{BookState}
-use Rattle.q_history.specs.declared.event.Event.{Event}
-use Rattle.q_history.specs.declared.event.Event.TheVariants as event
+use Rattle.q_history.specs.declared.event.ClusterEvent.{ClusterEvent}
+use Rattle.q_history.specs.declared.event.ClusterEvent.TheVariants as event
 use Rattle.q_history.specs.State.{ClusterState}
 use Rattle.q_cluster.specs.Acts.{book_at}
 use Rattle.q_merge.specs.Merging.{Step, Merges}
@@ -24,20 +24,20 @@ Finds P (Some a) = P a
 
 -- ---- what is next
 
-abbrev pub IsNextEntry : ClusterState → ℕ → Option Entry → Event → Type 0
+abbrev pub IsNextEntry : ClusterState → ℕ → Option Entry → ClusterEvent → Type 0
 IsNextEntry c id None ev = ⊥
 IsNextEntry c id (Some e) ev = IsEventOf c id e ev
 
-abbrev pub IsNextAfter : ClusterState → BookState → Option BookState → Event → Type 0
+abbrev pub IsNextAfter : ClusterState → BookState → Option BookState → ClusterEvent → Type 0
 IsNextAfter c whole None ev = ev ≡ event.Enter whole.id
 IsNextAfter c whole (Some b) ev = IsNextEntry c whole.id (slice_get whole.desk.journal (length b.desk.journal)) ev
 
 -- by this event the node of the book goes on: it enters, or takes the entry behind those that it has taken
-abbrev pub IsNextOf : ClusterState → BookState → Event → Type 0
+abbrev pub IsNextOf : ClusterState → BookState → ClusterEvent → Type 0
 IsNextOf c whole ev = IsNextAfter c whole (book_at c whole.id) ev
 
 -- the node of one of the books goes on by this event
-pub record IsNextAmong (c : ClusterState) (books : List BookState) (ev : Event) : Type 0 where
+pub record IsNextAmong (c : ClusterState) (books : List BookState) (ev : ClusterEvent) : Type 0 where
   pub place : ℕ
   pub book : BookState
   pub at : slice_get books place ≡ Some book
@@ -45,15 +45,15 @@ pub record IsNextAmong (c : ClusterState) (books : List BookState) (ev : Event) 
 
 -- the nodes of the books at these places cannot go on
 abbrev pub AreIdle : ClusterState → List BookState → List ℕ → Type 0
-AreIdle c books places = (k : ℕ) (b : BookState) (ev : Event) → list_any (nat_eq k) places ≡ true → slice_get books k ≡ Some b → IsNextOf c b ev → ⊥
+AreIdle c books places = (k : ℕ) (b : BookState) (ev : ClusterEvent) → list_any (nat_eq k) places ≡ true → slice_get books k ≡ Some b → IsNextOf c b ev → ⊥
 
 -- as long as no more was sent, those of which it was noted that they wait cannot go on
 abbrev pub AreWaiting : ClusterState → List BookState → Rounds → Type 0
 AreWaiting c books rounds = length c.world.sent ≡ rounds.sent → AreIdle c books rounds.waiting.keys
 
 -- what is next of the books from one place up to another: nothing, or the event of a book
-abbrev pub IsNextWithin : ClusterState → List BookState → ℕ → ℕ → Option Event → Type 0
-IsNextWithin c books first end None = (k : ℕ) (b : BookState) (ev : Event) → first ≤ k → k < end → slice_get books k ≡ Some b → IsNextOf c b ev → ⊥
+abbrev pub IsNextWithin : ClusterState → List BookState → ℕ → ℕ → Option ClusterEvent → Type 0
+IsNextWithin c books first end None = (k : ℕ) (b : BookState) (ev : ClusterEvent) → first ≤ k → k < end → slice_get books k ≡ Some b → IsNextOf c b ev → ⊥
 IsNextWithin c books first end (Some ev) = IsNextAmong c books ev
 
 -- the node has taken all entries of its book

@@ -4,7 +4,7 @@ ghost use Rattle.std.specs.Prelude.{◌≡◌};
 ghost use Rattle.q_gather.specs.Faults.{reason};
 ghost use Rattle.q_gather.specs.declared.fault.GatherFault.TheVariants.{OutOfMemory};
 
-use q_replay::fault::ReplayFault;
+use q_replay::ReplayFault;
 use reasons::{Reason, told};
 use std::alloc::{AllocError, AllocFailed};
 

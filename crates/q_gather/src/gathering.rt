@@ -2,7 +2,7 @@
 
 ghost use Rattle.std.specs.Prelude.{◌≡◌, ◌++◌, ℕ, List, [], length, take, IfOk, OnOk, IfSome, MatchBool};
 ghost use Rattle.sc_msg.specs.declared.message.Message.{Message};
-ghost use Rattle.q_history.specs.declared.event.Stepped.{Stepped};
+ghost use Rattle.q_history.specs.declared.event.ClusterStep.{ClusterStep};
 ghost use Rattle.q_history.specs.Calls.{Follows};
 ghost use Rattle.q_merge.specs.Numbers.{AreNumbers};
 ghost use Rattle.q_merge.specs.Turns.{IsEventOf, IsJobFor};
@@ -10,10 +10,10 @@ ghost use Rattle.q_gather.specs.Gathering.{Finds, IsNextOf, HasTaken, HaveTaken}
 
 use crate::jobs::Jobs;
 use crate::numbers::Numbers;
-use q_book::book::Book;
-use q_cluster::cluster::Cluster;
-use q_desk::journal::Entry;
-use q_history::event::{Event, Told};
+use q_book::Book;
+use q_cluster::Cluster;
+use q_desk::Entry;
+use q_history::{ClusterEvent, Told};
 use q_merge::laws::numbers_are_least;
 use std::alloc::{AllocError, Global};
 
@@ -57,8 +57,8 @@ impl Gathering {
     }
 
     /// Takes an event, and gives the messages that it sends their numbers.
-    pub(crate) fn take(&mut self, event: &Event) -> Result<(), AllocError>
-        ensures event { OnOk result ((told : Stepped) × Follows self.old.cluster event.now told self.new.cluster) }
+    pub(crate) fn take(&mut self, event: &ClusterEvent) -> Result<(), AllocError>
+        ensures event { OnOk result ((told : ClusterStep) × Follows self.old.cluster event.now told self.new.cluster) }
         ensures numbers { (outs : List Message) → AreNumbers self.old.cluster.world.sent self.old.numbers → self.new.cluster.world.sent ≡ self.old.cluster.world.sent ++ outs → OnOk result (AreNumbers self.new.cluster.world.sent self.new.numbers) }
     {
         let before = self.cluster.sent();
@@ -71,12 +71,12 @@ impl Gathering {
     }
 
     /// The event by which the node of a book goes on, where it can: it enters, or takes its next entry.
-    pub(crate) fn next_of(&self, book: &Book) -> Result<Option<Event>, AllocError>
+    pub(crate) fn next_of(&self, book: &Book) -> Result<Option<ClusterEvent>, AllocError>
         ensures { AreNumbers self.now.cluster.world.sent self.now.numbers → IfOk result (Finds (IsNextOf self.now.cluster book.now)) }
     {
         let id = book.id();
         let Some(now) = self.cluster.book(id) else {
-            return Ok(Some(Event::Enter(id)));
+            return Ok(Some(ClusterEvent::Enter(id)));
         };
         match book.journal().get(now.events()) {
             Some(entry) => self.event_of(id, entry),
@@ -85,21 +85,21 @@ impl Gathering {
     }
 
     /// The entry as an event of this node, where the message that it delivers was sent.
-    fn event_of(&self, node: u64, entry: &Entry) -> Result<Option<Event>, AllocError>
+    fn event_of(&self, node: u64, entry: &Entry) -> Result<Option<ClusterEvent>, AllocError>
         ensures { AreNumbers self.now.cluster.world.sent self.now.numbers → IfOk result (Finds (IsEventOf self.now.cluster node entry.now)) }
     {
         let event = match entry {
-            Entry::Leave => Event::Leave(node),
-            Entry::Register(program) => Event::Register {
+            Entry::Leave => ClusterEvent::Leave(node),
+            Entry::Register(program) => ClusterEvent::Register {
                 node,
                 program: program.clone()?,
             },
-            Entry::Ask { program, start } => Event::Ask {
+            Entry::Ask { program, start } => ClusterEvent::Ask {
                 node,
                 program: *program,
                 start: *start,
             },
-            Entry::Store(value) => Event::Store {
+            Entry::Store(value) => ClusterEvent::Store {
                 node,
                 value: *value,
             },
@@ -107,14 +107,14 @@ impl Gathering {
                 let Some(message) = self.numbers.find(message)? else {
                     return Ok(None);
                 };
-                Event::Deliver { message, node }
+                ClusterEvent::Deliver { message, node }
             }
-            Entry::HandOut => Event::HandOut(node),
+            Entry::HandOut => ClusterEvent::HandOut(node),
             Entry::Post { query, .. } => {
                 let Some(job) = self.job_for(node, *query)? else {
                     return Ok(None);
                 };
-                Event::Finish(job)
+                ClusterEvent::Finish(job)
             }
         };
         Ok(Some(event))
@@ -181,8 +181,8 @@ impl Gathering {
 }
 
 /// Keeps where the job stands that this event handed out.
-fn keep_job(jobs: &mut Jobs, event: &Event, told: Told) -> Result<(), AllocError> {
-    if let Event::HandOut(node) = event
+fn keep_job(jobs: &mut Jobs, event: &ClusterEvent, told: Told) -> Result<(), AllocError> {
+    if let ClusterEvent::HandOut(node) = event
         && let Told::HandedOut(Some(handed)) = told
     {
         jobs.add(*node, handed)?;

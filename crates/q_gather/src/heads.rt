@@ -10,10 +10,10 @@ ghost use Rattle.q_merge.specs.Gathered.{HasBook, AreDistinct, AgreeOn};
 ghost use Rattle.q_gather.specs.Heads.{AreReplays, IsHeaded, AreHeaded, AreThere, HasHead, IsUnfounded};
 
 use crate::fault::GatherFault;
-use q_book::book::Book;
-use q_cluster::cluster::Cluster;
-use sc_members::config::Config;
-use sc_msg::version::Version;
+use q_book::Book;
+use q_cluster::Cluster;
+use sc_members::Config;
+use sc_msg::Version;
 use std::alloc::Global;
 
 /// A law of books: each is the replay of its journal, and its recorded answers are right.

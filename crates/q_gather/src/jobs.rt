@@ -2,7 +2,7 @@
 //! alone.
 
 use indexmap::IndexMap;
-use q_history::event::Handed;
+use q_history::Handed;
 use std::alloc::{AllocError, Global};
 
 /// The number of the job that each node handed out for each of its queries.

@@ -10,18 +10,19 @@
 //! can be taken in some order in which each message that is delivered was sent before; else it says why not.
 //!
 //! A message is known by its bytes in version 2, in which each has some, whatever the cluster's version is; and it is
-//! delivered by the least number at which it was sent: [`numbers`].
-//!
-//! [`gather`]: gather::gather
-//! [`gather_books`]: gather::gather_books
+//! delivered by the least number at which it was sent: [`Numbers`].
 #![tactic(auto)]
 
-pub mod fault;
-pub mod gather;
+mod fault;
+mod gatherer;
 mod gathering;
 mod heads;
 mod jobs;
 pub mod laws;
-pub mod numbers;
+mod numbers;
 mod rounds;
 pub mod worked;
+
+pub use fault::GatherFault;
+pub use gatherer::{gather, gather_books};
+pub use numbers::Numbers;

@@ -6,8 +6,7 @@ ghost use Rattle.sc_msg.specs.Messages.{message_bytes, IsMessage};
 ghost use Rattle.q_merge.specs.Numbers.{number_of, added};
 
 use indexmap::IndexMap;
-use sc_msg::encode::encode;
-use sc_msg::message::Message;
+use sc_msg::{Message, encode};
 use std::alloc::{AllocError, Global};
 use std::marker::Model;
 

@@ -7,8 +7,8 @@ ghost use Rattle.q_gather.specs.Gathering.{Finds, IsNextAmong, IsNextWithin, Are
 
 use crate::fault::GatherFault;
 use crate::gathering::Gathering;
-use q_book::book::Book;
-use q_history::event::Event;
+use q_book::Book;
+use q_history::ClusterEvent;
 use std::alloc::{AllocError, Global};
 use std::collections::HashSet;
 
@@ -55,7 +55,11 @@ impl Rounds {
 
     /// The event of the next book that can go on: of the one that went last, or of the first behind it, in a round over
     /// all. A book that waits is not looked at until more was sent.
-    fn next(&mut self, gathering: &Gathering, books: &[Book]) -> Result<Option<Event>, AllocError>
+    fn next(
+        &mut self,
+        gathering: &Gathering,
+        books: &[Book],
+    ) -> Result<Option<ClusterEvent>, AllocError>
         ensures next { AreNumbers gathering.now.cluster.world.sent gathering.now.numbers → AreWaiting gathering.now.cluster books.now self.old → IfOk result (Finds (IsNextAmong gathering.now.cluster books.now)) }
         ensures waiting { AreNumbers gathering.now.cluster.world.sent gathering.now.numbers → AreWaiting gathering.now.cluster books.now self.old → OnOk result (AreIdle gathering.now.cluster books.now self.new.waiting.keys) }
         ensures sent { self.new.sent ≡ length gathering.now.cluster.world.sent }
@@ -87,7 +91,7 @@ impl Rounds {
         books: &[Book],
         first: usize,
         end: usize,
-    ) -> Result<Option<Event>, AllocError>
+    ) -> Result<Option<ClusterEvent>, AllocError>
         requires { end ≤ length books.now }
         ensures next { AreNumbers gathering.now.cluster.world.sent gathering.now.numbers → AreIdle gathering.now.cluster books.now self.old.waiting.keys → IfOk result (IsNextWithin gathering.now.cluster books.now first end) }
         ensures waiting { AreNumbers gathering.now.cluster.world.sent gathering.now.numbers → AreIdle gathering.now.cluster books.now self.old.waiting.keys → OnOk result (AreIdle gathering.now.cluster books.now self.new.waiting.keys) }
@@ -107,7 +111,7 @@ impl Rounds {
         gathering: &Gathering,
         books: &[Book],
         place: usize,
-    ) -> Result<Option<Event>, AllocError>
+    ) -> Result<Option<ClusterEvent>, AllocError>
         requires { place < length books.now }
         ensures next { AreNumbers gathering.now.cluster.world.sent gathering.now.numbers → AreIdle gathering.now.cluster books.now self.old.waiting.keys → IfOk result (IsNextWithin gathering.now.cluster books.now place (place + 1)) }
         ensures waiting { AreNumbers gathering.now.cluster.world.sent gathering.now.numbers → AreIdle gathering.now.cluster books.now self.old.waiting.keys → OnOk result (AreIdle gathering.now.cluster books.now self.new.waiting.keys) }

@@ -11,12 +11,12 @@ use Rattle.sc_view.specs.Views.{ViewMap}
 use Rattle.sc_world.specs.State.{WorldState}
 use Rattle.sc_world.specs.Worlds as world
 use Rattle.sc_world.specs.Regular.{IsRegular, returned_by}
-use Rattle.sc_world.specs.declared.event.Event.{Event as WorldEvent}
+use Rattle.sc_world.specs.declared.event.WorldEvent.{WorldEvent}
 use Rattle.sc_world.specs.declared.op.Op.{Op}
 use Rattle.q_desk.specs.State.{DeskState}
 use Rattle.q_book.specs.State.{BookState}
 use Rattle.q_cluster.specs.Acts.{booked}
-use Rattle.q_history.specs.declared.event.Event.{Event}
+use Rattle.q_history.specs.declared.event.ClusterEvent.{ClusterEvent}
 use Rattle.q_history.specs.Calls.{Reaches}
 use Rattle.q_history.specs.Clusters.{start}
 use Rattle.q_history.specs.Headline as headline
@@ -31,10 +31,10 @@ use Rattle.q_gathered.specs.Truth.{AnswersAreTrue}
 
 -- laws of the crates below
 abbrev pub EveryAnswer : Type 0
-EveryAnswer = (version : Version) (config : Config) (founders : List ℕ) (events : List Event) (c : ClusterState) → Reaches (start version config founders) events c → headline.AnswersAreTrue c
+EveryAnswer = (version : Version) (config : Config) (founders : List ℕ) (events : List ClusterEvent) (c : ClusterState) → Reaches (start version config founders) events c → headline.AnswersAreTrue c
 
 abbrev pub EveryWorld : Type 0
-EveryWorld = (version : Version) (config : Config) (founders : List ℕ) (events : List Event) (c : ClusterState) → Reaches (start version config founders) events c → world.IsHistory c.world
+EveryWorld = (version : Version) (config : Config) (founders : List ℕ) (events : List ClusterEvent) (c : ClusterState) → Reaches (start version config founders) events c → world.IsHistory c.world
 
 abbrev pub EveryRegular : Type 0
 EveryRegular = (c : Config) (founders : List ℕ) (events : List WorldEvent) (w : WorldState) → world.Reaches (world.start c founders) events w → IsRegular w

@@ -3,9 +3,9 @@
 ghost use Rattle.std.specs.Prelude.{◌≡◌, ◌++◌, OnOk, string_bytes};
 ghost use Rattle.q_gathered.specs.Lines.{answer_line, answer_lines, answers_of, store_text, view_text};
 
-use q_book::book::Book;
-use q_session::query::{Phase, Query};
-use sc_view::view::{Stored, View};
+use q_book::Book;
+use q_session::{Phase, Query};
+use sc_view::{Stored, View};
 use std::alloc::AllocError;
 
 /// Prints a node, and which of its stores a view has.

@@ -3,7 +3,7 @@
 ghost use Rattle.std.specs.Prelude.{◌≡◌};
 ghost use Rattle.q_gathered.specs.Files.{status_of};
 
-use q_sim::refusal::Refusal;
+use q_sim::Refusal;
 
 /// How gathering files ended.
 #[derive(Clone, Copy)]

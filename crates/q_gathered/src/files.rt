@@ -8,13 +8,13 @@ ghost use Rattle.q_gathered.specs.Tells.{Tells, of_gather};
 ghost use Rattle.q_gathered.specs.Files.{IsWritten, Refuses, TellsFiles, failures_after, longest_journal};
 
 use crate::ending::Ending;
-use crate::gathered::gathered;
 use crate::notes::note_gather;
 use crate::sources::{Sources, of_gather, read_all};
-use q_files::files::Files;
-use q_refused::line::put_refusal;
-use q_sim::refusal::Refusal;
-use q_wire::counted::Counted;
+use crate::teller::gathered;
+use q_files::Files;
+use q_refused::put_refusal;
+use q_sim::Refusal;
+use q_wire::Counted;
 use std::alloc::Global;
 use std::io::Write;
 

@@ -16,20 +16,22 @@
 //! over the view that is told with it; that view is the one that the query's own collect returned, it has only what was
 //! stored before, and it has each store that ended before the collect began and that meets it.
 //!
-//! [`beginning`]: beginning::beginning
-//! [`gathered`]: gathered::gathered
-//! [`gather_files`]: files::gather_files
-//! [`Files`]: q_files::files::Files
+//! [`Files`]: q_files::Files
 //! [`every_gathered_answer_is_true`]: laws::every_gathered_answer_is_true
 #![tactic(auto)]
 
 mod answers;
-pub mod beginning;
-pub mod ending;
-pub mod files;
-pub mod gathered;
+mod beginnings;
+mod ending;
+mod files;
 pub mod laws;
 mod notes;
 mod pairs;
 mod sources;
+mod teller;
 pub mod worked;
+
+pub use beginnings::{Journal, beginning};
+pub use ending::Ending;
+pub use files::gather_files;
+pub use teller::gathered;

@@ -1,8 +1,8 @@
 //! What explains a refusal, for a person. No contract speaks of it, and that the notes take none changes nothing.
 
-use q_book::book::Book;
-use q_gather::fault::GatherFault;
-use q_replay::fault::ReplayFault;
+use q_book::Book;
+use q_gather::GatherFault;
+use q_replay::ReplayFault;
 use std::io::Write;
 
 /// Says of the file with this name why it begins with no journal.

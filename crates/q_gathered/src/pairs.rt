@@ -6,8 +6,8 @@ ghost use Rattle.q_sim.specs.Printing.{AddsPairs, pair_line};
 ghost use Rattle.q_gathered.specs.Lines as lines;
 ghost use Rattle.q_gathered.specs.Lines.{pairs_of, pairs_with};
 
-use sc_node::session::OperationKind;
-use sc_world::op::{Op, meets};
+use sc_node::OperationKind;
+use sc_world::{Op, meets};
 use std::alloc::AllocError;
 
 fn is_store(kind: &OperationKind) -> bool

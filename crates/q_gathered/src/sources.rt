@@ -7,15 +7,15 @@ ghost use Rattle.q_gathered.specs.Files.{AreSources, IsRead, IsUnread, RefusesFi
 ghost use Rattle.q_gathered.specs.Lines as line;
 ghost use Rattle.q_gathered.specs.Tells as tells;
 
-use crate::beginning::beginning;
+use crate::beginnings::beginning;
 use crate::notes::note_journal;
-use q_book::book::Book;
-use q_files::files::Files;
-use q_gather::fault::GatherFault;
-use q_history::fault::ClusterFault;
-use q_sim::refusal::Refusal;
-use sc_node::fault::NodeFault;
-use sc_world::fault::WorldFault;
+use q_book::Book;
+use q_files::Files;
+use q_gather::GatherFault;
+use q_history::ClusterFault;
+use q_sim::Refusal;
+use sc_node::NodeFault;
+use sc_world::WorldFault;
 use std::alloc::{AllocError, Global};
 use std::io::Write;
 

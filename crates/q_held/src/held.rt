@@ -6,17 +6,13 @@ ghost use Rattle.q_pump.specs.Pumped.{Pumped, Stopped};
 ghost use Rattle.q_held.specs.Held.{Asks, Delivers, Hears, Leaves, Receives, Stores, both_unsent, counted, no_losses, no_unsent};
 
 use crate::losses::{Losses, Unsent};
-use q_board::board::Board;
-use q_board::seats::AskerSeat;
-use q_book::answer::Asked;
-use q_book::book::Book;
-use q_book::fault::BookFault;
-use q_desk::completed::Completed;
-use q_pump::pump::pump_once;
-use q_table::program::ProgramId;
-use sc_decode::decode::decode_as;
-use sc_msg::fault::MessageFault;
-use sc_msg::message::Message;
+use q_board::{AskerSeat, Board};
+use q_book::{Asked, Book, BookFault};
+use q_desk::Completed;
+use q_pump::pump_once;
+use q_table::ProgramId;
+use sc_decode::decode_as;
+use sc_msg::{Message, MessageFault};
 use std::alloc::Global;
 
 /// A node's book, the messages that its thread has still to send, and its seat at the board of jobs.

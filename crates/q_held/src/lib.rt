@@ -1,16 +1,20 @@
 //! What the lock of a node keeps, whose threads share it: its book, the messages that wait to be sent, its seat at the
 //! board of jobs, and counts of what was lost.
 //!
-//! Proved of what is done under a lock ([`held`]): a datagram changes nothing, or the message that its bytes spell is
+//! Proved of what is done under a lock ([`Held`]): a datagram changes nothing, or the message that its bytes spell is
 //! delivered and what the book gives waits to be sent; the datagrams that change nothing are counted, by why
-//! ([`losses`]); each other call is one of the book, exact, and what the book gives waits too; the pump carries results
+//! ([`Losses`]); each other call is one of the book, exact, and what the book gives waits too; the pump carries results
 //! and jobs. The book is always the replay of its journal, since its type keeps that. [`addressee`] says for whom a
 //! message is meant, and that nobody else takes anything from it.
 //!
 //! `q_nodes` stands on it, whose nodes are threads of one process, and so do nodes that run apart.
 #![tactic(auto)]
 
-pub mod addressee;
-pub mod held;
-pub mod losses;
+mod addressees;
+mod held;
+mod losses;
 pub mod worked;
+
+pub use addressees::{addressee, asking_operation, others_take_nothing};
+pub use held::{Held, Lost};
+pub use losses::{Losses, Unsent};

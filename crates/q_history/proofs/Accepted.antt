@@ -6,7 +6,7 @@ use Rattle.sc_msg.specs.declared.message.Message.{Message}
 use Rattle.sc_node.specs.declared.answer.Begun.{Begun}
 use Rattle.sc_node.specs.State.{NodeState}
 use Rattle.sc_node.specs.Nodes.{collect_begun}
-use Rattle.sc_world.specs.declared.event.Event.{Event}
+use Rattle.sc_world.specs.declared.event.WorldEvent.{WorldEvent}
 use Rattle.sc_world.specs.declared.fault.WorldFault.{WorldFault}
 use Rattle.sc_world.specs.declared.op.Op.{Op}
 use Rattle.sc_world.specs.State.{WorldState}
@@ -23,23 +23,23 @@ pub at_live : (w : WorldState) (q : ℕ) (n : NodeState) → live_at w q ≡ Som
 at_live w q n h = live_is (set.contains w.crashed q) (fin.get w.nodes q) n h
 
 -- a live node takes an event
-pub acts-ok : (w : WorldState) (e : Event) (q : ℕ) (f : NodeState → Result Outcome WorldFault) (n : NodeState) (r : Outcome) → live_at w q ≡ Some n → f n ≡ Ok r
+pub acts-ok : (w : WorldState) (e : WorldEvent) (q : ℕ) (f : NodeState → Result Outcome WorldFault) (n : NodeState) (r : Outcome) → live_at w q ≡ Some n → f n ≡ Ok r
     → acts w e q f ≡ Ok (told w r, after w e q r)
 acts-ok w e q f n r live gives =
     ap (λ (o : Option NodeState). took w e q (by_live o f)) live ∙ ap (took w e q) gives
 
 -- an event that moves no operation
-pub still_onward : (w : WorldState) (e : Event) (q : ℕ) (r : Outcome) → r.progress ≡ None → IsOnward w (after w e q r)
+pub still_onward : (w : WorldState) (e : WorldEvent) (q : ℕ) (r : Outcome) → r.progress ≡ None → IsOnward w (after w e q r)
 still_onward w e q r still = after_onward w e q r (λ o in' k some by tagged. absurd (no_some k (sym still ∙ some)))
 
 -- a message that is delivered
-pub delivery_onward : (w : WorldState) → IsLinked w → (e : Event) (q : ℕ) (n : NodeState) (m : Message) (r : Outcome) → fin.get w.nodes q ≡ Some n → delivers (Some m) n ≡ Ok r → IsOnward w (after w e q r)
+pub delivery_onward : (w : WorldState) → IsLinked w → (e : WorldEvent) (q : ℕ) (n : NodeState) (m : Message) (r : Outcome) → fin.get w.nodes q ≡ Some n → delivers (Some m) n ≡ Ok r → IsOnward w (after w e q r)
 delivery_onward w linked e q n m r at gives =
     subst (λ (x : Outcome). IsOnward w (after w e q x)) (delivers-ok m n r gives)
     (after_onward w e q (heard n m.from m.body) (moved_open w e q n at linked m.from m.body))
 
 -- the node began to collect, with its next tag
-pub collect_began : (w : WorldState) (e : Event) (q : ℕ) (n : NodeState) (a : Begun × NodeState) → collect_begun n ≡ Ok a
+pub collect_began : (w : WorldState) (e : WorldEvent) (q : ℕ) (n : NodeState) (a : Begun × NodeState) → collect_begun n ≡ Ok a
     → (o : Op) × Among o (after w e q (of_begun a)).ops × (o.node ≡ q) × (o.tag ≡ n.operations)
 collect_began w e q n a h =
     let o = collect_among w e q n in

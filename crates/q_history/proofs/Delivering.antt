@@ -6,8 +6,8 @@ use Rattle.sc_msg.specs.declared.message.Message.{Message}
 use Rattle.sc_operations.specs.declared.progress.Completion.{Completion}
 use Rattle.sc_operations.specs.declared.progress.Completion.TheVariants as completion
 use Rattle.sc_operations.specs.declared.progress.Ended.{Ended}
-use Rattle.sc_world.specs.declared.event.Event.{Event as WorldEvent}
-use Rattle.sc_world.specs.declared.event.Event.TheVariants as world_event
+use Rattle.sc_world.specs.declared.event.WorldEvent.{WorldEvent}
+use Rattle.sc_world.specs.declared.event.WorldEvent.TheVariants as world_event
 use Rattle.sc_world.specs.State.{WorldState}
 use Rattle.sc_world.specs.Regular.{HasReturned}
 use Rattle.sc_world.specs.Worlds as world
@@ -23,7 +23,7 @@ use Rattle.q_desk.specs.Desks as desk
 use Rattle.q_desk.specs.declared.journal.Entry.{Entry}
 use Rattle.q_desk.specs.declared.journal.Entry.TheVariants as entry
 use Rattle.q_book.specs.Books as book
-use Rattle.q_history.specs.declared.event.Stepped.{Stepped}
+use Rattle.q_history.specs.declared.event.ClusterStep.{ClusterStep}
 use Rattle.q_history.specs.State.{ClusterState}
 use Rattle.q_history.specs.Heads.{book_of}
 use Rattle.q_history.specs.Clusters.{at as at_node, delivers, delivered_as, delivered}
@@ -77,7 +77,7 @@ module _ (w w' : WorldState) (place id : ℕ) (d : DeskState) (made : Entry) (on
   delivered_later (Some y) returns = ended_later y.tag y.what (λ view is. returns y view refl is)
 
 module _ (c : ClusterState) (kept : IsKept c) where
-  deliver_by : (number id : ℕ) (o : Option Message) (y : Stepped × ClusterState) → slice_get c.world.sent number ≡ o → at_node c id (λ b. delivered_as c number id b o) ≡ Ok y → IsStep c y.1
+  deliver_by : (number id : ℕ) (o : Option Message) (y : ClusterStep × ClusterState) → slice_get c.world.sent number ≡ o → at_node c id (λ b. delivered_as c number id b o) ≡ Ok y → IsStep c y.1
   deliver_by number id None y is h = let a = at-ok c id (λ b. delivered_as c number id b None) y h in absurd (no_refusal _ y a.gives)
   deliver_by number id (Some m) y is h =
       let k = call-ok c id (delivers c number id) (λ b. book.delivered b m) y h in
@@ -95,5 +95,5 @@ module _ (c : ClusterState) (kept : IsKept c) where
       subst (IsStep c) (led (delivers c number id) y.1 a.2 k.is)
       (put_desk c kept w' id d (lawful_next c kept e id r taken) onward later.is (keeps_here c kept id k.desk d k.at later.keeps))
 
-  pub deliver_step : (number id : ℕ) (y : Stepped × ClusterState) → at_node c id (delivered c number id) ≡ Ok y → IsStep c y.1
+  pub deliver_step : (number id : ℕ) (y : ClusterStep × ClusterState) → at_node c id (delivered c number id) ≡ Ok y → IsStep c y.1
   deliver_step number id y h = deliver_by number id (slice_get c.world.sent number) y refl h

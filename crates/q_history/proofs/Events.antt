@@ -5,8 +5,8 @@ use Rattle.std.specs.FinMap as fin
 use Rattle.sc_view.specs.Views.{ViewMap}
 use Rattle.sc_node.specs.State.{NodeState}
 use Rattle.sc_node.specs.Nodes as node
-use Rattle.sc_world.specs.declared.event.Event.{Event as WorldEvent}
-use Rattle.sc_world.specs.declared.event.Event.TheVariants as world_event
+use Rattle.sc_world.specs.declared.event.WorldEvent.{WorldEvent}
+use Rattle.sc_world.specs.declared.event.WorldEvent.TheVariants as world_event
 use Rattle.sc_world.specs.State.{WorldState, world_of, past_of}
 use Rattle.sc_world.specs.Ledgers.{stopped}
 use Rattle.sc_world.specs.Worlds as world
@@ -24,7 +24,7 @@ use Rattle.q_session.specs.declared.job.Job.{Job}
 use Rattle.q_session.specs.declared.query.Phase.TheVariants.{Collecting, Answered}
 use Rattle.q_session.specs.declared.query.Query.{Query}
 use Rattle.q_book.specs.Books as book
-use Rattle.q_history.specs.declared.event.Stepped.{Stepped}
+use Rattle.q_history.specs.declared.event.ClusterStep.{ClusterStep}
 use Rattle.q_history.specs.State.{ClusterState}
 use Rattle.q_history.specs.Heads.{book_of}
 use Rattle.q_history.specs.Clusters.{at as at_node, registers, registered, asks, asked, stores, stored, entered, leaves, left, crashed}
@@ -68,17 +68,17 @@ module _ (c : ClusterState) (kept : IsKept c) where
   noted_step e id r d made h still at =
       quiet (world.after c.world e id r) id d (desk.with_entry d made) (lawful_next e id r h) (still_onward c.world e id r still) at (noted_moves d made)
 
-  pub enter_step : (id : ℕ) (o : Option NodeState) (y : Stepped × ClusterState) → fin.get c.world.nodes id ≡ o → entered c id o ≡ Ok y → IsStep c y.1
+  pub enter_step : (id : ℕ) (o : Option NodeState) (y : ClusterStep × ClusterState) → fin.get c.world.nodes id ≡ o → entered c id o ≡ Ok y → IsStep c y.1
   enter_step id (Some n) y is h = absurd (no_refusal _ y h)
   enter_step id None y is h =
       let r : world.Outcome = world.of_entered (node.entered c.world.config id) in
       let e : WorldEvent = world_event.Enter id in
-      subst (IsStep c) (ap (λ (z : Stepped × ClusterState). z.1) (same_answer _ y h))
+      subst (IsStep c) (ap (λ (z : ClusterStep × ClusterState). z.1) (same_answer _ y h))
       (put_desk c kept (world.after c.world e id r) id (new_desk (book.record_lengths c.version)) (lawful_next e id r (ap (world.enters c.world id) is)) (still_onward c.world e id r refl)
       (record { node = r.node; at = get-insert_same c.world.nodes id r.node; tied = λ i q at. absurd (no_some q at); right = λ i q view ran at is. absurd (no_some q at) })
       (λ x at. absurd (no_some _ (sym is ∙ (kept.desks id x at).at))))
 
-  pub crash_step : (id : ℕ) (o : Option NodeState) (y : Stepped × ClusterState) → world.live_at c.world id ≡ o → crashed c id o ≡ Ok y → IsStep c y.1
+  pub crash_step : (id : ℕ) (o : Option NodeState) (y : ClusterStep × ClusterState) → world.live_at c.world id ≡ o → crashed c id o ≡ Ok y → IsStep c y.1
   crash_step id None y is h = absurd (no_refusal _ y h)
   crash_step id (Some n) y is h =
       let w' : WorldState = world_of c.world.nodes (stopped (past_of c.world) id) in
@@ -88,7 +88,7 @@ module _ (c : ClusterState) (kept : IsKept c) where
         ops = λ o in'. record { op = o; among = in'; by = refl; tagged = refl; returned = λ v k. k };
         nodes = λ id m at. (m, at);
       } in
-      subst (IsStep c) (ap (λ (z : Stepped × ClusterState). z.1) (same_answer _ y h))
+      subst (IsStep c) (ap (λ (z : ClusterStep × ClusterState). z.1) (same_answer _ y h))
       (record {
         kept = record {
           world = step_lawful c.world (world_event.Crash id) (world.silent c.world) w' kept.world (ap (world.crashes c.world id) is);
@@ -101,7 +101,7 @@ module _ (c : ClusterState) (kept : IsKept c) where
         founders = refl;
       })
 
-  pub leave_step : (id : ℕ) (y : Stepped × ClusterState) → at_node c id (left c id) ≡ Ok y → IsStep c y.1
+  pub leave_step : (id : ℕ) (y : ClusterStep × ClusterState) → at_node c id (left c id) ≡ Ok y → IsStep c y.1
   leave_step id y h =
       let k = call-ok c id (leaves c id) book.left y h in
       let a = left-parts (book_of c id k.node k.desk) k.answer k.called in
@@ -109,7 +109,7 @@ module _ (c : ClusterState) (kept : IsKept c) where
       subst (IsStep c) (led (leaves c id) y.1 a.2 k.is)
       (noted_step e id (world.of_left a.0) k.desk entry.Leave (acts-ok c.world e id world.leaves k.node (world.of_left a.0) k.live (ap (world.by_node world.of_left) a.1)) refl k.at)
 
-  pub store_step : (id : ℕ) (value : List ℕ) (y : Stepped × ClusterState) → at_node c id (stored c id value) ≡ Ok y → IsStep c y.1
+  pub store_step : (id : ℕ) (value : List ℕ) (y : ClusterStep × ClusterState) → at_node c id (stored c id value) ≡ Ok y → IsStep c y.1
   store_step id value y h =
       let k = call-ok c id (stores c id value) (λ b. book.stored b value) y h in
       let a = stored-parts (book_of c id k.node k.desk) value k.answer k.called in
@@ -117,7 +117,7 @@ module _ (c : ClusterState) (kept : IsKept c) where
       subst (IsStep c) (led (stores c id value) y.1 a.2 k.is)
       (noted_step e id (world.of_begun a.0) k.desk (entry.Store value) (acts-ok c.world e id (world.stores value) k.node (world.of_begun a.0) k.live (ap (world.by_node world.of_begun) a.1)) refl k.at)
 
-  pub register_step : (id : ℕ) (program : Certificate) (y : Stepped × ClusterState) → at_node c id (registered c id program) ≡ Ok y → IsStep c y.1
+  pub register_step : (id : ℕ) (program : Certificate) (y : ClusterStep × ClusterState) → at_node c id (registered c id program) ≡ Ok y → IsStep c y.1
   register_step id program y h =
       let k = call-ok c id (registers c id) (λ b. book.registered b program) y h in
       let a = desk-parts (book_of c id k.node k.desk) (desk.registered k.desk program) k.answer k.called in
@@ -128,7 +128,7 @@ module _ (c : ClusterState) (kept : IsKept c) where
   asked_open tag program start e q new view ran is = let h : Collecting ≡ Answered view ran = ap (λ (x : Query). x.phase) new ∙ is in absurd (cc)
 
   -- the query's collect is the one that its node begins
-  pub ask_step : (id program start : ℕ) (y : Stepped × ClusterState) → at_node c id (asked c id program start) ≡ Ok y → IsStep c y.1
+  pub ask_step : (id program start : ℕ) (y : ClusterStep × ClusterState) → at_node c id (asked c id program start) ≡ Ok y → IsStep c y.1
   ask_step id program start y h =
       let k = call-ok c id (asks c id) (λ b. book.asked b program start) y h in
       let a = asked-parts (book_of c id k.node k.desk) program start k.answer k.called in

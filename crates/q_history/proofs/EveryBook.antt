@@ -1,5 +1,5 @@
 -- In every history each node's book is the replay of its journal.
-use Rattle.std.proofs.Common.{◌≡◌, ℕ, Bool, true, false, cond, ◌==◌, ◌&&◌, ◌||◌, List, [], ◌∷◌, Some, None, refl, sym, ap, ◌∙◌, subst, ◌⊎◌, inl, inr, slice_get, Result, Ok, Err}
+use Rattle.std.proofs.Common.{◌≡◌, ℕ, Bool, true, false, cond, ◌==◌, ◌&&◌, ◌||◌, List, [], ◌∷◌, Some, None, refl, sym, ap, ◌∙◌, subst, ◌⊎◌, inl, inr, Result, Ok, Err}
 use Rattle.std.proofs.lemmas.Bool.{eqb-true, eq-eqb}
 use Rattle.std.specs.Ordering.{nat_cmp}
 use Rattle.std.proofs.lemmas.List.Elements.{All-from_recursion}
@@ -19,33 +19,21 @@ use Rattle.sc_world.proofs.Finite.{get-insert, contains-insert}
 use Rattle.sc_world.proofs.Inverts.{no_refusal}
 use Rattle.q_desk.specs.State.{DeskState}
 use Rattle.q_book.specs.Replays.{IsFirst, IsReplay}
-use Rattle.q_history.specs.declared.event.Event.{Event}
-use Rattle.q_history.specs.declared.event.Event.TheVariants as event
-use Rattle.q_history.specs.declared.event.Stepped.{Stepped}
+use Rattle.q_history.specs.declared.event.ClusterEvent.{ClusterEvent}
 use Rattle.q_history.specs.State.{ClusterState}
 use Rattle.q_history.specs.Clusters.{Desks, desks_with, start, founded, started}
-use Rattle.q_history.specs.Calls.{Follows, Reaches, IsHistory}
+use Rattle.q_history.specs.Calls.{Reaches, IsHistory}
 use Rattle.q_history.specs.Heads.{founders_for, book_of}
 use Rattle.q_history.specs.Books.{BooksAreReplays}
 use Rattle.q_history.proofs.Lists.{same_some, no_some}
 use Rattle.q_history.proofs.Ops.{insert_has}
 use Rattle.q_history.proofs.EveryHistory.{fresh, run_kept, start_kept}
-use Rattle.q_history.proofs.Booked.{AreBooks, Fit, enter_books, crash_books, leave_books, register_books, store_books, ask_books, deliver_books, hand_out_books, finish_books}
+use Rattle.q_history.proofs.Called.{event_is}
+use Rattle.q_history.proofs.Booked.{AreBooks, Fit, made_books}
 
-step_books : (c d : ClusterState) (e : Event) (told : Stepped) → AreBooks c → Follows c e told d → AreBooks d
-step_books c d (event.Enter id) told books f = enter_books c books id (fin.get c.world.nodes id) (told, d) refl f.stepped
-step_books c d (event.Leave id) told books f = leave_books c books id (told, d) f.stepped
-step_books c d (event.Crash id) told books f = crash_books c books id (world.live_at c.world id) (told, d) f.stepped
-step_books c d (event.Register id program) told books f = register_books c books id program (told, d) f.stepped
-step_books c d (event.Ask id program start) told books f = ask_books c books id program start (told, d) f.stepped
-step_books c d (event.Store id value) told books f = store_books c books id value (told, d) f.stepped
-step_books c d (event.Deliver number id) told books f = deliver_books c books number id (told, d) f.stepped
-step_books c d (event.HandOut id) told books f = hand_out_books c books id (told, d) f.stepped
-step_books c d (event.Finish number) told books f = finish_books c books f.ran (slice_get c.jobs number) (told, d) f.right f.stepped
-
-run_books : (es : List Event) (c d : ClusterState) → AreBooks c → Reaches c es d → AreBooks d
+run_books : (es : List ClusterEvent) (c d : ClusterState) → AreBooks c → Reaches c es d → AreBooks d
 run_books [] c d books r = subst AreBooks (sym r) books
-run_books (e ∷ es) c d books r = run_books es r.1 d (step_books c r.1 e r.0 books r.2) r.3
+run_books (e ∷ es) c d books r = run_books es r.1 d (made_books c books r.1 (event_is c e r.0 r.1 r.2)) r.3
 
 -- ---- founders
 
@@ -139,10 +127,10 @@ module _ (version : Version) (config : Config) (ids : List ℕ) where
   founders_are true is h = is
   founders_are false is h = absurd (no_refusal _ _ h)
 
-  pub every_are : (es : List Event) (c : ClusterState) → started version config ids ≡ Ok (start version config ids) → Reaches (start version config ids) es c → AreBooks c
+  pub every_are : (es : List ClusterEvent) (c : ClusterState) → started version config ids ≡ Ok (start version config ids) → Reaches (start version config ids) es c → AreBooks c
   every_are es c begun r = run_books es (start version config ids) c (start_books (founders_are (are_founders ids) refl begun)) r
 
-  pub every_book : (es : List Event) (c : ClusterState) → started version config ids ≡ Ok (start version config ids) → Reaches (start version config ids) es c → BooksAreReplays c
+  pub every_book : (es : List ClusterEvent) (c : ClusterState) → started version config ids ≡ Ok (start version config ids) → Reaches (start version config ids) es c → BooksAreReplays c
   every_book es c begun r = (every_are es c begun r).replays
 
 pub history_are : (c : ClusterState) → IsHistory c → AreBooks c
@@ -151,9 +139,6 @@ history_are c h = every_are c.version c.world.config c.world.founders h.0 c h.2 
 pub history_books : (c : ClusterState) → IsHistory c → BooksAreReplays c
 history_books c h = every_book c.version c.world.config c.world.founders h.0 c h.2 h.1
 
-pub every_message : (version : Version) (config : Config) (ids : List ℕ) (es : List Event) (c : ClusterState) → started version config ids ≡ Ok (start version config ids) → Reaches (start version config ids) es c → Fit version c.world.sent
+pub every_message : (version : Version) (config : Config) (ids : List ℕ) (es : List ClusterEvent) (c : ClusterState) → started version config ids ≡ Ok (start version config ids) → Reaches (start version config ids) es c → Fit version c.world.sent
 every_message version config ids es c begun r =
     subst (λ (v : Version). Fit v c.world.sent) (run_kept es (start version config ids) c (start_kept version config ids) r).version (every_are version config ids es c begun r).messages
-
-pub history_messages : (c : ClusterState) → IsHistory c → Fit c.version c.world.sent
-history_messages c h = (history_are c h).messages

@@ -19,9 +19,9 @@ use Rattle.q_session.specs.declared.query.Phase.TheVariants.{Collecting, Ready, 
 use Rattle.sc_world.specs.declared.op.Op.{Op}
 use Rattle.q_desk.specs.State.{DeskState, new_desk}
 use Rattle.q_book.specs.Books.{record_lengths}
-use Rattle.q_history.specs.declared.event.Event.{Event}
-use Rattle.q_history.specs.declared.event.Event.TheVariants as event
-use Rattle.q_history.specs.declared.event.Stepped.{Stepped}
+use Rattle.q_history.specs.declared.event.ClusterEvent.{ClusterEvent}
+use Rattle.q_history.specs.declared.event.ClusterEvent.TheVariants as event
+use Rattle.q_history.specs.declared.event.ClusterStep.{ClusterStep}
 use Rattle.q_history.specs.State.{ClusterState}
 use Rattle.q_history.specs.Clusters.{Desks, desks_with, start}
 use Rattle.q_history.specs.Calls.{Follows, Reaches}
@@ -32,7 +32,7 @@ use Rattle.q_history.proofs.Events.{enter_step, crash_step, leave_step, register
 use Rattle.q_history.proofs.Delivering.{deliver_step}
 use Rattle.q_history.proofs.Finishing.{hand_out_step, finish_step}
 
-pub step_kept : (c d : ClusterState) (e : Event) (told : Stepped) → IsKept c → Follows c e told d → IsStep c d
+pub step_kept : (c d : ClusterState) (e : ClusterEvent) (told : ClusterStep) → IsKept c → Follows c e told d → IsStep c d
 step_kept c d (event.Enter id) told kept f = enter_step c kept id (fin.get c.world.nodes id) (told, d) refl f.stepped
 step_kept c d (event.Leave id) told kept f = leave_step c kept id (told, d) f.stepped
 step_kept c d (event.Crash id) told kept f = crash_step c kept id (live_at c.world id) (told, d) refl f.stepped
@@ -43,7 +43,7 @@ step_kept c d (event.Deliver number id) told kept f = deliver_step c kept number
 step_kept c d (event.HandOut id) told kept f = hand_out_step c kept id (told, d) f.stepped
 step_kept c d (event.Finish number) told kept f = finish_step c kept number f.ran (slice_get c.jobs number) (told, d) refl f.right f.stepped
 
-pub run_kept : (es : List Event) (c d : ClusterState) → IsKept c → Reaches c es d → IsStep c d
+pub run_kept : (es : List ClusterEvent) (c d : ClusterState) → IsKept c → Reaches c es d → IsStep c d
 run_kept [] c d kept r = subst (IsStep c) (sym r) (record { kept = kept; stays = stays_itself c.desks; version = refl; config = refl; founders = refl })
 run_kept (e ∷ es) c d kept r =
     let a = step_kept c r.1 e r.0 kept r.2 in
@@ -108,7 +108,7 @@ module _ (version : Version) (config : Config) (ids : List ℕ) where
 
 -- ---- what is said of the world
 
-pub every_world : (version : Version) (config : Config) (ids : List ℕ) (es : List Event) (c : ClusterState) → Reaches (start version config ids) es c → IsWorldHistory c.world
+pub every_world : (version : Version) (config : Config) (ids : List ℕ) (es : List ClusterEvent) (c : ClusterState) → Reaches (start version config ids) es c → IsWorldHistory c.world
 every_world version config ids es c r = (run_kept es (start version config ids) c (start_kept version config ids) r).kept.world.history
 
 -- ---- what is said of answers
@@ -145,13 +145,13 @@ kept_true c kept node k d q view ran at here is = record {
   returned = kept_returned c kept node k d q view at here (ap view_of is);
 }
 
-pub every_true : (version : Version) (config : Config) (ids : List ℕ) (es : List Event) (c : ClusterState) → Reaches (start version config ids) es c → AnswersAreTrue c
+pub every_true : (version : Version) (config : Config) (ids : List ℕ) (es : List ClusterEvent) (c : ClusterState) → Reaches (start version config ids) es c → AnswersAreTrue c
 every_true version config ids es c r = kept_true c (run_kept es (start version config ids) c (start_kept version config ids) r).kept
 
-pub every_returned : (version : Version) (config : Config) (ids : List ℕ) (es : List Event) (c : ClusterState) → Reaches (start version config ids) es c → ViewsAreReturned c
+pub every_returned : (version : Version) (config : Config) (ids : List ℕ) (es : List ClusterEvent) (c : ClusterState) → Reaches (start version config ids) es c → ViewsAreReturned c
 every_returned version config ids es c r = kept_returned c (run_kept es (start version config ids) c (start_kept version config ids) r).kept
 
-pub every_stays : (version : Version) (config : Config) (ids : List ℕ) (es fs : List Event) (c d : ClusterState) → Reaches (start version config ids) es c → Reaches c fs d → AnswersStay c d
+pub every_stays : (version : Version) (config : Config) (ids : List ℕ) (es fs : List ClusterEvent) (c d : ClusterState) → Reaches (start version config ids) es c → Reaches c fs d → AnswersStay c d
 every_stays version config ids es fs c d r s node k x q view ran at here is =
     let kept = (run_kept es (start version config ids) c (start_kept version config ids) r).kept in
     let y = (run_kept fs c d kept s).stays node x at in

@@ -19,7 +19,7 @@ use Rattle.q_desk.specs.State.{DeskState}
 use Rattle.q_desk.specs.Answers.{IsAnswered}
 use Rattle.q_desk.specs.Desks as desk
 use Rattle.q_book.specs.Books as book
-use Rattle.q_history.specs.declared.event.Stepped.{Stepped}
+use Rattle.q_history.specs.declared.event.ClusterStep.{ClusterStep}
 use Rattle.q_history.specs.State.{ClusterState}
 use Rattle.q_history.specs.Heads.{book_of}
 use Rattle.q_history.specs.Clusters.{at as at_node, with_job, hands, handed_out, posts, finished}
@@ -84,7 +84,7 @@ module _ (c : ClusterState) (kept : IsKept c) where
         | inr new ↦ subst (IsKnown (fin.insert c.desks id e)) new (known_new d e id j ready m.keeps)
       ])
 
-  pub hand_out_step : (id : ℕ) (y : Stepped × ClusterState) → at_node c id (handed_out c id) ≡ Ok y → IsStep c y.1
+  pub hand_out_step : (id : ℕ) (y : ClusterStep × ClusterState) → at_node c id (handed_out c id) ≡ Ok y → IsStep c y.1
   hand_out_step id y h =
       let k = call-ok c id (hands c id) book.handed_out y h in
       let a = desk-parts (book_of c id k.node k.desk) (desk.handed_out k.desk id) k.answer k.called in
@@ -115,7 +115,7 @@ module _ (c : ClusterState) (kept : IsKept c) where
       (subst (λ (z : Query). desk.is_job_of d.programs j z p.recorded.view ≡ true) r.is (ap (λ (z : Query). desk.is_job_of d.programs j z p.recorded.view) (same_some r.old p.recorded.query (sym r.at ∙ p.recorded.at)) ∙ p.recorded.fits)) v x is))
       (keeps_here c kept j.node d e at p.moves.keeps)
 
-  pub finish_step : (number : ℕ) (ran : Ran) (o : Option Job) (y : Stepped × ClusterState) → slice_get c.jobs number ≡ o → IfSome o (λ j. Answers j ran) → finished c ran o ≡ Ok y → IsStep c y.1
+  pub finish_step : (number : ℕ) (ran : Ran) (o : Option Job) (y : ClusterStep × ClusterState) → slice_get c.jobs number ≡ o → IfSome o (λ j. Answers j ran) → finished c ran o ≡ Ok y → IsStep c y.1
   finish_step number ran None y is right h = absurd (no_refusal _ y h)
   finish_step number ran (Some j) y is right h =
       let k = call-ok c j.node (posts c j ran) (λ b. book.posted b j ran) y h in

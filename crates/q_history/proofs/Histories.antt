@@ -2,29 +2,28 @@
 use Rattle.std.proofs.Common.{◌≡◌, ℕ, List, [], ◌∷◌, ◌++◌, Ok, refl, sym, subst}
 use Rattle.sc_members.specs.Members.{Config}
 use Rattle.sc_msg.specs.declared.version.Version.{Version}
-use Rattle.q_history.specs.declared.event.Event.{Event}
-use Rattle.q_history.specs.declared.event.Stepped.{Stepped}
+use Rattle.q_history.specs.declared.event.ClusterEvent.{ClusterEvent}
+use Rattle.q_history.specs.declared.event.ClusterStep.{ClusterStep}
 use Rattle.q_history.specs.State.{ClusterState}
 use Rattle.q_history.specs.Clusters.{start, started}
 use Rattle.q_history.specs.Calls.{Follows, Reaches, IsHistory}
-use Rattle.q_history.specs.Headline.{AnswersAreTrue}
 use Rattle.q_history.proofs.Kept.{IsKept}
-use Rattle.q_history.proofs.EveryHistory.{run_kept, start_kept, kept_true}
+use Rattle.q_history.proofs.EveryHistory.{run_kept, start_kept}
 
-pub reaches_on : (es fs : List Event) (c d e : ClusterState) → Reaches c es d → Reaches d fs e → Reaches c (es ++ fs) e
+pub reaches_on : (es fs : List ClusterEvent) (c d e : ClusterState) → Reaches c es d → Reaches d fs e → Reaches c (es ++ fs) e
 reaches_on [] fs c d e r s = subst (λ (x : ClusterState). Reaches x fs e) r s
 reaches_on (x ∷ es) fs c d e r s = (r.0, r.1, r.2, reaches_on es fs r.1 d e r.3 s)
 
-pub reaches_one : (c d : ClusterState) (e : Event) (told : Stepped) → Follows c e told d → Reaches c (e ∷ []) d
+pub reaches_one : (c d : ClusterState) (e : ClusterEvent) (told : ClusterStep) → Follows c e told d → Reaches c (e ∷ []) d
 reaches_one c d e told f = (told, d, f, refl)
 
-pub reaches_next : (es : List Event) (c d : ClusterState) (e : Event) (told : Stepped) (f : ClusterState) → Reaches c es d → Follows d e told f → Reaches c (es ++ e ∷ []) f
+pub reaches_next : (es : List ClusterEvent) (c d : ClusterState) (e : ClusterEvent) (told : ClusterStep) (f : ClusterState) → Reaches c es d → Follows d e told f → Reaches c (es ++ e ∷ []) f
 reaches_next es c d e told f r s = reaches_on es (e ∷ []) c d f r (reaches_one d f e told s)
 
 pub history_kept : (c : ClusterState) → IsHistory c → IsKept c
 history_kept c h = (run_kept h.0 (start c.version c.world.config c.world.founders) c (start_kept c.version c.world.config c.world.founders) h.1).kept
 
-pub history_run : (es : List Event) (c d : ClusterState) → IsHistory c → Reaches c es d → IsHistory d
+pub history_run : (es : List ClusterEvent) (c d : ClusterState) → IsHistory c → Reaches c es d → IsHistory d
 history_run es c d h r =
     let k = run_kept es c d (history_kept c h) r in
     let whole = reaches_on h.0 es (start c.version c.world.config c.world.founders) c d h.1 r in (
@@ -37,8 +36,5 @@ history_run es c d h r =
           (subst (λ (x : List ℕ). started c.version c.world.config x ≡ Ok (start c.version c.world.config x)) (sym k.founders) h.2)),
     )
 
-pub history_next : (c d : ClusterState) (e : Event) (told : Stepped) → IsHistory c → Follows c e told d → IsHistory d
+pub history_next : (c d : ClusterState) (e : ClusterEvent) (told : ClusterStep) → IsHistory c → Follows c e told d → IsHistory d
 history_next c d e told h f = history_run (e ∷ []) c d h (reaches_one c d e told f)
-
-pub history_true : (c : ClusterState) → IsHistory c → AnswersAreTrue c
-history_true c h = kept_true c (history_kept c h)

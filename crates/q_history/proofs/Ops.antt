@@ -11,7 +11,7 @@ use Rattle.sc_operations.specs.declared.progress.Progress.{Progress}
 use Rattle.sc_node.specs.Sessions.{stored}
 use Rattle.sc_node.specs.State.{NodeState}
 use Rattle.sc_node.specs.Nodes.{collect_session}
-use Rattle.sc_world.specs.declared.event.Event.{Event}
+use Rattle.sc_world.specs.declared.event.WorldEvent.{WorldEvent}
 use Rattle.sc_world.specs.declared.op.Op.{Op}
 use Rattle.sc_world.specs.State.{WorldState}
 use Rattle.sc_world.specs.Worlds.{clock, Outcome, advanced, op_begun, after}
@@ -62,7 +62,7 @@ there m k q o true is at = sym at ∙ ap (fin.get m) (sym (eqb-true q k is))
 pub insert_same : {X : Type 0} (m : fin.FinMap nat_cmp X) (k : ℕ) (v : X) → fin.get m k ≡ Some v → fin.insert m k v ≡ m
 insert_same m k v at = fin.same_map nat_cmp_total fin.nat_cmp-IsAntisymmetric _ m (λ q. get-insert m k v q ∙ there m k q (Some v) (q == k) refl at)
 
-module _ (w : WorldState) (e : Event) (q : ℕ) (r : Outcome) where
+module _ (w : WorldState) (e : WorldEvent) (q : ℕ) (r : Outcome) where
   kept_view : (p : Option Progress) (o : Op) → ((k : Progress) → p ≡ Some k → o.node ≡ q → o.tag ≡ k.tag → o.end ≡ None) → (v : ViewMap) → returned o ≡ Some v → returned (advanced q (clock w) p o) ≡ Some v
   kept_view None o running v h = h
   kept_view (Some p) o running v h = advance_op q (clock w) p o (λ (y : Op). returned y ≡ Some v) (λ by tagged. absurd (open_returns o v (running p refl by tagged) h)) (λ _. h)
@@ -83,7 +83,7 @@ module _ (w : WorldState) (e : Event) (q : ℕ) (r : Outcome) where
   after_onward running = record { config = refl; founders = refl; ops = λ o in'. later o in' (running o in'); nodes = λ id n at. insert_has w.nodes q r.node id n (id == q) refl at }
 
 -- an event at which a node begins to collect
-pub collect_among : (w : WorldState) (e : Event) (q : ℕ) (n : NodeState) → (o : Op) × Among o (after w e q (collect_outcome n)).ops × (o.node ≡ q) × (o.tag ≡ n.operations)
+pub collect_among : (w : WorldState) (e : WorldEvent) (q : ℕ) (n : NodeState) → (o : Op) × Among o (after w e q (collect_outcome n)).ops × (o.node ≡ q) × (o.tag ≡ n.operations)
 collect_among w e q n =
     let o : Op = record { node = q; tag = n.operations; begin = clock w; end = None; session = collect_session n } in
     (o, among-right o (map (advanced q (clock w) None) w.ops) (o ∷ []) (inl refl), refl, refl)

@@ -10,8 +10,8 @@ use Rattle.sc_node.specs.State.{NodeState}
 use Rattle.sc_node.specs.declared.answer.Begun.{Begun}
 use Rattle.sc_operations.specs.declared.progress.Progress.{Progress}
 use Rattle.sc_world.specs.declared.act.Opened.{Opened}
-use Rattle.sc_world.specs.declared.event.Event.{Event as WorldEvent}
-use Rattle.sc_world.specs.declared.event.Event.TheVariants as world_event
+use Rattle.sc_world.specs.declared.event.WorldEvent.{WorldEvent}
+use Rattle.sc_world.specs.declared.event.WorldEvent.TheVariants as world_event
 use Rattle.sc_world.specs.declared.fault.WorldFault.{WorldFault}
 use Rattle.sc_world.specs.declared.fault.WorldFault.TheVariants as world_fault
 use Rattle.sc_world.specs.State.{WorldState, Past, world_of, past_of}
@@ -26,12 +26,12 @@ use Rattle.q_book.specs.Books as book
 use Rattle.q_book.specs.declared.answer.Asked.{Asked}
 use Rattle.q_book.specs.declared.answer.Taken.{Taken}
 use Rattle.q_book.specs.declared.fault.BookFault.{BookFault}
-use Rattle.q_history.specs.declared.event.Event.{Event}
-use Rattle.q_history.specs.declared.event.Event.TheVariants as event
+use Rattle.q_history.specs.declared.event.ClusterEvent.{ClusterEvent}
+use Rattle.q_history.specs.declared.event.ClusterEvent.TheVariants as event
 use Rattle.q_history.specs.declared.event.Handed.{Handed}
 use Rattle.q_history.specs.declared.event.Told.{Told}
 use Rattle.q_history.specs.declared.event.Told.TheVariants as told
-use Rattle.q_history.specs.declared.event.Stepped.{Stepped}
+use Rattle.q_history.specs.declared.event.ClusterStep.{ClusterStep}
 use Rattle.q_history.specs.declared.fault.ClusterFault.{ClusterFault}
 use Rattle.q_history.specs.declared.fault.ClusterFault.TheVariants as fault
 use Rattle.q_history.specs.Faults.{of_book}
@@ -43,7 +43,7 @@ Desks = fin.FinMap nat_cmp DeskState
 
 -- what an event answers and makes of a cluster, or why it is refused
 abbrev pub Said : Type 0
-Said = Result (Stepped × ClusterState) ClusterFault
+Said = Result (ClusterStep × ClusterState) ClusterFault
 
 -- ---- how the parts are put together
 
@@ -53,18 +53,18 @@ put c past jobs id b =
     record { version = c.version; world = world_of (fin.insert c.world.nodes id b.node) past; desks = fin.insert c.desks id b.desk; jobs = jobs }
 
 -- an event that the ledger does not record
-abbrev pub quiet : ClusterState → Told → List Job → ℕ → BookState → Stepped × ClusterState
+abbrev pub quiet : ClusterState → Told → List Job → ℕ → BookState → ClusterStep × ClusterState
 quiet c t jobs id b = (record { told = t; sent = record { first = length c.world.sent; count = 0 } }, put c (past_of c.world) jobs id b)
 
 -- an event that the ledger records
-abbrev pub noted : ClusterState → Told → WorldEvent → ℕ → List Message → Option Progress → Option Opened → BookState → Stepped × ClusterState
+abbrev pub noted : ClusterState → Told → WorldEvent → ℕ → List Message → Option Progress → Option Opened → BookState → ClusterStep × ClusterState
 noted c t e id outs progress begun b = (
   record { told = t; sent = numbered (past_of c.world) outs },
   put c (recorded (past_of c.world) e id outs progress begun) c.jobs id b,
 )
 
 -- what a book answers, as its cluster tells it
-abbrev pub lift : {A : Type 0} → (A → BookState → Stepped × ClusterState) → Result (A × BookState) BookFault → Said
+abbrev pub lift : {A : Type 0} → (A → BookState → ClusterStep × ClusterState) → Result (A × BookState) BookFault → Said
 lift next (Ok a) = Ok (next a.0 a.1)
 lift next (Err e) = Err (of_book e)
 
@@ -78,7 +78,7 @@ at c id f = by_book c id (world.live_at c.world id) (fin.get c.desks id) f
 
 -- ---- programs
 
-abbrev pub registers : ClusterState → ℕ → ℕ → BookState → Stepped × ClusterState
+abbrev pub registers : ClusterState → ℕ → ℕ → BookState → ClusterStep × ClusterState
 registers c id program b = quiet c (told.Registered program) c.jobs id b
 
 abbrev pub registered : ClusterState → ℕ → Certificate → BookState → Said
@@ -89,13 +89,13 @@ registered c id program b = lift (registers c id) (book.registered b program)
 abbrev pub opened : Begun → Option Opened
 opened begun = Some (record { tag = begun.tag; session = begun.session })
 
-abbrev pub asks : ClusterState → ℕ → Asked → BookState → Stepped × ClusterState
+abbrev pub asks : ClusterState → ℕ → Asked → BookState → ClusterStep × ClusterState
 asks c id a b = noted c (told.Asked a.query) (world_event.Collect id) id a.begun.outs None (opened a.begun) b
 
 abbrev pub asked : ClusterState → ℕ → ℕ → ℕ → BookState → Said
 asked c id program start b = lift (asks c id) (book.asked b program start)
 
-abbrev pub stores : ClusterState → ℕ → List ℕ → Begun → BookState → Stepped × ClusterState
+abbrev pub stores : ClusterState → ℕ → List ℕ → Begun → BookState → ClusterStep × ClusterState
 stores c id value a b = noted c (told.Stored a.tag) (world_event.Store id value) id a.outs None (opened a) b
 
 abbrev pub stored : ClusterState → ℕ → List ℕ → BookState → Said
@@ -103,7 +103,7 @@ stored c id value b = lift (stores c id value) (book.stored b value)
 
 -- ---- messages
 
-abbrev pub delivers : ClusterState → ℕ → ℕ → Taken → BookState → Stepped × ClusterState
+abbrev pub delivers : ClusterState → ℕ → ℕ → Taken → BookState → ClusterStep × ClusterState
 delivers c number id a b = noted c (told.Delivered a.completed) (world_event.Deliver number id) id a.outs a.progress None b
 
 abbrev pub delivered_as : ClusterState → ℕ → ℕ → BookState → Option Message → Said
@@ -123,13 +123,13 @@ abbrev pub with_job : List Job → Option Job → List Job
 with_job jobs None = jobs
 with_job jobs (Some j) = jobs ++ j ∷ []
 
-abbrev pub hands : ClusterState → ℕ → Option Job → BookState → Stepped × ClusterState
+abbrev pub hands : ClusterState → ℕ → Option Job → BookState → ClusterStep × ClusterState
 hands c id j b = quiet c (told.HandedOut (handed c.jobs j)) (with_job c.jobs j) id b
 
 abbrev pub handed_out : ClusterState → ℕ → BookState → Said
 handed_out c id b = lift (hands c id) (book.handed_out b)
 
-abbrev pub posts : ClusterState → Job → Ran → Unit {0} → BookState → Stepped × ClusterState
+abbrev pub posts : ClusterState → Job → Ran → Unit {0} → BookState → ClusterStep × ClusterState
 posts c j ran u b = quiet c (told.Finished (record { node = j.node; query = j.query; ran = ran })) c.jobs j.node b
 
 abbrev pub posted : ClusterState → Job → Ran → BookState → Said
@@ -142,14 +142,14 @@ finished c ran (Some j) = at c j.node (posted c j ran)
 
 -- ---- nodes that come and go
 
-abbrev pub enters : ClusterState → ℕ → BookState × List Message → Stepped × ClusterState
+abbrev pub enters : ClusterState → ℕ → BookState × List Message → ClusterStep × ClusterState
 enters c id e = noted c told.Entered (world_event.Enter id) id e.1 None None e.0
 
 abbrev pub entered : ClusterState → ℕ → Option NodeState → Said
 entered c id None = Ok (enters c id (book.entered c.version c.world.config id))
 entered c id (Some n) = Err (fault.World world_fault.IdUsed)
 
-abbrev pub leaves : ClusterState → ℕ → List Message → BookState → Stepped × ClusterState
+abbrev pub leaves : ClusterState → ℕ → List Message → BookState → ClusterStep × ClusterState
 leaves c id outs b = noted c told.Left (world_event.Leave id) id outs None None b
 
 abbrev pub left : ClusterState → ℕ → BookState → Said
@@ -165,7 +165,7 @@ crashed c id (Some n) = Ok (
 -- ---- events
 
 -- What an event answers and makes of a cluster, or why it is refused. A job that it finishes comes to ran.
-abbrev pub stepped : Ran → ClusterState → Event → Said
+abbrev pub stepped : Ran → ClusterState → ClusterEvent → Said
 stepped ran c (event.Enter id) = entered c id (fin.get c.world.nodes id)
 stepped ran c (event.Leave id) = at c id (left c id)
 stepped ran c (event.Crash id) = crashed c id (world.live_at c.world id)

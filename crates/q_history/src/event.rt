@@ -1,14 +1,14 @@
 //! What happens to a cluster, and what it tells.
 
-use q_desk::completed::Completed;
-use q_session::ran::Ran;
-use q_table::program::{Program, ProgramId};
-use sc_view::value::Value;
-use sc_world::event::Sent;
+use q_desk::Completed;
+use q_session::Ran;
+use q_table::{Program, ProgramId};
+use sc_view::Value;
+use sc_world::Sent;
 
 /// What happens to a cluster.
 #[derive(Drop)]
-pub enum Event {
+pub enum ClusterEvent {
     /// A node with a new id enters.
     Enter(u64),
     /// A node leaves for good, and tells it.
@@ -78,7 +78,7 @@ pub enum Told {
 
 /// What an accepted event tells, and the messages that it sent.
 #[derive(Clone, Copy, Debug, PartialEq, Eq)]
-pub struct Stepped {
+pub struct ClusterStep {
     pub told: Told,
     pub sent: Sent,
 }

@@ -3,11 +3,11 @@
 ghost use Rattle.std.specs.Prelude.{◌≡◌};
 ghost use Rattle.q_history.specs.Faults.{reason, of_book, memory};
 
-use q_book::fault::BookFault;
-use q_desk::fault::DeskFault;
+use q_book::BookFault;
+use q_desk::DeskFault;
 use reasons::{Reason, told};
-use sc_node::fault::NodeFault;
-use sc_world::fault::WorldFault;
+use sc_node::NodeFault;
+use sc_world::WorldFault;
 use std::alloc::AllocError;
 
 /// Why an event is refused. After a refusal the cluster is as it was. Where several hold, the first of 83, 81, 82, 42,

@@ -11,8 +11,8 @@ use Rattle.bq_state.specs.Kinds.{StateKinds}
 use Rattle.bq_state.specs.declared.kind.Kind.TheVariants.{Unset, Number, Pointer, Length}
 use Rattle.bq_range.specs.Interval.{Interval}
 use Rattle.bq_check.specs.Spelling.{short_bytes, long_bytes, offset_bytes, kind_bytes, kinds_bytes, lengths_bytes, note_bytes, notes_bytes, IsNote, IsNotes}
-use Rattle.bq_check.specs.declared.form.Form.{Form}
-use Rattle.bq_check.specs.declared.form.Form.TheVariants as forms
+use Rattle.bq_check.specs.declared.form.NotesForm.{NotesForm}
+use Rattle.bq_check.specs.declared.form.NotesForm.TheVariants as forms
 use Rattle.bq_check.proofs.Fields.{length-short, length-long}
 use Rattle.sc_members.specs.Members.{Config}
 use Rattle.sc_msg.specs.declared.version.Version.{Version}
@@ -65,19 +65,19 @@ kinds_small : (ks : List Kind) → length (kinds_bytes ks) ≤ 17 * length ks
 kinds_small [] = omega arith
 kinds_small (k ∷ ks) = omega (arith, length-append (kind_bytes k) (kinds_bytes ks), kind_small k, kinds_small ks)
 
-lengths_small : (form : Form) (l : Interval) → length (lengths_bytes form l) ≤ 2
+lengths_small : (form : NotesForm) (l : Interval) → length (lengths_bytes form l) ≤ 2
 lengths_small forms.First l = omega arith
 lengths_small forms.Second l = omega arith
 
-note_small : (form : Form) (o : Option StateKinds) → IsNote form o → length (note_bytes form o) ≤ 190
+note_small : (form : NotesForm) (o : Option StateKinds) → IsNote form o → length (note_bytes form o) ≤ 190
 note_small form None p = omega arith
 note_small form (Some s) p = omega (arith, length-append (lengths_bytes form s.lengths) (kinds_bytes s.kinds), lengths_small form s.lengths, kinds_small s.kinds, p.kinds.count)
 
-all_small : (form : Form) (ns : List (Option StateKinds)) → AllByRecursion (IsNote form) ns → length (flat_map (note_bytes form) ns) ≤ 190 * length ns
+all_small : (form : NotesForm) (ns : List (Option StateKinds)) → AllByRecursion (IsNote form) ns → length (flat_map (note_bytes form) ns) ≤ 190 * length ns
 all_small form [] p = omega arith
 all_small form (o ∷ ns) p = omega (arith, length-append (note_bytes form o) (flat_map (note_bytes form) ns), note_small form o p.0, all_small form ns p.1)
 
-pub notes_small : (form : Form) (ns : List (Option StateKinds)) → IsNotes form ns → length (notes_bytes form ns) ≤ 778244
+pub notes_small : (form : NotesForm) (ns : List (Option StateKinds)) → IsNotes form ns → length (notes_bytes form ns) ≤ 778244
 notes_small form ns p = omega (arith, length-append (short_bytes (length ns)) (flat_map (note_bytes form) ns), length-short (length ns), all_small form ns p.each, p.few)
 
 -- ---- values

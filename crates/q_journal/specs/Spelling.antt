@@ -3,8 +3,8 @@ use Rattle.std.specs.Prelude.{ℕ, ◌<◌, ◌^◌, List, [], ◌∷◌, ◌++�
 use Rattle.std.specs.List.{flat_map, AllByRecursion}
 use Rattle.bq_insn.specs.Slots.{IsText, spelling}
 use Rattle.bq_check.specs.Spelling.{notes_bytes, IsNotes}
-use Rattle.bq_check.specs.declared.form.Form.{Form}
-use Rattle.bq_check.specs.declared.form.Form.TheVariants as forms
+use Rattle.bq_check.specs.declared.form.NotesForm.{NotesForm}
+use Rattle.bq_check.specs.declared.form.NotesForm.TheVariants as forms
 use Rattle.sc_members.specs.Members.{Config}
 use Rattle.sc_msg.specs.declared.version.Version.{Version}
 use Rattle.sc_msg.specs.declared.version.Version.TheVariants.{First, Second}
@@ -55,7 +55,7 @@ code HandOut = 6
 code (Post query acc steps) = 7
 
 -- the form of the notes of a program
-abbrev pub form_of : Version → Form
+abbrev pub form_of : Version → NotesForm
 form_of First = forms.First
 form_of Second = forms.Second
 

@@ -9,11 +9,10 @@ ghost use Rattle.q_journal.specs.Reading.{IsBody, IsNoBody};
 use crate::read::ReadFault;
 use crate::reader::Reader;
 use crate::written::Written;
-use bq_check::fault::NotesFault;
-use bq_check::notes::Notes;
-use sc_decode::decode::decode_as;
-use sc_msg::version::Version;
-use sc_view::value::{Value, ValueFault};
+use bq_check::{Notes, NotesFault};
+use sc_decode::decode_as;
+use sc_msg::Version;
+use sc_view::{Value, ValueFault};
 use std::alloc::Global;
 
 /// An event with an empty body: a leave or a hand-out.
@@ -48,7 +47,7 @@ fn register(alloc: Global, version: Version, reader: &mut Reader<'_>) -> Result<
 {
     let length = reader.word()?;
     let spelling = reader.take(length as usize)?;
-    let text = bq_insn::decode::decode(alloc, spelling)?;
+    let text = bq_insn::decode(alloc, spelling)?;
     let notes = read_notes(alloc, version, reader.rest)?;
     Ok(Written::Register { text, notes })
 }

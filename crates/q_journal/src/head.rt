@@ -1,6 +1,6 @@
 //! Heads of journals.
 
-use sc_msg::version::Version;
+use sc_msg::Version;
 use std::marker::Model;
 
 /// A fraction as a journal holds it.

@@ -30,17 +30,18 @@
 //!
 //! Whether a program passes the checker, whether founders are taken and what the events do is not looked at: replays
 //! stand on these bytes.
-//!
-//! [`read_head`]: read::read_head
-//! [`read_event`]: read::read_event
-//! [`Writer`]: write::Writer
 #![tactic(auto)]
 
 mod body;
-pub mod head;
+mod head;
 pub mod laws;
-pub mod read;
+mod read;
 mod reader;
 pub mod worked;
-pub mod write;
-pub mod written;
+mod write;
+mod written;
+
+pub use head::{Fraction, Head};
+pub use read::{ReadFault, read_event, read_head};
+pub use write::Writer;
+pub use written::Written;

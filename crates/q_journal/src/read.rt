@@ -9,11 +9,10 @@ use crate::body::body_of;
 use crate::head::Head;
 use crate::reader::Reader;
 use crate::written::Written;
-use bq_check::fault::NotesFault;
-use bq_insn::fault::DecodeFault;
+use bq_check::NotesFault;
+use bq_insn::DecodeFault;
 use reasons::passed_on;
-use sc_msg::fault::MessageFault;
-use sc_msg::version::Version;
+use sc_msg::{MessageFault, Version};
 use std::alloc::{AllocError, AllocFailed, Global};
 
 /// Why nothing is read.

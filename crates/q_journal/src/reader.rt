@@ -9,7 +9,7 @@ ghost use Rattle.q_journal.specs.Reading.{config_of, ids_bytes, AreIds};
 
 use crate::head::Fraction;
 use crate::read::ReadFault;
-use sc_msg::version::Version;
+use sc_msg::Version;
 use std::alloc::Global;
 
 /// The version that the fourth byte of a journal tells.

@@ -12,13 +12,11 @@ ghost use Rattle.q_journal.specs.Reading.{ids_bytes};
 ghost use Rattle.q_journal.specs.Writing.{with_more, record_lengths};
 ghost use Rattle.q_journal.specs.declared.written.Written.TheVariants as written;
 
-use bq_check::notes::Notes;
-use bq_insn::text::Text;
-use sc_members::config::Config;
-use sc_msg::encode::encode_fitting;
-use sc_msg::message::Message;
-use sc_msg::version::Version;
-use sc_view::value::Value;
+use bq_check::Notes;
+use bq_insn::Text;
+use sc_members::Config;
+use sc_msg::{Message, Version, encode_fitting};
+use sc_view::Value;
 use std::alloc::{AllocError, Global};
 use std::marker::Model;
 
@@ -194,7 +192,7 @@ impl Writer {
         ensures legal { OnOk result (IsWritten self.old.version (written.Register text.now notes.now)) }
         ensures spelled { OnOk result (self.new ≡ with_more self.old (event_bytes self.old.version (written.Register text.now notes.now))) }
     {
-        let spelling = bq_insn::encode::encode(self.alloc, text)?;
+        let spelling = bq_insn::encode(self.alloc, text)?;
         let notes = spelled_notes(self.alloc, self.version, notes)?;
         self.out.front(2, 4 + spelling.len() + notes.len())?;
         self.out.word(spelling.len() as u32)?;

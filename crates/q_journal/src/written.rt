@@ -1,9 +1,9 @@
 //! Events as a journal holds them.
 
-use bq_check::notes::Notes;
-use bq_insn::text::Text;
-use sc_msg::message::Message;
-use sc_view::value::Value;
+use bq_check::Notes;
+use bq_insn::Text;
+use sc_msg::Message;
+use sc_view::Value;
 
 /// An event of a node as a journal holds it.
 #[derive(Drop)]

@@ -8,11 +8,10 @@ ghost use Rattle.q_kept.specs.Questions.{due, due_of, kept_questions, looked_at,
 
 use crate::letter::{Letter, push_letter};
 use crate::question::{Question, asking_phase, count_looks, drop_answered};
-use q_held::held::Held;
-use sc_msg::message::{Body, Message};
-use sc_msg::version::Version;
-use sc_node::node::Node;
-use sc_operations::session::Phase;
+use q_held::Held;
+use sc_msg::{Body, Message, Version};
+use sc_node::Node;
+use sc_operations::Phase;
 use std::alloc::{AllocError, Global};
 
 /// Puts letters of a message behind others: one to each of these nodes that the phase has not counted. At Err only
@@ -39,8 +38,8 @@ fn push_uncounted(
     Ok(())
 }
 
-/// Puts letters of a question behind others, if it is due: one to each node to which it goes, or one to all. At Err only
-/// the first of them.
+/// Puts letters of a question behind others, if it is due: one to each node to which it goes, or one to all. At Err
+/// only the first of them.
 fn push_question(
     alloc: Global,
     version: Version,

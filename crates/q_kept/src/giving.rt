@@ -7,11 +7,8 @@ ghost use Rattle.q_kept.specs.Questions.{goes_again, new_question};
 
 use crate::letter::{Letter, push_letter};
 use crate::question::{Question, goes_again};
-use q_held::addressee::addressee;
-use q_held::held::Held;
-use q_held::losses::Unsent;
-use sc_msg::message::Message;
-use sc_msg::version::Version;
+use q_held::{Held, Unsent, addressee};
+use sc_msg::{Message, Version};
 use std::alloc::{AllocError, Global};
 use std::mem;
 

@@ -15,10 +15,8 @@ use crate::again::ask_again;
 use crate::giving::give_waiting;
 use crate::letter::Letter;
 use crate::question::Question;
-use q_held::held::Held;
-use q_recorder::fault::Unrecorded;
-use q_recorder::file::JournalFile;
-use q_recorder::recorder::Recorder;
+use q_held::Held;
+use q_recorder::{JournalFile, Recorder, Unrecorded};
 use std::alloc::Global;
 
 /// A node's book with the messages that wait, the recorder of its journal, and what goes again.
@@ -87,8 +85,8 @@ impl<'b, J: JournalFile> Kept<'b, J> {
 
     /// What goes again at this look, since datagrams are lost: what open operations still wait for, each to those of
     /// these nodes that it has not counted; an enter until the node has joined, and a join and a leave three times, to
-    /// all. A question goes again at looks 1, 2, 4, 8 .. since it was given. A letter for which memory is short, and those
-    /// behind it, do not go at this look. Nothing goes where a write failed.
+    /// all. A question goes again at looks 1, 2, 4, 8 .. since it was given. A letter for which memory is short, and
+    /// those behind it, do not go at this look. Nothing goes where a write failed.
     pub fn again(&mut self, alloc: Global, nodes: &[u64]) -> Vec<Letter>
         // Each letter is of a message that was given before, and goes to a node that its operation has not counted; or to
         // all, where the node tells of itself.

@@ -4,9 +4,7 @@ ghost use Rattle.std.specs.Prelude.{◌≡◌, [], ◌∷◌, IfOk, OnOk, OnErr}
 ghost use Rattle.sc_msg.specs.Lengths.{Fits};
 ghost use Rattle.q_kept.specs.Letters.{AddsAll, Spells, message_to};
 
-use sc_msg::encode::encode_fitting;
-use sc_msg::message::Message;
-use sc_msg::version::Version;
+use sc_msg::{Message, Version, encode_fitting};
 use std::alloc::{AllocError, Global};
 
 /// A message as bytes, and where it goes.

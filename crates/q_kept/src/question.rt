@@ -4,10 +4,9 @@ ghost use Rattle.std.specs.Prelude.{◌≡◌, IsTrue, option_copied, map};
 ghost use Rattle.sc_msg.specs.Lengths.{Fits};
 ghost use Rattle.q_kept.specs.Questions.{asking_phase, goes_again, is_due, is_kept, kept_questions, looked_at, new_question};
 
-use sc_msg::message::{Body, Message};
-use sc_msg::version::Version;
-use sc_node::node::Node;
-use sc_operations::session::Phase;
+use sc_msg::{Body, Message, Version};
+use sc_node::Node;
+use sc_operations::Phase;
 
 /// A join and a leave go again three times: at looks 1, 2 and 4.
 const LAST_LOOK: u32 = 4;

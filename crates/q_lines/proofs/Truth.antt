@@ -14,7 +14,7 @@ use Rattle.q_desk.specs.State.{DeskState}
 use Rattle.q_desk.specs.Desks.{answer_in}
 use Rattle.q_book.specs.State.{BookState}
 use Rattle.q_cluster.specs.Acts.{booked}
-use Rattle.q_history.specs.declared.event.Event.{Event}
+use Rattle.q_history.specs.declared.event.ClusterEvent.{ClusterEvent}
 use Rattle.q_history.specs.Calls.{IsHistory, Reaches}
 use Rattle.q_history.specs.Clusters.{start}
 use Rattle.q_history.specs.Headline as headline
@@ -54,7 +54,7 @@ answered_by (Answered view r) ran e = (view, ap (Answered view) (same_some r ran
 
 -- each recorded answer of every history is true
 abbrev pub EveryAnswer : Type 0
-EveryAnswer = (version : Version) (config : Config) (founders : List ℕ) (events : List Event) (c : ClusterState) → Reaches (start version config founders) events c → headline.AnswersAreTrue c
+EveryAnswer = (version : Version) (config : Config) (founders : List ℕ) (events : List ClusterEvent) (c : ClusterState) → Reaches (start version config founders) events c → headline.AnswersAreTrue c
 
 true_answer : EveryAnswer → (c : ClusterState) (node query program start : ℕ) (q : Query) (ran : Ran) → IsHistory c → IsQueryOf c node query program start q → Some ran ≡ answer_in q.phase → IsTrueAnswer c node query program start ran
 true_answer law c node query program start q ran history is e =

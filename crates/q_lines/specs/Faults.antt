@@ -10,8 +10,8 @@ use Rattle.q_history.specs.Faults.{of_book}
 use Rattle.q_history.specs.declared.fault.ClusterFault.TheVariants as cluster
 use Rattle.q_sim.specs.Refusal as refusal_text
 use Rattle.q_sim.specs.declared.refusal.Refusal.TheVariants as refusal
-use Rattle.q_sim.specs.declared.refusal.Place.{Place}
-use Rattle.q_sim.specs.declared.refusal.Place.TheVariants.{Untold}
+use Rattle.q_sim.specs.declared.refusal.RefusalPlace.{RefusalPlace}
+use Rattle.q_sim.specs.declared.refusal.RefusalPlace.TheVariants.{Untold}
 use Rattle.sc_node.specs.declared.fault.NodeFault.TheVariants as node
 use Rattle.sc_world.specs.declared.fault.WorldFault.{WorldFault}
 use Rattle.sc_world.specs.declared.fault.WorldFault.TheVariants as world
@@ -52,7 +52,7 @@ reason TransportFailed = reasons.TransportFailed
 reason (Script r) = refusal_text.reason r
 
 -- where it arose, as its line tells it
-abbrev pub place : NodesFault → Place
+abbrev pub place : NodesFault → RefusalPlace
 place (Script r) = refusal_text.place r
 place f = Untold
 

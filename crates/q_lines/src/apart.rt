@@ -7,8 +7,8 @@ ghost use Rattle.q_lines.specs.Lines.{ComesTo, InTurn, IsNode, IsToldApart};
 use crate::outcome::Outcome;
 use crate::report::Report;
 use crate::script::{ClusterLine, node_of};
-use q_book::book::Book;
-use q_session::ran::Ran;
+use q_book::Book;
+use q_session::Ran;
 use std::alloc::{AllocError, Global};
 
 /// The book of this node.

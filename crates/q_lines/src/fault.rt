@@ -4,14 +4,14 @@ ghost use Rattle.std.specs.Prelude.{◌≡◌, Some};
 ghost use Rattle.q_lines.specs.Faults.{bad_founders, no_such_node, of_world, place, reason, text, of_fault, memory, of_gather};
 ghost use Rattle.q_sim.specs.Refusal.{refusal_of};
 
-use q_book::fault::BookFault;
-use q_files::files::FileFault;
-use q_gather::fault::GatherFault;
-use q_history::fault::ClusterFault;
-use q_sim::refusal::{Place, Refusal};
+use q_book::BookFault;
+use q_files::FileFault;
+use q_gather::GatherFault;
+use q_history::ClusterFault;
+use q_sim::{Refusal, RefusalPlace};
 use reasons::{Reason, told};
-use sc_node::fault::NodeFault;
-use sc_world::fault::WorldFault;
+use sc_node::NodeFault;
+use sc_world::WorldFault;
 use std::alloc::AllocError;
 use std::fmt;
 
@@ -49,11 +49,11 @@ impl NodesFault {
     }
 
     /// Where the refusal arose, as its line tells it.
-    pub fn place(&self) -> Place
+    pub fn place(&self) -> RefusalPlace
         ensures { result ≡ place self.now }
     {
         match self {
-            NodesFault::BadCount | NodesFault::TransportFailed => Place::Untold,
+            NodesFault::BadCount | NodesFault::TransportFailed => RefusalPlace::Untold,
             NodesFault::Script(refusal) => refusal.place(),
         }
     }

@@ -17,13 +17,12 @@ use crate::outcome::Outcome;
 use crate::places::Places;
 use crate::report::Report;
 use crate::script::{ClusterLine, program_id};
-use bq_insn::encode::encode;
-use q_cluster::cluster::Cluster;
-use q_session::query::Phase;
-use q_session::ran::Ran;
-use q_table::program::{Program, ProgramId};
-use sc_node::session::OperationKind;
-use sc_world::op::Op;
+use bq_insn::encode;
+use q_cluster::Cluster;
+use q_session::{Phase, Ran};
+use q_table::{Program, ProgramId};
+use sc_node::OperationKind;
+use sc_world::Op;
 use std::alloc::{AllocError, Global};
 
 /// Whether these bytes spell the program.

@@ -1,10 +1,10 @@
 //! Scripts of nodes that run in threads: what the calls of their lines come to, and what the lines tell of one cluster.
 //!
-//! There are no threads here, and no locks. A script ([`script`]) founds nodes and names calls of their books, one a
-//! line. What each call came to ([`outcome`]) is what some book of the line's node answered, the replay of its journal.
-//! Once the nodes have ended, their books are gathered into one cluster, and what a line tells ([`report`]) is looked
-//! up in it, by what its call came to ([`telling`]). How the run ends, and with which exit status, follows from that
-//! ([`ending`]).
+//! There are no threads here, and no locks. A script ([`ClusterScript`]) founds nodes and names calls of their books,
+//! one a line. What each call came to ([`Outcome`]) is what some book of the line's node answered, the replay of its
+//! journal. Once the nodes have ended, their books are gathered into one cluster, and what a line tells ([`Report`]) is
+//! looked up in it, by what its call came to ([`Telling`]). How the run ends, and with which exit status, follows from
+//! that ([`Ending`]).
 //!
 //! Proved of a run that ended with a gathered cluster (`IsWritten` in `specs/Runs.antt`): there is one cluster, a
 //! history of the founders 1 to N with the script's fractions, into which the books of the nodes gather, one of each,
@@ -31,14 +31,22 @@
 #![tactic(auto)]
 
 mod apart;
-pub mod ending;
-pub mod fault;
+mod ending;
+mod fault;
 mod found;
 pub mod laws;
-pub mod outcome;
-pub mod own;
+mod outcome;
+mod own;
 mod places;
-pub mod report;
-pub mod script;
-pub mod telling;
+mod report;
+mod script;
+mod telling;
 pub mod worked;
+
+pub use ending::{Ending, print_refusal, print_telling, print_untold};
+pub use fault::NodesFault;
+pub use outcome::Outcome;
+pub use own::{are_of_nodes, is_of};
+pub use report::{Report, Tally, texts};
+pub use script::{ClusterLine, ClusterScript, MOST_NODES, is_node, node_of, program_id};
+pub use telling::{Telling, tell};

@@ -1,10 +1,10 @@
 //! What the call of a line came to.
 
 use crate::fault::NodesFault;
-use q_table::program::ProgramId;
+use q_table::ProgramId;
 
 /// What the call of a line came to, as the book of its node answered it. What a line tells of it is a
-/// [`Report`](crate::report::Report).
+/// [`Report`](crate::Report).
 #[derive(Clone, Copy)]
 pub enum Outcome {
     /// It was refused; or the bytes of the line are no program, and no call was made.

@@ -4,7 +4,7 @@ ghost use Rattle.std.specs.Prelude.{length, MatchBool};
 ghost use Rattle.q_lines.specs.Books.{AreBooksOf, IsBookOf, IsOther};
 ghost use Rattle.q_lines.specs.Runs.{IsAstray};
 
-use q_book::book::Book;
+use q_book::Book;
 
 /// Whether this is the book of the node. Every book is the replay of its journal, and its recorded answers are right.
 pub fn is_of(book: &Book, node: u64) -> bool

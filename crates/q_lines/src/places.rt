@@ -7,7 +7,7 @@ ghost use Rattle.sc_world.specs.declared.op.Op.{Op as Record};
 ghost use Rattle.q_lines.specs.Found.{AreFiled, IsOnly};
 
 use indexmap::IndexMap;
-use sc_world::op::Op;
+use sc_world::Op;
 use std::alloc::{AllocError, Global};
 
 /// The place of the record of each operation in their list, by its node and its tag. So each is found at once, however

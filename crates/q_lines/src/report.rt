@@ -4,10 +4,10 @@ ghost use Rattle.std.specs.Prelude.{◌≡◌, ◌++◌, length, filter, IfOk, O
 ghost use Rattle.q_lines.specs.Lines.{answer_text, end_text, is_clean, is_refusal, is_unanswered, tally_of, text_of, texts_of};
 
 use crate::fault::NodesFault;
-use q_history::event::{Answer, Told};
-use q_session::ran::Ran;
-use q_sim::printing::print_told;
-use q_table::program::ProgramId;
+use q_history::{Answer, Told};
+use q_session::Ran;
+use q_sim::print_told;
+use q_table::ProgramId;
 use std::alloc::{AllocError, Global};
 
 /// What a line tells.

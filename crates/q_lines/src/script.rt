@@ -6,12 +6,10 @@ ghost use Rattle.q_lines.specs.Lines.{IsNode, node_of, program_id};
 ghost use Rattle.q_lines.specs.Scripts.{Fits, IsClusterScript, IsRefused, IsUnfit, bad_fraction, event_of};
 
 use crate::fault::NodesFault;
-use q_script::founding::Founding;
-use q_script::line::{Line, LineFault, ScriptLine};
-use q_script::script::read_script;
-use q_sim::refusal::Refusal;
-use q_table::program::ProgramId;
-use sc_members::config::Config;
+use q_script::{Founding, Line, LineFault, ScriptLine, read_script};
+use q_sim::Refusal;
+use q_table::ProgramId;
+use sc_members::Config;
 use std::alloc::Global;
 
 /// The most nodes that run in threads.

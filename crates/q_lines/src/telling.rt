@@ -14,10 +14,10 @@ use crate::found::find_all;
 use crate::outcome::Outcome;
 use crate::report::{Report, Tally, texts};
 use crate::script::ClusterScript;
-use q_book::book::Book;
-use q_cluster::cluster::Cluster;
-use q_gather::gather::gather_books;
-use sc_members::config::Config;
+use q_book::Book;
+use q_cluster::Cluster;
+use q_gather::gather_books;
+use sc_members::Config;
 use std::alloc::{AllocError, Global};
 
 /// What is to be printed of a run.

@@ -20,7 +20,7 @@ ghost use Rattle.q_script.specs.Records.{value_bytes};
 ghost use Rattle.q_script.specs.Script.{IsScriptOf};
 ghost use Rattle.q_sim.specs.Simulates.{HasFractions};
 ghost use Rattle.q_sim.specs.declared.refusal.Refusal.TheVariants as refusal;
-ghost use Rattle.q_sim.specs.declared.refusal.Place.TheVariants as place;
+ghost use Rattle.q_sim.specs.declared.refusal.RefusalPlace.TheVariants as place;
 ghost use Rattle.q_lines.specs.Books.{BeginsStore, IsBookOf, Registers};
 ghost use Rattle.q_lines.specs.Faults as faults;
 ghost use Rattle.q_lines.specs.Lines.{ComesTo, IsNode, IsQueryOf, IsTold, program_id, refused_line, tally_of, text_of};

@@ -1,26 +1,21 @@
 -- An entry that a node's book can take next is an event that its cluster accepts.
-use Rattle.std.proofs.Common.{◌≡◌, ℕ, ◌==◌, ◌&&◌, Bool, true, false, cond, List, [], ◌∷◌, ◌++◌, length, Option, Some, None, refl, sym, ap, ◌∙◌, subst, slice_get, Result, Ok, Err}
+use Rattle.std.proofs.Common.{◌≡◌, ℕ, ◌==◌, Bool, true, false, cond, List, [], ◌∷◌, ◌++◌, length, Option, Some, None, refl, sym, ap, ◌∙◌, subst, slice_get, Result, Ok, Err}
 use Rattle.std.specs.Prelude.{IfSome}
 use Rattle.std.proofs.lemmas.Bool.{eq-eqb}
 use Rattle.std.proofs.lemmas.List.{append-nil}
 use Rattle.std.proofs.lemmas.Option.{slice_get_read}
-use Rattle.std.proofs.lemmas.Slice.Eq.{bytes_eq-Decides}
-use Rattle.std.specs.Cmp.Lexicographic.{pointwise}
 use Rattle.std.specs.Ordering.{nat_cmp}
 use Rattle.std.specs.FinMap as fin
 use Rattle.std.specs.FinSet as set
-use Rattle.sc_view.specs.declared.view.Stored.{Stored}
 use Rattle.sc_view.specs.Views.{ViewMap}
 use Rattle.sc_msg.specs.declared.message.Message.{Message}
 use Rattle.sc_node.specs.State.{NodeState}
 use Rattle.sc_node.specs.declared.answer.Begun.{Begun}
-use Rattle.sc_world.specs.declared.event.Event.TheVariants as world_event
+use Rattle.sc_world.specs.declared.event.WorldEvent.TheVariants as world_event
 use Rattle.sc_world.specs.State.{past_of}
 use Rattle.sc_world.specs.Ledgers.{recorded}
-use Rattle.bq_insn.specs.Slots.{spelling}
 use Rattle.bq_meaning.proofs.Folding as folding
 use Rattle.bq_check.specs.Certificate.{Certificate}
-use Rattle.q_table.specs.Programs as table
 use Rattle.q_session.specs.Records.{view_records}
 use Rattle.q_session.specs.Right.{IsRight}
 use Rattle.q_session.specs.declared.ran.Ran.{Ran}
@@ -40,24 +35,26 @@ use Rattle.q_book.specs.Books as book
 use Rattle.q_book.specs.Replays.{Follows}
 use Rattle.q_book.specs.declared.answer.Asked.{Asked}
 use Rattle.q_book.specs.declared.answer.Taken.{Taken}
-use Rattle.q_history.specs.declared.event.Event.{Event}
-use Rattle.q_history.specs.declared.event.Event.TheVariants as event
+use Rattle.q_history.specs.declared.event.ClusterEvent.{ClusterEvent}
+use Rattle.q_history.specs.declared.event.ClusterEvent.TheVariants as event
 use Rattle.q_history.specs.State.{ClusterState}
 use Rattle.q_history.specs.Heads.{book_of}
 use Rattle.q_history.specs.Clusters.{at as at_node, enters, entered, registers, opened, asks, stores, delivers, delivered_as, hands, posts, posted, finished, leaves}
 use Rattle.q_history.specs.Calls.{Answers, IsHistory}
 use Rattle.q_history.proofs.Lists.{same_some, no_some}
-use Rattle.q_desk.proofs.Accepted.{Keeps, keeps_itself}
-use Rattle.q_book.proofs.Parts.{desk-parts}
+use Rattle.q_desk.proofs.Accepted.{Keeps, keeps_itself, IsPosted}
+use Rattle.bq_insn.specs.Slots.{spelling}
+use Rattle.q_table.specs.Programs as table
+use Rattle.q_desk.proofs.Own.{job_by, and_both, same_bytes, same_number, own_fits}
+use Rattle.q_book.proofs.Followed.{is_posted, posted-accepted, follows-accepted}
 use Rattle.q_history.proofs.EveryBook.{history_are}
 use Rattle.q_cluster.specs.Acts.{booked, book_at}
-use Rattle.q_cluster.proofs.Heads.{registered_keeps, handed_keeps, posted_keeps, asked_keeps, stored_keeps, delivered_keeps, left_keeps}
 use Rattle.q_merge.specs.Merging.{CanGo}
 use Rattle.q_merge.specs.Traces.{sent_by, gives, step_of}
-use Rattle.q_merge.specs.Turns.{IsJobFor, IsEventOf, IsNext, Makes}
-use Rattle.q_merge.proofs.Lists.{get_written}
-use Rattle.q_merge.proofs.Turning.{IsUp, is_up, is_open, call_says, put_turn, makes, head_of}
-use Rattle.q_merge.proofs.Jobs.{RunsOver, IsOut, IsAnsweredBy, posted_is}
+use Rattle.q_merge.specs.Turns.{IsJobFor, IsEventOf, IsNext, IsTurn, Makes}
+use Rattle.q_merge.proofs.Lists.{get-same}
+use Rattle.q_merge.proofs.Turning.{IsUp, is_up, IsHeadedAs, call_says, put_turn, makes, head_of}
+use Rattle.q_merge.proofs.Jobs.{RunsOver, IsOut}
 use Rattle.q_merge.proofs.EveryJob.{JobsOf, history_jobs}
 
 -- an answer that nobody asks for
@@ -66,55 +63,43 @@ nothing = record { acc = 0; steps = 0 }
 
 -- ---- calls that run no job
 
-module _ (c : ClusterState) (id : ℕ) (b d : BookState) (up : IsUp c id b) where
+module _ (c : ClusterState) (id : ℕ) (b d : BookState) (up : IsUp c id b) (headed : IsHeadedAs c id d) where
   leave_makes : (outs : List Message) → book.left b ≡ Ok (outs, d) → Makes c (event.Leave id) id d (gives b entry.Leave)
   leave_makes outs h =
       subst (Makes c (event.Leave id) id d) (sym (ap (sent_by (λ (x : List Message). x)) h))
       (makes c (event.Leave id) id d outs nothing (leaves c id outs d) tt (λ r _. call_says c id b up (leaves c id) book.left outs d h)
-      (put_turn c (recorded (past_of c.world) (world_event.Leave id) id outs None None) c.jobs id d outs (head_of c id b d up (left_keeps b outs d h)) refl))
+      (put_turn c (recorded (past_of c.world) (world_event.Leave id) id outs None None) c.jobs id d outs headed refl))
 
   register_makes : (program : Certificate) (n : ℕ) → book.registered b program ≡ Ok (n, d) → Makes c (event.Register id program) id d []
   register_makes program n h =
       makes c (event.Register id program) id d [] nothing (registers c id n d) tt (λ r _. call_says c id b up (registers c id) (λ x. book.registered x program) n d h)
-      (put_turn c (past_of c.world) c.jobs id d [] (head_of c id b d up (registered_keeps b program n d h)) (sym (append-nil c.world.sent)))
+      (put_turn c (past_of c.world) c.jobs id d [] headed (sym (append-nil c.world.sent)))
 
   ask_makes : (program start : ℕ) (a : Asked) → book.asked b program start ≡ Ok (a, d) → Makes c (event.Ask id program start) id d (gives b (entry.Ask program start))
   ask_makes program start a h =
       subst (Makes c (event.Ask id program start) id d) (sym (ap (sent_by (λ (x : Asked). x.begun.outs)) h))
       (makes c (event.Ask id program start) id d a.begun.outs nothing (asks c id a d) tt (λ r _. call_says c id b up (asks c id) (λ x. book.asked x program start) a d h)
-      (put_turn c (recorded (past_of c.world) (world_event.Collect id) id a.begun.outs None (opened a.begun)) c.jobs id d a.begun.outs (head_of c id b d up (asked_keeps b program start a d h)) refl))
+      (put_turn c (recorded (past_of c.world) (world_event.Collect id) id a.begun.outs None (opened a.begun)) c.jobs id d a.begun.outs headed refl))
 
   store_makes : (value : List ℕ) (a : Begun) → book.stored b value ≡ Ok (a, d) → Makes c (event.Store id value) id d (gives b (entry.Store value))
   store_makes value a h =
       subst (Makes c (event.Store id value) id d) (sym (ap (sent_by (λ (x : Begun). x.outs)) h))
       (makes c (event.Store id value) id d a.outs nothing (stores c id value a d) tt (λ r _. call_says c id b up (stores c id value) (λ x. book.stored x value) a d h)
-      (put_turn c (recorded (past_of c.world) (world_event.Store id value) id a.outs None (opened a)) c.jobs id d a.outs (head_of c id b d up (stored_keeps b value a d h)) refl))
+      (put_turn c (recorded (past_of c.world) (world_event.Store id value) id a.outs None (opened a)) c.jobs id d a.outs headed refl))
 
   deliver_makes : (m : Message) (number : ℕ) (a : Taken) → slice_get c.world.sent number ≡ Some m → book.delivered b m ≡ Ok (a, d) → Makes c (event.Deliver number id) id d (gives b (entry.Deliver m))
   deliver_makes m number a at h =
       subst (Makes c (event.Deliver number id) id d) (sym (ap (sent_by (λ (x : Taken). x.outs)) h))
       (makes c (event.Deliver number id) id d a.outs nothing (delivers c number id a d) tt
       (λ r _. ap (λ (o : Option Message). at_node c id (λ x. delivered_as c number id x o)) at ∙ call_says c id b up (delivers c number id) (λ x. book.delivered x m) a d h)
-      (put_turn c (recorded (past_of c.world) (world_event.Deliver number id) id a.outs a.progress None) c.jobs id d a.outs (head_of c id b d up (delivered_keeps b m a d h)) refl))
+      (put_turn c (recorded (past_of c.world) (world_event.Deliver number id) id a.outs a.progress None) c.jobs id d a.outs headed refl))
 
   hand_out_makes : (j : Job) → book.handed_out b ≡ Ok (Some j, d) → Makes c (event.HandOut id) id d []
   hand_out_makes j h =
       makes c (event.HandOut id) id d [] nothing (hands c id (Some j) d) tt (λ r _. call_says c id b up (hands c id) book.handed_out (Some j) d h)
-      (put_turn c (past_of c.world) (c.jobs ++ j ∷ []) id d [] (head_of c id b d up (handed_keeps b (Some j) d h)) (sym (append-nil c.world.sent)))
+      (put_turn c (past_of c.world) (c.jobs ++ j ∷ []) id d [] headed (sym (append-nil c.world.sent)))
 
 -- ---- an answer
-
-both_true : (a b : Bool) → a ≡ true → b ≡ true → (a && b) ≡ true
-both_true true b p q = q
-both_true false b p q = p
-
-entry_same : (e : ℕ × Stored) → desk.is_same_entry e e ≡ true
-entry_same e =
-    both_true (e.0 == e.0) _ (eq-eqb e.0 e.0 refl) (both_true (e.1.number == e.1.number) _ (eq-eqb e.1.number e.1.number refl) ((bytes_eq-Decides e.1.value e.1.value).1 refl))
-
-entries_same : (es : List (ℕ × Stored)) → pointwise desk.is_same_entry es es ≡ true
-entries_same [] = refl
-entries_same (e ∷ es) = both_true (desk.is_same_entry e e) _ (entry_same e) (entries_same es)
 
 -- a job of the query passes
 module _ (programs : List Certificate) (queries : List Query) (j : Job) (o : IsOut programs queries j) (q : Query) (view : ViewMap) (at : slice_get queries j.query ≡ Some q) (phase : q.phase ≡ Running view) where
@@ -133,18 +118,16 @@ module _ (programs : List Certificate) (queries : List Query) (j : Job) (o : IsO
   its_certificate : slice_get programs q.program ≡ Some j.certified
   its_certificate = ap (slice_get programs) its_program ∙ o.certified
 
-  same_view : desk.is_same_view j.view view ≡ true
-  same_view = ap (λ (v : ViewMap). desk.is_same_view j.view v) its_view ∙ entries_same (fin.entries j.view)
+  its_job : job_by j.node j.query q view j.certified ≡ j
+  its_job i = record { node = j.node; query = j.query; program = its_program i; start = its_start i; certified = j.certified; view = its_view i }
 
-  same_program : desk.is_same_program j.certified (slice_get programs q.program) ≡ true
-  same_program =
-      ap (desk.is_same_program j.certified) its_certificate
-      ∙ both_true (table.is_same_text j.certified.text j.certified.text) _ ((bytes_eq-Decides (spelling j.certified.text) (spelling j.certified.text)).1 refl) (eq-eqb j.certified.longest j.certified.longest refl)
+  same_program : desk.is_same_program j.certified (Some j.certified) ≡ true
+  same_program = and_both (table.is_same_text j.certified.text j.certified.text) _ (same_bytes (spelling j.certified.text)) (same_number j.certified.longest)
 
   job_passes : desk.is_job_of programs j q view ≡ true
   job_passes =
-      both_true (j.program == q.program) _ (eq-eqb j.program q.program (sym its_program))
-      (both_true (j.start == q.start) _ (eq-eqb j.start q.start (sym its_start)) (both_true (desk.is_same_view j.view view) _ same_view same_program))
+      subst (λ (x : Job). desk.is_job_of programs x q view ≡ true) its_job
+      (own_fits programs j.node j.query q view j.certified its_certificate same_program)
 
 abbrev pub Posted : Type 0
 Posted = Result (Unit {0} × DeskState) DeskFault
@@ -174,23 +157,20 @@ pub record IsRightLater (d : DeskState) : Type 0 where
 -- the answer that a book recorded is right of the job that the cluster has for its query
 module _ (c : ClusterState) (b d : BookState) (ran : Ran) (i j : Job) (up : IsUp c j.node b) (own : b.id ≡ j.node) (same : j.query ≡ i.query) (h : book.posted b i ran ≡ Ok (tt, d)) (o : IsOut b.desk.programs b.desk.queries j)
     (right : IsRightLater d.desk) where
-  parts : (e : Unit {0} × DeskState) × (desk.posted b.desk b.id i ran ≡ Ok e) × ◌≡◌ {A = Unit {0} × BookState} (e.0, record b { desk = e.1 }) (tt, d)
-  parts = desk-parts b (desk.posted b.desk b.id i ran) (tt, d) h
+  was_posted : ((i.node == b.id) ≡ true) × IsPosted b.desk i ran d.desk
+  was_posted = is_posted b i ran d h
 
-  by : IsAnsweredBy b.desk b.id i ran parts.0.1
-  by = posted_is b.desk b.id i ran parts.0 parts.1
-
-  desk_is : parts.0.1 ≡ d.desk
-  desk_is = ap (λ (z : Unit {0} × BookState). z.1.desk) parts.2
+  by : IsPosted b.desk i ran d.desk
+  by = was_posted.1
 
   here : slice_get b.desk.queries j.query ≡ Some by.query
   here = ap (slice_get b.desk.queries) same ∙ by.at
 
   recorded_there : slice_get d.desk.queries i.query ≡ Some (record by.query { phase = Answered by.view ran })
   recorded_there =
-      ap (λ (x : DeskState). slice_get x.queries i.query) (sym desk_is) ∙ ap (λ (x : List Query). slice_get x i.query) by.queries
+      ap (λ (x : DeskState). slice_get x.queries i.query) (sym by.is)
       ∙ ap (λ (x : Option Query). slice_get (desk.in_phase b.desk.queries i.query (Answered by.view ran) x) i.query) by.at
-      ∙ get_written b.desk.queries i.query by.query (record by.query { phase = Answered by.view ran }) by.at
+      ∙ get-same b.desk.queries i.query by.query (record by.query { phase = Answered by.view ran }) by.at
 
   answered : IsAnswered right.later (record by.query { phase = Answered by.view ran }) by.view ran
   answered =
@@ -198,7 +178,7 @@ module _ (c : ClusterState) (b d : BookState) (ran : Ran) (i j : Job) (up : IsUp
       right.right i.query q by.view ran (right.keeps.answers i.query q by.view ran recorded_there refl) refl
 
   programs : d.desk.programs ≡ b.desk.programs
-  programs = ap (λ (x : DeskState). x.programs) (sym desk_is) ∙ by.programs
+  programs = ap (λ (x : DeskState). x.programs) (sym by.is)
 
   certificate : answered.program ≡ j.certified
   certificate =
@@ -222,7 +202,7 @@ module _ (c : ClusterState) (b d : BookState) (ran : Ran) (i j : Job) (up : IsUp
   posts_too : book.posted b j ran ≡ Ok (tt, d)
   posts_too =
       ap (λ (x : Posted). book.here b (book.by_desk (book.with_desk b) x))
-      (same_post b.desk b.id i j ran by.query by.view same by.at by.phase by.own (eq-eqb j.node b.id (sym own))
+      (same_post b.desk b.id i j ran by.query by.view same by.at by.phase was_posted.0 (eq-eqb j.node b.id (sym own))
       by.fits (job_passes b.desk.programs b.desk.queries j o by.query by.view here by.phase))
       ∙ h
 
@@ -232,7 +212,7 @@ module _ (c : ClusterState) (b d : BookState) (ran : Ran) (i j : Job) (up : IsUp
       (λ r other. ap (finished c r) at
       ∙ ap (λ (x : Ran). at_node c j.node (posted c j x)) (sym (one_answer r (subst (λ (x : Option Job). IfSome x (λ k. Answers k r)) at other)))
       ∙ call_says c j.node b up (posts c j ran) (λ x. book.posted x j ran) tt d posts_too)
-      (put_turn c (past_of c.world) c.jobs j.node d [] (head_of c j.node b d up (posted_keeps b j ran tt d posts_too)) (sym (append-nil c.world.sent)))
+      (put_turn c (past_of c.world) c.jobs j.node d [] (head_of c j.node b d up (posted-accepted b j ran d posts_too).same) (sym (append-nil c.world.sent)))
 
 -- ---- every entry
 
@@ -250,18 +230,24 @@ post_makes c id b d query ran i number are up right of h it =
     subst (λ (x : ℕ). Makes c (event.Finish number) x d []) it.by
     (finish_makes c b d ran i j (subst (λ (x : ℕ). IsUp c x b) (sym it.by) up) (ap (λ (x : BookState). x.id) (sym up.is) ∙ sym it.by) (it.of ∙ sym of) h (job_is_out c id b are up number j it.at it.by) right number it.at)
 
-pub entry_makes : (c : ClusterState) (id : ℕ) (b d : BookState) (e : Entry) (ev : Event) → JobsOf c → IsUp c id b → IsRightLater d.desk → Follows b e d → IsEventOf c id e ev → Makes c ev id d (gives b e)
-entry_makes c id b d entry.Leave ev are up right f is = subst (λ (x : Event). Makes c x id d (gives b entry.Leave)) (sym is) (leave_makes c id b d up f.0 f.1)
-entry_makes c id b d (entry.Register program) ev are up right f is = subst (λ (x : Event). Makes c x id d []) (sym is) (register_makes c id b d up program f.0 f.1)
-entry_makes c id b d (entry.Ask program start) ev are up right f is = subst (λ (x : Event). Makes c x id d (gives b (entry.Ask program start))) (sym is) (ask_makes c id b d up program start f.0 f.1)
-entry_makes c id b d (entry.Store value) ev are up right f is = subst (λ (x : Event). Makes c x id d (gives b (entry.Store value))) (sym is) (store_makes c id b d up value f.0 f.1)
-entry_makes c id b d (entry.Deliver m) ev are up right f is = subst (λ (x : Event). Makes c x id d (gives b (entry.Deliver m))) (sym is.2) (deliver_makes c id b d up m is.0 f.0 is.1 f.1)
-entry_makes c id b d entry.HandOut ev are up right f is = subst (λ (x : Event). Makes c x id d []) (sym is) (hand_out_makes c id b d up f.0 f.1)
-entry_makes c id b d (entry.Post query ran) ev are up right f is =
-    subst (λ (x : Event). Makes c x id d []) (sym is.2) (post_makes c id b d query ran f.0 is.0 are up right f.1 f.3 is.1)
+pub entry_makes : (c : ClusterState) (id : ℕ) (b d : BookState) (e : Entry) (ev : ClusterEvent) → JobsOf c → IsUp c id b → IsRightLater d.desk → Follows b e d
+    → IsEventOf c id e ev → Makes c ev id d (gives b e)
+entry_makes c id b d e ev are up right f is = go e (head_of c id b d up (follows-accepted b e d f).same) f is
+  where
+    go : (e : Entry) → IsHeadedAs c id d → Follows b e d → IsEventOf c id e ev → Makes c ev id d (gives b e)
+    go entry.Leave head f is = subst (λ (x : ClusterEvent). Makes c x id d (gives b entry.Leave)) (sym is) (leave_makes c id b d up head f.0 f.1)
+    go (entry.Register program) head f is = subst (λ (x : ClusterEvent). Makes c x id d []) (sym is) (register_makes c id b d up head program f.0 f.1)
+    go (entry.Ask program start) head f is =
+        subst (λ (x : ClusterEvent). Makes c x id d (gives b (entry.Ask program start))) (sym is) (ask_makes c id b d up head program start f.0 f.1)
+    go (entry.Store value) head f is = subst (λ (x : ClusterEvent). Makes c x id d (gives b (entry.Store value))) (sym is) (store_makes c id b d up head value f.0 f.1)
+    go (entry.Deliver m) head f is =
+        subst (λ (x : ClusterEvent). Makes c x id d (gives b (entry.Deliver m))) (sym is.2) (deliver_makes c id b d up head m is.0 f.0 is.1 f.1)
+    go entry.HandOut head f is = subst (λ (x : ClusterEvent). Makes c x id d []) (sym is) (hand_out_makes c id b d up head f.0 f.1)
+    go (entry.Post query ran) head f is =
+        subst (λ (x : ClusterEvent). Makes c x id d []) (sym is.2) (post_makes c id b d query ran f.0 is.0 are up right f.1 f.3 is.1)
 
 -- where what an entry wants was sent, there is such an event
-pub entry_event : (c : ClusterState) (id : ℕ) (b d : BookState) (e : Entry) → JobsOf c → IsUp c id b → Follows b e d → CanGo c.world.sent (step_of b e) → (ev : Event) × IsEventOf c id e ev
+pub entry_event : (c : ClusterState) (id : ℕ) (b d : BookState) (e : Entry) → JobsOf c → IsUp c id b → Follows b e d → CanGo c.world.sent (step_of b e) → (ev : ClusterEvent) × IsEventOf c id e ev
 entry_event c id b d entry.Leave are up f can = (event.Leave id, refl)
 entry_event c id b d (entry.Register program) are up f can = (event.Register id program, refl)
 entry_event c id b d (entry.Ask program start) are up f can = (event.Ask id program start, refl)
@@ -269,8 +255,7 @@ entry_event c id b d (entry.Store value) are up f can = (event.Store id value, r
 entry_event c id b d (entry.Deliver m) are up f can = (event.Deliver can.0 id, (can.0, slice_get_read c.world.sent (length c.world.sent) can.0 m refl can.1 (sym can.2), refl))
 entry_event c id b d entry.HandOut are up f can = (event.HandOut id, refl)
 entry_event c id b d (entry.Post query ran) are up f can =
-    let p = desk-parts b (desk.posted b.desk b.id f.0 ran) (tt, d) f.3 in
-    let a = posted_is b.desk b.id f.0 ran p.0 p.1 in
+    let a = (is_posted b f.0 ran d f.3).1 in
     let desk_is : up.desk ≡ b.desk = ap (λ (x : BookState). x.desk) up.is in
     let h = are.jobs.all id up.desk f.0.query a.query a.view up.here (ap (λ (x : DeskState). slice_get x.queries f.0.query) desk_is ∙ a.at) a.phase in
     (event.Finish h.number, (h.number, subst (λ (k : ℕ). IsJobFor c.jobs id k h.number) f.1 h.is, refl))
@@ -294,29 +279,27 @@ nobody_at c id h absent =
 
 -- ---- as laws
 
-follows_open : (b d : BookState) (e : Entry) → Follows b e d → b.node.gone ≡ false
-follows_open b d entry.Leave f = is_open b _ (f.0, d) f.1
-follows_open b d (entry.Register program) f = is_open b _ (f.0, d) f.1
-follows_open b d (entry.Ask program start) f = is_open b _ (f.0, d) f.1
-follows_open b d (entry.Store value) f = is_open b _ (f.0, d) f.1
-follows_open b d (entry.Deliver m) f = is_open b _ (f.0, d) f.1
-follows_open b d entry.HandOut f = is_open b _ (Some f.0, d) f.1
-follows_open b d (entry.Post query ran) f = is_open b _ (tt, d) f.3
-
 pub next_up : (c : ClusterState) (id : ℕ) (b d : BookState) (e : Entry) → IsNext c id b e d → IsUp c id b
-next_up c id b d e n = is_up c id b n.book n.stays (follows_open b d e n.takes)
+next_up c id b d e n = is_up c id b n.book n.stays (follows-accepted b e d n.takes).there
 
-pub next_event : (c : ClusterState) (id : ℕ) (b d : BookState) (e : Entry) → IsHistory c → IsNext c id b e d → CanGo c.world.sent (step_of b e) → (ev : Event) × IsEventOf c id e ev
+pub next_event : (c : ClusterState) (id : ℕ) (b d : BookState) (e : Entry) → IsHistory c → IsNext c id b e d → CanGo c.world.sent (step_of b e) → (ev : ClusterEvent) × IsEventOf c id e ev
 next_event c id b d e h n can = entry_event c id b d e (history_jobs c h) (next_up c id b d e n) n.takes can
 
-pub next_makes : (c : ClusterState) (id : ℕ) (b d : BookState) (e : Entry) (ev : Event) → IsHistory c → IsNext c id b e d → AnswersAreRight d.desk → IsEventOf c id e ev → Makes c ev id d (gives b e)
+pub next_makes : (c : ClusterState) (id : ℕ) (b d : BookState) (e : Entry) (ev : ClusterEvent) → IsHistory c → IsNext c id b e d → AnswersAreRight d.desk → IsEventOf c id e ev → Makes c ev id d (gives b e)
 next_makes c id b d e ev h n right is =
     entry_makes c id b d e ev (history_jobs c h) (next_up c id b d e n) (record { later = d.desk; keeps = keeps_itself d.desk; right = right }) n.takes is
 
 -- a node that was never there enters
-pub enter_makes : (c : ClusterState) (id : ℕ) → IsHistory c → book_at c id ≡ None → Makes c (event.Enter id) id (book.entered c.version c.world.config id).0 (book.entered c.version c.world.config id).1
+pub enter_turn : (c : ClusterState) (id : ℕ) → IsHistory c → fin.get c.world.nodes id ≡ None
+    → (let e = book.entered c.version c.world.config id in IsTurn c id e.0 e.1 (enters c id e).1)
+enter_turn c id h none =
+    let e = book.entered c.version c.world.config id in
+    put_turn c (recorded (past_of c.world) (world_event.Enter id) id e.1 None None) c.jobs id e.0 e.1
+    (refl, refl, refl, no_founder c id h none (set.contains (set.from_list {R = nat_cmp} c.world.founders) id) refl) refl
+
+pub enter_makes : (c : ClusterState) (id : ℕ) → IsHistory c → book_at c id ≡ None
+    → Makes c (event.Enter id) id (book.entered c.version c.world.config id).0 (book.entered c.version c.world.config id).1
 enter_makes c id h absent =
     let e = book.entered c.version c.world.config id in
     let none = nobody_at c id h absent in
-    makes c (event.Enter id) id e.0 e.1 nothing (enters c id e) tt (λ r _. ap (entered c id) none)
-    (put_turn c (recorded (past_of c.world) (world_event.Enter id) id e.1 None None) c.jobs id e.0 e.1 (refl, refl, refl, no_founder c id h none (set.contains (set.from_list {R = nat_cmp} c.world.founders) id) refl) refl)
+    makes c (event.Enter id) id e.0 e.1 nothing (enters c id e) tt (λ r _. ap (entered c id) none) (enter_turn c id h none)

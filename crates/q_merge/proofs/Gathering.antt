@@ -10,8 +10,8 @@ use Rattle.q_desk.specs.declared.journal.Entry.{Entry}
 use Rattle.q_book.specs.State.{BookState}
 use Rattle.q_book.specs.Books as book
 use Rattle.q_book.specs.Replays.{IsFirst}
-use Rattle.q_history.specs.declared.event.Event.{Event}
-use Rattle.q_history.specs.declared.event.Event.TheVariants as event
+use Rattle.q_history.specs.declared.event.ClusterEvent.{ClusterEvent}
+use Rattle.q_history.specs.declared.event.ClusterEvent.TheVariants as event
 use Rattle.q_history.specs.State.{ClusterState}
 use Rattle.q_history.specs.Calls.{IsHistory}
 use Rattle.q_history.proofs.Lists.{same_some, get_elsewhere}
@@ -22,16 +22,17 @@ use Rattle.q_merge.specs.Traces.{step_of, IsTraceFrom, entering, IsTrace}
 use Rattle.q_merge.specs.Turns.{IsEventOf, IsNext, IsTurn, Makes}
 use Rattle.q_merge.specs.Gathered.{HasBook, IsGathered, IsAt, IsUnderWay, Goes}
 use Rattle.q_merge.specs.Gathered.IsAt.{Away, There}
-use Rattle.q_merge.proofs.Lists.{get_written, get_after}
+use Rattle.q_merge.proofs.Lists.{get-same, get_after}
 use Rattle.q_merge.proofs.Merging.{same_first}
 use Rattle.q_merge.proofs.EveryJob.{history_jobs}
 use Rattle.q_merge.proofs.Entries.{next_up, next_event, entry_makes, enter_makes}
-use Rattle.q_merge.proofs.Keeping.{trace_keeps}
+use Rattle.q_book.proofs.Replays.{replays_later}
+use Rattle.q_merge.proofs.Keeping.{trace_replays}
 
 -- ---- one node
 
 -- the event takes the first step of this node, and from its book on these entries are left
-pub record NodeGoes (c : ClusterState) (whole : BookState) (s : Step Message) (rest : List (Step Message)) (event : Event) (left : List Entry) : Type 0 where
+pub record NodeGoes (c : ClusterState) (whole : BookState) (s : Step Message) (rest : List (Step Message)) (event : ClusterEvent) (left : List Entry) : Type 0 where
   pub book : BookState
   pub makes : Makes c event whole.id book s.gives
   pub trace : IsTraceFrom book left rest whole
@@ -66,7 +67,7 @@ module _ (c : ClusterState) (whole : BookState) (s : Step Message) (rest : List 
     }
 
     -- the node takes its next entry, which is this event
-    pub entry_goes : AnswersAreRight whole.desk → (ev : Event) → IsEventOf c whole.id e ev → NodeGoes c whole s rest ev es
+    pub entry_goes : AnswersAreRight whole.desk → (ev : ClusterEvent) → IsEventOf c whole.id e ev → NodeGoes c whole s rest ev es
     entry_goes right ev is =
         let parts = same_first s (step_of b e) rest t.2 t.3 in
         record {
@@ -74,22 +75,22 @@ module _ (c : ClusterState) (whole : BookState) (s : Step Message) (rest : List 
           makes =
               subst (Makes c ev whole.id t.0) (sym (ap (λ (x : Step Message). x.gives) parts.0))
               (entry_makes c whole.id b t.0 e ev (history_jobs c h) (next_up c whole.id b t.0 e is_next)
-              (record { later = whole.desk; keeps = trace_keeps es t.0 t.2 whole t.4; right = right }) t.1 is);
+              (record { later = whole.desk; keeps = (replays_later es t.0 whole (trace_replays es t.0 whole t.2 t.4)).keeps; right = right }) t.1 is);
           trace = subst (λ (x : List (Step Message)). IsTraceFrom t.0 es x whole) (sym parts.1) t.4;
         }
 
     -- and there is one where it can go
-    pub entry_event : CanGo c.world.sent s → (ev : Event) × IsEventOf c whole.id e ev
+    pub entry_event : CanGo c.world.sent s → (ev : ClusterEvent) × IsEventOf c whole.id e ev
     entry_event can = next_event c whole.id b t.0 e h is_next (subst (CanGo c.world.sent) (same_first s (step_of b e) rest t.2 t.3).0 can)
 
   module _ (nobody : c.world.crashed ≡ set.empty) (right : AnswersAreRight whole.desk) (can : CanGo c.world.sent s) where
-    entries_go : (left : List Entry) (b : BookState) → book_at c whole.id ≡ Some b → IsTraceFrom b left (s ∷ rest) whole → (ev : Event) × (rests : List Entry) × NodeGoes c whole s rest ev rests
+    entries_go : (left : List Entry) (b : BookState) → book_at c whole.id ≡ Some b → IsTraceFrom b left (s ∷ rest) whole → (ev : ClusterEvent) × (rests : List Entry) × NodeGoes c whole s rest ev rests
     entries_go [] b at t = absurd (no_first s rest (sym t.0))
     entries_go (e ∷ es) b at t =
         let ev = entry_event nobody e es b at t can in
         (ev.0, es, entry_goes nobody e es b at t right ev.0 ev.1)
 
-    node_goes : (left : List Entry) → whole.version ≡ c.version → whole.config ≡ c.world.config → IsAt c whole left (s ∷ rest) → (ev : Event) × (rests : List Entry) × NodeGoes c whole s rest ev rests
+    node_goes : (left : List Entry) → whole.version ≡ c.version → whole.config ≡ c.world.config → IsAt c whole left (s ∷ rest) → (ev : ClusterEvent) × (rests : List Entry) × NodeGoes c whole s rest ev rests
     node_goes left its same (Away absent none is t) = (event.Enter whole.id, whole.desk.journal, enter_goes its same absent none t)
     node_goes left its same (There b at t) = entries_go left b at t
 
@@ -109,19 +110,19 @@ module _ (books : List BookState) (c : ClusterState) (lists : List (List (Step M
   placed : IsPlaced c lists k whole
   placed = u.at k whole mine
 
-  now : CanGo c.world.sent s → (ev : Event) × (left : List Entry) × NodeGoes c whole s rest ev left
+  now : CanGo c.world.sent s → (ev : ClusterEvent) × (left : List Entry) × NodeGoes c whole s rest ev left
   now can =
       node_goes c whole s rest u.history u.nobody (u.right k whole mine) can placed.2 (u.versions k whole mine) (u.same k whole mine)
       (subst (IsAt c whole placed.2) (same_some placed.0 (s ∷ rest) (sym placed.1 ∙ at)) placed.3)
 
-  module _ (ev : Event) (left : List Entry) (g : NodeGoes c whole s rest ev left) where
+  module _ (ev : ClusterEvent) (left : List Entry) (g : NodeGoes c whole s rest ev left) where
     module _ (later : ClusterState) (turn : IsTurn c whole.id g.book s.gives later) where
       placed_by : (i : ℕ) (b : BookState) (same : Bool) → (i == k) ≡ same → slice_get books i ≡ Some b → IsPlaced later (slice_set lists k rest) i b
       placed_by i b true is here =
           let place : i ≡ k = eqb-true i k is in
           let one : whole ≡ b = same_some whole b (sym mine ∙ ap (slice_get books) (sym place) ∙ here) in
           subst (IsPlaced later (slice_set lists k rest) i) one
-          (rest, ap (slice_get (slice_set lists k rest)) place ∙ get_written lists k (s ∷ rest) rest at, left, There g.book turn.book g.trace)
+          (rest, ap (slice_get (slice_set lists k rest)) place ∙ get-same lists k (s ∷ rest) rest at, left, There g.book turn.book g.trace)
       placed_by i b false is here =
           let away : i ≡ k → ⊥ = eqb-false i k is in
           let p = u.at i b here in
@@ -160,12 +161,12 @@ module _ (books : List BookState) (c : ClusterState) (lists : List (List (Step M
       sent = λ told later f. (g.makes.turns told later f).sent;
     }
 
-  step_by : CanGo c.world.sent s → (ev : Event) × Goes books c lists k s rest ev
+  step_by : CanGo c.world.sent s → (ev : ClusterEvent) × Goes books c lists k s rest ev
   step_by can = let g = now can in (g.0, goes_by g.0 g.1 g.2)
 
 -- a first step that can go is an event of the cluster
 pub step_goes : (books : List BookState) (c : ClusterState) (lists : List (List (Step Message))) → IsUnderWay books c lists → (k : ℕ) (s : Step Message) (rest : List (Step Message)) → slice_get lists k ≡ Some (s ∷ rest)
-    → CanGo c.world.sent s → (ev : Event) × Goes books c lists k s rest ev
+    → CanGo c.world.sent s → (ev : ClusterEvent) × Goes books c lists k s rest ev
 step_goes books c lists u k s rest at can =
     let b = u.few k (s ∷ rest) at in
     step_by books c lists u k b.0 b.1 s rest at can

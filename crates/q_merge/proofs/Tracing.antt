@@ -1,64 +1,19 @@
 -- The journal of a book has one list of steps.
-use Rattle.std.proofs.Common.{◌≡◌, ℕ, suc, List, [], ◌∷◌, ◌++◌, Option, Some, None, refl, sym, ap, ◌∙◌, subst, slice_get, Result, Ok}
-use Rattle.sc_view.specs.Views.{ViewMap}
+use Rattle.std.proofs.Common.{◌≡◌, ℕ, suc, List, [], ◌∷◌, ◌++◌, Option, Some, None, refl, sym, ap, ◌∙◌, subst, slice_get}
 use Rattle.sc_msg.specs.declared.message.Message.{Message}
 use Rattle.sc_node.specs.State.{NodeState}
 use Rattle.sc_node.specs.declared.fault.NodeFault.{NodeFault}
 use Rattle.sc_world.proofs.Inverts.{same_answer}
-use Rattle.q_session.specs.declared.ran.Ran.{Ran}
-use Rattle.q_session.specs.declared.job.Job.{Job}
-use Rattle.q_session.specs.declared.query.Phase.TheVariants.{Running}
-use Rattle.q_session.specs.declared.query.Query.{Query}
 use Rattle.q_desk.specs.Desks as desk
 use Rattle.q_desk.specs.declared.journal.Entry.{Entry}
-use Rattle.q_desk.specs.declared.journal.Entry.TheVariants as entry
 use Rattle.q_book.specs.State.{BookState}
 use Rattle.q_book.specs.Books as book
-use Rattle.q_book.specs.Replays.{Follows, Replays, IsFirst, IsReplay}
-use Rattle.q_book.specs.declared.fault.BookFault.{BookFault}
+use Rattle.q_book.specs.Replays.{Replays, IsFirst, IsReplay}
 use Rattle.q_history.proofs.Lists.{same_some, no_some}
-use Rattle.q_book.proofs.Parts.{desk-parts}
+use Rattle.q_book.proofs.Followed.{follows_one}
 use Rattle.q_merge.specs.Merging.{Step}
 use Rattle.q_merge.specs.Traces.{step_of, IsTraceFrom, entering, IsTrace}
 use Rattle.q_merge.specs.Gathered.{AreTraces}
-use Rattle.q_merge.proofs.Jobs.{IsAnsweredBy, posted_is}
-use Rattle.q_merge.proofs.Entries.{Posted, same_post}
-
--- ---- an entry leads to one book
-
-same_book : {A : Type 0} (r : Result (A × BookState) BookFault) (x y : A) (c d : BookState) → r ≡ Ok (x, c) → r ≡ Ok (y, d) → c ≡ d
-same_book {A} r x y c d h k = ap (λ (z : A × BookState). z.1) (same_answer {A = A × BookState} {E = BookFault} (x, c) (y, d) (sym h ∙ k))
-
-same_running : (v w : ViewMap) → Running v ≡ Running w → v ≡ w
-same_running v w h = cc
-
-module _ (b c d : BookState) (i j : Job) (ran : Ran) (same : j.query ≡ i.query) (h : book.posted b i ran ≡ Ok (tt, c)) (k : book.posted b j ran ≡ Ok (tt, d)) where
-  by_first : IsAnsweredBy b.desk b.id i ran (desk-parts b (desk.posted b.desk b.id i ran) (tt, c) h).0.1
-  by_first = let p = desk-parts b (desk.posted b.desk b.id i ran) (tt, c) h in posted_is b.desk b.id i ran p.0 p.1
-
-  by_second : IsAnsweredBy b.desk b.id j ran (desk-parts b (desk.posted b.desk b.id j ran) (tt, d) k).0.1
-  by_second = let p = desk-parts b (desk.posted b.desk b.id j ran) (tt, d) k in posted_is b.desk b.id j ran p.0 p.1
-
-  one_query : by_second.query ≡ by_first.query
-  one_query = same_some by_second.query by_first.query (sym by_second.at ∙ ap (slice_get b.desk.queries) same ∙ by_first.at)
-
-  one_view : by_second.view ≡ by_first.view
-  one_view = same_running by_second.view by_first.view (sym by_second.phase ∙ ap (λ (q : Query). q.phase) one_query ∙ by_first.phase)
-
-  posted_one : c ≡ d
-  posted_one =
-      let fits = (λ t. desk.is_job_of b.desk.programs j (sym one_query t) (sym one_view t)) ∙ by_second.fits in
-      let post = same_post b.desk b.id i j ran by_first.query by_first.view same by_first.at by_first.phase by_first.own by_second.own by_first.fits fits in
-      same_book (book.posted b i ran) tt tt c d h (ap (λ (x : Posted). book.here b (book.by_desk (book.with_desk b) x)) (sym post) ∙ k)
-
-pub follows_one : (b c d : BookState) (e : Entry) → Follows b e c → Follows b e d → c ≡ d
-follows_one b c d entry.Leave f g = same_book (book.left b) f.0 g.0 c d f.1 g.1
-follows_one b c d (entry.Register program) f g = same_book (book.registered b program) f.0 g.0 c d f.1 g.1
-follows_one b c d (entry.Ask program start) f g = same_book (book.asked b program start) f.0 g.0 c d f.1 g.1
-follows_one b c d (entry.Store value) f g = same_book (book.stored b value) f.0 g.0 c d f.1 g.1
-follows_one b c d (entry.Deliver m) f g = same_book (book.delivered b m) f.0 g.0 c d f.1 g.1
-follows_one b c d entry.HandOut f g = same_book (book.handed_out b) (Some f.0) (Some g.0) c d f.1 g.1
-follows_one b c d (entry.Post query ran) f g = posted_one b c d f.0 g.0 ran (g.1 ∙ sym f.1) f.3 g.3
 
 -- ---- all entries
 

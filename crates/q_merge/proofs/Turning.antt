@@ -1,29 +1,27 @@
 -- What a call of a node's book makes of its cluster.
-use Rattle.std.proofs.Common.{◌≡◌, ℕ, Bool, true, false, cond, List, ◌++◌, Option, Some, None, refl, sym, ap, ◌∙◌, subst, Result, Ok, Err}
+use Rattle.std.proofs.Common.{◌≡◌, ℕ, Bool, false, cond, List, ◌++◌, Option, Some, None, refl, sym, ap, ◌∙◌, subst, Result, Ok}
 use Rattle.std.proofs.lemmas.Bool.{ne_eqb}
 use Rattle.std.specs.FinMap as fin
 use Rattle.std.specs.FinSet as set
 use Rattle.sc_msg.specs.declared.message.Message.{Message}
 use Rattle.sc_node.specs.State.{NodeState}
-use Rattle.sc_node.specs.declared.fault.NodeFault.TheVariants as node_fault
 use Rattle.sc_world.specs.State.{Past}
 use Rattle.sc_world.specs.Worlds as world
 use Rattle.sc_world.proofs.Finite.{get-insert, get-insert_same}
-use Rattle.sc_world.proofs.Inverts.{same_answer, no_refusal}
+use Rattle.sc_world.proofs.Inverts.{same_answer}
 use Rattle.q_session.specs.declared.job.Job.{Job}
 use Rattle.q_session.specs.declared.ran.Ran.{Ran}
 use Rattle.q_desk.specs.State.{DeskState}
 use Rattle.q_book.specs.State.{BookState}
-use Rattle.q_book.specs.Books as book
 use Rattle.q_book.specs.declared.fault.BookFault.{BookFault}
-use Rattle.q_book.specs.declared.fault.BookFault.TheVariants as book_fault
-use Rattle.q_history.specs.declared.event.Event.{Event}
-use Rattle.q_history.specs.declared.event.Stepped.{Stepped}
+use Rattle.q_history.specs.declared.event.ClusterEvent.{ClusterEvent}
+use Rattle.q_history.specs.declared.event.ClusterStep.{ClusterStep}
 use Rattle.q_history.specs.State.{ClusterState}
 use Rattle.q_history.specs.Heads.{founders_for, book_of}
-use Rattle.q_history.specs.Clusters.{Said, put, lift, by_book, at as at_node, stepped}
+use Rattle.q_history.specs.Clusters.{Said, lift, by_book, at as at_node, stepped}
 use Rattle.q_history.specs.Calls.{AnswersTo}
 use Rattle.q_history.proofs.Lists.{same_some, no_some}
+use Rattle.q_history.proofs.Called.{With}
 use Rattle.q_cluster.specs.Acts.{booked, book_at}
 use Rattle.q_merge.specs.Turns.{IsTurn, Makes}
 
@@ -50,14 +48,6 @@ booked_is c id b (Some n) (Some d) at here h stays not_gone =
 pub is_up : (c : ClusterState) (id : ℕ) (b : BookState) → book_at c id ≡ Some b → set.contains c.world.crashed id ≡ false → b.node.gone ≡ false → IsUp c id b
 is_up c id b h stays not_gone = booked_is c id b (fin.get c.world.nodes id) (fin.get c.desks id) refl refl h stays not_gone
 
-open_by : {A : Type 0} (b : BookState) (r : Result A BookFault) (y : A) (gone : Bool) → b.node.gone ≡ gone → cond gone (Err (book_fault.Node node_fault.Gone)) r ≡ Ok y → b.node.gone ≡ false
-open_by b r y true is h = absurd (no_refusal _ y h)
-open_by b r y false is h = is
-
--- a node that takes a call has not left
-pub is_open : {A : Type 0} (b : BookState) (r : Result A BookFault) (y : A) → book.here b r ≡ Ok y → b.node.gone ≡ false
-is_open b r y h = open_by b r y b.node.gone refl h
-
 module _ (c : ClusterState) (id : ℕ) (b : BookState) (up : IsUp c id b) where
   is_live : world.live_at c.world id ≡ Some up.node
   is_live =
@@ -68,7 +58,7 @@ module _ (c : ClusterState) (id : ℕ) (b : BookState) (up : IsUp c id b) where
   pub turns_to : (f : BookState → Said) → at_node c id f ≡ f b
   turns_to f = (λ i. by_book c id (is_live i) (up.here i) f) ∙ ap f up.is
 
-  pub call_says : {A : Type 0} (next : A → BookState → Stepped × ClusterState) (call : BookState → Result (A × BookState) BookFault) (a : A) (d : BookState) → call b ≡ Ok (a, d)
+  pub call_says : {A : Type 0} (next : A → BookState → ClusterStep × ClusterState) (call : BookState → Result (A × BookState) BookFault) (a : A) (d : BookState) → call b ≡ Ok (a, d)
       → at_node c id (λ x. lift next (call x)) ≡ Ok (next a d)
   call_says next call a d h = turns_to (λ x. lift next (call x)) ∙ ap (lift next) h
 
@@ -77,10 +67,6 @@ module _ (c : ClusterState) (id : ℕ) (b : BookState) (up : IsUp c id b) where
 -- the book is headed as that of this node
 abbrev pub IsHeadedAs : ClusterState → ℕ → BookState → Type 0
 IsHeadedAs c id d = (d.version ≡ c.version) × (d.id ≡ id) × (d.config ≡ c.world.config) × (d.founders ≡ founders_for id c.world.founders)
-
--- the cluster with another book, and a past of the same founders
-abbrev pub With : ClusterState → Past → List Job → ℕ → BookState → ClusterState
-With c p jobs id d = put c (record p { config = c.world.config; founders = c.world.founders; crashed = c.world.crashed }) jobs id d
 
 module _ (c : ClusterState) (p : Past) (jobs : List Job) (id : ℕ) (d : BookState) where
   booked_same : (q : ℕ) (n : Option NodeState) (x : Option DeskState) → booked (With c p jobs id d) q n x ≡ booked c q n x
@@ -104,21 +90,27 @@ module _ (c : ClusterState) (p : Past) (jobs : List Job) (id : ℕ) (d : BookSta
 
 -- ---- an event that is accepted, whatever a job comes to
 
-pub makes : (c : ClusterState) (ev : Event) (id : ℕ) (d : BookState) (outs : List Message) (ran : Ran) (y : Stepped × ClusterState) → AnswersTo c ev ran
+pub makes : (c : ClusterState) (ev : ClusterEvent) (id : ℕ) (d : BookState) (outs : List Message) (ran : Ran) (y : ClusterStep × ClusterState) → AnswersTo c ev ran
     → ((r : Ran) → AnswersTo c ev r → stepped r c ev ≡ Ok y) → IsTurn c id d outs y.1 → Makes c ev id d outs
 makes c ev id d outs ran y right says turn = record {
   told = y.0;
   later = y.1;
   accepted = record { ran = ran; right = right; stepped = says ran right };
   turns = λ told later f.
-      subst (λ (z : Stepped × ClusterState). IsTurn c id d outs z.1) (same_answer y (told, later) (sym (says f.ran f.right) ∙ f.stepped)) turn;
+      subst (λ (z : ClusterStep × ClusterState). IsTurn c id d outs z.1) (same_answer y (told, later) (sym (says f.ran f.right) ∙ f.stepped)) turn;
 }
 
--- the head of a book that is there
-pub head_of : (c : ClusterState) (id : ℕ) (b d : BookState) → IsUp c id b → (d.version ≡ b.version) × (d.id ≡ b.id) × (d.config ≡ b.config) × (d.founders ≡ b.founders) → IsHeadedAs c id d
-head_of c id b d up k = (
-  k.0 ∙ ap (λ (x : BookState). x.version) (sym up.is),
-  k.1 ∙ ap (λ (x : BookState). x.id) (sym up.is),
-  k.2 ∙ ap (λ (x : BookState). x.config) (sym up.is),
-  k.3 ∙ ap (λ (x : BookState). x.founders) (sym up.is),
+-- a call keeps the head of a book
+pub same_head : (b d : BookState) → record b { node = d.node; desk = d.desk } ≡ d
+    → (d.version ≡ b.version) × (d.id ≡ b.id) × (d.config ≡ b.config) × (d.founders ≡ b.founders)
+same_head b d same = (
+  ap (λ (x : BookState). x.version) (sym same),
+  ap (λ (x : BookState). x.id) (sym same),
+  ap (λ (x : BookState). x.config) (sym same),
+  ap (λ (x : BookState). x.founders) (sym same),
 )
+
+-- so the next book of a node is headed as this one
+pub head_of : (c : ClusterState) (id : ℕ) (b d : BookState) → IsUp c id b → record b { node = d.node; desk = d.desk } ≡ d → IsHeadedAs c id d
+head_of c id b d up same =
+    subst (λ (x : BookState). (d.version ≡ x.version) × (d.id ≡ x.id) × (d.config ≡ x.config) × (d.founders ≡ x.founders)) (sym up.is) (same_head b d same)

@@ -8,8 +8,8 @@ use Rattle.sc_msg.specs.declared.version.Version.{Version}
 use Rattle.q_desk.specs.Answers.{AnswersAreRight}
 use Rattle.q_desk.specs.declared.journal.Entry.{Entry}
 use Rattle.q_book.specs.State.{BookState}
-use Rattle.q_history.specs.declared.event.Event.{Event}
-use Rattle.q_history.specs.declared.event.Stepped.{Stepped}
+use Rattle.q_history.specs.declared.event.ClusterEvent.{ClusterEvent}
+use Rattle.q_history.specs.declared.event.ClusterStep.{ClusterStep}
 use Rattle.q_history.specs.State.{ClusterState}
 use Rattle.q_history.specs.Heads.{founders_for}
 use Rattle.q_history.specs.Clusters.{start, started}
@@ -75,9 +75,9 @@ pub record IsUnderWay (books : List BookState) (c : ClusterState) (lists : List 
   pub few : (k : ℕ) (steps : List (Step Message)) → slice_get lists k ≡ Some steps → (b : BookState) × (slice_get books k ≡ Some b)
 
 -- the event takes the first step of this list
-pub record Goes (books : List BookState) (c : ClusterState) (lists : List (List (Step Message))) (k : ℕ) (s : Step Message) (rest : List (Step Message)) (event : Event) : Type 0 where
-  pub told : Stepped
+pub record Goes (books : List BookState) (c : ClusterState) (lists : List (List (Step Message))) (k : ℕ) (s : Step Message) (rest : List (Step Message)) (event : ClusterEvent) : Type 0 where
+  pub told : ClusterStep
   pub later : ClusterState
   pub accepted : Follows c event told later
-  pub goes : (told : Stepped) (later : ClusterState) → Follows c event told later → IsUnderWay books later (slice_set lists k rest)
-  pub sent : (told : Stepped) (later : ClusterState) → Follows c event told later → later.world.sent ≡ c.world.sent ++ s.gives
+  pub goes : (told : ClusterStep) (later : ClusterState) → Follows c event told later → IsUnderWay books later (slice_set lists k rest)
+  pub sent : (told : ClusterStep) (later : ClusterState) → Follows c event told later → later.world.sent ≡ c.world.sent ++ s.gives

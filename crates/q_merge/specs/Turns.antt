@@ -7,9 +7,9 @@ use Rattle.q_desk.specs.declared.journal.Entry.{Entry}
 use Rattle.q_desk.specs.declared.journal.Entry.TheVariants as entry
 use Rattle.q_book.specs.State.{BookState}
 use Rattle.q_book.specs.Replays as replays
-use Rattle.q_history.specs.declared.event.Event.{Event}
-use Rattle.q_history.specs.declared.event.Event.TheVariants as event
-use Rattle.q_history.specs.declared.event.Stepped.{Stepped}
+use Rattle.q_history.specs.declared.event.ClusterEvent.{ClusterEvent}
+use Rattle.q_history.specs.declared.event.ClusterEvent.TheVariants as event
+use Rattle.q_history.specs.declared.event.ClusterStep.{ClusterStep}
 use Rattle.q_history.specs.State.{ClusterState}
 use Rattle.q_history.specs.Calls.{Follows}
 use Rattle.q_cluster.specs.Acts.{book_at}
@@ -23,7 +23,7 @@ pub record IsJobFor (jobs : List Job) (id query number : ℕ) : Type 0 where
 
 -- The entry as an event of the node. A message goes by a number at which it was sent, and an answer by the number of
 -- the job that was handed out for its query.
-abbrev pub IsEventOf : ClusterState → ℕ → Entry → Event → Type 0
+abbrev pub IsEventOf : ClusterState → ℕ → Entry → ClusterEvent → Type 0
 IsEventOf c id entry.Leave ev = ev ≡ event.Leave id
 IsEventOf c id (entry.Register program) ev = ev ≡ event.Register id program
 IsEventOf c id (entry.Ask program start) ev = ev ≡ event.Ask id program start
@@ -49,8 +49,8 @@ pub record IsTurn (c : ClusterState) (id : ℕ) (b : BookState) (outs : List Mes
   pub founders : later.world.founders ≡ c.world.founders
 
 -- the event is accepted, and makes this turn
-pub record Makes (c : ClusterState) (ev : Event) (id : ℕ) (b : BookState) (outs : List Message) : Type 0 where
-  pub told : Stepped
+pub record Makes (c : ClusterState) (ev : ClusterEvent) (id : ℕ) (b : BookState) (outs : List Message) : Type 0 where
+  pub told : ClusterStep
   pub later : ClusterState
   pub accepted : Follows c ev told later
-  pub turns : (told : Stepped) (later : ClusterState) → Follows c ev told later → IsTurn c id b outs later
+  pub turns : (told : ClusterStep) (later : ClusterState) → Follows c ev told later → IsTurn c id b outs later

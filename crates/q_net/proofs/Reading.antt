@@ -8,7 +8,7 @@ use Rattle.std.proofs.lemmas.List.{length-take}
 use Rattle.bq_check.specs.Spelling.{short_bytes}
 use Rattle.sc_msg.specs.declared.version.Version.{Version}
 use Rattle.q_net.specs.declared.pieces.Piece.{Piece}
-use Rattle.q_net.specs.declared.incoming.Next.{Next}
+use Rattle.q_net.specs.declared.incoming.Incoming.{Incoming}
 use Rattle.q_net.specs.declared.pieces.Piece.TheVariants as piece
 use Rattle.q_net.specs.declared.request.Request.TheVariants.{Register, StoreOf}
 use Rattle.q_net.specs.Requests.{GetsNext, GotBlob, spelling, IsRequest, most_text, most_notes, GetsBlob, Got, IsNext, IsCut, Place, IsPlace, before, wanted}
@@ -25,7 +25,7 @@ front_of n xs rest is = subst (λ (k : ℕ). take k (xs ++ rest) ≡ xs) is (tak
 
 -- ---- reads that fail
 
-pub next_failed : {E : Type 0} (P : E → Type 0) (version : Version) (front : List ℕ) (a b : Option (List ℕ)) (r : Result Next E) → IsErrAnd r P → (part : List ℕ) × Consumes a b part → GetsNext version front a b r
+pub next_failed : {E : Type 0} (P : E → Type 0) (version : Version) (front : List ℕ) (a b : Option (List ℕ)) (r : Result Incoming E) → IsErrAnd r P → (part : List ℕ) × Consumes a b part → GetsNext version front a b r
 next_failed P version front a b (Ok n) h p = absurd h
 next_failed P version front a b (Err e) h p = p
 
@@ -45,11 +45,11 @@ pub got_none : {A : Type 0} (bytes_of : A → List ℕ) (len : ℕ) (a b : Optio
 got_none bytes_of len a b o is h = subst (Got bytes_of len a b) is h
 
 -- a number of four bytes was got, and what comes behind it failed
-pub short_then_failed : {E : Type 0} (P : E → Type 0) (version : Version) (front : List ℕ) (a b c : Option (List ℕ)) (r : Result Next E) (o : Option ℕ) (n : ℕ) → IsErrAnd r P → o ≡ Some n → Got short_bytes 4 a b o → (part : List ℕ) × Consumes b c part → GetsNext version front a c r
+pub short_then_failed : {E : Type 0} (P : E → Type 0) (version : Version) (front : List ℕ) (a b c : Option (List ℕ)) (r : Result Incoming E) (o : Option ℕ) (n : ℕ) → IsErrAnd r P → o ≡ Some n → Got short_bytes 4 a b o → (part : List ℕ) × Consumes b c part → GetsNext version front a c r
 short_then_failed P version front a b c r o n h is got failed = next_failed P version front a c r h (then_failed a b c (short_bytes n) (got_some short_bytes 4 a b o n is got) failed)
 
 -- the same of a byte
-pub byte_then_failed : {E : Type 0} (P : E → Type 0) (version : Version) (front : List ℕ) (a b c : Option (List ℕ)) (r : Result Next E) (o : Option ℕ) (n : ℕ) → IsErrAnd r P → o ≡ Some n → Got (λ (b : ℕ). b ∷ []) 1 a b o → (part : List ℕ) × Consumes b c part → GetsNext version front a c r
+pub byte_then_failed : {E : Type 0} (P : E → Type 0) (version : Version) (front : List ℕ) (a b c : Option (List ℕ)) (r : Result Incoming E) (o : Option ℕ) (n : ℕ) → IsErrAnd r P → o ≡ Some n → Got (λ (b : ℕ). b ∷ []) 1 a b o → (part : List ℕ) × Consumes b c part → GetsNext version front a c r
 byte_then_failed P version front a b c r o n h is got failed = next_failed P version front a c r h (then_failed a b c (n ∷ []) (got_some (λ (b : ℕ). b ∷ []) 1 a b o n is got) failed)
 
 -- the next byte, where it has this value
@@ -85,7 +85,7 @@ ended_at version a b c place front first allowed whole consumed ended =
 
 -- ---- what is behind some bytes
 
-pub next_behind : {E : Type 0} (version : Version) (front more : List ℕ) (a b c : Option (List ℕ)) (r : Result Next E) → Consumes a b more → GetsNext version (front ++ more) b c r → GetsNext version front a c r
+pub next_behind : {E : Type 0} (version : Version) (front more : List ℕ) (a b c : Option (List ℕ)) (r : Result Incoming E) → Consumes a b more → GetsNext version (front ++ more) b c r → GetsNext version front a c r
 next_behind version front more a b c (Ok n) consumed h =
     let (bytes, rest, is, end) = h in
     (more ++ bytes, Consumes-trans a b c more bytes consumed rest, subst (λ (l : List ℕ). IsNext version l n) (append_assoc front more bytes) is, end)
@@ -116,7 +116,7 @@ notes_read version text notes len a b c few small first second =
     (x, Consumes-trans a b c (short_bytes len) notes first second.0, (few, omega (arith, small, second.1)), same)
 
 -- a text, and what is behind it
-pub text_read : {E : Type 0} (version : Version) (a b c d : Option (List ℕ)) (len : ℕ) (text : List ℕ) (r : Result Next E) → Consumes a b (short_bytes len) → Consumes b c text × (length text ≡ len) → len ≤ most_text
+pub text_read : {E : Type 0} (version : Version) (a b c d : Option (List ℕ)) (len : ℕ) (text : List ℕ) (r : Result Incoming E) → Consumes a b (short_bytes len) → Consumes b c text × (length text ≡ len) → len ≤ most_text
     → ((whole : List ℕ) → length whole ≤ most_text → whole ≡ text → GetsNext version (to_text whole) c d r) → GetsNext version (1 ∷ []) a d r
 text_read version a b c d len text r first second small behind =
     let consumed = Consumes-trans a b c (short_bytes len) text first second.0 in

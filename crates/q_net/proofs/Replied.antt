@@ -5,8 +5,8 @@ use Rattle.q_book.specs.State.{BookState}
 use Rattle.q_book.specs.Faults.{memory}
 use Rattle.q_net.specs.declared.request.Request.{Request}
 use Rattle.q_net.specs.declared.request.Request.TheVariants.{Register, Ask, Store, StoreOf}
-use Rattle.q_net.specs.declared.reply.Reply.{Reply}
-use Rattle.q_net.specs.declared.reply.Reply.TheVariants.{Refused}
+use Rattle.q_net.specs.declared.replies.Reply.{Reply}
+use Rattle.q_net.specs.declared.replies.Reply.TheVariants.{Refused}
 use Rattle.q_net.specs.declared.served.Registered.{Registered}
 use Rattle.q_net.specs.Replies.{Replies, Registers, of_registered}
 

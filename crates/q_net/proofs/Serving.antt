@@ -7,14 +7,14 @@ use Rattle.sc_msg.specs.declared.message.Message.{Message}
 use Rattle.sc_msg.specs.declared.version.Version.{Version}
 use Rattle.q_book.specs.State.{BookState}
 use Rattle.q_net.specs.declared.request.Request.{Request}
-use Rattle.q_net.specs.declared.reply.Reply.{Reply}
+use Rattle.q_net.specs.declared.replies.Reply.{Reply}
 use Rattle.bq_insn.specs.declared.fault.DecodeFault.TheVariants as decode_fault
 use Rattle.q_net.specs.declared.request.Request.TheVariants.{Register}
-use Rattle.q_net.specs.declared.request.Stop.{Stop}
-use Rattle.q_net.specs.declared.reply.Reply.TheVariants.{Refused}
+use Rattle.q_net.specs.declared.request.StreamEnd.{StreamEnd}
+use Rattle.q_net.specs.declared.replies.Reply.TheVariants.{Refused}
 use Rattle.q_net.specs.declared.served.Registered.TheVariants as registered
-use Rattle.q_net.specs.declared.incoming.Next.{Next}
-use Rattle.q_net.specs.declared.incoming.Next.TheVariants as next
+use Rattle.q_net.specs.declared.incoming.Incoming.{Incoming}
+use Rattle.q_net.specs.declared.incoming.Incoming.TheVariants as next
 use Rattle.q_net.specs.Requests.{spelling, spellings, IsRequest, IsGot}
 use Rattle.q_net.specs.Replies.{reply_bytes, Replies}
 use Rattle.std.specs.Prelude.{IsErrAnd}
@@ -149,7 +149,7 @@ goes_on input mid left before between after b c d had has more on s is turn =
     served_more input mid left before between after b c d had has more r said outs s legal consumed replied grown written
 
 -- requests stop
-pub stops : (version : Version) (input left before after : Option (List ℕ)) (b : BookState) (had : List Message) (n : Next) (stop : Stop) (number : ℕ) → n ≡ next.Ended stop → IsGot version [] input left n
+pub stops : (version : Version) (input left before after : Option (List ℕ)) (b : BookState) (had : List Message) (n : Incoming) (stop : StreamEnd) (number : ℕ) → n ≡ next.Ended stop → IsGot version [] input left n
     → number ≡ stop_number stop → Appends before after (number ∷ []) → IsTaken version input left before after b b had had false
 stops version input left before after b had n stop number is got said written =
     let g : IsGot version [] input left (next.Ended stop) = subst (IsGot version [] input left) is got in
@@ -157,7 +157,7 @@ stops version input left before after b had n stop number is got said written =
     (Some stop, bytes, is_stop, consumed, read, subst (λ (k : ℕ). Appends before after (k ∷ [])) said written, refl, refl)
 
 -- there was no memory for the bytes of a registration
-pub loses : (version : Version) (input left before after : Option (List ℕ)) (b : BookState) (had : List Message) (n : Next) → n ≡ next.Lost → IsGot version [] input left n
+pub loses : (version : Version) (input left before after : Option (List ℕ)) (b : BookState) (had : List Message) (n : Incoming) → n ≡ next.Lost → IsGot version [] input left n
     → Appends before after (99 ∷ []) → IsTaken version input left before after b b had had true
 loses version input left before after b had n is got written =
     let g : IsGot version [] input left next.Lost = subst (IsGot version [] input left) is got in

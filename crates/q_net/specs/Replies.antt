@@ -13,8 +13,8 @@ use Rattle.bq_check.specs.declared.fault.NotesFault.TheVariants as notes_fault
 use Rattle.bq_check.specs.Reasons as check
 use Rattle.bq_check.specs.Faults.{IsFirstFault}
 use Rattle.bq_check.specs.Spelling.{short_bytes, long_bytes, notes_bytes, IsNotes}
-use Rattle.bq_check.specs.declared.form.Form.{Form}
-use Rattle.bq_check.specs.declared.form.Form.TheVariants as form
+use Rattle.bq_check.specs.declared.form.NotesForm.{NotesForm}
+use Rattle.bq_check.specs.declared.form.NotesForm.TheVariants as form
 use Rattle.bq_check.specs.Certificate.{Certificate}
 use Rattle.bq_check.specs.Certified.{IsCertified}
 use Rattle.sc_msg.specs.declared.message.Message.{Message}
@@ -34,10 +34,10 @@ use Rattle.q_book.specs.declared.fault.BookFault.{BookFault}
 use Rattle.q_book.specs.declared.answer.Asked.{Asked}
 use Rattle.q_net.specs.declared.request.Request.{Request}
 use Rattle.q_net.specs.declared.request.Request.TheVariants.{Register, Ask, Store, Answer, StoreOf}
-use Rattle.q_net.specs.declared.request.Stop.{Stop}
-use Rattle.q_net.specs.declared.request.Stop.TheVariants as stop
-use Rattle.q_net.specs.declared.reply.Reply.{Reply}
-use Rattle.q_net.specs.declared.reply.Reply.TheVariants as reply
+use Rattle.q_net.specs.declared.request.StreamEnd.{StreamEnd}
+use Rattle.q_net.specs.declared.request.StreamEnd.TheVariants as stop
+use Rattle.q_net.specs.declared.replies.Reply.{Reply}
+use Rattle.q_net.specs.declared.replies.Reply.TheVariants as reply
 use Rattle.q_net.specs.declared.served.Registered.{Registered}
 use Rattle.q_net.specs.declared.served.Registered.TheVariants as registered
 
@@ -51,7 +51,7 @@ reply_bytes (reply.Refused why) = why ∷ []
 -- ---- registrations
 
 -- the form of the notes in requests to a book of that version
-abbrev pub form_of : Version → Form
+abbrev pub form_of : Version → NotesForm
 form_of First = form.First
 form_of Second = form.Second
 
@@ -117,11 +117,11 @@ Replies b (StoreOf value) said sent c =
     (r : Result Begun BookFault) × Steps memory (book.stored b value) b c r × (said ≡ of_store r) × (sent ≡ sent_by_store r)
 
 -- why requests stop, and the reply at which they do
-abbrev pub stop_reason : Stop → Reason
+abbrev pub stop_reason : StreamEnd → Reason
 stop_reason stop.Unknown = reasons.BadRequest
 stop_reason stop.Cut = reasons.CutRequest
 stop_reason stop.LongText = reasons.TooLong
 stop_reason stop.LongNotes = reasons.NoteForm
 
-abbrev pub stop_number : Stop → ℕ
+abbrev pub stop_number : StreamEnd → ℕ
 stop_number s = number (stop_reason s)

@@ -7,12 +7,12 @@ use Rattle.sc_msg.specs.declared.version.Version.{Version}
 use Rattle.sc_msg.specs.declared.version.Version.TheVariants.{First, Second}
 use Rattle.q_net.specs.declared.request.Request.{Request}
 use Rattle.q_net.specs.declared.request.Request.TheVariants.{Register, Ask, Store, Answer, StoreOf}
-use Rattle.q_net.specs.declared.request.Stop.{Stop}
-use Rattle.q_net.specs.declared.request.Stop.TheVariants.{Unknown, Cut, LongText, LongNotes}
+use Rattle.q_net.specs.declared.request.StreamEnd.{StreamEnd}
+use Rattle.q_net.specs.declared.request.StreamEnd.TheVariants.{Unknown, Cut, LongText, LongNotes}
 use Rattle.q_net.specs.declared.pieces.Piece.{Piece}
 use Rattle.q_net.specs.declared.pieces.Piece.TheVariants as piece
-use Rattle.q_net.specs.declared.incoming.Next.{Next}
-use Rattle.q_net.specs.declared.incoming.Next.TheVariants as next
+use Rattle.q_net.specs.declared.incoming.Incoming.{Incoming}
+use Rattle.q_net.specs.declared.incoming.Incoming.TheVariants as next
 
 abbrev pub most_text : ℕ
 most_text = 32768
@@ -101,7 +101,7 @@ pub record IsCut (version : Version) (bytes : List ℕ) : Type 0 where
 -- ---- how requests end
 
 -- the bytes at which requests to a book of that version stop before their input ends
-abbrev pub IsStop : Version → List ℕ → Stop → Type 0
+abbrev pub IsStop : Version → List ℕ → StreamEnd → Type 0
 IsStop version bytes Unknown =
     (kind : ℕ) × (bytes ≡ kind ∷ []) × (kind ≢ 1) × (kind ≢ 2) × (kind ≢ 3) × (kind ≢ 4) × (kind ≢ 5)
 IsStop version bytes Cut = IsCut version bytes
@@ -111,7 +111,7 @@ IsStop version bytes LongNotes =
     × (bytes ≡ 1 ∷ short_bytes (length text) ++ (text ++ short_bytes len))
 
 -- the input ended where it had to
-abbrev pub IsRead : Option (List ℕ) → Option Stop → Type 0
+abbrev pub IsRead : Option (List ℕ) → Option StreamEnd → Type 0
 IsRead left None = IsAtEnd left
 IsRead left (Some Cut) = IsAtEnd left
 IsRead left (Some stop) = Unit {0}
@@ -119,25 +119,25 @@ IsRead left (Some stop) = Unit {0}
 -- ---- what comes next
 
 -- these bytes are the next request to a book of that version, or how requests end
-abbrev pub IsNext : Version → List ℕ → Next → Type 0
+abbrev pub IsNext : Version → List ℕ → Incoming → Type 0
 IsNext version bytes next.End = bytes ≡ []
 IsNext version bytes (next.Whole r) = IsRequest version r × (bytes ≡ spelling r)
 IsNext version bytes next.Lost =
     (text : List ℕ) × (notes : List ℕ) × IsRequest version (Register text notes) × (bytes ≡ spelling (Register text notes))
 IsNext version bytes (next.Ended stop) = IsStop version bytes stop
 
-abbrev pub IsReadTo : Option (List ℕ) → Next → Type 0
+abbrev pub IsReadTo : Option (List ℕ) → Incoming → Type 0
 IsReadTo left next.End = IsRead left None
 IsReadTo left (next.Ended stop) = IsRead left (Some stop)
 IsReadTo left n = Unit {0}
 
 -- behind some bytes more were read, and together they are what comes next
-abbrev pub IsGot : Version → List ℕ → Option (List ℕ) → Option (List ℕ) → Next → Type 0
+abbrev pub IsGot : Version → List ℕ → Option (List ℕ) → Option (List ℕ) → Incoming → Type 0
 IsGot version front input left n =
     (bytes : List ℕ) × Consumes input left bytes × IsNext version (front ++ bytes) n × IsReadTo left n
 
 -- the same, or a read failed behind some bytes
-abbrev pub GetsNext : {E : Type 0} → Version → List ℕ → Option (List ℕ) → Option (List ℕ) → Result Next E → Type 0
+abbrev pub GetsNext : {E : Type 0} → Version → List ℕ → Option (List ℕ) → Option (List ℕ) → Result Incoming E → Type 0
 GetsNext version front input left (Ok n) = IsGot version front input left n
 GetsNext version front input left (Err e) = (part : List ℕ) × Consumes input left part
 

@@ -7,8 +7,8 @@ use Rattle.sc_msg.specs.declared.version.Version.{Version}
 use Rattle.q_book.specs.State.{BookState}
 use Rattle.q_wire.specs.declared.fault.TransportFailed.{TransportFailed}
 use Rattle.q_net.specs.declared.request.Request.{Request}
-use Rattle.q_net.specs.declared.request.Stop.{Stop}
-use Rattle.q_net.specs.declared.reply.Reply.{Reply}
+use Rattle.q_net.specs.declared.request.StreamEnd.{StreamEnd}
+use Rattle.q_net.specs.declared.replies.Reply.{Reply}
 use Rattle.q_net.specs.Requests.{spelling, spellings, IsRequest, IsStop, IsRead}
 use Rattle.q_net.specs.Replies.{reply_bytes, stop_number, Replies}
 
@@ -20,11 +20,11 @@ Serves b (r ∷ rs) bytes sent c =
     × Replies b r said outs between × Serves between rs later behind c × (bytes ≡ reply_bytes said ++ later) × (sent ≡ outs ++ behind)
 
 -- how the requests to a book of that version ended: their input did, or they stopped before
-abbrev pub IsLast : Version → List ℕ → Option Stop → Type 0
+abbrev pub IsLast : Version → List ℕ → Option StreamEnd → Type 0
 IsLast version last None = last ≡ []
 IsLast version last (Some stop) = IsStop version last stop
 
-abbrev pub last_reply : Option Stop → List ℕ
+abbrev pub last_reply : Option StreamEnd → List ℕ
 last_reply None = []
 last_reply (Some stop) = stop_number stop ∷ []
 
@@ -33,7 +33,7 @@ last_reply (Some stop) = stop_number stop ∷ []
 pub record IsServed (input left before after : Option (List ℕ)) (b c : BookState) (had has : List Message) : Type 0 where
   pub requests : List Request
   pub legal : AllByRecursion (IsRequest b.version) requests
-  pub ended : Option Stop
+  pub ended : Option StreamEnd
   pub last : List ℕ
   pub is_last : IsLast b.version last ended
   pub consumed : Consumes input left (spellings requests ++ last)
@@ -77,7 +77,7 @@ IsTaken version input left before after b c had has true =
     (r : Request) × (said : Reply) × (outs : List Message) × IsRequest version r × Consumes input left (spelling r) × Replies b r said outs c
     × (has ≡ had ++ outs) × Appends before after (reply_bytes said)
 IsTaken version input left before after b c had has false =
-    (ended : Option Stop) × (last : List ℕ) × IsLast version last ended × Consumes input left last × IsRead left ended × Appends before after (last_reply ended)
+    (ended : Option StreamEnd) × (last : List ℕ) × IsLast version last ended × Consumes input left last × IsRead left ended × Appends before after (last_reply ended)
     × (c ≡ b) × (has ≡ had)
 
 -- the same; or a read or a write failed

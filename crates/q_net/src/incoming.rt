@@ -7,10 +7,9 @@ ghost use Rattle.q_wire.specs.Counts.{count_after};
 ghost use Rattle.q_net.specs.Requests.{GetsNext, most_text, most_notes};
 
 use crate::pieces::{Piece, read_blob, read_byte, read_long, read_short, read_some, read_value};
-use crate::request::{Blob, Request, Stop};
-use q_wire::counted::Counted;
-use q_wire::fault::TransportFailed;
-use sc_msg::version::Version;
+use crate::request::{Blob, Request, StreamEnd};
+use q_wire::{Counted, TransportFailed};
+use sc_msg::Version;
 use std::alloc::Global;
 use std::io::Read;
 
@@ -29,7 +28,7 @@ fn most_notes(version: Version) -> u32
 
 /// What comes next.
 #[derive(Drop)]
-pub enum Next {
+pub enum Incoming {
     /// Nothing: the input ends.
     End,
     /// This request.
@@ -37,20 +36,21 @@ pub enum Next {
     /// A registration for whose bytes there was no memory.
     Lost,
     /// None, though the input goes on or ends within one.
-    Ended(Stop),
+    Ended(StreamEnd),
 }
 
-/// A length of at most so many bytes, these bytes, and then what is done with them, or where there was no memory for them.
+/// A length of at most so many bytes, these bytes, and then what is done with them, or where there was no memory for
+/// them.
 macro_rules! blob {
     ($alloc:expr, $input:expr, $most:expr, $long:expr; $lost:expr, $whole:ident => $then:expr) => {{
         let Some(len) = read_short($input)? else {
-            return Ok(Next::Ended(Stop::Cut));
+            return Ok(Incoming::Ended(StreamEnd::Cut));
         };
         if len > $most {
-            return Ok(Next::Ended($long));
+            return Ok(Incoming::Ended($long));
         }
         match read_blob($alloc, $input, len as usize)? {
-            Piece::Cut => Ok(Next::Ended(Stop::Cut)),
+            Piece::Cut => Ok(Incoming::Ended(StreamEnd::Cut)),
             Piece::Lost => $lost,
             Piece::Whole($whole) => $then,
         }
@@ -61,8 +61,8 @@ macro_rules! blob {
 macro_rules! completed {
     ($read:expr, $part:ident => $request:expr) => {
         match $read {
-            Some($part) => Ok(Next::Whole($request)),
-            None => Ok(Next::Ended(Stop::Cut)),
+            Some($part) => Ok(Incoming::Whole($request)),
+            None => Ok(Incoming::Ended(StreamEnd::Cut)),
         }
     };
 }
@@ -73,15 +73,15 @@ fn notes<R: Read>(
     version: Version,
     text: Option<Blob>,
     input: &mut Counted<R>,
-) -> Result<Next, TransportFailed>
+) -> Result<Incoming, TransportFailed>
     ensures read { (whole : List ℕ) → length whole ≤ most_text → IfSome text (λ t. t ≡ whole)
         → GetsNext version (1 ∷ short_bytes (length whole) ++ whole) (R.remaining input.old.inner) (R.remaining input.new.inner) result }
     ensures counted { input.new.failures ≡ count_after result input.old.failures }
 {
     let most = most_notes(version);
-    blob!(alloc, input, most, Stop::LongNotes; Ok(Next::Lost), notes => match text {
-        Some(text) => Ok(Next::Whole(Request::Register { text, notes })),
-        None => Ok(Next::Lost),
+    blob!(alloc, input, most, StreamEnd::LongNotes; Ok(Incoming::Lost), notes => match text {
+        Some(text) => Ok(Incoming::Whole(Request::Register { text, notes })),
+        None => Ok(Incoming::Lost),
     })
 }
 
@@ -90,30 +90,30 @@ fn register<R: Read>(
     alloc: Global,
     version: Version,
     input: &mut Counted<R>,
-) -> Result<Next, TransportFailed>
+) -> Result<Incoming, TransportFailed>
     ensures read { GetsNext version (1 ∷ []) (R.remaining input.old.inner) (R.remaining input.new.inner) result }
     ensures counted { input.new.failures ≡ count_after result input.old.failures }
 {
-    blob!(alloc, input, MOST_TEXT, Stop::LongText;
+    blob!(alloc, input, MOST_TEXT, StreamEnd::LongText;
         notes(alloc, version, None, input), text => notes(alloc, version, Some(text), input))
 }
 
 /// A query, behind its kind.
-fn ask<R: Read>(input: &mut Counted<R>) -> Result<Next, TransportFailed>
+fn ask<R: Read>(input: &mut Counted<R>) -> Result<Incoming, TransportFailed>
     ensures read { (version : BookVersion) → GetsNext version (2 ∷ []) (R.remaining input.old.inner) (R.remaining input.new.inner) result }
     ensures counted { input.new.failures ≡ count_after result input.old.failures }
 {
     let Some(program) = read_short(input)? else {
-        return Ok(Next::Ended(Stop::Cut));
+        return Ok(Incoming::Ended(StreamEnd::Cut));
     };
     let Some(start) = read_long(input)? else {
-        return Ok(Next::Ended(Stop::Cut));
+        return Ok(Incoming::Ended(StreamEnd::Cut));
     };
-    Ok(Next::Whole(Request::Ask { program, start }))
+    Ok(Incoming::Whole(Request::Ask { program, start }))
 }
 
 /// A store, behind its kind.
-fn store<R: Read>(input: &mut Counted<R>) -> Result<Next, TransportFailed>
+fn store<R: Read>(input: &mut Counted<R>) -> Result<Incoming, TransportFailed>
     ensures read { (version : BookVersion) → GetsNext version (3 ∷ []) (R.remaining input.old.inner) (R.remaining input.new.inner) result }
     ensures counted { input.new.failures ≡ count_after result input.old.failures }
 {
@@ -121,7 +121,7 @@ fn store<R: Read>(input: &mut Counted<R>) -> Result<Next, TransportFailed>
 }
 
 /// A question for an answer, behind its kind.
-fn answer<R: Read>(input: &mut Counted<R>) -> Result<Next, TransportFailed>
+fn answer<R: Read>(input: &mut Counted<R>) -> Result<Incoming, TransportFailed>
     ensures read { (version : BookVersion) → GetsNext version (4 ∷ []) (R.remaining input.old.inner) (R.remaining input.new.inner) result }
     ensures counted { input.new.failures ≡ count_after result input.old.failures }
 {
@@ -129,12 +129,12 @@ fn answer<R: Read>(input: &mut Counted<R>) -> Result<Next, TransportFailed>
 }
 
 /// A store of so many bytes, behind its kind.
-fn store_of<R: Read>(input: &mut Counted<R>) -> Result<Next, TransportFailed>
+fn store_of<R: Read>(input: &mut Counted<R>) -> Result<Incoming, TransportFailed>
     ensures read { (version : BookVersion) → GetsNext version (5 ∷ []) (R.remaining input.old.inner) (R.remaining input.new.inner) result }
     ensures counted { input.new.failures ≡ count_after result input.old.failures }
 {
     let Some(len) = read_byte(input)? else {
-        return Ok(Next::Ended(Stop::Cut));
+        return Ok(Incoming::Ended(StreamEnd::Cut));
     };
     completed!(read_some(input, len)?, value => Request::StoreOf(value))
 }
@@ -144,12 +144,12 @@ pub fn read_next<R: Read>(
     alloc: Global,
     version: Version,
     input: &mut Counted<R>,
-) -> Result<Next, TransportFailed>
+) -> Result<Incoming, TransportFailed>
     ensures read { GetsNext version [] (R.remaining input.old.inner) (R.remaining input.new.inner) result }
     ensures counted { input.new.failures ≡ count_after result input.old.failures }
 {
     let Some(kind) = read_byte(input)? else {
-        return Ok(Next::End);
+        return Ok(Incoming::End);
     };
     match kind {
         1 => register(alloc, version, input),
@@ -157,6 +157,6 @@ pub fn read_next<R: Read>(
         3 => store(input),
         4 => answer(input),
         5 => store_of(input),
-        _ => Ok(Next::Ended(Stop::Unknown)),
+        _ => Ok(Incoming::Ended(StreamEnd::Unknown)),
     }
 }

@@ -20,19 +20,23 @@
 //! or of more than 770,052 to a book of version 1. After a reply of 99 nothing has changed, the request was read to its
 //! end, and the next one follows.
 //!
-//! Promised by [`serve`], if it returns, of the bytes of a reader and a writer that are known: the input begins with the
-//! spellings of requests and how they ended, what was written is the replies to them one behind the other, the book is
-//! the one that its own calls make of them in turn, and the messages of these calls stand in order behind those that
+//! Promised by [`serve`], if it returns, of the bytes of a reader and a writer that are known: the input begins with
+//! the spellings of requests and how they ended, what was written is the replies to them one behind the other, the book
+//! is the one that its own calls make of them in turn, and the messages of these calls stand in order behind those that
 //! were there. Where a read or a write fails (86) the same holds of the requests before, and the one at hand was done
 //! whole or not at all; and just one failure was counted, at the reader or at the writer.
-//!
-//! [`serve`]: serve::serve
 #![tactic(auto)]
 
-pub mod incoming;
+mod incoming;
 mod pieces;
-pub mod reply;
-pub mod request;
-pub mod serve;
-pub mod served;
+mod replies;
+mod request;
+mod served;
+mod server;
 pub mod worked;
+
+pub use incoming::{Incoming, read_next};
+pub use replies::Reply;
+pub use request::{Blob, Request, Short, StreamEnd};
+pub use served::{Registered, reply};
+pub use server::serve;

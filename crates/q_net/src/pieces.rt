@@ -6,9 +6,8 @@ ghost use Rattle.q_net.specs.Requests.{Gets, GetsBlob};
 ghost use Rattle.q_wire.specs.Counts.{count_after};
 
 use crate::request::{Blob, Short};
-use q_wire::counted::Counted;
-use q_wire::fault::TransportFailed;
-use sc_view::value::{VALUE_LENGTH, Value};
+use q_wire::{Counted, TransportFailed};
+use sc_view::{VALUE_LENGTH, Value};
 use std::alloc::Global;
 use std::io::Read;
 

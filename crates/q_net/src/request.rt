@@ -2,7 +2,7 @@
 
 ghost use Rattle.std.specs.Prelude.{◌≡◌, take};
 
-use sc_view::value::Value;
+use sc_view::Value;
 use std::marker::Model;
 
 /// Bytes. Contracts see them as their list.
@@ -83,7 +83,7 @@ pub enum Request {
 
 /// Why requests end before their input does, with the number that is answered.
 #[derive(Clone, Copy)]
-pub enum Stop {
+pub enum StreamEnd {
     /// 84: a kind that is none of 1 to 5.
     Unknown,
     /// 85: the input ends within a request.

@@ -8,20 +8,13 @@ ghost use Rattle.q_net.specs.Replies.{Registers, Replies, form_of, of_registered
 ghost use Rattle.q_desk.specs.Desks.{answer_of};
 ghost use Rattle.q_net.specs.declared.request.Request.TheVariants.{Ask, Store};
 
-use crate::reply::Reply;
+use crate::replies::Reply;
 use crate::request::Request;
-use bq_check::check::check_within;
-use bq_check::fault::{CheckFault, NotesFault};
-use bq_check::notes::Notes;
-use bq_insn::decode::decode;
-use bq_insn::fault::DecodeFault;
-use q_book::answer::Asked;
-use q_book::book::Book;
-use q_book::fault::BookFault;
-use q_book::lengths::record_lengths;
-use q_table::program::{Program, ProgramId};
-use sc_msg::message::Message;
-use sc_msg::version::Version;
+use bq_check::{CheckFault, Notes, NotesFault, check_within};
+use bq_insn::{DecodeFault, decode};
+use q_book::{Asked, Book, BookFault, record_lengths};
+use q_table::{Program, ProgramId};
+use sc_msg::{Message, Version};
 use std::alloc::Global;
 
 /// What comes of a registration.

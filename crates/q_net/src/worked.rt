@@ -10,12 +10,12 @@ ghost use Rattle.sc_msg.specs.declared.version.Version.{Version};
 ghost use Rattle.q_net.specs.Requests.{IsNext, IsRead, IsRequest, spelling};
 ghost use Rattle.q_net.specs.Replies.{Registers, Replies, of_answer, reply_bytes, stop_number};
 ghost use Rattle.q_net.specs.Serves.{IsLast, last_reply};
-ghost use Rattle.q_net.specs.declared.incoming.Next.TheVariants as next;
+ghost use Rattle.q_net.specs.declared.incoming.Incoming.TheVariants as next;
 ghost use Rattle.q_net.specs.declared.request.Request.TheVariants as request;
-ghost use Rattle.q_net.specs.declared.request.Stop.{Stop};
-ghost use Rattle.q_net.specs.declared.request.Stop.TheVariants as stop;
-ghost use Rattle.q_net.specs.declared.reply.Reply.{Reply};
-ghost use Rattle.q_net.specs.declared.reply.Reply.TheVariants as reply;
+ghost use Rattle.q_net.specs.declared.request.StreamEnd.{StreamEnd};
+ghost use Rattle.q_net.specs.declared.request.StreamEnd.TheVariants as stop;
+ghost use Rattle.q_net.specs.declared.replies.Reply.{Reply};
+ghost use Rattle.q_net.specs.declared.replies.Reply.TheVariants as reply;
 
 /// What the definitions say at telling operands.
 #[tactic(auto, unfolding(bq_check::specs::Spelling::short_bytes, bq_check::specs::Spelling::long_bytes))]
@@ -45,6 +45,6 @@ pub fn worked()
     ensures fifth_kind { (version : Version) → IsNext version (5 ∷ []) (next.Ended stop.Unknown) → ⊥ }
     ensures cut_before_the_end { IsRead (Some (7 ∷ [])) (Some stop.Cut) → ⊥ }
     ensures told_at_the_end { last_reply (Some stop.Cut) ≡ 85 ∷ [] }
-    ensures no_end_at_99 { (ended : Option Stop) → last_reply ended ≡ 99 ∷ [] → ⊥ }
+    ensures no_end_at_99 { (ended : Option StreamEnd) → last_reply ended ≡ 99 ∷ [] → ⊥ }
     ensures failed_write { Counts {A = Unit {0}} {E = TransportFailed} (Ok (tt {0})) 0 0 4 5 → ⊥ }
 {}

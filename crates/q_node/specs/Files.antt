@@ -1,25 +1,18 @@
 -- A node whose cluster's file, socket, door and journal are named by words.
-use Rattle.std.specs.Prelude.{◌≡◌, ◌⊎◌, ℕ, List, [], None, Option, Result, Ok, Err, IsUtf8}
+use Rattle.std.specs.Prelude.{◌≡◌, ◌⊎◌, ℕ, List, None, Option, Result, Ok, Err, IsUtf8}
 use Rattle.q_files.specs.declared.files.FileFault.{FileFault}
-use Rattle.q_files.specs.declared.files.FileFault.TheVariants as file_fault
 use Rattle.q_clusterfile.specs.File.{IsFault, Spells}
 use Rattle.q_clusterfile.specs.declared.fault.ClusterFileFault.{ClusterFileFault}
 use Rattle.q_clusterfile.specs.declared.file.ClusterFile.{ClusterFile}
 use Rattle.q_ports.specs.Datagrams.{address_of}
-use Rattle.q_node.specs.Runs.{IsWritten}
-use Rattle.q_node.specs.declared.command.NodeWords.{NodeWords}
-use Rattle.q_node.specs.declared.ending.Ending.{Ending}
-use Rattle.q_node.specs.declared.ending.Ending.TheVariants.{Refused, Unwritten}
-use Rattle.q_node.specs.declared.fault.NodeFault.{NodeFault}
-use Rattle.q_node.specs.declared.fault.NodeFault.TheVariants as fault
+use Rattle.q_console.specs.Faults.{fault_of}
+use Rattle.q_console.specs.Runs.{EndsRefused, IsWritten}
+use Rattle.q_console.specs.declared.ending.Ending.{Ending}
+use Rattle.q_console.specs.declared.fault.StartFault.TheVariants as fault
 
 -- the most bytes that the file of a cluster has
 abbrev pub longest_file : ℕ
 longest_file = 16777216
-
--- a node that does not begin for this fault, which is told unless the output fails
-abbrev pub EndsRefused : NodeFault → Ending → Option (List ℕ) → Option (List ℕ) → Type 0
-EndsRefused f e before after = ((e ≡ Refused f) ⊎ (e ≡ Unwritten)) × IsWritten 0 [] e before after
 
 -- The node of this file and this id: the file lacks it, and that is told; or it runs, or does not begin, behind some line
 -- that tells where it hears.
@@ -39,11 +32,6 @@ abbrev pub RunsBytes : List ℕ → ℕ → Ending → Option (List ℕ) → Opt
 RunsBytes source id e before after =
     RunsText source id e before after
     ⊎ ((IsUtf8 source → ⊥) × EndsRefused fault.FileFailed e before after)
-
--- how a file that is not read is told
-abbrev pub fault_of : FileFault → NodeFault
-fault_of file_fault.Failed = fault.FileFailed
-fault_of file_fault.OutOfMemory = fault.OutOfMemory
 
 -- the same of the file of this name; or the file is not read
 abbrev pub IsWrittenFile : {F : Type 0} → (F → List ℕ → Result (List ℕ) FileFault → F → Type 0) → List ℕ → ℕ → F → F → Ending → Option (List ℕ) → Option (List ℕ) → Type 0

@@ -1,7 +1,2 @@
--- A node that runs apart: what its lock keeps, what its console says, how it ends.
-pub mod Own
-pub mod Console
-pub mod Faults
-pub mod Runs
-pub mod Talks
+-- A node whose cluster's file, socket, door and journal are named by words.
 pub mod Files

@@ -2,22 +2,16 @@
 
 ghost use Rattle.std.specs.Prelude.{◌≡◌};
 ghost use Rattle.q_node.specs.Files.{IsWrittenFile, RunsBytes, RunsNode, RunsText, longest_file};
-ghost use Rattle.q_node.specs.Runs.{IsRun, IsWritten, failures_after};
+ghost use Rattle.q_console.specs.Runs.{IsRun, IsWritten, failures_after};
 
-use crate::ending::{Ending, print_refusal};
-use crate::fault::NodeFault;
 use crate::run::{Setup, run_node};
-use q_board::board::MOST_RUNNERS;
-use q_clusterfile::fault::ClusterFileFault;
-use q_clusterfile::file::{ClusterFile, read_cluster};
-use q_files::files::{FileFault, Files, LONGEST_TEXT};
-use q_ports::datagram::address_of;
-use q_ports::door::ClientDoor;
-use q_ports::fault::PostFault;
-use q_ports::place::Place;
-use q_ports::udp::UdpPost;
-use q_recorder::file::DiskFile;
-use q_wire::counted::Counted;
+use q_board::MOST_RUNNERS;
+use q_clusterfile::{ClusterFile, ClusterFileFault, read_cluster};
+use q_console::{Ending, StartFault, print_refusal};
+use q_files::{Files, LONGEST_TEXT};
+use q_ports::{ClientDoor, DoorAddress, PostFault, UdpPost, address_of};
+use q_recorder::DiskFile;
+use q_wire::Counted;
 use std::alloc::{AllocError, Global};
 use std::fs::{File, Files as SystemFiles};
 use std::io::{BufRead, Eprint, Write};
@@ -45,20 +39,6 @@ pub struct NodeWords<'a> {
     pub runners: usize,
     /// Whether the system is asked to keep each part of the journal before anything is sent.
     pub sync: bool,
-}
-
-impl From<FileFault> for NodeFault {
-    ghost use Rattle.std.specs.Prelude.{◌≡◌};
-    ghost use Rattle.q_node.specs.Files.{fault_of};
-
-    ghost from_gives = { λ f e. e ≡ fault_of f };
-
-    fn from(fault: FileFault) -> NodeFault {
-        match fault {
-            FileFault::Failed => NodeFault::FileFailed,
-            FileFault::OutOfMemory => NodeFault::OutOfMemory,
-        }
-    }
 }
 
 /// What would satisfy the reader of a cluster's file.
@@ -125,7 +105,7 @@ where
     ensures counted { out.new.failures ≡ failures_after result out.old.failures }
 {
     let Ok(greeting) = greeting(alloc, words, post, door) else {
-        return print_refusal(NodeFault::OutOfMemory, out);
+        return print_refusal(StartFault::OutOfMemory, out);
     };
     let setup = Setup {
         file,
@@ -142,7 +122,7 @@ where
         Err(error) => {
             let name = words.journal;
             let _ = writeln!(notes, "{name}: {error}");
-            print_refusal(NodeFault::NoJournal, out)
+            print_refusal(StartFault::NoJournal, out)
         }
     }
 }
@@ -173,7 +153,7 @@ where
     ensures written { IsRun words.now.id result (W.contents out.old.inner) (W.contents out.new.inner) }
     ensures counted { out.new.failures ≡ failures_after result out.old.failures }
 {
-    match ClientDoor::open(rt, Place::of(words.clients)) {
+    match ClientDoor::open(rt, DoorAddress::of(words.clients)) {
         Ok(door) => {
             let ending = run_with_journal(rt, alloc, words, file, post, &door, console, out, notes);
             door.close();
@@ -182,7 +162,7 @@ where
         Err(error) => {
             let clients = words.clients;
             let _ = writeln!(notes, "{clients}: {error}");
-            print_refusal(NodeFault::TransportFailed, out)
+            print_refusal(StartFault::TransportFailed, out)
         }
     }
 }
@@ -218,20 +198,20 @@ where
     ensures counted { out.new.failures ≡ failures_after result out.old.failures }
 {
     let Some(address) = address_of(&file.nodes, words.id) else {
-        return print_refusal(NodeFault::NoSuchNode, out);
+        return print_refusal(StartFault::NoSuchNode, out);
     };
     if !is_runners(words.runners) {
-        return print_refusal(NodeFault::BadCount, out);
+        return print_refusal(StartFault::BadCount, out);
     }
     match UdpPost::open(rt, alloc, file, words.id, Duration::from_millis(PATIENCE)) {
         Ok(post) => run_with_door(rt, alloc, words, file, &post, console, out, notes),
-        Err(PostFault::OutOfMemory) => print_refusal(NodeFault::OutOfMemory, out),
+        Err(PostFault::OutOfMemory) => print_refusal(StartFault::OutOfMemory, out),
         Err(PostFault::Failed | PostFault::NoSuchNode) => {
             let _ = writeln!(
                 notes,
                 "{address}: the address is in use, or not one of this machine's"
             );
-            print_refusal(NodeFault::TransportFailed, out)
+            print_refusal(StartFault::TransportFailed, out)
         }
     }
 }
@@ -267,7 +247,7 @@ where
             let name = words.file;
             let advice = advice(fault);
             let _ = writeln!(notes, "{name}: {advice}");
-            print_refusal(NodeFault::Cluster(fault), out)
+            print_refusal(StartFault::Cluster(fault), out)
         }
     }
 }
@@ -299,14 +279,14 @@ where
 {
     match str::from_utf8(bytes) {
         Ok(source) => run_text(rt, alloc, words, source, console, out, notes),
-        Err(_) => print_refusal(NodeFault::FileFailed, out),
+        Err(_) => print_refusal(StartFault::FileFailed, out),
     }
 }
 
-/// The command `node`: runs the node of the cluster's file of this name so. Refused are, in this order: 87 where the file
-/// is not read, has more than 16 MiB or is no UTF-8; 9, 45, 49 and 44 for its text; 81 where it lacks the node; 62 where
-/// there are not 1 to 64 runners; 86 where the node's socket or the door cannot be opened; 87 where the journal's file is
-/// there already or cannot be made. 99 may come at any time. Why is explained in the notes.
+/// The command `node`: runs the node of the cluster's file of this name so. Refused are, in this order: 87 where the
+/// file is not read, has more than 16 MiB or is no UTF-8; 9, 45, 49 and 44 for its text; 81 where it lacks the node; 62
+/// where there are not 1 to 64 runners; 86 where the node's socket or the door cannot be opened; 87 where the journal's
+/// file is there already or cannot be made. 99 may come at any time. Why is explained in the notes.
 pub fn run_file<R, F, C, W, N>(
     rt: &R,
     alloc: Global,
@@ -334,6 +314,6 @@ where
 {
     match files.read(alloc, words.file, LONGEST_TEXT) {
         Ok(bytes) => run_bytes(rt, alloc, words, bytes.as_slice(), console, out, notes),
-        Err(fault) => print_refusal(NodeFault::from(fault), out),
+        Err(fault) => print_refusal(StartFault::from(fault), out),
     }
 }

@@ -2,10 +2,9 @@
 
 use crate::client::serve_stream;
 use crate::process::Process;
-use crate::start::Start;
-use q_ports::door::{Door, Stream};
-use q_ports::post::Post;
-use q_recorder::file::JournalFile;
+use q_own_book::Start;
+use q_ports::{Door, Post, Stream};
+use q_recorder::JournalFile;
 use std::alloc::Global;
 use std::sync::Wait;
 use std::sync::atomic::Ordering;

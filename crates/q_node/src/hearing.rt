@@ -3,11 +3,10 @@
 ghost use Rattle.std.specs.Prelude.{◌≡◌, length};
 
 use crate::process::Process;
-use crate::start::Start;
-use q_ports::datagram::FRONT;
-use q_ports::post::{Post, Received};
-use q_recorder::file::JournalFile;
-use sc_msg::message::MOST_BYTES;
+use q_own_book::Start;
+use q_ports::{FRONT, Post, Received};
+use q_recorder::JournalFile;
+use sc_msg::MOST_MESSAGE_BYTES;
 use std::alloc::{AllocError, Global};
 use std::sync::Wait;
 use std::thread;
@@ -15,7 +14,7 @@ use std::time::{Clock, Duration};
 
 /// The most bytes of a datagram that are looked at: one more than the longest has, so that none is taken for the start
 /// of a longer one.
-const LOOKED_AT: usize = FRONT + MOST_BYTES + 1;
+const LOOKED_AT: usize = FRONT + MOST_MESSAGE_BYTES + 1;
 
 /// For how many milliseconds the thread sleeps where its socket fails.
 const PAUSE: u64 = 10;

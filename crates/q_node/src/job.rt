@@ -3,10 +3,10 @@
 ghost use Rattle.std.specs.Prelude.{ℕ};
 
 use crate::process::Process;
-use crate::start::Start;
-use q_pool::gate::Gate;
-use q_ports::post::Post;
-use q_recorder::file::JournalFile;
+use q_own_book::Start;
+use q_pool::Gate;
+use q_ports::Post;
+use q_recorder::JournalFile;
 use std::alloc::Global;
 use std::sync::Wait;
 

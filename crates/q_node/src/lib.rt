@@ -12,37 +12,32 @@
 //! | each client | a request | reads it without the lock; takes it under the lock, settles, sends; replies when it is due |
 //! | the caller's | a line of the console | `status`, `leave`, `end` |
 //!
-//! All that may change the book ends with settling, under the one lock (`q_kept`): no message leaves before the journal
-//! that gave it is written, and no reply is given before either. After a write that failed the node is mute, which for
-//! the others is a crash. A client that sends nothing for a minute, or takes nothing for ten seconds, is closed; the end
-//! of a store is waited for ten seconds, and an answer one.
+//! What the one lock keeps, and each call under it, stands in `q_own_book`; what is said at the console, and last, in
+//! `q_console`. All that may change the book ends with settling (`q_kept`): no message leaves before the journal that
+//! gave it is written, and no reply is given before either. After a write that failed the node is mute, which for the
+//! others is a crash. A client that sends nothing for a minute, or takes nothing for ten seconds, is closed; the end of
+//! a store is waited for ten seconds, and an answer one.
 //!
 //! Proved of a run ([`run_node`], [`run_file`]), if it returns: what is printed, line for line, with each line of the
 //! console what a book of this node gives; and that the journal's file holds, behind what it held at first, the whole
 //! journal of a book of this node where the last line says so, and a beginning of it in any case. What clients are
 //! replied is proved in `q_clients`, to which this node promises that its replies are those of its own books. Tested
 //! alone: that threads hear, send, wake and end, how long all takes, and what a disk or a socket holds.
-//!
-//! [`run_node`]: run::run_node
-//! [`run_file`]: command::run_file
 #![tactic(auto)]
 
 mod again;
 mod client;
 mod clock;
-pub mod command;
-pub mod console;
+mod command;
 mod doorway;
-pub mod ending;
-pub mod fault;
 mod hearing;
 mod job;
-mod own;
 mod process;
-pub mod run;
-pub mod start;
-pub mod status;
-pub mod talk;
+mod run;
+mod talk;
 mod threads;
 mod watch;
 pub mod worked;
+
+pub use command::{NodeWords, run_file};
+pub use run::{NodeRun, Setup, run_node};

@@ -1,38 +1,31 @@
 //! A node, run over any socket, door, journal's file, console and output.
 
-ghost use Rattle.std.specs.Prelude.{◌≡◌, ◌≤◌, All, IfErr, IfOk, ℕ, List, Option};
+ghost use Rattle.std.specs.Prelude.{◌≡◌, ◌≤◌, All, IfErr, IfOk, ℕ, List};
 ghost use Rattle.q_board.specs.BoardId.{board_id};
 ghost use Rattle.q_book.specs.State.{BookState};
 ghost use Rattle.q_recorder.specs.Recording.{IsRecorded};
 ghost use Rattle.q_clusterfile.specs.declared.file.ClusterFile.{ClusterFile as File};
-ghost use Rattle.q_node.specs.Faults.{IsUnbegun};
-ghost use Rattle.q_node.specs.Own.{IsKept, IsOwn};
-ghost use Rattle.q_node.specs.Runs.{Closes, IsJournal, IsWritten, failures_after};
-ghost use Rattle.q_node.specs.Talks.{Talks, talk_count};
-ghost use Rattle.q_node.specs.declared.ending.Ending.TheVariants.{Refused};
-ghost use Rattle.q_node.specs.declared.fault.NodeFault.{NodeFault as Fault};
+ghost use Rattle.q_console.specs.Faults.{IsUnbegun};
+ghost use Rattle.q_own_book.specs.Own.{IsOwn};
+ghost use Rattle.q_console.specs.Runs.{IsJournal, IsWritten, failures_after};
+ghost use Rattle.q_console.specs.Talks.{Talks, talk_count};
+ghost use Rattle.q_console.specs.declared.ending.Ending.TheVariants.{Refused};
+ghost use Rattle.q_console.specs.declared.fault.StartFault.{StartFault as Fault};
 
 use crate::doorway::shut_door;
-use crate::ending::{Ending, print_end, print_refusal};
-use crate::fault::NodeFault;
-use crate::own::{Ended, Own};
 use crate::process::Process;
-use crate::start::Start;
-use crate::talk::{Talk, hold_talk};
+use crate::talk::hold_talk;
 use crate::threads::{Crew, run_threads};
-use q_board::board::Board;
-use q_board::fault::OpenFault;
-use q_board::seats::{AskerSeat, RunnerSeat};
-use q_book::book::Book;
-use q_clusterfile::file::ClusterFile;
-use q_held::held::Held;
-use q_kept::kept::Kept;
-use q_ports::door::Door;
-use q_ports::post::Post;
-use q_recorder::fault::Unrecorded;
-use q_recorder::file::JournalFile;
-use q_recorder::recorder::Recorder;
-use q_wire::counted::Counted;
+use q_board::{AskerSeat, Board, OpenFault, RunnerSeat};
+use q_book::Book;
+use q_clusterfile::ClusterFile;
+use q_console::{Ending, StartFault, Talk, close, print_refusal};
+use q_held::Held;
+use q_kept::Kept;
+use q_own_book::{Ended, Own, Start};
+use q_ports::{Door, Post};
+use q_recorder::{JournalFile, Recorder};
+use q_wire::Counted;
 use std::alloc::{AllocError, Global};
 use std::io::{BufRead, Eprint, Write};
 use std::marker::Brand;
@@ -108,31 +101,6 @@ where
         },
     );
     talk
-}
-
-/// The last line of a node whose threads were not started, or whose journal could not be begun.
-fn close_unstarted<W: Write>(events: Result<usize, Unrecorded>, out: &mut Counted<W>) -> Ending
-    ensures written { (node : ℕ) (greeting : List ℕ) → IsWritten node greeting result (W.contents out.old.inner) (W.contents out.new.inner) }
-    ensures journal { (node : ℕ) (first file : Option (List ℕ)) → IsKept node first file events → IsJournal node first file result }
-    ensures begun { (fault : Fault) → result ≡ Refused fault → ⊥ }
-    ensures counted { out.new.failures ≡ failures_after result out.old.failures }
-{
-    let fault = events.err().unwrap_or(Unrecorded::OutOfMemory);
-    print_end(Err(fault), out)
-}
-
-/// The last line of a run whose conversation ended so, and whose journal was written so.
-fn close<W: Write>(talk: Talk, events: Result<usize, Unrecorded>, out: &mut Counted<W>) -> Ending
-    ensures written { (node : ℕ) (greeting : List ℕ) (before : Option (List ℕ)) → Talks node greeting before talk (W.contents out.old.inner) → IsWritten node greeting result before (W.contents out.new.inner) }
-    ensures journal { (node : ℕ) (first file : Option (List ℕ)) → IsKept node first file events → IsJournal node first file result }
-    ensures begun { (fault : Fault) → result ≡ Refused fault → ⊥ }
-    ensures counted { (n : ℕ) → out.old.failures ≡ talk_count talk n → out.new.failures ≡ failures_after result n }
-{
-    match talk {
-        Talk::Ended => print_end(events, out),
-        Talk::Unstarted => close_unstarted(events, out),
-        Talk::Unwritten => Ending::Unwritten,
-    }
 }
 
 /// Tells on the standard error which datagrams changed nothing, and what was not sent.
@@ -221,13 +189,13 @@ fn enter<'b>(
     setup: &Setup<'_>,
     board: &'b Board,
     asker: AskerSeat,
-) -> Result<Held<'b>, NodeFault>
+) -> Result<Held<'b>, StartFault>
     requires { asker.table ≡ board_id board.now }
     ensures own { IfOk result (λ held. held.book.id ≡ setup.now.id) }
-    ensures fault { IfErr result (λ fault. fault ≡ NodeFault.OutOfMemory) }
+    ensures fault { IfErr result (λ fault. fault ≡ StartFault.OutOfMemory) }
 {
     let Ok((book, outs)) = Book::entering(alloc, setup.file.config, setup.id) else {
-        return Err(NodeFault::OutOfMemory);
+        return Err(StartFault::OutOfMemory);
     };
     let mut held = Held::new(alloc, book, board, asker);
     held.waiting.reserve(2)?;
@@ -241,7 +209,7 @@ fn found<'b>(
     setup: &Setup<'_>,
     board: &'b Board,
     asker: AskerSeat,
-) -> Result<Held<'b>, NodeFault>
+) -> Result<Held<'b>, StartFault>
     requires { asker.table ≡ board_id board.now }
     ensures own { IfOk result (λ held. held.book.id ≡ setup.now.id) }
     ensures fault { IfErr result (IsUnbegun setup.now.file.now setup.now.id setup.now.runners) }
@@ -249,7 +217,7 @@ fn found<'b>(
     let founders = setup.file.founders(alloc)?;
     match Book::founder(alloc, setup.file.config, setup.id, founders.as_slice()) {
         Ok(book) => Ok(Held::new(alloc, book, board, asker)),
-        Err(fault) => Err(NodeFault::Book(fault)),
+        Err(fault) => Err(StartFault::Book(fault)),
     }
 }
 
@@ -259,17 +227,17 @@ fn begin<'b>(
     setup: &Setup<'_>,
     board: &'b Board,
     mut askers: Vec<AskerSeat>,
-) -> Result<Held<'b>, NodeFault>
+) -> Result<Held<'b>, StartFault>
     requires { All (λ s. s.table ≡ board_id board.now) askers.items }
     ensures own { IfOk result (λ held. held.book.id ≡ setup.now.id) }
     ensures fault { IfErr result (IsUnbegun setup.now.file.now setup.now.id setup.now.runners) }
 {
     let Some(line) = setup.file.node(setup.id) else {
-        return Err(NodeFault::NoSuchNode);
+        return Err(StartFault::NoSuchNode);
     };
     // The board has one seat for one who asks.
     let Some(asker) = askers.pop() else {
-        return Err(NodeFault::OutOfMemory);
+        return Err(StartFault::OutOfMemory);
     };
     if line.is_founder {
         found(alloc, setup, board, asker)
@@ -285,7 +253,7 @@ fn ids(alloc: Global, file: &ClusterFile) -> Result<Vec<u64>, AllocError> {
 
 /// A node that does not begin.
 fn refuse<J: JournalFile, W: Write>(
-    fault: NodeFault,
+    fault: StartFault,
     recorder: Recorder<J>,
     out: &mut Counted<W>,
 ) -> NodeRun<J>
@@ -331,7 +299,7 @@ where
     ensures counted { out.new.failures ≡ failures_after result.ending out.old.failures }
 {
     let Ok(nodes) = ids(alloc, setup.file) else {
-        return refuse(NodeFault::OutOfMemory, recorder, out);
+        return refuse(StartFault::OutOfMemory, recorder, out);
     };
     let held = match begin(alloc, setup, board, askers) {
         Ok(held) => held,
@@ -352,23 +320,23 @@ where
 }
 
 /// Why there is no board for so many runners.
-fn unseated(fault: OpenFault, runners: usize) -> NodeFault
+fn unseated(fault: OpenFault, runners: usize) -> StartFault
     requires { fault ≡ OpenFault.BadCount → ¬ ((1 ≤ runners) × (runners ≤ 64)) }
     ensures { (file : File) (id : ℕ) → IsUnbegun file id runners result }
 {
     match fault {
-        OpenFault::BadCount => NodeFault::BadCount,
-        OpenFault::OutOfMemory => NodeFault::OutOfMemory,
+        OpenFault::BadCount => StartFault::BadCount,
+        OpenFault::OutOfMemory => StartFault::OutOfMemory,
     }
 }
 
 /// Runs a node until its console, or the console's input, ends it, and gives what its journal's file holds then.
 ///
 /// Its first line comes once all threads run: one that hears, one that asks again, one at the door with one for each
-/// client, and the runners. The lines of the console are `status`, `leave` and `end`. The last line tells how many events
-/// the journal has, or why it is not whole. What else an operator has to know goes to the standard error: that nine
-/// tenths of a limit are used, that the journal cannot be written, and at the end which datagrams changed nothing and
-/// what was not sent.
+/// client, and the runners. The lines of the console are `status`, `leave` and `end`. The last line tells how many
+/// events the journal has, or why it is not whole. What else an operator has to know goes to the standard error: that
+/// nine tenths of a limit are used, that the journal cannot be written, and at the end which datagrams changed nothing
+/// and what was not sent.
 ///
 /// It does not begin where there are not 1 to 64 runners (62), the file lacks the node (81), its founders are refused
 /// (49), or memory runs out (99): these come in this order, and then nothing is written to the journal's file.

@@ -3,31 +3,19 @@
 ghost use Rattle.std.specs.Prelude.{◌≡◌, ◌++◌, ◌∷◌, [], ℕ, List, IfSome, OnOk, OnErr};
 ghost use Rattle.std.specs.Io.KnownBytes.{Appends};
 ghost use Rattle.q_wire.specs.Counts.{count_after};
-ghost use Rattle.q_node.specs.Console.{IsSaid, IsSaidTo};
-ghost use Rattle.q_node.specs.Talks.{Greets, Obeys, Talks, Tells, talk_count};
+ghost use Rattle.q_console.specs.Console.{IsSaid, IsSaidTo};
+ghost use Rattle.q_console.specs.Talks.{Greets, Obeys, Talks, Tells, talk_count};
 
-use crate::console::{Command, Said, put_said};
 use crate::process::Process;
-use crate::start::Start;
-use q_ports::post::Post;
-use q_recorder::file::JournalFile;
-use q_wire::counted::Counted;
-use q_wire::fault::TransportFailed;
+use q_console::{Command, Said, Talk, put_said};
+use q_own_book::Start;
+use q_ports::Post;
+use q_recorder::JournalFile;
+use q_wire::{Counted, TransportFailed};
 use reasons::Reason;
 use std::alloc::Global;
 use std::io::{BufRead, Write};
 use std::sync::Wait;
-
-/// How a conversation ends.
-#[derive(Clone, Copy, Debug, PartialEq, Eq)]
-pub enum Talk {
-    /// It was ended, or its input.
-    Ended,
-    /// The threads of the node could not be started.
-    Unstarted,
-    /// The output failed.
-    Unwritten,
-}
 
 /// The command of the next line; at the end of the input, and where that fails, that to end.
 fn next_command<C: BufRead>(alloc: Global, console: &mut C) -> Command {

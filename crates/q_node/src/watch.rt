@@ -2,8 +2,8 @@
 
 ghost use Rattle.std.specs.Prelude.{◌≡◌};
 
-use crate::status::Status;
-use q_desk::desk::{MOST_EVENTS, MOST_QUERIES};
+use q_console::Status;
+use q_desk::{MOST_EVENTS, MOST_QUERIES};
 use std::io::Eprint;
 
 /// Something that is told once, when it is first seen.

@@ -1,54 +1,15 @@
-//! Worked values of what a node prints, and of how its run ends.
+//! Worked values of what the command `node` does.
 
-ghost use Rattle.std.specs.Prelude.{◌≡◌, ◌++◌, ℕ, List, [], Option, Some, true, codes};
-ghost use Rattle.reasons.specs.Table as table;
-ghost use Rattle.reasons.specs.declared.Reason.TheVariants as reasons;
-ghost use Rattle.q_clusterfile.specs.declared.file.ClusterFile.{ClusterFile as File};
+ghost use Rattle.std.specs.Prelude.{ℕ, List, Option};
+ghost use Rattle.q_clusterfile.specs.File.{IsFault};
 ghost use Rattle.q_clusterfile.specs.declared.fault.ClusterFileFault.TheVariants as cluster_fault;
-ghost use Rattle.q_recorder.specs.declared.fault.Unrecorded.TheVariants as unrecorded;
-ghost use Rattle.q_sim.specs.declared.refusal.Place.TheVariants as place;
-ghost use Rattle.q_node.specs.Console.{IsSaidTo, command_of, said_line, status_line};
-ghost use Rattle.q_node.specs.Faults.{IsUnbegun, place_of, reason};
-ghost use Rattle.q_node.specs.Own.{HoldsJournal};
-ghost use Rattle.q_node.specs.Runs.{IsJournal, IsWritten, journal_line, status_of};
-ghost use Rattle.q_node.specs.declared.console.Command.TheVariants as command;
-ghost use Rattle.q_node.specs.declared.console.Said.{Said as Told};
-ghost use Rattle.q_node.specs.declared.console.Said.TheVariants as said;
-ghost use Rattle.q_node.specs.declared.ending.Ending.TheVariants as ending;
-ghost use Rattle.q_node.specs.declared.fault.NodeFault.TheVariants as fault;
+ghost use Rattle.q_console.specs.declared.ending.Ending.TheVariants as ending;
+ghost use Rattle.q_console.specs.declared.fault.StartFault.TheVariants as fault;
+ghost use Rattle.q_node.specs.Files.{RunsText};
 
-/// The lines that are printed and read.
+/// A text with a faulty line is not told as a file that is not read.
 pub fn worked()
-    ensures status { status_line (record { joined = true; present = 3; events = 4142; queries = 82; underway = 0 }) ≡ codes "status joined true present 3 events 4142 of 65536 queries 82 of 4096 open 0\n" }
-    ensures journal { journal_line 4142 ≡ codes "journal 4142 events\n" }
-    ensures done { said_line said.Done ≡ codes "ok\n" }
-    ensures refused { said_line (said.Refused reasons.Syntax) ≡ codes "refused 9 Syntax\n" }
-    ensures leave { command_of (codes "leave") command.Leave }
-    ensures no_other { command_of (codes "leave ") command.Leave → ⊥ }
-    ensures not_unknown { command_of (codes "end") command.Unknown → ⊥ }
-    ensures nothing_to_end { (node : ℕ) (s : Told) → IsSaidTo node command.End s → ⊥ }
-    ensures unknown { (node : ℕ) (s : Told) → IsSaidTo node command.Unknown s → s ≡ said.Refused reasons.Syntax }
-{}
-
-/// How a run ends.
-pub fn worked_endings()
-    ensures ended { (events : ℕ) → status_of (ending.Ended events) ≡ 0 }
-    ensures mute { status_of (ending.Stopped unrecorded.Failed) ≡ 1 }
-    ensures whole { (node : ℕ) (first file : Option (List ℕ)) (events : ℕ) → IsJournal node first file (ending.Ended events) → HoldsJournal node first file events }
-    ensures untouched { (node : ℕ) (first file : Option (List ℕ)) → IsJournal node first file (ending.Refused fault.NoSuchNode) → file ≡ first }
-    ensures alone { (node : ℕ) (greeting after : List ℕ) → IsWritten node greeting (ending.Refused fault.NoSuchNode) (Some []) (Some after) → after ≡ codes "refused 81 NoSuchNode\n" }
-    ensures line { (node : ℕ) (greeting after : List ℕ) → IsWritten node greeting (ending.Refused (fault.Cluster (cluster_fault.Syntax 3))) (Some []) (Some after) → after ≡ codes "refused 9 Syntax line 3\n" }
-{}
-
-/// Why a node does not begin.
-pub fn worked_faults()
-    ensures no_such_node { table.number (reason fault.NoSuchNode) ≡ 81 }
-    ensures runners { table.number (reason fault.BadCount) ≡ 62 }
-    ensures transport { table.number (reason fault.TransportFailed) ≡ 86 }
-    ensures journal { table.number (reason fault.NoJournal) ≡ 87 }
-    ensures unread { table.number (reason fault.FileFailed) ≡ 87 }
-    ensures memory { table.number (reason fault.OutOfMemory) ≡ 99 }
-    ensures line { place_of (fault.Cluster (cluster_fault.Syntax 3)) ≡ place.Line 3 }
-    ensures begins { (file : File) (id : ℕ) → IsUnbegun file id 2 fault.BadCount → ⊥ }
-    ensures not_read { (file : File) (id runners : ℕ) → IsUnbegun file id runners fault.FileFailed → ⊥ }
+    ensures faulty { (source : List ℕ) (id line : ℕ) (before after : Option (List ℕ))
+        → IsFault source (cluster_fault.Syntax line)
+        → RunsText source id (ending.Refused fault.FileFailed) before after → ⊥ }
 {}

@@ -4,10 +4,8 @@ use crate::console::{MAILBOXES, end_at};
 use crate::masks::spelled;
 use crate::plan::first;
 use crate::stage::{LOOKS, NAP, Stage, place_of};
-use q_asker::command::run_text;
-use q_wire::counted::Counted;
-use q_wire::memory::Hub;
-use q_wire::transport::Transport;
+use q_asker::run_text;
+use q_wire::{Counted, Hub, Transport};
 use std::alloc::{AllocError, Global};
 use std::fs::Files;
 use std::io::{Eprint, ErrorKind, Read, Write};
@@ -138,7 +136,8 @@ where
         Ok(())
     }
 
-    /// Runs a client again and again until it loses its connection, or until it does not, and writes what it prints then.
+    /// Runs a client again and again until it loses its connection, or until it does not, and writes what it prints
+    /// then.
     fn insist<W: Write>(&self, words: &str, is_lost: bool, out: &mut W) -> io::Result<()> {
         let (id, script) = first(words);
         let script = spelled(self.alloc, script, "")?;

@@ -3,14 +3,13 @@
 ghost use Rattle.std.specs.Prelude.{◌≡◌, length, IfOk};
 ghost use Rattle.q_ports.specs.Datagrams.{Fits};
 
-use q_ports::post::{Post, Received};
-use q_ports::udp::UdpPost;
-use q_wire::fault::TransportFault;
+use q_ports::{Post, Received, UdpPost};
+use q_wire::TransportFault;
 use std::sync::atomic::AtomicU64;
 use std::sync::atomic::Ordering::SeqCst;
 
-/// A socket over UDP, whose datagrams are disturbed by a list of letters, in turn: `x` loses one, `2` sends it twice, and
-/// any other sends it as it is. An empty list disturbs nothing.
+/// A socket over UDP, whose datagrams are disturbed by a list of letters, in turn: `x` loses one, `2` sends it twice,
+/// and any other sends it as it is. An empty list disturbs nothing.
 #[derive(Drop)]
 pub struct Disturbed<'a> {
     pub inner: UdpPost,

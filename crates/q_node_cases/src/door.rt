@@ -1,7 +1,6 @@
 //! The door of a node of a case. It does not wait for clients, so that nothing has to wake it.
 
-use q_ports::door::{Door, PATIENCE, Stream};
-use q_ports::place::Place;
+use q_ports::{Door, DoorAddress, PATIENCE, Stream};
 use std::fs::Files;
 use std::io;
 use std::io::{Read, Write};
@@ -31,17 +30,17 @@ pub enum Visitor {
 
 impl PolledDoor {
     /// The door at a place.
-    pub fn open<R>(rt: &R, place: Place<'_>) -> io::Result<PolledDoor>
+    pub fn open<R>(rt: &R, place: DoorAddress<'_>) -> io::Result<PolledDoor>
     where
         R: Net<Listener = TcpListener, Stream = TcpStream> + Files,
     {
         let listener = match place {
-            Place::Tcp(address) => {
+            DoorAddress::Tcp(address) => {
                 let listener = TcpListener::bind(rt, address)?;
                 listener.set_nonblocking(true)?;
                 Listener::Tcp(listener)
             }
-            Place::Unix(path) => {
+            DoorAddress::Unix(path) => {
                 let listener = UnixListener::bind(rt, path)?;
                 listener.set_nonblocking(true)?;
                 Listener::Unix(listener)

@@ -1,6 +1,6 @@
 //! What a case begins with.
 
-use q_script::number::number;
+use q_script::number;
 use std::alloc::{AllocError, Global};
 
 /// What a node of a case is run with.

@@ -5,12 +5,10 @@ use crate::disturbed::Disturbed;
 use crate::door::PolledDoor;
 use crate::plan::{Part, Plan};
 use crate::role::Role;
-use q_clusterfile::file::{ClusterFile, read_cluster};
-use q_ports::place::Place;
-use q_ports::udp::UdpPost;
-use q_recorder::memory::MemoryFile;
-use q_wire::counted::Counted;
-use q_wire::memory::Hub;
+use q_clusterfile::{ClusterFile, read_cluster};
+use q_ports::{DoorAddress, UdpPost};
+use q_recorder::MemoryFile;
+use q_wire::{Counted, Hub};
 use std::alloc::{AllocError, Global};
 use std::fs::Files;
 use std::io;
@@ -84,7 +82,8 @@ fn counters(alloc: Global, count: usize) -> Result<Vec<AtomicU64>, AllocError> {
     Ok(counters)
 }
 
-/// The sockets of the nodes of a plan, and behind them one of a stranger, which all know all nodes; and what they share.
+/// The sockets of the nodes of a plan, and behind them one of a stranger, which all know all nodes; and what they
+/// share.
 pub fn open<R: Net>(
     rt: &R,
     alloc: Global,
@@ -120,7 +119,7 @@ fn role<'a, R: Net<Listener = TcpListener, Stream = TcpStream> + Files>(
 ) -> io::Result<Role<'a>> {
     let mut journal = Counted::new(MemoryFile::new(alloc, part.room));
     journal.fail_at(part.call);
-    let door = PolledDoor::open(rt, Place::of(part.door))?;
+    let door = PolledDoor::open(rt, DoorAddress::of(part.door))?;
     let place = match door.address() {
         Some(address) => format!(in alloc; "{address}")?,
         None => String::from_str(alloc, part.door)?,

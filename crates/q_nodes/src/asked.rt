@@ -1,8 +1,8 @@
 //! What the open operations of a node asked.
 
-use q_book::book::Book;
-use q_held::addressee::asking_operation;
-use sc_msg::message::Message;
+use q_book::Book;
+use q_held::asking_operation;
+use sc_msg::Message;
 use std::alloc::Global;
 
 /// A message to which an open operation waits for answers.

@@ -3,9 +3,9 @@
 use crate::bell::Bell;
 use crate::clock::has_passed;
 use crate::seat;
-use q_held::held::Held;
-use q_lines::outcome::Outcome;
-use q_wire::transport::Transport;
+use q_held::Held;
+use q_lines::Outcome;
+use q_wire::Transport;
 use std::alloc::Global;
 use std::sync::{Mutex, Wait};
 use std::time::{Clock, Duration, Instant};

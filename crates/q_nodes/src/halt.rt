@@ -4,8 +4,8 @@ ghost use Rattle.std.specs.Prelude.{◌≡◌, ◌≤◌, ℕ};
 ghost use Rattle.q_lines.specs.Runs.{IsUntold};
 ghost use Rattle.q_nodes.specs.Halts.{IsHalt};
 
-use q_board::fault::OpenFault;
-use q_lines::fault::NodesFault;
+use q_board::OpenFault;
+use q_lines::NodesFault;
 use std::alloc::AllocError;
 
 /// Why no line of a script is told.

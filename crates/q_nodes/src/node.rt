@@ -5,15 +5,11 @@ ghost use Rattle.std.specs.Prelude.{◌≡◌, ◌≤◌, length, IfSome};
 use crate::asked::Asked;
 use crate::bell::Bell;
 use crate::clock::has_passed;
-use q_desk::completed::Completed;
-use q_held::addressee::addressee;
-use q_held::held::Held;
-use q_held::losses::Unsent;
-use q_lines::script::is_node;
-use q_wire::transport::Transport;
-use sc_msg::encode::encode_fitting;
-use sc_msg::message::{MOST_BYTES, Message};
-use sc_msg::version::Version;
+use q_desk::Completed;
+use q_held::{Held, Unsent, addressee};
+use q_lines::is_node;
+use q_wire::Transport;
+use sc_msg::{MOST_MESSAGE_BYTES, Message, Version, encode_fitting};
 use std::alloc::{AllocError, Global};
 use std::sync::atomic::{AtomicBool, Ordering};
 use std::sync::{Mutex, Wait};
@@ -22,7 +18,7 @@ use std::time::{Clock, Duration, Instant};
 
 /// The most bytes of a datagram that are looked at: one more than the longest message has, so that none is taken for
 /// the start of a longer datagram.
-const LOOKED_AT: usize = MOST_BYTES + 1;
+const LOOKED_AT: usize = MOST_MESSAGE_BYTES + 1;
 
 /// A node looks at what its open operations asked this often, since datagrams are lost.
 const AGAIN_MILLIS: u64 = 50;

@@ -7,18 +7,14 @@ ghost use Rattle.q_nodes.specs.Halts.{IsHalt};
 
 use crate::calls::{Calls, ids, make_calls};
 use crate::halt::Halt;
-use q_held::losses::Unsent;
-use q_lines::ending::{Ending, print_telling, print_untold};
-use q_lines::fault::NodesFault;
-use q_lines::outcome::Outcome;
-use q_lines::own::are_of_nodes;
-use q_lines::report::Tally;
-use q_lines::script::ClusterScript;
-use q_lines::telling::{Telling, tell};
-use q_refused::told::write_refused_line;
-use q_sim::refusal::LineFault;
-use q_wire::counted::Counted;
-use q_wire::transport::Transport;
+use q_held::Unsent;
+use q_lines::{
+    ClusterScript, Ending, NodesFault, Outcome, Tally, Telling, are_of_nodes, print_telling,
+    print_untold, tell,
+};
+use q_refused::write_refused_line;
+use q_sim::RefusedLine;
+use q_wire::{Counted, Transport};
 use std::alloc::{AllocError, Global};
 use std::io::Write;
 use std::sync::Wait;
@@ -37,7 +33,7 @@ fn note_trouble<N: Write>(notes: &mut N, tally: Tally, unsent: Unsent) {
 }
 
 /// A line that was refused, its refusal, and what would satisfy it.
-fn refused_line(alloc: Global, fault: LineFault, text: &str) -> Result<String, AllocError> {
+fn refused_line(alloc: Global, fault: RefusedLine, text: &str) -> Result<String, AllocError> {
     let mut out = String::new(alloc);
     write_refused_line(alloc, &mut out, fault, text)?;
     Ok(out)
@@ -48,7 +44,7 @@ fn note_refused<N: Write>(alloc: Global, source: &str, outcomes: &[Outcome], not
     for (place, (text, outcome)) in source.split('\n').skip(1).zip(outcomes).enumerate() {
         if let Outcome::Refused(NodesFault::Script(refusal)) = *outcome {
             let line = place.saturating_add(2);
-            if let Ok(told) = refused_line(alloc, LineFault { line, refusal }, text) {
+            if let Ok(told) = refused_line(alloc, RefusedLine { line, refusal }, text) {
                 let _ = notes.write_all(told.as_bytes());
             }
         }

@@ -8,11 +8,9 @@ ghost use Rattle.std.specs.Prelude.{MatchOption};
 ghost use Rattle.q_book.specs.State.{BookState};
 ghost use Rattle.q_lines.specs.Books.{BeginsQuery, BeginsStore, IsOther, Registers};
 
-use q_held::held::Held;
-use q_lines::fault::NodesFault;
-use q_lines::outcome::Outcome;
-use q_lines::own::is_of;
-use q_table::program::{Program, ProgramId};
+use q_held::Held;
+use q_lines::{NodesFault, Outcome, is_of};
+use q_table::{Program, ProgramId};
 use std::sync::Mutex;
 
 /// The lock of this node, which is counted from 1.

@@ -5,13 +5,10 @@ ghost use Rattle.q_lines.specs.Runs.{IsWrittenBytes, IsWrittenFile, IsWrittenOf,
 ghost use Rattle.q_nodes.specs.Files.{longest_script};
 
 use crate::run::run_script;
-use q_files::files::{Files, LONGEST_TEXT};
-use q_lines::ending::{Ending, print_refusal};
-use q_lines::fault::NodesFault;
-use q_lines::script::ClusterScript;
-use q_sim::refusal::Refusal;
-use q_wire::counted::Counted;
-use q_wire::udp::{Peer, UdpTransport};
+use q_files::{Files, LONGEST_TEXT};
+use q_lines::{ClusterScript, Ending, NodesFault, print_refusal};
+use q_sim::Refusal;
+use q_wire::{Counted, Peer, UdpTransport};
 use std::alloc::Global;
 use std::io::Write;
 use std::net::Net;

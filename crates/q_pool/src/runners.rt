@@ -3,11 +3,9 @@
 ghost use Rattle.std.specs.Prelude.{◌≡◌, All, IfOk};
 ghost use Rattle.q_board.specs.BoardId.{board_id};
 
-use bq_frame::block::Block;
-use q_board::board::{Board, MOST_ASKERS};
-use q_board::seats::RunnerSeat;
-use q_runner::gate::Gate;
-use q_runner::runner::run_some;
+use bq_frame::Block;
+use q_board::{Board, MOST_ASKERS, RunnerSeat};
+use q_runner::{Gate, run_some};
 use std::alloc::{AllocError, Global};
 use std::sync::Wait;
 use std::sync::atomic::AtomicBool;

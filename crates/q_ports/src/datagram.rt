@@ -10,7 +10,7 @@ ghost use Rattle.q_ports.specs.Datagrams.{IsAdmitted, IsReceived, address_of, fr
 
 use crate::post::Received;
 use byteorder::{ByteOrder, LittleEndian};
-use q_clusterfile::line::NodeLine;
+use q_clusterfile::NodeLine;
 use std::alloc::{AllocError, Global};
 use std::net::SocketAddr;
 

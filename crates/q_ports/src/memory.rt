@@ -6,9 +6,7 @@ ghost use Rattle.q_wire.specs.Peers.{HasMailbox};
 
 use crate::datagram::sender;
 use crate::post::{Post, Received};
-use q_wire::fault::TransportFault;
-use q_wire::memory::{Hub, MemoryTransport};
-use q_wire::transport::Transport;
+use q_wire::{Hub, MemoryTransport, Transport, TransportFault};
 use std::sync::Wait;
 use std::time::Duration;
 

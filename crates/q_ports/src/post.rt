@@ -3,7 +3,7 @@
 ghost use Rattle.std.specs.Prelude.{◌≡◌, ℕ, List, length, IfOk, ⊤};
 ghost use Rattle.q_ports.specs.Datagrams.{Fits, OnMessage};
 
-use q_wire::fault::TransportFault;
+use q_wire::TransportFault;
 
 /// What came at a node's socket.
 #[derive(Clone, Copy, Debug, PartialEq, Eq)]

@@ -8,15 +8,13 @@ ghost use Rattle.q_book.specs.Books.{room_for_post};
 ghost use Rattle.q_pump.specs.Pumped.{Pumped, Stopped};
 ghost use Rattle.q_pump.specs.Turns.{Polls, IsOpenAt, Receiving, NoRoomPast, OffersNext, RefusesNext, OfferedAll, StopsOffering};
 
-use q_board::board::Board;
-use q_board::seats::{AskerSeat, ROW};
-use q_book::book::Book;
-use q_book::fault::BookFault;
+use q_board::{AskerSeat, Board, ROW};
 use q_book::laws::{hand_outs_are_noted, posts_are_noted};
+use q_book::{Book, BookFault};
 
-/// Looks once at each slot that is open, in turn, and posts each result that waits there. Then hands out jobs and offers
-/// them, until the row is full or no query is ready. Answers how many posts were accepted; a result that the book
-/// refuses with 55 or 56 is dropped.
+/// Looks once at each slot that is open, in turn, and posts each result that waits there. Then hands out jobs and
+/// offers them, until the row is full or no query is ready. Answers how many posts were accepted; a result that the
+/// book refuses with 55 or 56 is dropped.
 ///
 /// Stops at the first refusal of `Book::room_for_post`, which is asked before each look (42 or 53), or of
 /// `Book::hand_out` (42, 53 or 99). What was posted and handed out before stands, and no result or job is lost.

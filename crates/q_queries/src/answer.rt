@@ -3,8 +3,7 @@
 ghost use Rattle.std.specs.Prelude.{◌≡◌};
 ghost use Rattle.q_queries.specs.Queries.{answer_in};
 
-use q_session::query::Phase;
-use q_session::ran::Ran;
+use q_session::{Phase, Ran};
 
 /// The recorded answer of a query in this phase, if there is one yet. Takes no memory.
 pub fn answer_in(phase: &Phase) -> Option<Ran>

@@ -6,13 +6,14 @@
 //! result of another job, or a second result, is refused. [`answer_in`] reads a recorded answer.
 //!
 //! `specs/Queries` says what is answered, and with which of the two refusals.
-//!
-//! [`next_job`]: next::next_job
-//! [`check_result`]: check::check_result
-//! [`answer_in`]: answer::answer_in
 #![tactic(auto)]
 
-pub mod answer;
-pub mod check;
-pub mod next;
-pub mod unfit;
+mod answer;
+mod check;
+mod next;
+mod unfit;
+
+pub use answer::answer_in;
+pub use check::check_result;
+pub use next::next_job;
+pub use unfit::Unfit;

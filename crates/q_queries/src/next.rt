@@ -3,9 +3,8 @@
 ghost use Rattle.std.specs.Prelude.{◌≡◌, IfOk, position};
 ghost use Rattle.q_queries.specs.Queries.{is_ready, next_of, MayAllRun};
 
-use q_session::job::Job;
-use q_session::query::{Phase, Query};
-use q_table::programs::Programs;
+use q_session::{Job, Phase, Query};
+use q_table::Programs;
 use std::alloc::{AllocError, Global};
 
 /// The job of the ready query with the least number, of this node; none where no query is ready. Each query that is to

@@ -7,9 +7,9 @@ ghost use Rattle.q_journal.specs.Writing.{with_more};
 ghost use Rattle.q_replay.specs.Journal.{written_of, head_of, entries_bytes as bytes_of_entries};
 ghost use Rattle.q_replay.specs.Checked.{IsChecked};
 
-use q_book::book::Book;
-use q_desk::journal::Entry;
-use q_journal::write::Writer;
+use q_book::Book;
+use q_desk::Entry;
+use q_journal::Writer;
 use std::alloc::{AllocError, Global};
 
 /// The head of a book's journal. The one error is that memory ran out (99 OutOfMemory).

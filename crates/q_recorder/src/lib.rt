@@ -16,19 +16,19 @@
 //! - [`head_bytes`] and [`entries_bytes`] are the bytes that are written.
 //! - The laws say that a book grows by each of its calls, and that what stands in the file stands there still.
 //!
-//! [`Recorder`]: recorder::Recorder
-//! [`record`]: recorder::Recorder::record
-//! [`JournalFile`]: file::JournalFile
-//! [`DiskFile`]: file::DiskFile
-//! [`MemoryFile`]: memory::MemoryFile
-//! [`head_bytes`]: bytes::head_bytes
-//! [`entries_bytes`]: bytes::entries_bytes
+//! [`record`]: Recorder::record
 #![tactic(auto)]
 
-pub mod bytes;
-pub mod fault;
-pub mod file;
+mod bytes;
+mod fault;
+mod file;
 pub mod laws;
-pub mod memory;
-pub mod recorder;
+mod memory;
+mod recorder;
 pub mod worked;
+
+pub use bytes::{entries_bytes, head_bytes};
+pub use fault::Unrecorded;
+pub use file::{DiskFile, JournalFile};
+pub use memory::MemoryFile;
+pub use recorder::Recorder;

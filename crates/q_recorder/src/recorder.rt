@@ -9,9 +9,8 @@ ghost use Rattle.q_recorder.specs.Recording.{AppendsPart, Grows, IsRecorded, Rec
 use crate::bytes::{entries_bytes, head_bytes};
 use crate::fault::Unrecorded;
 use crate::file::JournalFile;
-use q_book::book::Book;
-use q_wire::counted::Counted;
-use q_wire::fault::TransportFailed;
+use q_book::Book;
+use q_wire::{Counted, TransportFailed};
 use std::alloc::{AllocError, Global};
 use std::io::Write;
 use std::marker::Model;

@@ -1,10 +1,10 @@
 //! Calls that are made once more where memory is refused, which is told.
 
-use q_board::fault::OpenFault;
-use q_book::fault::BookFault;
-use q_history::fault::ClusterFault;
-use q_script::script::ScriptFault;
-use q_sim::refusal::Refusal;
+use q_board::OpenFault;
+use q_book::BookFault;
+use q_history::ClusterFault;
+use q_script::ScriptFault;
+use q_sim::Refusal;
 use reasons::Reason;
 use std::alloc::AllocError;
 use std::io;

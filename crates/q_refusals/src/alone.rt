@@ -1,19 +1,15 @@
 //! A node that is alone, each call of which is made again where memory is refused.
 
 use crate::again::again;
-use bq_frame::block::Block;
-use q_book::answer::{Asked, Taken};
-use q_book::book::Book;
-use q_book::fault::BookFault;
-use q_session::done::Done;
-use q_session::ran::Ran;
-use q_sim::program::certified_code;
-use q_sim::refusal::Refusal;
-use q_table::program::{Program, ProgramId};
-use sc_members::config::Config;
-use sc_msg::message::Message;
-use sc_node::answer::Begun;
-use sc_view::value::VALUE_LENGTH;
+use bq_frame::Block;
+use q_book::{Asked, Book, BookFault, Taken};
+use q_session::{Done, Ran};
+use q_sim::{Refusal, certified_code};
+use q_table::{Program, ProgramId};
+use sc_members::Config;
+use sc_msg::Message;
+use sc_node::Begun;
+use sc_view::VALUE_LENGTH;
 use std::alloc::Global;
 use std::io;
 

@@ -3,11 +3,9 @@
 ghost use Rattle.std.specs.Prelude.{◌≡◌, All};
 ghost use Rattle.q_board.specs.BoardId.{board_id};
 
-use q_board::board::Board;
-use q_board::seats::AskerSeat;
-use q_book::book::Book;
-use q_book::fault::BookFault;
-use q_pool::pump::pump_once;
+use q_board::{AskerSeat, Board};
+use q_book::{Book, BookFault};
+use q_pool::pump_once;
 
 /// An asker's seat, and the board where it is.
 #[derive(Drop)]

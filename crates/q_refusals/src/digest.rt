@@ -1,13 +1,13 @@
 //! What can be seen of a cluster, as numbers that can be compared.
 
-use q_book::book::Book;
-use q_cluster::cluster::Cluster;
-use q_replay::write::journal_bytes;
-use q_session::job::Job;
-use sc_msg::encode::encode_fitting;
-use sc_node::session::{OperationKind, Phase, Session};
-use sc_view::view::{Stored, View};
-use sc_world::op::Op;
+use q_book::Book;
+use q_cluster::Cluster;
+use q_replay::journal_bytes;
+use q_session::Job;
+use sc_msg::encode_fitting;
+use sc_node::{OperationKind, Phase, Session};
+use sc_view::{Stored, View};
+use sc_world::Op;
 use std::alloc::{AllocError, Global};
 use std::hash::{DefaultHasher, Hasher};
 

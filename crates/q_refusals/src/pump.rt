@@ -6,12 +6,9 @@ ghost use Rattle.q_board.specs.BoardId.{board_id};
 use crate::again::again;
 use crate::alone::{Founder, begin, end, found};
 use crate::asker::{Asker, seated};
-use bq_frame::block::Block;
-use q_board::board::Board;
-use q_board::fault::OpenFault;
-use q_board::seats::RunnerSeat;
-use q_pool::gate::Open;
-use q_pool::runner::run_some;
+use bq_frame::Block;
+use q_board::{Board, OpenFault, RunnerSeat};
+use q_pool::{Open, run_some};
 use std::io;
 
 /// At how many slots a runner looks: the row of one asker.

@@ -2,8 +2,8 @@
 
 use crate::again::{again, tell};
 use crate::alone::{Founder, found, run_job, settle};
-use q_net::serve::serve;
-use q_wire::counted::Counted;
+use q_net::serve;
+use q_wire::Counted;
 use std::alloc::{AllocError, Global};
 use std::io;
 use std::sync::Wait;

@@ -1,10 +1,9 @@
 //! Scripts as a whole, over files in memory.
 
 use crate::rows::{ROWS, Row};
-use q_files::memory::MemoryFiles;
-use q_script::script::Script;
-use q_sim::refusal::Refusal;
-use q_sim::simulation::{Printed, simulate};
+use q_files::MemoryFiles;
+use q_script::Script;
+use q_sim::{Printed, Refusal, simulate};
 use std::io;
 
 /// Runs a script over files, where it puts its journals.

@@ -3,19 +3,14 @@
 use crate::again::{again, is_told, tell_change};
 use crate::digest::{Journal, NODES, see};
 use crate::rows::{ROWS, Row};
-use q_cluster::cluster::Cluster;
-use q_history::event::{Event, Stepped, Told};
-use q_history::fault::ClusterFault;
-use q_script::founding::Founding;
-use q_script::line::ScriptLine;
-use q_script::script::Script;
-use q_sim::printing::{print_pairs, print_told};
-use q_sim::program::certified_code;
-use q_sim::refusal::Refusal;
-use q_table::program::ProgramId;
-use sc_members::config::Config;
-use sc_view::value::Value;
-use sc_world::op::Op;
+use q_cluster::Cluster;
+use q_history::{ClusterEvent, ClusterFault, ClusterStep, Told};
+use q_script::{Founding, Script, ScriptLine};
+use q_sim::{Refusal, certified_code, print_pairs, print_told};
+use q_table::ProgramId;
+use sc_members::Config;
+use sc_view::Value;
+use sc_world::Op;
 use std::alloc::{AllocError, Global};
 use std::io;
 
@@ -45,41 +40,45 @@ fn found(alloc: Global, founding: &Founding) -> Result<Cluster, Refusal> {
 }
 
 /// The event of a line that registers a program.
-fn registration(rt: &HostRuntime, node: u64, code: &[u8]) -> Option<Event> {
+fn registration(rt: &HostRuntime, node: u64, code: &[u8]) -> Option<ClusterEvent> {
     match again!(rt, certified_code(rt.alloc(), code)) {
-        Ok(program) => Some(Event::Register { node, program }),
+        Ok(program) => Some(ClusterEvent::Register { node, program }),
         Err(_) => None,
     }
 }
 
 /// The event of a line; none where it has none of its own.
-fn event(rt: &HostRuntime, line: &ScriptLine) -> Option<Event> {
+fn event(rt: &HostRuntime, line: &ScriptLine) -> Option<ClusterEvent> {
     match line {
         ScriptLine::Program { node, code } => registration(rt, *node, code.as_slice()),
-        ScriptLine::Store { node, value } => Some(Event::Store {
+        ScriptLine::Store { node, value } => Some(ClusterEvent::Store {
             node: *node,
             value: Value::new(value.as_slice()).ok()?,
         }),
-        ScriptLine::Ask { node, start, .. } => Some(Event::Ask {
+        ScriptLine::Ask { node, start, .. } => Some(ClusterEvent::Ask {
             node: *node,
             program: ProgramId::new(0),
             start: *start,
         }),
-        ScriptLine::Deliver { message, node } => Some(Event::Deliver {
+        ScriptLine::Deliver { message, node } => Some(ClusterEvent::Deliver {
             message: *message as usize,
             node: *node,
         }),
-        ScriptLine::Hand { node } => Some(Event::HandOut(*node)),
-        ScriptLine::Run { job } => Some(Event::Finish(*job as usize)),
-        ScriptLine::Enter { node } => Some(Event::Enter(*node)),
-        ScriptLine::Leave { node } => Some(Event::Leave(*node)),
-        ScriptLine::Crash { node } => Some(Event::Crash(*node)),
+        ScriptLine::Hand { node } => Some(ClusterEvent::HandOut(*node)),
+        ScriptLine::Run { job } => Some(ClusterEvent::Finish(*job as usize)),
+        ScriptLine::Enter { node } => Some(ClusterEvent::Enter(*node)),
+        ScriptLine::Leave { node } => Some(ClusterEvent::Leave(*node)),
+        ScriptLine::Crash { node } => Some(ClusterEvent::Crash(*node)),
         ScriptLine::All { .. } | ScriptLine::Pairs | ScriptLine::Journal { .. } => None,
     }
 }
 
 /// Takes an event, and once more where memory is refused; tells `changed` where the cluster is then not as it was.
-fn step(rt: &HostRuntime, cluster: &mut Cluster, event: &Event) -> Result<Stepped, ClusterFault> {
+fn step(
+    rt: &HostRuntime,
+    cluster: &mut Cluster,
+    event: &ClusterEvent,
+) -> Result<ClusterStep, ClusterFault> {
     let before = again!(rt, see(rt.alloc(), cluster)).ok();
     let first = cluster.step(event);
     let Err(fault) = first else {
@@ -110,9 +109,9 @@ fn print(rt: &HostRuntime, text: Result<String, AllocError>) -> io::Result<()> {
 }
 
 /// Prints what an event answers.
-fn print_answer(rt: &HostRuntime, answer: Result<Stepped, ClusterFault>) -> io::Result<()> {
+fn print_answer(rt: &HostRuntime, answer: Result<ClusterStep, ClusterFault>) -> io::Result<()> {
     match answer {
-        Ok(Stepped { told, .. }) => print(rt, again!(rt, told_line(rt.alloc(), &told))),
+        Ok(ClusterStep { told, .. }) => print(rt, again!(rt, told_line(rt.alloc(), &told))),
         Err(fault) => rt.println(Refusal::Cluster(fault)),
     }
 }
@@ -128,7 +127,7 @@ fn pair_lines(alloc: Global, ops: &[Op]) -> Result<String, AllocError> {
 fn deliver(rt: &HostRuntime, cluster: &mut Cluster, message: usize) -> io::Result<()> {
     for node in 1..4 {
         if cluster.is_live(node) {
-            let event = Event::Deliver { message, node };
+            let event = ClusterEvent::Deliver { message, node };
             if let Err(fault) = step(rt, cluster, &event) {
                 rt.println(Refusal::Cluster(fault))?;
             }

@@ -8,9 +8,8 @@ ghost use Rattle.q_sim.specs.Refusal.{place_text, refusal_line};
 ghost use Rattle.q_refused.specs.Line.{line_of};
 
 use itoa::Buffer;
-use q_sim::refusal::{Place, Refusal};
-use q_wire::counted::Counted;
-use q_wire::fault::TransportFailed;
+use q_sim::{Refusal, RefusalPlace};
+use q_wire::{Counted, TransportFailed};
 use reasons::Reason;
 use std::io::Write;
 
@@ -43,17 +42,17 @@ fn put_numbered<W: Write>(
 }
 
 /// Writes where a refusal arose, if the line tells it.
-fn put_place<W: Write>(out: &mut Counted<W>, place: Place) -> Result<(), TransportFailed>
+fn put_place<W: Write>(out: &mut Counted<W>, place: RefusalPlace) -> Result<(), TransportFailed>
     ensures written { OnOk result (Appends (W.contents out.old.inner) (W.contents out.new.inner) (place_text place)) }
     ensures failed { OnErr result ((part : List ℕ) × Appends
         (W.contents out.old.inner) (W.contents out.new.inner) part) }
     ensures counted { out.new.failures ≡ count_after result out.old.failures }
 {
     match place {
-        Place::Untold => out.put(b""),
-        Place::Unit(unit) => put_numbered(out, " at ", unit),
-        Place::Event(event) => put_numbered(out, " at ", event),
-        Place::Line(line) => put_numbered(out, " line ", line),
+        RefusalPlace::Untold => out.put(b""),
+        RefusalPlace::Unit(unit) => put_numbered(out, " at ", unit),
+        RefusalPlace::Event(event) => put_numbered(out, " at ", event),
+        RefusalPlace::Line(line) => put_numbered(out, " line ", line),
     }
 }
 
@@ -76,7 +75,7 @@ fn put_reason<W: Write>(out: &mut Counted<W>, reason: Reason) -> Result<(), Tran
 pub fn put_line<W: Write>(
     out: &mut Counted<W>,
     reason: Reason,
-    place: Place,
+    place: RefusalPlace,
 ) -> Result<(), TransportFailed>
     ensures written { OnOk result (Appends
         (W.contents out.old.inner) (W.contents out.new.inner) (line_of reason place)) }

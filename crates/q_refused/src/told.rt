@@ -1,12 +1,9 @@
 //! A line of a script that was refused, in words for a person.
 
-use bq_state::bounds::Bounds;
-use q_explain::bytes::explain_bytes;
-use q_explain::event::of_event;
-use q_explain::explain::explain_code;
-use q_explain::shown::write_shown;
-use q_script::line::{Line, LineFault as Unread, ScriptLine};
-use q_sim::refusal::{LineFault, Refusal};
+use bq_state::Bounds;
+use q_explain::{explain_bytes, explain_code, of_event, write_shown};
+use q_script::{Line, LineFault as Unread, ScriptLine};
+use q_sim::{Refusal, RefusedLine};
 use std::alloc::{AllocError, Global};
 
 /// The bytes of the program that a line registers; none where it registers none.
@@ -61,10 +58,10 @@ fn write_reason(
 pub fn write_refused_line(
     alloc: Global,
     out: &mut String,
-    fault: LineFault,
+    fault: RefusedLine,
     text: &str,
 ) -> Result<(), AllocError> {
-    let LineFault { line, refusal } = fault;
+    let RefusedLine { line, refusal } = fault;
     write!(out, "line {line}: ")?;
     write_shown(out, text)?;
     writeln!(out, "\n{refusal}")?;

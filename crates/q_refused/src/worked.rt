@@ -3,7 +3,7 @@
 ghost use Rattle.std.specs.Prelude.{◌≡◌, codes};
 ghost use Rattle.q_refused.specs.Line.{line_of};
 ghost use Rattle.q_sim.specs.Refusal as refusal;
-ghost use Rattle.q_sim.specs.declared.refusal.Place.TheVariants as at;
+ghost use Rattle.q_sim.specs.declared.refusal.RefusalPlace.TheVariants as at;
 ghost use Rattle.q_sim.specs.declared.refusal.Refusal.{Refusal};
 ghost use Rattle.reasons.specs.declared.Reason.TheVariants as reason;
 

@@ -27,7 +27,7 @@ use Rattle.q_replay.specs.declared.refusal.Refusal.{Refusal}
 use Rattle.q_replay.specs.declared.refusal.Refusal.TheVariants.{Mismatch, OutOfMemory}
 use Rattle.q_replay.proofs.Lists.{same_some, no_refusal}
 use Rattle.q_replay.proofs.Posting.{job_runs, own_posts}
-use Rattle.q_replay.proofs.Following.{posted-post}
+use Rattle.q_book.proofs.Followed.{is_posted, posted-accepted}
 use Rattle.q_replay.proofs.Entries.{OneLongest, OneAnswer, right_one, takes_as}
 use Rattle.q_replay.proofs.Leading.{leads_next}
 
@@ -70,11 +70,12 @@ answer_same one b k j r other runs right a =
 -- where some job's answer is recorded, so is that of the query's own job
 pub own_post : (b c : BookState) (k : ℕ) (j : Job) (r : Ran) → running_job b.desk b.id k ≡ Some j → Follows b (entry.Post k r) c → (d : BookState) × (book.posted b j r ≡ Ok (tt, d))
 own_post b c k j r runs f =
-    let p = posted-post b f.0 r c f.3 in
-    let o = own_posts b.desk b.id k j r (job_runs b.desk b.id k j runs) p.posted.room in
+    let p = (is_posted b f.0 r c f.3).1 in
+    let o = own_posts b.desk b.id k j r (job_runs b.desk b.id k j runs) p.room in
     let d : BookState = record b { desk = o.0 } in (
       d,
-      ap (λ (g : Bool). let x : Result (Unit {0} × BookState) BookFault = cond g (Err (book_fault.Node node_fault.Gone)) (book.by_desk (book.with_desk b) (desk.posted b.desk b.id j r)) in x) p.there
+      ap (λ (g : Bool). let x : Result (Unit {0} × BookState) BookFault = cond g (Err (book_fault.Node node_fault.Gone)) (book.by_desk (book.with_desk b) (desk.posted b.desk b.id j r)) in x)
+          (posted-accepted b f.0 r c f.3).there
           ∙ ap (book.by_desk (book.with_desk b)) o.1,
     )
 

@@ -25,9 +25,10 @@ use Rattle.q_replay.specs.Journal.{written_of, IsCertifiedEntry, IsEntry}
 use Rattle.q_replay.specs.Replayed.{IsAnswering, Takes}
 use Rattle.q_replay.proofs.Lists.{same_some}
 use Rattle.q_desk.proofs.Accepted.{Keeps}
-use Rattle.q_replay.proofs.Posting.{job_by, posted_runs, posted_at_query}
-use Rattle.q_book.proofs.Followed.{follows-next}
-use Rattle.q_replay.proofs.Following.{posted-post, follows-one, follows-version}
+use Rattle.q_desk.proofs.Own.{job_by}
+use Rattle.q_replay.proofs.Posting.{posted_runs, posted_at_query}
+use Rattle.q_book.proofs.Followed.{is_posted, follows-accepted, follows_one}
+use Rattle.q_book.proofs.Values.{same_version}
 
 -- laws of crates below
 abbrev pub OneLongest : Type 0
@@ -80,10 +81,10 @@ module _ (one : OneLongest) where
       subst (λ (x : Entry). Follows b x c × IsAnswering b x) (entry_one one b.version t.called e t.legal.1 legal.1 (t.is ∙ sym is)) (t.follows, t.answers)
 
   pub takes_one : (b : BookState) (w : Written) (c d : BookState) → Takes b w c → Takes b w d → c ≡ d
-  takes_one b w c d s t = follows-one b t.called c d (takes_as b w c t.called t.legal t.is s).0 t.follows
+  takes_one b w c d s t = follows_one b c d t.called (takes_as b w c t.called t.legal t.is s).0 t.follows
 
 pub takes-version : (b : BookState) (w : Written) (c : BookState) → Takes b w c → c.version ≡ b.version
-takes-version b w c t = follows-version b t.called c t.follows
+takes-version b w c t = same_version b t.called c t.follows
 
 -- ---- an answer that stays right was right
 
@@ -93,16 +94,14 @@ Answers b ran k = (j : Job) × (running_job b.desk b.id k ≡ Some j) × IsRight
 pub answering : (s t b : BookState) (e : Entry) → Follows s e t → Keeps t.desk b.desk → AnswersAreRight b.desk → IsAnswering s e
 answering s t b (entry.Post query ran) f later right =
     let j = f.0 in
-    let p = posted-post s j ran t f.3 in
-    let q : Query = record p.posted.query { phase = Answered p.posted.view ran } in
-    let run = posted_runs s.desk s.id j ran p.desk p.posted in
-    let known : slice_get t.desk.queries j.query ≡ Some q =
-    subst (λ (x : BookState). slice_get x.desk.queries j.query ≡ Some q) p.is (posted_at_query s.desk j ran p.desk p.posted) in
-    let a = right j.query q p.posted.view ran (later.answers j.query q p.posted.view ran known refl) refl in
-    let keeps = (follows-next s (entry.Post query ran) t f).keeps in
-    let named : slice_get b.desk.programs p.posted.query.program ≡ Some run.program =
-    later.programs p.posted.query.program run.program (keeps.programs p.posted.query.program run.program run.named) in
+    let p = (is_posted s j ran t f.3).1 in
+    let q : Query = record p.query { phase = Answered p.view ran } in
+    let run = posted_runs s.desk s.id j ran t.desk p in
+    let a = right j.query q p.view ran (later.answers j.query q p.view ran (posted_at_query s.desk j ran t.desk p) refl) refl in
+    let keeps = (follows-accepted s (entry.Post query ran) t f).keeps in
+    let named : slice_get b.desk.programs p.query.program ≡ Some run.program =
+    later.programs p.query.program run.program (keeps.programs p.query.program run.program run.named) in
     let same : a.program ≡ run.program = same_some a.program run.program (sym a.named ∙ named) in
-    let own : IsRight run.program p.posted.view p.posted.query.start ran = subst (λ (c : Certificate). IsRight c p.posted.view p.posted.query.start ran) same a.right in
-    subst (Answers s ran) f.1 (job_by s.id j.query p.posted.query p.posted.view run.program, run.is, own)
+    let own : IsRight run.program p.view p.query.start ran = subst (λ (c : Certificate). IsRight c p.view p.query.start ran) same a.right in
+    subst (Answers s ran) f.1 (job_by s.id j.query p.query p.view run.program, run.is, own)
 answering s t b e f later right = tt

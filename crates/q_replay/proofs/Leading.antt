@@ -20,7 +20,8 @@ use Rattle.q_journal.specs.declared.written.Written.{Written}
 use Rattle.q_replay.specs.Journal.{written_of, head_of, entries_bytes, journal_of, IsEntry, IsJournalled}
 use Rattle.q_replay.specs.Replayed.{begun, Begins, Takes, TakesAll, Leads}
 use Rattle.q_replay.proofs.Lists.{same_answer, no_refusal, all_push}
-use Rattle.q_replay.proofs.Following.{follows-version, replays-later}
+use Rattle.q_book.proofs.Replays.{replays_later}
+use Rattle.q_book.proofs.Values.{same_version}
 use Rattle.q_replay.proofs.Entries.{OneLongest, takes_one, takes-version, answering}
 
 -- laws of crates below
@@ -190,10 +191,10 @@ takes_all version (e ∷ es) s b own r right a = (
     called = e;
     legal = subst (λ (x : Version). IsEntry x e) (sym own) a.0;
     is = refl;
-    answers = answering s r.0 b e r.1 (replays-later es r.0 b r.2).keeps right;
+    answers = answering s r.0 b e r.1 (replays_later es r.0 b r.2).keeps right;
     follows = r.1;
   },
-  takes_all version es r.0 b (follows-version s e r.0 r.1 ∙ own) r.2 right a.1,
+  takes_all version es r.0 b (same_version s e r.0 r.1 ∙ own) r.2 right a.1,
 )
 
 all_written : (version : Version) (es : List Entry) → AllByRecursion (IsEntry version) es → AllByRecursion (IsWritten version) (map written_of es)
@@ -251,7 +252,7 @@ leads_journalled bytes n b l right =
     let version : Version = l.head.version in
     let first : BookState = new_book version l.head.id l.head.config l.head.founders f.node in
     let t = taken version l.events first b refl (subst (λ (x : BookState). TakesAll x l.events b) (sym f.is) l.takes) in
-    let later = replays-later t.entries first b t.replays in
+    let later = replays_later t.entries first b t.replays in
     let journal : b.desk.journal ≡ t.entries = later.adds in
     let head : l.head ≡ head_of b = ap head_of later.same in
     let spelled : flat_map (event_bytes version) l.events ++ [] ≡ entries_bytes version b.desk.journal =

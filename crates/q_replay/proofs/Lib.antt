@@ -1,7 +1,6 @@
 -- Why a journal is that of one book, and bytes have one fault.
 mod Lists
 mod Posting
-mod Following
 mod Entries
 mod Leading
 mod Firsts

@@ -1,14 +1,6 @@
 -- Jobs of queries that run, and what it takes to record their answers.
-use Rattle.std.proofs.Common.{◌≡◌, ℕ, ◌==◌, Bool, true, cond, List, [], ◌∷◌, Option, Some, None, refl, sym, ap, ◌∙◌, subst, slice_get, Result, Ok, Err}
-use Rattle.std.proofs.lemmas.Bool.{eq-eqb}
-use Rattle.std.proofs.lemmas.Slice.Eq.{bytes_eq-Decides}
-use Rattle.std.specs.Prelude.{bytes_eq}
-use Rattle.q_table.specs.Programs.{is_same_text}
-use Rattle.std.specs.Cmp.Lexicographic.{pointwise}
-use Rattle.std.specs.FinMap as fin
-use Rattle.sc_view.specs.declared.view.Stored.{Stored}
+use Rattle.std.proofs.Common.{◌≡◌, ℕ, ◌==◌, Bool, true, cond, Option, Some, None, refl, ap, ◌∙◌, subst, slice_get, Result, Ok, Err}
 use Rattle.sc_view.specs.Views.{ViewMap}
-use Rattle.bq_insn.specs.Slots.{spelling}
 use Rattle.bq_check.specs.Certificate.{Certificate}
 use Rattle.q_session.specs.declared.ran.Ran.{Ran}
 use Rattle.q_session.specs.declared.query.Phase.{Phase}
@@ -22,24 +14,12 @@ use Rattle.q_desk.specs.declared.fault.DeskFault.{DeskFault}
 use Rattle.q_desk.specs.declared.fault.DeskFault.TheVariants as fault
 use Rattle.std.specs.Cmp.{second_so}
 use Rattle.q_desk.proofs.Accepted.{answered, IsPosted}
-use Rattle.q_replay.proofs.Lists.{same_some, no_some, and_both, get_written}
-
--- ---- what a post did
-
-same_running : (v w : ViewMap) → Running v ≡ Running w → v ≡ w
-same_running v w h = cc
-
--- what was recorded is seen by the query's number alone
-pub posted_one : (d : DeskState) (i j : Job) (ran : Ran) (e f : DeskState) → i.query ≡ j.query → IsPosted d i ran e → IsPosted d j ran f → e ≡ f
-posted_one d i j ran e f same p q =
-    let query : p.query ≡ q.query = same_some p.query q.query (sym p.at ∙ ap (slice_get d.queries) same ∙ q.at) in
-    let view : p.view ≡ q.view = same_running p.view q.view (sym p.phase ∙ ap (λ (x : Query). x.phase) query ∙ q.phase) in
-    sym p.is ∙ ap (λ (k : ℕ). answered d k p.view ran) same ∙ ap (λ (v : ViewMap). answered d j.query v ran) view ∙ q.is
+use Rattle.q_desk.proofs.Own.{job_by, and_both, same_bytes, same_number, own_fits}
+use Rattle.q_table.specs.Programs.{is_same_text}
+use Rattle.bq_insn.specs.Slots.{spelling}
+use Rattle.q_replay.proofs.Lists.{same_some, no_some, get-same}
 
 -- ---- jobs of queries that run
-
-abbrev pub job_by : ℕ → ℕ → Query → ViewMap → Certificate → Job
-job_by node k q view program = record { node = node; query = k; program = q.program; start = q.start; certified = program; view = view }
 
 pub record Runs (d : DeskState) (node k : ℕ) (j : Job) : Type 0 where
   pub query : Query
@@ -89,32 +69,8 @@ posted_runs d node j ran e p =
     let c = some_program j.certified (slice_get d.programs p.query.program) (second_so (desk.is_same_view j.view p.view) _ b) in
     record { program = c.0; named = c.1; is = runs_job d node j.query p.query p.view c.0 p.at p.phase c.1 }
 
-same_bytes : (xs : List ℕ) → bytes_eq xs xs ≡ true
-same_bytes xs = (bytes_eq-Decides xs xs).1 refl
-
-same_number : (n : ℕ) → (n == n) ≡ true
-same_number n = eq-eqb n n refl
-
-same_entry : (a : ℕ × Stored) → desk.is_same_entry a a ≡ true
-same_entry a =
-    and_both (a.0 == a.0) _ (same_number a.0)
-    (and_both (a.1.number == a.1.number) _ (same_number a.1.number) (same_bytes a.1.value))
-
-same_entries : (xs : List (ℕ × Stored)) → pointwise desk.is_same_entry xs xs ≡ true
-same_entries [] = refl
-same_entries (x ∷ xs) = and_both (desk.is_same_entry x x) _ (same_entry x) (same_entries xs)
-
 same_program : (c : Certificate) → desk.is_same_program c (Some c) ≡ true
 same_program c = and_both (is_same_text c.text c.text) _ (same_bytes (spelling c.text)) (same_number c.longest)
-
--- a query's own job is its
-own_fits : (d : DeskState) (node k : ℕ) (q : Query) (view : ViewMap) (program : Certificate) → slice_get d.programs q.program ≡ Some program
-    → desk.is_job_of d.programs (job_by node k q view program) q view ≡ true
-own_fits d node k q view program named =
-    and_both (q.program == q.program) _ (same_number q.program)
-    (and_both (q.start == q.start) _ (same_number q.start)
-    (and_both (desk.is_same_view view view) _ (same_entries (fin.entries view))
-    (ap (desk.is_same_program program) named ∙ same_program program)))
 
 abbrev Outcome : Type 0
 Outcome = Result (Unit {0} × DeskState) DeskFault
@@ -128,7 +84,8 @@ own_posts d node k j ran r room =
     ap (λ (b : Bool). let x : Outcome = cond b (desk.posted_at d made ran (slice_get d.queries k)) (Err fault.Stranger) in x) (same_number node)
     ∙ ap (desk.posted_at d made ran) r.at
     ∙ ap (desk.posted_to d made ran r.query) r.phase
-    ∙ ap (λ (b : Bool). let x : Outcome = cond b (desk.room d (Ok (tt, after))) (Err fault.Stranger) in x) (own_fits d node k r.query r.view r.program r.named)
+    ∙ ap (λ (b : Bool). let x : Outcome = cond b (desk.room d (Ok (tt, after))) (Err fault.Stranger) in x)
+    (own_fits d.programs node k r.query r.view r.program r.named (same_program r.program))
     ∙ ap (λ (b : Bool). let x : Outcome = cond b (Ok (tt, after)) (Err fault.BookFull) in x) room in
     (after, subst (λ (i : Job). desk.posted d node i ran ≡ Ok (tt, after)) r.is own)
 
@@ -138,4 +95,4 @@ pub posted_at_query : (d : DeskState) (j : Job) (ran : Ran) (e : DeskState) (p :
 posted_at_query d j ran e p =
     subst (λ (x : DeskState). slice_get x.queries j.query ≡ Some (record p.query { phase = Answered p.view ran })) p.is
     (ap (λ (o : Option Query). slice_get (desk.in_phase d.queries j.query (Answered p.view ran) o) j.query) p.at
-    ∙ get_written d.queries j.query p.query (record p.query { phase = Answered p.view ran }) p.at)
+    ∙ get-same d.queries j.query p.query (record p.query { phase = Answered p.view ran }) p.at)

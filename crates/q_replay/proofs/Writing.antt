@@ -14,7 +14,7 @@ use Rattle.q_book.specs.State.{BookState}
 use Rattle.q_book.specs.Books.{new_book, record_lengths}
 use Rattle.q_book.specs.Replays.{Follows, Replays, IsReplay}
 use Rattle.q_book.proofs.Parts.{desk-parts}
-use Rattle.q_book.proofs.Followed.{follows-next}
+use Rattle.q_book.proofs.Followed.{follows-accepted}
 use Rattle.q_journal.specs.Head.{Head}
 use Rattle.q_journal.specs.Spelling.{head_bytes, event_bytes, IsHead}
 use Rattle.q_journal.specs.Writing.{JournalBytes, with_more}
@@ -33,7 +33,7 @@ follows-checked version b e c lengths f = tt
 replays-checked : (version : Version) (es : List Entry) (b c : BookState) → b.desk.lengths ≡ record_lengths version → Replays b es c → AllByRecursion (IsChecked version) es
 replays-checked version [] b c lengths r = tt
 replays-checked version (e ∷ es) b c lengths r =
-    (follows-checked version b e r.0 lengths r.1, replays-checked version es r.0 c ((follows-next b e r.0 r.1).keeps.lengths ∙ lengths) r.2)
+    (follows-checked version b e r.0 lengths r.1, replays-checked version es r.0 c ((follows-accepted b e r.0 r.1).keeps.lengths ∙ lengths) r.2)
 
 -- the programs of a book's journal were checked for the records of its version
 journal-checked : (b : BookState) → IsReplay b → All (IsChecked b.version) b.desk.journal

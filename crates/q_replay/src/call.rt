@@ -6,19 +6,17 @@ ghost use Rattle.q_journal.specs.declared.written.Written.TheVariants as written
 ghost use Rattle.q_replay.specs.Taking.{Taking, Calling};
 
 use crate::refusal::Refusal;
-use bq_check::check::check_within;
-use bq_check::notes::Notes;
+use bq_check::{Notes, check_within};
 use bq_flow::laws::one_longest;
-use bq_frame::block::Block;
-use bq_insn::text::Text;
+use bq_frame::Block;
+use bq_insn::Text;
 use bq_meaning::laws::one_answer;
-use q_book::book::Book;
-use q_book::lengths::record_lengths;
-use q_journal::written::Written;
-use q_session::done::Done;
-use q_table::program::{Program, ProgramId};
-use sc_msg::message::Message;
-use sc_view::value::Value;
+use q_book::{Book, record_lengths};
+use q_journal::Written;
+use q_session::Done;
+use q_table::{Program, ProgramId};
+use sc_msg::Message;
+use sc_view::Value;
 use std::alloc::Global;
 
 fn leave(book: &mut Book) -> Result<(), Refusal>

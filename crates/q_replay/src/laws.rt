@@ -8,10 +8,10 @@ ghost use Rattle.q_replay.specs.Replayed.{IsFault};
 ghost use Rattle.q_replay.specs.declared.fault.ReplayFault.{ReplayFault as Fault};
 
 use crate::fault::ReplayFault;
-use crate::replay::replay;
+use crate::replayer::replay;
 use crate::write::journal_bytes;
 use bq_flow::laws::one_longest;
-use q_book::book::Book;
+use q_book::Book;
 use q_journal::laws::{one_event, one_head};
 use std::alloc::Global;
 

@@ -9,15 +9,16 @@
 //!
 //! So whoever trusts the definitions need not trust whoever wrote the bytes: an answer in a journal that is replayed is
 //! the meaning of its query's program over the view that the node collected.
-//!
-//! [`journal_bytes`]: write::journal_bytes
-//! [`replay`]: replay::replay
 #![tactic(auto)]
 
 mod call;
-pub mod fault;
+mod fault;
 pub mod laws;
 mod refusal;
-pub mod replay;
+mod replayer;
 pub mod worked;
-pub mod write;
+mod write;
+
+pub use fault::ReplayFault;
+pub use replayer::replay;
+pub use write::journal_bytes;

@@ -3,11 +3,11 @@ ghost use Rattle.std.specs.Prelude.{◌≡◌};
 ghost use Rattle.q_replay.specs.Taking.{of_book, of_check};
 ghost use Rattle.q_replay.specs.declared.refusal.Refusal.TheVariants.{Mismatch, OutOfMemory};
 
-use bq_check::fault::CheckFault;
-use q_book::fault::BookFault;
+use bq_check::CheckFault;
+use q_book::BookFault;
 use reasons::passed_on;
-use sc_members::config::BadFraction;
-use sc_node::fault::NodeFault;
+use sc_members::BadFraction;
+use sc_node::NodeFault;
 use std::alloc::{AllocError, AllocFailed};
 
 /// Why an event is not taken, or no book begins with a head.

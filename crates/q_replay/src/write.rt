@@ -7,12 +7,12 @@ ghost use Rattle.q_journal.specs.Writing.{with_more};
 ghost use Rattle.q_replay.specs.Journal.{written_of, journal_of, IsEntry, IsJournalled};
 ghost use Rattle.q_replay.specs.Checked.{IsChecked};
 
-use q_book::book::Book;
-use q_desk::journal::Entry;
-use q_journal::write::Writer;
+use q_book::Book;
+use q_desk::Entry;
+use q_journal::Writer;
 use std::alloc::{AllocError, Global};
 
-/// The journal of a book as bytes of its version: the only bytes of which [`replay`](crate::replay::replay) makes this
+/// The journal of a book as bytes of its version: the only bytes of which [`replay`](crate::replay) makes this
 /// book. The one error is that memory ran out (99 OutOfMemory).
 pub fn journal_bytes(alloc: Global, book: &Book) -> Result<Vec<u8>, AllocError>
     ensures spelled { IfOk result (λ bytes. bytes.items ≡ journal_of book.now) }

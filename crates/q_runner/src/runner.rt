@@ -6,15 +6,12 @@ ghost use Rattle.q_board.specs.Calls.{Finishes, is_at};
 ghost use Rattle.q_runner.specs.Served.{Served, Passed};
 
 use crate::gate::Gate;
-use bq_frame::block::Block;
-use q_board::board::Board;
-use q_board::claim::Claim;
-use q_board::seats::RunnerSeat;
-use q_session::ran::Ran;
-use q_session::run::run_fold;
+use bq_frame::Block;
+use q_board::{Board, Claim, RunnerSeat};
+use q_session::{Ran, run_fold};
 
-/// Tries this many slots, in turn from where the seat left off. Runs each job that it claims over the block, between the
-/// gate's two calls, and finishes it; gives none back. Answers how many it ran. Takes no memory, and returns if the
+/// Tries this many slots, in turn from where the seat left off. Runs each job that it claims over the block, between
+/// the gate's two calls, and finishes it; gives none back. Answers how many it ran. Takes no memory, and returns if the
 /// gate's calls do.
 pub fn run_some<G: Gate>(
     board: &Board,

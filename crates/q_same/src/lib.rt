@@ -2,8 +2,8 @@
 //! their numbers. A right answer of such a job is then a right answer of the query. Takes no memory.
 //!
 //! `specs/Same` says when two views and two programs are the same.
-//!
-//! [`is_job_of`]: same::is_job_of
 #![tactic(auto)]
 
-pub mod same;
+mod same;
+
+pub use same::is_job_of;

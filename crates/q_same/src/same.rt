@@ -5,14 +5,12 @@ ghost use Rattle.bq_check.specs.Certified.{IsCertified};
 ghost use Rattle.q_table.specs.Programs.{is_same_text};
 ghost use Rattle.q_same.specs.Same.{is_same_entry, is_same_view, is_same_program, is_job_of, Serves};
 
-use bq_check::certified::Certified;
-use bq_insn::insn::Insn;
+use bq_check::Certified;
 use bq_insn::laws::one_spelling;
-use bq_insn::text::Text;
-use q_session::job::Job;
-use q_session::query::Query;
-use q_table::programs::Programs;
-use sc_view::view::{Stored, View};
+use bq_insn::{Insn, Text};
+use q_session::{Job, Query};
+use q_table::Programs;
+use sc_view::{Stored, View};
 
 /// Whether the job is that of a query which runs over this view: its program, its start value and its view are the
 /// query's. Then a right answer of the job is a right answer of the query. Takes no memory.

@@ -4,7 +4,7 @@ ghost use Rattle.std.specs.Prelude.{◌≡◌};
 ghost use Rattle.q_script.specs.Words.{Reads};
 ghost use Rattle.q_script.specs.Founding.{SpellsFraction, SpellsFounding};
 
-use crate::number::{leading, pair};
+use crate::numeral::{leading, pair};
 use crate::text::cut;
 
 /// A fraction as it is written, in lowest terms or not.

@@ -21,21 +21,20 @@
 //! Lines are counted from 1, and all are judged before anything runs. 99 OutOfMemory may stand in place of any other
 //! answer. What a line spells is defined in `specs/`, apart from the code. Whether founders, fractions and programs are
 //! good is not judged here. The program that runs scripts stands on this crate.
-//!
-//! [`Script::read`]: script::Script::read
-//! [`read_script`]: script::read_script
-//! [`Line`]: line::Line
-//! [`ScriptLine`]: line::ScriptLine
-//! [`read_records`]: records::read_records
-//! [`number`]: number::number
 #![tactic(auto)]
 
 mod command;
-pub mod founding;
-pub mod line;
-pub mod number;
+mod founding;
+mod line;
+mod numeral;
 mod operands;
-pub mod records;
-pub mod script;
+mod records;
+mod script;
 mod text;
 pub mod worked;
+
+pub use founding::{Founding, Fraction};
+pub use line::{Line, LineFault, ScriptLine};
+pub use numeral::{leading, number, pair};
+pub use records::{RecordFault, RecordsFault, read_records, value_bytes};
+pub use script::{Script, ScriptFault, read_script};

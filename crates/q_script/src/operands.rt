@@ -5,7 +5,7 @@ ghost use Rattle.q_script.specs.Words.{IsNumeral, IsPair};
 
 use crate::command::Command;
 use crate::line::{LineFault, ScriptLine};
-use crate::number::{leading, number, pair};
+use crate::numeral::{leading, number, pair};
 use crate::records::value_bytes;
 use crate::text::cut;
 use hex::FromHexError;

@@ -8,13 +8,12 @@ ghost use Rattle.hex.specs.Hex.{is_hex_digit};
 ghost use Rattle.sc_view.specs.declared.view.Stored.{Stored as StoredValue};
 ghost use Rattle.q_script.specs.Records.{Record, AreDigits, IsValue, ReadsValue, IsRecord, IsReadAs, IsEntry, HasFault, IsView, IsRefusal, value_bytes, reason};
 
-use crate::number::{leading, number};
+use crate::numeral::{leading, number};
 use crate::text::without_last_feed;
-use bq_meaning::placement::LEAST_RECORD;
-use bq_state::bounds::Bounds;
+use bq_meaning::LEAST_RECORD;
+use bq_state::Bounds;
 use reasons::{Reason, told};
-use sc_view::value::{MOST_BYTES, VALUE_LENGTH, Value, ValueFault};
-use sc_view::view::{Entry, Stored, View, ViewFault};
+use sc_view::{Entry, MOST_VALUE_BYTES, Stored, VALUE_LENGTH, Value, ValueFault, View, ViewFault};
 use std::alloc::Global;
 
 /// The line of a record, `ID SEQ VALUE`.
@@ -91,10 +90,10 @@ fn decoded(digits: &str) -> Option<Result<Value, ValueFault>>
     ensures { ReadsValue AreDigits digits.now result }
 {
     let len = digits.len() / 2;
-    if len > MOST_BYTES {
+    if len > MOST_VALUE_BYTES {
         return are_digits(digits).then_some(Err(ValueFault::BadValue));
     }
-    let mut room = [0; MOST_BYTES];
+    let mut room = [0; MOST_VALUE_BYTES];
     let bytes = &mut room[..len];
     match hex::decode_to_slice(digits, bytes) {
         Ok(()) => Some(Value::new(bytes)),

@@ -7,7 +7,7 @@ ghost use Rattle.q_session.specs.Right.{IsRight};
 use crate::job::Job;
 use crate::ran::Ran;
 use crate::run::run_fold;
-use bq_frame::block::Block;
+use bq_frame::Block;
 use std::marker::Model;
 
 /// A job that was run, with its right answer.

@@ -5,10 +5,10 @@ ghost use Rattle.q_fold.specs.Records.{record_bytes, HasRecordsWithin};
 ghost use Rattle.q_session.specs.Right.{IsRight};
 
 use crate::ran::Ran;
-use bq_check::certified::Certified;
+use bq_check::Certified;
 use bq_meaning::laws::appended;
-use bq_meaning::placement::{FRAME_LENGTH, LEAST_RECORD, Placement, RECORD_ROOM};
-use sc_view::view::{Stored, View};
+use bq_meaning::{FRAME_LENGTH, LEAST_RECORD, Placement, RECORD_ROOM};
+use sc_view::{Stored, View};
 
 /// Where the frame lies in each run. The answer is the same at every placement.
 const FRAME: u64 = 4096;

@@ -7,14 +7,14 @@ ghost use Rattle.q_session.specs.Jobs.{JobValue, job_of, view_in, IsJob, MayRun}
 
 use crate::query::{Phase, Query};
 use crate::shared_view::SharedView;
-use q_table::program::{Program, ProgramId};
-use sc_view::view::View;
+use q_table::{Program, ProgramId};
+use sc_view::View;
 use std::alloc::{AllocError, Global};
 use std::marker::Model;
 
 /// What is run to answer a query: its program over the view that its collect returned, from its start value. Contracts
-/// see it as the record of these. [`Job::of`] alone makes one, so it is that of a query with a returned view. Its program
-/// was checked for records of the lengths that its view has.
+/// see it as the record of these. [`Job::of`] alone makes one, so it is that of a query with a returned view. Its
+/// program was checked for records of the lengths that its view has.
 #[derive(Drop)]
 pub struct Job {
     node: u64,
@@ -37,8 +37,8 @@ impl Model for Job {
 
 impl Job {
     /// The job of the query of this number at this node, which names this program: there is one where the query is
-    /// ready or runs, and then the program was checked for records of the lengths that its view has. The one error is that
-    /// memory ran out (99 OutOfMemory).
+    /// ready or runs, and then the program was checked for records of the lengths that its view has. The one error is
+    /// that memory ran out (99 OutOfMemory).
     pub fn of(
         alloc: Global,
         node: u64,

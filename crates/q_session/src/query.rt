@@ -1,8 +1,8 @@
 //! Queries and their phases.
 
 use crate::ran::Ran;
-use q_table::program::ProgramId;
-use sc_view::view::View;
+use q_table::ProgramId;
+use sc_view::View;
 
 /// How far a query has come. The view is the one that its collect returned.
 #[derive(Drop)]

@@ -2,7 +2,7 @@
 
 ghost use Rattle.std.specs.Prelude.{◌≡◌, IfOk};
 
-use sc_view::view::View;
+use sc_view::View;
 use std::alloc::{AllocError, Global};
 use std::marker::Model;
 use std::sync::Arc;

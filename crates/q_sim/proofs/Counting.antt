@@ -7,7 +7,7 @@ use Rattle.q_book.specs.State.{BookState}
 use Rattle.q_cluster.specs.Acts.{book_at}
 use Rattle.q_script.specs.declared.line.ScriptLine.{ScriptLine}
 use Rattle.q_script.specs.declared.line.ScriptLine.TheVariants.{Program, Store, Ask, Deliver, All, Hand, Run, Enter, Leave, Crash, Pairs, Journal}
-use Rattle.q_sim.specs.declared.refusal.LineFault.{LineFault}
+use Rattle.q_sim.specs.declared.refusal.RefusedLine.{RefusedLine}
 use Rattle.q_sim.specs.Simulates.{SimState, Writing, is_any, DeliversAll, SavesAny, Does}
 
 line_of : (s t : SimState) → t ≡ s → t.line ≡ s.line
@@ -44,10 +44,10 @@ same_line writes (Crash id) s before text t after h = h.0.line
 same_line writes Pairs s before text t after h = line_of s t h.0.1
 same_line writes (Journal node file) s before text t after h = saves_line writes (book_at s.cluster node) (string_bytes file) s before text t after h
 
-any_of : (faults : List LineFault) (b : Bool) → b ≡ (length faults == 0) → not b ≡ is_any faults
+any_of : (faults : List RefusedLine) (b : Bool) → b ≡ (length faults == 0) → not b ≡ is_any faults
 any_of [] b is = ap not is
 any_of (f ∷ fs) b is = ap not (is ∙ ne_eqb (length (f ∷ fs)) 0 (omega arith))
 
 -- some line was refused where there are faults
-pub any_told : (faults : Vec LineFault Global) (b : Bool) → b ≡ (vec_len faults == 0) → not b ≡ is_any faults.items
+pub any_told : (faults : Vec RefusedLine Global) (b : Bool) → b ≡ (vec_len faults == 0) → not b ≡ is_any faults.items
 any_told faults b is = any_of faults.items b (is ∙ ap (λ n. n == 0) faults.ok.0)

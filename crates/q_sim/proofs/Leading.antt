@@ -8,27 +8,27 @@ use Rattle.sc_world.proofs.Inverts.{no_refusal, same_answer}
 use Rattle.q_book.specs.State.{BookState}
 use Rattle.q_script.specs.declared.line.ScriptLine.{ScriptLine}
 use Rattle.q_script.specs.declared.line.ScriptLine.TheVariants.{Program, Store, Ask, Deliver, All, Hand, Run, Enter, Leave, Crash, Pairs, Journal}
-use Rattle.q_history.specs.declared.event.Event.{Event}
-use Rattle.q_history.specs.declared.event.Event.TheVariants as event
-use Rattle.q_history.specs.declared.event.Stepped.{Stepped}
+use Rattle.q_history.specs.declared.event.ClusterEvent.{ClusterEvent}
+use Rattle.q_history.specs.declared.event.ClusterEvent.TheVariants as event
+use Rattle.q_history.specs.declared.event.ClusterStep.{ClusterStep}
 use Rattle.q_history.specs.declared.fault.ClusterFault.{ClusterFault}
 use Rattle.q_history.specs.State.{ClusterState}
 use Rattle.q_history.specs.Calls.{Reaches, Takes}
 use Rattle.q_history.specs.Clusters.{founded, start}
 use Rattle.q_cluster.specs.Acts.{book_at}
-use Rattle.q_sim.specs.declared.refusal.LineFault.{LineFault}
+use Rattle.q_sim.specs.declared.refusal.RefusedLine.{RefusedLine}
 use Rattle.q_sim.specs.declared.refusal.Refusal.{Refusal}
 use Rattle.q_sim.specs.declared.refusal.Refusal.TheVariants.{FileFailed, Cluster, OutOfMemory}
 use Rattle.q_sim.specs.Simulates.{SimState, Writing, at_next_line, is_any, no_such_node, refusing, or_refused, with_fault, Acts, Registers, Tries, DeliversAll, SavesAny, Does, Plays}
 
 -- some accepted events lead from one cluster to another
 abbrev pub Leads : ClusterState → ClusterState → Type 0
-Leads c d = (es : List Event) × Reaches c es d
+Leads c d = (es : List ClusterEvent) × Reaches c es d
 
 pub leads_itself : (c : ClusterState) → Leads c c
 leads_itself c = ([], refl)
 
-reaches_on : (es fs : List Event) (a b c : ClusterState) → Reaches a es b → Reaches b fs c → Reaches a (es ++ fs) c
+reaches_on : (es fs : List ClusterEvent) (a b c : ClusterState) → Reaches a es b → Reaches b fs c → Reaches a (es ++ fs) c
 reaches_on [] fs a b c r q = subst (λ (x : ClusterState). Reaches x fs c) r q
 reaches_on (e ∷ es) fs a b c r q = (r.0, r.1, r.2, reaches_on es fs r.1 b c r.3 q)
 
@@ -36,14 +36,14 @@ pub leads_on : (a b c : ClusterState) → Leads a b → Leads b c → Leads a c
 leads_on a b c h k = (h.0 ++ k.0, reaches_on h.0 k.0 a b c h.1 k.1)
 
 -- an event that is taken or refused
-takes_leads : (c d : ClusterState) (e : Event) (r : Result Stepped ClusterFault) → Takes c e d r → Leads c d
+takes_leads : (c d : ClusterState) (e : ClusterEvent) (r : Result ClusterStep ClusterFault) → Takes c e d r → Leads c d
 takes_leads c d e (Ok told) h = (e ∷ [], (told, d, h, refl))
 takes_leads c d e (Err f) h = subst (Leads c) (sym h.0) (leads_itself c)
 
 -- ---- one state to another
 
 -- some fault is one of these and one more
-pub any_with : (faults : List LineFault) (line : ℕ) (r : Refusal) → is_any (with_fault line r faults) ≡ true
+pub any_with : (faults : List RefusedLine) (line : ℕ) (r : Refusal) → is_any (with_fault line r faults) ≡ true
 any_with [] line r = refl
 any_with (f ∷ fs) line r = refl
 
@@ -65,11 +65,11 @@ led_next s = record { leads = leads_itself s.cluster; refused = λ h. h }
 led_on : (s t u : SimState) → IsLed s t → IsLed t u → IsLed s u
 led_on s t u h k = record { leads = leads_on s.cluster t.cluster u.cluster h.leads k.leads; refused = λ told. k.refused (h.refused told) }
 
-still_refused : (line : ℕ) (r : Result Stepped ClusterFault) (faults : List LineFault) → is_any faults ≡ true → is_any (or_refused line r faults) ≡ true
+still_refused : (line : ℕ) (r : Result ClusterStep ClusterFault) (faults : List RefusedLine) → is_any faults ≡ true → is_any (or_refused line r faults) ≡ true
 still_refused line (Ok told) faults h = h
 still_refused line (Err f) faults h = any_with faults line (Cluster f)
 
-pub acts_led : (e : Event) (s : SimState) (text : List ℕ) (t : SimState) → Acts e s text t → IsLed s t
+pub acts_led : (e : ClusterEvent) (s : SimState) (text : List ℕ) (t : SimState) → Acts e s text t → IsLed s t
 acts_led e s text t h = record { leads = takes_leads s.cluster t.cluster e h.result h.takes; refused = λ told. ap is_any h.faults ∙ still_refused s.line h.result s.faults told }
 
 tries_led : (s : SimState) (message node : ℕ) (t : SimState) → Tries s message node t → IsLed s t

@@ -15,7 +15,7 @@ use Rattle.q_book.specs.State.{BookState}
 use Rattle.q_book.specs.Books as book
 use Rattle.q_book.specs.declared.fault.BookFault.{BookFault}
 use Rattle.q_book.proofs.Parts.{desk-parts}
-use Rattle.q_history.specs.declared.event.Stepped.{Stepped}
+use Rattle.q_history.specs.declared.event.ClusterStep.{ClusterStep}
 use Rattle.q_history.specs.declared.event.Told.TheVariants as told
 use Rattle.q_history.specs.State.{ClusterState}
 use Rattle.q_history.specs.Heads.{book_of}
@@ -23,7 +23,7 @@ use Rattle.q_history.specs.Clusters.{lift, posts, posted, finished}
 use Rattle.q_history.proofs.Called.{at-ok}
 
 -- an answer is told, and no message; and the cluster recorded it
-pub record IsRecorded (stepped : Stepped) (c : ClusterState) : Type 0 where
+pub record IsRecorded (stepped : ClusterStep) (c : ClusterState) : Type 0 where
   pub node : ℕ
   pub query : ℕ
   pub ran : Ran
@@ -36,7 +36,7 @@ pub record IsRecorded (stepped : Stepped) (c : ClusterState) : Type 0 where
   pub number : slice_get desk.queries query ≡ Some asked
   pub answered : asked.phase ≡ Answered view ran
 
-lift-ok : {A : Type 0} (next : A → BookState → Stepped × ClusterState) (r : Result (A × BookState) BookFault) (y : Stepped × ClusterState) → lift next r ≡ Ok y
+lift-ok : {A : Type 0} (next : A → BookState → ClusterStep × ClusterState) (r : Result (A × BookState) BookFault) (y : ClusterStep × ClusterState) → lift next r ≡ Ok y
     → (a : A × BookState) × (r ≡ Ok a) × (next a.0 a.1 ≡ y)
 lift-ok next (Ok a) y h = (a, refl, same_answer _ y h)
 lift-ok next (Err e) y h = absurd (no_refusal _ y h)
@@ -53,7 +53,7 @@ now_answered queries k old view ran at =
     ap (λ (o : Option Query). slice_get (desks.in_phase queries k (Answered view ran) o) k) at
     ∙ written queries k old (record old { phase = Answered view ran }) at
 
-pub finish_recorded : (c : ClusterState) (ran : Ran) (o : Option Job) (y : Stepped × ClusterState) → finished c ran o ≡ Ok y → IsRecorded y.0 y.1
+pub finish_recorded : (c : ClusterState) (ran : Ran) (o : Option Job) (y : ClusterStep × ClusterState) → finished c ran o ≡ Ok y → IsRecorded y.0 y.1
 finish_recorded c ran None y h = absurd (no_refusal _ y h)
 finish_recorded c ran (Some j) y h =
     let k = at-ok c j.node (posted c j ran) y h in
@@ -61,7 +61,7 @@ finish_recorded c ran (Some j) y h =
     let b = desk-parts (book_of c j.node k.node k.desk) (desks.posted k.desk j.node j ran) a.0 a.1 in
     let p = (posted_is k.desk j ran b.0 j.node b.1).1 in
     let is : with_answer k.desk j.query p.view ran ≡ a.0.1.desk = p.is ∙ ap (λ (z : Unit {0} × BookState). z.1.desk) b.2 in
-    subst (λ (z : Stepped × ClusterState). IsRecorded z.0 z.1) a.2
+    subst (λ (z : ClusterStep × ClusterState). IsRecorded z.0 z.1) a.2
     (record {
       node = j.node;
       query = j.query;

@@ -7,7 +7,7 @@ use Rattle.std.specs.Option.{IsSome}
 use Rattle.std.specs.Bool.{IsFalse}
 use Rattle.sc_world.specs.Worlds.{live_at}
 use Rattle.std.specs.FinSet as set
-use Rattle.q_history.specs.declared.event.Event.TheVariants as event
+use Rattle.q_history.specs.declared.event.ClusterEvent.TheVariants as event
 use Rattle.q_sim.specs.Delivered.{Deliveries}
 use Rattle.q_sim.specs.Refusal.{refusal_line}
 use Rattle.q_sim.specs.declared.refusal.Refusal.TheVariants as refusal

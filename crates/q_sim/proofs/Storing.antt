@@ -24,7 +24,7 @@ use Rattle.q_history.specs.Clusters.{by_book, lift, stores, stored}
 use Rattle.q_history.specs.Faults.{of_book}
 use Rattle.q_history.specs.Heads.{book_of}
 use Rattle.q_history.specs.State.{ClusterState}
-use Rattle.q_history.specs.declared.event.Event.TheVariants as event
+use Rattle.q_history.specs.declared.event.ClusterEvent.TheVariants as event
 use Rattle.q_history.specs.declared.fault.ClusterFault.{ClusterFault}
 use Rattle.q_history.specs.declared.fault.ClusterFault.TheVariants as fault
 use Rattle.q_cluster.specs.Acts.{booked, book_at}

@@ -7,9 +7,9 @@ use Rattle.sc_world.specs.Worlds as world
 use Rattle.q_script.specs.declared.line.ScriptLine.{ScriptLine}
 use Rattle.q_script.specs.declared.line.ScriptLine.TheVariants.{Run}
 use Rattle.q_script.specs.declared.script.Script.{Script}
-use Rattle.q_history.specs.declared.event.Event.{Event}
-use Rattle.q_history.specs.declared.event.Event.TheVariants as event
-use Rattle.q_history.specs.declared.event.Stepped.{Stepped}
+use Rattle.q_history.specs.declared.event.ClusterEvent.{ClusterEvent}
+use Rattle.q_history.specs.declared.event.ClusterEvent.TheVariants as event
+use Rattle.q_history.specs.declared.event.ClusterStep.{ClusterStep}
 use Rattle.q_history.specs.declared.event.Told.{Told}
 use Rattle.q_history.specs.declared.event.Told.TheVariants as told
 use Rattle.q_history.specs.declared.fault.ClusterFault.{ClusterFault}
@@ -25,14 +25,14 @@ use Rattle.q_sim.proofs.Leading.{Leads, any_with, leads_itself, leads_on, IsLed,
 use Rattle.q_sim.proofs.Recording.{IsRecorded, finish_recorded}
 
 -- what is printed of it is its line alone
-only_line : (c : ClusterState) (stepped : Stepped) (t : Told) → stepped.told ≡ t → stepped.sent.count ≡ 0 → printed c (Ok stepped) ≡ told_lines t
+only_line : (c : ClusterState) (stepped : ClusterStep) (t : Told) → stepped.told ≡ t → stepped.sent.count ≡ 0 → printed c (Ok stepped) ≡ told_lines t
 only_line c stepped t tells silent =
     ap (λ n. told_lines stepped.told ++ message_lines c.world.sent stepped.sent.first n) silent
     ∙ append-nil (told_lines stepped.told)
     ∙ ap told_lines tells
 
 module _ (last : ClusterState) (answers : AnswersAreTrue last) where
-  recorded_true : (c : ClusterState) (stepped : Stepped) (text : List ℕ) → IsRecorded stepped c → AnswersStay c last → text ≡ printed c (Ok stepped) → IsTrueAnswer last text
+  recorded_true : (c : ClusterState) (stepped : ClusterStep) (text : List ℕ) → IsRecorded stepped c → AnswersStay c last → text ≡ printed c (Ok stepped) → IsTrueAnswer last text
   recorded_true c stepped text r stays is =
       let kept = stays r.node r.query r.desk r.asked r.view r.ran r.at r.number r.answered in
       record {
@@ -49,7 +49,7 @@ module _ (last : ClusterState) (answers : AnswersAreTrue last) where
         is_true = answers r.node r.query kept.0 r.asked r.view r.ran kept.1 kept.2 r.answered;
       }
 
-  ran_true : (c d : ClusterState) (job : ℕ) (text : List ℕ) (refused : Bool) (r : Result Stepped ClusterFault) → Takes c (event.Finish job) d r → AnswersStay d last
+  ran_true : (c d : ClusterState) (job : ℕ) (text : List ℕ) (refused : Bool) (r : Result ClusterStep ClusterFault) → Takes c (event.Finish job) d r → AnswersStay d last
       → ((f : ClusterFault) → r ≡ Err f → refused ≡ true) → text ≡ printed d r → IsTrueLine last refused (Run job) text
   ran_true c d job text refused (Err f) h stays told is = inr (f, is, told f refl)
   ran_true c d job text refused (Ok stepped) h stays told is = inl (recorded_true d stepped text (finish_recorded c h.ran (slice_get c.jobs job) (stepped, d) h.stepped) stays is)
@@ -61,7 +61,7 @@ module _ (first : ClusterState) (last : SimState) (stays : (c : ClusterState) �
   line_true writes (Run job) s before text t after h k d =
       let road = leads_on first s.cluster t.cluster h (acts_led (event.Finish job) s text t d.0).leads in
       ran_true last.cluster answers s.cluster t.cluster job text (is_any last.faults) d.0.result d.0.takes (stays t.cluster road k.leads)
-      (λ f is. k.refused (ap is_any (d.0.faults ∙ ap (λ (r : Result Stepped ClusterFault). or_refused s.line r s.faults) is) ∙ any_with s.faults s.line (Cluster f))) d.0.says
+      (λ f is. k.refused (ap is_any (d.0.faults ∙ ap (λ (r : Result ClusterStep ClusterFault). or_refused s.line r s.faults) is) ∙ any_with s.faults s.line (Cluster f))) d.0.says
   line_true writes l s before text t after h k d = tt
 
   lines_true : {F : Type 0} (writes : Writing F) (ls : List ScriptLine) (s : SimState) (before : F) (text : List ℕ) (after : F) → Leads first s.cluster → Plays writes ls s before text last after
@@ -76,7 +76,7 @@ module _ (first : ClusterState) (last : SimState) (stays : (c : ClusterState) �
   )
 
 -- recorded answers stay in every history, so what a script printed is true
-pub printed_true : ((version : Version) (config : Config) (founders : List ℕ) (before after : List Event) (c later : ClusterState) → Reaches (start version config founders) before c → Reaches c after later
+pub printed_true : ((version : Version) (config : Config) (founders : List ℕ) (before after : List ClusterEvent) (c later : ClusterState) → Reaches (start version config founders) before c → Reaches c after later
     → AnswersStay c later)
     → {F : Type 0} (writes : Writing F) (script : Script) (before : F) (text : List ℕ) (unwritten refused : Bool) (after : F) (s : Simulates writes script before text unwritten refused after)
     → AreTrueLines s.last.cluster refused script.lines.items text

@@ -4,7 +4,7 @@ use Rattle.sc_view.specs.Values.{most_bytes}
 use Rattle.q_session.specs.declared.ran.Ran.{Ran}
 use Rattle.q_history.specs.Clusters.{stepped}
 use Rattle.q_history.specs.State.{ClusterState}
-use Rattle.q_history.specs.declared.event.Event.TheVariants as event
+use Rattle.q_history.specs.declared.event.ClusterEvent.TheVariants as event
 use Rattle.q_history.specs.declared.fault.ClusterFault.{ClusterFault}
 
 -- the cluster refuses each of them so at this node

@@ -19,8 +19,8 @@ use Rattle.q_files.specs.declared.files.FileFault.{FileFault}
 use Rattle.q_files.specs.declared.files.FileFault.TheVariants as file_fault
 use Rattle.q_sim.specs.declared.refusal.Refusal.{Refusal}
 use Rattle.q_sim.specs.declared.refusal.Refusal.TheVariants.{FileFailed, Assembler, Bytes, Program, Records, Script, Fraction, Cluster, Journal, OutOfMemory}
-use Rattle.q_sim.specs.declared.refusal.Place.{Place}
-use Rattle.q_sim.specs.declared.refusal.Place.TheVariants.{Untold, Unit, Event, Line}
+use Rattle.q_sim.specs.declared.refusal.RefusalPlace.{RefusalPlace}
+use Rattle.q_sim.specs.declared.refusal.RefusalPlace.TheVariants.{Untold, Unit, Event, Line}
 
 abbrev pub reason : Refusal → Reason
 reason FileFailed = reasons.FileFailed
@@ -35,15 +35,15 @@ reason (Cluster f) = cluster.reason f
 reason (Journal f) = journal.reason f
 reason OutOfMemory = reasons.OutOfMemory
 
-abbrev pub at_unit : Option ℕ → Place
+abbrev pub at_unit : Option ℕ → RefusalPlace
 at_unit None = Untold
 at_unit (Some u) = Unit u
 
-abbrev pub at_event : Option ℕ → Place
+abbrev pub at_event : Option ℕ → RefusalPlace
 at_event None = Untold
 at_event (Some e) = Event e
 
-abbrev pub place : Refusal → Place
+abbrev pub place : Refusal → RefusalPlace
 place (Assembler (asm_fault.Syntax line)) = Line line
 place (Assembler (asm_fault.Label line)) = Line line
 place (Bytes (bytes_fault.At unit fault)) = Unit unit
@@ -53,7 +53,7 @@ place (Script (script_fault.Syntax line)) = Line line
 place (Journal f) = at_event (journal.fault_event f)
 place r = Untold
 
-abbrev pub place_text : Place → List ℕ
+abbrev pub place_text : RefusalPlace → List ℕ
 place_text Untold = []
 place_text (Unit u) = codes " at " ++ decimal u
 place_text (Event e) = codes " at " ++ decimal e

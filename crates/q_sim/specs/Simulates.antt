@@ -13,9 +13,9 @@ use Rattle.q_script.specs.declared.founding.Founding.{Founding}
 use Rattle.q_script.specs.declared.line.ScriptLine.{ScriptLine}
 use Rattle.q_script.specs.declared.line.ScriptLine.TheVariants.{Program, Store, Ask, Deliver, All, Hand, Run, Enter, Leave, Crash, Pairs, Journal}
 use Rattle.q_script.specs.declared.script.Script.{Script}
-use Rattle.q_history.specs.declared.event.Event.{Event}
-use Rattle.q_history.specs.declared.event.Event.TheVariants as event
-use Rattle.q_history.specs.declared.event.Stepped.{Stepped}
+use Rattle.q_history.specs.declared.event.ClusterEvent.{ClusterEvent}
+use Rattle.q_history.specs.declared.event.ClusterEvent.TheVariants as event
+use Rattle.q_history.specs.declared.event.ClusterStep.{ClusterStep}
 use Rattle.q_history.specs.declared.fault.ClusterFault.{ClusterFault}
 use Rattle.q_history.specs.declared.fault.ClusterFault.TheVariants as cluster_fault
 use Rattle.q_history.specs.Faults.{memory}
@@ -28,7 +28,7 @@ use Rattle.q_cluster.specs.Acts.{book_at}
 use Rattle.q_replay.specs.Journal.{journal_of}
 use Rattle.q_files.specs.declared.files.FileFault.{FileFault}
 use Rattle.q_files.specs.declared.files.FileFault.TheVariants.{Failed}
-use Rattle.q_sim.specs.declared.refusal.LineFault.{LineFault}
+use Rattle.q_sim.specs.declared.refusal.RefusedLine.{RefusedLine}
 use Rattle.q_sim.specs.declared.refusal.Refusal.{Refusal}
 use Rattle.q_sim.specs.declared.refusal.Refusal.TheVariants as refusal
 use Rattle.q_sim.specs.Delivered.{Deliveries}
@@ -43,7 +43,7 @@ pub record SimState : Type 0 where
   pub delivered : Deliveries  -- what was delivered, or tried by `all`
   pub unwritten : Bool  -- whether a journal was not written
   pub line : ℕ  -- the number of the line that is run, where the founding line is 1
-  pub faults : List LineFault  -- the lines that were refused, in turn, each with its refusal
+  pub faults : List RefusedLine  -- the lines that were refused, in turn, each with its refusal
 
 -- each id is greater than those before it
 abbrev pub Rises : List ℕ → Type 0
@@ -55,7 +55,7 @@ with_id id [] = id ∷ []
 with_id id (n ∷ ns) = if nat_lt id n then id ∷ n ∷ ns else n ∷ (if nat_lt n id then with_id id ns else ns)
 
 -- these faults and that this line is refused
-abbrev pub with_fault : ℕ → Refusal → List LineFault → List LineFault
+abbrev pub with_fault : ℕ → Refusal → List RefusedLine → List RefusedLine
 with_fault line r faults = faults ++ (record { line = line; refusal = r }) ∷ []
 
 -- the line is refused
@@ -63,7 +63,7 @@ abbrev pub refusing : Refusal → SimState → SimState
 refusing r s = record s { faults = with_fault s.line r s.faults }
 
 -- some line was refused
-abbrev pub is_any : List LineFault → Bool
+abbrev pub is_any : List RefusedLine → Bool
 is_any [] = false
 is_any (f ∷ fs) = true
 
@@ -74,23 +74,23 @@ at_next_line s = record s { line = s.line + 1 }
 -- ---- one event
 
 -- the id of a node that came is put among the others
-abbrev pub joined : Event → Result Stepped ClusterFault → List ℕ → List ℕ
+abbrev pub joined : ClusterEvent → Result ClusterStep ClusterFault → List ℕ → List ℕ
 joined (event.Enter id) (Ok told) ids = with_id id ids
 joined e r ids = ids
 
 -- an accepted delivery is noted
-abbrev pub noted : Event → Result Stepped ClusterFault → Deliveries → Deliveries
+abbrev pub noted : ClusterEvent → Result ClusterStep ClusterFault → Deliveries → Deliveries
 noted (event.Deliver message node) (Ok told) d = set.insert d (message, node)
 noted e r d = d
 
 -- where the event is refused, so is the line
-abbrev pub or_refused : ℕ → Result Stepped ClusterFault → List LineFault → List LineFault
+abbrev pub or_refused : ℕ → Result ClusterStep ClusterFault → List RefusedLine → List RefusedLine
 or_refused line (Ok told) faults = faults
 or_refused line (Err f) faults = with_fault line (refusal.Cluster f) faults
 
 -- the event is taken or refused, and that is printed: a store of more bytes than a value has is one, and is refused
-pub record Acts (e : Event) (s : SimState) (text : List ℕ) (t : SimState) : Type 0 where
-  pub result : Result Stepped ClusterFault
+pub record Acts (e : ClusterEvent) (s : SimState) (text : List ℕ) (t : SimState) : Type 0 where
+  pub result : Result ClusterStep ClusterFault
   pub takes : Takes s.cluster e t.cluster result
   pub nodes : t.nodes ≡ joined e result s.nodes
   pub delivered : t.delivered ≡ noted e result s.delivered
@@ -122,7 +122,7 @@ pub record IsNext (s : SimState) (message node : ℕ) : Type 0 where
 
 -- The delivery is taken or refused, but not for want of memory, and not tried again. No line is refused by it.
 pub record Tries (s : SimState) (message node : ℕ) (t : SimState) : Type 0 where
-  pub result : Result Stepped ClusterFault
+  pub result : Result ClusterStep ClusterFault
   pub takes : Takes s.cluster (event.Deliver message node) t.cluster result
   pub answered : result ≢ Err memory
   pub nodes : t.nodes ≡ s.nodes
@@ -263,6 +263,6 @@ pub record Simulates {F : Type 0} (writes : Writing F) (script : Script) (before
   pub books : BooksAreReplays last.cluster
 
 -- the same, where it is told which lines were refused
-abbrev pub TellsFaults : {F : Type 0} → Writing F → Script → F → List ℕ → Bool → Bool → List LineFault → F → Type 0
+abbrev pub TellsFaults : {F : Type 0} → Writing F → Script → F → List ℕ → Bool → Bool → List RefusedLine → F → Type 0
 TellsFaults writes script before text unwritten refused faults after =
     (s : Simulates writes script before text unwritten refused after) × (s.last.faults ≡ faults)

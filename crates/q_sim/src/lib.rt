@@ -6,20 +6,24 @@
 //! `answer` line is an answer that the last cluster has recorded, and that is true: [`laws`] says it of all scripts.
 //! `simulate` tells beside the text whether a line was refused, and whether a journal was not written.
 //!
-//! - [`refusal`] has each reason for which an event or a command is refused, with the line that is printed of it.
-//! - [`program`] has programs with their certificates, from their bytes.
-//! - [`printing`] has the lines of what an accepted event tells and of its messages.
-//! - [`delivered`] is the set of deliveries that were made or tried.
+//! - [`Refusal`] is each reason for which an event or a command is refused, with the line that is printed of it.
+//! - [`certified_code`] and [`certified_text`] make programs with their certificates, from their bytes.
+//! - [`print_told`] and [`print_messages`] print the lines of what an accepted event tells and of its messages.
+//! - [`Delivered`] is the set of deliveries that were made or tried.
 //!
 //! The command line of `bqview` stands on it.
-//!
-//! [`simulate`]: simulation::simulate
 #![tactic(auto)]
 
-pub mod delivered;
+mod delivered;
 pub mod laws;
-pub mod printing;
-pub mod program;
-pub mod refusal;
-pub mod simulation;
+mod printing;
+mod program;
+mod refusal;
+mod simulation;
 pub mod worked;
+
+pub use delivered::Delivered;
+pub use printing::{print_messages, print_pairs, print_told};
+pub use program::{certified_code, certified_text};
+pub use refusal::{Refusal, RefusalPlace, RefusedLine};
+pub use simulation::{Printed, simulate};

@@ -4,12 +4,11 @@ ghost use Rattle.std.specs.Prelude.{◌≡◌, [], ◌∷◌, ◌++◌, OnOk, st
 ghost use Rattle.q_sim.specs.Printing as pair;
 ghost use Rattle.q_sim.specs.Printing.{AddsPairs, told_lines, message_line, message_lines, pair_line, pairs_with, pairs_of};
 
-use q_cluster::cluster::Cluster;
-use q_desk::completed::Completed;
-use q_history::event::{Answer, Handed, Told};
-use sc_node::session::OperationKind;
-use sc_world::event::Sent;
-use sc_world::op::{Op, meets};
+use q_cluster::Cluster;
+use q_desk::Completed;
+use q_history::{Answer, Handed, Told};
+use sc_node::OperationKind;
+use sc_world::{Op, Sent, meets};
 use std::alloc::AllocError;
 
 /// Prints what an accepted event tells beside its messages.

@@ -5,15 +5,13 @@ ghost use Rattle.bq_verify.specs.Least.{AreLeast};
 ghost use Rattle.q_sim.specs.Programs.{IsProgram, IsRefusal, IsUncertified};
 
 use crate::refusal::Refusal;
-use bq_check::certified::Certified;
-use bq_check::check::check_within;
-use bq_insn::decode::decode;
-use bq_insn::text::Text;
-use bq_state::bounds::Bounds;
-use bq_verify::verify::verify_within;
-use q_book::lengths::record_lengths;
-use q_table::program::Program;
-use sc_msg::version::Version;
+use bq_check::{Certified, check_within};
+use bq_insn::{Text, decode};
+use bq_state::Bounds;
+use bq_verify::verify_within;
+use q_book::record_lengths;
+use q_table::Program;
+use sc_msg::Version;
 use std::alloc::Global;
 
 /// The certificate of a text for records of these lengths, with the notes that the verifier finds. Refused is what the

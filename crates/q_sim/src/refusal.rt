@@ -5,16 +5,15 @@ ghost use Rattle.q_sim.specs.Refusal as refusal;
 ghost use Rattle.q_sim.specs.Refusal.{refusal_of};
 ghost use Rattle.q_sim.specs.declared.refusal.Refusal.TheVariants.{Assembler, Bytes, Program, Records, Script, Fraction, Cluster, Journal, OutOfMemory};
 
-use bq_asm::fault::AsmFault;
-use bq_check::fault::CheckFault;
-use bq_insn::fault::DecodeFault;
-use q_files::files::FileFault;
-use q_history::fault::ClusterFault;
-use q_replay::fault::ReplayFault;
-use q_script::records::RecordsFault;
-use q_script::script::ScriptFault;
+use bq_asm::AsmFault;
+use bq_check::CheckFault;
+use bq_insn::DecodeFault;
+use q_files::FileFault;
+use q_history::ClusterFault;
+use q_replay::ReplayFault;
+use q_script::{RecordsFault, ScriptFault};
 use reasons::{Reason, passed_on};
-use sc_members::config::BadFraction;
+use sc_members::BadFraction;
 use std::alloc::AllocError;
 use std::error::Error;
 use std::fmt;
@@ -46,7 +45,7 @@ pub enum Refusal {
 
 /// A line of a script that was refused.
 #[derive(Clone, Copy, Debug, PartialEq, Eq)]
-pub struct LineFault {
+pub struct RefusedLine {
     /// The line of the script's file, counted from 1: the founding line is 1.
     pub line: usize,
     /// The refusal that was printed.
@@ -55,7 +54,7 @@ pub struct LineFault {
 
 /// Where a refusal arose, as its line tells it.
 #[derive(Clone, Copy)]
-pub enum Place {
+pub enum RefusalPlace {
     /// The line does not tell it.
     Untold,
     /// At this unit of a program, counted from 0.
@@ -66,7 +65,7 @@ pub enum Place {
     Line(usize),
 }
 
-impl fmt::Display for Place {
+impl fmt::Display for RefusalPlace {
     ghost use Rattle.std.specs.Prelude.{Some};
     ghost use Rattle.q_sim.specs.Refusal.{place_text};
 
@@ -74,10 +73,10 @@ impl fmt::Display for Place {
 
     fn fmt<W: fmt::Write>(&self, f: &mut fmt::Formatter<W>) -> fmt::Result {
         match self {
-            Place::Untold => Ok(()),
-            Place::Unit(unit) => write!(f, " at {unit}"),
-            Place::Event(event) => write!(f, " at {event}"),
-            Place::Line(line) => write!(f, " line {line}"),
+            RefusalPlace::Untold => Ok(()),
+            RefusalPlace::Unit(unit) => write!(f, " at {unit}"),
+            RefusalPlace::Event(event) => write!(f, " at {event}"),
+            RefusalPlace::Line(line) => write!(f, " line {line}"),
         }
     }
 }
@@ -105,25 +104,25 @@ impl Refusal {
 
     /// The unit of a program, the event of a journal or the line of a file at which the refusal arose, where it carries
     /// one.
-    pub fn place(&self) -> Place
+    pub fn place(&self) -> RefusalPlace
         ensures { result ≡ refusal.place self.now }
     {
         match self {
             Refusal::Assembler(AsmFault::Syntax { line } | AsmFault::Label { line }) => {
-                Place::Line(*line)
+                RefusalPlace::Line(*line)
             }
-            Refusal::Bytes(DecodeFault::At { unit, .. }) => Place::Unit(*unit),
+            Refusal::Bytes(DecodeFault::At { unit, .. }) => RefusalPlace::Unit(*unit),
             Refusal::Program(fault) => match fault.unit() {
-                Some(unit) => Place::Unit(unit),
-                None => Place::Untold,
+                Some(unit) => RefusalPlace::Unit(unit),
+                None => RefusalPlace::Untold,
             },
-            Refusal::Records(RecordsFault::Line { line, .. }) => Place::Line(*line),
-            Refusal::Script(ScriptFault::Syntax { line }) => Place::Line(*line),
+            Refusal::Records(RecordsFault::Line { line, .. }) => RefusalPlace::Line(*line),
+            Refusal::Script(ScriptFault::Syntax { line }) => RefusalPlace::Line(*line),
             Refusal::Journal(fault) => match fault.event() {
-                Some(event) => Place::Event(event),
-                None => Place::Untold,
+                Some(event) => RefusalPlace::Event(event),
+                None => RefusalPlace::Untold,
             },
-            _ => Place::Untold,
+            _ => RefusalPlace::Untold,
         }
     }
 }

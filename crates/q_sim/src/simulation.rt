@@ -7,21 +7,18 @@ ghost use Rattle.q_sim.specs.Awaited.{AwaitsFrom};
 use crate::delivered::Delivered;
 use crate::printing::{print_messages, print_pairs, print_told};
 use crate::program::certified_code;
-use crate::refusal::{LineFault, Refusal};
-use q_cluster::cluster::Cluster;
-use q_files::files::{FileFault, Files};
-use q_history::event::{Event, Stepped};
-use q_history::fault::ClusterFault;
-use q_replay::write::journal_bytes;
-use q_script::founding::Founding;
-use q_script::line::ScriptLine;
-use q_script::script::Script;
-use q_table::program::ProgramId;
+use crate::refusal::{Refusal, RefusedLine};
+use q_cluster::Cluster;
+use q_files::{FileFault, Files};
+use q_history::{ClusterEvent, ClusterFault, ClusterStep};
+use q_replay::journal_bytes;
+use q_script::{Founding, Script, ScriptLine};
+use q_table::ProgramId;
 use reasons::Reason;
-use sc_members::config::Config;
-use sc_node::fault::NodeFault;
-use sc_view::value::Value;
-use sc_world::fault::WorldFault;
+use sc_members::Config;
+use sc_node::NodeFault;
+use sc_view::Value;
+use sc_world::WorldFault;
 use std::alloc::{AllocError, Global};
 
 /// A cluster that a script runs, and what the script printed.
@@ -40,7 +37,7 @@ struct Simulation {
     /// The number of the line that is run.
     line: usize,
     /// The lines that were refused.
-    faults: Vec<LineFault>,
+    faults: Vec<RefusedLine>,
     lines: String,
     ghost rising: { Rises nodes.items },
     ghost sent: { awaited_from ≤ length cluster.world.sent },
@@ -69,14 +66,14 @@ pub struct Printed {
     /// refused, print nothing and do not count, unless memory ran out.
     pub refused: bool,
     /// The lines that were refused, in their order, each with the refusal that it printed.
-    pub faults: Vec<LineFault>,
+    pub faults: Vec<RefusedLine>,
 }
 
 /// Runs a script, and answers what it prints.
 ///
 /// Refused are 45 BadFraction and then 49 BadFounders, by which the script ends before any event, and 99 OutOfMemory.
-/// Each event is one step of the cluster; a refused one prints its refusal, and the script goes on. So does a script with
-/// a journal whose file fails. It is told which lines were refused. After each line it is told how many of all are
+/// Each event is one step of the cluster; a refused one prints its refusal, and the script goes on. So does a script
+/// with a journal whose file fails. It is told which lines were refused. After each line it is told how many of all are
 /// done.
 pub fn simulate<F: Files>(alloc: Global, script: Script, files: &mut F) -> Result<Printed, Refusal>
     ensures printed { IfOk result (λ p. Simulates F.write_gives script files.old (string_bytes p.lines) p.unwritten p.refused files.new) }
@@ -199,22 +196,22 @@ impl Simulation {
                 start,
             } => {
                 let program = program_id(program);
-                self.step(&Event::Ask {
+                self.step(&ClusterEvent::Ask {
                     node,
                     program,
                     start,
                 })
             }
-            ScriptLine::Deliver { message, node } => self.step(&Event::Deliver {
+            ScriptLine::Deliver { message, node } => self.step(&ClusterEvent::Deliver {
                 message: message as usize,
                 node,
             }),
             ScriptLine::All { limit } => self.deliver_all(limit),
-            ScriptLine::Hand { node } => self.step(&Event::HandOut(node)),
-            ScriptLine::Run { job } => self.step(&Event::Finish(job as usize)),
-            ScriptLine::Enter { node } => self.step(&Event::Enter(node)),
-            ScriptLine::Leave { node } => self.step(&Event::Leave(node)),
-            ScriptLine::Crash { node } => self.step(&Event::Crash(node)),
+            ScriptLine::Hand { node } => self.step(&ClusterEvent::HandOut(node)),
+            ScriptLine::Run { job } => self.step(&ClusterEvent::Finish(job as usize)),
+            ScriptLine::Enter { node } => self.step(&ClusterEvent::Enter(node)),
+            ScriptLine::Leave { node } => self.step(&ClusterEvent::Leave(node)),
+            ScriptLine::Crash { node } => self.step(&ClusterEvent::Crash(node)),
             ScriptLine::Pairs => self.tell_pairs(),
             ScriptLine::Journal { node, file } => self.save(node, file.as_str(), files),
         }
@@ -225,7 +222,7 @@ impl Simulation {
         ensures { OnOk result (Prints (Registers node code.now) self.old self.new) }
     {
         match certified_code(self.alloc, code) {
-            Ok(program) => self.step(&Event::Register { node, program }),
+            Ok(program) => self.step(&ClusterEvent::Register { node, program }),
             Err(refusal) => self.refuse(&refusal),
         }
     }
@@ -233,10 +230,10 @@ impl Simulation {
     /// Begins to store a value of these bytes at a node. No event has a value of more than 112: what the cluster would
     /// refuse such a store with is printed.
     fn store(&mut self, node: u64, bytes: &[u8]) -> Result<(), AllocError>
-        ensures { OnOk result (Prints (Acts (Event.Store node bytes.now)) self.old self.new) }
+        ensures { OnOk result (Prints (Acts (ClusterEvent.Store node bytes.now)) self.old self.new) }
     {
         match Value::new(bytes) {
-            Ok(value) => self.step(&Event::Store { node, value }),
+            Ok(value) => self.step(&ClusterEvent::Store { node, value }),
             Err(_) => {
                 let fault = self.longer_store(node);
                 self.refuse(&Refusal::Cluster(fault))
@@ -262,7 +259,7 @@ impl Simulation {
 
     /// Takes one event, and prints what it tells or its refusal. A node that came, a delivery that is accepted and a
     /// refusal are noted.
-    fn step(&mut self, event: &Event) -> Result<(), AllocError>
+    fn step(&mut self, event: &ClusterEvent) -> Result<(), AllocError>
         ensures { OnOk result (Prints (Acts event.now) self.old self.new) }
     {
         let answer = self.take(event);
@@ -271,14 +268,14 @@ impl Simulation {
     }
 
     /// Takes one event. A node that came awaits every message.
-    fn take(&mut self, event: &Event) -> Result<Stepped, ClusterFault>
+    fn take(&mut self, event: &ClusterEvent) -> Result<ClusterStep, ClusterFault>
         ensures takes { Takes self.old.cluster event.now self.new.cluster result }
         ensures rest { seen self.new ≡ record (seen self.old) { cluster = self.new.cluster } }
         ensures silent { self.new.lines ≡ self.old.lines }
-        ensures awaited { IfOk result (λ _. (id : ℕ) → event.now ≡ Event.Enter id → self.new.awaited_from ≡ 0) }
+        ensures awaited { IfOk result (λ _. (id : ℕ) → event.now ≡ ClusterEvent.Enter id → self.new.awaited_from ≡ 0) }
     {
         let stepped = self.cluster.step(event)?;
-        if let Event::Enter(_) = event {
+        if let ClusterEvent::Enter(_) = event {
             self.awaited_from = 0;
         }
         Ok(stepped)
@@ -287,19 +284,19 @@ impl Simulation {
     /// Notes a node that came, and a delivery that was accepted.
     fn note(
         &mut self,
-        event: &Event,
-        answer: &Result<Stepped, ClusterFault>,
+        event: &ClusterEvent,
+        answer: &Result<ClusterStep, ClusterFault>,
     ) -> Result<(), AllocError>
-        requires awaited { IfOk answer.now (λ _. (id : ℕ) → event.now ≡ Event.Enter id → self.old.awaited_from ≡ 0) }
+        requires awaited { IfOk answer.now (λ _. (id : ℕ) → event.now ≡ ClusterEvent.Enter id → self.old.awaited_from ≡ 0) }
         ensures noted { OnOk result (seen self.new ≡ record (seen self.old) { nodes = joined event.now answer.now self.old.nodes.items; delivered = noted event.now answer.now self.old.delivered }) }
         ensures silent { OnOk result (self.new.lines ≡ self.old.lines) }
     {
         match (answer, event) {
-            (Ok(_), Event::Deliver { message, node }) => {
+            (Ok(_), ClusterEvent::Deliver { message, node }) => {
                 self.delivered.insert(*message, *node)?;
                 Ok(())
             }
-            (Ok(_), Event::Enter(node)) => {
+            (Ok(_), ClusterEvent::Enter(node)) => {
                 put_id(&mut self.nodes, *node)?;
                 Ok(())
             }
@@ -307,8 +304,8 @@ impl Simulation {
         }
     }
 
-    /// Delivers what was not delivered, the least message first and each to the least node first, so many times at most.
-    /// Where memory is refused for a delivery, that is printed, and no more is delivered.
+    /// Delivers what was not delivered, the least message first and each to the least node first, so many times at
+    /// most. Where memory is refused for a delivery, that is printed, and no more is delivered.
     fn deliver_all(&mut self, limit: u64) -> Result<(), AllocError>
         ensures { OnOk result (Prints (Spreads limit) self.old self.new) }
     {
@@ -325,8 +322,8 @@ impl Simulation {
         Ok(())
     }
 
-    /// Delivers a message to each live node that it was not delivered to, the least node first, so many times at most. A
-    /// refused delivery counts as one, but for want of memory.
+    /// Delivers a message to each live node that it was not delivered to, the least node first, so many times at most.
+    /// A refused delivery counts as one, but for want of memory.
     fn spread(&mut self, message: usize, limit: u64) -> Result<Spread, AllocError>
         requires sent { message < length self.old.cluster.world.sent }
         requires passed { AwaitsFrom message (seen self.old) }
@@ -349,13 +346,13 @@ impl Simulation {
         Ok(Spread::Whole(left))
     }
 
-    /// Delivers a message to a node, and notes that it was tried. It is not, and nothing is done, where memory is refused
-    /// for it.
+    /// Delivers a message to a node, and notes that it was tried. It is not, and nothing is done, where memory is
+    /// refused for it.
     fn attempt(&mut self, message: usize, node: u64) -> Result<bool, AllocError>
         ensures attempts { IfOk result (λ tried. Attempts (seen self.old) message node tried (seen self.new)) }
         ensures silent { OnOk result (self.new.lines ≡ self.old.lines) }
     {
-        let answer = self.cluster.step(&Event::Deliver { message, node });
+        let answer = self.cluster.step(&ClusterEvent::Deliver { message, node });
         if let Err(fault) = answer {
             if let Reason::OutOfMemory = fault.reason() {
                 return Ok(false);
@@ -379,8 +376,8 @@ impl Simulation {
         print_pairs(&mut self.lines, self.cluster.ops())
     }
 
-    /// Writes the journal of a node's book under this name, and prints how many events it has. A node that never was, or
-    /// that the file fails, is printed as a refusal.
+    /// Writes the journal of a node's book under this name, and prints how many events it has. A node that never was,
+    /// or that the file fails, is printed as a refusal.
     fn save<F: Files>(&mut self, node: u64, name: &str, files: &mut F) -> Result<(), AllocError>
         ensures { OnOk result (PrintsOver (Saves F.write_gives node name.now) self.old files.old self.new files.new) }
     {
@@ -407,12 +404,12 @@ impl Simulation {
     {
         let line = self.line;
         let refusal = *refusal;
-        self.faults.push(LineFault { line, refusal })?;
+        self.faults.push(RefusedLine { line, refusal })?;
         writeln!(self.lines, "{refusal}")
     }
 
     /// Prints what an event answered: what it tells and its messages, or its refusal, which is noted.
-    fn print(&mut self, answer: &Result<Stepped, ClusterFault>) -> Result<(), AllocError>
+    fn print(&mut self, answer: &Result<ClusterStep, ClusterFault>) -> Result<(), AllocError>
         ensures noted { OnOk result (seen self.new ≡ record (seen self.old) { faults = or_refused self.old.line answer.now self.old.faults.items }) }
         ensures lines { OnOk result (string_bytes self.new.lines ≡ string_bytes self.old.lines ++ printed self.old.cluster answer.now) }
     {

@@ -13,7 +13,7 @@ ghost use Rattle.q_files.specs.declared.memory.MemoryFiles.{MemoryFiles as Memor
 ghost use Rattle.q_history.specs.Calls.{Takes};
 ghost use Rattle.q_history.specs.Faults.{memory};
 ghost use Rattle.q_history.specs.State.{ClusterState};
-ghost use Rattle.q_history.specs.declared.event.Event.TheVariants as event;
+ghost use Rattle.q_history.specs.declared.event.ClusterEvent.TheVariants as event;
 ghost use Rattle.q_history.specs.declared.event.Told.TheVariants as told;
 ghost use Rattle.q_history.specs.declared.fault.ClusterFault.TheVariants as cluster_fault;
 ghost use Rattle.q_script.specs.declared.line.ScriptLine.TheVariants as line;
@@ -24,7 +24,7 @@ ghost use Rattle.q_sim.specs.Programs.{IsProgram, program_lengths};
 ghost use Rattle.q_sim.specs.Refusal as refusal;
 ghost use Rattle.q_sim.specs.Simulates.{Awaits, Begins, DeliversAll, Plays, Saves, SavesBook, SimState, Tries, WantsMemory, at_next_line, or_refused, with_fault};
 ghost use Rattle.q_sim.specs.Truths.{AreTrueLines, IsTrueAnswer};
-ghost use Rattle.q_sim.specs.declared.refusal.Place.TheVariants as at;
+ghost use Rattle.q_sim.specs.declared.refusal.RefusalPlace.TheVariants as at;
 ghost use Rattle.q_sim.specs.declared.refusal.Refusal.TheVariants as refused;
 ghost use Rattle.sc_msg.specs.declared.message.Body.TheVariants as body;
 ghost use Rattle.sc_world.specs.Regular.{IsMeeting};

@@ -8,16 +8,16 @@ use Rattle.q_slots.specs.Phase.{Phase, fresh, empty, ready, claimed, finished, c
 use Rattle.q_slots.specs.Rule.{Orderly}
 use Rattle.q_slots.specs.Account.{Accounted, Accounts, HoldsOwn}
 use Rattle.q_session.specs.declared.job.Job.{Job}
-use Rattle.q_slots.specs.declared.cell.Cell.{Cell}
+use Rattle.q_slots.specs.declared.cell.Content.{Content}
 use Rattle.q_slots.specs.declared.view.Asking.{Asking}
 use Rattle.q_slots.specs.declared.view.Running.{Running}
-use Rattle.q_slots.specs.declared.view.View.{View}
-use Rattle.q_slots.specs.declared.view.View.TheVariants.{Asker, Runner}
+use Rattle.q_slots.specs.declared.view.Holder.{Holder}
+use Rattle.q_slots.specs.declared.view.Holder.TheVariants.{Asker, Runner}
 use Rattle.q_slots.proofs.Moves.{there}
 use Rattle.q_slots.proofs.AskerSteps.{word_is, home_is}
 use Rattle.q_slots.proofs.RunnerSteps.{held_is, held_yes}
 
-module _ (lanes : ℕ) (s : State Cell View) (o : Orderly lanes s) where
+module _ (lanes : ℕ) (s : State Content Holder) (o : Orderly lanes s) where
   account : (i : ℕ) (p : Phase) → get_elem? o.phases i ≡ some p → Accounted s i (job_of p)
   account i fresh e = word_is lanes s o i fresh fresh e
   account i empty e = word_is lanes s o i empty empty e

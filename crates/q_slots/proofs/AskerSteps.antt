@@ -14,12 +14,12 @@ use Rattle.q_slots.specs.Rule.{total, weight, place, Balanced, FitsSlot, Fits, O
 use Rattle.q_slots.specs.Plays.{Sat, offering, looking, receiving, opening_more, published, looked, taken, took_home}
 use Rattle.q_session.specs.declared.job.Job.{Job}
 use Rattle.q_session.specs.Done.{Finished}
-use Rattle.q_slots.specs.declared.cell.Cell.{Cell}
-use Rattle.q_slots.specs.declared.cell.Cell.TheVariants as cell
+use Rattle.q_slots.specs.declared.cell.Content.{Content}
+use Rattle.q_slots.specs.declared.cell.Content.TheVariants as cell
 use Rattle.q_slots.specs.declared.found.Look.{Look}
 use Rattle.q_slots.specs.declared.view.Asking.{Asking}
-use Rattle.q_slots.specs.declared.view.View.{View}
-use Rattle.q_slots.specs.declared.view.View.TheVariants.{Asker}
+use Rattle.q_slots.specs.declared.view.Holder.{Holder}
+use Rattle.q_slots.specs.declared.view.Holder.TheVariants.{Asker}
 use Rattle.q_slots.proofs.Moves.{board, at_lt, there, at_get, others, moves}
 
 module _ {A : Type 0} (g : A → ℕ) where
@@ -32,15 +32,15 @@ module _ {A : Type 0} (g : A → ℕ) where
   total-set (x ∷ xs) zero v w e = omega (arith, ap g (some-injective x v e))
   total-set (x ∷ xs) (suc j) v w e = omega (arith, total-set xs j v w e)
 
-module _ (lanes : ℕ) (s : State Cell View) (o : Orderly lanes s) (i : ℕ) (p q : Phase) (is : get_elem? o.phases i ≡ some p) where
+module _ (lanes : ℕ) (s : State Content Holder) (o : Orderly lanes s) (i : ℕ) (p q : Phase) (is : get_elem? o.phases i ≡ some p) where
   pub word_is : get_or s.words i 0 ≡ code p
   word_is = ap (λ (ws : List ℕ). get_or ws i 0) o.words ∙ at_get (map code o.phases) i (code p) 0 (at_map code o.phases i p is)
 
   pub home_is : get_elem? s.homes i ≡ some (shelf p)
-  home_is = ap (λ (hs : List (opt.Option Cell)). get_elem? hs i) o.homes ∙ at_map shelf o.phases i p is
+  home_is = ap (λ (hs : List (opt.Option Content)). get_elem? hs i) o.homes ∙ at_map shelf o.phases i p is
 
-  pub home_set : (h : opt.Option Cell) → shelf q ≡ h → set s.homes i h ≡ map shelf (set o.phases i q)
-  home_set h e = ap (λ (hs : List (opt.Option Cell)). set hs i h) o.homes ∙ ap (set (map shelf o.phases) i) (sym e) ∙ sym (map-set shelf o.phases i q)
+  pub home_set : (h : opt.Option Content) → shelf q ≡ h → set s.homes i h ≡ map shelf (set o.phases i q)
+  home_set h e = ap (λ (hs : List (opt.Option Content)). set hs i h) o.homes ∙ ap (set (map shelf o.phases) i) (sym e) ∙ sym (map-set shelf o.phases i q)
 
   pub home_same : shelf q ≡ shelf p → s.homes ≡ map shelf (set o.phases i q)
   home_same e = sym (set_again s.homes i (shelf p) home_is) ∙ home_set (shelf p) e
@@ -59,7 +59,7 @@ finished_code (ready j) e = absurd (omega arith)
 finished_code (claimed r j) e = absurd (omega arith)
 finished_code (finished d) e = (d, refl)
 
-module _ (lanes : ℕ) (s : State Cell View) (o : Orderly lanes s) (id : ℕ) (a : Asking) (k : ℕ) (p q : Phase)
+module _ (lanes : ℕ) (s : State Content Holder) (o : Orderly lanes s) (id : ℕ) (a : Asking) (k : ℕ) (p q : Phase)
     (offered : List Job) (received : List Finished) (row : List (Option Job)) (looks : List Look) (opened : ℕ) (shown : Option ℕ) where
   abbrev now : Asking
   now = record { number = a.number; offered = offered; received = received; row = row; looks = looks; opened = opened; shown = shown }
@@ -78,7 +78,7 @@ module _ (lanes : ℕ) (s : State Cell View) (o : Orderly lanes s) (id : ℕ) (a
         (λ t. let t₀ = t.0 in else j x near (λ same. t.0 (ap (λ (n : ℕ). 8 * a.number + n) same)) (f.3 j x near t.1)) (at_set o.phases at (8 * a.number + j) q x e),
   )
 
-  pub asker_moves : (n : ℕ) (hs : List (opt.Option Cell)) → k < 8 → get_elem? o.phases at ≡ some p → get_elem? s.views id ≡ some (Asker a)
+  pub asker_moves : (n : ℕ) (hs : List (opt.Option Content)) → k < 8 → get_elem? o.phases at ≡ some p → get_elem? s.views id ≡ some (Asker a)
       → code q ≡ n → hs ≡ map shelf (set o.phases at q)
       → length row ≡ 8 → Balanced now → FitsSlot now k q → ((j : ℕ) (x : Phase) → j < 8 → j ≢ k → FitsSlot a j x → FitsSlot now j x)
       → ((r : ℕ) → held_by r q ≡ held_by r p)
@@ -109,7 +109,7 @@ module _ (lanes id : ℕ) (a : Asking) (k : ℕ) (near : k < 8) where
   pub spot_back : spot - 8 * a.number ≡ k
   spot_back = omega arith
 
-  pub publishes : (more : List (ℕ × Cell)) (j : Job) → a.opened ≡ 8 → get_elem? a.row k ≡ some None
+  pub publishes : (more : List (ℕ × Content)) (j : Job) → a.opened ≡ 8 → get_elem? a.row k ≡ some None
       → Allows (Orderly lanes) lanes id (Asker a, (spot, cell.Offered j) ∷ more) spot (λ _. 1) (λ _. published (step lanes spot 1 0 none) (Asker a, (spot, cell.Offered j) ∷ more) 1)
   publishes more j all free s o wide me small =
       let f = o.fits id (Asker a) me in let f₀ = f.0 in
@@ -140,7 +140,7 @@ module _ (lanes id : ℕ) (a : Asking) (k : ℕ) (near : k < 8) where
   looks_at x i e = dite (ℕ_discrete x 2) (λ y. (y, some_injective spot i (sym (ap (λ b. cond b (Some spot) None) (eq-eqb x 2 y)) ∙ e)))
       (λ n. let z : None ≡ Some i = sym (ap (λ b. cond b (Some spot) None) (ne_eqb x 2 n)) ∙ e in cc)
 
-  pub looks : (mine : List (ℕ × Cell)) → Allows (Orderly lanes) lanes id (Asker a, mine) spot (λ n. n) (looked (step lanes spot 0 0 none) (Asker a, mine))
+  pub looks : (mine : List (ℕ × Content)) → Allows (Orderly lanes) lanes id (Asker a, mine) spot (λ n. n) (looked (step lanes spot 0 0 none) (Asker a, mine))
   looks mine s o wide me small =
       let f = o.fits id (Asker a) me in let f₀ = f.0 in
       let t = there o.phases spot (omega arith) in let p = t.0 in
@@ -162,7 +162,7 @@ module _ (lanes id : ℕ) (a : Asking) (k : ℕ) (near : k < 8) where
         refl,
       )
 
-  pub takes_result : (mine : List (ℕ × Cell)) → a.shown ≡ Some spot
+  pub takes_result : (mine : List (ℕ × Content)) → a.shown ≡ Some spot
       → Allows (Orderly lanes) lanes id (Asker a, mine) spot (λ n. either (eqb n 2) 0 n) (taken (step lanes spot 2 0 none) (Asker a, mine))
   takes_result mine shown s o wide me small =
       let f = o.fits id (Asker a) me in let f₀ = f.0 in
@@ -192,7 +192,7 @@ module _ (lanes id : ℕ) (a : Asking) (k : ℕ) (near : k < 8) where
         (d, word, ap (get_elem? a.row) spot_back ∙ open_job, refl),
       )
 
-  pub takes_home : (mine : List (ℕ × Cell)) → a.opened ≡ k → Allows (Orderly lanes) lanes id (Asker a, mine) spot (λ n. n) (took_home (step lanes spot 0 0 none) (Asker a, mine))
+  pub takes_home : (mine : List (ℕ × Content)) → a.opened ≡ k → Allows (Orderly lanes) lanes id (Asker a, mine) spot (λ n. n) (took_home (step lanes spot 0 0 none) (Asker a, mine))
   takes_home mine next s o wide me small =
       let f = o.fits id (Asker a) me in let f₀ = f.0 in
       let t = there o.phases spot (omega arith) in let p = t.0 in
@@ -218,7 +218,7 @@ module _ (lanes id : ℕ) (a : Asking) (k : ℕ) (near : k < 8) where
       )
 
 -- the same at other names for the same numbers
-pub take_home_allowed : (key slots id n k : ℕ) (m : Sat) (a : Asking) (mine : List (ℕ × Cell)) → slots ≡ key → a.number ≡ n → a.opened ≡ k → k < 8 → m ≡ (Asker a, mine)
+pub take_home_allowed : (key slots id n k : ℕ) (m : Sat) (a : Asking) (mine : List (ℕ × Content)) → slots ≡ key → a.number ≡ n → a.opened ≡ k → k < 8 → m ≡ (Asker a, mine)
     → Allows (Orderly key) slots id m (8 * n + k) (λ x. x) (took_home (step slots (8 * n + k) 0 0 none) m)
 take_home_allowed key slots id n k m a mine sized num next near is =
     subst (λ (x : ℕ). Allows (Orderly key) x id m (8 * n + k) (λ x. x) (took_home (step x (8 * n + k) 0 0 none) m)) (sym sized)

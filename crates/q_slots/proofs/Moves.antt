@@ -13,13 +13,13 @@ use Rattle.q_slots.specs.Phase.{Phase, claimed, finished, code, shelf, job_of, h
 use Rattle.q_slots.specs.Rule.{place, FitsSlot, Fits, Orderly}
 use Rattle.q_session.specs.declared.job.Job.{Job}
 use Rattle.q_session.specs.Done.{Finished}
-use Rattle.q_slots.specs.declared.cell.Cell.{Cell}
+use Rattle.q_slots.specs.declared.cell.Content.{Content}
 use Rattle.q_slots.specs.declared.view.Asking.{Asking}
 use Rattle.q_slots.specs.declared.view.Running.{Running}
-use Rattle.q_slots.specs.declared.view.View.{View}
-use Rattle.q_slots.specs.declared.view.View.TheVariants.{Maker, Asker, Runner}
+use Rattle.q_slots.specs.declared.view.Holder.{Holder}
+use Rattle.q_slots.specs.declared.view.Holder.TheVariants.{Maker, Asker, Runner}
 
-abbrev pub board : List ℕ → List (opt.Option Cell) → List View → State Cell View
+abbrev pub board : List ℕ → List (opt.Option Content) → List Holder → State Content Holder
 board ws hs vs = record { words = ws; homes = hs; views = vs }
 
 module _ {A : Type 0} where
@@ -42,7 +42,7 @@ module _ {A : Type 0} where
   one_value l i a b e f = some-injective a b (sym e ∙ f)
 
 -- what a runner has finished stays
-abbrev pub Grows : View → View → Type 0
+abbrev pub Grows : Holder → Holder → Type 0
 Grows v w = (x : Running) → v ≡ Runner x → (y : Running) × (w ≡ Runner y) × ((d : Finished) → Contains x.finished d → Contains y.finished d)
 
 -- to the askers, one phase is as good as the other
@@ -59,7 +59,7 @@ alike_slot : (a : Asking) (k : ℕ) (p q : Phase) → Alike p q → FitsSlot a k
 alike_slot a k p q same f = (f.0 ∙ ap (λ (j : Option Job). some j) (sym same.0), (λ h e. f.1 h (same.1 e)), (λ h. same.2 (f.2 h)), (λ e. same.3 (f.3 e)))
 
 -- a seat that does not move still fits
-pub others : (phases : List Phase) (n i : ℕ) (p q : Phase) → get_elem? phases i ≡ some p → (IsFresh p → (i + 8 < 8 * n) ⊎ IsFresh q) → (u : View)
+pub others : (phases : List Phase) (n i : ℕ) (p q : Phase) → get_elem? phases i ≡ some p → (IsFresh p → (i + 8 < 8 * n) ⊎ IsFresh q) → (u : Holder)
     → ((a : Asking) → u ≡ Asker a → Apart a i ⊎ Alike p q) → ((r : Running) → u ≡ Runner r → held_by r.number q ≡ held_by r.number p)
     → Fits phases n u → Fits (set phases i q) n u
 others phases n i p q is early (Maker m) askers runners f =
@@ -88,19 +88,19 @@ others phases n i p q is early (Runner r) askers runners f =
     (λ t. f k x t.1) (at_set phases i k q x e)
 
 -- the runners stay, with what they finished
-still : (views : List View) (id : ℕ) (v w : View) → get_elem? views id ≡ some v → Grows v w → (r : ℕ) (x : Running) → get_elem? views r ≡ some (Runner x)
+still : (views : List Holder) (id : ℕ) (v w : Holder) → get_elem? views id ≡ some v → Grows v w → (r : ℕ) (x : Running) → get_elem? views r ≡ some (Runner x)
     → (y : Running) × (get_elem? (set views id w) r ≡ some (Runner y)) × ((d : Finished) → Contains x.finished d → Contains y.finished d)
 still views id v w at grows r x e =
     dite (ℕ_discrete r id)
     (λ same. let g = grows x (one_value views id v (Runner x) at (ap (get_elem? views) (sym same) ∙ e)) in
-    (g.0, ap (get_elem? (set views id w)) same ∙ set_here views id w (at_lt views id v at) ∙ ap (λ (u : View). some u) g.1, g.2))
+    (g.0, ap (get_elem? (set views id w)) same ∙ set_here views id w (at_lt views id v at) ∙ ap (λ (u : Holder). some u) g.1, g.2))
     (λ else. (x, set_else views id r w else ∙ e, λ d c. c))
 
-module _ (lanes : ℕ) (s : State Cell View) (o : Orderly lanes s) (i id : ℕ) (p q : Phase) (v w : View) where
-  pub moves : (n : ℕ) (hs : List (opt.Option Cell)) → get_elem? o.phases i ≡ some p → get_elem? s.views id ≡ some v → place w ≡ place v
+module _ (lanes : ℕ) (s : State Content Holder) (o : Orderly lanes s) (i id : ℕ) (p q : Phase) (v w : Holder) where
+  pub moves : (n : ℕ) (hs : List (opt.Option Content)) → get_elem? o.phases i ≡ some p → get_elem? s.views id ≡ some v → place w ≡ place v
       → code q ≡ n → hs ≡ map shelf (set o.phases i q)
       → Fits (set o.phases i q) (length s.views) w
-      → ((u : View) → place u ≢ place v → Fits o.phases (length s.views) u → Fits (set o.phases i q) (length s.views) u)
+      → ((u : Holder) → place u ≢ place v → Fits o.phases (length s.views) u → Fits (set o.phases i q) (length s.views) u)
       → Grows v w
       → ((r : ℕ) (j : Job) → q ≡ claimed r j → (p ≡ claimed r j) ⊎ ((x : Running) × (w ≡ Runner x) × (r ≡ id)))
       → ((d : Finished) → q ≡ finished d → (p ≡ finished d) ⊎ ((x : Running) × (w ≡ Runner x) × Contains x.finished d))
@@ -120,12 +120,12 @@ module _ (lanes : ℕ) (s : State Cell View) (o : Orderly lanes s) (i id : ℕ) 
             let old : get_elem? o.phases k ≡ some (claimed r j) → T = λ c. let x = o.claimant k r j c in let y = keep r x.0 x.1 in (y.0, y.1) in
             let split : T = ⊎_elim
             (λ t. ⊎_elim (λ was. old (ap (get_elem? o.phases) t.0 ∙ is ∙ ap (λ (y : Phase). some y) was))
-            (λ new. (new.0, ap (get_elem? (set s.views id w)) new.2 ∙ set_here s.views id w near ∙ ap (λ (u : View). some u) new.1)) (claims r j t.1))
+            (λ new. (new.0, ap (get_elem? (set s.views id w)) new.2 ∙ set_here s.views id w near ∙ ap (λ (u : Holder). some u) new.1)) (claims r j t.1))
             (λ t. old t.1) (at_set o.phases i k q (claimed r j) e) in split;
         source = λ k d e. let T : Type 0 = (r : ℕ) × (y : Running) × (get_elem? (set s.views id w) r ≡ some (Runner y)) × Contains y.finished d in
             let old : get_elem? o.phases k ≡ some (finished d) → T = λ c. let x = o.source k d c in let y = keep x.0 x.1 x.2 in (x.0, y.0, y.1, y.2 d x.3) in
             let split : T = ⊎_elim
             (λ t. ⊎_elim (λ was. old (ap (get_elem? o.phases) t.0 ∙ is ∙ ap (λ (y : Phase). some y) was))
-            (λ new. (id, new.0, set_here s.views id w near ∙ ap (λ (u : View). some u) new.1, new.2)) (ends d t.1))
+            (λ new. (id, new.0, set_here s.views id w near ∙ ap (λ (u : Holder). some u) new.1, new.2)) (ends d t.1))
             (λ t. old t.1) (at_set o.phases i k q (finished d) e) in split;
       }

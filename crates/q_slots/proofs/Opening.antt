@@ -11,11 +11,11 @@ use Rattle.q_slots.specs.Phase.{Phase, fresh, empty, ready, claimed, finished, c
 use Rattle.q_slots.specs.Rule.{maker, place, Fits, Orderly}
 use Rattle.q_slots.specs.Plays.{new_asking, new_running, next_maker, first_asker, first_runner}
 use Rattle.q_session.specs.declared.job.Job.{Job}
-use Rattle.q_slots.specs.declared.cell.Cell.{Cell}
-use Rattle.q_slots.specs.declared.cell.Cell.TheVariants as cell
+use Rattle.q_slots.specs.declared.cell.Content.{Content}
+use Rattle.q_slots.specs.declared.cell.Content.TheVariants as cell
 use Rattle.q_slots.specs.declared.view.Running.{Running}
-use Rattle.q_slots.specs.declared.view.View.{View}
-use Rattle.q_slots.specs.declared.view.View.TheVariants.{Maker, Asker, Runner}
+use Rattle.q_slots.specs.declared.view.Holder.{Holder}
+use Rattle.q_slots.specs.declared.view.Holder.TheVariants.{Maker, Asker, Runner}
 use Rattle.q_slots.proofs.Moves.{at_lt}
 
 module _ {A : Type 0} where
@@ -39,10 +39,10 @@ map-replicate : {A B : Type 0} (f : A → B) (n : ℕ) (a : A) → map f (replic
 map-replicate f zero a = refl
 map-replicate {B = B} f (suc n) a = ap (λ (l : List B). f a ∷ l) (map-replicate f n a)
 
-pub opens : (lanes : ℕ) (words : List ℕ) (cells : List Cell) → words ≡ replicate lanes 0 → cells ≡ replicate lanes cell.Vacant → Orderly lanes (opening words cells (maker lanes 0))
+pub opens : (lanes : ℕ) (words : List ℕ) (cells : List Content) → words ≡ replicate lanes 0 → cells ≡ replicate lanes cell.Vacant → Orderly lanes (opening words cells (maker lanes 0))
 opens lanes words cells ws cs =
     let F : List Phase = replicate lanes fresh in
-    let only = λ (i : ℕ) (v : View) (e : get_elem? (maker lanes 0 ∷ []) i ≡ some v). let T : Type 0 = (i ≡ 0) × (maker lanes 0 ≡ v) in
+    let only = λ (i : ℕ) (v : Holder) (e : get_elem? (maker lanes 0 ∷ []) i ≡ some v). let T : Type 0 = (i ≡ 0) × (maker lanes 0 ≡ v) in
     let found : T = ⊎_elim (λ t. absurd (some-ne-none v (sym t))) (λ t. t) (at_end [] (maker lanes 0) v i e) in found in
     record {
       phases = F;
@@ -56,18 +56,18 @@ opens lanes words cells ws cs =
     }
 
 -- a seat that is no maker fits however many seats there are
-seats_more : (phases : List Phase) (n : ℕ) (u : View) → 0 < place u → Fits phases n u → Fits phases (n + 1) u
+seats_more : (phases : List Phase) (n : ℕ) (u : Holder) → 0 < place u → Fits phases n u → Fits phases (n + 1) u
 seats_more phases n (Maker m) h f = absurd (omega arith)
 seats_more phases n (Asker a) h f = f
 seats_more phases n (Runner r) h f = f
 
-module _ (lanes made id : ℕ) (right : View) (place_is : place right ≡ made + 1)
-    (fits_right : (s : State Cell View) (o : Orderly lanes s) → length s.views ≡ made + 1
+module _ (lanes made id : ℕ) (right : Holder) (place_is : place right ≡ made + 1)
+    (fits_right : (s : State Content Holder) (o : Orderly lanes s) → length s.views ≡ made + 1
     → ((i : ℕ) (p : Phase) → get_elem? o.phases i ≡ some p → 8 * made ≤ i → IsFresh p) → Fits o.phases (length s.views + 1) right) where
   parts : Splits (Orderly lanes) id (maker lanes made) (maker lanes (made + 1)) right
   parts s o me =
-      let left : View = maker lanes (made + 1) in
-      let views : List View = set s.views id left in
+      let left : Holder = maker lanes (made + 1) in
+      let views : List Holder = set s.views id left in
       let f = o.fits id (maker lanes made) me in
       let seats : length s.views ≡ made + 1 = sym f.0 in
       let zero_id : 0 ≡ id = o.placed id (maker lanes made) me in
@@ -110,7 +110,7 @@ splits_asker lanes made id room = parts lanes made id (Asker (new_asking made)) 
     ))
 
 -- no slot is claimed by a runner that there is not
-unheld : (lanes made : ℕ) (s : State Cell View) (o : Orderly lanes s) → length s.views ≡ made + 1 → (i : ℕ) (p : Phase) → get_elem? o.phases i ≡ some p → held_by (made + 1) p ≡ None
+unheld : (lanes made : ℕ) (s : State Content Holder) (o : Orderly lanes s) → length s.views ≡ made + 1 → (i : ℕ) (p : Phase) → get_elem? o.phases i ≡ some p → held_by (made + 1) p ≡ None
 unheld lanes made s o seats i fresh e = refl
 unheld lanes made s o seats i empty e = refl
 unheld lanes made s o seats i (ready j) e = refl
@@ -124,8 +124,8 @@ splits_runner lanes made id = parts lanes made id (Runner (new_running lanes (ma
     replicate_at lanes i None (omega (arith, o.count, at_lt o.phases i p e)) ∙ ap (λ (y : Option Job). some y) (sym (unheld lanes made s o seats i p e)))
 
 -- the same where the maker's view is known by an equation
-pub asker_split : (key made id : ℕ) (v : View) → v ≡ maker key made → 8 * made + 8 ≤ key → Splits (Orderly key) id v (next_maker v) (first_asker v)
-asker_split key made id v is room = subst (λ (x : View). Splits (Orderly key) id x (next_maker x) (first_asker x)) (sym is) (splits_asker key made id room)
+pub asker_split : (key made id : ℕ) (v : Holder) → v ≡ maker key made → 8 * made + 8 ≤ key → Splits (Orderly key) id v (next_maker v) (first_asker v)
+asker_split key made id v is room = subst (λ (x : Holder). Splits (Orderly key) id x (next_maker x) (first_asker x)) (sym is) (splits_asker key made id room)
 
-pub runner_split : (key made id : ℕ) (v : View) → v ≡ maker key made → Splits (Orderly key) id v (next_maker v) (first_runner v)
-runner_split key made id v is = subst (λ (x : View). Splits (Orderly key) id x (next_maker x) (first_runner x)) (sym is) (splits_runner key made id)
+pub runner_split : (key made id : ℕ) (v : Holder) → v ≡ maker key made → Splits (Orderly key) id v (next_maker v) (first_runner v)
+runner_split key made id v is = subst (λ (x : Holder). Splits (Orderly key) id x (next_maker x) (first_runner x)) (sym is) (splits_runner key made id)

@@ -14,12 +14,12 @@ use Rattle.q_slots.specs.Rule.{place, Orderly}
 use Rattle.q_slots.specs.Plays.{trying, claiming, finishing, returning, tried, ended, given_back}
 use Rattle.q_session.specs.declared.job.Job.{Job}
 use Rattle.q_session.specs.Done.{Finished}
-use Rattle.q_slots.specs.declared.cell.Cell.{Cell}
-use Rattle.q_slots.specs.declared.cell.Cell.TheVariants as cell
+use Rattle.q_slots.specs.declared.cell.Content.{Content}
+use Rattle.q_slots.specs.declared.cell.Content.TheVariants as cell
 use Rattle.q_slots.specs.declared.found.Look.{Look}
 use Rattle.q_slots.specs.declared.view.Running.{Running}
-use Rattle.q_slots.specs.declared.view.View.{View}
-use Rattle.q_slots.specs.declared.view.View.TheVariants.{Runner}
+use Rattle.q_slots.specs.declared.view.Holder.{Holder}
+use Rattle.q_slots.specs.declared.view.Holder.TheVariants.{Runner}
 use Rattle.q_slots.proofs.Moves.{board, at_lt, there, Alike, others, moves}
 use Rattle.q_slots.proofs.AskerSteps.{word_is, home_is, home_set, home_same}
 
@@ -64,12 +64,12 @@ ready_code (ready j) e = (j, refl)
 ready_code (claimed r j) e = absurd (omega arith)
 ready_code (finished d) e = absurd (omega arith)
 
-module _ (lanes : ℕ) (s : State Cell View) (o : Orderly lanes s) (id : ℕ) (r : Running) (i : ℕ) (p q : Phase)
+module _ (lanes : ℕ) (s : State Content Holder) (o : Orderly lanes s) (id : ℕ) (r : Running) (i : ℕ) (p q : Phase)
     (held : List (Option Job)) (done : List Finished) (looks : List Look) where
   abbrev now : Running
   now = record { number = r.number; held = held; finished = done; looks = looks }
 
-  pub runner_moves : (n : ℕ) (hs : List (opt.Option Cell)) → get_elem? o.phases i ≡ some p → get_elem? s.views id ≡ some (Runner r)
+  pub runner_moves : (n : ℕ) (hs : List (opt.Option Content)) → get_elem? o.phases i ≡ some p → get_elem? s.views id ≡ some (Runner r)
       → code q ≡ n → hs ≡ map shelf (set o.phases i q)
       → Alike p q → ((k : ℕ) → k ≢ r.number → held_by k q ≡ held_by k p)
       → get_elem? held i ≡ some (held_by r.number q) → ((k : ℕ) → k ≢ i → get_elem? held k ≡ get_elem? r.held k)
@@ -92,7 +92,7 @@ module _ (lanes : ℕ) (s : State Cell View) (o : Orderly lanes s) (id : ℕ) (r
       (λ d e. ⊎_elim inl (λ z. inr (now, refl, z)) (ends d e))
 
 module _ (lanes id : ℕ) (r : Running) (i : ℕ) (near : i < lanes) where
-  pub tries : (mine : List (ℕ × Cell))
+  pub tries : (mine : List (ℕ × Content))
       → Allows (Orderly lanes) lanes id (Runner r, mine) i (λ n. either (eqb n 1) (3 + r.number) n) (tried (step lanes i 1 (3 + r.number) none) (Runner r, mine))
   tries mine s o wide me small =
       let f = o.fits id (Runner r) me in
@@ -136,7 +136,7 @@ module _ (lanes id : ℕ) (r : Running) (i : ℕ) (near : i < lanes) where
         ((λ hit. absurd (miss hit)), (λ _. refl)),
       ))
 
-  pub finishes : (more : List (ℕ × Cell)) (d : Finished) → get_elem? r.held i ≡ some (Some d.job)
+  pub finishes : (more : List (ℕ × Content)) (d : Finished) → get_elem? r.held i ≡ some (Some d.job)
       → Allows (Orderly lanes) lanes id (Runner r, (i, cell.Finished d) ∷ more) i (λ _. 2) (λ _. ended (step lanes i 2 0 none) (Runner r, (i, cell.Finished d) ∷ more) 2)
   finishes more d mine s o wide me small =
       let f = o.fits id (Runner r) me in
@@ -159,7 +159,7 @@ module _ (lanes id : ℕ) (r : Running) (i : ℕ) (near : i < lanes) where
         refl,
       )
 
-  pub gives_back : (more : List (ℕ × Cell)) (j : Job) → get_elem? r.held i ≡ some (Some j)
+  pub gives_back : (more : List (ℕ × Content)) (j : Job) → get_elem? r.held i ≡ some (Some j)
       → Allows (Orderly lanes) lanes id (Runner r, (i, cell.Offered j) ∷ more) i (λ _. 1) (λ _. given_back (step lanes i 1 0 none) (Runner r, (i, cell.Offered j) ∷ more) 1)
   gives_back more j mine s o wide me small =
       let f = o.fits id (Runner r) me in

@@ -8,11 +8,11 @@ use Rattle.q_slots.specs.Phase.{Phase, fresh, empty, ready, claimed, finished, s
 use Rattle.q_slots.specs.Rule.{Orderly, total, weight}
 use Rattle.q_slots.specs.Sums.{home_weight, claim_weight, claimed_by, in_slot, with_runners, over, Adds}
 use Rattle.q_session.specs.declared.job.Job.{Job}
-use Rattle.q_slots.specs.declared.cell.Cell.{Cell}
+use Rattle.q_slots.specs.declared.cell.Content.{Content}
 use Rattle.q_slots.specs.declared.view.Asking.{Asking}
 use Rattle.q_slots.specs.declared.view.Running.{Running}
-use Rattle.q_slots.specs.declared.view.View.{View}
-use Rattle.q_slots.specs.declared.view.View.TheVariants.{Maker, Asker, Runner}
+use Rattle.q_slots.specs.declared.view.Holder.{Holder}
+use Rattle.q_slots.specs.declared.view.Holder.TheVariants.{Maker, Asker, Runner}
 use Rattle.q_slots.proofs.Moves.{there, at_lt, one_value}
 use Rattle.q_slots.proofs.AskerSteps.{home_is}
 use Rattle.q_slots.proofs.RunnerSteps.{held_yes, held_no}
@@ -49,14 +49,14 @@ over_row h (x ∷ row) i g is =
 
 -- ---- one slot
 
-module _ (lanes : ℕ) (s : State Cell View) (o : Orderly lanes s) (h : Job → ℕ) where
+module _ (lanes : ℕ) (s : State Content Holder) (o : Orderly lanes s) (h : Job → ℕ) where
   claim_is : (i id : ℕ) (p : Phase) (r : Running) → get_elem? o.phases i ≡ some p → get_elem? s.views id ≡ some (Runner r) → claimed_by h i (Runner r) ≡ weight h (held_by r.number p)
   claim_is i id p r e at = ap (claim_weight h) (o.fits id (Runner r) at i p e)
 
   -- where no runner's number is claimed, no claim is held
   claims_none : (i : ℕ) (p : Phase) → get_elem? o.phases i ≡ some p → ((n : ℕ) → held_by n p ≡ None) → with_runners h s i ≡ 0
   claims_none i p e free = total_none (claimed_by h i) s.views none where
-    none : (id : ℕ) (v : View) → get_elem? s.views id ≡ some v → claimed_by h i v ≡ 0
+    none : (id : ℕ) (v : Holder) → get_elem? s.views id ≡ some v → claimed_by h i v ≡ 0
     none id (Maker m) at = refl
     none id (Asker a) at = refl
     none id (Runner r) at = claim_is i id p r e at ∙ ap (weight h) (free r.number)
@@ -69,7 +69,7 @@ module _ (lanes : ℕ) (s : State Cell View) (o : Orderly lanes s) (h : Job → 
       ∙ claim_is i n (claimed n j) v e x.1
       ∙ ap (λ (k : ℕ). weight h (held_by k (claimed n j))) number
       ∙ ap (weight h) (held_yes n j) where
-        others : (id : ℕ) (u : View) → id ≢ n → get_elem? s.views id ≡ some u → claimed_by h i u ≡ 0
+        others : (id : ℕ) (u : Holder) → id ≢ n → get_elem? s.views id ≡ some u → claimed_by h i u ≡ 0
         others id (Maker m) apart at = refl
         others id (Asker a) apart at = refl
         others id (Runner r) apart at =
@@ -86,7 +86,7 @@ module _ (lanes : ℕ) (s : State Cell View) (o : Orderly lanes s) (h : Job → 
   slot_adds i (claimed r j) e = let m = home_weighs i (claimed r j) e in let n = claims_one i r j e in omega arith
   slot_adds i (finished d) e = let m = home_weighs i (finished d) e in let n = claims_none i (finished d) e (λ k. refl) in omega arith
 
-pub adds : (lanes : ℕ) (s : State Cell View) → Orderly lanes s → (id : ℕ) (a : Asking) → get_elem? s.views id ≡ some (Asker a) → Adds s a
+pub adds : (lanes : ℕ) (s : State Content Holder) → Orderly lanes s → (id : ℕ) (a : Asking) → get_elem? s.views id ≡ some (Asker a) → Adds s a
 adds lanes s o id a me h =
     let f = o.fits id (Asker a) me in let f₀ = f.0 in let eight = f.1 in
     let place : (k : ℕ) (x : Option Job) → get_elem? a.row k ≡ some x → weight h x ≡ in_slot h s (8 * a.number + k) + with_runners h s (8 * a.number + k)

@@ -3,8 +3,8 @@ use Rattle.std.specs.Prelude.{◌≡◌, ℕ, ◌==◌, cond, Option, Some, None
 use mathlib.Core.Option as opt
 use Rattle.q_session.specs.declared.job.Job.{Job}
 use Rattle.q_session.specs.Done.{Finished}
-use Rattle.q_slots.specs.declared.cell.Cell.{Cell}
-use Rattle.q_slots.specs.declared.cell.Cell.TheVariants as cell
+use Rattle.q_slots.specs.declared.cell.Content.{Content}
+use Rattle.q_slots.specs.declared.cell.Content.TheVariants as cell
 use Rattle.q_slots.specs.declared.found.Found.{Found}
 use Rattle.q_slots.specs.declared.found.Found.TheVariants as look
 use Rattle.q_slots.specs.Words.{word_of}
@@ -30,7 +30,7 @@ abbrev pub code : Phase → ℕ
 code p = word_of (shows p)
 
 -- what is at home
-abbrev pub shelf : Phase → opt.Option Cell
+abbrev pub shelf : Phase → opt.Option Content
 shelf fresh = opt.some cell.Vacant
 shelf empty = opt.none
 shelf (ready j) = opt.some (cell.Offered j)

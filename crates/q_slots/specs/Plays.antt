@@ -6,21 +6,21 @@ use Rattle.atomic_table.specs.Table.{Me, Step, rest}
 use Rattle.q_slots.specs.Words.{found_of}
 use Rattle.q_session.specs.declared.job.Job.{Job}
 use Rattle.q_session.specs.Done.{Finished}
-use Rattle.q_slots.specs.declared.cell.Cell.{Cell}
-use Rattle.q_slots.specs.declared.cell.Cell.TheVariants as cell
+use Rattle.q_slots.specs.declared.cell.Content.{Content}
+use Rattle.q_slots.specs.declared.cell.Content.TheVariants as cell
 use Rattle.q_slots.specs.declared.found.Look.{Look}
 use Rattle.q_slots.specs.declared.found.Found.{Found}
 use Rattle.q_slots.specs.declared.found.Found.TheVariants as found
 use Rattle.q_slots.specs.declared.view.Asking.{Asking}
 use Rattle.q_slots.specs.declared.view.Running.{Running}
-use Rattle.q_slots.specs.declared.view.View.{View}
-use Rattle.q_slots.specs.declared.view.View.TheVariants.{Maker, Asker, Runner}
+use Rattle.q_slots.specs.declared.view.Holder.{Holder}
+use Rattle.q_slots.specs.declared.view.Holder.TheVariants.{Maker, Asker, Runner}
 
 abbrev pub Sat : Type 0
-Sat = Me Cell View
+Sat = Me Content Holder
 
 abbrev pub PlayOf : Type 1
-PlayOf = Step Cell → Sat → ℕ → Sat → Type 0
+PlayOf = Step Content → Sat → ℕ → Sat → Type 0
 
 abbrev pub look : ℕ → Found → Look
 look i f = record { slot = i; found = f }
@@ -31,25 +31,25 @@ new_asking n = record { number = n; offered = []; received = []; row = replicate
 abbrev pub new_running : ℕ → ℕ → Running
 new_running lanes n = record { number = n; held = replicate lanes None; finished = []; looks = [] }
 
-abbrev pub asking : View → Asking
+abbrev pub asking : Holder → Asking
 asking (Maker m) = new_asking 0
 asking (Asker a) = a
 asking (Runner r) = new_asking 0
 
-abbrev pub running : View → Running
+abbrev pub running : Holder → Running
 running (Maker m) = new_running 0 0
 running (Asker a) = new_running 0 0
 running (Runner r) = r
 
 -- what lies in the slot that was taken last
-abbrev pub front : List (ℕ × Cell) → Cell
+abbrev pub front : List (ℕ × Content) → Content
 front [] = cell.Vacant
 front (x ∷ xs) = x.1
 
 abbrev pub opening_more : Asking → Asking
 opening_more a = record a { opened = a.opened + 1 }
 
-abbrev pub offering : Asking → ℕ → Cell → Asking
+abbrev pub offering : Asking → ℕ → Content → Asking
 offering a i cell.Vacant = a
 offering a i (cell.Offered j) = record a { offered = a.offered ++ j ∷ []; row = slice_set a.row (i - 8 * a.number) (Some j) }
 offering a i (cell.Finished d) = a
@@ -66,7 +66,7 @@ trying r i n = record r { looks = r.looks ++ look i (found_of n) ∷ [] }
 abbrev pub claiming : Running → ℕ → Job → Running
 claiming r i j = record r { held = slice_set r.held i (Some j); looks = r.looks ++ look i found.Ready ∷ [] }
 
-abbrev pub finishing : Running → ℕ → Cell → Running
+abbrev pub finishing : Running → ℕ → Content → Running
 finishing r i cell.Vacant = r
 finishing r i (cell.Offered j) = r
 finishing r i (cell.Finished d) = record r { held = slice_set r.held i None; finished = r.finished ++ d ∷ [] }
@@ -104,17 +104,17 @@ abbrev pub given_back : PlayOf
 given_back s m r n = n ≡ (Runner (returning (running m.0) s.word), rest m.1)
 
 -- how the maker is cut as the board opens: all askers first, and then the runners
-abbrev pub next_maker : View → View
+abbrev pub next_maker : Holder → Holder
 next_maker (Maker m) = Maker (record { lanes = m.lanes; made = m.made + 1 })
 next_maker (Asker a) = Asker a
 next_maker (Runner r) = Runner r
 
-abbrev pub first_asker : View → View
+abbrev pub first_asker : Holder → Holder
 first_asker (Maker m) = Asker (new_asking m.made)
 first_asker (Asker a) = Asker a
 first_asker (Runner r) = Runner r
 
-abbrev pub first_runner : View → View
+abbrev pub first_runner : Holder → Holder
 first_runner (Maker m) = Runner (new_running m.lanes (m.made + 1))
 first_runner (Asker a) = Asker a
 first_runner (Runner r) = Runner r

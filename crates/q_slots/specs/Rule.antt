@@ -6,11 +6,11 @@ use Rattle.atomic_table.specs.Table.{State}
 use Rattle.q_slots.specs.Phase.{Phase, claimed, finished, code, shelf, job_of, held_by, IsFresh, IsFinished}
 use Rattle.q_session.specs.declared.job.Job.{Job}
 use Rattle.q_session.specs.Done.{Finished}
-use Rattle.q_slots.specs.declared.cell.Cell.{Cell}
+use Rattle.q_slots.specs.declared.cell.Content.{Content}
 use Rattle.q_slots.specs.declared.view.Asking.{Asking}
 use Rattle.q_slots.specs.declared.view.Running.{Running}
-use Rattle.q_slots.specs.declared.view.View.{View}
-use Rattle.q_slots.specs.declared.view.View.TheVariants.{Maker, Asker, Runner}
+use Rattle.q_slots.specs.declared.view.Holder.{Holder}
+use Rattle.q_slots.specs.declared.view.Holder.TheVariants.{Maker, Asker, Runner}
 
 abbrev pub total : {A : Type 0} → (A → ℕ) → List A → ℕ
 total f [] = 0
@@ -20,11 +20,11 @@ abbrev pub weight : (Job → ℕ) → Option Job → ℕ
 weight h None = 0
 weight h (Some j) = h j
 
-abbrev pub maker : ℕ → ℕ → View
+abbrev pub maker : ℕ → ℕ → Holder
 maker lanes made = Maker (record { lanes = lanes; made = made })
 
 -- the place of a seat among the views
-abbrev pub place : View → ℕ
+abbrev pub place : Holder → ℕ
 place (Maker m) = 0
 place (Asker a) = a.number + 1
 place (Runner r) = r.number
@@ -40,7 +40,7 @@ FitsSlot a k p =
     × (a.opened ≤ k → IsFresh p)
     × (a.shown ≡ Some (8 * a.number + k) → IsFinished p)
 
-abbrev pub Fits : List Phase → ℕ → View → Type 0
+abbrev pub Fits : List Phase → ℕ → Holder → Type 0
 Fits phases seats (Maker m) =
     (m.made + 1 ≡ seats) × (m.lanes ≡ length phases)
     × ((i : ℕ) (p : Phase) → get_elem? phases i ≡ some p → 8 * m.made ≤ i → IsFresh p)
@@ -50,13 +50,13 @@ Fits phases seats (Asker a) =
 Fits phases seats (Runner r) =
     (i : ℕ) (p : Phase) → get_elem? phases i ≡ some p → get_elem? r.held i ≡ some (held_by r.number p)
 
-pub record Orderly (lanes : ℕ) (s : State Cell View) : Type 0 where
+pub record Orderly (lanes : ℕ) (s : State Content Holder) : Type 0 where
   pub phases : List Phase
   pub count : length phases ≡ lanes
   pub words : s.words ≡ map code phases
   pub homes : s.homes ≡ map shelf phases
-  pub placed : (id : ℕ) (v : View) → get_elem? s.views id ≡ some v → place v ≡ id
-  pub fits : (id : ℕ) (v : View) → get_elem? s.views id ≡ some v → Fits phases (length s.views) v
+  pub placed : (id : ℕ) (v : Holder) → get_elem? s.views id ≡ some v → place v ≡ id
+  pub fits : (id : ℕ) (v : Holder) → get_elem? s.views id ≡ some v → Fits phases (length s.views) v
   -- a claimed slot is with the seat of that runner
   pub claimant : (i r : ℕ) (j : Job) → get_elem? phases i ≡ some (claimed r j) → (v : Running) × (get_elem? s.views r ≡ some (Runner v))
   -- a finished slot has a result that some runner finished

@@ -5,20 +5,20 @@ use mathlib.Core.Option.{some, none}
 use lib.ListN.{get_elem?}
 use Rattle.atomic_table.specs.Table.{State}
 use Rattle.q_session.specs.declared.job.Job.{Job}
-use Rattle.q_slots.specs.declared.cell.Cell.{Cell}
-use Rattle.q_slots.specs.declared.cell.Cell.TheVariants as cell
+use Rattle.q_slots.specs.declared.cell.Content.{Content}
+use Rattle.q_slots.specs.declared.cell.Content.TheVariants as cell
 use Rattle.q_slots.specs.declared.view.Asking.{Asking}
-use Rattle.q_slots.specs.declared.view.View.{View}
-use Rattle.q_slots.specs.declared.view.View.TheVariants.{Maker, Asker, Runner}
+use Rattle.q_slots.specs.declared.view.Holder.{Holder}
+use Rattle.q_slots.specs.declared.view.Holder.TheVariants.{Maker, Asker, Runner}
 use Rattle.q_slots.specs.Rule.{total, weight}
 
 -- a job that waits in the slot, or a job that lies there with its result
-abbrev pub cell_weight : (Job → ℕ) → Cell → ℕ
+abbrev pub cell_weight : (Job → ℕ) → Content → ℕ
 cell_weight h cell.Vacant = 0
 cell_weight h (cell.Offered j) = h j
 cell_weight h (cell.Finished d) = h d.job
 
-abbrev pub home_weight : (Job → ℕ) → opt.Option (opt.Option Cell) → ℕ
+abbrev pub home_weight : (Job → ℕ) → opt.Option (opt.Option Content) → ℕ
 home_weight h none = 0
 home_weight h (some none) = 0
 home_weight h (some (some c)) = cell_weight h c
@@ -28,16 +28,16 @@ claim_weight h none = 0
 claim_weight h (some x) = weight h x
 
 -- the job of the slot i that a seat's holder has claimed
-abbrev pub claimed_by : (Job → ℕ) → ℕ → View → ℕ
+abbrev pub claimed_by : (Job → ℕ) → ℕ → Holder → ℕ
 claimed_by h i (Maker m) = 0
 claimed_by h i (Asker a) = 0
 claimed_by h i (Runner r) = claim_weight h (get_elem? r.held i)
 
-abbrev pub in_slot : (Job → ℕ) → State Cell View → ℕ → ℕ
+abbrev pub in_slot : (Job → ℕ) → State Content Holder → ℕ → ℕ
 in_slot h s i = home_weight h (get_elem? s.homes i)
 
 -- the claims of all runners on the slot i
-abbrev pub with_runners : (Job → ℕ) → State Cell View → ℕ → ℕ
+abbrev pub with_runners : (Job → ℕ) → State Content Holder → ℕ → ℕ
 with_runners h s i = total (claimed_by h i) s.views
 
 -- over so many slots from i on
@@ -46,6 +46,6 @@ over f i zero = 0
 over f i (suc n) = f i + over f (i + 1) n
 
 -- as multisets: what the asker offered is what it received, what lies in its slots and what runners hold of them
-abbrev pub Adds : State Cell View → Asking → Type 0
+abbrev pub Adds : State Content Holder → Asking → Type 0
 Adds s a =
     (h : Job → ℕ) → total h a.offered ≡ total (λ d. h d.job) a.received + over (in_slot h s) (8 * a.number) 8 + over (with_runners h s) (8 * a.number) 8

@@ -1,11 +1,10 @@
 //! What a slot holds.
 
-use q_session::done::Done;
-use q_session::job::Job;
+use q_session::{Done, Job};
 
 /// What a slot of the board holds.
 #[derive(Drop)]
-pub enum Cell {
+pub enum Content {
     /// Nothing.
     Vacant,
     /// A job that waits for a runner.

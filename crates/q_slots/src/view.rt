@@ -1,8 +1,7 @@
 //! What the holder of a seat has done. No value of these types is made: they stand in contracts and in the rule.
 
 use crate::found::Look;
-use q_session::done::Done;
-use q_session::job::Job;
+use q_session::{Done, Job};
 use std::collections::LinkedList;
 
 /// What an asker has done.
@@ -44,7 +43,7 @@ pub struct Making {
 }
 
 /// What a seat's holder has done.
-pub enum View {
+pub enum Holder {
     /// The first seat.
     Maker(Making),
     /// An asker's seat.

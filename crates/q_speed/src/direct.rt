@@ -3,12 +3,11 @@
 ghost use Rattle.bq_meaning.specs.Place.{record_length};
 ghost use Rattle.bq_range.specs.Interval.{IsIn};
 
-use bq_check::certified::Certified;
-use bq_frame::block::Block;
-use bq_meaning::placement::{FRAME_LENGTH, Placement, RECORD_LENGTH};
-use bq_run::run::run;
-use q_speed_program::folded::{Folded, Way};
-use q_speed_program::program::certified;
+use bq_check::Certified;
+use bq_frame::Block;
+use bq_meaning::{FRAME_LENGTH, Placement, RECORD_LENGTH};
+use bq_run::run;
+use q_speed_program::{Folded, Way, certified};
 use std::alloc::Global;
 
 /// Where the frame lies for the machine.

@@ -12,9 +12,8 @@
 
 mod direct;
 
-use bq_insn::encode::encode;
-use q_speed_program::folded::{Folded, REFUSED, Way};
-use q_speed_program::program::assembled;
+use bq_insn::encode;
+use q_speed_program::{Folded, REFUSED, Way, assembled};
 use std::alloc::Global;
 
 /// Puts the bytes of a source into a buffer and answers their number; 0 where the source is refused or too long.

@@ -1,5 +1,8 @@
 //! What both static libraries of the harness in bench/ share: programs from bytes, and what folds come to.
 #![tactic(auto)]
 
-pub mod folded;
-pub mod program;
+mod folded;
+mod program;
+
+pub use folded::{Folded, REFUSED, Way};
+pub use program::{assembled, certified};

@@ -5,13 +5,11 @@ ghost use Rattle.bq_meaning.specs.Place.{record_length};
 ghost use Rattle.bq_range.specs.Interval.{IsIn};
 ghost use Rattle.bq_state.specs.Kinds.{view_lengths};
 
-use bq_asm::assemble::assemble;
-use bq_check::certified::Certified;
-use bq_check::check::check_within;
-use bq_insn::decode::decode;
-use bq_insn::text::Text;
-use bq_state::bounds::Bounds;
-use bq_verify::verify::verify_within;
+use bq_asm::assemble;
+use bq_check::{Certified, check_within};
+use bq_insn::{Text, decode};
+use bq_state::Bounds;
+use bq_verify::verify_within;
 use std::alloc::Global;
 use std::str;
 

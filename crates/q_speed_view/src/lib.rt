@@ -7,7 +7,7 @@
 
 mod viewed;
 
-use q_speed_program::folded::{Folded, REFUSED, Way};
+use q_speed_program::{Folded, REFUSED, Way};
 use std::alloc::Global;
 
 /// Folds a program over a view of the records.

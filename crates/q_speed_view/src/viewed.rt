@@ -4,15 +4,12 @@ ghost use Rattle.std.specs.Prelude.{◌≤◌, IfSome};
 ghost use Rattle.bq_state.specs.Kinds.{view_lengths};
 ghost use Rattle.q_session.specs.Records.{HasRecordsWithin};
 
-use bq_frame::block::Block;
-use bq_meaning::placement::RECORD_LENGTH;
-use q_session::fold::fold_checked;
+use bq_frame::Block;
+use bq_meaning::RECORD_LENGTH;
 use q_session::laws::records_of_values;
-use q_session::run::run_fold;
-use q_speed_program::folded::{Folded, Way};
-use q_speed_program::program::certified;
-use sc_view::value::{VALUE_LENGTH, Value};
-use sc_view::view::{Stored, View};
+use q_session::{fold_checked, run_fold};
+use q_speed_program::{Folded, Way, certified};
+use sc_view::{Stored, VALUE_LENGTH, Value, View};
 use std::alloc::Global;
 
 /// The number in eight bytes.

@@ -3,7 +3,7 @@
 ghost use Rattle.std.specs.Prelude.{◌≡◌, IfOk};
 
 use crate::program::Program;
-use bq_insn::encode::encode;
+use bq_insn::encode;
 use std::alloc::{AllocError, Global};
 use std::marker::Model;
 

@@ -2,7 +2,7 @@
 
 ghost use Rattle.std.specs.Prelude.{◌≡◌, IfOk};
 
-use bq_check::certified::Certified;
+use bq_check::Certified;
 use std::alloc::{AllocError, Global};
 use std::marker::Model;
 use std::sync::Arc;

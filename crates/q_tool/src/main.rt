@@ -1,11 +1,11 @@
 //! The program `bqview`: hands the machine to [`run`], whose contract says what the program does.
 //!
-//! [`run`]: q_bqview::run::run
+//! [`run`]: q_bqview::run
 #![tactic(auto)]
 
-use q_bqview::run::run;
-use q_files::folder::Folder;
-use q_wire::counted::Counted;
+use q_bqview::run;
+use q_files::Folder;
+use q_wire::Counted;
 use std::io::IsTerminal;
 use std::process::ExitCode;
 use std::{env, io};

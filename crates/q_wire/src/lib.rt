@@ -5,9 +5,15 @@
 //! it comes.
 #![tactic(auto)]
 
-pub mod counted;
-pub mod fault;
-pub mod memory;
-pub mod transport;
-pub mod udp;
+mod counted;
+mod fault;
+mod memory;
+mod transport;
+mod udp;
 pub mod worked;
+
+pub use counted::Counted;
+pub use fault::{TransportFailed, TransportFault};
+pub use memory::{Hub, Mailbox, MemoryTransport};
+pub use transport::{Transport, put_at_start};
+pub use udp::{Peer, UdpTransport};

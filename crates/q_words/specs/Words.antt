@@ -17,8 +17,8 @@ use Rattle.bq_range.specs.Interval.{Interval}
 use Rattle.bq_state.specs.Kinds.{AreLengths}
 use Rattle.q_words.specs.declared.words.FileCommand.{FileCommand}
 use Rattle.q_words.specs.declared.words.FileCommand.TheVariants.{Asm, Dis, Check, Run, Sim, Audit}
-use Rattle.q_words.specs.declared.words.Form.{Form}
-use Rattle.q_words.specs.declared.words.Form.TheVariants as form
+use Rattle.q_words.specs.declared.words.ProgramForm.{ProgramForm}
+use Rattle.q_words.specs.declared.words.ProgramForm.TheVariants as form
 use Rattle.q_words.specs.declared.words.NodeCommand.{NodeCommand}
 use Rattle.q_words.specs.declared.words.Wanted.{Wanted}
 use Rattle.q_words.specs.declared.words.Wanted.TheVariants as wanted
@@ -144,7 +144,7 @@ abbrev pub is_given : Text → List Row → Bool
 is_given name rows = bytes_eq (operand_of name rows) (codes "true")
 
 -- what the file of a program holds, as `--bytes` says
-abbrev pub form_of : List Row → Form
+abbrev pub form_of : List Row → ProgramForm
 form_of rows = if is_given (codes "bytes") rows then form.Bytes else form.Text
 
 -- these numbers were given for `--least` and `--most`
@@ -172,7 +172,7 @@ abbrev pub AreBadRunners : List Row → Type 0
 AreBadRunners rows = (n : ℕ) → AreRunners rows n → ⊥
 
 -- a program is in this file, of this form, for records of these lengths
-abbrev pub HasProgram : Bor Text → Form → Interval → List Row → Type 0
+abbrev pub HasProgram : Bor Text → ProgramForm → Interval → List Row → Type 0
 HasProgram file held lengths rows = (file.now ≡ operand_of (codes "FILE") rows) × (held ≡ form_of rows) × AreGiven rows lengths
 
 -- the command over files that was met, by its name and what was found for its operands

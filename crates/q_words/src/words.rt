@@ -10,10 +10,10 @@ ghost use Rattle.clap.specs.declared.builder.command.Command.TheViews.{out-Comma
 ghost use Rattle.q_words.specs.declared.words.WordsFault.TheVariants.{OutOfMemory};
 ghost use Rattle.q_words.specs.Words.{Has, asm_app, dis_app, check_app, run_app, sim_app, cluster_app, audit_app, gather_app, node_app, client_app, bare_app, bqview, flag, operand, operands, option, optional, demanded, with_bytes, with_lengths, form_of, operand_of, operands_of, is_given, is_strict, AreBadRunners, AreGiven, AreBad, AreRunners, HasLengths, HasLineFault, IsMet, IsRunners, Reads, Tells, TellsUngiven, exit_status};
 
-use bq_state::bounds::Bounds;
+use bq_state::Bounds;
 use clap::error::ErrorKind;
 use clap::{Arg, ArgAction, ArgMatches, Command, Error};
-use q_script::number::number;
+use q_script::number;
 use std::alloc::{AllocError, Global};
 use std::convert::AsStr;
 use std::env::Args;
@@ -21,7 +21,7 @@ use std::io;
 
 /// What a file of a program holds.
 #[derive(Clone, Copy, Debug, PartialEq, Eq)]
-pub enum Form {
+pub enum ProgramForm {
     /// Assembler text.
     Text,
     /// The bytes of the program, as `--bytes` says: eight a unit (RFC 9669, section 3.1).
@@ -46,7 +46,7 @@ pub enum FileCommand<'a> {
         /// The name of the file.
         file: &'a str,
         /// What the file holds.
-        form: Form,
+        form: ProgramForm,
         /// How many bytes a record may have.
         lengths: Bounds,
         /// Whether what is known of the registers at each unit is to be told.
@@ -59,7 +59,7 @@ pub enum FileCommand<'a> {
         /// The name of the file.
         file: &'a str,
         /// What the file holds.
-        form: Form,
+        form: ProgramForm,
         /// The accumulator that the program begins with.
         start: u64,
         /// The name of the file that lists the records.
@@ -753,13 +753,13 @@ fn optional_text<'a>(found: &ArgMatches<'a>, name: &str) -> Option<&'a str>
 }
 
 /// What the file of a program holds.
-fn program_form(found: &ArgMatches<'_>) -> Form
+fn program_form(found: &ArgMatches<'_>) -> ProgramForm
     ensures { result ≡ form_of (rows_of (found_of found.now)) }
 {
     if is_given(found, "bytes") {
-        Form::Bytes
+        ProgramForm::Bytes
     } else {
-        Form::Text
+        ProgramForm::Text
     }
 }
 

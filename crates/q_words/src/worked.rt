@@ -8,7 +8,7 @@ ghost use Rattle.clap.specs.declared.error.kind.ErrorKind.TheVariants as clap_ki
 ghost use Rattle.bq_range.specs.Interval.{Interval};
 ghost use Rattle.q_script.specs.Words.{IsNumeral};
 ghost use Rattle.q_words.specs.Words.{AreGiven, HasCommand, HasLineFault, HasNode, HasProgram, IsMet, IsRunners, TellsUngiven, bqview, exit_status, form_of, is_given, is_strict, operand_of, operands_of};
-ghost use Rattle.q_words.specs.declared.words.Form.TheVariants as form;
+ghost use Rattle.q_words.specs.declared.words.ProgramForm.TheVariants as form;
 ghost use Rattle.q_words.specs.declared.words.FileCommand.TheVariants as line;
 ghost use Rattle.q_words.specs.declared.words.Wanted.TheVariants as wanted;
 ghost use Rattle.q_words.specs.declared.words.WordsFault.TheVariants as fault;

@@ -1,13 +1,10 @@
 //! Lines about messages as bytes.
 
 use crate::views::first_byte;
-use sc_decode::decode::decode_as;
-use sc_members::facts::Facts;
-use sc_msg::encode::{encode, encode_v1};
-use sc_msg::fault::MessageFault;
-use sc_msg::message::{Body, Message};
-use sc_msg::version::Version;
-use sc_view::view::View;
+use sc_decode::decode_as;
+use sc_members::Facts;
+use sc_msg::{Body, Message, MessageFault, Version, encode, encode_v1};
+use sc_view::View;
 use std::alloc::Global;
 use std::io;
 

@@ -1,9 +1,8 @@
 //! Lines about the bytes of messages that are cut short or changed.
 
 use crate::bytes::{bytes_of, is_written};
-use sc_decode::decode::decode_as;
-use sc_msg::fault::MessageFault;
-use sc_msg::version::Version;
+use sc_decode::decode_as;
+use sc_msg::{MessageFault, Version};
 use std::alloc::Global;
 use std::io;
 

@@ -5,22 +5,19 @@
 
 use crate::words::Fraction;
 use crate::worlds::founded;
-use sc_view::value::{VALUE_LENGTH, Value};
-use sc_world::event::Event;
-use sc_world::fault::WorldFault;
-use sc_world::op::{Op, meets};
-use sc_world::world::World;
+use sc_view::{VALUE_LENGTH, Value};
+use sc_world::{Op, World, WorldEvent, WorldFault, meets};
 use std::alloc::Global;
 use std::io;
 
-const fn deliver(message: usize, node: u64) -> Event {
-    Event::Deliver { message, node }
+const fn deliver(message: usize, node: u64) -> WorldEvent {
+    WorldEvent::Deliver { message, node }
 }
 
 /// A store.
-fn storing() -> [Event; 5] {
+fn storing() -> [WorldEvent; 5] {
     [
-        Event::Store {
+        WorldEvent::Store {
             node: 1,
             value: Value::from(&[5; VALUE_LENGTH]),
         },
@@ -32,9 +29,9 @@ fn storing() -> [Event; 5] {
 }
 
 /// A collect that meets it.
-fn collecting() -> [Event; 9] {
+fn collecting() -> [WorldEvent; 9] {
     [
-        Event::Collect(2),
+        WorldEvent::Collect(2),
         deliver(5, 2),
         deliver(5, 3),
         deliver(6, 2),
@@ -47,14 +44,14 @@ fn collecting() -> [Event; 9] {
 }
 
 /// Then a node enters, one leaves, and one crashes.
-fn turning_over() -> [Event; 6] {
+fn turning_over() -> [WorldEvent; 6] {
     [
-        Event::Enter(4),
+        WorldEvent::Enter(4),
         deliver(13, 1),
         deliver(14, 4),
-        Event::Leave(3),
+        WorldEvent::Leave(3),
         deliver(15, 1),
-        Event::Crash(2),
+        WorldEvent::Crash(2),
     ]
 }
 
@@ -85,7 +82,7 @@ fn size(world: &World) -> (usize, usize, u64) {
 /// Takes an event that was refused, and answers whether the world still had this size.
 fn step_unchanged(
     world: &mut World,
-    event: &Event,
+    event: &WorldEvent,
     before: (usize, usize, u64),
 ) -> Result<bool, WorldFault> {
     let is_unchanged = size(world) == before;
@@ -96,7 +93,7 @@ fn step_unchanged(
 }
 
 /// Takes an event, and once more where memory is refused. The answer is whether the world was then as it was.
-fn step_again(world: &mut World, event: &Event) -> Result<bool, WorldFault> {
+fn step_again(world: &mut World, event: &WorldEvent) -> Result<bool, WorldFault> {
     let before = size(world);
     match world.step(*event) {
         Err(fault) if fault.reason().number() == 99 => step_unchanged(world, event, before),
@@ -106,7 +103,7 @@ fn step_again(world: &mut World, event: &Event) -> Result<bool, WorldFault> {
 }
 
 /// Takes events in turn. The answer is whether none that was refused changed a size.
-fn run_again(world: &mut World, events: &[Event]) -> Result<bool, WorldFault> {
+fn run_again(world: &mut World, events: &[WorldEvent]) -> Result<bool, WorldFault> {
     let mut is_unchanged = true;
     for event in events {
         is_unchanged = step_again(world, event)? && is_unchanged;

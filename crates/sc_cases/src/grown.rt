@@ -4,8 +4,7 @@
 //! A view of 200 nodes is shared. It learns newer values of 256, then nothing new, then 64 values that are newer still;
 //! then a new node is refused, and a known one not. In between an empty view learns all of it.
 
-use sc_view::value::{VALUE_LENGTH, Value};
-use sc_view::view::{Stored, View, ViewFault};
+use sc_view::{Stored, VALUE_LENGTH, Value, View, ViewFault};
 use std::alloc::Global;
 use std::io;
 

@@ -8,7 +8,7 @@
 use crate::bytes::bytes_of;
 use crate::words::version_of;
 use crate::{lengths, memory};
-use sc_decode::decode::decode_as;
+use sc_decode::decode_as;
 use sc_decode::laws::{
     read_and_written, read_and_written_v1, written_and_read, written_and_read_v1,
 };
@@ -16,21 +16,16 @@ use sc_lengths::laws::{
     collect_keeps_lengths, delivery_keeps_lengths, leave_keeps_lengths, new_nodes_have_no_value,
     store_keeps_lengths,
 };
-use sc_msg::encode::EncodeFault;
-use sc_msg::fault::MessageFault;
 use sc_msg::laws::{
     first_fits_second, one_fault, one_spelling, spelled_has_no_fault, spelled_is_small,
 };
-use sc_msg::message::Message;
-use sc_msg::version::Version;
+use sc_msg::{EncodeFault, Message, MessageFault, Version};
 use sc_view::form::{Command, Reply, ViewForm, run};
 use sc_view::laws::{
     merge_has_the_newest, merge_is_idempotent, merge_is_least_upper_bound,
     merge_takes_the_larger_number, order_is_partial,
 };
-use sc_view::sorted::SortedView;
-use sc_view::value::{VALUE_LENGTH, Value};
-use sc_view::view::{Stored, View};
+use sc_view::{SortedView, Stored, VALUE_LENGTH, Value, View};
 use sc_world::laws::regular;
 use std::alloc::{AllocError, Global};
 use std::io;

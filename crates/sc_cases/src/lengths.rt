@@ -2,10 +2,8 @@
 
 use crate::values::echo_of;
 use crate::words::place;
-use sc_msg::message::Message;
-use sc_msg::version::Version;
-use sc_view::value::Value;
-use sc_view::view::{Stored, View};
+use sc_msg::{Message, Version};
+use sc_view::{Stored, Value, View};
 use std::alloc::Global;
 use std::io;
 

@@ -1,9 +1,7 @@
 //! Lines about fractions, thresholds, sets of ids and facts.
 
 use crate::words::{Fraction, MembersLine, number};
-use sc_members::config::Config;
-use sc_members::facts::{Facts, FactsFault};
-use sc_members::ids::IdSet;
+use sc_members::{Config, Facts, FactsFault, IdSet};
 use std::alloc::{AllocError, Global};
 use std::io;
 

@@ -12,14 +12,11 @@
 
 use crate::bytes::bytes_of;
 use crate::{churn, grown};
-use sc_decode::decode::decode_v1;
-use sc_members::config::Config;
-use sc_msg::encode::{EncodeFault, encode_v1};
-use sc_msg::fault::MessageFault;
-use sc_msg::message::Message;
-use sc_node::fault::NodeFault;
-use sc_node::node::Node;
-use sc_view::value::{VALUE_LENGTH, Value};
+use sc_decode::decode_v1;
+use sc_members::Config;
+use sc_msg::{EncodeFault, Message, MessageFault, encode_v1};
+use sc_node::{Node, NodeFault};
+use sc_view::{VALUE_LENGTH, Value};
 use std::alloc::Global;
 use std::io;
 

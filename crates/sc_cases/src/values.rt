@@ -1,9 +1,7 @@
 //! Lines about the lengths of values.
 
-use sc_msg::encode::{encode, encode_v1};
-use sc_msg::message::{Body, Message};
-use sc_view::value::Value;
-use sc_view::view::{Stored, View};
+use sc_msg::{Body, Message, encode, encode_v1};
+use sc_view::{Stored, Value, View};
 use std::alloc::Global;
 use std::io;
 

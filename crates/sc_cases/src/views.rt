@@ -1,8 +1,7 @@
 //! Lines about views.
 
 use crate::words::{byte_of, number};
-use sc_view::value::{VALUE_LENGTH, Value};
-use sc_view::view::{Stored, View, ViewFault};
+use sc_view::{Stored, VALUE_LENGTH, Value, View, ViewFault};
 use std::alloc::Global;
 use std::io;
 

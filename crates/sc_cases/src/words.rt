@@ -1,8 +1,8 @@
 //! What a line of a case asks for.
 
-use sc_msg::version::Version;
-use sc_view::value::{VALUE_LENGTH, Value};
-use sc_world::event::Event;
+use sc_msg::Version;
+use sc_view::{VALUE_LENGTH, Value};
+use sc_world::WorldEvent;
 
 /// A fraction, by its two numbers.
 #[derive(Clone, Copy)]
@@ -20,7 +20,7 @@ pub(crate) enum WorldLine {
         first: u64,
         count: u64,
     },
-    Event(Event),
+    WorldEvent(WorldEvent),
     All {
         messages: usize,
         nodes: u64,
@@ -86,29 +86,29 @@ fn halves<'a>(words: &'a [&'a str]) -> (&'a [&'a str], &'a [&'a str]) {
 }
 
 /// An event of one node.
-fn event_of(verb: &str, node: u64) -> Option<Event> {
+fn event_of(verb: &str, node: u64) -> Option<WorldEvent> {
     match verb {
-        "enter" => Some(Event::Enter(node)),
-        "leave" => Some(Event::Leave(node)),
-        "crash" => Some(Event::Crash(node)),
-        "collect" => Some(Event::Collect(node)),
+        "enter" => Some(WorldEvent::Enter(node)),
+        "leave" => Some(WorldEvent::Leave(node)),
+        "crash" => Some(WorldEvent::Crash(node)),
+        "collect" => Some(WorldEvent::Collect(node)),
         _ => None,
     }
 }
 
-fn store(node: &str, byte: &str) -> Option<Event> {
+fn store(node: &str, byte: &str) -> Option<WorldEvent> {
     let node = number(node)?;
     let byte = byte_of(byte)?;
-    Some(Event::Store {
+    Some(WorldEvent::Store {
         node,
         value: Value::from(&[byte; VALUE_LENGTH]),
     })
 }
 
-fn deliver(message: &str, node: &str) -> Option<Event> {
+fn deliver(message: &str, node: &str) -> Option<WorldEvent> {
     let message = place(message)?;
     let node = number(node)?;
-    Some(Event::Deliver { message, node })
+    Some(WorldEvent::Deliver { message, node })
 }
 
 fn all(messages: &str, nodes: &str) -> Option<WorldLine> {
@@ -127,7 +127,7 @@ fn one(verb: &str, a: &str) -> Option<WorldLine> {
     match verb {
         "op" => place(a).map(WorldLine::Op),
         "known" => number(a).map(WorldLine::Known),
-        _ => event_of(verb, number(a)?).map(WorldLine::Event),
+        _ => event_of(verb, number(a)?).map(WorldLine::WorldEvent),
     }
 }
 
@@ -135,8 +135,8 @@ fn two(verb: &str, a: &str, b: &str) -> Option<WorldLine> {
     match verb {
         "all" => all(a, b),
         "common" => common(a, b),
-        "store" => store(a, b).map(WorldLine::Event),
-        "deliver" => deliver(a, b).map(WorldLine::Event),
+        "store" => store(a, b).map(WorldLine::WorldEvent),
+        "deliver" => deliver(a, b).map(WorldLine::WorldEvent),
         _ => None,
     }
 }

@@ -1,14 +1,9 @@
 //! Lines about a world.
 
 use crate::words::{Fraction, WorldLine};
-use sc_members::config::Config;
-use sc_node::answer::{Completion, Ended};
-use sc_node::node::Node;
-use sc_node::session::Phase;
-use sc_world::event::{Event, Sent, Stepped};
-use sc_world::fault::WorldFault;
-use sc_world::op::meets;
-use sc_world::world::World;
+use sc_members::Config;
+use sc_node::{Completion, Ended, Node, Phase};
+use sc_world::{Sent, World, WorldEvent, WorldFault, WorldStep, meets};
 use std::alloc::Global;
 use std::io;
 
@@ -27,7 +22,7 @@ fn tell_end(rt: &impl Print, ended: &Ended) -> io::Result<()> {
 }
 
 /// What an event told: its operation, its end, and its messages.
-fn tell(rt: &impl Print, world: &World, stepped: &Stepped) -> io::Result<()> {
+fn tell(rt: &impl Print, world: &World, stepped: &WorldStep) -> io::Result<()> {
     if let Some(tag) = stepped.tag {
         print!(rt; " tag {tag}")?;
     }
@@ -53,7 +48,7 @@ fn refuse(rt: &impl Print, fault: WorldFault) -> io::Result<()> {
     println!(rt; " refused {}", fault.reason())
 }
 
-fn step(rt: &impl Print, world: &mut World, event: Event) -> io::Result<()> {
+fn step(rt: &impl Print, world: &mut World, event: WorldEvent) -> io::Result<()> {
     match world.step(event) {
         Ok(stepped) => tell(rt, world, &stepped),
         Err(fault) => refuse(rt, fault),
@@ -63,7 +58,7 @@ fn step(rt: &impl Print, world: &mut World, event: Event) -> io::Result<()> {
 fn deliver_all(world: &mut World, messages: usize, nodes: u64) -> Result<(), WorldFault> {
     for message in 0..messages {
         for node in 0..nodes {
-            world.step(Event::Deliver {
+            world.step(WorldEvent::Deliver {
                 message,
                 node: node.wrapping_add(1),
             })?;
@@ -177,7 +172,7 @@ fn tell_counts(rt: &impl Print, world: &World) -> io::Result<()> {
 
 fn answer_in(rt: &impl Print, world: &mut World, line: WorldLine) -> io::Result<()> {
     match line {
-        WorldLine::Event(event) => step(rt, world, event),
+        WorldLine::WorldEvent(event) => step(rt, world, event),
         WorldLine::All { messages, nodes } => tell_all(rt, world, messages, nodes),
         WorldLine::Op(place) => tell_op(rt, world, place),
         WorldLine::Common(first, second) => tell_common(rt, world, first, second),

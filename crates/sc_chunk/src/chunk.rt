@@ -10,7 +10,7 @@ use std::marker::Model;
 use std::sync::Arc;
 
 /// The most entries of a chunk.
-pub const MOST: usize = 32;
+pub const CHUNK_CAPACITY: usize = 32;
 
 /// Entries in rising id order that copies share. They are changed only where one copy is left.
 #[derive(Drop)]
@@ -118,7 +118,7 @@ fn put_in<T: Copy>(entries: &mut Vec<(u64, T)>, id: u64, stored: T) -> Result<bo
             return Ok(true);
         }
     }
-    if entries.len() == MOST {
+    if entries.len() == CHUNK_CAPACITY {
         return Ok(false);
     }
     entries.insert(at, (id, stored))?;

@@ -6,5 +6,8 @@
 //! The rows of a view stand on this crate.
 #![tactic(auto)]
 
-pub mod chunk;
-pub mod newer;
+mod chunk;
+mod newer;
+
+pub use chunk::{CHUNK_CAPACITY, Chunk, find, learn, with_entry};
+pub use newer::is_larger;

@@ -5,11 +5,8 @@ ghost use Rattle.sc_msg.specs.Messages.{message_bytes};
 ghost use Rattle.sc_msg.specs.Fault.{IsFault};
 ghost use Rattle.sc_msg.specs.Lengths.{Fits};
 
-use crate::decode::{decode, decode_v1};
-use sc_msg::encode::{EncodeFault, encode, encode_v1};
-use sc_msg::fault::MessageFault;
-use sc_msg::message::Message;
-use sc_msg::version::Version;
+use crate::decoder::{decode, decode_v1};
+use sc_msg::{EncodeFault, Message, MessageFault, Version, encode, encode_v1};
 use std::alloc::{AllocError, Global};
 
 /// A message that was written and read again is the same. The one error is that memory ran out.

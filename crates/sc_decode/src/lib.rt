@@ -10,5 +10,7 @@
 //! Messages, their spelling and the reader of what stands first in bytes are `sc_msg`'s.
 #![tactic(auto)]
 
-pub mod decode;
+mod decoder;
 pub mod laws;
+
+pub use decoder::{decode, decode_as, decode_v1};

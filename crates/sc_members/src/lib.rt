@@ -10,7 +10,11 @@
 //! the facts as they were. Nodes and messages stand on this crate.
 #![tactic(auto)]
 
-pub mod config;
-pub mod facts;
-pub mod ids;
+mod config;
+mod facts;
+mod ids;
 pub mod worked;
+
+pub use config::{BadFraction, Config, threshold};
+pub use facts::{Facts, FactsFault, MOST_FACTS};
+pub use ids::{IdIter, IdSet};

@@ -9,8 +9,8 @@ use Rattle.sc_msg.specs.declared.kind.MessageKind.{MessageKind}
 use Rattle.sc_msg.specs.declared.version.Version.{Version}
 use Rattle.sc_msg.specs.declared.fault.MessageFault.{MessageFault}
 use Rattle.sc_msg.specs.declared.fault.MessageFault.TheVariants.{BadHead, Short, TooLong, BadKind, Unsorted, Extra, BadField, OutOfMemory}
-use Rattle.sc_msg.specs.declared.encode.EncodeFault.{EncodeFault}
-use Rattle.sc_msg.specs.declared.encode.EncodeFault.TheVariants as unwritten
+use Rattle.sc_msg.specs.declared.encoder.EncodeFault.{EncodeFault}
+use Rattle.sc_msg.specs.declared.encoder.EncodeFault.TheVariants as unwritten
 use Rattle.sc_msg.specs.Kinds.{kind_at}
 use Rattle.sc_msg.specs.Values.{version_byte}
 use Rattle.sc_msg.specs.Fields.{slots, IsFieldsFault, OrMemory}

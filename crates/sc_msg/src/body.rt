@@ -7,7 +7,7 @@ ghost use Rattle.sc_msg.specs.Fault.{head_fault, most_bytes};
 
 use crate::fault::MessageFault;
 use crate::kind::MessageKind;
-use crate::message::{Body, MOST_BYTES};
+use crate::message::{Body, MOST_MESSAGE_BYTES};
 use crate::reader::Reader;
 use crate::version::Version;
 use std::alloc::Global;
@@ -20,7 +20,7 @@ impl<'a> Reader<'a> {
         ensures parts { IfOk result (λ x. self.old.rest.now ≡ head_bytes version x.0 x.1 ++ self.new.rest.now) }
         ensures fault { IfErr result (λ e. head_fault version self.old.rest.now ≡ Some e) }
     {
-        if self.rest.len() > MOST_BYTES {
+        if self.rest.len() > MOST_MESSAGE_BYTES {
             return Err(MessageFault::TooLong);
         }
         if self.rest.len() < 12 {

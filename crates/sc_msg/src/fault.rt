@@ -5,7 +5,7 @@ ghost use Rattle.sc_msg.specs.Fault.{reason, view_fault};
 ghost use Rattle.sc_msg.specs.declared.fault.MessageFault.TheVariants.{OutOfMemory};
 
 use reasons::{Reason, passed_on, told};
-use sc_view::view::ViewFault;
+use sc_view::ViewFault;
 use std::alloc::{AllocError, AllocFailed};
 
 /// What is first wrong with bytes that are no message.

@@ -26,12 +26,19 @@
 #![tactic(auto)]
 
 mod body;
-pub mod encode;
-pub mod fault;
-pub mod front;
-pub mod kind;
+mod encoder;
+mod fault;
+mod front;
+mod kind;
 pub mod laws;
-pub mod message;
+mod message;
 mod reader;
-pub mod version;
+mod version;
 pub mod worked;
+
+pub use encoder::{EncodeFault, encode, encode_fitting, encode_v1};
+pub use fault::MessageFault;
+pub use front::first_message;
+pub use kind::MessageKind;
+pub use message::{Body, MOST_MESSAGE_BYTES, Message};
+pub use version::Version;

@@ -4,13 +4,12 @@ ghost use Rattle.sc_msg.specs.Lengths.{view_of, fits, Fits};
 ghost use Rattle.sc_msg.specs.Values.{value_lengths};
 
 use crate::version::Version;
-use sc_members::facts::Facts;
-use sc_view::value::VALUE_LENGTH;
-use sc_view::view::View;
+use sc_members::Facts;
+use sc_view::{VALUE_LENGTH, View};
 use std::alloc::AllocError;
 
 /// The most bytes of a message that are read. No message is written with more than 57,629.
-pub const MOST_BYTES: usize = 60_000;
+pub const MOST_MESSAGE_BYTES: usize = 60_000;
 
 /// What a message says.
 #[derive(Drop)]

@@ -10,10 +10,8 @@ ghost use Rattle.sc_msg.specs.Fields.{facts_fields, facts_slots, fields_bytes, f
 use crate::fault::MessageFault;
 use crate::version::Version;
 use byteorder::{ByteOrder, LittleEndian};
-use sc_members::facts::{Facts, MOST_FACTS};
-use sc_members::ids::IdSet;
-use sc_view::value::{MOST_BYTES, VALUE_LENGTH, Value};
-use sc_view::view::{MOST_ENTRIES, Stored, View};
+use sc_members::{Facts, IdSet, MOST_FACTS};
+use sc_view::{MOST_ENTRIES, MOST_VALUE_BYTES, Stored, VALUE_LENGTH, Value, View};
 use std::alloc::Global;
 
 /// The first bytes, so many, and those behind them.
@@ -132,7 +130,7 @@ impl<'a> Reader<'a> {
             return Err(MessageFault::Short);
         };
         let count = usize::from(*count);
-        if count > MOST_BYTES {
+        if count > MOST_VALUE_BYTES {
             return Err(MessageFault::BadField);
         }
         self.rest = rest;

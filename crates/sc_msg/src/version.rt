@@ -4,7 +4,7 @@ ghost use Rattle.std.specs.Prelude.{◌≡◌, ◌↔◌, IsTrue};
 ghost use Rattle.sc_view.specs.Values.{is_within};
 ghost use Rattle.sc_msg.specs.Values.{version_byte, value_lengths, IsLength};
 
-use sc_view::value::{MOST_BYTES, VALUE_LENGTH};
+use sc_view::{MOST_VALUE_BYTES, VALUE_LENGTH};
 
 /// How the bytes of a message spell a value. The third byte of a message names its version.
 #[derive(Clone, Copy, Debug, PartialEq, Eq)]
@@ -33,7 +33,7 @@ impl Version {
     {
         match self {
             Version::First => bytes == VALUE_LENGTH,
-            Version::Second => bytes <= MOST_BYTES,
+            Version::Second => bytes <= MOST_VALUE_BYTES,
         }
     }
 }

@@ -1,8 +1,8 @@
 ghost use Rattle.std.specs.Prelude.{◌≡◌, Some, None, option_copied};
 
 use crate::outs::Outs;
-pub use sc_operations::progress::{Advance, Completion, Ended, Progress};
-use sc_operations::session::Session;
+use sc_operations::Session;
+pub use sc_operations::{Advance, Completion, Ended, Progress};
 
 /// An operation that began.
 #[derive(Drop)]

@@ -1,6 +1,6 @@
 ghost use Rattle.std.specs.Prelude.{◌≡◌, IfOk};
 
-use sc_view::view::View;
+use sc_view::View;
 use std::alloc::AllocError;
 
 /// Two copies of the view of an operation.

@@ -5,8 +5,8 @@ ghost use Rattle.sc_node.specs.Faults.{reason, of_view, of_facts};
 ghost use Rattle.sc_node.specs.declared.fault.NodeFault.TheVariants.{OutOfMemory};
 
 use reasons::{Reason, passed_on, told};
-use sc_members::facts::FactsFault;
-use sc_view::view::ViewFault;
+use sc_members::FactsFault;
+use sc_view::ViewFault;
 use std::alloc::{AllocError, AllocFailed};
 
 /// Why a call on a node is refused. After a refusal the node is as it was. Where several hold, the first of 42, 41,

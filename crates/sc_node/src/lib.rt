@@ -11,11 +11,15 @@
 //! The handlers follow the CCC store-collect algorithm (Attiya, Kumari, Somani, Welch 2020).
 #![tactic(auto)]
 
-pub mod answer;
+mod answer;
 mod copies;
-pub mod fault;
-pub mod node;
-pub mod outs;
+mod fault;
+mod node;
+mod outs;
 pub mod worked;
 
-pub use sc_operations::session;
+pub use answer::{Advance, Begun, Completion, Delivered, Ended, Progress};
+pub use fault::NodeFault;
+pub use node::{MOST_FOUNDERS, MOST_OPEN, MOST_OPERATIONS, Node};
+pub use outs::Outs;
+pub use sc_operations::{OperationKind, Phase, Session, StoreBack};

@@ -1,6 +1,6 @@
 ghost use Rattle.std.specs.Prelude.{◌≡◌, ◌==◌, ◌+◌, ◌≤◌, [], ◌∷◌, ◌++◌, length, vec_len, vec_capacity, slice_get, option_copied};
 
-use sc_msg::message::{Body, Message};
+use sc_msg::{Body, Message};
 use smallvec::SmallVec;
 use std::alloc::Global;
 use std::marker::Model;

@@ -6,7 +6,7 @@ ghost use Rattle.sc_operations.specs.declared.progress.Advance.TheVariants as Ad
 
 use crate::progress::{Advance, Ended, Progress};
 use crate::sessions::Sessions;
-use sc_view::view::View;
+use sc_view::View;
 use std::alloc::{AllocError, Global};
 
 /// What a node holds of values and operations.

@@ -8,7 +8,12 @@
 //! others, stands above in `sc_node`.
 #![tactic(auto)]
 
-pub mod held;
-pub mod progress;
-pub mod session;
-pub mod sessions;
+mod held;
+mod progress;
+mod session;
+mod sessions;
+
+pub use held::{Acknowledged, Held};
+pub use progress::{Advance, Completion, Ended, Progress};
+pub use session::{OperationKind, Phase, Session, StoreBack};
+pub use sessions::Sessions;

@@ -1,6 +1,6 @@
 //! What a message does to an operation, and what an operation gives at its end.
 
-use sc_view::view::View;
+use sc_view::View;
 
 /// What a message did to the phase in which its sender was counted.
 #[derive(Drop)]

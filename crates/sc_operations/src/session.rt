@@ -6,8 +6,8 @@ ghost use Rattle.std.specs.FinSet as set;
 ghost use Rattle.sc_operations.specs.Sessions.{new_phase, count_sender, is_reached, counted_in, counting_phase, counted, advanced_by, apply, phase_with, phase_counting, replied, with_counted};
 
 use crate::progress::{Advance, Progress};
-use sc_members::ids::IdSet;
-use sc_view::view::{Stored, View};
+use sc_members::IdSet;
+use sc_view::{Stored, View};
 use std::alloc::{AllocError, Global};
 
 /// What an operation is for.

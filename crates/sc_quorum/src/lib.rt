@@ -4,7 +4,7 @@
 //! ended phases counted are of one set of members, and each phase waited for the same fraction of them, above a half, a
 //! node was counted in both, so [`meets`] answers one: [`laws`] says so.
 //!
-//! [`meets`]: sc_world::op::meets
+//! [`meets`]: sc_world::meets
 #![tactic(auto)]
 
 pub mod laws;

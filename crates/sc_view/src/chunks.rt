@@ -4,7 +4,7 @@ ghost use Rattle.std.specs.List.{slice_get};
 ghost use Rattle.std.specs.Option.{option_copied};
 
 use crate::view::{Entry, Stored};
-use sc_chunk::chunk::Chunk;
+use sc_chunk::Chunk;
 use std::marker::Model;
 
 /// The entries of a view in rising id order, cut into chunks.

@@ -14,11 +14,16 @@
 //! form of a view answers, by the map alone; `sorted` is a second form, for tests.
 #![tactic(auto)]
 
-pub mod chunks;
+mod chunks;
 pub mod form;
 pub mod laws;
 mod row;
-pub mod sorted;
-pub mod value;
-pub mod view;
+mod sorted;
+mod value;
+mod view;
 pub mod worked;
+
+pub use chunks::Chunks;
+pub use sorted::SortedView;
+pub use value::{MOST_VALUE_BYTES, VALUE_LENGTH, Value, ValueFault};
+pub use view::{Entry, MOST_ENTRIES, Records, Stored, View, ViewFault};

@@ -12,8 +12,7 @@ ghost use Rattle.sc_view.specs.Views.{merge};
 use crate::value::Value;
 use crate::view::{Entry, Stored};
 use arrayvec::ArrayVec;
-use sc_chunk::chunk::{Chunk, MOST, learn, with_entry};
-use sc_chunk::newer::is_larger;
+use sc_chunk::{CHUNK_CAPACITY, Chunk, is_larger, learn, with_entry};
 use std::alloc::{AllocError, Global};
 
 /// The fewest entries of a chunk, where there are several.
@@ -95,7 +94,7 @@ fn put_copy(
 {
     let chunks = row.as_slice();
     let mut all = with_entry(alloc, chunks[at].as_slice(), id, stored)?;
-    if all.len() <= MOST {
+    if all.len() <= CHUNK_CAPACITY {
         let whole = Chunk::of(alloc, all)?;
         set(row, at, whole);
     } else {

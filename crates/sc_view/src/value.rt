@@ -8,7 +8,7 @@ use reasons::{Reason, told};
 use std::marker::Model;
 
 /// The most bytes of a value.
-pub const MOST_BYTES: usize = 112;
+pub const MOST_VALUE_BYTES: usize = 112;
 
 /// How many bytes a value has in the first version of messages and journals.
 pub const VALUE_LENGTH: usize = 48;
@@ -16,7 +16,7 @@ pub const VALUE_LENGTH: usize = 48;
 /// What a node stores under its own number: 0 to 112 bytes that the store-collect object never looks into.
 #[derive(Clone, Copy, Debug, PartialEq, Eq)]
 pub struct Value {
-    bytes: [u8; MOST_BYTES],
+    bytes: [u8; MOST_VALUE_BYTES],
     len: u8,
 }
 
@@ -57,7 +57,7 @@ impl Value {
         ensures ok { IfOk result (λ value. value ≡ bytes.now) }
         ensures bad { IsErrOf result ValueFault.BadValue ↔ (most_bytes < length bytes.now) }
     {
-        if bytes.len() > MOST_BYTES {
+        if bytes.len() > MOST_VALUE_BYTES {
             return Err(ValueFault::BadValue);
         }
         Ok(Value::padded(bytes))
@@ -68,7 +68,7 @@ impl Value {
         requires { length bytes.now ≤ most_bytes }
         ensures { result ≡ bytes.now }
     {
-        let mut padded = [0; MOST_BYTES];
+        let mut padded = [0; MOST_VALUE_BYTES];
         padded[..bytes.len()].copy_from_slice(bytes);
         Value {
             bytes: padded,
@@ -88,7 +88,7 @@ impl Value {
 
     /// The bytes, and zeros behind them up to 112.
     #[inline]
-    pub fn room(&self) -> &[u8; MOST_BYTES]
+    pub fn room(&self) -> &[u8; MOST_VALUE_BYTES]
         ensures room { result.now ≡ padded self.now }
         ensures front { take (length self.now) result.now ≡ self.now }
     {

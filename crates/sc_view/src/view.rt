@@ -18,7 +18,7 @@ use crate::row::{
 use crate::value::Value;
 use arrayvec::ArrayVec;
 use reasons::{Reason, told};
-use sc_chunk::chunk::{Chunk, find};
+use sc_chunk::{Chunk, find};
 use std::alloc::{AllocError, AllocFailed, Global};
 use std::marker::Model;
 

@@ -15,8 +15,8 @@ use Rattle.sc_node.specs.Nodes.{entered, founded, founder, are_founders}
 use Rattle.sc_world.specs.declared.act.Act.{Act}
 use Rattle.sc_world.specs.declared.act.Act.TheVariants as act
 use Rattle.sc_world.specs.declared.act.Report.{Report}
-use Rattle.sc_world.specs.declared.event.Event.{Event}
-use Rattle.sc_world.specs.declared.event.Event.TheVariants as event
+use Rattle.sc_world.specs.declared.event.WorldEvent.{WorldEvent}
+use Rattle.sc_world.specs.declared.event.WorldEvent.TheVariants as event
 use Rattle.sc_world.specs.declared.event.Sent.{Sent}
 use Rattle.sc_world.specs.declared.fault.WorldFault.{WorldFault}
 use Rattle.sc_world.specs.declared.fault.WorldFault.TheVariants as fault
@@ -25,7 +25,7 @@ use Rattle.sc_world.specs.Ledgers.{recorded, numbered, stopped}
 use Rattle.sc_world.specs.Worlds.{live_at, by_live, took, acts, acted, of_entered, tag_of, crashes, enters, event_of, stepped, founder_nodes, founded_nodes}
 use Rattle.sc_world.specs.Acts.{memory, outcome}
 
-pub act_step : (w : WorldState) (e : Event) (id : ℕ) (a : Act) (r : Report) (n : NodeState) (nodes : fin.FinMap nat_cmp NodeState) (past : Past) (tag : Option ℕ) (numbers : Sent)
+pub act_step : (w : WorldState) (e : WorldEvent) (id : ℕ) (a : Act) (r : Report) (n : NodeState) (nodes : fin.FinMap nat_cmp NodeState) (past : Past) (tag : Option ℕ) (numbers : Sent)
     → by_live (live_at w id) (acted w.sent a) ≡ Ok (outcome r n) → nodes ≡ fin.insert w.nodes id n → past ≡ recorded (past_of w) e id r.outs r.progress r.begun
     → tag ≡ tag_of r.begun → numbers ≡ numbered (past_of w) r.outs
     → acts w e id (acted w.sent a) ≡ Ok (record { tag = tag; ended = r.ended; sent = numbers }, world_of nodes past)

@@ -13,8 +13,8 @@ use Rattle.sc_operations.specs.declared.progress.Progress.{Progress}
 use Rattle.sc_node.specs.Sessions.{new_phase, count_sender, is_reached}
 use Rattle.sc_node.specs.State.{NodeState}
 use Rattle.sc_node.specs.Nodes.{message_from, beta_threshold}
-use Rattle.sc_world.specs.declared.event.Event.{Event}
-use Rattle.sc_world.specs.declared.event.Event.TheVariants as event
+use Rattle.sc_world.specs.declared.event.WorldEvent.{WorldEvent}
+use Rattle.sc_world.specs.declared.event.WorldEvent.TheVariants as event
 use Rattle.sc_world.specs.declared.op.Op.{Op}
 use Rattle.sc_world.specs.State.{WorldState}
 use Rattle.sc_world.specs.Worlds.{moved, clock, Outcome, WasBefore, IsHistory}
@@ -24,7 +24,7 @@ use Rattle.sc_world.proofs.Steps.{is_open}
 use Rattle.sc_world.proofs.Histories.{IsNext, was_now}
 use Rattle.sc_world.proofs.Recording.{phase_kept, turn_before, record_kept, counted_phase, new_measured, new_open, event_new, sent_kept, acked_op, replied_op, moved_ack, moved_reply}
 
-module _ (w : WorldState) (e : Event) (w' : WorldState) (k : IsNext w e w') (o : Op) (lt : o.begin < clock w) (running : o.end ≡ None) where
+module _ (w : WorldState) (e : WorldEvent) (w' : WorldState) (k : IsNext w e w') (o : Op) (lt : o.begin < clock w) (running : o.end ≡ None) where
   open_phase : (P : Answers) (since : ℕ) (p : Phase) → IsPhase w P o.node since p o.end → IsPhase w P o.node since p None
   open_phase P since p h = subst (IsPhase w P o.node since p) running h
 
@@ -79,7 +79,7 @@ module _ (w : WorldState) (number q : ℕ) (w' : WorldState) (k : IsNext w (even
   delivered_now P answer = record {
     number = number;
     message = m;
-    event = event_new w (event.Deliver number q) w' k ∙ ap (λ (i : ℕ). let x : Option Event = Some (event.Deliver number i) in x) (sym nq);
+    event = event_new w (event.Deliver number q) w' k ∙ ap (λ (i : ℕ). let x : Option WorldEvent = Some (event.Deliver number i) in x) (sym nq);
     sent = sent_kept w (event.Deliver number q) w' k number m sent;
     answer = answer;
   }

@@ -19,9 +19,9 @@ use Rattle.sc_operations.specs.declared.progress.Ended.{Ended}
 use Rattle.sc_node.specs.Sessions.{stored, view_in, session_with, advanced_by, completed, ended_with, ended_at, ended_by}
 use Rattle.sc_node.specs.State.{NodeState}
 use Rattle.sc_node.specs.Nodes.{progress_of, ended_session}
-use Rattle.sc_world.specs.declared.event.Event.{Event}
-use Rattle.sc_world.specs.declared.event.Event.TheVariants as event
-use Rattle.sc_world.specs.declared.event.Stepped.{Stepped}
+use Rattle.sc_world.specs.declared.event.WorldEvent.{WorldEvent}
+use Rattle.sc_world.specs.declared.event.WorldEvent.TheVariants as event
+use Rattle.sc_world.specs.declared.event.WorldStep.{WorldStep}
 use Rattle.sc_world.specs.declared.fault.WorldFault.{WorldFault}
 use Rattle.sc_world.specs.declared.op.Op.{Op}
 use Rattle.sc_world.specs.State.{WorldState}
@@ -117,7 +117,7 @@ module _ (w : WorldState) (place q tag : ℕ) (k : OperationKind) (v : ViewMap) 
       let c = completes-store k v what in
       record { op = h.op; among = h.among; by = h.by; tagged = h.tagged; ended = h.ended; entry = c.0; kind = h.kind ∙ c.1 }
 
-module _ (w : WorldState) (e : Event) (q : ℕ) (n : NodeState) (at : fin.get w.nodes q ≡ Some n) (linked : IsLinked w) (from : ℕ) (b : Body) where
+module _ (w : WorldState) (e : WorldEvent) (q : ℕ) (n : NodeState) (at : fin.get w.nodes q ≡ Some n) (linked : IsLinked w) (from : ℕ) (b : Body) where
   open_by : (p : Option Progress) → IsMove n from b p → (o : Op) → Among o w.ops → (k : Progress) → p ≡ Some k → o.node ≡ q → o.tag ≡ k.tag → o.end ≡ None
   open_by None m o in' k is by tagged = absurd (cc)
   open_by (Some p) (inl m) o in' k is by tagged =
@@ -156,7 +156,7 @@ module _ (w : WorldState) (e : Event) (q : ℕ) (n : NodeState) (at : fin.get w.
       }
 
 -- where an event tells of no end
-no_end : (w : WorldState) (e : Event) (a : Stepped) (w' : WorldState) → a.ended ≡ None → EndIsRecorded w e a w'
+no_end : (w : WorldState) (e : WorldEvent) (a : WorldStep) (w' : WorldState) → a.ended ≡ None → EndIsRecorded w e a w'
 no_end w e a w' none = record {
   returned = λ x view is what. let k : None ≡ Some x = sym none ∙ is in absurd (cc);
   stored = λ x is what. let k : None ≡ Some x = sym none ∙ is in absurd (cc);
@@ -164,7 +164,7 @@ no_end w e a w' none = record {
 
 module _ (w : WorldState) (linked : IsLinked w) (t : IsTallied w) where
   module _ (number q : ℕ) (n : NodeState) (at : fin.get w.nodes q ≡ Some n) (m : Message) where
-    abbrev e : Event
+    abbrev e : WorldEvent
     e = event.Deliver number q
 
     abbrev r : Outcome
@@ -186,11 +186,11 @@ module _ (w : WorldState) (linked : IsLinked w) (t : IsTallied w) where
     }
 
   -- after an outcome that is known
-  taken_recorded : (e : Event) (q : ℕ) (f : NodeState → Result Outcome WorldFault) (a : Stepped) (w' : WorldState) (k : IsTaken w e q f a w') → EndIsRecorded w e (told w k.outcome) (after w e q k.outcome) → EndIsRecorded w e a w'
-  taken_recorded e q f a w' k h = subst (λ (s : Stepped). EndIsRecorded w e s w') k.says (subst (EndIsRecorded w e (told w k.outcome)) k.is h)
+  taken_recorded : (e : WorldEvent) (q : ℕ) (f : NodeState → Result Outcome WorldFault) (a : WorldStep) (w' : WorldState) (k : IsTaken w e q f a w') → EndIsRecorded w e (told w k.outcome) (after w e q k.outcome) → EndIsRecorded w e a w'
+  taken_recorded e q f a w' k h = subst (λ (s : WorldStep). EndIsRecorded w e s w') k.says (subst (EndIsRecorded w e (told w k.outcome)) k.is h)
 
   -- a node that begins an operation or leaves tells of no end
-  quiet_recorded : (e : Event) (q : ℕ) (f : NodeState → Result Outcome WorldFault) (a : Stepped) (w' : WorldState) (k : IsTaken w e q f a w') (x : Outcome) → x ≡ k.outcome → x.ended ≡ None → EndIsRecorded w e a w'
+  quiet_recorded : (e : WorldEvent) (q : ℕ) (f : NodeState → Result Outcome WorldFault) (a : WorldStep) (w' : WorldState) (k : IsTaken w e q f a w') (x : Outcome) → x ≡ k.outcome → x.ended ≡ None → EndIsRecorded w e a w'
   quiet_recorded e q f a w' k x same none =
       taken_recorded e q f a w' k (no_end w e (told w k.outcome) (after w e q k.outcome) (ap (λ (y : Outcome). y.ended) (sym same) ∙ none))
 
@@ -199,15 +199,15 @@ module _ (w : WorldState) (linked : IsLinked w) (t : IsTallied w) where
   delivered_recorded number q n (Some m) x at h =
       subst (λ (y : Outcome). EndIsRecorded w (event.Deliver number q) (told w y) (after w (event.Deliver number q) q y)) (delivers-ok m n x h) (heard_recorded number q n at m)
 
-  crashed_recorded : (q : ℕ) (o : Option NodeState) (a : Stepped) (w' : WorldState) → crashes w q o ≡ Ok (a, w') → EndIsRecorded w (event.Crash q) a w'
+  crashed_recorded : (q : ℕ) (o : Option NodeState) (a : WorldStep) (w' : WorldState) → crashes w q o ≡ Ok (a, w') → EndIsRecorded w (event.Crash q) a w'
   crashed_recorded q None a w' h = absurd (no_refusal _ (a, w') h)
-  crashed_recorded q (Some n) a w' h = no_end w (event.Crash q) a w' (ap (λ (z : Stepped × WorldState). z.0.ended) (sym (same_answer _ (a, w') h)))
+  crashed_recorded q (Some n) a w' h = no_end w (event.Crash q) a w' (ap (λ (z : WorldStep × WorldState). z.0.ended) (sym (same_answer _ (a, w') h)))
 
-  entered_recorded : (q : ℕ) (o : Option NodeState) (a : Stepped) (w' : WorldState) → enters w q o ≡ Ok (a, w') → EndIsRecorded w (event.Enter q) a w'
+  entered_recorded : (q : ℕ) (o : Option NodeState) (a : WorldStep) (w' : WorldState) → enters w q o ≡ Ok (a, w') → EndIsRecorded w (event.Enter q) a w'
   entered_recorded q (Some n) a w' h = absurd (no_refusal _ (a, w') h)
-  entered_recorded q None a w' h = no_end w (event.Enter q) a w' (ap (λ (z : Stepped × WorldState). z.0.ended) (sym (same_answer _ (a, w') h)))
+  entered_recorded q None a w' h = no_end w (event.Enter q) a w' (ap (λ (z : WorldStep × WorldState). z.0.ended) (sym (same_answer _ (a, w') h)))
 
-  pub step_recorded : (e : Event) (a : Stepped) (w' : WorldState) → stepped w e ≡ Ok (a, w') → EndIsRecorded w e a w'
+  pub step_recorded : (e : WorldEvent) (a : WorldStep) (w' : WorldState) → stepped w e ≡ Ok (a, w') → EndIsRecorded w e a w'
   step_recorded (event.Enter q) a w' h = entered_recorded q (fin.get w.nodes q) a w' h
   step_recorded (event.Crash q) a w' h = crashed_recorded q (live_at w q) a w' h
   step_recorded (event.Leave q) a w' h =

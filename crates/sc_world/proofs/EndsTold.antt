@@ -17,9 +17,9 @@ use Rattle.sc_node.specs.Sessions.{is_reached, count_sender, completed, ended_wi
 use Rattle.sc_node.specs.State.{NodeState}
 use Rattle.sc_node.specs.Nodes.{beta_threshold, progress_of, ended_session}
 use Rattle.sc_world.specs.declared.act.Opened.{Opened}
-use Rattle.sc_world.specs.declared.event.Event.{Event}
-use Rattle.sc_world.specs.declared.event.Event.TheVariants as event
-use Rattle.sc_world.specs.declared.event.Stepped.{Stepped}
+use Rattle.sc_world.specs.declared.event.WorldEvent.{WorldEvent}
+use Rattle.sc_world.specs.declared.event.WorldEvent.TheVariants as event
+use Rattle.sc_world.specs.declared.event.WorldStep.{WorldStep}
 use Rattle.sc_world.specs.declared.fault.WorldFault.{WorldFault}
 use Rattle.sc_world.specs.declared.op.Op.{Op}
 use Rattle.sc_world.specs.State.{WorldState}
@@ -84,7 +84,7 @@ record IsToldOf (q : ℕ) (ended : Option Ended) (o : Op) : Type 0 where
   told : Tells ended o.tag
 
 module _ (w : WorldState) (records : AreRecords w) where
-  none_ends : (e : Event) (a : Stepped) (w' : WorldState) → w.ops ≡ w'.ops → EndIsTold w e a w'
+  none_ends : (e : WorldEvent) (a : WorldStep) (w' : WorldState) → w.ops ≡ w'.ops → EndIsTold w e a w'
   none_ends e a w' same = record {
     by = λ o in' ended. absurd (not_now w records o (subst (Among o) (sym same) in') ended);
     told = λ o in' ended. absurd (not_now w records o (subst (Among o) (sym same) in') ended);
@@ -111,7 +111,7 @@ module _ (w : WorldState) (records : AreRecords w) where
     begun_open (Some b) o (inr none) ended = absurd none
     begun_open (Some b) o (inl same) ended = let k : None ≡ Some (clock w) = ap (λ (y : Op). y.end) (sym same) ∙ ended in absurd (cc)
 
-    module _ (e : Event) (own : node_of e ≡ q) (r : Outcome) (old : AreToldOf r.progress r.ended) where
+    module _ (e : WorldEvent) (own : node_of e ≡ q) (r : Outcome) (old : AreToldOf r.progress r.ended) where
       record_told : (o : Op) → Among o (after w e q r).ops → o.end ≡ Some (clock w) → IsToldOf q r.ended o
       record_told o in' ended =
           elim (among-append o (map (advanced q (clock w) r.progress) w.ops) (op_begun q (clock w) r.begun) in') [
@@ -125,11 +125,11 @@ module _ (w : WorldState) (records : AreRecords w) where
       outcome_told = record { by = λ o in' ended. (record_told o in' ended).by ∙ sym own; told = λ o in' ended. (record_told o in' ended).told }
 
     -- after an outcome that is known
-    taken_told : (e : Event) (f : NodeState → Result Outcome WorldFault) (a : Stepped) (w' : WorldState) (k : IsTaken w e q f a w') → EndIsTold w e (told w k.outcome) (after w e q k.outcome) → EndIsTold w e a w'
-    taken_told e f a w' k h = subst (λ (s : Stepped). EndIsTold w e s w') k.says (subst (EndIsTold w e (told w k.outcome)) k.is h)
+    taken_told : (e : WorldEvent) (f : NodeState → Result Outcome WorldFault) (a : WorldStep) (w' : WorldState) (k : IsTaken w e q f a w') → EndIsTold w e (told w k.outcome) (after w e q k.outcome) → EndIsTold w e a w'
+    taken_told e f a w' k h = subst (λ (s : WorldStep). EndIsTold w e s w') k.says (subst (EndIsTold w e (told w k.outcome)) k.is h)
 
     -- a node that begins an operation or leaves ends none
-    quiet_told : (e : Event) → node_of e ≡ q → (f : NodeState → Result Outcome WorldFault) (a : Stepped) (w' : WorldState) (k : IsTaken w e q f a w') (x : Outcome) → x ≡ k.outcome → x.progress ≡ None → EndIsTold w e a w'
+    quiet_told : (e : WorldEvent) → node_of e ≡ q → (f : NodeState → Result Outcome WorldFault) (a : WorldStep) (w' : WorldState) (k : IsTaken w e q f a w') (x : Outcome) → x ≡ k.outcome → x.progress ≡ None → EndIsTold w e a w'
     quiet_told e own f a w' k x same none =
         taken_told e f a w' k
         (outcome_told e own k.outcome (none_told k.outcome.progress k.outcome.ended (ap (λ (y : Outcome). y.progress) (sym same) ∙ none)))
@@ -137,22 +137,22 @@ module _ (w : WorldState) (records : AreRecords w) where
     delivered_told : (number : ℕ) (n : NodeState) (m : Option Message) (x : Outcome) → delivers m n ≡ Ok x → EndIsTold w (event.Deliver number q) (told w x) (after w (event.Deliver number q) q x)
     delivered_told number n None x h = absurd (no_refusal _ x h)
     delivered_told number n (Some m) x h =
-        let e : Event = event.Deliver number q in
+        let e : WorldEvent = event.Deliver number q in
         subst (λ (y : Outcome). EndIsTold w e (told w y) (after w e q y)) (delivers-ok m n x h)
         (outcome_told e refl (heard n m.from m.body) (progress_told n m.from m.body (progress_of n m.from m.body) (moves n m.from m.body)))
 
-    crashed_told : (o : Option NodeState) (a : Stepped) (w' : WorldState) → crashes w q o ≡ Ok (a, w') → EndIsTold w (event.Crash q) a w'
+    crashed_told : (o : Option NodeState) (a : WorldStep) (w' : WorldState) → crashes w q o ≡ Ok (a, w') → EndIsTold w (event.Crash q) a w'
     crashed_told None a w' h = absurd (no_refusal _ (a, w') h)
-    crashed_told (Some n) a w' h = none_ends (event.Crash q) a w' (ap (λ (z : Stepped × WorldState). z.1.ops) (same_answer _ (a, w') h))
+    crashed_told (Some n) a w' h = none_ends (event.Crash q) a w' (ap (λ (z : WorldStep × WorldState). z.1.ops) (same_answer _ (a, w') h))
 
-    entered_told : (o : Option NodeState) (a : Stepped) (w' : WorldState) → enters w q o ≡ Ok (a, w') → EndIsTold w (event.Enter q) a w'
+    entered_told : (o : Option NodeState) (a : WorldStep) (w' : WorldState) → enters w q o ≡ Ok (a, w') → EndIsTold w (event.Enter q) a w'
     entered_told (Some n) a w' h = absurd (no_refusal _ (a, w') h)
     entered_told None a w' h =
         let r : Outcome = entered_outcome w.config q in
-        subst (λ (z : Stepped × WorldState). EndIsTold w (event.Enter q) z.0 z.1) (same_answer _ (a, w') h)
+        subst (λ (z : WorldStep × WorldState). EndIsTold w (event.Enter q) z.0 z.1) (same_answer _ (a, w') h)
         (outcome_told (event.Enter q) refl r (none_told None r.ended refl))
 
-  pub step_told : (e : Event) (a : Stepped) (w' : WorldState) → stepped w e ≡ Ok (a, w') → EndIsTold w e a w'
+  pub step_told : (e : WorldEvent) (a : WorldStep) (w' : WorldState) → stepped w e ≡ Ok (a, w') → EndIsTold w e a w'
   step_told (event.Enter q) a w' h = entered_told q (fin.get w.nodes q) a w' h
   step_told (event.Crash q) a w' h = crashed_told q (live_at w q) a w' h
   step_told (event.Leave q) a w' h =

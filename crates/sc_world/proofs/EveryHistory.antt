@@ -4,8 +4,8 @@ use Rattle.sc_view.specs.Views.{ViewMap}
 use Rattle.sc_members.specs.Members.{Config}
 use Rattle.sc_operations.specs.declared.session.OperationKind.{OperationKind}
 use Rattle.sc_operations.specs.declared.session.OperationKind.TheVariants as kind
-use Rattle.sc_world.specs.declared.event.Event.{Event}
-use Rattle.sc_world.specs.declared.event.Stepped.{Stepped}
+use Rattle.sc_world.specs.declared.event.WorldEvent.{WorldEvent}
+use Rattle.sc_world.specs.declared.event.WorldStep.{WorldStep}
 use Rattle.sc_world.specs.declared.op.Op.{Op}
 use Rattle.sc_world.specs.State.{WorldState}
 use Rattle.sc_world.specs.Worlds.{clock, stepped, Reaches, start, IsHistory}
@@ -31,7 +31,7 @@ pub record IsLawful (w : WorldState) : Type 0 where
   pub records : AreRecords w
   pub sent : AreSent w
 
-pub step_lawful : (w : WorldState) (e : Event) (a : Stepped) (w' : WorldState) → IsLawful w → stepped w e ≡ Ok (a, w') → IsLawful w'
+pub step_lawful : (w : WorldState) (e : WorldEvent) (a : WorldStep) (w' : WorldState) → IsLawful w → stepped w e ≡ Ok (a, w') → IsLawful w'
 step_lawful w e a w' i h = record {
   history = history_next w e a w' i.history h;
   invariant = step_keeps w w' e a i.invariant h;
@@ -40,7 +40,7 @@ step_lawful w e a w' i h = record {
   sent = sent_next w i.invariant.linked i.history i.sent e a w' h;
 }
 
-run_lawful : (es : List Event) (w w' : WorldState) → IsLawful w → Reaches w es w' → IsLawful w'
+run_lawful : (es : List WorldEvent) (w w' : WorldState) → IsLawful w → Reaches w es w' → IsLawful w'
 run_lawful [] w w' i h = subst IsLawful (sym h) i
 run_lawful (e ∷ es) w w' i h = run_lawful es h.1 w' (step_lawful w e h.0 h.1 i h.2) h.3
 
@@ -53,7 +53,7 @@ start_lawful c ids = record {
   sent = λ number m h. absurd (cc);
 }
 
-pub every_lawful : (c : Config) (ids : List ℕ) (es : List Event) (w : WorldState) → Reaches (start c ids) es w → IsLawful w
+pub every_lawful : (c : Config) (ids : List ℕ) (es : List WorldEvent) (w : WorldState) → Reaches (start c ids) es w → IsLawful w
 every_lawful c ids es w h = run_lawful es (start c ids) w (start_lawful c ids) h
 
 pub lawful_ends : (w : WorldState) → IsLawful w → EndsAreRecorded w
@@ -74,7 +74,7 @@ module _ (w : WorldState) (l : IsLawful w) where
         record {
           begin = s.op.begin;
           earlier = s.begin;
-          event = (l.records.each s.op s.among).began ∙ ap (λ (k : OperationKind). let o : Option Event = Some (beginning_of s.op.node k) in o) s.kind ∙ ap (λ (i : ℕ). let o : Option Event = Some (beginning_of i (kind.Store e)) in o) s.node;
+          event = (l.records.each s.op s.among).began ∙ ap (λ (k : OperationKind). let o : Option WorldEvent = Some (beginning_of s.op.node k) in o) s.kind ∙ ap (λ (i : ℕ). let o : Option WorldEvent = Some (beginning_of i (kind.Store e)) in o) s.node;
           op = s.op;
           among = s.among;
           began = refl;

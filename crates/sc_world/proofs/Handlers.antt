@@ -22,7 +22,7 @@ use Rattle.sc_node.specs.Sessions.{stored, view_in, phase_in, counted_in, phase_
 use Rattle.sc_node.specs.State.{NodeState}
 use Rattle.sc_node.specs.Nodes as node
 use Rattle.sc_node.specs.Nodes.{message_from, is_reply, view_after, progress_of, sessions_after, ack_progress, reply_progress, beta_threshold, joins, answers, store_back, store_of, delivery, node_after, begun, opened, store_session, collect_session, stored_view, next_stored, entered, entering}
-use Rattle.sc_world.specs.declared.event.Event.{Event}
+use Rattle.sc_world.specs.declared.event.WorldEvent.{WorldEvent}
 use Rattle.sc_world.specs.declared.op.Op.{Op}
 use Rattle.sc_world.specs.State.{WorldState}
 use Rattle.sc_world.specs.Worlds.{clock, Outcome, of_entered, of_left, of_begun, of_delivered, end_at, advanced, op_begun, after}
@@ -173,7 +173,7 @@ module _ (n : NodeState) (from : ℕ) where
   moves (CollectReply to t v) = reply_move to t v (to == n.id) (fin.get n.sessions t) refl refl
   moves b = tt
 
-module _ (w : WorldState) (e : Event) (q : ℕ) (n : NodeState) (at : fin.get w.nodes q ≡ Some n) (linked : IsLinked w) (from : ℕ) where
+module _ (w : WorldState) (e : WorldEvent) (q : ℕ) (n : NodeState) (at : fin.get w.nodes q ≡ Some n) (linked : IsLinked w) (from : ℕ) where
   -- the message, as its parts are known
   named : (b : Body) (f : ℕ → Body) (sender : ℕ) → b ≡ f n.id → sender ≡ from → Among (message_from from b) w.sent → Among (message_from sender (f q)) w.sent
   named b f sender body is sent =
@@ -323,7 +323,7 @@ collect_moves n = record {
 pub left_moves : (n : NodeState) → IsTransition n (left_outcome n)
 left_moves n = record { id = refl; grows = below_refl n.view; more = omega arith; sessions = λ t lt. refl; begun = tt }
 
-module _ (w : WorldState) (e : Event) (q : ℕ) (n : NodeState) (at : fin.get w.nodes q ≡ Some n) (linked : IsLinked w) where
+module _ (w : WorldState) (e : WorldEvent) (q : ℕ) (n : NodeState) (at : fin.get w.nodes q ≡ Some n) (linked : IsLinked w) where
   pub map_none : (o : Op) → Among o (map (advanced q (clock w) None) w.ops) → Among o w.ops
   map_none o in' = let k = among-map (advanced q (clock w) None) o w.ops in' in subst (λ (y : Op). Among y w.ops) (sym k.2) k.1
 
@@ -377,7 +377,7 @@ module _ (w : WorldState) (e : Event) (q : ℕ) (n : NodeState) (at : fin.get w.
   pub left_linked : IsLinked (after w e q (left_outcome n))
   left_linked = is_linked w e q n (left_outcome n) at linked (left_moves n) tt (Leave ∷ []) (own_name Leave) ((λ p t about. absurd about), tt)
 
-module _ (w : WorldState) (e : Event) (q : ℕ) (linked : IsLinked w) where
+module _ (w : WorldState) (e : WorldEvent) (q : ℕ) (linked : IsLinked w) where
   pub kept_op : (o : Op) → Among o (map (advanced q (clock w) None) w.ops ++ []) → Among o w.ops
   kept_op o in' =
       elim (among-append o (map (advanced q (clock w) None) w.ops) [] in') [

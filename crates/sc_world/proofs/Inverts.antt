@@ -10,8 +10,8 @@ use Rattle.sc_node.specs.declared.fault.NodeFault.{NodeFault}
 use Rattle.sc_node.specs.declared.fault.NodeFault.TheVariants as fault
 use Rattle.sc_node.specs.State.{NodeState}
 use Rattle.sc_node.specs.Nodes.{most_open, most_operations, is_view_full, tells_view, view_after, tells_facts, facts_after, delivered, delivery, node_after, beginning, store_begun, store_session, stored_view, collect_begun, collect_session, begun, opened, left}
-use Rattle.sc_world.specs.declared.event.Event.{Event}
-use Rattle.sc_world.specs.declared.event.Stepped.{Stepped}
+use Rattle.sc_world.specs.declared.event.WorldEvent.{WorldEvent}
+use Rattle.sc_world.specs.declared.event.WorldStep.{WorldStep}
 use Rattle.sc_world.specs.declared.fault.WorldFault.{WorldFault}
 use Rattle.sc_world.specs.State.{WorldState}
 use Rattle.sc_world.specs.Worlds.{Outcome, of_begun, of_left, of_delivered, by_node, live, live_at, by_live, told, took, acts, after, stores, collects, leaves, delivers}
@@ -71,7 +71,7 @@ live_is false (Some m) n h = go m.gone refl
     go false is = ap (λ (x : Bool). let o : Option NodeState = cond x None (Some m) in o) (sym is) ∙ h
 
 -- an event of a node that was accepted
-pub record IsTaken (w : WorldState) (e : Event) (id : ℕ) (f : NodeState → Result Outcome WorldFault) (a : Stepped) (w' : WorldState) : Type 0 where
+pub record IsTaken (w : WorldState) (e : WorldEvent) (id : ℕ) (f : NodeState → Result Outcome WorldFault) (a : WorldStep) (w' : WorldState) : Type 0 where
   pub node : NodeState
   pub at : live_at w id ≡ Some node
   pub outcome : Outcome
@@ -79,17 +79,17 @@ pub record IsTaken (w : WorldState) (e : Event) (id : ℕ) (f : NodeState → Re
   pub says : told w outcome ≡ a
   pub is : after w e id outcome ≡ w'
 
-took-ok : (w : WorldState) (e : Event) (id : ℕ) (r : Result Outcome WorldFault) (a : Stepped) (w' : WorldState) → took w e id r ≡ Ok (a, w') → (x : Outcome) × (r ≡ Ok x) × (told w x ≡ a) × (after w e id x ≡ w')
+took-ok : (w : WorldState) (e : WorldEvent) (id : ℕ) (r : Result Outcome WorldFault) (a : WorldStep) (w' : WorldState) → took w e id r ≡ Ok (a, w') → (x : Outcome) × (r ≡ Ok x) × (told w x ≡ a) × (after w e id x ≡ w')
 took-ok w e id (Ok x) a w' h =
     let same = same_answer _ (a, w') h in
-    (x, refl, ap (λ (z : Stepped × WorldState). z.0) same, ap (λ (z : Stepped × WorldState). z.1) same)
+    (x, refl, ap (λ (z : WorldStep × WorldState). z.0) same, ap (λ (z : WorldStep × WorldState). z.1) same)
 took-ok w e id (Err f) a w' h = absurd (no_refusal f (a, w') h)
 
 pub by_live-ok : (o : Option NodeState) (f : NodeState → Result Outcome WorldFault) (x : Outcome) → by_live o f ≡ Ok x → (n : NodeState) × (o ≡ Some n) × (f n ≡ Ok x)
 by_live-ok None f x h = absurd (no_refusal _ x h)
 by_live-ok (Some n) f x h = (n, refl, h)
 
-pub acts-ok : (w : WorldState) (e : Event) (id : ℕ) (f : NodeState → Result Outcome WorldFault) (a : Stepped) (w' : WorldState) → acts w e id f ≡ Ok (a, w') → IsTaken w e id f a w'
+pub acts-ok : (w : WorldState) (e : WorldEvent) (id : ℕ) (f : NodeState → Result Outcome WorldFault) (a : WorldStep) (w' : WorldState) → acts w e id f ≡ Ok (a, w') → IsTaken w e id f a w'
 acts-ok w e id f a w' h =
     let k = took-ok w e id (by_live (live_at w id) f) a w' h in
     let n = by_live-ok (live_at w id) f k.0 k.1 in

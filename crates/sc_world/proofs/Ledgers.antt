@@ -13,9 +13,9 @@ use Rattle.sc_world.specs.declared.act.Opened.{Opened}
 use Rattle.sc_node.specs.Sessions.{new_phase}
 use Rattle.sc_node.specs.State.{NodeState}
 use Rattle.sc_node.specs.Nodes.{progress_of, beta_threshold, next_stored, stored_view, store_session, collect_session}
-use Rattle.sc_world.specs.declared.event.Event.{Event}
-use Rattle.sc_world.specs.declared.event.Event.TheVariants as event
-use Rattle.sc_world.specs.declared.event.Stepped.{Stepped}
+use Rattle.sc_world.specs.declared.event.WorldEvent.{WorldEvent}
+use Rattle.sc_world.specs.declared.event.WorldEvent.TheVariants as event
+use Rattle.sc_world.specs.declared.event.WorldStep.{WorldStep}
 use Rattle.sc_world.specs.declared.op.Op.{Op}
 use Rattle.sc_world.specs.State.{WorldState}
 use Rattle.sc_world.specs.Worlds.{clock, Outcome, advanced, op_begun, after, live_at, crashes, enters, leaves, stores, collects, delivers, stepped, IsHistory}
@@ -82,11 +82,11 @@ begins_it : (node : ℕ) (d : OperationKind) → begins node (beginning_of node 
 begins_it node (kind.Store e) = eq-eqb node node refl
 begins_it node kind.Collect = eq-eqb node node refl
 
-none_begins : (e : Event) → ((node : ℕ) → begins node e ≡ false) → (node : ℕ) (d : OperationKind) → e ≡ beginning_of node d → ⊥
+none_begins : (e : WorldEvent) → ((node : ℕ) → begins node e ≡ false) → (node : ℕ) (d : OperationKind) → e ≡ beginning_of node d → ⊥
 none_begins e quiet node d is = let no : false ≡ true = sym (quiet node) ∙ ap (begins node) is ∙ begins_it node d in absurd (cc)
 
 module _ (w : WorldState) (history : IsHistory w) (linked : IsLinked w) (sound : IsSound w) (tallied : IsTallied w) (records : AreRecords w) where
-  module _ (e : Event) (w' : WorldState) (k : IsNext w e w') where
+  module _ (e : WorldEvent) (w' : WorldState) (k : IsNext w e w') where
     kept : (o : Op) → Among o w.ops → IsRecord w' o
     kept o in' = record_kept w e w' k o (sound.began o in') (records.each o in')
 
@@ -101,7 +101,7 @@ module _ (w : WorldState) (history : IsHistory w) (linked : IsLinked w) (sound :
     all_begun : ((o : Op) → Among o w.ops → IsThere w' o) → ((node : ℕ) (d : OperationKind) → e ≡ beginning_of node d → HasBegun w' (clock w))
         → (place node : ℕ) (d : OperationKind) → slice_get w'.events place ≡ Some (beginning_of node d) → HasBegun w' place
     all_begun there new place node d h =
-        elim (get_append w.events (e ∷ []) place (beginning_of node d) (ap (λ (es : List Event). slice_get es place) (sym k.events) ∙ h)) [
+        elim (get_append w.events (e ∷ []) place (beginning_of node d) (ap (λ (es : List WorldEvent). slice_get es place) (sym k.events) ∙ h)) [
           | inl old ↦ let b = records.all place node d old in let t = there b.op b.among in record { op = t.op; among = t.among; at = t.begin ∙ b.at }
           | inr more ↦ begun_now place more.0 node d (new node d) more.1 more.2
         ]
@@ -114,7 +114,7 @@ module _ (w : WorldState) (history : IsHistory w) (linked : IsLinked w) (sound :
       all = all_begun (λ o in'. record { op = o; among = subst (Among o) (sym same) in'; node = refl; kind = refl; begin = refl }) (λ node d is. absurd (none_begins e quiet node d is));
     }
 
-  module _ (e : Event) (q : ℕ) (r : Outcome) (k : IsNext w e (after w e q r)) where
+  module _ (e : WorldEvent) (q : ℕ) (r : Outcome) (k : IsNext w e (after w e q r)) where
     abbrev next : WorldState
     next = after w e q r
 
@@ -149,7 +149,7 @@ module _ (w : WorldState) (history : IsHistory w) (linked : IsLinked w) (sound :
       omega (arith, h.tag, ap (λ (y : NodeState). y.operations) same)
 
   -- how many operations and stores a node has begun, by the events before this one
-  module _ (q : ℕ) (n : NodeState) (at : fin.get w.nodes q ≡ Some n) (e : Event) where
+  module _ (q : ℕ) (n : NodeState) (at : fin.get w.nodes q ≡ Some n) (e : WorldEvent) where
     operations_now : n.operations ≡ operations_of q (take (clock w) (w.events ++ e ∷ []))
     operations_now = sym (ap begun_at at) ∙ tallied.operations q ∙ ap (operations_of q) (sym (take-append_seam w.events (e ∷ [])))
 
@@ -157,7 +157,7 @@ module _ (w : WorldState) (history : IsHistory w) (linked : IsLinked w) (sound :
     stores_now = sym (ap stored_at at) ∙ tallied.stores q ∙ ap (stores_of q) (sym (take-append_seam w.events (e ∷ [])))
 
   -- the record of the operation that begins is there
-  begun_here : (e : Event) (q : ℕ) (r : Outcome) (b : Opened) → r.begun ≡ Some b → HasBegun (after w e q r) (clock w)
+  begun_here : (e : WorldEvent) (q : ℕ) (r : Outcome) (b : Opened) → r.begun ≡ Some b → HasBegun (after w e q r) (clock w)
   begun_here e q r b is =
       record { op = record { node = q; tag = b.tag; begin = clock w; end = None; session = b.session }; among = begun_among w e q r b is; at = refl }
 
@@ -238,7 +238,7 @@ module _ (w : WorldState) (history : IsHistory w) (linked : IsLinked w) (sound :
   at_live q n h = live_is (set.contains w.crashed q) (fin.get w.nodes q) n h
 
   -- after an outcome that is known
-  by_outcome : (e : Event) (q : ℕ) (x y : Outcome) (w' : WorldState) → x ≡ y → after w e q y ≡ w' → (IsNext w e (after w e q x) → AreRecords (after w e q x)) → IsNext w e w' → AreRecords w'
+  by_outcome : (e : WorldEvent) (q : ℕ) (x y : Outcome) (w' : WorldState) → x ≡ y → after w e q y ≡ w' → (IsNext w e (after w e q x) → AreRecords (after w e q x)) → IsNext w e w' → AreRecords w'
   by_outcome e q x y w' same is f k =
       let h : after w e q x ≡ w' = ap (after w e q) same ∙ is in
       subst AreRecords h (f (subst (IsNext w e) (sym h) k))
@@ -249,16 +249,16 @@ module _ (w : WorldState) (history : IsHistory w) (linked : IsLinked w) (sound :
   delivered_any number q n (Some m) x w' at sent h is k =
       by_outcome (event.Deliver number q) q (heard n m.from m.body) x w' (delivers-ok m n x h) is (deliver_records number q n m at sent) k
 
-  crashed_any : (q : ℕ) (o : Option NodeState) (a : Stepped) (w' : WorldState) → crashes w q o ≡ Ok (a, w') → IsNext w (event.Crash q) w' → AreRecords w'
+  crashed_any : (q : ℕ) (o : Option NodeState) (a : WorldStep) (w' : WorldState) → crashes w q o ≡ Ok (a, w') → IsNext w (event.Crash q) w' → AreRecords w'
   crashed_any q None a w' h k = absurd (no_refusal _ (a, w') h)
-  crashed_any q (Some n) a w' h k = quiet_records (event.Crash q) w' k (ap (λ (z : Stepped × WorldState). z.1.ops) (sym (same_answer _ (a, w') h))) (λ _. refl)
+  crashed_any q (Some n) a w' h k = quiet_records (event.Crash q) w' k (ap (λ (z : WorldStep × WorldState). z.1.ops) (sym (same_answer _ (a, w') h))) (λ _. refl)
 
-  entered_any : (q : ℕ) (o : Option NodeState) (a : Stepped) (w' : WorldState) → enters w q o ≡ Ok (a, w') → IsNext w (event.Enter q) w' → AreRecords w'
+  entered_any : (q : ℕ) (o : Option NodeState) (a : WorldStep) (w' : WorldState) → enters w q o ≡ Ok (a, w') → IsNext w (event.Enter q) w' → AreRecords w'
   entered_any q (Some n) a w' h k = absurd (no_refusal _ (a, w') h)
   entered_any q None a w' h k =
-      by_outcome (event.Enter q) q (entered_outcome w.config q) (entered_outcome w.config q) w' refl (ap (λ (z : Stepped × WorldState). z.1) (same_answer _ (a, w') h)) (entered_records q) k
+      by_outcome (event.Enter q) q (entered_outcome w.config q) (entered_outcome w.config q) w' refl (ap (λ (z : WorldStep × WorldState). z.1) (same_answer _ (a, w') h)) (entered_records q) k
 
-  step_by : (e : Event) (a : Stepped) (w' : WorldState) → stepped w e ≡ Ok (a, w') → IsNext w e w' → AreRecords w'
+  step_by : (e : WorldEvent) (a : WorldStep) (w' : WorldState) → stepped w e ≡ Ok (a, w') → IsNext w e w' → AreRecords w'
   step_by (event.Enter q) a w' h k = entered_any q (fin.get w.nodes q) a w' h k
   step_by (event.Leave q) a w' h k =
       let t = acts-ok w (event.Leave q) q leaves a w' h in
@@ -274,5 +274,5 @@ module _ (w : WorldState) (history : IsHistory w) (linked : IsLinked w) (sound :
       let t = acts-ok w (event.Deliver number q) q (delivers (slice_get w.sent number)) a w' h in
       delivered_any number q t.node (slice_get w.sent number) t.outcome w' (at_live q t.node t.at) refl t.gives t.is k
 
-  pub step_records : (e : Event) (a : Stepped) (w' : WorldState) → stepped w e ≡ Ok (a, w') → AreRecords w'
+  pub step_records : (e : WorldEvent) (a : WorldStep) (w' : WorldState) → stepped w e ≡ Ok (a, w') → AreRecords w'
   step_records e a w' h = step_by e a w' h (step_next w e a w' h)

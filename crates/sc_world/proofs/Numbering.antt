@@ -6,7 +6,7 @@ use Rattle.sc_view.specs.Views.{ViewMap, number_of, number_at, IsBelow, IsCovere
 use Rattle.sc_operations.specs.declared.session.OperationKind.TheVariants as kind
 use Rattle.sc_world.specs.declared.act.Opened.{Opened}
 use Rattle.sc_node.specs.State.{NodeState}
-use Rattle.sc_world.specs.declared.event.Event.{Event}
+use Rattle.sc_world.specs.declared.event.WorldEvent.{WorldEvent}
 use Rattle.sc_world.specs.declared.op.Op.{Op}
 use Rattle.sc_world.specs.State.{WorldState}
 use Rattle.sc_world.specs.Worlds.{clock, Outcome, advanced, op_begun, after}
@@ -44,7 +44,7 @@ data Start (w : WorldState) (q : ℕ) (r : Outcome) (o : Op) : Type 0 where
   Old : (p : Op) → Among p w.ops → o.node ≡ p.node → o.session.kind ≡ p.session.kind → Start w q r o
   New : (y : Opened) → r.begun ≡ Some y → o.node ≡ q → o.session.kind ≡ y.session.kind → Start w q r o
 
-module _ (w : WorldState) (e : Event) (q : ℕ) (n : NodeState) (r : Outcome) (at : fin.get w.nodes q ≡ Some n) (linked : IsLinked w) (x : IsTransition n r)
+module _ (w : WorldState) (e : WorldEvent) (q : ℕ) (n : NodeState) (r : Outcome) (at : fin.get w.nodes q ≡ Some n) (linked : IsLinked w) (x : IsTransition n r)
     (k : IsNumbered w) (more : n.stores ≤ r.node.stores)
     (next_number : (y : Opened) (s : Stored) → r.begun ≡ Some y → y.session.kind ≡ kind.Store s → (s.number ≡ n.stores + 1) × (s.number ≤ r.node.stores)) where
   abbrev next : WorldState

@@ -18,7 +18,7 @@ use Rattle.sc_operations.specs.declared.progress.Progress.{Progress}
 use Rattle.sc_node.specs.Sessions.{new_phase, count_sender, is_reached, phase_with, session_with, advanced_by}
 use Rattle.sc_node.specs.State.{NodeState}
 use Rattle.sc_node.specs.Nodes.{beta_threshold}
-use Rattle.sc_world.specs.declared.event.Event.{Event}
+use Rattle.sc_world.specs.declared.event.WorldEvent.{WorldEvent}
 use Rattle.sc_world.specs.declared.op.Op.{Op}
 use Rattle.sc_world.specs.State.{WorldState}
 use Rattle.sc_world.specs.Worlds.{moved, clock, end_at, WasBefore}
@@ -41,11 +41,11 @@ len_insert : (s : Ids) (id : ℕ) → set.len (set.insert s id) ≤ set.len s + 
 len_insert s id = let h : set.len (set.insert s id) ≡ cond (set.contains s id) (set.len s) (set.len s + 1) = set.len-insert nat_cmp_total s id in omega (arith, h, more_by_one (set.contains s id) (set.len s))
 
 -- what is said of a world stays so
-module _ (w : WorldState) (e : Event) (w' : WorldState) (k : IsNext w e w') where
+module _ (w : WorldState) (e : WorldEvent) (w' : WorldState) (k : IsNext w e w') where
   pub clock_is : clock w' ≡ clock w + 1
   clock_is = ap length k.events ∙ length-more w.events e
 
-  pub event_kept : (place : ℕ) (x : Event) → slice_get w.events place ≡ Some x → slice_get w'.events place ≡ Some x
+  pub event_kept : (place : ℕ) (x : WorldEvent) → slice_get w.events place ≡ Some x → slice_get w'.events place ≡ Some x
   event_kept place x h = ap (λ es. slice_get es place) k.events ∙ slice_get_front w.events (e ∷ []) place x h
 
   pub event_new : slice_get w'.events (clock w) ≡ Some e
@@ -97,7 +97,7 @@ module _ (w : WorldState) (e : Event) (w' : WorldState) (k : IsNext w e w') wher
       record {
         began = event_kept o.begin _ r.began;
         tagged = r.tagged ∙ ap (operations_of o.node) same;
-        numbered = λ x is. r.numbered x is ∙ ap (λ (es : List Event). stores_of o.node es + 1) same;
+        numbered = λ x is. r.numbered x is ∙ ap (λ (es : List WorldEvent). stores_of o.node es + 1) same;
         runs = running_kept o lt r.runs;
       }
 

@@ -13,9 +13,9 @@ use Rattle.sc_msg.specs.declared.message.Body.TheVariants.{Enter}
 use Rattle.sc_operations.specs.declared.session.OperationKind.TheVariants as kind
 use Rattle.sc_node.specs.State.{NodeState}
 use Rattle.sc_node.specs.Nodes.{message_from, founder, next_stored, store_session, collect_session}
-use Rattle.sc_world.specs.declared.event.Event.{Event}
-use Rattle.sc_world.specs.declared.event.Event.TheVariants as event
-use Rattle.sc_world.specs.declared.event.Stepped.{Stepped}
+use Rattle.sc_world.specs.declared.event.WorldEvent.{WorldEvent}
+use Rattle.sc_world.specs.declared.event.WorldEvent.TheVariants as event
+use Rattle.sc_world.specs.declared.event.WorldStep.{WorldStep}
 use Rattle.sc_world.specs.declared.op.Op.{Op}
 use Rattle.sc_world.specs.State.{WorldState}
 use Rattle.sc_world.specs.Worlds.{clock, Outcome, after, live_at, crashes, enters, stores, collects, leaves, delivers, stepped, Reaches, start, nodes_with}
@@ -54,7 +54,7 @@ among_get [] k x h = absurd (cc)
 among_get (y ∷ xs) zero x h = let e : y ≡ x = cc in inl (sym e)
 among_get (y ∷ xs) (suc k) x h = inr (among_get xs k x h)
 
-module _ (w : WorldState) (e : Event) (linked : IsLinked w) where
+module _ (w : WorldState) (e : WorldEvent) (linked : IsLinked w) where
   pub left_good : (q : ℕ) (n : NodeState) → fin.get w.nodes q ≡ Some n → IsGood w (after w e q (left_outcome n))
   left_good q n at = record {
     change = left_change w e q n at linked;
@@ -154,15 +154,15 @@ module _ (w : WorldState) (linked : IsLinked w) where
   deliver_any q k n None x all is h = absurd (no_refusal _ x h)
   deliver_any q k n (Some m) x all is h = subst (λ (y : Outcome). IsGood w (after w (event.Deliver k q) q y)) (delivers-ok m n x h) (deliver_good w (event.Deliver k q) linked q n m (at_live q n is) (all m refl))
 
-  crash_any : (q : ℕ) (o : Option NodeState) (a : Stepped) (w' : WorldState) → crashes w q o ≡ Ok (a, w') → IsGood w w'
+  crash_any : (q : ℕ) (o : Option NodeState) (a : WorldStep) (w' : WorldState) → crashes w q o ≡ Ok (a, w') → IsGood w w'
   crash_any q None a w' h = absurd (no_refusal _ (a, w') h)
-  crash_any q (Some n) a w' h = subst (IsGood w) (ap (λ (z : Stepped × WorldState). z.1) (same_answer _ (a, w') h)) (quiet_good w (event.Crash q) linked (set.insert w.crashed q))
+  crash_any q (Some n) a w' h = subst (IsGood w) (ap (λ (z : WorldStep × WorldState). z.1) (same_answer _ (a, w') h)) (quiet_good w (event.Crash q) linked (set.insert w.crashed q))
 
-  enter_any : (q : ℕ) (o : Option NodeState) (a : Stepped) (w' : WorldState) → fin.get w.nodes q ≡ o → enters w q o ≡ Ok (a, w') → IsGood w w'
+  enter_any : (q : ℕ) (o : Option NodeState) (a : WorldStep) (w' : WorldState) → fin.get w.nodes q ≡ o → enters w q o ≡ Ok (a, w') → IsGood w w'
   enter_any q (Some n) a w' at h = absurd (no_refusal _ (a, w') h)
-  enter_any q None a w' at h = subst (IsGood w) (ap (λ (z : Stepped × WorldState). z.1) (same_answer _ (a, w') h)) (enter_good w (event.Enter q) linked q at)
+  enter_any q None a w' at h = subst (IsGood w) (ap (λ (z : WorldStep × WorldState). z.1) (same_answer _ (a, w') h)) (enter_good w (event.Enter q) linked q at)
 
-  pub step_good : (e : Event) (a : Stepped) (w' : WorldState) → stepped w e ≡ Ok (a, w') → IsGood w w'
+  pub step_good : (e : WorldEvent) (a : WorldStep) (w' : WorldState) → stepped w e ≡ Ok (a, w') → IsGood w w'
   step_good (event.Enter q) a w' h = enter_any q (fin.get w.nodes q) a w' refl h
   step_good (event.Leave q) a w' h =
       let k = acts-ok w (event.Leave q) q leaves a w' h in
@@ -179,12 +179,12 @@ module _ (w : WorldState) (linked : IsLinked w) where
       subst (IsGood w) k.is (deliver_any q number k.node (slice_get w.sent number) k.outcome (among_get w.sent number) k.at k.gives)
 
 -- one step keeps the invariant
-pub step_keeps : (w w' : WorldState) (e : Event) (a : Stepped) → IsInvariant w → stepped w e ≡ Ok (a, w') → IsInvariant w'
+pub step_keeps : (w w' : WorldState) (e : WorldEvent) (a : WorldStep) → IsInvariant w → stepped w e ≡ Ok (a, w') → IsInvariant w'
 step_keeps w w' e a i h =
     let g = step_good w i.linked e a w' h in
     record { sound = sound_after w w' g.change i.sound; linked = g.linked; truthful = truthful_after w w' (g.told i.sound i.truthful) i.truthful; numbered = g.numbered i.numbered }
 
-pub run_keeps : (es : List Event) (w w' : WorldState) → IsInvariant w → Reaches w es w' → IsInvariant w'
+pub run_keeps : (es : List WorldEvent) (w w' : WorldState) → IsInvariant w → Reaches w es w' → IsInvariant w'
 run_keeps [] w w' i h = subst IsInvariant (sym h) i
 run_keeps (e ∷ es) w w' i h = run_keeps es h.1 w' (step_keeps w h.1 e h.0 i h.2) h.3
 
@@ -231,5 +231,5 @@ start_invariant c ids = record {
   numbered = record { counted = λ o h. absurd h; positive = λ o h. absurd h; one = λ o p h. absurd h };
 }
 
-pub run_invariant : (c : Config) (ids : List ℕ) (es : List Event) (w : WorldState) → Reaches (start c ids) es w → IsInvariant w
+pub run_invariant : (c : Config) (ids : List ℕ) (es : List WorldEvent) (w : WorldState) → Reaches (start c ids) es w → IsInvariant w
 run_invariant c ids es w h = run_keeps es (start c ids) w (start_invariant c ids) h

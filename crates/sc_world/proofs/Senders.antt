@@ -9,9 +9,9 @@ use Rattle.sc_msg.specs.declared.message.Body.{Body}
 use Rattle.sc_msg.specs.declared.message.Body.TheVariants.{Enter, Leave, Store, CollectQuery}
 use Rattle.sc_node.specs.State.{NodeState}
 use Rattle.sc_node.specs.Nodes.{message_from, answers, stored_view}
-use Rattle.sc_world.specs.declared.event.Event.{Event}
-use Rattle.sc_world.specs.declared.event.Event.TheVariants as event
-use Rattle.sc_world.specs.declared.event.Stepped.{Stepped}
+use Rattle.sc_world.specs.declared.event.WorldEvent.{WorldEvent}
+use Rattle.sc_world.specs.declared.event.WorldEvent.TheVariants as event
+use Rattle.sc_world.specs.declared.event.WorldStep.{WorldStep}
 use Rattle.sc_world.specs.declared.fault.WorldFault.{WorldFault}
 use Rattle.sc_world.specs.State.{WorldState}
 use Rattle.sc_world.specs.Worlds.{clock, Outcome, node_of, told, after, live_at, crashes, enters, stores, collects, leaves, delivers, stepped, IsHistory}
@@ -30,7 +30,7 @@ abbrev AreOwn : ℕ → List Message → Type 0
 AreOwn q outs = (m : Message) → Among m outs → m.from ≡ q
 
 -- what an event sends, it sends for its node
-record Sends (w : WorldState) (e : Event) (a : Stepped) (w' : WorldState) : Type 0 where
+record Sends (w : WorldState) (e : WorldEvent) (a : WorldStep) (w' : WorldState) : Type 0 where
   outs : List Message
   sent : w'.sent ≡ w.sent ++ outs
   numbers : a.sent ≡ record { first = length w.sent; count = length outs }
@@ -44,12 +44,12 @@ all_own : (q i : ℕ) (bodies : List Body) → i ≡ q → AreOwn q (map (messag
 all_own q i bodies same m in' = let k = among-map (message_from i) m bodies in' in ap (λ (y : Message). y.from) k.2 ∙ same
 
 module _ (w : WorldState) (linked : IsLinked w) where
-  outcome_sends : (e : Event) (q : ℕ) (x : Outcome) → AreOwn (node_of e) x.outs → Sends w e (told w x) (after w e q x)
+  outcome_sends : (e : WorldEvent) (q : ℕ) (x : Outcome) → AreOwn (node_of e) x.outs → Sends w e (told w x) (after w e q x)
   outcome_sends e q x own = record { outs = x.outs; sent = refl; numbers = refl; own = own }
 
-  taken_sends : (e : Event) (q : ℕ) (f : NodeState → Result Outcome WorldFault) (a : Stepped) (w' : WorldState) (k : IsTaken w e q f a w') (x : Outcome) → x ≡ k.outcome → AreOwn (node_of e) x.outs → Sends w e a w'
+  taken_sends : (e : WorldEvent) (q : ℕ) (f : NodeState → Result Outcome WorldFault) (a : WorldStep) (w' : WorldState) (k : IsTaken w e q f a w') (x : Outcome) → x ≡ k.outcome → AreOwn (node_of e) x.outs → Sends w e a w'
   taken_sends e q f a w' k x same own =
-      subst (λ (s : Stepped). Sends w e s w') k.says
+      subst (λ (s : WorldStep). Sends w e s w') k.says
       (subst (Sends w e (told w k.outcome)) k.is (outcome_sends e q k.outcome (subst (λ (y : Outcome). AreOwn (node_of e) y.outs) same own)))
 
   name_at : (q : ℕ) (n : NodeState) → live_at w q ≡ Some n → n.id ≡ q
@@ -59,19 +59,19 @@ module _ (w : WorldState) (linked : IsLinked w) where
   delivered_own q n None x name h = absurd (no_refusal _ x h)
   delivered_own q n (Some m) x name h = subst (λ (y : Outcome). AreOwn q y.outs) (delivers-ok m n x h) (all_own q n.id (answers n m.from m.body) name)
 
-  crashed_sends : (q : ℕ) (o : Option NodeState) (a : Stepped) (w' : WorldState) → crashes w q o ≡ Ok (a, w') → Sends w (event.Crash q) a w'
+  crashed_sends : (q : ℕ) (o : Option NodeState) (a : WorldStep) (w' : WorldState) → crashes w q o ≡ Ok (a, w') → Sends w (event.Crash q) a w'
   crashed_sends q None a w' h = absurd (no_refusal _ (a, w') h)
   crashed_sends q (Some n) a w' h =
-      subst (λ (z : Stepped × WorldState). Sends w (event.Crash q) z.0 z.1) (same_answer _ (a, w') h)
+      subst (λ (z : WorldStep × WorldState). Sends w (event.Crash q) z.0 z.1) (same_answer _ (a, w') h)
       (record { outs = []; sent = sym (append-nil w.sent); numbers = refl; own = λ m in'. absurd in' })
 
-  entered_sends : (q : ℕ) (o : Option NodeState) (a : Stepped) (w' : WorldState) → enters w q o ≡ Ok (a, w') → Sends w (event.Enter q) a w'
+  entered_sends : (q : ℕ) (o : Option NodeState) (a : WorldStep) (w' : WorldState) → enters w q o ≡ Ok (a, w') → Sends w (event.Enter q) a w'
   entered_sends q (Some n) a w' h = absurd (no_refusal _ (a, w') h)
   entered_sends q None a w' h =
-      subst (λ (z : Stepped × WorldState). Sends w (event.Enter q) z.0 z.1) (same_answer _ (a, w') h)
+      subst (λ (z : WorldStep × WorldState). Sends w (event.Enter q) z.0 z.1) (same_answer _ (a, w') h)
       (outcome_sends (event.Enter q) q (entered_outcome w.config q) (one_own q q Enter refl))
 
-  step_sends : (e : Event) (a : Stepped) (w' : WorldState) → stepped w e ≡ Ok (a, w') → Sends w e a w'
+  step_sends : (e : WorldEvent) (a : WorldStep) (w' : WorldState) → stepped w e ≡ Ok (a, w') → Sends w e a w'
   step_sends (event.Enter q) a w' h = entered_sends q (fin.get w.nodes q) a w' h
   step_sends (event.Crash q) a w' h = crashed_sends q (live_at w q) a w' h
   step_sends (event.Leave q) a w' h =
@@ -88,7 +88,7 @@ module _ (w : WorldState) (linked : IsLinked w) where
       taken_sends (event.Deliver number q) q (delivers (slice_get w.sent number)) a w' k k.outcome refl
       (delivered_own q k.node (slice_get w.sent number) k.outcome (name_at q k.node k.at) k.gives)
 
-  module _ (history : IsHistory w) (sent : AreSent w) (e : Event) (a : Stepped) (w' : WorldState) (h : stepped w e ≡ Ok (a, w')) where
+  module _ (history : IsHistory w) (sent : AreSent w) (e : WorldEvent) (a : WorldStep) (w' : WorldState) (h : stepped w e ≡ Ok (a, w')) where
     next : IsNext w e w'
     next = step_next w e a w' h
 

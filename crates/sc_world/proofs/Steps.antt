@@ -14,7 +14,7 @@ use Rattle.sc_world.specs.declared.act.Opened.{Opened}
 use Rattle.sc_node.specs.Sessions.{stored, apply, ends}
 use Rattle.sc_node.specs.State.{NodeState}
 use Rattle.sc_node.specs.Nodes.{message_from}
-use Rattle.sc_world.specs.declared.event.Event.{Event}
+use Rattle.sc_world.specs.declared.event.WorldEvent.{WorldEvent}
 use Rattle.sc_world.specs.declared.op.Op.{Op}
 use Rattle.sc_world.specs.State.{WorldState}
 use Rattle.sc_world.specs.Worlds.{clock, Outcome, end_at, moved, advanced, op_begun, after}
@@ -49,12 +49,12 @@ among-image f x (y ∷ xs) (inl e) = inl (ap f e)
 among-image f x (y ∷ xs) (inr h) = inr (among-image f x xs h)
 
 -- what an event leaves of the record of an operation
-pub kept_among : (w : WorldState) (e : Event) (q : ℕ) (r : Outcome) (o : Op) → Among o w.ops → Among (advanced q (clock w) r.progress o) (after w e q r).ops
+pub kept_among : (w : WorldState) (e : WorldEvent) (q : ℕ) (r : Outcome) (o : Op) → Among o w.ops → Among (advanced q (clock w) r.progress o) (after w e q r).ops
 kept_among w e q r o in' =
     among-left (advanced q (clock w) r.progress o) (map (advanced q (clock w) r.progress) w.ops) (op_begun q (clock w) r.begun) (among-image (advanced q (clock w) r.progress) o w.ops in')
 
 -- the record of the operation that begins at an event
-pub begun_among : (w : WorldState) (e : Event) (q : ℕ) (r : Outcome) (b : Opened) → r.begun ≡ Some b
+pub begun_among : (w : WorldState) (e : WorldEvent) (q : ℕ) (r : Outcome) (b : Opened) → r.begun ≡ Some b
     → Among (record { node = q; tag = b.tag; begin = clock w; end = None; session = b.session }) (after w e q r).ops
 begun_among w e q r b is =
     let o : Op = record { node = q; tag = b.tag; begin = clock w; end = None; session = b.session } in
@@ -100,7 +100,7 @@ end_or place advance.Ended = inr refl
 end_or place advance.Counted = inl refl
 end_or place (advance.Turned t v) = inl refl
 
-module _ (w : WorldState) (e : Event) (q : ℕ) (n : NodeState) (r : Outcome) (at : fin.get w.nodes q ≡ Some n) (linked : IsLinked w) (x : IsTransition n r) where
+module _ (w : WorldState) (e : WorldEvent) (q : ℕ) (n : NodeState) (r : Outcome) (at : fin.get w.nodes q ≡ Some n) (linked : IsLinked w) (x : IsTransition n r) where
   abbrev next : WorldState
   next = after w e q r
 

@@ -12,9 +12,9 @@ use Rattle.sc_operations.specs.declared.session.Session.{Session}
 use Rattle.sc_operations.specs.declared.progress.Progress.{Progress}
 use Rattle.sc_node.specs.State.{NodeState}
 use Rattle.sc_node.specs.Nodes.{progress_of, founder, store_session, collect_session}
-use Rattle.sc_world.specs.declared.event.Event.{Event}
-use Rattle.sc_world.specs.declared.event.Event.TheVariants as event
-use Rattle.sc_world.specs.declared.event.Stepped.{Stepped}
+use Rattle.sc_world.specs.declared.event.WorldEvent.{WorldEvent}
+use Rattle.sc_world.specs.declared.event.WorldEvent.TheVariants as event
+use Rattle.sc_world.specs.declared.event.WorldStep.{WorldStep}
 use Rattle.sc_world.specs.declared.op.Op.{Op}
 use Rattle.sc_world.specs.State.{WorldState}
 use Rattle.sc_world.specs.Worlds.{clock, Outcome, node_of, advanced, after, live_at, crashes, enters, stores, collects, leaves, delivers, stepped, start, nodes_with}
@@ -54,15 +54,15 @@ pub record IsTallied (w : WorldState) : Type 0 where
 
 -- ---- events, counted
 
-count_more : (p : Event → Bool) (es : List Event) (e : Event) → count_by p (es ++ e ∷ []) ≡ count_by p es + cond (p e) 1 0
+count_more : (p : WorldEvent → Bool) (es : List WorldEvent) (e : WorldEvent) → count_by p (es ++ e ∷ []) ≡ count_by p es + cond (p e) 1 0
 count_more p es e = sum_by_push (λ x. cond (p x) 1 0) es e
 
-begins_own : (id : ℕ) (e : Event) → begins id e ≡ true → node_of e ≡ id
+begins_own : (id : ℕ) (e : WorldEvent) → begins id e ≡ true → node_of e ≡ id
 begins_own id (event.Store q value) h = eqb-true q id h
 begins_own id (event.Collect q) h = eqb-true q id h
 begins_own id e h = absurd (cc)
 
-begins_store_own : (id : ℕ) (e : Event) → begins_store id e ≡ true → node_of e ≡ id
+begins_store_own : (id : ℕ) (e : WorldEvent) → begins_store id e ≡ true → node_of e ≡ id
 begins_store_own id (event.Store q value) h = eqb-true q id h
 begins_store_own id e h = absurd (cc)
 
@@ -78,12 +78,12 @@ no_more b count is = ap (λ (x : Bool). count + cond x 1 0) is ∙ add-zero coun
 
 -- ---- one event of a node
 
-module _ (w : WorldState) (e : Event) (q : ℕ) (r : Outcome) (own : node_of e ≡ q) where
+module _ (w : WorldState) (e : WorldEvent) (q : ℕ) (r : Outcome) (own : node_of e ≡ q) where
   abbrev next : WorldState
   next = after w e q r
 
   -- what a node has counted, and the events that it counts
-  module _ (held : Option NodeState → ℕ) (mark : ℕ → Event → Bool) (marked : (id : ℕ) → mark id e ≡ true → node_of e ≡ id)
+  module _ (held : Option NodeState → ℕ) (mark : ℕ → WorldEvent → Bool) (marked : (id : ℕ) → mark id e ≡ true → node_of e ≡ id)
       (was : (id : ℕ) → held (fin.get w.nodes id) ≡ count_by (mark id) w.events)
       (grows : held (Some r.node) ≡ held (fin.get w.nodes q) + cond (mark q e) 1 0) where
     count_by_case : (id : ℕ) (b : Bool) → (id == q) ≡ b → held (cond b (Some r.node) (fin.get w.nodes id)) ≡ count_by (mark id) w.events + cond (mark id e) 1 0
@@ -164,7 +164,7 @@ module _ (w : WorldState) (t : IsTallied w) where
     stores_more = one_more (q == q) (stored_at (fin.get w.nodes q)) (eq-eqb q q refl) ∙ ap (λ (count : ℕ). count + 1) stores_are
 
     -- the operations that were open have their records in the next world too
-    before : (e : Event) (r : Outcome) → node_of e ≡ q → AreKept (after w e q r) q n
+    before : (e : WorldEvent) (r : Outcome) → node_of e ≡ q → AreKept (after w e q r) q n
     before e r own tag s h = record_on w e q r own q tag (t.kept q n at tag s h)
 
     left_tallied : IsTallied (after w (event.Leave q) q (left_outcome n))
@@ -174,21 +174,21 @@ module _ (w : WorldState) (t : IsTallied w) where
 
     store_tallied : (value : List ℕ) → IsTallied (after w (event.Store q value) q (store_outcome n value))
     store_tallied value =
-        let e : Event = event.Store q value in
+        let e : WorldEvent = event.Store q value in
         let r : Outcome = store_outcome n value in
         tallied_next w e q r refl t (begun_kept w e q r refl n (store_session n value) (before e r refl) refl refl)
         (sym operations_more) (sym stores_more)
 
     collect_tallied : IsTallied (after w (event.Collect q) q (collect_outcome n))
     collect_tallied =
-        let e : Event = event.Collect q in
+        let e : WorldEvent = event.Collect q in
         let r : Outcome = collect_outcome n in
         tallied_next w e q r refl t (begun_kept w e q r refl n (collect_session n) (before e r refl) refl refl)
         (sym operations_more) (omega (arith, stores_are))
 
     heard_tallied : (number : ℕ) (m : Message) → IsTallied (after w (event.Deliver number q) q (heard n m.from m.body))
     heard_tallied number m =
-        let e : Event = event.Deliver number q in
+        let e : WorldEvent = event.Deliver number q in
         let r : Outcome = heard n m.from m.body in
         tallied_next w e q r refl t
         (λ tag s h.
@@ -219,22 +219,22 @@ module _ (w : WorldState) (t : IsTallied w) where
   at_live q n h = live_is (set.contains w.crashed q) (fin.get w.nodes q) n h
 
   -- after an outcome that is known
-  by_outcome : (e : Event) (q : ℕ) (x y : Outcome) (w' : WorldState) → x ≡ y → after w e q y ≡ w' → IsTallied (after w e q x) → IsTallied w'
+  by_outcome : (e : WorldEvent) (q : ℕ) (x y : Outcome) (w' : WorldState) → x ≡ y → after w e q y ≡ w' → IsTallied (after w e q x) → IsTallied w'
   by_outcome e q x y w' same is k = subst IsTallied (ap (after w e q) same ∙ is) k
 
   delivered_any : (number q : ℕ) (n : NodeState) (m : Option Message) (x : Outcome) (w' : WorldState) → fin.get w.nodes q ≡ Some n → delivers m n ≡ Ok x → after w (event.Deliver number q) q x ≡ w' → IsTallied w'
   delivered_any number q n None x w' at h is = absurd (no_refusal _ x h)
   delivered_any number q n (Some m) x w' at h is = by_outcome (event.Deliver number q) q (heard n m.from m.body) x w' (delivers-ok m n x h) is (heard_tallied q n at number m)
 
-  crashed_any : (q : ℕ) (o : Option NodeState) (a : Stepped) (w' : WorldState) → crashes w q o ≡ Ok (a, w') → IsTallied w'
+  crashed_any : (q : ℕ) (o : Option NodeState) (a : WorldStep) (w' : WorldState) → crashes w q o ≡ Ok (a, w') → IsTallied w'
   crashed_any q None a w' h = absurd (no_refusal _ (a, w') h)
-  crashed_any q (Some n) a w' h = subst IsTallied (ap (λ (z : Stepped × WorldState). z.1) (same_answer _ (a, w') h)) (crashed_tallied q)
+  crashed_any q (Some n) a w' h = subst IsTallied (ap (λ (z : WorldStep × WorldState). z.1) (same_answer _ (a, w') h)) (crashed_tallied q)
 
-  entered_any : (q : ℕ) (o : Option NodeState) (a : Stepped) (w' : WorldState) → fin.get w.nodes q ≡ o → enters w q o ≡ Ok (a, w') → IsTallied w'
+  entered_any : (q : ℕ) (o : Option NodeState) (a : WorldStep) (w' : WorldState) → fin.get w.nodes q ≡ o → enters w q o ≡ Ok (a, w') → IsTallied w'
   entered_any q (Some n) a w' at h = absurd (no_refusal _ (a, w') h)
-  entered_any q None a w' at h = subst IsTallied (ap (λ (z : Stepped × WorldState). z.1) (same_answer _ (a, w') h)) (entered_tallied q at)
+  entered_any q None a w' at h = subst IsTallied (ap (λ (z : WorldStep × WorldState). z.1) (same_answer _ (a, w') h)) (entered_tallied q at)
 
-  pub step_tallied : (e : Event) (a : Stepped) (w' : WorldState) → stepped w e ≡ Ok (a, w') → IsTallied w'
+  pub step_tallied : (e : WorldEvent) (a : WorldStep) (w' : WorldState) → stepped w e ≡ Ok (a, w') → IsTallied w'
   step_tallied (event.Enter q) a w' h = entered_any q (fin.get w.nodes q) a w' refl h
   step_tallied (event.Leave q) a w' h =
       let k = acts-ok w (event.Leave q) q leaves a w' h in

@@ -15,7 +15,7 @@ use Rattle.sc_world.specs.declared.act.Opened.{Opened}
 use Rattle.sc_node.specs.Sessions.{stored, session_with, advanced_by, is_reached, count_sender, querying}
 use Rattle.sc_node.specs.State.{NodeState}
 use Rattle.sc_node.specs.Nodes.{message_from, is_reply, view_after, progress_of, reply_progress, beta_threshold, joins, answers, store_back, store_of, store_session, collect_session, stored_view, next_stored}
-use Rattle.sc_world.specs.declared.event.Event.{Event}
+use Rattle.sc_world.specs.declared.event.WorldEvent.{WorldEvent}
 use Rattle.sc_world.specs.declared.op.Op.{Op}
 use Rattle.sc_world.specs.State.{WorldState}
 use Rattle.sc_world.specs.Worlds.{clock, Outcome, advanced, op_begun, after}
@@ -54,7 +54,7 @@ same_start q place (Some p) o =
     (λ nq tt'. record { node = refl; tag = refl; kind = kind_kept o.session p.sender p.advance; begin = refl })
     (λ _. record { node = refl; tag = refl; kind = refl; begin = refl })
 
-pub persists : (w : WorldState) (e : Event) (q : ℕ) (r : Outcome) (o : Op) → Among o w.ops → IsThere (after w e q r) o
+pub persists : (w : WorldState) (e : WorldEvent) (q : ℕ) (r : Outcome) (o : Op) → Among o w.ops → IsThere (after w e q r) o
 persists w e q r o in' =
     let k = same_start q (clock w) r.progress o in
     record {
@@ -65,7 +65,7 @@ persists w e q r o in' =
       begin = k.begin;
     }
 
-module _ (w : WorldState) (e : Event) (q : ℕ) (n : NodeState) (r : Outcome) (at : fin.get w.nodes q ≡ Some n) (linked : IsLinked w) (x : IsTransition n r) (s : IsSound w) (t : IsTruthful w) where
+module _ (w : WorldState) (e : WorldEvent) (q : ℕ) (n : NodeState) (r : Outcome) (at : fin.get w.nodes q ≡ Some n) (linked : IsLinked w) (x : IsTransition n r) (s : IsSound w) (t : IsTruthful w) where
   abbrev next : WorldState
   next = after w e q r
 
@@ -106,7 +106,7 @@ module _ (w : WorldState) (e : Event) (q : ℕ) (n : NodeState) (r : Outcome) (a
       pub told : IsTold w next
       told = record { next = clock_next w e q n r at linked x; persists = persists w e q r; ops = ops_from w e q n r at linked x progress fresh; views = views'; sent = sent'; begun = begun' }
 
-module _ (w : WorldState) (e : Event) (q : ℕ) (n : NodeState) (at : fin.get w.nodes q ≡ Some n) (linked : IsLinked w) (s : IsSound w) (t : IsTruthful w) where
+module _ (w : WorldState) (e : WorldEvent) (q : ℕ) (n : NodeState) (at : fin.get w.nodes q ≡ Some n) (linked : IsLinked w) (s : IsSound w) (t : IsTruthful w) where
   own : IsTrue w (clock w) n.view
   own = subst (λ (o : Option NodeState). IsTrue w (clock w) (view_of o)) at (t.views q)
 

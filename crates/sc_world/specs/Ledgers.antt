@@ -6,8 +6,8 @@ use Rattle.sc_msg.specs.declared.message.Message.{Message}
 use Rattle.sc_operations.specs.declared.progress.Progress.{Progress}
 use Rattle.sc_world.specs.declared.act.Opened.{Opened}
 use Rattle.sc_world.specs.declared.counting.Counting.{Counting}
-use Rattle.sc_world.specs.declared.event.Event.{Event}
-use Rattle.sc_world.specs.declared.event.Event.TheVariants as event
+use Rattle.sc_world.specs.declared.event.WorldEvent.{WorldEvent}
+use Rattle.sc_world.specs.declared.event.WorldEvent.TheVariants as event
 use Rattle.sc_world.specs.declared.event.Sent.{Sent}
 use Rattle.sc_world.specs.declared.op.Op.{Op}
 use Rattle.sc_world.specs.State.{Past}
@@ -19,7 +19,7 @@ abbrev pub first : Config → List ℕ → Past
 first config ids = record { config = config; founders = ids; crashed = set.empty; events = []; sent = []; ops = [] }
 
 -- after an event at which this node sends, and may move or begin an operation
-abbrev pub recorded : Past → Event → ℕ → List Message → Option Progress → Option Opened → Past
+abbrev pub recorded : Past → WorldEvent → ℕ → List Message → Option Progress → Option Opened → Past
 recorded p e node outs progress begun =
     record {
       config = p.config;

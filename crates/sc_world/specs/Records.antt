@@ -15,36 +15,36 @@ use Rattle.sc_operations.specs.declared.session.Phase.{Phase}
 use Rattle.sc_operations.specs.declared.session.StoreBack.{StoreBack}
 use Rattle.sc_node.specs.State.{NodeState}
 use Rattle.sc_node.specs.Nodes.{beta_threshold, message_from}
-use Rattle.sc_world.specs.declared.event.Event.{Event}
-use Rattle.sc_world.specs.declared.event.Event.TheVariants as event
+use Rattle.sc_world.specs.declared.event.WorldEvent.{WorldEvent}
+use Rattle.sc_world.specs.declared.event.WorldEvent.TheVariants as event
 use Rattle.sc_world.specs.declared.event.Sent.{Sent}
-use Rattle.sc_world.specs.declared.event.Stepped.{Stepped}
+use Rattle.sc_world.specs.declared.event.WorldStep.{WorldStep}
 use Rattle.sc_world.specs.declared.op.Op.{Op}
 use Rattle.sc_world.specs.State.{WorldState}
 use Rattle.sc_world.specs.Worlds.{clock, node_of, stepped, WasBefore}
 
 -- the event that begins an operation of this kind
-abbrev pub beginning_of : ℕ → OperationKind → Event
+abbrev pub beginning_of : ℕ → OperationKind → WorldEvent
 beginning_of node (kind.Store e) = event.Store node e.value
 beginning_of node kind.Collect = event.Collect node
 
 -- the node begins an operation at this event
-abbrev pub begins : ℕ → Event → Bool
+abbrev pub begins : ℕ → WorldEvent → Bool
 begins node (event.Store id value) = id == node
 begins node (event.Collect id) = id == node
 begins node e = false
 
 -- the node begins a store at this event
-abbrev pub begins_store : ℕ → Event → Bool
+abbrev pub begins_store : ℕ → WorldEvent → Bool
 begins_store node (event.Store id value) = id == node
 begins_store node e = false
 
 -- how many operations the node begins in these events
-abbrev pub operations_of : ℕ → List Event → ℕ
+abbrev pub operations_of : ℕ → List WorldEvent → ℕ
 operations_of node events = count_by (begins node) events
 
 -- how many stores the node begins in these events
-abbrev pub stores_of : ℕ → List Event → ℕ
+abbrev pub stores_of : ℕ → List WorldEvent → ℕ
 stores_of node events = count_by (begins_store node) events
 
 -- what answers a phase of an operation
@@ -156,12 +156,12 @@ IsOneOf number s = (s.first ≤ number) × (number < s.first + s.count)
 -- the message of this number was sent by an event of its sender
 pub record WasSent (w : WorldState) (number : ℕ) (m : Message) : Type 0 where
   pub place : ℕ
-  pub cause : Event
+  pub cause : WorldEvent
   pub at : slice_get w.events place ≡ Some cause
   pub by : node_of cause ≡ m.from
   pub before : WorldState
   pub was : WasBefore w place before
-  pub told : Stepped
+  pub told : WorldStep
   pub after : WorldState
   pub steps : stepped before cause ≡ Ok (told, after)
   pub sends : IsOneOf number told.sent

@@ -9,9 +9,9 @@ use Rattle.sc_operations.specs.declared.progress.Ended.{Ended}
 use Rattle.sc_operations.specs.declared.session.OperationKind.{OperationKind}
 use Rattle.sc_operations.specs.declared.session.OperationKind.TheVariants as kind
 use Rattle.sc_node.specs.Sessions.{stored, repliers, ackers}
-use Rattle.sc_world.specs.declared.event.Event.{Event}
-use Rattle.sc_world.specs.declared.event.Event.TheVariants as event
-use Rattle.sc_world.specs.declared.event.Stepped.{Stepped}
+use Rattle.sc_world.specs.declared.event.WorldEvent.{WorldEvent}
+use Rattle.sc_world.specs.declared.event.WorldEvent.TheVariants as event
+use Rattle.sc_world.specs.declared.event.WorldStep.{WorldStep}
 use Rattle.sc_world.specs.declared.op.Op.{Op}
 use Rattle.sc_world.specs.State.{WorldState}
 use Rattle.sc_world.specs.Worlds.{clock, node_of, stepped}
@@ -65,22 +65,22 @@ pub record HasStored (w : WorldState) (place node tag : ℕ) : Type 0 where
   pub kind : op.session.kind ≡ kind.Store entry
 
 -- what an event tells of an operation that ended is what the operation's record says in the next world
-pub record EndIsRecorded (w : WorldState) (e : Event) (told : Stepped) (next : WorldState) : Type 0 where
+pub record EndIsRecorded (w : WorldState) (e : WorldEvent) (told : WorldStep) (next : WorldState) : Type 0 where
   pub returned : (x : Ended) (view : ViewMap) → told.ended ≡ Some x → x.what ≡ completion.Returned view → HasReturned next (clock w) (node_of e) x.tag view
   pub stored : (x : Ended) → told.ended ≡ Some x → x.what ≡ completion.Stored → HasStored next (clock w) (node_of e) x.tag
 
 -- so it is at each event that may come next
 abbrev pub EndsAreRecorded : WorldState → Type 0
-EndsAreRecorded w = (e : Event) (told : Stepped) (next : WorldState) → stepped w e ≡ Ok (told, next) → EndIsRecorded w e told next
+EndsAreRecorded w = (e : WorldEvent) (told : WorldStep) (next : WorldState) → stepped w e ≡ Ok (told, next) → EndIsRecorded w e told next
 
 -- an operation whose record ends at an event is that of the event's node, and the event tells that it ended
-pub record EndIsTold (w : WorldState) (e : Event) (says : Stepped) (next : WorldState) : Type 0 where
+pub record EndIsTold (w : WorldState) (e : WorldEvent) (says : WorldStep) (next : WorldState) : Type 0 where
   pub by : (o : Op) → Among o next.ops → o.end ≡ Some (clock w) → o.node ≡ node_of e
   pub told : (o : Op) → Among o next.ops → o.end ≡ Some (clock w) → (x : Ended) × (says.ended ≡ Some x) × (x.tag ≡ o.tag)
 
 -- so it is at each event that may come next
 abbrev pub EndsAreTold : WorldState → Type 0
-EndsAreTold w = (e : Event) (says : Stepped) (next : WorldState) → stepped w e ≡ Ok (says, next) → EndIsTold w e says next
+EndsAreTold w = (e : WorldEvent) (says : WorldStep) (next : WorldState) → stepped w e ≡ Ok (says, next) → EndIsTold w e says next
 
 -- the view has at least this number of the node
 abbrev pub Holds : ViewMap → ℕ → ℕ → Type 0

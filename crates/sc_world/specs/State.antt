@@ -6,7 +6,7 @@ use Rattle.sc_members.specs.Ids.{Ids}
 use Rattle.sc_members.specs.Members.{Config}
 use Rattle.sc_msg.specs.declared.message.Message.{Message}
 use Rattle.sc_node.specs.State.{NodeState}
-use Rattle.sc_world.specs.declared.event.Event.{Event}
+use Rattle.sc_world.specs.declared.event.WorldEvent.{WorldEvent}
 use Rattle.sc_world.specs.declared.op.Op.{Op}
 
 pub record WorldState : Type 0 where
@@ -14,7 +14,7 @@ pub record WorldState : Type 0 where
   pub founders : List ℕ
   pub nodes : fin.FinMap nat_cmp NodeState  -- all that were ever there, by their ids
   pub crashed : Ids
-  pub events : List Event  -- those that were accepted
+  pub events : List WorldEvent  -- those that were accepted
   pub sent : List Message  -- every message that was ever sent, by its number
   pub ops : List Op  -- a record of each operation, in the order in which they began
 
@@ -23,7 +23,7 @@ pub record Past : Type 0 where
   pub config : Config
   pub founders : List ℕ
   pub crashed : Ids
-  pub events : List Event
+  pub events : List WorldEvent
   pub sent : List Message
   pub ops : List Op
 

@@ -19,9 +19,9 @@ use Rattle.sc_node.specs.Nodes.{delivered, store_begun, collect_begun, left, ent
 use Rattle.sc_world.specs.declared.act.Act.{Act}
 use Rattle.sc_world.specs.declared.act.Act.TheVariants as act
 use Rattle.sc_world.specs.declared.act.Opened.{Opened}
-use Rattle.sc_world.specs.declared.event.Event.{Event}
-use Rattle.sc_world.specs.declared.event.Event.TheVariants as event
-use Rattle.sc_world.specs.declared.event.Stepped.{Stepped}
+use Rattle.sc_world.specs.declared.event.WorldEvent.{WorldEvent}
+use Rattle.sc_world.specs.declared.event.WorldEvent.TheVariants as event
+use Rattle.sc_world.specs.declared.event.WorldStep.{WorldStep}
 use Rattle.sc_world.specs.declared.fault.WorldFault.{WorldFault}
 use Rattle.sc_world.specs.declared.fault.WorldFault.TheVariants as fault
 use Rattle.sc_world.specs.declared.op.Op.{Op}
@@ -79,7 +79,7 @@ tag_of None = None
 tag_of (Some b) = Some b.tag
 
 -- the world after an event at a node
-abbrev pub after : WorldState → Event → ℕ → Outcome → WorldState
+abbrev pub after : WorldState → WorldEvent → ℕ → Outcome → WorldState
 after w e node r =
     record {
       config = w.config;
@@ -91,10 +91,10 @@ after w e node r =
       ops = map (advanced node (clock w) r.progress) w.ops ++ op_begun node (clock w) r.begun;
     }
 
-abbrev pub told : WorldState → Outcome → Stepped
+abbrev pub told : WorldState → Outcome → WorldStep
 told w r = record { tag = tag_of r.begun; ended = r.ended; sent = record { first = length w.sent; count = length r.outs } }
 
-abbrev pub took : WorldState → Event → ℕ → Result Outcome WorldFault → Result (Stepped × WorldState) WorldFault
+abbrev pub took : WorldState → WorldEvent → ℕ → Result Outcome WorldFault → Result (WorldStep × WorldState) WorldFault
 took w e node (Ok r) = Ok (told w r, after w e node r)
 took w e node (Err f) = Err f
 
@@ -113,18 +113,18 @@ by_live None f = Err fault.NoSuchNode
 by_live (Some n) f = f n
 
 -- a live node takes an event
-abbrev pub acts : WorldState → Event → ℕ → (NodeState → Result Outcome WorldFault) → Result (Stepped × WorldState) WorldFault
+abbrev pub acts : WorldState → WorldEvent → ℕ → (NodeState → Result Outcome WorldFault) → Result (WorldStep × WorldState) WorldFault
 acts w e id f = took w e id (by_live (live_at w id) f)
 
-abbrev pub enters : WorldState → ℕ → Option NodeState → Result (Stepped × WorldState) WorldFault
+abbrev pub enters : WorldState → ℕ → Option NodeState → Result (WorldStep × WorldState) WorldFault
 enters w id None = took w (event.Enter id) id (Ok (of_entered (entered w.config id)))
 enters w id (Some n) = Err fault.IdUsed
 
 -- an event that sends nothing
-abbrev pub silent : WorldState → Stepped
+abbrev pub silent : WorldState → WorldStep
 silent w = record { tag = None; ended = None; sent = record { first = length w.sent; count = 0 } }
 
-abbrev pub crashes : WorldState → ℕ → Option NodeState → Result (Stepped × WorldState) WorldFault
+abbrev pub crashes : WorldState → ℕ → Option NodeState → Result (WorldStep × WorldState) WorldFault
 crashes w id None = Err fault.NoSuchNode
 crashes w id (Some n) = Ok (silent w, record w { crashed = set.insert w.crashed id; events = w.events ++ event.Crash id ∷ [] })
 
@@ -149,14 +149,14 @@ acted sent act.Collect n = collects n
 acted sent (act.Deliver number) n = delivers (slice_get sent number) n
 
 -- the event at which a node so acts
-abbrev pub event_of : ℕ → Act → Event
+abbrev pub event_of : ℕ → Act → WorldEvent
 event_of id act.Leave = event.Leave id
 event_of id (act.Store value) = event.Store id value
 event_of id act.Collect = event.Collect id
 event_of id (act.Deliver number) = event.Deliver number id
 
 -- the node of an event
-abbrev pub node_of : Event → ℕ
+abbrev pub node_of : WorldEvent → ℕ
 node_of (event.Enter id) = id
 node_of (event.Leave id) = id
 node_of (event.Crash id) = id
@@ -165,7 +165,7 @@ node_of (event.Collect id) = id
 node_of (event.Deliver number id) = id
 
 -- what an event answers and makes of a world, or why it is refused
-abbrev pub stepped : WorldState → Event → Result (Stepped × WorldState) WorldFault
+abbrev pub stepped : WorldState → WorldEvent → Result (WorldStep × WorldState) WorldFault
 stepped w (event.Enter id) = enters w id (fin.get w.nodes id)
 stepped w (event.Leave id) = acts w (event.Leave id) id (acted w.sent act.Leave)
 stepped w (event.Crash id) = crashes w id (live_at w id)
@@ -174,9 +174,9 @@ stepped w (event.Collect id) = acts w (event.Collect id) id (acted w.sent act.Co
 stepped w (event.Deliver number id) = acts w (event.Deliver number id) id (acted w.sent (act.Deliver number))
 
 -- one world leads to another by accepted events
-abbrev pub Reaches : WorldState → List Event → WorldState → Type 0
+abbrev pub Reaches : WorldState → List WorldEvent → WorldState → Type 0
 Reaches w [] w' = w' ≡ w
-Reaches w (e ∷ es) w' = (a : Stepped) × (u : WorldState) × (stepped w e ≡ Ok (a, u)) × Reaches u es w'
+Reaches w (e ∷ es) w' = (a : WorldStep) × (u : WorldState) × (stepped w e ≡ Ok (a, u)) × Reaches u es w'
 
 -- these nodes, and the founders of these ids
 abbrev pub nodes_with : Config → List ℕ → fin.FinMap nat_cmp NodeState → List ℕ → fin.FinMap nat_cmp NodeState

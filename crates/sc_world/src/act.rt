@@ -5,12 +5,9 @@ ghost use Rattle.sc_world.specs.Acts.{Acts};
 ghost use Rattle.sc_world.specs.Worlds.{acted, leaves, stores, collects, delivers};
 
 use crate::fault::WorldFault;
-use sc_msg::message::Message;
-use sc_node::answer::{Begun, Delivered, Ended, Progress};
-use sc_node::node::Node;
-use sc_node::outs::Outs;
-use sc_node::session::Session;
-use sc_view::value::Value;
+use sc_msg::Message;
+use sc_node::{Begun, Delivered, Ended, Node, Outs, Progress, Session};
+use sc_view::Value;
 
 /// What a node that is there does at an event.
 #[derive(Clone, Copy)]

@@ -6,10 +6,9 @@ ghost use Rattle.sc_world.specs.Acts.{answered, is_op, counted_with, IsReady, Fi
 
 use crate::op::Op;
 use crate::places::Places;
-use sc_members::ids::IdSet;
-use sc_msg::message::{Body, Message};
-use sc_node::answer::Progress;
-use sc_node::session::Session;
+use sc_members::IdSet;
+use sc_msg::{Body, Message};
+use sc_node::{Progress, Session};
 use std::alloc::{AllocError, Global};
 
 /// The place of the record that an answer may move, and all senders of its open phase with this one.

@@ -1,11 +1,11 @@
 //! What happens to a world, and what it tells.
 
-use sc_node::answer::Ended;
-use sc_view::value::Value;
+use sc_node::Ended;
+use sc_view::Value;
 
 /// What happens to a world.
 #[derive(Clone, Copy, Debug, PartialEq, Eq)]
-pub enum Event {
+pub enum WorldEvent {
     /// A node with a new id enters.
     Enter(u64),
     /// A node leaves for good, and tells it.
@@ -29,7 +29,7 @@ pub struct Sent {
 
 /// What an accepted event tells.
 #[derive(Drop)]
-pub struct Stepped {
+pub struct WorldStep {
     /// The tag of the operation that began.
     pub tag: Option<u64>,
     /// The operation that ended, with the view that it returned.

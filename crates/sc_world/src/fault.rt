@@ -6,7 +6,7 @@ ghost use Rattle.sc_node.specs.declared.fault.NodeFault.TheVariants as node_faul
 ghost use Rattle.sc_world.specs.declared.fault.WorldFault.TheVariants as fault;
 
 use reasons::{Reason, told};
-use sc_node::fault::NodeFault;
+use sc_node::NodeFault;
 use std::alloc::AllocError;
 
 /// Why an event is refused. After a refusal the world is as it was. Where several hold, the first of these is

@@ -9,14 +9,12 @@ ghost use Rattle.sc_world.specs.Worlds.{op_begun};
 
 use crate::act::Opened;
 use crate::counting::{Counting, make_ready, move_op};
-use crate::event::{Event, Sent};
+use crate::event::{Sent, WorldEvent};
 use crate::op::Op;
 use crate::places::Places;
-use sc_members::config::Config;
-use sc_members::ids::IdSet;
-use sc_msg::message::Message;
-use sc_node::answer::Progress;
-use sc_node::outs::Outs;
+use sc_members::{Config, IdSet};
+use sc_msg::Message;
+use sc_node::{Outs, Progress};
 use std::alloc::{AllocError, Global};
 use std::marker::Model;
 
@@ -27,7 +25,7 @@ pub struct Ledger {
     config: Config,
     founders: Vec<u64>,
     crashed: IdSet,
-    events: Vec<Event>,
+    events: Vec<WorldEvent>,
     sent: Vec<Message>,
     ops: Vec<Op>,
     places: Places,
@@ -40,7 +38,7 @@ impl Model for Ledger {
     ghost use Rattle.sc_msg.specs.contracts.message.Message as message;
     ghost use Rattle.sc_world.specs.State.{LedgerState};
     ghost use Rattle.sc_world.specs.Ledgers.{has_room};
-    ghost use Rattle.sc_world.specs.contracts.event.Event as event;
+    ghost use Rattle.sc_world.specs.contracts.event.WorldEvent as event;
     ghost use Rattle.sc_world.specs.contracts.op.Op as op;
 
     ghost Value = { LedgerState };
@@ -91,7 +89,7 @@ impl Ledger {
     /// memory.
     pub fn record(
         &mut self,
-        event: Event,
+        event: WorldEvent,
         node: u64,
         outs: Outs,
         progress: Option<Progress>,
@@ -125,7 +123,7 @@ impl Ledger {
     {
         self.events.reserve(1)?;
         self.crashed.insert(id)?;
-        self.events.push_reserved(Event::Crash(id));
+        self.events.push_reserved(WorldEvent::Crash(id));
         Ok(self.silent())
     }
 
@@ -161,7 +159,7 @@ impl Ledger {
     }
 
     /// The accepted events.
-    pub fn events(&self) -> &[Event]
+    pub fn events(&self) -> &[WorldEvent]
         ensures { result.now ≡ self.now.past.events }
     {
         &self.events

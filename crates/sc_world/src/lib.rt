@@ -7,14 +7,22 @@
 //! least what an earlier collect that it meets had returned.
 #![tactic(auto)]
 
-pub mod act;
-pub mod counting;
-pub mod event;
-pub mod fault;
+mod act;
+mod counting;
+mod event;
+mod fault;
 pub mod laws;
-pub mod ledger;
+mod ledger;
 mod nodes;
-pub mod op;
+mod op;
 mod places;
 pub mod worked;
-pub mod world;
+mod world;
+
+pub use act::Opened;
+pub use counting::Counting;
+pub use event::{Sent, WorldEvent, WorldStep};
+pub use fault::WorldFault;
+pub use ledger::Ledger;
+pub use op::{Op, meets};
+pub use world::World;

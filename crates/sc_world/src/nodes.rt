@@ -8,10 +8,9 @@ ghost use Rattle.sc_world.specs.Worlds.{acted, by_live, live, founded_nodes};
 
 use crate::act::{Act, Report, perform};
 use crate::fault::WorldFault;
-use sc_members::config::Config;
-use sc_msg::message::Message;
-use sc_node::fault::NodeFault;
-use sc_node::node::Node;
+use sc_members::Config;
+use sc_msg::Message;
+use sc_node::{Node, NodeFault};
 use std::alloc::{AllocError, Global};
 use std::collections::BTreeMap;
 use std::marker::Model;

@@ -6,9 +6,8 @@ ghost use Rattle.sc_node.specs.Sessions.{counted_in, counting_phase};
 ghost use Rattle.sc_world.specs.Regular.{IsMeeting};
 ghost use Rattle.sc_world.specs.Worlds.{end_at, moved};
 
-use sc_members::ids::IdSet;
-use sc_node::answer::{Advance, Progress};
-use sc_node::session::Session;
+use sc_members::IdSet;
+use sc_node::{Advance, Progress, Session};
 use std::alloc::Global;
 
 /// The record of an operation.

@@ -13,8 +13,8 @@ ghost use Rattle.sc_world.specs.Ledgers.{first, has_room, recorded};
 ghost use Rattle.sc_world.specs.Regular.{IsMeeting};
 ghost use Rattle.sc_world.specs.State.{WorldState};
 ghost use Rattle.sc_world.specs.Worlds.{collects, leaves, live, live_at, start, started, stepped, took};
-ghost use Rattle.sc_world.specs.declared.event.Event.{Event};
-ghost use Rattle.sc_world.specs.declared.event.Event.TheVariants as event;
+ghost use Rattle.sc_world.specs.declared.event.WorldEvent.{WorldEvent};
+ghost use Rattle.sc_world.specs.declared.event.WorldEvent.TheVariants as event;
 ghost use Rattle.sc_world.specs.declared.op.Op.{Op};
 
 /// What the definitions say at telling operands.
@@ -29,7 +29,7 @@ pub fn worked()
     ensures crashed { (n : NodeState) → live true (Some n) ≡ None }
 
     // The ledger keeps what is sent, and has room for two messages.
-    ensures kept { (c : Config) (e : Event) (m : Message) → (recorded (first c (3 ∷ [])) e 3 (m ∷ []) None None).sent ≡ m ∷ [] }
+    ensures kept { (c : Config) (e : WorldEvent) (m : Message) → (recorded (first c (3 ∷ [])) e 3 (m ∷ []) None None).sent ≡ m ∷ [] }
     ensures room { has_room 0 1 0 2 0 1 ≡ true }
     ensures room_for_one { has_room 0 1 0 1 0 1 ≡ false }
 

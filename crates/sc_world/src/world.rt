@@ -10,14 +10,14 @@ ghost use Rattle.sc_world.specs.Regular.{IsRegular};
 
 use crate::act::{Act, Opened, Report};
 use crate::counting::Counting;
-use crate::event::{Event, Sent, Stepped};
+use crate::event::{Sent, WorldEvent, WorldStep};
 use crate::fault::WorldFault;
 use crate::ledger::Ledger;
 use crate::nodes::{Nodes, found_nodes};
 use crate::op::Op;
-use sc_members::config::Config;
-use sc_msg::message::Message;
-use sc_node::node::Node;
+use sc_members::Config;
+use sc_msg::Message;
+use sc_node::Node;
 use std::alloc::{AllocError, Global};
 use std::marker::Model;
 
@@ -39,7 +39,7 @@ impl Model for World {
     ghost use Rattle.sc_node.specs.contracts.node.Node as node;
     ghost use Rattle.sc_world.specs.State.{WorldState, world_of};
     ghost use Rattle.sc_world.specs.Worlds.{IsHistory};
-    ghost use Rattle.sc_world.specs.contracts.event.Event as event;
+    ghost use Rattle.sc_world.specs.contracts.event.WorldEvent as event;
     ghost use Rattle.sc_world.specs.contracts.op.Op as op;
 
     ghost Value = { WorldState };
@@ -67,16 +67,16 @@ impl World {
     }
 
     /// Takes an event, or refuses it: with 44, or with 81, 82 and then the node's refusal, in this order.
-    pub fn step(&mut self, event: Event) -> Result<Stepped, WorldFault>
+    pub fn step(&mut self, event: WorldEvent) -> Result<WorldStep, WorldFault>
         ensures { Steps memory (stepped self.old event) self.old self.new result }
     {
         match event {
-            Event::Enter(id) => self.enter(id),
-            Event::Leave(id) => self.act(id, &Act::Leave),
-            Event::Crash(id) => self.crash(id),
-            Event::Store { node, value } => self.act(node, &Act::Store(value)),
-            Event::Collect(id) => self.act(id, &Act::Collect),
-            Event::Deliver { message, node } => self.act(node, &Act::Deliver(message)),
+            WorldEvent::Enter(id) => self.enter(id),
+            WorldEvent::Leave(id) => self.act(id, &Act::Leave),
+            WorldEvent::Crash(id) => self.crash(id),
+            WorldEvent::Store { node, value } => self.act(node, &Act::Store(value)),
+            WorldEvent::Collect(id) => self.act(id, &Act::Collect),
+            WorldEvent::Deliver { message, node } => self.act(node, &Act::Deliver(message)),
         }
     }
 
@@ -91,7 +91,7 @@ impl World {
     }
 
     /// The accepted events.
-    pub fn events(&self) -> &[Event]
+    pub fn events(&self) -> &[WorldEvent]
         ensures events { result.now ≡ self.now.events }
         ensures history { IsHistory self.now }
     {
@@ -133,7 +133,7 @@ impl World {
 
 impl World {
     /// A new node enters.
-    fn enter(&mut self, id: u64) -> Result<Stepped, WorldFault>
+    fn enter(&mut self, id: u64) -> Result<WorldStep, WorldFault>
         ensures { Steps memory (enters self.old id (fin.get self.old.nodes id)) self.old self.new result }
     {
         if self.nodes.has(id) {
@@ -144,8 +144,8 @@ impl World {
         self.nodes.insert(id, node)?;
         let sent = self
             .ledger
-            .record(Event::Enter(id), id, outs, None, None, None);
-        Ok(Stepped {
+            .record(WorldEvent::Enter(id), id, outs, None, None, None);
+        Ok(WorldStep {
             tag: None,
             ended: None,
             sent,
@@ -153,7 +153,7 @@ impl World {
     }
 
     /// A node that is there stops.
-    fn crash(&mut self, id: u64) -> Result<Stepped, WorldFault>
+    fn crash(&mut self, id: u64) -> Result<WorldStep, WorldFault>
         ensures { Steps memory (crashes self.old id (live_at self.old id)) self.old self.new result }
     {
         if !self.nodes.is_live(self.ledger.has_crashed(id), id) {
@@ -164,7 +164,7 @@ impl World {
     }
 
     /// A node that is there acts.
-    fn act(&mut self, id: u64, act: &Act) -> Result<Stepped, WorldFault>
+    fn act(&mut self, id: u64, act: &Act) -> Result<WorldStep, WorldFault>
         ensures { Steps memory (stepped self.old (event_of id act.now)) self.old self.new result }
     {
         self.ledger.reserve(id)?;
@@ -180,7 +180,7 @@ impl World {
         let sent = self
             .ledger
             .record(event_of(id, act), id, outs, progress, begun, counting);
-        Ok(Stepped { tag, ended, sent })
+        Ok(WorldStep { tag, ended, sent })
     }
 }
 
@@ -208,10 +208,10 @@ fn tag_of(begun: &Option<Opened>) -> Option<u64>
 }
 
 /// What an event tells that begins, ends and sends nothing.
-fn silent(sent: Sent) -> Stepped
+fn silent(sent: Sent) -> WorldStep
     ensures { result ≡ record { tag = None; ended = None; sent = sent } }
 {
-    Stepped {
+    WorldStep {
         tag: None,
         ended: None,
         sent,
@@ -219,17 +219,17 @@ fn silent(sent: Sent) -> Stepped
 }
 
 /// The event at which a node so acts.
-fn event_of(id: u64, act: &Act) -> Event
+fn event_of(id: u64, act: &Act) -> WorldEvent
     ensures { result ≡ event_of id act.now }
 {
     match act {
-        Act::Leave => Event::Leave(id),
-        Act::Store(value) => Event::Store {
+        Act::Leave => WorldEvent::Leave(id),
+        Act::Store(value) => WorldEvent::Store {
             node: id,
             value: *value,
         },
-        Act::Collect => Event::Collect(id),
-        Act::Deliver(message) => Event::Deliver {
+        Act::Collect => WorldEvent::Collect(id),
+        Act::Deliver(message) => WorldEvent::Deliver {
             message: *message,
             node: id,
         },

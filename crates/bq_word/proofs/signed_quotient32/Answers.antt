@@ -1,3 +1,4 @@
+-- signed_quotient32: the quotient of 32 bits, with signs.
 use Rattle.bq_word.proofs.Signed.{quotient32}
 use Rattle.bq_word.proofs.signed_quotient32.Goals as goal
 

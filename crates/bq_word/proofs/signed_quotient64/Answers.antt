@@ -1,3 +1,4 @@
+-- signed_quotient64: the quotient of 64 bits, with signs.
 use Rattle.bq_word.proofs.Signed.{quotient64}
 use Rattle.bq_word.proofs.signed_quotient64.Goals as goal
 

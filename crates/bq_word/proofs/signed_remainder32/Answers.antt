@@ -1,3 +1,4 @@
+-- signed_remainder32: the remainder of 32 bits, with signs.
 use Rattle.bq_word.proofs.Signed.{remainder32}
 use Rattle.bq_word.proofs.signed_remainder32.Goals as goal
 

@@ -1,3 +1,4 @@
+-- signed_remainder64: the remainder of 64 bits, with signs.
 use Rattle.bq_word.proofs.Signed.{remainder64}
 use Rattle.bq_word.proofs.signed_remainder64.Goals as goal
 

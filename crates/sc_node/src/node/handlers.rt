@@ -12,9 +12,9 @@ use crate::answer::{Advance, Delivered};
 use crate::copies::Copies;
 use crate::fault::NodeFault;
 use crate::outs::Outs;
-use sc_members::facts::Facts;
-use sc_msg::message::Body;
-use sc_view::view::View;
+use sc_members::Facts;
+use sc_msg::Body;
+use sc_view::View;
 use std::alloc::AllocError;
 
 impl Node {

@@ -1,3 +1,4 @@
+-- one_fault: a source has one fault at most, besides want of memory.
 use Rattle.bq_asm.proofs.Unique.{one_fault}
 use Rattle.bq_asm.proofs.laws.one_fault.Goals as goal
 

@@ -1,3 +1,4 @@
+-- cut: what stands before the first of these ASCII characters, and what stands behind it.
 use Rattle.std.proofs.lemmas.Str.Pattern.{split_parts}
 use Rattle.bq_asm.proofs.Parts.{gives_cut}
 use Rattle.bq_asm.proofs.text.cut.Goals as goal

@@ -1,3 +1,4 @@
+-- strip: what stands behind an ASCII character in front.
 use Rattle.std.proofs.lemmas.Str.Pattern.{strip_prefix_char}
 use Rattle.bq_asm.proofs.Parts.{gives_strip}
 use Rattle.bq_asm.proofs.text.strip.Goals as goal

@@ -1,3 +1,4 @@
+-- trimmed: the text without the spaces at both ends.
 use Rattle.bq_asm.proofs.Parts.{trimmed_is}
 use Rattle.bq_asm.proofs.text.trimmed.Goals as goal
 

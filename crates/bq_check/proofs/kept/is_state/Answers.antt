@@ -1,7 +1,8 @@
+-- is_state: a state of the checker is one that the second form tells.
 use Rattle.std.proofs.Common.{◌≤◌, length, ap, subst, arith}
 use Rattle.std.specs.List.{AllByRecursion}
 use Rattle.bq_state.specs.Kinds.{AreLengths}
-use Rattle.bq_check.specs.declared.form.Form.TheVariants.{Second}
+use Rattle.bq_check.specs.declared.form.NotesForm.TheVariants.{Second}
 use Rattle.bq_check.specs.Spelling.{IsKind}
 use Rattle.bq_check.proofs.Seen.{seen_all}
 use Rattle.bq_check.proofs.kept.is_state.Goals as goal

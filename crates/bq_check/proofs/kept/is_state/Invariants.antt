@@ -1,4 +1,4 @@
-use Rattle.bq_check.specs.declared.form.Form.TheVariants.{Second}
+use Rattle.bq_check.specs.declared.form.NotesForm.TheVariants.{Second}
 use Rattle.bq_check.specs.Spelling.{IsKind}
 use Rattle.bq_check.proofs.Seen.{Seen}
 use Rattle.bq_check.proofs.kept.is_state.Given as goal

@@ -1,3 +1,4 @@
+-- one_first_fault: a text with notes has one first fault at most, want of memory aside.
 use Rattle.bq_check.proofs.Once.{one_fault}
 use Rattle.bq_check.proofs.laws.one_first_fault.Goals as goal
 

@@ -1,3 +1,4 @@
+-- notes_of: the notes that the bytes spell in a form.
 use Rattle.std.proofs.Common.{◌≡◌, ◌==◌, List, ℕ, length, false, true, ap, ◌∙◌}
 use Rattle.std.proofs.lemmas.Result.{err_from_is_err_and}
 use Rattle.bq_check.proofs.Read.{passed_on, left_over}

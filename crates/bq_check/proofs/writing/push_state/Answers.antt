@@ -1,3 +1,4 @@
+-- push_state: puts the bytes of a state behind what is there.
 use Rattle.std.proofs.Common.{◌≡◌, ◌≤◌, length, ap, ◌∙◌, arith, ◌++◌, append_assoc}
 use Rattle.bq_check.specs.Spelling.{kind_bytes, kinds_bytes, lengths_bytes}
 use Rattle.bq_check.proofs.Written.{written_all}

@@ -1,3 +1,4 @@
+-- check: the first fault of a text's flow, in rising order of the instructions.
 use Rattle.std.proofs.Common.{◌≡◌, ◌∙◌, sym, subst, arith}
 use Rattle.bq_insn.specs.Slots.{units}
 use Rattle.bq_flow.specs.Faults.{NoFlowFault}

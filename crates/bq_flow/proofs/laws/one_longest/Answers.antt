@@ -1,3 +1,4 @@
+-- one_longest: a text has one longest path length at most.
 use Rattle.bq_flow.proofs.Best.{one_longest}
 use Rattle.bq_flow.proofs.laws.one_longest.Goals as goal
 

@@ -1,3 +1,4 @@
+-- longest: the greatest number of instructions on a path from unit 0 to an exit.
 use Rattle.std.proofs.Common.{◌≡◌, ◌<◌, ◌∙◌, length, slice_index, subst, sym, arith}
 use Rattle.std.proofs.lemmas.List.{get_or_default}
 use Rattle.bq_insn.specs.Slots.{units}

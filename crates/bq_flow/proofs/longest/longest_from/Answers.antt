@@ -1,3 +1,4 @@
+-- longest_from: the longest path from a unit, by those from the units behind it.
 use Rattle.std.proofs.Common.{arith}
 use Rattle.bq_flow.proofs.Best.{small_at}
 use Rattle.bq_flow.proofs.longest.longest_from.Goals as goal

@@ -1,3 +1,4 @@
+-- successors_at: the successors of the instruction that begins at a unit.
 use Rattle.std.proofs.Common.{◌≡◌, ◌∙◌, Some}
 use Rattle.bq_insn.specs.Slots.{insn_at}
 use Rattle.bq_flow.proofs.Legal.{named, are_next}

@@ -1,3 +1,4 @@
+-- copy: puts bytes from a place on, all at once.
 use Rattle.bq_frame.proofs.Copies.{copied}
 use Rattle.bq_frame.proofs.block.copy.Goals as goal
 

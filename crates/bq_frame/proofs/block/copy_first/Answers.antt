@@ -1,3 +1,4 @@
+-- copy_first: copies the first `N` bytes of a room to a place, all at once.
 use Rattle.std.proofs.Common.{◌≤◌, arith, length}
 use Rattle.bq_frame.proofs.Copies.{first_copied}
 use Rattle.bq_frame.proofs.block.copy_first.Goals as goal

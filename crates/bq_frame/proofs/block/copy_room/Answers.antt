@@ -1,3 +1,4 @@
+-- copy_room: copies a room to a place: so many of its first bytes at least.
 use Rattle.std.proofs.Common.{arith}
 use Rattle.bq_frame.proofs.Adjacent.{part_first}
 use Rattle.bq_frame.proofs.block.copy_room.Goals as goal

@@ -1,3 +1,4 @@
+-- put: puts bytes from a place on, one after another.
 use Rattle.std.proofs.Common.{◌∙◌, ◌+◌, ap, get_or, refl, set, List, ℕ}
 use Rattle.bq_frame.proofs.Puts.{put_step}
 use Rattle.bq_frame.proofs.block.put.Goals as goal

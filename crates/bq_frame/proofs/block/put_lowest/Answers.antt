@@ -1,3 +1,4 @@
+-- put_lowest: puts the lowest `N` bytes of a number at a place and behind it.
 use Rattle.std.proofs.Common.{refl}
 use Rattle.bq_frame.proofs.Lowest.{lowest_put}
 use Rattle.bq_frame.proofs.block.put_lowest.Goals as goal

@@ -1,3 +1,4 @@
+-- read_and_written: bytes that were read and written again are the same.
 use Rattle.std.proofs.Common.{◌≡◌, IfErr, rules}
 use Rattle.bq_insn.specs.declared.fault.DecodeFault.TheVariants.{OutOfMemory}
 use Rattle.bq_insn.proofs.Unique.{whole_length, out_of_memory}

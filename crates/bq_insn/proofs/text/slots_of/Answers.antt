@@ -1,3 +1,4 @@
+-- slots_of: the units of instructions.
 use Rattle.std.proofs.Common.{rules}
 use Rattle.std.proofs.lemmas.List.{take_more}
 use Rattle.bq_insn.proofs.Listed.{listed_more}

@@ -1,3 +1,4 @@
+-- first_repeated: the number of the least line that defines a name a second time.
 use Rattle.std.proofs.Common.{sym, ◌∙◌, arith}
 use Rattle.std.proofs.lemmas.Bool.{not-false, not-true}
 use Rattle.bq_labels.proofs.Repeating.{found_repeated, more_new, more_other}

@@ -1,3 +1,4 @@
+-- resolve: the instructions that lines mean.
 use Rattle.std.proofs.Common.{ap, arith}
 use Rattle.bq_labels.specs.View.{line_view, statement_view}
 use Rattle.bq_labels.proofs.Resolving.{solve_label, solve_some, solve_none}

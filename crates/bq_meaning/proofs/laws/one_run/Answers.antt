@@ -1,3 +1,4 @@
+-- one_run: from an accumulator, a record and a frame there is one record run at most at a placement.
 use Rattle.bq_meaning.specs.Runs.{entry_machine}
 use Rattle.bq_meaning.proofs.Once.{same_end}
 use Rattle.bq_meaning.proofs.laws.one_run.Goals as goal

@@ -1,3 +1,4 @@
+-- le_number: the number that bytes spell, lowest first.
 use Rattle.std.proofs.Common.{arith}
 use Rattle.std.proofs.lemmas.Grind.{common_steps}
 use Rattle.bq_meaning.proofs.Powers.{seven_bytes}

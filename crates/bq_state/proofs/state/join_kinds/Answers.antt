@@ -1,3 +1,5 @@
+-- join_kinds: each kind becomes the least that covers it and the other of the register, each where records have its
+-- lengths.
 use Rattle.std.proofs.Common.{rules, arith, ℕ, ◌≡◌, ◌<◌, ◌≤◌, ◌+◌, List, length, get_or, length-set, get_or-set_other, ◌∙◌, sym, subst}
 use Rattle.std.proofs.lemmas.List.{get_or_default}
 use Rattle.bq_range.specs.Interval.{Interval}

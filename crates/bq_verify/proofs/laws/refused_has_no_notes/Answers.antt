@@ -1,3 +1,4 @@
+-- refused_has_no_notes: for a text that is refused no notes pass, unless memory ran out.
 use Rattle.bq_verify.proofs.Least.{none_pass}
 use Rattle.bq_verify.proofs.laws.refused_has_no_notes.Goals as goal
 

@@ -1,3 +1,4 @@
+-- states_pass: the states of a text in which no instruction breaks a rule pass, where its flow is legal.
 use Rattle.bq_verify.proofs.Passing as passing
 use Rattle.bq_verify.proofs.Suits.{are_suited}
 use Rattle.bq_verify.proofs.laws.states_pass.Goals as goal

@@ -1,3 +1,4 @@
+-- natural: the number below 2^64 that a text stands for.
 use Rattle.std.proofs.Common.{sym, ◌∙◌}
 use Rattle.decimal.proofs.Numbers.{natural_is}
 use Rattle.decimal.proofs.numeral.natural.Goals as goal

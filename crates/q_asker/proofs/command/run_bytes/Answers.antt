@@ -1,3 +1,4 @@
+-- run_bytes: the same of the bytes of a file.
 use Rattle.std.proofs.Common.{ℕ, List, inl, subst}
 use Rattle.q_asker.specs.Runs.{RunsText}
 use Rattle.q_asker.proofs.command.run_bytes.Goals as goal

@@ -1,3 +1,4 @@
+-- run_stream: runs lines over a stream, if there is one.
 use Rattle.q_asker.proofs.Halting.{never_connected}
 use Rattle.q_asker.proofs.command.run_stream.Goals as goal
 

@@ -1,3 +1,4 @@
+-- run_ask: `ask PROGRAM START`: where the node takes the query, its answer is asked for.
 use Rattle.q_net.specs.declared.request.Request.TheVariants as request
 use Rattle.q_asker.specs.declared.script.ClientLine.TheVariants as line
 use Rattle.q_asker.proofs.Running.{line_asked, line_stop, takes_some}

@@ -1,3 +1,4 @@
+-- run_line: makes the requests of a line, and tells their replies.
 use Rattle.std.proofs.Common.{refl}
 use Rattle.q_asker.proofs.Running.{program_requested, program_unmade, store_requested, store_unmade}
 use Rattle.q_asker.proofs.line.run_line.Goals as goal

@@ -1,3 +1,4 @@
+-- look: asks for the answer of a query until it stands, or for so often and so long, and tells what comes of it.
 use Rattle.std.proofs.Common.{◌+◌, ◌≤◌, false, refl, rules, arith}
 use Rattle.q_net.specs.declared.request.Request.TheVariants as request
 use Rattle.q_asker.specs.Runs.{is_done_end}

@@ -1,3 +1,4 @@
+-- ask: the line `ask` with these two numbers.
 use Rattle.q_asker.proofs.Scripts.{no_ask}
 use Rattle.q_asker.proofs.operands.ask.Goals as goal
 

@@ -1,3 +1,4 @@
+-- store: the line `store` with this value.
 use Rattle.q_asker.proofs.Scripts.{no_store}
 use Rattle.q_asker.proofs.operands.store.Goals as goal
 

@@ -1,3 +1,4 @@
+-- value: the bytes of the value that a text spells, however many.
 use Rattle.std.proofs.Common.{lit<}
 use Rattle.std.proofs.lemmas.Str.Pattern.{strip_prefix_char}
 use Rattle.q_script.proofs.Values.{hex_judged, number_judged}

@@ -1,3 +1,4 @@
+-- put_numbers: writes numbers, each behind a space.
 use Rattle.std.proofs.Common.{◌≡◌, ◌+◌, [], ◌∷◌, ◌++◌, rules, take, get_or}
 use Rattle.std.proofs.lemmas.List.{take_more}
 use Rattle.q_asker.proofs.Writing.{behind, number_more, on_err}

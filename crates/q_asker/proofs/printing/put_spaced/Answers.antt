@@ -1,3 +1,4 @@
+-- put_spaced: writes a space and a number in decimal.
 use Rattle.q_asker.proofs.Writing.{behind_last}
 use Rattle.q_asker.proofs.printing.put_spaced.Goals as goal
 

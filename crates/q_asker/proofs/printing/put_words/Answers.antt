@@ -1,3 +1,4 @@
+-- put_words: writes a line: a word, and numbers, each behind a space.
 use Rattle.std.proofs.KnownBytes.{Appends-trans}
 use Rattle.q_asker.proofs.Writing.{behind, behind_last, on_err}
 use Rattle.q_asker.proofs.printing.put_words.Goals as goal

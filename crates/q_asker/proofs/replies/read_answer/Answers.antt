@@ -1,3 +1,4 @@
+-- read_answer: the accumulator and the steps, behind a 0 and a 1.
 use Rattle.std.proofs.Common.{[], ◌∷◌, ◌++◌, refl, rules, arith, length-append}
 use Rattle.std.proofs.KnownBytes.{Consumes-trans}
 use Rattle.bq_check.specs.Spelling.{long_bytes}

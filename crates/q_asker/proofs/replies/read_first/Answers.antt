@@ -1,3 +1,4 @@
+-- read_first: the same with the first byte, which is read before.
 use Rattle.std.proofs.Common.{[], ◌∷◌}
 use Rattle.q_asker.proofs.Heard.{heard_behind}
 use Rattle.q_asker.proofs.Reading.{byte_read}

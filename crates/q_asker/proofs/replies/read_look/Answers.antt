@@ -1,3 +1,4 @@
+-- read_look: an answer, or that there is none yet, behind a 0.
 use Rattle.std.proofs.Common.{[], ◌∷◌}
 use Rattle.q_asker.specs.declared.replies.ReplyKind.TheVariants as kind
 use Rattle.q_asker.proofs.Heard.{heard_behind}

@@ -1,3 +1,4 @@
+-- read_number: a query's number, or a store's tag, behind a 0.
 use Rattle.std.proofs.Common.{refl, rules}
 use Rattle.bq_check.specs.Spelling.{long_bytes}
 use Rattle.q_asker.proofs.Heard.{number_cut}

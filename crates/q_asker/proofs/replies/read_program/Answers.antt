@@ -1,3 +1,4 @@
+-- read_program: a program's number, behind a 0.
 use Rattle.std.proofs.Common.{refl, rules}
 use Rattle.bq_check.specs.Spelling.{short_bytes}
 use Rattle.q_asker.proofs.Heard.{program_cut}

@@ -1,3 +1,4 @@
+-- reason_of: the reason of this number, if there is one.
 use Rattle.std.proofs.Common.{◌∙◌, ◌<◌, ap, rules, arith}
 use Rattle.reasons.specs.Table as table
 use Rattle.q_asker.proofs.replies.reason_of.Goals as goal

@@ -1,3 +1,4 @@
+-- run_lines: runs lines in turn, and tells them.
 use Rattle.std.proofs.Common.{◌≡◌, ◌∙◌, ◌+◌, List, [], ◌∷◌, ◌++◌, take, drop, refl, rules, ap, subst, take_all}
 use Rattle.std.proofs.lemmas.List.{take_more}
 use Rattle.q_script.proofs.Lines.{pieces_at}

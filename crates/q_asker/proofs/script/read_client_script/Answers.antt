@@ -1,3 +1,4 @@
+-- read_client_script: the lines that a text spells; an empty text has none.
 use Rattle.std.proofs.Common.{ℕ, ◌+◌, List, length, map, Bor, Err, sym, ◌∙◌, subst, arith}
 use Rattle.std.specs.List.{AllZip}
 use Rattle.std.proofs.lemmas.List.{map_push}

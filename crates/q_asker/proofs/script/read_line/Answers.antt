@@ -1,3 +1,4 @@
+-- read_line: the line that a text spells.
 use Rattle.std.proofs.Common.{List, ℕ, ◌++◌, ap, sym, ◌∙◌}
 use Rattle.std.specs.Prelude.{codes}
 use Rattle.q_asker.proofs.Scripts.{ask_judged, program_judged, store_judged}

@@ -1,3 +1,5 @@
+-- beginnings_gather: a law: where the books of nodes gather into a cluster, beginnings gather into one too that
+-- hold what they deliver.
 use Rattle.q_beginnings.proofs.Gathering.{parts_gather, answers_stay}
 use Rattle.q_beginnings.proofs.laws.beginnings_gather.Goals as goal
 

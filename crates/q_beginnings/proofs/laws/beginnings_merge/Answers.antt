@@ -1,3 +1,5 @@
+-- beginnings_merge: a law: of books of different nodes whose steps merge, beginnings merge too that hold what they
+-- deliver.
 use Rattle.q_beginnings.proofs.Gathering.{parts_merge, hold_all}
 use Rattle.q_beginnings.proofs.laws.beginnings_merge.Goals as goal
 

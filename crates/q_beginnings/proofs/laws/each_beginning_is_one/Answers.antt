@@ -1,3 +1,5 @@
+-- each_beginning_is_one: a law: a book has one beginning of each number of entries, and a beginning of a beginning
+-- is one of the book.
 use Rattle.q_beginnings.proofs.Cutting.{some_part, one_part, part_again}
 use Rattle.q_beginnings.proofs.laws.each_beginning_is_one.Goals as goal
 

@@ -1,3 +1,4 @@
+-- gathered_books_merge: a law: the books of a cluster may be gathered, where each is there once.
 use Rattle.q_beginnings.proofs.Merged.{gathered_may}
 use Rattle.q_beginnings.proofs.laws.gathered_books_merge.Goals as goal
 

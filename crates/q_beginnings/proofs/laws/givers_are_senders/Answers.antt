@@ -1,3 +1,5 @@
+-- givers_are_senders: a law: a message that a book gives names the node of the book as its sender, and what holds
+-- more of the book gives it too.
 use Rattle.q_beginnings.proofs.Cutting.{gives_more, given_own}
 use Rattle.q_beginnings.proofs.laws.givers_are_senders.Goals as goal
 

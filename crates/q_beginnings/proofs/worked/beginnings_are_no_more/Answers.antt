@@ -1,3 +1,5 @@
+-- beginnings_are_no_more: no part of a book is longer than the book; and books of which one delivers a message that
+-- none of them gives do not hold what they deliver.
 use Rattle.q_beginnings.proofs.Heads.{part_brief}
 use Rattle.q_beginnings.proofs.worked.beginnings_are_no_more.Goals as goal
 

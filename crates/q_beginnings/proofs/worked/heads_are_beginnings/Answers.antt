@@ -1,3 +1,5 @@
+-- heads_are_beginnings: so is a head alone, without any entry; and heads alone hold what they deliver, which is
+-- nothing.
 use Rattle.q_beginnings.proofs.Heads.{head_begun, heads_hold, head_gives}
 use Rattle.q_beginnings.proofs.worked.heads_are_beginnings.Goals as goal
 

@@ -1,3 +1,4 @@
+-- wholes_are_beginnings: whole books are beginnings of themselves, and hold what they deliver.
 use Rattle.q_beginnings.proofs.Heads.{whole_begun, wholes_begun}
 use Rattle.q_beginnings.proofs.worked.wholes_are_beginnings.Goals as goal
 

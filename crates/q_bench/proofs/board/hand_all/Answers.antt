@@ -1,3 +1,4 @@
+-- hand_all: hands each job over; how many results came back.
 use Rattle.std.proofs.Common.{◌≡◌, ◌+◌, ◌*◌, ◌≤◌, arith}
 use Rattle.q_bench.proofs.board.hand_all.Goals as goal
 

@@ -1,3 +1,4 @@
+-- worked: where each text goes, and which exit status comes of it.
 use Rattle.std.proofs.Common.{inl, inr, refl}
 use Rattle.std.specs.Fmt.{digits}
 use Rattle.q_bqview.proofs.worked.worked.Goals as goal

@@ -1,3 +1,4 @@
+-- serve_node: serves one client until its requests end or the node says no more.
 use Rattle.std.proofs.Common.{refl, rules}
 use Rattle.q_clients.proofs.Exchanged.{exchanges_none}
 use Rattle.q_clients.proofs.Turns.{breaks, goes_on}

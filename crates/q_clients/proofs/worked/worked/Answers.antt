@@ -1,3 +1,4 @@
+-- worked: what the definitions say at telling operands.
 use Rattle.std.proofs.Common.{◌≡◌, ℕ, List, [], ◌∷◌, ◌++◌, length, get_or, ap, refl, inl, inr, lit<, arith, length-append}
 use Rattle.std.specs.FinMap as fin
 use Rattle.std.specs.List.{AllZip}
@@ -6,7 +7,7 @@ use Rattle.bq_check.specs.Spelling.{long_bytes}
 use Rattle.sc_msg.specs.declared.version.Version.{Version}
 use Rattle.q_net.specs.declared.request.Request.{Request}
 use Rattle.q_net.specs.declared.request.Request.TheVariants.{Register, Ask, Store, Answer, StoreOf}
-use Rattle.q_net.specs.declared.reply.Reply.{Reply}
+use Rattle.q_net.specs.declared.replies.Reply.{Reply}
 use Rattle.q_net.specs.Requests.{spelling, spellings}
 use Rattle.q_clients.specs.Sample.{gives_all}
 use Rattle.q_clients.specs.Serves.{IsAtHand, IsTold, replies_bytes}

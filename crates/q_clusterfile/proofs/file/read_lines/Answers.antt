@@ -1,3 +1,4 @@
+-- read_lines: what the lines of a text spell.
 use Rattle.q_clusterfile.specs.File.{IsListFault}
 use Rattle.q_clusterfile.proofs.Lists.{passed_on, fault_alone, fault_first, fault_later, list_alone, list_is}
 use Rattle.q_clusterfile.proofs.file.read_lines.Goals as goal

@@ -1,3 +1,4 @@
+-- read_nodes: the nodes of these lines, of which the first is line 2 of a file.
 use Rattle.std.proofs.Common.{ℕ, List, map, Bor, sym, ◌∙◌, subst, arith}
 use Rattle.std.proofs.lemmas.List.{map_push}
 use Rattle.std.proofs.lemmas.Iterator.Consumers.{YieldsList-end}

@@ -1,3 +1,4 @@
+-- one_fault: but for want of memory, one thing is first wrong with a text that spells no file.
 use Rattle.q_clusterfile.proofs.Refusals as law
 use Rattle.q_clusterfile.proofs.laws.one_fault.Goals as goal
 

@@ -1,3 +1,4 @@
+-- cut: what stands before the first of these ASCII characters, and what stands behind it, where there is one.
 use Rattle.std.proofs.lemmas.Str.Pattern.{split_parts}
 use Rattle.q_script.proofs.Parts.{parts_are}
 use Rattle.q_clusterfile.proofs.text.cut.Goals as goal

@@ -1,3 +1,4 @@
+-- without_last_feed: the text without a line feed at its end.
 use Rattle.std.proofs.Common.{Bor, List, ℕ, refl, ap, ◌∙◌, lit<}
 use Rattle.std.proofs.lemmas.Str.Pattern.{strip_suffix_char}
 use Rattle.q_script.proofs.Parts.{feed_is}

@@ -1,3 +1,4 @@
+-- worked: what the definitions say at telling texts.
 use Rattle.std.proofs.Common.{◌≡◌, ℕ, Bool, true, false, List, [], ◌∷◌, ◌++◌, get_or, drop, codes, refl, ap, ◌∙◌, inl, inr, lit<, lit≤, arith}
 use Rattle.std.specs.Fmt.{digits}
 use Rattle.q_clusterfile.specs.declared.line.NodeLine.{NodeLine}

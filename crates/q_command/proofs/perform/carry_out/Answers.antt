@@ -1,3 +1,4 @@
+-- carry_out: runs a command, and writes its answer or its refusal.
 use Rattle.std.proofs.Common.{inr}
 use Rattle.q_command.proofs.Refused.{some_refusal}
 use Rattle.q_command.proofs.perform.carry_out.Goals as goal

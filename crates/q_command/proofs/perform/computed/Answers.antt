@@ -1,3 +1,4 @@
+-- computed: what `run` prints of a program over the records that a text lists.
 use Rattle.std.proofs.Common.{rules, ℕ, List, subst}
 use Rattle.bq_range.specs.Interval.{Interval}
 use Rattle.q_script.specs.Records.{IsView}

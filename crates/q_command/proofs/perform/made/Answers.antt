@@ -1,3 +1,4 @@
+-- made: what is made of these bytes.
 use Rattle.std.proofs.Common.{subst, string_bytes, sym}
 use Rattle.std.specs.Prelude.{IfOk}
 use Rattle.q_command.specs.declared.perform.Work.{Work}

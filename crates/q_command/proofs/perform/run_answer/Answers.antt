@@ -1,3 +1,4 @@
+-- run_answer: what `run` prints.
 use Rattle.q_command.specs.Perform.{longest_text}
 use Rattle.q_command.proofs.Lists.{ran_over}
 use Rattle.q_command.proofs.perform.run_answer.Goals as goal

@@ -1,3 +1,4 @@
+-- simulated: what `sim` prints of a script, whose journals are written.
 use Rattle.std.proofs.Common.{ℕ, List, subst, string_bytes}
 use Rattle.std.specs.Prelude.{Result, Ok, Err, IfOk, IfErr, IsUtf8}
 use Rattle.q_script.specs.Script.{IsScript}

@@ -1,5 +1,6 @@
+-- worked: what the definitions say of programs, journals, answers, refusals and ends, over files in memory.
 use Rattle.bq_check.specs.Spelling.{notes_bytes}
-use Rattle.bq_check.specs.declared.form.Form.TheVariants.{Second}
+use Rattle.bq_check.specs.declared.form.NotesForm.TheVariants.{Second}
 use Rattle.std.proofs.Common.{◌≡◌, ℕ, Bool, true, false, true≢false, List, [], ◌∷◌, ◌++◌, Some, Ok, Err, refl, ap, sym, ◌∙◌, inl, inr, subst, codes, arith, ◌<◌}
 use Rattle.std.specs.Fmt.{digits}
 use Rattle.hex.proofs.OnLiterals.{hex_on_literals}

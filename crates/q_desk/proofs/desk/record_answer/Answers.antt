@@ -1,3 +1,4 @@
+-- record_answer: a running query is answered.
 use Rattle.std.proofs.Common.{◌≡◌, ◌∙◌, Some, ap, sym, rules}
 use Rattle.q_session.specs.declared.query.Phase.TheVariants.{Running}
 use Rattle.q_session.specs.declared.query.Query.{Query}

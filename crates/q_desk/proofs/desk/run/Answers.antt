@@ -1,3 +1,4 @@
+-- run: a ready query runs over its view.
 use Rattle.std.proofs.Common.{◌≡◌, ◌∙◌, Some, ap, sym, rules}
 use Rattle.q_session.specs.declared.query.Phase.TheVariants.{Ready}
 use Rattle.q_session.specs.declared.query.Query.{Query}

@@ -1,3 +1,4 @@
+-- worked: a fault of an instruction is told, and no other.
 use Rattle.std.proofs.Common.{refl}
 use Rattle.std.specs.Fmt.{digits}
 use Rattle.q_explain.proofs.worked.worked.Goals as goal

@@ -1,3 +1,4 @@
+-- place: the bytes of an entry are put behind the frame; how many they are is answered.
 use Rattle.std.proofs.Common.{◌≡◌, ◌∙◌, ◌++◌, ap, length, take, subst}
 use Rattle.bq_word.specs.Word.{le_bytes}
 use Rattle.q_fold.proofs.run.place.Goals as goal

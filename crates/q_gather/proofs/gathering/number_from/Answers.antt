@@ -1,3 +1,4 @@
+-- number_from: gives the messages from this number on their numbers.
 use Rattle.q_gather.proofs.Numbering.{numbered_next}
 use Rattle.q_gather.proofs.gathering.number_from.Goals as goal
 

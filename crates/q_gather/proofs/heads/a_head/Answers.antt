@@ -1,3 +1,4 @@
+-- a_head: what the first book that is a founder's says.
 use Rattle.std.proofs.Common.{◌≡◌, None, refl, sym}
 use Rattle.std.proofs.lemmas.Option.{slice_get_read}
 use Rattle.q_book.specs.State.{BookState}

@@ -1,3 +1,4 @@
+-- are_distinct: whether no two books are of one node.
 use Rattle.std.proofs.Common.{ℕ, take, refl, sym, subst}
 use Rattle.std.proofs.lemmas.Option.{slice_get_read}
 use Rattle.q_merge.specs.Gathered.{HasBook}

@@ -1,3 +1,5 @@
+-- are_headed: whether all books have this version and these fractions, and those of the founders have these
+-- founders.
 use Rattle.std.proofs.Common.{refl}
 use Rattle.std.proofs.lemmas.Option.{slice_get_read}
 use Rattle.q_book.specs.State.{BookState}

@@ -1,3 +1,4 @@
+-- are_replays: a law of books: each is the replay of its journal, and its recorded answers are right.
 use Rattle.std.proofs.Common.{refl}
 use Rattle.std.proofs.lemmas.Option.{slice_get_read}
 use Rattle.q_desk.specs.Answers.{AnswersAreRight}

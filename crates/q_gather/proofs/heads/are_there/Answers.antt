@@ -1,3 +1,4 @@
+-- are_there: whether each founder has a book.
 use Rattle.std.proofs.Common.{get_or}
 use Rattle.std.proofs.lemmas.Option.{slice_get-get_or}
 use Rattle.sc_world.proofs.Acting.{has_at}

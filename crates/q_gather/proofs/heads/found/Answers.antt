@@ -1,3 +1,4 @@
+-- found: the cluster of the founders on whom the books agree, before any event.
 use Rattle.q_gather.proofs.Agreeing.{nobody_agrees, agree_headed, agree_there, agree_on, starts}
 use Rattle.q_gather.proofs.heads.found.Goals as goal
 

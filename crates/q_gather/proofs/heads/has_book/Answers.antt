@@ -1,3 +1,4 @@
+-- has_book: whether one of the books is of this node.
 use Rattle.std.proofs.Common.{◌≡◌, ◌∙◌, refl, sym}
 use Rattle.std.proofs.lemmas.Option.{slice_get_read}
 use Rattle.q_book.specs.State.{BookState}

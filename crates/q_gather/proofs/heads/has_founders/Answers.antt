@@ -1,3 +1,5 @@
+-- has_founders: whether the book is that of one of these founders, who knows all of them; or that of no founder, of
+-- a node that entered.
 use Rattle.std.proofs.Common.{◌≡◌, ◌∙◌, true, false, sym, ap, ℕ}
 use Rattle.std.specs.List.{list_any}
 use Rattle.std.specs.Prelude.{nat_eq}

@@ -1,3 +1,4 @@
+-- is_headed: whether a book has this version, these fractions and these founders.
 use Rattle.q_gather.proofs.Agreeing.{Tells, IsFront, front_then, front_else, headed_then, headed_else}
 use Rattle.q_gather.proofs.heads.is_headed.Goals.{then-has_founders, else-has_founders}
 use Rattle.q_gather.proofs.heads.is_headed.Goals as goal

@@ -1,5 +1,6 @@
+-- take_all: takes events of the books, until none can go on.
 use Rattle.std.proofs.Common.{Option, None, subst}
-use Rattle.q_history.specs.declared.event.Event.{Event}
+use Rattle.q_history.specs.declared.event.ClusterEvent.{ClusterEvent}
 use Rattle.q_gather.specs.Gathering.{Finds, IsNextAmong}
 use Rattle.q_gather.proofs.Waiting.{idle_none}
 use Rattle.q_gather.proofs.Going.{goes_on, goes_less, waiting_on, merged, stuck}
@@ -14,7 +15,7 @@ loop-rounds-init c = record {
 pub returns-then-not-have_taken-clause-err : goal.returns-then-not-have_taken-clause-err
 returns-then-not-have_taken-clause-err c =
     let none : Finds (IsNextAmong c.loop-rounds.gathering.cluster c.args.books.now) None =
-    subst (λ (o : Option Event). Finds (IsNextAmong c.loop-rounds.gathering.cluster c.args.books.now) o) c.in_default.is (c.in_ok-event.ensures.next c.loop-rounds.invariant.gathering.numbered c.loop-rounds.invariant.waiting) in
+    subst (λ (o : Option ClusterEvent). Finds (IsNextAmong c.loop-rounds.gathering.cluster c.args.books.now) o) c.in_default.is (c.in_ok-event.ensures.next c.loop-rounds.invariant.gathering.numbered c.loop-rounds.invariant.waiting) in
     stuck c.args.books.now c.loop-rounds.gathering.cluster c.loop-rounds.gathering.numbers c.loop-rounds.invariant.gathering none c.if-not-have_taken.ensures
 
 pub returns-clause-ok : goal.returns-clause-ok
@@ -23,19 +24,19 @@ returns-clause-ok c = merged c.args.books.now c.loop-rounds.gathering.cluster c.
 pub loop-rounds-smaller-in_ok-take : goal.loop-rounds-smaller-in_ok-take
 loop-rounds-smaller-in_ok-take c =
     let t = c.in_ok-take.ensures {u = tt} in
-    let found = subst (λ (o : Option Event). Finds (IsNextAmong c.loop-rounds.gathering.cluster c.args.books.now) o) c.in-Some.is (c.in_ok-event.ensures.next c.loop-rounds.invariant.gathering.numbered c.loop-rounds.invariant.waiting) in
+    let found = subst (λ (o : Option ClusterEvent). Finds (IsNextAmong c.loop-rounds.gathering.cluster c.args.books.now) o) c.in-Some.is (c.in_ok-event.ensures.next c.loop-rounds.invariant.gathering.numbered c.loop-rounds.invariant.waiting) in
     goes_less c.args.books.now c.loop-rounds.gathering.cluster c.take.new.self.cluster c.loop-rounds.gathering.numbers c.take.new.self.numbers c.loop-rounds.invariant.gathering c.in-Some.event found t.event.0 t.event.1
 
 pub loop-rounds-smaller : goal.loop-rounds-smaller
 loop-rounds-smaller c =
     let t = c.in_ok-take.ensures {u = tt} in
-    let found = subst (λ (o : Option Event). Finds (IsNextAmong c.loop-rounds.gathering.cluster c.args.books.now) o) c.in-Some.is (c.in_ok-event.ensures.next c.loop-rounds.invariant.gathering.numbered c.loop-rounds.invariant.waiting) in
+    let found = subst (λ (o : Option ClusterEvent). Finds (IsNextAmong c.loop-rounds.gathering.cluster c.args.books.now) o) c.in-Some.is (c.in_ok-event.ensures.next c.loop-rounds.invariant.gathering.numbered c.loop-rounds.invariant.waiting) in
     goes_less c.args.books.now c.loop-rounds.gathering.cluster c.take.new.self.cluster c.loop-rounds.gathering.numbers c.take.new.self.numbers c.loop-rounds.invariant.gathering c.in-Some.event found t.event.0 t.event.1
 
 pub loop-rounds-preserved-in_ok-take : goal.loop-rounds-preserved-in_ok-take
 loop-rounds-preserved-in_ok-take c =
     let t = c.in_ok-take.ensures {u = tt} in
-    let found = subst (λ (o : Option Event). Finds (IsNextAmong c.loop-rounds.gathering.cluster c.args.books.now) o) c.in-Some.is (c.in_ok-event.ensures.next c.loop-rounds.invariant.gathering.numbered c.loop-rounds.invariant.waiting) in
+    let found = subst (λ (o : Option ClusterEvent). Finds (IsNextAmong c.loop-rounds.gathering.cluster c.args.books.now) o) c.in-Some.is (c.in_ok-event.ensures.next c.loop-rounds.invariant.gathering.numbered c.loop-rounds.invariant.waiting) in
     let idle = c.in_ok-event.ensures.waiting c.loop-rounds.invariant.gathering.numbered c.loop-rounds.invariant.waiting in
     record {
       gathering = goes_on c.args.books.now c.loop-rounds.gathering.cluster c.take.new.self.cluster c.loop-rounds.gathering.numbers c.take.new.self.numbers c.loop-rounds.invariant.gathering c.in-Some.event found t.event.0 t.event.1 t.numbers;
@@ -45,7 +46,7 @@ loop-rounds-preserved-in_ok-take c =
 pub loop-rounds-preserved : goal.loop-rounds-preserved
 loop-rounds-preserved c =
     let t = c.in_ok-take.ensures {u = tt} in
-    let found = subst (λ (o : Option Event). Finds (IsNextAmong c.loop-rounds.gathering.cluster c.args.books.now) o) c.in-Some.is (c.in_ok-event.ensures.next c.loop-rounds.invariant.gathering.numbered c.loop-rounds.invariant.waiting) in
+    let found = subst (λ (o : Option ClusterEvent). Finds (IsNextAmong c.loop-rounds.gathering.cluster c.args.books.now) o) c.in-Some.is (c.in_ok-event.ensures.next c.loop-rounds.invariant.gathering.numbered c.loop-rounds.invariant.waiting) in
     let idle = c.in_ok-event.ensures.waiting c.loop-rounds.invariant.gathering.numbered c.loop-rounds.invariant.waiting in
     record {
       gathering = goes_on c.args.books.now c.loop-rounds.gathering.cluster c.take.new.self.cluster c.loop-rounds.gathering.numbers c.take.new.self.numbers c.loop-rounds.invariant.gathering c.in-Some.event found t.event.0 t.event.1 t.numbers;

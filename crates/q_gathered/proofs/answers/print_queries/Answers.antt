@@ -1,3 +1,4 @@
+-- print_queries: prints the recorded answers of a node's queries, by their numbers.
 use Rattle.std.proofs.Common.{rules, ◌≡◌, ◌+◌, ◌++◌, [], ◌∷◌, length, take, string_bytes}
 use Rattle.std.proofs.lemmas.List.{take_more, length-take}
 use Rattle.q_gathered.proofs.Answering.{more_answers}

@@ -1,3 +1,4 @@
+-- print_view: prints which stores a view has, by their nodes.
 use Rattle.std.proofs.Common.{◌≡◌, ◌++◌, List, ℕ, map, ap, ◌∙◌, flat_map, string_bytes}
 use Rattle.std.proofs.lemmas.Map.Iter.{iter_end}
 use Rattle.std.specs.FinMap as fin

@@ -1,3 +1,4 @@
+-- told: what the files with these names tell.
 use Rattle.std.proofs.Common.{map, string_bytes}
 use Rattle.q_gathered.proofs.Reading.{told_on, refused_on, file_refuses}
 use Rattle.q_gathered.specs.Files.{longest_journal}

@@ -1,3 +1,4 @@
+-- told_of: the same of the files with these names, of which this was read.
 use Rattle.std.proofs.Common.{ℕ, ◌++◌, List, inl, ap, ◌∙◌, subst, string_bytes}
 use Rattle.q_book.specs.State.{BookState}
 use Rattle.q_gather.specs.Gather.{AreRefused}

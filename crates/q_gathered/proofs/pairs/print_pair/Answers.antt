@@ -1,3 +1,4 @@
+-- print_pair: prints the least node where a store and a collect meet, or that there is none.
 use Rattle.std.proofs.Common.{string_bytes}
 use Rattle.q_gathered.proofs.Pairing.{one_pair}
 use Rattle.q_gathered.proofs.pairs.print_pair.Goals as goal

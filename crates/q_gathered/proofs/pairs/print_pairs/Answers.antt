@@ -1,3 +1,5 @@
+-- print_pairs: prints each pair of a store and a collect that have ended, whichever did first, by the order in
+-- which the stores and then the collects began: where they meet, or that they do not.
 use Rattle.std.proofs.Common.{rules, ◌≡◌, ◌+◌, ◌++◌, [], ◌∷◌, take, string_bytes}
 use Rattle.std.proofs.lemmas.List.{take_more}
 use Rattle.q_gathered.proofs.Pairing.{no_pairs, one_more_store}

@@ -1,3 +1,4 @@
+-- read_all: reads the files with these names in turn, up to the first that is refused.
 use Rattle.std.proofs.Common.{ℕ, ◌+◌, List, [], ◌∷◌, ◌++◌, map, take, drop, get_or, Bor, sym, subst, string_bytes}
 use Rattle.q_book.specs.State.{BookState}
 use Rattle.q_gathered.specs.Files.{AreSources, longest_journal}

@@ -1,3 +1,5 @@
+-- read_one: reads a file, prints its line, and answers the book of the longest beginning of its bytes that is a
+-- journal.
 use Rattle.std.proofs.Common.{ℕ, List, Ok, inl, sym, subst, string_bytes}
 use Rattle.q_gathered.proofs.Reading.{read_on, unread_on}
 use Rattle.q_gathered.specs.Files.{longest_journal}

@@ -1,3 +1,4 @@
+-- take_one: the same of the bytes that were read.
 use Rattle.std.proofs.Common.{inl, refl, string_bytes}
 use Rattle.q_gathered.proofs.Reading.{one_source}
 use Rattle.q_gathered.proofs.sources.take_one.Goals as goal

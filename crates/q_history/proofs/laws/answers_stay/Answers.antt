@@ -1,3 +1,4 @@
+-- answers_stay: a law: in every history a recorded answer stays as it is, whatever is accepted after it.
 use Rattle.q_history.proofs.EveryHistory.{every_stays}
 use Rattle.q_history.proofs.laws.answers_stay.Goals as goal
 

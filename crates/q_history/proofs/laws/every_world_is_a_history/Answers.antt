@@ -1,3 +1,5 @@
+-- every_world_is_a_history: a law: in every history the cluster's world is what its own accepted events made of its
+-- founders.
 use Rattle.q_history.proofs.EveryHistory.{every_world}
 use Rattle.q_history.proofs.laws.every_world_is_a_history.Goals as goal
 

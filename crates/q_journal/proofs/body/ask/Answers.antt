@@ -1,3 +1,4 @@
+-- ask: the body of an `ask` at the front of the bytes.
 use Rattle.std.proofs.Common.{refl, arith}
 use Rattle.q_journal.proofs.Exits.{no_form}
 use Rattle.q_journal.proofs.Bodies.{no_ask, ask_cut, ask_long, asked}

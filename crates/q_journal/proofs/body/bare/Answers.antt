@@ -1,3 +1,4 @@
+-- bare: an event with an empty body: a leave or a hand-out.
 use Rattle.q_journal.proofs.Exits.{no_form}
 use Rattle.q_journal.proofs.Bodies.{no_bare}
 use Rattle.q_journal.proofs.body.bare.Goals as goal

@@ -1,3 +1,4 @@
+-- deliver: the body of a `deliver` at the front of the bytes.
 use Rattle.std.proofs.lemmas.Result.{err_from_is_err_and}
 use Rattle.q_journal.specs.Reading.{IsNoBody}
 use Rattle.q_journal.proofs.Exits.{passed}

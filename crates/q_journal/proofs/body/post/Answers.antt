@@ -1,3 +1,4 @@
+-- post: the body of a `post` at the front of the bytes.
 use Rattle.std.proofs.Common.{refl, arith}
 use Rattle.q_journal.proofs.Exits.{no_form}
 use Rattle.q_journal.proofs.Bodies.{no_post, post_cut, post_cut_twice, post_long, posted}

@@ -1,3 +1,4 @@
+-- read_notes: the notes that the bytes spell in the form of that version.
 use Rattle.std.proofs.Common.{◌≡◌, List, Option, MatchResult, sym, subst}
 use Rattle.bq_state.specs.Kinds.{StateKinds}
 use Rattle.bq_check.specs.Spelling.{notes_bytes, IsNotes}

@@ -1,3 +1,4 @@
+-- register: the body of a `register` at the front of the bytes.
 use Rattle.std.proofs.Common.{refl}
 use Rattle.std.proofs.lemmas.Result.{err_from_is_err_and}
 use Rattle.q_journal.proofs.Exits.{no_form}

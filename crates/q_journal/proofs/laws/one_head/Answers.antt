@@ -1,3 +1,4 @@
+-- one_head: bytes begin with one head at most, which tells the version.
 use Rattle.q_journal.proofs.Fronts.{head_front}
 use Rattle.q_journal.proofs.laws.one_head.Goals as goal
 

@@ -1,3 +1,4 @@
+-- read_event: the event of that version with which the bytes begin, and what stands behind it.
 use Rattle.std.proofs.Common.{sym, ◌∙◌}
 use Rattle.std.proofs.lemmas.Result.{err_from_is_err_and}
 use Rattle.bq_check.specs.Spelling.{BeginsNone}

@@ -1,3 +1,5 @@
+-- read_head: the head with which the bytes begin, which tells the version of what stands behind it, and the bytes
+-- behind it.
 use Rattle.std.proofs.Common.{sym, ◌∙◌, option_map}
 use Rattle.std.proofs.lemmas.Result.{err_from_is_err_and}
 use Rattle.bq_check.specs.Spelling.{BeginsNone}

@@ -1,3 +1,4 @@
+-- push_due: puts letters of all questions that are due behind others.
 use Rattle.std.proofs.Common.{List, sym, subst}
 use Rattle.std.specs.List.{flat_map}
 use Rattle.std.proofs.lemmas.Grind.{flat_map-append}

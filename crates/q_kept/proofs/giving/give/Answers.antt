@@ -1,3 +1,4 @@
+-- give: gives the messages that wait as letters, in turn, up to the first for which memory is short.
 use Rattle.std.proofs.Common.{[]}
 use Rattle.q_kept.specs.Giving.{outbox}
 use Rattle.q_kept.proofs.Gifts.{adds_both, gives_all}

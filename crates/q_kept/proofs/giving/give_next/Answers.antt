@@ -1,3 +1,4 @@
+-- give_next: does the first message that waits, if one does: its letter stands behind others.
 use Rattle.std.proofs.Common.{◌∙◌, ap, refl, List, [], ◌∷◌, ◌++◌, map, filter}
 use Rattle.std.specs.Prelude.{slice_get}
 use Rattle.sc_msg.specs.declared.message.Message.{Message}

@@ -1,3 +1,4 @@
+-- held_books_grow: the book grows by each call under the lock, so what its file holds is of its journal still.
 use Rattle.q_kept.proofs.Growing.{asks_grow, hears_grow, leaves_grow, receives_grow, stores_grow}
 use Rattle.q_kept.proofs.Settling.{pumps_grow}
 use Rattle.q_kept.proofs.laws.held_books_grow.Goals as goal

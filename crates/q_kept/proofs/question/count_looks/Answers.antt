@@ -1,3 +1,4 @@
+-- count_looks: counts one look more at each question.
 use Rattle.std.proofs.Common.{◌∙◌, ap, set, sym}
 use Rattle.std.proofs.lemmas.List.Edits.{map_over_more}
 use Rattle.q_kept.specs.Questions.{looked_at}

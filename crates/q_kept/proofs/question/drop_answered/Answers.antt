@@ -1,3 +1,4 @@
+-- drop_answered: drops the questions that do not go again.
 use Rattle.std.proofs.Common.{rules}
 use Rattle.std.proofs.lemmas.Fn.{filter_same}
 use Rattle.q_kept.proofs.question.drop_answered.Goals as goal

@@ -1,3 +1,4 @@
+-- worked_asking: to whom a question goes, and at which looks.
 use Rattle.q_kept.proofs.Looks.{due_at, no_powers, not_due_at, powers}
 use Rattle.q_kept.proofs.worked.worked_asking.Goals as goal
 

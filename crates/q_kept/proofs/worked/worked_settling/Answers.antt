@@ -1,3 +1,4 @@
+-- worked_settling: what settling says, where the file was empty at first.
 use Rattle.std.proofs.Common.{[], Some}
 use Rattle.q_replay.specs.Journal.{journal_of}
 use Rattle.q_kept.proofs.Looks.{behind_none, none_given}

@@ -1,3 +1,4 @@
+-- tell_line: what a line tells whose call came to this.
 use Rattle.std.proofs.Common.{◌≡◌, ℕ, Some, sym, ap, subst}
 use Rattle.std.specs.Prelude.{not}
 use Rattle.q_lines.specs.Books.{own_book}

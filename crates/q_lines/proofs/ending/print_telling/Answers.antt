@@ -1,3 +1,5 @@
+-- print_telling: prints what the lines of a script tell, and then the refusal of nodes that make no cluster of the
+-- script.
 use Rattle.std.proofs.Common.{List, ℕ, subst}
 use Rattle.std.specs.Io.KnownBytes.{Appends}
 use Rattle.q_lines.proofs.Endings.{behind}

@@ -1,3 +1,4 @@
+-- find_all: what the lines tell whose calls came to these, in turn; none where the cluster lacks what one came to.
 use Rattle.std.proofs.Common.{rules, ◌≡◌, ◌+◌, List, [], ◌∷◌, ◌++◌, take, Option, refl, sym, subst}
 use Rattle.std.proofs.lemmas.List.{take_more}
 use Rattle.std.proofs.lemmas.Option.{slice_get_read}

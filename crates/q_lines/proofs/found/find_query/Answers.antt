@@ -1,3 +1,4 @@
+-- find_query: what a line tells that was answered with the query of this number.
 use Rattle.std.proofs.Common.{ℕ, sym, subst}
 use Rattle.q_session.specs.declared.query.Query.{Query}
 use Rattle.q_lines.specs.Lines.{Has, IsQueryOf}

@@ -1,3 +1,4 @@
+-- find_store: what a line tells that was answered with this tag.
 use Rattle.std.proofs.Common.{ℕ, List, sym, subst}
 use Rattle.sc_world.specs.declared.op.Op.{Op}
 use Rattle.q_lines.specs.Lines.{Has, IsStoreOf}

@@ -1,3 +1,4 @@
+-- has_program: whether the program with this id at the node is the one that these bytes spell.
 use Rattle.std.proofs.Common.{◌∙◌, ap, slice_get}
 use Rattle.q_desk.specs.State.{DeskState}
 use Rattle.q_lines.proofs.Finding.{program_tested}

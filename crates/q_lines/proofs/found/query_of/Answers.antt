@@ -1,3 +1,4 @@
+-- query_of: the phase of the query of this number at the node, if it asks for this program from this start.
 use Rattle.std.proofs.Common.{◌≡◌, ◌∙◌, List, refl, sym, ap, slice_get}
 use Rattle.std.proofs.lemmas.Bool.{eqb-true, eqb-false}
 use Rattle.std.proofs.lemmas.Option.{slice_get_read}

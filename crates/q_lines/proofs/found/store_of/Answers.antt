@@ -1,3 +1,4 @@
+-- store_of: the store of these bytes by the node under this tag.
 use Rattle.std.proofs.Common.{◌≡◌, List, subst}
 use Rattle.sc_world.specs.Records.{Among}
 use Rattle.sc_world.specs.declared.op.Op.{Op}

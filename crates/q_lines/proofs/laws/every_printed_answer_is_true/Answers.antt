@@ -1,3 +1,5 @@
+-- every_printed_answer_is_true: a law: of a run that ended with a gathered cluster, whatever the threads did and
+-- the network lost, repeated and reordered, each printed answer is right.
 use Rattle.q_lines.proofs.Truth.{all_true}
 use Rattle.q_lines.proofs.laws.every_printed_answer_is_true.Goals as goal
 

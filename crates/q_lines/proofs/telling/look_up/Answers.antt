@@ -1,3 +1,4 @@
+-- look_up: looks up in the cluster of the books what the calls came to.
 use Rattle.std.proofs.Common.{List, Option, Vec, Global, subst}
 use Rattle.std.specs.Prelude.{option_map}
 use Rattle.q_lines.specs.Found.{FindsAll}

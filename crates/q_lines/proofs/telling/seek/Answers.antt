@@ -1,3 +1,4 @@
+-- seek: gathers the books, and looks up in their cluster what the calls came to.
 use Rattle.q_lines.proofs.telling.seek.Goals as goal
 
 pub returns-in-Ok : goal.returns-in-Ok

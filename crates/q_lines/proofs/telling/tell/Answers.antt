@@ -1,3 +1,5 @@
+-- tell: what the lines tell of the cluster into which the books of the nodes gather, by what their calls came to;
+-- or, where there is no such cluster, of each node's own book, and the refusal.
 use Rattle.std.proofs.Common.{List, sym, subst}
 use Rattle.q_lines.specs.Found.{IsSought}
 use Rattle.q_lines.specs.Lines.{InTurn, IsTold}

@@ -1,3 +1,5 @@
+-- books_gather: a law: books of different nodes, whose answers are right and which agree on their heads, are
+-- gathered in one cluster where their steps merge.
 use Rattle.std.proofs.Common.{refl}
 use Rattle.q_history.specs.Clusters.{start}
 use Rattle.q_merge.proofs.Gathering.{step_goes, gathered}

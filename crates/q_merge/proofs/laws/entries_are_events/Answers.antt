@@ -1,3 +1,5 @@
+-- entries_are_events: a law of every history: an entry that the book of a node can take next, where what it wants
+-- was sent, is an event of the cluster.
 use Rattle.q_merge.proofs.Entries.{next_event, next_makes, enter_makes}
 use Rattle.q_merge.proofs.laws.entries_are_events.Goals as goal
 

@@ -1,3 +1,5 @@
+-- numbers_are_least: a law: where each message that is sent gets its number as it is sent, if it has none, each has
+-- its least number.
 use Rattle.sc_msg.specs.declared.version.Version.TheVariants.{Second}
 use Rattle.q_merge.proofs.Finding.{no_numbers, numbers_on}
 use Rattle.q_merge.proofs.laws.numbers_are_least.Goals as goal

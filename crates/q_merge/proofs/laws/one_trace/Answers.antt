@@ -1,3 +1,4 @@
+-- one_trace: a law: each book that is the replay of its journal has one trace.
 use Rattle.q_merge.proofs.Tracing.{trace_some, trace_one, traces_one}
 use Rattle.q_merge.proofs.laws.one_trace.Goals as goal
 

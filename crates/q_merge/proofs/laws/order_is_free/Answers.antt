@@ -1,3 +1,4 @@
+-- order_is_free: a law: whether lists of steps merge does not depend on which step goes first.
 use Rattle.q_merge.proofs.Merging.{merges_next, merges_stuck}
 use Rattle.q_merge.proofs.laws.order_is_free.Goals as goal
 

@@ -1,3 +1,4 @@
+-- answer: a question for an answer, behind its kind.
 use Rattle.std.proofs.Common.{[], ◌∷◌, refl}
 use Rattle.std.proofs.KnownBytes.{Consumes-nil}
 use Rattle.bq_check.specs.Spelling.{long_bytes}

@@ -1,3 +1,4 @@
+-- ask: a query, behind its kind.
 use Rattle.std.proofs.Common.{[], ◌∷◌, ◌++◌, refl, rules}
 use Rattle.bq_check.specs.Spelling.{short_bytes, long_bytes}
 use Rattle.std.proofs.KnownBytes.{Consumes-nil, Consumes-trans}

@@ -1,3 +1,4 @@
+-- read_next: the next request of an input to a book of that version, or how its requests end.
 use Rattle.std.proofs.Common.{[], ◌∷◌}
 use Rattle.q_net.proofs.Reading.{next_behind, got_kind}
 use Rattle.q_net.proofs.incoming.read_next.Goals as goal

@@ -1,3 +1,4 @@
+-- register: a registration, behind its kind.
 use Rattle.std.proofs.Common.{[], ◌∷◌, refl, sym}
 use Rattle.std.proofs.KnownBytes.{Consumes-nil}
 use Rattle.bq_check.specs.Spelling.{short_bytes}

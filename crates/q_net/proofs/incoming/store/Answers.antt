@@ -1,3 +1,4 @@
+-- store: a store, behind its kind.
 use Rattle.std.proofs.Common.{ℕ, List, [], ◌∷◌, refl}
 use Rattle.std.proofs.KnownBytes.{Consumes-nil}
 use Rattle.q_net.specs.Requests.{in_value}

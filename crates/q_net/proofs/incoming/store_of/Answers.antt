@@ -1,3 +1,4 @@
+-- store_of: a store of so many bytes, behind its kind.
 use Rattle.std.proofs.Common.{ℕ, List, [], ◌∷◌, refl, rules, arith}
 use Rattle.std.proofs.KnownBytes.{Consumes-nil}
 use Rattle.q_net.specs.Requests.{value_length, in_bytes}

@@ -1,3 +1,4 @@
+-- pass_over: so many bytes, passed over.
 use Rattle.std.proofs.Common.{rules}
 use Rattle.q_net.proofs.Reading.{blob_failed, then_failed, passed_byte}
 use Rattle.q_net.proofs.pieces.pass_over.Goals as goal

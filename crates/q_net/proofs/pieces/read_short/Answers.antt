@@ -1,3 +1,4 @@
+-- read_short: the number of the next four bytes; none where the input ends before them.
 use Rattle.std.proofs.Common.{arith, sym, subst}
 use Rattle.std.specs.Io.KnownBytes.{Consumes}
 use Rattle.q_net.proofs.Reading.{whole_of}

@@ -1,9 +1,10 @@
+-- ask: a query.
 use Rattle.std.proofs.Common.{ℕ, [], Err, refl, sym, ap, ◌∙◌, subst, append-nil}
 use Rattle.reasons.specs.Table.{number}
 use Rattle.forms.specs.Calls.{Steps}
 use Rattle.q_book.specs.Books.{asked}
 use Rattle.q_book.specs.Faults.{memory}
-use Rattle.q_net.specs.declared.reply.Reply.TheVariants.{Refused}
+use Rattle.q_net.specs.declared.replies.Reply.TheVariants.{Refused}
 use Rattle.q_net.proofs.served.ask.Goals as goal
 
 pub returns-in-Err : goal.returns-in-Err

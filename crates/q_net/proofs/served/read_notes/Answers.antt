@@ -1,3 +1,4 @@
+-- read_notes: the notes that bytes spell in the form of the book's version.
 use Rattle.std.proofs.Common.{sym, ap, ◌∙◌, subst}
 use Rattle.bq_check.specs.Spelling.{IsNotes, notes_bytes}
 use Rattle.sc_msg.specs.declared.version.Version.{Version}

@@ -1,3 +1,4 @@
+-- register: registers the text with the notes that these bytes spell.
 use Rattle.std.proofs.Common.{sym, ap, ◌∙◌, subst}
 use Rattle.bq_insn.specs.Slots.{spelling}
 use Rattle.bq_check.specs.Spelling.{notes_bytes, IsNotes}

@@ -1,3 +1,4 @@
+-- reply: does what a request asks, and puts the messages of the book behind those that were sent.
 use Rattle.std.proofs.Common.{refl}
 use Rattle.q_net.proofs.Replied.{none_sent, registers_replies, asks_nothing, store_replies, store_of_replies}
 use Rattle.q_net.proofs.served.reply.Goals as goal

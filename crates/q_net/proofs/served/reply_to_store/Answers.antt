@@ -1,3 +1,4 @@
+-- reply_to_store: the same, where there may be no room.
 use Rattle.q_net.proofs.Replied.{none_sent, stores_nothing}
 use Rattle.q_net.proofs.served.reply_to_store.Goals as goal
 

@@ -1,6 +1,7 @@
+-- store: a store of these bytes.
 use Rattle.std.proofs.Common.{[], Err, refl, sym, ap, ◌∙◌, append-nil}
 use Rattle.reasons.specs.Table.{number}
-use Rattle.q_net.specs.declared.reply.Reply.TheVariants.{Refused}
+use Rattle.q_net.specs.declared.replies.Reply.TheVariants.{Refused}
 use Rattle.q_net.proofs.served.store.Goals as goal
 
 pub returns-in-Err : goal.returns-in-Err

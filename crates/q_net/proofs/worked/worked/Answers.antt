@@ -1,10 +1,11 @@
+-- worked: what the definitions say at telling operands.
 use Rattle.std.proofs.Common.{◌≡◌, ◌%◌, [], ◌∷◌, ◌++◌, length, get_or, Option, None, Some, refl, sym, ap, lit<, arith}
 use Rattle.std.proofs.lemmas.List.{length-append}
 use Rattle.bq_check.specs.Spelling.{short_bytes}
 use Rattle.q_net.specs.Requests.{in_bytes}
 use Rattle.q_net.specs.Serves.{last_reply}
-use Rattle.q_net.specs.declared.request.Stop.{Stop}
-use Rattle.q_net.specs.declared.request.Stop.TheVariants.{Unknown, Cut, LongText, LongNotes}
+use Rattle.q_net.specs.declared.request.StreamEnd.{StreamEnd}
+use Rattle.q_net.specs.declared.request.StreamEnd.TheVariants.{Unknown, Cut, LongText, LongNotes}
 use Rattle.q_net.proofs.worked.worked.Goals as goal
 
 pub returns-clause-answer_of_that_query : goal.returns-clause-answer_of_that_query
@@ -30,7 +31,7 @@ returns-clause-cut_in_a_value c = λ version. record { place = in_bytes 2; allow
 pub returns-clause-fifth_kind : goal.returns-clause-fifth_kind
 returns-clause-fifth_kind c = λ version h. h.6 (sym (ap (λ xs. get_or xs 0 0) h.1))
 
-no_99 : (ended : Option Stop) → last_reply ended ≡ 99 ∷ [] → ⊥
+no_99 : (ended : Option StreamEnd) → last_reply ended ≡ 99 ∷ [] → ⊥
 no_99 None e = let n : 0 ≡ 1 = ap length e in omega (arith, n)
 no_99 (Some Unknown) e = let n : 84 ≡ 99 = ap (λ xs. get_or xs 0 0) e in omega (arith, n)
 no_99 (Some Cut) e = let n : 85 ≡ 99 = ap (λ xs. get_or xs 0 0) e in omega (arith, n)

@@ -1,3 +1,4 @@
+-- run_bytes: the same of bytes, which may be no text.
 use Rattle.std.proofs.Common.{ℕ, List, inl, subst}
 use Rattle.q_node.specs.Files.{RunsText}
 use Rattle.q_node.proofs.command.run_bytes.Goals as goal

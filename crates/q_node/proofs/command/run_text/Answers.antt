@@ -1,3 +1,4 @@
+-- run_text: runs the node of the file that a text spells.
 use Rattle.std.proofs.Common.{inl}
 use Rattle.q_node.proofs.command.run_text.Goals as goal
 

@@ -1,3 +1,4 @@
+-- run_begun: runs a node that was just begun, to its end.
 use Rattle.q_node.proofs.run.run_begun.Goals as goal
 
 pub returns-clause-written : goal.returns-clause-written

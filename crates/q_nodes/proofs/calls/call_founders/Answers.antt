@@ -1,3 +1,4 @@
+-- call_founders: founds the nodes of a script, whose board this is, and makes the calls of its lines.
 use Rattle.std.proofs.Common.{◌∙◌, ℕ, length, sym, ap}
 use Rattle.q_nodes.proofs.Counts.{ids_many}
 use Rattle.q_nodes.proofs.calls.call_founders.Goals as goal

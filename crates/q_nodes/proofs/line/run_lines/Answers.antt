@@ -1,3 +1,4 @@
+-- run_lines: makes the calls of the lines in turn, and waits for the end of what they begin: what each came to.
 use Rattle.std.proofs.Common.{rules, ◌≡◌, ◌+◌, List, [], ◌∷◌, ◌++◌, take, sym, subst}
 use Rattle.std.proofs.lemmas.List.{take_more}
 use Rattle.q_lines.specs.Lines.{ComesTo, InTurn}

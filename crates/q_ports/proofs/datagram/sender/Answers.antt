@@ -1,3 +1,4 @@
+-- sender: the sender that a message's bytes name, in either version.
 use Rattle.std.proofs.Common.{ap, ◌∙◌}
 use Rattle.std.proofs.lemmas.List.{take_rest}
 use Rattle.sc_msg.specs.Numbers.{first_number}

@@ -1,3 +1,4 @@
+-- worked: what the definitions say at telling datagrams.
 use Rattle.std.proofs.Common.{refl, arith}
 use Rattle.sc_msg.specs.Numbers.{first_number}
 use Rattle.q_ports.proofs.worked.worked.Goals as goal

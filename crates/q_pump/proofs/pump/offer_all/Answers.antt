@@ -1,3 +1,4 @@
+-- offer_all: hands out jobs and offers them, until the row is full or no query is ready.
 use Rattle.std.proofs.Common.{ℕ, Bool, sym, subst, add-one}
 use Rattle.q_pump.specs.Turns.{OffersNext, Offering}
 use Rattle.q_pump.proofs.Turning.{offers_one}

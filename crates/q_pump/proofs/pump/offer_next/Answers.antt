@@ -1,3 +1,4 @@
+-- offer_next: hands out the next job and offers it.
 use Rattle.std.proofs.Common.{◌∙◌, ap, Option, Result, Ok}
 use Rattle.q_session.specs.declared.job.Job.{Job}
 use Rattle.q_book.specs.State.{BookState}

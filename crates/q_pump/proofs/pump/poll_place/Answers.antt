@@ -1,3 +1,4 @@
+-- poll_place: looks at the slot at a place of the row, if it is open, and posts its result.
 use Rattle.std.proofs.Common.{true, false, sym}
 use Rattle.q_pump.proofs.Turning.{polls_received}
 use Rattle.q_pump.proofs.pump.poll_place.Goals as goal

@@ -1,3 +1,4 @@
+-- pump_once: looks once at each slot that is open, in turn, and posts each result that waits there.
 use Rattle.q_pump.proofs.Pumping.{pumps, stops_offering, stops_receiving}
 use Rattle.q_pump.proofs.pump.pump_once.Goals as goal
 

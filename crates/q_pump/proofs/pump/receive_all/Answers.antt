@@ -1,3 +1,4 @@
+-- receive_all: looks once at each slot that is open, and posts what it receives.
 use Rattle.std.proofs.Common.{◌≡◌, ℕ, ◌+◌, ◌∙◌, arith, sym, subst}
 use Rattle.q_pump.specs.Turns.{Receiving}
 use Rattle.q_pump.proofs.Turning.{begins_receiving, polled, one_if, one_if_is, one_if_small}

@@ -1,3 +1,4 @@
+-- check_result: whether the result of this job may be recorded at this node, which has these programs and queries.
 use Rattle.std.proofs.Common.{◌≡◌, ℕ, Some, refl, sym, ap, ◌∙◌}
 use Rattle.std.proofs.lemmas.Option.{slice_get_read}
 use Rattle.std.specs.Prelude.{slice_get}

@@ -1,3 +1,4 @@
+-- next_job: the job of the ready query with the least number, of this node; none where no query is ready.
 use Rattle.std.proofs.Common.{◌≡◌, Option, sym, subst, refl}
 use Rattle.std.proofs.lemmas.Option.{slice_get_read}
 use Rattle.std.specs.Prelude.{IfOk}

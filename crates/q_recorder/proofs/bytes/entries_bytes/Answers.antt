@@ -1,3 +1,4 @@
+-- entries_bytes: the entries of a book's journal behind the first so many: none where it has no more.
 use Rattle.std.proofs.Common.{◌∙◌, ap, drop, List}
 use Rattle.q_desk.specs.declared.journal.Entry.{Entry}
 use Rattle.q_journal.specs.Writing.{JournalBytes}

@@ -1,3 +1,4 @@
+-- books_grow: a book grows by each call that it accepts.
 use Rattle.q_recorder.proofs.Growing.{grows_none, grows_again, grows_call, grows_calls}
 use Rattle.q_recorder.proofs.laws.books_grow.Goals as goal
 

@@ -1,3 +1,4 @@
+-- worked: what the definitions say at telling operands, of a book whose journal is a hand-out and a leave.
 use Rattle.std.proofs.Common.{[], ◌∷◌}
 use Rattle.q_desk.specs.declared.journal.Entry.TheVariants as entry
 use Rattle.q_recorder.proofs.LeftOut.{no_hole}

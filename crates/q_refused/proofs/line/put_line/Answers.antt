@@ -1,3 +1,5 @@
+-- put_line: writes the line of a refusal: the number and the name of its reason, and where it arose if the line
+-- tells that.
 use Rattle.std.proofs.KnownBytes.{Appends-trans}
 use Rattle.q_refused.proofs.Parts.{behind, behind_last, on_err}
 use Rattle.q_refused.proofs.line.put_line.Goals as goal

@@ -1,3 +1,4 @@
+-- put_numbered: writes a number behind words.
 use Rattle.q_refused.proofs.Parts.{behind_last}
 use Rattle.q_refused.proofs.line.put_numbered.Goals as goal
 

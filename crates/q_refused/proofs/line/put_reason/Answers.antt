@@ -1,3 +1,4 @@
+-- put_reason: writes a reason's number and its name, with a space between.
 use Rattle.std.proofs.KnownBytes.{Appends-trans}
 use Rattle.q_refused.proofs.Parts.{behind, behind_last, on_err}
 use Rattle.q_refused.proofs.line.put_reason.Goals as goal

@@ -1,3 +1,4 @@
+-- hand_out: where no query is ready, nothing is handed out, and no entry says so.
 use Rattle.std.proofs.Common.{Option, Result, Ok, ap, ◌∙◌}
 use Rattle.q_session.specs.declared.job.Job.{Job}
 use Rattle.q_book.specs.State.{BookState}

@@ -1,3 +1,4 @@
+-- post: the job of the query is run anew over the block, and its answer compared.
 use Rattle.std.proofs.Common.{◌≡◌, ap, refl, sym, ◌∙◌}
 use Rattle.q_session.specs.declared.ran.Ran.{Ran}
 use Rattle.q_desk.specs.declared.journal.Entry.TheVariants as entry

@@ -1,3 +1,4 @@
+-- register: the notes are checked anew, for the records of the book's views.
 use Rattle.std.proofs.Common.{rules, ◌≡◌, sym, ap, ◌∙◌, subst}
 use Rattle.bq_check.specs.Certificate.{Certificate}
 use Rattle.bq_check.specs.Certified.{IsCertified}

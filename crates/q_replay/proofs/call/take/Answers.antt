@@ -1,3 +1,4 @@
+-- take: makes the call that an event names.
 use Rattle.std.proofs.Common.{sym}
 use Rattle.q_desk.specs.declared.journal.Entry.TheVariants as entry
 use Rattle.q_replay.proofs.Calling.{taking}

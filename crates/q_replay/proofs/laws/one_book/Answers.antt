@@ -1,3 +1,4 @@
+-- one_book: a journal is that of one book at most.
 use Rattle.q_replay.proofs.Firsts.{book_one}
 use Rattle.q_replay.proofs.laws.one_book.Goals as goal
 

@@ -1,3 +1,4 @@
+-- one_fault: bytes have one fault at most besides want of memory, and a journal of a book has none.
 use Rattle.q_replay.proofs.Firsts.{fault_one, fault_none}
 use Rattle.q_replay.proofs.laws.one_fault.Goals as goal
 

@@ -1,3 +1,4 @@
+-- journal_bytes: the journal of a book as bytes of its version: the only bytes of which `replay` makes this book.
 use Rattle.std.proofs.Common.{rules}
 use Rattle.q_replay.proofs.Writing.{checked_at}
 use Rattle.q_replay.proofs.write.journal_bytes.Goals as goal

@@ -1,3 +1,4 @@
+-- run_some: tries this many slots, in turn from where the seat left off.
 use Rattle.std.proofs.Common.{◌≡◌, ◌++◌, ◌∷◌, [], ◌+◌, ◌∙◌, ℕ, List, ap, arith, subst}
 use Rattle.q_session.specs.Done.{Finished}
 use Rattle.q_board.specs.RunnerModel.{RunnerModel}

@@ -1,3 +1,5 @@
+-- is_job_of: whether the job is that of a query which runs over this view: its program, its start value and its
+-- view are the query's.
 use Rattle.std.proofs.Common.{◌≡◌, Some, rules, sym, subst, ◌∙◌}
 use Rattle.std.specs.Prelude.{slice_get}
 use Rattle.bq_check.specs.Certified.{IsCertified}

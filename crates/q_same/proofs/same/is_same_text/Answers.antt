@@ -1,3 +1,4 @@
+-- is_same_text: whether two texts have the same instructions.
 use Rattle.std.proofs.Common.{◌≡◌, ◌<◌, None, get_or, List, ap, sym, ◌∙◌, arith}
 use Rattle.std.proofs.lemmas.Bool.{false≢true}
 use Rattle.bq_insn.specs.declared.insn.Insn.{Insn}

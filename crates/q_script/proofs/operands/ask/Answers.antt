@@ -1,3 +1,4 @@
+-- ask: the operands of a line `ask`.
 use Rattle.std.proofs.lemmas.Result.{err_from_is_err_and}
 use Rattle.q_script.specs.Line.{IsAsk}
 use Rattle.q_script.specs.Words.{IsPair}

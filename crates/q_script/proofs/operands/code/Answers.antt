@@ -1,3 +1,4 @@
+-- code: the bytes that hexadecimal digits spell, one byte at least.
 use Rattle.std.proofs.Common.{◌≡◌, ℕ, zero, suc, ◌≤◌, length, refl, arith}
 use Rattle.q_script.proofs.Faults.{not_empty}
 use Rattle.q_script.proofs.Values.{code_judged}

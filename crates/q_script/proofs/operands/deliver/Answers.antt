@@ -1,3 +1,4 @@
+-- deliver: the operands of a line `deliver`.
 use Rattle.std.proofs.lemmas.Result.{err_from_is_err_and}
 use Rattle.q_script.specs.Line.{IsDeliver}
 use Rattle.q_script.specs.Words.{IsPair}

@@ -1,3 +1,4 @@
+-- is_word: one byte at least, and no space.
 use Rattle.q_script.proofs.Events.{no_word}
 use Rattle.q_script.proofs.operands.is_word.Goals as goal
 

@@ -1,3 +1,4 @@
+-- journal: the operands of a line `journal`.
 use Rattle.q_script.proofs.Events.{not_journal, no_file}
 use Rattle.q_script.proofs.operands.journal.Goals as goal
 

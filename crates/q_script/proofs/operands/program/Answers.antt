@@ -1,3 +1,4 @@
+-- program: the operands of a line `program`.
 use Rattle.q_script.proofs.Events.{not_program, code_fault}
 use Rattle.q_script.proofs.operands.program.Goals as goal
 

@@ -1,3 +1,4 @@
+-- store: the operands of a line `store`.
 use Rattle.std.proofs.Common.{ℕ}
 use Rattle.std.specs.Prelude.{Vec}
 use Rattle.std.specs.declared.alloc.Global.{Global}

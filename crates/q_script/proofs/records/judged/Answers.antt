@@ -1,3 +1,4 @@
+-- judged: the record of a line behind the record with this id, or behind none.
 use Rattle.std.proofs.Common.{rules, ◌≡◌, ◌+◌, ◌<◌, length, arith, subst}
 use Rattle.bq_range.specs.Interval.{IsIn}
 use Rattle.q_script.specs.Records.{IsAbove, IsReadAs}

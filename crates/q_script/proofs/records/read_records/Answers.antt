@@ -1,3 +1,4 @@
+-- read_records: the view of the records that a text lists.
 use Rattle.std.proofs.Common.{rules, ℕ, ◌+◌, List, [], ◌∷◌, ◌++◌, length, Some, map, Bor, ap, sym, ◌∙◌, subst, arith, refl}
 use Rattle.std.specs.FinMap as fin
 use Rattle.std.proofs.lemmas.List.{map_push}

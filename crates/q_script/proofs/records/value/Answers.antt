@@ -1,3 +1,4 @@
+-- value: the value that a text spells.
 use Rattle.std.proofs.Common.{lit<, subst, sym}
 use Rattle.std.proofs.lemmas.Str.Pattern.{strip_prefix_char}
 use Rattle.q_script.specs.Records.{IsValue, ReadsValue}

@@ -1,3 +1,4 @@
+-- read_lines: what these lines spell, of which the first is line 2 of a script.
 use Rattle.std.proofs.Common.{ℕ, List, map, Bor, sym, ◌∙◌, subst, arith}
 use Rattle.std.specs.List.{AllZip}
 use Rattle.std.proofs.lemmas.List.{map_push}

@@ -1,3 +1,4 @@
+-- read_script: the founding that a text spells on its first line, and the lines behind it.
 use Rattle.q_script.specs.Script.{IsFaultOf}
 use Rattle.q_script.proofs.Scripts.{passed_on, fault_alone, fault_first, fault_later, script_alone, script_is}
 use Rattle.q_script.proofs.script.read_script.Goals as goal

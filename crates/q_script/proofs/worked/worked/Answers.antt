@@ -1,3 +1,4 @@
+-- worked: what the definitions say of telling numbers, lines, scripts and records.
 use Rattle.std.proofs.Common.{◌≡◌, ℕ, List, ◌∷◌, ◌++◌, length, get_or, drop, codes, Ok, refl, ap, sym, ◌∙◌, inl, inr, lit<, arith}
 use Rattle.std.specs.Fmt.{digits}
 use Rattle.hex.specs.Hex.{decode_of}

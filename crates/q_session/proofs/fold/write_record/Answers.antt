@@ -1,3 +1,4 @@
+-- write_record: the bytes of an entry, which are put first; how many they are is answered.
 use Rattle.std.proofs.Common.{◌∙◌, ◌+◌, ◌-◌, ◌++◌, List, ℕ, length, sym, ap, take}
 use Rattle.std.specs.Int.{w64, to_le_bytes}
 use borrow.Rule.Slice.PartMut.{put_mid, post_of}

@@ -1,3 +1,4 @@
+-- records_of_values: values make records of 16 bytes more.
 use Rattle.std.proofs.Common.{length, arith}
 use Rattle.sc_view.specs.Values.{IsWithin}
 use Rattle.q_session.proofs.laws.records_of_values.Goals as goal

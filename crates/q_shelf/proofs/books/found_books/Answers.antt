@@ -1,3 +1,4 @@
+-- found_books: the book of each founder, of that version.
 use Rattle.std.proofs.Common.{◌∙◌, sym, ap, subst, Result, Err}
 use Rattle.std.proofs.lemmas.Result.{err_from_is_err_and}
 use Rattle.sc_world.proofs.Acting.{has_at}

@@ -1,3 +1,4 @@
+-- print_messages: prints the messages that an accepted event sent, in the order of their numbers.
 use Rattle.std.proofs.Common.{rules, ◌≡◌, ◌∙◌, ◌+◌, ◌-◌, ◌++◌, min, length, string_bytes, ap, sym, append_assoc}
 use Rattle.q_sim.specs.Printing.{message_line, message_lines}
 use Rattle.q_sim.proofs.Lines.{more_lines, enough_lines}

@@ -1,3 +1,4 @@
+-- print_pair: prints the least node where a store and a collect meet, or that there is none.
 use Rattle.std.proofs.Common.{string_bytes}
 use Rattle.q_sim.proofs.Told.{one_pair}
 use Rattle.q_sim.proofs.printing.print_pair.Goals as goal

@@ -1,3 +1,4 @@
+-- print_pairs_with: prints the pairs of a store.
 use Rattle.std.proofs.Common.{rules, ◌≡◌, ◌+◌, ◌++◌, [], ◌∷◌, take, string_bytes, List, ℕ, subst, sym, ap}
 use Rattle.std.proofs.lemmas.List.{take_more}
 use Rattle.q_sim.specs.Printing.{AddsPairs, pairs_with}

@@ -1,3 +1,4 @@
+-- put_id: puts an id among ids that rise.
 use Rattle.std.proofs.Common.{◌≡◌, ◌∙◌, sym, subst}
 use Rattle.q_sim.specs.Simulates.{Rises, with_id}
 use Rattle.q_sim.proofs.Ids.{found, put_there, still_rise}

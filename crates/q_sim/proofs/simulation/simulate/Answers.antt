@@ -1,3 +1,4 @@
+-- simulate: runs a script, and answers what it prints.
 use Rattle.std.proofs.Common.{arith, length, length-append, ◌≡◌, ◌+◌, ◌∙◌, ◌++◌, ◌∷◌, [], ℕ, List, string_bytes, refl, sym, ap, subst}
 use Rattle.std.specs.Vec.Iter.{into_iter_len}
 use Rattle.std.proofs.lemmas.List.{map-id}

@@ -1,3 +1,5 @@
+-- worked: what the definitions say of programs, deliveries, refusals, printed lines and scripts, over files in
+-- memory.
 use Rattle.std.proofs.Common.{◌≡◌, ◌+◌, ◌++◌, append-nil, length, true≢false, refl, ap, sym, ◌∙◌, inl, inr, subst, arith}
 use Rattle.std.specs.FinSet as set
 use Rattle.std.specs.Fmt.{digits}
@@ -5,7 +7,7 @@ use Rattle.bq_insn.specs.Fields.{unit_bytes}
 use Rattle.bq_insn.specs.Slots.{spelling}
 use Rattle.q_files.specs.Memory.{Writes}
 use Rattle.q_history.specs.Calls.{Takes}
-use Rattle.q_history.specs.declared.event.Event.TheVariants as event
+use Rattle.q_history.specs.declared.event.ClusterEvent.TheVariants as event
 use Rattle.q_sim.specs.Delivered.{pair_cmp}
 use Rattle.q_sim.specs.Simulates.{SavesAny, SimState, Tries}
 use Rattle.q_sim.specs.Truths.{IsTrueAnswer}

@@ -1,3 +1,4 @@
+-- asm_command: the command `asm`.
 use Rattle.q_words.proofs.words.asm_command.Goals as goal
 
 pub returns : goal.returns

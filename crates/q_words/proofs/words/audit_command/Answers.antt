@@ -1,3 +1,4 @@
+-- audit_command: the command `audit`.
 use Rattle.q_words.proofs.words.audit_command.Goals as goal
 
 pub returns : goal.returns

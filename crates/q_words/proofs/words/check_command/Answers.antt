@@ -1,3 +1,4 @@
+-- check_command: the command `check`.
 use Rattle.q_words.proofs.words.check_command.Goals as goal
 
 pub returns : goal.returns

@@ -1,3 +1,4 @@
+-- client_command: the command `client`.
 use Rattle.q_words.proofs.words.client_command.Goals as goal
 
 pub returns : goal.returns

@@ -1,3 +1,4 @@
+-- cluster_command: the command `cluster`.
 use Rattle.q_words.proofs.words.cluster_command.Goals as goal
 
 pub returns : goal.returns

@@ -1,3 +1,4 @@
+-- dis_command: the command `dis`.
 use Rattle.q_words.proofs.words.dis_command.Goals as goal
 
 pub returns : goal.returns

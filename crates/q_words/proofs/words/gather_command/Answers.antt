@@ -1,3 +1,4 @@
+-- gather_command: the command `gather`.
 use Rattle.q_words.proofs.words.gather_command.Goals as goal
 
 pub returns : goal.returns

@@ -1,3 +1,4 @@
+-- given_words: the words of the command line that the system gives, of which the first is the program's name.
 use Rattle.std.proofs.Common.{rules, refl}
 use Rattle.std.proofs.lemmas.Iterator.{items_from_collect}
 use Rattle.std.proofs.lemmas.Iterator.Adapters.{YieldsList-from_vec}

@@ -1,3 +1,4 @@
+-- lengths: the lengths of records that were given, if they are some.
 use Rattle.std.proofs.Common.{rules, ◌≡◌, Some}
 use Rattle.clap.specs.Words.{found_of, rows_of}
 use Rattle.q_words.proofs.Commands.{lengths_read, were_given}

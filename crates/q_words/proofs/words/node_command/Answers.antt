@@ -1,3 +1,4 @@
+-- node_command: the command `node`.
 use Rattle.q_words.proofs.words.node_command.Goals as goal
 
 pub returns : goal.returns

@@ -1,3 +1,4 @@
+-- operand_text: the text of an operand.
 use Rattle.std.proofs.Common.{◌∙◌, refl}
 use Rattle.clap.specs.Words.{found_of}
 use Rattle.clap.proofs.WalkLemmas.{first_value-rows}

@@ -1,3 +1,4 @@
+-- operand_texts: the texts of an operand of which there may be several.
 use Rattle.std.proofs.Common.{rules, ◌∙◌}
 use Rattle.clap.specs.Words.{found_of}
 use Rattle.clap.proofs.WalkLemmas.{raw_values-rows}

@@ -1,3 +1,4 @@
+-- optional_text: the text of an option that may be left out, if it was given.
 use Rattle.std.proofs.Common.{◌∙◌}
 use Rattle.clap.specs.Words.{found_of}
 use Rattle.clap.proofs.WalkLemmas.{first_value-rows}

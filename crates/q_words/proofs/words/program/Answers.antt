@@ -1,3 +1,4 @@
+-- program: the program's command line.
 use Rattle.q_words.proofs.words.program.Goals as goal
 
 pub returns : goal.returns

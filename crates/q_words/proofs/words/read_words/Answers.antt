@@ -1,3 +1,4 @@
+-- read_words: reads the words of the command line, of which the first is the program's name.
 use Rattle.std.proofs.Common.{rules, ◌≡◌, map, Ok, ap, sym, codes, refl, true, true≢false}
 use Rattle.clap.specs.Words.{App, app_of, found_of, rows_of}
 use Rattle.clap.specs.Matches.{has_subcommand}

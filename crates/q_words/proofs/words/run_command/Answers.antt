@@ -1,3 +1,4 @@
+-- run_command: the command `run`.
 use Rattle.q_words.proofs.words.run_command.Goals as goal
 
 pub returns : goal.returns

@@ -1,3 +1,4 @@
+-- sim_command: the command `sim`.
 use Rattle.q_words.proofs.words.sim_command.Goals as goal
 
 pub returns : goal.returns

@@ -1,3 +1,4 @@
+-- with_bytes: the command, if there is one, with the flag `--bytes`.
 use Rattle.q_words.proofs.words.with_bytes.Goals as goal
 
 pub returns : goal.returns

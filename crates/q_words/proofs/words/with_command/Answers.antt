@@ -1,3 +1,4 @@
+-- with_command: the command with one more command below it, if there are both.
 use Rattle.std.proofs.Common.{subst}
 use Rattle.q_words.specs.Words.{Has}
 use Rattle.q_words.proofs.Commands.{below_one_more}

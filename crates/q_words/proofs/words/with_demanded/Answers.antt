@@ -1,3 +1,4 @@
+-- with_demanded: the command, if there is one, with one more option, which must be given.
 use Rattle.std.proofs.Common.{rules, subst}
 use Rattle.q_words.specs.Words.{Has}
 use Rattle.q_words.proofs.Commands.{with_one_more}

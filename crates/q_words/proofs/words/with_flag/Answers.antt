@@ -1,3 +1,4 @@
+-- with_flag: the command, if there is one, with one more flag.
 use Rattle.std.proofs.Common.{rules, subst}
 use Rattle.q_words.specs.Words.{Has}
 use Rattle.q_words.proofs.Commands.{with_one_more}

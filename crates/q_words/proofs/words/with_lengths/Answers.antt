@@ -1,3 +1,4 @@
+-- with_lengths: the command, if there is one, with the options `--least` and `--most`.
 use Rattle.q_words.proofs.words.with_lengths.Goals as goal
 
 pub returns : goal.returns

@@ -1,3 +1,4 @@
+-- with_operand: the command, if there is one, with one more operand, which must be there.
 use Rattle.std.proofs.Common.{rules, subst}
 use Rattle.q_words.specs.Words.{Has}
 use Rattle.q_words.proofs.Commands.{with_one_more}

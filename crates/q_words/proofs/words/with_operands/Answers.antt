@@ -1,3 +1,5 @@
+-- with_operands: the command, if there is one, with one more operand, of which there may be several, and must be
+-- one.
 use Rattle.std.proofs.Common.{rules, subst}
 use Rattle.q_words.specs.Words.{Has}
 use Rattle.q_words.proofs.Commands.{with_one_more}

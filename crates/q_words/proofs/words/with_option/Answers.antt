@@ -1,3 +1,5 @@
+-- with_option: the command, if there is one, with one more option, which stands for `default` where it is not
+-- given.
 use Rattle.std.proofs.Common.{rules, subst}
 use Rattle.q_words.specs.Words.{Has}
 use Rattle.q_words.proofs.Commands.{with_one_more}

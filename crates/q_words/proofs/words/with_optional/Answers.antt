@@ -1,3 +1,4 @@
+-- with_optional: the command, if there is one, with one more option, which may be left out.
 use Rattle.std.proofs.Common.{rules, subst}
 use Rattle.q_words.specs.Words.{Has}
 use Rattle.q_words.proofs.Commands.{with_one_more}

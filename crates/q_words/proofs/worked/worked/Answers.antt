@@ -1,3 +1,5 @@
+-- worked: which command each word names, with its operands and its flag, and which numbers are the lengths of
+-- records.
 use Rattle.std.proofs.Common.{refl}
 use Rattle.clap.proofs.OnLiterals.{clap_on_literals}
 use Rattle.q_words.proofs.worked.worked.Goals as goal

@@ -1,3 +1,4 @@
+-- Reason::all: each reason, in the order of numbers.
 use Rattle.std.proofs.Common.{arith, refl, ◌∷◌, []}
 use Rattle.reasons.proofs.Rising.{rising}
 use Rattle.reasons.specs.declared.Reason.TheVariants as why

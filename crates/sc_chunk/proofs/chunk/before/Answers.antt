@@ -1,0 +1,1 @@
+-- before: how many entries stand before the first that has this id or a larger one.

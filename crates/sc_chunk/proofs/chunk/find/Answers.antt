@@ -1,3 +1,4 @@
+-- find: the value at an id, of entries in rising order.
 use Rattle.std.proofs.Common.{◌≤◌, Some, length, sym, ap, subst, ◌∙◌}
 use Rattle.sc_chunk.proofs.EntryLemmas.{find_found, find_other, find_past}
 use Rattle.sc_chunk.proofs.chunk.find.Goals as goal

@@ -1,3 +1,4 @@
+-- put_in: learns an entry among others, where there is room.
 use Rattle.std.proofs.Common.{◌≡◌, ◌<◌, length, arith, sym, ap, subst, ◌∙◌}
 use Rattle.std.proofs.lemmas.List.{length-set}
 use Rattle.std.specs.Ordering.{nat_cmp}
@@ -23,5 +24,5 @@ returns-clause-ok g c =
       | then-at-len+else-known-id w ↦ put_between c.args.id c.args.stored c.args.entries.now.items c.before-at.result w.index.result.now place (grind (arith, w.if-at-len.true, c.len.ensures)) (λ e. w.if-known-id.false (subst (λ x. x.0 ≡ c.args.id) (sym w.index.ensures) e))
       | else-at-len w ↦ put_behind c.args.id c.args.stored c.args.entries.now.items c.before-at.result place (grind (arith, w.if-at-len.false, c.len.ensures))
     ]) in
-    let short : length c.args.entries.now.items < 32 = omega (arith, c.requires, c.len-2.ensures, c.if-len-eq-MOST.false) in
+    let short : length c.args.entries.now.items < 32 = omega (arith, c.requires, c.len-2.ensures, c.if-len-eq-CHUNK_CAPACITY.false) in
     (is, omega (arith, ap length is, put_by_one c.args.id c.args.stored c.args.entries.now.items, short))

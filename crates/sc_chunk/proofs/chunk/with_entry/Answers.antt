@@ -1,3 +1,4 @@
+-- with_entry: the entries with one more, or with another value at its id.
 use Rattle.sc_chunk.proofs.EntryLemmas.{put_built}
 use Rattle.sc_chunk.proofs.chunk.with_entry.Goals as goal
 

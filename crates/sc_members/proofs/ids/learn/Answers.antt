@@ -1,3 +1,4 @@
+-- learn: puts an id among others, where no other set has them.
 use Rattle.std.proofs.Common.{refl}
 use Rattle.sc_members.specs.Ids.{ids_in}
 use Rattle.sc_members.proofs.Sets.{one_more}

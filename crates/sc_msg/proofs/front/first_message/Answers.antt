@@ -1,3 +1,5 @@
+-- first_message: the message that stands first in at most 60,000 bytes, and the bytes behind it; or what is first
+-- wrong up to there.
 use Rattle.sc_msg.proofs.Unique.{head_is_right}
 use Rattle.sc_msg.proofs.Whole.{whole}
 use Rattle.sc_msg.proofs.front.first_message.Goals as goal

@@ -1,3 +1,4 @@
+-- one_spelling: in a version bytes are the spelling of one message at most.
 use Rattle.sc_msg.proofs.Unique.{one_spelling}
 use Rattle.sc_msg.proofs.laws.one_spelling.Goals as goal
 

@@ -1,3 +1,4 @@
+-- split: the first bytes, so many, and those behind them.
 use Rattle.sc_view.proofs.ValueLemmas.{bytes-take}
 use Rattle.sc_msg.proofs.reader.split.Goals as goal
 

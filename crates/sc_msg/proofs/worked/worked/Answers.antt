@@ -1,3 +1,5 @@
+-- worked: what the definitions say of kinds, of the messages by which node 3 enters and tells that node 7 joined or
+-- that it knows of no store, of the values that messages tell, and of bytes that are none.
 use Rattle.std.proofs.Common.{ℕ, List, [], ◌∷◌, ◌++◌, ap}
 use Rattle.sc_view.specs.declared.view.Stored.{Stored}
 use Rattle.sc_view.proofs.MapLemmas.{entries_rising}

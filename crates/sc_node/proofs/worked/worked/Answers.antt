@@ -1,3 +1,5 @@
+-- worked: what the definitions say of founders and of a node that enters, of one that leaves or has left, of the
+-- number of a store, and of an acknowledgement for another node.
 use Rattle.std.proofs.Common.{Bool, true, [], ◌∷◌, List, Result, Ok, Err, if◌then◌else◌, ap, ◌∙◌}
 use Rattle.sc_members.specs.Members.{is_overfull, with_left}
 use Rattle.sc_members.proofs.Sets.{found}

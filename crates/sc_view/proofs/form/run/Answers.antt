@@ -1,3 +1,4 @@
+-- run: carries out commands in turn.
 use Rattle.std.proofs.Common.{subst, arith}
 use Rattle.sc_view.specs.declared.form.Command.{Command}
 use Rattle.sc_view.specs.Forms.{Answers}

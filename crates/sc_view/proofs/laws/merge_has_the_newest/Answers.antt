@@ -1,3 +1,4 @@
+-- merge_has_the_newest: a merge has for each node the entry with the larger number, the first view's at equal ones.
 use Rattle.std.proofs.Common.{[], ◌∷◌}
 use Rattle.sc_view.proofs.ViewLemmas.{get-merge}
 use Rattle.sc_view.proofs.MapLemmas.{put_all_rising}

@@ -1,3 +1,4 @@
+-- merge_is_idempotent: to merge a view with itself, or twice with another, changes nothing more.
 use Rattle.sc_view.proofs.ViewLemmas.{merge_self, merge_again}
 use Rattle.sc_view.proofs.laws.merge_is_idempotent.Goals as goal
 

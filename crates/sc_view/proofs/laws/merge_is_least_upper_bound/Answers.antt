@@ -1,3 +1,5 @@
+-- merge_is_least_upper_bound: a merge is the least view above both: above the second, where the two have equal
+-- values at equal numbers.
 use Rattle.sc_view.proofs.ViewLemmas.{covered_merge, merge_covers, merge_least}
 use Rattle.sc_view.proofs.laws.merge_is_least_upper_bound.Goals as goal
 

@@ -1,3 +1,4 @@
+-- merged: a row with all that either has, and at equal numbers the first row's value.
 use Rattle.std.proofs.Common.{◌≡◌, ℕ, List, true, false, ap, subst, sym, ◌∙◌}
 use Rattle.std.proofs.lemmas.List.Elements.{same_from_all_zip}
 use Rattle.std.specs.FinMap as fin

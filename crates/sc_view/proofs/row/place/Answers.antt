@@ -1,3 +1,4 @@
+-- place: the chunk where an id belongs: all ids before it are smaller, and all behind it are larger.
 use Rattle.std.proofs.Common.{◌≡◌, true, false, get_or, take, drop, sym, ap, subst, ◌∙◌, arith}
 use Rattle.sc_view.specs.Rows.{joined, Under, Over, starts_above}
 use Rattle.sc_view.proofs.RowLemmas.{past, not_yet}

@@ -1,3 +1,4 @@
+-- put_entry: learns an entry.
 use Rattle.std.proofs.Common.{◌<◌, [], length, subst}
 use Rattle.sc_view.specs.Rows.{LearnsAt}
 use Rattle.sc_view.proofs.RowLemmas.{length_at_most, put_learnt}

@@ -1,3 +1,4 @@
+-- what_is_new: what the second row tells beyond the first.
 use mir.Val.{bool_byte}
 use Rattle.std.proofs.Common.{ap, ◌∙◌, arith}
 use Rattle.sc_view.specs.Rows.{joined, is_larger}

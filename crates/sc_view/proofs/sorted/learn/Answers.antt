@@ -1,3 +1,4 @@
+-- learn: learns an entry in a list that is sorted by ids.
 use Rattle.std.proofs.Common.{Option, sym, ap, ◌∙◌}
 use Rattle.std.specs.FinMap as fin
 use Rattle.sc_view.specs.declared.view.Stored.{Stored}

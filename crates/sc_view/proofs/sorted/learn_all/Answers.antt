@@ -1,3 +1,4 @@
+-- learn_all: learns each entry of a list.
 use Rattle.std.proofs.Common.{ap, ◌∙◌}
 use Rattle.std.specs.FinMap as fin
 use Rattle.sc_view.proofs.ViewLemmas.{put_all, put_all-found}

@@ -1,3 +1,4 @@
+-- first: the first bytes, so many.
 use Rattle.sc_view.proofs.ValueLemmas.{bytes-take}
 use Rattle.sc_view.proofs.value.first.Goals as goal
 

@@ -1,3 +1,4 @@
+-- worked: what the definitions say at telling operands.
 use Rattle.std.proofs.Common.{◌≡◌, ℕ, ◌+◌, ◌==◌, cond, List, [], ◌∷◌, length, Option, Some, is_some, ap, sym, ◌∙◌, arith}
 use Rattle.std.specs.FinMap as fin
 use Rattle.std.specs.FinMap.Entries as list

@@ -1,3 +1,5 @@
+-- meets: the least id that is both among the first operation's counted acknowledgers and among the second's counted
+-- repliers.
 use Rattle.std.proofs.Common.{sym, ap, Option}
 use Rattle.sc_operations.specs.declared.session.StoreBack.{StoreBack}
 use Rattle.sc_node.specs.Sessions.{counted_in, phase_in, ackers, repliers}

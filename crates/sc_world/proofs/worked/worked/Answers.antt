@@ -1,10 +1,11 @@
+-- worked: what the definitions say at telling operands.
 use Rattle.std.proofs.Common.{Bool, Option, Some, None, if◌then◌else◌, sym, ap, ◌∙◌, true≢false}
 use Rattle.std.specs.FinSet as set
 use Rattle.std.specs.Ordering.{nat_cmp}
 use Rattle.sc_members.specs.Ids.{Ids}
 use Rattle.sc_node.specs.State.{NodeState}
 use Rattle.sc_world.specs.Worlds.{by_live, collects, leaves, took}
-use Rattle.sc_world.specs.declared.event.Event.TheVariants as event
+use Rattle.sc_world.specs.declared.event.WorldEvent.TheVariants as event
 use Rattle.sc_world.proofs.worked.worked.Goals as goal
 
 pub returns-clause-collected : goal.returns-clause-collected

@@ -1,3 +1,4 @@
+-- Certified::longest: the greatest number of instructions on a path from unit 0 to an EXIT, from 1 to 4,096.
 use Rattle.std.proofs.Common.{arith}
 use Rattle.bq_flow.proofs.Best.{longest_some, longest_within}
 use Rattle.bq_check.proofs.certified.Certified.longest.Goals as goal

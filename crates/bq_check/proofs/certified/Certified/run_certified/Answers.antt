@@ -1,3 +1,5 @@
+-- Certified::run_certified: one record run of the text over a record of one of its lengths, from an accumulator and
+-- a frame.
 use Rattle.std.proofs.Common.{◌≤◌, List, length, refl, arith, subst, sym}
 use Rattle.bq_insn.specs.declared.insn.Insn.{Insn}
 use Rattle.bq_meaning.specs.Runs.{RecordRun}

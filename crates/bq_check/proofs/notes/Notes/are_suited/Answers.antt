@@ -1,3 +1,4 @@
+-- Notes::are_suited: whether all states are suited.
 use Rattle.std.proofs.Common.{rules, ◌≡◌, Some, false, IsTrue, sym, ◌∙◌}
 use Rattle.bq_sound.specs.Passes.{note_at, AreSuited}
 use Rattle.bq_check.proofs.notes.Notes.are_suited.Goals as goal

@@ -1,3 +1,5 @@
+-- Notes::bytes_v1: the bytes of the notes in the first form, or 31 NoteForm where a state is not for records of 64
+-- bytes alone: it knows a register as the record's length, or the record may have another length than 64.
 use Rattle.std.proofs.Common.{rules}
 use Rattle.bq_state.specs.Kinds.{view_lengths}
 use Rattle.bq_sound.specs.Passes.{AreSuited}

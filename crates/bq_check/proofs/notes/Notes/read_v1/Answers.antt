@@ -1,4 +1,6 @@
-use Rattle.bq_check.specs.declared.form.Form.TheVariants.{First}
+-- Notes::read_v1: the notes that the bytes spell in the first form, or 31 NoteForm where they spell none so: as
+-- those that `Notes::read` takes, but without the two lengths, and with no kind 4.
+use Rattle.bq_check.specs.declared.form.NotesForm.TheVariants.{First}
 use Rattle.bq_check.proofs.Read.{reads}
 use Rattle.bq_check.proofs.notes.Notes.read_v1.Goals as goal
 

@@ -1,3 +1,4 @@
+-- Reader::kinds: the kinds of the eleven registers.
 use Rattle.std.proofs.Common.{arith}
 use Rattle.bq_check.proofs.Read.{no_kinds}
 use Rattle.bq_check.proofs.reading.Reader.kinds.Goals as goal

@@ -1,3 +1,4 @@
+-- Reader::note: the state of one unit, or none.
 use Rattle.std.proofs.Common.{arith}
 use Rattle.bq_check.proofs.Read.{if_none, no_note}
 use Rattle.bq_check.proofs.reading.Reader.note.Goals as goal

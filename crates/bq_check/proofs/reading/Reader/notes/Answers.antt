@@ -1,3 +1,4 @@
+-- Reader::notes: the notes of a form at the front of the bytes.
 use Rattle.std.proofs.Common.{arith}
 use Rattle.bq_check.proofs.Read.{no_count, many, no_notes}
 use Rattle.bq_check.proofs.reading.Reader.notes.Goals as goal

@@ -1,3 +1,4 @@
+-- Reader::offsets: the offsets of a pointer at the front of the bytes.
 use Rattle.bq_check.proofs.Read.{if_none, if_not, no_span_short, no_span_cut, no_span_order}
 use Rattle.std.proofs.Common.{arith}
 use Rattle.bq_check.proofs.reading.Reader.offsets.Goals as goal

@@ -1,3 +1,4 @@
+-- Reader::range: a range at the front of the bytes.
 use Rattle.bq_check.proofs.Read.{if_none, if_not, no_range_short, no_range_cut, no_range_order}
 use Rattle.std.proofs.Common.{arith}
 use Rattle.bq_check.proofs.reading.Reader.range.Goals as goal

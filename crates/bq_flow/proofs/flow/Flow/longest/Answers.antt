@@ -1,3 +1,4 @@
+-- Flow::longest: the greatest number of instructions on a path from unit 0 to an EXIT, from 1 to 4,096.
 use Rattle.std.proofs.Common.{◌≡◌, ◌≤◌, ap, subst}
 use Rattle.bq_insn.specs.Slots.{units}
 use Rattle.bq_flow.specs.Flow.{TextFlow}

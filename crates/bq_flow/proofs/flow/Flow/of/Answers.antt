@@ -1,3 +1,4 @@
+-- Flow::of: the flow of a text, or the first fault in rising order of the instructions.
 use Rattle.std.proofs.Common.{◌≡◌, rules}
 use Rattle.bq_flow.specs.declared.fault.FlowFault.TheVariants.{OutOfMemory}
 use Rattle.bq_flow.proofs.Legal.{refused}

@@ -1,3 +1,5 @@
+-- Block::set_entry: puts the record of an entry behind the frame: an id and a sequence number, 8 bytes each in
+-- little-endian order, and a value, which is so many of the first bytes of its room.
 use Rattle.std.proofs.Common.{◌∙◌, ◌≤◌, ap, arith, refl, length, take}
 use Rattle.bq_word.specs.Word.{le_bytes}
 use Rattle.bq_frame.proofs.Adjacent.{entry_put}

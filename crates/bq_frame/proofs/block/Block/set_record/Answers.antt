@@ -1,3 +1,4 @@
+-- Block::set_record: puts a record of 16 to 128 bytes behind the frame.
 use Rattle.std.proofs.Common.{◌∙◌, ◌+◌, ◌≤◌, ap, arith, length, take, drop}
 use Rattle.bq_frame.proofs.Adjacent.{before_part, part_there}
 use Rattle.bq_frame.proofs.block.Block.set_record.Goals as goal

@@ -1,3 +1,4 @@
+-- Insn::is_same: whether the two are the same instruction.
 use Rattle.std.proofs.Common.{sym, ◌∙◌}
 use Rattle.bq_insn.proofs.Same.{told}
 use Rattle.bq_insn.proofs.insn.Insn.is_same.Goals as goal

@@ -1,3 +1,4 @@
+-- Machine::store_at: puts the lowest bytes of a value at an address, and goes to the next unit.
 use Rattle.std.proofs.Common.{◌≡◌, ◌+◌, ◌-◌, Some, length, sym, subst}
 use Rattle.std.specs.Prelude.{Ok}
 use borrow.Rule.Slice.PartMut.{put_mid}

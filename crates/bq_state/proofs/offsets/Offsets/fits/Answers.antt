@@ -1,3 +1,4 @@
+-- Offsets::fits: whether `size` bytes at a distance from each of these offsets lie in a region of `len` bytes.
 use Rattle.std.proofs.Common.{arith, ap, ◌+ℤ◌, w64}
 use Rattle.std.proofs.lemmas.Int.{ints}
 use Rattle.bq_state.specs.Offsets.{Span}

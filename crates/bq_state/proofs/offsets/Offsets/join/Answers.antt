@@ -1,3 +1,4 @@
+-- Offsets::join: the least offsets that cover both.
 use Rattle.std.proofs.Common.{arith}
 use Rattle.std.proofs.lemmas.Int.{ints, clamps}
 use Rattle.bq_state.proofs.offsets.Offsets.join.Goals as goal

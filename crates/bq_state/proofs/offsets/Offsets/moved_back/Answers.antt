@@ -1,3 +1,5 @@
+-- Offsets::moved_back: these offsets moved back by a number of the range, read with its sign; none where they leave
+-- the limit.
 use Rattle.std.proofs.Common.{arith, ◌-ℤ◌}
 use Rattle.std.proofs.lemmas.Int.{ints}
 use mir.Syntax.{w128}

@@ -1,3 +1,5 @@
+-- Offsets::moved_on: these offsets moved on by a number of the range, read with its sign; none where they leave the
+-- limit.
 use Rattle.std.proofs.Common.{arith, ◌+ℤ◌}
 use Rattle.std.proofs.lemmas.Int.{ints}
 use mir.Syntax.{w128}

@@ -1,3 +1,4 @@
+-- State::join_with: the state becomes the least that covers it and another.
 use Rattle.std.proofs.Common.{◌∙◌, ap, sym, length}
 use Rattle.bq_state.specs.Kinds.{state_of}
 use Rattle.bq_state.proofs.Covering.{join_covers, joined_count}

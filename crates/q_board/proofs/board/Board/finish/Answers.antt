@@ -1,3 +1,4 @@
+-- Board::finish: ends a claim of the seat with the right answer of its job, which then waits for the asker.
 use Rattle.std.proofs.Common.{◌∙◌, sym, deque_len, deque_capacity}
 use Rattle.q_board.proofs.RunnerCalls.{fill_asks, finish_asks, finish_keeps, finish_told}
 use Rattle.q_board.proofs.board.Board.finish.Goals as goal

@@ -1,3 +1,4 @@
+-- Board::give_back: ends a claim of the seat, and makes its slot ready with the same job.
 use Rattle.std.proofs.Common.{◌∙◌, sym, deque_len, deque_capacity}
 use Rattle.q_board.proofs.RunnerCalls.{fill_asks, give_asks, give_keeps, give_told}
 use Rattle.q_board.proofs.board.Board.give_back.Goals as goal

@@ -1,3 +1,4 @@
+-- Board::offer: puts a job into a free slot of the seat's row.
 use Rattle.std.proofs.Common.{rules, ◌∙◌, sym, ap, arith, deque_len, deque_capacity}
 use Rattle.q_board.specs.AskerModel.{AskerModel}
 use Rattle.q_board.specs.Places.{jobs}

@@ -1,3 +1,4 @@
+-- Board::poll: looks once at a slot of the seat's own.
 use Rattle.std.proofs.Common.{◌≡◌, ◌+◌, ◌-◌, ◌*◌, ◌<◌, ◌∙◌, sym, ap, arith, refl, deque_len, deque_capacity}
 use Rattle.atomic_table.specs.Seated.{TableId}
 use Rattle.q_board.specs.AskerModel.{AskerModel, IsAsker}

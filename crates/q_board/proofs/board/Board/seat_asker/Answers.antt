@@ -1,3 +1,4 @@
+-- Board::seat_asker: the next asker takes its row.
 use Rattle.std.proofs.Common.{◌∙◌, sym, ap, arith, refl, ℕ}
 use Rattle.q_slots.specs.Plays.{Sat, new_asking}
 use Rattle.q_slots.specs.Rule.{maker}

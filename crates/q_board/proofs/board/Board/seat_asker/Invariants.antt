@@ -2,7 +2,7 @@ use Rattle.std.proofs.Common.{◌≡◌, ◌≤◌, ◌*◌, deque_len, deque_ca
 use Rattle.q_board.specs.Places.{bare}
 use Rattle.q_slots.specs.Plays.{new_asking}
 use Rattle.q_board.specs.BoardId.{board_id}
-use Rattle.q_slots.specs.declared.view.View.TheVariants.{Asker}
+use Rattle.q_slots.specs.declared.view.Holder.TheVariants.{Asker}
 use Rattle.q_board.proofs.Rows.{down}
 use Rattle.q_board.proofs.board.Board.seat_asker.Given as goal
 

@@ -1,3 +1,4 @@
+-- Board::seat_runner: the next runner, after so many seats.
 use Rattle.std.proofs.Common.{rules, ◌∙◌, sym, ap, arith, ℕ, [], deque_len, deque_capacity}
 use Rattle.atomic_table.specs.Seated.{TableId}
 use Rattle.q_board.proofs.RunnerCalls.{opened}

@@ -1,3 +1,4 @@
+-- Board::try_take: tries once to claim the job of a slot: there is a claim exactly where the slot was found ready.
 use Rattle.std.proofs.Common.{◌≡◌, ◌+◌, ◌<◌, ◌∙◌, sym, ap, arith, deque_len, deque_capacity}
 use Rattle.atomic_table.specs.Seated.{TableId}
 use Rattle.q_board.specs.RunnerModel.{RunnerModel}

@@ -1,3 +1,4 @@
+-- AskerSeat::held: the slot at a place of the row, where a job is open there.
 use Rattle.std.proofs.Common.{◌≡◌, ◌<◌, sym, ap, arith, subst}
 use Rattle.q_board.specs.Calls.{is_at}
 use Rattle.std.proofs.Common.{Some, None}

@@ -1,3 +1,4 @@
+-- Book::ask: a query begins, and with it a collect.
 use Rattle.std.proofs.Common.{◌≡◌, ◌∙◌, Ok, sym, ap}
 use Rattle.q_desk.specs.declared.journal.Entry.TheVariants as entry
 use Rattle.q_book.specs.Books.{here, joined, known, free}

@@ -1,3 +1,4 @@
+-- Book::deliver: takes a message, also one that it took before, and its own.
 use Rattle.std.proofs.Common.{◌≡◌, ◌∙◌, IfSome, Result, Ok, sym, ap, subst}
 use Rattle.sc_msg.specs.Lengths.{fits}
 use Rattle.sc_msg.specs.Values.{value_lengths}

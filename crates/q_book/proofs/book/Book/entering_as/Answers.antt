@@ -1,3 +1,4 @@
+-- Book::entering_as: the same of any version, for replays.
 use Rattle.q_book.proofs.Calls.{entered_book}
 use Rattle.q_book.proofs.book.Book.entering_as.Goals as goal
 

@@ -1,3 +1,4 @@
+-- Book::founder_as: the same of any version, for replays.
 use Rattle.q_book.proofs.Calls.{founded_book}
 use Rattle.q_book.proofs.book.Book.founder_as.Goals as goal
 

@@ -1,3 +1,5 @@
+-- Book::hand_out: hands out the job of the ready query with the least number; none where no query is ready, also
+-- where the journal is full.
 use Rattle.std.proofs.Common.{◌≡◌, ◌∙◌, Ok, sym, ap}
 use Rattle.q_book.specs.Books.{here}
 use Rattle.q_book.specs.State.{BookState}

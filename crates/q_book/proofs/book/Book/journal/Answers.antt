@@ -1,3 +1,4 @@
+-- Book::journal: the journal: each call that was accepted and changed something, in turn.
 use Rattle.std.proofs.Common.{List, All, sym, subst}
 use Rattle.q_desk.specs.declared.journal.Entry.{Entry}
 use Rattle.q_book.specs.State.{BookState}

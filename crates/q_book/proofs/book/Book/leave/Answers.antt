@@ -1,3 +1,4 @@
+-- Book::leave: leaves for good: every later call that changes something is refused with 42.
 use Rattle.std.proofs.Common.{◌≡◌, ◌∙◌, Ok, sym, ap}
 use Rattle.q_desk.specs.declared.journal.Entry.TheVariants as entry
 use Rattle.q_book.specs.Books.{here}

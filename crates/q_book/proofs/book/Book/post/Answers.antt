@@ -1,3 +1,4 @@
+-- Book::post: records the result of a job as its query's answer.
 use Rattle.std.proofs.Common.{◌≡◌, ◌∙◌, Ok, sym, ap}
 use Rattle.q_book.specs.Books.{here}
 use Rattle.q_book.specs.State.{BookState}

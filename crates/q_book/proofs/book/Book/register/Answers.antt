@@ -1,3 +1,4 @@
+-- Book::register: registers a program; a text that is there keeps its id.
 use Rattle.std.proofs.Common.{◌≡◌, ◌∙◌, Ok, sym, ap}
 use Rattle.q_book.specs.Books.{here}
 use Rattle.q_book.specs.State.{BookState}

@@ -1,3 +1,4 @@
+-- Book::store: begins to store a value of these bytes.
 use Rattle.std.proofs.Common.{◌≡◌, ◌∙◌, ℕ, List, Ok, length, sym, ap}
 use Rattle.sc_view.specs.Values.{is_within}
 use Rattle.sc_msg.specs.Values.{value_lengths}

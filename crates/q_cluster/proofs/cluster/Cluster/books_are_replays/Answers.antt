@@ -1,3 +1,5 @@
+-- Cluster::books_are_replays: a law of every cluster: each node with its desk is the replay of its own journal,
+-- also where the node has left or crashed.
 use Rattle.std.proofs.Common.{subst}
 use Rattle.q_history.specs.Books.{BooksAreReplays}
 use Rattle.q_history.specs.State.{ClusterState}

@@ -1,3 +1,4 @@
+-- Cluster::check_live: whether the node of this id is there.
 use Rattle.std.proofs.Common.{◌∙◌, ap, sym, subst, is_some}
 use Rattle.sc_world.specs.Worlds.{live_at}
 use Rattle.q_history.specs.State.{ClusterState}

@@ -1,3 +1,4 @@
+-- Cluster::comes_of_events: a law of every cluster: some list of events made it of its founders.
 use Rattle.std.proofs.Common.{subst}
 use Rattle.q_history.specs.Calls.{IsHistory}
 use Rattle.q_history.specs.State.{ClusterState}

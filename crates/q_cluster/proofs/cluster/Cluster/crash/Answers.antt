@@ -1,3 +1,4 @@
+-- Cluster::crash: a node crashes.
 use Rattle.std.proofs.Common.{◌∙◌, ap, sym, is_some}
 use Rattle.sc_world.specs.Worlds.{live_at}
 use Rattle.q_history.specs.State.{ClusterState}

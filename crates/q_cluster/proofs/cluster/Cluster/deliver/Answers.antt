@@ -1,3 +1,4 @@
+-- Cluster::deliver: a message that was sent reaches a node.
 use Rattle.std.proofs.Common.{◌∙◌, refl, sym, ap, List}
 use Rattle.std.proofs.lemmas.Option.{slice_get_read}
 use Rattle.std.proofs.lemmas.Result.{err_from_is_err_and}

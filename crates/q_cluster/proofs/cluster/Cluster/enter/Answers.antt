@@ -1,7 +1,8 @@
+-- Cluster::enter: a node of a new id enters.
 use Rattle.std.proofs.Common.{◌≡◌, ◌∙◌, refl, sym, ap, Option, None, is_some, length}
 use Rattle.std.specs.FinMap as fin
 use Rattle.sc_members.specs.Members.{Config}
-use Rattle.sc_world.specs.declared.event.Event.TheVariants as world_event
+use Rattle.sc_world.specs.declared.event.WorldEvent.TheVariants as world_event
 use Rattle.sc_world.specs.State.{Past}
 use Rattle.sc_world.specs.Ledgers.{recorded, numbered}
 use Rattle.sc_world.proofs.Tables.{is_some-copied}

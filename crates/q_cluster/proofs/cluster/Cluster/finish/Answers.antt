@@ -1,8 +1,9 @@
+-- Cluster::finish: a job that was handed out is run, and its result posted.
 use Rattle.std.proofs.Common.{◌≡◌, ◌∙◌, ℕ, ap}
 use Rattle.std.proofs.lemmas.Result.{err_from_is_err_and}
 use Rattle.q_session.specs.declared.job.Job.{Job}
 use Rattle.q_session.specs.declared.ran.Ran.{Ran}
-use Rattle.q_history.specs.declared.event.Stepped.{Stepped}
+use Rattle.q_history.specs.declared.event.ClusterStep.{ClusterStep}
 use Rattle.q_history.specs.declared.event.Told.TheVariants as told
 use Rattle.q_cluster.proofs.Finishing.{finish_stays, finish_turns, finish_says, finish_goes}
 use Rattle.q_cluster.proofs.cluster.Cluster.finish.Goals as goal
@@ -30,11 +31,11 @@ invariant_of-self-2 c =
     finish_goes c.self.invariant c.self.view_is c.in_ok-job_to_run.ensures.job c.run-done.result (read c.job-job.result.now c.node-node.result c.query-query.result) c.run-done.ensures
     (read-is c.job-job.result.now _ _ _ c.node-node.ensures c.query-query.ensures c.job-job.ensures.job) c.post.new.self
     c.job-job.ensures.right c.in_ok-post.ensures c.silent.ensures
-    (c.told.ensures ∙ ap (λ (r : Ran). let t : Stepped = record { told = told.Finished (record { node = c.node-node.result; query = c.query-query.result; ran = r }); sent = c.silent.result } in t) c.ran.ensures)
+    (c.told.ensures ∙ ap (λ (r : Ran). let t : ClusterStep = record { told = told.Finished (record { node = c.node-node.result; query = c.query-query.result; ran = r }); sent = c.silent.result } in t) c.ran.ensures)
 
 pub returns : goal.returns
 returns c =
     finish_says c.self.invariant c.self.view_is c.in_ok-job_to_run.ensures.job c.run-done.result (read c.job-job.result.now c.node-node.result c.query-query.result) c.run-done.ensures
     (read-is c.job-job.result.now _ _ _ c.node-node.ensures c.query-query.ensures c.job-job.ensures.job) c.post.new.self
     c.job-job.ensures.right c.in_ok-post.ensures c.silent.ensures
-    (c.told.ensures ∙ ap (λ (r : Ran). let t : Stepped = record { told = told.Finished (record { node = c.node-node.result; query = c.query-query.result; ran = r }); sent = c.silent.result } in t) c.ran.ensures)
+    (c.told.ensures ∙ ap (λ (r : Ran). let t : ClusterStep = record { told = told.Finished (record { node = c.node-node.result; query = c.query-query.result; ran = r }); sent = c.silent.result } in t) c.ran.ensures)

@@ -1,3 +1,4 @@
+-- Cluster::hand_out: a node hands out a job.
 use Rattle.std.proofs.Common.{◌≡◌, ◌∙◌, refl, sym, ap, List}
 use Rattle.std.proofs.lemmas.Result.{err_from_is_err_and}
 use Rattle.q_session.specs.declared.job.Job.{Job}

@@ -1,3 +1,4 @@
+-- Cluster::is_live: whether the node of this id is there: it has neither left nor crashed.
 use Rattle.std.proofs.Common.{◌∙◌, sym, ap, is_some, not}
 use Rattle.std.specs.Prelude.{option_map}
 use Rattle.std.specs.FinMap as fin

@@ -1,3 +1,4 @@
+-- Cluster::message: the message of that number, which counts from 0.
 use Rattle.std.proofs.Common.{List, All, sym, subst, rules}
 use Rattle.sc_msg.specs.declared.message.Message.{Message}
 use Rattle.sc_msg.specs.Lengths.{Fits}

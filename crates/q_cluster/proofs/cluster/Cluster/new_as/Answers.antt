@@ -1,3 +1,4 @@
+-- Cluster::new_as: the same with books of any version, for journals that are gathered.
 use Rattle.q_cluster.proofs.Founding.{new_cluster, new_says}
 use Rattle.q_cluster.proofs.cluster.Cluster.new_as.Goals as goal
 

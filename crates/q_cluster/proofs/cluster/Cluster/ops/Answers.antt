@@ -1,3 +1,4 @@
+-- Cluster::ops: the record of each operation, in the order in which they began.
 use Rattle.std.proofs.Common.{subst}
 use Rattle.sc_world.specs.Records.{AreRecords, AreSent}
 use Rattle.sc_world.specs.Regular.{IsRegular, EndsAreRecorded, EndsAreTold}

@@ -1,3 +1,4 @@
+-- Cluster::register: a program is registered at a node.
 use Rattle.std.proofs.Common.{refl}
 use Rattle.std.proofs.lemmas.Result.{err_from_is_err_and}
 use Rattle.q_cluster.proofs.Histories.{nothing}

@@ -1,3 +1,4 @@
+-- Cluster::store: a store begins at a node.
 use Rattle.std.proofs.Common.{refl, length}
 use Rattle.std.proofs.lemmas.Result.{err_from_is_err_and}
 use Rattle.sc_world.proofs.Moving.{nothing_moves}

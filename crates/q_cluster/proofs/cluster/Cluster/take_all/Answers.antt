@@ -1,7 +1,8 @@
+-- Cluster::take_all: the events are taken in turn, up to the first that is refused.
 use Rattle.std.proofs.Common.{◌≡◌, refl, sym, ap, subst, ◌∙◌, List, [], ◌∷◌, ◌++◌, take, Err}
 use Rattle.std.proofs.lemmas.List.{take_more, take_all}
 use Rattle.std.proofs.lemmas.Option.{slice_get_read}
-use Rattle.q_history.specs.declared.event.Event.{Event}
+use Rattle.q_history.specs.declared.event.ClusterEvent.{ClusterEvent}
 use Rattle.q_history.specs.State.{ClusterState}
 use Rattle.q_history.specs.Clusters.{stepped}
 use Rattle.q_history.specs.Calls.{Reaches}
@@ -10,8 +11,8 @@ use Rattle.q_cluster.proofs.cluster.Cluster.take_all.Goals as goal
 
 pub returns-in-Err : goal.returns-in-Err
 returns-in-Err c =
-    let es : List Event = c.args.events.now in
-    let e : Event = c.index-events-place.result in
+    let es : List ClusterEvent = c.args.events.now in
+    let e : ClusterEvent = c.index-events-place.result in
     let h = c.in-Err.ensures {u = tt} in (
       subst (λ (x : ClusterState). Reaches c.args.self.now (take c.loop-place.place es) x) (sym h.0) c.loop-place.invariant,
       (
@@ -23,14 +24,14 @@ returns-in-Err c =
 
 pub loop-place-preserved : goal.loop-place-preserved
 loop-place-preserved c =
-    let es : List Event = c.args.events.now in
-    let e : Event = c.index-events-place.result in
-    let more = take_more es c.loop-place.place e c.loop-place-test.true ∙ ap (λ (x : Event). take c.loop-place.place es ++ x ∷ []) (sym c.index-events-place.is) in
-    subst (λ (xs : List Event). Reaches c.args.self.now xs c.take.new.self) (sym more)
+    let es : List ClusterEvent = c.args.events.now in
+    let e : ClusterEvent = c.index-events-place.result in
+    let more = take_more es c.loop-place.place e c.loop-place-test.true ∙ ap (λ (x : ClusterEvent). take c.loop-place.place es ++ x ∷ []) (sym c.index-events-place.is) in
+    subst (λ (xs : List ClusterEvent). Reaches c.args.self.now xs c.take.new.self) (sym more)
     (reaches_next (take c.loop-place.place es) c.args.self.now c.loop-place.self e c.in_default.field-0 c.take.new.self c.loop-place.invariant (c.in_default.ensures {u = tt}))
 
 pub returns : goal.returns
-returns c = subst (λ (xs : List Event). Reaches c.args.self.now xs c.loop-place.self) (take_all c.loop-place.place c.args.events.now c.loop-place-test.false) c.loop-place.invariant
+returns c = subst (λ (xs : List ClusterEvent). Reaches c.args.self.now xs c.loop-place.self) (take_all c.loop-place.place c.args.events.now c.loop-place-test.false) c.loop-place.invariant
 
 pub loop-place-init : goal.loop-place-init
 loop-place-init c = refl

@@ -1,3 +1,5 @@
+-- Cluster::world_is_a_history: a law of every cluster: its world is what the world's accepted events made of the
+-- founders.
 use Rattle.std.proofs.Common.{subst}
 use Rattle.sc_world.specs.Worlds.{IsHistory}
 use Rattle.q_history.specs.State.{ClusterState}

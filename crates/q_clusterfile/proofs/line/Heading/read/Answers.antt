@@ -1,3 +1,4 @@
+-- Heading::read: what a line as `cluster 7310582 2/3 2/3` spells, with beta before gamma.
 use Rattle.std.specs.Prelude.{codes}
 use Rattle.q_clusterfile.specs.Line.{SpellsHeading}
 use Rattle.q_script.proofs.Pairs.{reads_none}

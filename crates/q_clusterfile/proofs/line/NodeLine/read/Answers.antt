@@ -1,3 +1,4 @@
+-- NodeLine::read: what a line as `founder 1 10.88.0.1:7000` or `node 4 10.88.0.4:7000` spells.
 use Rattle.q_script.proofs.Pairs.{reads_none}
 use Rattle.q_clusterfile.specs.Line.{SpellsNode}
 use Rattle.q_clusterfile.proofs.Nodes.{no_word, other_word, no_id, no_address, not_parsed}

@@ -1,3 +1,4 @@
+-- Desk::ask: the node begins to collect, and a query begins that waits for that collect.
 use Rattle.std.proofs.Common.{◌≡◌, ◌++◌, ◌∷◌, [], List, not, nat_le, Ok, rules, subst, refl, sym, ap, ◌∙◌}
 use Rattle.std.specs.FinMap as fin
 use Rattle.sc_node.specs.Nodes as node

@@ -1,3 +1,4 @@
+-- Desk::deliver: the node takes a message.
 use Rattle.std.proofs.Common.{rules}
 use Rattle.q_desk.specs.declared.journal.Entry.TheVariants as entry
 use Rattle.q_desk.proofs.Keeps.{desk-appended}

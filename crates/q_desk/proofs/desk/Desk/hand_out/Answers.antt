@@ -1,3 +1,4 @@
+-- Desk::hand_out: hands out the job of the ready query with the least number; none where no query is ready.
 use Rattle.std.proofs.Common.{◌≡◌, ℕ, List, Some, rules, sym, ap, subst, ◌∙◌, arith}
 use Rattle.std.specs.Prelude.{slice_get}
 use Rattle.sc_view.specs.Views.{ViewMap}

@@ -1,3 +1,4 @@
+-- Desk::post: records the result of a job as its query's answer, as desk of this node.
 use Rattle.std.proofs.Common.{◌≡◌, ℕ, List, [], ◌∷◌, ◌++◌, true, rules, sym, ap, subst, ◌∙◌, arith}
 use Rattle.std.specs.Prelude.{slice_get, ◌==◌}
 use Rattle.q_session.specs.Right.{IsRight}

@@ -1,3 +1,4 @@
+-- Desk::register: registers a program; a text that is there keeps its id.
 use Rattle.std.proofs.Common.{rules, ap, sym, ◌∙◌}
 use Rattle.std.proofs.lemmas.Bool.{not-false}
 use Rattle.bq_check.specs.Certificate.{Certificate}

@@ -1,3 +1,5 @@
+-- Desk::returned: the collect with this tag returned a view, whose records have the desk's lengths: the query that
+-- waits for it is ready.
 use Rattle.std.proofs.Common.{List, sym, subst, ◌∙◌, rules}
 use Rattle.q_session.specs.declared.query.Query.{Query}
 use Rattle.q_session.specs.Records.{HasRecordsWithin}

@@ -1,3 +1,4 @@
+-- Desk::running_job: the job of a query that runs, as desk of this node; none where no such query runs.
 use Rattle.std.proofs.Common.{List, refl, sym, ap, ◌∙◌}
 use Rattle.std.proofs.lemmas.Option.{slice_get_read}
 use Rattle.std.specs.Prelude.{slice_get}

@@ -1,3 +1,4 @@
+-- Desk::store: the node begins to store a value.
 use Rattle.std.proofs.Common.{rules}
 use Rattle.q_desk.specs.declared.journal.Entry.TheVariants as entry
 use Rattle.q_desk.proofs.Keeps.{desk-appended}

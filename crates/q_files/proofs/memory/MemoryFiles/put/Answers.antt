@@ -1,3 +1,4 @@
+-- MemoryFiles::put: makes a file of these bytes, or replaces the bytes of the one that is there.
 use Rattle.std.proofs.Common.{rules}
 use Rattle.q_files.proofs.Written.{written}
 use Rattle.q_files.proofs.memory.MemoryFiles.put.Goals as goal

@@ -1,3 +1,4 @@
+-- MemoryFiles::read: the bytes of a file in memory, or why it is not read.
 use Rattle.std.proofs.Common.{arith, rules}
 use Rattle.q_files.proofs.Written.{missing, too_long}
 use Rattle.q_files.proofs.memory.MemoryFilesFiles.read.Goals as goal

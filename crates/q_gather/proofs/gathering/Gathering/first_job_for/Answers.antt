@@ -1,3 +1,4 @@
+-- Gathering::first_job_for: the first such number.
 use Rattle.std.proofs.Common.{◌∙◌, sym}
 use Rattle.q_gather.proofs.gathering.Gathering.first_job_for.Goals as goal
 

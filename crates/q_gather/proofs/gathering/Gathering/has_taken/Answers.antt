@@ -1,3 +1,4 @@
+-- Gathering::has_taken: whether the cluster has taken each event of this book.
 use Rattle.q_gather.proofs.Numbering.{taken_test}
 use Rattle.std.proofs.Common.{◌∙◌, ap}
 use Rattle.q_cluster.specs.Acts.{book_at}

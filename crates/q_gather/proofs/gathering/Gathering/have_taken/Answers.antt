@@ -1,3 +1,4 @@
+-- Gathering::have_taken: whether the nodes have taken all entries of their books.
 use Rattle.std.proofs.Common.{refl}
 use Rattle.std.proofs.lemmas.Option.{slice_get_read}
 use Rattle.q_gather.specs.Gathering.{HasTaken}

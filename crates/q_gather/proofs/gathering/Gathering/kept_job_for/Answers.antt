@@ -1,3 +1,4 @@
+-- Gathering::kept_job_for: the number that was kept, where it is that of such a job.
 use Rattle.std.proofs.Common.{◌∙◌, sym}
 use Rattle.q_gather.proofs.gathering.Gathering.kept_job_for.Goals as goal
 

@@ -1,3 +1,4 @@
+-- Gathering::take: takes an event, and gives the messages that it sends their numbers.
 use Rattle.q_gather.proofs.Numbering.{sent_before}
 use Rattle.q_gather.proofs.gathering.Gathering.take.Goals as goal
 

@@ -1,3 +1,4 @@
+-- Rounds::wake: where more was sent by now, no book waits.
 use Rattle.q_gather.proofs.Waiting.{none_among}
 use Rattle.q_gather.proofs.rounds.Rounds.wake.Goals as goal
 

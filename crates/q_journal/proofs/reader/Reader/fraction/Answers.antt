@@ -1,3 +1,4 @@
+-- Reader::fraction: a fraction at the front of the bytes.
 use Rattle.q_journal.proofs.Exits.{on_err}
 use Rattle.q_journal.proofs.Heads.{fraction_cut}
 use Rattle.q_journal.proofs.reader.Reader.fraction.Goals as goal

@@ -1,3 +1,4 @@
+-- Reader::fractions: beta and gamma.
 use Rattle.q_journal.proofs.Exits.{on_err}
 use Rattle.q_journal.proofs.Heads.{fractions_cut}
 use Rattle.q_journal.proofs.reader.Reader.fractions.Goals as goal

@@ -1,3 +1,4 @@
+-- Reader::ids: a count of two bytes, and so many ids.
 use Rattle.std.proofs.Common.{arith}
 use Rattle.q_journal.proofs.Exits.{no_form}
 use Rattle.q_journal.proofs.Heads.{no_count, no_ids}

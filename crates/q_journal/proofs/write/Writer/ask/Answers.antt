@@ -1,3 +1,4 @@
+-- Writer::ask: that a query of this program began.
 use Rattle.std.proofs.Common.{◌≡◌, ◌++◌, sym}
 use Rattle.std.proofs.lemmas.Result.{on_ok_weaker}
 use Rattle.sc_msg.specs.Numbers.{number_bytes}

@@ -1,3 +1,4 @@
+-- Writer::post: that the answer of a query was recorded.
 use Rattle.std.proofs.Common.{◌≡◌, ◌++◌, sym}
 use Rattle.std.proofs.lemmas.Result.{on_ok_weaker}
 use Rattle.sc_msg.specs.Numbers.{number_bytes}

@@ -1,3 +1,5 @@
+-- Writer::register: that a program was registered, with these notes, which are for records of 64 bytes in version 1
+-- and of 16 to 128 in version 2.
 use Rattle.std.proofs.Common.{◌≡◌, ◌≤◌, ◌+◌, ◌++◌, length, ap, ◌∙◌, arith}
 use Rattle.std.proofs.lemmas.Result.{on_ok_weaker}
 use Rattle.q_journal.specs.Spelling.{form_of}

@@ -1,3 +1,5 @@
+-- Kept::settle: pumps, then writes what the file lacks of the book's journal, and only then gives the messages that
+-- wait, as letters.
 use Rattle.std.proofs.Common.{◌∙◌, refl, sym, subst}
 use Rattle.q_book.specs.State.{BookState}
 use Rattle.q_recorder.specs.Recording.{Grows, IsRecorded}

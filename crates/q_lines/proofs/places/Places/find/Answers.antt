@@ -1,3 +1,4 @@
+-- Places::find: the operation of this node with this tag, among these records.
 use Rattle.std.proofs.Common.{◌∙◌, refl, sym, ap}
 use Rattle.std.specs.Prelude.{◌&&◌, nat_eq}
 use Rattle.indexmap.specs.IndexMap.{get}

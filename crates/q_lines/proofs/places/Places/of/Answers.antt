@@ -1,3 +1,4 @@
+-- Places::of: the places of these records.
 use Rattle.std.proofs.Common.{refl}
 use Rattle.std.specs.Prelude.{◌&&◌, nat_eq}
 use Rattle.std.proofs.lemmas.Option.{slice_get_read}

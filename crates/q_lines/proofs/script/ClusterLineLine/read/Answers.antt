@@ -1,3 +1,4 @@
+-- ClusterLine::read: the line that words spell, of the kinds that clusters of threads have.
 use Rattle.q_lines.proofs.Reading.{judged_fault, judged_other}
 use Rattle.q_lines.proofs.script.ClusterLineLine.read.Goals as goal
 

@@ -1,3 +1,5 @@
+-- Recorder::record: appends what the file lacks of the book's journal: the head, if it is not there, and the
+-- entries behind those that are.
 use Rattle.std.proofs.Common.{rules}
 use Rattle.std.specs.Prelude.{Ok, Err}
 use Rattle.q_recorder.specs.declared.fault.Unrecorded.TheVariants.{Failed, OutOfMemory}

@@ -1,3 +1,4 @@
+-- Founding::read: a line as `nodes 3 4/5 4/5`, with beta before gamma.
 use Rattle.q_script.specs.Founding.{SpellsFounding}
 use Rattle.q_script.proofs.Pairs.{reads_none}
 use Rattle.q_script.proofs.Foundings.{no_word, other_word, not_nodes, no_count, no_second, no_beta, no_gamma}

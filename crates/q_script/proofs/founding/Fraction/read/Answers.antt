@@ -1,3 +1,4 @@
+-- Fraction::read: a fraction as `4/5`.
 use Rattle.q_script.specs.Founding.{SpellsFraction}
 use Rattle.q_script.proofs.Pairs.{reads_none}
 use Rattle.q_script.proofs.Foundings.{no_fraction}

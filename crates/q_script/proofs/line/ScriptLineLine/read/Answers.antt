@@ -1,3 +1,4 @@
+-- ScriptLine::read: the command with this word, where there is one.
 use Rattle.q_script.proofs.Events.{alone_judged, no_command, line_judged}
 use Rattle.q_script.proofs.line.ScriptLineLine.read.Goals as goal
 

@@ -1,3 +1,4 @@
+-- RecordLine::read: what a line spells.
 use Rattle.q_script.proofs.Learning.{none_read, no_id, no_number, no_value_behind}
 use Rattle.q_script.proofs.records.RecordLine.read.Goals as goal
 

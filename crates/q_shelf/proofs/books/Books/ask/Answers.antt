@@ -1,3 +1,4 @@
+-- Books::ask: a query begins at this node, which is there.
 use Rattle.std.proofs.Common.{Option, IsSome, refl, subst}
 use Rattle.q_book.specs.State.{BookState}
 use Rattle.q_book.specs.Books as book

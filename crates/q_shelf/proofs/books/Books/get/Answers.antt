@@ -1,3 +1,4 @@
+-- Books::get: the book of this node.
 use Rattle.std.proofs.Common.{sym, ap, ◌∙◌}
 use Rattle.std.specs.FinMap as fin
 use Rattle.sc_maps.proofs.Maps.{get_found}

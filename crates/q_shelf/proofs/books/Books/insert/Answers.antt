@@ -1,3 +1,4 @@
+-- Books::insert: puts the book of this node.
 use Rattle.std.proofs.Common.{ap, ◌∙◌}
 use Rattle.std.specs.FinMap as fin
 use Rattle.sc_maps.proofs.Maps.{one_written}

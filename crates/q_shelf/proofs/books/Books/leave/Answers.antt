@@ -1,3 +1,4 @@
+-- Books::leave: this node, which is there, leaves.
 use Rattle.std.proofs.Common.{Option, IsSome, refl, subst}
 use Rattle.q_book.specs.State.{BookState}
 use Rattle.q_book.specs.Books as book

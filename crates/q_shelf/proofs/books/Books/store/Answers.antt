@@ -1,3 +1,4 @@
+-- Books::store: a store begins at this node, which is there.
 use Rattle.std.proofs.Common.{ℕ, List, Option, IsSome, refl, subst}
 use Rattle.forms.specs.Calls.{Steps}
 use Rattle.q_book.specs.State.{BookState}

@@ -1,3 +1,4 @@
+-- Delivered::contains: whether this message was delivered to this node.
 use Rattle.std.proofs.Common.{sym, ap, ◌∙◌}
 use Rattle.std.specs.FinSet as set
 use Rattle.q_sim.specs.Delivered.{Deliveries}

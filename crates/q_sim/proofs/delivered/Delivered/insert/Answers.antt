@@ -1,3 +1,4 @@
+-- Delivered::insert: puts a delivery into the set.
 use Rattle.q_sim.proofs.Pairs.{one_more}
 use Rattle.q_sim.proofs.delivered.Delivered.insert.Goals as goal
 

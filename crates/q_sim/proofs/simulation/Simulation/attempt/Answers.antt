@@ -1,3 +1,4 @@
+-- Simulation::attempt: delivers a message to a node, and notes that it was tried.
 use Rattle.std.proofs.Common.{◌≤◌, length, refl, arith}
 use Rattle.q_sim.specs.Seen.{seen}
 use Rattle.q_sim.specs.Simulates.{SimState}

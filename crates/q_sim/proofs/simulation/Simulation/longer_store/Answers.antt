@@ -1,3 +1,4 @@
+-- Simulation::longer_store: why the cluster refuses to store more bytes than a value has at this node.
 use Rattle.std.proofs.Common.{sym, ap, ◌∙◌}
 use Rattle.sc_node.specs.State.{NodeState}
 use Rattle.q_sim.proofs.Storing.{at_no_book, at_no_node, before_it_joined, at_all}

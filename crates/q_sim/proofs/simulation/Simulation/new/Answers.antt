@@ -1,3 +1,4 @@
+-- Simulation::new: the cluster of the founders; nothing is delivered or printed.
 use Rattle.std.proofs.Common.{min}
 use Rattle.q_sim.proofs.Founders.{founders_rise}
 use Rattle.q_sim.proofs.simulation.Simulation.new.Goals as goal

@@ -1,3 +1,4 @@
+-- Simulation::note: notes a node that came, and a delivery that was accepted.
 use Rattle.std.proofs.Common.{refl}
 use Rattle.q_sim.specs.Seen.{seen}
 use Rattle.q_sim.specs.Simulates.{SimState}

@@ -1,6 +1,7 @@
+-- Simulation::perform: runs a line.
 use Rattle.std.proofs.Common.{ℕ, ◌-◌, ◌^◌, List, min, subst}
 use Rattle.std.specs.Prelude.{OnOk}
-use Rattle.q_history.specs.declared.event.Event.TheVariants as event
+use Rattle.q_history.specs.declared.event.ClusterEvent.TheVariants as event
 use Rattle.q_sim.specs.Simulates.{Acts, Registers, Saves, Spreads, Tells}
 use Rattle.q_sim.specs.Seen.{Prints, PrintsOver}
 use Rattle.q_sim.proofs.Performing.{leaves_files, performed}

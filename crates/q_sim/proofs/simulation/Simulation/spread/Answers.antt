@@ -1,3 +1,5 @@
+-- Simulation::spread: delivers a message to each live node that it was not delivered to, the least node first, so
+-- many times at most.
 use Rattle.std.proofs.Common.{◌∙◌, ◌<◌, ◌+◌, length, sym, ap, subst, arith, true≢false}
 use Rattle.q_sim.specs.declared.simulation.Simulation.{Simulation}
 use Rattle.q_sim.specs.Awaited.{IsOnward}

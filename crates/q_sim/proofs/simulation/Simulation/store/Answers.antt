@@ -1,6 +1,7 @@
+-- Simulation::store: begins to store a value of these bytes at a node.
 use Rattle.std.proofs.Common.{ℕ, List, subst, string_bytes}
 use Rattle.std.specs.Prelude.{OnOk}
-use Rattle.q_history.specs.declared.event.Event.TheVariants as event
+use Rattle.q_history.specs.declared.event.ClusterEvent.TheVariants as event
 use Rattle.q_sim.specs.Seen.{Prints, seen}
 use Rattle.q_sim.specs.Simulates.{Acts}
 use Rattle.q_sim.proofs.Storing.{longer, longer_refused}

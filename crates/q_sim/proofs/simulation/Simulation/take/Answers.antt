@@ -1,3 +1,4 @@
+-- Simulation::take: takes one event.
 use Rattle.std.proofs.Common.{◌≤◌, length, refl, arith, Ok}
 use Rattle.q_sim.specs.Seen.{seen}
 use Rattle.q_sim.specs.Simulates.{SimState}

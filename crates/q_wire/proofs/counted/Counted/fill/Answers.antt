@@ -1,3 +1,4 @@
+-- Counted::fill: reads until the buffer is full or the input ends, and gives how many bytes came.
 use Rattle.std.proofs.Common.{◌+◌, ◌-◌, ◌++◌, rules, arith, length, take, ap, ◌∙◌, subst, le_refl}
 use Rattle.std.proofs.lemmas.Slice.{take-put_mid_below}
 use Rattle.std.specs.Io.KnownBytes.{Consumes}

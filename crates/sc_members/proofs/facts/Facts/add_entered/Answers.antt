@@ -1,3 +1,4 @@
+-- Facts::add_entered: learns that the node has entered.
 use Rattle.std.proofs.Common.{sym, true≢false}
 use Rattle.sc_members.proofs.FactsLemmas.{entered_known}
 use Rattle.sc_members.proofs.facts.Facts.add_entered.Goals as goal

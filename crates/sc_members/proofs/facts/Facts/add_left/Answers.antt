@@ -1,3 +1,4 @@
+-- Facts::add_left: learns that the node has left.
 use Rattle.std.proofs.Common.{sym, true≢false}
 use Rattle.sc_members.proofs.FactsLemmas.{left_known}
 use Rattle.sc_members.proofs.facts.Facts.add_left.Goals as goal

@@ -1,3 +1,4 @@
+-- Facts::founders: these ids have entered and joined, and nobody left.
 use Rattle.sc_members.proofs.FactsLemmas.{founders_few}
 use Rattle.sc_members.proofs.facts.Facts.founders.Goals as goal
 

@@ -1,3 +1,4 @@
+-- Facts::knows: whether the others say nothing new.
 use Rattle.std.proofs.Common.{◌≡◌, true, sym, ◌∙◌, true≢false}
 use Rattle.std.specs.FinSet as set
 use Rattle.sc_members.proofs.FactsLemmas.{knows_all}

@@ -1,3 +1,4 @@
+-- Facts::knows_joined: whether it is known that the node has joined.
 use Rattle.std.proofs.Common.{sym, ◌∙◌, true≢false}
 use Rattle.sc_members.proofs.FactsLemmas.{knows_joined}
 use Rattle.sc_members.proofs.facts.Facts.knows_joined.Goals as goal

@@ -1,3 +1,4 @@
+-- Facts::new: nobody entered, joined or left.
 use Rattle.sc_members.proofs.FactsLemmas.{no_facts_few}
 use Rattle.sc_members.proofs.facts.Facts.new.Goals as goal
 

@@ -1,3 +1,4 @@
+-- IdSet::difference_len: how many ids are in this set and not in the other.
 use Rattle.std.proofs.Common.{refl, ◌∙◌}
 use Rattle.std.specs.FinSet as set
 use Rattle.std.proofs.lemmas.Iterator.Consumers.{count_from_yields_List, YieldsList-from_rest}

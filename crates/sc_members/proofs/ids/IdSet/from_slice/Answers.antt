@@ -1,3 +1,4 @@
+-- IdSet::from_slice: the set of these ids, in any order; an id that stands twice counts once.
 use Rattle.std.proofs.Common.{◌≡◌, ℕ, IfOk, sym, subst, ◌∙◌}
 use Rattle.std.specs.Ordering.{nat_cmp}
 use Rattle.std.specs.BTreeSet.{BTreeSet, IsFromIterResult}

@@ -1,3 +1,4 @@
+-- IdSet::insert: puts the id into the set.
 use Rattle.std.proofs.Common.{sym, ◌∙◌}
 use Rattle.sc_members.proofs.Sets.{insert_known}
 use Rattle.sc_members.proofs.ids.IdSet.insert.Goals as goal

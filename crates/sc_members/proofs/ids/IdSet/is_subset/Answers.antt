@@ -1,3 +1,4 @@
+-- IdSet::is_subset: whether all ids of the set are in the other.
 use Rattle.sc_members.proofs.Sets.{subset_is}
 use Rattle.sc_members.proofs.ids.IdSet.is_subset.Goals as goal
 

@@ -1,3 +1,4 @@
+-- IdSet::iter: the ids in rising order.
 use Rattle.std.proofs.Common.{sym, ap, ◌∙◌}
 use Rattle.sc_members.specs.Ids.{rising}
 use Rattle.sc_members.proofs.Sets.{rising-from_list}

@@ -1,3 +1,4 @@
+-- IdSet::least_common: the least id that is in both sets.
 use Rattle.sc_members.proofs.Sets.{in_intersection, first_copied, least_common}
 use Rattle.sc_members.proofs.ids.IdSet.least_common.Goals as goal
 

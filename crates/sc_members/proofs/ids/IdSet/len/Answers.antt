@@ -1,3 +1,4 @@
+-- IdSet::len: how many ids are in the set.
 use Rattle.std.proofs.Common.{sym, ap, ◌∙◌}
 use Rattle.std.specs.FinSet as set
 use Rattle.sc_members.specs.Ids.{Ids}

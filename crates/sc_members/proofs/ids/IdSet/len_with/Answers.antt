@@ -1,3 +1,4 @@
+-- IdSet::len_with: how many ids the set has once it has this one.
 use Rattle.std.proofs.Common.{arith}
 use Rattle.std.specs.Cmp.{nat_cmp_total}
 use Rattle.std.specs.FinSet as set

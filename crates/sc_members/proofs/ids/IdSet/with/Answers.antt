@@ -1,3 +1,4 @@
+-- IdSet::with: the ids of the set, and this one.
 use Rattle.std.proofs.Common.{◌≡◌, IfOk, subst, sym, ◌∙◌}
 use Rattle.sc_members.specs.Ids.{Ids}
 use Rattle.sc_members.proofs.Sets.{insert_known, one_more}

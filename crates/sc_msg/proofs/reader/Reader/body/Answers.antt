@@ -1,3 +1,4 @@
+-- Reader::body: the body of a message of this kind.
 use Rattle.std.proofs.Common.{[], rules}
 use Rattle.sc_msg.specs.Fields.{view_slot}
 use Rattle.sc_msg.proofs.Fields.{here_or, number_cut_first}

@@ -1,3 +1,4 @@
+-- Reader::collect_reply: the body of a reply to a collect, at the front of the bytes.
 use Rattle.std.proofs.Common.{[], ◌∷◌, rules}
 use Rattle.sc_msg.specs.Fields.{number, number_slot, view_slot}
 use Rattle.sc_msg.proofs.Fields.{here_or, later_or, number_cut_first, number_cut_second}

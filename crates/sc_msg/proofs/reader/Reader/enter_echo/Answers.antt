@@ -1,3 +1,4 @@
+-- Reader::enter_echo: the body of an echo to an enter, at the front of the bytes.
 use Rattle.std.proofs.Common.{[], ◌∷◌, ◌++◌, rules}
 use Rattle.sc_msg.specs.Fields.{IsFieldFault, number, flag_slot, view_slot, facts_slots}
 use Rattle.sc_msg.proofs.Lists.{or_memory}

@@ -1,3 +1,4 @@
+-- Reader::facts: three sets of ids.
 use Rattle.std.proofs.Common.{[], ◌∷◌, rules}
 use Rattle.sc_msg.specs.Fields.{ids, ids_slot}
 use Rattle.sc_msg.proofs.Fields.{here_or, later_or}

@@ -1,3 +1,4 @@
+-- Reader::ids: a set of ids: a count of at most 1,024, and the ids in rising order.
 use Rattle.std.proofs.Common.{◌++◌, ◌∷◌, [], ap, sym, ◌∙◌, arith, length-append}
 use Rattle.std.specs.FinSet as set
 use Rattle.sc_msg.specs.Entries.{ids_layout}

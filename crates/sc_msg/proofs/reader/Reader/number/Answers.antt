@@ -1,3 +1,4 @@
+-- Reader::number: a number of eight bytes.
 use Rattle.sc_msg.proofs.Numbers.{number_parts, number_first}
 use Rattle.sc_msg.proofs.reader.Reader.number.Goals as goal
 

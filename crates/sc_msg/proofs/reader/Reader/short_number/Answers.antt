@@ -1,3 +1,4 @@
+-- Reader::short_number: a number of two bytes.
 use Rattle.sc_msg.proofs.Numbers.{number_parts, number_first}
 use Rattle.sc_msg.proofs.reader.Reader.short_number.Goals as goal
 

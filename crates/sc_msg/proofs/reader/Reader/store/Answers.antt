@@ -1,3 +1,4 @@
+-- Reader::store: the body of a store, at the front of the bytes.
 use Rattle.std.proofs.Common.{[], ◌∷◌, rules}
 use Rattle.sc_msg.specs.Fields.{number, view_slot}
 use Rattle.sc_msg.proofs.Fields.{here_or, later_or, number_cut_first}

@@ -1,3 +1,4 @@
+-- Reader::store_ack: the body of an acknowledgement, at the front of the bytes.
 use Rattle.std.proofs.Common.{[], ◌∷◌, rules}
 use Rattle.sc_msg.specs.Fields.{number_slot}
 use Rattle.sc_msg.proofs.Fields.{number_cut_first, number_cut_second}

@@ -1,3 +1,4 @@
+-- Reader::stored: a sequence number from 1 and a value.
 use Rattle.std.proofs.Common.{arith, rules, sym, subst}
 use Rattle.sc_msg.specs.Entries.{IsStored}
 use Rattle.sc_msg.proofs.Parts.{value_faulty_behind}

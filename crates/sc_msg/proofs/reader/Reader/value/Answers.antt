@@ -1,3 +1,4 @@
+-- Reader::value: a value, behind its length where that is told.
 use Rattle.std.proofs.Common.{rules}
 use Rattle.sc_msg.proofs.Parts.{length_faulty, value_cut, value_parts}
 use Rattle.sc_msg.proofs.reader.Reader.value.Goals as goal

@@ -1,3 +1,4 @@
+-- Reader::view: a view: a count of at most 256, and records in rising order of their ids.
 use Rattle.std.proofs.Common.{◌≡◌, Err, ap, arith, rules}
 use Rattle.sc_view.specs.declared.view.ViewFault.TheVariants as views
 use Rattle.sc_msg.specs.Entries.{view_layout}

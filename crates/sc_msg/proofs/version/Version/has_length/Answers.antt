@@ -1,3 +1,4 @@
+-- Version::has_length: whether a value may have so many bytes: 48 in the first version, at most 112 in the second.
 use Rattle.sc_msg.proofs.Lengths.{length_of_first, length_of_second, length_means}
 use Rattle.sc_msg.proofs.version.Version.has_length.Goals as goal
 

@@ -1,3 +1,4 @@
+-- Node::on_own_enter_echo: the echo is for this node, which has not joined.
 use Rattle.std.proofs.Common.{◌≡◌, ◌<◌, true, Err, subst, sym, ap}
 use Rattle.std.specs.FinMap as fin
 use Rattle.sc_view.specs.Views.{most_entries, merge}

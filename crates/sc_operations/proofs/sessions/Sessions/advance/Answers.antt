@@ -1,3 +1,4 @@
+-- Sessions::advance: moves an operation that goes on.
 use Rattle.std.proofs.Common.{◌≡◌, ◌∙◌, subst, Option, IsSome, refl, ℕ, cond, Some}
 use Rattle.std.specs.Ordering.{nat_cmp}
 use Rattle.std.specs.BTreeMap.{is_at}

@@ -1,3 +1,4 @@
+-- Sessions::end: ends an operation, and gives what it ends with.
 use Rattle.std.proofs.Common.{ℕ, ◌∙◌, ap, List, None, Some}
 use Rattle.std.specs.Ordering.{nat_cmp}
 use Rattle.std.specs.FinMap as fin

@@ -1,3 +1,4 @@
+-- Sessions::insert: opens an operation.
 use Rattle.std.proofs.Common.{ap, ◌∙◌}
 use Rattle.std.specs.FinMap as fin
 use Rattle.std.specs.Ordering.{nat_cmp}

@@ -1,3 +1,4 @@
+-- Chunks::get: the entries of chunk number k, and None past the last chunk.
 use Rattle.std.proofs.Common.{ℕ, List, Some, sym, ap, ◌∙◌, refl}
 use Rattle.std.proofs.lemmas.Option.{slice_get_read}
 use Rattle.std.specs.List.{slice_get}

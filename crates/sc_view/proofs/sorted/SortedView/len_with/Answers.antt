@@ -1,3 +1,4 @@
+-- SortedView::len_with: how many ids the view has once it has this one.
 use Rattle.std.proofs.Common.{◌≡◌, sym, ap, ◌∙◌, arith}
 use Rattle.std.specs.FinMap as fin
 use Rattle.sc_view.specs.Views.{ViewMap}

@@ -1,3 +1,4 @@
+-- SortedView::len_with_all: how many ids the two views have together.
 use Rattle.std.proofs.Common.{◌≡◌, sym, ap, subst, ◌∙◌, arith}
 use Rattle.std.specs.FinMap as fin
 use Rattle.sc_view.specs.Views.{ViewMap, IsView}

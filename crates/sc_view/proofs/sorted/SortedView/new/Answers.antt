@@ -1,3 +1,4 @@
+-- SortedView::new: the view of no node.
 use Rattle.sc_view.proofs.ViewLemmas.{empty_valid}
 use Rattle.sc_view.proofs.sorted.SortedView.new.Goals as goal
 

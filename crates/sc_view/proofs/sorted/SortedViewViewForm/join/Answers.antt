@@ -1,3 +1,4 @@
+-- SortedView::join: merges another view into this one.
 use Rattle.std.proofs.Common.{sym, subst, arith}
 use Rattle.sc_view.specs.Views.{IsView}
 use Rattle.sc_view.proofs.ViewLemmas.{merge_valid}

@@ -1,3 +1,4 @@
+-- SortedView::learn: learns an entry: the larger number wins.
 use Rattle.std.proofs.Common.{sym, ap, subst, ◌∙◌, arith, ◌≤◌}
 use Rattle.sc_view.specs.Views.{ViewMap, IsView, put}
 use Rattle.sc_view.proofs.ViewLemmas.{put_valid}

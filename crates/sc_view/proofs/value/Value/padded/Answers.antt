@@ -1,3 +1,4 @@
+-- Value::padded: the value of at most 112 bytes.
 use Rattle.sc_view.proofs.ValueLemmas.{padded_copy}
 use Rattle.sc_view.proofs.value.Value.padded.Goals as goal
 

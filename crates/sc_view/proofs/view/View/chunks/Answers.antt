@@ -1,3 +1,4 @@
+-- View::chunks: the chunks that hold the entries.
 use Rattle.std.proofs.Common.{◌≡◌, ◌≤◌, length, sym, subst, ◌∙◌, arith}
 use Rattle.sc_view.specs.Rows.{joined}
 use Rattle.sc_view.specs.Views.{IsChunking}

@@ -1,3 +1,4 @@
+-- View::get_with_len: what is known of the node, and how many ids the view has once it has this one.
 use Rattle.std.proofs.Common.{arith}
 use Rattle.sc_view.proofs.ViewLemmas.{len-put}
 use Rattle.sc_view.proofs.view.View.get_with_len.Goals as goal

@@ -1,3 +1,4 @@
+-- View::has_values_within: whether each value has at least and at most so many bytes.
 use Rattle.std.proofs.Common.{subst, sym, List, ◌↔◌, length, ℕ, IsTrue}
 use Rattle.std.specs.List.{All}
 use Rattle.sc_view.specs.declared.view.Stored.{Stored}

@@ -1,3 +1,4 @@
+-- View::len: how many nodes the view has a value of.
 use Rattle.std.proofs.Common.{sym, ap, ◌∙◌}
 use Rattle.std.specs.FinMap as fin
 use Rattle.sc_view.specs.Views.{ViewMap}

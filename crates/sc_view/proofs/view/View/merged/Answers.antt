@@ -1,3 +1,5 @@
+-- View::merged: this view and the other as one: for each node the value with the larger number, this view's at
+-- equal ones.
 use Rattle.std.proofs.Common.{◌≡◌, ◌+◌, sym, subst, ap, ◌∙◌, arith}
 use Rattle.std.specs.FinMap as fin
 use Rattle.sc_view.specs.Rows.{joined}

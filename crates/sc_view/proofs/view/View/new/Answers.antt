@@ -1,3 +1,4 @@
+-- View::new: the view of no node.
 use Rattle.sc_view.proofs.MapLemmas.{blank_held}
 use Rattle.sc_view.proofs.view.View.new.Goals as goal
 

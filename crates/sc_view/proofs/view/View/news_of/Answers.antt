@@ -1,3 +1,4 @@
+-- View::news_of: what the other view tells beyond this one.
 use Rattle.std.proofs.Common.{◌≡◌, length, ap, sym, ◌∙◌, arith}
 use Rattle.std.specs.FinMap as fin
 use Rattle.sc_view.specs.Rows.{joined, count_lacking, count_newer}

@@ -1,3 +1,5 @@
+-- View::put: learns one value of a node: the one with the larger number stays, and at equal numbers the one that is
+-- there.
 use Rattle.std.proofs.Common.{◌≡◌, ◌≤◌, ℕ, List, Option, true, length, sym, ap, subst, ◌∙◌, arith}
 use Rattle.std.specs.Ordering.{nat_cmp}
 use Rattle.std.specs.FinMap as fin

@@ -1,3 +1,4 @@
+-- View::records: the entries in rising id order, each with its id.
 use Rattle.std.proofs.Common.{◌≤◌, sym, ap, subst, ◌∙◌}
 use Rattle.std.specs.FinMap as fin
 use Rattle.sc_view.specs.Rows.{joined}

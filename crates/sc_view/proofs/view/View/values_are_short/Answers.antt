@@ -1,3 +1,4 @@
+-- View::values_are_short: a law of every view: no value has more than 112 bytes, and the test finds so.
 use Rattle.sc_view.specs.Values.{all_lengths}
 use Rattle.sc_view.proofs.LengthLemmas.{short_within, within_told}
 use Rattle.sc_view.proofs.view.View.values_are_short.Goals as goal

@@ -1,3 +1,4 @@
+-- Nodes::act: the node of this id acts, if it is there and did not crash.
 use Rattle.std.proofs.Common.{Option, IsSome, refl, subst}
 use Rattle.sc_node.specs.State.{NodeState}
 use Rattle.sc_world.specs.Worlds.{acted}

@@ -1,3 +1,4 @@
+-- Nodes::has: some node has this id, or had it.
 use Rattle.std.proofs.Common.{sym, ap, ◌∙◌, Option, is_some}
 use Rattle.std.specs.Ordering.{nat_cmp}
 use Rattle.std.specs.FinMap as fin

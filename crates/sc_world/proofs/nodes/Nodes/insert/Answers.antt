@@ -1,3 +1,4 @@
+-- Nodes::insert: at Err the nodes are as they were.
 use Rattle.std.proofs.Common.{ap, ◌∙◌}
 use Rattle.std.specs.Ordering.{nat_cmp}
 use Rattle.std.specs.FinMap as fin

@@ -1,3 +1,4 @@
+-- Nodes::is_live: a node has this id, and has not left; unless it crashed.
 use Rattle.std.proofs.Common.{sym, ap, ◌∙◌, not}
 use Rattle.std.specs.Ordering.{nat_cmp}
 use Rattle.std.specs.FinMap as fin

@@ -1,3 +1,4 @@
+-- World::act: a node that is there acts.
 use Rattle.std.proofs.Common.{◌≡◌, ◌∙◌, Ok, length, ap, sym, subst}
 use Rattle.std.specs.FinSet as set
 use Rattle.sc_world.specs.contracts.world.World as world

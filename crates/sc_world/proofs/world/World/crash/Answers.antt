@@ -1,6 +1,7 @@
+-- World::crash: a node that is there stops.
 use Rattle.std.proofs.Common.{◌∙◌, ap, is_some}
 use Rattle.std.specs.FinMap as fin
-use Rattle.sc_world.specs.declared.event.Event.TheVariants as event
+use Rattle.sc_world.specs.declared.event.WorldEvent.TheVariants as event
 use Rattle.sc_world.specs.contracts.world.World as world
 use Rattle.sc_world.specs.Worlds.{live}
 use Rattle.sc_world.proofs.Histories.{history_next}

@@ -1,8 +1,9 @@
+-- World::enter: a new node enters.
 use Rattle.std.proofs.Common.{◌≡◌, ◌∙◌, Ok, None, length, ap, sym}
 use Rattle.std.specs.FinMap as fin
 use Rattle.sc_members.specs.Members.{Config}
 use Rattle.sc_node.specs.Nodes.{entered}
-use Rattle.sc_world.specs.declared.event.Event.TheVariants as event
+use Rattle.sc_world.specs.declared.event.WorldEvent.TheVariants as event
 use Rattle.sc_world.specs.contracts.world.World as world
 use Rattle.sc_world.specs.State.{WorldState, Past, world_of}
 use Rattle.sc_world.specs.Ledgers.{recorded, numbered}

@@ -1,3 +1,5 @@
+-- World::ops: the record of each operation, in the order in which they began: one for each accepted event that
+-- began one.
 use Rattle.std.proofs.Common.{subst}
 use Rattle.sc_world.specs.contracts.world.World as world
 use Rattle.sc_world.specs.State.{WorldState}

@@ -1,5 +1,0 @@
-use Rattle.bq_check.proofs.Once.{accepts}
-use Rattle.bq_check.proofs.check.check_within.Goals as goal
-
-pub returns-clause-all : goal.returns-clause-all
-returns-clause-all c = accepts c.args.bounds c.args.text c.args.notes c.certify.result c.certify.ensures.fault

@@ -1,5 +1,0 @@
-use Rattle.bq_verify.specs.Table.{IsFilled}
-use Rattle.bq_verify.proofs.verify.fill.Given as goal
-
-abbrev pub invariant-loop-unit : goal.invariant-loop-unit
-invariant-loop-unit l = IsFilled l.fn.bounds l.text l.states.items l.unit

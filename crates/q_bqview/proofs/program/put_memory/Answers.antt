@@ -1,0 +1,9 @@
+-- put_memory: writes the refusal for want of memory, and takes none: the exit status.
+use Rattle.std.proofs.Common.{inl, inr, refl}
+use Rattle.q_bqview.proofs.program.put_memory.Goals as goal
+
+pub returns-in-Ok : goal.returns-in-Ok
+returns-in-Ok g c = inl (c.in-Ok.ensures.written, refl, c.in-Ok.ensures.counted)
+
+pub returns-in-Err : goal.returns-in-Err
+returns-in-Err g c = inr (c.in-Err.ensures.failed, refl, c.in-Err.ensures.counted)

@@ -1,8 +1,0 @@
-use Rattle.std.proofs.Common.{inl, inr, refl}
-use Rattle.q_bqview.proofs.run.run_words.Goals as goal
-
-pub returns-in-Ok : goal.returns-in-Ok
-returns-in-Ok g c = inl (c.in-Ok.wanted, c.in-Ok.ensures, c.run_wanted.ensures)
-
-pub returns-in-Err : goal.returns-in-Err
-returns-in-Err g c = inr (c.in-Err.fault, c.in-Err.ensures, c.explain.ensures, refl)

@@ -1,0 +1,16 @@
+-- write_place: writes a region of memory, and the offsets from its start.
+use Rattle.std.proofs.Common.{◌∙◌, ◌++◌, ap, codes, string_bytes}
+use Rattle.bq_state.specs.Regions.{region_name}
+use Rattle.q_explain.specs.Known.{offsets_text}
+use Rattle.q_explain.proofs.Writing.{both}
+use Rattle.q_explain.proofs.listing.write_place.Goals as goal
+
+pub returns : goal.returns
+returns c =
+    let old = string_bytes c.args.out.now in
+    let named = string_bytes c.push_str.new.self in
+    let new = string_bytes c.write_offsets.new.out in
+    let start = codes "'s start plus " in
+    let offsets = offsets_text c.args.offsets in
+    both c.write_offsets.result old (region_name c.args.region) (start ++ offsets) named new (c.in_ok-push_str.ensures.bytes ∙ ap (λ name. old ++ name) c.name.ensures)
+    (both c.write_offsets.result named start offsets (string_bytes c.push_str-2.new.self) new c.in_ok-push_str-2.ensures.bytes c.write_offsets.ensures)

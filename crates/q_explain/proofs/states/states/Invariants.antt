@@ -1,7 +1,0 @@
-use Rattle.std.proofs.Common.{◌≡◌, string_bytes}
-use Rattle.q_explain.specs.Known.{unit_texts}
-use Rattle.q_explain.proofs.states.states.Given as goal
-
--- the lines of the units so far were written
-abbrev pub invariant-loop-unit : goal.invariant-loop-unit
-invariant-loop-unit l = string_bytes l.out ≡ unit_texts l.text l.notes l.unit

@@ -1,8 +1,0 @@
-use Rattle.std.proofs.Common.{codes, string_bytes}
-use Rattle.q_explain.specs.Known.{place_text}
-use Rattle.q_explain.proofs.Writing.{both}
-use Rattle.q_explain.proofs.states.write_pointer.Goals as goal
-
-pub returns : goal.returns
-returns c =
-    both c.write_place.result (string_bytes c.args.out.now) (codes "a pointer to the ") (place_text c.args.region c.args.offsets) (string_bytes c.push_str.new.self) (string_bytes c.write_place.new.out) c.in_ok-push_str.ensures.bytes c.write_place.ensures

@@ -1,4 +1,0 @@
-use Rattle.q_gathered.proofs.gathered.gathered.Goals as goal
-
-pub returns-in-Ok-clause-told : goal.returns-in-Ok-clause-told
-returns-in-Ok-clause-told c = (c.in_ok-cluster.cluster, c.in-Ok.ensures c.in_ok-cluster.ensures.gathers)

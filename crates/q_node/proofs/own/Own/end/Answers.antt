@@ -1,4 +1,0 @@
-use Rattle.q_node.proofs.own.Own.end.Goals as goal
-
-pub returns : goal.returns
-returns g c = c.record_all.ensures _ _ c.book-book.ensures.here c.args.self.own

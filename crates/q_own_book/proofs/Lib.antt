@@ -1,0 +1,3 @@
+-- A book that is a node's own, and grows by requests.
+mod Owned
+mod Replied

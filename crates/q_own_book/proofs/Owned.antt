@@ -1,0 +1,23 @@
+-- What the lock keeps true.
+use Rattle.std.proofs.Common.{◌≡◌, ℕ, List, Option, Some, None, ap, ◌∙◌}
+use Rattle.std.proofs.Props.{props}
+use Rattle.std.specs.Io.KnownBytes.{Appends}
+use Rattle.std.proofs.Math.Logic.{∥∥₁_elim, ∥∥₁_map}
+use Rattle.q_book.specs.State.{BookState}
+use Rattle.q_journal.specs.Head.{Head}
+use Rattle.q_recorder.specs.State.{RecorderState}
+use Rattle.q_recorder.specs.Recording.{Grows, IsRecorded}
+use Rattle.q_own_book.specs.Own.{IsOwn}
+
+-- of a book that grew, with what was recorded of it
+pub own_stays : (node : ℕ) (first : Option (List ℕ)) (b c : BookState) (r s : RecorderState) → Grows b c → IsOwn node first b r → (IsRecorded first b r → IsRecorded first c s) → IsOwn node first c s
+own_stays node first b c r s g own stays = record {
+  id = ap (λ (h : Head). h.id) g.head ∙ own.id;
+  recorded = ∥∥₁_map own.recorded stays;
+}
+
+-- what is known to be appended is so in one way
+pub appends_prop : (a b : Option (List ℕ)) (bytes : List ℕ) → IsProp (Appends a b bytes)
+appends_prop None b bytes = Prim.hlevel props
+appends_prop (Some x) None bytes = Prim.hlevel props
+appends_prop (Some x) (Some y) bytes = Prim.hlevel props

@@ -1,0 +1,2 @@
+-- What the lock of a node keeps true.
+pub mod Own

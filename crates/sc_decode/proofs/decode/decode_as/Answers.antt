@@ -1,9 +1,0 @@
-use Rattle.sc_msg.proofs.Unique.{decodes}
-use Rattle.sc_msg.proofs.Lengths.{decoded_fits}
-use Rattle.sc_decode.proofs.decode.decode_as.Goals as goal
-
-pub returns-clause-all : goal.returns-clause-all
-returns-clause-all c = decodes c.args.version c.args.bytes.now c.message_of.result c.message_of.ensures.spelled c.message_of.ensures.message c.message_of.ensures.fault
-
-pub returns-clause-values : goal.returns-clause-values
-returns-clause-values c = decoded_fits c.args.version c.message_of.result c.message_of.ensures.message
