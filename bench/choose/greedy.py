@@ -37,8 +37,8 @@ ROOM = {
     END: 3,
 }
 
-# At last the codes that gain least are left again, since they gain nothing that can be measured, and each has to be
-# proved: so many of two steps, and so many of the others stay. One of three stays with that of its first two.
+# At last the codes that gain least are left again, since each has to be proved: so many of two steps, and so many of the
+# others stay. One of three stays with that of its first two.
 LEFT_OF_TWO = 21
 STAY_OF_THREE = 16
 STAY_OF_CHOICE = 9
