@@ -24,6 +24,20 @@
 //! text, the one that is written, and which fault stands first. What lines mean is `Labels` of the crate `bq_labels`.
 //!
 //! The program that reads files of assembler text stands on this crate.
+//!
+//! A caller, proved in `callers`: a source written anew, with no labels and comments, spells the same text.
+//!
+//! ```rust
+//! pub fn written_anew(alloc: Global, source: &str) -> Result<String, AsmFault>
+//!     ensures { (t : List Insn) → IsText t → IsSource source.now t
+//!         → IfOk result (λ anew. IsSource (string_bytes anew) t) }
+//! {
+//!     disassembly_spells_the_text();
+//!     let text = assemble(alloc, source)?;
+//!     let anew = disassemble(alloc, &text)?;
+//!     Ok(anew)
+//! }
+//! ```
 #![tactic(auto)]
 
 mod assembler;

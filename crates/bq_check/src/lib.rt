@@ -24,6 +24,19 @@
 //! certificate holds, `Spelling` the bytes of notes, and `Reasons` what is told of faults. When
 //! notes pass is defined one crate below. `laws` has what follows: notes that pass have no fault,
 //! others have one first fault, and notes have bytes of their own in each form.
+//!
+//! A caller, proved in `callers`: a program out of a text and notes that nobody needs to trust.
+//!
+//! ```rust
+//! pub fn safe_program(alloc: Global, text: Text, notes: Notes) -> Result<Certified, CheckFault>
+//!     ensures text { IfOk result (λ program. program.text ≡ text) }
+//!     ensures safe { IfOk result (λ program. (len : ℕ) → IsIn len all_lengths → IsSafe len text program.longest) }
+//! {
+//!     let program = check(alloc, text, notes)?;
+//!     program.is_safe();
+//!     Ok(program)
+//! }
+//! ```
 #![tactic(auto)]
 
 mod certified;

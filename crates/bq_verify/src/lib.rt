@@ -15,6 +15,21 @@
 //!
 //! The definitions are in `specs/`: `States` has the states of a text, `Refused` what is refused and
 //! `Least` what makes the states the best. `laws` has that they are, for all texts.
+//!
+//! A caller, proved in `callers`: notes with which a text passes the checker, or none where no notes do.
+//!
+//! ```rust
+//! pub fn notes_if_any(alloc: Global, text: &Text) -> Result<Option<Notes>, AllocError>
+//!     ensures { IfOk result (λ found.
+//!         MatchOption found (NonePass all_lengths text.now) (Passes all_lengths text.now)) }
+//! {
+//!     match verify(alloc, text) {
+//!         Ok(notes) => Ok(Some(notes)),
+//!         Err(CheckFault::OutOfMemory) => Err(AllocError),
+//!         Err(_) => Ok(None),
+//!     }
+//! }
+//! ```
 #![tactic(auto)]
 
 pub mod laws;

@@ -6,6 +6,30 @@
 //!
 //! A seat is seen as the record of what its holder has done: `specs/AskerModel`, `specs/RunnerModel`; `specs/Calls`
 //! says what each call makes of it.
+//!
+//! A caller, proved in `callers`: an asker offers a job, a runner runs it if it gets one, and the asker looks once.
+//!
+//! ```rust
+//! pub fn offer_and_run(
+//!     board: &Board,
+//!     asker: &mut AskerSeat,
+//!     runner: &mut RunnerSeat,
+//!     block: &mut Block,
+//!     job: Job,
+//! ) -> Option<Done>
+//!     requires boards { (asker.old.table ≡ board_id board.now) × (runner.old.table ≡ board_id board.now) }
+//!     requires lanes { 8 * asker.old.number + 8 ≤ runner.old.lanes }
+//!     ensures { IfSome result IsFinished }
+//! {
+//!     let slot = board.offer(asker, job).ok()?;
+//!     if let Some(claim) = board.try_take(runner, slot) {
+//!         let job = claim.job();
+//!         let ran = run_fold(job.certified().certified(), job.view(), job.start(), block);
+//!         board.finish(runner, claim, ran);
+//!     }
+//!     board.poll(asker, slot)
+//! }
+//! ```
 #![tactic(auto)]
 
 mod board;

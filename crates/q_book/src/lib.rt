@@ -12,6 +12,18 @@
 //! Its type keeps that a book is the replay of its journal: the calls that the journal names, from the first state of
 //! its node, lead to this book and to no other entry of the journal. So each recorded answer is the meaning of its
 //! query's program, folded over the view that its own collect returned.
+//!
+//! A caller, proved in `callers`: a query is asked of a program that is registered first.
+//!
+//! ```rust
+//! pub fn register_and_ask(book: &mut Book, program: &Program, start: u64) -> Result<Asked, BookFault>
+//!     ensures { IfOk result (λ query. (id : ℕ) × (between : BookState)
+//!         × (registered book.old program.now ≡ Ok (id, between)) × (asked between id start ≡ Ok (query, book.new))) }
+//! {
+//!     let id = book.register(program)?;
+//!     book.ask(id, start)
+//! }
+//! ```
 #![tactic(auto)]
 
 mod answer;

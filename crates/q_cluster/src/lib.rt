@@ -7,6 +7,25 @@
 //! collect returned, which holds each store that ended before the collect began and that meets it.
 //!
 //! Each node with its desk is the replay of its own journal, also where it has left or crashed.
+//!
+//! A caller, proved in `callers`: founders begin a cluster, which takes one event.
+//!
+//! ```rust
+//! pub fn first_event(
+//!     alloc: Global,
+//!     config: Config,
+//!     founders: &[u64],
+//!     event: &ClusterEvent,
+//! ) -> Result<Cluster, ClusterFault>
+//!     ensures answers { IfOk result AnswersAreTrue }
+//!     ensures follows { IfOk result (λ after. (before : ClusterState) × (told : ClusterStep)
+//!         × (started version.Second config founders.now ≡ Ok before) × Follows before event.now told after) }
+//! {
+//!     let mut cluster = Cluster::new(alloc, config, founders)?;
+//!     cluster.step(event)?;
+//!     Ok(cluster)
+//! }
+//! ```
 #![tactic(auto)]
 
 mod cluster;

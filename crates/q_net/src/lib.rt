@@ -25,6 +25,26 @@
 //! is the one that its own calls make of them in turn, and the messages of these calls stand in order behind those that
 //! were there. Where a read or a write fails (86) the same holds of the requests before, and the one at hand was done
 //! whole or not at all; and just one failure was counted, at the reader or at the writer.
+//!
+//! A caller, proved in `callers`: requests as bytes to a book, and its replies as bytes.
+//!
+//! ```rust
+//! pub fn replies_to<T: Wait>(
+//!     rt: &T,
+//!     alloc: Global,
+//!     book: &mut Book,
+//!     requests: &[u8],
+//!     sent: &mut Vec<Message>,
+//! ) -> Result<Vec<u8>, TransportFailed>
+//!     ensures { IfOk result (λ replies. (left : Option (List ℕ)) × IsServed (Some requests.now) left (Some [])
+//!         (Some replies.items) book.old book.new sent.old.items sent.new.items) }
+//! {
+//!     let mut input = Counted::new(requests);
+//!     let mut out = Counted::new(Vec::new(alloc));
+//!     serve(rt, alloc, book, &mut input, &mut out, sent)?;
+//!     Ok(out.inner)
+//! }
+//! ```
 #![tactic(auto)]
 
 mod incoming;

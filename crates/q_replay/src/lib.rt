@@ -9,6 +9,20 @@
 //!
 //! So whoever trusts the definitions need not trust whoever wrote the bytes: an answer in a journal that is replayed is
 //! the meaning of its query's program over the view that the node collected.
+//!
+//! A caller, proved in `callers`: the answer of a query that a journal records, out of the journal's bytes.
+//!
+//! ```rust
+//! pub fn recorded_answer(alloc: Global, bytes: &[u8], query: usize) -> Result<Option<Ran>, ReplayFault>
+//!     ensures recorded { IfOk result (λ found. (book : BookState) × (bytes.now ≡ journal_of book)
+//!         × AnswersAreRight book.desk × IfSome found (λ ran. answer_of book.desk query ≡ Ok (Some ran))) }
+//!     ensures fault { IfErr result (IsFault bytes.now) }
+//! {
+//!     let book = replay(alloc, bytes)?;
+//!     let _right = book.desk();
+//!     Ok(book.answer(query).unwrap_or(None))
+//! }
+//! ```
 #![tactic(auto)]
 
 mod call;

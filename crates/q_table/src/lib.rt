@@ -7,6 +7,20 @@
 //! was.
 //!
 //! `specs/Programs` says what registering does to the list of the certificates.
+//!
+//! A caller, proved in `callers`: a program gets its id in a new table.
+//!
+//! ```rust
+//! pub fn table_of_one(alloc: Global, certified: Certified) -> Result<(Programs, ProgramId), TableFault>
+//!     ensures table { IfOk result (λ made. made.0 ≡ certified ∷ []) }
+//!     ensures id { IfOk result (λ made. made.1 ≡ 0) }
+//! {
+//!     let program = Program::new(alloc, certified)?;
+//!     let mut programs = Programs::new(alloc);
+//!     let id = programs.register(&program)?;
+//!     Ok((programs, id))
+//! }
+//! ```
 #![tactic(auto)]
 
 mod fault;

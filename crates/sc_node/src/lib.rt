@@ -9,6 +9,19 @@
 //! refusals in the order in which they are tested. Each call meets its definition by the word `Steps`: it answers
 //! and leaves what is said, or refuses as is said, or was refused memory; after a refusal the node is as it was.
 //! The handlers follow the CCC store-collect algorithm (Attiya, Kumari, Somani, Welch 2020).
+//!
+//! A caller, proved in `callers`: the only founder of a cluster begins to store its first value.
+//!
+//! ```rust
+//! pub fn first_store(alloc: Global, config: Config, id: u64, value: &Value) -> Result<(Node, Begun), NodeFault>
+//!     ensures view { IfOk result (λ r. r.0.view ≡ put fin.empty id (record { number = 1; value = value.now })) }
+//!     ensures sent { IfOk result (λ r. r.1.outs ≡ message_from id (Store 0 r.0.view) ∷ []) }
+//! {
+//!     let mut node = Node::founder(alloc, config, id, &[id])?;
+//!     let begun = node.begin_store(value)?;
+//!     Ok((node, begun))
+//! }
+//! ```
 #![tactic(auto)]
 
 mod answer;

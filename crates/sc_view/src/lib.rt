@@ -12,6 +12,19 @@
 //!
 //! A view keeps its entries in a row of chunks that it shares with its copies (`sc_chunk`, `row`). `form` says what any
 //! form of a view answers, by the map alone; `sorted` is a second form, for tests.
+//!
+//! A caller, proved in `callers`: a view learns a value of a node, and answers what it then knows of that node.
+//!
+//! ```rust
+//! pub fn learn(view: &mut View, id: u64, stored: Stored) -> Result<Option<Stored>, ViewFault>
+//!     ensures learned { OnOk result (view.new ≡ put view.old id stored) }
+//!     ensures known { IfOk result (λ known. known ≡ fin.get view.new id) }
+//!     ensures same { OnErr result (view.new ≡ view.old) }
+//! {
+//!     view.put(id, stored)?;
+//!     Ok(view.get(id))
+//! }
+//! ```
 #![tactic(auto)]
 
 mod chunks;

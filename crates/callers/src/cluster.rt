@@ -1,0 +1,30 @@
+//! A caller of `q_cluster`.
+
+ghost use Rattle.std.specs.Prelude.{◌≡◌, Ok, IfOk};
+ghost use Rattle.sc_msg.specs.declared.version.Version.TheVariants as version;
+ghost use Rattle.q_history.specs.State.{ClusterState};
+ghost use Rattle.q_history.specs.Clusters.{started};
+ghost use Rattle.q_history.specs.Calls.{Follows};
+ghost use Rattle.q_history.specs.Headline.{AnswersAreTrue};
+ghost use Rattle.q_history.specs.declared.event.ClusterStep.{ClusterStep};
+
+use q_cluster::Cluster;
+use q_history::{ClusterEvent, ClusterFault};
+use sc_members::Config;
+use std::alloc::Global;
+
+/// Founders begin a cluster, which takes one event. Each answer that it then has recorded is true.
+pub fn first_event(
+    alloc: Global,
+    config: Config,
+    founders: &[u64],
+    event: &ClusterEvent,
+) -> Result<Cluster, ClusterFault>
+    ensures answers { IfOk result AnswersAreTrue }
+    ensures follows { IfOk result (λ after. (before : ClusterState) × (told : ClusterStep)
+        × (started version.Second config founders.now ≡ Ok before) × Follows before event.now told after) }
+{
+    let mut cluster = Cluster::new(alloc, config, founders)?;
+    cluster.step(event)?;
+    Ok(cluster)
+}

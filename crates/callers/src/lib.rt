@@ -1,0 +1,32 @@
+//! A small caller of each crate that others call first, proved with no file of proof: what a caller has by the contracts
+//! alone.
+//!
+//! The first line of a file names the crate that it calls. Its one function stands word for word on that crate's page;
+//! `./check-documents` looks at that.
+#![tactic(auto)]
+
+mod asm;
+mod board;
+mod book;
+mod check;
+mod cluster;
+mod net;
+mod node;
+mod replay;
+mod run;
+mod table;
+mod verify;
+mod view;
+
+pub use asm::written_anew;
+pub use board::offer_and_run;
+pub use book::register_and_ask;
+pub use check::safe_program;
+pub use cluster::first_event;
+pub use net::replies_to;
+pub use node::first_store;
+pub use replay::recorded_answer;
+pub use run::run_once;
+pub use table::table_of_one;
+pub use verify::notes_if_any;
+pub use view::learn;
