@@ -10,7 +10,7 @@ ghost use Rattle.q_net.specs.declared.request.Request.TheVariants.{Ask, Store};
 
 use crate::replies::Reply;
 use crate::request::Request;
-use bq_check::{CheckFault, Notes, NotesFault, check_within};
+use bq_check::{CheckFault, Notes, NotesFault};
 use bq_insn::{DecodeFault, decode};
 use q_book::{Asked, Book, BookFault, record_lengths};
 use q_table::{Program, ProgramId};
@@ -55,14 +55,9 @@ fn register(alloc: Global, book: &mut Book, text: &[u8], notes: &[u8]) -> Regist
         Ok(notes) => notes,
         Err(fault) => return Registered::Notes(fault),
     };
-    let lengths = record_lengths(book.version());
-    let certified = match check_within(alloc, text, notes, lengths) {
-        Ok(certified) => certified,
-        Err(fault) => return Registered::Check(fault),
-    };
-    match Program::new(alloc, certified) {
+    match Program::of_text(alloc, text, notes, record_lengths(book.version())) {
         Ok(program) => Registered::Book(book.register(&program)),
-        Err(_) => Registered::Check(CheckFault::OutOfMemory),
+        Err(fault) => Registered::Check(fault),
     }
 }
 

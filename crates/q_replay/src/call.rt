@@ -6,7 +6,7 @@ ghost use Rattle.q_journal.specs.declared.written.Written.TheVariants as written
 ghost use Rattle.q_replay.specs.Taking.{Taking, Calling};
 
 use crate::refusal::Refusal;
-use bq_check::{Notes, check_within};
+use bq_check::Notes;
 use bq_flow::laws::one_longest;
 use bq_frame::Block;
 use bq_insn::Text;
@@ -32,8 +32,7 @@ fn register(alloc: Global, book: &mut Book, text: Text, notes: Notes) -> Result<
     ensures { Taking book.old (written.Register text notes) book.new result }
 {
     one_longest();
-    let certified = check_within(alloc, text, notes, record_lengths(book.version()))?;
-    let program = Program::new(alloc, certified)?;
+    let program = Program::of_text(alloc, text, notes, record_lengths(book.version()))?;
     let _id = book.register(&program)?;
     Ok(())
 }

@@ -1,8 +1,13 @@
 //! A certified program that several owners share, and its id.
 
-ghost use Rattle.std.specs.Prelude.{◌≡◌, IfOk};
+ghost use Rattle.std.specs.Prelude.{◌≡◌, IfOk, IfErr, MatchResult, ⊤};
+ghost use Rattle.bq_sound.specs.Passes.{Passes};
+ghost use Rattle.bq_check.specs.Certified.{IsCertified};
+ghost use Rattle.bq_check.specs.Faults.{IsFirstFault};
 
-use bq_check::Certified;
+use bq_check::{Certified, CheckFault, Notes, check_within};
+use bq_insn::Text;
+use bq_state::Bounds;
 use std::alloc::{AllocError, Global};
 use std::marker::Model;
 use std::sync::Arc;
@@ -58,6 +63,26 @@ impl Program {
     {
         let certified = Arc::new(alloc, certified).map_err(AllocError::from)?;
         Ok(Program { certified })
+    }
+
+    /// The text with these notes as a program for records of these lengths, where the notes pass; else the first fault,
+    /// as [`check_within`] has it. 99 OutOfMemory may stand in place of any of these answers.
+    pub fn of_text(
+        alloc: Global,
+        text: Text,
+        notes: Notes,
+        lengths: Bounds,
+    ) -> Result<Program, CheckFault>
+        ensures same { IfOk result (λ p. (p.text ≡ text) × (p.notes ≡ notes) × (p.lengths ≡ lengths)) }
+        ensures passes { IfOk result IsCertified }
+        ensures all { Passes lengths text notes → MatchResult result (λ p. ⊤) (λ e. e ≡ CheckFault.OutOfMemory) }
+        ensures fault { IfErr result (IsFirstFault lengths text notes) }
+    {
+        let certified = check_within(alloc, text, notes, lengths)?;
+        match Program::new(alloc, certified) {
+            Ok(program) => Ok(program),
+            Err(_) => Err(CheckFault::OutOfMemory),
+        }
     }
 
     /// The certificate.
