@@ -1,2 +1,3 @@
--- The bytes of records, and the steps of a fold.
+-- The bytes of records, folds that go on, and the steps of a fold.
 pub mod Records
+pub mod Chunks

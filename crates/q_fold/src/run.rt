@@ -1,7 +1,8 @@
 //! The fold of a program over a view by the loop without tests.
 
-ghost use Rattle.std.specs.Prelude.{◌≡◌, ◌+◌, drop, length, take};
-ghost use Rattle.q_fold.specs.Folds.{IsFolded};
+ghost use Rattle.std.specs.Prelude.{◌≡◌, ◌+◌, ◌*◌, ◌^◌, ◌<◌, ◌≤◌, All, drop, length, map, take};
+ghost use Rattle.bq_range.specs.Interval.{IsIn};
+ghost use Rattle.q_fold.specs.Folds.{GoesOn, IsFolded};
 ghost use Rattle.q_fold.specs.Records.{HasRecordsWithin, record_bytes};
 
 use bq_check::Certified;
@@ -9,7 +10,7 @@ use bq_frame::Block;
 use bq_meaning::laws::appended;
 use bq_meaning::{Ended, LEAST_RECORD};
 use bq_run::run_placed;
-use sc_view::{Stored, View};
+use sc_view::{Entry, Stored, View};
 
 /// What a certified program over the records of a view comes to, from a start value: the accumulator after the last
 /// record, and all steps. It runs over a block, whose frame it clears first. The program was checked for records of the
@@ -27,14 +28,34 @@ pub fn fold_view(certified: &Certified, view: &View, start: u64, block: &mut Blo
         acc: start,
         steps: 0,
     };
-    for (id, stored) in view.records() {
+    let chunks = view.chunks();
+    let mut k = 0;
+    while let Some(entries) = chunks.get(k) {
+        ran = fold_entries(certified, entries, ran, block);
+        k += 1;
+    }
+    ran
+}
+
+// What has been run goes on over the entries of one chunk.
+#[inline(always)]
+fn fold_entries(certified: &Certified, entries: &[Entry], ran: Ended, block: &mut Block) -> Ended
+    requires lengths { All (λ e. IsIn (16 + length e.1.value) certified.now.lengths) entries.now }
+    requires room { ran.steps + certified.now.longest * length entries.now < 2 ^ 64 }
+    ensures goes_on { GoesOn certified.now.text (map record_bytes entries.now) ran (take 512 block.old) result (take 512 block.new) }
+    ensures within { result.steps ≤ ran.steps + certified.now.longest * length entries.now }
+{
+    let mut ran = ran;
+    let mut rest = entries;
+    while let Some((first, others)) = rest.split_first() {
         appended();
-        let length = place(block, id, stored);
+        let length = place(block, first.0, &first.1);
         let ended = run_placed(certified, length, ran.acc, block);
         ran = Ended {
             acc: ended.acc,
             steps: ran.steps + ended.steps,
         };
+        rest = others;
     }
     ran
 }

@@ -1,47 +1,67 @@
--- One more record run goes on a fold, at every placement.
-use Rattle.std.proofs.Common.{◌≡◌, ℕ, List, length, map, Some, slice_get, ap, sym, subst, ◌∙◌, arith, length-append, take}
-use Rattle.std.proofs.lemmas.List.{length-map, map-append}
-use Rattle.std.proofs.lemmas.Map.Iter.{iter_turn}
+-- fold_view: one chunk more goes on a fold, at every placement.
+use Rattle.std.proofs.Common.{◌≡◌, ◌+◌, ◌*◌, ◌<◌, ◌≤◌, ◌++◌, ℕ, List, length, map, Some, None, ap, sym, subst, ◌∙◌, arith, take}
+use Rattle.std.proofs.lemmas.List.{map-append}
+use Rattle.std.proofs.lemmas.List.Elements.{All-from_recursion}
+use Rattle.std.proofs.lemmas.Option.{slice_get_within}
+use Rattle.std.specs.List.{slice_get, AllByRecursion}
 use Rattle.std.specs.FinMap as fin
 use Rattle.std.specs.FinMap.{len-entries}
-use Rattle.bq_meaning.specs.Runs.{RecordRun}
 use Rattle.bq_meaning.specs.Answers.{FoldsTo, zero_frame}
 use Rattle.bq_range.specs.Interval.{IsIn}
-use Rattle.q_fold.proofs.Records.{shown, all_read, room, one_more, lengths_at}
+use Rattle.sc_view.specs.declared.view.Stored.{Stored}
+use Rattle.sc_view.specs.Views.{joined}
+use Rattle.sc_view.proofs.LengthLemmas.{each_entry}
+use Rattle.q_fold.proofs.Chunks.{next_chunk, all_chunks, in_chunk, more_steps, room}
 use Rattle.q_fold.specs.Records.{record_bytes}
 use Rattle.q_fold.proofs.run.fold_view.Goals as goal
 
-pub run_placed-ended-requires : goal.run_placed-ended-requires
-run_placed-ended-requires c =
-    let turn = iter_turn shown c.records-id-items.result c.loop-id.yielded c.into_iter-id-iterator.result c.loop-id.id-iterator c.next.new.self c.next.result c.into_iter-id-iterator.ensures.into_iter_gives c.loop-id.yielded_by (c.in-Some.id, c.in-Some.stored) c.in-Some.is c.next.ensures.steps in
-    let there : slice_get (fin.entries c.args.view.now) (length c.loop-id.yielded) ≡ Some (c.in-Some.id, c.in-Some.stored.now) = ap (λ xs. slice_get xs (length c.loop-id.yielded)) (sym c.records-id-items.ensures.all) ∙ turn.1 in
-    let within = lengths_at c.args.certified.now.lengths c.args.view.now (length c.loop-id.yielded) c.in-Some.id c.in-Some.stored.now c.requires there in
-    subst (λ (n : ℕ). IsIn n c.args.certified.now.lengths) (sym c.place-length.ensures.length) within
+pub fold_entries-ran-requires-clause-lengths : goal.fold_entries-ran-requires-clause-lengths
+fold_entries-ran-requires-clause-lengths c =
+    let HasLength : ℕ × Stored → Type 0 = λ e. IsIn (16 + length e.1.value) c.args.certified.now.lengths in
+    let each : AllByRecursion HasLength (joined c.chunks-chunks.result) = subst (AllByRecursion HasLength) (sym c.chunks-chunks.ensures.all) (each_entry HasLength c.args.view.now c.requires.at) in
+    All-from_recursion HasLength c.in-Some.entries.now (in_chunk HasLength c.chunks-chunks.result c.loop-entries.k c.in-Some.entries.now each (sym c.in-Some.ensures))
 
-pub overflow_add-ran : goal.overflow_add-ran
-overflow_add-ran c =
-    let turn = iter_turn shown c.records-id-items.result c.loop-id.yielded c.into_iter-id-iterator.result c.loop-id.id-iterator c.next.new.self c.next.result c.into_iter-id-iterator.ensures.into_iter_gives c.loop-id.yielded_by (c.in-Some.id, c.in-Some.stored) c.in-Some.is c.next.ensures.steps in
-    room c.loop-id.ran.steps c.run_placed-ended.result.steps c.args.certified.now.longest (length c.loop-id.yielded) c.loop-id.invariant.within c.run_placed-ended.ensures.within (omega (arith, c.longest-longest.ensures.value, c.longest-longest.ensures.within)) (omega (arith, turn.0, c.records-id-items.ensures.few))
+pub fold_entries-ran-requires-clause-room : goal.fold_entries-ran-requires-clause-room
+fold_entries-ran-requires-clause-room c =
+    let chunks = c.chunks-chunks.result in
+    let k = c.loop-entries.k in
+    let at : slice_get chunks k ≡ Some c.in-Some.entries.now = sym c.in-Some.ensures in
+    let longest : c.args.certified.now.longest ≤ 4096 = omega (arith, c.longest-longest.ensures.value, c.longest-longest.ensures.within) in
+    room c.loop-entries.ran.steps c.args.certified.now.longest chunks k c.in-Some.entries.now c.chunks-chunks.ensures.small (slice_get_within chunks k c.in-Some.entries.now at) c.chunks-chunks.ensures.few longest at c.loop-entries.invariant.within
 
-pub loop-id-preserved : goal.loop-id-preserved
-loop-id-preserved c = record {
-  folds = λ p is.
-      let text = c.args.certified.now.text in
-      let steps = c.run_placed-ended.result.steps in
-      let acc = c.run_placed-ended.result.acc in
-      let left = take 512 c.run_placed-ended.new.block in
-      let begun : List ℕ = take 512 c.place-length.new.block in
-      let run = subst (λ (bytes : List ℕ). RecordRun p text c.loop-id.ran.acc bytes begun steps acc left) c.place-length.ensures.«record» (c.run_placed-ended.ensures.run p is) in
-      let run_on = subst (λ (frame : List ℕ). RecordRun p text c.loop-id.ran.acc (record_bytes (c.in-Some.id, c.in-Some.stored.now)) frame steps acc left) c.place-length.ensures.frame run in
-      rw (map-append, map-append) (c.appended.ensures p text (map record_bytes (map shown c.loop-id.yielded)) _ c.args.start zero_frame c.loop-id.ran.acc c.loop-id.ran.steps (take 512 c.loop-id.block) steps acc left (c.loop-id.invariant.folds p is) run_on);
-  within = one_more c.loop-id.ran.steps c.run_placed-ended.result.steps c.args.certified.now.longest (length c.loop-id.yielded) _ (length-append c.loop-id.yielded _) c.loop-id.invariant.within c.run_placed-ended.ensures.within;
-}
+pub overflow_add-k : goal.overflow_add-k
+overflow_add-k c =
+    let there : c.loop-entries.k < length c.chunks-chunks.result = slice_get_within c.chunks-chunks.result c.loop-entries.k c.in-Some.entries.now (sym c.in-Some.ensures) in
+    omega (arith, there, c.chunks-chunks.ensures.few)
+
+pub loop-entries-smaller : goal.loop-entries-smaller
+loop-entries-smaller c =
+    let there : c.loop-entries.k < length c.chunks-chunks.result = slice_get_within c.chunks-chunks.result c.loop-entries.k c.in-Some.entries.now (sym c.in-Some.ensures) in
+    omega (arith, there)
+
+pub loop-entries-preserved : goal.loop-entries-preserved
+loop-entries-preserved c =
+    let text = c.args.certified.now.text in
+    let longest = c.args.certified.now.longest in
+    let before : List (ℕ × Stored) = joined (take c.loop-entries.k c.chunks-chunks.result) in
+    let entries : List (ℕ × Stored) = c.in-Some.entries.now in
+    let ran = c.fold_entries-ran.result in
+    let left = take 512 c.fold_entries-ran.new.block in
+    let next : joined (take (c.loop-entries.k + 1) c.chunks-chunks.result) ≡ before ++ entries = next_chunk c.chunks-chunks.result c.loop-entries.k entries (sym c.in-Some.ensures) in
+    let more : c.loop-entries.ran.steps + longest * length entries ≤ longest * length (before ++ entries) = more_steps c.loop-entries.ran.steps longest before entries c.loop-entries.invariant.within in
+    record {
+      folds = λ p is. subst (λ records. FoldsTo p text records c.args.start zero_frame ran.acc ran.steps left) (sym (ap (λ (es : List (ℕ × Stored)). map record_bytes es) next ∙ map-append record_bytes before entries))
+          (c.fold_entries-ran.ensures.goes_on p (map record_bytes before) c.args.start zero_frame is (c.loop-entries.invariant.folds p is));
+      within = subst (λ (es : List (ℕ × Stored)). ran.steps ≤ longest * length es) (sym next) (omega (arith, more, c.fold_entries-ran.ensures.within));
+    }
 
 pub returns : goal.returns
 returns c =
-    let whole : map shown c.loop-id.yielded ≡ fin.entries c.args.view.now = all_read c.records-id-items.result c.loop-id.yielded c.into_iter-id-iterator.result c.loop-id.id-iterator c.next.new.self c.next.result c.into_iter-id-iterator.ensures.into_iter_gives c.loop-id.yielded_by c.in-None.is c.next.ensures.steps ∙ c.records-id-items.ensures.all in
+    let chunks = c.chunks-chunks.result in
+    let past : slice_get chunks c.loop-entries.k ≡ None = sym c.in_default.ensures in
+    let whole : joined (take c.loop-entries.k chunks) ≡ fin.entries c.args.view.now = ap joined (all_chunks chunks c.loop-entries.k past) ∙ c.chunks-chunks.ensures.all in
     record {
       certified = c.is_certified.ensures;
-      meant = λ p is. ((take 512 c.loop-id.block), subst (λ xs. FoldsTo p c.args.certified.now.text (map record_bytes xs) c.args.start zero_frame c.loop-id.ran.acc c.loop-id.ran.steps (take 512 c.loop-id.block)) whole (c.loop-id.invariant.folds p is));
-      within = rw (len-entries, ← whole, length-map) c.loop-id.invariant.within;
+      meant = λ p is. ((take 512 c.loop-entries.block), subst (λ (es : List (ℕ × Stored)). FoldsTo p c.args.certified.now.text (map record_bytes es) c.args.start zero_frame c.loop-entries.ran.acc c.loop-entries.ran.steps (take 512 c.loop-entries.block)) whole (c.loop-entries.invariant.folds p is));
+      within = rw (len-entries, ← whole) c.loop-entries.invariant.within;
     }
