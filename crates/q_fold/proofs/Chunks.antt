@@ -12,10 +12,6 @@ use Rattle.q_fold.specs.Folds.{GoesOn}
 
 -- ---- folds that go on
 
--- over no records a fold stays what it is
-pub stays : (text : List Insn) (ran : Ended) (frame : List ℕ) → GoesOn text [] ran frame ran frame
-stays text ran frame p before start begun is folds = subst (λ records. FoldsTo p text records start begun ran.acc ran.steps frame) (sym (append-nil before)) folds
-
 -- first over some records, then over the others
 pub goes_both : (text : List Insn) (some others : List (List ℕ)) (first second third : Ended) (begun between after : List ℕ)
     → GoesOn text some first begun second between → GoesOn text others second between third after → GoesOn text (some ++ others) first begun third after
