@@ -21,7 +21,9 @@ pub fn offer_and_run(
     requires lanes { 8 * asker.old.number + 8 ≤ runner.old.lanes }
     ensures { IfSome result IsFinished }
 {
-    let slot = board.offer(asker, job).ok()?;
+    let Ok(slot) = board.offer(asker, job) else {
+        return None;
+    };
     if let Some(claim) = board.try_take(runner, slot) {
         let job = claim.job();
         let ran = run_fold(job.certified().certified(), job.view(), job.start(), block);

@@ -13,5 +13,6 @@ pub fn register_and_ask(book: &mut Book, program: &Program, start: u64) -> Resul
         × (registered book.old program.now ≡ Ok (id, between)) × (asked between id start ≡ Ok (query, book.new))) }
 {
     let id = book.register(program)?;
-    book.ask(id, start)
+    let query = book.ask(id, start)?;
+    Ok(query)
 }

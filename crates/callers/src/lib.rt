@@ -25,7 +25,7 @@ pub use check::safe_program;
 pub use cluster::first_event;
 pub use net::replies_to;
 pub use node::first_store;
-pub use replay::recorded_answer;
+pub use replay::book_again;
 pub use run::run_once;
 pub use table::table_of_one;
 pub use verify::notes_if_any;

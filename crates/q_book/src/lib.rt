@@ -21,7 +21,8 @@
 //!         × (registered book.old program.now ≡ Ok (id, between)) × (asked between id start ≡ Ok (query, book.new))) }
 //! {
 //!     let id = book.register(program)?;
-//!     book.ask(id, start)
+//!     let query = book.ask(id, start)?;
+//!     Ok(query)
 //! }
 //! ```
 #![tactic(auto)]

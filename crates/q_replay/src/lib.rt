@@ -10,17 +10,17 @@
 //! So whoever trusts the definitions need not trust whoever wrote the bytes: an answer in a journal that is replayed is
 //! the meaning of its query's program over the view that the node collected.
 //!
-//! A caller, proved in `callers`: the answer of a query that a journal records, out of the journal's bytes.
+//! A caller, proved in `callers`: a journal's bytes back to a book, whose recorded answers are right.
 //!
 //! ```rust
-//! pub fn recorded_answer(alloc: Global, bytes: &[u8], query: usize) -> Result<Option<Ran>, ReplayFault>
-//!     ensures recorded { IfOk result (λ found. (book : BookState) × (bytes.now ≡ journal_of book)
-//!         × AnswersAreRight book.desk × IfSome found (λ ran. answer_of book.desk query ≡ Ok (Some ran))) }
+//! pub fn book_again(alloc: Global, bytes: &[u8]) -> Result<Book, ReplayFault>
+//!     ensures book { IfOk result (λ book. bytes.now ≡ journal_of book) }
+//!     ensures right { IfOk result (λ book. AnswersAreRight book.desk) }
 //!     ensures fault { IfErr result (IsFault bytes.now) }
 //! {
 //!     let book = replay(alloc, bytes)?;
 //!     let _right = book.desk();
-//!     Ok(book.answer(query).unwrap_or(None))
+//!     Ok(book)
 //! }
 //! ```
 #![tactic(auto)]
