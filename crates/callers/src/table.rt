@@ -7,7 +7,10 @@ use q_table::{Program, ProgramId, Programs, TableFault};
 use std::alloc::Global;
 
 /// A table of one program, and the program's id, which is 0.
-pub fn table_of_one(alloc: Global, certified: Certified) -> Result<(Programs, ProgramId), TableFault>
+pub fn table_of_one(
+    alloc: Global,
+    certified: Certified,
+) -> Result<(Programs, ProgramId), TableFault>
     ensures table { IfOk result (λ made. made.0 ≡ certified ∷ []) }
     ensures id { IfOk result (λ made. made.1 ≡ 0) }
 {

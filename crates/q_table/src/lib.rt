@@ -11,7 +11,10 @@
 //! A caller, proved in `callers`: a program gets its id in a new table.
 //!
 //! ```rust
-//! pub fn table_of_one(alloc: Global, certified: Certified) -> Result<(Programs, ProgramId), TableFault>
+//! pub fn table_of_one(
+//!     alloc: Global,
+//!     certified: Certified,
+//! ) -> Result<(Programs, ProgramId), TableFault>
 //!     ensures table { IfOk result (λ made. made.0 ≡ certified ∷ []) }
 //!     ensures id { IfOk result (λ made. made.1 ≡ 0) }
 //! {
