@@ -23,7 +23,7 @@ pub use board::offer_and_run;
 pub use book::register_and_ask;
 pub use check::safe_program;
 pub use cluster::first_event;
-pub use net::replies_to;
+pub use net::serve_client;
 pub use node::first_store;
 pub use replay::book_again;
 pub use run::run_once;

@@ -1,6 +1,6 @@
 //! A caller of `q_net`.
 
-ghost use Rattle.std.specs.Prelude.{ℕ, List, Option, [], Some, IfOk};
+ghost use Rattle.std.specs.Prelude.{◌≡◌, length, IfOk, OnOk};
 ghost use Rattle.q_net.specs.Serves.{IsServed};
 
 use q_book::Book;
@@ -8,22 +8,22 @@ use q_net::serve;
 use q_wire::{Counted, TransportFailed};
 use sc_msg::Message;
 use std::alloc::Global;
+use std::io::{Read, Write};
 use std::sync::Wait;
 
-/// The replies of a book to the requests that bytes spell, as bytes. The messages of its calls are put behind those
-/// that were sent.
-pub fn replies_to<T: Wait>(
+/// Serves the requests of a client, from bytes to bytes, and tells how many entries the journal of the book then has.
+pub fn serve_client<T: Wait, R: Read, W: Write>(
     rt: &T,
     alloc: Global,
     book: &mut Book,
-    requests: &[u8],
+    input: &mut Counted<R>,
+    out: &mut Counted<W>,
     sent: &mut Vec<Message>,
-) -> Result<Vec<u8>, TransportFailed>
-    ensures { IfOk result (λ replies. (left : Option (List ℕ)) × IsServed (Some requests.now) left (Some [])
-        (Some replies.items) book.old book.new sent.old.items sent.new.items) }
+) -> Result<usize, TransportFailed>
+    ensures served { OnOk result (IsServed (R.remaining input.old.inner) (R.remaining input.new.inner)
+        (W.contents out.old.inner) (W.contents out.new.inner) book.old book.new sent.old.items sent.new.items) }
+    ensures entries { IfOk result (λ entries. entries ≡ length book.new.desk.journal) }
 {
-    let mut input = Counted::new(requests);
-    let mut out = Counted::new(Vec::new(alloc));
-    serve(rt, alloc, book, &mut input, &mut out, sent)?;
-    Ok(out.inner)
+    serve(rt, alloc, book, input, out, sent)?;
+    Ok(book.events())
 }

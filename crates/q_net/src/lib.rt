@@ -26,23 +26,23 @@
 //! were there. Where a read or a write fails (86) the same holds of the requests before, and the one at hand was done
 //! whole or not at all; and just one failure was counted, at the reader or at the writer.
 //!
-//! A caller, proved in `callers`: requests as bytes to a book, and its replies as bytes.
+//! A caller, proved in `callers`: a client of a book is served, from the bytes of its requests to those of the replies.
 //!
 //! ```rust
-//! pub fn replies_to<T: Wait>(
+//! pub fn serve_client<T: Wait, R: Read, W: Write>(
 //!     rt: &T,
 //!     alloc: Global,
 //!     book: &mut Book,
-//!     requests: &[u8],
+//!     input: &mut Counted<R>,
+//!     out: &mut Counted<W>,
 //!     sent: &mut Vec<Message>,
-//! ) -> Result<Vec<u8>, TransportFailed>
-//!     ensures { IfOk result (λ replies. (left : Option (List ℕ)) × IsServed (Some requests.now) left (Some [])
-//!         (Some replies.items) book.old book.new sent.old.items sent.new.items) }
+//! ) -> Result<usize, TransportFailed>
+//!     ensures served { OnOk result (IsServed (R.remaining input.old.inner) (R.remaining input.new.inner)
+//!         (W.contents out.old.inner) (W.contents out.new.inner) book.old book.new sent.old.items sent.new.items) }
+//!     ensures entries { IfOk result (λ entries. entries ≡ length book.new.desk.journal) }
 //! {
-//!     let mut input = Counted::new(requests);
-//!     let mut out = Counted::new(Vec::new(alloc));
-//!     serve(rt, alloc, book, &mut input, &mut out, sent)?;
-//!     Ok(out.inner)
+//!     serve(rt, alloc, book, input, out, sent)?;
+//!     Ok(book.events())
 //! }
 //! ```
 #![tactic(auto)]
