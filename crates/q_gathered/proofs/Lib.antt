@@ -5,6 +5,5 @@ mod Cutting
 mod Testing
 mod Viewing
 mod Answering
-mod Pairing
 mod Telling
 mod Reading

@@ -24,8 +24,8 @@ use Rattle.q_history.specs.Heads.{book_of}
 use Rattle.q_history.specs.State.{ClusterState}
 use Rattle.q_history.proofs.Lists.{same_some, no_some}
 use Rattle.q_gather.specs.Gather.{GathersBooks}
-use Rattle.q_sim.specs.Printing.{TellsPairs, AddsPairs}
-use Rattle.q_gathered.specs.Lines.{answers_of, pairs_of}
+use Rattle.q_sim.specs.Printing.{TellsPairs, AddsPairs, ended_pairs_of}
+use Rattle.q_gathered.specs.Lines.{answers_of}
 use Rattle.q_gathered.specs.Tells.{Tells}
 use Rattle.q_gathered.specs.Truth.{AnswersAreTrue}
 
@@ -72,12 +72,12 @@ all_true answers worlds regular books c gathers place query b q view ran at numb
 
 -- what is printed of books that gather
 pub all_told : ((books : List BookState) (c : ClusterState) → GathersBooks books c → AnswersAreTrue c books) → (c : ClusterState) (books : List BookState) (pairs : Bool) (ops : List Op) (first second third last : List ℕ)
-    → GathersBooks books c → ops ≡ c.world.ops → first ≡ [] → second ≡ first ++ answers_of books → AddsPairs (cond pairs (pairs_of ops) []) second third → last ≡ third ++ codes "journals ok\n" → Tells c books pairs last
+    → GathersBooks books c → ops ≡ c.world.ops → first ≡ [] → second ≡ first ++ answers_of books → AddsPairs (cond pairs (ended_pairs_of ops) []) second third → last ≡ third ++ codes "journals ok\n" → Tells c books pairs last
 all_told law c books pairs ops first second third last gathers are none answers met end = record {
   gathers = gathers;
   are_true = law books c gathers;
   met = met.0;
-  tells_pairs = subst (λ (os : List Op). TellsPairs (cond pairs (pairs_of os) []) met.0) are met.1;
+  tells_pairs = subst (λ (os : List Op). TellsPairs (cond pairs (ended_pairs_of os) []) met.0) are met.1;
   says = end ∙ ap (λ (x : List ℕ). x ++ codes "journals ok\n") (met.2 ∙ ap (λ (x : List ℕ). x ++ met.0) (answers ∙ ap (λ (x : List ℕ). x ++ answers_of books) none))
       ∙ append_assoc (answers_of books) met.0 (codes "journals ok\n");
 }

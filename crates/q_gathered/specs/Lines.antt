@@ -1,16 +1,14 @@
 -- The lines that tell what was gathered.
-use Rattle.std.specs.Prelude.{ℕ, zero, suc, ◌&&◌, Bool, not, is_some, List, [], ◌∷◌, ◌++◌, codes, filter, length, map}
+use Rattle.std.specs.Prelude.{ℕ, zero, suc, List, [], ◌∷◌, ◌++◌, codes, length}
 use Rattle.std.specs.List.{flat_map}
 use Rattle.std.specs.Fmt.{decimal}
 use Rattle.std.specs.FinMap as fin
 use Rattle.sc_view.specs.declared.view.Stored.{Stored}
 use Rattle.sc_view.specs.Views.{ViewMap}
-use Rattle.sc_world.specs.declared.op.Op.{Op}
 use Rattle.q_session.specs.declared.query.Phase.{Phase}
 use Rattle.q_session.specs.declared.query.Phase.TheVariants.{Answered}
 use Rattle.q_session.specs.declared.query.Query.{Query}
 use Rattle.q_book.specs.State.{BookState}
-use Rattle.q_sim.specs.Printing.{is_store}
 
 -- ---- journals
 
@@ -51,17 +49,3 @@ book_lines b = answer_lines b.id 0 b.desk.queries
 -- those of these books in turn
 abbrev pub answers_of : List BookState → List ℕ
 answers_of books = flat_map book_lines books
-
--- ---- pairs of operations
-
--- a store and a collect that have ended, whichever did first
-abbrev pub is_pair : Op → Op → Bool
-is_pair s c = is_store s.session.kind && (is_some s.end && (not (is_store c.session.kind) && is_some c.end))
-
--- the pairs of a store, in the order of the operations
-abbrev pub pairs_with : Op → List Op → List (Op × Op)
-pairs_with s ops = map (λ c. (s, c)) (filter (is_pair s) ops)
-
--- the pairs of each operation in turn
-abbrev pub pairs_of : List Op → List (Op × Op)
-pairs_of ops = flat_map (λ s. pairs_with s ops) ops

@@ -6,12 +6,12 @@ use Rattle.q_gather.specs.declared.fault.GatherFault.{GatherFault}
 use Rattle.q_gather.specs.declared.fault.GatherFault.TheVariants as gather
 use Rattle.q_history.specs.State.{ClusterState}
 use Rattle.q_history.specs.declared.fault.ClusterFault.TheVariants as cluster
-use Rattle.q_sim.specs.Printing.{TellsPairs}
+use Rattle.q_sim.specs.Printing.{TellsPairs, ended_pairs_of}
 use Rattle.q_sim.specs.declared.refusal.Refusal.{Refusal}
 use Rattle.q_sim.specs.declared.refusal.Refusal.TheVariants as refusal
 use Rattle.sc_node.specs.declared.fault.NodeFault.TheVariants as node
 use Rattle.sc_world.specs.declared.fault.WorldFault.TheVariants as world
-use Rattle.q_gathered.specs.Lines.{answers_of, pairs_of}
+use Rattle.q_gathered.specs.Lines.{answers_of}
 use Rattle.q_gathered.specs.Truth.{AnswersAreTrue}
 
 -- The books gather into the cluster, where each answer that they record is true; and the text is what they tell: those
@@ -20,7 +20,7 @@ pub record Tells (c : ClusterState) (books : List BookState) (pairs : Bool) (tex
   pub gathers : GathersBooks books c
   pub are_true : AnswersAreTrue c books
   pub met : List ℕ
-  pub tells_pairs : TellsPairs (if pairs then pairs_of c.world.ops else []) met
+  pub tells_pairs : TellsPairs (if pairs then ended_pairs_of c.world.ops else []) met
   pub says : text ≡ answers_of books ++ (met ++ codes "journals ok\n")
 
 -- the refusal by which it is told that books do not gather

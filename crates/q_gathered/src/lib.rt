@@ -26,7 +26,6 @@ mod ending;
 mod files;
 pub mod laws;
 mod notes;
-mod pairs;
 mod sources;
 mod teller;
 pub mod worked;

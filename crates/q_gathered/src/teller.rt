@@ -3,16 +3,15 @@
 ghost use Rattle.std.specs.Prelude.{◌≡◌, ◌++◌, ℕ, List, [], IfOk, IfErr, OnOk, codes, string_bytes, if◌then◌else◌};
 ghost use Rattle.q_gather.specs.Gather.{AreRefused, GathersBooks};
 ghost use Rattle.q_history.specs.State.{ClusterState};
-ghost use Rattle.q_sim.specs.Printing.{AddsPairs};
-ghost use Rattle.q_gathered.specs.Lines.{pairs_of};
+ghost use Rattle.q_sim.specs.Printing.{AddsPairs, ended_pairs_of};
 ghost use Rattle.q_gathered.specs.Tells.{Tells};
 
 use crate::answers::print_answers;
 use crate::laws::every_gathered_answer_is_true;
-use crate::pairs::print_pairs;
 use q_book::Book;
 use q_cluster::Cluster;
 use q_gather::{GatherFault, gather_books};
+use q_sim::print_ended_pairs;
 use sc_world::Op;
 use std::alloc::{AllocError, Global};
 
@@ -47,10 +46,10 @@ fn told(alloc: Global, cluster: &Cluster, books: &[Book], pairs: bool) -> Result
 
 /// Prints the pairs of operations, if they are asked for.
 fn print_pairs_if(lines: &mut String, pairs: bool, ops: &[Op]) -> Result<(), AllocError>
-    ensures { OnOk result (AddsPairs (if pairs then pairs_of ops.now else []) (string_bytes lines.old) (string_bytes lines.new)) }
+    ensures { OnOk result (AddsPairs (if pairs then ended_pairs_of ops.now else []) (string_bytes lines.old) (string_bytes lines.new)) }
 {
     if pairs {
-        print_pairs(lines, ops)
+        print_ended_pairs(lines, ops)
     } else {
         Ok(())
     }

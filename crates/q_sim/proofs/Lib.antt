@@ -9,6 +9,7 @@ mod Lines
 mod Uncertified
 mod Founders
 mod Ids
+mod Pairing
 mod Told
 mod Performing
 mod Storing

@@ -1,6 +1,7 @@
 pub mod Awaited
 pub mod Delivered
 pub mod Longer
+pub mod Meetings
 pub mod Printing
 pub mod Programs
 pub mod Refusal

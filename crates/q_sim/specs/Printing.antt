@@ -81,13 +81,25 @@ is_over (Some end) place = nat_lt end place
 abbrev pub is_pair : Op → Op → Bool
 is_pair s c = is_store s.session.kind && (not (is_store c.session.kind) && (is_some c.end && is_over s.end c.begin))
 
--- the pairs of a store, in the order of the operations
-abbrev pub pairs_with : Op → List Op → List (Op × Op)
-pairs_with s ops = map (λ c. (s, c)) (filter (is_pair s) ops)
+-- a store and a collect that have ended, whichever did first
+abbrev pub is_ended_pair : Op → Op → Bool
+is_ended_pair s c = is_store s.session.kind && (is_some s.end && (not (is_store c.session.kind) && is_some c.end))
 
--- the pairs of each operation in turn
+-- the pairs of a store that a test takes, in the order of the operations
+abbrev pub pairs_with : (Op → Op → Bool) → Op → List Op → List (Op × Op)
+pairs_with is s ops = map (λ c. (s, c)) (filter (is s) ops)
+
+-- those of each operation in turn
+abbrev pub pairs_by : (Op → Op → Bool) → List Op → List (Op × Op)
+pairs_by is ops = flat_map (λ s. pairs_with is s ops) ops
+
+-- each pair of an ended store and a later collect
 abbrev pub pairs_of : List Op → List (Op × Op)
-pairs_of ops = flat_map (λ s. pairs_with s ops) ops
+pairs_of ops = pairs_by is_pair ops
+
+-- each pair of a store and a collect that have ended
+abbrev pub ended_pairs_of : List Op → List (Op × Op)
+ended_pairs_of ops = pairs_by is_ended_pair ops
 
 abbrev pub meeting_text : Option ℕ → List ℕ
 meeting_text (Some id) = codes " meet " ++ ending id

@@ -9,6 +9,7 @@
 //! - [`Refusal`] is each reason for which an event or a command is refused, with the line that is printed of it.
 //! - [`certified_code`] and [`certified_text`] make programs with their certificates, from their bytes.
 //! - [`print_told`] and [`print_messages`] print the lines of what an accepted event tells and of its messages.
+//! - [`print_pairs`] and [`print_ended_pairs`] print where stores and collects met.
 //! - [`Delivered`] is the set of deliveries that were made or tried.
 //!
 //! The command line of `bqview` stands on it.
@@ -16,6 +17,7 @@
 
 mod delivered;
 pub mod laws;
+mod meetings;
 mod printing;
 mod program;
 mod refusal;
@@ -23,7 +25,8 @@ mod simulation;
 pub mod worked;
 
 pub use delivered::Delivered;
-pub use printing::{print_messages, print_pairs, print_told};
+pub use meetings::{print_ended_pairs, print_pairs};
+pub use printing::{print_messages, print_told};
 pub use program::{certified_code, certified_text};
 pub use refusal::{Refusal, RefusalPlace, RefusedLine};
 pub use simulation::{Printed, simulate};

@@ -1,14 +1,12 @@
 //! What is printed of an event.
 
-ghost use Rattle.std.specs.Prelude.{◌≡◌, [], ◌∷◌, ◌++◌, OnOk, string_bytes};
-ghost use Rattle.q_sim.specs.Printing as pair;
-ghost use Rattle.q_sim.specs.Printing.{AddsPairs, told_lines, message_line, message_lines, pair_line, pairs_with, pairs_of};
+ghost use Rattle.std.specs.Prelude.{◌≡◌, ◌++◌, OnOk, string_bytes};
+ghost use Rattle.q_sim.specs.Printing.{told_lines, message_line, message_lines};
 
 use q_cluster::Cluster;
 use q_desk::Completed;
 use q_history::{Answer, Handed, Told};
-use sc_node::OperationKind;
-use sc_world::{Op, Sent, meets};
+use sc_world::Sent;
 use std::alloc::AllocError;
 
 /// Prints what an accepted event tells beside its messages.
@@ -56,86 +54,6 @@ pub fn print_messages(lines: &mut String, cluster: &Cluster, sent: Sent) -> Resu
     let there = cluster.sent().saturating_sub(sent.first);
     for offset in 0..sent.count.min(there) {
         print_message(lines, cluster, sent.first + offset)?;
-    }
-    Ok(())
-}
-
-fn is_store(kind: &OperationKind) -> bool
-    ensures { result ≡ pair.is_store kind.now }
-{
-    match kind {
-        OperationKind::Store(_) => true,
-        OperationKind::Collect => false,
-    }
-}
-
-fn is_over(end: Option<usize>, place: usize) -> bool
-    ensures { result ≡ pair.is_over end place }
-{
-    match end {
-        Some(end) => end < place,
-        None => false,
-    }
-}
-
-/// Whether these are an ended store and an ended collect that began after the store's end.
-fn is_pair(store: &Op, collect: &Op) -> bool
-    ensures { result ≡ pair.is_pair store.now collect.now }
-{
-    is_store(&store.session.kind)
-        && !is_store(&collect.session.kind)
-        && collect.end.is_some()
-        && is_over(store.end, collect.begin)
-}
-
-/// Prints that a store and a collect meet at this node, or that they do not meet.
-fn print_meeting(
-    lines: &mut String,
-    store: &Op,
-    collect: &Op,
-    least: Option<u64>,
-) -> Result<(), AllocError>
-    ensures { OnOk result (string_bytes lines.new ≡ string_bytes lines.old ++ pair_line store.now collect.now least) }
-{
-    let node = store.node;
-    let tag = store.tag;
-    let asking = collect.node;
-    let asked = collect.tag;
-    match least {
-        Some(id) => writeln!(
-            lines,
-            "store {node} {tag} collect {asking} {asked} meet {id}"
-        ),
-        None => writeln!(lines, "store {node} {tag} collect {asking} {asked} apart"),
-    }
-}
-
-/// Prints the least node where a store and a collect meet, or that there is none.
-fn print_pair(lines: &mut String, store: &Op, collect: &Op) -> Result<(), AllocError>
-    ensures { OnOk result (AddsPairs ((store.now, collect.now) ∷ []) (string_bytes lines.old) (string_bytes lines.new)) }
-{
-    print_meeting(lines, store, collect, meets(store, collect))
-}
-
-/// Prints the pairs of a store.
-fn print_pairs_with(lines: &mut String, store: &Op, ops: &[Op]) -> Result<(), AllocError>
-    ensures { OnOk result (AddsPairs (pairs_with store.now ops.now) (string_bytes lines.old) (string_bytes lines.new)) }
-{
-    for collect in ops {
-        if is_pair(store, collect) {
-            print_pair(lines, store, collect)?;
-        }
-    }
-    Ok(())
-}
-
-/// Prints each pair of an ended store and an ended collect that began after the store's end, by the order in which the
-/// stores and then the collects began: where they meet, or that they do not.
-pub fn print_pairs(lines: &mut String, ops: &[Op]) -> Result<(), AllocError>
-    ensures { OnOk result (AddsPairs (pairs_of ops.now) (string_bytes lines.old) (string_bytes lines.new)) }
-{
-    for store in ops {
-        print_pairs_with(lines, store, ops)?;
     }
     Ok(())
 }

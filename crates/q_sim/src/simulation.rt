@@ -5,7 +5,8 @@ ghost use Rattle.q_sim.specs.Simulates.{IsSimulationFault, Rises, Simulates, Tel
 ghost use Rattle.q_sim.specs.Awaited.{AwaitsFrom};
 
 use crate::delivered::Delivered;
-use crate::printing::{print_messages, print_pairs, print_told};
+use crate::meetings::print_pairs;
+use crate::printing::{print_messages, print_told};
 use crate::program::certified_code;
 use crate::refusal::{Refusal, RefusedLine};
 use q_cluster::Cluster;

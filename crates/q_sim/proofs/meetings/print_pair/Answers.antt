@@ -1,7 +1,7 @@
 -- print_pair: prints the least node where a store and a collect meet, or that there is none.
 use Rattle.std.proofs.Common.{string_bytes}
-use Rattle.q_sim.proofs.Told.{one_pair}
-use Rattle.q_sim.proofs.printing.print_pair.Goals as goal
+use Rattle.q_sim.proofs.Pairing.{one_pair}
+use Rattle.q_sim.proofs.meetings.print_pair.Goals as goal
 
 pub returns : goal.returns
 returns c =

@@ -1,9 +1,9 @@
--- print_pairs: prints each pair of an ended store and an ended collect that began after the store's end, by the
--- order in which the stores and then the collects began: where they meet, or that they do not.
+-- print_pairs_by: prints these pairs, by the order in which the stores and then the collects began.
 use Rattle.std.proofs.Common.{rules, ◌≡◌, ◌+◌, ◌++◌, [], ◌∷◌, take, string_bytes}
 use Rattle.std.proofs.lemmas.List.{take_more}
-use Rattle.q_sim.proofs.Told.{no_pairs, one_more_store}
-use Rattle.q_sim.proofs.printing.print_pairs.Goals as goal
+use Rattle.q_sim.specs.Meetings.{is_told}
+use Rattle.q_sim.proofs.Pairing.{no_pairs, one_more_store}
+use Rattle.q_sim.proofs.meetings.print_pairs_by.Goals as goal
 
 pub loop-store-init : goal.loop-store-init
 loop-store-init c = no_pairs (string_bytes c.args.lines.now)
@@ -13,5 +13,5 @@ loop-store-preserved c =
     let ops = c.args.ops.now in
     let i = c.loop-store.store-index in
     let more : take (i + 1) ops ≡ take i ops ++ c.store-item.result ∷ [] = search (rules, take_more) in
-    one_more_store ops (take i ops) (take (i + 1) ops) c.store-item.result (string_bytes c.args.lines.now) (string_bytes c.loop-store.lines) (string_bytes c.print_pairs_with.new.lines) more
+    one_more_store (is_told c.args.pairs) ops (take i ops) (take (i + 1) ops) c.store-item.result (string_bytes c.args.lines.now) (string_bytes c.loop-store.lines) (string_bytes c.print_pairs_with.new.lines) more
     c.loop-store.invariant c.in_ok-print_pairs_with.ensures
