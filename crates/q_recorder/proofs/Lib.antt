@@ -2,5 +2,4 @@
 mod Parts
 mod Growing
 mod Recorded
-mod Checked
 mod LeftOut

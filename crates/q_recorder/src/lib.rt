@@ -13,13 +13,14 @@
 //!
 //! - [`JournalFile`] is what a journal is written to: [`DiskFile`] is a file of the system, and [`MemoryFile`] is for
 //!   tests.
-//! - [`head_bytes`] and [`entries_bytes`] are the bytes that are written.
+//! - [`head_bytes`] and [`entries_bytes`] of `q_replay` are the bytes that are written.
 //! - The laws say that a book grows by each of its calls, and that what stands in the file stands there still.
 //!
+//! [`entries_bytes`]: q_replay::entries_bytes
+//! [`head_bytes`]: q_replay::head_bytes
 //! [`record`]: Recorder::record
 #![tactic(auto)]
 
-mod bytes;
 mod fault;
 mod file;
 pub mod laws;
@@ -27,7 +28,6 @@ mod memory;
 mod recorder;
 pub mod worked;
 
-pub use bytes::{entries_bytes, head_bytes};
 pub use fault::Unrecorded;
 pub use file::{DiskFile, JournalFile};
 pub use memory::MemoryFile;

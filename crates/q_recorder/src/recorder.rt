@@ -6,10 +6,10 @@ ghost use Rattle.q_book.specs.State.{BookState};
 ghost use Rattle.q_replay.specs.Journal.{journal_of};
 ghost use Rattle.q_recorder.specs.Recording.{AppendsPart, Grows, IsRecorded, Records, lacking_bytes};
 
-use crate::bytes::{entries_bytes, head_bytes};
 use crate::fault::Unrecorded;
 use crate::file::JournalFile;
 use q_book::Book;
+use q_replay::{entries_bytes, head_bytes};
 use q_wire::{Counted, TransportFailed};
 use std::alloc::{AllocError, Global};
 use std::io::Write;

@@ -1,7 +1,7 @@
 -- What is written of a journal, entry by entry.
-use Rattle.std.proofs.Common.{◌≡◌, ℕ, ◌+◌, ◌<◌, ◌≤◌, List, [], ◌∷◌, ◌++◌, length, take, get_or, refl, sym, ap, ◌∙◌, subst}
+use Rattle.std.proofs.Common.{◌≡◌, ℕ, ◌+◌, ◌<◌, ◌≤◌, List, [], ◌∷◌, ◌++◌, length, take, drop, get_or, refl, sym, ap, ◌∙◌, subst}
 use Rattle.std.proofs.lemmas.List.{flat_map_more, take_more, take_all, append-nil}
-use Rattle.std.proofs.lemmas.List.Elements.{All-from_recursion, All-get_or}
+use Rattle.std.proofs.lemmas.List.Elements.{All-from_recursion, All-drop, All-get_or}
 use Rattle.std.specs.List.{All, AllByRecursion}
 use Rattle.sc_members.specs.Members.{IsConfig}
 use Rattle.sc_msg.specs.declared.version.Version.{Version}
@@ -44,6 +44,12 @@ pub checked_at : (b : BookState) (es : List Entry) (k : ℕ) (version : Version)
 checked_at b es k version e replay journal within at own =
     let all : All (IsChecked b.version) es = subst (All (IsChecked b.version)) (sym journal) (journal-checked b replay) in
     subst (λ (x : Version). IsChecked x e) (sym own) (subst (IsChecked b.version) (sym at) (All-get_or (IsChecked b.version) es k e within all))
+
+-- and so are those behind the first so many
+pub behind-checked : (b : BookState) (n : ℕ) (es : List Entry) (version : Version) → IsReplay b → es ≡ drop n b.desk.journal → version ≡ b.version → All (IsChecked version) es
+behind-checked b n es version replay behind own =
+    let all : All (IsChecked b.version) es = subst (All (IsChecked b.version)) (sym behind) (All-drop (IsChecked b.version) n b.desk.journal (journal-checked b replay)) in
+    subst (λ (x : Version). All (IsChecked x) es) (sym own) all
 
 -- ---- what is written
 

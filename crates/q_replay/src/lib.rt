@@ -1,6 +1,7 @@
 //! Journals of books as bytes, and books out of them.
 //!
-//! [`journal_bytes`] writes the journal of a book in the book's version: its head and its entries in turn. [`replay`]
+//! [`journal_bytes`] writes the journal of a book in the book's version: its head and its entries in turn.
+//! [`head_bytes`] and [`entries_bytes`] write these alone, for a journal that is written piece by piece. [`replay`]
 //! makes each call that the events of a journal name, from the first state of the node, runs each job anew, and answers
 //! the book that this leads to. It answers a book for just the bytes that are the journal of one, and then that very
 //! book: of a journal of version 1 a book of version 1, which goes on as such. Else it names the first faulty event: 57
@@ -25,6 +26,7 @@
 //! ```
 #![tactic(auto)]
 
+mod bytes;
 mod call;
 mod fault;
 pub mod laws;
@@ -33,6 +35,7 @@ mod replayer;
 pub mod worked;
 mod write;
 
+pub use bytes::{entries_bytes, head_bytes};
 pub use fault::ReplayFault;
 pub use replayer::replay;
 pub use write::journal_bytes;

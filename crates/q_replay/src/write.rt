@@ -27,7 +27,7 @@ pub fn journal_bytes(alloc: Global, book: &Book) -> Result<Vec<u8>, AllocError>
     Ok(writer.bytes())
 }
 
-fn write_entry(writer: &mut Writer, entry: &Entry) -> Result<(), AllocError>
+pub(crate) fn write_entry(writer: &mut Writer, entry: &Entry) -> Result<(), AllocError>
     requires fits { EntryFits writer.old.version entry.now }
     requires checked { IsChecked writer.old.version entry.now }
     ensures legal { OnOk result (IsEntry writer.old.version entry.now) }

@@ -2,8 +2,8 @@
 use Rattle.std.proofs.Common.{◌∙◌, ap, drop, List}
 use Rattle.q_desk.specs.declared.journal.Entry.{Entry}
 use Rattle.q_journal.specs.Writing.{JournalBytes}
-use Rattle.q_recorder.proofs.Checked.{behind-checked}
-use Rattle.q_recorder.proofs.bytes.entries_bytes.Goals as goal
+use Rattle.q_replay.proofs.Writing.{behind-checked}
+use Rattle.q_replay.proofs.bytes.entries_bytes.Goals as goal
 
 pub write_entries-requires-clause-checked : goal.write_entries-requires-clause-checked
 write_entries-requires-clause-checked c =

@@ -1,7 +1,7 @@
 use Rattle.std.proofs.Common.{◌≡◌, take}
 use Rattle.q_journal.specs.Writing.{with_more}
 use Rattle.q_replay.specs.Journal.{entries_bytes}
-use Rattle.q_recorder.proofs.bytes.write_entries.Given as goal
+use Rattle.q_replay.proofs.bytes.write_entries.Given as goal
 
 -- the first so many are written
 abbrev pub invariant-loop-entry : goal.invariant-loop-entry

@@ -1,12 +1,13 @@
-//! The bytes of a journal: of its head, and of the entries behind so many.
+//! The bytes of parts of a journal: of its head, and of the entries behind so many.
 
 ghost use Rattle.std.specs.Prelude.{◌≡◌, All, IfOk, OnOk, drop};
 ghost use Rattle.q_book.specs.Replays.{EntryFits};
-ghost use Rattle.q_journal.specs.Spelling.{event_bytes, head_bytes as bytes_of_head};
+ghost use Rattle.q_journal.specs.Spelling.{head_bytes as bytes_of_head};
 ghost use Rattle.q_journal.specs.Writing.{with_more};
-ghost use Rattle.q_replay.specs.Journal.{written_of, head_of, entries_bytes as bytes_of_entries};
+ghost use Rattle.q_replay.specs.Journal.{head_of, entries_bytes as bytes_of_entries};
 ghost use Rattle.q_replay.specs.Checked.{IsChecked};
 
+use crate::write::write_entry;
 use q_book::Book;
 use q_desk::Entry;
 use q_journal::Writer;
@@ -51,24 +52,4 @@ fn write_entries(writer: &mut Writer, entries: &[Entry]) -> Result<(), AllocErro
         write_entry(writer, entry)?;
     }
     Ok(())
-}
-
-fn write_entry(writer: &mut Writer, entry: &Entry) -> Result<(), AllocError>
-    requires fits { EntryFits writer.old.version entry.now }
-    requires checked { IsChecked writer.old.version entry.now }
-    ensures { OnOk result (writer.new ≡ with_more writer.old (event_bytes writer.old.version (written_of entry.now))) }
-{
-    match entry {
-        Entry::Leave => writer.leave(),
-        Entry::Register(program) => {
-            let certified = program.certified();
-            let _longest = certified.longest();
-            writer.register(certified.text(), certified.notes())
-        }
-        Entry::Ask { program, start } => writer.ask(program.number(), *start),
-        Entry::Store(value) => writer.store(value),
-        Entry::Deliver(message) => writer.deliver(message),
-        Entry::HandOut => writer.hand_out(),
-        Entry::Post { query, ran } => writer.post(*query as u64, ran.acc, ran.steps),
-    }
 }
