@@ -2,7 +2,8 @@
 use Rattle.std.specs.Prelude.{◌≡◌, ◌≤◌, ◌⊎◌, ℕ, Bool, List, [], ◌∷◌, Some, IsSomeAnd, option_map, unwrap_or, bytes_eq, codes, true, false, Result, Ok, Err, IfOk, map, ⊤, if◌then◌else◌}
 use denote.Ref.{Bor}
 use Rattle.clap.specs.Lexer.{usize_max}
-use Rattle.clap.specs.Words.{App, all_of, app_of, IsAmong, Row, Rule, Text, fault_of, first_of, kind_of, new_app, new_rule, subcommand_of, with_rule, with_subcommand}
+use Rattle.clap.specs.Words.{App, all_of, app_of, IsAmong, Row, Rule, Text, fault_of, first_of, kind_of, new_app, new_rule, rule_of, subcommand_of, with_rule, with_subcommand}
+use Rattle.clap.specs.declared.builder.arg.Arg.{Arg}
 use Rattle.clap.specs.declared.builder.command.Command.{Command}
 use Rattle.clap.specs.declared.builder.command.Command.TheViews.{out-Command}
 use Rattle.clap.specs.declared.error.Error.{Error}
@@ -128,6 +129,10 @@ bqview =
 -- commands below it; or memory ran out.
 abbrev pub Has : {E : Type 0} → Result Command E → App → Type 0
 Has r app = IfOk r (λ c. (app_of c ≡ app) × ((out-Command c).has_globals ≡ false))
+
+-- the argument is of this rule, and not one of the commands below too
+abbrev pub IsRule : Arg → Rule → Type 0
+IsRule argument rule = (argument.global ≡ false) × (rule_of argument ≡ rule)
 
 -- ---- what the words say
 

@@ -5,10 +5,10 @@ ghost use Rattle.std.specs.Option.{SomeIff};
 ghost use Rattle.std.specs.Vec.Iter.{into_iter_items};
 ghost use Rattle.bq_range.specs.Interval.{between};
 ghost use Rattle.bq_state.specs.Kinds.{AreLengths};
-ghost use Rattle.clap.specs.Words.{App, app_of, first_of, found_of, new_app, rows_of, with_rule, with_subcommand};
+ghost use Rattle.clap.specs.Words.{App, Rule, app_of, first_of, found_of, new_app, rows_of, with_rule, with_subcommand};
 ghost use Rattle.clap.specs.declared.builder.command.Command.TheViews.{out-Command};
 ghost use Rattle.q_words.specs.declared.words.WordsFault.TheVariants.{OutOfMemory};
-ghost use Rattle.q_words.specs.Words.{Has, asm_app, dis_app, check_app, run_app, sim_app, cluster_app, audit_app, gather_app, node_app, client_app, bare_app, bqview, flag, operand, operands, option, optional, demanded, with_bytes, with_lengths, form_of, operand_of, operands_of, is_given, is_strict, AreBadRunners, AreGiven, AreBad, AreRunners, HasLengths, HasLineFault, IsMet, IsRunners, Reads, Tells, TellsUngiven, exit_status};
+ghost use Rattle.q_words.specs.Words.{Has, IsRule, asm_app, dis_app, check_app, run_app, sim_app, cluster_app, audit_app, gather_app, node_app, client_app, bare_app, bqview, flag, operand, operands, option, optional, demanded, with_bytes, with_lengths, form_of, operand_of, operands_of, is_given, is_strict, AreBadRunners, AreGiven, AreBad, AreRunners, HasLengths, HasLineFault, IsMet, IsRunners, Reads, Tells, TellsUngiven, exit_status};
 
 use bq_state::Bounds;
 use clap::error::ErrorKind;
@@ -263,128 +263,79 @@ fn new_command<'a>(alloc: Global, name: &'a str, about: &'a str, after_help: &'a
         .after_help(after_help)
 }
 
-/// The command, if there is one, with one more operand, which must be there.
-fn with_operand<'a>(
-    alloc: Global,
-    command: Result<Command<'a>, AllocError>,
-    name: &'a str,
-    help: &'a str,
-) -> Result<Command<'a>, AllocError>
-    ensures { (app : App) → Has command.entry app → Has result (with_rule app (operand name.entry.now)) }
+/// An operand, which must be there.
+fn operand<'a>(alloc: Global, name: &'a str, help: &'a str) -> Arg<'a>
+    ensures { IsRule result (operand name.entry.now) }
 {
-    let Ok(command) = command else {
-        return Err(AllocError);
-    };
-    let operand = Arg::new(alloc, name)
+    Arg::new(alloc, name)
         .help(help)
         .required(true)
-        .action(ArgAction::Set);
-    command.arg(operand)
+        .action(ArgAction::Set)
 }
 
-/// The command, if there is one, with one more operand, of which there may be several, and must be one.
-fn with_operands<'a>(
-    alloc: Global,
-    command: Result<Command<'a>, AllocError>,
-    name: &'a str,
-    help: &'a str,
-) -> Result<Command<'a>, AllocError>
-    ensures { (app : App) → Has command.entry app → Has result (with_rule app (operands name.entry.now)) }
+/// An operand of which there may be several, and must be one.
+fn operands<'a>(alloc: Global, name: &'a str, help: &'a str) -> Arg<'a>
+    ensures { IsRule result (operands name.entry.now) }
 {
-    let Ok(command) = command else {
-        return Err(AllocError);
-    };
-    let operand = Arg::new(alloc, name)
+    Arg::new(alloc, name)
         .help(help)
         .required(true)
         .num_args(1..)
-        .action(ArgAction::Set);
-    command.arg(operand)
+        .action(ArgAction::Set)
 }
 
-/// The command, if there is one, with one more option, which stands for `default` where it is not given.
-fn with_option<'a>(
+/// An option, which may be left out.
+fn optional<'a>(alloc: Global, name: &'a str, help: &'a str, value: &'a str) -> Arg<'a>
+    ensures { IsRule result (optional name.entry.now) }
+{
+    Arg::new(alloc, name)
+        .long(name)
+        .value_name(value)
+        .help(help)
+        .action(ArgAction::Set)
+}
+
+/// An option, which stands for `default` where it is not given.
+fn option<'a>(
     alloc: Global,
-    command: Result<Command<'a>, AllocError>,
     name: &'a str,
     help: &'a str,
     value: &'a str,
     default: &'a str,
-) -> Result<Command<'a>, AllocError>
-    ensures { (app : App) → Has command.entry app → Has result (with_rule app (option name.entry.now default.entry.now)) }
+) -> Arg<'a>
+    ensures { IsRule result (option name.entry.now default.entry.now) }
 {
-    let Ok(command) = command else {
-        return Err(AllocError);
-    };
-    let option = Arg::new(alloc, name)
-        .long(name)
-        .value_name(value)
-        .help(help)
-        .default_value(default)
-        .action(ArgAction::Set);
-    command.arg(option)
+    optional(alloc, name, help, value).default_value(default)
 }
 
-/// The command, if there is one, with one more option, which may be left out.
-fn with_optional<'a>(
-    alloc: Global,
-    command: Result<Command<'a>, AllocError>,
-    name: &'a str,
-    help: &'a str,
-    value: &'a str,
-) -> Result<Command<'a>, AllocError>
-    ensures { (app : App) → Has command.entry app → Has result (with_rule app (optional name.entry.now)) }
+/// An option, which must be given.
+fn demanded<'a>(alloc: Global, name: &'a str, help: &'a str, value: &'a str) -> Arg<'a>
+    ensures { IsRule result (demanded name.entry.now) }
 {
-    let Ok(command) = command else {
-        return Err(AllocError);
-    };
-    let option = Arg::new(alloc, name)
-        .long(name)
-        .value_name(value)
-        .help(help)
-        .action(ArgAction::Set);
-    command.arg(option)
+    optional(alloc, name, help, value).required(true)
 }
 
-/// The command, if there is one, with one more option, which must be given.
-fn with_demanded<'a>(
-    alloc: Global,
-    command: Result<Command<'a>, AllocError>,
-    name: &'a str,
-    help: &'a str,
-    value: &'a str,
-) -> Result<Command<'a>, AllocError>
-    ensures { (app : App) → Has command.entry app → Has result (with_rule app (demanded name.entry.now)) }
+/// A flag.
+fn flag<'a>(alloc: Global, name: &'a str, help: &'a str) -> Arg<'a>
+    ensures { IsRule result (flag name.entry.now) }
 {
-    let Ok(command) = command else {
-        return Err(AllocError);
-    };
-    let option = Arg::new(alloc, name)
+    Arg::new(alloc, name)
         .long(name)
-        .value_name(value)
         .help(help)
-        .required(true)
-        .action(ArgAction::Set);
-    command.arg(option)
+        .action(ArgAction::SetTrue)
 }
 
-/// The command, if there is one, with one more flag.
-fn with_flag<'a>(
-    alloc: Global,
+/// The command, if there is one, with one more argument.
+fn with_argument<'a>(
     command: Result<Command<'a>, AllocError>,
-    name: &'a str,
-    help: &'a str,
+    argument: Arg<'a>,
 ) -> Result<Command<'a>, AllocError>
-    ensures { (app : App) → Has command.entry app → Has result (with_rule app (flag name.entry.now)) }
+    ensures { (app : App) (rule : Rule) → Has command.entry app → IsRule argument.entry rule → Has result (with_rule app rule) }
 {
     let Ok(command) = command else {
         return Err(AllocError);
     };
-    let flag = Arg::new(alloc, name)
-        .long(name)
-        .help(help)
-        .action(ArgAction::SetTrue);
-    command.arg(flag)
+    command.arg(argument)
 }
 
 /// The command, if there is one, with the options `--least` and `--most`.
@@ -394,21 +345,25 @@ fn with_lengths<'a>(
 ) -> Result<Command<'a>, AllocError>
     ensures { (app : App) → Has command.entry app → Has result (with_lengths app) }
 {
-    let least = with_option(
-        alloc,
+    let least = with_argument(
         command,
-        "least",
-        "The fewest bytes of a record, from 16",
-        "BYTES",
-        "16",
+        option(
+            alloc,
+            "least",
+            "The fewest bytes of a record, from 16",
+            "BYTES",
+            "16",
+        ),
     );
-    with_option(
-        alloc,
+    with_argument(
         least,
-        "most",
-        "The most bytes of a record, to 128",
-        "BYTES",
-        "128",
+        option(
+            alloc,
+            "most",
+            "The most bytes of a record, to 128",
+            "BYTES",
+            "128",
+        ),
     )
 }
 
@@ -419,11 +374,13 @@ fn with_bytes<'a>(
 ) -> Result<Command<'a>, AllocError>
     ensures { (app : App) → Has command.entry app → Has result (with_bytes app) }
 {
-    with_flag(
-        alloc,
+    with_argument(
         command,
-        "bytes",
-        "FILE holds the program's bytes, as `llvm-objcopy -O binary --only-section=.text` leaves them",
+        flag(
+            alloc,
+            "bytes",
+            "FILE holds the program's bytes, as `llvm-objcopy -O binary --only-section=.text` leaves them",
+        ),
     )
 }
 
@@ -437,7 +394,7 @@ fn asm_command<'a>(alloc: Global) -> Result<Command<'a>, AllocError>
         "Prints each unit of a program as 16 hexadecimal digits, one a line",
         "All is printed at the end. What explains a refusal goes to the standard error.\nExit status: 0; 1 after a refusal, or where the output fails; 2 for a wrong command line.\nExample: bqview asm examples/count.bpf\nFormats: docs/FORMATS.md, \"Assembler text\"",
     );
-    with_operand(alloc, Ok(command), "FILE", ASSEMBLER)
+    with_argument(Ok(command), operand(alloc, "FILE", ASSEMBLER))
 }
 
 /// The command `dis`.
@@ -450,11 +407,13 @@ fn dis_command<'a>(alloc: Global) -> Result<Command<'a>, AllocError>
         "Prints the assembler text of a program's bytes, one instruction a line",
         "All is printed at the end. What explains a refusal goes to the standard error.\nExit status: 0; 1 after a refusal, or where the output fails; 2 for a wrong command line.\nExample: bqview dis count.text\nFormats: docs/FORMATS.md, \"Assembler text\"",
     );
-    with_operand(
-        alloc,
+    with_argument(
         Ok(command),
-        "FILE",
-        "A file of a program's bytes, eight a unit; `-` is the standard input",
+        operand(
+            alloc,
+            "FILE",
+            "A file of a program's bytes, eight a unit; `-` is the standard input",
+        ),
     )
 }
 
@@ -468,20 +427,24 @@ fn check_command<'a>(alloc: Global) -> Result<Command<'a>, AllocError>
         "Proves that a program never faults, and prints its most steps",
         "All is printed at the end. What explains a refusal goes to the standard error.\nExit status: 0; 1 after a refusal, or where OUT or the output fails; 2 for a wrong command line.\nExample: bqview check --states examples/count.bpf\nFormats: docs/FORMATS.md, \"Assembler text\" and \"Notes\"",
     );
-    let file = with_operand(alloc, Ok(command), "FILE", PROGRAM);
+    let file = with_argument(Ok(command), operand(alloc, "FILE", PROGRAM));
     let form = with_bytes(alloc, file);
-    let states = with_flag(
-        alloc,
+    let states = with_argument(
         form,
-        "states",
-        "Prints for each unit what is known of the registers there",
+        flag(
+            alloc,
+            "states",
+            "Prints for each unit what is known of the registers there",
+        ),
     );
-    let notes = with_optional(
-        alloc,
+    let notes = with_argument(
         states,
-        "notes",
-        "Writes the program's notes to this file, for a client to send",
-        "OUT",
+        optional(
+            alloc,
+            "notes",
+            "Writes the program's notes to this file, for a client to send",
+            "OUT",
+        ),
     );
     with_lengths(alloc, notes)
 }
@@ -496,18 +459,22 @@ fn run_command<'a>(alloc: Global) -> Result<Command<'a>, AllocError>
         "Runs a program over records, and prints the answer and the steps",
         "All is printed at the end. What explains a refusal goes to the standard error.\nExit status: 0; 1 after a refusal, or where the output fails; 2 for a wrong command line.\nExample: bqview run --least 64 examples/sum.bpf 0 examples/three.records\nFormats: docs/FORMATS.md, \"Assembler text\" and \"Lists of records\"",
     );
-    let file = with_operand(alloc, Ok(command), "FILE", PROGRAM);
-    let start = with_operand(
-        alloc,
+    let file = with_argument(Ok(command), operand(alloc, "FILE", PROGRAM));
+    let start = with_argument(
         file,
-        "START",
-        "The accumulator to begin with, a number below 2^64 in decimal",
+        operand(
+            alloc,
+            "START",
+            "The accumulator to begin with, a number below 2^64 in decimal",
+        ),
     );
-    let records = with_operand(
-        alloc,
+    let records = with_argument(
         start,
-        "RECORDS",
-        "A file of lines `ID SEQ VALUE`, one for each record, by rising ids; `-` is the standard input",
+        operand(
+            alloc,
+            "RECORDS",
+            "A file of lines `ID SEQ VALUE`, one for each record, by rising ids; `-` is the standard input",
+        ),
     );
     let form = with_bytes(alloc, records);
     with_lengths(alloc, form)
@@ -523,17 +490,21 @@ fn sim_command<'a>(alloc: Global) -> Result<Command<'a>, AllocError>
         "Runs a script over a cluster in memory, and prints what events tell",
         "All is printed at the end. What explains refused lines goes to the standard error.\nExit status: 0; 1 after a refusal of the script, where a journal or the output fails, or as --strict says; 2 for a wrong command line.\nExample: bqview sim examples/count.sim\nFormats: docs/FORMATS.md, \"Scripts\"",
     );
-    let script = with_operand(
-        alloc,
+    let script = with_argument(
         Ok(command),
-        "SCRIPT",
-        "A file of events, one a line, of which the first founds the cluster; `-` is the standard input",
+        operand(
+            alloc,
+            "SCRIPT",
+            "A file of events, one a line, of which the first founds the cluster; `-` is the standard input",
+        ),
     );
-    with_flag(
-        alloc,
+    with_argument(
         script,
-        "strict",
-        "Ends with status 1 where a line was refused",
+        flag(
+            alloc,
+            "strict",
+            "Ends with status 1 where a line was refused",
+        ),
     )
 }
 
@@ -547,17 +518,21 @@ fn cluster_command<'a>(alloc: Global) -> Result<Command<'a>, AllocError>
         "Runs a script over nodes with sockets, and prints what its lines tell",
         "All is printed at the end. What explains refusals goes to the standard error.\nExit status: 0; 1 where a refusal ends the run or the output fails, or as --strict says; 2 for a wrong command line.\nExample: bqview cluster examples/three.cluster\nFormats: docs/FORMATS.md, \"Scripts of nodes with sockets\"",
     );
-    let script = with_operand(
-        alloc,
+    let script = with_argument(
         Ok(command),
-        "SCRIPT",
-        "A file of `nodes`, programs, stores and queries, one a line; `-` is the standard input",
+        operand(
+            alloc,
+            "SCRIPT",
+            "A file of `nodes`, programs, stores and queries, one a line; `-` is the standard input",
+        ),
     );
-    with_flag(
-        alloc,
+    with_argument(
         script,
-        "strict",
-        "Ends with status 1 where a line was refused or unanswered",
+        flag(
+            alloc,
+            "strict",
+            "Ends with status 1 where a line was refused or unanswered",
+        ),
     )
 }
 
@@ -571,11 +546,13 @@ fn audit_command<'a>(alloc: Global) -> Result<Command<'a>, AllocError>
         "Replays a node's journal, and prints the answers that it recorded",
         "All is printed at the end. What explains a refusal goes to the standard error.\nExit status: 0; 1 after a refusal, or where the output fails; 2 for a wrong command line.\nExample: bqview audit node.journal\nFormats: docs/FORMATS.md, \"Journals\"",
     );
-    with_operand(
-        alloc,
+    with_argument(
         Ok(command),
-        "JOURNAL",
-        "A file that the line `journal NODE FILE` of a script wrote; `-` is the standard input",
+        operand(
+            alloc,
+            "JOURNAL",
+            "A file that the line `journal NODE FILE` of a script wrote; `-` is the standard input",
+        ),
     )
 }
 
@@ -589,17 +566,21 @@ fn gather_command<'a>(alloc: Global) -> Result<Command<'a>, AllocError>
         "Gathers the journals of all nodes of a run, and prints its answers with their views",
         "Prints a line for each journal: its node, its events, and the bytes of a last event that is not whole; then each recorded answer with the view that it saw, and `journals ok`: the journals fit together as those of one run, and each answer is its program's meaning over that view. It says so from the bytes of the journals alone.\nAll is printed at the end. What explains a refusal goes to the standard error.\nExit status: 0; 1 after a refusal, or where the output fails; 2 for a wrong command line.\nExample: bqview gather one.journal two.journal three.journal\nFormats: docs/FORMATS.md, \"Journals that are gathered\"",
     );
-    let journals = with_operands(
-        alloc,
+    let journals = with_argument(
         Ok(command),
-        "JOURNAL",
-        "Files of journals, one for each node that ever was in the cluster",
+        operands(
+            alloc,
+            "JOURNAL",
+            "Files of journals, one for each node that ever was in the cluster",
+        ),
     );
-    with_flag(
-        alloc,
+    with_argument(
         journals,
-        "pairs",
-        "Prints for each ended store and each collect that began later the least node where they meet",
+        flag(
+            alloc,
+            "pairs",
+            "Prints for each ended store and each collect that began later the least node where they meet",
+        ),
     )
 }
 
@@ -613,45 +594,53 @@ fn node_command<'a>(alloc: Global) -> Result<Command<'a>, AllocError>
         "Runs a node of a cluster as a process of its own",
         "There is no authentication and no encryption. An address that is not loopback is open to all who reach it. A Unix socket's file mode decides who may connect.\nThe standard input is the node's console, one command a line: `status` tells how it is, `leave` leaves the cluster for good, and `end` ends the node, as the end of the input does.\nWhat explains a refusal goes to the standard error.\nExit status: 0; 1 after a refusal, or where the journal or the output fails; 2 for a wrong command line.\nExample: bqview node examples/apart/three.nodes 1 --clients 127.0.0.1:8001 --journal one.journal\nFormats: docs/FORMATS.md, \"Clusters of nodes apart\"",
     );
-    let file = with_operand(
-        alloc,
+    let file = with_argument(
         Ok(command),
-        "FILE",
-        "The file of the cluster, one for all machines",
+        operand(
+            alloc,
+            "FILE",
+            "The file of the cluster, one for all machines",
+        ),
     );
-    let id = with_operand(
-        alloc,
+    let id = with_argument(
         file,
-        "ID",
-        "The node's id, a number below 2^64 in decimal",
+        operand(alloc, "ID", "The node's id, a number below 2^64 in decimal"),
     );
-    let clients = with_demanded(
-        alloc,
+    let clients = with_argument(
         id,
-        "clients",
-        "Where clients connect: an address, as 10.88.0.1:8000, or the path of a Unix socket",
-        "ADDR",
+        demanded(
+            alloc,
+            "clients",
+            "Where clients connect: an address, as 10.88.0.1:8000, or the path of a Unix socket",
+            "ADDR",
+        ),
     );
-    let journal = with_demanded(
-        alloc,
+    let journal = with_argument(
         clients,
-        "journal",
-        "Writes the node's journal to this file, which must not be there yet",
-        "FILE",
+        demanded(
+            alloc,
+            "journal",
+            "Writes the node's journal to this file, which must not be there yet",
+            "FILE",
+        ),
     );
-    let runners = with_option(
-        alloc,
+    let runners = with_argument(
         journal,
-        "runners",
-        "How many threads run programs, from 1 to 64",
-        "R",
-        "2",
+        option(
+            alloc,
+            "runners",
+            "How many threads run programs, from 1 to 64",
+            "R",
+            "2",
+        ),
     );
-    with_flag(
-        alloc,
+    with_argument(
         runners,
-        "sync",
-        "Asks the system to keep each part of the journal on the disk before anything is sent",
+        flag(
+            alloc,
+            "sync",
+            "Asks the system to keep each part of the journal on the disk before anything is sent",
+        ),
     )
 }
 
@@ -665,23 +654,29 @@ fn client_command<'a>(alloc: Global) -> Result<Command<'a>, AllocError>
         "Runs a client's script over a connection with a node, and prints what its lines tell",
         "What a line tells is printed once its reply came. What explains refused lines goes to the standard error. There is no authentication and no encryption.\nExit status: 0; 1 after a refusal of the script, where the connection or the output fails, or as --strict says; 2 for a wrong command line.\nExample: bqview client 127.0.0.1:8001 examples/apart/count.client\nFormats: docs/FORMATS.md, \"Scripts of clients\"",
     );
-    let place = with_operand(
-        alloc,
+    let place = with_argument(
         Ok(command),
-        "ADDR",
-        "Where the node's clients connect: an address, as 10.88.0.1:8000, or the path of a Unix socket, which has a slash",
+        operand(
+            alloc,
+            "ADDR",
+            "Where the node's clients connect: an address, as 10.88.0.1:8000, or the path of a Unix socket, which has a slash",
+        ),
     );
-    let script = with_operand(
-        alloc,
+    let script = with_argument(
         place,
-        "SCRIPT",
-        "A file of programs, stores and queries, one a line; `-` is the standard input",
+        operand(
+            alloc,
+            "SCRIPT",
+            "A file of programs, stores and queries, one a line; `-` is the standard input",
+        ),
     );
-    with_flag(
-        alloc,
+    with_argument(
         script,
-        "strict",
-        "Ends with status 1 where a line was refused or unanswered",
+        flag(
+            alloc,
+            "strict",
+            "Ends with status 1 where a line was refused or unanswered",
+        ),
     )
 }
 

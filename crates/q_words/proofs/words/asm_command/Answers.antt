@@ -2,4 +2,4 @@
 use Rattle.q_words.proofs.words.asm_command.Goals as goal
 
 pub returns : goal.returns
-returns c = c.with_operand.ensures _ c.new_command-command.ensures
+returns c = c.with_argument.ensures _ _ c.new_command-command.ensures c.operand.ensures

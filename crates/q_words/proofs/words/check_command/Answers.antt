@@ -3,5 +3,5 @@ use Rattle.q_words.proofs.words.check_command.Goals as goal
 
 pub returns : goal.returns
 returns c =
-    let file = c.with_operand-file.ensures _ c.new_command-command.ensures in
-    c.with_lengths.ensures _ (c.with_optional-notes.ensures _ (c.with_flag-states.ensures _ (c.with_bytes-form.ensures _ file)))
+    let file = c.with_argument-file.ensures _ _ c.new_command-command.ensures c.operand.ensures in
+    c.with_lengths.ensures _ (c.with_argument-notes.ensures _ _ (c.with_argument-states.ensures _ _ (c.with_bytes-form.ensures _ file) c.flag.ensures) c.optional.ensures)

@@ -2,4 +2,6 @@
 use Rattle.q_words.proofs.words.client_command.Goals as goal
 
 pub returns : goal.returns
-returns c = c.with_flag.ensures _ (c.with_operand-script.ensures _ (c.with_operand-place.ensures _ c.new_command-command.ensures))
+returns c =
+    let place = c.with_argument-place.ensures _ _ c.new_command-command.ensures c.operand.ensures in
+    c.with_argument.ensures _ _ (c.with_argument-script.ensures _ _ place c.operand-2.ensures) c.flag.ensures

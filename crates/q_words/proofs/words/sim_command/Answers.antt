@@ -2,4 +2,4 @@
 use Rattle.q_words.proofs.words.sim_command.Goals as goal
 
 pub returns : goal.returns
-returns c = c.with_flag.ensures _ (c.with_operand-script.ensures _ c.new_command-command.ensures)
+returns c = c.with_argument.ensures _ _ (c.with_argument-script.ensures _ _ c.new_command-command.ensures c.operand.ensures) c.flag.ensures

@@ -2,4 +2,4 @@
 use Rattle.q_words.proofs.words.with_bytes.Goals as goal
 
 pub returns : goal.returns
-returns c = λ app has. c.with_flag.ensures app has
+returns c = λ app has. c.with_argument.ensures app _ has c.flag.ensures

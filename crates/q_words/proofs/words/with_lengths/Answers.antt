@@ -2,4 +2,4 @@
 use Rattle.q_words.proofs.words.with_lengths.Goals as goal
 
 pub returns : goal.returns
-returns c = λ app has. c.with_option.ensures _ (c.with_option-least.ensures app has)
+returns c = λ app has. c.with_argument.ensures _ _ (c.with_argument-least.ensures app _ has c.option.ensures) c.option-2.ensures
