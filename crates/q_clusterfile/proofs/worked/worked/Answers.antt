@@ -1,25 +1,31 @@
 -- worked: what the definitions say at telling texts.
-use Rattle.std.proofs.Common.{◌≡◌, ℕ, Bool, true, false, List, [], ◌∷◌, ◌++◌, get_or, drop, codes, refl, ap, ◌∙◌, inl, inr, lit<, lit≤, arith}
-use Rattle.std.specs.Fmt.{digits}
+use Rattle.std.proofs.Common.{◌≡◌, ℕ, ◌^◌, ◌<◌, Bool, true, false, List, [], ◌∷◌, ◌++◌, get_or, drop, codes, refl, ap, ◌∙◌, inl, inr, lit<, lit≤, arith}
+use Rattle.std.specs.Fmt.{decimal, digits}
 use Rattle.q_clusterfile.specs.declared.line.NodeLine.{NodeLine}
 use Rattle.q_clusterfile.specs.Line.{node_word, SpellsHeading, SpellsNode}
 use Rattle.q_clusterfile.specs.File.{IsNoHeading}
 use Rattle.q_clusterfile.proofs.Lists.{no_nodes, not_faulty}
 use Rattle.q_clusterfile.proofs.worked.worked.Goals as goal
 
+-- a heading as it is written, of a number and four numbers of fractions
+heading_of : (n a b c d : ℕ) → n < 2 ^ 64 → a < 2 ^ 64 → b < 2 ^ 64 → c < 2 ^ 64 → d < 2 ^ 64
+    → SpellsHeading (codes "cluster " ++ (decimal n ++ (32 ∷ ((decimal a ++ (47 ∷ decimal b)) ++ (32 ∷ (decimal c ++ (47 ∷ decimal d)))))))
+    (record { number = n; beta = record { numerator = a; denominator = b }; gamma = record { numerator = c; denominator = d } })
+heading_of n a b c d ln la lb lc ld = record {
+  rest = decimal n ++ (32 ∷ ((decimal a ++ (47 ∷ decimal b)) ++ (32 ∷ (decimal c ++ (47 ∷ decimal d)))));
+  fractions = (decimal a ++ (47 ∷ decimal b)) ++ (32 ∷ (decimal c ++ (47 ∷ decimal d)));
+  beta = decimal a ++ (47 ∷ decimal b);
+  gamma = decimal c ++ (47 ∷ decimal d);
+  parts = refl;
+  number = (ln, refl);
+  both = refl;
+  is_beta = (la, lb, refl);
+  is_gamma = (lc, ld, refl);
+}
+
 pub returns-clause-heading : goal.returns-clause-heading
 unfolding digits
-returns-clause-heading c = record {
-  rest = codes "7310582 2/3 4/5";
-  fractions = codes "2/3 4/5";
-  beta = codes "2/3";
-  gamma = codes "4/5";
-  parts = refl;
-  number = (lit< tt, refl);
-  both = refl;
-  is_beta = (lit< tt, lit< tt, refl);
-  is_gamma = (lit< tt, lit< tt, refl);
-}
+returns-clause-heading c = heading_of 7310582 2 3 4 5 (lit< tt) (lit< tt) (lit< tt) (lit< tt) (lit< tt)
 
 pub returns-clause-gamma_first : goal.returns-clause-gamma_first
 unfolding digits
@@ -62,31 +68,11 @@ Heading1 text a b = SpellsHeading text (record { number = 1; beta = record { num
 
 good : Heading1 (codes "cluster 1 2/3 2/3") 2 3
 unfolding digits
-good = record {
-  rest = codes "1 2/3 2/3";
-  fractions = codes "2/3 2/3";
-  beta = codes "2/3";
-  gamma = codes "2/3";
-  parts = refl;
-  number = (lit< tt, refl);
-  both = refl;
-  is_beta = (lit< tt, lit< tt, refl);
-  is_gamma = (lit< tt, lit< tt, refl);
-}
+good = heading_of 1 2 3 2 3 (lit< tt) (lit< tt) (lit< tt) (lit< tt) (lit< tt)
 
 improper : Heading1 (codes "cluster 1 2/3 4/3") 4 3
 unfolding digits
-improper = record {
-  rest = codes "1 2/3 4/3";
-  fractions = codes "2/3 4/3";
-  beta = codes "2/3";
-  gamma = codes "4/3";
-  parts = refl;
-  number = (lit< tt, refl);
-  both = refl;
-  is_beta = (lit< tt, lit< tt, refl);
-  is_gamma = (lit< tt, lit< tt, refl);
-}
+improper = heading_of 1 2 3 4 3 (lit< tt) (lit< tt) (lit< tt) (lit< tt) (lit< tt)
 
 pub returns-clause-heading_alone : goal.returns-clause-heading_alone
 returns-clause-heading_alone c = (
