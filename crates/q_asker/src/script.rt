@@ -1,12 +1,11 @@
 //! The scripts of a client.
 
-ghost use Rattle.std.specs.Prelude.{◌≡◌, IfErr, IfOk};
+ghost use Rattle.std.specs.Prelude.{IfErr, IfOk};
 ghost use Rattle.q_script.specs.Line.{Judges};
-ghost use Rattle.q_script.specs.Lines.{without_last_feed};
 ghost use Rattle.q_asker.specs.Script.{AreLines, IsFault, SpellsLine};
 
 use crate::operands::{ask, program, store};
-use q_script::{LineFault, ScriptFault};
+use q_script::{LineFault, ScriptFault, without_last_feed};
 use std::alloc::Global;
 
 /// A line of a client's script.
@@ -45,13 +44,6 @@ pub(crate) fn read_line(alloc: Global, text: &str) -> Result<ClientLine, LineFau
         return ask(numbers);
     }
     Err(LineFault::Form)
-}
-
-/// The text without a line feed at its end.
-fn without_last_feed(text: &str) -> &str
-    ensures { result.now ≡ without_last_feed text.now }
-{
-    text.strip_suffix('\n').unwrap_or(text)
 }
 
 /// The lines that a text spells; an empty text has none. Refused are 9 Syntax, with the least line that is of another

@@ -12,7 +12,7 @@
 //!   an id not above the one before, 77 BadField for a sequence number 0, 50 BadValue for a record (16 bytes, and those
 //!   of the value) of another length than the caller allows, 46 ViewFull for a 257th record. No length above 128 is
 //!   allowed, so a value of more than 112 bytes is 50.
-//! - [`number`] reads a number.
+//! - [`number`] reads a number, [`code`] the bytes of a program, [`value`] those of a VALUE, however many.
 //!
 //! A VALUE, in a record and behind `store NODE`, is a number, of which a value of 48 bytes is made (its eight bytes,
 //! little-endian, before zeros), or `x` and two hexadecimal digits for each byte, small or capital: `x` alone is a value
@@ -36,5 +36,7 @@ pub mod worked;
 pub use founding::{Founding, Fraction};
 pub use line::{Line, LineFault, ScriptLine};
 pub use numeral::{leading, number, pair};
+pub use operands::{code, value};
 pub use records::{RecordFault, RecordsFault, read_records, value_bytes};
 pub use script::{Script, ScriptFault, read_script};
+pub use text::without_last_feed;

@@ -23,7 +23,7 @@ fn decoded(alloc: Global, digits: &str) -> Result<Vec<u8>, LineFault>
 }
 
 /// The bytes that hexadecimal digits spell, one byte at least.
-fn code(alloc: Global, digits: &str) -> Result<Vec<u8>, LineFault>
+pub fn code(alloc: Global, digits: &str) -> Result<Vec<u8>, LineFault>
     ensures { Judges (λ text code. IsCode text code.items) digits.now result }
 {
     if digits.is_empty() {
@@ -47,7 +47,7 @@ fn numbered(alloc: Global, text: &str) -> Result<Vec<u8>, LineFault>
 }
 
 /// The bytes of the value that a text spells, however many.
-fn value(alloc: Global, text: &str) -> Result<Vec<u8>, LineFault>
+pub fn value(alloc: Global, text: &str) -> Result<Vec<u8>, LineFault>
     ensures { Judges (λ text value. IsValue text value.items) text.now result }
 {
     match text.strip_prefix('x') {
