@@ -38,7 +38,6 @@ mod looks;
 mod making;
 mod notes;
 mod operands;
-mod pieces;
 mod printing;
 mod replies;
 mod run;

@@ -9,8 +9,7 @@ ghost use Rattle.q_wire.specs.Counts.{count_after};
 ghost use Rattle.q_asker.specs.Replies.{CanBe, Hears, HearsBehind, IsRefusal, expected};
 ghost use Rattle.q_asker.specs.declared.replies.ReplyKind.TheVariants as kind;
 
-use crate::pieces::{read_byte, read_long, read_short};
-use q_net::{Reply, Request};
+use q_net::{Reply, Request, read_byte, read_long, read_short};
 use q_wire::{Counted, TransportFailed};
 use reasons::Reason;
 use std::io::Read;

@@ -26,6 +26,8 @@
 //! were there. Where a read or a write fails (86) the same holds of the requests before, and the one at hand was done
 //! whole or not at all; and just one failure was counted, at the reader or at the writer.
 //!
+//! [`read_byte`], [`read_short`] and [`read_long`] read the next number of an input, of requests or of replies.
+//!
 //! A caller, proved in `callers`: a client of a book is served, from the bytes of its requests to those of the replies.
 //!
 //! ```rust
@@ -56,6 +58,7 @@ mod server;
 pub mod worked;
 
 pub use incoming::{Incoming, read_next};
+pub use pieces::{read_byte, read_long, read_short};
 pub use replies::Reply;
 pub use request::{Blob, Request, Short, StreamEnd};
 pub use served::{Registered, reply};

@@ -1,4 +1,4 @@
-//! The parts of a request, read from left to right.
+//! The parts of a request, read from left to right. A reply has numbers of the same forms.
 
 ghost use Rattle.std.specs.Prelude.{◌≡◌, [], ◌∷◌, length, IfOk, IfSome};
 ghost use Rattle.bq_check.specs.Spelling.{short_bytes, long_bytes};
