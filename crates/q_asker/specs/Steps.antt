@@ -14,8 +14,10 @@ use Rattle.q_net.specs.declared.replies.Reply.{Reply}
 use Rattle.q_net.specs.declared.replies.Reply.TheVariants as reply
 use Rattle.q_net.specs.declared.request.Request.{Request}
 use Rattle.q_net.specs.declared.request.Request.TheVariants as request
+use Rattle.q_wire.specs.declared.counted.Counted.{Counted}
 use Rattle.q_asker.specs.Makes.{IsMemory, Makes, MakesNone}
 use Rattle.q_asker.specs.Replies.{MayReply}
+use Rattle.q_asker.specs.declared.connection.Connection.{Connection}
 use Rattle.q_asker.specs.declared.script.ClientLine.{ClientLine}
 use Rattle.q_asker.specs.declared.script.ClientLine.TheVariants as line
 
@@ -84,6 +86,15 @@ pub record Streams : Type 0 where
   pub sent : Option (List ℕ)
   pub heard : Option (List ℕ)
   pub printed : Option (List ℕ)
+
+-- these, over a connection and an output, by what is known of a reader, a writer and the output
+abbrev pub streams : {R W O : Type 0} → (R → Option (List ℕ)) → (W → Option (List ℕ)) → (O → Option (List ℕ))
+    → Connection R W → Counted O → Streams
+streams remaining contents shown connection out = record {
+  sent = contents connection.requests.inner;
+  heard = remaining connection.replies.inner;
+  printed = shown out.inner;
+}
 
 -- these steps were done: all that they send, hear and print, and nothing else
 pub record Moves (steps : List Step) (before after : Streams) : Type 0 where

@@ -2,6 +2,7 @@
 
 ghost use Rattle.std.specs.Prelude.{◌≡◌, ℕ, MatchOption};
 ghost use Rattle.q_asker.specs.Runs.{RunsLine, RunsRequest, count_after};
+ghost use Rattle.q_asker.specs.Steps.{streams};
 ghost use Rattle.q_asker.specs.declared.script.ClientLine.TheVariants as line;
 
 use crate::connection::Connection;
@@ -25,17 +26,8 @@ fn run_request<R: Read, W: Write, O: Write>(
     out: &mut Counted<O>,
 ) -> Result<LineEnd, Halt>
     ensures steps { RunsRequest request.now
-        (record {
-          sent = W.contents connection.old.requests.inner;
-          heard = R.remaining connection.old.replies.inner;
-          printed = O.contents out.old.inner;
-        })
-        (record {
-          sent = W.contents connection.new.requests.inner;
-          heard = R.remaining connection.new.replies.inner;
-          printed = O.contents out.new.inner;
-        })
-        result }
+        (streams R.remaining W.contents O.contents connection.old out.old)
+        (streams R.remaining W.contents O.contents connection.new out.new) result }
     ensures counted { out.new.failures ≡ count_after result out.old.failures }
 {
     match tell_exchange(alloc, request, connection, out)? {
@@ -64,17 +56,8 @@ fn run_ask<T: Clock, R: Read, W: Write, O: Write>(
     out: &mut Counted<O>,
 ) -> Result<LineEnd, Halt>
     ensures steps { RunsLine (line.Ask program start)
-        (record {
-          sent = W.contents connection.old.requests.inner;
-          heard = R.remaining connection.old.replies.inner;
-          printed = O.contents out.old.inner;
-        })
-        (record {
-          sent = W.contents connection.new.requests.inner;
-          heard = R.remaining connection.new.replies.inner;
-          printed = O.contents out.new.inner;
-        })
-        result }
+        (streams R.remaining W.contents O.contents connection.old out.old)
+        (streams R.remaining W.contents O.contents connection.new out.new) result }
     ensures counted { out.new.failures ≡ count_after result out.old.failures }
 {
     let request = Request::Ask {
@@ -99,17 +82,8 @@ pub fn run_line<T: Clock, R: Read, W: Write, O: Write>(
     out: &mut Counted<O>,
 ) -> Result<LineEnd, Halt>
     ensures steps { RunsLine line.now
-        (record {
-          sent = W.contents connection.old.requests.inner;
-          heard = R.remaining connection.old.replies.inner;
-          printed = O.contents out.old.inner;
-        })
-        (record {
-          sent = W.contents connection.new.requests.inner;
-          heard = R.remaining connection.new.replies.inner;
-          printed = O.contents out.new.inner;
-        })
-        result }
+        (streams R.remaining W.contents O.contents connection.old out.old)
+        (streams R.remaining W.contents O.contents connection.new out.new) result }
     ensures counted { out.new.failures ≡ count_after result out.old.failures }
 {
     match line {

@@ -2,6 +2,7 @@
 
 ghost use Rattle.std.specs.Prelude.{◌≡◌, MatchBool};
 ghost use Rattle.q_asker.specs.Runs.{Looks, count_after};
+ghost use Rattle.q_asker.specs.Steps.{streams};
 
 use crate::clock::has_passed;
 use crate::connection::Connection;
@@ -38,17 +39,8 @@ pub fn look<T: Clock, R: Read, W: Write, O: Write>(
     out: &mut Counted<O>,
 ) -> Result<LineEnd, Halt>
     ensures steps { Looks query
-        (record {
-          sent = W.contents connection.old.requests.inner;
-          heard = R.remaining connection.old.replies.inner;
-          printed = O.contents out.old.inner;
-        })
-        (record {
-          sent = W.contents connection.new.requests.inner;
-          heard = R.remaining connection.new.replies.inner;
-          printed = O.contents out.new.inner;
-        })
-        result }
+        (streams R.remaining W.contents O.contents connection.old out.old)
+        (streams R.remaining W.contents O.contents connection.new out.new) result }
     ensures counted { out.new.failures ≡ count_after result out.old.failures }
 {
     let since = Instant::now(rt).ok();

@@ -3,6 +3,7 @@
 ghost use Rattle.std.specs.Prelude.{◌≡◌, ◌&&◌};
 ghost use Rattle.q_asker.specs.Runs.{Halts, PrintsLost, RunsScript, RunsTo};
 ghost use Rattle.q_asker.specs.Runs.{failures_after, failures_halted, is_done_end};
+ghost use Rattle.q_asker.specs.Steps.{streams};
 
 use crate::connection::Connection;
 use crate::ending::{Ending, print_refusal};
@@ -64,17 +65,8 @@ pub(crate) fn run_lines<T: Clock, R: Read, W: Write, O: Write, N: Write>(
     notes: &mut N,
 ) -> Ending
     ensures steps { RunsTo lines.now
-        (record {
-          sent = W.contents connection.old.requests.inner;
-          heard = R.remaining connection.old.replies.inner;
-          printed = O.contents out.old.inner;
-        })
-        (record {
-          sent = W.contents connection.new.requests.inner;
-          heard = R.remaining connection.new.replies.inner;
-          printed = O.contents out.new.inner;
-        })
-        result }
+        (streams R.remaining W.contents O.contents connection.old out.old)
+        (streams R.remaining W.contents O.contents connection.new out.new) result }
     ensures counted { out.new.failures ≡ failures_after result out.old.failures }
 {
     let mut texts = source.split('\n');
@@ -107,17 +99,8 @@ pub fn run_client<T: Clock, R: Read, W: Write, O: Write, N: Write>(
     notes: &mut N,
 ) -> Ending
     ensures steps { RunsScript source.now
-        (record {
-          sent = W.contents connection.old.requests.inner;
-          heard = R.remaining connection.old.replies.inner;
-          printed = O.contents out.old.inner;
-        })
-        (record {
-          sent = W.contents connection.new.requests.inner;
-          heard = R.remaining connection.new.replies.inner;
-          printed = O.contents out.new.inner;
-        })
-        result }
+        (streams R.remaining W.contents O.contents connection.old out.old)
+        (streams R.remaining W.contents O.contents connection.new out.new) result }
     ensures counted { out.new.failures ≡ failures_after result out.old.failures }
 {
     match read_client_script(alloc, source) {

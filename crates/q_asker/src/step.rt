@@ -3,7 +3,7 @@
 ghost use Rattle.std.specs.Prelude.{◌≡◌, IfOk, false};
 ghost use Rattle.q_refused.specs.Line.{line_of};
 ghost use Rattle.q_asker.specs.Runs.{Prints, Takes, count_after, is_done_end};
-ghost use Rattle.q_asker.specs.Steps.{is_done_reply, unanswered_line};
+ghost use Rattle.q_asker.specs.Steps.{is_done_reply, streams, unanswered_line};
 
 use crate::connection::{Connection, ExchangeFault, exchange};
 use crate::printing::put_told;
@@ -54,17 +54,8 @@ pub fn tell_exchange<R: Read, W: Write, O: Write>(
     out: &mut Counted<O>,
 ) -> Result<Option<Reply>, Halt>
     ensures steps { Takes request.now
-        (record {
-          sent = W.contents connection.old.requests.inner;
-          heard = R.remaining connection.old.replies.inner;
-          printed = O.contents out.old.inner;
-        })
-        (record {
-          sent = W.contents connection.new.requests.inner;
-          heard = R.remaining connection.new.replies.inner;
-          printed = O.contents out.new.inner;
-        })
-        result }
+        (streams R.remaining W.contents O.contents connection.old out.old)
+        (streams R.remaining W.contents O.contents connection.new out.new) result }
     ensures counted { out.new.failures ≡ count_after result out.old.failures }
 {
     let said = match exchange(alloc, request, connection) {

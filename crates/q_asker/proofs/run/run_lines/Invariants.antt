@@ -1,5 +1,5 @@
 use Rattle.std.proofs.Common.{◌≡◌, List, take}
-use Rattle.q_asker.specs.Steps.{AreOfAll, Moves, Step, all_done}
+use Rattle.q_asker.specs.Steps.{AreOfAll, Moves, Step, all_done, streams}
 use Rattle.q_asker.proofs.run.run_lines.Given as goal
 
 -- the lines so far were run
@@ -7,15 +7,7 @@ abbrev pub invariant-loop-line : goal.invariant-loop-line
 invariant-loop-line g l =
     ((steps : List Step) × AreOfAll (take l.line-index l.lines) steps
     × Moves steps
-    (record {
-      sent = g.W.Write.contents l.initial.connection.requests.inner;
-      heard = g.R.Read.remaining l.initial.connection.replies.inner;
-      printed = g.O.Write.contents l.initial.out.inner;
-    })
-    (record {
-      sent = g.W.Write.contents l.connection.requests.inner;
-      heard = g.R.Read.remaining l.connection.replies.inner;
-      printed = g.O.Write.contents l.out.inner;
-    })
+    (streams g.R.Read.remaining g.W.Write.contents g.O.Write.contents l.initial.connection l.initial.out)
+    (streams g.R.Read.remaining g.W.Write.contents g.O.Write.contents l.connection l.out)
     × (l.clean ≡ all_done steps))
     × (l.out.failures ≡ l.initial.out.failures)
