@@ -11,16 +11,12 @@ use Rattle.q_asker.specs.declared.step.LineEnd.{LineEnd}
 use Rattle.q_asker.specs.Runs.{Looks, Prints, StopsAt, is_done_end}
 use Rattle.q_asker.specs.Steps.{AreLooks, Exchanged, GaveUp, IsLastLook, Moves, Step, Streams, all_done, is_done, most_looks, open_look, unanswered_line}
 use Rattle.q_asker.proofs.Beginnings.{lacking}
-use Rattle.q_asker.proofs.Moves.{done_behind, moves_behind, moves_given_up}
+use Rattle.q_asker.proofs.Moves.{and_true, done_behind, moves_behind, moves_given_up}
 use Rattle.q_asker.proofs.Running.{unwritten_at}
 
 open_done : (query n : ℕ) → all_done (replicate n (open_look query)) ≡ true
 open_done query zero = refl
 open_done query (suc n) = open_done query n
-
-and_true : (b : Bool) → (b && true) ≡ b
-and_true true = refl
-and_true false = refl
 
 -- one look more found no answer
 open_more : (query n : ℕ) (a b c : Streams) → Moves (replicate n (open_look query)) a b → Moves (open_look query ∷ []) b c → Moves (replicate (n + 1) (open_look query)) a c

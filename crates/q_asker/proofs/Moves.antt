@@ -1,5 +1,5 @@
 -- Steps, one behind the other.
-use Rattle.std.proofs.Common.{◌≡◌, ℕ, ◌&&◌, List, [], ◌∷◌, ◌++◌, Option, Err, refl, ap, sym, ◌∙◌, subst, append_assoc, append-nil}
+use Rattle.std.proofs.Common.{◌≡◌, ℕ, Bool, true, false, ◌&&◌, List, [], ◌∷◌, ◌++◌, Option, Err, refl, ap, sym, ◌∙◌, subst, append_assoc, append-nil}
 use Rattle.std.specs.Io.KnownBytes.{Appends, Consumes}
 use Rattle.std.proofs.KnownBytes.{Appends-nil, Appends-trans, Consumes-nil, Consumes-trans}
 use Rattle.std.proofs.lemmas.List.Concat.{flat_map-append}
@@ -78,6 +78,10 @@ pub moves_given_up : (a b : Streams) → b.sent ≡ a.sent → b.heard ≡ a.hea
 moves_given_up a b sent heard prints = moves_one GaveUp a b unanswered_line (same_sent a.sent b.sent sent) (same_heard a.heard b.heard heard) refl prints
 
 -- ---- whether all was done
+
+pub and_true : (b : Bool) → (b && true) ≡ b
+and_true true = refl
+and_true false = refl
 
 pub done_behind : (ss ts : List Step) → all_done (ss ++ ts) ≡ (all_done ss && all_done ts)
 done_behind ss ts = list_all-append is_done ss ts

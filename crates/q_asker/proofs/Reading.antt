@@ -1,10 +1,7 @@
 -- What was read of an input.
-use Rattle.std.proofs.Common.{◌≡◌, ℕ, ◌<◌, ◌≤◌, List, [], ◌∷◌, ◌++◌, length, take, Option, Some, None, ap, sym, ◌∙◌, refl, subst, take_all, append-nil}
+use Rattle.std.proofs.Common.{◌≡◌, ℕ, ◌<◌, List, [], ◌∷◌, ◌++◌, length, Option, Some, None, ap, sym, ◌∙◌, refl, subst, append-nil}
 use Rattle.std.specs.Io.KnownBytes.{Consumes, IsAtEnd}
 use Rattle.q_net.specs.Requests.{Got}
-
-pub whole_of : (a b : Option (List ℕ)) (n : ℕ) (xs : List ℕ) → length xs ≤ n → Consumes a b (take n xs) → Consumes a b xs
-whole_of a b n xs h p = subst (Consumes a b) (take_all n xs h) p
 
 pub got_some : {A : Type 0} (bytes_of : A → List ℕ) (len : ℕ) (a b : Option (List ℕ)) (o : Option A) (x : A) → o ≡ Some x → Got bytes_of len a b o → Consumes a b (bytes_of x)
 got_some bytes_of len a b o x is h = subst (Got bytes_of len a b) is h

@@ -24,11 +24,7 @@ use Rattle.q_asker.specs.Replies.{MayReply}
 use Rattle.q_asker.specs.Runs.{Looks, Prints, RunsLine, RunsRequest, Stops, Takes, StopsAt, TakesPart, is_done_end}
 use Rattle.q_asker.specs.Steps.{AreOf, AreOfAll, BeginAll, Exchanged, Follows, Moves, Step, Streams, Unmade, all_done, is_done_reply}
 use Rattle.q_asker.proofs.Beginnings.{begin_behind, begin_first, begin_longer, begin_none, lacking, lacking_of, of_behind}
-use Rattle.q_asker.proofs.Moves.{done_behind, moves_behind, moves_none, moves_unmade, same_given, same_part}
-
-and_true : (b : Bool) → (b && true) ≡ b
-and_true true = refl
-and_true false = refl
+use Rattle.q_asker.proofs.Moves.{and_true, done_behind, moves_behind, moves_none, moves_unmade, same_given, same_part}
 
 and_swap : (a b : Bool) → (a && b) ≡ (b && a)
 and_swap true true = refl

@@ -36,6 +36,12 @@ program_ask text a b e f = let first : 112 ≡ 97 = ap (λ (l : List ℕ). get_o
 store_ask : (text a b : List ℕ) → text ≡ codes "store " ++ a → text ≡ codes "ask " ++ b → ⊥
 store_ask text a b e f = let first : 115 ≡ 97 = ap (λ (l : List ℕ). get_or l 0 0) (sym e ∙ f) in omega (arith, first)
 
+-- what stands behind a word, judged
+judged_behind : (spells : List ℕ → ClientLine → Type 0) (text rest : List ℕ) (r : Result ClientLine LineFault) → ((l : ClientLine) → spells rest l → SpellsLine text l) → ((l : ClientLine) → SpellsLine text l → spells rest l) → Judges spells rest r → Judges SpellsLine text r
+judged_behind spells text rest (Ok l) spelled only h = spelled l h
+judged_behind spells text rest (Err Form) spelled only h = λ l p. h l (only l p)
+judged_behind spells text rest (Err OutOfMemory) spelled only h = tt
+
 program_spelled : (text rest : List ℕ) (l : ClientLine) → text ≡ codes "program " ++ rest → IsProgram rest l → SpellsLine text l
 program_spelled text rest (line.Program code) is h = (rest, is, h)
 program_spelled text rest (line.Store value) is h = absurd h
@@ -47,9 +53,7 @@ program_only text rest (line.Store value) is h = program_store text rest h.0 is 
 program_only text rest (line.Ask program start) is h = program_ask text rest h.0 is h.1
 
 pub program_judged : (text rest : List ℕ) (r : Result ClientLine LineFault) → text ≡ codes "program " ++ rest → Judges IsProgram rest r → Judges SpellsLine text r
-program_judged text rest (Ok l) is h = program_spelled text rest l is h
-program_judged text rest (Err Form) is h = λ l p. h l (program_only text rest l is p)
-program_judged text rest (Err OutOfMemory) is h = tt
+program_judged text rest r is h = judged_behind IsProgram text rest r (λ l. program_spelled text rest l is) (λ l. program_only text rest l is) h
 
 store_spelled : (text rest : List ℕ) (l : ClientLine) → text ≡ codes "store " ++ rest → IsStore rest l → SpellsLine text l
 store_spelled text rest (line.Program code) is h = absurd h
@@ -62,9 +66,7 @@ store_only text rest (line.Store value) is h = behind_word (codes "store ") IsSt
 store_only text rest (line.Ask program start) is h = store_ask text rest h.0 is h.1
 
 pub store_judged : (text rest : List ℕ) (r : Result ClientLine LineFault) → text ≡ codes "store " ++ rest → Judges IsStore rest r → Judges SpellsLine text r
-store_judged text rest (Ok l) is h = store_spelled text rest l is h
-store_judged text rest (Err Form) is h = λ l p. h l (store_only text rest l is p)
-store_judged text rest (Err OutOfMemory) is h = tt
+store_judged text rest r is h = judged_behind IsStore text rest r (λ l. store_spelled text rest l is) (λ l. store_only text rest l is) h
 
 ask_spelled : (text rest : List ℕ) (l : ClientLine) → text ≡ codes "ask " ++ rest → IsAsk rest l → SpellsLine text l
 ask_spelled text rest (line.Program code) is h = absurd h
@@ -77,9 +79,7 @@ ask_only text rest (line.Store value) is h = store_ask text h.0 rest h.1 is
 ask_only text rest (line.Ask program start) is h = behind_word (codes "ask ") IsAsk text rest (line.Ask program start) is h
 
 pub ask_judged : (text rest : List ℕ) (r : Result ClientLine LineFault) → text ≡ codes "ask " ++ rest → Judges IsAsk rest r → Judges SpellsLine text r
-ask_judged text rest (Ok l) is h = ask_spelled text rest l is h
-ask_judged text rest (Err Form) is h = λ l p. h l (ask_only text rest l is p)
-ask_judged text rest (Err OutOfMemory) is h = tt
+ask_judged text rest r is h = judged_behind IsAsk text rest r (λ l. ask_spelled text rest l is) (λ l. ask_only text rest l is) h
 
 -- a text that begins with none of the words
 pub no_line : (text : List ℕ) → ((rest : List ℕ) → text ≢ codes "program " ++ rest) → ((rest : List ℕ) → text ≢ codes "store " ++ rest) → ((rest : List ℕ) → text ≢ codes "ask " ++ rest) → (l : ClientLine) → SpellsLine text l → ⊥
