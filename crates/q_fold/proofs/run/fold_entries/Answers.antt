@@ -33,10 +33,10 @@ loop-first-preserved c =
     let bytes : List ℕ = record_bytes c.in-Some.first.now in
     let others = map record_bytes c.in-Some.others.now in
     let one : GoesOn text (bytes ∷ []) ran frame next left =
-        λ p before start zeros is folds.
-            let run = subst (λ (bytes : List ℕ). RecordRun p text ran.acc bytes begun ended.steps ended.acc left) c.place-length.ensures.«record» (c.run_placed-ended.ensures.run p is) in
-            let run_on = subst (λ (frame : List ℕ). RecordRun p text ran.acc bytes frame ended.steps ended.acc left) c.place-length.ensures.frame run in
-            c.appended.ensures p text before bytes start zeros ran.acc ran.steps frame ended.steps ended.acc left folds run_on in
+    λ p before start zeros is folds.
+    let run = subst (λ (bytes : List ℕ). RecordRun p text ran.acc bytes begun ended.steps ended.acc left) c.place-length.ensures.«record» (c.run_placed-ended.ensures.run p is) in
+    let run_on = subst (λ (frame : List ℕ). RecordRun p text ran.acc bytes frame ended.steps ended.acc left) c.place-length.ensures.frame run in
+    c.appended.ensures p text before bytes start zeros ran.acc ran.steps frame ended.steps ended.acc left folds run_on in
     record {
       lengths = All-tail (HasLength lengths) c.in-Some.first.now c.in-Some.others.now (subst (All (HasLength lengths)) c.in-Some.ensures.cases.0 c.loop-first.invariant.lengths);
       onward = λ to after goes.
