@@ -15,8 +15,7 @@
 //!     alloc: Global,
 //!     certified: Certified,
 //! ) -> Result<(Programs, ProgramId), TableFault>
-//!     ensures table { IfOk result (λ made. made.0 ≡ certified ∷ []) }
-//!     ensures id { IfOk result (λ made. made.1 ≡ 0) }
+//!     ensures { IfOk result (λ made. registered [] certified ≡ Ok (made.1, made.0)) }
 //! {
 //!     let program = Program::new(alloc, certified)?;
 //!     let mut programs = Programs::new(alloc);
