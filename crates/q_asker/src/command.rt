@@ -47,6 +47,28 @@ fn run_stream<T: Clock, S: Read + Write + Drop, O: Write, N: Write>(
     }
 }
 
+/// Connects with the node at a place, and runs lines over the connection.
+fn run_at<T: Net + Clock, O: Write, N: Write>(
+    rt: &T,
+    alloc: Global,
+    place: &str,
+    lines: &[ClientLine],
+    source: &str,
+    out: &mut Counted<O>,
+    notes: &mut N,
+) -> Ending
+    ensures steps { RunsOver lines.now (O.contents out.old.inner) (O.contents out.new.inner) result }
+    ensures counted { out.new.failures ≡ failures_after result out.old.failures }
+{
+    if is_path(place) {
+        let stream = connect_unix(rt, place);
+        run_stream(rt, alloc, place, stream, lines, source, out, notes)
+    } else {
+        let stream = connect_tcp(rt, place);
+        run_stream(rt, alloc, place, stream, lines, source, out, notes)
+    }
+}
+
 /// Runs the script that a text spells over a connection with the node at this place: a host and a port, or the path of
 /// a Unix socket, which has a slash. The text is read before the node is connected with. Refused are 9, 99 and 86.
 pub fn run_text<T: Net + Clock, O: Write, N: Write>(
@@ -60,17 +82,9 @@ pub fn run_text<T: Net + Clock, O: Write, N: Write>(
     ensures steps { RunsText source.now (O.contents out.old.inner) (O.contents out.new.inner) result }
     ensures counted { out.new.failures ≡ failures_after result out.old.failures }
 {
-    let lines = match read_client_script(alloc, source) {
-        Ok(lines) => lines,
-        Err(fault) => return print_refusal(Refusal::Script(fault), out),
-    };
-    let script = lines.as_slice();
-    if is_path(place) {
-        let stream = connect_unix(rt, place);
-        run_stream(rt, alloc, place, stream, script, source, out, notes)
-    } else {
-        let stream = connect_tcp(rt, place);
-        run_stream(rt, alloc, place, stream, script, source, out, notes)
+    match read_client_script(alloc, source) {
+        Ok(lines) => run_at(rt, alloc, place, lines.as_slice(), source, out, notes),
+        Err(fault) => print_refusal(Refusal::Script(fault), out),
     }
 }
 

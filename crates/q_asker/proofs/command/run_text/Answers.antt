@@ -5,17 +5,11 @@ use Rattle.q_asker.specs.Runs.{RunsOver}
 use Rattle.q_asker.specs.declared.script.ClientLine.{ClientLine}
 use Rattle.q_asker.proofs.command.run_text.Goals as goal
 
-pub returns-then-is_path-clause-steps : goal.returns-then-is_path-clause-steps
-returns-then-is_path-clause-steps g c =
+pub returns-in-Ok-clause-steps : goal.returns-in-Ok-clause-steps
+returns-in-Ok-clause-steps g c =
     let before = g.O.Write.contents c.args.out.now.inner in
-    let after = g.O.Write.contents c.run_stream.new.out.inner in
-    inl (c.in-Ok.lines.items, c.in-Ok.ensures.read, subst (λ (ls : List ClientLine). RunsOver ls before after c.run_stream.result) c.as_slice-script.ensures.value c.run_stream.ensures.steps)
-
-pub returns-else-is_path-clause-steps : goal.returns-else-is_path-clause-steps
-returns-else-is_path-clause-steps g c =
-    let before = g.O.Write.contents c.args.out.now.inner in
-    let after = g.O.Write.contents c.run_stream-else-is_path.new.out.inner in
-    inl (c.in-Ok.lines.items, c.in-Ok.ensures.read, subst (λ (ls : List ClientLine). RunsOver ls before after c.run_stream-else-is_path.result) c.as_slice-script.ensures.value c.run_stream-else-is_path.ensures.steps)
+    let after = g.O.Write.contents c.run_at.new.out.inner in
+    inl (c.in-Ok.lines.items, c.in-Ok.ensures.read, subst (λ (ls : List ClientLine). RunsOver ls before after c.run_at.result) c.as_slice.ensures.value c.run_at.ensures.steps)
 
 pub returns-in-Err-clause-steps : goal.returns-in-Err-clause-steps
 returns-in-Err-clause-steps g c = inr (c.in-Err.fault, c.in-Err.ensures.fault, c.print_refusal.ensures.written)
