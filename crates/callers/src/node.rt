@@ -12,7 +12,12 @@ use sc_view::Value;
 use std::alloc::Global;
 
 /// The only founder of a cluster stores a value. What it sends is its view with that value, the first of its own.
-pub fn first_store(alloc: Global, config: Config, id: u64, value: &Value) -> Result<(Node, Begun), NodeFault>
+pub fn first_store(
+    alloc: Global,
+    config: Config,
+    id: u64,
+    value: &Value,
+) -> Result<(Node, Begun), NodeFault>
     ensures view { IfOk result (λ r. r.0.view ≡ put fin.empty id (record { number = 1; value = value.now })) }
     ensures sent { IfOk result (λ r. r.1.outs ≡ message_from id (Store 0 r.0.view) ∷ []) }
 {

@@ -13,7 +13,12 @@ use bq_run::run;
 use std::alloc::{AllocError, Global};
 
 /// One record run from a frame of zeros: its answer and its steps are those that the text has at every placement.
-pub fn run_once(alloc: Global, program: &Certified, record: &[u8], start: u64) -> Result<Ended, AllocError>
+pub fn run_once(
+    alloc: Global,
+    program: &Certified,
+    record: &[u8],
+    start: u64,
+) -> Result<Ended, AllocError>
     requires { IsIn (length «record».now) program.now.lengths }
     ensures { IfOk result (λ ended. (after : List ℕ) × ((p : Place) → IsPlacement p
         → RecordRun p program.now.text start «record».now zero_frame ended.steps ended.acc after)) }
