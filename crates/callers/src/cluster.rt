@@ -6,10 +6,9 @@ ghost use Rattle.q_history.specs.State.{ClusterState};
 ghost use Rattle.q_history.specs.Clusters.{started};
 ghost use Rattle.q_history.specs.Calls.{Follows};
 ghost use Rattle.q_history.specs.Headline.{AnswersAreTrue};
-ghost use Rattle.q_history.specs.declared.event.ClusterStep.{ClusterStep};
 
 use q_cluster::Cluster;
-use q_history::{ClusterEvent, ClusterFault};
+use q_history::{ClusterEvent, ClusterFault, ClusterStep};
 use sc_members::Config;
 use std::alloc::Global;
 
@@ -19,12 +18,12 @@ pub fn first_event(
     config: Config,
     founders: &[u64],
     event: &ClusterEvent,
-) -> Result<Cluster, ClusterFault>
-    ensures answers { IfOk result AnswersAreTrue }
-    ensures follows { IfOk result (λ after. (before : ClusterState) × (told : ClusterStep)
-        × (started version.Second config founders.now ≡ Ok before) × Follows before event.now told after) }
+) -> Result<(Cluster, ClusterStep), ClusterFault>
+    ensures answers { IfOk result (λ r. AnswersAreTrue r.0) }
+    ensures follows { IfOk result (λ r. (before : ClusterState)
+        × (started version.Second config founders.now ≡ Ok before) × Follows before event.now r.1 r.0) }
 {
     let mut cluster = Cluster::new(alloc, config, founders)?;
-    cluster.step(event)?;
-    Ok(cluster)
+    let told = cluster.step(event)?;
+    Ok((cluster, told))
 }

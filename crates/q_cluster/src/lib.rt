@@ -16,14 +16,14 @@
 //!     config: Config,
 //!     founders: &[u64],
 //!     event: &ClusterEvent,
-//! ) -> Result<Cluster, ClusterFault>
-//!     ensures answers { IfOk result AnswersAreTrue }
-//!     ensures follows { IfOk result (λ after. (before : ClusterState) × (told : ClusterStep)
-//!         × (started version.Second config founders.now ≡ Ok before) × Follows before event.now told after) }
+//! ) -> Result<(Cluster, ClusterStep), ClusterFault>
+//!     ensures answers { IfOk result (λ r. AnswersAreTrue r.0) }
+//!     ensures follows { IfOk result (λ r. (before : ClusterState)
+//!         × (started version.Second config founders.now ≡ Ok before) × Follows before event.now r.1 r.0) }
 //! {
 //!     let mut cluster = Cluster::new(alloc, config, founders)?;
-//!     cluster.step(event)?;
-//!     Ok(cluster)
+//!     let told = cluster.step(event)?;
+//!     Ok((cluster, told))
 //! }
 //! ```
 #![tactic(auto)]
