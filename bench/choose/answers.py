@@ -6,9 +6,12 @@ ARMS = 16
 # The answers by which a register takes a value, behind so many steps.
 VALUES = {
     1: ("Single1", "Single2", "Single3"),
-    2: ("Double1", "Double2", "Double3", "Double4", "Double5", "Double6"),
-    3: ("Triple1", "Triple2"),
+    2: ("Double1", "Double2", "Double3", "Double4", "Double5"),
+    3: ("Triple",),
 }
+
+# The answers by which a branch jumps that stands alone.
+JUMPS = ("Jump1", "Jump2")
 
 
 class Answers:
@@ -17,7 +20,7 @@ class Answers:
     def __init__(self, taken):
         """`taken` says how many arms of each number of steps are there already."""
         self.values = dict(taken)
-        self.going = self.going_on = 0
+        self.going = self.going_on = self.jumps = 0
 
     def value(self, steps):
         """The answer of a code of so many steps that gives a register a value."""
@@ -37,3 +40,11 @@ class Answers:
             raise SystemExit(f"more than {2 * ARMS} arms end with a store or a branch: drop lines of codes.txt")
         self.going_on += 1
         return False
+
+    def jump(self):
+        """The answer of a branch alone that jumps."""
+        if self.jumps >= ARMS * len(JUMPS):
+            raise SystemExit(f"more than {self.jumps} branches stand alone: give crates/bq_steps/src/next.rt another "
+                             "answer, and JUMPS in answers.py its name")
+        self.jumps += 1
+        return JUMPS[(self.jumps - 1) // ARMS]

@@ -93,22 +93,23 @@ class Writer:
     def branch(self, step, fact, is_last):
         """A branch: behind it stands at most another."""
         holds = call(step, self.value)
-        self.conditions.append((f"compared {fact.form.size} Relation.{fact.form.of} cells.new ({parts(fact)})",
-                                f"Next.To {fact.variable}.distance"))
-        if not is_last:
-            jump = f"return Next::To(usize::from({step.variable}.distance), 1);"
-            self.body.append(f"if {holds} {{\n        {jump}\n    }}")
-            return
-        if self.answers.is_going(self.count):
-            self.body.append(f"branched({holds}, {step.variable}.distance)")
-            otherwise = "Next.Go"
+        distance = f"usize::from({step.variable}.distance)"
+        if self.count == 1:
+            answer = self.answers.jump()
+            jump, told = f"Next::{answer}({distance})", f"Next.{answer} {fact.variable}.distance"
         else:
-            self.body.append(f"branched_behind({holds}, {step.variable}.distance, {self.count})")
-            otherwise = f"Next.GoOn {self.count}"
-        behind = self.count
+            behind = len(self.conditions) + 1 if self.code.forms[0].is_branch else self.count
+            jump, told = f"Next::To({distance}, {behind})", f"Next.To {fact.variable}.distance {behind}"
+        self.conditions.append((f"compared {fact.form.size} Relation.{fact.form.of} cells.new ({parts(fact)})", told))
+        if not is_last:
+            self.body.append(f"if {holds} {{\n        return {jump};\n    }}")
+            return
+        is_going = self.answers.is_going(self.count)
+        on = "Next::Go" if is_going else f"Next::GoOn({self.count})"
+        self.body.append(f"if {holds} {{\n        {jump}\n    }} else {{\n        {on}\n    }}")
+        otherwise = "Next.Go" if is_going else f"Next.GoOn {self.count}"
         for condition, answer in reversed(self.conditions):
-            otherwise = f"(if {condition} then {answer} {behind} else {otherwise})"
-            behind -= 1
+            otherwise = f"(if {condition} then {answer} else {otherwise})"
         self.ensures.append(("next", f"result ≡ {otherwise}"))
 
     def store(self, step, fact):

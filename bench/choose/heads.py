@@ -26,7 +26,7 @@ IN_BODIES = {
     "crate::accesses":
         "read store_from store_to",
     "crate::branches":
-        "branched branched_behind limit_holds number_holds number_test register_holds register_test",
+        "limit_holds number_holds number_test register_holds register_test",
     "crate::operations":
         "by_number by_register cell_onto moved moved_from number_onto operated register_onto set",
     "bq_code":
