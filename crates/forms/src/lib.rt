@@ -1,3 +1,3 @@
 //! The forms of statements that both families share: what a call that may refuse does, and what is among the elements
-//! of a list. Definitions alone: no function stands here.
+//! of a list; and lemmas on trees of numbered entries, seen as finite maps. No function stands here.
 #![tactic(auto)]

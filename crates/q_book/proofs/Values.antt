@@ -12,8 +12,8 @@ use Rattle.sc_node.specs.State.{NodeState}
 use Rattle.sc_operations.specs.declared.progress.Completion.{Completion}
 use Rattle.sc_operations.specs.declared.progress.Completion.TheVariants as completion
 use Rattle.sc_operations.specs.declared.progress.Ended.{Ended}
-use Rattle.sc_lengths.specs.Lengths.{NodeHasValuesWithin, CompletionHasValuesWithin, EndedHasValuesWithin}
-use Rattle.sc_lengths.proofs.Kept.{founder_kept, entered_kept, store_kept, collect_kept, leave_kept, delivery_kept}
+use Rattle.sc_node.specs.Lengths.{NodeHasValuesWithin, CompletionHasValuesWithin, EndedHasValuesWithin}
+use Rattle.sc_node.proofs.Kept.{founder_kept, entered_kept, store_kept, collect_kept, leave_kept, delivery_kept}
 use Rattle.q_session.specs.Records.{HasRecordsWithin, records_of}
 use Rattle.q_desk.specs.Keeping.{CompletesWithin, EndsWithin}
 use Rattle.q_desk.specs.Desks as desk

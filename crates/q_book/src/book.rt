@@ -23,7 +23,7 @@ use q_desk::{Desk, DeskFault, Entry};
 use q_session::laws::records_of_values;
 use q_session::{Done, Job, Ran};
 use q_table::{Program, ProgramId};
-use sc_lengths::laws::delivery_keeps_lengths;
+use sc_node::laws::delivery_keeps_lengths;
 use sc_members::Config;
 use sc_msg::{Message, Version};
 use sc_node::{Begun, Delivered, MOST_OPEN, Node, NodeFault, Outs};

@@ -1,2 +1,2 @@
 -- When two views are the same.
-pub use Rattle.q_same.proofs.Views.{same-view}
+pub use Rattle.q_session.proofs.Views.{same-view}

@@ -12,7 +12,7 @@ use Rattle.sc_msg.specs.Lengths.{Fits}
 use Rattle.sc_msg.specs.Values.{value_lengths}
 use Rattle.sc_node.specs.State.{NodeState}
 use Rattle.sc_node.specs.Nodes as node
-use Rattle.sc_lengths.proofs.Kept.{entered_told}
+use Rattle.sc_node.proofs.Kept.{entered_told}
 use Rattle.sc_world.specs.declared.event.WorldEvent.TheVariants as world_event
 use Rattle.sc_world.specs.State.{Past, past_of}
 use Rattle.sc_world.specs.Ledgers.{recorded}

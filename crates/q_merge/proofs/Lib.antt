@@ -1,4 +1,4 @@
--- That merging is free, and that an entry of a journal is an event of a cluster.
+-- That merging is free, that an entry of a journal is an event of a cluster, and that beginnings merge where books do.
 pub mod Lists
 pub mod Merging
 pub mod Turning
@@ -10,3 +10,13 @@ pub mod Gathering
 pub mod Beginning
 pub mod Tracing
 pub mod Finding
+pub mod FrontLists
+pub mod Fronts
+pub mod Senders
+pub mod FrontsTraced
+pub mod Known
+pub mod FrontsGather
+pub mod Cutting
+pub mod Heads
+pub mod Moving
+pub mod Merged

@@ -8,7 +8,7 @@ use Rattle.q_session.specs.declared.query.Phase.{Phase}
 use Rattle.q_session.specs.declared.query.Phase.TheVariants.{Ready, Running, Answered}
 use Rattle.q_session.specs.declared.query.Query.{Query}
 use Rattle.q_session.specs.declared.job.Job.{Job}
-use Rattle.q_same.specs.Same.{is_job_of, Serves}
+use Rattle.q_session.specs.Same.{is_job_of, Serves}
 use Rattle.q_queries.specs.declared.unfit.Unfit.{Unfit}
 use Rattle.q_queries.specs.declared.unfit.Unfit.TheVariants.{Stranger, AlreadyAnswered}
 

@@ -5,8 +5,7 @@ ghost use Rattle.q_queries.specs.Queries.{checked, IsOfRunning};
 
 use crate::answer::answer_in;
 use crate::unfit::Unfit;
-use q_same::is_job_of;
-use q_session::{Job, Phase, Query};
+use q_session::{Job, Phase, Query, is_job_of};
 use q_table::Programs;
 
 /// Whether the result of this job may be recorded at this node, which has these programs and queries. Then the job is

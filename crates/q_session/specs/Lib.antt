@@ -3,3 +3,4 @@ pub use Rattle.q_fold.specs.Records
 pub mod Right
 pub mod Jobs
 pub mod Done
+pub mod Same

@@ -6,7 +6,11 @@
 //! tests every access, for tests to compare with. A job that was run holds its right answer: [`Done`]. No run takes
 //! memory.
 //!
-//! `specs/Records` of `q_fold` says which bytes a record has, `specs/Right` when an answer is right.
+//! [`is_job_of`] tells whether a job is that of a query. It compares the program, the start value and the view, and not
+//! only their numbers: a right answer of such a job is a right answer of the query.
+//!
+//! `specs/Records` of `q_fold` says which bytes a record has, `specs/Right` when an answer is right, `specs/Same` when
+//! two views and two programs are the same.
 #![tactic(auto)]
 
 mod done;
@@ -16,6 +20,7 @@ pub mod laws;
 mod query;
 mod ran;
 mod run;
+mod same;
 mod shared_view;
 pub mod worked;
 
@@ -25,4 +30,5 @@ pub use job::Job;
 pub use query::{Phase, Query};
 pub use ran::Ran;
 pub use run::run_fold;
+pub use same::is_job_of;
 pub use shared_view::SharedView;

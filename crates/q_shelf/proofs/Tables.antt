@@ -7,7 +7,7 @@ use Rattle.std.specs.Cmp.{nat_cmp_total}
 use Rattle.std.specs.FinMap as fin
 use Rattle.std.specs.FinMap.Entries.{find}
 use Rattle.std.specs.BTreeMap.{is_at}
-use Rattle.sc_maps.proofs.Maps.{found, get_found, one_written}
+use Rattle.forms.proofs.Maps.{found, get_found, one_written}
 use Rattle.sc_world.proofs.Finite.{get-insert}
 use Rattle.forms.specs.Calls.{Steps, Does}
 use Rattle.q_book.specs.State.{BookState}

@@ -12,7 +12,7 @@ use sc_decode::decode_as;
 use sc_decode::laws::{
     read_and_written, read_and_written_v1, written_and_read, written_and_read_v1,
 };
-use sc_lengths::laws::{
+use sc_node::laws::{
     collect_keeps_lengths, delivery_keeps_lengths, leave_keeps_lengths, new_nodes_have_no_value,
     store_keeps_lengths,
 };

@@ -9,7 +9,7 @@ use Rattle.std.specs.FinMap.Entries.{find, is_sorted, below_all, put as put_entr
 use Rattle.std.specs.FinSet as set
 use Rattle.std.specs.List.{AllByRecursion}
 use Rattle.std.specs.List.Sorted.{IsStrictlySortedBy}
-use Rattle.sc_maps.proofs.Tests.{first, second}
+use Rattle.forms.proofs.Tests.{first, second}
 use Rattle.sc_members.specs.Ids.{Ids, as_map, rising}
 use Rattle.sc_members.proofs.Sets.{rising-from_list, len-from_list}
 use Rattle.sc_view.specs.declared.view.Stored.{Stored}

@@ -1,2 +1,3 @@
--- Lemmas on facts.
+-- Lemmas on facts, and why values keep their lengths.
 pub mod Joining
+pub mod Kept

@@ -10,6 +10,11 @@
 //! and leaves what is said, or refuses as is said, or was refused memory; after a refusal the node is as it was.
 //! The handlers follow the CCC store-collect algorithm (Attiya, Kumari, Somani, Welch 2020).
 //!
+//! A node takes values of 0 to 112 bytes. Where a layer above stores values within some lengths alone, as 48 bytes for
+//! the first version of messages, and delivers messages whose values are within them, each value that its nodes keep or
+//! send is within them too, says [`laws`]: so all their messages have bytes in that version, and each view that a collect
+//! returns has records of such lengths.
+//!
 //! A caller, proved in `callers`: the only founder of a cluster begins to store its first value.
 //!
 //! ```rust
@@ -27,6 +32,7 @@
 mod answer;
 mod copies;
 mod fault;
+pub mod laws;
 mod node;
 mod outs;
 pub mod worked;

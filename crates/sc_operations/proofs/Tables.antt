@@ -5,7 +5,7 @@ use Rattle.std.specs.Ordering.{nat_cmp}
 use Rattle.std.specs.Cmp.{nat_cmp_total, eq_by_cmp_equiv, unsigned_tied}
 use Rattle.std.specs.FinMap as fin
 use Rattle.std.specs.BTreeMap.{is_at}
-use Rattle.sc_maps.proofs.Maps.{found, get_found, one_written}
+use Rattle.forms.proofs.Maps.{found, get_found, one_written}
 use Rattle.sc_operations.specs.declared.session.Session.{Session}
 use Rattle.sc_operations.specs.declared.progress.Advance.{Advance}
 use Rattle.sc_operations.specs.declared.progress.Advance.TheVariants as advance

@@ -5,7 +5,7 @@ use Rattle.std.specs.declared.cmp.Ordering.TheVariants.{Less, Equal, Greater}
 use Rattle.std.specs.Ordering.{nat_cmp, is_eq, is_lt}
 use Rattle.std.specs.FinMap.Entries.{put, find, by_order, below_all, is_sorted, is_sorted-put}
 use Rattle.std.specs.Cmp.{nat_cmp_total}
-use Rattle.sc_maps.proofs.Tests.{both, first, second}
+use Rattle.forms.proofs.Tests.{both, first, second}
 use Rattle.sc_chunk.proofs.EntryLemmas.{cmp_less, cmp_greater, cmp_equal, over_lower, find_none, find_later}
 use Rattle.sc_view.specs.declared.view.Stored.{Stored}
 use Rattle.sc_view.specs.Rows.{from, Over, Under, Rises}

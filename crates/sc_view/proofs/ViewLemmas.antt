@@ -14,7 +14,7 @@ use Rattle.std.specs.FinMap.Entries.{find, is_sorted}
 use Rattle.sc_view.specs.declared.view.Stored.{Stored}
 use Rattle.sc_view.specs.Values.{most_bytes}
 use Rattle.sc_view.specs.Views.{ViewMap, IsView, most_entries, is_newer, newer, newest, put, merge, number_of, number_at, IsBelow, IsCoveredBy, Agree}
-use Rattle.sc_maps.proofs.Maps.{found, get_found, entries_found, one_written, missed, tail_rises, head_rises}
+use Rattle.forms.proofs.Maps.{found, get_found, entries_found, one_written, missed, tail_rises, head_rises}
 
 no_entry : (e : Stored) → None ≡ Some e → ⊥
 no_entry e is = subst (λ (o : Option Stored). cond (is_some o) ⊥ (Unit {0})) is tt

@@ -6,7 +6,7 @@ use Rattle.std.specs.Cmp.{unsigned_tied, nat_cmp_total}
 use Rattle.std.specs.Option.{option_copied}
 use Rattle.std.specs.FinMap as fin
 use Rattle.std.specs.BTreeMap.{is_at}
-use Rattle.sc_maps.proofs.Maps.{found, get_found, one_written}
+use Rattle.forms.proofs.Maps.{found, get_found, one_written}
 use Rattle.sc_node.specs.State.{NodeState}
 use Rattle.sc_world.specs.declared.act.Report.{Report}
 use Rattle.sc_world.specs.declared.fault.WorldFault.{WorldFault}

@@ -6,3 +6,4 @@ pub mod Regular
 pub mod Acts
 pub mod Ledgers
 pub mod Faults
+pub mod Quorums

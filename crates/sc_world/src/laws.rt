@@ -1,12 +1,15 @@
-//! What is true of every history.
+//! What is true of every history, and of quorums of one membership.
 
-ghost use Rattle.std.specs.Prelude.{ℕ, List};
+ghost use Rattle.std.specs.Prelude.{◌≡◌, ℕ, List, Option, is_some, true};
+ghost use Rattle.sc_members.specs.Ids.{Ids};
 ghost use Rattle.sc_members.specs.Members.{Config};
 ghost use Rattle.sc_world.specs.declared.event.WorldEvent.{WorldEvent};
+ghost use Rattle.sc_world.specs.declared.op.Op.{Op};
 ghost use Rattle.sc_world.specs.State.{WorldState};
 ghost use Rattle.sc_world.specs.Worlds.{Reaches, start};
 ghost use Rattle.sc_world.specs.Records.{AreRecords, AreSent};
-ghost use Rattle.sc_world.specs.Regular.{IsRegular, EndsAreRecorded, EndsAreTold};
+ghost use Rattle.sc_world.specs.Regular.{IsRegular, IsMeeting, EndsAreRecorded, EndsAreTold};
+ghost use Rattle.sc_world.specs.Quorums.{IsQuorumPair};
 
 /// A law: whatever the founders are, and whatever list of events was accepted, in which messages are lost, repeated
 /// and reordered and nodes enter, leave and crash, the world that they lead to is regular, and the records of its
@@ -19,4 +22,10 @@ pub fn regular()
     ensures answers { (c : Config) (founders : List ℕ) (events : List WorldEvent) (w : WorldState) → Reaches (start c founders) events w → EndsAreRecorded w }
     ensures told { (c : Config) (founders : List ℕ) (events : List WorldEvent) (w : WorldState) → Reaches (start c founders) events w → EndsAreTold w }
     ensures senders { (c : Config) (founders : List ℕ) (events : List WorldEvent) (w : WorldState) → Reaches (start c founders) events w → AreSent w }
+{}
+
+/// A law: where the acknowledgers of one operation and the repliers of another are quorums of one membership, `meets`
+/// answers an id.
+pub fn one_membership_meets()
+    ensures { (num den : ℕ) (members : Ids) (a b : Op) (least : Option ℕ) → IsQuorumPair num den members a b → IsMeeting a b least → is_some least ≡ true }
 {}

@@ -5,6 +5,10 @@
 //! enter, leave and crash. Whatever the list of events is, the views that collects return are regular: each holds
 //! only what nodes began to store before, each store that ended before the collect began and that meets it, and at
 //! least what an earlier collect that it meets had returned.
+//!
+//! Nothing is said of whether the phases of two operations meet while nodes come and go. But where all senders that two
+//! ended phases counted are of one set of members, and each phase waited for the same fraction of them, above a half, a
+//! node was counted in both, so [`meets`] answers one: a law says so.
 #![tactic(auto)]
 
 mod act;

@@ -3,7 +3,7 @@ use Rattle.std.proofs.Common.{Option, sym, ap, ◌∙◌}
 use Rattle.std.specs.FinMap as fin
 use Rattle.sc_view.specs.declared.view.Stored.{Stored}
 use Rattle.sc_view.specs.Views.{is_newer}
-use Rattle.sc_maps.proofs.Maps.{get_found}
+use Rattle.forms.proofs.Maps.{get_found}
 use Rattle.sc_view.proofs.ViewLemmas.{learned, not_learned}
 use Rattle.sc_view.proofs.sorted.learn.Goals as goal
 

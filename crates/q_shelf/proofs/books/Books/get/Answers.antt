@@ -1,7 +1,7 @@
 -- Books::get: the book of this node.
 use Rattle.std.proofs.Common.{sym, ap, ◌∙◌}
 use Rattle.std.specs.FinMap as fin
-use Rattle.sc_maps.proofs.Maps.{get_found}
+use Rattle.forms.proofs.Maps.{get_found}
 use Rattle.q_shelf.specs.Tables.{BookMap}
 use Rattle.q_shelf.proofs.books.Books.get.Goals as goal
 

@@ -1,7 +1,7 @@
 -- Books::insert: puts the book of this node.
 use Rattle.std.proofs.Common.{ap, ◌∙◌}
 use Rattle.std.specs.FinMap as fin
-use Rattle.sc_maps.proofs.Maps.{one_written}
+use Rattle.forms.proofs.Maps.{one_written}
 use Rattle.q_shelf.specs.Tables.{BookMap}
 use Rattle.q_shelf.proofs.books.Books.insert.Goals as goal
 

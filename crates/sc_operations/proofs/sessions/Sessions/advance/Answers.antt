@@ -2,7 +2,7 @@
 use Rattle.std.proofs.Common.{◌≡◌, ◌∙◌, subst, Option, IsSome, refl, ℕ, cond, Some}
 use Rattle.std.specs.Ordering.{nat_cmp}
 use Rattle.std.specs.BTreeMap.{is_at}
-use Rattle.sc_maps.proofs.Maps.{found}
+use Rattle.forms.proofs.Maps.{found}
 use Rattle.sc_operations.specs.declared.session.Session.{Session}
 use Rattle.sc_operations.proofs.Tables.{one_moved, none_moved, unchanged, on_err}
 use Rattle.sc_operations.proofs.sessions.Sessions.advance.Goals as goal

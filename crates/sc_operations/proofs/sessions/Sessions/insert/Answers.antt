@@ -2,7 +2,7 @@
 use Rattle.std.proofs.Common.{ap, ◌∙◌}
 use Rattle.std.specs.FinMap as fin
 use Rattle.std.specs.Ordering.{nat_cmp}
-use Rattle.sc_maps.proofs.Maps.{one_written}
+use Rattle.forms.proofs.Maps.{one_written}
 use Rattle.sc_operations.specs.declared.session.Session.{Session}
 use Rattle.sc_operations.proofs.sessions.Sessions.insert.Goals as goal
 

@@ -2,7 +2,7 @@
 use Rattle.std.proofs.Common.{◌≡◌, sym, ap, subst, ◌∙◌, arith}
 use Rattle.std.specs.FinMap as fin
 use Rattle.sc_view.specs.Views.{ViewMap, IsView}
-use Rattle.sc_maps.proofs.Maps.{len_found}
+use Rattle.forms.proofs.Maps.{len_found}
 use Rattle.sc_view.proofs.ViewLemmas.{lacks_found, few_new, len-merge}
 use Rattle.sc_view.proofs.sorted.SortedView.len_with_all.Goals as goal
 

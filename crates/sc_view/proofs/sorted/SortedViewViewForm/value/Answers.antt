@@ -2,7 +2,7 @@
 use Rattle.std.proofs.Common.{sym, ap, ◌∙◌}
 use Rattle.std.specs.FinMap as fin
 use Rattle.sc_view.specs.Views.{ViewMap}
-use Rattle.sc_maps.proofs.Maps.{get_found}
+use Rattle.forms.proofs.Maps.{get_found}
 use Rattle.sc_view.proofs.sorted.SortedViewViewForm.value.Goals as goal
 
 pub returns : goal.returns

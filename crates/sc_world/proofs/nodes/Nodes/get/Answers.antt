@@ -2,7 +2,7 @@
 use Rattle.std.proofs.Common.{sym, ap, ◌∙◌}
 use Rattle.std.specs.Ordering.{nat_cmp}
 use Rattle.std.specs.FinMap as fin
-use Rattle.sc_maps.proofs.Maps.{get_found}
+use Rattle.forms.proofs.Maps.{get_found}
 use Rattle.sc_node.specs.State.{NodeState}
 use Rattle.sc_world.proofs.nodes.Nodes.get.Goals as goal
 

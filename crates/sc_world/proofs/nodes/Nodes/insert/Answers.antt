@@ -2,7 +2,7 @@
 use Rattle.std.proofs.Common.{ap, ◌∙◌}
 use Rattle.std.specs.Ordering.{nat_cmp}
 use Rattle.std.specs.FinMap as fin
-use Rattle.sc_maps.proofs.Maps.{one_written}
+use Rattle.forms.proofs.Maps.{one_written}
 use Rattle.sc_node.specs.State.{NodeState}
 use Rattle.sc_world.proofs.nodes.Nodes.insert.Goals as goal
 

@@ -1,2 +1,0 @@
--- Beginnings of journals: what the files of nodes hold that were killed, or whose disk was full.
-pub mod Beginnings

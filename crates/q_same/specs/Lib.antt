@@ -1,2 +1,0 @@
--- When a job is that of a query.
-pub mod Same

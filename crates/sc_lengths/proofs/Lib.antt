@@ -1,2 +1,0 @@
--- Why values keep their lengths.
-pub mod Kept

@@ -1,6 +1,0 @@
--- collect_keeps_lengths: a law: the same as a collect begins.
-use Rattle.sc_lengths.proofs.Kept.{collect_kept}
-use Rattle.sc_lengths.proofs.laws.collect_keeps_lengths.Goals as goal
-
-pub returns : goal.returns
-returns c = collect_kept

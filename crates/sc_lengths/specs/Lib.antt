@@ -1,2 +1,0 @@
--- The lengths of the values that a node holds.
-pub mod Lengths

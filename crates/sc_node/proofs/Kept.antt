@@ -1,0 +1,280 @@
+-- What a node keeps and tells has values of some lengths, where what it is given has.
+use Rattle.std.proofs.Common.{◌≡◌, ℕ, Bool, true, false, not, cond, ◌==◌, ◌&&◌, ◌+◌, nat_le, List, [], ◌∷◌, map, length, Option, Some, None, is_some, Result, Ok, Err, refl, sym, ap, subst, ◌∙◌, true≢false}
+use Rattle.std.specs.List.{All, AllByRecursion}
+use Rattle.std.specs.Option.{IfSome}
+use Rattle.std.proofs.lemmas.List.Elements.{All-from_recursion}
+use Rattle.std.specs.Ordering.{nat_cmp, eq_by_cmp}
+use Rattle.std.specs.Cmp.{nat_cmp_total}
+use Rattle.std.specs.FinMap as fin
+use Rattle.std.specs.FinSet as set
+use Rattle.sc_view.specs.Values.{Lengths, IsWithin}
+use Rattle.sc_view.specs.Views.{ViewMap, HasValuesWithin, merge}
+use Rattle.sc_view.proofs.LengthLemmas.{empty_within, put_within, merge_within}
+use Rattle.sc_members.specs.Members.{Config, Facts, is_overfull, no_facts, founding, with_entered, with_left}
+use Rattle.sc_msg.specs.declared.message.Body.{Body}
+use Rattle.sc_msg.specs.declared.message.Body.TheVariants.{Enter, EnterEcho, Join, Leave, Store, StoreAck, StoreEcho, CollectQuery, CollectReply}
+use Rattle.sc_msg.specs.declared.message.Message.{Message}
+use Rattle.sc_msg.specs.Lengths.{BodyHasValuesWithin, MessageHasValuesWithin}
+use Rattle.sc_operations.specs.declared.session.OperationKind.{OperationKind}
+use Rattle.sc_operations.specs.declared.session.OperationKind.TheVariants as kind
+use Rattle.sc_operations.specs.declared.session.Phase.{Phase}
+use Rattle.sc_operations.specs.declared.session.StoreBack.{StoreBack}
+use Rattle.sc_operations.specs.declared.session.Session.{Session}
+use Rattle.sc_operations.specs.declared.progress.Advance.{Advance}
+use Rattle.sc_operations.specs.declared.progress.Advance.TheVariants as advance
+use Rattle.sc_operations.specs.declared.progress.Progress.{Progress}
+use Rattle.sc_node.specs.declared.answer.Begun.{Begun}
+use Rattle.sc_node.specs.declared.answer.Delivered.{Delivered}
+use Rattle.sc_node.specs.declared.fault.NodeFault.{NodeFault}
+use Rattle.sc_node.specs.declared.fault.NodeFault.TheVariants as fault
+use Rattle.sc_node.specs.Sessions.{apply, advanced_by, session_with, ends, ended_by, ended_at, ended_with, querying, storing, count_sender, is_reached, view_in}
+use Rattle.sc_node.specs.State.{NodeState}
+use Rattle.sc_node.specs.Nodes.{fresh, founded, entered, store_begun, collect_begun, left, delivered, delivery, node_after, view_after, is_reply, sessions_after, session_moved, ended_session, progress_of, ack_progress, reply_progress, answers, store_of, store_back, joins, message_from, beta_threshold, beginning, is_view_full, stored_view, store_session, collect_session, next_stored, begun, opened, tells_view, tells_facts, facts_after, are_founders, most_open, most_operations}
+use Rattle.sc_node.specs.Lengths.{KindHasValuesWithin, SessionHasValuesWithin, TableHasValuesWithin, NodeHasValuesWithin, BegunHasValuesWithin, AdvanceHasValuesWithin, ProgressHasValuesWithin, EndedHasValuesWithin, DeliveryHasValuesWithin}
+
+-- ---- what an accepted call answers
+
+module _ {A E : Type 0} where
+  abbrev answered : A → Result A E → A
+  answered x (Ok y) = y
+  answered x (Err e) = x
+
+  abbrev accepts : Result A E → Bool
+  accepts (Ok x) = true
+  accepts (Err e) = false
+
+  pub same_answer : (x y : A) → ◌≡◌ {A = Result A E} (Ok x) (Ok y) → x ≡ y
+  same_answer x y is = ap (answered x) is
+
+  pub not_accepted : (e : E) (x : A) → ◌≡◌ {A = Result A E} (Err e) (Ok x) → ⊥
+  not_accepted e x is = true≢false (sym (ap accepts is))
+
+  -- what is asked first did not refuse
+  pub past : (b : Bool) (e : E) (rest : Result A E) (x : A) → cond b (Err e) rest ≡ Ok x → rest ≡ Ok x
+  past true e rest x is = absurd (not_accepted e x is)
+  past false e rest x is = is
+
+-- ---- the open operations
+
+abbrev session_or : Session → Option Session → Session
+session_or o (Some p) = p
+session_or o None = o
+
+not_some : (o : Session) → None ≡ Some o → ⊥
+not_some o is = true≢false (sym (ap (λ (x : Option Session). is_some x) is))
+
+module _ (l : Lengths) where
+  no_session : TableHasValuesWithin l fin.empty
+  no_session = record { at = λ tag o has. absurd (not_some o (sym (fin.get-empty nat_cmp tag) ∙ has)) }
+
+  same_session : (o p : Session) → Some o ≡ Some p → o ≡ p
+  same_session o p is = ap (session_or o) is
+
+  inserted : (b : Bool) (m : fin.FinMap nat_cmp Session) (q : ℕ) (o p : Session) → TableHasValuesWithin l m → SessionHasValuesWithin l o → cond b (Some o) (fin.get m q) ≡ Some p → SessionHasValuesWithin l p
+  inserted true m q o p table new is = subst (SessionHasValuesWithin l) (same_session o p is) new
+  inserted false m q o p table new is = table.at q p is
+
+  table_with : (m : fin.FinMap nat_cmp Session) (tag : ℕ) (o : Session) → TableHasValuesWithin l m → SessionHasValuesWithin l o → TableHasValuesWithin l (fin.insert m tag o)
+  table_with m tag o table new = record { at = λ q p has. inserted (eq_by_cmp nat_cmp q tag) m q o p table new (sym (fin.get-insert nat_cmp_total m tag o q) ∙ has) }
+
+  removed : (b : Bool) (m : fin.FinMap nat_cmp Session) (q : ℕ) (p : Session) → TableHasValuesWithin l m → cond b None (fin.get m q) ≡ Some p → SessionHasValuesWithin l p
+  removed true m q p table is = absurd (not_some p is)
+  removed false m q p table is = table.at q p is
+
+  table_without : (m : fin.FinMap nat_cmp Session) (tag : ℕ) → TableHasValuesWithin l m → TableHasValuesWithin l (fin.remove m tag)
+  table_without m tag table = record { at = λ q p has. removed (eq_by_cmp nat_cmp q tag) m q p table (sym (fin.get-remove nat_cmp_total m tag q) ∙ has) }
+
+  counted_view : (o : Session) (back : Option StoreBack) (from : ℕ) → KindHasValuesWithin l o.kind → IfSome (view_in back) (HasValuesWithin l) → SessionHasValuesWithin l (session_with o back from)
+  counted_view o None from of view = record { kind = of; view = tt }
+  counted_view o (Some b) from of view = record { kind = of; view = view }
+
+  advanced : (from : ℕ) (a : Advance) (o : Session) → AdvanceHasValuesWithin l a → SessionHasValuesWithin l o → SessionHasValuesWithin l (advanced_by from a o)
+  advanced from (advance.Turned threshold view) o new h = record { kind = h.kind; view = new }
+  advanced from advance.Counted o new h = counted_view o o.back from h.kind h.view
+  advanced from advance.Ended o new h = counted_view o o.back from h.kind h.view
+
+  moved_by : (b : Bool) (m : fin.FinMap nat_cmp Session) (tag : ℕ) (o : Session) → TableHasValuesWithin l m → SessionHasValuesWithin l o → TableHasValuesWithin l (cond b (fin.remove m tag) (fin.insert m tag o))
+  moved_by true m tag o table new = table_without m tag table
+  moved_by false m tag o table new = table_with m tag o table new
+
+  moved_at : (m : fin.FinMap nat_cmp Session) (p : Progress) (o : Option Session) → TableHasValuesWithin l m → ProgressHasValuesWithin l p → fin.get m p.tag ≡ o → TableHasValuesWithin l (session_moved m p o)
+  moved_at m p None table new is = table
+  moved_at m p (Some o) table new is = moved_by (ends p.advance) m p.tag (apply p o) table (advanced p.sender p.advance o new (table.at p.tag o is))
+
+  table_after : (m : fin.FinMap nat_cmp Session) (p : Option Progress) → TableHasValuesWithin l m → IfSome p (ProgressHasValuesWithin l) → TableHasValuesWithin l (sessions_after m p)
+  table_after m None table new = table
+  table_after m (Some p) table new = moved_at m p (fin.get m p.tag) table new refl
+
+  completed_view : (tag : ℕ) (o : Session) (back : Option StoreBack) → IfSome (view_in back) (HasValuesWithin l) → IfSome (ended_with tag o.kind back) (EndedHasValuesWithin l)
+  completed_view tag o None view = tt
+  completed_view tag o (Some b) view = by_kind o.kind
+    where
+      by_kind : (k : OperationKind) → IfSome (ended_with tag k (Some b)) (EndedHasValuesWithin l)
+      by_kind (kind.Store e) = tt
+      by_kind kind.Collect = view
+
+  ended_at_end : (tag : ℕ) (a : Advance) (o : Option Session) → IfSome o (SessionHasValuesWithin l) → IfSome (ended_at tag a o) (EndedHasValuesWithin l)
+  ended_at_end tag advance.Ended (Some o) h = completed_view tag o o.back h.view
+  ended_at_end tag advance.Ended None h = tt
+  ended_at_end tag advance.Counted o h = tt
+  ended_at_end tag (advance.Turned threshold view) o h = tt
+
+  if_there : (m : fin.FinMap nat_cmp Session) (tag : ℕ) (o : Option Session) → TableHasValuesWithin l m → fin.get m tag ≡ o → IfSome o (SessionHasValuesWithin l)
+  if_there m tag None table is = tt
+  if_there m tag (Some o) table is = table.at tag o is
+
+  ended_after : (m : fin.FinMap nat_cmp Session) (p : Option Progress) → TableHasValuesWithin l m → IfSome (ended_by p (ended_session m p)) (EndedHasValuesWithin l)
+  ended_after m None table = tt
+  ended_after m (Some p) table = ended_at_end p.tag p.advance (fin.get m p.tag) (if_there m p.tag (fin.get m p.tag) table refl)
+
+  -- ---- a message
+
+  view_if : (b : Bool) (v w : ViewMap) → HasValuesWithin l v → HasValuesWithin l w → HasValuesWithin l (cond b v w)
+  view_if true v w h k = h
+  view_if false v w h k = k
+
+  view_kept : (s : NodeState) (b : Body) → NodeHasValuesWithin l s → BodyHasValuesWithin l b → HasValuesWithin l (view_after s b)
+  view_kept s (EnterEcho to j f v) h told = merge_within l s.view v h.view told
+  view_kept s (Store t v) h told = merge_within l s.view v h.view told
+  view_kept s (StoreEcho v) h told = merge_within l s.view v h.view told
+  view_kept s (CollectReply to t v) h told = view_if (is_reply s to t) (merge s.view v) s.view (merge_within l s.view v h.view told) h.view
+  view_kept s b h told = h.view
+
+  advance_if : (b : Bool) (x y : Advance) → AdvanceHasValuesWithin l x → AdvanceHasValuesWithin l y → AdvanceHasValuesWithin l (cond b x y)
+  advance_if true x y h k = h
+  advance_if false x y h k = k
+
+  progress_if : (b : Bool) (p : Option Progress) → IfSome p (ProgressHasValuesWithin l) → IfSome (cond b p None) (ProgressHasValuesWithin l)
+  progress_if true p h = h
+  progress_if false p h = tt
+
+  acked : (from tag : ℕ) (p : Option Phase) → IfSome (ack_progress from tag p) (ProgressHasValuesWithin l)
+  acked from tag None = tt
+  acked from tag (Some p) = advance_if (is_reached (count_sender p from)) advance.Ended advance.Counted tt tt
+
+  replied : (from tag : ℕ) (view : ViewMap) (next : ℕ) (p : Option Phase) → HasValuesWithin l view → IfSome (reply_progress from tag view next p) (ProgressHasValuesWithin l)
+  replied from tag view next None h = tt
+  replied from tag view next (Some p) h = advance_if (is_reached (count_sender p from)) (advance.Turned next view) advance.Counted h tt
+
+  progress_told : (s : NodeState) (from : ℕ) (b : Body) → NodeHasValuesWithin l s → BodyHasValuesWithin l b → IfSome (progress_of s from b) (ProgressHasValuesWithin l)
+  progress_told s from (StoreAck to t) h told = progress_if (to == s.id) (ack_progress from t (storing (fin.get s.sessions t))) (acked from t (storing (fin.get s.sessions t)))
+  progress_told s from (CollectReply to t v) h told =
+      progress_if (to == s.id) (reply_progress from t (merge s.view v) (beta_threshold s) (querying (fin.get s.sessions t)))
+      (replied from t (merge s.view v) (beta_threshold s) (querying (fin.get s.sessions t)) (merge_within l s.view v h.view told))
+  progress_told s from b h told = tt
+
+  stored_back : (p : Option Progress) → IfSome p (ProgressHasValuesWithin l) → AllByRecursion (BodyHasValuesWithin l) (store_back p)
+  stored_back None h = tt
+  stored_back (Some p) h = by_advance p.tag p.advance h
+    where
+      by_advance : (tag : ℕ) (a : Advance) → AdvanceHasValuesWithin l a → AllByRecursion (BodyHasValuesWithin l) (store_of tag a)
+      by_advance tag (advance.Turned next view) h = (h, tt)
+      by_advance tag advance.Counted h = tt
+      by_advance tag advance.Ended h = tt
+
+  bodies_if : (b : Bool) (bs : List Body) → AllByRecursion (BodyHasValuesWithin l) bs → AllByRecursion (BodyHasValuesWithin l) (cond b bs [])
+  bodies_if true bs h = h
+  bodies_if false bs h = tt
+
+  answers_told : (s : NodeState) (from : ℕ) (b : Body) → NodeHasValuesWithin l s → BodyHasValuesWithin l b → AllByRecursion (BodyHasValuesWithin l) (answers s from b)
+  answers_told s from Enter h told = (h.view, tt)
+  answers_told s from (EnterEcho to j f v) h told = bodies_if (joins s from (EnterEcho to j f v)) (Join ∷ []) (tt, tt)
+  answers_told s from Join h told = (tt, tt)
+  answers_told s from Leave h told = (tt, tt)
+  answers_told s from (Store t v) h told = bodies_if s.joined (StoreAck from t ∷ StoreEcho (merge s.view v) ∷ []) (tt, (merge_within l s.view v h.view told, tt))
+  answers_told s from (CollectQuery t) h told = bodies_if s.joined (CollectReply from t s.view ∷ []) (h.view, tt)
+  answers_told s from (CollectReply to t v) h told = stored_back (progress_of s from (CollectReply to t v)) (progress_told s from (CollectReply to t v) h told)
+  answers_told s from b h told = tt
+
+  messages_of : (id : ℕ) (bs : List Body) → AllByRecursion (BodyHasValuesWithin l) bs → AllByRecursion (MessageHasValuesWithin l) (map (message_from id) bs)
+  messages_of id [] h = tt
+  messages_of id (b ∷ bs) h = (h.0, messages_of id bs h.1)
+
+  pub outs_of : (id : ℕ) (bs : List Body) → AllByRecursion (BodyHasValuesWithin l) bs → All (MessageHasValuesWithin l) (map (message_from id) bs)
+  outs_of id bs h = All-from_recursion (MessageHasValuesWithin l) (map (message_from id) bs) (messages_of id bs h)
+
+  node_kept : (s : NodeState) (from : ℕ) (b : Body) → NodeHasValuesWithin l s → BodyHasValuesWithin l b → NodeHasValuesWithin l (node_after s from b)
+  node_kept s from b h told = record {
+    view = view_kept s b h told;
+    sessions = table_after s.sessions (progress_of s from b) h.sessions (progress_told s from b h told);
+  }
+
+  delivery_told : (s : NodeState) (from : ℕ) (b : Body) → NodeHasValuesWithin l s → BodyHasValuesWithin l b → DeliveryHasValuesWithin l (delivery s from b)
+  delivery_told s from b h told = record {
+    outs = outs_of s.id (answers s from b) (answers_told s from b h told);
+    progress = progress_told s from b h told;
+    ended = ended_after s.sessions (progress_of s from b) h.sessions;
+  }
+
+  pub delivery_kept : (s t : NodeState) (m : Message) (d : Delivered) → NodeHasValuesWithin l s → MessageHasValuesWithin l m → delivered s m ≡ Ok (d, t) → NodeHasValuesWithin l t × DeliveryHasValuesWithin l d
+  delivery_kept s t m d h told is =
+      let all : Delivered × NodeState = (delivery s m.from m.body, node_after s m.from m.body) in
+      let told_facts : Bool = tells_facts m.body && is_overfull (facts_after s m.from m.body) in
+      let told_view : Bool = tells_view s m.body && is_view_full (view_after s m.body) in
+      let last : Result (Delivered × NodeState) NodeFault = cond told_facts (Err fault.FactsFull) (Ok all) in
+      let middle : Result (Delivered × NodeState) NodeFault = cond told_view (Err fault.ViewFull) last in
+      let answer : all ≡ (d, t) = same_answer {A = Delivered × NodeState} {E = NodeFault} all (d, t)
+      (past told_facts fault.FactsFull (Ok all) (d, t) (past told_view fault.ViewFull last (d, t) (past s.gone fault.Gone middle (d, t) is))) in (
+        subst (NodeHasValuesWithin l) (ap (λ (a : Delivered × NodeState). a.1) answer) (node_kept s m.from m.body h told),
+        subst (DeliveryHasValuesWithin l) (ap (λ (a : Delivered × NodeState). a.0) answer) (delivery_told s m.from m.body h told),
+      )
+
+  -- ---- the other calls
+
+  begins : {A : Type 0} (s : NodeState) (rest : Result A NodeFault) (x : A) → beginning s rest ≡ Ok x → rest ≡ Ok x
+  begins {A} s rest x is =
+      let out : Bool = nat_le most_operations s.operations in
+      let full : Bool = nat_le most_open (fin.len s.sessions) in
+      let last : Result A NodeFault = cond out (Err fault.NumbersOut) rest in
+      let third : Result A NodeFault = cond full (Err fault.SessionsFull) last in
+      let second : Result A NodeFault = cond (not s.joined) (Err fault.NotJoined) third in
+      past out fault.NumbersOut rest x (past full fault.SessionsFull last x (past (not s.joined) fault.NotJoined third x (past s.gone fault.Gone second x is)))
+
+  stored_within : (s : NodeState) (value : List ℕ) → NodeHasValuesWithin l s → IsWithin (length value) l → HasValuesWithin l (stored_view s value)
+  stored_within s value h new = put_within l s.view s.id (next_stored s value) h.view new
+
+  pub store_kept : (s t : NodeState) (value : List ℕ) (b : Begun) → NodeHasValuesWithin l s → IsWithin (length value) l → store_begun s value ≡ Ok (b, t) → NodeHasValuesWithin l t × BegunHasValuesWithin l b
+  store_kept s t value b h new is =
+      let view = stored_within s value h new in
+      let session : SessionHasValuesWithin l (store_session s value) = record { kind = new; view = view } in
+      let all : Begun × NodeState = (begun s (store_session s value) (Store s.operations (stored_view s value)), opened s (stored_view s value) (s.stores + 1) (store_session s value)) in
+      let rest : Result (Begun × NodeState) NodeFault = cond (is_view_full (stored_view s value)) (Err fault.ViewFull) (Ok all) in
+      let answer : all ≡ (b, t) = same_answer {A = Begun × NodeState} {E = NodeFault} all (b, t) (past (is_view_full (stored_view s value)) fault.ViewFull (Ok all) (b, t) (begins s rest (b, t) is)) in (
+        subst (NodeHasValuesWithin l) (ap (λ (a : Begun × NodeState). a.1) answer) (record { view = view; sessions = table_with s.sessions s.operations (store_session s value) h.sessions session }),
+        subst (BegunHasValuesWithin l) (ap (λ (a : Begun × NodeState). a.0) answer) (record { session = session; outs = outs_of s.id (Store s.operations (stored_view s value) ∷ []) (view, tt) }),
+      )
+
+  pub collect_kept : (s t : NodeState) (b : Begun) → NodeHasValuesWithin l s → collect_begun s ≡ Ok (b, t) → NodeHasValuesWithin l t × BegunHasValuesWithin l b
+  collect_kept s t b h is =
+      let session : SessionHasValuesWithin l (collect_session s) = record { kind = tt; view = tt } in
+      let all : Begun × NodeState = (begun s (collect_session s) (CollectQuery s.operations), opened s s.view s.stores (collect_session s)) in
+      let answer : all ≡ (b, t) = same_answer {A = Begun × NodeState} {E = NodeFault} all (b, t) (begins s (Ok all) (b, t) is) in (
+        subst (NodeHasValuesWithin l) (ap (λ (a : Begun × NodeState). a.1) answer) (record { view = h.view; sessions = table_with s.sessions s.operations (collect_session s) h.sessions session }),
+        subst (BegunHasValuesWithin l) (ap (λ (a : Begun × NodeState). a.0) answer) (record { session = session; outs = outs_of s.id (CollectQuery s.operations ∷ []) (tt, tt) }),
+      )
+
+  pub leave_kept : (s t : NodeState) (outs : List Message) → NodeHasValuesWithin l s → left s ≡ Ok (outs, t) → NodeHasValuesWithin l t × All (MessageHasValuesWithin l) outs
+  leave_kept s t outs h is =
+      let all : List Message × NodeState = (message_from s.id Leave ∷ [], record s { facts = with_left s.facts s.id; gone = true }) in
+      let full : Bool = is_overfull (with_left s.facts s.id) in
+      let rest : Result (List Message × NodeState) NodeFault = cond full (Err fault.FactsFull) (Ok all) in
+      let answer : all ≡ (outs, t) = same_answer {A = List Message × NodeState} {E = NodeFault} all (outs, t) (past full fault.FactsFull (Ok all) (outs, t) (past s.gone fault.Gone rest (outs, t) is)) in (
+        subst (NodeHasValuesWithin l) (ap (λ (a : List Message × NodeState). a.1) answer) (record { view = h.view; sessions = h.sessions }),
+        subst (All (MessageHasValuesWithin l)) (ap (λ (a : List Message × NodeState). a.0) answer) (outs_of s.id (Leave ∷ []) (tt, tt)),
+      )
+
+  fresh_kept : (c : Config) (id : ℕ) (f : Facts) (joined : Bool) → NodeHasValuesWithin l (fresh c id f joined)
+  fresh_kept c id f joined = record { view = empty_within l; sessions = no_session }
+
+  founded_by : (b : Bool) (c : Config) (id : ℕ) (f : Facts) (s : NodeState) → cond b (Ok (fresh c id f true)) (Err fault.BadFounders) ≡ Ok s → NodeHasValuesWithin l s
+  founded_by true c id f s is = subst (NodeHasValuesWithin l) (same_answer (fresh c id f true) s is) (fresh_kept c id f true)
+  founded_by false c id f s is = absurd (not_accepted fault.BadFounders s is)
+
+  pub founder_kept : (c : Config) (id : ℕ) (ids : List ℕ) (s : NodeState) → founded c id ids ≡ Ok s → NodeHasValuesWithin l s
+  founder_kept c id ids s is = founded_by (are_founders ids && set.contains (set.from_list {R = nat_cmp} ids) id) c id (founding ids) s is
+
+  pub entered_kept : (c : Config) (id : ℕ) → NodeHasValuesWithin l (entered c id).0
+  entered_kept c id = fresh_kept c id (with_entered no_facts id) false
+
+  pub entered_told : (c : Config) (id : ℕ) → All (MessageHasValuesWithin l) (entered c id).1
+  entered_told c id = outs_of id (Enter ∷ []) (tt, tt)

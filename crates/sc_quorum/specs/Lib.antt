@@ -1,2 +1,0 @@
--- Quorums of one membership.
-pub mod Quorums
