@@ -6,12 +6,10 @@ ARMS = 16
 # The answers by which a register takes a value, behind so many steps.
 VALUES = {
     1: ("Single1", "Single2", "Single3"),
-    2: ("Double1", "Double2", "Double3", "Double4", "Double5"),
+    2: ("Double1", "Double2", "Double3", "Double4", "Double5", "Double6"),
     3: ("Triple",),
 }
 
-# The answers by which a branch jumps that stands alone.
-JUMPS = ("Jump1", "Jump2")
 
 
 class Answers:
@@ -41,10 +39,9 @@ class Answers:
         self.going_on += 1
         return False
 
-    def jump(self):
-        """The answer of a branch alone that jumps."""
-        if self.jumps >= ARMS * len(JUMPS):
-            raise SystemExit(f"more than {self.jumps} branches stand alone: give crates/bq_steps/src/next.rt another "
-                             "answer, and JUMPS in answers.py its name")
-        self.jumps += 1
-        return JUMPS[(self.jumps - 1) // ARMS]
+    def is_jump(self, steps):
+        """Whether a branch jumps by `Jump`, which is for one alone, and not by `To`, that has the number of steps."""
+        if steps == 1 and self.jumps < ARMS:
+            self.jumps += 1
+            return True
+        return False

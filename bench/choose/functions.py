@@ -94,9 +94,8 @@ class Writer:
         """A branch: behind it stands at most another."""
         holds = call(step, self.value)
         distance = f"usize::from({step.variable}.distance)"
-        if self.count == 1:
-            answer = self.answers.jump()
-            jump, told = f"Next::{answer}({distance})", f"Next.{answer} {fact.variable}.distance"
+        if self.answers.is_jump(self.count):
+            jump, told = f"Next::Jump({distance})", f"Next.Jump {fact.variable}.distance"
         else:
             behind = len(self.conditions) + 1 if self.code.forms[0].is_branch else self.count
             jump, told = f"Next::To({distance}, {behind})", f"Next.To {fact.variable}.distance {behind}"

@@ -10,8 +10,8 @@ from model import arrivals, cost_at, costs_with
 
 # How many pairs of operations with all their parts there are, those that the program `arithmetic` has most often, and
 # for how many there is room.
-WHOLE_PAIRS = 21
-WHOLE_ROOM = 21
+WHOLE_PAIRS = 26
+WHOLE_ROOM = 26
 WHOLE_PAIRS_OF = "arithmetic"
 
 # Codes that stand in any case. A code of three steps is looked at only once that of its first two is chosen, and these
@@ -39,7 +39,7 @@ ROOM = {
 
 # At last the codes that gain least are left again, since each has to be proved: so many of two steps, and so many of the
 # others stay. One of three stays with that of its first two.
-LEFT_OF_TWO = 1
+LEFT_OF_TWO = 12
 STAY_OF_THREE = 20
 STAY_OF_CHOICE = 12
 
