@@ -5,8 +5,8 @@ use Rattle.std.specs.FinMap as fin
 use Rattle.std.specs.FinSet as set
 use Rattle.sc_view.specs.Views.{ViewMap}
 use Rattle.sc_members.specs.Ids.{Ids}
-use Rattle.sc_operations.specs.declared.held.Held.{Held}
-use Rattle.sc_operations.specs.declared.held.Acknowledged.{Acknowledged}
+use Rattle.sc_operations.specs.declared.holdings.Holdings.{Holdings}
+use Rattle.sc_operations.specs.declared.holdings.Acknowledged.{Acknowledged}
 use Rattle.sc_operations.specs.declared.session.OperationKind.{OperationKind}
 use Rattle.sc_operations.specs.declared.session.OperationKind.TheVariants as kind
 use Rattle.sc_operations.specs.declared.session.Phase.{Phase}
@@ -161,7 +161,7 @@ abbrev pub acked : fin.FinMap nat_cmp Session → ℕ → ℕ → Option Progres
 acked m from tag = ack_progress from tag (storing (fin.get m tag))
 
 -- what a node holds that knows this view, once these operations were moved
-abbrev pub moved : ViewMap → fin.FinMap nat_cmp Session → Option Progress → Held
+abbrev pub moved : ViewMap → fin.FinMap nat_cmp Session → Option Progress → Holdings
 moved view m p = record { view = view; sessions = sessions_after m p }
 
 -- what an acknowledgement does: how it moves an operation, and what that gives where it ends

@@ -8,12 +8,12 @@
 //! others, stands above in `sc_node`.
 #![tactic(auto)]
 
-mod held;
+mod holdings;
 mod progress;
 mod session;
 mod sessions;
 
-pub use held::{Acknowledged, Held};
+pub use holdings::{Acknowledged, Holdings};
 pub use progress::{Advance, Completion, Ended, Progress};
 pub use session::{OperationKind, Phase, Session, StoreBack};
 pub use sessions::Sessions;

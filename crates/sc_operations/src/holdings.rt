@@ -11,7 +11,7 @@ use std::alloc::{AllocError, Global};
 
 /// What a node holds of values and operations.
 #[derive(Drop)]
-pub struct Held {
+pub struct Holdings {
     /// The newest values that the node knows.
     pub view: View,
     /// The operations that it has open.
@@ -27,7 +27,7 @@ pub struct Acknowledged {
     pub ended: Option<Ended>,
 }
 
-impl Held {
+impl Holdings {
     /// Counts an acknowledgement. At enough of them the operation ends, and a collect gives the view that was stored
     /// back. At Err all is as it was.
     pub fn acknowledge(
