@@ -25,5 +25,5 @@ pub mod Tables
 pub mod Moving
 pub mod Acting
 pub mod Meetings
-mod Counting
+mod Overlaps
 mod Meeting

@@ -8,7 +8,7 @@ use Rattle.sc_operations.specs.declared.session.Phase.{Phase}
 use Rattle.sc_world.specs.declared.op.Op.{Op}
 use Rattle.sc_world.specs.Regular.{IsMeeting}
 use Rattle.sc_world.specs.Quorums.{IsQuorum, IsQuorumPair}
-use Rattle.sc_world.proofs.Counting.{apart_are_few}
+use Rattle.sc_world.proofs.Overlaps.{apart_are_few}
 
 -- more than half and more than half are more than all
 too-many : (num den all first second : ℕ) → den < 2 * num → 1 ≤ first → first + second ≤ all → num * all ≤ first * den → num * all ≤ second * den → ⊥
