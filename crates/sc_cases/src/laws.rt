@@ -12,14 +12,14 @@ use sc_decode::decode_as;
 use sc_decode::laws::{
     read_and_written, read_and_written_v1, written_and_read, written_and_read_v1,
 };
-use sc_node::laws::{
-    collect_keeps_lengths, delivery_keeps_lengths, leave_keeps_lengths, new_nodes_have_no_value,
-    store_keeps_lengths,
-};
 use sc_msg::laws::{
     first_fits_second, one_fault, one_spelling, spelled_has_no_fault, spelled_is_small,
 };
 use sc_msg::{EncodeFault, Message, MessageFault, Version};
+use sc_node::laws::{
+    collect_keeps_lengths, delivery_keeps_lengths, leave_keeps_lengths, new_nodes_have_no_value,
+    store_keeps_lengths,
+};
 use sc_view::form::{Command, Reply, ViewForm, run};
 use sc_view::laws::{
     merge_has_the_newest, merge_is_idempotent, merge_is_least_upper_bound,
