@@ -5,10 +5,11 @@ ghost use Rattle.bq_check.specs.Certified.{IsCertified};
 ghost use Rattle.q_table.specs.Programs.{is_same_text};
 ghost use Rattle.q_session.specs.Same.{is_same_entry, is_same_view, is_same_program, is_job_of, Serves};
 
+use crate::job::Job;
+use crate::query::Query;
 use bq_check::Certified;
 use bq_insn::laws::one_spelling;
 use bq_insn::{Insn, Text};
-use q_session::{Job, Query};
 use q_table::Programs;
 use sc_view::{Stored, View};
 
