@@ -1,3 +1,4 @@
--- Lemmas on trees as maps.
+-- Lemmas on calls that may refuse, and on trees as maps.
+pub mod Calls
 pub mod Tests
 pub mod Maps

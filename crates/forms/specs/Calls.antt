@@ -1,5 +1,5 @@
--- What a call that may refuse does.
-use Rattle.std.specs.Prelude.{◌≡◌, ◌≢◌, Result, Ok, Err}
+-- What a call that may refuse does, and how it is said by tests and parts.
+use Rattle.std.specs.Prelude.{◌≡◌, ◌≢◌, Bool, List, [], ◌∷◌, Result, Ok, Err, if◌then◌else◌}
 
 -- The call answers what is said and leaves the state that is said, or refuses with the fault that is said; or
 -- memory was refused. After a refusal the state is as it was.
@@ -17,3 +17,24 @@ Does said old new (Err e) = (new ≡ old) × (said ≡ Err e)
 abbrev pub Gives : {A E : Type 0} → E → Result A E → Result A E → Type 0
 Gives memory said (Ok a) = said ≡ Ok a
 Gives memory said (Err e) = e ≢ memory → said ≡ Err e
+
+-- ---- how a call is said by its parts
+
+-- A call's tests, in their order, each with the fault of a call for which it does not hold.
+abbrev pub Tests : Type 0 → Type 0
+Tests E = List (Bool × E)
+
+-- The first test that does not hold names the fault; where all hold, the rest follows.
+abbrev pub tested : {A E : Type 0} → Tests E → Result A E → Result A E
+tested [] rest = rest
+tested (t ∷ ts) rest = if t.0 then tested ts rest else Err t.1
+
+-- The same call with another answer.
+abbrev pub mapped : {S A B E : Type 0} → (A → B) → Result (A × S) E → Result (B × S) E
+mapped f (Ok a) = Ok (f a.0, a.1)
+mapped f (Err e) = Err e
+
+-- A part is done, and then the rest, which has the part's answer and state. A fault of the part is one of the call.
+abbrev pub then_by : {S A B E F : Type 0} → (E → F) → Result (A × S) E → (A → S → Result B F) → Result B F
+then_by raise (Ok a) rest = rest a.0 a.1
+then_by raise (Err e) rest = Err (raise e)

@@ -4,6 +4,7 @@ use Rattle.std.proofs.lemmas.List.Quantifiers.{position-Some}
 use Rattle.std.proofs.lemmas.Option.{get_or_from_slice_get}
 use Rattle.std.specs.Prelude.{◌&&◌}
 use Rattle.std.specs.Cmp.{first_so, second_so, unsigned_Decides}
+pub use Rattle.forms.proofs.Calls.{same_answer, no_refusal, passed, spared}
 use Rattle.bq_range.specs.Interval.{Interval}
 use Rattle.sc_view.specs.Views.{ViewMap}
 use Rattle.bq_check.specs.Certificate.{Certificate}
@@ -24,22 +25,6 @@ same_some x y h = cc
 
 pub no_some : {X : Type 0} (x : X) → None ≡ Some x → ⊥
 no_some x h = absurd (cc)
-
-pub same_answer : {A E : Type 0} (x y : A) → (let r : Result A E = Ok x in r) ≡ Ok y → x ≡ y
-same_answer x y h = cc
-
-pub no_refusal : {A E : Type 0} (e : E) (y : A) → (let r : Result A E = Err e in r) ≡ Ok y → ⊥
-no_refusal e y h = absurd (cc)
-
--- what comes before a refusal
-pub passed : {A E : Type 0} (b : Bool) (e : E) (r : Result A E) (y : A) → cond b r (Err e) ≡ Ok y → (b ≡ true) × (r ≡ Ok y)
-passed true e r y h = (refl, h)
-passed false e r y h = absurd (no_refusal e y h)
-
--- what comes after a refusal
-pub spared : {A E : Type 0} (b : Bool) (e : E) (r : Result A E) (y : A) → cond b (Err e) r ≡ Ok y → (b ≡ false) × (r ≡ Ok y)
-spared true e r y h = absurd (no_refusal e y h)
-spared false e r y h = (refl, h)
 
 pub get_elsewhere : {X : Type 0} (xs : List X) (i : ℕ) (y : X) (k : ℕ) (x : X) → (k ≡ i → ⊥) → slice_get xs k ≡ Some x → slice_get (slice_set xs i y) k ≡ Some x
 get_elsewhere [] i y k x away h = absurd (cc)

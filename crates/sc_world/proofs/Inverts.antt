@@ -1,6 +1,7 @@
 -- What an accepted event was.
 use Rattle.std.proofs.Common.{◌≡◌, ℕ, ◌+◌, Bool, true, false, not, cond, ◌&&◌, nat_le, List, Option, Some, None, refl, sym, ap, ◌∙◌, Result, Ok, Err}
 use Rattle.std.specs.FinMap as fin
+pub use Rattle.forms.proofs.Calls.{same_answer, no_refusal}
 use Rattle.sc_members.specs.Members.{is_overfull, with_left}
 use Rattle.sc_msg.specs.declared.message.Message.{Message}
 use Rattle.sc_msg.specs.declared.message.Body.TheVariants.{Store, CollectQuery}
@@ -16,12 +17,6 @@ use Rattle.sc_world.specs.declared.fault.WorldFault.{WorldFault}
 use Rattle.sc_world.specs.State.{WorldState}
 use Rattle.sc_world.specs.Worlds.{Outcome, of_begun, of_left, of_delivered, by_node, live, live_at, by_live, told, took, acts, after, stores, collects, leaves, delivers}
 use Rattle.sc_world.proofs.Handlers.{heard, store_outcome, collect_outcome, left_outcome}
-
-pub same_answer : {A E : Type 0} (x y : A) → (let r : Result A E = Ok x in r) ≡ Ok y → x ≡ y
-same_answer x y h = cc
-
-pub no_refusal : {A E : Type 0} (e : E) (y : A) → (let r : Result A E = Err e in r) ≡ Ok y → ⊥
-no_refusal e y h = absurd (cc)
 
 -- what comes after a test that refuses
 pub if_passed : {A E : Type 0} (b : Bool) (e : E) (r : Result A E) (y : A) → cond b (Err e) r ≡ Ok y → r ≡ Ok y
