@@ -7,12 +7,15 @@ from answers import ARMS, VALUES
 from codes import THREE, parsed
 from corpus import TEN
 from model import arrivals, cost_at, costs_with
+from programs import codes_run, whole_forms
 
-# How many pairs of operations with all their parts there are, those that the program `arithmetic` has most often, and
-# for how many there is room.
-WHOLE_PAIRS = 26
-WHOLE_ROOM = 26
+# How many pairs of operations with all their parts there are. They are chosen by the program `arithmetic`, which has
+# operations in a row: one after another, each time the pair with which it runs the fewest codes.
+WHOLE_PAIRS = 36
 WHOLE_PAIRS_OF = "arithmetic"
+
+# How much room is kept for them while the others are chosen; what is left of the others at last makes room for the rest.
+WHOLE_ROOM = 26
 
 # Codes that stand in any case. A code of three steps is looked at only once that of its first two is chosen, and these
 # pairs gain little by themselves. Without them the model expects a fifth more of the programs `xorshift` and
@@ -147,3 +150,16 @@ def chosen(programs):
         for place, program in enumerate(programs):
             if is_touched(program, code):
                 gains[place] = gains_of(program, codes)
+
+
+def whole_pairs(program, codes):
+    """The pairs of operations with all their parts, each with how many codes the program runs from then on."""
+    wholes, standing = whole_forms(program), costs_with(program, codes)[1]
+    left = sorted({pair for pair in zip(wholes, wholes[1:]) if None not in pair}, key=str)
+    order, pairs = [], set()
+    while len(order) < WHOLE_PAIRS:
+        count, best = min(((codes_run(wholes, standing, pairs | {pair}), pair) for pair in left), key=lambda it: it[0])
+        left.remove(best)
+        pairs.add(best)
+        order.append((best, count))
+    return order

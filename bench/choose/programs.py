@@ -130,9 +130,19 @@ def read_all(folder, *halves):
     return programs
 
 
-def whole_pairs(program, count):
-    """The pairs of neighbouring operations that a program has most often, with how often each stands there."""
-    wholes = [Form(forms.WHOLE, unit.form.size, unit.form.operation) if unit.form.is_operation else None
-              for unit in program.units]
-    pairs = Counter((first, second) for first, second in zip(wholes, wholes[1:]) if first and second)
-    return pairs.most_common(count)
+def whole_forms(program):
+    """The form of each operation of a program with all of its parts, and None in the place of another step."""
+    return [Form(forms.WHOLE, unit.form.size, unit.form.operation) if unit.form.is_operation else None
+            for unit in program.units]
+
+
+def codes_run(wholes, standing, pairs):
+    """How many codes a straight program runs, with these pairs of whole operations where no other code stands."""
+    at = count = 0
+    while at < len(wholes):
+        length = standing[at].length
+        if length == 1 and tuple(wholes[at:at + 2]) in pairs:
+            length = 2
+        at += length
+        count += 1
+    return count

@@ -21,12 +21,16 @@ fn fold_by_loop(certified: &Certified, records: &[u8], folded: &mut Folded, bloc
     requires { IsIn record_length certified.now.lengths }
 {
     block.clear_frame();
+    let mut acc = folded.acc;
+    let mut steps = folded.steps;
     let (records, _) = records.as_chunks::<RECORD_LENGTH>();
     for record in records {
-        let ended = run(certified, record, folded.acc, block);
-        folded.acc = ended.acc;
-        folded.steps = folded.steps.wrapping_add(ended.steps);
+        let ended = run(certified, record, acc, block);
+        acc = ended.acc;
+        steps = steps.wrapping_add(ended.steps);
     }
+    folded.acc = acc;
+    folded.steps = steps;
 }
 
 /// One fold by the machine.
