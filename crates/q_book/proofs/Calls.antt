@@ -1,21 +1,16 @@
 -- That a book keeps what each book keeps at each of its calls.
-use Rattle.std.proofs.Common.{◌≡◌, ◌≢◌, ℕ, Bool, true, false, cond, length, List, Option, Some, None, Result, Ok, Err, refl, sym, ap, subst, ◌∙◌}
-use Rattle.std.specs.Prelude.{nat_le}
-use Rattle.std.specs.FinMap as fin
+use Rattle.std.proofs.Common.{◌≡◌, ◌≢◌, ℕ, Bool, true, false, cond, List, Option, Some, None, Result, Ok, Err, refl, sym, ap, subst, ◌∙◌}
 use Rattle.std.specs.Result.{IsErrAnd}
-use Rattle.forms.specs.Calls.{Steps}
+use Rattle.forms.specs.Calls.{Steps, Tests, tested}
+use Rattle.forms.proofs.Calls.{AllHold, tested_pass, passes}
 use Rattle.sc_members.specs.Members.{Config}
-use Rattle.sc_view.specs.Values.{is_within}
 use Rattle.sc_msg.specs.declared.message.Message.{Message}
-use Rattle.sc_msg.specs.Lengths as message
-use Rattle.sc_msg.specs.Values.{value_lengths}
 use Rattle.sc_msg.specs.declared.version.Version.{Version}
 use Rattle.sc_node.specs.State.{NodeState}
 use Rattle.sc_node.specs.Nodes as node
 use Rattle.sc_node.specs.declared.answer.Begun.{Begun}
 use Rattle.sc_node.specs.declared.answer.Delivered.{Delivered}
 use Rattle.sc_node.specs.declared.fault.NodeFault.{NodeFault}
-use Rattle.sc_node.specs.declared.fault.NodeFault.TheVariants as node_fault
 use Rattle.bq_check.specs.Certificate.{Certificate}
 use Rattle.bq_range.specs.Interval.{Interval}
 use Rattle.q_session.specs.Right.{IsRight}
@@ -32,67 +27,19 @@ use Rattle.q_desk.specs.declared.fault.DeskFault.TheVariants as desk_fault
 use Rattle.q_book.specs.declared.answer.Asked.{Asked}
 use Rattle.q_book.specs.declared.answer.Taken.{Taken}
 use Rattle.q_book.specs.declared.fault.BookFault.{BookFault}
-use Rattle.q_book.specs.declared.fault.BookFault.TheVariants as fault
 use Rattle.q_book.specs.Faults.{memory, of_call}
 use Rattle.q_book.specs.State.{BookState}
-use Rattle.q_book.specs.Books.{by_desk, by_node, here, joined, known, fitting, free, with_desk, asks, asks_node, asked, stores, stores_node, stored, delivers, delivers_node, delivered, leaves, leaves_node, left, record_lengths}
+use Rattle.q_book.specs.Books.{present, asking, storing, taking, by_desk, by_node, with_desk, asks, asks_node, asked, stores, stores_node, stored, delivers, delivers_node, delivered, leaves, leaves_node, left, record_lengths}
 use Rattle.q_book.specs.Replays.{IsBook}
 use Rattle.q_desk.proofs.Accepted.{same_answer, no_refusal}
 use Rattle.q_desk.proofs.Moves.{handed_out-ok}
 use Rattle.q_book.proofs.Replays.{with, book_next}
 
--- ---- what passes the tests
-
-abbrev pub Test : Type 0
-Test = Result (Unit {0}) BookFault
-
--- a test that was passed is passed whatever follows
-unless_passed : {A B : Type 0} (t : Bool) (e : BookFault) (r : Result A BookFault) (y : A) (rest : Result B BookFault)
-    → (let x : Result A BookFault = Ok y in x) ≡ cond t (Err e) r → (cond t (Err e) rest ≡ rest) × ((let x : Result A BookFault = Ok y in x) ≡ r)
-unless_passed false e r y rest h = (refl, h)
-unless_passed true e r y rest h = absurd (no_refusal e y (sym h))
-
-where_passed : {A B : Type 0} (t : Bool) (e : BookFault) (r : Result A BookFault) (y : A) (rest : Result B BookFault)
-    → (let x : Result A BookFault = Ok y in x) ≡ cond t r (Err e) → (t ≡ true) × (cond t rest (Err e) ≡ rest) × ((let x : Result A BookFault = Ok y in x) ≡ r)
-where_passed true e r y rest h = (refl, refl, h)
-where_passed false e r y rest h = absurd (no_refusal e y (sym h))
-
-pub passes-here : {A : Type 0} (b : BookState) (u : Unit {0}) (rest : Result A BookFault) → (let t : Test = Ok u in t) ≡ here b (Ok tt) → here b rest ≡ rest
-passes-here b u rest h = (unless_passed b.node.gone (fault.Node node_fault.Gone) (Ok tt) u rest h).0
-
--- the value of the bytes
-abbrev pub Valued : Type 0
-Valued = Result (List ℕ) BookFault
-
--- the value is of the bytes, which have a length of the book's version, and the rest follows
-pub passes-storing : {A : Type 0} (b : BookState) (fits : Bool) (v value : List ℕ) (rest : Result A BookFault)
-    → (let t : Valued = Ok v in t) ≡ here b (joined b (fitting fits (free b (Ok value))))
-    → (v ≡ value) × (here b (joined b (fitting fits (free b rest))) ≡ rest)
-passes-storing b fits v value rest h =
-    let there = unless_passed b.node.gone (fault.Node node_fault.Gone) (joined b (fitting fits (free b (Ok value)))) v
-    (joined b (fitting fits (free b rest))) h in
-    let joins = where_passed b.node.joined (fault.Node node_fault.NotJoined) (fitting fits (free b (Ok value))) v (fitting fits (free b rest)) there.1 in
-    let fit = where_passed fits fault.BadValue (free b (Ok value)) v (free b rest) joins.2 in
-    let few = unless_passed (nat_le node.most_open (fin.len b.node.sessions)) (fault.Node node_fault.SessionsFull) (Ok value) v rest fit.2 in
-    (same_answer v value few.1, there.0 ∙ joins.1 ∙ fit.1 ∙ few.0)
-
--- the message fits the book's version, and the rest follows
-pub passes-taking : {A : Type 0} (b : BookState) (fits : Bool) (u : Unit {0}) (rest : Result A BookFault)
-    → (let t : Test = Ok u in t) ≡ here b (fitting fits (Ok tt)) → (fits ≡ true) × (here b (fitting fits rest) ≡ rest)
-passes-taking b fits u rest h =
-    let there = unless_passed b.node.gone (fault.Node node_fault.Gone) (fitting fits (Ok tt)) u (fitting fits rest) h in
-    let fit = where_passed fits fault.BadValue (Ok tt) u rest there.1 in
-    (fit.0, there.0 ∙ fit.1)
-
-pub passes-asking : {A : Type 0} (b : BookState) (program : ℕ) (u : Unit {0}) (rest : Result A BookFault)
-    → (let t : Test = Ok u in t) ≡ here b (joined b (known b program (free b (Ok tt)))) → here b (joined b (known b program (free b rest))) ≡ rest
-passes-asking b program u rest h =
-    let there = unless_passed b.node.gone (fault.Node node_fault.Gone) (joined b (known b program (free b (Ok tt)))) u
-    (joined b (known b program (free b rest))) h in
-    let joins = where_passed b.node.joined (fault.Node node_fault.NotJoined) (known b program (free b (Ok tt))) u (known b program (free b rest)) there.1 in
-    let knows = where_passed (desk.knows b.desk program) (fault.Desk desk_fault.UnknownProgram) (free b (Ok tt)) u (free b rest) joins.2 in
-    let few = unless_passed (nat_le node.most_open (fin.len b.node.sessions)) (fault.Node node_fault.SessionsFull) (Ok tt) u rest knows.2 in
-    there.0 ∙ joins.1 ∙ knows.1 ∙ few.0
+-- where a book passed its tests, they hold of it by its fields
+pub holds_inside : {A : Type 0} (tests : BookState → Tests BookFault) (b seen : BookState) (value x : A) → b ≡ seen → (let t : Result A BookFault = Ok x in t) ≡ tested (tests seen) (Ok value) → AllHold (tests b)
+holds_inside tests b seen value x same h =
+    let rest : Result (Unit {0}) BookFault = Ok tt in
+    subst (λ (s : BookState). AllHold (tests s)) (sym same) (passes (tests seen) value x rest h).1
 
 -- ---- a book whose parts are as they were
 
@@ -101,24 +48,23 @@ same_book b n d hn hd r = subst (λ (p : NodeState × DeskState). IsBook (with b
 
 -- ---- calls of the desk
 
-pub registered_book : (b : BookState) (program : Certificate) (u : Unit {0}) (id : ℕ) (d : DeskState) → (let t : Test = Ok u in t) ≡ here b (Ok tt)
-    → desk.registered b.desk program ≡ Ok (id, d) → IsBook b → IsBook (with b b.node d)
-registered_book b program u id d passed h r =
+pub registered_book : (b : BookState) (program : Certificate) (id : ℕ) (d : DeskState) → AllHold (present b) → desk.registered b.desk program ≡ Ok (id, d) → IsBook b
+    → IsBook (with b b.node d)
+registered_book b program id d hold h r =
     book_next b (with b b.node d) (entry.Register program) r
-    (id, passes-here b u (by_desk (with_desk b) (desk.registered b.desk program)) passed ∙ ap (by_desk (with_desk b)) h)
+    (id, tested_pass (present b) (by_desk (with_desk b) (desk.registered b.desk program)) hold ∙ ap (by_desk (with_desk b)) h)
 
-pub handed_book : (b : BookState) (o : Option Job) (u : Unit {0}) (d : DeskState) → (let t : Test = Ok u in t) ≡ here b (Ok tt)
-    → desk.handed_out b.desk b.id ≡ Ok (o, d) → IsBook b → IsBook (with b b.node d)
-handed_book b None u d passed h r = same_book b b.node d refl (sym (handed_out-ok b.desk b.id (None, d) h)) r
-handed_book b (Some j) u d passed h r =
+pub handed_book : (b : BookState) (o : Option Job) (d : DeskState) → AllHold (present b) → desk.handed_out b.desk b.id ≡ Ok (o, d) → IsBook b → IsBook (with b b.node d)
+handed_book b None d hold h r = same_book b b.node d refl (sym (handed_out-ok b.desk b.id (None, d) h)) r
+handed_book b (Some j) d hold h r =
     book_next b (with b b.node d) entry.HandOut r
-    (j, passes-here b u (by_desk (with_desk b) (desk.handed_out b.desk b.id)) passed ∙ ap (by_desk (with_desk b)) h)
+    (j, tested_pass (present b) (by_desk (with_desk b) (desk.handed_out b.desk b.id)) hold ∙ ap (by_desk (with_desk b)) h)
 
-pub posted_book : (b : BookState) (j : Job) (ran : Ran) (u : Unit {0}) (d : DeskState) → (let t : Test = Ok u in t) ≡ here b (Ok tt)
-    → desk.posted b.desk b.id j ran ≡ Ok (tt, d) → IsRight j.certified j.view j.start ran → IsBook b → IsBook (with b b.node d)
-posted_book b j ran u d passed h right r =
+pub posted_book : (b : BookState) (j : Job) (ran : Ran) (d : DeskState) → AllHold (present b) → desk.posted b.desk b.id j ran ≡ Ok (tt, d) → IsRight j.certified j.view j.start ran
+    → IsBook b → IsBook (with b b.node d)
+posted_book b j ran d hold h right r =
     book_next b (with b b.node d) (entry.Post j.query ran) r
-    (j, refl, right, passes-here b u (by_desk (with_desk b) (desk.posted b.desk b.id j ran)) passed ∙ ap (by_desk (with_desk b)) h)
+    (j, refl, right, tested_pass (present b) (by_desk (with_desk b) (desk.posted b.desk b.id j ran)) hold ∙ ap (by_desk (with_desk b)) h)
 
 -- ---- calls of the node that the desk notes
 
@@ -165,29 +111,24 @@ module _ (b : BookState) where
   abbrev pub delivers_call : Delivered → DeskState → NodeState → Taken × BookState
   delivers_call told d n = delivers b d told n
 
-  pub asked_by : (program start : ℕ) (u : Unit {0}) → (let t : Test = Ok u in t) ≡ here b (joined b (known b program (free b (Ok tt))))
-      → asked b program start ≡ by_call asks_call (desk.asking b.desk b.node program start)
-  asked_by program start u passed =
-      passes-asking b program u (by_desk (asks_node b) (desk.asked b.desk b.node.operations program start)) passed
+  pub asked_by : (program start : ℕ) → AllHold (asking b program) → asked b program start ≡ by_call asks_call (desk.asking b.desk b.node program start)
+  asked_by program start hold =
+      tested_pass (asking b program) (by_desk (asks_node b) (desk.asked b.desk b.node.operations program start)) hold
       ∙ by_both (asks b) (λ query begun. (query, begun)) asks_call (λ q d begun n. refl) (desk.asked b.desk b.node.operations program start) (node.collect_begun b.node)
 
-  pub stored_by : (value v : List ℕ) → (let t : Valued = Ok v in t) ≡ here b (joined b (fitting (is_within (length value) (value_lengths b.version)) (free b (Ok value))))
-      → stored b value ≡ by_call stores_call (desk.noting b.desk (entry.Store v) (node.store_begun b.node v))
-  stored_by value v passed =
-      let p = passes-storing b (is_within (length value) (value_lengths b.version)) v value (by_desk (stores_node b value) (desk.noted b.desk (entry.Store value))) passed in
-      p.1
+  pub stored_by : (value : List ℕ) → AllHold (storing b value) → stored b value ≡ by_call stores_call (desk.noting b.desk (entry.Store value) (node.store_begun b.node value))
+  stored_by value hold =
+      tested_pass (storing b value) (by_desk (stores_node b value) (desk.noted b.desk (entry.Store value))) hold
       ∙ by_both (λ u d. stores b d) (λ u begun. begun) stores_call (λ u d begun n. refl) (desk.noted b.desk (entry.Store value)) (node.store_begun b.node value)
-      ∙ ap (λ (x : List ℕ). by_call stores_call (desk.noting b.desk (entry.Store x) (node.store_begun b.node x))) (sym p.0)
 
-  pub left_by : (u : Unit {0}) → (let t : Test = Ok u in t) ≡ here b (Ok tt) → left b ≡ by_call leaves_call (desk.noting b.desk entry.Leave (node.left b.node))
-  left_by u passed =
-      passes-here b u (by_desk (leaves_node b) (desk.noted b.desk entry.Leave)) passed
+  pub left_by : AllHold (present b) → left b ≡ by_call leaves_call (desk.noting b.desk entry.Leave (node.left b.node))
+  left_by hold =
+      tested_pass (present b) (by_desk (leaves_node b) (desk.noted b.desk entry.Leave)) hold
       ∙ by_both (λ u d. leaves b d) (λ u outs. outs) leaves_call (λ u d outs n. refl) (desk.noted b.desk entry.Leave) (node.left b.node)
 
-  pub delivered_by : (m : Message) (u : Unit {0}) → (let t : Test = Ok u in t) ≡ here b (fitting (message.fits b.version m) (Ok tt))
-      → delivered b m ≡ by_call delivers_call (desk.noting b.desk (entry.Deliver m) (node.delivered b.node m))
-  delivered_by m u passed =
-      (passes-taking b (message.fits b.version m) u (by_desk (delivers_node b m) (desk.noted b.desk (entry.Deliver m))) passed).1
+  pub delivered_by : (m : Message) → AllHold (taking b m) → delivered b m ≡ by_call delivers_call (desk.noting b.desk (entry.Deliver m) (node.delivered b.node m))
+  delivered_by m hold =
+      tested_pass (taking b m) (by_desk (delivers_node b m) (desk.noted b.desk (entry.Deliver m))) hold
       ∙ by_both (λ u d. delivers b d) (λ u told. told) delivers_call (λ u d told n. refl) (desk.noted b.desk (entry.Deliver m)) (node.delivered b.node m)
 
 -- ---- before any call

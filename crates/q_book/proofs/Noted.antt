@@ -1,7 +1,7 @@
 -- What posts and hand-outs add to a book's journal, and why a post is refused.
-use Rattle.std.proofs.Common.{◌≡◌, Bool, true, false, ◌⊎◌, inl, inr, Option, Some, None, Result, Ok, Err, refl, sym, ap, subst, if◌then◌else◌}
+use Rattle.std.proofs.Common.{◌≡◌, Bool, true, false, ◌⊎◌, inl, inr, Option, Some, None, Result, Ok, Err, refl, sym, ap, ◌∙◌, subst, if◌then◌else◌}
 use Rattle.std.specs.Prelude.{slice_get, ◌==◌}
-use Rattle.sc_node.specs.declared.fault.NodeFault.TheVariants as node_fault
+use Rattle.forms.proofs.Calls.{tested_ok, tested_pass}
 use Rattle.q_session.specs.declared.ran.Ran.{Ran}
 use Rattle.q_session.specs.declared.job.Job.{Job}
 use Rattle.q_session.specs.declared.query.Phase.{Phase}
@@ -12,18 +12,14 @@ use Rattle.q_desk.specs.Desks as desk
 use Rattle.q_desk.specs.declared.fault.DeskFault.{DeskFault}
 use Rattle.q_desk.specs.declared.fault.DeskFault.TheVariants as desk_fault
 use Rattle.q_book.specs.declared.fault.BookFault.{BookFault}
-use Rattle.q_book.specs.declared.fault.BookFault.TheVariants as fault
 use Rattle.q_book.specs.Faults.{of_desk}
 use Rattle.q_book.specs.State.{BookState}
-use Rattle.q_book.specs.Books.{with_desk, by_desk}
+use Rattle.q_book.specs.Books.{present, posting, with_desk, by_desk}
 use Rattle.q_book.specs.Noted.{IsResultFault, PostsAreNoted, RoomLeavesResultFaults, HandOutsAreNoted, NoneChangesNothing}
 use Rattle.q_book.proofs.Followed.{handed-accepted, none-handed, posted-accepted}
 
 abbrev Desked : Type 0 → Type 0
 Desked A = Result (A × DeskState) DeskFault
-
-abbrev Booked : Type 0 → Type 0
-Booked A = Result (A × BookState) BookFault
 
 -- ---- an accepted call of the desk
 
@@ -75,17 +71,10 @@ desk-fault : (b : BookState) (r : Desked (Unit {0})) (e : BookFault) → ((f : D
 desk-fault b (Ok x) e faults h = absurd (cc)
 desk-fault b (Err f) e faults h = let same : of_desk f ≡ e = cc in subst IsResultFault same (of-desk f (faults f refl))
 
-has-room : (gone roomy : Bool) → (let r : Result (Unit {0}) BookFault = if gone then Err (fault.Node node_fault.Gone) else (if roomy then Ok tt else Err (fault.Desk desk_fault.BookFull)) in r) ≡ Ok tt → (gone ≡ false) × (roomy ≡ true)
-has-room false true h = (refl, refl)
-has-room false false h = absurd (cc)
-has-room true roomy h = absurd (cc)
-
-here-fault : (gone : Bool) (b : BookState) (r : Desked (Unit {0})) (e : BookFault) → gone ≡ false → ((f : DeskFault) → r ≡ Err f → IsPostFault f)
-    → (let x : Booked (Unit {0}) = if gone then Err (fault.Node node_fault.Gone) else by_desk (with_desk b) r in x) ≡ Err e → IsResultFault e
-here-fault false b r e stays faults h = desk-fault b r e faults h
-here-fault true b r e stays faults h = absurd (cc)
-
 pub room_leaves : RoomLeavesResultFaults
 room_leaves b j ran e room h =
-    let r = has-room b.node.gone (desk.has_room b.desk) room in
-    here-fault b.node.gone b (desk.posted b.desk b.id j ran) e r.0 (λ f. own-fault (j.node == b.id) b.desk j ran (slice_get b.desk.queries j.query) f r.1) h
+    let none : Result (Unit {0}) BookFault = Ok tt in
+    let hold = (tested_ok (posting b) none tt room).0 in
+    let r : Desked (Unit {0}) = desk.posted b.desk b.id j ran in
+    desk-fault b r e (λ f. own-fault (j.node == b.id) b.desk j ran (slice_get b.desk.queries j.query) f hold.1.0)
+    (sym (tested_pass (present b) (by_desk (with_desk b) r) (hold.0, tt)) ∙ h)

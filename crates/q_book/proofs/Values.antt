@@ -16,7 +16,6 @@ use Rattle.sc_node.specs.Lengths.{NodeHasValuesWithin, CompletionHasValuesWithin
 use Rattle.sc_node.proofs.Kept.{founder_kept, entered_kept, store_kept, collect_kept, leave_kept, delivery_kept}
 use Rattle.q_session.specs.Records.{HasRecordsWithin, records_of}
 use Rattle.q_desk.specs.Keeping.{CompletesWithin, EndsWithin}
-use Rattle.q_desk.specs.Desks as desk
 use Rattle.q_desk.specs.declared.journal.Entry.{Entry}
 use Rattle.q_desk.specs.declared.journal.Entry.TheVariants as entry
 use Rattle.q_book.specs.State.{BookState}

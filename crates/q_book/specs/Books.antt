@@ -2,8 +2,9 @@
 -- definitions, the desk's by the desk's. Refusals stand in this order: the node has left, has not joined; unknown
 -- program, a program for other lengths, a value of another length, the table is full, already answered, a stranger; too
 -- many operations open, the book is full; then the node's own.
-use Rattle.std.specs.Prelude.{ℕ, nat_le, Bool, List, length, Option, Some, None, Result, Ok, Err, if◌then◌else◌}
+use Rattle.std.specs.Prelude.{ℕ, nat_lt, not, List, [], ◌∷◌, length, Option, Some, None, Result, Ok, Err}
 use Rattle.std.specs.FinMap as fin
+use Rattle.forms.specs.Calls.{Tests, tested, then_by}
 use Rattle.sc_members.specs.Members.{Config}
 use Rattle.sc_view.specs.Values.{is_within}
 use Rattle.sc_msg.specs.declared.message.Message.{Message}
@@ -38,33 +39,53 @@ use Rattle.q_book.specs.State.{BookState}
 abbrev pub record_lengths : Version → Interval
 record_lengths version = records_of (value_lengths version)
 
+-- ---- what is tested first, in the order of the refusals
+
+-- the node has not left
+abbrev pub present : BookState → Tests BookFault
+present b = (not b.node.gone, fault.Node node_fault.Gone) ∷ []
+
+-- a query of this program may begin, as far as the book's room is not asked
+abbrev pub asking : BookState → ℕ → Tests BookFault
+asking b program =
+    (not b.node.gone, fault.Node node_fault.Gone)
+    ∷ (b.node.joined, fault.Node node_fault.NotJoined)
+    ∷ (desk.knows b.desk program, fault.Desk desk_fault.UnknownProgram)
+    ∷ (nat_lt (fin.len b.node.sessions) node.most_open, fault.Node node_fault.SessionsFull)
+    ∷ []
+
+-- a store of this value may begin, as far as the book's room is not asked: it has a length of the book's version
+abbrev pub storing : BookState → List ℕ → Tests BookFault
+storing b value =
+    (not b.node.gone, fault.Node node_fault.Gone)
+    ∷ (b.node.joined, fault.Node node_fault.NotJoined)
+    ∷ (is_within (length value) (value_lengths b.version), fault.BadValue)
+    ∷ (nat_lt (fin.len b.node.sessions) node.most_open, fault.Node node_fault.SessionsFull)
+    ∷ []
+
+-- the message may be taken, as far as the book's room is not asked: its values have lengths of the book's version
+abbrev pub taking : BookState → Message → Tests BookFault
+taking b m =
+    (not b.node.gone, fault.Node node_fault.Gone)
+    ∷ (fits b.version m, fault.BadValue)
+    ∷ []
+
+-- a post is refused for its result alone
+abbrev pub posting : BookState → Tests BookFault
+posting b =
+    (not b.node.gone, fault.Node node_fault.Gone)
+    ∷ (desk.has_room b.desk, fault.Desk desk_fault.BookFull)
+    ∷ []
+
 -- ---- how the parts are put together
 
 -- the desk does its part, and the rest follows
 abbrev pub by_desk : {A B : Type 0} → (A → DeskState → Result B BookFault) → Result (A × DeskState) DeskFault → Result B BookFault
-by_desk f (Ok a) = f a.0 a.1
-by_desk f (Err e) = Err (of_desk e)
+by_desk rest r = then_by of_desk r rest
 
 -- the node does its part, and the rest follows
 abbrev pub by_node : {A B : Type 0} → (A → NodeState → B) → Result (A × NodeState) NodeFault → Result B BookFault
-by_node f (Ok a) = Ok (f a.0 a.1)
-by_node f (Err e) = Err (fault.Node e)
-
-abbrev pub here : {A : Type 0} → BookState → Result A BookFault → Result A BookFault
-here b rest = if b.node.gone then Err (fault.Node node_fault.Gone) else rest
-
-abbrev pub joined : {A : Type 0} → BookState → Result A BookFault → Result A BookFault
-joined b rest = if b.node.joined then rest else Err (fault.Node node_fault.NotJoined)
-
-abbrev pub free : {A : Type 0} → BookState → Result A BookFault → Result A BookFault
-free b rest = if nat_le node.most_open (fin.len b.node.sessions) then Err (fault.Node node_fault.SessionsFull) else rest
-
-abbrev pub known : {A : Type 0} → BookState → ℕ → Result A BookFault → Result A BookFault
-known b program rest = if desk.knows b.desk program then rest else Err (fault.Desk desk_fault.UnknownProgram)
-
--- values have lengths of the book's version
-abbrev pub fitting : {A : Type 0} → Bool → Result A BookFault → Result A BookFault
-fitting are_lengths rest = if are_lengths then rest else Err fault.BadValue
+by_node rest r = then_by fault.Node r (λ a n. Ok (rest a n))
 
 -- ---- the desk's calls
 
@@ -72,17 +93,17 @@ abbrev pub with_desk : {A : Type 0} → BookState → A → DeskState → Result
 with_desk b a d = Ok (a, record b { desk = d })
 
 abbrev pub registered : BookState → Certificate → Result (ℕ × BookState) BookFault
-registered b program = here b (by_desk (with_desk b) (desk.registered b.desk program))
+registered b program = tested (present b) (by_desk (with_desk b) (desk.registered b.desk program))
 
 abbrev pub handed_out : BookState → Result (Option Job × BookState) BookFault
-handed_out b = here b (by_desk (with_desk b) (desk.handed_out b.desk b.id))
+handed_out b = tested (present b) (by_desk (with_desk b) (desk.handed_out b.desk b.id))
 
 abbrev pub posted : BookState → Job → Ran → Result (Unit {0} × BookState) BookFault
-posted b j ran = here b (by_desk (with_desk b) (desk.posted b.desk b.id j ran))
+posted b j ran = tested (present b) (by_desk (with_desk b) (desk.posted b.desk b.id j ran))
 
 -- whether a post is refused for the node or for the journal's room
 abbrev pub room_for_post : BookState → Result (Unit {0}) BookFault
-room_for_post b = here b (if desk.has_room b.desk then Ok tt else Err (fault.Desk desk_fault.BookFull))
+room_for_post b = tested (posting b) (Ok tt)
 
 -- ---- queries and stores
 
@@ -95,7 +116,7 @@ asks_node b query d = by_node (asks b query d) (node.collect_begun b.node)
 -- the node begins to collect, and the query waits for that collect, by its tag
 abbrev pub asked : BookState → ℕ → ℕ → Result (Asked × BookState) BookFault
 asked b program start =
-    here b (joined b (known b program (free b (by_desk (asks_node b) (desk.asked b.desk b.node.operations program start)))))
+    tested (asking b program) (by_desk (asks_node b) (desk.asked b.desk b.node.operations program start))
 
 abbrev pub stores : BookState → DeskState → Begun → NodeState → Begun × BookState
 stores b d begun n = (begun, record b { node = n; desk = d })
@@ -104,7 +125,7 @@ abbrev pub stores_node : BookState → List ℕ → Unit {0} → DeskState → R
 stores_node b value u d = by_node (stores b d) (node.store_begun b.node value)
 
 abbrev pub stored : BookState → List ℕ → Result (Begun × BookState) BookFault
-stored b value = here b (joined b (fitting (is_within (length value) (value_lengths b.version)) (free b (by_desk (stores_node b value) (desk.noted b.desk (entry.Store value))))))
+stored b value = tested (storing b value) (by_desk (stores_node b value) (desk.noted b.desk (entry.Store value)))
 
 -- ---- messages
 
@@ -119,7 +140,7 @@ abbrev pub delivers_node : BookState → Message → Unit {0} → DeskState → 
 delivers_node b m u d = by_node (delivers b d) (node.delivered b.node m)
 
 abbrev pub delivered : BookState → Message → Result (Taken × BookState) BookFault
-delivered b m = here b (fitting (fits b.version m) (by_desk (delivers_node b m) (desk.noted b.desk (entry.Deliver m))))
+delivered b m = tested (taking b m) (by_desk (delivers_node b m) (desk.noted b.desk (entry.Deliver m)))
 
 abbrev pub leaves : BookState → DeskState → List Message → NodeState → List Message × BookState
 leaves b d outs n = (outs, record b { node = n; desk = d })
@@ -128,7 +149,7 @@ abbrev pub leaves_node : BookState → Unit {0} → DeskState → Result (List M
 leaves_node b u d = by_node (leaves b d) (node.left b.node)
 
 abbrev pub left : BookState → Result (List Message × BookState) BookFault
-left b = here b (by_desk (leaves_node b) (desk.noted b.desk entry.Leave))
+left b = tested (present b) (by_desk (leaves_node b) (desk.noted b.desk entry.Leave))
 
 -- ---- the first state
 

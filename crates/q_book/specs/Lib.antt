@@ -2,6 +2,7 @@
 pub mod State
 pub mod Faults
 pub mod Books
+pub mod Called
 pub mod Replays
 pub mod Noted
 pub mod Sample

@@ -1,22 +1,23 @@
 //! A book: a node with its desk.
 
-ghost use Rattle.std.specs.Prelude.{◌≡◌, ◌≤◌, length, is_some, option_map, All, Ok, IfOk, IfSome};
+ghost use Rattle.std.specs.Prelude.{◌≡◌, ◌≤◌, [], ◌∷◌, length, is_some, option_map, All, Ok, IfOk, IfSome};
 ghost use Rattle.std.specs.FinMap as fin;
 ghost use Rattle.sc_members.specs.Members.{IsConfig};
 ghost use Rattle.sc_view.specs.Values.{is_within};
-ghost use Rattle.sc_msg.specs.Lengths.{fits};
 ghost use Rattle.sc_msg.specs.Values.{value_lengths};
 ghost use Rattle.sc_node.specs.Nodes.{most_founders};
-ghost use Rattle.forms.specs.Calls.{Steps, Gives, Does};
+ghost use Rattle.forms.specs.Calls.{Steps, Gives, Does, tested};
 ghost use Rattle.q_desk.specs.Desks as desk;
 ghost use Rattle.q_desk.specs.Desks.{ends, completed_by};
 ghost use Rattle.q_desk.specs.Answers.{AnswersAreRight};
 ghost use Rattle.q_desk.specs.Keeping.{ProgramsAreKnown, EndsWithin};
 ghost use Rattle.q_book.specs.Faults.{memory};
-ghost use Rattle.q_book.specs.Books.{here, joined, known, fitting, free, registered, asked, stored, delivered, left, handed_out, posted, room_for_post, founded, entered};
+ghost use Rattle.q_book.specs.Books.{present, asking, storing, taking, registered, asked, stored, delivered, left, handed_out, posted, room_for_post, founded, entered};
+ghost use Rattle.q_book.specs.Called.{called};
 ghost use Rattle.q_book.specs.Replays.{IsReplay, EntryFits};
 
 use crate::answer::{Asked, Taken};
+use crate::call::{Call, Reply};
 use crate::fault::BookFault;
 use crate::lengths::record_lengths;
 use q_desk::{Desk, DeskFault, Entry};
@@ -194,6 +195,24 @@ impl Book {
         Ok(())
     }
 
+    /// Makes a call, whichever it is: what it does is what the method of its name does.
+    pub fn call(&mut self, call: &Call) -> Result<Reply, BookFault>
+        ensures { Steps memory (called self.old call.now) self.old self.new result }
+    {
+        match call {
+            Call::Leave => Ok(Reply::Left(self.leave()?)),
+            Call::Register(program) => Ok(Reply::Registered(self.register(program)?)),
+            Call::Ask { program, start } => Ok(Reply::Asked(self.ask(*program, *start)?)),
+            Call::Store(bytes) => Ok(Reply::Begun(self.store(bytes)?)),
+            Call::Deliver(message) => Ok(Reply::Taken(self.deliver(message)?)),
+            Call::HandOut => Ok(Reply::HandedOut(self.hand_out()?)),
+            Call::Post(done) => {
+                self.post(done)?;
+                Ok(Reply::Posted)
+            }
+        }
+    }
+
     /// Whether a post is refused for the node or for the journal's room, before its result is looked at: after Ok a
     /// post that is the next call is refused with none but 55 and 56. Refused with 42, 53. Takes no memory.
     pub fn room_for_post(&self) -> Result<(), BookFault>
@@ -299,7 +318,7 @@ impl Book {
 impl Book {
     // Whether the node has not left.
     fn check_here(&self) -> Result<(), BookFault>
-        ensures { result ≡ here self.now (Ok tt) }
+        ensures { result ≡ tested (present self.now) (Ok tt) }
     {
         if self.node.is_gone() {
             return Err(BookFault::Node(NodeFault::Gone));
@@ -307,51 +326,41 @@ impl Book {
         Ok(())
     }
 
-    // Whether the node is there and has joined.
-    fn check_joined(&self) -> Result<(), BookFault>
-        ensures { result ≡ here self.now (joined self.now (Ok tt)) }
+    // Whether a query of this program may begin, as far as the book's room is not asked.
+    fn check_asking(&self, program: ProgramId) -> Result<(), BookFault>
+        ensures { result ≡ tested (asking self.now program) (Ok tt) }
     {
         self.check_here()?;
         if !self.node.has_joined() {
             return Err(BookFault::Node(NodeFault::NotJoined));
         }
-        Ok(())
-    }
-
-    // Whether one more operation may be open.
-    fn check_free(&self) -> Result<(), BookFault>
-        ensures { result ≡ free self.now (Ok tt) }
-    {
+        if !self.desk.knows(program) {
+            return Err(BookFault::Desk(DeskFault::UnknownProgram));
+        }
         if MOST_OPEN <= self.node.open_operations() {
             return Err(BookFault::Node(NodeFault::SessionsFull));
         }
         Ok(())
     }
 
-    // Whether a query of this program may begin, as far as the book's room is not asked.
-    fn check_asking(&self, program: ProgramId) -> Result<(), BookFault>
-        ensures { result ≡ here self.now (joined self.now (known self.now program (free self.now (Ok tt)))) }
-    {
-        self.check_joined()?;
-        if !self.desk.knows(program) {
-            return Err(BookFault::Desk(DeskFault::UnknownProgram));
-        }
-        self.check_free()
-    }
-
     // The value of these bytes, if a store of it may begin, as far as the book's room is not asked.
     fn check_storing(&self, bytes: &[u8]) -> Result<Value, BookFault>
-        ensures { result ≡ here self.now (joined self.now (fitting (is_within (length bytes.now) (value_lengths self.now.version)) (free self.now (Ok bytes.now)))) }
+        ensures { result ≡ tested (storing self.now bytes.now) (Ok bytes.now) }
     {
-        self.check_joined()?;
+        self.check_here()?;
+        if !self.node.has_joined() {
+            return Err(BookFault::Node(NodeFault::NotJoined));
+        }
         let value = fitting_value(self.version, bytes)?;
-        self.check_free()?;
+        if MOST_OPEN <= self.node.open_operations() {
+            return Err(BookFault::Node(NodeFault::SessionsFull));
+        }
         Ok(value)
     }
 
     // Whether a message may be taken, as far as the book's room is not asked.
     fn check_taking(&self, message: &Message) -> Result<(), BookFault>
-        ensures { result ≡ here self.now (fitting (fits self.now.version message.now) (Ok tt)) }
+        ensures { result ≡ tested (taking self.now message.now) (Ok tt) }
     {
         self.check_here()?;
         if !message.fits(self.version) {
@@ -363,7 +372,7 @@ impl Book {
 
 // The value of these bytes, if they are so many as values of that version are.
 fn fitting_value(version: Version, bytes: &[u8]) -> Result<Value, BookFault>
-    ensures { result ≡ fitting (is_within (length bytes.now) (value_lengths version)) (Ok bytes.now) }
+    ensures { result ≡ tested ((is_within (length bytes.now) (value_lengths version), BookFault.BadValue) ∷ []) (Ok bytes.now) }
 {
     match Value::new(bytes) {
         Ok(value) if version.has_length(bytes.len()) => Ok(value),

@@ -3,7 +3,11 @@
 //! A [`Book`] is what the lock of a running node guards. Its calls are those of the node and of the desk, put together:
 //! a query begins with a collect, and the view that the collect returns goes to that query. Each call is exact:
 //! `specs/Books` says what it answers and which book it leaves, or with which fault it refuses. After a refusal, 99
-//! OutOfMemory among them, the book is as it was.
+//! OutOfMemory among them, the book is as it was. Why a call is refused first of all is a list of tests there, in the
+//! order of the refusals.
+//!
+//! A call that may change a book is also a value, [`Call`]: [`Book::call`] makes it, whichever it is, and answers a
+//! [`Reply`] (`specs/Called`).
 //!
 //! A book has a version, which is that of its journal and of the messages that it takes: in the first each value has 48
 //! bytes, and programs are checked for records of 64; in the second a value has 0 to 112 bytes, and programs are
@@ -29,6 +33,7 @@
 
 mod answer;
 mod book;
+mod call;
 mod fault;
 pub mod laws;
 mod lengths;
@@ -36,5 +41,6 @@ pub mod worked;
 
 pub use answer::{Asked, Taken};
 pub use book::Book;
+pub use call::{Call, Reply};
 pub use fault::BookFault;
 pub use lengths::record_lengths;

@@ -3,7 +3,7 @@
 ghost use Rattle.std.specs.Prelude.{◌≡◌, [], ◌∷◌, ℕ, List, length, is_some, true, false, Some, None, Ok, Err, MatchResult};
 ghost use Rattle.std.specs.FinMap as fin;
 ghost use Rattle.std.specs.Ordering.{nat_cmp};
-ghost use Rattle.forms.specs.Calls.{Steps};
+ghost use Rattle.forms.specs.Calls.{Steps, mapped};
 ghost use Rattle.bq_check.specs.Certificate.{Certificate};
 ghost use Rattle.bq_range.specs.Interval.{Interval, between, single};
 ghost use Rattle.sc_view.specs.Views.{ViewMap};
@@ -24,11 +24,14 @@ ghost use Rattle.q_desk.specs.State.{DeskState, new_desk};
 ghost use Rattle.q_desk.specs.declared.completed.Completed.TheVariants as completed;
 ghost use Rattle.q_desk.specs.declared.fault.DeskFault.TheVariants as desk_fault;
 ghost use Rattle.q_desk.specs.declared.journal.Entry.TheVariants as entry;
-ghost use Rattle.q_book.specs.Books.{record_lengths, registered, asked, stored, delivers, delivered, posted, room_for_post};
+ghost use Rattle.q_book.specs.Books.{record_lengths, registered, asked, stored, delivers, delivered, left, handed_out, posted, room_for_post};
+ghost use Rattle.q_book.specs.Called.{called};
 ghost use Rattle.q_book.specs.Faults.{memory};
 ghost use Rattle.q_book.specs.Sample.{there, node_there};
 ghost use Rattle.q_book.specs.State.{BookState};
 ghost use Rattle.q_book.specs.declared.answer.Asked.{Asked};
+ghost use Rattle.q_book.specs.declared.call.Call.TheVariants as call;
+ghost use Rattle.q_book.specs.declared.call.Reply.TheVariants as reply;
 ghost use Rattle.q_book.specs.declared.fault.BookFault.{BookFault};
 ghost use Rattle.q_book.specs.declared.fault.BookFault.TheVariants as fault;
 
@@ -55,6 +58,11 @@ pub fn worked()
     ensures stored_shorter { (b : BookState) (n : NodeState) (d : DeskState) → stored (there (record b { version = First }) n d) (7 ∷ []) ≡ Err fault.BadValue }
     ensures stored_longer { (b : BookState) (n : NodeState) (d : DeskState) (value : List ℕ) → length value ≡ 113 → stored (there (record b { version = Second }) n d) value ≡ Err fault.BadValue }
     ensures told_shorter { (b : BookState) (n : NodeState) (d : DeskState) (m : Message) → fits First m ≡ false → delivered (there (record b { version = First }) n d) m ≡ Err fault.BadValue }
+
+    // Each call as a value is its own.
+    ensures leave { (b : BookState) → called b call.Leave ≡ mapped reply.Left (left b) }
+    ensures ask { (b : BookState) (program start : ℕ) → called b (call.Ask program start) ≡ mapped reply.Asked (asked b program start) }
+    ensures hand_out { (b : BookState) → called b call.HandOut ≡ mapped reply.HandedOut (handed_out b) }
 
     // The view of a collect that ended goes to its query, and it is told that the query has it.
     ensures returned { (b : BookState) (n : NodeState) (v : ViewMap) (l : Interval) → (delivers b (record (new_desk l) { queries = query 9 Collecting ∷ [] }) (record { outs = []; progress = None; ended = Some (record { tag = 9; what = completion.Returned v }) }) n).1.desk ≡ record (new_desk l) { queries = query 9 (Ready v) ∷ [] } }

@@ -1,5 +1,5 @@
 -- A job is refused whatever its answer is.
-use Rattle.std.proofs.Common.{◌≡◌, ◌==◌, ℕ, Bool, true, false, cond, Option, Some, None, ap, ◌∙◌, refl, slice_get, Result, Ok, Err}
+use Rattle.std.proofs.Common.{◌≡◌, ◌==◌, ℕ, Bool, true, false, not, cond, Option, Some, None, ap, ◌∙◌, refl, slice_get, Result, Ok, Err}
 use Rattle.sc_node.specs.declared.fault.NodeFault.TheVariants as node_fault
 use Rattle.q_desk.specs.State.{DeskState}
 use Rattle.q_desk.specs.Desks as desk
@@ -15,7 +15,7 @@ use Rattle.q_book.specs.Books as book
 use Rattle.q_book.specs.declared.fault.BookFault.{BookFault}
 use Rattle.q_book.specs.declared.fault.BookFault.TheVariants as book_fault
 
-by_test : {A : Type 0} (b : Bool) (p q : Result A DeskFault) (e x : DeskFault) → (p ≡ Err x → q ≡ Err x) → cond b p (Err e) ≡ Err x → cond b q (Err e) ≡ Err x
+by_test : {A E : Type 0} (b : Bool) (p q : Result A E) (e x : E) → (p ≡ Err x → q ≡ Err x) → cond b p (Err e) ≡ Err x → cond b q (Err e) ≡ Err x
 by_test true p q e x f h = f h
 by_test false p q e x f h = h
 
@@ -38,18 +38,10 @@ module _ (s : DeskState) (j : Job) (r r' : Ran) (x : DeskFault) where
   posted_err : (node : ℕ) → desk.posted s node j r ≡ Err x → desk.posted s node j r' ≡ Err x
   posted_err node h = by_test (j.node == node) _ _ desk_fault.Stranger x (λ k. at_err (slice_get s.queries j.query) k) h
 
-abbrev Posted : Type 0
-Posted = Result (Unit {0} × BookState) BookFault
-
 module _ (b : BookState) (j : Job) (r r' : Ran) (e : BookFault) where
   by_posted : (q : Result (Unit {0} × DeskState) DeskFault) → desk.posted b.desk b.id j r ≡ q → book.by_desk (book.with_desk b) q ≡ Err e → book.by_desk (book.with_desk b) (desk.posted b.desk b.id j r') ≡ Err e
   by_posted (Ok a) is h = absurd (cc)
   by_posted (Err x) is h = ap (book.by_desk (book.with_desk b)) (posted_err b.desk j r r' x b.id is) ∙ h
 
-  by_gone : (gone : Bool) → (let p : Posted = cond gone (Err (book_fault.Node node_fault.Gone)) (book.by_desk (book.with_desk b) (desk.posted b.desk b.id j r)) in p) ≡ Err e
-      → (let p : Posted = cond gone (Err (book_fault.Node node_fault.Gone)) (book.by_desk (book.with_desk b) (desk.posted b.desk b.id j r')) in p) ≡ Err e
-  by_gone true h = h
-  by_gone false h = by_posted (desk.posted b.desk b.id j r) refl h
-
   pub refused_so : book.posted b j r ≡ Err e → book.posted b j r' ≡ Err e
-  refused_so h = by_gone b.node.gone h
+  refused_so h = by_test (not b.node.gone) _ _ (book_fault.Node node_fault.Gone) e (λ k. by_posted (desk.posted b.desk b.id j r) refl k) h

@@ -1,5 +1,5 @@
 -- What settling does, out of the pump, the recorder and what is given.
-use Rattle.std.proofs.Common.{◌≡◌, Bool, true, false, List, [], ◌∷◌, sym, ap, ◌∙◌, subst, Option, Some, Result, Ok, Err, inl, inr}
+use Rattle.std.proofs.Common.{◌≡◌, Bool, true, false, not, List, [], ◌∷◌, sym, ap, ◌∙◌, subst, Option, Some, Result, Ok, Err, inl, inr}
 use Rattle.std.specs.Io.KnownBytes.{Appends}
 use Rattle.sc_msg.specs.declared.message.Message.{Message}
 use Rattle.q_held.specs.declared.losses.Unsent.{Unsent}
@@ -25,11 +25,11 @@ use Rattle.q_kept.specs.declared.letter.Letter.{Letter}
 use Rattle.q_kept.specs.declared.question.Question.{Question}
 
 -- a call of the desk leaves the head as it is
-head_stays : {A : Type 0} (gone : Bool) (f : BookFault) (r : Result (A × DeskState) DeskFault) (b c : BookState) (a : A)
-    → (if gone then Err f else by_desk (with_desk b) r) ≡ Ok (a, c) → head_of c ≡ head_of b
-head_stays true f r b c a e = absurd (cc)
-head_stays false f (Err x) b c a e = absurd (cc)
-head_stays {A} false f (Ok x) b c a e =
+head_stays : {A : Type 0} (present : Bool) (f : BookFault) (r : Result (A × DeskState) DeskFault) (b c : BookState) (a : A)
+    → (if present then by_desk (with_desk b) r else Err f) ≡ Ok (a, c) → head_of c ≡ head_of b
+head_stays false f r b c a e = absurd (cc)
+head_stays true f (Err x) b c a e = absurd (cc)
+head_stays {A} true f (Ok x) b c a e =
     let made : BookState = record b { desk = x.1 } in
     let is : ◌≡◌ {A = A × BookState} (x.0, made) (a, c) = cc in
     sym (ap (λ (p : A × BookState). head_of p.1) is)
@@ -37,12 +37,12 @@ head_stays {A} false f (Ok x) b c a e =
 posts_stay : (b c : BookState) (ds accepted : List Finished) → Posts b ds accepted c → head_of c ≡ head_of b
 posts_stay b c [] accepted p = ap head_of p.1
 posts_stay b c (d ∷ ds) accepted (inl p) =
-    posts_stay p.0 c ds p.1 p.4 ∙ head_stays b.node.gone _ (desk.posted b.desk b.id d.job d.ran) b p.0 tt p.2
+    posts_stay p.0 c ds p.1 p.4 ∙ head_stays (not b.node.gone) _ (desk.posted b.desk b.id d.job d.ran) b p.0 tt p.2
 posts_stay b c (d ∷ ds) accepted (inr p) = posts_stay b c ds accepted p.3
 
 hands_stay : (b c : BookState) (js : List Job) → HandsOut b js c → head_of c ≡ head_of b
 hands_stay b c [] h = ap head_of h
-hands_stay b c (j ∷ js) h = hands_stay h.0 c js h.2 ∙ head_stays b.node.gone _ (desk.handed_out b.desk b.id) b h.0 (Some j) h.1
+hands_stay b c (j ∷ js) h = hands_stay h.0 c js h.2 ∙ head_stays (not b.node.gone) _ (desk.handed_out b.desk b.id) b h.0 (Some j) h.1
 
 carries_grow : (a a' : AskerModel) (b b' : BookState) → Carries a b a' b' → Grows b b'
 carries_grow a a' b b' k = record {

@@ -7,6 +7,7 @@ use Rattle.std.proofs.lemmas.Option.{slice_get_read}
 use Rattle.std.specs.Ordering.{nat_cmp}
 use Rattle.std.specs.FinMap as fin
 use Rattle.std.specs.FinSet as set
+use Rattle.forms.specs.Calls.{tested}
 use Rattle.sc_view.specs.Views.{ViewMap}
 use Rattle.sc_msg.specs.declared.message.Message.{Message}
 use Rattle.sc_node.specs.State.{NodeState}
@@ -201,7 +202,7 @@ module _ (c : ClusterState) (b d : BookState) (ran : Ran) (i j : Job) (up : IsUp
 
   posts_too : book.posted b j ran ≡ Ok (tt, d)
   posts_too =
-      ap (λ (x : Posted). book.here b (book.by_desk (book.with_desk b) x))
+      ap (λ (x : Posted). tested (book.present b) (book.by_desk (book.with_desk b) x))
       (same_post b.desk b.id i j ran by.query by.view same by.at by.phase was_posted.0 (eq-eqb j.node b.id (sym own))
       by.fits (job_passes b.desk.programs b.desk.queries j o by.query by.view here by.phase))
       ∙ h

@@ -1,8 +1,9 @@
 -- What taking an event comes to.
-use Rattle.std.proofs.Common.{◌≡◌, ◌≢◌, ℕ, ◌+◌, ◌≤◌, Bool, cond, List, [], ◌∷◌, ◌++◌, length, length-append, add-one, Some, sym, ap, ◌∙◌, subst, flat_map, Result, Ok, Err, IsErrAnd, IfErr, arith}
+use Rattle.std.proofs.Common.{◌≡◌, ◌≢◌, ℕ, ◌+◌, ◌≤◌, List, [], ◌∷◌, ◌++◌, length, length-append, add-one, Some, sym, ap, ◌∙◌, subst, flat_map, Result, Ok, Err, IsErrAnd, IfErr, arith}
+use Rattle.std.proofs.lemmas.Bool.{not_from_false}
+use Rattle.forms.proofs.Calls.{tested_pass}
 use Rattle.bq_check.specs.Spelling.{BeginsNone}
 use Rattle.sc_msg.specs.declared.version.Version.{Version}
-use Rattle.sc_node.specs.declared.fault.NodeFault.TheVariants as node_fault
 use Rattle.q_session.specs.Right.{IsRight}
 use Rattle.q_session.specs.Done.{Finished, IsFinished}
 use Rattle.q_session.specs.declared.ran.Ran.{Ran}
@@ -15,7 +16,6 @@ use Rattle.q_book.specs.Books as book
 use Rattle.q_book.specs.Faults.{memory}
 use Rattle.q_book.specs.Replays.{Follows}
 use Rattle.q_book.specs.declared.fault.BookFault.{BookFault}
-use Rattle.q_book.specs.declared.fault.BookFault.TheVariants as book_fault
 use Rattle.q_journal.specs.Spelling.{head_bytes, event_bytes, IsWritten}
 use Rattle.q_journal.specs.declared.written.Written.{Written}
 use Rattle.q_desk.specs.Desks.{running_job}
@@ -74,8 +74,7 @@ own_post b c k j r runs f =
     let o = own_posts b.desk b.id k j r (job_runs b.desk b.id k j runs) p.room in
     let d : BookState = record b { desk = o.0 } in (
       d,
-      ap (λ (g : Bool). let x : Result (Unit {0} × BookState) BookFault = cond g (Err (book_fault.Node node_fault.Gone)) (book.by_desk (book.with_desk b) (desk.posted b.desk b.id j r)) in x)
-          (posted-accepted b f.0 r c f.3).there
+      tested_pass (book.present b) (book.by_desk (book.with_desk b) (desk.posted b.desk b.id j r)) (not_from_false b.node.gone (posted-accepted b f.0 r c f.3).there, tt)
           ∙ ap (book.by_desk (book.with_desk b)) o.1,
     )
 

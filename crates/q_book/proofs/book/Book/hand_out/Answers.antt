@@ -1,14 +1,13 @@
 -- Book::hand_out: hands out the job of the ready query with the least number; none where no query is ready, also
 -- where the journal is full.
-use Rattle.std.proofs.Common.{◌≡◌, ◌∙◌, Ok, sym, ap}
-use Rattle.q_book.specs.Books.{here}
+use Rattle.q_book.specs.Books.{present}
 use Rattle.q_book.specs.State.{BookState}
 use Rattle.q_book.specs.contracts.book.Book as book
-use Rattle.q_book.proofs.Calls.{Test, handed_book}
+use Rattle.q_book.proofs.Calls.{holds_inside, handed_book}
 use Rattle.q_book.proofs.book.Book.hand_out.Goals as goal
 
 pub invariant_of-self-2 : goal.invariant_of-self-2
 invariant_of-self-2 c =
     let b : BookState = book.the_view c.self.inside in
-    let passed : (let t : Test = Ok c.in_ok-check_here.field-0 in t) ≡ here b (Ok tt) = c.in_ok-check_here.ensures ∙ ap (λ (x : BookState). let t : Test = here x (Ok tt) in t) (sym c.self.view_is) in
-    handed_book b c.in_ok-job.job c.in_ok-check_here.field-0 c.hand_out.new.self passed c.in_ok-job.ensures c.self.invariant
+    let hold = holds_inside present b c.args.self.now tt c.in_ok-check_here.field-0 c.self.view_is c.in_ok-check_here.ensures in
+    handed_book b c.in_ok-job.job c.hand_out.new.self hold c.in_ok-job.ensures c.self.invariant
