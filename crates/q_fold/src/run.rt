@@ -9,7 +9,7 @@ use bq_check::Certified;
 use bq_frame::Block;
 use bq_meaning::laws::appended;
 use bq_meaning::{Ended, LEAST_RECORD};
-use bq_run::run_placed;
+use bq_run::{Registers, run_placed};
 use sc_view::{Entry, Stored, View};
 
 /// What a certified program over the records of a view comes to, from a start value: the accumulator after the last
@@ -28,10 +28,11 @@ pub fn fold_view(certified: &Certified, view: &View, start: u64, block: &mut Blo
         acc: start,
         steps: 0,
     };
+    let mut registers = Registers::new();
     let chunks = view.chunks();
     let mut k = 0;
     while let Some(entries) = chunks.get(k) {
-        ran = fold_entries(certified, entries, ran, block);
+        ran = fold_entries(certified, entries, ran, block, &mut registers);
         k += 1;
     }
     ran
@@ -39,7 +40,13 @@ pub fn fold_view(certified: &Certified, view: &View, start: u64, block: &mut Blo
 
 // What has been run goes on over the entries of one chunk.
 #[inline(always)]
-fn fold_entries(certified: &Certified, entries: &[Entry], ran: Ended, block: &mut Block) -> Ended
+fn fold_entries(
+    certified: &Certified,
+    entries: &[Entry],
+    ran: Ended,
+    block: &mut Block,
+    registers: &mut Registers,
+) -> Ended
     requires lengths { All (λ e. IsIn (16 + length e.1.value) certified.now.lengths) entries.now }
     requires room { ran.steps + certified.now.longest * length entries.now < 2 ^ 64 }
     ensures goes_on { GoesOn certified.now.text (map record_bytes entries.now) ran (take 512 block.old) result (take 512 block.new) }
@@ -50,7 +57,7 @@ fn fold_entries(certified: &Certified, entries: &[Entry], ran: Ended, block: &mu
     while let Some((first, others)) = rest.split_first() {
         appended();
         let length = place(block, first.0, &first.1);
-        let ended = run_placed(certified, length, ran.acc, block);
+        let ended = run_placed(certified, length, ran.acc, block, registers);
         ran = Ended {
             acc: ended.acc,
             steps: ran.steps + ended.steps,

@@ -6,7 +6,7 @@ ghost use Rattle.bq_range.specs.Interval.{IsIn};
 use bq_check::Certified;
 use bq_frame::Block;
 use bq_meaning::{FRAME_LENGTH, Placement, RECORD_LENGTH};
-use bq_run::run;
+use bq_run::{Registers, run_placed};
 use q_speed_program::{Folded, Way, certified};
 use std::alloc::Global;
 
@@ -21,13 +21,16 @@ fn fold_by_loop(certified: &Certified, records: &[u8], folded: &mut Folded, bloc
     requires { IsIn record_length certified.now.lengths }
 {
     block.clear_frame();
+    let mut registers = Registers::new();
     let mut acc = folded.acc;
     let mut steps = folded.steps;
-    let (records, _) = records.as_chunks::<RECORD_LENGTH>();
-    for record in records {
-        let ended = run(certified, record, acc, block);
+    let (mut rest, _) = records.as_chunks::<RECORD_LENGTH>();
+    while let Some((record, others)) = rest.split_first() {
+        block.set_record(record);
+        let ended = run_placed(certified, RECORD_LENGTH, acc, block, &mut registers);
         acc = ended.acc;
         steps = steps.wrapping_add(ended.steps);
+        rest = others;
     }
     folded.acc = acc;
     folded.steps = steps;
