@@ -219,14 +219,27 @@ fn copy_room(bytes: &mut [u8], at: usize, room: &[u8; ROOM_LENGTH], count: usize
     }
 }
 
-// Copies the first `N` bytes of a room to a place, all at once.
+// Copies the first `N` bytes of a room to a place.
 #[inline(always)]
 fn copy_first<const N: usize>(bytes: &mut [u8], at: usize, room: &[u8; ROOM_LENGTH])
     requires few { N ≤ 112 }
     requires inside { at + N ≤ length bytes.old }
     ensures { bytes.new ≡ splice bytes.old at (at + N) (take N room.now) }
 {
-    copy(bytes, at, &room[..N]);
+    if let Some(first) = room.first_chunk::<N>() {
+        put_array(&mut bytes[at..at + N], first);
+    }
+}
+
+// Makes bytes those of an array, which is read whole before they are written: else LLVM asks whether they overlap.
+#[inline(always)]
+fn put_array<const N: usize>(bytes: &mut [u8], array: &[u8; N])
+    requires { length bytes.old ≡ N }
+    ensures { bytes.new ≡ array.now }
+{
+    if let Some(all) = bytes.as_mut_array::<N>() {
+        *all = *array;
+    }
 }
 
 // Puts the lowest `N` bytes of a number at a place and behind it.
