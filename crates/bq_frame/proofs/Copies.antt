@@ -1,6 +1,6 @@
 -- What is copied into a part of a block.
-use Rattle.std.proofs.Common.{◌≡◌, ℕ, ◌+◌, ◌-◌, ◌≤◌, ◌∙◌, arith, ap, List, ◌++◌, length, take}
-use Rattle.std.proofs.lemmas.List.{drop-drop, length-take-le}
+use Rattle.std.proofs.Common.{◌≡◌, ℕ, ◌+◌, ◌-◌, arith, ap, List, ◌++◌, length, take}
+use Rattle.std.proofs.lemmas.List.{drop-drop}
 use Rattle.std.specs.List.{splice}
 use borrow.Rule.Slice.PartMut.{put_mid}
 
@@ -10,7 +10,3 @@ part_is a k xs ys = let e : a + k - a ≡ k = omega arith in rw e (ap (λ zs. ta
 -- a part that has become a given list
 pub copied : (at : ℕ) (held new given : List ℕ) → new ≡ given → put_mid at (at + length given - at) held new ≡ splice held at (at + length given) given
 copied at held new given is = rw is (part_is at (length given) held given)
-
--- the first bytes of a room
-pub first_copied : (held new room : List ℕ) (at n : ℕ) → n ≤ length room → new ≡ splice held at (at + length (take n room)) (take n room) → new ≡ splice held at (at + n) (take n room)
-first_copied held new room at n few is = is ∙ ap (λ k. splice held at (at + k) (take n room)) (length-take-le n room few)
