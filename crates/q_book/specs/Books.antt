@@ -70,7 +70,7 @@ taking b m =
     ∷ (fits b.version m, fault.BadValue)
     ∷ []
 
--- a post is refused for its result alone
+-- neither the node nor the journal's room refuses a post
 abbrev pub posting : BookState → Tests BookFault
 posting b =
     (not b.node.gone, fault.Node node_fault.Gone)
