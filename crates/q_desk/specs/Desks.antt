@@ -1,5 +1,6 @@
 -- What each call of a desk answers and does, or why it refuses.
 use Rattle.std.specs.Prelude.{ℕ, ◌+◌, ◌==◌, ◌&&◌, Bool, true, false, nat_lt, List, [], ◌∷◌, ◌++◌, length, position, slice_get, slice_set, Option, Some, None, option_map, Result, Ok, Err, if◌then◌else◌}
+use Rattle.forms.specs.Calls.{Tests, tested, then_by}
 use Rattle.sc_view.specs.Views.{ViewMap}
 use Rattle.bq_range.specs.Interval.{Interval}
 use Rattle.bq_check.specs.Certificate.{Certificate}
@@ -42,9 +43,9 @@ most_events = 65536
 abbrev pub has_room : DeskState → Bool
 has_room s = nat_lt (length s.journal) most_events
 
--- one more entry, if there is room
-abbrev pub room : {A : Type 0} → DeskState → Result A DeskFault → Result A DeskFault
-room s r = if has_room s then r else Err fault.BookFull
+-- there is room for one more entry
+abbrev pub room : DeskState → Tests DeskFault
+room s = (has_room s, fault.BookFull) ∷ []
 
 -- the journal goes on with an entry
 abbrev pub with_entry : DeskState → Entry → DeskState
@@ -52,21 +53,22 @@ with_entry s e = record s { journal = s.journal ++ e ∷ [] }
 
 -- an entry that changes nothing else
 abbrev pub noted : DeskState → Entry → Result (Unit {0} × DeskState) DeskFault
-noted s e = room s (Ok (tt, with_entry s e))
+noted s e = tested (room s) (Ok (tt, with_entry s e))
 
 -- ---- programs
-
-abbrev pub registered_by : DeskState → Certificate → Result (ℕ × List Certificate) TableFault → Result (ℕ × DeskState) DeskFault
-registered_by s program (Ok r) = room s (Ok (r.0, with_entry (record s { programs = r.1 }) (entry.Register program)))
-registered_by s program (Err e) = Err (of_table e)
 
 -- the program was checked for records of just these lengths
 abbrev pub is_checked_for : Interval → Certificate → Bool
 is_checked_for lengths program = program.lengths.lo == lengths.lo && program.lengths.hi == lengths.hi
 
+-- the table has the program under this id
+abbrev pub registers : DeskState → Certificate → ℕ → List Certificate → Result (ℕ × DeskState) DeskFault
+registers s program id programs = tested (room s) (Ok (id, with_entry (record s { programs = programs }) (entry.Register program)))
+
 abbrev pub registered : DeskState → Certificate → Result (ℕ × DeskState) DeskFault
 registered s program =
-    if is_checked_for s.lengths program then registered_by s program (table.registered s.programs program) else Err fault.WrongBounds
+    tested ((is_checked_for s.lengths program, fault.WrongBounds) ∷ [])
+    (then_by of_table (table.registered s.programs program) (registers s program))
 
 abbrev pub knows : DeskState → ℕ → Bool
 knows s program = nat_lt program (length s.programs)
@@ -97,14 +99,19 @@ with_phase queries k p = in_phase queries k p (slice_get queries k)
 abbrev pub begun : ℕ → ℕ → ℕ → Query
 begun tag program start = record { tag = tag; program = program; start = start; phase = Collecting }
 
+-- a query of this program may begin
+abbrev pub beginning : DeskState → ℕ → Tests DeskFault
+beginning s program =
+    (knows s program, fault.UnknownProgram)
+    ∷ (nat_lt (length s.queries) most_queries, fault.BookFull)
+    ∷ (has_room s, fault.BookFull)
+    ∷ []
+
 -- a query begins whose collect has this tag
 abbrev pub asked : DeskState → ℕ → ℕ → ℕ → Result (ℕ × DeskState) DeskFault
 asked s tag program start =
-    if knows s program
-    then (if nat_lt (length s.queries) most_queries
-    then room s (Ok (length s.queries, with_entry (record s { queries = s.queries ++ begun tag program start ∷ [] }) (entry.Ask program start)))
-    else Err fault.BookFull)
-    else Err fault.UnknownProgram
+    tested (beginning s program)
+    (Ok (length s.queries, with_entry (record s { queries = s.queries ++ begun tag program start ∷ [] }) (entry.Ask program start)))
 
 -- the query waits for the collect with this tag
 abbrev pub waits : ℕ → Query → Bool
@@ -181,7 +188,8 @@ running_job s node k = job_at running_view s node k (slice_get s.queries k)
 
 abbrev pub hands : DeskState → Option Job → Result (Option Job × DeskState) DeskFault
 hands s None = Ok (None, s)
-hands s (Some j) = room s (Ok (Some j, with_entry (record s { queries = with_phase s.queries j.query (Running j.view) }) entry.HandOut))
+hands s (Some j) =
+    tested (room s) (Ok (Some j, with_entry (record s { queries = with_phase s.queries j.query (Running j.view) }) entry.HandOut))
 
 -- it is handed out; where there is none, nothing changes
 abbrev pub handed_out : DeskState → ℕ → Result (Option Job × DeskState) DeskFault
@@ -192,9 +200,8 @@ handed_out s node = hands s (next_job s node)
 abbrev pub posted_to : DeskState → Job → Ran → Query → Phase → Result (Unit {0} × DeskState) DeskFault
 posted_to s j ran q (Answered view old) = Err fault.AlreadyAnswered
 posted_to s j ran q (Running view) =
-    if is_job_of s.programs j q view
-    then room s (Ok (tt, with_entry (record s { queries = with_phase s.queries j.query (Answered view ran) }) (entry.Post j.query ran)))
-    else Err fault.Stranger
+    tested ((is_job_of s.programs j q view, fault.Stranger) ∷ room s)
+    (Ok (tt, with_entry (record s { queries = with_phase s.queries j.query (Answered view ran) }) (entry.Post j.query ran)))
 posted_to s j ran q p = Err fault.Stranger
 
 abbrev pub posted_at : DeskState → Job → Ran → Option Query → Result (Unit {0} × DeskState) DeskFault
@@ -203,7 +210,7 @@ posted_at s j ran (Some q) = posted_to s j ran q q.phase
 
 -- the result of a job of this node is recorded as its query's answer
 abbrev pub posted : DeskState → ℕ → Job → Ran → Result (Unit {0} × DeskState) DeskFault
-posted s node j ran = if j.node == node then posted_at s j ran (slice_get s.queries j.query) else Err fault.Stranger
+posted s node j ran = tested ((j.node == node, fault.Stranger) ∷ []) (posted_at s j ran (slice_get s.queries j.query))
 
 abbrev pub answer_at : Option Query → Result (Option Ran) DeskFault
 answer_at None = Err fault.NoSuchQuery

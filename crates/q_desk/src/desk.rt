@@ -3,7 +3,7 @@
 ghost use Rattle.std.specs.Prelude.{◌≡◌, ℕ, Ok, Some, IfOk, IfSome, slice_get, position, option_map, IsTrue};
 ghost use Rattle.sc_view.specs.Views.{ViewMap};
 ghost use Rattle.sc_node.specs.Nodes.{left, store_begun, delivered};
-ghost use Rattle.forms.specs.Calls.{Steps, Does};
+ghost use Rattle.forms.specs.Calls.{Steps, Does, tested};
 ghost use Rattle.q_session.specs.Records.{HasRecordsWithin};
 ghost use Rattle.q_session.specs.declared.query.Query.{Query as QueryValue};
 ghost use Rattle.q_desk.specs.State.{DeskState, new_desk};
@@ -86,7 +86,7 @@ impl Desk {
     /// Whether the journal has room for a post: after Ok a post that is the next call is not refused with 53. Takes no
     /// memory.
     pub fn room_for_post(&self) -> Result<(), DeskFault>
-        ensures { result ≡ desk.room self.now (Ok tt) }
+        ensures { result ≡ tested (desk.room self.now) (Ok tt) }
     {
         if self.has_room() {
             Ok(())

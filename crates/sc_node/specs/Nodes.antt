@@ -4,6 +4,7 @@ use Rattle.std.specs.Prelude.{ℕ, ◌+◌, ◌^◌, Bool, true, false, not, ◌
 use Rattle.std.specs.Ordering.{nat_cmp}
 use Rattle.std.specs.FinMap as fin
 use Rattle.std.specs.FinSet as set
+use Rattle.forms.specs.Calls.{Tests, tested}
 use Rattle.sc_view.specs.declared.view.Stored.{Stored}
 use Rattle.sc_view.specs.Views.{ViewMap, most_entries, put, merge}
 use Rattle.sc_members.specs.Ids.{Ids}
@@ -179,24 +180,36 @@ delivery n from b =
       ended = ended_by (progress_of n from b) (ended_session n.sessions (progress_of n from b));
     }
 
+-- the message may be taken
+abbrev pub hearing : NodeState → Message → Tests NodeFault
+hearing n m =
+    (not n.gone, fault.Gone)
+    ∷ (not (tells_view n m.body && is_view_full (view_after n m.body)), fault.ViewFull)
+    ∷ (not (tells_facts m.body && is_overfull (facts_after n m.from m.body)), fault.FactsFull)
+    ∷ []
+
 -- the node takes a message
 abbrev pub delivered : NodeState → Message → Result (Delivered × NodeState) NodeFault
-delivered n m =
-    if n.gone then Err fault.Gone
-    else (if tells_view n m.body && is_view_full (view_after n m.body) then Err fault.ViewFull
-    else (if tells_facts m.body && is_overfull (facts_after n m.from m.body) then Err fault.FactsFull
-    else Ok (delivery n m.from m.body, node_after n m.from m.body)))
+delivered n m = tested (hearing n m) (Ok (delivery n m.from m.body, node_after n m.from m.body))
 
 -- the node of this id says this alone
 abbrev pub saying : ℕ → Body → Delivered
 saying id body = record { outs = message_from id body ∷ []; progress = None; ended = None }
 
+-- the node may have this view
+abbrev pub fitting : ViewMap → Tests NodeFault
+fitting v = (not (is_view_full v), fault.ViewFull) ∷ []
+
+-- facts and a view may be learned
+abbrev pub learning : NodeState → Facts → ViewMap → Tests NodeFault
+learning n f v =
+    (not (is_view_full (merge n.view v)), fault.ViewFull)
+    ∷ (not (is_overfull (union_facts n.facts f)), fault.FactsFull)
+    ∷ []
+
 -- the node learns facts and a view
 abbrev pub learned : NodeState → Facts → ViewMap → Result (Unit {0} × NodeState) NodeFault
-learned n f v =
-    if is_view_full (merge n.view v) then Err fault.ViewFull
-    else (if is_overfull (union_facts n.facts f) then Err fault.FactsFull
-    else Ok (tt, record n { facts = union_facts n.facts f; view = merge n.view v }))
+learned n f v = tested (learning n f v) (Ok (tt, record n { facts = union_facts n.facts f; view = merge n.view v }))
 
 -- an echo for a node that waits to join is counted, and what it told is known
 abbrev pub echo_counted : NodeState → ℕ → Option ℕ → Facts → ViewMap → NodeState
@@ -205,11 +218,10 @@ echo_counted n from threshold f v = record n { facts = f; view = v; join_thresho
 -- the node joins at the last echo that it waited for
 abbrev pub joining : NodeState → ℕ → Option ℕ → Facts → ViewMap → Result (Delivered × NodeState) NodeFault
 joining n from threshold f v =
-    if is_overfull (with_joined f n.id) then Err fault.FactsFull
-    else Ok (
+    tested ((not (is_overfull (with_joined f n.id)), fault.FactsFull) ∷ []) (Ok (
       saying n.id Join,
       record (echo_counted n from threshold (with_joined f n.id) v) { joined = true },
-    )
+    ))
 
 -- an operation of the node is moved
 abbrev pub sessions_moved : NodeState → Progress → NodeState
@@ -230,14 +242,14 @@ opened n view stores s =
 abbrev pub begun : NodeState → Session → Body → Begun
 begun n s b = record { tag = n.operations; session = s; outs = message_from n.id b ∷ [] }
 
--- an operation may begin, if the rest allows it
-abbrev pub beginning : {A : Type 0} → NodeState → Result A NodeFault → Result A NodeFault
-beginning n rest =
-    if n.gone then Err fault.Gone
-    else (if not n.joined then Err fault.NotJoined
-    else (if nat_le most_open (fin.len n.sessions) then Err fault.SessionsFull
-    else (if nat_le most_operations n.operations then Err fault.NumbersOut
-    else rest)))
+-- an operation may begin
+abbrev pub opening : NodeState → Tests NodeFault
+opening n =
+    (not n.gone, fault.Gone)
+    ∷ (n.joined, fault.NotJoined)
+    ∷ (nat_lt (fin.len n.sessions) most_open, fault.SessionsFull)
+    ∷ (nat_lt n.operations most_operations, fault.NumbersOut)
+    ∷ []
 
 abbrev pub next_stored : NodeState → List ℕ → Stored
 next_stored n value = record { number = n.stores + 1; value = value }
@@ -251,7 +263,7 @@ store_session n value =
 
 -- the node's view with a value of its own
 abbrev pub with_value : NodeState → Stored → Result ViewMap NodeFault
-with_value n e = if is_view_full (put n.view n.id e) then Err fault.ViewFull else Ok (put n.view n.id e)
+with_value n e = tested (fitting (put n.view n.id e)) (Ok (put n.view n.id e))
 
 abbrev pub session_of : NodeState → Stored → ViewMap → Session
 session_of n e view = record { kind = kind.Store e; query = None; back = Some (record { view = view; phase = new_phase (beta_threshold n) }) }
@@ -268,11 +280,10 @@ store_opened n e view = (begun n (session_of n e view) (Store n.operations view)
 -- the node begins to store a value
 abbrev pub store_begun : NodeState → List ℕ → Result (Begun × NodeState) NodeFault
 store_begun n value =
-    beginning n (if is_view_full (stored_view n value) then Err fault.ViewFull
-    else Ok (
+    tested (opening n) (tested (fitting (stored_view n value)) (Ok (
       begun n (store_session n value) (Store n.operations (stored_view n value)),
       opened n (stored_view n value) (n.stores + 1) (store_session n value),
-    ))
+    )))
 
 abbrev pub collect_session : NodeState → Session
 collect_session n = record { kind = kind.Collect; query = Some (new_phase (beta_threshold n)); back = None }
@@ -280,14 +291,18 @@ collect_session n = record { kind = kind.Collect; query = Some (new_phase (beta_
 -- the node begins to collect
 abbrev pub collect_begun : NodeState → Result (Begun × NodeState) NodeFault
 collect_begun n =
-    beginning n (Ok (begun n (collect_session n) (CollectQuery n.operations), opened n n.view n.stores (collect_session n)))
+    tested (opening n) (Ok (begun n (collect_session n) (CollectQuery n.operations), opened n n.view n.stores (collect_session n)))
+
+-- the node may leave
+abbrev pub leaving : NodeState → Tests NodeFault
+leaving n =
+    (not n.gone, fault.Gone)
+    ∷ (not (is_overfull (with_left n.facts n.id)), fault.FactsFull)
+    ∷ []
 
 -- the node leaves
 abbrev pub left : NodeState → Result (List Message × NodeState) NodeFault
-left n =
-    if n.gone then Err fault.Gone
-    else (if is_overfull (with_left n.facts n.id) then Err fault.FactsFull
-    else Ok (message_from n.id Leave ∷ [], record n { facts = with_left n.facts n.id; gone = true }))
+left n = tested (leaving n) (Ok (message_from n.id Leave ∷ [], record n { facts = with_left n.facts n.id; gone = true }))
 
 -- a node before its first event
 abbrev pub fresh : Config → ℕ → Facts → Bool → NodeState
@@ -331,4 +346,5 @@ abbrev pub are_founders : List ℕ → Bool
 are_founders ids = nat_le 1 (length ids) && (nat_le (length ids) most_founders && rises ids)
 
 abbrev pub founded : Config → ℕ → List ℕ → Result NodeState NodeFault
-founded c id ids = if are_founders ids && set.contains (set.from_list {R = nat_cmp} ids) id then Ok (founder c ids id) else Err fault.BadFounders
+founded c id ids =
+    tested ((are_founders ids && set.contains (set.from_list {R = nat_cmp} ids) id, fault.BadFounders) ∷ []) (Ok (founder c ids id))
