@@ -10,7 +10,8 @@ use Rattle.sc_operations.specs.declared.session.OperationKind.TheVariants as kin
 use Rattle.sc_view.specs.Views.{ViewMap}
 use Rattle.sc_world.specs.State.{WorldState}
 use Rattle.sc_world.specs.Worlds as world
-use Rattle.sc_world.specs.Regular.{IsRegular, returned_by}
+use Rattle.sc_world.specs.Regular.{IsRegular}
+use Rattle.sc_world.specs.Operations.{returned_by}
 use Rattle.sc_world.specs.declared.event.WorldEvent.{WorldEvent}
 use Rattle.sc_world.specs.declared.op.Op.{Op}
 use Rattle.q_desk.specs.State.{DeskState}

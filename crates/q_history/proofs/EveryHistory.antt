@@ -11,7 +11,7 @@ use Rattle.sc_node.specs.Sessions.{stored}
 use Rattle.sc_node.specs.State.{NodeState}
 use Rattle.sc_node.specs.Nodes.{founder}
 use Rattle.sc_world.specs.Worlds.{live_at, nodes_with, IsHistory as IsWorldHistory}
-use Rattle.sc_world.specs.Regular.{returned, returned_by}
+use Rattle.sc_world.specs.Operations.{returned, returned_by}
 use Rattle.sc_world.proofs.Finite.{get-insert}
 use Rattle.sc_world.proofs.EveryHistory.{every_lawful, lawful_regular}
 use Rattle.q_session.specs.declared.query.Phase.{Phase}

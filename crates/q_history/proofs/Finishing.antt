@@ -5,7 +5,7 @@ use Rattle.std.specs.FinMap as fin
 use Rattle.sc_view.specs.Views.{ViewMap}
 use Rattle.sc_world.specs.declared.op.Op.{Op}
 use Rattle.sc_world.specs.State.{WorldState}
-use Rattle.sc_world.specs.Regular.{returned}
+use Rattle.sc_world.specs.Operations.{returned}
 use Rattle.sc_world.proofs.Finite.{get-insert_same}
 use Rattle.sc_world.proofs.Inverts.{no_refusal}
 use Rattle.sc_world.proofs.Steps.{and_left, and_right}

@@ -7,7 +7,7 @@ use Rattle.sc_node.specs.State.{NodeState}
 use Rattle.sc_world.specs.declared.op.Op.{Op}
 use Rattle.sc_world.specs.State.{WorldState}
 use Rattle.sc_world.specs.Records.{Among}
-use Rattle.sc_world.specs.Regular.{returned}
+use Rattle.sc_world.specs.Operations.{returned}
 use Rattle.sc_world.proofs.Finite.{get-insert}
 use Rattle.sc_world.proofs.EveryHistory.{IsLawful}
 use Rattle.q_session.specs.declared.ran.Ran.{Ran}

@@ -16,7 +16,7 @@ use Rattle.sc_world.specs.declared.op.Op.{Op}
 use Rattle.sc_world.specs.State.{WorldState}
 use Rattle.sc_world.specs.Worlds.{clock, Outcome, advanced, op_begun, after}
 use Rattle.sc_world.specs.Records.{Among}
-use Rattle.sc_world.specs.Regular.{returned_by, returned}
+use Rattle.sc_world.specs.Operations.{returned_by, returned}
 use Rattle.sc_world.proofs.Finite.{get-insert}
 use Rattle.sc_world.proofs.Steps.{among-left, among-right, among-image, advance_op}
 use Rattle.sc_world.proofs.Handlers.{collect_outcome}

@@ -6,8 +6,7 @@ use Rattle.sc_view.specs.Views.{ViewMap}
 use Rattle.sc_operations.specs.declared.session.OperationKind.TheVariants as kind
 use Rattle.sc_world.specs.declared.op.Op.{Op}
 use Rattle.sc_world.specs.State.{WorldState}
-use Rattle.sc_world.specs.Records.{Among}
-use Rattle.sc_world.specs.Regular.{IsBefore, Meets, Holds, returned}
+use Rattle.sc_world.specs.Operations.{Among, IsBefore, Meets, Holds, returned}
 use Rattle.q_desk.specs.State.{DeskState}
 use Rattle.q_desk.specs.Answers.{IsAnswered}
 use Rattle.q_session.specs.declared.ran.Ran.{Ran}

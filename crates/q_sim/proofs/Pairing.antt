@@ -5,7 +5,7 @@ use Rattle.std.proofs.lemmas.List.{map-append}
 use Rattle.std.proofs.lemmas.List.Elements.{filter-append}
 use Rattle.std.proofs.lemmas.Grind.{flat_map-append}
 use Rattle.sc_world.specs.declared.op.Op.{Op}
-use Rattle.sc_world.specs.Regular.{IsMeeting}
+use Rattle.sc_world.specs.Operations.{IsMeeting}
 use Rattle.q_sim.specs.Printing.{TellsPairs, AddsPairs, pair_line, pairs_with}
 
 in_turn : (ps qs : List (Op × Op)) (a b : List ℕ) → TellsPairs ps a → TellsPairs qs b → TellsPairs (ps ++ qs) (a ++ b)

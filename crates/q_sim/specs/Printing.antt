@@ -6,7 +6,7 @@ use Rattle.sc_msg.specs.declared.message.Message.{Message}
 use Rattle.sc_operations.specs.declared.session.OperationKind.{OperationKind}
 use Rattle.sc_operations.specs.declared.session.OperationKind.TheVariants as kind
 use Rattle.sc_world.specs.declared.op.Op.{Op}
-use Rattle.sc_world.specs.Regular.{IsMeeting}
+use Rattle.sc_world.specs.Operations.{IsMeeting}
 use Rattle.q_desk.specs.declared.completed.Completed.{Completed}
 use Rattle.q_desk.specs.declared.completed.Completed.TheVariants as completed
 use Rattle.q_history.specs.declared.event.Handed.{Handed}

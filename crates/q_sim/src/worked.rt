@@ -27,7 +27,7 @@ ghost use Rattle.q_sim.specs.Truths.{AreTrueLines, IsTrueAnswer};
 ghost use Rattle.q_sim.specs.declared.refusal.RefusalPlace.TheVariants as at;
 ghost use Rattle.q_sim.specs.declared.refusal.Refusal.TheVariants as refused;
 ghost use Rattle.sc_msg.specs.declared.message.Body.TheVariants as body;
-ghost use Rattle.sc_world.specs.Regular.{IsMeeting};
+ghost use Rattle.sc_world.specs.Operations.{IsMeeting};
 ghost use Rattle.sc_world.specs.declared.op.Op.{Op};
 
 /// What the definitions say of programs, deliveries, refusals, printed lines and scripts, over files in memory.

@@ -27,7 +27,8 @@ use Rattle.sc_world.specs.declared.op.Op.{Op}
 use Rattle.sc_world.specs.State.{WorldState}
 use Rattle.sc_world.specs.Worlds.{clock, Outcome, told, after, end_at, moved, advanced, live_at, crashes, enters, stores, collects, leaves, delivers, stepped}
 use Rattle.sc_world.specs.Records.{Among}
-use Rattle.sc_world.specs.Regular.{returned_by, HasReturned, HasStored, EndIsRecorded}
+use Rattle.sc_world.specs.Regular.{HasReturned, HasStored, EndIsRecorded}
+use Rattle.sc_world.specs.Operations.{returned_by}
 use Rattle.sc_world.proofs.Links.{IsLinked, IsMove}
 use Rattle.sc_world.proofs.Steps.{among-left, among-image, advance_op, is_open}
 use Rattle.sc_world.proofs.Handlers.{heard, store_outcome, collect_outcome, left_outcome, heard_moves, moves}

@@ -10,7 +10,8 @@ use Rattle.sc_world.specs.declared.op.Op.{Op}
 use Rattle.sc_world.specs.State.{WorldState}
 use Rattle.sc_world.specs.Worlds.{clock, stepped, Reaches, start, IsHistory}
 use Rattle.sc_world.specs.Records.{beginning_of, AreRecords, AreSent}
-use Rattle.sc_world.specs.Regular.{IsRegular, IsGenuine, IsBefore, EndsAreRecorded, EndsAreTold}
+use Rattle.sc_world.specs.Regular.{IsRegular, IsGenuine, EndsAreRecorded, EndsAreTold}
+use Rattle.sc_world.specs.Operations.{IsBefore}
 use Rattle.sc_world.proofs.Changes.{EndedBefore}
 use Rattle.sc_world.proofs.Soundness as sound
 use Rattle.sc_world.proofs.Truths.{IsTrue, limit_by}

@@ -6,7 +6,7 @@ use Rattle.sc_members.specs.Ids.{Ids, IsLeastCommon}
 use Rattle.sc_node.specs.Sessions.{counted_in, ackers, repliers}
 use Rattle.sc_operations.specs.declared.session.Phase.{Phase}
 use Rattle.sc_world.specs.declared.op.Op.{Op}
-use Rattle.sc_world.specs.Regular.{IsMeeting}
+use Rattle.sc_world.specs.Operations.{IsMeeting}
 use Rattle.sc_world.specs.Quorums.{IsQuorum, IsQuorumPair}
 use Rattle.sc_world.proofs.Overlaps.{apart_are_few}
 

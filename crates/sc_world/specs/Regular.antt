@@ -1,49 +1,19 @@
 -- Regularity.
-use Rattle.std.specs.Prelude.{◌≡◌, ℕ, ◌≤◌, ◌<◌, Option, Some, None, Ok, slice_get}
+use Rattle.std.specs.Prelude.{◌≡◌, ℕ, ◌<◌, Some, Ok, slice_get}
 use Rattle.std.specs.FinMap as fin
 use Rattle.sc_view.specs.declared.view.Stored.{Stored}
-use Rattle.sc_view.specs.Views.{ViewMap, number_at, IsCoveredBy}
-use Rattle.sc_members.specs.Ids.{Has, IsLeastCommon}
+use Rattle.sc_view.specs.Views.{ViewMap, IsCoveredBy}
 use Rattle.sc_operations.specs.declared.progress.Completion.TheVariants as completion
 use Rattle.sc_operations.specs.declared.progress.Ended.{Ended}
-use Rattle.sc_operations.specs.declared.session.OperationKind.{OperationKind}
 use Rattle.sc_operations.specs.declared.session.OperationKind.TheVariants as kind
-use Rattle.sc_node.specs.Sessions.{stored, repliers, ackers}
+use Rattle.sc_operations.specs.Sessions.{stored}
 use Rattle.sc_world.specs.declared.event.WorldEvent.{WorldEvent}
 use Rattle.sc_world.specs.declared.event.WorldEvent.TheVariants as event
 use Rattle.sc_world.specs.declared.event.WorldStep.{WorldStep}
 use Rattle.sc_world.specs.declared.op.Op.{Op}
 use Rattle.sc_world.specs.State.{WorldState}
 use Rattle.sc_world.specs.Worlds.{clock, node_of, stepped}
-use Rattle.sc_world.specs.Records.{Among}
-
--- the first operation ended before the second began
-pub record IsBefore (a b : Op) : Type 0 where
-  pub place : ℕ
-  pub ended : a.end ≡ Some place
-  pub earlier : place < b.begin
-
--- the node acknowledged what the first stored, or stored back, and replied to the second
-pub record MeetsAt (a b : Op) (id : ℕ) : Type 0 where
-  pub acked : Has (ackers a.session) id
-  pub replied : Has (repliers b.session) id
-
--- some node did
-pub record Meets (a b : Op) : Type 0 where
-  pub id : ℕ
-  pub at : MeetsAt a b id
-
--- the least such node, or none where there is none
-abbrev pub IsMeeting : Op → Op → Option ℕ → Type 0
-IsMeeting a b least = IsLeastCommon (ackers a.session) (repliers b.session) least
-
-abbrev pub returned_by : OperationKind → Option ℕ → Option ViewMap → Option ViewMap
-returned_by kind.Collect (Some end) view = view
-returned_by k end view = None
-
--- the view that an ended collect returned
-abbrev pub returned : Op → Option ViewMap
-returned o = returned_by o.session.kind o.end (stored o.session)
+use Rattle.sc_world.specs.Operations.{Among, IsBefore, Meets, returned, Holds}
 
 -- the node's collect of this tag ended at this place, and returned this view
 pub record HasReturned (w : WorldState) (place node tag : ℕ) (view : ViewMap) : Type 0 where
@@ -81,10 +51,6 @@ pub record EndIsTold (w : WorldState) (e : WorldEvent) (says : WorldStep) (next 
 -- so it is at each event that may come next
 abbrev pub EndsAreTold : WorldState → Type 0
 EndsAreTold w = (e : WorldEvent) (says : WorldStep) (next : WorldState) → stepped w e ≡ Ok (says, next) → EndIsTold w e says next
-
--- the view has at least this number of the node
-abbrev pub Holds : ViewMap → ℕ → ℕ → Type 0
-Holds view node number = number ≤ number_at view node
 
 -- the node began to store this, at an earlier place
 pub record WasStored (w : WorldState) (place node : ℕ) (e : Stored) : Type 0 where

@@ -8,7 +8,8 @@ ghost use Rattle.sc_world.specs.declared.op.Op.{Op};
 ghost use Rattle.sc_world.specs.State.{WorldState};
 ghost use Rattle.sc_world.specs.Worlds.{Reaches, start};
 ghost use Rattle.sc_world.specs.Records.{AreRecords, AreSent};
-ghost use Rattle.sc_world.specs.Regular.{IsRegular, IsMeeting, EndsAreRecorded, EndsAreTold};
+ghost use Rattle.sc_world.specs.Regular.{IsRegular, EndsAreRecorded, EndsAreTold};
+ghost use Rattle.sc_world.specs.Operations.{IsMeeting};
 ghost use Rattle.sc_world.specs.Quorums.{IsQuorumPair};
 
 /// A law: whatever the founders are, and whatever list of events was accepted, in which messages are lost, repeated

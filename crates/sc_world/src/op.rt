@@ -3,7 +3,7 @@
 ghost use Rattle.std.specs.Prelude.{◌≡◌};
 ghost use Rattle.std.specs.FinSet as set;
 ghost use Rattle.sc_node.specs.Sessions.{counted_in, counting_phase};
-ghost use Rattle.sc_world.specs.Regular.{IsMeeting};
+ghost use Rattle.sc_world.specs.Operations.{IsMeeting};
 ghost use Rattle.sc_world.specs.Worlds.{end_at, moved};
 
 use sc_members::IdSet;

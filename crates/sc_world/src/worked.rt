@@ -10,7 +10,7 @@ ghost use Rattle.sc_node.specs.State.{NodeState};
 ghost use Rattle.sc_operations.specs.declared.session.Session.{Session};
 ghost use Rattle.sc_world.specs.Acts.{answered, IsReady};
 ghost use Rattle.sc_world.specs.Ledgers.{first, has_room, recorded};
-ghost use Rattle.sc_world.specs.Regular.{IsMeeting};
+ghost use Rattle.sc_world.specs.Operations.{IsMeeting};
 ghost use Rattle.sc_world.specs.State.{WorldState};
 ghost use Rattle.sc_world.specs.Worlds.{collects, leaves, live, live_at, start, started, stepped, took};
 ghost use Rattle.sc_world.specs.declared.event.WorldEvent.{WorldEvent};
