@@ -1,9 +1,10 @@
 -- What is done to a node's book, and to the messages that wait to be sent, while its lock is held.
-use Rattle.std.specs.Prelude.{◌≡◌, ◌≢◌, ℕ, ◌+◌, ◌-◌, ◌^◌, min, ◌==◌, ◌&&◌, Bool, List, [], ◌∷◌, ◌++◌, codes, decimal, Result, Ok, Err}
+use Rattle.std.specs.Prelude.{◌≡◌, ◌≢◌, ℕ, ◌+◌, ◌-◌, ◌^◌, min, ◌==◌, ◌&&◌, Bool, List, [], ◌∷◌, ◌++◌, codes, decimal, Option, None, Result, Ok, Err}
 use Rattle.sc_msg.specs.Fault.{IsFault}
 use Rattle.sc_msg.specs.Messages.{message_bytes, IsMessage}
 use Rattle.sc_msg.specs.declared.message.Message.{Message}
 use Rattle.sc_node.specs.declared.answer.Begun.{Begun}
+use Rattle.q_desk.specs.declared.completed.Completed.{Completed}
 use Rattle.q_book.specs.State.{BookState}
 use Rattle.q_book.specs.Books.{asked, delivered, left, stored}
 use Rattle.q_book.specs.Faults.{memory}
@@ -19,15 +20,16 @@ use Rattle.q_held.specs.declared.losses.Unsent.{Unsent}
 abbrev pub IsSame : BookState → List Message → BookState → List Message → Type 0
 IsSame b had c has = (c ≡ b) × (has ≡ had)
 
--- the message is delivered, and what the book gives waits behind what waited; or the book refuses it
-abbrev pub Delivers : Message → BookState → List Message → Result (Unit {0}) Lost → BookState → List Message → Type 0
-Delivers m b had (Ok u) c has = (a : Taken) × (delivered b m ≡ Ok (a, c)) × (has ≡ had ++ a.outs)
+-- the message is delivered, what it ended is answered, and what the book gives waits behind what waited; or the book
+-- refuses it
+abbrev pub Delivers : Message → BookState → List Message → Result (Option Completed) Lost → BookState → List Message → Type 0
+Delivers m b had (Ok ended) c has = (a : Taken) × (delivered b m ≡ Ok (a, c)) × (ended ≡ a.completed) × (has ≡ had ++ a.outs)
 Delivers m b had (Err (lost.Book f)) c has = IsSame b had c has × (f ≢ memory → delivered b m ≡ Err f)
 Delivers m b had (Err e) c has = ⊥
 
 -- the bytes spell a message of the book's version, which is delivered or which the book refuses; or they spell none; or
 -- memory ran out
-abbrev pub Hears : List ℕ → BookState → List Message → Result (Unit {0}) Lost → BookState → List Message → Type 0
+abbrev pub Hears : List ℕ → BookState → List Message → Result (Option Completed) Lost → BookState → List Message → Type 0
 Hears bytes b had (Err (lost.Bytes f)) c has = IsSame b had c has × IsFault b.version bytes f
 Hears bytes b had (Err lost.OutOfMemory) c has = IsSame b had c has
 Hears bytes b had result c has = (m : Message) × IsMessage b.version m × (bytes ≡ message_bytes b.version m) × Delivers m b had result c has
@@ -63,15 +65,20 @@ with_one l (lost.Book f) = record l { book = sum_of l.book 1 }
 with_one l lost.OutOfMemory = record l { memory = sum_of l.memory 1 }
 
 -- after a datagram that may have changed nothing
-abbrev pub counted : Result (Unit {0}) Lost → Losses → Losses
-counted (Ok u) l = l
+abbrev pub counted : Result (Option Completed) Lost → Losses → Losses
+counted (Ok ended) l = l
 counted (Err e) l = with_one l e
 
--- an empty datagram is a bell, and changes nothing; any other is heard, and counted where it changes nothing
-abbrev pub Receives : List ℕ → BookState → List Message → Losses → BookState → List Message → Losses → Type 0
-Receives [] b had l c has k = IsSame b had c has × (k ≡ l)
-Receives (byte ∷ bytes) b had l c has k =
-    (r : Result (Unit {0}) Lost) × Hears (byte ∷ bytes) b had r c has × (k ≡ counted r l)
+-- what it ended
+abbrev pub ended_by : Result (Option Completed) Lost → Option Completed
+ended_by (Ok ended) = ended
+ended_by (Err e) = None
+
+-- An empty datagram is a bell: it ends and changes nothing. Any other is heard, and counted where it changes nothing.
+abbrev pub Receives : List ℕ → BookState → List Message → Losses → Option Completed → BookState → List Message → Losses → Type 0
+Receives [] b had l ended c has k = IsSame b had c has × (ended ≡ None) × (k ≡ l)
+Receives (byte ∷ bytes) b had l ended c has k =
+    (r : Result (Option Completed) Lost) × Hears (byte ∷ bytes) b had r c has × (ended ≡ ended_by r) × (k ≡ counted r l)
 
 abbrev pub together : Losses → Losses → Losses
 together l k = record { bytes = sum_of l.bytes k.bytes; book = sum_of l.book k.book; memory = sum_of l.memory k.memory }

@@ -1,6 +1,6 @@
 //! What the lock of a node keeps.
 
-ghost use Rattle.std.specs.Prelude.{◌≡◌, ◌≤◌, ◌+◌, [], vec_len, vec_capacity, MatchResult, None};
+ghost use Rattle.std.specs.Prelude.{◌≡◌, ◌≤◌, ◌+◌, [], vec_len, vec_capacity, MatchResult};
 ghost use Rattle.q_board.specs.BoardId.{board_id};
 ghost use Rattle.q_pump.specs.Pumped.{Pumped, Stopped};
 ghost use Rattle.q_held.specs.Held.{Asks, Delivers, Hears, Leaves, Receives, Stores, both_unsent, counted, no_losses, no_unsent};
@@ -26,8 +26,6 @@ pub struct Held<'b> {
     pub lost: Losses,
     /// What the node's thread did not send so far.
     pub unsent: Unsent,
-    /// The last operation that ended, unless it was asked for since.
-    pub ended: Option<Completed>,
     /// The board.
     pub board: &'b Board,
     /// The node's seat at this board.
@@ -61,35 +59,35 @@ impl<'b> Held<'b> {
             waiting: Vec::new(alloc),
             lost: Losses::none(),
             unsent: Unsent::none(),
-            ended: None,
             board,
             asker,
         }
     }
 
-    /// Takes a datagram that was received. An empty one is a bell, which only wakes the node's thread: it is not heard,
-    /// and not lost. Any other is heard, as by [`Held::hear`].
-    pub fn receive(&mut self, alloc: Global, datagram: &[u8])
-        ensures received { Receives datagram.now self.old.book self.old.waiting.items self.old.lost self.new.book self.new.waiting.items self.new.lost }
+    /// Takes a datagram that was received, and answers which operation it ended. An empty one is a bell, which only
+    /// wakes the node's thread: it is not heard, and not lost. Any other is heard, as by [`Held::hear`].
+    pub fn receive(&mut self, alloc: Global, datagram: &[u8]) -> Option<Completed>
+        ensures received { Receives datagram.now self.old.book self.old.waiting.items self.old.lost result self.new.book self.new.waiting.items self.new.lost }
         ensures unsent { self.new.unsent ≡ self.old.unsent }
         ensures asker { self.new.asker ≡ self.old.asker }
     {
-        if !datagram.is_empty() {
-            let _ = self.hear(alloc, datagram);
+        if datagram.is_empty() {
+            return None;
         }
+        self.hear(alloc, datagram).unwrap_or(None)
     }
 
-    /// Takes the bytes of a datagram: the message that they spell in the book's version is delivered, and what the book
-    /// gives waits behind what waits already. Where that is refused the datagram counts as lost, and nothing else
-    /// changes.
-    pub fn hear(&mut self, alloc: Global, bytes: &[u8]) -> Result<(), Lost>
+    /// Takes the bytes of a datagram: the message that they spell in the book's version is delivered, what the book
+    /// gives waits behind what waits already, and the operation that the message ended is answered. Where that is
+    /// refused the datagram counts as lost, and nothing else changes.
+    pub fn hear(&mut self, alloc: Global, bytes: &[u8]) -> Result<Option<Completed>, Lost>
         ensures heard { Hears bytes.now self.old.book self.old.waiting.items result self.new.book self.new.waiting.items }
         ensures counted { self.new.lost ≡ counted result self.old.lost }
         ensures unsent { self.new.unsent ≡ self.old.unsent }
         ensures asker { self.new.asker ≡ self.old.asker }
     {
         match self.take_bytes(alloc, bytes) {
-            Ok(()) => Ok(()),
+            Ok(ended) => Ok(ended),
             Err(lost) => {
                 self.lost.count(lost);
                 Err(lost)
@@ -98,7 +96,7 @@ impl<'b> Held<'b> {
     }
 
     /// The same, and nothing is counted.
-    fn take_bytes(&mut self, alloc: Global, bytes: &[u8]) -> Result<(), Lost>
+    fn take_bytes(&mut self, alloc: Global, bytes: &[u8]) -> Result<Option<Completed>, Lost>
         ensures heard { Hears bytes.now self.old.book self.old.waiting.items result self.new.book self.new.waiting.items }
         ensures lost { self.new.lost ≡ self.old.lost }
         ensures unsent { self.new.unsent ≡ self.old.unsent }
@@ -115,7 +113,7 @@ impl<'b> Held<'b> {
     }
 
     /// Delivers a message, for whose answers there is room.
-    fn take_in(&mut self, message: &Message) -> Result<(), Lost>
+    fn take_in(&mut self, message: &Message) -> Result<Option<Completed>, Lost>
         requires { vec_len self.old.waiting + 2 ≤ vec_capacity self.old.waiting }
         ensures delivered { Delivers message.now self.old.book self.old.waiting.items result self.new.book self.new.waiting.items }
         ensures lost { self.new.lost ≡ self.old.lost }
@@ -124,11 +122,8 @@ impl<'b> Held<'b> {
     {
         match self.book.deliver(message) {
             Ok(taken) => {
-                if taken.completed.is_some() {
-                    self.ended = taken.completed;
-                }
                 taken.outs.append_to(&mut self.waiting);
-                Ok(())
+                Ok(taken.completed)
             }
             Err(fault) => Err(Lost::Book(fault)),
         }
@@ -188,19 +183,6 @@ impl<'b> Held<'b> {
             return Vec::new(alloc);
         }
         std::mem::replace(&mut self.waiting, Vec::new(alloc))
-    }
-
-    /// The operation that ended last, if any did since this was last asked.
-    pub fn take_ended(&mut self) -> Option<Completed>
-        ensures given { result ≡ self.old.ended }
-        ensures none { self.new.ended ≡ None }
-        ensures book { self.new.book ≡ self.old.book }
-        ensures waiting { self.new.waiting.items ≡ self.old.waiting.items }
-        ensures lost { self.new.lost ≡ self.old.lost }
-        ensures unsent { self.new.unsent ≡ self.old.unsent }
-        ensures asker { self.new.asker ≡ self.old.asker }
-    {
-        self.ended.take()
     }
 
     /// Counts what the node's thread did not send.

@@ -1,6 +1,6 @@
 //! Worked values of losses, of what is done under a lock, and of addressees.
 
-ghost use Rattle.std.specs.Prelude.{◌≡◌, ◌++◌, ℕ, List, [], codes, Ok, Err, Some, None, Result, true, ◌∷◌};
+ghost use Rattle.std.specs.Prelude.{◌≡◌, ◌++◌, ℕ, List, [], codes, Ok, Err, Option, Some, None, Result, true, ◌∷◌};
 ghost use Rattle.sc_msg.specs.declared.fault.MessageFault.{MessageFault};
 ghost use Rattle.sc_msg.specs.declared.message.Message.{Message as Sent};
 ghost use Rattle.sc_msg.specs.declared.message.Body.TheVariants as body;
@@ -8,6 +8,7 @@ ghost use Rattle.sc_members.specs.Members.{Facts};
 ghost use Rattle.sc_view.specs.Views.{ViewMap};
 ghost use Rattle.sc_node.specs.declared.answer.Begun.{Begun as Started};
 ghost use Rattle.q_board.specs.AskerModel.{AskerModel};
+ghost use Rattle.q_desk.specs.declared.completed.Completed.{Completed};
 ghost use Rattle.q_book.specs.State.{BookState};
 ghost use Rattle.q_book.specs.Books.{asked, delivered, stored};
 ghost use Rattle.q_book.specs.declared.answer.Asked.{Asked};
@@ -27,7 +28,7 @@ pub fn worked()
     ensures no_message { (f : MessageFault) → with_one (record { bytes = 1; book = 2; memory = 3 }) (lost.Bytes f) ≡ record { bytes = 2; book = 2; memory = 3 } }
     ensures by_the_book { with_one (record { bytes = 1; book = 2; memory = 3 }) (lost.Book book.BadValue) ≡ record { bytes = 1; book = 3; memory = 3 } }
     ensures for_memory { with_one (record { bytes = 1; book = 2; memory = 3 }) lost.OutOfMemory ≡ record { bytes = 1; book = 2; memory = 4 } }
-    ensures heard { counted (Ok tt) (record { bytes = 1; book = 2; memory = 3 }) ≡ record { bytes = 1; book = 2; memory = 3 } }
+    ensures heard { counted (Ok None) (record { bytes = 1; book = 2; memory = 3 }) ≡ record { bytes = 1; book = 2; memory = 3 } }
     ensures not_heard { counted (Err lost.OutOfMemory) (record { bytes = 1; book = 2; memory = 3 }) ≡ record { bytes = 1; book = 2; memory = 4 } }
     ensures most { sum_of 18446744073709551615 1 ≡ 18446744073709551615 }
     ensures both { together (record { bytes = 1; book = 2; memory = 3 }) (record { bytes = 10; book = 20; memory = 30 }) ≡ record { bytes = 11; book = 22; memory = 33 } }
@@ -44,9 +45,9 @@ pub fn worked_texts()
 
 /// What is done under a lock, where the call of the book answers this.
 pub fn worked_calls()
-    ensures delivered { (m : Sent) (b c d : BookState) (had has : List Sent) (a : Taken) → delivered b m ≡ Ok (a, d) → Delivers m b had (Ok tt) c has → (c ≡ d) × (has ≡ had ++ a.outs) }
-    ensures bell { (b c : BookState) (had has : List Sent) (l k : Counts) → Receives [] b had l c has k → (c ≡ b) × (has ≡ had) × (k ≡ l) }
-    ensures no_bell { (b c : BookState) (had has : List Sent) (l k : Counts) → Receives (1 ∷ []) b had l c has k → (r : Result (Unit {0}) Lost) × (k ≡ counted r l) × Hears (1 ∷ []) b had r c has }
+    ensures delivered { (m : Sent) (b c d : BookState) (had has : List Sent) (o : Option Completed) (a : Taken) → delivered b m ≡ Ok (a, d) → Delivers m b had (Ok o) c has → (c ≡ d) × (o ≡ a.completed) × (has ≡ had ++ a.outs) }
+    ensures bell { (b c : BookState) (had has : List Sent) (l k : Counts) (o : Option Completed) → Receives [] b had l o c has k → (c ≡ b) × (has ≡ had) × (o ≡ None) × (k ≡ l) }
+    ensures no_bell { (b c : BookState) (had has : List Sent) (l k : Counts) (o : Option Completed) → Receives (1 ∷ []) b had l o c has k → (r : Result (Option Completed) Lost) × (k ≡ counted r l) × Hears (1 ∷ []) b had r c has }
     ensures not_spelled { (b c : BookState) (had has : List Sent) (f : MessageFault) → Hears [] b had (Err (lost.Bytes f)) c has → (c ≡ b) × (has ≡ had) }
     ensures stored { (value : List ℕ) (tag : ℕ) (b c d : BookState) (had has : List Sent) (a : Started) → stored b value ≡ Ok (a, d) → Stores value b had (Ok tag) c has → (tag ≡ a.tag) × (has ≡ had ++ a.outs) }
     ensures asked { (program start query : ℕ) (b c d : BookState) (had has : List Sent) (a : Asked) → asked b program start ≡ Ok (a, d) → Asks program start b had (Ok query) c has → (query ≡ a.query) × (has ≡ had ++ a.begun.outs) }

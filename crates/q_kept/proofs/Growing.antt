@@ -1,8 +1,9 @@
 -- The book grows by each call under the lock.
-use Rattle.std.proofs.Common.{◌≡◌, ℕ, List, [], ◌∷◌, subst, sym, Result, Ok, Err}
+use Rattle.std.proofs.Common.{◌≡◌, ℕ, List, [], ◌∷◌, Option, subst, sym, Result, Ok, Err}
 use Rattle.sc_msg.specs.declared.message.Message.{Message}
 use Rattle.q_desk.specs.declared.journal.Entry.{Entry}
 use Rattle.q_desk.specs.declared.journal.Entry.TheVariants as entry
+use Rattle.q_desk.specs.declared.completed.Completed.{Completed}
 use Rattle.q_book.specs.State.{BookState}
 use Rattle.q_book.specs.Replays.{Follows}
 use Rattle.q_book.specs.declared.fault.BookFault.{BookFault}
@@ -16,21 +17,21 @@ module _ (same : (b : BookState) → Grows b b) (call : (b c : BookState) (e : E
   grows_same : (b c : BookState) → c ≡ b → Grows b c
   grows_same b c e = subst (Grows b) (sym e) (same b)
 
-  delivers_grow : (m : Message) (b c : BookState) (had has : List Message) (r : Result (Unit {0}) Lost) → Delivers m b had r c has → Grows b c
-  delivers_grow m b c had has (Ok u) h = call b c (entry.Deliver m) (h.0, h.1)
+  delivers_grow : (m : Message) (b c : BookState) (had has : List Message) (r : Result (Option Completed) Lost) → Delivers m b had r c has → Grows b c
+  delivers_grow m b c had has (Ok ended) h = call b c (entry.Deliver m) (h.0, h.1)
   delivers_grow m b c had has (Err (lost.Book f)) h = grows_same b c h.0.0
   delivers_grow m b c had has (Err (lost.Bytes f)) h = absurd h
   delivers_grow m b c had has (Err lost.OutOfMemory) h = absurd h
 
-  pub hears_grow : (bytes : List ℕ) (b c : BookState) (had has : List Message) (r : Result (Unit {0}) Lost) → Hears bytes b had r c has → Grows b c
-  hears_grow bytes b c had has (Ok u) h = delivers_grow h.0 b c had has (Ok u) h.3
+  pub hears_grow : (bytes : List ℕ) (b c : BookState) (had has : List Message) (r : Result (Option Completed) Lost) → Hears bytes b had r c has → Grows b c
+  hears_grow bytes b c had has (Ok ended) h = delivers_grow h.0 b c had has (Ok ended) h.3
   hears_grow bytes b c had has (Err (lost.Book f)) h = delivers_grow h.0 b c had has (Err (lost.Book f)) h.3
   hears_grow bytes b c had has (Err (lost.Bytes f)) h = grows_same b c h.0.0
   hears_grow bytes b c had has (Err lost.OutOfMemory) h = grows_same b c h.0
 
-  pub receives_grow : (bytes : List ℕ) (b c : BookState) (had has : List Message) (l k : Losses) → Receives bytes b had l c has k → Grows b c
-  receives_grow [] b c had has l k h = grows_same b c h.0.0
-  receives_grow (byte ∷ bytes) b c had has l k h = hears_grow (byte ∷ bytes) b c had has h.0 h.1
+  pub receives_grow : (bytes : List ℕ) (b c : BookState) (had has : List Message) (l k : Losses) (ended : Option Completed) → Receives bytes b had l ended c has k → Grows b c
+  receives_grow [] b c had has l k ended h = grows_same b c h.0.0
+  receives_grow (byte ∷ bytes) b c had has l k ended h = hears_grow (byte ∷ bytes) b c had has h.0 h.1
 
   pub stores_grow : (value : List ℕ) (b c : BookState) (had has : List Message) (r : Result ℕ BookFault) → Stores value b had r c has → Grows b c
   stores_grow value b c had has (Ok tag) h = call b c (entry.Store value) (h.0, h.1)

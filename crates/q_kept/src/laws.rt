@@ -1,8 +1,9 @@
 //! Laws of what is done under the lock, each the contract of a function that does nothing. Whoever needs one at a step
 //! calls it there.
 
-ghost use Rattle.std.specs.Prelude.{ℕ, List, Result};
+ghost use Rattle.std.specs.Prelude.{ℕ, List, Option, Result};
 ghost use Rattle.sc_msg.specs.declared.message.Message.{Message as Said};
+ghost use Rattle.q_desk.specs.declared.completed.Completed.{Completed};
 ghost use Rattle.q_book.specs.State.{BookState};
 ghost use Rattle.q_book.specs.declared.fault.BookFault.{BookFault as Fault};
 ghost use Rattle.q_board.specs.AskerModel.{AskerModel};
@@ -16,9 +17,9 @@ use q_recorder::laws::books_grow;
 
 /// The book grows by each call under the lock, so what its file holds is of its journal still.
 pub fn held_books_grow()
-    ensures received { (bytes : List ℕ) (b c : BookState) (had has : List Said) (l k : Counts) →
-        Receives bytes b had l c has k → Grows b c }
-    ensures heard { (bytes : List ℕ) (b c : BookState) (had has : List Said) (r : Result (Unit {0}) Lost) →
+    ensures received { (bytes : List ℕ) (b c : BookState) (had has : List Said) (l k : Counts) (ended : Option Completed) →
+        Receives bytes b had l ended c has k → Grows b c }
+    ensures heard { (bytes : List ℕ) (b c : BookState) (had has : List Said) (r : Result (Option Completed) Lost) →
         Hears bytes b had r c has → Grows b c }
     ensures stored { (value : List ℕ) (b c : BookState) (had has : List Said) (r : Result ℕ Fault) →
         Stores value b had r c has → Grows b c }

@@ -145,8 +145,7 @@ fn hear<R: Wait>(
     datagram: &[u8],
 ) -> Heard {
     let mut held = held.lock(rt);
-    held.receive(alloc, datagram);
-    let ended = held.take_ended();
+    let ended = held.receive(alloc, datagram);
     if ended.is_some() {
         asked.forget_ended(&held.book);
     }

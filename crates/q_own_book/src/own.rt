@@ -146,8 +146,7 @@ impl<'b, J: JournalFile, S: Start> Own<'b, J, S> {
     pub fn hear(&mut self, alloc: Global, bytes: &[u8]) -> Heard {
         held_books_grow();
         own_stays();
-        let _ = self.kept.held.hear(alloc, bytes);
-        let has_ended = self.kept.held.take_ended().is_some();
+        let has_ended = matches!(self.kept.held.hear(alloc, bytes), Ok(Some(_)));
         Heard {
             letters: self.settle(alloc),
             has_ended,
