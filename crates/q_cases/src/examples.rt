@@ -4,8 +4,7 @@
 //! command, and what stands behind it, up to the next or to the block's end, is what it prints: its standard output,
 //! and then what explains its refusal. Each command is printed, with whether it prints just that.
 //!
-//! The refusals are the rows `| NUMBER | NAME |` that `docs/REFUSALS.md` has; those that a command prints, which
-//! `docs/FORMATS.md` has too, end with "printed". `./check-documents` looks them up there.
+//! The refusals are the rows `| NUMBER | NAME |` that `docs/REFUSALS.md` has. `./check-documents` looks them up there.
 
 use crate::commands::{explained, gathered_notes};
 use q_files::{Files, Folder, LONGEST_TEXT};
@@ -179,38 +178,10 @@ fn run_document<F: Files>(
     run_text(rt, alloc, &mut document, text, files)
 }
 
-/// Whether a command prints refusals for this reason.
-fn is_printed(reason: Reason) -> bool {
-    !matches!(
-        reason,
-        Reason::WrongCount
-            | Reason::Entry
-            | Reason::NotCovered
-            | Reason::NoteForm
-            | Reason::NoSuchQuery
-            | Reason::WrongBounds
-            | Reason::RowFull
-            | Reason::BadHead
-            | Reason::Short
-            | Reason::LongMessage
-            | Reason::BadKind
-            | Reason::Extra
-            | Reason::BadRequest
-            | Reason::CutRequest
-            | Reason::ReadUnset
-            | Reason::WroteFramePointer
-            | Reason::OutsideAccess
-            | Reason::WroteRecord
-            | Reason::BadPlace
-            | Reason::StepsOut
-    )
-}
-
-/// Lists the refusals, each as the row that the documents have.
+/// Lists the refusals, each as the row that the document has.
 pub fn list_refusals(rt: &impl Print) -> io::Result<()> {
     for reason in Reason::all().iter() {
-        let end = if is_printed(*reason) { " printed" } else { "" };
-        println!(rt; "| {} | {} |{end}", reason.number(), reason.name())?;
+        println!(rt; "| {} | {} |", reason.number(), reason.name())?;
     }
     Ok(())
 }
