@@ -1,5 +1,5 @@
 -- When the facts of a node that enters or joins are too many.
-use Rattle.std.proofs.Common.{◌≡◌, ℕ, ◌≤◌, ◌+◌, Bool, true, false, ◌||◌, nat_lt, cond, Result, Ok, Err, IsErrAnd, is_err, true≢false, ◌<◌, refl, sym, ap, ◌∙◌, arith}
+use Rattle.std.proofs.Common.{◌≡◌, ℕ, ◌≤◌, ◌+◌, Bool, true, false, not, ◌||◌, nat_lt, cond, [], ◌∷◌, Result, Ok, Err, IsErrAnd, is_err, true≢false, ◌<◌, refl, sym, ap, ◌∙◌, arith}
 use Rattle.std.specs.Ordering.{nat_cmp}
 use Rattle.std.specs.Cmp.{nat_cmp_total}
 use Rattle.std.specs.FinSet as set
@@ -14,9 +14,10 @@ use Rattle.sc_node.specs.declared.answer.Delivered.{Delivered}
 use Rattle.sc_node.specs.declared.fault.NodeFault.{NodeFault}
 use Rattle.sc_node.specs.declared.fault.NodeFault.TheVariants as fault
 use Rattle.sc_node.specs.State.{NodeState}
-use Rattle.forms.specs.Calls.{Steps}
+use Rattle.forms.specs.Calls.{Steps, tested}
+use Rattle.forms.proofs.Calls.{tested_pass}
 use Rattle.sc_node.specs.Faults.{of_facts}
-use Rattle.sc_node.specs.Nodes.{is_view_full, message_from, joins, node_after, delivery, facts_after, delivered}
+use Rattle.sc_node.specs.Nodes.{fitting, message_from, joins, node_after, delivery, facts_after, delivered}
 
 few : (a b c : ℕ) → a ≤ most_facts → b ≤ most_facts → c ≤ most_facts → (nat_lt most_facts a || (nat_lt most_facts b || nat_lt most_facts c)) ≡ false
 few a b c p q r = grind (arith, p, q, r)
@@ -62,10 +63,9 @@ pub too_many : (n : NodeState) (from : ℕ) (j : Bool) (f : Facts) (v : ViewMap)
 too_many n from j f v here room over =
     let said = EnterEcho n.id j f v in
     let taken : Result (Delivered × NodeState) NodeFault = Ok (delivery n from said, node_after n from said) in
-    let if_facts : Result (Delivered × NodeState) NodeFault = cond (is_overfull (facts_after n from said)) (Err fault.FactsFull) taken in
-    ap (λ b. cond b (Err fault.Gone) (cond (is_view_full (merge n.view v)) (Err fault.ViewFull) if_facts)) here
-    ∙ ap (λ b. cond b (Err fault.ViewFull) if_facts) (is_room most_entries (fin.len (merge n.view v)) room)
-    ∙ ap (λ b. cond b (Err fault.FactsFull) taken) (overfull_after (joins n from said) (union_facts n.facts f) n.id over)
+    tested_pass ((not n.gone, fault.Gone) ∷ fitting (merge n.view v)) (tested ((not (is_overfull (facts_after n from said)), fault.FactsFull) ∷ []) taken)
+    (ap not here, (ap not (is_room most_entries (fin.len (merge n.view v)) room), tt))
+    ∙ ap (λ b. cond (not b) taken (Err fault.FactsFull)) (overfull_after (joins n from said) (union_facts n.facts f) n.id over)
 
 pub ok_is_no_err : {A E : Type 0} (a : A) (e : E) → Ok a ≡ Err e → ⊥
 ok_is_no_err a e is = true≢false (sym (ap is_err is))

@@ -1,16 +1,17 @@
 -- What a node keeps and tells has values of some lengths, where what it is given has.
-use Rattle.std.proofs.Common.{◌≡◌, ℕ, Bool, true, false, not, cond, ◌==◌, ◌&&◌, ◌+◌, nat_le, List, [], ◌∷◌, map, length, Option, Some, None, is_some, Result, Ok, Err, refl, sym, ap, subst, ◌∙◌, true≢false}
+use Rattle.std.proofs.Common.{◌≡◌, ℕ, Bool, true, false, cond, ◌==◌, List, [], ◌∷◌, ◌++◌, map, length, Option, Some, None, is_some, Ok, refl, sym, ap, subst, ◌∙◌, true≢false}
 use Rattle.std.specs.List.{All, AllByRecursion}
 use Rattle.std.specs.Option.{IfSome}
 use Rattle.std.proofs.lemmas.List.Elements.{All-from_recursion}
 use Rattle.std.specs.Ordering.{nat_cmp, eq_by_cmp}
 use Rattle.std.specs.Cmp.{nat_cmp_total}
 use Rattle.std.specs.FinMap as fin
-use Rattle.std.specs.FinSet as set
+use Rattle.forms.specs.Calls.{Tests, tested}
+use Rattle.forms.proofs.Calls.{same_answer, tested_ok}
 use Rattle.sc_view.specs.Values.{Lengths, IsWithin}
 use Rattle.sc_view.specs.Views.{ViewMap, HasValuesWithin, merge}
 use Rattle.sc_view.proofs.LengthLemmas.{empty_within, put_within, merge_within}
-use Rattle.sc_members.specs.Members.{Config, Facts, is_overfull, no_facts, founding, with_entered, with_left}
+use Rattle.sc_members.specs.Members.{Config, Facts, no_facts, founding, with_entered}
 use Rattle.sc_msg.specs.declared.message.Body.{Body}
 use Rattle.sc_msg.specs.declared.message.Body.TheVariants.{Enter, EnterEcho, Join, Leave, Store, StoreAck, StoreEcho, CollectQuery, CollectReply}
 use Rattle.sc_msg.specs.declared.message.Message.{Message}
@@ -25,34 +26,14 @@ use Rattle.sc_operations.specs.declared.progress.Advance.TheVariants as advance
 use Rattle.sc_operations.specs.declared.progress.Progress.{Progress}
 use Rattle.sc_node.specs.declared.answer.Begun.{Begun}
 use Rattle.sc_node.specs.declared.answer.Delivered.{Delivered}
-use Rattle.sc_node.specs.declared.fault.NodeFault.{NodeFault}
-use Rattle.sc_node.specs.declared.fault.NodeFault.TheVariants as fault
 use Rattle.sc_node.specs.Sessions.{apply, advanced_by, session_with, ends, ended_by, ended_at, ended_with, querying, storing, count_sender, is_reached, view_in}
 use Rattle.sc_node.specs.State.{NodeState}
-use Rattle.sc_node.specs.Nodes.{fresh, founded, entered, store_begun, collect_begun, left, delivered, delivery, node_after, view_after, is_reply, sessions_after, session_moved, ended_session, progress_of, ack_progress, reply_progress, answers, store_of, store_back, joins, message_from, beta_threshold, beginning, is_view_full, stored_view, store_session, collect_session, next_stored, begun, opened, tells_view, tells_facts, facts_after, are_founders, most_open, most_operations}
+use Rattle.sc_node.specs.Nodes.{fresh, founded, entered, store_begun, collect_begun, left, delivered, delivery, node_after, view_after, is_reply, sessions_after, session_moved, ended_session, progress_of, ack_progress, reply_progress, answers, store_of, store_back, joins, message_from, beta_threshold, hearing, opening, fitting, leaving, stored_view, store_session, collect_session, next_stored}
 use Rattle.sc_node.specs.Lengths.{KindHasValuesWithin, SessionHasValuesWithin, TableHasValuesWithin, NodeHasValuesWithin, BegunHasValuesWithin, AdvanceHasValuesWithin, ProgressHasValuesWithin, EndedHasValuesWithin, DeliveryHasValuesWithin}
 
--- ---- what an accepted call answers
-
-module _ {A E : Type 0} where
-  abbrev answered : A → Result A E → A
-  answered x (Ok y) = y
-  answered x (Err e) = x
-
-  abbrev accepts : Result A E → Bool
-  accepts (Ok x) = true
-  accepts (Err e) = false
-
-  pub same_answer : (x y : A) → ◌≡◌ {A = Result A E} (Ok x) (Ok y) → x ≡ y
-  same_answer x y is = ap (answered x) is
-
-  pub not_accepted : (e : E) (x : A) → ◌≡◌ {A = Result A E} (Err e) (Ok x) → ⊥
-  not_accepted e x is = true≢false (sym (ap accepts is))
-
-  -- what is asked first did not refuse
-  pub past : (b : Bool) (e : E) (rest : Result A E) (x : A) → cond b (Err e) rest ≡ Ok x → rest ≡ Ok x
-  past true e rest x is = absurd (not_accepted e x is)
-  past false e rest x is = is
+-- a call that passed its tests does this
+does : {A E : Type 0} (ts : Tests E) (x y : A) → tested ts (Ok x) ≡ Ok y → x ≡ y
+does ts x y is = same_answer x y (tested_ok ts (Ok x) y is).1
 
 -- ---- the open operations
 
@@ -208,27 +189,10 @@ module _ (l : Lengths) where
 
   pub delivery_kept : (s t : NodeState) (m : Message) (d : Delivered) → NodeHasValuesWithin l s → MessageHasValuesWithin l m → delivered s m ≡ Ok (d, t) → NodeHasValuesWithin l t × DeliveryHasValuesWithin l d
   delivery_kept s t m d h told is =
-      let all : Delivered × NodeState = (delivery s m.from m.body, node_after s m.from m.body) in
-      let told_facts : Bool = tells_facts m.body && is_overfull (facts_after s m.from m.body) in
-      let told_view : Bool = tells_view s m.body && is_view_full (view_after s m.body) in
-      let last : Result (Delivered × NodeState) NodeFault = cond told_facts (Err fault.FactsFull) (Ok all) in
-      let middle : Result (Delivered × NodeState) NodeFault = cond told_view (Err fault.ViewFull) last in
-      let answer : all ≡ (d, t) = same_answer {A = Delivered × NodeState} {E = NodeFault} all (d, t)
-      (past told_facts fault.FactsFull (Ok all) (d, t) (past told_view fault.ViewFull last (d, t) (past s.gone fault.Gone middle (d, t) is))) in (
-        subst (NodeHasValuesWithin l) (ap (λ (a : Delivered × NodeState). a.1) answer) (node_kept s m.from m.body h told),
-        subst (DeliveryHasValuesWithin l) (ap (λ (a : Delivered × NodeState). a.0) answer) (delivery_told s m.from m.body h told),
-      )
+      subst (λ (a : Delivered × NodeState). NodeHasValuesWithin l a.1 × DeliveryHasValuesWithin l a.0) (does (hearing s m) _ (d, t) is)
+      (node_kept s m.from m.body h told, delivery_told s m.from m.body h told)
 
   -- ---- the other calls
-
-  begins : {A : Type 0} (s : NodeState) (rest : Result A NodeFault) (x : A) → beginning s rest ≡ Ok x → rest ≡ Ok x
-  begins {A} s rest x is =
-      let out : Bool = nat_le most_operations s.operations in
-      let full : Bool = nat_le most_open (fin.len s.sessions) in
-      let last : Result A NodeFault = cond out (Err fault.NumbersOut) rest in
-      let third : Result A NodeFault = cond full (Err fault.SessionsFull) last in
-      let second : Result A NodeFault = cond (not s.joined) (Err fault.NotJoined) third in
-      past out fault.NumbersOut rest x (past full fault.SessionsFull last x (past (not s.joined) fault.NotJoined third x (past s.gone fault.Gone second x is)))
 
   stored_within : (s : NodeState) (value : List ℕ) → NodeHasValuesWithin l s → IsWithin (length value) l → HasValuesWithin l (stored_view s value)
   stored_within s value h new = put_within l s.view s.id (next_stored s value) h.view new
@@ -237,41 +201,29 @@ module _ (l : Lengths) where
   store_kept s t value b h new is =
       let view = stored_within s value h new in
       let session : SessionHasValuesWithin l (store_session s value) = record { kind = new; view = view } in
-      let all : Begun × NodeState = (begun s (store_session s value) (Store s.operations (stored_view s value)), opened s (stored_view s value) (s.stores + 1) (store_session s value)) in
-      let rest : Result (Begun × NodeState) NodeFault = cond (is_view_full (stored_view s value)) (Err fault.ViewFull) (Ok all) in
-      let answer : all ≡ (b, t) = same_answer {A = Begun × NodeState} {E = NodeFault} all (b, t) (past (is_view_full (stored_view s value)) fault.ViewFull (Ok all) (b, t) (begins s rest (b, t) is)) in (
-        subst (NodeHasValuesWithin l) (ap (λ (a : Begun × NodeState). a.1) answer) (record { view = view; sessions = table_with s.sessions s.operations (store_session s value) h.sessions session }),
-        subst (BegunHasValuesWithin l) (ap (λ (a : Begun × NodeState). a.0) answer) (record { session = session; outs = outs_of s.id (Store s.operations (stored_view s value) ∷ []) (view, tt) }),
+      subst (λ (a : Begun × NodeState). NodeHasValuesWithin l a.1 × BegunHasValuesWithin l a.0) (does (opening s ++ fitting (stored_view s value)) _ (b, t) is) (
+        record { view = view; sessions = table_with s.sessions s.operations (store_session s value) h.sessions session },
+        record { session = session; outs = outs_of s.id (Store s.operations (stored_view s value) ∷ []) (view, tt) },
       )
 
   pub collect_kept : (s t : NodeState) (b : Begun) → NodeHasValuesWithin l s → collect_begun s ≡ Ok (b, t) → NodeHasValuesWithin l t × BegunHasValuesWithin l b
   collect_kept s t b h is =
       let session : SessionHasValuesWithin l (collect_session s) = record { kind = tt; view = tt } in
-      let all : Begun × NodeState = (begun s (collect_session s) (CollectQuery s.operations), opened s s.view s.stores (collect_session s)) in
-      let answer : all ≡ (b, t) = same_answer {A = Begun × NodeState} {E = NodeFault} all (b, t) (begins s (Ok all) (b, t) is) in (
-        subst (NodeHasValuesWithin l) (ap (λ (a : Begun × NodeState). a.1) answer) (record { view = h.view; sessions = table_with s.sessions s.operations (collect_session s) h.sessions session }),
-        subst (BegunHasValuesWithin l) (ap (λ (a : Begun × NodeState). a.0) answer) (record { session = session; outs = outs_of s.id (CollectQuery s.operations ∷ []) (tt, tt) }),
+      subst (λ (a : Begun × NodeState). NodeHasValuesWithin l a.1 × BegunHasValuesWithin l a.0) (does (opening s) _ (b, t) is) (
+        record { view = h.view; sessions = table_with s.sessions s.operations (collect_session s) h.sessions session },
+        record { session = session; outs = outs_of s.id (CollectQuery s.operations ∷ []) (tt, tt) },
       )
 
   pub leave_kept : (s t : NodeState) (outs : List Message) → NodeHasValuesWithin l s → left s ≡ Ok (outs, t) → NodeHasValuesWithin l t × All (MessageHasValuesWithin l) outs
   leave_kept s t outs h is =
-      let all : List Message × NodeState = (message_from s.id Leave ∷ [], record s { facts = with_left s.facts s.id; gone = true }) in
-      let full : Bool = is_overfull (with_left s.facts s.id) in
-      let rest : Result (List Message × NodeState) NodeFault = cond full (Err fault.FactsFull) (Ok all) in
-      let answer : all ≡ (outs, t) = same_answer {A = List Message × NodeState} {E = NodeFault} all (outs, t) (past full fault.FactsFull (Ok all) (outs, t) (past s.gone fault.Gone rest (outs, t) is)) in (
-        subst (NodeHasValuesWithin l) (ap (λ (a : List Message × NodeState). a.1) answer) (record { view = h.view; sessions = h.sessions }),
-        subst (All (MessageHasValuesWithin l)) (ap (λ (a : List Message × NodeState). a.0) answer) (outs_of s.id (Leave ∷ []) (tt, tt)),
-      )
+      subst (λ (a : List Message × NodeState). NodeHasValuesWithin l a.1 × All (MessageHasValuesWithin l) a.0) (does (leaving s) _ (outs, t) is)
+      (record { view = h.view; sessions = h.sessions }, outs_of s.id (Leave ∷ []) (tt, tt))
 
   fresh_kept : (c : Config) (id : ℕ) (f : Facts) (joined : Bool) → NodeHasValuesWithin l (fresh c id f joined)
   fresh_kept c id f joined = record { view = empty_within l; sessions = no_session }
 
-  founded_by : (b : Bool) (c : Config) (id : ℕ) (f : Facts) (s : NodeState) → cond b (Ok (fresh c id f true)) (Err fault.BadFounders) ≡ Ok s → NodeHasValuesWithin l s
-  founded_by true c id f s is = subst (NodeHasValuesWithin l) (same_answer (fresh c id f true) s is) (fresh_kept c id f true)
-  founded_by false c id f s is = absurd (not_accepted fault.BadFounders s is)
-
   pub founder_kept : (c : Config) (id : ℕ) (ids : List ℕ) (s : NodeState) → founded c id ids ≡ Ok s → NodeHasValuesWithin l s
-  founder_kept c id ids s is = founded_by (are_founders ids && set.contains (set.from_list {R = nat_cmp} ids) id) c id (founding ids) s is
+  founder_kept c id ids s is = subst (NodeHasValuesWithin l) (does (_ ∷ []) _ s is) (fresh_kept c id (founding ids) true)
 
   pub entered_kept : (c : Config) (id : ℕ) → NodeHasValuesWithin l (entered c id).0
   entered_kept c id = fresh_kept c id (with_entered no_facts id) false
