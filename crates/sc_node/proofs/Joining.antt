@@ -1,5 +1,5 @@
 -- When the facts of a node that enters or joins are too many.
-use Rattle.std.proofs.Common.{◌≡◌, ℕ, ◌≤◌, ◌+◌, Bool, true, false, not, ◌||◌, nat_lt, cond, [], ◌∷◌, Result, Ok, Err, IsErrAnd, is_err, true≢false, ◌<◌, refl, sym, ap, ◌∙◌, arith}
+use Rattle.std.proofs.Common.{◌≡◌, ℕ, ◌≤◌, ◌+◌, Bool, true, false, not, ◌||◌, nat_lt, cond, [], ◌∷◌, Result, Ok, Err, IsErrAnd, ◌<◌, refl, sym, ap, ◌∙◌, arith}
 use Rattle.std.specs.Ordering.{nat_cmp}
 use Rattle.std.specs.Cmp.{nat_cmp_total}
 use Rattle.std.specs.FinSet as set
@@ -66,9 +66,6 @@ too_many n from j f v here room over =
     tested_pass ((not n.gone, fault.Gone) ∷ fitting (merge n.view v)) (tested ((not (is_overfull (facts_after n from said)), fault.FactsFull) ∷ []) taken)
     (ap not here, (ap not (is_room most_entries (fin.len (merge n.view v)) room), tt))
     ∙ ap (λ b. cond (not b) taken (Err fault.FactsFull)) (overfull_after (joins n from said) (union_facts n.facts f) n.id over)
-
-pub ok_is_no_err : {A E : Type 0} (a : A) (e : E) → Ok a ≡ Err e → ⊥
-ok_is_no_err a e is = true≢false (sym (ap is_err is))
 
 -- a call that facts refuse
 pub refused : (said : Result (Delivered × NodeState) NodeFault) (n : NodeState) (why : FactsFault) (r : Result Delivered NodeFault)

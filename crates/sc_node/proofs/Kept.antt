@@ -189,7 +189,8 @@ module _ (l : Lengths) where
 
   pub delivery_kept : (s t : NodeState) (m : Message) (d : Delivered) → NodeHasValuesWithin l s → MessageHasValuesWithin l m → delivered s m ≡ Ok (d, t) → NodeHasValuesWithin l t × DeliveryHasValuesWithin l d
   delivery_kept s t m d h told is =
-      subst (λ (a : Delivered × NodeState). NodeHasValuesWithin l a.1 × DeliveryHasValuesWithin l a.0) (does (hearing s m) _ (d, t) is)
+      subst (λ (a : Delivered × NodeState). NodeHasValuesWithin l a.1 × DeliveryHasValuesWithin l a.0)
+      (does (hearing s m) _ (d, t) is)
       (node_kept s m.from m.body h told, delivery_told s m.from m.body h told)
 
   -- ---- the other calls
@@ -201,7 +202,8 @@ module _ (l : Lengths) where
   store_kept s t value b h new is =
       let view = stored_within s value h new in
       let session : SessionHasValuesWithin l (store_session s value) = record { kind = new; view = view } in
-      subst (λ (a : Begun × NodeState). NodeHasValuesWithin l a.1 × BegunHasValuesWithin l a.0) (does (opening s ++ fitting (stored_view s value)) _ (b, t) is) (
+      subst (λ (a : Begun × NodeState). NodeHasValuesWithin l a.1 × BegunHasValuesWithin l a.0)
+      (does (opening s ++ fitting (stored_view s value)) _ (b, t) is) (
         record { view = view; sessions = table_with s.sessions s.operations (store_session s value) h.sessions session },
         record { session = session; outs = outs_of s.id (Store s.operations (stored_view s value) ∷ []) (view, tt) },
       )
@@ -209,14 +211,16 @@ module _ (l : Lengths) where
   pub collect_kept : (s t : NodeState) (b : Begun) → NodeHasValuesWithin l s → collect_begun s ≡ Ok (b, t) → NodeHasValuesWithin l t × BegunHasValuesWithin l b
   collect_kept s t b h is =
       let session : SessionHasValuesWithin l (collect_session s) = record { kind = tt; view = tt } in
-      subst (λ (a : Begun × NodeState). NodeHasValuesWithin l a.1 × BegunHasValuesWithin l a.0) (does (opening s) _ (b, t) is) (
+      subst (λ (a : Begun × NodeState). NodeHasValuesWithin l a.1 × BegunHasValuesWithin l a.0)
+      (does (opening s) _ (b, t) is) (
         record { view = h.view; sessions = table_with s.sessions s.operations (collect_session s) h.sessions session },
         record { session = session; outs = outs_of s.id (CollectQuery s.operations ∷ []) (tt, tt) },
       )
 
   pub leave_kept : (s t : NodeState) (outs : List Message) → NodeHasValuesWithin l s → left s ≡ Ok (outs, t) → NodeHasValuesWithin l t × All (MessageHasValuesWithin l) outs
   leave_kept s t outs h is =
-      subst (λ (a : List Message × NodeState). NodeHasValuesWithin l a.1 × All (MessageHasValuesWithin l) a.0) (does (leaving s) _ (outs, t) is)
+      subst (λ (a : List Message × NodeState). NodeHasValuesWithin l a.1 × All (MessageHasValuesWithin l) a.0)
+      (does (leaving s) _ (outs, t) is)
       (record { view = h.view; sessions = h.sessions }, outs_of s.id (Leave ∷ []) (tt, tt))
 
   fresh_kept : (c : Config) (id : ℕ) (f : Facts) (joined : Bool) → NodeHasValuesWithin l (fresh c id f joined)
