@@ -1,6 +1,6 @@
 -- What a node does at each call and at each message: one function for each aspect of its state, and one for each
 -- call, which gives the answer, the next state and the refusal together.
-use Rattle.std.specs.Prelude.{ℕ, ◌+◌, ◌^◌, Bool, true, false, not, ◌==◌, ◌&&◌, ◌||◌, nat_le, nat_lt, is_some, is_none, List, [], ◌∷◌, map, length, Option, Some, None, Result, Ok, if◌then◌else◌}
+use Rattle.std.specs.Prelude.{ℕ, ◌+◌, ◌^◌, Bool, true, false, not, ◌==◌, ◌&&◌, ◌||◌, nat_le, nat_lt, is_some, is_none, List, [], ◌∷◌, ◌++◌, map, length, Option, Some, None, Result, Ok, if◌then◌else◌}
 use Rattle.std.specs.Ordering.{nat_cmp}
 use Rattle.std.specs.FinMap as fin
 use Rattle.std.specs.FinSet as set
@@ -200,12 +200,13 @@ saying id body = record { outs = message_from id body ∷ []; progress = None; e
 abbrev pub fitting : ViewMap → Tests NodeFault
 fitting v = (not (is_view_full v), fault.ViewFull) ∷ []
 
+-- the node may know these facts
+abbrev pub knowing : Facts → Tests NodeFault
+knowing f = (not (is_overfull f), fault.FactsFull) ∷ []
+
 -- facts and a view may be learned
 abbrev pub learning : NodeState → Facts → ViewMap → Tests NodeFault
-learning n f v =
-    (not (is_view_full (merge n.view v)), fault.ViewFull)
-    ∷ (not (is_overfull (union_facts n.facts f)), fault.FactsFull)
-    ∷ []
+learning n f v = fitting (merge n.view v) ++ knowing (union_facts n.facts f)
 
 -- the node learns facts and a view
 abbrev pub learned : NodeState → Facts → ViewMap → Result (Unit {0} × NodeState) NodeFault
@@ -218,7 +219,7 @@ echo_counted n from threshold f v = record n { facts = f; view = v; join_thresho
 -- the node joins at the last echo that it waited for
 abbrev pub joining : NodeState → ℕ → Option ℕ → Facts → ViewMap → Result (Delivered × NodeState) NodeFault
 joining n from threshold f v =
-    tested ((not (is_overfull (with_joined f n.id)), fault.FactsFull) ∷ []) (Ok (
+    tested (knowing (with_joined f n.id)) (Ok (
       saying n.id Join,
       record (echo_counted n from threshold (with_joined f n.id) v) { joined = true },
     ))
@@ -280,10 +281,10 @@ store_opened n e view = (begun n (session_of n e view) (Store n.operations view)
 -- the node begins to store a value
 abbrev pub store_begun : NodeState → List ℕ → Result (Begun × NodeState) NodeFault
 store_begun n value =
-    tested (opening n) (tested (fitting (stored_view n value)) (Ok (
+    tested (opening n ++ fitting (stored_view n value)) (Ok (
       begun n (store_session n value) (Store n.operations (stored_view n value)),
       opened n (stored_view n value) (n.stores + 1) (store_session n value),
-    )))
+    ))
 
 abbrev pub collect_session : NodeState → Session
 collect_session n = record { kind = kind.Collect; query = Some (new_phase (beta_threshold n)); back = None }
@@ -295,10 +296,7 @@ collect_begun n =
 
 -- the node may leave
 abbrev pub leaving : NodeState → Tests NodeFault
-leaving n =
-    (not n.gone, fault.Gone)
-    ∷ (not (is_overfull (with_left n.facts n.id)), fault.FactsFull)
-    ∷ []
+leaving n = (not n.gone, fault.Gone) ∷ knowing (with_left n.facts n.id)
 
 -- the node leaves
 abbrev pub left : NodeState → Result (List Message × NodeState) NodeFault
