@@ -1,5 +1,5 @@
 -- That a book keeps what each book keeps at each of its calls.
-use Rattle.std.proofs.Common.{◌≡◌, ◌≢◌, ℕ, Bool, true, false, cond, List, Option, Some, None, Result, Ok, Err, refl, sym, ap, subst, ◌∙◌}
+use Rattle.std.proofs.Common.{◌≡◌, ◌≢◌, ℕ, List, Option, Some, None, Result, Ok, Err, refl, sym, ap, subst, ◌∙◌}
 use Rattle.std.specs.Result.{IsErrAnd}
 use Rattle.forms.specs.Calls.{Steps, Tests, tested}
 use Rattle.forms.proofs.Calls.{AllHold, tested_pass, passes}
@@ -23,7 +23,6 @@ use Rattle.q_desk.specs.declared.journal.Entry.TheVariants as entry
 use Rattle.q_desk.specs.Faults.{memory as desk_memory}
 use Rattle.q_desk.specs.declared.fault.CallFault.{CallFault}
 use Rattle.q_desk.specs.declared.fault.DeskFault.{DeskFault}
-use Rattle.q_desk.specs.declared.fault.DeskFault.TheVariants as desk_fault
 use Rattle.q_book.specs.declared.answer.Asked.{Asked}
 use Rattle.q_book.specs.declared.answer.Taken.{Taken}
 use Rattle.q_book.specs.declared.fault.BookFault.{BookFault}
@@ -33,6 +32,7 @@ use Rattle.q_book.specs.Books.{present, asking, storing, taking, by_desk, by_nod
 use Rattle.q_book.specs.Replays.{IsBook}
 use Rattle.q_desk.proofs.Accepted.{same_answer, no_refusal}
 use Rattle.q_desk.proofs.Moves.{handed_out-ok}
+use Rattle.q_book.proofs.Parts.{noted_is}
 use Rattle.q_book.proofs.Replays.{with, book_next}
 
 -- where a book passed its tests, they hold of it by its fields
@@ -81,16 +81,20 @@ by_both f g k same (Ok d) (Ok n) = ap Ok (same d.0 d.1 n.0 n.1)
 by_both f g k same (Ok d) (Err e) = refl
 by_both f g k same (Err e) r = refl
 
+-- both were accepted
+with_node-ok : {A B C : Type 0} (f : A → B → C) (x : Result (A × DeskState) DeskFault) (r : Result (B × NodeState) NodeFault) (y : C × (DeskState × NodeState)) → desk.with_node f x r ≡ Ok y
+    → (d : A × DeskState) × (x ≡ Ok d) × (b : B × NodeState) × (r ≡ Ok b) × ((f d.0 b.0, (d.1, b.1)) ≡ y)
+with_node-ok f (Ok d) (Ok b) y h = (d, refl, b, refl, same_answer _ y h)
+with_node-ok f (Ok d) (Err e) y h = absurd (no_refusal _ y h)
+with_node-ok f (Err e) r y h = absurd (no_refusal _ y h)
+
 -- what the node and the desk did at a call that was noted
 pub noted_call : {A : Type 0} (d : DeskState) (e : Entry) (r : Result (A × NodeState) NodeFault) (a : A) (x : DeskState) (n : NodeState) → desk.noting d e r ≡ Ok (a, (x, n)) → (desk.with_entry d e ≡ x) × (r ≡ Ok (a, n))
-noted_call {A} d e r a x n h = go (desk.has_room d) r h
-  where
-    go : (b : Bool) (r : Result (A × NodeState) NodeFault) → desk.with_node (λ u (y : A). y) (let z : Result (Unit {0} × DeskState) DeskFault = cond b (Ok (tt, desk.with_entry d e)) (Err desk_fault.BookFull) in z) r ≡ Ok (a, (x, n)) → (desk.with_entry d e ≡ x) × (r ≡ Ok (a, n))
-    go true (Ok z) k =
-        let same : ◌≡◌ {A = A × (DeskState × NodeState)} (z.0, (desk.with_entry d e, z.1)) (a, (x, n)) = same_answer _ _ k in
-        (ap (λ (p : A × (DeskState × NodeState)). p.1.0) same, ap (λ (p : A × (DeskState × NodeState)). let y : Result (A × NodeState) NodeFault = Ok (p.0, p.1.1) in y) same)
-    go true (Err f) k = absurd (no_refusal _ _ k)
-    go false r k = absurd (no_refusal _ _ k)
+noted_call {A} d e r a x n h =
+    let w = with_node-ok (λ u (y : A). y) (desk.noted d e) r (a, (x, n)) h in (
+      ap (λ (p : Unit {0} × DeskState). p.1) (noted_is d e w.0 w.1) ∙ ap (λ (p : A × (DeskState × NodeState)). p.1.0) w.4,
+      w.3 ∙ ap (λ (p : A × (DeskState × NodeState)). let y : Result (A × NodeState) NodeFault = Ok (p.0, p.1.1) in y) w.4,
+    )
 
 -- a call that was refused
 pub call_refused : {A C : Type 0} (old new : BookState) (said : Result (C × BookState) BookFault) (g : A → DeskState → NodeState → C × BookState) (r : Result (A × (DeskState × NodeState)) CallFault) (f : CallFault) (result : Result C BookFault)

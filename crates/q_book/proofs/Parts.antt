@@ -1,8 +1,8 @@
 -- What the node and the desk did in a call that a book accepted.
-use Rattle.std.proofs.Common.{◌≡◌, ℕ, Bool, true, false, cond, List, length, Result, Ok, Err}
+use Rattle.std.proofs.Common.{◌≡◌, ℕ, true, false, List, length, sym, subst, Result, Ok}
 use Rattle.std.proofs.lemmas.Bool.{not-true}
 use Rattle.forms.specs.Calls.{tested}
-use Rattle.forms.proofs.Calls.{same_answer, no_refusal, tested_ok, then_ok}
+use Rattle.forms.proofs.Calls.{same_answer, tested_ok, then_ok}
 use Rattle.sc_view.specs.Values.{is_within}
 use Rattle.sc_msg.specs.declared.message.Message.{Message}
 use Rattle.sc_msg.specs.Lengths as message
@@ -17,7 +17,6 @@ use Rattle.q_desk.specs.Desks as desk
 use Rattle.q_desk.specs.declared.journal.Entry.{Entry}
 use Rattle.q_desk.specs.declared.journal.Entry.TheVariants as entry
 use Rattle.q_desk.specs.declared.fault.DeskFault.{DeskFault}
-use Rattle.q_desk.specs.declared.fault.DeskFault.TheVariants as desk_fault
 use Rattle.q_book.specs.Faults.{of_desk}
 use Rattle.q_book.specs.State.{BookState}
 use Rattle.q_book.specs.Books as book
@@ -32,13 +31,15 @@ by_node-ok f r z h =
     let a = then_ok fault.Node r (λ x n. Ok (f x n)) z h in
     (a.0, a.1, same_answer _ z a.2)
 
+-- what the desk is after an entry that was noted
+pub noted_is : (d : DeskState) (e : Entry) (y : Unit {0} × DeskState) → desk.noted d e ≡ Ok y → (tt, desk.with_entry d e) ≡ y
+noted_is d e y h = same_answer _ y (tested_ok (desk.room d) _ y h).1
+
 -- the desk had room for the entry
 pub noted-ok : {B : Type 0} (f : Unit {0} → DeskState → Result B BookFault) (d : DeskState) (e : Entry) (z : B) → book.by_desk f (desk.noted d e) ≡ Ok z → f tt (desk.with_entry d e) ≡ Ok z
-noted-ok {B} f d e z h = go (desk.has_room d) h
-  where
-    go : (b : Bool) → (let r : Result (Unit {0} × DeskState) DeskFault = cond b (Ok (tt, desk.with_entry d e)) (Err desk_fault.BookFull) in book.by_desk f r) ≡ Ok z → f tt (desk.with_entry d e) ≡ Ok z
-    go true k = k
-    go false k = absurd (no_refusal _ z k)
+noted-ok f d e z h =
+    let a = then_ok of_desk (desk.noted d e) f z h in
+    subst (λ (x : Unit {0} × DeskState). f x.0 x.1 ≡ Ok z) (sym (noted_is d e a.0 a.1)) a.2
 
 -- ---- what a book's node and its desk did
 

@@ -1,10 +1,11 @@
 -- What a call adds to the replay of a book.
-use Rattle.std.proofs.Common.{◌≡◌, ℕ, ◌≤◌, ◌&&◌, Bool, true, false, nat_le, leb-true, List, [], ◌∷◌, ◌++◌, length, Option, Some, None, IfSome, Result, Ok, Err, cond, refl, sym, ap, subst, ◌∙◌}
+use Rattle.std.proofs.Common.{◌≡◌, ℕ, ◌≤◌, ◌&&◌, nat_le, leb-true, List, [], ◌∷◌, ◌++◌, length, Option, Some, None, IfSome, refl, sym, ap, subst, ◌∙◌}
 use Rattle.std.proofs.lemmas.List.{append-nil, append_assoc}
+use Rattle.std.specs.Cmp.{first_so, second_so}
 use Rattle.std.specs.Ordering.{nat_cmp}
 use Rattle.std.specs.FinSet as set
+use Rattle.forms.proofs.Calls.{passed}
 use Rattle.sc_node.specs.Nodes as node
-use Rattle.sc_node.specs.declared.fault.NodeFault.{NodeFault}
 use Rattle.sc_node.specs.declared.fault.NodeFault.TheVariants as node_fault
 use Rattle.sc_node.specs.State.{NodeState}
 use Rattle.q_desk.specs.State.{DeskState}
@@ -63,13 +64,10 @@ replays_later (e ∷ es) b c r = later_next b r.0 c e es (follows-accepted b e r
 
 -- ---- how many founders there are
 
-few-so : (most some rising holds : Bool) (n m : NodeState) → (let r : Result NodeState NodeFault = cond ((some && (most && rising)) && holds) (Ok n) (Err node_fault.BadFounders) in r) ≡ Ok m → most ≡ true
-few-so true some rising holds n m h = refl
-few-so false true rising holds n m h = absurd (cc)
-few-so false false rising holds n m h = absurd (cc)
-
 pub founders_few : (b : BookState) (n : NodeState) (o : Option (List ℕ)) → IsFirst b n o → IfSome o (λ ids. length ids ≤ node.most_founders)
 founders_few b n None f = tt
 founders_few b n (Some ids) f =
-    leb-true (length ids) node.most_founders
-    (few-so (nat_le (length ids) node.most_founders) (nat_le 1 (length ids)) (node.rises ids) (set.contains (set.from_list {R = nat_cmp} ids) b.id) (node.founder b.config ids b.id) n f)
+    let own = set.contains (set.from_list {R = nat_cmp} ids) b.id in
+    let held = (passed (node.are_founders ids && own) node_fault.BadFounders _ n f).0 in
+    let some = first_so (node.are_founders ids) own held in
+    leb-true (length ids) node.most_founders (first_so _ (node.rises ids) (second_so (nat_le 1 (length ids)) _ some))

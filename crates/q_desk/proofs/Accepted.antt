@@ -4,10 +4,12 @@ use Rattle.std.proofs.lemmas.List.Quantifiers.{position-Some}
 use Rattle.std.proofs.lemmas.Option.{get_or_from_slice_get}
 use Rattle.std.specs.Prelude.{◌&&◌}
 use Rattle.std.specs.Cmp.{first_so, second_so, unsigned_Decides}
-pub use Rattle.forms.proofs.Calls.{same_answer, no_refusal, passed, spared}
+pub use Rattle.forms.proofs.Calls.{same_answer, no_refusal, passed, tested_ok}
+use Rattle.forms.proofs.Calls.{then_ok}
 use Rattle.bq_range.specs.Interval.{Interval}
 use Rattle.sc_view.specs.Views.{ViewMap}
 use Rattle.bq_check.specs.Certificate.{Certificate}
+use Rattle.q_table.specs.Programs as table
 use Rattle.q_session.specs.declared.ran.Ran.{Ran}
 use Rattle.q_session.specs.declared.query.Phase.{Phase}
 use Rattle.q_session.specs.declared.query.Phase.TheVariants.{Collecting, Ready, Running, Answered}
@@ -15,6 +17,7 @@ use Rattle.q_session.specs.declared.query.Query.{Query}
 use Rattle.q_session.specs.declared.job.Job.{Job}
 use Rattle.q_desk.specs.State.{DeskState}
 use Rattle.q_desk.specs.Desks as desk
+use Rattle.q_desk.specs.Faults.{of_table}
 use Rattle.q_desk.specs.declared.journal.Entry.TheVariants as entry
 use Rattle.q_desk.specs.declared.fault.DeskFault.TheVariants as fault
 
@@ -82,6 +85,15 @@ same_lengths a b h =
 pub registered_checked : (d : DeskState) (program : Certificate) (y : ℕ × DeskState) → desk.registered d program ≡ Ok y → program.lengths ≡ d.lengths
 registered_checked d program y h = same_lengths program.lengths d.lengths (passed (desk.is_checked_for d.lengths program) fault.WrongBounds _ y h).0
 
+-- the table has the program under an id, and the call's entry stands in the journal
+pub registered_is : (d : DeskState) (program : Certificate) (y : ℕ × DeskState) → desk.registered d program ≡ Ok y
+    → (z : ℕ × List Certificate) × (table.registered d.programs program ≡ Ok z)
+    × ((z.0, desk.with_entry (record d { programs = z.1 }) (entry.Register program)) ≡ y)
+registered_is d program y h =
+    let fits = passed (desk.is_checked_for d.lengths program) fault.WrongBounds _ y h in
+    let z = then_ok of_table (table.registered d.programs program) (desk.registers d program) y fits.1 in
+    (z.0, z.1, same_answer _ y (tested_ok (desk.room d) _ y z.2).1)
+
 -- ---- the job that is handed out
 
 -- the job of a ready query of this node
@@ -135,9 +147,16 @@ module _ (d : DeskState) (j : Job) (ran : Ran) (y : Unit {0} × DeskState) where
   posted_to-is q (Ready view) at is h = absurd (no_refusal _ y h)
   posted_to-is q (Answered view old) at is h = absurd (no_refusal _ y h)
   posted_to-is q (Running view) at is h =
-      let a = passed (desk.is_job_of d.programs j q view) fault.Stranger _ y h in
-      let b = passed (desk.has_room d) fault.BookFull _ y a.1 in
-      record { query = q; view = view; at = at; phase = is; fits = a.0; room = b.0; is = ap (λ (z : Unit {0} × DeskState). z.1) (same_answer _ y b.1) }
+      let a = tested_ok ((desk.is_job_of d.programs j q view, fault.Stranger) ∷ desk.room d) _ y h in
+      record {
+        query = q;
+        view = view;
+        at = at;
+        phase = is;
+        fits = a.0.0;
+        room = a.0.1.0;
+        is = ap (λ (z : Unit {0} × DeskState). z.1) (same_answer _ y a.1);
+      }
 
   posted_at-is : (o : Option Query) → slice_get d.queries j.query ≡ o → desk.posted_at d j ran o ≡ Ok y → IsPosted d j ran y.1
   posted_at-is None at h = absurd (no_refusal _ y h)

@@ -1,13 +1,11 @@
 -- What an accepted call makes of a desk's programs and queries: there are four cases.
-use Rattle.std.proofs.Common.{◌≡◌, ℕ, ◌==◌, true, nat_lt, List, [], ◌∷◌, ◌++◌, length, Option, Some, None, refl, sym, ap, subst, slice_get, slice_set, position, Result, Ok, Err}
+use Rattle.std.proofs.Common.{◌≡◌, ℕ, ◌==◌, true, [], ◌∷◌, ◌++◌, Option, Some, None, refl, sym, ap, subst, slice_get, slice_set, position, Ok}
 use Rattle.std.specs.Cmp.{second_so}
 use Rattle.sc_view.specs.Views.{ViewMap}
 use Rattle.sc_operations.specs.declared.progress.Completion.{Completion}
 use Rattle.sc_operations.specs.declared.progress.Completion.TheVariants as completion
 use Rattle.sc_operations.specs.declared.progress.Ended.{Ended}
 use Rattle.bq_check.specs.Certificate.{Certificate}
-use Rattle.q_table.specs.declared.fault.TableFault.{TableFault}
-use Rattle.q_table.specs.Programs as table
 use Rattle.q_session.specs.declared.ran.Ran.{Ran}
 use Rattle.q_session.specs.declared.query.Phase.{Phase}
 use Rattle.q_session.specs.declared.query.Phase.TheVariants.{Collecting, Ready, Running, Answered}
@@ -16,8 +14,7 @@ use Rattle.q_session.specs.declared.job.Job.{Job}
 use Rattle.q_desk.specs.State.{DeskState}
 use Rattle.q_desk.specs.Desks as desk
 use Rattle.q_desk.specs.declared.journal.Entry.{Entry}
-use Rattle.q_desk.specs.declared.fault.DeskFault.TheVariants as fault
-use Rattle.q_desk.proofs.Accepted.{same_answer, no_refusal, passed, found, IsReadyJob, next_is, IsPosted}
+use Rattle.q_desk.proofs.Accepted.{same_answer, tested_ok, found, registered_is, IsReadyJob, next_is, IsPosted}
 use Rattle.q_desk.proofs.Moves.{registered_moves}
 
 -- how the phase of a query goes on, and the job that is handed out
@@ -36,24 +33,15 @@ pub data Change (d : DeskState) (node : ℕ) (e : DeskState) : Option Job → Ty
   rephased : {o : Option Job} (k : ℕ) (q : Query) (p : Phase) → slice_get d.queries k ≡ Some q → GoesOver d node k q p o
       → e.programs ≡ d.programs → e.queries ≡ slice_set d.queries k (record q { phase = p }) → Change d node e o
 
-registered_by : (d : DeskState) (program : Certificate) (r : Result (ℕ × List Certificate) TableFault) (y : ℕ × DeskState)
-    → desk.registered_by d program r ≡ Ok y → y.1.queries ≡ d.queries
-registered_by d program (Err e) y h = absurd (no_refusal _ y h)
-registered_by d program (Ok z) y h =
-    ap (λ (x : ℕ × DeskState). x.1.queries) (sym (same_answer _ y (passed (desk.has_room d) fault.BookFull _ y h).1))
-
 module _ (d : DeskState) (node : ℕ) where
   pub registered_change : (program : Certificate) (y : ℕ × DeskState) → desk.registered d program ≡ Ok y → Change d node y.1 None
   registered_change program y h =
-      let fits = passed (desk.is_checked_for d.lengths program) fault.WrongBounds _ y h in
-      grows (registered_moves d program y h).0.keeps.programs (registered_by d program (table.registered d.programs program) y fits.1)
+      grows (registered_moves d program y h).0.keeps.programs
+      (ap (λ (x : ℕ × DeskState). x.1.queries) (sym (registered_is d program y h).2))
 
   pub asked_change : (tag program start : ℕ) (y : ℕ × DeskState) → desk.asked d tag program start ≡ Ok y → Change d node y.1 None
   asked_change tag program start y h =
-      let a = passed (desk.knows d program) fault.UnknownProgram _ y h in
-      let b = passed (nat_lt (length d.queries) desk.most_queries) fault.BookFull _ y a.1 in
-      let c = passed (desk.has_room d) fault.BookFull _ y b.1 in
-      subst (λ (x : ℕ × DeskState). Change d node x.1 None) (same_answer _ y c.1)
+      subst (λ (x : ℕ × DeskState). Change d node x.1 None) (same_answer _ y (tested_ok (desk.beginning d program) _ y h).1)
       (begins (desk.begun tag program start) refl refl refl)
 
   collecting_is : (p : Phase) → desk.is_collecting p ≡ true → p ≡ Collecting
@@ -89,7 +77,7 @@ module _ (d : DeskState) (node : ℕ) where
   hands_by None y ready h = subst (λ (z : Option Job × DeskState). Change d node z.1 z.0) (same_answer _ y h) (stays refl refl)
   hands_by (Some j) y ready h =
       let r = ready j refl in
-      subst (λ (z : Option Job × DeskState). Change d node z.1 z.0) (same_answer _ y (passed (desk.has_room d) fault.BookFull _ y h).1)
+      subst (λ (z : Option Job × DeskState). Change d node z.1 z.0) (same_answer _ y (tested_ok (desk.room d) _ y h).1)
       (rephased j.query r.query (Running j.view) r.at (handed j r refl refl refl) refl (ap (desk.in_phase d.queries j.query (Running j.view)) r.at))
 
   pub handed_change : (y : Option Job × DeskState) → desk.handed_out d node ≡ Ok y → Change d node y.1 y.0

@@ -1,11 +1,10 @@
 -- What keeps a desk a desk.
-use Rattle.std.proofs.Common.{◌≡◌, ◌⊎◌, ◌<◌, ◌≤◌, ℕ, Bool, true, false, List, [], ◌∷◌, ◌++◌, length, Option, Some, None, Result, Ok, Err, refl, sym, ap, subst, ◌∙◌, inl, inr, ⊎_elim, arith, length-append, if◌then◌else◌}
+use Rattle.std.proofs.Common.{◌≡◌, ◌⊎◌, ◌<◌, ◌≤◌, ℕ, List, [], ◌∷◌, ◌++◌, length, Option, Some, None, Ok, refl, sym, ap, subst, ◌∙◌, inl, inr, ⊎_elim, arith, length-append}
 use Rattle.std.proofs.lemmas.List.{length-set, length_push}
 use Rattle.std.specs.Prelude.{slice_get, slice_set, nat_lt, IfSome}
 use Rattle.bq_range.specs.Interval.{Interval}
 use Rattle.sc_view.specs.Views.{ViewMap}
 use Rattle.bq_check.specs.Certificate.{Certificate}
-use Rattle.q_table.specs.declared.fault.TableFault.{TableFault}
 use Rattle.q_table.specs.declared.fault.TableFault.TheVariants as table
 use Rattle.q_table.specs.Programs.{IsTable, registered_at, most_programs}
 use Rattle.q_session.specs.declared.ran.Ran.{Ran}
@@ -19,6 +18,7 @@ use Rattle.q_desk.specs.Desks.{most_queries, most_events, in_phase, with_phase}
 use Rattle.q_desk.specs.declared.journal.Entry.{Entry}
 use Rattle.q_desk.specs.Answers.{IsAnswered}
 use Rattle.q_desk.specs.Keeping.{IsDesk}
+use Rattle.q_desk.proofs.Accepted.{same_answer, passed}
 use Rattle.q_desk.proofs.Lists.{get-front, get-snoc, get-written}
 
 -- an answer stays right where its program stays
@@ -95,19 +95,11 @@ desk-running s i view d fits = desk-with_phase s i (Running view) d fits (λ q t
 
 -- ---- programs
 
-ok-snd : {A B E : Type 0} {x x' : A} {y y' : B} → ◌≡◌ {A = Result (A × B) E} (Ok (x, y)) (Ok (x', y')) → y ≡ y'
-ok-snd {A = A} {B = B} {x = x} {x' = x'} {y = y} {y' = y'} h = let e : ◌≡◌ {A = A × B} (x, y) (x', y') = cc in ap (λ p. p.1) e
-
-abbrev Table : Type 0
-Table = Result (ℕ × List Certificate) TableFault
-
-grown-if : (r : Table) (id : ℕ) (qs : List Certificate) (b : Bool) → (if b then r else Err table.Full) ≡ Ok (id, qs) → r ≡ Ok (id, qs)
-grown-if r id qs true e = e
-grown-if r id qs false e = absurd (cc)
-
 grown : (ps qs : List Certificate) (c : Certificate) (id : ℕ) (o : Option ℕ) → registered_at ps c o ≡ Ok (id, qs) → (ps ≡ qs) ⊎ (ps ++ c ∷ [] ≡ qs)
-grown ps qs c id (Some k) e = inl (ok-snd e)
-grown ps qs c id None e = inr (ok-snd (grown-if (Ok (length ps, ps ++ c ∷ [])) id qs (nat_lt (length ps) most_programs) e))
+grown ps qs c id (Some k) e = inl (ap (λ (r : ℕ × List Certificate). r.1) (same_answer _ (id, qs) e))
+grown ps qs c id None e =
+    let room = passed (nat_lt (length ps) most_programs) table.Full _ (id, qs) e in
+    inr (ap (λ (r : ℕ × List Certificate). r.1) (same_answer _ (id, qs) room.1))
 
 -- a table that only grew, by a program for records of the desk's lengths
 desk-grown : (s : DeskState) (c : Certificate) → c.lengths ≡ s.lengths → IsDesk s → IsTable (s.programs ++ c ∷ []) → IsDesk (record s { programs = s.programs ++ c ∷ [] })

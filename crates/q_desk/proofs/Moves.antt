@@ -1,12 +1,11 @@
 -- What each call of a desk makes of its programs, its queries and its journal.
-use Rattle.std.proofs.Common.{◌≡◌, ℕ, ◌==◌, true, nat_lt, List, [], ◌∷◌, ◌++◌, length, Option, Some, None, refl, sym, ap, ◌∙◌, subst, ◌⊎◌, inl, inr, slice_get, position, Result, Ok, Err}
+use Rattle.std.proofs.Common.{◌≡◌, ℕ, ◌==◌, true, nat_lt, List, [], ◌∷◌, ◌++◌, length, Option, Some, None, refl, sym, ap, ◌∙◌, subst, ◌⊎◌, inl, inr, slice_get, position, Ok}
 use Rattle.std.specs.Cmp.{second_so}
 use Rattle.sc_view.specs.Views.{ViewMap}
 use Rattle.sc_operations.specs.declared.progress.Completion.{Completion}
 use Rattle.sc_operations.specs.declared.progress.Completion.TheVariants as completion
 use Rattle.sc_operations.specs.declared.progress.Ended.{Ended}
 use Rattle.bq_check.specs.Certificate.{Certificate}
-use Rattle.q_table.specs.declared.fault.TableFault.{TableFault}
 use Rattle.q_table.specs.declared.fault.TableFault.TheVariants as table_fault
 use Rattle.q_table.specs.Programs as table
 use Rattle.q_session.specs.declared.ran.Ran.{Ran}
@@ -18,8 +17,7 @@ use Rattle.q_desk.specs.State.{DeskState}
 use Rattle.q_desk.specs.Desks as desk
 use Rattle.q_desk.specs.declared.journal.Entry.{Entry}
 use Rattle.q_desk.specs.declared.journal.Entry.TheVariants as entry
-use Rattle.q_desk.specs.declared.fault.DeskFault.TheVariants as fault
-use Rattle.q_desk.proofs.Accepted.{HasNone, Keeps, keeps_itself, collecting_has_none, ready_has_none, running_has_none, same_some, same_answer, no_refusal, passed, get_elsewhere, found, IsReadyJob, next_is, posted_is, IsPosted as Recorded}
+use Rattle.q_desk.proofs.Accepted.{HasNone, Keeps, keeps_itself, collecting_has_none, ready_has_none, running_has_none, same_some, same_answer, passed, tested_ok, get_elsewhere, found, registered_is, IsReadyJob, next_is, posted_is, IsPosted as Recorded}
 use Rattle.q_desk.proofs.Lists.{get-front, get-snoc, get-written}
 
 -- one desk comes from another, and of each query that is not as it was, this is known
@@ -58,29 +56,20 @@ more_programs ps c None r h i p at =
     let k = passed (nat_lt (length ps) table.most_programs) table_fault.Full _ r h in
     subst (λ (z : ℕ × List Certificate). slice_get z.1 i ≡ Some p) (same_answer _ r k.1) (get-front ps (c ∷ []) i p at)
 
-registered_by-moves : (d : DeskState) (program : Certificate) (r : Result (ℕ × List Certificate) TableFault) (y : ℕ × DeskState)
-    → ((z : ℕ × List Certificate) → r ≡ Ok z → (i : ℕ) (p : Certificate) → slice_get d.programs i ≡ Some p → slice_get z.1 i ≡ Some p)
-    → desk.registered_by d program r ≡ Ok y → Moves d y.1 Nothing × GoesOn d (entry.Register program) y.1
-registered_by-moves d program (Err e) y more h = absurd (no_refusal _ y h)
-registered_by-moves d program (Ok z) y more h =
-    let k = passed (desk.has_room d) fault.BookFull _ y h in
-    subst (λ (x : ℕ × DeskState). Moves d x.1 Nothing × GoesOn d (entry.Register program) x.1) (same_answer _ y k.1)
-    (record { keeps = record { lengths = refl; programs = more z refl; answers = λ k q view ran h a. h }; queries = λ k q h. inl h }, refl)
-
 pub registered_moves : (d : DeskState) (program : Certificate) (y : ℕ × DeskState) → desk.registered d program ≡ Ok y → Moves d y.1 Nothing × GoesOn d (entry.Register program) y.1
 registered_moves d program y h =
-    let k = passed (desk.is_checked_for d.lengths program) fault.WrongBounds _ y h in
-    registered_by-moves d program (table.registered d.programs program) y (λ z is. more_programs d.programs program (table.id_of d.programs program.text) z is) k.1
+    let z = registered_is d program y h in
+    let more = more_programs d.programs program (table.id_of d.programs program.text) z.0 z.1 in
+    subst (λ (x : ℕ × DeskState). Moves d x.1 Nothing × GoesOn d (entry.Register program) x.1) z.2
+    (record { keeps = record { lengths = refl; programs = more; answers = λ k q view ran h a. h }; queries = λ k q h. inl h }, refl)
 
 -- ---- queries
 
 pub asked_moves : (d : DeskState) (tag program start : ℕ) (y : ℕ × DeskState) → desk.asked d tag program start ≡ Ok y
     → Moves d y.1 (λ q. desk.begun tag program start ≡ q) × GoesOn d (entry.Ask program start) y.1
 asked_moves d tag program start y h =
-    let a = passed (desk.knows d program) fault.UnknownProgram _ y h in
-    let b = passed (nat_lt (length d.queries) desk.most_queries) fault.BookFull _ y a.1 in
-    let c = passed (desk.has_room d) fault.BookFull _ y b.1 in
-    subst (λ (x : ℕ × DeskState). Moves d x.1 (λ q. desk.begun tag program start ≡ q) × GoesOn d (entry.Ask program start) x.1) (same_answer _ y c.1) (
+    let is = same_answer _ y (tested_ok (desk.beginning d program) _ y h).1 in
+    subst (λ (x : ℕ × DeskState). Moves d x.1 (λ q. desk.begun tag program start ≡ q) × GoesOn d (entry.Ask program start) x.1) is (
       record {
         keeps = record { lengths = refl; programs = λ i p h. h; answers = λ k q view ran h a. get-front d.queries (desk.begun tag program start ∷ []) k q h };
         queries = λ k q h. elim (get-snoc d.queries (desk.begun tag program start) k q h) [ inl old ↦ inl old | inr new ↦ inr new.1 ];
@@ -158,9 +147,8 @@ module _ (d : DeskState) (node : ℕ) where
   hands-ok : (o : Option Job) (y : Option Job × DeskState) → ((j : Job) → o ≡ Some j → IsReadyJob d node j) → desk.hands d o ≡ Ok y → IsHanded d node y.1 y.0
   hands-ok None y ready h = subst (λ (z : Option Job × DeskState). IsHanded d node z.1 z.0) (same_answer _ y h) refl
   hands-ok (Some j) y ready h =
-      let k = passed (desk.has_room d) fault.BookFull _ y h in
       let r = ready j refl in
-      subst (λ (z : Option Job × DeskState). IsHanded d node z.1 z.0) (same_answer _ y k.1)
+      subst (λ (z : Option Job × DeskState). IsHanded d node z.1 z.0) (same_answer _ y (tested_ok (desk.room d) _ y h).1)
       (r, phase_moves d j.query (Running j.view) (d.journal ++ entry.HandOut ∷ []) (λ q at. ready_has_none q.phase j.view (ap (λ (x : Query). x.phase) (same_some q r.query (sym at ∙ r.at)) ∙ r.phase)), refl)
 
   pub handed_out-ok : (y : Option Job × DeskState) → desk.handed_out d node ≡ Ok y → IsHanded d node y.1 y.0

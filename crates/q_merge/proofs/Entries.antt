@@ -8,6 +8,7 @@ use Rattle.std.specs.Ordering.{nat_cmp}
 use Rattle.std.specs.FinMap as fin
 use Rattle.std.specs.FinSet as set
 use Rattle.forms.specs.Calls.{tested}
+use Rattle.forms.proofs.Calls.{tested_pass}
 use Rattle.sc_view.specs.Views.{ViewMap}
 use Rattle.sc_msg.specs.declared.message.Message.{Message}
 use Rattle.sc_node.specs.State.{NodeState}
@@ -43,7 +44,7 @@ use Rattle.q_history.specs.Heads.{book_of}
 use Rattle.q_history.specs.Clusters.{at as at_node, enters, entered, registers, opened, asks, stores, delivers, delivered_as, hands, posts, posted, finished, leaves}
 use Rattle.q_history.specs.Calls.{Answers, IsHistory}
 use Rattle.q_history.proofs.Lists.{same_some, no_some}
-use Rattle.q_desk.proofs.Accepted.{Keeps, keeps_itself, IsPosted}
+use Rattle.q_desk.proofs.Accepted.{Keeps, keeps_itself, answered, IsPosted}
 use Rattle.bq_insn.specs.Slots.{spelling}
 use Rattle.q_table.specs.Programs as table
 use Rattle.q_desk.proofs.Own.{job_by, and_both, same_bytes, same_number, own_fits}
@@ -134,20 +135,20 @@ abbrev pub Posted : Type 0
 Posted = Result (Unit {0} × DeskState) DeskFault
 
 -- what is posted for a query that runs
-abbrev answers : DeskState → ViewMap → Ran → ℕ → Bool → Posted
-answers d view ran k fits =
-    cond fits (desk.room d (Ok (tt, desk.with_entry (record d { queries = desk.with_phase d.queries k (Answered view ran) }) (entry.Post k ran)))) (Err desk_fault.Stranger)
+abbrev answers : DeskState → ViewMap → Ran → ℕ → Posted
+answers d view ran k = tested (desk.room d) (Ok (tt, answered d k view ran))
 
 -- two jobs of one query
 module _ (d : DeskState) (node : ℕ) (i j : Job) (ran : Ran) (q : Query) (view : ViewMap) (same : j.query ≡ i.query) (at : slice_get d.queries i.query ≡ Some q) (phase : q.phase ≡ Running view) where
-  posted_as : (x : Job) → (x.node == node) ≡ true → slice_get d.queries x.query ≡ Some q → desk.is_job_of d.programs x q view ≡ true → desk.posted d node x ran ≡ answers d view ran x.query true
+  posted_as : (x : Job) → (x.node == node) ≡ true → slice_get d.queries x.query ≡ Some q → desk.is_job_of d.programs x q view ≡ true → desk.posted d node x ran ≡ answers d view ran x.query
   posted_as x own here fits =
-      ap (λ (b : Bool). let r : Posted = cond b (desk.posted_at d x ran (slice_get d.queries x.query)) (Err desk_fault.Stranger) in r) own
-      ∙ ap (desk.posted_at d x ran) here ∙ ap (desk.posted_to d x ran q) phase ∙ ap (answers d view ran x.query) fits
+      tested_pass ((x.node == node, desk_fault.Stranger) ∷ []) (desk.posted_at d x ran (slice_get d.queries x.query)) (own, tt)
+      ∙ ap (desk.posted_at d x ran) here ∙ ap (desk.posted_to d x ran q) phase
+      ∙ tested_pass ((desk.is_job_of d.programs x q view, desk_fault.Stranger) ∷ []) (answers d view ran x.query) (fits, tt)
 
   pub same_post : (i.node == node) ≡ true → (j.node == node) ≡ true → desk.is_job_of d.programs i q view ≡ true → desk.is_job_of d.programs j q view ≡ true → desk.posted d node j ran ≡ desk.posted d node i ran
   same_post mine yours one two =
-      posted_as j yours (ap (slice_get d.queries) same ∙ at) two ∙ ap (λ (k : ℕ). answers d view ran k true) same ∙ sym (posted_as i mine at one)
+      posted_as j yours (ap (slice_get d.queries) same ∙ at) two ∙ ap (answers d view ran) same ∙ sym (posted_as i mine at one)
 
 -- the answers of a desk that comes of this one are right
 pub record IsRightLater (d : DeskState) : Type 0 where

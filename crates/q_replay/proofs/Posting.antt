@@ -1,5 +1,5 @@
 -- Jobs of queries that run, and what it takes to record their answers.
-use Rattle.std.proofs.Common.{◌≡◌, ℕ, ◌==◌, Bool, true, cond, Option, Some, None, refl, ap, ◌∙◌, subst, slice_get, Result, Ok, Err}
+use Rattle.std.proofs.Common.{◌≡◌, ℕ, ◌==◌, true, [], ◌∷◌, Option, Some, None, refl, ap, ◌∙◌, subst, slice_get, Result, Ok}
 use Rattle.sc_view.specs.Views.{ViewMap}
 use Rattle.bq_check.specs.Certificate.{Certificate}
 use Rattle.q_session.specs.declared.ran.Ran.{Ran}
@@ -13,6 +13,7 @@ use Rattle.q_desk.specs.Desks.{running_view, job_on, job_at, running_job}
 use Rattle.q_desk.specs.declared.fault.DeskFault.{DeskFault}
 use Rattle.q_desk.specs.declared.fault.DeskFault.TheVariants as fault
 use Rattle.std.specs.Cmp.{second_so}
+use Rattle.forms.proofs.Calls.{tested_pass}
 use Rattle.q_desk.proofs.Accepted.{answered, IsPosted}
 use Rattle.q_desk.proofs.Own.{job_by, and_both, same_bytes, same_number, own_fits}
 use Rattle.q_table.specs.Programs.{is_same_text}
@@ -80,13 +81,12 @@ pub own_posts : (d : DeskState) (node k : ℕ) (j : Job) (ran : Ran) → Runs d 
 own_posts d node k j ran r room =
     let made : Job = job_by node k r.query r.view r.program in
     let after : DeskState = answered d k r.view ran in
+    let fits = own_fits d.programs node k r.query r.view r.program r.named (same_program r.program) in
+    let said : Outcome = Ok (tt, after) in
     let own : desk.posted d node made ran ≡ Ok (tt, after) =
-    ap (λ (b : Bool). let x : Outcome = cond b (desk.posted_at d made ran (slice_get d.queries k)) (Err fault.Stranger) in x) (same_number node)
-    ∙ ap (desk.posted_at d made ran) r.at
-    ∙ ap (desk.posted_to d made ran r.query) r.phase
-    ∙ ap (λ (b : Bool). let x : Outcome = cond b (desk.room d (Ok (tt, after))) (Err fault.Stranger) in x)
-    (own_fits d.programs node k r.query r.view r.program r.named (same_program r.program))
-    ∙ ap (λ (b : Bool). let x : Outcome = cond b (Ok (tt, after)) (Err fault.BookFull) in x) room in
+        tested_pass ((node == node, fault.Stranger) ∷ []) (desk.posted_at d made ran (slice_get d.queries k)) (same_number node, tt)
+        ∙ ap (desk.posted_at d made ran) r.at ∙ ap (desk.posted_to d made ran r.query) r.phase
+        ∙ tested_pass ((desk.is_job_of d.programs made r.query r.view, fault.Stranger) ∷ desk.room d) said (fits, (room, tt)) in
     (after, subst (λ (i : Job). desk.posted d node i ran ≡ Ok (tt, after)) r.is own)
 
 -- the query's answer, once it is recorded
