@@ -4,7 +4,6 @@ use Rattle.forms.specs.Calls.{Tests, tested, then_by}
 use Rattle.sc_view.specs.Views.{ViewMap}
 use Rattle.bq_range.specs.Interval.{Interval}
 use Rattle.bq_check.specs.Certificate.{Certificate}
-use Rattle.q_table.specs.declared.fault.TableFault.{TableFault}
 use Rattle.q_table.specs.Programs as table
 use Rattle.sc_node.specs.declared.answer.Begun.{Begun}
 use Rattle.sc_operations.specs.declared.progress.Completion.{Completion}
