@@ -17,8 +17,8 @@ use Rattle.q_book.specs.declared.fault.BookFault.{BookFault}
 use Rattle.q_history.specs.declared.event.ClusterEvent.{ClusterEvent}
 use Rattle.q_history.specs.declared.event.ClusterEvent.TheVariants as event
 use Rattle.q_history.specs.declared.event.ClusterStep.{ClusterStep}
-use Rattle.q_history.specs.declared.event.Told.{Told}
-use Rattle.q_history.specs.declared.event.Told.TheVariants as told
+use Rattle.q_history.specs.declared.event.EventAnswer.{EventAnswer}
+use Rattle.q_history.specs.declared.event.EventAnswer.TheVariants as told
 use Rattle.q_history.specs.State.{ClusterState}
 use Rattle.q_history.specs.Clusters.{lift, at, stepped, opened, registers, asks, stores, delivers, hands, posts, leaves}
 use Rattle.q_history.specs.Calls.{AnswersTo}
@@ -49,7 +49,7 @@ IsCall k c id ran = AnswersTo c k.event ran × (stepped ran c k.event ≡ at c i
 
 -- what the ledger records
 pub record Note : Type 0 where
-  pub told : Told
+  pub told : EventAnswer
   pub act : WorldEvent
   pub outs : List Message
   pub progress : Option Progress

@@ -27,7 +27,7 @@ use Rattle.q_book.proofs.Parts.{delivered-parts}
 use Rattle.q_book.specs.declared.answer.Taken.{Taken}
 use Rattle.q_book.specs.declared.fault.BookFault.{BookFault}
 use Rattle.q_history.specs.declared.event.ClusterStep.{ClusterStep}
-use Rattle.q_history.specs.declared.event.Told.{Told}
+use Rattle.q_history.specs.declared.event.EventAnswer.{EventAnswer}
 use Rattle.q_history.specs.declared.fault.ClusterFault.{ClusterFault}
 use Rattle.q_history.specs.Faults.{memory, of_book}
 use Rattle.q_history.specs.State.{ClusterState}
@@ -175,7 +175,7 @@ module _ {A : Type 0} {version : Version} {books : BookMap} {past : Past} {jobs 
       }
 
     -- nothing is recorded
-    module _ (tell : Told) (jobs' : List Job) (does_so : k.next c a new ≡ quiet c tell jobs' id new) {sent : Sent} {t : ClusterStep} (numbers : sent ≡ record { first = length past.sent; count = 0 }) (tells : t ≡ record { told = tell; sent = sent }) where
+    module _ (tell : EventAnswer) (jobs' : List Job) (does_so : k.next c a new ≡ quiet c tell jobs' id new) {sent : Sent} {t : ClusterStep} (numbers : sent ≡ record { first = length past.sent; count = 0 }) (tells : t ≡ record { told = tell; sent = sent }) where
       quiet_is : k.next c a new ≡ (t, put c past jobs' id new)
       quiet_is = does_so ∙ (λ i. ((ap (λ (s : Sent). let x : ClusterStep = record { told = tell; sent = s } in x) (sym numbers) ∙ sym tells) i, put c past jobs' id new))
 

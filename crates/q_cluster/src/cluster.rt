@@ -22,7 +22,7 @@ use q_history::laws::{
     answers_stay, every_answer_is_true, every_book_is_a_replay, every_message_fits,
     every_view_is_returned, every_world_is_a_history,
 };
-use q_history::{Answer, ClusterEvent, ClusterFault, ClusterStep, Handed, Told};
+use q_history::{Answer, ClusterEvent, ClusterFault, ClusterStep, EventAnswer, Handed};
 use q_session::{Done, Job};
 use q_shelf::{Books, found_books};
 use q_table::{Program, ProgramId};
@@ -303,7 +303,7 @@ impl Cluster {
         let sent = self
             .ledger
             .record(WorldEvent::Enter(id), id, outs, None, None, None);
-        Ok(told(Told::Entered, sent))
+        Ok(told(EventAnswer::Entered, sent))
     }
 
     fn leave(&mut self, id: u64) -> Result<ClusterStep, ClusterFault>
@@ -315,7 +315,7 @@ impl Cluster {
         let sent = self
             .ledger
             .record(WorldEvent::Leave(id), id, outs, None, None, None);
-        Ok(told(Told::Left, sent))
+        Ok(told(EventAnswer::Left, sent))
     }
 
     fn crash(&mut self, id: u64) -> Result<ClusterStep, ClusterFault>
@@ -325,7 +325,7 @@ impl Cluster {
             return Err(ClusterFault::World(WorldFault::NoSuchNode));
         }
         let sent = self.ledger.crash(id)?;
-        Ok(told(Told::Crashed, sent))
+        Ok(told(EventAnswer::Crashed, sent))
     }
 
     fn register(&mut self, id: u64, program: &Program) -> Result<ClusterStep, ClusterFault>
@@ -333,7 +333,7 @@ impl Cluster {
     {
         self.check_live(id)?;
         let program = self.books.register(id, program)?;
-        Ok(told(Told::Registered(program), self.ledger.silent()))
+        Ok(told(EventAnswer::Registered(program), self.ledger.silent()))
     }
 
     fn ask(&mut self, id: u64, program: ProgramId, start: u64) -> Result<ClusterStep, ClusterFault>
@@ -347,7 +347,7 @@ impl Cluster {
         let sent = self
             .ledger
             .record(WorldEvent::Collect(id), id, outs, None, opened, None);
-        Ok(told(Told::Asked(query), sent))
+        Ok(told(EventAnswer::Asked(query), sent))
     }
 
     fn store(&mut self, id: u64, value: &Value) -> Result<ClusterStep, ClusterFault>
@@ -362,7 +362,7 @@ impl Cluster {
             value: *value,
         };
         let sent = self.ledger.record(event, id, outs, None, opened, None);
-        Ok(told(Told::Stored(tag), sent))
+        Ok(told(EventAnswer::Stored(tag), sent))
     }
 
     fn deliver(&mut self, message: usize, id: u64) -> Result<ClusterStep, ClusterFault>
@@ -383,7 +383,7 @@ impl Cluster {
         let sent = self
             .ledger
             .record(event, id, outs, progress, None, counting);
-        Ok(told(Told::Delivered(completed), sent))
+        Ok(told(EventAnswer::Delivered(completed), sent))
     }
 
     fn hand_out(&mut self, id: u64) -> Result<ClusterStep, ClusterFault>
@@ -393,7 +393,7 @@ impl Cluster {
         self.jobs.reserve(1)?;
         let job = self.books.hand_out(id)?;
         let handed = put_job(&mut self.jobs, job);
-        Ok(told(Told::HandedOut(handed), self.ledger.silent()))
+        Ok(told(EventAnswer::HandedOut(handed), self.ledger.silent()))
     }
 
     fn finish(&mut self, number: usize) -> Result<ClusterStep, ClusterFault>
@@ -409,7 +409,7 @@ impl Cluster {
             query,
             ran: done.ran(),
         };
-        Ok(told(Told::Finished(answer), self.ledger.silent()))
+        Ok(told(EventAnswer::Finished(answer), self.ledger.silent()))
     }
 }
 
@@ -455,7 +455,7 @@ fn put_job(jobs: &mut Vec<Job>, job: Option<Job>) -> Option<Handed>
     Some(handed)
 }
 
-fn told(told: Told, sent: Sent) -> ClusterStep
+fn told(told: EventAnswer, sent: Sent) -> ClusterStep
     ensures { result ≡ record { told = told; sent = sent } }
 {
     ClusterStep { told, sent }

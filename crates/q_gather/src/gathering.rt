@@ -13,7 +13,7 @@ use crate::numbers::Numbers;
 use q_book::Book;
 use q_cluster::Cluster;
 use q_desk::Entry;
-use q_history::{ClusterEvent, Told};
+use q_history::{ClusterEvent, EventAnswer};
 use q_merge::laws::numbers_are_least;
 use std::alloc::{AllocError, Global};
 
@@ -181,9 +181,9 @@ impl Gathering {
 }
 
 /// Keeps where the job stands that this event handed out.
-fn keep_job(jobs: &mut Jobs, event: &ClusterEvent, told: Told) -> Result<(), AllocError> {
+fn keep_job(jobs: &mut Jobs, event: &ClusterEvent, told: EventAnswer) -> Result<(), AllocError> {
     if let ClusterEvent::HandOut(node) = event
-        && let Told::HandedOut(Some(handed)) = told
+        && let EventAnswer::HandedOut(Some(handed)) = told
     {
         jobs.add(*node, handed)?;
     }

@@ -7,7 +7,7 @@ use Rattle.sc_msg.specs.declared.version.Version.{Version}
 use Rattle.q_book.specs.State.{BookState}
 use Rattle.q_journal.specs.Head.{Head}
 use Rattle.q_journal.specs.Spelling.{head_bytes, event_bytes, IsWritten}
-use Rattle.q_journal.specs.declared.written.Written.{Written}
+use Rattle.q_journal.specs.declared.raw_entry.RawEntry.{RawEntry}
 use Rattle.q_journal.proofs.Events.{no_first, no_second, no_third}
 use Rattle.q_replay.specs.Journal.{head_of, entries_bytes, journal_of, IsJournalled}
 use Rattle.q_replay.specs.Replayed.{Leads, IsUnspelled, IsUntaken, IsUnbegun, IsFault}
@@ -147,7 +147,7 @@ module _ (one_head : OneHead) (one_event : OneEvent) (no_fault : NoFault) where
       version =
           sym (alike bytes kept b u.book n u.rest u.leads i).version_is ∙ sym (leads-version bytes n u.book u.rest u.leads)
 
-      go : (ws : List Written) → AllByRecursion (IsWritten b.version) ws → u.rest ≡ flat_map (event_bytes b.version) ws ++ i.left → ⊥
+      go : (ws : List RawEntry) → AllByRecursion (IsWritten b.version) ws → u.rest ≡ flat_map (event_bytes b.version) ws ++ i.left → ⊥
       go [] p is = whole (subst IsCut (sym is) i.cut)
       go (w ∷ ws) p is =
           u.none.none w (flat_map (event_bytes b.version) ws ++ i.left) (subst (λ (v : Version). IsWritten v w) version p.0)
@@ -162,7 +162,7 @@ module _ (one_head : OneHead) (one_event : OneEvent) (no_fault : NoFault) where
       version =
           sym (alike bytes kept b u.book n u.rest u.leads i).version_is ∙ sym (leads-version bytes n u.book u.rest u.leads)
 
-      go : (ws : List Written) → AllByRecursion (IsWritten b.version) ws → u.rest ≡ flat_map (event_bytes b.version) ws ++ i.left → Leads (journal_of b) n u.book (flat_map (event_bytes b.version) ws) → ⊥
+      go : (ws : List RawEntry) → AllByRecursion (IsWritten b.version) ws → u.rest ≡ flat_map (event_bytes b.version) ws ++ i.left → Leads (journal_of b) n u.book (flat_map (event_bytes b.version) ws) → ⊥
       go [] p is l = (cut_none u.book.version i.left i.cut).none u.event u.more u.legal (sym is ∙ u.parts)
       go (w ∷ ws) p is l =
           let after : List ℕ = flat_map (event_bytes b.version) ws in

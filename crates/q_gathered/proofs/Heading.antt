@@ -12,13 +12,13 @@ use Rattle.q_book.specs.Books.{new_book, founds}
 use Rattle.q_book.specs.Replays.{Follows}
 use Rattle.q_book.proofs.Followed.{follows-next}
 use Rattle.q_journal.specs.Head.{Head}
-use Rattle.q_journal.specs.declared.written.Written.{Written}
+use Rattle.q_journal.specs.declared.raw_entry.RawEntry.{RawEntry}
 use Rattle.q_replay.specs.Replayed.{begun, TakesAll, Leads}
 
 follows-version : (b : BookState) (e : Entry) (c : BookState) → Follows b e c → c.version ≡ b.version
 follows-version b e c f = sym (ap (λ (x : BookState). x.version) (follows-next b e c f).same)
 
-takes_all-version : (ws : List Written) (a b : BookState) → TakesAll a ws b → b.version ≡ a.version
+takes_all-version : (ws : List RawEntry) (a b : BookState) → TakesAll a ws b → b.version ≡ a.version
 takes_all-version [] a b t = ap (λ (x : BookState). x.version) t
 takes_all-version (w ∷ ws) a b t = takes_all-version ws t.0 b t.2 ∙ follows-version a t.1.called t.0 t.1.follows
 

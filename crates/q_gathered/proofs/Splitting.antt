@@ -9,7 +9,7 @@ use Rattle.q_desk.specs.declared.journal.Entry.{Entry}
 use Rattle.q_book.specs.State.{BookState}
 use Rattle.q_journal.specs.Head.{Head}
 use Rattle.q_journal.specs.Spelling.{head_bytes, event_bytes, IsHead, IsWritten}
-use Rattle.q_journal.specs.declared.written.Written.{Written}
+use Rattle.q_journal.specs.declared.raw_entry.RawEntry.{RawEntry}
 use Rattle.q_replay.specs.Journal.{written_of, head_of, entries_bytes, journal_of, IsEntry, IsJournalled}
 use Rattle.q_replay.specs.Replayed.{Leads}
 use Rattle.q_gathered.specs.Beginning.{IsAfter}
@@ -19,7 +19,7 @@ abbrev pub OneHead : Type 0
 OneHead = (h g : Head) (rest more : List ℕ) → IsHead h → IsHead g → head_bytes h ++ rest ≡ head_bytes g ++ more → (h ≡ g) × (rest ≡ more)
 
 abbrev pub OneEvent : Type 0
-OneEvent = (version : Version) (w v : Written) (rest more : List ℕ) → IsWritten version w → IsWritten version v → event_bytes version w ++ rest ≡ event_bytes version v ++ more → (w ≡ v) × (rest ≡ more)
+OneEvent = (version : Version) (w v : RawEntry) (rest more : List ℕ) → IsWritten version w → IsWritten version v → event_bytes version w ++ rest ≡ event_bytes version v ++ more → (w ≡ v) × (rest ≡ more)
 
 -- no event of this version stands first in the bytes
 abbrev pub NoEvent : Version → List ℕ → Type 0
@@ -57,13 +57,13 @@ journal_after bytes b left j parts = record {
 -- ---- events that begin as others do, after which none stands
 
 -- after the first events stand these of the second ones
-pub record IsWithin (version : Version) (us vs : List Written) (r s : List ℕ) : Type 0 where
-  pub after : List Written
+pub record IsWithin (version : Version) (us vs : List RawEntry) (r s : List ℕ) : Type 0 where
+  pub after : List RawEntry
   pub written : AllByRecursion (IsWritten version) after
   pub is : r ≡ flat_map (event_bytes version) after ++ s
   pub whole : flat_map (event_bytes version) vs ≡ flat_map (event_bytes version) us ++ flat_map (event_bytes version) after
 
-split : OneEvent → (version : Version) (us vs : List Written) (r s : List ℕ) → AllByRecursion (IsWritten version) us → AllByRecursion (IsWritten version) vs
+split : OneEvent → (version : Version) (us vs : List RawEntry) (r s : List ℕ) → AllByRecursion (IsWritten version) us → AllByRecursion (IsWritten version) vs
     → flat_map (event_bytes version) us ++ r ≡ flat_map (event_bytes version) vs ++ s → NoEvent version s → IsWithin version us vs r s
 split law version [] vs r s p q h none = record { after = vs; written = q; is = h; whole = refl }
 split law version (u ∷ us) [] r s p q h none =
@@ -98,7 +98,7 @@ both one_head one_event version other bytes n m r s a b none =
 
 -- ---- as many events
 
-as_many : OneEvent → (version : Version) (us vs : List Written) (r s : List ℕ) → length us ≡ length vs → AllByRecursion (IsWritten version) us → AllByRecursion (IsWritten version) vs
+as_many : OneEvent → (version : Version) (us vs : List RawEntry) (r s : List ℕ) → length us ≡ length vs → AllByRecursion (IsWritten version) us → AllByRecursion (IsWritten version) vs
     → flat_map (event_bytes version) us ++ r ≡ flat_map (event_bytes version) vs ++ s → r ≡ s
 as_many law version [] [] r s n p q h = h
 as_many law version [] (v ∷ vs) r s n p q h = absurd (omega (arith, n))
@@ -117,7 +117,7 @@ after_one one_head one_event version other bytes n r s a b =
     (ap (λ (v : Version). flat_map (event_bytes v) a.events ++ r) (sym same) ∙ heads.1)
 
 -- one event more
-pub after_more : (version : Version) (bytes : List ℕ) (n : ℕ) (rest : List ℕ) (w : Written) (more : List ℕ) → IsAfter version bytes n rest → IsWritten version w → rest ≡ event_bytes version w ++ more → IsAfter version bytes (n + 1) more
+pub after_more : (version : Version) (bytes : List ℕ) (n : ℕ) (rest : List ℕ) (w : RawEntry) (more : List ℕ) → IsAfter version bytes n rest → IsWritten version w → rest ≡ event_bytes version w ++ more → IsAfter version bytes (n + 1) more
 after_more version bytes n rest w more b legal is = record {
   head = b.head;
   legal = b.legal;

@@ -4,7 +4,7 @@ use Rattle.sc_msg.specs.Numbers.{number_bytes}
 use Rattle.q_book.specs.State.{BookState}
 use Rattle.q_journal.specs.Head.{Head}
 use Rattle.q_journal.specs.Spelling.{head_bytes, event_bytes, IsHead, IsWritten}
-use Rattle.q_journal.specs.declared.written.Written.{Written}
+use Rattle.q_journal.specs.declared.raw_entry.RawEntry.{RawEntry}
 use Rattle.sc_msg.specs.declared.version.Version.{Version}
 use Rattle.std.specs.List.{flat_map, AllByRecursion}
 use Rattle.q_replay.specs.Journal.{journal_of, IsJournalled}
@@ -40,7 +40,7 @@ pub record IsAfter (version : Version) (bytes : List ℕ) (count : ℕ) (rest : 
   pub head : Head
   pub legal : IsHead head
   pub is_version : head.version ≡ version
-  pub events : List Written
+  pub events : List RawEntry
   pub written : AllByRecursion (IsWritten version) events
   pub parts : bytes ≡ head_bytes head ++ (flat_map (event_bytes version) events ++ rest)
   pub many : count ≡ length events

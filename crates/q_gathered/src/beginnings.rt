@@ -3,7 +3,7 @@
 ghost use Rattle.std.specs.Prelude.{◌≡◌, ◌<◌, ◌≤◌, ◌-◌, ◌^◌, ◌∷◌, ◌++◌, [], ℕ, List, length, take, IfOk, IfErr, IfSome, IfNone, MatchBool, MatchOption};
 ghost use Rattle.sc_msg.specs.Numbers.{number_bytes};
 ghost use Rattle.q_journal.specs.Spelling.{event_bytes, IsWritten};
-ghost use Rattle.q_journal.specs.declared.written.Written.{Written as WrittenEvent};
+ghost use Rattle.q_journal.specs.declared.raw_entry.RawEntry.{RawEntry};
 ghost use Rattle.q_replay.specs.Replayed.{IsFault};
 ghost use Rattle.q_gathered.specs.Beginning.{IsBeginning, IsAfter, IsCut, IsRefused};
 
@@ -146,7 +146,7 @@ fn after_head(alloc: Global, bytes: &[u8]) -> Result<(Version, &[u8]), AllocErro
 
 /// What stands after an event of that version. There is one: memory alone may be short.
 fn after_event(alloc: Global, version: Version, bytes: &[u8]) -> Result<&[u8], AllocError>
-    ensures { IfOk result (λ r. (w : WrittenEvent) × IsWritten version w × (bytes.now ≡ event_bytes version w ++ r.now)) }
+    ensures { IfOk result (λ r. (w : RawEntry) × IsWritten version w × (bytes.now ≡ event_bytes version w ++ r.now)) }
 {
     match read_event(alloc, version, bytes) {
         Ok((_event, rest)) => Ok(rest),

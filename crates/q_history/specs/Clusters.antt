@@ -29,8 +29,8 @@ use Rattle.q_book.specs.declared.fault.BookFault.{BookFault}
 use Rattle.q_history.specs.declared.event.ClusterEvent.{ClusterEvent}
 use Rattle.q_history.specs.declared.event.ClusterEvent.TheVariants as event
 use Rattle.q_history.specs.declared.event.Handed.{Handed}
-use Rattle.q_history.specs.declared.event.Told.{Told}
-use Rattle.q_history.specs.declared.event.Told.TheVariants as told
+use Rattle.q_history.specs.declared.event.EventAnswer.{EventAnswer}
+use Rattle.q_history.specs.declared.event.EventAnswer.TheVariants as told
 use Rattle.q_history.specs.declared.event.ClusterStep.{ClusterStep}
 use Rattle.q_history.specs.declared.fault.ClusterFault.{ClusterFault}
 use Rattle.q_history.specs.declared.fault.ClusterFault.TheVariants as fault
@@ -53,11 +53,11 @@ put c past jobs id b =
     record { version = c.version; world = world_of (fin.insert c.world.nodes id b.node) past; desks = fin.insert c.desks id b.desk; jobs = jobs }
 
 -- an event that the ledger does not record
-abbrev pub quiet : ClusterState → Told → List Job → ℕ → BookState → ClusterStep × ClusterState
+abbrev pub quiet : ClusterState → EventAnswer → List Job → ℕ → BookState → ClusterStep × ClusterState
 quiet c t jobs id b = (record { told = t; sent = record { first = length c.world.sent; count = 0 } }, put c (past_of c.world) jobs id b)
 
 -- an event that the ledger records
-abbrev pub noted : ClusterState → Told → WorldEvent → ℕ → List Message → Option Progress → Option Opened → BookState → ClusterStep × ClusterState
+abbrev pub noted : ClusterState → EventAnswer → WorldEvent → ℕ → List Message → Option Progress → Option Opened → BookState → ClusterStep × ClusterState
 noted c t e id outs progress begun b = (
   record { told = t; sent = numbered (past_of c.world) outs },
   put c (recorded (past_of c.world) e id outs progress begun) c.jobs id b,

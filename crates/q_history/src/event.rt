@@ -59,7 +59,7 @@ pub struct Answer {
 
 /// What an accepted event tells, beside its messages.
 #[derive(Clone, Copy, Debug, PartialEq, Eq)]
-pub enum Told {
+pub enum EventAnswer {
     Entered,
     Left,
     Crashed,
@@ -79,6 +79,6 @@ pub enum Told {
 /// What an accepted event tells, and the messages that it sent.
 #[derive(Clone, Copy, Debug, PartialEq, Eq)]
 pub struct ClusterStep {
-    pub told: Told,
+    pub told: EventAnswer,
     pub sent: Sent,
 }

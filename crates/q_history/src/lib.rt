@@ -19,5 +19,5 @@ mod event;
 mod fault;
 pub mod laws;
 
-pub use event::{Answer, ClusterEvent, ClusterStep, Handed, Told};
+pub use event::{Answer, ClusterEvent, ClusterStep, EventAnswer, Handed};
 pub use fault::ClusterFault;

@@ -18,8 +18,8 @@ use Rattle.sc_msg.specs.declared.fault.MessageFault.TheVariants as messages
 use Rattle.sc_msg.specs.Messages.{message_bytes, IsMessage}
 use Rattle.sc_msg.proofs.Numbers.{length-number_bytes}
 use Rattle.sc_msg.proofs.Entries.{same_front, number_front}
-use Rattle.q_journal.specs.declared.written.Written.{Written}
-use Rattle.q_journal.specs.declared.written.Written.TheVariants.{Leave, Register, Ask, Deliver, HandOut, Post}
+use Rattle.q_journal.specs.declared.raw_entry.RawEntry.{RawEntry}
+use Rattle.q_journal.specs.declared.raw_entry.RawEntry.TheVariants.{Leave, Register, Ask, Deliver, HandOut, Post}
 use Rattle.q_journal.specs.declared.read.ReadFault.{ReadFault}
 use Rattle.q_journal.specs.declared.read.ReadFault.TheVariants.{Form, OutOfMemory}
 use Rattle.q_journal.specs.Spelling.{form_of, body_bytes}
@@ -35,7 +35,7 @@ no_bare version kind body which more = record { none = λ w h. none w h }
     other : (k : ℕ) → k ≡ kind → (k ≡ 1 → ⊥) → (k ≡ 6 → ⊥) → ⊥
     other k is first second = elim which [ inl e ↦ first (is ∙ e) | inr e ↦ second (is ∙ e) ]
 
-    none : (w : Written) → IsBody version kind body w → ⊥
+    none : (w : RawEntry) → IsBody version kind body w → ⊥
     none Leave h = omega (arith, more, ap length h.spelled)
     none HandOut h = omega (arith, more, ap length h.spelled)
     none w h = other _ h.is (λ e. omega (arith, e)) (λ e. omega (arith, e))
@@ -43,14 +43,14 @@ no_bare version kind body which more = record { none = λ w h. none w h }
 pub no_ask : (version : Version) (body : List ℕ) → (length body ≡ 12 → ⊥) → IsNoBody version 3 body
 no_ask version body other = record { none = λ w h. none w h }
   where
-    none : (w : Written) → IsBody version 3 body w → ⊥
+    none : (w : RawEntry) → IsBody version 3 body w → ⊥
     none (Ask program start) h = other (ap length h.spelled ∙ length-asked program start)
     none w h = omega (arith, h.is)
 
 pub no_post : (version : Version) (body : List ℕ) → (length body ≡ 24 → ⊥) → IsNoBody version 7 body
 no_post version body other = record { none = λ w h. none w h }
   where
-    none : (w : Written) → IsBody version 7 body w → ⊥
+    none : (w : RawEntry) → IsBody version 7 body w → ⊥
     none (Post query acc steps) h = other (ap length h.spelled ∙ length-posted query acc steps)
     none w h = omega (arith, h.is)
 
@@ -91,7 +91,7 @@ posted body r1 r2 r3 query acc steps first second third end =
 pub no_deliver : (version : Version) (body : List ℕ) → ((m : Message) → IsMessage version m → body ≡ message_bytes version m → ⊥) → IsNoBody version 5 body
 no_deliver version body other = record { none = λ w h. none w h }
   where
-    none : (w : Written) → IsBody version 5 body w → ⊥
+    none : (w : RawEntry) → IsBody version 5 body w → ⊥
     none (Deliver m) h = other m h.legal h.spelled
     none w h = omega (arith, h.is)
 
@@ -100,7 +100,7 @@ no_deliver version body other = record { none = λ w h. none w h }
 no_register : (version : Version) (body : List ℕ) → ((t : List Insn) (ns : List (Option StateKinds)) → IsText t → IsNotes (form_of version) ns → body ≡ number_bytes 4 (length (spelling t)) ++ (spelling t ++ notes_bytes (form_of version) ns) → ⊥) → IsNoBody version 2 body
 no_register version body other = record { none = λ w h. none w h }
   where
-    none : (w : Written) → IsBody version 2 body w → ⊥
+    none : (w : RawEntry) → IsBody version 2 body w → ⊥
     none (Register t ns) h = other t ns h.legal.0 h.legal.1 h.spelled
     none w h = omega (arith, h.is)
 

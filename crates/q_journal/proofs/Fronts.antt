@@ -14,8 +14,8 @@ use Rattle.sc_msg.specs.Numbers.{number_bytes}
 use Rattle.sc_msg.specs.Values.{version_byte}
 use Rattle.sc_msg.proofs.Entries.{same_front, number_front}
 use Rattle.sc_msg.proofs.Unique.{one_spelling}
-use Rattle.q_journal.specs.declared.written.Written.{Written}
-use Rattle.q_journal.specs.declared.written.Written.TheVariants.{Leave, Register, Ask, Store, Deliver, HandOut, Post}
+use Rattle.q_journal.specs.declared.raw_entry.RawEntry.{RawEntry}
+use Rattle.q_journal.specs.declared.raw_entry.RawEntry.TheVariants.{Leave, Register, Ask, Store, Deliver, HandOut, Post}
 use Rattle.q_journal.specs.Head.{Head}
 use Rattle.q_journal.specs.Spelling.{config_bytes, start_bytes, head_bytes, AreShort, AreFounders, IsHead, code, form_of, body_bytes, event_bytes, IsWritten}
 use Rattle.q_journal.specs.Reading.{ids_bytes, AreIds}
@@ -103,10 +103,10 @@ head_front h g x y p q e =
 
 -- ---- events
 
-pub event_on : (version : Version) (w : Written) (x : List ℕ) → event_bytes version w ++ x ≡ code w ∷ (number_bytes 4 (length (body_bytes version w)) ++ (body_bytes version w ++ x))
+pub event_on : (version : Version) (w : RawEntry) (x : List ℕ) → event_bytes version w ++ x ≡ code w ∷ (number_bytes 4 (length (body_bytes version w)) ++ (body_bytes version w ++ x))
 event_on version w x = ap (λ (l : List ℕ). code w ∷ l) (append_assoc (number_bytes 4 (length (body_bytes version w))) (body_bytes version w) x)
 
-same_event : (version : Version) (w v : Written) → IsWritten version w → IsWritten version v → code w ≡ code v → body_bytes version w ≡ body_bytes version v → w ≡ v
+same_event : (version : Version) (w v : RawEntry) → IsWritten version w → IsWritten version v → code w ≡ code v → body_bytes version w ≡ body_bytes version v → w ≡ v
 same_event version Leave Leave p q c b = refl
 same_event version (Register t ns) (Register u ms) p q c b =
     let form = form_of version in
@@ -129,7 +129,7 @@ same_event version (Post g a s) (Post h d t) p q c b =
     λ i. Post (n.0 i) (k.0 i) (steps i)
 same_event version w v p q c b = absurd (omega (arith, c))
 
-pub event_front : (version : Version) (w v : Written) (x y : List ℕ) → IsWritten version w → IsWritten version v → event_bytes version w ++ x ≡ event_bytes version v ++ y → (w ≡ v) × (x ≡ y)
+pub event_front : (version : Version) (w v : RawEntry) (x y : List ℕ) → IsWritten version w → IsWritten version v → event_bytes version w ++ x ≡ event_bytes version v ++ y → (w ≡ v) × (x ≡ y)
 event_front version w v x y p q e =
     let a = body_bytes version w in
     let d = body_bytes version v in

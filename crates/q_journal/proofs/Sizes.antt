@@ -21,8 +21,8 @@ use Rattle.sc_msg.specs.Numbers.{number_bytes}
 use Rattle.sc_msg.specs.Values.{IsLength}
 use Rattle.sc_msg.proofs.Numbers.{length-number_bytes}
 use Rattle.sc_msg.proofs.Unique.{message_small}
-use Rattle.q_journal.specs.declared.written.Written.{Written}
-use Rattle.q_journal.specs.declared.written.Written.TheVariants.{Leave, Register, Ask, Store, Deliver, HandOut, Post}
+use Rattle.q_journal.specs.declared.raw_entry.RawEntry.{RawEntry}
+use Rattle.q_journal.specs.declared.raw_entry.RawEntry.TheVariants.{Leave, Register, Ask, Store, Deliver, HandOut, Post}
 use Rattle.q_journal.specs.Spelling.{config_bytes, form_of, body_bytes, IsWritten}
 
 -- ---- two and more parts
@@ -94,7 +94,7 @@ length-registered version t ns =
     omega (arith, length-append (number_bytes 4 (length (spelling t))) (spelling t ++ notes), length-append (spelling t) notes, length-number_bytes 4 (length (spelling t)))
 
 -- each length fits four bytes
-pub body_small : (version : Version) (w : Written) → IsWritten version w → length (body_bytes version w) < 2 ^ 32
+pub body_small : (version : Version) (w : RawEntry) → IsWritten version w → length (body_bytes version w) < 2 ^ 32
 body_small version Leave p = omega arith
 body_small version (Register t ns) p = omega (arith, length-registered version t ns, text_small t p.0, notes_small (form_of version) ns p.1)
 body_small version (Ask program start) p = omega (arith, length-asked program start)

@@ -6,8 +6,8 @@ use Rattle.bq_state.specs.Kinds.{StateKinds}
 use Rattle.bq_check.specs.Spelling.{notes_bytes}
 use Rattle.sc_msg.specs.declared.version.Version.{Version}
 use Rattle.sc_msg.specs.Numbers.{number_bytes}
-use Rattle.q_journal.specs.declared.written.Written.{Written}
-use Rattle.q_journal.specs.declared.written.Written.TheVariants.{Register}
+use Rattle.q_journal.specs.declared.raw_entry.RawEntry.{RawEntry}
+use Rattle.q_journal.specs.declared.raw_entry.RawEntry.TheVariants.{Register}
 use Rattle.q_journal.specs.Spelling.{code, form_of, body_bytes, event_bytes}
 use Rattle.q_journal.specs.Writing.{JournalBytes, with_more}
 use Rattle.q_journal.proofs.Sizes.{length-registered}
@@ -18,7 +18,7 @@ two front a new x y first second = second ∙ ap (λ (l : List ℕ). l ++ y) fir
 pub three : (front a b new x y z : List ℕ) → a ≡ front ++ x → b ≡ a ++ y → new ≡ b ++ z → new ≡ front ++ (x ++ (y ++ z))
 three front a b new x y z first second third = two front a new x (y ++ z) first (two a b new y z second third)
 
-pub event_written : (version : Version) (w : Written) (old front new : List ℕ) (n : ℕ) → n ≡ length (body_bytes version w) → front ≡ old ++ (code w ∷ number_bytes 4 n) → new ≡ front ++ body_bytes version w → new ≡ old ++ event_bytes version w
+pub event_written : (version : Version) (w : RawEntry) (old front new : List ℕ) (n : ℕ) → n ≡ length (body_bytes version w) → front ≡ old ++ (code w ∷ number_bytes 4 n) → new ≡ front ++ body_bytes version w → new ≡ old ++ event_bytes version w
 event_written version w old front new n is first second =
     two old front new (code w ∷ number_bytes 4 (length (body_bytes version w))) (body_bytes version w) (first ∙ ap (λ (k : ℕ). old ++ (code w ∷ number_bytes 4 k)) is) second
 
@@ -31,7 +31,7 @@ registered_written version old front a b new s m t ns n k text notes total long 
     ∙ ap (λ (l : List ℕ). front ++ (number_bytes 4 (length (spelling t)) ++ (spelling t ++ l))) notes)
 
 -- the journal goes on with an event where the bytes do
-pub written_on : (old : JournalBytes) (version : Version) (out new : List ℕ) (w : Written) → (let j : JournalBytes = record { version = version; bytes = out } in j) ≡ old → new ≡ out ++ event_bytes version w
+pub written_on : (old : JournalBytes) (version : Version) (out new : List ℕ) (w : RawEntry) → (let j : JournalBytes = record { version = version; bytes = out } in j) ≡ old → new ≡ out ++ event_bytes version w
     → (let j : JournalBytes = record { version = version; bytes = new } in j) ≡ with_more old (event_bytes old.version w)
 written_on old version out new w is more =
     ap (λ (bytes : List ℕ). let j : JournalBytes = record { version = version; bytes = bytes } in j) more ∙ ap (λ (j : JournalBytes). with_more j (event_bytes j.version w)) is

@@ -11,7 +11,7 @@ use Rattle.sc_members.specs.Members.{Config}
 use Rattle.sc_msg.specs.declared.version.Version.{Version}
 use Rattle.sc_msg.specs.Numbers.{number_bytes}
 use Rattle.q_journal.specs.declared.head.Fraction.{Fraction}
-use Rattle.q_journal.specs.declared.written.Written.{Written}
+use Rattle.q_journal.specs.declared.raw_entry.RawEntry.{RawEntry}
 use Rattle.q_journal.specs.declared.read.ReadFault.{ReadFault}
 use Rattle.q_journal.specs.declared.read.ReadFault.TheVariants.{Form, OutOfMemory}
 use Rattle.q_journal.specs.Spelling.{code, body_bytes, IsWritten}
@@ -31,14 +31,14 @@ AreIds ids = (length ids < 2 ^ 16) × AllByRecursion (λ id. id < 2 ^ 64) ids
 -- ---- bodies
 
 -- the body of an event of this kind in that version
-pub record IsBody (version : Version) (kind : ℕ) (body : List ℕ) (w : Written) : Type 0 where
+pub record IsBody (version : Version) (kind : ℕ) (body : List ℕ) (w : RawEntry) : Type 0 where
   pub legal : IsWritten version w
   pub is : code w ≡ kind
   pub spelled : body ≡ body_bytes version w
 
 -- no event of this kind has the body
 pub record IsNoBody (version : Version) (kind : ℕ) (body : List ℕ) : Type 0 where
-  pub none : (w : Written) → IsBody version kind body w → ⊥
+  pub none : (w : RawEntry) → IsBody version kind body w → ⊥
 
 -- ---- faults: want of memory stays what it is
 

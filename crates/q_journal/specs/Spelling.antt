@@ -11,8 +11,8 @@ use Rattle.sc_msg.specs.declared.version.Version.TheVariants.{First, Second}
 use Rattle.sc_msg.specs.Numbers.{number_bytes}
 use Rattle.sc_msg.specs.Values.{version_byte, IsLength}
 use Rattle.sc_msg.specs.Messages.{message_bytes, IsMessage}
-use Rattle.q_journal.specs.declared.written.Written.{Written}
-use Rattle.q_journal.specs.declared.written.Written.TheVariants.{Leave, Register, Ask, Store, Deliver, HandOut, Post}
+use Rattle.q_journal.specs.declared.raw_entry.RawEntry.{RawEntry}
+use Rattle.q_journal.specs.declared.raw_entry.RawEntry.TheVariants.{Leave, Register, Ask, Store, Deliver, HandOut, Post}
 use Rattle.q_journal.specs.Head.{Head}
 
 -- ---- the head
@@ -45,7 +45,7 @@ pub record IsHead (h : Head) : Type 0 where
 
 -- ---- events
 
-abbrev pub code : Written → ℕ
+abbrev pub code : RawEntry → ℕ
 code Leave = 1
 code (Register text notes) = 2
 code (Ask program start) = 3
@@ -60,7 +60,7 @@ form_of First = forms.First
 form_of Second = forms.Second
 
 -- a text stands behind its length, and the notes behind it; a value is as long as its body
-abbrev pub body_bytes : Version → Written → List ℕ
+abbrev pub body_bytes : Version → RawEntry → List ℕ
 body_bytes version Leave = []
 body_bytes version (Register text notes) = number_bytes 4 (length (spelling text)) ++ (spelling text ++ notes_bytes (form_of version) notes)
 body_bytes version (Ask program start) = number_bytes 4 program ++ number_bytes 8 start
@@ -70,11 +70,11 @@ body_bytes version HandOut = []
 body_bytes version (Post query acc steps) = number_bytes 8 query ++ (number_bytes 8 acc ++ number_bytes 8 steps)
 
 -- the kind, the length of the body, and the body
-abbrev pub event_bytes : Version → Written → List ℕ
+abbrev pub event_bytes : Version → RawEntry → List ℕ
 event_bytes version w = code w ∷ number_bytes 4 (length (body_bytes version w)) ++ body_bytes version w
 
 -- which events have a spelling: a value has a length of the version, and a message and the notes are spelled in it
-abbrev pub IsWritten : Version → Written → Type 0
+abbrev pub IsWritten : Version → RawEntry → Type 0
 IsWritten version Leave = Unit {0}
 IsWritten version (Register text notes) = IsText text × IsNotes (form_of version) notes
 IsWritten version (Ask program start) = (program < 2 ^ 32) × (start < 2 ^ 64)

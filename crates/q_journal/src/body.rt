@@ -6,9 +6,9 @@ ghost use Rattle.bq_check.specs.Spelling.{notes_bytes, IsNotes};
 ghost use Rattle.q_journal.specs.Spelling.{form_of};
 ghost use Rattle.q_journal.specs.Reading.{IsBody, IsNoBody};
 
+use crate::raw_entry::RawEntry;
 use crate::read::ReadFault;
 use crate::reader::Reader;
-use crate::written::Written;
 use bq_check::{Notes, NotesFault};
 use sc_decode::decode_as;
 use sc_msg::Version;
@@ -16,16 +16,16 @@ use sc_view::{Value, ValueFault};
 use std::alloc::Global;
 
 /// An event with an empty body: a leave or a hand-out.
-fn bare(kind: u8, reader: &Reader<'_>) -> Result<Written, ReadFault>
+fn bare(kind: u8, reader: &Reader<'_>) -> Result<RawEntry, ReadFault>
     requires { (kind ≡ 1) ⊎ (kind ≡ 6) }
     ensures body { (version : Version) → IfOk result (IsBody version kind reader.now.rest.now) }
     ensures none { (version : Version) → IfErr result (λ e. e ≡ ReadFault.Form → IsNoBody version kind reader.now.rest.now) }
 {
     reader.end()?;
     if kind == 1 {
-        Ok(Written::Leave)
+        Ok(RawEntry::Leave)
     } else {
-        Ok(Written::HandOut)
+        Ok(RawEntry::HandOut)
     }
 }
 
@@ -41,7 +41,7 @@ fn read_notes(alloc: Global, version: Version, bytes: &[u8]) -> Result<Notes, No
     }
 }
 
-fn register(alloc: Global, version: Version, reader: &mut Reader<'_>) -> Result<Written, ReadFault>
+fn register(alloc: Global, version: Version, reader: &mut Reader<'_>) -> Result<RawEntry, ReadFault>
     ensures body { IfOk result (IsBody version 2 reader.old.rest.now) }
     ensures none { IfErr result (λ e. e ≡ ReadFault.Form → IsNoBody version 2 reader.old.rest.now) }
 {
@@ -49,20 +49,20 @@ fn register(alloc: Global, version: Version, reader: &mut Reader<'_>) -> Result<
     let spelling = reader.take(length as usize)?;
     let text = bq_insn::decode(alloc, spelling)?;
     let notes = read_notes(alloc, version, reader.rest)?;
-    Ok(Written::Register { text, notes })
+    Ok(RawEntry::Register { text, notes })
 }
 
-fn ask(reader: &mut Reader<'_>) -> Result<Written, ReadFault>
+fn ask(reader: &mut Reader<'_>) -> Result<RawEntry, ReadFault>
     ensures body { (version : Version) → IfOk result (IsBody version 3 reader.old.rest.now) }
     ensures none { (version : Version) → IfErr result (λ e. e ≡ ReadFault.Form → IsNoBody version 3 reader.old.rest.now) }
 {
     let program = reader.word()?;
     let start = reader.number()?;
     reader.end()?;
-    Ok(Written::Ask { program, start })
+    Ok(RawEntry::Ask { program, start })
 }
 
-fn store(version: Version, body: &[u8]) -> Result<Written, ReadFault>
+fn store(version: Version, body: &[u8]) -> Result<RawEntry, ReadFault>
     ensures body { IfOk result (IsBody version 4 body.now) }
     ensures none { IfErr result (λ e. e ≡ ReadFault.Form → IsNoBody version 4 body.now) }
 {
@@ -70,20 +70,20 @@ fn store(version: Version, body: &[u8]) -> Result<Written, ReadFault>
         return Err(ReadFault::Form);
     }
     match Value::new(body) {
-        Ok(value) => Ok(Written::Store(value)),
+        Ok(value) => Ok(RawEntry::Store(value)),
         Err(ValueFault::BadValue) => Err(ReadFault::Form),
     }
 }
 
-fn deliver(alloc: Global, version: Version, body: &[u8]) -> Result<Written, ReadFault>
+fn deliver(alloc: Global, version: Version, body: &[u8]) -> Result<RawEntry, ReadFault>
     ensures body { IfOk result (IsBody version 5 body.now) }
     ensures none { IfErr result (λ e. e ≡ ReadFault.Form → IsNoBody version 5 body.now) }
 {
     let message = decode_as(alloc, version, body)?;
-    Ok(Written::Deliver(message))
+    Ok(RawEntry::Deliver(message))
 }
 
-fn post(reader: &mut Reader<'_>) -> Result<Written, ReadFault>
+fn post(reader: &mut Reader<'_>) -> Result<RawEntry, ReadFault>
     ensures body { (version : Version) → IfOk result (IsBody version 7 reader.old.rest.now) }
     ensures none { (version : Version) → IfErr result (λ e. e ≡ ReadFault.Form → IsNoBody version 7 reader.old.rest.now) }
 {
@@ -91,7 +91,7 @@ fn post(reader: &mut Reader<'_>) -> Result<Written, ReadFault>
     let acc = reader.number()?;
     let steps = reader.number()?;
     reader.end()?;
-    Ok(Written::Post { query, acc, steps })
+    Ok(RawEntry::Post { query, acc, steps })
 }
 
 /// The event of this kind that has the body in that version.
@@ -100,7 +100,7 @@ pub(crate) fn body_of(
     version: Version,
     kind: u8,
     body: &[u8],
-) -> Result<Written, ReadFault>
+) -> Result<RawEntry, ReadFault>
     ensures body { IfOk result (IsBody version kind body.now) }
     ensures none { IfErr result (λ e. e ≡ ReadFault.Form → IsNoBody version kind body.now) }
 {

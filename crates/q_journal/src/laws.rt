@@ -5,7 +5,7 @@ ghost use Rattle.std.specs.Prelude.{◌≡◌, ◌++◌, ℕ, List};
 ghost use Rattle.sc_msg.specs.declared.version.Version.{Version};
 ghost use Rattle.q_journal.specs.Head.{Head};
 ghost use Rattle.q_journal.specs.Spelling.{head_bytes, event_bytes, IsHead, IsWritten};
-ghost use Rattle.q_journal.specs.declared.written.Written.{Written};
+ghost use Rattle.q_journal.specs.declared.raw_entry.RawEntry.{RawEntry};
 
 /// Bytes begin with one head at most, which tells the version.
 pub fn one_head()
@@ -14,5 +14,5 @@ pub fn one_head()
 
 /// In a version bytes begin with one event at most.
 pub fn one_event()
-    ensures { (version : Version) (w v : Written) (rest more : List ℕ) → IsWritten version w → IsWritten version v → event_bytes version w ++ rest ≡ event_bytes version v ++ more → (w ≡ v) × (rest ≡ more) }
+    ensures { (version : Version) (w v : RawEntry) (rest more : List ℕ) → IsWritten version w → IsWritten version v → event_bytes version w ++ rest ≡ event_bytes version v ++ more → (w ≡ v) × (rest ≡ more) }
 {}

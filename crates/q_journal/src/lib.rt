@@ -35,13 +35,13 @@
 mod body;
 mod head;
 pub mod laws;
+mod raw_entry;
 mod read;
 mod reader;
 pub mod worked;
 mod write;
-mod written;
 
 pub use head::{Fraction, Head};
+pub use raw_entry::RawEntry;
 pub use read::{ReadFault, read_event, read_head};
 pub use write::Writer;
-pub use written::Written;

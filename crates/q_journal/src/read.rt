@@ -7,8 +7,8 @@ ghost use Rattle.q_journal.specs.Reading.{of_text, of_notes, of_message};
 
 use crate::body::body_of;
 use crate::head::Head;
+use crate::raw_entry::RawEntry;
 use crate::reader::Reader;
-use crate::written::Written;
 use bq_check::NotesFault;
 use bq_insn::DecodeFault;
 use reasons::passed_on;
@@ -84,7 +84,7 @@ pub fn read_event<'a>(
     alloc: Global,
     version: Version,
     bytes: &'a [u8],
-) -> Result<(Written, &'a [u8]), ReadFault>
+) -> Result<(RawEntry, &'a [u8]), ReadFault>
     ensures legal { IfOk result (λ r. IsWritten version r.0) }
     ensures parts { IfOk result (λ r. bytes.now ≡ event_bytes version r.0 ++ r.1.now) }
     ensures none { IfErr result (λ e. e ≡ ReadFault.Form → BeginsNone (event_bytes version) (IsWritten version) bytes.now) }

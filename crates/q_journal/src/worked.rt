@@ -10,7 +10,7 @@ ghost use Rattle.sc_msg.specs.declared.version.Version.{Version};
 ghost use Rattle.sc_msg.specs.declared.version.Version.TheVariants.{First, Second};
 ghost use Rattle.q_journal.specs.Head.{Head as HeadState};
 ghost use Rattle.q_journal.specs.Spelling.{head_bytes, event_bytes, IsWritten};
-ghost use Rattle.q_journal.specs.declared.written.Written.TheVariants as written;
+ghost use Rattle.q_journal.specs.declared.raw_entry.RawEntry.TheVariants as written;
 
 /// What the definitions say at telling operands.
 #[tactic(auto, unfolding(sc_msg::specs::Numbers::number_bytes, bq_check::specs::Spelling::short_bytes, bq_insn::specs::Fields::unit_bytes))]

@@ -10,7 +10,7 @@ ghost use Rattle.sc_msg.specs.Lengths.{Fits};
 ghost use Rattle.q_journal.specs.Spelling.{config_bytes, head_bytes, event_bytes, form_of, AreShort, IsHead, IsWritten};
 ghost use Rattle.q_journal.specs.Reading.{ids_bytes};
 ghost use Rattle.q_journal.specs.Writing.{with_more, record_lengths};
-ghost use Rattle.q_journal.specs.declared.written.Written.TheVariants as written;
+ghost use Rattle.q_journal.specs.declared.raw_entry.RawEntry.TheVariants as written;
 
 use bq_check::Notes;
 use bq_insn::Text;

@@ -4,7 +4,7 @@ ghost use Rattle.std.specs.Prelude.{◌≡◌, ◌++◌, length, filter, IfOk, O
 ghost use Rattle.q_lines.specs.Lines.{answer_text, end_text, is_clean, is_refusal, is_unanswered, tally_of, text_of, texts_of};
 
 use crate::fault::NodesFault;
-use q_history::{Answer, Told};
+use q_history::{Answer, EventAnswer};
 use q_session::Ran;
 use q_sim::print_told;
 use q_table::ProgramId;
@@ -118,7 +118,7 @@ fn print_answer(
     ensures { OnOk result (string_bytes text.new ≡ string_bytes text.old ++ answer_text node query answer) }
 {
     match answer {
-        Some(ran) => print_told(text, &Told::Finished(Answer { node, query, ran })),
+        Some(ran) => print_told(text, &EventAnswer::Finished(Answer { node, query, ran })),
         None => writeln!(text, "unanswered"),
     }
 }
@@ -129,9 +129,9 @@ fn print_report(text: &mut String, report: &Report) -> Result<(), AllocError>
 {
     match report {
         Report::Refused(fault) => writeln!(text, "{fault}"),
-        Report::Registered(program) => print_told(text, &Told::Registered(*program)),
+        Report::Registered(program) => print_told(text, &EventAnswer::Registered(*program)),
         Report::Stored { tag, ended } => {
-            print_told(text, &Told::Stored(*tag))?;
+            print_told(text, &EventAnswer::Stored(*tag))?;
             print_end(text, *ended)
         }
         Report::Asked {
@@ -139,7 +139,7 @@ fn print_report(text: &mut String, report: &Report) -> Result<(), AllocError>
             query,
             answer,
         } => {
-            print_told(text, &Told::Asked(*query))?;
+            print_told(text, &EventAnswer::Asked(*query))?;
             print_answer(text, *node, *query, *answer)
         }
     }

@@ -4,7 +4,7 @@ use crate::again::{again, is_told, tell_change};
 use crate::digest::{Journal, NODES, see};
 use crate::rows::{ROWS, Row};
 use q_cluster::Cluster;
-use q_history::{ClusterEvent, ClusterFault, ClusterStep, Told};
+use q_history::{ClusterEvent, ClusterFault, ClusterStep, EventAnswer};
 use q_script::{Founding, Script, ScriptLine};
 use q_sim::{Refusal, certified_code, print_pairs, print_told};
 use q_table::ProgramId;
@@ -94,7 +94,7 @@ fn step(
 }
 
 /// The line of what an event tells.
-fn told_line(alloc: Global, told: &Told) -> Result<String, AllocError> {
+fn told_line(alloc: Global, told: &EventAnswer) -> Result<String, AllocError> {
     let mut line = String::new(alloc);
     print_told(&mut line, told)?;
     Ok(line)

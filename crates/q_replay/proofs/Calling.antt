@@ -17,7 +17,7 @@ use Rattle.q_book.specs.Faults.{memory}
 use Rattle.q_book.specs.Replays.{Follows}
 use Rattle.q_book.specs.declared.fault.BookFault.{BookFault}
 use Rattle.q_journal.specs.Spelling.{head_bytes, event_bytes, IsWritten}
-use Rattle.q_journal.specs.declared.written.Written.{Written}
+use Rattle.q_journal.specs.declared.raw_entry.RawEntry.{RawEntry}
 use Rattle.q_desk.specs.Desks.{running_job}
 use Rattle.q_replay.specs.Journal.{written_of, IsCertifiedEntry}
 use Rattle.q_replay.specs.Replayed.{IsAnswering, Takes, Leads, IsFault}
@@ -47,7 +47,7 @@ refused old new e f (Err x) is nowhere = refused_by old new e f x (sym is) nowhe
 
 -- ---- the event of an entry
 
-pub taking : OneLongest → (old new : BookState) (e : Entry) (w : Written) (r : Result (Unit {0}) Refusal) → IsWritten old.version w → IsCertifiedEntry old.version e → written_of e ≡ w → Calling old e new r → Taking old w new r
+pub taking : OneLongest → (old new : BookState) (e : Entry) (w : RawEntry) (r : Result (Unit {0}) Refusal) → IsWritten old.version w → IsCertifiedEntry old.version e → written_of e ≡ w → Calling old e new r → Taking old w new r
 taking one old new e w (Ok u) legal certified is h =
     record { called = e; legal = (subst (IsWritten old.version) (sym is) legal, certified); is = is; answers = h.1; follows = h.0 }
 taking one old new e w (Err Mismatch) legal certified is h =
@@ -96,7 +96,7 @@ posts b c k i j r s u runs job ran right h =
 
 -- the events are read in the version of the book
 
-pub next_leads : (bytes : List ℕ) (n : ℕ) (b c : BookState) (version : Version) (w : Written) (rest more : List ℕ) → Leads bytes n b rest → version ≡ b.version → IsWritten version w → rest ≡ event_bytes version w ++ more → Takes b w c
+pub next_leads : (bytes : List ℕ) (n : ℕ) (b c : BookState) (version : Version) (w : RawEntry) (rest more : List ℕ) → Leads bytes n b rest → version ≡ b.version → IsWritten version w → rest ≡ event_bytes version w ++ more → Takes b w c
     → Leads bytes (n + 1) c more
 next_leads bytes n b c version w rest more l own legal parts t =
     subst (λ (k : ℕ). Leads bytes k c more) (sym (add-one n))
@@ -107,7 +107,7 @@ next_form bytes n b version rest l own more none =
     subst (λ (k : ℕ). IsFault bytes (fault.Form k)) (sym (add-one n))
     (record { book = b; rest = rest; leads = l; more = more; none = subst (λ (x : Version). BeginsNone (event_bytes x) (IsWritten x) rest) own none })
 
-pub next_mismatch : (bytes : List ℕ) (n : ℕ) (b : BookState) (version : Version) (w : Written) (rest more : List ℕ) → Leads bytes n b rest → version ≡ b.version → IsWritten version w → rest ≡ event_bytes version w ++ more
+pub next_mismatch : (bytes : List ℕ) (n : ℕ) (b : BookState) (version : Version) (w : RawEntry) (rest more : List ℕ) → Leads bytes n b rest → version ≡ b.version → IsWritten version w → rest ≡ event_bytes version w ++ more
     → ((c : BookState) → Takes b w c → ⊥) → IsFault bytes (fault.Mismatch (n + 1))
 next_mismatch bytes n b version w rest more l own legal parts refused =
     subst (λ (k : ℕ). IsFault bytes (fault.Mismatch k)) (sym (add-one n)) (record {
@@ -122,7 +122,7 @@ next_mismatch bytes n b version w rest more l own legal parts refused =
     })
 
 -- each event takes a byte and more
-events_long : (version : Version) (ws : List Written) → length ws ≤ length (flat_map (event_bytes version) ws)
+events_long : (version : Version) (ws : List RawEntry) → length ws ≤ length (flat_map (event_bytes version) ws)
 events_long version [] = omega arith
 events_long version (w ∷ ws) =
     let rest = events_long version ws in

@@ -18,8 +18,8 @@ use Rattle.q_desk.specs.declared.journal.Entry.TheVariants as entry
 use Rattle.q_book.specs.State.{BookState}
 use Rattle.q_book.specs.Books.{record_lengths}
 use Rattle.q_book.specs.Replays.{Follows}
-use Rattle.q_journal.specs.declared.written.Written.{Written}
-use Rattle.q_journal.specs.declared.written.Written.TheVariants as written
+use Rattle.q_journal.specs.declared.raw_entry.RawEntry.{RawEntry}
+use Rattle.q_journal.specs.declared.raw_entry.RawEntry.TheVariants as written
 use Rattle.q_desk.specs.Desks.{running_job}
 use Rattle.q_replay.specs.Journal.{written_of, IsCertifiedEntry, IsEntry}
 use Rattle.q_replay.specs.Replayed.{IsAnswering, Takes}
@@ -76,14 +76,14 @@ entry_one one version e f a b h = absurd (cc)
 
 module _ (one : OneLongest) where
   -- an event is taken as its one entry
-  pub takes_as : (b : BookState) (w : Written) (c : BookState) (e : Entry) → IsEntry b.version e → written_of e ≡ w → Takes b w c → Follows b e c × IsAnswering b e
+  pub takes_as : (b : BookState) (w : RawEntry) (c : BookState) (e : Entry) → IsEntry b.version e → written_of e ≡ w → Takes b w c → Follows b e c × IsAnswering b e
   takes_as b w c e legal is t =
       subst (λ (x : Entry). Follows b x c × IsAnswering b x) (entry_one one b.version t.called e t.legal.1 legal.1 (t.is ∙ sym is)) (t.follows, t.answers)
 
-  pub takes_one : (b : BookState) (w : Written) (c d : BookState) → Takes b w c → Takes b w d → c ≡ d
+  pub takes_one : (b : BookState) (w : RawEntry) (c d : BookState) → Takes b w c → Takes b w d → c ≡ d
   takes_one b w c d s t = follows_one b c d t.called (takes_as b w c t.called t.legal t.is s).0 t.follows
 
-pub takes-version : (b : BookState) (w : Written) (c : BookState) → Takes b w c → c.version ≡ b.version
+pub takes-version : (b : BookState) (w : RawEntry) (c : BookState) → Takes b w c → c.version ≡ b.version
 takes-version b w c t = same_version b t.called c t.follows
 
 -- ---- an answer that stays right was right

@@ -4,7 +4,7 @@ use Rattle.bq_check.specs.Spelling.{BeginsNone}
 use Rattle.q_book.specs.State.{BookState}
 use Rattle.q_journal.specs.Head.{Head}
 use Rattle.q_journal.specs.Spelling.{head_bytes, event_bytes, IsHead, IsWritten}
-use Rattle.q_journal.specs.declared.written.Written.{Written}
+use Rattle.q_journal.specs.declared.raw_entry.RawEntry.{RawEntry}
 use Rattle.q_replay.specs.Journal.{journal_of, IsJournalled}
 use Rattle.q_replay.specs.Replayed.{Begins, Takes, Leads, IsUnspelled, IsUntaken, IsUnbegun, IsFault}
 use Rattle.q_replay.specs.declared.fault.ReplayFault.{ReplayFault}
@@ -27,7 +27,7 @@ module _ (one_longest : OneLongest) (one_head : OneHead) (one_event : OneEvent) 
   untaken_stops : (bytes : List ℕ) (n : ℕ) (u : IsUntaken bytes n) → Stops u.book u.rest
   untaken_stops bytes n u o =
       let same = one_event u.book.version o.event u.event o.more u.more o.legal u.legal (sym o.parts ∙ u.parts) in
-      u.refused o.next (subst (λ (w : Written). Takes u.book w o.next) same.0 o.takes)
+      u.refused o.next (subst (λ (w : RawEntry). Takes u.book w o.next) same.0 o.takes)
 
   forms : (bytes : List ℕ) (n m : ℕ) (f : IsUnspelled bytes n) (g : IsUnspelled bytes m) → n ≡ m
   forms bytes n m f g =

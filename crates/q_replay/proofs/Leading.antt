@@ -16,7 +16,7 @@ use Rattle.q_book.specs.Replays.{Replays, IsFirst}
 use Rattle.q_book.specs.declared.fault.BookFault.{BookFault}
 use Rattle.q_journal.specs.Head.{Head}
 use Rattle.q_journal.specs.Spelling.{head_bytes, event_bytes, IsHead, IsWritten}
-use Rattle.q_journal.specs.declared.written.Written.{Written}
+use Rattle.q_journal.specs.declared.raw_entry.RawEntry.{RawEntry}
 use Rattle.q_replay.specs.Journal.{written_of, head_of, entries_bytes, journal_of, IsEntry, IsJournalled}
 use Rattle.q_replay.specs.Replayed.{begun, Begins, Takes, TakesAll, Leads}
 use Rattle.q_replay.proofs.Lists.{same_answer, no_refusal, all_push}
@@ -29,7 +29,7 @@ abbrev pub OneHead : Type 0
 OneHead = (h g : Head) (rest more : List ℕ) → IsHead h → IsHead g → head_bytes h ++ rest ≡ head_bytes g ++ more → (h ≡ g) × (rest ≡ more)
 
 abbrev pub OneEvent : Type 0
-OneEvent = (version : Version) (w v : Written) (rest more : List ℕ) → IsWritten version w → IsWritten version v → event_bytes version w ++ rest ≡ event_bytes version v ++ more → (w ≡ v) × (rest ≡ more)
+OneEvent = (version : Version) (w v : RawEntry) (rest more : List ℕ) → IsWritten version w → IsWritten version v → event_bytes version w ++ rest ≡ event_bytes version v ++ more → (w ≡ v) × (rest ≡ more)
 
 -- ---- the book before any event
 
@@ -49,7 +49,7 @@ begun_is h None b e = record { node = (node.entered h.config h.id).0; is = same_
 
 -- ---- one version
 
-takes_all-version : (ws : List Written) (a b : BookState) → TakesAll a ws b → b.version ≡ a.version
+takes_all-version : (ws : List RawEntry) (a b : BookState) → TakesAll a ws b → b.version ≡ a.version
 takes_all-version [] a b t = ap (λ (x : BookState). x.version) t
 takes_all-version (w ∷ ws) a b t = takes_all-version ws t.0 b t.2 ∙ takes-version a w t.0 t.1
 
@@ -64,14 +64,14 @@ pub leads_start : (bytes : List ℕ) (h : Head) (b : BookState) (rest : List ℕ
 leads_start bytes h b rest legal begins parts =
     record { head = h; legal = legal; first = b; begins = begins; events = []; written = tt; takes = refl; parts = parts; many = refl }
 
-takes_push : (ws : List Written) (a b c : BookState) (w : Written) → TakesAll a ws b → Takes b w c → TakesAll a (ws ++ w ∷ []) c
+takes_push : (ws : List RawEntry) (a b c : BookState) (w : RawEntry) → TakesAll a ws b → Takes b w c → TakesAll a (ws ++ w ∷ []) c
 takes_push [] a b c w t s = (c, subst (λ (x : BookState). Takes x w c) t s, refl)
 takes_push (v ∷ ws) a b c w t s = (t.0, t.1, takes_push ws t.0 b c w t.2 s)
 
-pub leads_next : (bytes : List ℕ) (n : ℕ) (b c : BookState) (w : Written) (rest more : List ℕ) → Leads bytes n b rest → IsWritten b.version w → rest ≡ event_bytes b.version w ++ more → Takes b w c → Leads bytes (suc n) c more
+pub leads_next : (bytes : List ℕ) (n : ℕ) (b c : BookState) (w : RawEntry) (rest more : List ℕ) → Leads bytes n b rest → IsWritten b.version w → rest ≡ event_bytes b.version w ++ more → Takes b w c → Leads bytes (suc n) c more
 leads_next bytes n b c w rest more l legal parts t =
     let same : b.version ≡ l.head.version = leads-version bytes n b rest l in
-    let spelled : Written → List ℕ = event_bytes l.head.version in
+    let spelled : RawEntry → List ℕ = event_bytes l.head.version in
     let on : flat_map spelled l.events ++ rest ≡ flat_map spelled (l.events ++ w ∷ []) ++ more =
     ap (λ (x : List ℕ). flat_map spelled l.events ++ x) (parts ∙ ap (λ (x : Version). event_bytes x w ++ more) same)
     ∙ sym (append_assoc (flat_map spelled l.events) (spelled w) more)
@@ -92,14 +92,14 @@ leads_next bytes n b c w rest more l legal parts t =
 
 -- an event of the book's version stands first in the bytes, and it is taken
 pub record IsOngoing (b : BookState) (rest : List ℕ) : Type 0 where
-  pub event : Written
+  pub event : RawEntry
   pub legal : IsWritten b.version event
   pub more : List ℕ
   pub parts : rest ≡ event_bytes b.version event ++ more
   pub next : BookState
   pub takes : Takes b event next
 
-ongoing : (version : Version) (b : BookState) (w : Written) (c : BookState) (rest more : List ℕ) → b.version ≡ version → IsWritten version w → rest ≡ event_bytes version w ++ more → Takes b w c → IsOngoing b rest
+ongoing : (version : Version) (b : BookState) (w : RawEntry) (c : BookState) (rest more : List ℕ) → b.version ≡ version → IsWritten version w → rest ≡ event_bytes version w ++ more → Takes b w c → IsOngoing b rest
 ongoing version b w c rest more same legal parts t = record {
   event = w;
   legal = subst (λ (x : Version). IsWritten x w) (sym same) legal;
@@ -109,15 +109,15 @@ ongoing version b w c rest more same legal parts t = record {
   takes = t;
 }
 
-record IsSame (us vs : List Written) (b c : BookState) (rest more : List ℕ) : Type 0 where
+record IsSame (us vs : List RawEntry) (b c : BookState) (rest more : List ℕ) : Type 0 where
   book : b ≡ c
   left : rest ≡ more
   many : length us ≡ length vs
 
-abbrev Compared : List Written → List Written → BookState → BookState → List ℕ → List ℕ → Type 0
+abbrev Compared : List RawEntry → List RawEntry → BookState → BookState → List ℕ → List ℕ → Type 0
 Compared us vs b c rest more = IsSame us vs b c rest more ⊎ (IsOngoing b rest ⊎ IsOngoing c more)
 
-longer : (u v : Written) (us vs : List Written) (b c : BookState) (rest more : List ℕ) → Compared us vs b c rest more → Compared (u ∷ us) (v ∷ vs) b c rest more
+longer : (u v : RawEntry) (us vs : List RawEntry) (b c : BookState) (rest more : List ℕ) → Compared us vs b c rest more → Compared (u ∷ us) (v ∷ vs) b c rest more
 longer u v us vs b c rest more (inl s) = inl (record { book = s.book; left = s.left; many = ap suc s.many })
 longer u v us vs b c rest more (inr o) = inr o
 
@@ -134,13 +134,13 @@ pub record IsOne (n m : ℕ) (b c : BookState) (rest more : List ℕ) : Type 0 w
   pub book : b ≡ c
   pub left : rest ≡ more
 
-settle : (us vs : List Written) (b c : BookState) (rest more : List ℕ) → Compared us vs b c rest more → Stops b rest → Stops c more → IsSame us vs b c rest more
+settle : (us vs : List RawEntry) (b c : BookState) (rest more : List ℕ) → Compared us vs b c rest more → Stops b rest → Stops c more → IsSame us vs b c rest more
 settle us vs b c rest more (inl s) stop halt = s
 settle us vs b c rest more (inr (inl o)) stop halt = absurd (stop o)
 settle us vs b c rest more (inr (inr o)) stop halt = absurd (halt o)
 
 module _ (one_longest : OneLongest) (one_head : OneHead) (one_event : OneEvent) where
-  walk : (version : Version) (us vs : List Written) (first b c : BookState) (rest more : List ℕ) → first.version ≡ version → AllByRecursion (IsWritten version) us → AllByRecursion (IsWritten version) vs → TakesAll first us b → TakesAll first vs c
+  walk : (version : Version) (us vs : List RawEntry) (first b c : BookState) (rest more : List ℕ) → first.version ≡ version → AllByRecursion (IsWritten version) us → AllByRecursion (IsWritten version) vs → TakesAll first us b → TakesAll first vs c
       → flat_map (event_bytes version) us ++ rest ≡ flat_map (event_bytes version) vs ++ more → Compared us vs b c rest more
   walk version [] [] first b c rest more own p q s t h = inl (record { book = s ∙ sym t; left = h; many = refl })
   walk version [] (v ∷ vs) first b c rest more own p q s t h =
@@ -152,7 +152,7 @@ module _ (one_longest : OneLongest) (one_head : OneHead) (one_event : OneEvent) 
   walk version (u ∷ us) (v ∷ vs) first b c rest more own p q s t h =
       let e = one_event version u v (flat_map (event_bytes version) us ++ rest) (flat_map (event_bytes version) vs ++ more) p.0 q.0
       (sym (append_assoc (event_bytes version u) (flat_map (event_bytes version) us) rest) ∙ h ∙ append_assoc (event_bytes version v) (flat_map (event_bytes version) vs) more) in
-      let same : s.0 ≡ t.0 = takes_one one_longest first v s.0 t.0 (subst (λ (x : Written). Takes first x s.0) e.0 s.1) t.1 in
+      let same : s.0 ≡ t.0 = takes_one one_longest first v s.0 t.0 (subst (λ (x : RawEntry). Takes first x s.0) e.0 s.1) t.1 in
       longer u v us vs b c rest more
       (walk version us vs s.0 b c rest more (takes-version first u s.0 s.1 ∙ own) p.1 q.1 s.2 (subst (λ (x : BookState). TakesAll x vs c) (sym same) t.2) e.1)
 
@@ -171,7 +171,7 @@ module _ (one_longest : OneLongest) (one_head : OneHead) (one_event : OneEvent) 
 no_cons : (x : ℕ) (xs : List ℕ) → [] ≡ x ∷ xs → ⊥
 no_cons x xs h = absurd (cc)
 
-pub no_event : (version : Version) (w : Written) (more : List ℕ) → [] ≡ event_bytes version w ++ more → ⊥
+pub no_event : (version : Version) (w : RawEntry) (more : List ℕ) → [] ≡ event_bytes version w ++ more → ⊥
 no_event version w more h = no_cons _ _ h
 
 pub end_stops : (b : BookState) → Stops b []
@@ -228,13 +228,13 @@ first_for x y (Some ids) n config id f = sym (λ i. node.founded (config i) (id 
 first_for x y None n config id f = f ∙ (λ i. (node.entered (config i) (id i)).0)
 
 -- the entries of events that are taken
-record IsTaken (version : Version) (s : BookState) (ws : List Written) (b : BookState) : Type 0 where
+record IsTaken (version : Version) (s : BookState) (ws : List RawEntry) (b : BookState) : Type 0 where
   entries : List Entry
   written : map written_of entries ≡ ws
   legal : AllByRecursion (IsEntry version) entries
   replays : Replays s entries b
 
-taken : (version : Version) (ws : List Written) (s b : BookState) → s.version ≡ version → TakesAll s ws b → IsTaken version s ws b
+taken : (version : Version) (ws : List RawEntry) (s b : BookState) → s.version ≡ version → TakesAll s ws b → IsTaken version s ws b
 taken version [] s b own t = record { entries = []; written = refl; legal = tt; replays = t }
 taken version (w ∷ ws) s b own t =
     let first = t.1 in
@@ -256,7 +256,7 @@ leads_journalled bytes n b l right =
     let journal : b.desk.journal ≡ t.entries = later.adds in
     let head : l.head ≡ head_of b = ap head_of later.same in
     let spelled : flat_map (event_bytes version) l.events ++ [] ≡ entries_bytes version b.desk.journal =
-    ap (λ (ws : List Written). flat_map (event_bytes version) ws ++ []) (sym t.written) ∙ sym (written_bytes version t.entries) ∙ ap (entries_bytes version) (sym journal) in
+    ap (λ (ws : List RawEntry). flat_map (event_bytes version) ws ++ []) (sym t.written) ∙ sym (written_bytes version t.entries) ∙ ap (entries_bytes version) (sym journal) in
     let begins : IsFirst b f.node l.head.founders =
     first_for first b l.head.founders f.node (ap (λ (x : BookState). x.config) later.same) (ap (λ (x : BookState). x.id) later.same) f.first in
     let replayed : Replays (new_book b.version b.id b.config b.founders f.node) t.entries b =

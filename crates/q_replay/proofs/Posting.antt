@@ -84,9 +84,9 @@ own_posts d node k j ran r room =
     let fits = own_fits d.programs node k r.query r.view r.program r.named (same_program r.program) in
     let said : Outcome = Ok (tt, after) in
     let own : desk.posted d node made ran ≡ Ok (tt, after) =
-        tested_pass ((node == node, fault.Stranger) ∷ []) (desk.posted_at d made ran (slice_get d.queries k)) (same_number node, tt)
-        ∙ ap (desk.posted_at d made ran) r.at ∙ ap (desk.posted_to d made ran r.query) r.phase
-        ∙ tested_pass ((desk.is_job_of d.programs made r.query r.view, fault.Stranger) ∷ desk.room d) said (fits, (room, tt)) in
+    tested_pass ((node == node, fault.Stranger) ∷ []) (desk.posted_at d made ran (slice_get d.queries k)) (same_number node, tt)
+    ∙ ap (desk.posted_at d made ran) r.at ∙ ap (desk.posted_to d made ran r.query) r.phase
+    ∙ tested_pass ((desk.is_job_of d.programs made r.query r.view, fault.Stranger) ∷ desk.room d) said (fits, (room, tt)) in
     (after, subst (λ (i : Job). desk.posted d node i ran ≡ Ok (tt, after)) r.is own)
 
 -- the query's answer, once it is recorded

@@ -12,11 +12,11 @@ use Rattle.q_book.specs.Books.{record_lengths}
 use Rattle.q_book.specs.Replays.{IsReplay}
 use Rattle.q_journal.specs.Head.{Head}
 use Rattle.q_journal.specs.Spelling.{head_bytes, event_bytes, IsHead, IsWritten}
-use Rattle.q_journal.specs.declared.written.Written.{Written}
-use Rattle.q_journal.specs.declared.written.Written.TheVariants as written
+use Rattle.q_journal.specs.declared.raw_entry.RawEntry.{RawEntry}
+use Rattle.q_journal.specs.declared.raw_entry.RawEntry.TheVariants as written
 
 -- an entry as the bytes hold it
-abbrev pub written_of : Entry → Written
+abbrev pub written_of : Entry → RawEntry
 written_of entry.Leave = written.Leave
 written_of (entry.Register program) = written.Register program.text program.notes
 written_of (entry.Ask program start) = written.Ask program start

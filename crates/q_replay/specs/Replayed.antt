@@ -14,7 +14,7 @@ use Rattle.q_book.specs.Replays.{Follows}
 use Rattle.q_book.specs.declared.fault.BookFault.{BookFault}
 use Rattle.q_journal.specs.Head.{Head}
 use Rattle.q_journal.specs.Spelling.{head_bytes, event_bytes, IsHead, IsWritten}
-use Rattle.q_journal.specs.declared.written.Written.{Written}
+use Rattle.q_journal.specs.declared.raw_entry.RawEntry.{RawEntry}
 use Rattle.q_replay.specs.Journal.{written_of, IsEntry}
 use Rattle.q_replay.specs.declared.fault.ReplayFault.{ReplayFault}
 use Rattle.q_replay.specs.declared.fault.ReplayFault.TheVariants.{Form, Mismatch, OutOfMemory}
@@ -37,7 +37,7 @@ IsAnswering b (entry.Post query ran) = (j : Job) × (running_job b.desk b.id que
 IsAnswering b e = Unit {0}
 
 -- the call of an event is accepted, and an answer that it names is right
-pub record Takes (b : BookState) (w : Written) (c : BookState) : Type 0 where
+pub record Takes (b : BookState) (w : RawEntry) (c : BookState) : Type 0 where
   pub called : Entry
   pub legal : IsEntry b.version called
   pub is : written_of called ≡ w
@@ -47,7 +47,7 @@ pub record Takes (b : BookState) (w : Written) (c : BookState) : Type 0 where
 -- ---- all events
 
 -- the events lead from one book to another
-abbrev pub TakesAll : BookState → List Written → BookState → Type 0
+abbrev pub TakesAll : BookState → List RawEntry → BookState → Type 0
 TakesAll b [] c = c ≡ b
 TakesAll b (w ∷ ws) c = (between : BookState) × Takes b w between × TakesAll between ws c
 
@@ -57,7 +57,7 @@ pub record Leads (bytes : List ℕ) (count : ℕ) (b : BookState) (rest : List �
   pub legal : IsHead head
   pub first : BookState
   pub begins : Begins head first
-  pub events : List Written
+  pub events : List RawEntry
   pub written : AllByRecursion (IsWritten head.version) events
   pub takes : TakesAll first events b
   pub parts : bytes ≡ head_bytes head ++ (flat_map (event_bytes head.version) events ++ rest)
@@ -78,7 +78,7 @@ pub record IsUntaken (bytes : List ℕ) (count : ℕ) : Type 0 where
   pub book : BookState
   pub rest : List ℕ
   pub leads : Leads bytes count book rest
-  pub event : Written
+  pub event : RawEntry
   pub legal : IsWritten book.version event
   pub more : List ℕ
   pub parts : rest ≡ event_bytes book.version event ++ more

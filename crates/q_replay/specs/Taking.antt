@@ -9,7 +9,7 @@ use Rattle.q_book.specs.Replays.{Follows}
 use Rattle.q_book.specs.declared.fault.BookFault.{BookFault}
 use Rattle.q_book.specs.declared.fault.BookFault.TheVariants as book_fault
 use Rattle.q_journal.specs.Head.{Head}
-use Rattle.q_journal.specs.declared.written.Written.{Written}
+use Rattle.q_journal.specs.declared.raw_entry.RawEntry.{RawEntry}
 use Rattle.q_replay.specs.Replayed.{IsAnswering, Begins, Takes}
 use Rattle.q_replay.specs.declared.refusal.Refusal.{Refusal}
 use Rattle.q_replay.specs.declared.refusal.Refusal.TheVariants.{Mismatch, OutOfMemory}
@@ -29,7 +29,7 @@ Beginning h (Err Mismatch) = (b : BookState) → Begins h b → ⊥
 Beginning h (Err OutOfMemory) = Unit {0}
 
 -- the event leads to this book, or to none
-abbrev pub Taking : BookState → Written → BookState → Result (Unit {0}) Refusal → Type 0
+abbrev pub Taking : BookState → RawEntry → BookState → Result (Unit {0}) Refusal → Type 0
 Taking old w new (Ok u) = Takes old w new
 Taking old w new (Err Mismatch) = (c : BookState) → Takes old w c → ⊥
 Taking old w new (Err OutOfMemory) = Unit {0}

@@ -2,7 +2,7 @@
 
 ghost use Rattle.q_desk.specs.declared.journal.Entry.TheVariants as entry;
 ghost use Rattle.q_journal.specs.Spelling.{IsWritten};
-ghost use Rattle.q_journal.specs.declared.written.Written.TheVariants as written;
+ghost use Rattle.q_journal.specs.declared.raw_entry.RawEntry.TheVariants as written;
 ghost use Rattle.q_replay.specs.Taking.{Taking, Calling};
 
 use crate::refusal::Refusal;
@@ -12,7 +12,7 @@ use bq_frame::Block;
 use bq_insn::Text;
 use bq_meaning::laws::one_answer;
 use q_book::{Book, record_lengths};
-use q_journal::Written;
+use q_journal::RawEntry;
 use q_session::Done;
 use q_table::{Program, ProgramId};
 use sc_msg::Message;
@@ -91,19 +91,19 @@ pub(crate) fn take(
     alloc: Global,
     book: &mut Book,
     block: &mut Block,
-    event: Written,
+    event: RawEntry,
 ) -> Result<(), Refusal>
     requires { IsWritten book.old.version event }
     ensures { Taking book.old event book.new result }
 {
     one_longest();
     match event {
-        Written::Leave => leave(book),
-        Written::Register { text, notes } => register(alloc, book, text, notes),
-        Written::Ask { program, start } => ask(book, program, start),
-        Written::Store(value) => store(book, &value),
-        Written::Deliver(message) => deliver(book, &message),
-        Written::HandOut => hand_out(book),
-        Written::Post { query, acc, steps } => post(book, block, query, acc, steps),
+        RawEntry::Leave => leave(book),
+        RawEntry::Register { text, notes } => register(alloc, book, text, notes),
+        RawEntry::Ask { program, start } => ask(book, program, start),
+        RawEntry::Store(value) => store(book, &value),
+        RawEntry::Deliver(message) => deliver(book, &message),
+        RawEntry::HandOut => hand_out(book),
+        RawEntry::Post { query, acc, steps } => post(book, block, query, acc, steps),
     }
 }

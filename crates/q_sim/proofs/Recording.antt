@@ -16,7 +16,7 @@ use Rattle.q_book.specs.Books as book
 use Rattle.q_book.specs.declared.fault.BookFault.{BookFault}
 use Rattle.q_book.proofs.Parts.{desk-parts}
 use Rattle.q_history.specs.declared.event.ClusterStep.{ClusterStep}
-use Rattle.q_history.specs.declared.event.Told.TheVariants as told
+use Rattle.q_history.specs.declared.event.EventAnswer.TheVariants as told
 use Rattle.q_history.specs.State.{ClusterState}
 use Rattle.q_history.specs.Heads.{book_of}
 use Rattle.q_history.specs.Clusters.{lift, posts, posted, finished}

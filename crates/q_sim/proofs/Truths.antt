@@ -10,8 +10,8 @@ use Rattle.q_script.specs.declared.script.Script.{Script}
 use Rattle.q_history.specs.declared.event.ClusterEvent.{ClusterEvent}
 use Rattle.q_history.specs.declared.event.ClusterEvent.TheVariants as event
 use Rattle.q_history.specs.declared.event.ClusterStep.{ClusterStep}
-use Rattle.q_history.specs.declared.event.Told.{Told}
-use Rattle.q_history.specs.declared.event.Told.TheVariants as told
+use Rattle.q_history.specs.declared.event.EventAnswer.{EventAnswer}
+use Rattle.q_history.specs.declared.event.EventAnswer.TheVariants as told
 use Rattle.q_history.specs.declared.fault.ClusterFault.{ClusterFault}
 use Rattle.q_history.specs.State.{ClusterState}
 use Rattle.q_history.specs.Calls.{Reaches, Takes}
@@ -25,7 +25,7 @@ use Rattle.q_sim.proofs.Leading.{Leads, any_with, leads_itself, leads_on, IsLed,
 use Rattle.q_sim.proofs.Recording.{IsRecorded, finish_recorded}
 
 -- what is printed of it is its line alone
-only_line : (c : ClusterState) (stepped : ClusterStep) (t : Told) → stepped.told ≡ t → stepped.sent.count ≡ 0 → printed c (Ok stepped) ≡ told_lines t
+only_line : (c : ClusterState) (stepped : ClusterStep) (t : EventAnswer) → stepped.told ≡ t → stepped.sent.count ≡ 0 → printed c (Ok stepped) ≡ told_lines t
 only_line c stepped t tells silent =
     ap (λ n. told_lines stepped.told ++ message_lines c.world.sent stepped.sent.first n) silent
     ∙ append-nil (told_lines stepped.told)

@@ -10,8 +10,8 @@ use Rattle.sc_world.specs.Operations.{IsMeeting}
 use Rattle.q_desk.specs.declared.completed.Completed.{Completed}
 use Rattle.q_desk.specs.declared.completed.Completed.TheVariants as completed
 use Rattle.q_history.specs.declared.event.Handed.{Handed}
-use Rattle.q_history.specs.declared.event.Told.{Told}
-use Rattle.q_history.specs.declared.event.Told.TheVariants as told
+use Rattle.q_history.specs.declared.event.EventAnswer.{EventAnswer}
+use Rattle.q_history.specs.declared.event.EventAnswer.TheVariants as told
 use Rattle.q_history.specs.declared.event.ClusterStep.{ClusterStep}
 use Rattle.q_history.specs.declared.fault.ClusterFault.{ClusterFault}
 use Rattle.q_history.specs.State.{ClusterState}
@@ -32,7 +32,7 @@ job_line None = codes "no job\n"
 job_line (Some h) = codes "job " ++ (decimal h.job ++ (codes " query " ++ ending h.query))
 
 -- what an accepted event tells beside its messages
-abbrev pub told_lines : Told → List ℕ
+abbrev pub told_lines : EventAnswer → List ℕ
 told_lines told.Entered = codes "ok\n"
 told_lines told.Left = codes "ok\n"
 told_lines told.Crashed = codes "ok\n"

@@ -10,7 +10,7 @@ use Rattle.q_script.specs.declared.line.ScriptLine.{ScriptLine}
 use Rattle.q_script.specs.declared.line.ScriptLine.TheVariants.{Run}
 use Rattle.q_history.specs.Headline as headline
 use Rattle.q_history.specs.State.{ClusterState}
-use Rattle.q_history.specs.declared.event.Told.TheVariants as told
+use Rattle.q_history.specs.declared.event.EventAnswer.TheVariants as told
 use Rattle.q_history.specs.declared.fault.ClusterFault.{ClusterFault}
 use Rattle.q_sim.specs.declared.refusal.Refusal.TheVariants.{Cluster}
 use Rattle.q_sim.specs.Printing.{told_lines}

@@ -5,28 +5,34 @@ ghost use Rattle.q_sim.specs.Printing.{told_lines, message_line, message_lines};
 
 use q_cluster::Cluster;
 use q_desk::Completed;
-use q_history::{Answer, Handed, Told};
+use q_history::{Answer, EventAnswer, Handed};
 use sc_world::Sent;
 use std::alloc::AllocError;
 
 /// Prints what an accepted event tells beside its messages.
-pub fn print_told(lines: &mut String, told: &Told) -> Result<(), AllocError>
+pub fn print_told(lines: &mut String, told: &EventAnswer) -> Result<(), AllocError>
     ensures { OnOk result (string_bytes lines.new ≡ string_bytes lines.old ++ told_lines told.now) }
 {
     match told {
-        Told::Entered | Told::Left | Told::Crashed => writeln!(lines, "ok"),
-        Told::Registered(program) => {
+        EventAnswer::Entered | EventAnswer::Left | EventAnswer::Crashed => writeln!(lines, "ok"),
+        EventAnswer::Registered(program) => {
             let program = program.number();
             writeln!(lines, "program {program}")
         }
-        Told::Asked(query) => writeln!(lines, "query {query}"),
-        Told::Stored(tag) => writeln!(lines, "store {tag}"),
-        Told::Delivered(None) => Ok(()),
-        Told::Delivered(Some(Completed::Stored(tag))) => writeln!(lines, "stored {tag}"),
-        Told::Delivered(Some(Completed::Returned(query))) => writeln!(lines, "returned {query}"),
-        Told::HandedOut(None) => writeln!(lines, "no job"),
-        Told::HandedOut(Some(Handed { job, query })) => writeln!(lines, "job {job} query {query}"),
-        Told::Finished(Answer { node, query, ran }) => {
+        EventAnswer::Asked(query) => writeln!(lines, "query {query}"),
+        EventAnswer::Stored(tag) => writeln!(lines, "store {tag}"),
+        EventAnswer::Delivered(None) => Ok(()),
+        EventAnswer::Delivered(Some(Completed::Stored(tag))) => writeln!(lines, "stored {tag}"),
+        EventAnswer::Delivered(Some(Completed::Returned(query))) => writeln!(
+            lines,
+            "returned {query}"
+        ),
+        EventAnswer::HandedOut(None) => writeln!(lines, "no job"),
+        EventAnswer::HandedOut(Some(Handed { job, query })) => writeln!(
+            lines,
+            "job {job} query {query}"
+        ),
+        EventAnswer::Finished(Answer { node, query, ran }) => {
             let acc = ran.acc;
             let steps = ran.steps;
             writeln!(lines, "answer {node} {query} {acc} {steps}")

@@ -14,7 +14,7 @@ ghost use Rattle.q_history.specs.Calls.{Takes};
 ghost use Rattle.q_history.specs.Faults.{memory};
 ghost use Rattle.q_history.specs.State.{ClusterState};
 ghost use Rattle.q_history.specs.declared.event.ClusterEvent.TheVariants as event;
-ghost use Rattle.q_history.specs.declared.event.Told.TheVariants as told;
+ghost use Rattle.q_history.specs.declared.event.EventAnswer.TheVariants as told;
 ghost use Rattle.q_history.specs.declared.fault.ClusterFault.TheVariants as cluster_fault;
 ghost use Rattle.q_script.specs.declared.line.ScriptLine.TheVariants as line;
 ghost use Rattle.q_script.specs.declared.founding.Founding.{Founding};

@@ -5,7 +5,7 @@ use Rattle.sc_msg.specs.declared.version.Version.TheVariants.{First, Second}
 use Rattle.sc_msg.specs.Numbers.{number_bytes}
 use Rattle.sc_msg.specs.Values.{version_byte}
 use Rattle.q_journal.specs.Spelling.{config_bytes, start_bytes, event_bytes, IsWritten}
-use Rattle.q_journal.specs.declared.written.Written.TheVariants.{Post}
+use Rattle.q_journal.specs.declared.raw_entry.RawEntry.TheVariants.{Post}
 use Rattle.q_journal.proofs.Fronts.{head_on, behind_format}
 use Rattle.q_journal.proofs.worked.worked.Goals as goal
 

@@ -3,12 +3,12 @@ use Rattle.std.proofs.Common.{◌≡◌, ℕ, List, [], ◌∷◌, ◌++◌, len
 use Rattle.sc_msg.specs.declared.version.Version.{Version}
 use Rattle.sc_msg.specs.Numbers.{number_bytes}
 use Rattle.q_journal.specs.Spelling.{event_bytes}
-use Rattle.q_journal.specs.declared.written.Written.{Written}
-use Rattle.q_journal.specs.declared.written.Written.TheVariants.{Leave}
+use Rattle.q_journal.specs.declared.raw_entry.RawEntry.{RawEntry}
+use Rattle.q_journal.specs.declared.raw_entry.RawEntry.TheVariants.{Leave}
 use Rattle.q_journal.proofs.Fronts.{head_front}
 use Rattle.q_replay.proofs.worked.worked.Goals as goal
 
-none_before : (version : Version) (events : List Written) (bytes rest : List ℕ) → 0 ≡ length events → bytes ≡ flat_map (event_bytes version) events ++ rest → rest ≡ bytes
+none_before : (version : Version) (events : List RawEntry) (bytes rest : List ℕ) → 0 ≡ length events → bytes ≡ flat_map (event_bytes version) events ++ rest → rest ≡ bytes
 none_before version [] bytes rest many is = sym is
 none_before version (w ∷ ws) bytes rest many is = absurd (omega (arith, many))
 

@@ -4,7 +4,7 @@ use Rattle.std.proofs.lemmas.Result.{err_from_is_err_and}
 use Rattle.q_session.specs.declared.job.Job.{Job}
 use Rattle.q_session.specs.declared.ran.Ran.{Ran}
 use Rattle.q_history.specs.declared.event.ClusterStep.{ClusterStep}
-use Rattle.q_history.specs.declared.event.Told.TheVariants as told
+use Rattle.q_history.specs.declared.event.EventAnswer.TheVariants as told
 use Rattle.q_cluster.proofs.Finishing.{finish_stays, finish_turns, finish_says, finish_goes}
 use Rattle.q_cluster.proofs.cluster.Cluster.finish.Goals as goal
 

@@ -5,7 +5,7 @@ use Rattle.q_cluster.proofs.Histories.{nothing}
 use Rattle.q_cluster.proofs.Calls.{registering}
 use Rattle.q_cluster.proofs.Going.{standing, stays, refuses, quiet_says, quiet_goes}
 use Rattle.q_cluster.proofs.cluster.Cluster.register.Goals as goal
-use Rattle.q_history.specs.declared.event.Told.TheVariants as told
+use Rattle.q_history.specs.declared.event.EventAnswer.TheVariants as told
 
 pub invariant_of-self : goal.invariant_of-self
 invariant_of-self c =

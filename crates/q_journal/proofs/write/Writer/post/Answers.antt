@@ -2,7 +2,7 @@
 use Rattle.std.proofs.Common.{◌≡◌, ◌++◌, sym}
 use Rattle.std.proofs.lemmas.Result.{on_ok_weaker}
 use Rattle.sc_msg.specs.Numbers.{number_bytes}
-use Rattle.q_journal.specs.declared.written.Written.TheVariants.{Post}
+use Rattle.q_journal.specs.declared.raw_entry.RawEntry.TheVariants.{Post}
 use Rattle.q_journal.proofs.Sizes.{length-posted}
 use Rattle.q_journal.proofs.Writes.{three, event_written, written_on}
 use Rattle.q_journal.proofs.write.Writer.post.Goals as goal

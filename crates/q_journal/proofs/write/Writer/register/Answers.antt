@@ -3,7 +3,7 @@
 use Rattle.std.proofs.Common.{◌≡◌, ◌≤◌, ◌+◌, ◌++◌, length, ap, ◌∙◌, arith}
 use Rattle.std.proofs.lemmas.Result.{on_ok_weaker}
 use Rattle.q_journal.specs.Spelling.{form_of}
-use Rattle.q_journal.specs.declared.written.Written.TheVariants.{Register}
+use Rattle.q_journal.specs.declared.raw_entry.RawEntry.TheVariants.{Register}
 use Rattle.q_journal.proofs.Sizes.{text_small, notes_small}
 use Rattle.q_journal.proofs.Writes.{registered_written, written_on}
 use Rattle.q_journal.proofs.write.Writer.register.Goals as goal

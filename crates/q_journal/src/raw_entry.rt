@@ -1,13 +1,13 @@
-//! Events as a journal holds them.
+//! Entries as the bytes of a journal spell them.
 
 use bq_check::Notes;
 use bq_insn::Text;
 use sc_msg::Message;
 use sc_view::Value;
 
-/// An event of a node as a journal holds it.
+/// An entry of a journal as its bytes spell it. That a node took it is not looked at.
 #[derive(Drop)]
-pub enum Written {
+pub enum RawEntry {
     /// The node left for good.
     Leave,
     /// A program was registered, with these notes.
