@@ -26,10 +26,6 @@ pub record AppendsPart (old new : Option (List ℕ)) (bytes : List ℕ) : Type 0
 abbrev pub IsKept : RecorderState → Type 0
 IsKept r = IfSome r.kept (λ bytes. r.file ≡ Some bytes)
 
--- where that is wanted, all that was written is kept
-abbrev pub KeepsAll : RecorderState → Type 0
-KeepsAll r = r.keeps ≡ true → r.begun ≡ true → r.broken ≡ false → IsKept r
-
 -- all that lacked is appended, and kept where that is wanted
 pub record RecordsAll (old : RecorderState) (b : BookState) (new : RecorderState) : Type 0 where
   pub sound : old.broken ≡ false

@@ -28,18 +28,15 @@ pub struct Recorder<J: JournalFile> {
 
 impl<J: JournalFile> Model for Recorder<J> {
     ghost use Rattle.q_recorder.specs.State.{RecorderState};
-    ghost use Rattle.q_recorder.specs.Recording.{KeepsAll};
 
     ghost Value = { RecorderState };
 
     ghost view = { λ r. record { file = J.contents r.file.inner; kept = J.kept r.file.inner; begun = r.begun; written = r.written; broken = r.broken; keeps = r.keeps } };
-
-    ghost invariant = { λ r. KeepsAll (record { file = J.contents r.file.inner; kept = J.kept r.file.inner; begun = r.begun; written = r.written; broken = r.broken; keeps = r.keeps }) };
 }
 
 impl<J: JournalFile> Recorder<J> {
-    /// A recorder that wrote nothing yet. Where it keeps, each call of `record` that writes ends by asking the system to
-    /// keep what was written, also where the power fails.
+    /// A recorder that wrote nothing yet. Where it keeps, each call of `record` ends by asking the system to keep what
+    /// was written, also where the power fails.
     pub fn new(file: J, keeps: bool) -> Recorder<J>
         ensures new { result ≡ record { file = J.contents file; kept = J.kept file; begun = false; written = 0; broken = false; keeps = keeps } }
         ensures recorded { (b : BookState) → IsRecorded (J.contents file) b result }
@@ -68,10 +65,6 @@ impl<J: JournalFile> Recorder<J> {
             return Err(Unrecorded::Failed);
         }
         let bytes = self.lacking(alloc, book)?;
-        if self.begun && bytes.is_empty() {
-            self.written = book.events();
-            return Ok(());
-        }
         let Ok(()) = append(&mut self.file, &bytes, self.keeps) else {
             self.broken = true;
             return Err(Unrecorded::Failed);
