@@ -44,7 +44,7 @@ use Rattle.q_history.specs.Heads.{book_of}
 use Rattle.q_history.specs.Clusters.{at as at_node, enters, entered, registers, opened, asks, stores, delivers, delivered_as, hands, posts, posted, finished, leaves}
 use Rattle.q_history.specs.Calls.{Answers, IsHistory}
 use Rattle.q_history.proofs.Lists.{same_some, no_some}
-use Rattle.q_desk.proofs.Accepted.{Keeps, keeps_itself, answered, IsPosted}
+use Rattle.q_desk.proofs.Accepted.{Keeps, keeps_itself, answered as with_answer, IsPosted}
 use Rattle.bq_insn.specs.Slots.{spelling}
 use Rattle.q_table.specs.Programs as table
 use Rattle.q_desk.proofs.Own.{job_by, and_both, same_bytes, same_number, own_fits}
@@ -136,7 +136,7 @@ Posted = Result (Unit {0} × DeskState) DeskFault
 
 -- what is posted for a query that runs
 abbrev answers : DeskState → ViewMap → Ran → ℕ → Posted
-answers d view ran k = tested (desk.room d) (Ok (tt, answered d k view ran))
+answers d view ran k = tested (desk.room d) (Ok (tt, with_answer d k view ran))
 
 -- two jobs of one query
 module _ (d : DeskState) (node : ℕ) (i j : Job) (ran : Ran) (q : Query) (view : ViewMap) (same : j.query ≡ i.query) (at : slice_get d.queries i.query ≡ Some q) (phase : q.phase ≡ Running view) where
