@@ -24,7 +24,7 @@ use Rattle.q_history.specs.Heads.{founders_for}
 use Rattle.q_history.specs.Clusters.{start, started, founded}
 use Rattle.q_history.specs.declared.fault.ClusterFault.{ClusterFault}
 use Rattle.q_history.proofs.Lists.{same_some, no_some}
-use Rattle.q_merge.specs.Gathered.{HasBook, AreDistinct, AgreeOn}
+use Rattle.q_gather.specs.Gathered.{HasBook, AreDistinct, AgreeOn}
 use Rattle.q_gather.specs.Gather.{AreReplayed, Agree, IsRefused}
 use Rattle.q_gather.specs.Heads.{IsHeaded, AreHeaded, AreThere, HasHead}
 use Rattle.q_gather.specs.declared.fault.GatherFault.TheVariants.{BadFounders}

@@ -13,17 +13,17 @@ use Rattle.q_history.specs.State.{ClusterState}
 use Rattle.q_history.specs.Calls.{Follows}
 use Rattle.q_history.proofs.Lists.{same_some, no_some}
 use Rattle.q_cluster.specs.Acts.{book_at}
-use Rattle.q_merge.specs.Merging.{Step, CanGo, AreOver, Merges}
-use Rattle.q_merge.specs.Merging.Merges.{Over, Takes}
-use Rattle.q_merge.specs.Traces.{IsTraceFrom}
-use Rattle.q_merge.specs.Turns.{IsTurn}
-use Rattle.q_merge.specs.Numbers.{NumberList, AreNumbers}
-use Rattle.q_merge.specs.Gathered.{IsAt, Goes}
-use Rattle.q_merge.specs.Gathered.IsAt.{Away, There}
-use Rattle.q_merge.proofs.Lists.{get_after}
-use Rattle.q_merge.proofs.Merging.{merges_next, merges_stuck}
-use Rattle.q_merge.proofs.Gathering.{goes_by, gathered, done_at, over_at}
-use Rattle.q_merge.proofs.Tracing.{traces_one}
+use Rattle.q_gather.specs.Merging.{Step, CanGo, AreOver, Merges}
+use Rattle.q_gather.specs.Merging.Merges.{Over, Takes}
+use Rattle.q_gather.specs.Traces.{IsTraceFrom}
+use Rattle.q_gather.specs.Turns.{IsTurn}
+use Rattle.q_gather.specs.Numbers.{NumberList, AreNumbers}
+use Rattle.q_gather.specs.Gathered.{IsAt, Goes}
+use Rattle.q_gather.specs.Gathered.IsAt.{Away, There}
+use Rattle.q_gather.proofs.Lists.{get_after}
+use Rattle.q_gather.proofs.Merging.{merges_next, merges_stuck}
+use Rattle.q_gather.proofs.BooksGather.{goes_by, gathered, done_at, over_at}
+use Rattle.q_gather.proofs.Tracing.{traces_one}
 use Rattle.q_gather.specs.Gather.{Merge}
 use Rattle.q_gather.specs.Gathering.{IsNextOf, IsNextAmong, HasTaken, HaveTaken, AreIdle, IsGathering, IsMerged}
 use Rattle.q_gather.proofs.Turns.{Turn, left_by, all_left, turn_of, next_is, left_later, less_left, trace_length}

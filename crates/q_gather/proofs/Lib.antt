@@ -1,4 +1,26 @@
--- That the events which are found gather the books.
+-- That merging is free, that an entry of a journal is an event of a cluster, that beginnings merge where books do, and
+-- that the events which are found gather the books.
+pub mod Lists
+pub mod Merging
+pub mod Turning
+pub mod Jobs
+pub mod EveryJob
+pub mod Entries
+pub mod Keeping
+pub mod BooksGather
+pub mod Beginning
+pub mod Tracing
+pub mod NumberFinding
+pub mod FrontLists
+pub mod Fronts
+pub mod Senders
+pub mod FrontsTraced
+pub mod Known
+pub mod FrontsGather
+pub mod Cutting
+pub mod BookHeads
+pub mod Moving
+pub mod Merged
 pub mod Table
 pub mod Finding
 pub mod Turns

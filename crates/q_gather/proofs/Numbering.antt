@@ -11,7 +11,7 @@ use Rattle.q_book.specs.State.{BookState}
 use Rattle.q_history.specs.State.{ClusterState}
 use Rattle.q_history.proofs.Lists.{same_some}
 use Rattle.q_cluster.specs.Acts.{book_at}
-use Rattle.q_merge.specs.Numbers.{NumberList, added, AreNumbers}
+use Rattle.q_gather.specs.Numbers.{NumberList, added, AreNumbers}
 use Rattle.q_gather.specs.Gathering.{HasTaken}
 
 abbrev pub OneMore : Type 0

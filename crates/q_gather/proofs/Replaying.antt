@@ -12,8 +12,8 @@ use Rattle.q_replay.specs.Journal.{journal_of, IsJournalled}
 use Rattle.q_replay.specs.Replayed.{IsFault}
 use Rattle.q_replay.specs.declared.fault.ReplayFault.{ReplayFault}
 use Rattle.q_replay.specs.declared.fault.ReplayFault.TheVariants as replay_fault
-use Rattle.q_merge.specs.Gathered.{AreDistinct, IsGathered}
-use Rattle.q_merge.proofs.Merging.{same_first}
+use Rattle.q_gather.specs.Gathered.{AreDistinct, IsGathered}
+use Rattle.q_gather.proofs.Merging.{same_first}
 use Rattle.q_gather.specs.Gather.{AreReplayed, Agree, Merge, Gathers, GathersBooks, IsFaulty, IsRefused, AreRefused}
 use Rattle.q_gather.specs.Faults.{of_replay}
 use Rattle.q_gather.specs.declared.fault.GatherFault.{GatherFault}

@@ -8,13 +8,13 @@ use Rattle.q_book.specs.State.{BookState}
 use Rattle.q_history.specs.State.{ClusterState}
 use Rattle.q_history.specs.Clusters.{start}
 use Rattle.q_history.proofs.Lists.{same_some, no_some}
-use Rattle.q_merge.specs.Merging.{Step}
-use Rattle.q_merge.specs.Numbers.{NumberList}
-use Rattle.q_merge.specs.Traces.{IsTrace}
-use Rattle.q_merge.specs.Gathered.{AreDistinct, AreRight, AgreeOn, AreTraces, IsGathered}
-use Rattle.q_merge.proofs.Tracing.{trace_some}
-use Rattle.q_merge.proofs.Beginning.{begins}
-use Rattle.q_merge.proofs.Finding.{no_numbers}
+use Rattle.q_gather.specs.Merging.{Step}
+use Rattle.q_gather.specs.Numbers.{NumberList}
+use Rattle.q_gather.specs.Traces.{IsTrace}
+use Rattle.q_gather.specs.Gathered.{AreDistinct, AreRight, AgreeOn, AreTraces, IsGathered}
+use Rattle.q_gather.proofs.Tracing.{trace_some}
+use Rattle.q_gather.proofs.Beginning.{begins}
+use Rattle.q_gather.proofs.NumberFinding.{no_numbers}
 use Rattle.q_gather.specs.Gather.{Agree, Merge, GathersBooks, AreRefused}
 use Rattle.q_gather.specs.Heads.{AreReplays, IsUnfounded}
 use Rattle.q_gather.specs.Gathering.{IsGathering, IsMerged, IsStuck}

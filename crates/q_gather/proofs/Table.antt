@@ -3,7 +3,7 @@ use Rattle.std.proofs.Common.{◌≡◌, ℕ, Bool, true, false, cond, List, [],
 use Rattle.std.specs.Prelude.{bytes_eq}
 use Rattle.std.specs.Map.{lookup}
 use Rattle.std.proofs.lemmas.List.{map-append}
-use Rattle.q_merge.specs.Numbers.{NumberList, number_of, added}
+use Rattle.q_gather.specs.Numbers.{NumberList, number_of, added}
 
 abbrev pub Entries : Type 0
 Entries = List (Vec ℕ Global × ℕ)

@@ -12,15 +12,15 @@ use Rattle.q_history.specs.declared.event.ClusterEvent.TheVariants as event
 use Rattle.q_history.specs.State.{ClusterState}
 use Rattle.q_history.proofs.Lists.{same_some, no_some}
 use Rattle.q_cluster.specs.Acts.{book_at}
-use Rattle.q_merge.specs.Merging.{Step, CanGo}
-use Rattle.q_merge.specs.Traces.{wants, step_of, IsTraceFrom, entering, IsTrace}
-use Rattle.q_merge.specs.Turns.{IsEventOf, IsTurn}
-use Rattle.q_merge.specs.Gathered.{IsAt, IsUnderWay}
-use Rattle.q_merge.specs.Gathered.IsAt.{Away, There}
-use Rattle.q_merge.proofs.Gathering.{NodeGoes, enter_goes, entry_goes, entry_event}
+use Rattle.q_gather.specs.Merging.{Step, CanGo}
+use Rattle.q_gather.specs.Traces.{wants, step_of, IsTraceFrom, entering, IsTrace}
+use Rattle.q_gather.specs.Turns.{IsEventOf, IsTurn}
+use Rattle.q_gather.specs.Gathered.{IsAt, IsUnderWay}
+use Rattle.q_gather.specs.Gathered.IsAt.{Away, There}
+use Rattle.q_gather.proofs.BooksGather.{NodeGoes, enter_goes, entry_goes, entry_event}
 use Rattle.q_gather.specs.Gathering.{IsNextEntry, IsNextAfter, IsNextOf}
 use Rattle.q_book.proofs.Replays.{replays_later}
-use Rattle.q_merge.proofs.Keeping.{trace_replays}
+use Rattle.q_gather.proofs.Keeping.{trace_replays}
 
 -- ---- the journal of a later book
 

@@ -10,8 +10,8 @@ use Rattle.q_replay.specs.Journal.{journal_of, IsJournalled}
 use Rattle.q_replay.specs.Replayed.{IsFault}
 use Rattle.q_replay.specs.declared.fault.ReplayFault.{ReplayFault}
 use Rattle.q_replay.specs.declared.fault.ReplayFault.TheVariants as replay_fault
-use Rattle.q_merge.specs.Merging.{Step, Merges}
-use Rattle.q_merge.specs.Gathered.{AreDistinct, AgreeOn, AreTraces, IsGathered}
+use Rattle.q_gather.specs.Merging.{Step, Merges}
+use Rattle.q_gather.specs.Gathered.{AreDistinct, AgreeOn, AreTraces, IsGathered}
 use Rattle.q_gather.specs.declared.fault.GatherFault.{GatherFault}
 use Rattle.q_gather.specs.declared.fault.GatherFault.TheVariants.{Journal, IdUsed, BadFounders, NeverSent, OutOfMemory}
 

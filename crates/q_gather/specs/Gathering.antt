@@ -8,10 +8,10 @@ use Rattle.q_history.specs.declared.event.ClusterEvent.{ClusterEvent}
 use Rattle.q_history.specs.declared.event.ClusterEvent.TheVariants as event
 use Rattle.q_history.specs.State.{ClusterState}
 use Rattle.q_cluster.specs.Acts.{book_at}
-use Rattle.q_merge.specs.Merging.{Step, Merges}
-use Rattle.q_merge.specs.Turns.{IsEventOf}
-use Rattle.q_merge.specs.Numbers.{NumberList, AreNumbers}
-use Rattle.q_merge.specs.Gathered.{AreTraces, IsGathered, IsUnderWay}
+use Rattle.q_gather.specs.Merging.{Step, Merges}
+use Rattle.q_gather.specs.Turns.{IsEventOf}
+use Rattle.q_gather.specs.Numbers.{NumberList, AreNumbers}
+use Rattle.q_gather.specs.Gathered.{AreTraces, IsGathered, IsUnderWay}
 use Rattle.q_gather.specs.Gather.{Merge}
 use Rattle.q_gather.specs.declared.rounds.Rounds.{Rounds}
 use Rattle.q_gather.specs.declared.fault.GatherFault.{GatherFault}

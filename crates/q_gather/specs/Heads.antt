@@ -8,7 +8,7 @@ use Rattle.q_desk.specs.Answers.{AnswersAreRight}
 use Rattle.q_book.specs.State.{BookState}
 use Rattle.q_book.specs.Replays.{IsReplay}
 use Rattle.q_history.specs.Heads.{founders_for}
-use Rattle.q_merge.specs.Gathered.{HasBook}
+use Rattle.q_gather.specs.Gathered.{HasBook}
 use Rattle.q_gather.specs.Gather.{Agree}
 use Rattle.q_gather.specs.declared.fault.GatherFault.{GatherFault}
 use Rattle.q_gather.specs.declared.fault.GatherFault.TheVariants.{BadFounders, OutOfMemory}

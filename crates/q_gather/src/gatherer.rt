@@ -2,7 +2,7 @@
 
 ghost use Rattle.std.specs.Prelude.{◌≡◌, List, map, IfOk, IfErr, MatchResult};
 ghost use Rattle.q_book.specs.State.{BookState};
-ghost use Rattle.q_merge.specs.Gathered.{AreDistinct, IsGathered};
+ghost use Rattle.q_gather.specs.Gathered.{AreDistinct, IsGathered};
 ghost use Rattle.q_gather.specs.Faults.{of_replay};
 ghost use Rattle.q_gather.specs.Gather.{AreReplayed, Agree, Merge, Gathers, GathersBooks, IsRefused, AreRefused};
 

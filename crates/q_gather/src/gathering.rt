@@ -4,17 +4,17 @@ ghost use Rattle.std.specs.Prelude.{◌≡◌, ◌++◌, ℕ, List, [], length, 
 ghost use Rattle.sc_msg.specs.declared.message.Message.{Message};
 ghost use Rattle.q_history.specs.declared.event.ClusterStep.{ClusterStep};
 ghost use Rattle.q_history.specs.Calls.{Follows};
-ghost use Rattle.q_merge.specs.Numbers.{AreNumbers};
-ghost use Rattle.q_merge.specs.Turns.{IsEventOf, IsJobFor};
+ghost use Rattle.q_gather.specs.Numbers.{AreNumbers};
+ghost use Rattle.q_gather.specs.Turns.{IsEventOf, IsJobFor};
 ghost use Rattle.q_gather.specs.Gathering.{Finds, IsNextOf, HasTaken, HaveTaken};
 
 use crate::jobs::Jobs;
+use crate::laws::numbers_are_least;
 use crate::numbers::Numbers;
 use q_book::Book;
 use q_cluster::Cluster;
 use q_desk::Entry;
 use q_history::{ClusterEvent, EventAnswer};
-use q_merge::laws::numbers_are_least;
 use std::alloc::{AllocError, Global};
 
 /// The cluster of what was gathered so far, the number of each message that was sent in it, and where its jobs stand.

@@ -6,7 +6,7 @@ ghost use Rattle.sc_members.specs.Members.{Config};
 ghost use Rattle.q_book.specs.State.{BookState};
 ghost use Rattle.q_history.specs.Heads.{founders_for};
 ghost use Rattle.q_history.specs.Clusters.{start};
-ghost use Rattle.q_merge.specs.Gathered.{HasBook, AreDistinct, AgreeOn};
+ghost use Rattle.q_gather.specs.Gathered.{HasBook, AreDistinct, AgreeOn};
 ghost use Rattle.q_gather.specs.Heads.{AreReplays, IsHeaded, AreHeaded, AreThere, HasHead, IsUnfounded};
 
 use crate::fault::GatherFault;

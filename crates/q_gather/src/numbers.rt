@@ -3,7 +3,7 @@
 ghost use Rattle.std.specs.Prelude.{◌≡◌, [], IfOk, OnOk, OnErr};
 ghost use Rattle.sc_msg.specs.declared.version.Version.{Version};
 ghost use Rattle.sc_msg.specs.Messages.{message_bytes, IsMessage};
-ghost use Rattle.q_merge.specs.Numbers.{number_of, added};
+ghost use Rattle.q_gather.specs.Numbers.{number_of, added};
 
 use indexmap::IndexMap;
 use sc_msg::{Message, encode};

@@ -2,7 +2,7 @@
 
 ghost use Rattle.std.specs.Prelude.{◌≡◌, ◌+◌, ◌<◌, ◌≤◌, ℕ, true, nat_eq, [], length, IfOk, OnOk, IfErr};
 ghost use Rattle.std.specs.List.{list_any};
-ghost use Rattle.q_merge.specs.Numbers.{AreNumbers};
+ghost use Rattle.q_gather.specs.Numbers.{AreNumbers};
 ghost use Rattle.q_gather.specs.Gathering.{Finds, IsNextAmong, IsNextWithin, AreIdle, AreWaiting, IsGathering, IsMerged, IsStuck};
 
 use crate::fault::GatherFault;

@@ -1,5 +1,5 @@
 use Rattle.std.proofs.Common.{take}
-use Rattle.q_merge.specs.Numbers.{AreNumbers}
+use Rattle.q_gather.specs.Numbers.{AreNumbers}
 use Rattle.q_gather.proofs.gathering.number_from.Given as goal
 
 abbrev pub invariant-loop-number : goal.invariant-loop-number

@@ -1,7 +1,7 @@
 -- are_distinct: whether no two books are of one node.
 use Rattle.std.proofs.Common.{ℕ, take, refl, sym, subst}
 use Rattle.std.proofs.lemmas.Option.{slice_get_read}
-use Rattle.q_merge.specs.Gathered.{HasBook}
+use Rattle.q_gather.specs.Gathered.{HasBook}
 use Rattle.q_gather.proofs.Agreeing.{distinct_next, distinct_all}
 use Rattle.q_gather.proofs.heads.are_distinct.Goals as goal
 

@@ -2,7 +2,7 @@
 use Rattle.std.proofs.Common.{get_or}
 use Rattle.std.proofs.lemmas.Option.{slice_get-get_or}
 use Rattle.sc_world.proofs.Acting.{has_at}
-use Rattle.q_merge.specs.Gathered.{HasBook}
+use Rattle.q_gather.specs.Gathered.{HasBook}
 use Rattle.q_gather.proofs.Finding.{below_next, all_below, place_of}
 use Rattle.q_gather.proofs.heads.are_there.Goals as goal
 

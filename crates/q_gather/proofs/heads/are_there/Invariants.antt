@@ -1,4 +1,4 @@
-use Rattle.q_merge.specs.Gathered.{HasBook}
+use Rattle.q_gather.specs.Gathered.{HasBook}
 use Rattle.q_gather.proofs.Finding.{Below}
 use Rattle.q_gather.proofs.heads.are_there.Given as goal
 

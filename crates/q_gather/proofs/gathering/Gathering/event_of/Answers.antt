@@ -1,7 +1,7 @@
 -- Gathering::event_of: the entry as an event of this node, where the message that it delivers was sent.
 use Rattle.std.proofs.Common.{ℕ, Option, None, subst}
 use Rattle.q_desk.specs.declared.journal.Entry.{Entry}
-use Rattle.q_merge.specs.Turns.{IsEventOf, IsJobFor}
+use Rattle.q_gather.specs.Turns.{IsEventOf, IsJobFor}
 use Rattle.q_gather.specs.Gathering.{Finds}
 use Rattle.q_gather.proofs.gathering.Gathering.event_of.Goals as goal
 

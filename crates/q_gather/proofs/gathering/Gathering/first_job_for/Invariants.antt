@@ -1,5 +1,5 @@
 use Rattle.std.proofs.Common.{ℕ, ◌<◌}
-use Rattle.q_merge.specs.Turns.{IsJobFor}
+use Rattle.q_gather.specs.Turns.{IsJobFor}
 use Rattle.q_gather.proofs.gathering.Gathering.first_job_for.Given as goal
 
 abbrev pub invariant-loop-number : goal.invariant-loop-number

@@ -1,5 +1,5 @@
 use Rattle.std.proofs.Common.{◌≡◌, None}
-use Rattle.q_merge.specs.Numbers.{AreNumbers}
+use Rattle.q_gather.specs.Numbers.{AreNumbers}
 use Rattle.q_gather.specs.Gathering.{AreIdle, IsNextWithin}
 use Rattle.q_gather.proofs.rounds.Rounds.next_within.Given as goal
 

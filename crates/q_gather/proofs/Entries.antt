@@ -1,0 +1,307 @@
+-- An entry that a node's book can take next is an event that its cluster accepts.
+use Rattle.std.proofs.Common.{◌≡◌, ℕ, ◌==◌, Bool, true, false, cond, List, [], ◌∷◌, ◌++◌, length, Option, Some, None, refl, sym, ap, ◌∙◌, subst, slice_get, Result, Ok}
+use Rattle.std.specs.Prelude.{IfSome}
+use Rattle.std.proofs.lemmas.Bool.{eq-eqb}
+use Rattle.std.proofs.lemmas.List.{append-nil}
+use Rattle.std.proofs.lemmas.Option.{slice_get_read}
+use Rattle.std.specs.Ordering.{nat_cmp}
+use Rattle.std.specs.FinMap as fin
+use Rattle.std.specs.FinSet as set
+use Rattle.forms.specs.Calls.{tested}
+use Rattle.forms.proofs.Calls.{tested_pass}
+use Rattle.sc_view.specs.Views.{ViewMap}
+use Rattle.sc_msg.specs.declared.message.Message.{Message}
+use Rattle.sc_node.specs.State.{NodeState}
+use Rattle.sc_node.specs.declared.answer.Begun.{Begun}
+use Rattle.sc_world.specs.declared.event.WorldEvent.TheVariants as world_event
+use Rattle.sc_world.specs.State.{past_of}
+use Rattle.sc_world.specs.Ledgers.{recorded}
+use Rattle.bq_meaning.proofs.Folding as folding
+use Rattle.bq_check.specs.Certificate.{Certificate}
+use Rattle.q_session.specs.Records.{view_records}
+use Rattle.q_session.specs.Right.{IsRight}
+use Rattle.q_session.specs.declared.ran.Ran.{Ran}
+use Rattle.q_session.specs.declared.job.Job.{Job}
+use Rattle.q_session.specs.declared.query.Phase.{Phase}
+use Rattle.q_session.specs.declared.query.Phase.TheVariants.{Running, Answered}
+use Rattle.q_session.specs.declared.query.Query.{Query}
+use Rattle.q_desk.specs.State.{DeskState}
+use Rattle.q_desk.specs.Desks as desk
+use Rattle.q_desk.specs.Answers.{AnswersAreRight, IsAnswered}
+use Rattle.q_desk.specs.declared.journal.Entry.{Entry}
+use Rattle.q_desk.specs.declared.journal.Entry.TheVariants as entry
+use Rattle.q_desk.specs.declared.fault.DeskFault.{DeskFault}
+use Rattle.q_desk.specs.declared.fault.DeskFault.TheVariants as desk_fault
+use Rattle.q_book.specs.State.{BookState}
+use Rattle.q_book.specs.Books as book
+use Rattle.q_book.specs.Replays.{Follows}
+use Rattle.q_book.specs.declared.answer.Asked.{Asked}
+use Rattle.q_book.specs.declared.answer.Taken.{Taken}
+use Rattle.q_history.specs.declared.event.ClusterEvent.{ClusterEvent}
+use Rattle.q_history.specs.declared.event.ClusterEvent.TheVariants as event
+use Rattle.q_history.specs.State.{ClusterState}
+use Rattle.q_history.specs.Heads.{book_of}
+use Rattle.q_history.specs.Clusters.{at as at_node, enters, entered, registers, opened, asks, stores, delivers, delivered_as, hands, posts, posted, finished, leaves}
+use Rattle.q_history.specs.Calls.{Answers, IsHistory}
+use Rattle.q_history.proofs.Lists.{same_some, no_some}
+use Rattle.q_desk.proofs.Accepted.{Keeps, keeps_itself, answered as with_answer, IsPosted}
+use Rattle.bq_insn.specs.Slots.{spelling}
+use Rattle.q_table.specs.Programs as table
+use Rattle.q_desk.proofs.Own.{job_by, and_both, same_bytes, same_number, own_fits}
+use Rattle.q_book.proofs.Followed.{is_posted, posted-accepted, follows-accepted}
+use Rattle.q_history.proofs.EveryBook.{history_are}
+use Rattle.q_cluster.specs.Acts.{booked, book_at}
+use Rattle.q_gather.specs.Merging.{CanGo}
+use Rattle.q_gather.specs.Traces.{sent_by, gives, step_of}
+use Rattle.q_gather.specs.Turns.{IsJobFor, IsEventOf, IsNext, IsTurn, Makes}
+use Rattle.q_gather.proofs.Lists.{get-same}
+use Rattle.q_gather.proofs.Turning.{IsUp, is_up, IsHeadedAs, call_says, put_turn, makes, head_of}
+use Rattle.q_gather.proofs.Jobs.{RunsOver, IsOut}
+use Rattle.q_gather.proofs.EveryJob.{JobsOf, history_jobs}
+
+-- an answer that nobody asks for
+nothing : Ran
+nothing = record { acc = 0; steps = 0 }
+
+-- ---- calls that run no job
+
+module _ (c : ClusterState) (id : ℕ) (b d : BookState) (up : IsUp c id b) (headed : IsHeadedAs c id d) where
+  leave_makes : (outs : List Message) → book.left b ≡ Ok (outs, d) → Makes c (event.Leave id) id d (gives b entry.Leave)
+  leave_makes outs h =
+      subst (Makes c (event.Leave id) id d) (sym (ap (sent_by (λ (x : List Message). x)) h))
+      (makes c (event.Leave id) id d outs nothing (leaves c id outs d) tt (λ r _. call_says c id b up (leaves c id) book.left outs d h)
+      (put_turn c (recorded (past_of c.world) (world_event.Leave id) id outs None None) c.jobs id d outs headed refl))
+
+  register_makes : (program : Certificate) (n : ℕ) → book.registered b program ≡ Ok (n, d) → Makes c (event.Register id program) id d []
+  register_makes program n h =
+      makes c (event.Register id program) id d [] nothing (registers c id n d) tt (λ r _. call_says c id b up (registers c id) (λ x. book.registered x program) n d h)
+      (put_turn c (past_of c.world) c.jobs id d [] headed (sym (append-nil c.world.sent)))
+
+  ask_makes : (program start : ℕ) (a : Asked) → book.asked b program start ≡ Ok (a, d) → Makes c (event.Ask id program start) id d (gives b (entry.Ask program start))
+  ask_makes program start a h =
+      subst (Makes c (event.Ask id program start) id d) (sym (ap (sent_by (λ (x : Asked). x.begun.outs)) h))
+      (makes c (event.Ask id program start) id d a.begun.outs nothing (asks c id a d) tt (λ r _. call_says c id b up (asks c id) (λ x. book.asked x program start) a d h)
+      (put_turn c (recorded (past_of c.world) (world_event.Collect id) id a.begun.outs None (opened a.begun)) c.jobs id d a.begun.outs headed refl))
+
+  store_makes : (value : List ℕ) (a : Begun) → book.stored b value ≡ Ok (a, d) → Makes c (event.Store id value) id d (gives b (entry.Store value))
+  store_makes value a h =
+      subst (Makes c (event.Store id value) id d) (sym (ap (sent_by (λ (x : Begun). x.outs)) h))
+      (makes c (event.Store id value) id d a.outs nothing (stores c id value a d) tt (λ r _. call_says c id b up (stores c id value) (λ x. book.stored x value) a d h)
+      (put_turn c (recorded (past_of c.world) (world_event.Store id value) id a.outs None (opened a)) c.jobs id d a.outs headed refl))
+
+  deliver_makes : (m : Message) (number : ℕ) (a : Taken) → slice_get c.world.sent number ≡ Some m → book.delivered b m ≡ Ok (a, d) → Makes c (event.Deliver number id) id d (gives b (entry.Deliver m))
+  deliver_makes m number a at h =
+      subst (Makes c (event.Deliver number id) id d) (sym (ap (sent_by (λ (x : Taken). x.outs)) h))
+      (makes c (event.Deliver number id) id d a.outs nothing (delivers c number id a d) tt
+      (λ r _. ap (λ (o : Option Message). at_node c id (λ x. delivered_as c number id x o)) at ∙ call_says c id b up (delivers c number id) (λ x. book.delivered x m) a d h)
+      (put_turn c (recorded (past_of c.world) (world_event.Deliver number id) id a.outs a.progress None) c.jobs id d a.outs headed refl))
+
+  hand_out_makes : (j : Job) → book.handed_out b ≡ Ok (Some j, d) → Makes c (event.HandOut id) id d []
+  hand_out_makes j h =
+      makes c (event.HandOut id) id d [] nothing (hands c id (Some j) d) tt (λ r _. call_says c id b up (hands c id) book.handed_out (Some j) d h)
+      (put_turn c (past_of c.world) (c.jobs ++ j ∷ []) id d [] headed (sym (append-nil c.world.sent)))
+
+-- ---- an answer
+
+-- a job of the query passes
+module _ (programs : List Certificate) (queries : List Query) (j : Job) (o : IsOut programs queries j) (q : Query) (view : ViewMap) (at : slice_get queries j.query ≡ Some q) (phase : q.phase ≡ Running view) where
+  its_query : o.query ≡ q
+  its_query = same_some o.query q (sym o.at ∙ at)
+
+  its_view : view ≡ j.view
+  its_view = subst (λ (p : Phase). RunsOver p j.view) (ap (λ (x : Query). x.phase) its_query ∙ phase) o.runs
+
+  its_program : q.program ≡ j.program
+  its_program = ap (λ (x : Query). x.program) (sym its_query) ∙ o.program
+
+  its_start : q.start ≡ j.start
+  its_start = ap (λ (x : Query). x.start) (sym its_query) ∙ o.start
+
+  its_certificate : slice_get programs q.program ≡ Some j.certified
+  its_certificate = ap (slice_get programs) its_program ∙ o.certified
+
+  its_job : job_by j.node j.query q view j.certified ≡ j
+  its_job i = record { node = j.node; query = j.query; program = its_program i; start = its_start i; certified = j.certified; view = its_view i }
+
+  same_program : desk.is_same_program j.certified (Some j.certified) ≡ true
+  same_program = and_both (table.is_same_text j.certified.text j.certified.text) _ (same_bytes (spelling j.certified.text)) (same_number j.certified.longest)
+
+  job_passes : desk.is_job_of programs j q view ≡ true
+  job_passes =
+      subst (λ (x : Job). desk.is_job_of programs x q view ≡ true) its_job
+      (own_fits programs j.node j.query q view j.certified its_certificate same_program)
+
+abbrev pub Posted : Type 0
+Posted = Result (Unit {0} × DeskState) DeskFault
+
+-- what is posted for a query that runs
+abbrev answers : DeskState → ViewMap → Ran → ℕ → Posted
+answers d view ran k = tested (desk.room d) (Ok (tt, with_answer d k view ran))
+
+-- two jobs of one query
+module _ (d : DeskState) (node : ℕ) (i j : Job) (ran : Ran) (q : Query) (view : ViewMap) (same : j.query ≡ i.query) (at : slice_get d.queries i.query ≡ Some q) (phase : q.phase ≡ Running view) where
+  posted_as : (x : Job) → (x.node == node) ≡ true → slice_get d.queries x.query ≡ Some q → desk.is_job_of d.programs x q view ≡ true → desk.posted d node x ran ≡ answers d view ran x.query
+  posted_as x own here fits =
+      tested_pass ((x.node == node, desk_fault.Stranger) ∷ []) (desk.posted_at d x ran (slice_get d.queries x.query)) (own, tt)
+      ∙ ap (desk.posted_at d x ran) here ∙ ap (desk.posted_to d x ran q) phase
+      ∙ tested_pass ((desk.is_job_of d.programs x q view, desk_fault.Stranger) ∷ []) (answers d view ran x.query) (fits, tt)
+
+  pub same_post : (i.node == node) ≡ true → (j.node == node) ≡ true → desk.is_job_of d.programs i q view ≡ true → desk.is_job_of d.programs j q view ≡ true → desk.posted d node j ran ≡ desk.posted d node i ran
+  same_post mine yours one two =
+      posted_as j yours (ap (slice_get d.queries) same ∙ at) two ∙ ap (answers d view ran) same ∙ sym (posted_as i mine at one)
+
+-- the answers of a desk that comes of this one are right
+pub record IsRightLater (d : DeskState) : Type 0 where
+  pub later : DeskState
+  pub keeps : Keeps d later
+  pub right : AnswersAreRight later
+
+-- the answer that a book recorded is right of the job that the cluster has for its query
+module _ (c : ClusterState) (b d : BookState) (ran : Ran) (i j : Job) (up : IsUp c j.node b) (own : b.id ≡ j.node) (same : j.query ≡ i.query) (h : book.posted b i ran ≡ Ok (tt, d)) (o : IsOut b.desk.programs b.desk.queries j)
+    (right : IsRightLater d.desk) where
+  was_posted : ((i.node == b.id) ≡ true) × IsPosted b.desk i ran d.desk
+  was_posted = is_posted b i ran d h
+
+  by : IsPosted b.desk i ran d.desk
+  by = was_posted.1
+
+  here : slice_get b.desk.queries j.query ≡ Some by.query
+  here = ap (slice_get b.desk.queries) same ∙ by.at
+
+  recorded_there : slice_get d.desk.queries i.query ≡ Some (record by.query { phase = Answered by.view ran })
+  recorded_there =
+      ap (λ (x : DeskState). slice_get x.queries i.query) (sym by.is)
+      ∙ ap (λ (x : Option Query). slice_get (desk.in_phase b.desk.queries i.query (Answered by.view ran) x) i.query) by.at
+      ∙ get-same b.desk.queries i.query by.query (record by.query { phase = Answered by.view ran }) by.at
+
+  answered : IsAnswered right.later (record by.query { phase = Answered by.view ran }) by.view ran
+  answered =
+      let q : Query = record by.query { phase = Answered by.view ran } in
+      right.right i.query q by.view ran (right.keeps.answers i.query q by.view ran recorded_there refl) refl
+
+  programs : d.desk.programs ≡ b.desk.programs
+  programs = ap (λ (x : DeskState). x.programs) (sym by.is)
+
+  certificate : answered.program ≡ j.certified
+  certificate =
+      same_some answered.program j.certified
+      (sym answered.named
+      ∙ right.keeps.programs by.query.program j.certified
+      (ap (λ (x : List Certificate). slice_get x by.query.program) programs ∙ its_certificate b.desk.programs b.desk.queries j o by.query by.view here by.phase))
+
+  right_of_it : Answers j ran
+  right_of_it =
+      subst (λ (x : Certificate). IsRight x j.view j.start ran) certificate
+      (subst (λ (x : ViewMap). IsRight answered.program x j.start ran) (its_view b.desk.programs b.desk.queries j o by.query by.view here by.phase)
+      (subst (λ (x : ℕ). IsRight answered.program by.view x ran) (its_start b.desk.programs b.desk.queries j o by.query by.view here by.phase) answered.right))
+
+  -- and a right answer is unique
+  one_answer : (r : Ran) → Answers j r → ran ≡ r
+  one_answer r other =
+      let k = folding.same_answer j.certified.text (view_records j.view) j.start ran.acc ran.steps r.acc r.steps right_of_it.meant other.meant in
+      λ t. record { acc = k.0 t; steps = k.1 t }
+
+  posts_too : book.posted b j ran ≡ Ok (tt, d)
+  posts_too =
+      ap (λ (x : Posted). tested (book.present b) (book.by_desk (book.with_desk b) x))
+      (same_post b.desk b.id i j ran by.query by.view same by.at by.phase was_posted.0 (eq-eqb j.node b.id (sym own))
+      by.fits (job_passes b.desk.programs b.desk.queries j o by.query by.view here by.phase))
+      ∙ h
+
+  finish_makes : (number : ℕ) → slice_get c.jobs number ≡ Some j → Makes c (event.Finish number) j.node d []
+  finish_makes number at =
+      makes c (event.Finish number) j.node d [] ran (posts c j ran tt d) (subst (λ (x : Option Job). IfSome x (λ k. Answers k ran)) (sym at) right_of_it)
+      (λ r other. ap (finished c r) at
+      ∙ ap (λ (x : Ran). at_node c j.node (posted c j x)) (sym (one_answer r (subst (λ (x : Option Job). IfSome x (λ k. Answers k r)) at other)))
+      ∙ call_says c j.node b up (posts c j ran) (λ x. book.posted x j ran) tt d posts_too)
+      (put_turn c (past_of c.world) c.jobs j.node d [] (head_of c j.node b d up (posted-accepted b j ran d posts_too).same) (sym (append-nil c.world.sent)))
+
+-- ---- every entry
+
+-- the jobs of this node's book
+job_is_out : (c : ClusterState) (id : ℕ) (b : BookState) → JobsOf c → IsUp c id b → (number : ℕ) (j : Job) → slice_get c.jobs number ≡ Some j → j.node ≡ id → IsOut b.desk.programs b.desk.queries j
+job_is_out c id b are up number j at by =
+    let k = are.jobs.each number j at in
+    let same : k.0 ≡ b.desk = same_some k.0 up.desk (sym k.1 ∙ ap (fin.get c.desks) by ∙ up.here) ∙ ap (λ (x : BookState). x.desk) up.is in
+    subst (λ (x : DeskState). IsOut x.programs x.queries j) same k.2
+
+post_makes : (c : ClusterState) (id : ℕ) (b d : BookState) (query : ℕ) (ran : Ran) (i : Job) (number : ℕ) → JobsOf c → IsUp c id b → IsRightLater d.desk → i.query ≡ query → book.posted b i ran ≡ Ok (tt, d)
+    → IsJobFor c.jobs id query number → Makes c (event.Finish number) id d []
+post_makes c id b d query ran i number are up right of h it =
+    let j = it.job in
+    subst (λ (x : ℕ). Makes c (event.Finish number) x d []) it.by
+    (finish_makes c b d ran i j (subst (λ (x : ℕ). IsUp c x b) (sym it.by) up) (ap (λ (x : BookState). x.id) (sym up.is) ∙ sym it.by) (it.of ∙ sym of) h (job_is_out c id b are up number j it.at it.by) right number it.at)
+
+pub entry_makes : (c : ClusterState) (id : ℕ) (b d : BookState) (e : Entry) (ev : ClusterEvent) → JobsOf c → IsUp c id b → IsRightLater d.desk → Follows b e d
+    → IsEventOf c id e ev → Makes c ev id d (gives b e)
+entry_makes c id b d e ev are up right f is = go e (head_of c id b d up (follows-accepted b e d f).same) f is
+  where
+    go : (e : Entry) → IsHeadedAs c id d → Follows b e d → IsEventOf c id e ev → Makes c ev id d (gives b e)
+    go entry.Leave head f is = subst (λ (x : ClusterEvent). Makes c x id d (gives b entry.Leave)) (sym is) (leave_makes c id b d up head f.0 f.1)
+    go (entry.Register program) head f is = subst (λ (x : ClusterEvent). Makes c x id d []) (sym is) (register_makes c id b d up head program f.0 f.1)
+    go (entry.Ask program start) head f is =
+        subst (λ (x : ClusterEvent). Makes c x id d (gives b (entry.Ask program start))) (sym is) (ask_makes c id b d up head program start f.0 f.1)
+    go (entry.Store value) head f is = subst (λ (x : ClusterEvent). Makes c x id d (gives b (entry.Store value))) (sym is) (store_makes c id b d up head value f.0 f.1)
+    go (entry.Deliver m) head f is =
+        subst (λ (x : ClusterEvent). Makes c x id d (gives b (entry.Deliver m))) (sym is.2) (deliver_makes c id b d up head m is.0 f.0 is.1 f.1)
+    go entry.HandOut head f is = subst (λ (x : ClusterEvent). Makes c x id d []) (sym is) (hand_out_makes c id b d up head f.0 f.1)
+    go (entry.Post query ran) head f is =
+        subst (λ (x : ClusterEvent). Makes c x id d []) (sym is.2) (post_makes c id b d query ran f.0 is.0 are up right f.1 f.3 is.1)
+
+-- where what an entry wants was sent, there is such an event
+pub entry_event : (c : ClusterState) (id : ℕ) (b d : BookState) (e : Entry) → JobsOf c → IsUp c id b → Follows b e d → CanGo c.world.sent (step_of b e) → (ev : ClusterEvent) × IsEventOf c id e ev
+entry_event c id b d entry.Leave are up f can = (event.Leave id, refl)
+entry_event c id b d (entry.Register program) are up f can = (event.Register id program, refl)
+entry_event c id b d (entry.Ask program start) are up f can = (event.Ask id program start, refl)
+entry_event c id b d (entry.Store value) are up f can = (event.Store id value, refl)
+entry_event c id b d (entry.Deliver m) are up f can = (event.Deliver can.0 id, (can.0, slice_get_read c.world.sent (length c.world.sent) can.0 m refl can.1 (sym can.2), refl))
+entry_event c id b d entry.HandOut are up f can = (event.HandOut id, refl)
+entry_event c id b d (entry.Post query ran) are up f can =
+    let a = (is_posted b f.0 ran d f.3).1 in
+    let desk_is : up.desk ≡ b.desk = ap (λ (x : BookState). x.desk) up.is in
+    let h = are.jobs.all id up.desk f.0.query a.query a.view up.here (ap (λ (x : DeskState). slice_get x.queries f.0.query) desk_is ∙ a.at) a.phase in
+    (event.Finish h.number, (h.number, subst (λ (k : ℕ). IsJobFor c.jobs id k h.number) f.1 h.is, refl))
+
+-- ---- a node enters
+
+no_founder : (c : ClusterState) (id : ℕ) → IsHistory c → fin.get c.world.nodes id ≡ None → (k : Bool) → set.contains (set.from_list {R = nat_cmp} c.world.founders) id ≡ k
+    → (let o : Option (List ℕ) = None in o) ≡ cond k (Some c.world.founders) None
+no_founder c id h none true is = let f = (history_are c h).founders id is in absurd (no_some f.0 (sym none ∙ f.1))
+no_founder c id h none false is = refl
+
+-- each node has a desk
+nobody_by : (c : ClusterState) (id : ℕ) (o : Option NodeState) (p : Option DeskState) → ((n : NodeState) → o ≡ Some n → p ≡ None → ⊥) → booked c id o p ≡ None → o ≡ None
+nobody_by c id None p both h = refl
+nobody_by c id (Some n) None both h = absurd (both n refl refl)
+nobody_by c id (Some n) (Some d) both h = absurd (no_some (book_of c id n d) (sym h))
+
+nobody_at : (c : ClusterState) (id : ℕ) → IsHistory c → book_at c id ≡ None → fin.get c.world.nodes id ≡ None
+nobody_at c id h absent =
+    nobody_by c id (fin.get c.world.nodes id) (fin.get c.desks id) (λ n at none. let d = (history_jobs c h).desks id n at in no_some d.0 (sym none ∙ d.1)) absent
+
+-- ---- as laws
+
+pub next_up : (c : ClusterState) (id : ℕ) (b d : BookState) (e : Entry) → IsNext c id b e d → IsUp c id b
+next_up c id b d e n = is_up c id b n.book n.stays (follows-accepted b e d n.takes).there
+
+pub next_event : (c : ClusterState) (id : ℕ) (b d : BookState) (e : Entry) → IsHistory c → IsNext c id b e d → CanGo c.world.sent (step_of b e) → (ev : ClusterEvent) × IsEventOf c id e ev
+next_event c id b d e h n can = entry_event c id b d e (history_jobs c h) (next_up c id b d e n) n.takes can
+
+pub next_makes : (c : ClusterState) (id : ℕ) (b d : BookState) (e : Entry) (ev : ClusterEvent) → IsHistory c → IsNext c id b e d → AnswersAreRight d.desk → IsEventOf c id e ev → Makes c ev id d (gives b e)
+next_makes c id b d e ev h n right is =
+    entry_makes c id b d e ev (history_jobs c h) (next_up c id b d e n) (record { later = d.desk; keeps = keeps_itself d.desk; right = right }) n.takes is
+
+-- a node that was never there enters
+pub enter_turn : (c : ClusterState) (id : ℕ) → IsHistory c → fin.get c.world.nodes id ≡ None
+    → (let e = book.entered c.version c.world.config id in IsTurn c id e.0 e.1 (enters c id e).1)
+enter_turn c id h none =
+    let e = book.entered c.version c.world.config id in
+    put_turn c (recorded (past_of c.world) (world_event.Enter id) id e.1 None None) c.jobs id e.0 e.1
+    (refl, refl, refl, no_founder c id h none (set.contains (set.from_list {R = nat_cmp} c.world.founders) id) refl) refl
+
+pub enter_makes : (c : ClusterState) (id : ℕ) → IsHistory c → book_at c id ≡ None
+    → Makes c (event.Enter id) id (book.entered c.version c.world.config id).0 (book.entered c.version c.world.config id).1
+enter_makes c id h absent =
+    let e = book.entered c.version c.world.config id in
+    let none = nobody_at c id h absent in
+    makes c (event.Enter id) id e.0 e.1 nothing (enters c id e) tt (λ r _. ap (entered c id) none) (enter_turn c id h none)

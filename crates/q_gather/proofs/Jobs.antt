@@ -1,0 +1,235 @@
+-- The jobs of every history: each is that of a query which runs or was answered, and each query that runs has one.
+use Rattle.std.proofs.Common.{◌≡◌, ℕ, ◌==◌, Bool, true, false, cond, List, [], ◌∷◌, ◌++◌, length, Option, Some, None, refl, sym, ap, ◌∙◌, subst, ◌⊎◌, inl, inr, slice_get, slice_set}
+use Rattle.std.proofs.lemmas.Bool.{eqb-true, eqb-false}
+use Rattle.std.specs.FinMap as fin
+use Rattle.sc_view.specs.Views.{ViewMap}
+use Rattle.sc_world.proofs.Finite.{get-insert, get-insert_same}
+use Rattle.sc_world.proofs.Histories.{slice_get_front, slice_get_last}
+use Rattle.bq_check.specs.Certificate.{Certificate}
+use Rattle.q_session.specs.declared.query.Phase.{Phase}
+use Rattle.q_session.specs.declared.query.Phase.TheVariants.{Collecting, Ready, Running, Answered}
+use Rattle.q_session.specs.declared.query.Query.{Query}
+use Rattle.q_session.specs.declared.job.Job.{Job}
+use Rattle.q_desk.specs.State.{DeskState}
+use Rattle.q_desk.proofs.Accepted.{IsReadyJob}
+use Rattle.q_desk.proofs.Changes.{GoesOver, readied, handed, recorded, Change, stays, grows, begins, rephased}
+use Rattle.q_history.specs.Clusters.{Desks, with_job}
+use Rattle.q_history.proofs.Lists.{same_some, get_snoc, get_elsewhere}
+use Rattle.q_gather.specs.Turns.{IsJobFor}
+use Rattle.q_gather.proofs.Lists.{get-same, get_after}
+
+-- ---- what is said of jobs
+
+-- the query runs over this view, or ran over it
+abbrev pub RunsOver : Phase → ViewMap → Type 0
+RunsOver Collecting view = ⊥
+RunsOver (Ready v) view = ⊥
+RunsOver (Running v) view = v ≡ view
+RunsOver (Answered v ran) view = v ≡ view
+
+-- the job is that of its query, which runs or was answered
+pub record IsOut (programs : List Certificate) (queries : List Query) (j : Job) : Type 0 where
+  pub query : Query
+  pub at : slice_get queries j.query ≡ Some query
+  pub program : query.program ≡ j.program
+  pub start : query.start ≡ j.start
+  pub certified : slice_get programs j.program ≡ Some j.certified
+  pub runs : RunsOver query.phase j.view
+
+pub record HasJob (jobs : List Job) (id k : ℕ) : Type 0 where
+  pub number : ℕ
+  pub is : IsJobFor jobs id k number
+
+pub record JobsAre (desks : Desks) (jobs : List Job) : Type 0 where
+  pub each : (number : ℕ) (j : Job) → slice_get jobs number ≡ Some j → (d : DeskState) × (fin.get desks j.node ≡ Some d) × IsOut d.programs d.queries j
+  pub all : (id : ℕ) (d : DeskState) (k : ℕ) (q : Query) (v : ViewMap) → fin.get desks id ≡ Some d → slice_get d.queries k ≡ Some q → q.phase ≡ Running v → HasJob jobs id k
+
+-- ---- a desk is put in
+
+module _ (desks : Desks) (jobs : List Job) (are : JobsAre desks jobs) (id : ℕ) (e : DeskState) (later : List Job) (more : (number : ℕ) (j : Job) → slice_get jobs number ≡ Some j → slice_get later number ≡ Some j)
+    (new : (number : ℕ) (j : Job) → slice_get later number ≡ Some j → (slice_get jobs number ≡ Some j) ⊎ ((j.node ≡ id) × IsOut e.programs e.queries j))
+    (stay : (d : DeskState) (j : Job) → fin.get desks id ≡ Some d → IsOut d.programs d.queries j → IsOut e.programs e.queries j)
+    (run : (k : ℕ) (q : Query) (v : ViewMap) → slice_get e.queries k ≡ Some q → q.phase ≡ Running v → HasJob later id k) where
+  old_by : (j : Job) (d : DeskState) (b : Bool) → (j.node == id) ≡ b → fin.get desks j.node ≡ Some d → IsOut d.programs d.queries j
+      → (x : DeskState) × (fin.get (fin.insert desks id e) j.node ≡ Some x) × IsOut x.programs x.queries j
+  old_by j d true is at out = (
+    e,
+    get-insert desks id e j.node ∙ ap (λ (b : Bool). cond b (Some e) (fin.get desks j.node)) is,
+    stay d j (ap (fin.get desks) (sym (eqb-true j.node id is)) ∙ at) out,
+  )
+  old_by j d false is at out = (d, get-insert desks id e j.node ∙ ap (λ (b : Bool). cond b (Some e) (fin.get desks j.node)) is ∙ at, out)
+
+  each_by : (number : ℕ) (j : Job) → (slice_get jobs number ≡ Some j) ⊎ ((j.node ≡ id) × IsOut e.programs e.queries j)
+      → (x : DeskState) × (fin.get (fin.insert desks id e) j.node ≡ Some x) × IsOut x.programs x.queries j
+  each_by number j (inl old) = let k = are.each number j old in old_by j k.0 (j.node == id) refl k.1 k.2
+  each_by number j (inr n) = (e, ap (fin.get (fin.insert desks id e)) n.0 ∙ get-insert_same desks id e, n.1)
+
+  all_by : (p : ℕ) (d : DeskState) (k : ℕ) (q : Query) (v : ViewMap) (b : Bool) → (p == id) ≡ b → cond b (Some e) (fin.get desks p) ≡ Some d → slice_get d.queries k ≡ Some q → q.phase ≡ Running v → HasJob later p k
+  all_by p d k q v true is at here runs =
+      subst (λ (x : ℕ). HasJob later x k) (sym (eqb-true p id is))
+      (run k q v (ap (λ (x : DeskState). slice_get x.queries k) (same_some e d at) ∙ here) runs)
+  all_by p d k q v false is at here runs =
+      let h = are.all p d k q v at here runs in
+      record { number = h.number; is = record { job = h.is.job; at = more h.number h.is.job h.is.at; by = h.is.by; of = h.is.of } }
+
+  pub put_jobs : JobsAre (fin.insert desks id e) later
+  put_jobs = record {
+    each = λ number j at. each_by number j (new number j at);
+    all = λ p d k q v at here runs. all_by p d k q v (p == id) refl (sym (get-insert desks id e p) ∙ at) here runs;
+  }
+
+-- a call after which no other query runs
+record IsQuiet (d e : DeskState) : Type 0 where
+  stay : (j : Job) → IsOut d.programs d.queries j → IsOut e.programs e.queries j
+  run : (k : ℕ) (q : Query) (v : ViewMap) → slice_get e.queries k ≡ Some q → q.phase ≡ Running v → slice_get d.queries k ≡ Some q
+
+quiet_jobs : (desks : Desks) (jobs : List Job) (id : ℕ) (d e : DeskState) → JobsAre desks jobs
+    → fin.get desks id ≡ Some d → IsQuiet d e → JobsAre (fin.insert desks id e) jobs
+quiet_jobs desks jobs id d e are at quiet =
+    put_jobs desks jobs are id e jobs (λ number j h. h) (λ number j h. inl h)
+    (λ x j here out. quiet.stay j (subst (λ (z : DeskState). IsOut z.programs z.queries j) (same_some x d (sym here ∙ at)) out))
+    (λ k q v here runs. are.all id d k q v at (quiet.run k q v here runs) runs)
+
+-- ---- queries that move
+
+-- programs and queries that were there stay
+out_more : (programs after : List Certificate) (queries later : List Query) (j : Job)
+    → ((i : ℕ) (p : Certificate) → slice_get programs i ≡ Some p → slice_get after i ≡ Some p)
+    → ((k : ℕ) (q : Query) → slice_get queries k ≡ Some q → slice_get later k ≡ Some q) → IsOut programs queries j → IsOut after later j
+out_more programs after queries later j more on o =
+    record { query = o.query; at = on j.query o.query o.at; program = o.program; start = o.start; certified = more j.program j.certified o.certified; runs = o.runs }
+
+-- each query is as it was, and programs stay
+still_quiet : (d e : DeskState) → ((i : ℕ) (p : Certificate) → slice_get d.programs i ≡ Some p → slice_get e.programs i ≡ Some p)
+    → e.queries ≡ d.queries → IsQuiet d e
+still_quiet d e more queries = record {
+  stay = λ j o. out_more d.programs e.programs d.queries e.queries j more (λ k q h. ap (λ (x : List Query). slice_get x k) queries ∙ h) o;
+  run = λ k q v h is. ap (λ (x : List Query). slice_get x k) (sym queries) ∙ h;
+}
+
+same_programs : (d e : DeskState) → e.programs ≡ d.programs → (i : ℕ) (p : Certificate) → slice_get d.programs i ≡ Some p → slice_get e.programs i ≡ Some p
+same_programs d e programs i p h = ap (λ (x : List Certificate). slice_get x i) programs ∙ h
+
+collecting_runs : (q : Query) (v : ViewMap) → q.phase ≡ Collecting → q.phase ≡ Running v → ⊥
+collecting_runs q v is runs = let h : Collecting ≡ Running v = sym is ∙ runs in absurd (cc)
+
+-- a query begins
+begins_quiet : (d e : DeskState) (new : Query) → new.phase ≡ Collecting → e.programs ≡ d.programs → e.queries ≡ d.queries ++ new ∷ [] → IsQuiet d e
+begins_quiet d e new collects programs queries = record {
+  stay = λ j o. out_more d.programs e.programs d.queries e.queries j (same_programs d e programs)
+      (λ k q at. ap (λ (x : List Query). slice_get x k) queries ∙ slice_get_front d.queries (new ∷ []) k q at) o;
+  run = λ k q v at is. elim (get_snoc d.queries new k q (ap (λ (x : List Query). slice_get x k) (sym queries) ∙ at)) [
+    | inl old ↦ old
+    | inr same ↦ absurd (collecting_runs q v (ap (λ (x : Query). x.phase) (sym same) ∙ collects) is)
+  ];
+}
+
+none_over : (p q : Phase) (v : ViewMap) → p ≡ q → (RunsOver q v → ⊥) → RunsOver p v → ⊥
+none_over p q v is none r = none (subst (λ (x : Phase). RunsOver x v) is r)
+
+-- a query is in another phase
+module _ (d e : DeskState) (k : ℕ) (q : Query) (p : Phase) (at : slice_get d.queries k ≡ Some q) (programs : e.programs ≡ d.programs)
+    (queries : e.queries ≡ slice_set d.queries k (record q { phase = p })) (goes : (v : ViewMap) → RunsOver q.phase v → RunsOver p v) where
+  abbrev new : Query
+  new = record q { phase = p }
+
+  written_by : (j : Job) (b : Bool) → (j.query == k) ≡ b → IsOut d.programs d.queries j → IsOut d.programs (slice_set d.queries k new) j
+  written_by j true is o =
+      let same : j.query ≡ k = eqb-true j.query k is in
+      let one : o.query ≡ q = same_some o.query q (sym o.at ∙ ap (slice_get d.queries) same ∙ at) in
+      record {
+        query = new;
+        at = ap (slice_get (slice_set d.queries k new)) same ∙ get-same d.queries k q new at;
+        program = ap (λ (x : Query). x.program) (sym one) ∙ o.program;
+        start = ap (λ (x : Query). x.start) (sym one) ∙ o.start;
+        certified = o.certified;
+        runs = goes j.view (subst (λ (x : Query). RunsOver x.phase j.view) one o.runs);
+      }
+  written_by j false is o = record {
+    query = o.query;
+    at = get_elsewhere d.queries k new j.query o.query (eqb-false j.query k is) o.at;
+    program = o.program;
+    start = o.start;
+    certified = o.certified;
+    runs = o.runs;
+  }
+
+  -- so it stands at the later desk
+  moved_out : (j : Job) → IsOut d.programs (slice_set d.queries k new) j → IsOut e.programs e.queries j
+  moved_out j o =
+      out_more d.programs e.programs (slice_set d.queries k new) e.queries j (same_programs d e programs)
+      (λ i x here. ap (λ (z : List Query). slice_get z i) queries ∙ here) o
+
+  phase_stay : (j : Job) → IsOut d.programs d.queries j → IsOut e.programs e.queries j
+  phase_stay j o = moved_out j (written_by j (j.query == k) refl o)
+
+  phase_run : (i : ℕ) (x : Query) (v : ViewMap) → slice_get e.queries i ≡ Some x → x.phase ≡ Running v
+      → (slice_get d.queries i ≡ Some x) ⊎ ((i ≡ k) × (p ≡ Running v))
+  phase_run i x v here is = elim (get_after d.queries k new i x (ap (λ (z : List Query). slice_get z i) (sym queries) ∙ here)) [
+    | inl a ↦ inl a
+    | inr b ↦ inr (b.0, ap (λ (y : Query). y.phase) b.1 ∙ is)
+  ]
+
+  phase_quiet : ((v : ViewMap) → p ≡ Running v → ⊥) → IsQuiet d e
+  phase_quiet not = record {
+    stay = phase_stay;
+    run = λ i x v here is. elim (phase_run i x v here is) [ inl old ↦ old | inr b ↦ absurd (not v b.1) ];
+  }
+
+  -- its job is handed out
+  handed_jobs : (desks : Desks) (jobs : List Job) (id : ℕ) (j : Job) → JobsAre desks jobs → fin.get desks id ≡ Some d → IsReadyJob d id j → j.query ≡ k
+      → p ≡ Running j.view → JobsAre (fin.insert desks id e) (jobs ++ j ∷ [])
+  handed_jobs desks jobs id j are here r of is =
+      let one : r.query ≡ q = same_some r.query q (sym r.at ∙ ap (slice_get d.queries) of ∙ at) in
+      let mine : IsOut d.programs (slice_set d.queries k new) j = record {
+        query = new;
+        at = ap (slice_get (slice_set d.queries k new)) of ∙ get-same d.queries k q new at;
+        program = ap (λ (x : Query). x.program) (sym one) ∙ r.program;
+        start = ap (λ (x : Query). x.start) (sym one) ∙ r.start;
+        certified = r.certified;
+        runs = subst (λ (x : Phase). RunsOver x j.view) (sym is) refl;
+      } in
+      put_jobs desks jobs are id e (jobs ++ j ∷ []) (λ number i there. slice_get_front jobs (j ∷ []) number i there)
+      (λ number i there. elim (get_snoc jobs j number i there) [
+        | inl old ↦ inl old
+        | inr same ↦ inr (subst (λ (z : Job). (z.node ≡ id) × IsOut e.programs e.queries z) same (r.by, moved_out j mine))
+      ])
+      (λ x i there o. phase_stay i (subst (λ (z : DeskState). IsOut z.programs z.queries i) (same_some x d (sym there ∙ here)) o))
+      (λ i x v there runs. elim (phase_run i x v there runs) [
+        | inl old ↦
+            let had = are.all id d i x v here old runs in
+            let there = slice_get_front jobs (j ∷ []) had.number had.is.job had.is.at in
+            record { number = had.number; is = record { job = had.is.job; at = there; by = had.is.by; of = had.is.of } }
+        | inr b ↦ record { number = length jobs; is = record { job = j; at = slice_get_last jobs j; by = r.by; of = of ∙ sym b.0 } }
+      ])
+
+-- ---- an accepted call
+
+module _ (desks : Desks) (jobs : List Job) (id : ℕ) (d e : DeskState) (are : JobsAre desks jobs) (here : fin.get desks id ≡ Some d) where
+  with_jobs : (o p : Option Job) → o ≡ p → JobsAre (fin.insert desks id e) (with_job jobs p) → JobsAre (fin.insert desks id e) (with_job jobs o)
+  with_jobs o p is now = subst (λ (x : Option Job). JobsAre (fin.insert desks id e) (with_job jobs x)) (sym is) now
+
+  goes_jobs : (k : ℕ) (q : Query) (p : Phase) (o : Option Job) → slice_get d.queries k ≡ Some q → GoesOver d id k q p o → e.programs ≡ d.programs
+      → e.queries ≡ slice_set d.queries k (record q { phase = p }) → JobsAre (fin.insert desks id e) (with_job jobs o)
+  goes_jobs k q p o at (readied view is to none) programs queries =
+      with_jobs o None none
+      (quiet_jobs desks jobs id d e are here
+      (phase_quiet d e k q p at programs queries (λ v r. absurd (none_over q.phase Collecting v is (λ x. x) r))
+      (λ v runs. let no : Ready view ≡ Running v = sym to ∙ runs in absurd (cc))))
+  goes_jobs k q p o at (handed j r of to some) programs queries =
+      let one : r.query ≡ q = same_some r.query q (sym r.at ∙ ap (slice_get d.queries) of ∙ at) in
+      let ready : q.phase ≡ Ready j.view = ap (λ (x : Query). x.phase) (sym one) ∙ r.phase in
+      with_jobs o (Some j) some
+      (handed_jobs d e k q p at programs queries (λ v over. absurd (none_over q.phase (Ready j.view) v ready (λ x. x) over)) desks jobs id j are here r of to)
+  goes_jobs k q p o at (recorded j view ran is fits to none) programs queries =
+      with_jobs o None none
+      (quiet_jobs desks jobs id d e are here
+      (phase_quiet d e k q p at programs queries
+      (λ v r. subst (λ (x : Phase). RunsOver x v) (sym to) (subst (λ (x : Phase). RunsOver x v) is r))
+      (λ v runs. let no : Answered view ran ≡ Running v = sym to ∙ runs in absurd (cc))))
+
+  pub change_jobs : (o : Option Job) → Change d id e o → JobsAre (fin.insert desks id e) (with_job jobs o)
+  change_jobs None (stays programs queries) = quiet_jobs desks jobs id d e are here (still_quiet d e (same_programs d e programs) queries)
+  change_jobs None (grows more queries) = quiet_jobs desks jobs id d e are here (still_quiet d e more queries)
+  change_jobs None (begins q collects programs queries) = quiet_jobs desks jobs id d e are here (begins_quiet d e q collects programs queries)
+  change_jobs o (rephased k q p at goes programs queries) = goes_jobs k q p o at goes programs queries

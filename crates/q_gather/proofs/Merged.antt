@@ -1,0 +1,295 @@
+-- The books of each history merge.
+use Rattle.std.proofs.Common.{◌≡◌, ℕ, zero, suc, ◌==◌, Bool, true, false, List, [], ◌∷◌, ◌++◌, get_or, Option, Some, None, refl, sym, ap, ◌∙◌, subst, inl, inr, slice_get, slice_set}
+use Rattle.std.proofs.lemmas.Bool.{eqb-true, eqb-false}
+use Rattle.std.proofs.lemmas.List.{append_cancel_left}
+use Rattle.std.proofs.lemmas.Option.{slice_get-get_or}
+use Rattle.std.specs.FinMap as fin
+use Rattle.sc_msg.specs.declared.message.Message.{Message}
+use Rattle.sc_node.specs.State.{NodeState}
+use Rattle.sc_node.specs.Nodes as node
+use Rattle.q_desk.specs.State.{DeskState}
+use Rattle.q_desk.specs.Answers.{AnswersAreRight}
+use Rattle.q_desk.specs.declared.journal.Entry.{Entry}
+use Rattle.q_book.specs.State.{BookState}
+use Rattle.q_book.specs.Books as book
+use Rattle.q_book.specs.Replays as replays
+use Rattle.q_book.specs.Replays.{IsReplay}
+use Rattle.q_history.specs.declared.event.ClusterEvent.{ClusterEvent}
+use Rattle.q_history.specs.State.{ClusterState}
+use Rattle.q_history.specs.Heads.{book_of}
+use Rattle.q_history.specs.Clusters.{start}
+use Rattle.q_history.specs.Calls.{Reaches, IsHistory}
+use Rattle.q_history.proofs.Lists.{same_some, no_some, get_elsewhere}
+use Rattle.q_history.proofs.Histories.{history_next, history_kept}
+use Rattle.q_history.proofs.EveryBook.{history_are, history_books}
+use Rattle.q_cluster.specs.Acts.{booked, book_at}
+use Rattle.q_gather.specs.Merging.{Step, CanGo, AreOver, Merges}
+use Rattle.q_gather.specs.Merging.Merges.{Over, Takes}
+use Rattle.q_gather.specs.Traces.{step_of, IsTraceFrom, IsTrace}
+use Rattle.q_gather.specs.Turns.{IsTurn}
+use Rattle.q_gather.specs.Gathered.{AreDistinct, HasBook, AreRight, AgreeOn, IsGathered, IsAt}
+use Rattle.q_gather.specs.Gathered.IsAt.{Away, There}
+use Rattle.q_gather.proofs.Lists.{get-same, get_after}
+use Rattle.q_gather.proofs.EveryJob.{history_jobs}
+use Rattle.q_gather.proofs.BooksGather.{IsPlaced}
+use Rattle.q_gather.proofs.Beginning.{begins}
+use Rattle.q_book.proofs.Followed.{follows_one}
+use Rattle.q_book.proofs.Replays.{IsLater, replays_later}
+use Rattle.q_gather.proofs.Keeping.{trace_replays}
+use Rattle.q_gather.proofs.Tracing.{trace_one}
+use Rattle.q_gather.specs.Beginnings.{MayGather}
+use Rattle.q_gather.proofs.Moving.{IsMove, event_moves}
+use Rattle.q_gather.proofs.Moving.IsMove.{Rests, Goes, Enters}
+use Rattle.q_gather.proofs.FrontsGather.{all_traced}
+
+abbrev Steps : Type 0
+Steps = List (Step Message)
+
+-- ---- one list of steps is left
+
+from_onward : (es : List Entry) (b c : BookState) (steps : Steps) → IsTraceFrom b es steps c → IsLater b es c
+from_onward es b c steps t = replays_later es b c (trace_replays es b c steps t)
+
+from_one : (es : List Entry) (b c : BookState) (steps others : Steps) → IsTraceFrom b es steps c → IsTraceFrom b es others c → steps ≡ others
+from_one [] b c steps others t u = t.0 ∙ sym u.0
+from_one (e ∷ es) b c steps others t u =
+    let same = follows_one b t.0 u.0 e t.1 u.1 in
+    let rest = from_one es u.0 c t.2 u.2 (subst (λ (x : BookState). IsTraceFrom x es t.2 c) same t.4) u.4 in
+    t.3 ∙ ap (λ (x : Steps). step_of b e ∷ x) rest ∙ sym u.3
+
+-- the steps that are left of a book are the same, however it was found how far its node has come
+module _ (c : ClusterState) (whole : BookState) (steps others : Steps) where
+  there_one : (b d : BookState) (es fs : List Entry) → b ≡ d → IsTraceFrom b es steps whole → IsTraceFrom d fs others whole → steps ≡ others
+  there_one b d es fs same t u =
+      let v = subst (λ (x : BookState). IsTraceFrom x fs others whole) (sym same) u in
+      let entries : fs ≡ es = append_cancel_left b.desk.journal fs es (sym (from_onward fs b whole others v).adds ∙ (from_onward es b whole steps t).adds) in
+      from_one es b whole steps others t (subst (λ (x : List Entry). IsTraceFrom b x others whole) entries v)
+
+  at_one : (es fs : List Entry) → IsAt c whole es steps → IsAt c whole fs others → steps ≡ others
+  at_one es fs (Away absent none is t) (Away gone nobody so u) = trace_one whole steps others t u
+  at_one es fs (Away absent none is t) (There d at u) = absurd (no_some d (sym absent ∙ at))
+  at_one es fs (There b at t) (Away absent none is u) = absurd (no_some b (sym absent ∙ at))
+  at_one es fs (There b here t) (There d at u) = there_one b d es fs (same_some b d (sym here ∙ at)) t u
+
+-- ---- lists that are written back
+
+set_back : {X : Type 0} (xs : List X) (k : ℕ) (x y : X) → slice_get xs k ≡ Some y → slice_set (slice_set xs k x) k y ≡ xs
+set_back [] k x y h = absurd (no_some y h)
+set_back (z ∷ zs) zero x y h = ap (λ (w : _). w ∷ zs) (sym (same_some z y h))
+set_back (z ∷ zs) (suc k) x y h = ap (λ (ws : List _). z ∷ ws) (set_back zs k x y h)
+
+abbrev nothing_left : List BookState → List Steps
+nothing_left [] = []
+nothing_left (b ∷ bs) = [] ∷ nothing_left bs
+
+-- ---- on the way back
+
+-- these steps of each book are left behind a cluster, and they merge
+record IsComing (books : List BookState) (c : ClusterState) (lists : List Steps) : Type 0 where
+  at : (k : ℕ) (b : BookState) → slice_get books k ≡ Some b → IsPlaced c lists k b
+  few : (k : ℕ) (steps : Steps) → slice_get lists k ≡ Some steps → (b : BookState) × (slice_get books k ≡ Some b)
+  all : (id : ℕ) (b : BookState) → book_at c id ≡ Some b → HasBook books id
+  merges : Merges Message c.world.sent lists
+
+-- a node at which nothing happened was where it is
+at_stayed : (c later : ClusterState) (whole : BookState) (left : List Entry) (steps : Steps) → book_at later whole.id ≡ book_at c whole.id → IsAt later whole left steps → IsAt c whole left steps
+at_stayed c later whole left steps same (Away absent none is t) = Away (sym same ∙ absent) none is t
+at_stayed c later whole left steps same (There b at t) = There b (sym same ∙ at) t
+
+module _ (books : List BookState) (distinct : AreDistinct books) (c later : ClusterState) (lists : List Steps) (coming : IsComing books later lists) where
+  rests_back : ((id : ℕ) → book_at later id ≡ book_at c id) → later.world.sent ≡ c.world.sent → IsComing books c lists
+  rests_back same sent = record {
+    at = λ k b here. let p = coming.at k b here in (p.0, p.1, p.2, at_stayed c later b p.2 p.0 (same b.id) p.3);
+    few = coming.few;
+    all = λ id b at. coming.all id b (same id ∙ at);
+    merges = subst (λ (x : List Message). Merges Message x lists) sent coming.merges;
+  }
+
+  -- a node went on by this step, behind which these are left
+  module _ (id : ℕ) (d : BookState) (outs : List Message) (turn : IsTurn c id d outs later) (k : ℕ) (whole : BookState) (mine : slice_get books k ≡ Some whole) (of : whole.id ≡ id) (steps : Steps)
+      (there : slice_get lists k ≡ Some steps) (s : Step Message) (left : List Entry) (was : IsAt c whole left (s ∷ steps)) (can : CanGo c.world.sent s) (sends : s.gives ≡ outs) where
+    placed_by : (i : ℕ) (b : BookState) (same : Bool) → (i == k) ≡ same → slice_get books i ≡ Some b → IsPlaced c (slice_set lists k (s ∷ steps)) i b
+    placed_by i b true is here =
+        let place : i ≡ k = eqb-true i k is in
+        let one : whole ≡ b = same_some whole b (sym mine ∙ ap (slice_get books) (sym place) ∙ here) in
+        subst (IsPlaced c (slice_set lists k (s ∷ steps)) i) one
+        (s ∷ steps, ap (slice_get (slice_set lists k (s ∷ steps))) place ∙ get-same lists k steps (s ∷ steps) there, left, was)
+    placed_by i b false is here =
+        let away : i ≡ k → ⊥ = eqb-false i k is in
+        let p = coming.at i b here in (
+          p.0,
+          get_elsewhere lists k (s ∷ steps) i p.0 away p.1,
+          p.2,
+          at_stayed c later b p.2 p.0 (turn.others b.id (λ same. away (distinct i k b whole here mine (same ∙ sym of)))) p.3,
+        )
+
+    few_by : (i : ℕ) (own : Steps) → slice_get (slice_set lists k (s ∷ steps)) i ≡ Some own → (b : BookState) × (slice_get books i ≡ Some b)
+    few_by i own here = elim (get_after lists k (s ∷ steps) i own here) [ inl old ↦ coming.few i own old | inr new ↦ (whole, ap (slice_get books) new.0 ∙ mine) ]
+
+    all_by : (q : ℕ) (b : BookState) (same : Bool) → (q == id) ≡ same → book_at c q ≡ Some b → HasBook books q
+    all_by q b true is at = record { place = k; book = whole; at = mine; of = of ∙ sym (eqb-true q id is) }
+    all_by q b false is at = coming.all q b (turn.others q (eqb-false q id is) ∙ at)
+
+    merges_back : Merges Message c.world.sent (slice_set lists k (s ∷ steps))
+    merges_back =
+        Takes k s steps (get-same lists k steps (s ∷ steps) there) can
+        (subst (λ (x : List Steps). Merges Message (c.world.sent ++ s.gives) x) (sym (set_back lists k (s ∷ steps) steps there))
+        (subst (λ (x : List Message). Merges Message x lists) (turn.sent ∙ ap (λ (x : List Message). c.world.sent ++ x) (sym sends)) coming.merges))
+
+    went_back : IsComing books c (slice_set lists k (s ∷ steps))
+    went_back = record {
+      at = λ i b here. placed_by i b (i == k) refl here;
+      few = few_by;
+      all = λ q b at. all_by q b (q == id) refl at;
+      merges = merges_back;
+    }
+
+  -- behind its new book the node has these entries left
+  left_there : (id : ℕ) (d : BookState) (whole : BookState) (left : List Entry) (steps : Steps) → book_at later id ≡ Some d → whole.id ≡ id → IsAt later whole left steps → IsTraceFrom d left steps whole
+  left_there id d whole left steps here of (Away absent none is t) = absurd (no_some d (sym absent ∙ ap (book_at later) of ∙ here))
+  left_there id d whole left steps here of (There b at t) = subst (λ (x : BookState). IsTraceFrom x left steps whole) (same_some b d (sym at ∙ ap (book_at later) of ∙ here)) t
+
+  goes_back : (id : ℕ) (b d : BookState) (e : Entry) → book_at c id ≡ Some b → replays.Follows b e d → CanGo c.world.sent (step_of b e) → IsTurn c id d (step_of b e).gives later
+      → (more : List Steps) × IsComing books c more
+  goes_back id b d e here f can turn =
+      let h = coming.all id d turn.book in
+      let p = coming.at h.place h.book h.at in
+      let t = left_there id d h.book p.2 p.0 turn.book h.of p.3 in
+      let was : IsAt c h.book (e ∷ p.2) (step_of b e ∷ p.0) = There b (ap (book_at c) h.of ∙ here) (d, f, p.0, refl, t) in
+      (slice_set lists h.place (step_of b e ∷ p.0), went_back id d (step_of b e).gives turn h.place h.book h.at h.of p.0 p.1 (step_of b e) (e ∷ p.2) was can refl)
+
+  -- the steps of a node that entered
+  module _ (id : ℕ) (whole : BookState) (left : List Entry) (steps : Steps) (t : IsTraceFrom (book.entered c.version c.world.config id).0 left steps whole) where
+    abbrev new : BookState
+    new = (book.entered c.version c.world.config id).0
+
+    abbrev first : Step Message
+    first = record { wants = None; gives = (book.entered c.version c.world.config id).1 }
+
+    on : IsLater new left whole
+    on = from_onward left new whole steps t
+
+    entered_trace : IsTrace whole (first ∷ steps)
+    entered_trace =
+        let later_book : BookState = record new { node = whole.node; desk = whole.desk } in
+        let entries : left ≡ whole.desk.journal = sym on.adds in
+        subst (λ (x : BookState). IsTrace x (first ∷ steps)) on.same
+        (record {
+          first = (node.entered c.world.config id).0;
+          begun = refl;
+          rest = steps;
+          trace =
+              subst (λ (x : BookState). IsTraceFrom new whole.desk.journal steps x) (sym on.same)
+              (subst (λ (x : List Entry). IsTraceFrom new x steps whole) entries t);
+          is = refl;
+        })
+
+    entered_alone : whole.founders ≡ None
+    entered_alone = ap (λ (x : BookState). x.founders) (sym on.same)
+
+  enters_back : (id : ℕ) → book_at c id ≡ None → IsTurn c id (book.entered c.version c.world.config id).0 (book.entered c.version c.world.config id).1 later → (more : List Steps) × IsComing books c more
+  enters_back id absent turn =
+      let e = book.entered c.version c.world.config id in
+      let h = coming.all id e.0 turn.book in
+      let p = coming.at h.place h.book h.at in
+      let t = left_there id e.0 h.book p.2 p.0 turn.book h.of p.3 in
+      let s : Step Message = record { wants = None; gives = e.1 } in
+      let was : IsAt c h.book h.book.desk.journal (s ∷ p.0) = Away (ap (book_at c) h.of ∙ absent) (entered_alone id h.book p.2 p.0 t) refl (entered_trace id h.book p.2 p.0 t) in
+      (slice_set lists h.place (s ∷ p.0), went_back id e.0 e.1 turn h.place h.book h.at h.of p.0 p.1 s h.book.desk.journal was tt refl)
+
+  back : IsMove c later → (more : List Steps) × IsComing books c more
+  back (Rests same sent) = (lists, rests_back same sent)
+  back (Goes id b d e here f can turn) = goes_back id b d e here f can turn
+  back (Enters id absent turn) = enters_back id absent turn
+
+run_back : (books : List BookState) → AreDistinct books → (es : List ClusterEvent) (c d : ClusterState) → IsHistory c → Reaches c es d → (lists : List Steps) → IsComing books d lists → (more : List Steps) × IsComing books c more
+run_back books distinct [] c d h r lists coming = (lists, subst (λ (x : ClusterState). IsComing books x lists) r coming)
+run_back books distinct (e ∷ es) c d h r lists coming =
+    let rest = run_back books distinct es r.1 d (history_next c r.1 e r.0 h r.2) r.3 lists coming in
+    back books distinct c r.1 rest.0 rest.1 (event_moves c r.1 e r.0 h r.2)
+
+-- ---- the end, where nothing is left
+
+nothing_at : (books : List BookState) (k : ℕ) (b : BookState) → slice_get books k ≡ Some b → slice_get (nothing_left books) k ≡ Some []
+nothing_at [] k b h = absurd (no_some b h)
+nothing_at (x ∷ xs) zero b h = refl
+nothing_at (x ∷ xs) (suc k) b h = nothing_at xs k b h
+
+nothing_few : (books : List BookState) (k : ℕ) (steps : Steps) → slice_get (nothing_left books) k ≡ Some steps → (steps ≡ []) × ((b : BookState) × (slice_get books k ≡ Some b))
+nothing_few [] k steps h = absurd (no_some steps h)
+nothing_few (x ∷ xs) zero steps h = (sym (same_some [] steps h), (x, refl))
+nothing_few (x ∷ xs) (suc k) steps h = nothing_few xs k steps h
+
+nothing_over : (books : List BookState) → AreOver (nothing_left books)
+nothing_over books k d less = (nothing_few books k (get_or (nothing_left books) k d) (slice_get-get_or (nothing_left books) k d less)).0
+
+end_coming : (books : List BookState) (c : ClusterState) → IsGathered books c → IsComing books c (nothing_left books)
+end_coming books c g = record {
+  at = λ k b here. ([], nothing_at books k b here, [], There b (g.each k b here) (refl, refl));
+  few = λ k steps here. (nothing_few books k steps here).1;
+  all = g.all;
+  merges = Over (nothing_over books);
+}
+
+-- ---- gathered books may be gathered
+
+-- the parts of a book of a cluster
+record IsBooked (c : ClusterState) (id : ℕ) (b : BookState) : Type 0 where
+  node : NodeState
+  desk : DeskState
+  at : fin.get c.world.nodes id ≡ Some node
+  here : fin.get c.desks id ≡ Some desk
+  is : book_of c id node desk ≡ b
+
+booked_is : (c : ClusterState) (id : ℕ) (b : BookState) (o : Option NodeState) (p : Option DeskState) → fin.get c.world.nodes id ≡ o → fin.get c.desks id ≡ p → booked c id o p ≡ Some b → IsBooked c id b
+booked_is c id b None p at here h = absurd (no_some b h)
+booked_is c id b (Some n) None at here h = absurd (no_some b h)
+booked_is c id b (Some n) (Some d) at here h = record { node = n; desk = d; at = at; here = here; is = same_some (book_of c id n d) b h }
+
+module _ (books : List BookState) (c : ClusterState) (g : IsGathered books c) (distinct : AreDistinct books) where
+  parts_of : (k : ℕ) (b : BookState) → slice_get books k ≡ Some b → IsBooked c b.id b
+  parts_of k b here = booked_is c b.id b (fin.get c.world.nodes b.id) (fin.get c.desks b.id) refl refl (g.each k b here)
+
+  are_right : AreRight books
+  are_right k b here =
+      let p = parts_of k b here in
+      subst (λ (x : BookState). AnswersAreRight x.desk) p.is ((history_kept c g.history).desks b.id p.desk p.here).right
+
+  are_replays : (k : ℕ) (b : BookState) → slice_get books k ≡ Some b → IsReplay b
+  are_replays k b here =
+      let p = parts_of k b here in
+      subst IsReplay p.is (history_books c g.history b.id p.node p.desk p.at p.here)
+
+  agree : AgreeOn books c.version c.world.config c.world.founders
+  agree = record {
+    taken = g.history.2;
+    versions = λ k b here. ap (λ (x : BookState). x.version) (sym (parts_of k b here).is);
+    heads = λ k b here. let is = sym (parts_of k b here).is in (ap (λ (x : BookState). x.config) is, ap (λ (x : BookState). x.founders) is);
+    there = λ id listed.
+        let n = (history_are c g.history).founders id listed in
+        let d = (history_jobs c g.history).desks id n.0 n.1 in
+        g.all id (book_of c id n.0 d.0) (λ i. booked c id (n.1 i) (d.1 i));
+  }
+
+  pub gathered_may : MayGather books c.version c.world.config c.world.founders
+  gathered_may =
+      let begin = start c.version c.world.config c.world.founders in
+      let own = all_traced books are_replays in
+      let first = begins c.version c.world.config c.world.founders books own.0 distinct are_right agree own.1 in
+      let way = run_back books distinct g.history.0 begin c first.history g.history.1 (nothing_left books) (end_coming books c g) in
+      record {
+        distinct = distinct;
+        right = are_right;
+        agree = agree;
+        lists = way.0;
+        traces = record {
+          each = λ k b here.
+              let p = way.1.at k b here in
+              let q = first.at k b here in
+              let t = own.1.each k b here in
+              let same : t.0 ≡ p.0 = same_some t.0 q.0 (sym t.1 ∙ q.1) ∙ at_one begin b q.0 p.0 q.2 p.2 q.3 p.3 in
+              (p.0, p.1, subst (IsTrace b) same t.2);
+          few = way.1.few;
+        };
+        merges = way.1.merges;
+      }

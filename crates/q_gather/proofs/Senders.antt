@@ -1,0 +1,103 @@
+-- Each message that a step of a book's trace gives names the node of the book as its sender.
+use Rattle.std.proofs.Common.{◌≡◌, ℕ, zero, suc, ◌&&◌, List, [], ◌∷◌, ◌++◌, map, Option, Some, None, refl, sym, ap, ◌∙◌, subst, slice_get, Ok}
+use Rattle.std.specs.Ordering.{nat_cmp}
+use Rattle.std.specs.FinSet as set
+use Rattle.sc_msg.specs.declared.message.Message.{Message}
+use Rattle.sc_msg.specs.declared.message.Body.{Body}
+use Rattle.sc_msg.specs.declared.message.Body.TheVariants.{Enter, Leave, Store, CollectQuery}
+use Rattle.sc_node.specs.State.{NodeState}
+use Rattle.sc_node.specs.Nodes as node
+use Rattle.sc_node.specs.Nodes.{message_from, answers, stored_view}
+use Rattle.sc_node.specs.declared.answer.Begun.{Begun}
+use Rattle.sc_node.specs.declared.answer.Delivered.{Delivered}
+use Rattle.sc_node.specs.declared.fault.NodeFault.{NodeFault}
+use Rattle.sc_node.specs.declared.fault.NodeFault.TheVariants as node_fault
+use Rattle.sc_world.specs.Worlds.{Outcome, of_begun, of_left, of_delivered, by_node}
+use Rattle.sc_world.proofs.Inverts.{stores-ok, collects-ok, leaves-ok, delivers-ok}
+use Rattle.q_desk.specs.declared.journal.Entry.{Entry}
+use Rattle.q_desk.specs.declared.journal.Entry.TheVariants as entry
+use Rattle.q_desk.proofs.Accepted.{same_some, no_some, same_answer, passed}
+use Rattle.q_book.specs.State.{BookState}
+use Rattle.q_book.specs.Books as book
+use Rattle.q_book.specs.Replays.{Follows, IsFirst}
+use Rattle.q_book.proofs.Followed.{NodeDid, sends, follows-accepted}
+use Rattle.q_gather.specs.Merging.{Step}
+use Rattle.q_gather.proofs.Keeping.{gives_is}
+use Rattle.q_gather.specs.Traces.{gives, step_of, IsTraceFrom, entering, IsTrace}
+
+-- each of these messages names this sender
+abbrev pub AreOwn : ℕ → List Message → Type 0
+AreOwn id outs = (k : ℕ) (m : Message) → slice_get outs k ≡ Some m → m.from ≡ id
+
+all_own : (id : ℕ) (bodies : List Body) → AreOwn id (map (message_from id) bodies)
+all_own id [] k m h = absurd (no_some m h)
+all_own id (b ∷ bs) zero m h = ap (λ (x : Message). x.from) (sym (same_some (message_from id b) m h))
+all_own id (b ∷ bs) (suc k) m h = all_own id bs k m h
+
+one_own : (id : ℕ) (b : Body) → AreOwn id (message_from id b ∷ [])
+one_own id b = all_own id (b ∷ [])
+
+-- what a call of a node sends names the node, which keeps its id
+record IsOwn (n : NodeState) (outs : List Message) (later : NodeState) : Type 0 where
+  stays : later.id ≡ n.id
+  own : AreOwn n.id outs
+
+module _ (n : NodeState) where
+  of_outcome : (x y : Outcome) → x ≡ y → IsOwn n x.outs x.node → IsOwn n y.outs y.node
+  of_outcome x y is own = subst (λ (z : Outcome). IsOwn n z.outs z.node) is own
+
+  store_own : (value : List ℕ) (a : Begun × NodeState) → node.store_begun n value ≡ Ok a → IsOwn n a.0.outs a.1
+  store_own value a h = of_outcome _ (of_begun a) (stores-ok value n (of_begun a) (ap (by_node of_begun) h)) (record { stays = refl; own = one_own n.id (Store n.operations (stored_view n value)) })
+
+  collect_own : (a : Begun × NodeState) → node.collect_begun n ≡ Ok a → IsOwn n a.0.outs a.1
+  collect_own a h = of_outcome _ (of_begun a) (collects-ok n (of_begun a) (ap (by_node of_begun) h)) (record { stays = refl; own = one_own n.id (CollectQuery n.operations) })
+
+  leave_own : (a : List Message × NodeState) → node.left n ≡ Ok a → IsOwn n a.0 a.1
+  leave_own a h = of_outcome _ (of_left a) (leaves-ok n (of_left a) (ap (by_node of_left) h)) (record { stays = refl; own = one_own n.id Leave })
+
+  deliver_own : (m : Message) (a : Delivered × NodeState) → node.delivered n m ≡ Ok a → IsOwn n a.0.outs a.1
+  deliver_own m a h = of_outcome _ (of_delivered a) (delivers-ok m n (of_delivered a) (ap (by_node of_delivered) h)) (record { stays = refl; own = all_own n.id (answers n m.from m.body) })
+
+-- ---- the calls of a book
+
+did_own : (b : BookState) (e : Entry) (outs : List Message) (n : NodeState) → NodeDid b e outs n → IsOwn b.node outs n
+did_own b entry.Leave outs n d = subst (λ (x : List Message). IsOwn b.node x n) d.2 (leave_own b.node (d.0, n) d.1)
+did_own b (entry.Ask program start) outs n d = subst (λ (x : List Message). IsOwn b.node x n) d.2 (collect_own b.node (d.0, n) d.1)
+did_own b (entry.Store value) outs n d = subst (λ (x : List Message). IsOwn b.node x n) d.2 (store_own b.node value (d.0, n) d.1)
+did_own b (entry.Deliver m) outs n d = subst (λ (x : List Message). IsOwn b.node x n) d.2 (deliver_own b.node m (d.0, n) d.1)
+did_own b e outs n d = record {
+  stays = ap (λ (x : NodeState). x.id) d.0;
+  own = λ k m h. absurd (no_some m (ap (λ (x : List Message). slice_get x k) (sym d.1) ∙ h));
+}
+
+entry_own : (b c : BookState) (e : Entry) → Follows b e c → IsOwn b.node (gives b e) c.node
+entry_own b c e f =
+    subst (λ (x : List Message). IsOwn b.node x c.node) (sym (gives_is b e)) (did_own b e (sends b e) c.node (follows-accepted b e c f).node)
+
+-- ---- the steps of a trace
+
+from_own : (es : List Entry) (b c : BookState) (steps : List (Step Message)) → IsTraceFrom b es steps c → (id : ℕ) → b.node.id ≡ id → (k : ℕ) (t : Step Message) → slice_get steps k ≡ Some t → AreOwn id t.gives
+from_own [] b c steps r id named k t h = absurd (no_some t (ap (λ (x : List (Step Message)). slice_get x k) (sym r.0) ∙ h))
+from_own (e ∷ es) b c steps r id named zero t h =
+    let first : step_of b e ≡ t = same_some (step_of b e) t (ap (λ (x : List (Step Message)). slice_get x 0) (sym r.3) ∙ h) in
+    subst (λ (x : Step Message). AreOwn id x.gives) first (subst (λ (x : ℕ). AreOwn x (gives b e)) named (entry_own b r.0 e r.1).own)
+from_own (e ∷ es) b c steps r id named (suc k) t h =
+    from_own es r.0 c r.2 r.4 id ((entry_own b r.0 e r.1).stays ∙ named) k t (ap (λ (x : List (Step Message)). slice_get x (suc k)) (sym r.3) ∙ h)
+
+first_named : (b : BookState) (n : NodeState) (founders : Option (List ℕ)) → IsFirst b n founders → n.id ≡ b.id
+first_named b n None h = ap (λ (x : NodeState). x.id) h
+first_named b n (Some ids) h =
+    let founded = passed (node.are_founders ids && set.contains (set.from_list {R = nat_cmp} ids) b.id) node_fault.BadFounders (Ok (node.founder b.config ids b.id)) n h in
+    ap (λ (x : NodeState). x.id) (sym (same_answer {E = NodeFault} (node.founder b.config ids b.id) n founded.1))
+
+all_by : (b : BookState) (rest : List (Step Message)) (founders : Option (List ℕ)) → ((k : ℕ) (t : Step Message) → slice_get rest k ≡ Some t → AreOwn b.id t.gives)
+    → (k : ℕ) (t : Step Message) → slice_get (entering b founders ++ rest) k ≡ Some t → AreOwn b.id t.gives
+all_by b rest (Some ids) own k t h = own k t h
+all_by b rest None own zero t h = subst (λ (x : Step Message). AreOwn b.id x.gives) (same_some _ t h) (one_own b.id Enter)
+all_by b rest None own (suc k) t h = own k t h
+
+pub trace_own : (b : BookState) (steps : List (Step Message)) → IsTrace b steps → (k : ℕ) (t : Step Message) → slice_get steps k ≡ Some t → AreOwn b.id t.gives
+trace_own b steps r k t h =
+    let first = book.new_book b.version b.id b.config b.founders r.first in
+    all_by b r.rest b.founders (λ i s at. from_own b.desk.journal first b r.rest r.trace b.id (first_named b r.first b.founders r.begun) i s at) k t
+    (ap (λ (x : List (Step Message)). slice_get x k) (sym r.is) ∙ h)

@@ -1,0 +1,11 @@
+-- heads_are_beginnings: so is a head alone, without any entry; and heads alone hold what they deliver, which is
+-- nothing.
+use Rattle.q_gather.proofs.BookHeads.{head_begun, heads_hold, head_gives}
+use Rattle.q_gather.proofs.worked.heads_are_beginnings.Goals as goal
+
+pub returns : goal.returns
+returns c = record {
+  one = λ b first h. head_begun b first h;
+  all = λ books heads. heads_hold books heads;
+  enter = λ version config id m h. head_gives version config id m h;
+}
