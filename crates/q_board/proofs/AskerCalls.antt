@@ -7,22 +7,22 @@ use prog.Atomic.{either}
 use lib.ListN.{get_elem?}
 use Rattle.atomic_table.specs.Seated.{TableId}
 use Rattle.atomic_table.specs.Table.{step, Allows, rest}
-use Rattle.q_slots.specs.Rule.{Orderly}
+use Rattle.q_board.specs.Rule.{Orderly}
 use Rattle.q_board.specs.Places.{times, lacks, jobs, bare}
-use Rattle.q_slots.specs.Plays.{Sat, asking, front, offering, looking, receiving, published, looked, taken}
+use Rattle.q_board.specs.Plays.{Sat, asking, front, offering, looking, receiving, published, looked, taken}
 use Rattle.q_board.specs.AskerModel.{AskerModel, asker_model, IsAsker}
 use Rattle.q_board.specs.Calls.{Offers, LooksOnly, Receives}
 use Rattle.q_session.specs.declared.job.Job.{Job}
 use Rattle.q_session.specs.Done.{Finished}
-use Rattle.q_slots.specs.declared.cell.Content.{Content}
-use Rattle.q_slots.specs.declared.cell.Content.TheVariants as cell
-use Rattle.q_slots.specs.declared.view.Asking.{Asking}
-use Rattle.q_slots.specs.declared.view.Holder.{Holder}
-use Rattle.q_slots.specs.declared.view.Holder.TheVariants.{Asker}
-use Rattle.q_slots.proofs.Moves.{at_lt}
-use Rattle.q_slots.proofs.AskerSteps.{publishes, looks, takes_result}
-use Rattle.q_slots.specs.Words.{found_of}
-use Rattle.q_slots.specs.declared.found.Found.TheVariants as found
+use Rattle.q_board.specs.declared.cell.Content.{Content}
+use Rattle.q_board.specs.declared.cell.Content.TheVariants as cell
+use Rattle.q_board.specs.declared.view.Asking.{Asking}
+use Rattle.q_board.specs.declared.view.Holder.{Holder}
+use Rattle.q_board.specs.declared.view.Holder.TheVariants.{Asker}
+use Rattle.q_board.proofs.Moves.{at_lt}
+use Rattle.q_board.proofs.AskerSteps.{publishes, looks, takes_result}
+use Rattle.q_board.specs.Words.{found_of}
+use Rattle.q_board.specs.declared.found.Found.TheVariants as found
 use Rattle.q_board.proofs.Rows.{times_here, lacks_at, lacks_set_some, lacks_set_none, jobs_set}
 
 -- the same at other names for the same numbers

@@ -1,3 +1,9 @@
+pub mod Moves
+pub mod AskerSteps
+pub mod RunnerSteps
+pub mod Opening
+pub mod Accounting
+pub mod Summing
 pub mod Rows
 pub mod AskerCalls
 pub mod RunnerCalls

@@ -9,8 +9,8 @@ use lib.ListN.{get_elem?}
 use Rattle.atomic_table.specs.Table.{turned}
 use Rattle.q_board.specs.Places.{times, one, none, has, lacks, jobs, bare}
 use Rattle.q_session.specs.declared.job.Job.{Job}
-use Rattle.q_slots.specs.declared.cell.Content.{Content}
-use Rattle.q_slots.specs.declared.cell.Content.TheVariants.{Vacant}
+use Rattle.q_board.specs.declared.cell.Content.{Content}
+use Rattle.q_board.specs.declared.cell.Content.TheVariants.{Vacant}
 
 -- 1 where the two are one number
 abbrev pub tally : ℕ → ℕ → ℕ

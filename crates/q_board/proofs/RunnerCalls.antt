@@ -8,24 +8,24 @@ use lib.ListN.{get_elem?}
 use Rattle.atomic_table.specs.Seated.{TableId}
 use Rattle.atomic_table.specs.Table.{step, Allows, rest}
 use Rattle.atomic_table.proofs.Lists.{set_here}
-use Rattle.q_slots.specs.Words.{found_of}
+use Rattle.q_board.specs.Words.{found_of}
 use Rattle.std.proofs.lemmas.List.{length-replicate}
-use Rattle.q_slots.specs.Rule.{Orderly, maker}
+use Rattle.q_board.specs.Rule.{Orderly, maker}
 use Rattle.q_board.specs.Places.{times, has, jobs, bare}
-use Rattle.q_slots.specs.Plays.{Sat, first_runner, running, front, trying, claiming, finishing, returning, tried, ended, given_back}
+use Rattle.q_board.specs.Plays.{Sat, first_runner, running, front, trying, claiming, finishing, returning, tried, ended, given_back}
 use Rattle.q_board.specs.RunnerModel.{RunnerModel, runner_model, IsRunner}
 use Rattle.q_board.specs.declared.seats.RunnerSeat.TheInside.{Inside}
 use Rattle.q_board.specs.Calls.{is_at, Misses, Claims, Finishes, GivesBack}
 use Rattle.q_session.specs.declared.job.Job.{Job}
 use Rattle.q_session.specs.declared.ran.Ran.{Ran}
 use Rattle.q_session.specs.Done.{Finished}
-use Rattle.q_slots.specs.declared.cell.Content.{Content}
-use Rattle.q_slots.specs.declared.cell.Content.TheVariants as cell
-use Rattle.q_slots.specs.declared.found.Found.TheVariants as found
-use Rattle.q_slots.specs.declared.view.Running.{Running}
-use Rattle.q_slots.specs.declared.view.Holder.TheVariants.{Runner}
-use Rattle.q_slots.proofs.Moves.{at_lt}
-use Rattle.q_slots.proofs.RunnerSteps.{tries, finishes, gives_back}
+use Rattle.q_board.specs.declared.cell.Content.{Content}
+use Rattle.q_board.specs.declared.cell.Content.TheVariants as cell
+use Rattle.q_board.specs.declared.found.Found.TheVariants as found
+use Rattle.q_board.specs.declared.view.Running.{Running}
+use Rattle.q_board.specs.declared.view.Holder.TheVariants.{Runner}
+use Rattle.q_board.proofs.Moves.{at_lt}
+use Rattle.q_board.proofs.RunnerSteps.{tries, finishes, gives_back}
 use Rattle.q_board.proofs.Rows.{has_at, has_set_none, has_set_some, jobs_set, jobs_room, jobs_nones, has_nones}
 
 -- a word that is not 1 does not show a ready job

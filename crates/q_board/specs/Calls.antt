@@ -5,9 +5,9 @@ use lib.ListN.{get_elem?}
 use Rattle.q_session.specs.declared.job.Job.{Job}
 use Rattle.q_session.specs.declared.ran.Ran.{Ran}
 use Rattle.q_session.specs.Done.{Finished}
-use Rattle.q_slots.specs.declared.found.Found.{Found}
-use Rattle.q_slots.specs.declared.found.Found.TheVariants as found
-use Rattle.q_slots.specs.Plays.{look}
+use Rattle.q_board.specs.declared.found.Found.{Found}
+use Rattle.q_board.specs.declared.found.Found.TheVariants as found
+use Rattle.q_board.specs.Plays.{look}
 use Rattle.q_board.specs.AskerModel.{AskerModel}
 use Rattle.q_board.specs.RunnerModel.{RunnerModel}
 

@@ -1,3 +1,9 @@
+pub mod Words
+pub mod Phase
+pub mod Rule
+pub mod Plays
+pub mod Account
+pub mod Sums
 pub mod BoardId
 pub mod Places
 pub mod AskerModel

@@ -1,8 +1,8 @@
 -- Places in a row of jobs.
 use Rattle.std.specs.Prelude.{ℕ, zero, suc, ◌+◌, ◌==◌, cond, List, [], ◌∷◌, map, Option, Some, None}
 use Rattle.q_session.specs.declared.job.Job.{Job}
-use Rattle.q_slots.specs.declared.cell.Content.{Content}
-use Rattle.q_slots.specs.declared.cell.Content.TheVariants.{Vacant}
+use Rattle.q_board.specs.declared.cell.Content.{Content}
+use Rattle.q_board.specs.declared.cell.Content.TheVariants.{Vacant}
 
 -- how often k stands in the list
 abbrev pub times : ℕ → List ℕ → ℕ

@@ -5,22 +5,24 @@ ghost use Rattle.std.specs.VecDeque.{deque_len, deque_capacity};
 ghost use Rattle.q_session.specs.Done.{IsFinished};
 ghost use Rattle.q_session.specs.Right.{IsRight};
 ghost use Rattle.atomic_table.specs.Table.{rest};
-ghost use Rattle.q_slots.specs.Rule.{maker as making};
+ghost use Rattle.q_board.specs.Rule.{maker as making};
 ghost use Rattle.q_board.specs.AskerModel.{opened_asker, opened_askers};
 ghost use Rattle.q_board.specs.RunnerModel.{opened_runner, opened_runners};
 ghost use Rattle.q_board.specs.Places.{times, jobs, bare};
 ghost use Rattle.q_board.specs.Calls.{is_at, SameAsker, SameRunner, Offers, LooksOnly, Receives, Misses, Claims, Finishes, GivesBack};
 
+use crate::cell::Content;
 use crate::claim::Claim;
 use crate::drowsy::Drowsy;
 use crate::fault::{OpenFault, RowFull};
+use crate::found::Found;
+use crate::rule::{
+    Finish, GiveBack, MakeAsker, MakeRunner, Order, Publish, See, Take, TakeHome, Try,
+};
 use crate::seats::{AskerSeat, ROW, RunnerSeat, Slot};
+use crate::view::Holder;
 use atomic_table::{Refused, Seat, Shared, Table};
 use q_session::{Done, Job, Ran};
-use q_slots::{
-    Content, Finish, Found, GiveBack, Holder, MakeAsker, MakeRunner, Order, Publish, See, Take,
-    TakeHome, Try,
-};
 use std::alloc::{AllocError, Global};
 use std::collections::VecDeque;
 use std::sync::atomic::AtomicUsize;

@@ -1,8 +1,15 @@
 //! A board on which askers offer jobs, and runners claim, run and finish them, each in a thread of its own or not.
 //!
-//! There is no lock: each change of a slot is one atomic step on its word, of the six kinds that `q_slots` has a rule
-//! for. What a call says of its seat holds in every schedule. [`Board`] has the calls, [`AskerSeat`] and [`RunnerSeat`]
-//! are what a thread needs for them, and [`Claim`] is the right to a job. Only [`Board::open`] takes memory.
+//! A slot has a word, which shows in what state it is (`Found`), and a place for a job or a result (`Content`). Each
+//! asker has a row of eight slots. A seat's view is what its holder has done (`Holder`). There is one rule (`Order`),
+//! which six kinds of step keep: an asker publishes a job, looks at a word, takes a result; a runner tries to claim,
+//! finishes a claim, gives one back. (Askers also take their slots and seats are cut while the board opens.)
+//! [`accounted`] says of the rule where each job is. `specs/Phase` has the states of a slot, `specs/Rule` the rule,
+//! `specs/Plays` what each step tells its seat, `specs/Account` where each job is.
+//!
+//! There is no lock: each change of a slot is one atomic step on its word, of those six kinds. What a call says of its
+//! seat holds in every schedule. [`Board`] has the calls, [`AskerSeat`] and [`RunnerSeat`] are what a thread needs for
+//! them, and [`Claim`] is the right to a job. Only [`Board::open`] takes memory.
 //!
 //! A seat is seen as the record of what its holder has done: `specs/AskerModel`, `specs/RunnerModel`; `specs/Calls`
 //! says what each call makes of it.
@@ -35,14 +42,20 @@
 #![tactic(auto)]
 
 mod board;
+mod cell;
 mod claim;
 mod drowsy;
 mod fault;
+mod found;
+mod law;
+mod rule;
 mod seats;
+mod view;
 pub mod worked;
 
 pub use board::{Board, MOST_ASKERS, MOST_RUNNERS};
 pub use claim::Claim;
 pub use drowsy::Drowsy;
 pub use fault::{OpenFault, RowFull};
+pub use law::accounted;
 pub use seats::{AskerSeat, ROW, RunnerSeat, Slot};

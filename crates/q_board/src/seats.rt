@@ -11,8 +11,9 @@ ghost use Rattle.q_board.specs.Calls.{is_at};
 ghost use Rattle.q_board.specs.AskerModel.{AskerModel, asker_model, IsAsker};
 ghost use Rattle.q_board.specs.RunnerModel.{RunnerModel, runner_model, IsRunner};
 
+use crate::cell::Content;
+use crate::view::Holder;
 use atomic_table::Seat;
-use q_slots::{Content, Holder};
 use std::collections::VecDeque;
 use std::marker::Model;
 

@@ -7,10 +7,10 @@ use lib.ListN.{get_elem?}
 use Rattle.atomic_table.proofs.Lists.{set_else}
 use Rattle.q_session.specs.declared.job.Job.{Job}
 use Rattle.q_session.specs.Done.{Finished}
-use Rattle.q_slots.specs.declared.found.Look.{Look}
-use Rattle.q_slots.specs.declared.found.Found.{Found}
-use Rattle.q_slots.specs.declared.found.Found.TheVariants as found
-use Rattle.q_slots.specs.Plays.{look}
+use Rattle.q_board.specs.declared.found.Look.{Look}
+use Rattle.q_board.specs.declared.found.Found.{Found}
+use Rattle.q_board.specs.declared.found.Found.TheVariants as found
+use Rattle.q_board.specs.Plays.{look}
 use Rattle.q_board.specs.AskerModel.{AskerModel}
 use Rattle.q_board.specs.Places.{jobs}
 use Rattle.q_board.specs.Calls.{is_at, row_place, LooksOnly, Receives}

@@ -5,10 +5,10 @@ use Rattle.atomic_table.proofs.Lists.{set_again}
 use Rattle.q_session.specs.declared.job.Job.{Job}
 use Rattle.q_session.specs.declared.ran.Ran.{Ran}
 use Rattle.q_session.specs.Done.{Finished}
-use Rattle.q_slots.specs.declared.found.Look.{Look}
-use Rattle.q_slots.specs.declared.found.Found.{Found}
-use Rattle.q_slots.specs.declared.found.Found.TheVariants as found
-use Rattle.q_slots.specs.Plays.{look}
+use Rattle.q_board.specs.declared.found.Look.{Look}
+use Rattle.q_board.specs.declared.found.Found.{Found}
+use Rattle.q_board.specs.declared.found.Found.TheVariants as found
+use Rattle.q_board.specs.Plays.{look}
 use Rattle.q_board.specs.RunnerModel.{RunnerModel}
 use Rattle.q_board.specs.Calls.{Misses, Claims, Finishes}
 use Rattle.q_runner.specs.Looks.{slots_of, is_ready}

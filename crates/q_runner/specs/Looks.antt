@@ -1,8 +1,8 @@
 -- What a seat's looks showed.
 use Rattle.std.specs.Prelude.{ℕ, ◌+◌, List, [], ◌∷◌, map}
-use Rattle.q_slots.specs.declared.found.Look.{Look}
-use Rattle.q_slots.specs.declared.found.Found.{Found}
-use Rattle.q_slots.specs.declared.found.Found.TheVariants.{Empty, Ready, Finished, Claimed}
+use Rattle.q_board.specs.declared.found.Look.{Look}
+use Rattle.q_board.specs.declared.found.Found.{Found}
+use Rattle.q_board.specs.declared.found.Found.TheVariants.{Empty, Ready, Finished, Claimed}
 
 abbrev pub slots_of : List Look → List ℕ
 slots_of looks = map (λ l. l.slot) looks

@@ -1,7 +1,7 @@
 -- What a runner's seat has done after some looks at slots in turn.
 use Rattle.std.specs.Prelude.{◌≡◌, ℕ, zero, suc, ◌+◌, ◌%◌, List, [], ◌∷◌, ◌++◌, length, All}
 use Rattle.q_session.specs.Done.{Finished}
-use Rattle.q_slots.specs.declared.found.Look.{Look}
+use Rattle.q_board.specs.declared.found.Look.{Look}
 use Rattle.q_board.specs.RunnerModel.{RunnerModel}
 use Rattle.q_runner.specs.Looks.{slots_of, is_ready, showing}
 

@@ -1,5 +1,5 @@
 use Rattle.std.proofs.Common.{◌≡◌, ◌≤◌, vec_len, vec_capacity, replicate}
-use Rattle.q_slots.specs.declared.cell.Content.TheVariants.{Vacant}
+use Rattle.q_board.specs.declared.cell.Content.TheVariants.{Vacant}
 use Rattle.q_board.proofs.board.Board.lay.Given as goal
 
 abbrev pub invariant-loop : goal.invariant-loop

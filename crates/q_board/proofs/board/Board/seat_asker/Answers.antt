@@ -1,9 +1,9 @@
 -- Board::seat_asker: the next asker takes its row.
 use Rattle.std.proofs.Common.{◌∙◌, sym, ap, arith, refl, ℕ}
-use Rattle.q_slots.specs.Plays.{Sat, new_asking}
-use Rattle.q_slots.specs.Rule.{maker}
-use Rattle.q_slots.proofs.Opening.{asker_split}
-use Rattle.q_slots.proofs.AskerSteps.{take_home_allowed}
+use Rattle.q_board.specs.Plays.{Sat, new_asking}
+use Rattle.q_board.specs.Rule.{maker}
+use Rattle.q_board.proofs.Opening.{asker_split}
+use Rattle.q_board.proofs.AskerSteps.{take_home_allowed}
 use Rattle.q_board.proofs.board.Board.seat_asker.Goals as goal
 
 pub split_seat-seat-requires : goal.split_seat-seat-requires

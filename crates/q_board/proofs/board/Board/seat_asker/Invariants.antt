@@ -1,8 +1,8 @@
 use Rattle.std.proofs.Common.{◌≡◌, ◌≤◌, ◌*◌, deque_len, deque_capacity}
 use Rattle.q_board.specs.Places.{bare}
-use Rattle.q_slots.specs.Plays.{new_asking}
+use Rattle.q_board.specs.Plays.{new_asking}
 use Rattle.q_board.specs.BoardId.{board_id}
-use Rattle.q_slots.specs.declared.view.Holder.TheVariants.{Asker}
+use Rattle.q_board.specs.declared.view.Holder.TheVariants.{Asker}
 use Rattle.q_board.proofs.Rows.{down}
 use Rattle.q_board.proofs.board.Board.seat_asker.Given as goal
 

@@ -2,9 +2,9 @@
 use Rattle.std.proofs.Common.{rules, ◌∙◌, sym, ap, arith, ℕ, [], deque_len, deque_capacity}
 use Rattle.atomic_table.specs.Seated.{TableId}
 use Rattle.q_board.proofs.RunnerCalls.{opened}
-use Rattle.q_slots.specs.Plays.{Sat, first_runner}
-use Rattle.q_slots.specs.Rule.{maker}
-use Rattle.q_slots.proofs.Opening.{runner_split}
+use Rattle.q_board.specs.Plays.{Sat, first_runner}
+use Rattle.q_board.specs.Rule.{maker}
+use Rattle.q_board.proofs.Opening.{runner_split}
 use Rattle.q_board.proofs.board.Board.seat_runner.Goals as goal
 
 pub split_seat-seat-requires : goal.split_seat-seat-requires

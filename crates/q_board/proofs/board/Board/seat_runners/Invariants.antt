@@ -1,5 +1,5 @@
 use Rattle.std.proofs.Common.{◌≡◌, ◌≤◌, ◌+◌, [], vec_len, vec_capacity}
-use Rattle.q_slots.specs.Rule.{maker as making}
+use Rattle.q_board.specs.Rule.{maker as making}
 use Rattle.q_board.specs.RunnerModel.{opened_runners}
 use Rattle.q_board.specs.BoardId.{board_id}
 use Rattle.q_board.proofs.board.Board.seat_runners.Given as goal

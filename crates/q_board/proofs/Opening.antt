@@ -7,16 +7,16 @@ use native.Mathlib.Decide.{ℕ_discrete}
 use lib.ListN.{get_elem?}
 use Rattle.atomic_table.specs.Table.{State, opening, Splits}
 use Rattle.atomic_table.proofs.Lists.{at_set, at_longer, set_else}
-use Rattle.q_slots.specs.Phase.{Phase, fresh, empty, ready, claimed, finished, code, shelf, job_of, held_by, IsFresh}
-use Rattle.q_slots.specs.Rule.{maker, place, Fits, Orderly}
-use Rattle.q_slots.specs.Plays.{new_asking, new_running, next_maker, first_asker, first_runner}
+use Rattle.q_board.specs.Phase.{Phase, fresh, empty, ready, claimed, finished, code, shelf, job_of, held_by, IsFresh}
+use Rattle.q_board.specs.Rule.{maker, place, Fits, Orderly}
+use Rattle.q_board.specs.Plays.{new_asking, new_running, next_maker, first_asker, first_runner}
 use Rattle.q_session.specs.declared.job.Job.{Job}
-use Rattle.q_slots.specs.declared.cell.Content.{Content}
-use Rattle.q_slots.specs.declared.cell.Content.TheVariants as cell
-use Rattle.q_slots.specs.declared.view.Running.{Running}
-use Rattle.q_slots.specs.declared.view.Holder.{Holder}
-use Rattle.q_slots.specs.declared.view.Holder.TheVariants.{Maker, Asker, Runner}
-use Rattle.q_slots.proofs.Moves.{at_lt}
+use Rattle.q_board.specs.declared.cell.Content.{Content}
+use Rattle.q_board.specs.declared.cell.Content.TheVariants as cell
+use Rattle.q_board.specs.declared.view.Running.{Running}
+use Rattle.q_board.specs.declared.view.Holder.{Holder}
+use Rattle.q_board.specs.declared.view.Holder.TheVariants.{Maker, Asker, Runner}
+use Rattle.q_board.proofs.Moves.{at_lt}
 
 module _ {A : Type 0} where
   at_replicate : (n i : ℕ) (a b : A) → get_elem? (replicate n a) i ≡ some b → a ≡ b

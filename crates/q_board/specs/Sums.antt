@@ -5,12 +5,12 @@ use mathlib.Core.Option.{some, none}
 use lib.ListN.{get_elem?}
 use Rattle.atomic_table.specs.Table.{State}
 use Rattle.q_session.specs.declared.job.Job.{Job}
-use Rattle.q_slots.specs.declared.cell.Content.{Content}
-use Rattle.q_slots.specs.declared.cell.Content.TheVariants as cell
-use Rattle.q_slots.specs.declared.view.Asking.{Asking}
-use Rattle.q_slots.specs.declared.view.Holder.{Holder}
-use Rattle.q_slots.specs.declared.view.Holder.TheVariants.{Maker, Asker, Runner}
-use Rattle.q_slots.specs.Rule.{total, weight}
+use Rattle.q_board.specs.declared.cell.Content.{Content}
+use Rattle.q_board.specs.declared.cell.Content.TheVariants as cell
+use Rattle.q_board.specs.declared.view.Asking.{Asking}
+use Rattle.q_board.specs.declared.view.Holder.{Holder}
+use Rattle.q_board.specs.declared.view.Holder.TheVariants.{Maker, Asker, Runner}
+use Rattle.q_board.specs.Rule.{total, weight}
 
 -- a job that waits in the slot, or a job that lies there with its result
 abbrev pub cell_weight : (Job → ℕ) → Content → ℕ

@@ -3,11 +3,11 @@ use Rattle.std.specs.Prelude.{◌≡◌, ℕ, ◌==◌, cond, Option, Some, None
 use mathlib.Core.Option as opt
 use Rattle.q_session.specs.declared.job.Job.{Job}
 use Rattle.q_session.specs.Done.{Finished}
-use Rattle.q_slots.specs.declared.cell.Content.{Content}
-use Rattle.q_slots.specs.declared.cell.Content.TheVariants as cell
-use Rattle.q_slots.specs.declared.found.Found.{Found}
-use Rattle.q_slots.specs.declared.found.Found.TheVariants as look
-use Rattle.q_slots.specs.Words.{word_of}
+use Rattle.q_board.specs.declared.cell.Content.{Content}
+use Rattle.q_board.specs.declared.cell.Content.TheVariants as cell
+use Rattle.q_board.specs.declared.found.Found.{Found}
+use Rattle.q_board.specs.declared.found.Found.TheVariants as look
+use Rattle.q_board.specs.Words.{word_of}
 
 -- fresh: the asker has not taken the slot yet, as the board opens. empty: the asker has the slot. claimed: the runner of this number has it
 pub data Phase : Type 0 where

@@ -9,18 +9,18 @@ use prog.Atomic.{either}
 use lib.ListN.{get_elem?}
 use Rattle.atomic_table.specs.Table.{State, step, keeps, takes, gives, Allows}
 use Rattle.atomic_table.proofs.Lists.{at_set, set_here, set_else, set_again, at_map}
-use Rattle.q_slots.specs.Phase.{Phase, fresh, empty, ready, claimed, finished, code, shelf, job_of, held_by, IsFresh, IsFinished}
-use Rattle.q_slots.specs.Rule.{total, weight, place, Balanced, FitsSlot, Fits, Orderly}
-use Rattle.q_slots.specs.Plays.{Sat, offering, looking, receiving, opening_more, published, looked, taken, took_home}
+use Rattle.q_board.specs.Phase.{Phase, fresh, empty, ready, claimed, finished, code, shelf, job_of, held_by, IsFresh, IsFinished}
+use Rattle.q_board.specs.Rule.{total, weight, place, Balanced, FitsSlot, Fits, Orderly}
+use Rattle.q_board.specs.Plays.{Sat, offering, looking, receiving, opening_more, published, looked, taken, took_home}
 use Rattle.q_session.specs.declared.job.Job.{Job}
 use Rattle.q_session.specs.Done.{Finished}
-use Rattle.q_slots.specs.declared.cell.Content.{Content}
-use Rattle.q_slots.specs.declared.cell.Content.TheVariants as cell
-use Rattle.q_slots.specs.declared.found.Look.{Look}
-use Rattle.q_slots.specs.declared.view.Asking.{Asking}
-use Rattle.q_slots.specs.declared.view.Holder.{Holder}
-use Rattle.q_slots.specs.declared.view.Holder.TheVariants.{Asker}
-use Rattle.q_slots.proofs.Moves.{board, at_lt, there, at_get, others, moves}
+use Rattle.q_board.specs.declared.cell.Content.{Content}
+use Rattle.q_board.specs.declared.cell.Content.TheVariants as cell
+use Rattle.q_board.specs.declared.found.Look.{Look}
+use Rattle.q_board.specs.declared.view.Asking.{Asking}
+use Rattle.q_board.specs.declared.view.Holder.{Holder}
+use Rattle.q_board.specs.declared.view.Holder.TheVariants.{Asker}
+use Rattle.q_board.proofs.Moves.{board, at_lt, there, at_get, others, moves}
 
 module _ {A : Type 0} (g : A → ℕ) where
   pub total-append : (l m : List A) → total g (l ++ m) ≡ total g l + total g m

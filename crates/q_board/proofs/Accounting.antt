@@ -4,18 +4,18 @@ use Rattle.std.proofs.lemmas.List.{length-map}
 use mathlib.Core.Option.{some, some-injective}
 use lib.ListN.{get_elem?}
 use Rattle.atomic_table.specs.Table.{State}
-use Rattle.q_slots.specs.Phase.{Phase, fresh, empty, ready, claimed, finished, code, job_of, held_by}
-use Rattle.q_slots.specs.Rule.{Orderly}
-use Rattle.q_slots.specs.Account.{Accounted, Accounts, HoldsOwn}
+use Rattle.q_board.specs.Phase.{Phase, fresh, empty, ready, claimed, finished, code, job_of, held_by}
+use Rattle.q_board.specs.Rule.{Orderly}
+use Rattle.q_board.specs.Account.{Accounted, Accounts, HoldsOwn}
 use Rattle.q_session.specs.declared.job.Job.{Job}
-use Rattle.q_slots.specs.declared.cell.Content.{Content}
-use Rattle.q_slots.specs.declared.view.Asking.{Asking}
-use Rattle.q_slots.specs.declared.view.Running.{Running}
-use Rattle.q_slots.specs.declared.view.Holder.{Holder}
-use Rattle.q_slots.specs.declared.view.Holder.TheVariants.{Asker, Runner}
-use Rattle.q_slots.proofs.Moves.{there}
-use Rattle.q_slots.proofs.AskerSteps.{word_is, home_is}
-use Rattle.q_slots.proofs.RunnerSteps.{held_is, held_yes}
+use Rattle.q_board.specs.declared.cell.Content.{Content}
+use Rattle.q_board.specs.declared.view.Asking.{Asking}
+use Rattle.q_board.specs.declared.view.Running.{Running}
+use Rattle.q_board.specs.declared.view.Holder.{Holder}
+use Rattle.q_board.specs.declared.view.Holder.TheVariants.{Asker, Runner}
+use Rattle.q_board.proofs.Moves.{there}
+use Rattle.q_board.proofs.AskerSteps.{word_is, home_is}
+use Rattle.q_board.proofs.RunnerSteps.{held_is, held_yes}
 
 module _ (lanes : ℕ) (s : State Content Holder) (o : Orderly lanes s) where
   account : (i : ℕ) (p : Phase) → get_elem? o.phases i ≡ some p → Accounted s i (job_of p)

@@ -1,7 +1,7 @@
 //! What a slot's word shows.
 
 ghost use Rattle.std.specs.Prelude.{◌≡◌};
-ghost use Rattle.q_slots.specs.Words.{word_of, found_of};
+ghost use Rattle.q_board.specs.Words.{word_of, found_of};
 
 /// The states of a slot that its word shows.
 #[derive(Clone, Copy)]

@@ -9,15 +9,15 @@ use native.Mathlib.Decide.{ℕ_discrete}
 use lib.ListN.{get_elem?}
 use Rattle.atomic_table.specs.Table.{State}
 use Rattle.atomic_table.proofs.Lists.{at_set, set_here, set_else}
-use Rattle.q_slots.specs.Phase.{Phase, claimed, finished, code, shelf, job_of, held_by, IsFresh, IsFinished}
-use Rattle.q_slots.specs.Rule.{place, FitsSlot, Fits, Orderly}
+use Rattle.q_board.specs.Phase.{Phase, claimed, finished, code, shelf, job_of, held_by, IsFresh, IsFinished}
+use Rattle.q_board.specs.Rule.{place, FitsSlot, Fits, Orderly}
 use Rattle.q_session.specs.declared.job.Job.{Job}
 use Rattle.q_session.specs.Done.{Finished}
-use Rattle.q_slots.specs.declared.cell.Content.{Content}
-use Rattle.q_slots.specs.declared.view.Asking.{Asking}
-use Rattle.q_slots.specs.declared.view.Running.{Running}
-use Rattle.q_slots.specs.declared.view.Holder.{Holder}
-use Rattle.q_slots.specs.declared.view.Holder.TheVariants.{Maker, Asker, Runner}
+use Rattle.q_board.specs.declared.cell.Content.{Content}
+use Rattle.q_board.specs.declared.view.Asking.{Asking}
+use Rattle.q_board.specs.declared.view.Running.{Running}
+use Rattle.q_board.specs.declared.view.Holder.{Holder}
+use Rattle.q_board.specs.declared.view.Holder.TheVariants.{Maker, Asker, Runner}
 
 abbrev pub board : List ℕ → List (opt.Option Content) → List Holder → State Content Holder
 board ws hs vs = record { words = ws; homes = hs; views = vs }

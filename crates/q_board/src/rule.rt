@@ -1,7 +1,7 @@
 //! The rule that holds between any two steps, and what each step tells its seat.
 
-ghost use Rattle.q_slots.specs.Rule.{Orderly, maker};
-ghost use Rattle.q_slots.specs.Plays.{took_home, published, looked, taken, tried, ended, given_back, next_maker, first_asker, first_runner};
+ghost use Rattle.q_board.specs.Rule.{Orderly, maker};
+ghost use Rattle.q_board.specs.Plays.{took_home, published, looked, taken, tried, ended, given_back, next_maker, first_asker, first_runner};
 
 use crate::cell::Content;
 use crate::view::Holder;

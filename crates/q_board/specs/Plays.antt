@@ -3,18 +3,18 @@ use Rattle.std.specs.Prelude.{◌≡◌, ◌≢◌, ℕ, ◌+◌, ◌-◌, ◌*�
 use mathlib.Core.Option.{some}
 use lib.ListN.{get_elem?}
 use Rattle.atomic_table.specs.Table.{Me, Step, rest}
-use Rattle.q_slots.specs.Words.{found_of}
+use Rattle.q_board.specs.Words.{found_of}
 use Rattle.q_session.specs.declared.job.Job.{Job}
 use Rattle.q_session.specs.Done.{Finished}
-use Rattle.q_slots.specs.declared.cell.Content.{Content}
-use Rattle.q_slots.specs.declared.cell.Content.TheVariants as cell
-use Rattle.q_slots.specs.declared.found.Look.{Look}
-use Rattle.q_slots.specs.declared.found.Found.{Found}
-use Rattle.q_slots.specs.declared.found.Found.TheVariants as found
-use Rattle.q_slots.specs.declared.view.Asking.{Asking}
-use Rattle.q_slots.specs.declared.view.Running.{Running}
-use Rattle.q_slots.specs.declared.view.Holder.{Holder}
-use Rattle.q_slots.specs.declared.view.Holder.TheVariants.{Maker, Asker, Runner}
+use Rattle.q_board.specs.declared.cell.Content.{Content}
+use Rattle.q_board.specs.declared.cell.Content.TheVariants as cell
+use Rattle.q_board.specs.declared.found.Look.{Look}
+use Rattle.q_board.specs.declared.found.Found.{Found}
+use Rattle.q_board.specs.declared.found.Found.TheVariants as found
+use Rattle.q_board.specs.declared.view.Asking.{Asking}
+use Rattle.q_board.specs.declared.view.Running.{Running}
+use Rattle.q_board.specs.declared.view.Holder.{Holder}
+use Rattle.q_board.specs.declared.view.Holder.TheVariants.{Maker, Asker, Runner}
 
 abbrev pub Sat : Type 0
 Sat = Me Content Holder

@@ -4,18 +4,18 @@ use mathlib.Core.Option as opt
 use mathlib.Core.Option.{some, some-injective, some-ne-none}
 use lib.ListN.{get_elem?}
 use Rattle.atomic_table.specs.Table.{State}
-use Rattle.q_slots.specs.Phase.{Phase, fresh, empty, ready, claimed, finished, shelf, job_of, held_by}
-use Rattle.q_slots.specs.Rule.{Orderly, total, weight}
-use Rattle.q_slots.specs.Sums.{home_weight, claim_weight, claimed_by, in_slot, with_runners, over, Adds}
+use Rattle.q_board.specs.Phase.{Phase, fresh, empty, ready, claimed, finished, shelf, job_of, held_by}
+use Rattle.q_board.specs.Rule.{Orderly, total, weight}
+use Rattle.q_board.specs.Sums.{home_weight, claim_weight, claimed_by, in_slot, with_runners, over, Adds}
 use Rattle.q_session.specs.declared.job.Job.{Job}
-use Rattle.q_slots.specs.declared.cell.Content.{Content}
-use Rattle.q_slots.specs.declared.view.Asking.{Asking}
-use Rattle.q_slots.specs.declared.view.Running.{Running}
-use Rattle.q_slots.specs.declared.view.Holder.{Holder}
-use Rattle.q_slots.specs.declared.view.Holder.TheVariants.{Maker, Asker, Runner}
-use Rattle.q_slots.proofs.Moves.{there, at_lt, one_value}
-use Rattle.q_slots.proofs.AskerSteps.{home_is}
-use Rattle.q_slots.proofs.RunnerSteps.{held_yes, held_no}
+use Rattle.q_board.specs.declared.cell.Content.{Content}
+use Rattle.q_board.specs.declared.view.Asking.{Asking}
+use Rattle.q_board.specs.declared.view.Running.{Running}
+use Rattle.q_board.specs.declared.view.Holder.{Holder}
+use Rattle.q_board.specs.declared.view.Holder.TheVariants.{Maker, Asker, Runner}
+use Rattle.q_board.proofs.Moves.{there, at_lt, one_value}
+use Rattle.q_board.proofs.AskerSteps.{home_is}
+use Rattle.q_board.proofs.RunnerSteps.{held_yes, held_no}
 
 -- ---- sums
 

@@ -1,7 +1,7 @@
 -- The words of slots.
 use Rattle.std.specs.Prelude.{ℕ, ◌+◌, ◌-◌, ◌==◌, cond}
-use Rattle.q_slots.specs.declared.found.Found.{Found}
-use Rattle.q_slots.specs.declared.found.Found.TheVariants.{Empty, Ready, Finished, Claimed}
+use Rattle.q_board.specs.declared.found.Found.{Found}
+use Rattle.q_board.specs.declared.found.Found.TheVariants.{Empty, Ready, Finished, Claimed}
 
 -- the word that shows a state
 abbrev pub word_of : Found → ℕ

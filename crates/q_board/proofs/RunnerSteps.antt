@@ -9,19 +9,19 @@ use prog.Atomic.{either}
 use lib.ListN.{get_elem?}
 use Rattle.atomic_table.specs.Table.{State, step, keeps, takes, gives, Allows}
 use Rattle.atomic_table.proofs.Lists.{at_set, set_here, set_else}
-use Rattle.q_slots.specs.Phase.{Phase, fresh, empty, ready, claimed, finished, code, shelf, held_by}
-use Rattle.q_slots.specs.Rule.{place, Orderly}
-use Rattle.q_slots.specs.Plays.{trying, claiming, finishing, returning, tried, ended, given_back}
+use Rattle.q_board.specs.Phase.{Phase, fresh, empty, ready, claimed, finished, code, shelf, held_by}
+use Rattle.q_board.specs.Rule.{place, Orderly}
+use Rattle.q_board.specs.Plays.{trying, claiming, finishing, returning, tried, ended, given_back}
 use Rattle.q_session.specs.declared.job.Job.{Job}
 use Rattle.q_session.specs.Done.{Finished}
-use Rattle.q_slots.specs.declared.cell.Content.{Content}
-use Rattle.q_slots.specs.declared.cell.Content.TheVariants as cell
-use Rattle.q_slots.specs.declared.found.Look.{Look}
-use Rattle.q_slots.specs.declared.view.Running.{Running}
-use Rattle.q_slots.specs.declared.view.Holder.{Holder}
-use Rattle.q_slots.specs.declared.view.Holder.TheVariants.{Runner}
-use Rattle.q_slots.proofs.Moves.{board, at_lt, there, Alike, others, moves}
-use Rattle.q_slots.proofs.AskerSteps.{word_is, home_is, home_set, home_same}
+use Rattle.q_board.specs.declared.cell.Content.{Content}
+use Rattle.q_board.specs.declared.cell.Content.TheVariants as cell
+use Rattle.q_board.specs.declared.found.Look.{Look}
+use Rattle.q_board.specs.declared.view.Running.{Running}
+use Rattle.q_board.specs.declared.view.Holder.{Holder}
+use Rattle.q_board.specs.declared.view.Holder.TheVariants.{Runner}
+use Rattle.q_board.proofs.Moves.{board, at_lt, there, Alike, others, moves}
+use Rattle.q_board.proofs.AskerSteps.{word_is, home_is, home_set, home_same}
 
 some_injective : {A : Type 0} (x y : A) → Some x ≡ Some y → x ≡ y
 some_injective x y e = cc

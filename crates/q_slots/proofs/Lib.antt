@@ -1,6 +1,0 @@
-pub mod Moves
-pub mod AskerSteps
-pub mod RunnerSteps
-pub mod Opening
-pub mod Accounting
-pub mod Summing
