@@ -5,10 +5,10 @@ use Rattle.std.specs.List.{AllByRecursion}
 use Rattle.sc_msg.specs.Numbers.{number_bytes}
 use Rattle.sc_msg.specs.declared.version.Version.{Version}
 use Rattle.q_book.specs.State.{BookState}
-use Rattle.q_journal.specs.Head.{Head}
-use Rattle.q_journal.specs.Spelling.{head_bytes, event_bytes, IsWritten}
-use Rattle.q_journal.specs.declared.raw_entry.RawEntry.{RawEntry}
-use Rattle.q_journal.proofs.Events.{no_first, no_second, no_third}
+use Rattle.q_replay.specs.Head.{Head}
+use Rattle.q_replay.specs.Spelling.{head_bytes, event_bytes, IsWritten}
+use Rattle.q_replay.specs.declared.raw_entry.RawEntry.{RawEntry}
+use Rattle.q_replay.proofs.Events.{no_first, no_second, no_third}
 use Rattle.q_replay.specs.Journal.{head_of, entries_bytes, journal_of, IsJournalled}
 use Rattle.q_replay.specs.Replayed.{Leads, IsUnspelled, IsUntaken, IsUnbegun, IsFault}
 use Rattle.q_replay.specs.declared.fault.ReplayFault.{ReplayFault}

@@ -11,8 +11,8 @@ use Rattle.q_book.specs.State.{BookState}
 use Rattle.q_book.specs.Books.{new_book, founds}
 use Rattle.q_book.specs.Replays.{Follows}
 use Rattle.q_book.proofs.Followed.{follows-next}
-use Rattle.q_journal.specs.Head.{Head}
-use Rattle.q_journal.specs.declared.raw_entry.RawEntry.{RawEntry}
+use Rattle.q_replay.specs.Head.{Head}
+use Rattle.q_replay.specs.declared.raw_entry.RawEntry.{RawEntry}
 use Rattle.q_replay.specs.Replayed.{begun, TakesAll, Leads}
 
 follows-version : (b : BookState) (e : Entry) (c : BookState) → Follows b e c → c.version ≡ b.version

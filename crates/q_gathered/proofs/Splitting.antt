@@ -7,9 +7,9 @@ use Rattle.bq_check.specs.Spelling.{BeginsNone}
 use Rattle.sc_msg.specs.declared.version.Version.{Version}
 use Rattle.q_desk.specs.declared.journal.Entry.{Entry}
 use Rattle.q_book.specs.State.{BookState}
-use Rattle.q_journal.specs.Head.{Head}
-use Rattle.q_journal.specs.Spelling.{head_bytes, event_bytes, IsHead, IsWritten}
-use Rattle.q_journal.specs.declared.raw_entry.RawEntry.{RawEntry}
+use Rattle.q_replay.specs.Head.{Head}
+use Rattle.q_replay.specs.Spelling.{head_bytes, event_bytes, IsHead, IsWritten}
+use Rattle.q_replay.specs.declared.raw_entry.RawEntry.{RawEntry}
 use Rattle.q_replay.specs.Journal.{written_of, head_of, entries_bytes, journal_of, IsEntry, IsJournalled}
 use Rattle.q_replay.specs.Replayed.{Leads}
 use Rattle.q_gathered.specs.Beginning.{IsAfter}

@@ -2,9 +2,9 @@
 use Rattle.std.specs.Prelude.{◌≡◌, ◌⊎◌, ℕ, ◌<◌, ◌≤◌, ◌^◌, List, ◌∷◌, ◌++◌, length}
 use Rattle.sc_msg.specs.Numbers.{number_bytes}
 use Rattle.q_book.specs.State.{BookState}
-use Rattle.q_journal.specs.Head.{Head}
-use Rattle.q_journal.specs.Spelling.{head_bytes, event_bytes, IsHead, IsWritten}
-use Rattle.q_journal.specs.declared.raw_entry.RawEntry.{RawEntry}
+use Rattle.q_replay.specs.Head.{Head}
+use Rattle.q_replay.specs.Spelling.{head_bytes, event_bytes, IsHead, IsWritten}
+use Rattle.q_replay.specs.declared.raw_entry.RawEntry.{RawEntry}
 use Rattle.sc_msg.specs.declared.version.Version.{Version}
 use Rattle.std.specs.List.{flat_map, AllByRecursion}
 use Rattle.q_replay.specs.Journal.{journal_of, IsJournalled}

@@ -2,16 +2,14 @@
 
 ghost use Rattle.std.specs.Prelude.{◌≡◌, ◌<◌, ◌≤◌, ◌-◌, ◌^◌, ◌∷◌, ◌++◌, [], ℕ, List, length, take, IfOk, IfErr, IfSome, IfNone, MatchBool, MatchOption};
 ghost use Rattle.sc_msg.specs.Numbers.{number_bytes};
-ghost use Rattle.q_journal.specs.Spelling.{event_bytes, IsWritten};
-ghost use Rattle.q_journal.specs.declared.raw_entry.RawEntry.{RawEntry};
+ghost use Rattle.q_replay.specs.Spelling.{event_bytes, IsWritten};
+ghost use Rattle.q_replay.specs.declared.raw_entry.RawEntry.{RawEntry};
 ghost use Rattle.q_replay.specs.Replayed.{IsFault};
 ghost use Rattle.q_gathered.specs.Beginning.{IsBeginning, IsAfter, IsCut, IsRefused};
 
 use q_book::Book;
-use q_journal::laws::{one_event, one_head};
-use q_journal::{read_event, read_head};
-use q_replay::laws::one_fault;
-use q_replay::{ReplayFault, replay};
+use q_replay::laws::{one_event, one_fault, one_head};
+use q_replay::{ReplayFault, read_event, read_head, replay};
 use sc_msg::Version;
 use std::alloc::{AllocError, Global};
 

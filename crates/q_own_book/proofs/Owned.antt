@@ -4,7 +4,7 @@ use Rattle.std.proofs.Props.{props}
 use Rattle.std.specs.Io.KnownBytes.{Appends}
 use Rattle.std.proofs.Math.Logic.{∥∥₁_elim, ∥∥₁_map}
 use Rattle.q_book.specs.State.{BookState}
-use Rattle.q_journal.specs.Head.{Head}
+use Rattle.q_replay.specs.Head.{Head}
 use Rattle.q_recorder.specs.State.{RecorderState}
 use Rattle.q_recorder.specs.Recording.{Grows, IsRecorded}
 use Rattle.q_own_book.specs.Own.{IsOwn}

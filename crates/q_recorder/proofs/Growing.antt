@@ -7,8 +7,8 @@ use Rattle.q_desk.specs.declared.journal.Entry.{Entry}
 use Rattle.q_book.specs.State.{BookState}
 use Rattle.q_book.specs.Replays.{Follows, Replays}
 use Rattle.q_book.proofs.Followed.{follows-next}
-use Rattle.q_journal.specs.Head.{Head}
-use Rattle.q_journal.specs.Spelling.{head_bytes, event_bytes}
+use Rattle.q_replay.specs.Head.{Head}
+use Rattle.q_replay.specs.Spelling.{head_bytes, event_bytes}
 use Rattle.q_replay.specs.Journal.{written_of, head_of, entries_bytes, journal_of}
 use Rattle.q_recorder.specs.State.{RecorderState}
 use Rattle.q_recorder.specs.Recording.{AppendsPart, Grows, IsRecorded, recorded_bytes}

@@ -5,7 +5,7 @@ use Rattle.std.specs.Io.KnownBytes.{Appends}
 use Rattle.q_desk.specs.declared.journal.Entry.{Entry}
 use Rattle.q_desk.specs.declared.journal.Entry.TheVariants as entry
 use Rattle.q_book.specs.State.{BookState}
-use Rattle.q_journal.specs.Spelling.{head_bytes}
+use Rattle.q_replay.specs.Spelling.{head_bytes}
 use Rattle.q_replay.specs.Journal.{head_of, entries_bytes}
 use Rattle.q_recorder.specs.State.{RecorderState}
 use Rattle.q_recorder.specs.Recording.{Grows, IsRecorded}

@@ -5,7 +5,7 @@ use Rattle.std.specs.Io.KnownBytes.{Appends}
 use Rattle.std.proofs.KnownBytes.{Appends-nil, Appends-trans}
 use Rattle.q_desk.specs.declared.journal.Entry.{Entry}
 use Rattle.q_book.specs.State.{BookState}
-use Rattle.q_journal.specs.Spelling.{head_bytes, event_bytes}
+use Rattle.q_replay.specs.Spelling.{head_bytes, event_bytes}
 use Rattle.q_replay.specs.Journal.{written_of, head_of, journal_of}
 use Rattle.q_recorder.specs.State.{RecorderState}
 use Rattle.q_recorder.specs.Recording.{AppendsPart, Breaks, Grows, IsRecorded, Records, RecordsAll, lacking_bytes, recorded_bytes}

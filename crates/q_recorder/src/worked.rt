@@ -5,7 +5,7 @@ ghost use Rattle.reasons.specs.declared.Reason.TheVariants as reasons;
 ghost use Rattle.q_desk.specs.declared.journal.Entry.{Entry};
 ghost use Rattle.q_desk.specs.declared.journal.Entry.TheVariants as entry;
 ghost use Rattle.q_book.specs.State.{BookState};
-ghost use Rattle.q_journal.specs.Spelling.{head_bytes};
+ghost use Rattle.q_replay.specs.Spelling.{head_bytes};
 ghost use Rattle.q_replay.specs.Journal.{head_of, journal_of};
 ghost use Rattle.q_recorder.specs.State.{RecorderState};
 ghost use Rattle.q_recorder.specs.Faults.{reason};

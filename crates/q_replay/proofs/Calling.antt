@@ -16,8 +16,8 @@ use Rattle.q_book.specs.Books as book
 use Rattle.q_book.specs.Faults.{memory}
 use Rattle.q_book.specs.Replays.{Follows}
 use Rattle.q_book.specs.declared.fault.BookFault.{BookFault}
-use Rattle.q_journal.specs.Spelling.{head_bytes, event_bytes, IsWritten}
-use Rattle.q_journal.specs.declared.raw_entry.RawEntry.{RawEntry}
+use Rattle.q_replay.specs.Spelling.{head_bytes, event_bytes, IsWritten}
+use Rattle.q_replay.specs.declared.raw_entry.RawEntry.{RawEntry}
 use Rattle.q_desk.specs.Desks.{running_job}
 use Rattle.q_replay.specs.Journal.{written_of, IsCertifiedEntry}
 use Rattle.q_replay.specs.Replayed.{IsAnswering, Takes, Leads, IsFault}

@@ -18,8 +18,8 @@ use Rattle.q_desk.specs.declared.journal.Entry.TheVariants as entry
 use Rattle.q_book.specs.State.{BookState}
 use Rattle.q_book.specs.Books.{record_lengths}
 use Rattle.q_book.specs.Replays.{Follows}
-use Rattle.q_journal.specs.declared.raw_entry.RawEntry.{RawEntry}
-use Rattle.q_journal.specs.declared.raw_entry.RawEntry.TheVariants as written
+use Rattle.q_replay.specs.declared.raw_entry.RawEntry.{RawEntry}
+use Rattle.q_replay.specs.declared.raw_entry.RawEntry.TheVariants as written
 use Rattle.q_desk.specs.Desks.{running_job}
 use Rattle.q_replay.specs.Journal.{written_of, IsCertifiedEntry, IsEntry}
 use Rattle.q_replay.specs.Replayed.{IsAnswering, Takes}

@@ -2,9 +2,9 @@
 use Rattle.std.proofs.Common.{◌≡◌, ℕ, zero, suc, List, [], ◌++◌, length, refl, sym, ap, ◌∙◌, subst, flat_map, Result, Ok, Err, IfOk, IfErr, MatchResult}
 use Rattle.bq_check.specs.Spelling.{BeginsNone}
 use Rattle.q_book.specs.State.{BookState}
-use Rattle.q_journal.specs.Head.{Head}
-use Rattle.q_journal.specs.Spelling.{head_bytes, event_bytes, IsHead, IsWritten}
-use Rattle.q_journal.specs.declared.raw_entry.RawEntry.{RawEntry}
+use Rattle.q_replay.specs.Head.{Head}
+use Rattle.q_replay.specs.Spelling.{head_bytes, event_bytes, IsHead, IsWritten}
+use Rattle.q_replay.specs.declared.raw_entry.RawEntry.{RawEntry}
 use Rattle.q_replay.specs.Journal.{journal_of, IsJournalled}
 use Rattle.q_replay.specs.Replayed.{Begins, Takes, Leads, IsUnspelled, IsUntaken, IsUnbegun, IsFault}
 use Rattle.q_replay.specs.declared.fault.ReplayFault.{ReplayFault}

@@ -14,9 +14,9 @@ use Rattle.q_book.specs.State.{BookState}
 use Rattle.q_book.specs.Books.{new_book, founds}
 use Rattle.q_book.specs.Replays.{Replays, IsFirst}
 use Rattle.q_book.specs.declared.fault.BookFault.{BookFault}
-use Rattle.q_journal.specs.Head.{Head}
-use Rattle.q_journal.specs.Spelling.{head_bytes, event_bytes, IsHead, IsWritten}
-use Rattle.q_journal.specs.declared.raw_entry.RawEntry.{RawEntry}
+use Rattle.q_replay.specs.Head.{Head}
+use Rattle.q_replay.specs.Spelling.{head_bytes, event_bytes, IsHead, IsWritten}
+use Rattle.q_replay.specs.declared.raw_entry.RawEntry.{RawEntry}
 use Rattle.q_replay.specs.Journal.{written_of, head_of, entries_bytes, journal_of, IsEntry, IsJournalled}
 use Rattle.q_replay.specs.Replayed.{begun, Begins, Takes, TakesAll, Leads}
 use Rattle.q_replay.proofs.Lists.{same_answer, no_refusal, all_push}

@@ -1,4 +1,11 @@
--- Why a journal is that of one book, and bytes have one fault.
+-- How journals are spelled and read, why a journal is that of one book, and bytes have one fault.
+pub mod Sizes
+pub mod Fronts
+pub mod Exits
+pub mod Heads
+pub mod Bodies
+pub mod Events
+pub mod Writes
 mod Lists
 mod Posting
 mod Entries

@@ -15,9 +15,9 @@ use Rattle.q_book.specs.Books.{new_book, record_lengths}
 use Rattle.q_book.specs.Replays.{Follows, Replays, IsReplay}
 use Rattle.q_book.proofs.Parts.{desk-parts}
 use Rattle.q_book.proofs.Followed.{follows-accepted}
-use Rattle.q_journal.specs.Head.{Head}
-use Rattle.q_journal.specs.Spelling.{head_bytes, event_bytes, IsHead}
-use Rattle.q_journal.specs.Writing.{JournalBytes, with_more}
+use Rattle.q_replay.specs.Head.{Head}
+use Rattle.q_replay.specs.Spelling.{head_bytes, event_bytes, IsHead}
+use Rattle.q_replay.specs.Writing.{JournalBytes, with_more}
 use Rattle.q_replay.specs.Journal.{written_of, head_of, entries_bytes, journal_of, IsEntry, IsJournalled}
 use Rattle.q_replay.specs.Checked.{IsChecked}
 use Rattle.q_replay.proofs.Lists.{all_push}

@@ -10,10 +10,10 @@ use Rattle.q_desk.specs.declared.journal.Entry.TheVariants as entry
 use Rattle.q_book.specs.State.{BookState}
 use Rattle.q_book.specs.Books.{record_lengths}
 use Rattle.q_book.specs.Replays.{IsReplay}
-use Rattle.q_journal.specs.Head.{Head}
-use Rattle.q_journal.specs.Spelling.{head_bytes, event_bytes, IsHead, IsWritten}
-use Rattle.q_journal.specs.declared.raw_entry.RawEntry.{RawEntry}
-use Rattle.q_journal.specs.declared.raw_entry.RawEntry.TheVariants as written
+use Rattle.q_replay.specs.Head.{Head}
+use Rattle.q_replay.specs.Spelling.{head_bytes, event_bytes, IsHead, IsWritten}
+use Rattle.q_replay.specs.declared.raw_entry.RawEntry.{RawEntry}
+use Rattle.q_replay.specs.declared.raw_entry.RawEntry.TheVariants as written
 
 -- an entry as the bytes hold it
 abbrev pub written_of : Entry → RawEntry

@@ -2,15 +2,15 @@
 
 ghost use Rattle.std.specs.Prelude.{◌≡◌, All, IfOk, OnOk, drop};
 ghost use Rattle.q_book.specs.Replays.{EntryFits};
-ghost use Rattle.q_journal.specs.Spelling.{head_bytes as bytes_of_head};
-ghost use Rattle.q_journal.specs.Writing.{with_more};
+ghost use Rattle.q_replay.specs.Spelling.{head_bytes as bytes_of_head};
+ghost use Rattle.q_replay.specs.Writing.{with_more};
 ghost use Rattle.q_replay.specs.Journal.{head_of, entries_bytes as bytes_of_entries};
 ghost use Rattle.q_replay.specs.Checked.{IsChecked};
 
 use crate::write::write_entry;
+use crate::writer::Writer;
 use q_book::Book;
 use q_desk::Entry;
-use q_journal::Writer;
 use std::alloc::{AllocError, Global};
 
 /// The head of a book's journal. The one error is that memory ran out (99 OutOfMemory).

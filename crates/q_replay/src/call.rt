@@ -1,10 +1,11 @@
 //! Events of a journal, each as the call that it names.
 
 ghost use Rattle.q_desk.specs.declared.journal.Entry.TheVariants as entry;
-ghost use Rattle.q_journal.specs.Spelling.{IsWritten};
-ghost use Rattle.q_journal.specs.declared.raw_entry.RawEntry.TheVariants as written;
+ghost use Rattle.q_replay.specs.Spelling.{IsWritten};
+ghost use Rattle.q_replay.specs.declared.raw_entry.RawEntry.TheVariants as written;
 ghost use Rattle.q_replay.specs.Taking.{Taking, Calling};
 
+use crate::raw_entry::RawEntry;
 use crate::refusal::Refusal;
 use bq_check::Notes;
 use bq_flow::laws::one_longest;
@@ -12,7 +13,6 @@ use bq_frame::Block;
 use bq_insn::Text;
 use bq_meaning::laws::one_answer;
 use q_book::{Book, record_lengths};
-use q_journal::RawEntry;
 use q_session::Done;
 use q_table::{Program, ProgramId};
 use sc_msg::Message;

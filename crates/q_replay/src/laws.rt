@@ -1,18 +1,21 @@
 //! Laws of journals and replays. The first two are the contracts of functions that do nothing; the last writes and
 //! reads.
 
-ghost use Rattle.std.specs.Prelude.{◌≡◌, List, ℕ, IfOk, IfErr};
+ghost use Rattle.std.specs.Prelude.{◌≡◌, List, ℕ, IfOk, IfErr, ◌++◌};
+ghost use Rattle.sc_msg.specs.declared.version.Version.{Version};
 ghost use Rattle.q_book.specs.State.{BookState};
 ghost use Rattle.q_replay.specs.Journal.{journal_of, IsJournalled};
 ghost use Rattle.q_replay.specs.Replayed.{IsFault};
 ghost use Rattle.q_replay.specs.declared.fault.ReplayFault.{ReplayFault as Fault};
+ghost use Rattle.q_replay.specs.Head.{Head};
+ghost use Rattle.q_replay.specs.Spelling.{head_bytes, event_bytes, IsHead, IsWritten};
+ghost use Rattle.q_replay.specs.declared.raw_entry.RawEntry.{RawEntry};
 
 use crate::fault::ReplayFault;
 use crate::replayer::replay;
 use crate::write::journal_bytes;
 use bq_flow::laws::one_longest;
 use q_book::Book;
-use q_journal::laws::{one_event, one_head};
 use std::alloc::Global;
 
 /// A journal is that of one book at most.
@@ -42,3 +45,13 @@ pub fn written_and_replayed(alloc: Global, book: &Book) -> Result<Book, ReplayFa
     let bytes = journal_bytes(alloc, book)?;
     replay(alloc, &bytes)
 }
+
+/// Bytes begin with one head at most, which tells the version.
+pub fn one_head()
+    ensures { (h g : Head) (rest more : List ℕ) → IsHead h → IsHead g → head_bytes h ++ rest ≡ head_bytes g ++ more → (h ≡ g) × (rest ≡ more) }
+{}
+
+/// In a version bytes begin with one event at most.
+pub fn one_event()
+    ensures { (version : Version) (w v : RawEntry) (rest more : List ℕ) → IsWritten version w → IsWritten version v → event_bytes version w ++ rest ≡ event_bytes version v ++ more → (w ≡ v) × (rest ≡ more) }
+{}

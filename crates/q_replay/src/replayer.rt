@@ -8,12 +8,13 @@ ghost use Rattle.q_replay.specs.Taking.{Beginning};
 
 use crate::call::take;
 use crate::fault::ReplayFault;
+use crate::head::Head;
+use crate::laws::{one_event, one_head};
+use crate::read::{ReadFault, read_event, read_head};
 use crate::refusal::Refusal;
 use bq_flow::laws::one_longest;
 use bq_frame::Block;
 use q_book::Book;
-use q_journal::laws::{one_event, one_head};
-use q_journal::{Head, ReadFault, read_event, read_head};
 use sc_members::Config;
 use std::alloc::Global;
 

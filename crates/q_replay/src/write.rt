@@ -2,14 +2,14 @@
 
 ghost use Rattle.std.specs.Prelude.{◌≡◌, IfOk, OnOk};
 ghost use Rattle.q_book.specs.Replays.{EntryFits};
-ghost use Rattle.q_journal.specs.Spelling.{event_bytes};
-ghost use Rattle.q_journal.specs.Writing.{with_more};
+ghost use Rattle.q_replay.specs.Spelling.{event_bytes};
+ghost use Rattle.q_replay.specs.Writing.{with_more};
 ghost use Rattle.q_replay.specs.Journal.{written_of, journal_of, IsEntry, IsJournalled};
 ghost use Rattle.q_replay.specs.Checked.{IsChecked};
 
+use crate::writer::Writer;
 use q_book::Book;
 use q_desk::Entry;
-use q_journal::Writer;
 use std::alloc::{AllocError, Global};
 
 /// The journal of a book as bytes of its version: the only bytes of which [`replay`](crate::replay) makes this

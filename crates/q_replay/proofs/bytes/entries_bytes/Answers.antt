@@ -1,7 +1,7 @@
 -- entries_bytes: the entries of a book's journal behind the first so many: none where it has no more.
 use Rattle.std.proofs.Common.{◌∙◌, ap, drop, List}
 use Rattle.q_desk.specs.declared.journal.Entry.{Entry}
-use Rattle.q_journal.specs.Writing.{JournalBytes}
+use Rattle.q_replay.specs.Writing.{JournalBytes}
 use Rattle.q_replay.proofs.Writing.{behind-checked}
 use Rattle.q_replay.proofs.bytes.entries_bytes.Goals as goal
 

@@ -1,5 +1,5 @@
 use Rattle.std.proofs.Common.{◌≡◌, take}
-use Rattle.q_journal.specs.Writing.{with_more}
+use Rattle.q_replay.specs.Writing.{with_more}
 use Rattle.q_replay.specs.Journal.{entries_bytes}
 use Rattle.q_replay.proofs.bytes.write_entries.Given as goal
 

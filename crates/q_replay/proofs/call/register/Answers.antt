@@ -3,8 +3,8 @@ use Rattle.std.proofs.Common.{rules, ◌≡◌, sym, ap, ◌∙◌, subst}
 use Rattle.sc_msg.specs.declared.version.Version.{Version}
 use Rattle.q_desk.specs.declared.journal.Entry.TheVariants as entry
 use Rattle.q_book.specs.Books.{record_lengths}
-use Rattle.q_journal.specs.Spelling.{IsWritten}
-use Rattle.q_journal.specs.declared.raw_entry.RawEntry.TheVariants as written
+use Rattle.q_replay.specs.Spelling.{IsWritten}
+use Rattle.q_replay.specs.declared.raw_entry.RawEntry.TheVariants as written
 use Rattle.q_replay.specs.Journal.{written_of}
 use Rattle.q_replay.specs.Taking.{Calling}
 use Rattle.q_replay.proofs.Calling.{taking}

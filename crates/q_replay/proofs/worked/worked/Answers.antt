@@ -2,10 +2,10 @@
 use Rattle.std.proofs.Common.{◌≡◌, ℕ, List, [], ◌∷◌, ◌++◌, length, sym, flat_map, arith}
 use Rattle.sc_msg.specs.declared.version.Version.{Version}
 use Rattle.sc_msg.specs.Numbers.{number_bytes}
-use Rattle.q_journal.specs.Spelling.{event_bytes}
-use Rattle.q_journal.specs.declared.raw_entry.RawEntry.{RawEntry}
-use Rattle.q_journal.specs.declared.raw_entry.RawEntry.TheVariants.{Leave}
-use Rattle.q_journal.proofs.Fronts.{head_front}
+use Rattle.q_replay.specs.Spelling.{event_bytes}
+use Rattle.q_replay.specs.declared.raw_entry.RawEntry.{RawEntry}
+use Rattle.q_replay.specs.declared.raw_entry.RawEntry.TheVariants.{Leave}
+use Rattle.q_replay.proofs.Fronts.{head_front}
 use Rattle.q_replay.proofs.worked.worked.Goals as goal
 
 none_before : (version : Version) (events : List RawEntry) (bytes rest : List ℕ) → 0 ≡ length events → bytes ≡ flat_map (event_bytes version) events ++ rest → rest ≡ bytes

@@ -1,7 +1,0 @@
-pub mod Sizes
-pub mod Fronts
-pub mod Exits
-pub mod Heads
-pub mod Bodies
-pub mod Events
-pub mod Writes

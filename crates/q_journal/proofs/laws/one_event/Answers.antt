@@ -1,6 +1,0 @@
--- one_event: in a version bytes begin with one event at most.
-use Rattle.q_journal.proofs.Fronts.{event_front}
-use Rattle.q_journal.proofs.laws.one_event.Goals as goal
-
-pub returns : goal.returns
-returns c = event_front

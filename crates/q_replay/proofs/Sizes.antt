@@ -1,0 +1,104 @@
+-- How long the parts of heads and events are.
+use Rattle.std.proofs.Common.{◌≡◌, ℕ, ◌+◌, ◌*◌, ◌^◌, ◌<◌, ◌≤◌, List, [], ◌∷◌, ◌++◌, length, Option, Some, None, refl, arith, length-append}
+use Rattle.std.specs.List.{flat_map, AllByRecursion}
+use Rattle.std.specs.Int.{w32, cast_unsigned}
+use Rattle.bq_insn.specs.declared.insn.Insn.{Insn}
+use Rattle.bq_insn.specs.Insn.{insn_bytes}
+use Rattle.bq_insn.specs.Slots.{slots_of, slots, units, spelling, IsText}
+use Rattle.bq_insn.proofs.Reading.{length-insn_bytes}
+use Rattle.bq_state.specs.declared.kind.Kind.{Kind}
+use Rattle.bq_state.specs.Kinds.{StateKinds}
+use Rattle.bq_state.specs.declared.kind.Kind.TheVariants.{Unset, Number, Pointer, Length}
+use Rattle.bq_range.specs.Interval.{Interval}
+use Rattle.bq_check.specs.Spelling.{short_bytes, long_bytes, offset_bytes, kind_bytes, kinds_bytes, lengths_bytes, note_bytes, notes_bytes, IsNote, IsNotes}
+use Rattle.bq_check.specs.declared.form.NotesForm.{NotesForm}
+use Rattle.bq_check.specs.declared.form.NotesForm.TheVariants as forms
+use Rattle.bq_check.proofs.Fields.{length-short, length-long}
+use Rattle.sc_members.specs.Members.{Config}
+use Rattle.sc_msg.specs.declared.version.Version.{Version}
+use Rattle.sc_msg.specs.declared.version.Version.TheVariants.{First, Second}
+use Rattle.sc_msg.specs.Numbers.{number_bytes}
+use Rattle.sc_msg.specs.Values.{IsLength}
+use Rattle.sc_msg.proofs.Numbers.{length-number_bytes}
+use Rattle.sc_msg.proofs.Unique.{message_small}
+use Rattle.q_replay.specs.declared.raw_entry.RawEntry.{RawEntry}
+use Rattle.q_replay.specs.declared.raw_entry.RawEntry.TheVariants.{Leave, Register, Ask, Store, Deliver, HandOut, Post}
+use Rattle.q_replay.specs.Spelling.{config_bytes, form_of, body_bytes, IsWritten}
+
+-- ---- two and more parts
+
+pub length-pair : (a b : List ℕ) (m n : ℕ) → length a ≡ m → length b ≡ n → length (a ++ b) ≡ m + n
+length-pair a b m n p q = omega (arith, length-append a b, p, q)
+
+pub length-config : (c : Config) → length (config_bytes c) ≡ 8
+length-config c =
+    length-pair (number_bytes 2 c.beta_num) (number_bytes 2 c.beta_den ++ (number_bytes 2 c.gamma_num ++ number_bytes 2 c.gamma_den)) 2 6 (length-number_bytes 2 c.beta_num)
+    (length-pair (number_bytes 2 c.beta_den) (number_bytes 2 c.gamma_num ++ number_bytes 2 c.gamma_den) 2 4 (length-number_bytes 2 c.beta_den)
+    (length-pair (number_bytes 2 c.gamma_num) (number_bytes 2 c.gamma_den) 2 2 (length-number_bytes 2 c.gamma_num) (length-number_bytes 2 c.gamma_den)))
+
+pub length-asked : (program start : ℕ) → length (number_bytes 4 program ++ number_bytes 8 start) ≡ 12
+length-asked program start = length-pair (number_bytes 4 program) (number_bytes 8 start) 4 8 (length-number_bytes 4 program) (length-number_bytes 8 start)
+
+pub length-posted : (query acc steps : ℕ) → length (number_bytes 8 query ++ (number_bytes 8 acc ++ number_bytes 8 steps)) ≡ 24
+length-posted query acc steps =
+    length-pair (number_bytes 8 query) (number_bytes 8 acc ++ number_bytes 8 steps) 8 16 (length-number_bytes 8 query)
+    (length-pair (number_bytes 8 acc) (number_bytes 8 steps) 8 8 (length-number_bytes 8 acc) (length-number_bytes 8 steps))
+
+-- ---- texts
+
+length-spelling : (t : List Insn) → length (spelling t) ≡ 8 * units t
+length-spelling [] = refl
+length-spelling (i ∷ t) = omega (arith, length-append (insn_bytes i) (spelling t), length-append (slots_of i) (slots t), length-insn_bytes i, length-spelling t)
+
+pub text_small : (t : List Insn) → IsText t → length (spelling t) ≤ 32768
+text_small t p = omega (arith, length-spelling t, p.few)
+
+-- ---- notes
+
+kind_small : (k : Kind) → length (kind_bytes k) ≤ 17
+kind_small Unset = omega arith
+kind_small (Number a) = omega (arith, length-append (long_bytes a.lo) (long_bytes a.hi), length-long a.lo, length-long a.hi)
+kind_small (Pointer region s) = omega (arith, length-append (offset_bytes s.lo) (offset_bytes s.hi), length-short (cast_unsigned w32 s.lo), length-short (cast_unsigned w32 s.hi))
+kind_small Length = omega arith
+
+kinds_small : (ks : List Kind) → length (kinds_bytes ks) ≤ 17 * length ks
+kinds_small [] = omega arith
+kinds_small (k ∷ ks) = omega (arith, length-append (kind_bytes k) (kinds_bytes ks), kind_small k, kinds_small ks)
+
+lengths_small : (form : NotesForm) (l : Interval) → length (lengths_bytes form l) ≤ 2
+lengths_small forms.First l = omega arith
+lengths_small forms.Second l = omega arith
+
+note_small : (form : NotesForm) (o : Option StateKinds) → IsNote form o → length (note_bytes form o) ≤ 190
+note_small form None p = omega arith
+note_small form (Some s) p = omega (arith, length-append (lengths_bytes form s.lengths) (kinds_bytes s.kinds), lengths_small form s.lengths, kinds_small s.kinds, p.kinds.count)
+
+all_small : (form : NotesForm) (ns : List (Option StateKinds)) → AllByRecursion (IsNote form) ns → length (flat_map (note_bytes form) ns) ≤ 190 * length ns
+all_small form [] p = omega arith
+all_small form (o ∷ ns) p = omega (arith, length-append (note_bytes form o) (flat_map (note_bytes form) ns), note_small form o p.0, all_small form ns p.1)
+
+pub notes_small : (form : NotesForm) (ns : List (Option StateKinds)) → IsNotes form ns → length (notes_bytes form ns) ≤ 778244
+notes_small form ns p = omega (arith, length-append (short_bytes (length ns)) (flat_map (note_bytes form) ns), length-short (length ns), all_small form ns p.each, p.few)
+
+-- ---- values
+
+value_small : (version : Version) (n : ℕ) → IsLength version n → n ≤ 112
+value_small First n p = omega (arith, p.most)
+value_small Second n p = p.most
+
+-- ---- bodies
+
+pub length-registered : (version : Version) (t : List Insn) (ns : List (Option StateKinds)) → length (body_bytes version (Register t ns)) ≡ 4 + length (spelling t) + length (notes_bytes (form_of version) ns)
+length-registered version t ns =
+    let notes = notes_bytes (form_of version) ns in
+    omega (arith, length-append (number_bytes 4 (length (spelling t))) (spelling t ++ notes), length-append (spelling t) notes, length-number_bytes 4 (length (spelling t)))
+
+-- each length fits four bytes
+pub body_small : (version : Version) (w : RawEntry) → IsWritten version w → length (body_bytes version w) < 2 ^ 32
+body_small version Leave p = omega arith
+body_small version (Register t ns) p = omega (arith, length-registered version t ns, text_small t p.0, notes_small (form_of version) ns p.1)
+body_small version (Ask program start) p = omega (arith, length-asked program start)
+body_small version (Store value) p = omega (arith, value_small version (length value) p.0)
+body_small version (Deliver m) p = omega (arith, message_small version m p)
+body_small version HandOut p = omega arith
+body_small version (Post query acc steps) p = omega (arith, length-posted query acc steps)

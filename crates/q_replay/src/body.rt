@@ -1,0 +1,117 @@
+//! The bodies of events by their kinds.
+
+ghost use Rattle.std.specs.Prelude.{◌≡◌, ◌⊎◌, List, Option, IfOk, IfErr, MatchResult};
+ghost use Rattle.bq_state.specs.Kinds.{StateKinds};
+ghost use Rattle.bq_check.specs.Spelling.{notes_bytes, IsNotes};
+ghost use Rattle.q_replay.specs.Spelling.{form_of};
+ghost use Rattle.q_replay.specs.Reading.{IsBody, IsNoBody};
+
+use crate::raw_entry::RawEntry;
+use crate::read::ReadFault;
+use crate::reader::Reader;
+use bq_check::{Notes, NotesFault};
+use sc_decode::decode_as;
+use sc_msg::Version;
+use sc_view::{Value, ValueFault};
+use std::alloc::Global;
+
+/// An event with an empty body: a leave or a hand-out.
+fn bare(kind: u8, reader: &Reader<'_>) -> Result<RawEntry, ReadFault>
+    requires { (kind ≡ 1) ⊎ (kind ≡ 6) }
+    ensures body { (version : Version) → IfOk result (IsBody version kind reader.now.rest.now) }
+    ensures none { (version : Version) → IfErr result (λ e. e ≡ ReadFault.Form → IsNoBody version kind reader.now.rest.now) }
+{
+    reader.end()?;
+    if kind == 1 {
+        Ok(RawEntry::Leave)
+    } else {
+        Ok(RawEntry::HandOut)
+    }
+}
+
+/// The notes that the bytes spell in the form of that version.
+fn read_notes(alloc: Global, version: Version, bytes: &[u8]) -> Result<Notes, NotesFault>
+    ensures legal { IfOk result (IsNotes (form_of version)) }
+    ensures spelled { IfOk result (λ n. bytes.now ≡ notes_bytes (form_of version) n) }
+    ensures all { (n : List (Option StateKinds)) → IsNotes (form_of version) n → bytes.now ≡ notes_bytes (form_of version) n → MatchResult result (λ m. m ≡ n) (λ e. e ≡ NotesFault.OutOfMemory) }
+{
+    match version {
+        Version::First => Notes::read_v1(alloc, bytes),
+        Version::Second => Notes::read(alloc, bytes),
+    }
+}
+
+fn register(alloc: Global, version: Version, reader: &mut Reader<'_>) -> Result<RawEntry, ReadFault>
+    ensures body { IfOk result (IsBody version 2 reader.old.rest.now) }
+    ensures none { IfErr result (λ e. e ≡ ReadFault.Form → IsNoBody version 2 reader.old.rest.now) }
+{
+    let length = reader.word()?;
+    let spelling = reader.take(length as usize)?;
+    let text = bq_insn::decode(alloc, spelling)?;
+    let notes = read_notes(alloc, version, reader.rest)?;
+    Ok(RawEntry::Register { text, notes })
+}
+
+fn ask(reader: &mut Reader<'_>) -> Result<RawEntry, ReadFault>
+    ensures body { (version : Version) → IfOk result (IsBody version 3 reader.old.rest.now) }
+    ensures none { (version : Version) → IfErr result (λ e. e ≡ ReadFault.Form → IsNoBody version 3 reader.old.rest.now) }
+{
+    let program = reader.word()?;
+    let start = reader.number()?;
+    reader.end()?;
+    Ok(RawEntry::Ask { program, start })
+}
+
+fn store(version: Version, body: &[u8]) -> Result<RawEntry, ReadFault>
+    ensures body { IfOk result (IsBody version 4 body.now) }
+    ensures none { IfErr result (λ e. e ≡ ReadFault.Form → IsNoBody version 4 body.now) }
+{
+    if !version.has_length(body.len()) {
+        return Err(ReadFault::Form);
+    }
+    match Value::new(body) {
+        Ok(value) => Ok(RawEntry::Store(value)),
+        Err(ValueFault::BadValue) => Err(ReadFault::Form),
+    }
+}
+
+fn deliver(alloc: Global, version: Version, body: &[u8]) -> Result<RawEntry, ReadFault>
+    ensures body { IfOk result (IsBody version 5 body.now) }
+    ensures none { IfErr result (λ e. e ≡ ReadFault.Form → IsNoBody version 5 body.now) }
+{
+    let message = decode_as(alloc, version, body)?;
+    Ok(RawEntry::Deliver(message))
+}
+
+fn post(reader: &mut Reader<'_>) -> Result<RawEntry, ReadFault>
+    ensures body { (version : Version) → IfOk result (IsBody version 7 reader.old.rest.now) }
+    ensures none { (version : Version) → IfErr result (λ e. e ≡ ReadFault.Form → IsNoBody version 7 reader.old.rest.now) }
+{
+    let query = reader.number()?;
+    let acc = reader.number()?;
+    let steps = reader.number()?;
+    reader.end()?;
+    Ok(RawEntry::Post { query, acc, steps })
+}
+
+/// The event of this kind that has the body in that version.
+pub(crate) fn body_of(
+    alloc: Global,
+    version: Version,
+    kind: u8,
+    body: &[u8],
+) -> Result<RawEntry, ReadFault>
+    ensures body { IfOk result (IsBody version kind body.now) }
+    ensures none { IfErr result (λ e. e ≡ ReadFault.Form → IsNoBody version kind body.now) }
+{
+    let mut reader = Reader { rest: body };
+    match kind {
+        1 | 6 => bare(kind, &reader),
+        2 => register(alloc, version, &mut reader),
+        3 => ask(&mut reader),
+        4 => store(version, body),
+        5 => deliver(alloc, version, body),
+        7 => post(&mut reader),
+        _ => Err(ReadFault::Form),
+    }
+}
