@@ -1,6 +1,6 @@
 -- How a node is told that does not begin.
 use Rattle.std.proofs.Common.{◌≡◌, ◌⊎◌, ℕ, List, Option, inl, inr}
-use Rattle.q_clusterfile.specs.declared.fault.ClusterFileFault.{ClusterFileFault}
+use Rattle.q_script.specs.declared.fault.ClusterFileFault.{ClusterFileFault}
 use Rattle.q_console.specs.Runs.{EndsRefused}
 use Rattle.q_console.specs.declared.ending.Ending.TheVariants.{Refused, Unwritten}
 use Rattle.q_console.specs.declared.fault.StartFault.TheVariants.{Cluster, FileFailed}

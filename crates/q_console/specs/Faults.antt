@@ -9,10 +9,10 @@ use Rattle.q_files.specs.declared.files.FileFault.{FileFault}
 use Rattle.q_files.specs.declared.files.FileFault.TheVariants as file_fault
 use Rattle.q_book.specs.Books.{founded}
 use Rattle.q_book.specs.Faults as book
-use Rattle.q_clusterfile.specs.File as cluster
-use Rattle.q_clusterfile.specs.File.{founder_ids}
-use Rattle.q_clusterfile.specs.declared.fault.ClusterFileFault.TheVariants.{Syntax}
-use Rattle.q_clusterfile.specs.declared.file.ClusterFile.{ClusterFile}
+use Rattle.q_script.specs.File as cluster
+use Rattle.q_script.specs.File.{founder_ids}
+use Rattle.q_script.specs.declared.fault.ClusterFileFault.TheVariants.{Syntax}
+use Rattle.q_script.specs.declared.file.ClusterFile.{ClusterFile}
 use Rattle.q_ports.specs.Datagrams.{address_of}
 use Rattle.q_console.specs.declared.fault.StartFault.{StartFault}
 use Rattle.q_console.specs.declared.fault.StartFault.TheVariants as fault

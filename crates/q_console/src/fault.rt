@@ -5,8 +5,8 @@ ghost use Rattle.q_console.specs.Faults.{place_of, reason};
 ghost use Rattle.q_console.specs.declared.fault.StartFault.TheVariants.{OutOfMemory};
 
 use q_book::BookFault;
-use q_clusterfile::ClusterFileFault;
 use q_files::FileFault;
+use q_script::ClusterFileFault;
 use q_sim::RefusalPlace;
 use reasons::{Reason, told};
 use std::alloc::AllocError;

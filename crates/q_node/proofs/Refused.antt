@@ -1,8 +1,8 @@
 -- A text that is refused is told by its fault.
 use Rattle.std.proofs.Common.{◌≡◌, ℕ, List, Option, inl, inr}
-use Rattle.q_clusterfile.specs.File.{IsFault}
-use Rattle.q_clusterfile.specs.declared.fault.ClusterFileFault.TheVariants.{OutOfMemory, Syntax}
-use Rattle.q_clusterfile.proofs.Refusals.{not_refused}
+use Rattle.q_script.specs.File.{IsFault}
+use Rattle.q_script.specs.declared.fault.ClusterFileFault.TheVariants.{OutOfMemory, Syntax}
+use Rattle.q_script.proofs.Refusals.{not_refused}
 use Rattle.q_console.specs.declared.ending.Ending.TheVariants as ending
 use Rattle.q_console.specs.declared.fault.StartFault.TheVariants.{FileFailed}
 use Rattle.q_console.proofs.Refusing as refusing

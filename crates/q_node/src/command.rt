@@ -6,11 +6,11 @@ ghost use Rattle.q_console.specs.Runs.{IsRun, IsWritten, failures_after};
 
 use crate::run::{Setup, run_node};
 use q_board::MOST_RUNNERS;
-use q_clusterfile::{ClusterFile, ClusterFileFault, read_cluster};
 use q_console::{Ending, StartFault, print_refusal};
 use q_files::{Files, LONGEST_TEXT};
 use q_ports::{ClientDoor, DoorAddress, PostFault, UdpPost, address_of};
 use q_recorder::DiskFile;
+use q_script::{ClusterFile, ClusterFileFault, read_cluster};
 use q_wire::Counted;
 use std::alloc::{AllocError, Global};
 use std::fs::{File, Files as SystemFiles};

@@ -7,7 +7,7 @@ use Rattle.sc_msg.specs.Numbers.{number_bytes}
 use Rattle.sc_msg.specs.Fields.{fields, fields_bytes}
 use Rattle.sc_msg.specs.Messages.{message_bytes}
 use Rattle.sc_msg.proofs.Numbers.{length-number_bytes, first_number-number_bytes}
-use Rattle.q_clusterfile.specs.declared.line.NodeLine.{NodeLine}
+use Rattle.q_script.specs.declared.node_line.NodeLine.{NodeLine}
 use Rattle.q_ports.specs.Datagrams.{IsAdmitted, address_of, framed, sender_in}
 
 pub named : (v : Version) (m : Message) → m.from < 2 ^ 64 → sender_in (message_bytes v m) ≡ m.from

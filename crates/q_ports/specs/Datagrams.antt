@@ -3,7 +3,7 @@ use Rattle.std.specs.Prelude.{◌≡◌, ◌⊎◌, ℕ, ◌≤◌, ◌<◌, ◌
 use Rattle.std.specs.Int.{w64, to_le_bytes}
 use Rattle.std.specs.declared.net.socket_addr.SocketAddr.{SocketAddr}
 use Rattle.sc_msg.specs.Numbers.{first_number}
-use Rattle.q_clusterfile.specs.declared.line.NodeLine.{NodeLine}
+use Rattle.q_script.specs.declared.node_line.NodeLine.{NodeLine}
 use Rattle.q_ports.specs.declared.post.Received.{Received}
 use Rattle.q_ports.specs.declared.post.Received.TheVariants.{Message, Stranger, Nothing}
 

@@ -5,12 +5,12 @@ ghost use Rattle.std.specs.declared.net.socket_addr.SocketAddr.{SocketAddr as Ad
 ghost use Rattle.sc_msg.specs.declared.version.Version.{Version};
 ghost use Rattle.sc_msg.specs.declared.message.Message.{Message};
 ghost use Rattle.sc_msg.specs.Messages.{message_bytes};
-ghost use Rattle.q_clusterfile.specs.declared.line.NodeLine.{NodeLine as Node};
+ghost use Rattle.q_script.specs.declared.node_line.NodeLine.{NodeLine as Node};
 ghost use Rattle.q_ports.specs.Datagrams.{IsAdmitted, IsReceived, address_of, framed, sender_in};
 
 use crate::post::Received;
 use byteorder::{ByteOrder, LittleEndian};
-use q_clusterfile::NodeLine;
+use q_script::NodeLine;
 use std::alloc::{AllocError, Global};
 use std::net::SocketAddr;
 

@@ -6,7 +6,7 @@ ghost use Rattle.q_ports.specs.Datagrams.{Fits, IsFrom, OnMessage, address_of};
 use crate::datagram::{address_of, framed, received};
 use crate::fault::PostFault;
 use crate::post::{Post, Received};
-use q_clusterfile::{ClusterFile, NodeLine};
+use q_script::{ClusterFile, NodeLine};
 use q_wire::TransportFault;
 use std::alloc::{AllocError, Global};
 use std::io;

@@ -3,7 +3,7 @@
 ghost use Rattle.std.specs.Prelude.{◌≡◌, ℕ, List, [], ◌∷◌, true, false, Some, None};
 ghost use Rattle.std.specs.declared.net.socket_addr.SocketAddr.{SocketAddr};
 ghost use Rattle.reasons.specs.Table as table;
-ghost use Rattle.q_clusterfile.specs.declared.line.NodeLine.{NodeLine as Node};
+ghost use Rattle.q_script.specs.declared.node_line.NodeLine.{NodeLine as Node};
 ghost use Rattle.q_ports.specs.Datagrams.{IsAdmitted, address_of, framed, sender_in};
 ghost use Rattle.q_ports.specs.Faults.{reason};
 ghost use Rattle.q_ports.specs.declared.fault.PostFault.TheVariants as fault;

@@ -9,3 +9,9 @@ pub mod Scripts
 pub mod Values
 pub mod Learning
 pub mod Faults
+pub mod Words
+pub mod Headings
+pub mod Nodes
+pub mod Lists
+pub mod Once
+pub mod Refusals

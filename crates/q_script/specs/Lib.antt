@@ -5,3 +5,5 @@ pub mod Line
 pub mod Founding
 pub mod Script
 pub mod Records
+pub mod NodeLine
+pub mod File

@@ -1,5 +1,5 @@
 -- worked_faults: why a node does not begin.
-use Rattle.q_clusterfile.specs.declared.fault.ClusterFileFault.TheVariants.{Syntax}
+use Rattle.q_script.specs.declared.fault.ClusterFileFault.TheVariants.{Syntax}
 use Rattle.q_console.proofs.Refusing.{not_unread}
 use Rattle.q_console.proofs.worked.worked_faults.Goals as goal
 

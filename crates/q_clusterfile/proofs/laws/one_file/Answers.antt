@@ -1,6 +1,0 @@
--- one_file: a text spells one file.
-use Rattle.q_clusterfile.proofs.Refusals as law
-use Rattle.q_clusterfile.proofs.laws.one_file.Goals as goal
-
-pub returns : goal.returns
-returns c = law.one_file
