@@ -10,7 +10,7 @@ use Rattle.sc_msg.specs.declared.version.Version.{Version}
 use Rattle.q_net.specs.declared.pieces.Piece.{Piece}
 use Rattle.q_net.specs.declared.incoming.Incoming.{Incoming}
 use Rattle.q_net.specs.declared.pieces.Piece.TheVariants as piece
-use Rattle.q_net.specs.declared.request.Request.TheVariants.{Register, StoreOf}
+use Rattle.q_net.specs.declared.request.Request.TheVariants.{Register}
 use Rattle.q_net.specs.Requests.{GetsNext, GotBlob, spelling, IsRequest, most_text, most_notes, GetsBlob, Got, IsNext, IsCut, Place, IsPlace, before, wanted}
 
 pub whole_of : (a b : Option (List ℕ)) (n : ℕ) (xs : List ℕ) → length xs ≤ n → Consumes a b (take n xs) → Consumes a b xs
@@ -122,11 +122,3 @@ text_read version a b c d len text r first second small behind =
     let consumed = Consumes-trans a b c (short_bytes len) text first second.0 in
     let rest = subst (λ (n : ℕ). GetsNext version (1 ∷ short_bytes n ++ text) c d r) second.1 (behind text (omega (arith, small, second.1)) refl) in
     next_behind version (1 ∷ []) (short_bytes len ++ text) a c d r consumed rest
-
--- ---- bytes behind their length
-
--- the length, and so many bytes
-pub bytes_read : (version : Version) (len : ℕ) (bytes : List ℕ) (a b c : Option (List ℕ)) → len < 256 → Consumes a b (len ∷ []) → Consumes b c bytes → length bytes ≡ len
-    → (x : List ℕ) × Consumes a c x × IsRequest version (StoreOf bytes) × (5 ∷ x ≡ spelling (StoreOf bytes))
-bytes_read version len bytes a b c few first second is =
-    (len ∷ bytes, Consumes-trans a b c (len ∷ []) bytes first second, omega (arith, few, is), ap (λ (n : ℕ). 5 ∷ n ∷ bytes) (sym is))

@@ -4,7 +4,7 @@ use Rattle.sc_msg.specs.declared.message.Message.{Message}
 use Rattle.q_book.specs.State.{BookState}
 use Rattle.q_book.specs.Faults.{memory}
 use Rattle.q_net.specs.declared.request.Request.{Request}
-use Rattle.q_net.specs.declared.request.Request.TheVariants.{Register, Ask, Store, StoreOf}
+use Rattle.q_net.specs.declared.request.Request.TheVariants.{Register, Ask, Store}
 use Rattle.q_net.specs.declared.replies.Reply.{Reply}
 use Rattle.q_net.specs.declared.replies.Reply.TheVariants.{Refused}
 use Rattle.q_net.specs.declared.served.Registered.{Registered}
@@ -20,16 +20,11 @@ registers_replies b c request text notes bytes more r said is first second done 
     subst (λ (q : Request). Replies b q said [] c) (sym is)
     (r, subst (λ (n : List ℕ). Registers b text n r c) second (subst (λ (t : List ℕ). Registers b t more r c) first done), reply, refl)
 
--- a store that was replied to, of a value with 48 bytes and of one behind its length
-pub store_replies : (b c : BookState) (request : Request) (value bytes : List ℕ) (had has : List Message) (said : Reply) → request ≡ Store value → bytes ≡ value
-    → (outs : List Message) × Replies b (Store bytes) said outs c × (has ≡ had ++ outs) → (outs : List Message) × Replies b request said outs c × (has ≡ had ++ outs)
-store_replies b c request value bytes had has said is same h =
-    (h.0, subst (λ (q : Request). Replies b q said h.0 c) (sym is) (subst (λ (v : List ℕ). Replies b (Store v) said h.0 c) same h.1), h.2)
-
-pub store_of_replies : (b c : BookState) (request : Request) (value bytes : List ℕ) (had has : List Message) (said : Reply) → request ≡ StoreOf value → bytes ≡ value
-    → (outs : List Message) × Replies b (Store bytes) said outs c × (has ≡ had ++ outs) → (outs : List Message) × Replies b request said outs c × (has ≡ had ++ outs)
-store_of_replies b c request value bytes had has said is same h =
-    (h.0, subst (λ (q : Request). Replies b q said h.0 c) (sym is) (subst (λ (v : List ℕ). Replies b (StoreOf v) said h.0 c) same h.1), h.2)
+-- a store that was replied to, of either form
+pub store_replies : (form : List ℕ → Request) (b c : BookState) (request : Request) (value bytes : List ℕ) (had has : List Message) (said : Reply) → request ≡ form value → bytes ≡ value
+    → (outs : List Message) × Replies b (form bytes) said outs c × (has ≡ had ++ outs) → (outs : List Message) × Replies b request said outs c × (has ≡ had ++ outs)
+store_replies form b c request value bytes had has said is same h =
+    (h.0, subst (λ (q : Request). Replies b q said h.0 c) (sym is) (subst (λ (v : List ℕ). Replies b (form v) said h.0 c) same h.1), h.2)
 
 -- memory ran out before the call
 pub asks_nothing : (b : BookState) (request : Request) (program start : ℕ) → request ≡ Ask program start → Replies b request (Refused 99) [] b

@@ -1,6 +1,7 @@
 -- reply: does what a request asks, and puts the messages of the book behind those that were sent.
 use Rattle.std.proofs.Common.{refl}
-use Rattle.q_net.proofs.Replied.{none_sent, registers_replies, asks_nothing, store_replies, store_of_replies}
+use Rattle.q_net.specs.declared.request.Request.TheVariants.{Store, StoreOf}
+use Rattle.q_net.proofs.Replied.{none_sent, registers_replies, asks_nothing, store_replies}
 use Rattle.q_net.proofs.served.reply.Goals as goal
 
 pub returns-in-Register : goal.returns-in-Register
@@ -13,10 +14,10 @@ returns-in-Err c = none_sent _ _ c.reserve.ensures.items (asks_nothing c.args.bo
 
 pub returns-in-Store : goal.returns-in-Store
 returns-in-Store c =
-    store_replies c.args.book.now c.reply_to_store.new.book c.args.request.now c.in-Store.value c.bytes.result.now c.args.sent.now.items c.reply_to_store.new.sent.items c.reply_to_store.result
+    store_replies Store c.args.book.now c.reply_to_store.new.book c.args.request.now c.in-Store.value c.bytes.result.now c.args.sent.now.items c.reply_to_store.new.sent.items c.reply_to_store.result
     c.in-Store.is c.bytes.ensures.exact c.reply_to_store.ensures
 
 pub returns-in-StoreOf : goal.returns-in-StoreOf
 returns-in-StoreOf c =
-    store_of_replies c.args.book.now c.reply_to_store-in-StoreOf.new.book c.args.request.now c.in-StoreOf.value c.as_slice-in-StoreOf.result.now c.args.sent.now.items c.reply_to_store-in-StoreOf.new.sent.items c.reply_to_store-in-StoreOf.result
+    store_replies StoreOf c.args.book.now c.reply_to_store-in-StoreOf.new.book c.args.request.now c.in-StoreOf.value c.as_slice-in-StoreOf.result.now c.args.sent.now.items c.reply_to_store-in-StoreOf.new.sent.items c.reply_to_store-in-StoreOf.result
     c.in-StoreOf.is c.as_slice-in-StoreOf.ensures c.reply_to_store-in-StoreOf.ensures
