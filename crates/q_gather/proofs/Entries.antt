@@ -56,7 +56,7 @@ use Rattle.q_gather.specs.Traces.{sent_by, gives, step_of}
 use Rattle.q_gather.specs.Turns.{IsJobFor, IsEventOf, IsNext, IsTurn, Makes}
 use Rattle.q_gather.proofs.Lists.{get-same}
 use Rattle.q_gather.proofs.Turning.{IsUp, is_up, IsHeadedAs, call_says, put_turn, makes, head_of}
-use Rattle.q_gather.proofs.Jobs.{RunsOver, IsOut}
+use Rattle.q_gather.proofs.HistoryJobs.{RunsOver, IsOut}
 use Rattle.q_gather.proofs.EveryJob.{JobsOf, history_jobs}
 
 -- an answer that nobody asks for

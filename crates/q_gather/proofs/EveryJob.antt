@@ -24,7 +24,7 @@ use Rattle.q_desk.proofs.Changes.{stays}
 use Rattle.q_book.proofs.Followed.{handed, follows-accepted}
 use Rattle.q_history.proofs.Called.{IsMade, enters, crashes, rests, calls, event_is}
 use Rattle.q_history.proofs.EveryHistory.{step_kept, start_kept}
-use Rattle.q_gather.proofs.Jobs.{JobsAre, put_jobs, change_jobs}
+use Rattle.q_gather.proofs.HistoryJobs.{JobsAre, put_jobs, change_jobs}
 
 -- each node has its desk
 abbrev pub HasDesks : fin.FinMap nat_cmp NodeState → Desks → Type 0

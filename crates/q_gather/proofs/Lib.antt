@@ -3,7 +3,7 @@
 pub mod Lists
 pub mod Merging
 pub mod Turning
-pub mod Jobs
+pub mod HistoryJobs
 pub mod EveryJob
 pub mod Entries
 pub mod Keeping
