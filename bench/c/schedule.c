@@ -1,5 +1,10 @@
 #include "record.h"
 
+/* How many words; refused/schedule.c has more. */
+#ifndef WORDS
+#define WORDS 3
+#endif
+
 static inline u32 rotated(u32 word, int distance)
 {
     return word >> distance | word << (32 - distance);
@@ -11,7 +16,7 @@ u64 program(const struct record *record, u64 length, u64 accumulator)
 {
     u32 sum = (u32)accumulator;
 #pragma clang loop unroll(full)
-    for (int i = 0; i < 3; i++) {
+    for (int i = 0; i < WORDS; i++) {
         u32 early = record->words[i + 1], late = record->words[i + 7];
         u32 small = rotated(early, 7) ^ rotated(early, 18) ^ early >> 3;
         u32 large = rotated(late, 17) ^ rotated(late, 19) ^ late >> 10;

@@ -1,18 +1,3 @@
-#include "record.h"
-
-/* Six bytes of a code of Hamming, with four bits of data each, put right and joined:
- * a syndrome of three parities says which bit to turn. */
-u64 program(const struct record *record, u64 length, u64 accumulator)
-{
-#pragma clang loop unroll(full)
-    for (int i = 0; i < 6; i++) {
-        u32 code = record->bytes[i];
-        u32 syndrome = (code ^ code >> 2 ^ code >> 4 ^ code >> 6) & 1;
-        syndrome |= (code >> 1 ^ code >> 2 ^ code >> 5 ^ code >> 6) << 1 & 2;
-        syndrome |= (code >> 3 ^ code >> 4 ^ code >> 5 ^ code >> 6) << 2 & 4;
-        if (syndrome)
-            code ^= 1 << (syndrome - 1);
-        accumulator = accumulator << 4 ^ (code >> 2 & 1) ^ (code >> 3 & 14);
-    }
-    return accumulator;
-}
+/* The same of six bytes. */
+#define CODES 6
+#include "../hamming.c"

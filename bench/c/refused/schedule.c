@@ -1,21 +1,3 @@
-#include "record.h"
-
-static inline u32 rotated(u32 word, int distance)
-{
-    return word >> distance | word << (32 - distance);
-}
-
-/* Four words of the message schedule of SHA-256:
- * rotations and shifts of 32 bits that are joined by exclusive ors. */
-u64 program(const struct record *record, u64 length, u64 accumulator)
-{
-    u32 sum = (u32)accumulator;
-#pragma clang loop unroll(full)
-    for (int i = 0; i < 4; i++) {
-        u32 early = record->words[i + 1], late = record->words[i + 7];
-        u32 small = rotated(early, 7) ^ rotated(early, 18) ^ early >> 3;
-        u32 large = rotated(late, 17) ^ rotated(late, 19) ^ late >> 10;
-        sum += record->words[i] + small + record->words[i + 5] + large;
-    }
-    return sum;
-}
+/* The same with four words. */
+#define WORDS 4
+#include "../schedule.c"
