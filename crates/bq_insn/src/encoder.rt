@@ -1,8 +1,7 @@
 //! Texts to bytes.
 
 ghost use Rattle.std.specs.Prelude.{◌≡◌, ◌++◌, ◌<◌, IfOk, OnOk};
-ghost use Rattle.bq_insn.specs.Fields.{unit_bytes};
-ghost use Rattle.bq_insn.specs.Insn.{insn_bytes};
+ghost use Rattle.bq_insn.specs.Insn.{unit_bytes, insn_bytes};
 ghost use Rattle.bq_insn.specs.Slots.{spelling, IsText};
 
 use crate::fields::{Fields, ZERO};
@@ -12,7 +11,7 @@ use std::alloc::{AllocError, Global};
 
 impl Fields {
     /// The eight bytes of a unit (section 3.1), the offset and the `imm` in little-endian order.
-    #[tactic(auto, unfolding(crate::specs::Fields::unit_bytes))]
+    #[tactic(auto, unfolding(crate::specs::Insn::unit_bytes))]
     fn bytes(&self) -> [u8; 8]
         requires dst { self.now.dst < 16 }
         requires src { self.now.src < 16 }

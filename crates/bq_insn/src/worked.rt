@@ -3,8 +3,7 @@
 ghost use Rattle.std.specs.Prelude.{◌≡◌, ◌≤◌, ℕ, List, length, IfNone, Some, None, [], ◌∷◌, codes, pos, negsuc, true, false};
 ghost use Rattle.reasons.specs.Table as table;
 ghost use Rattle.bq_insn.specs.Fault.{reason, front_fault, unit_reason, IsFault, IsLengthFault};
-ghost use Rattle.bq_insn.specs.Fields.{unit_bytes};
-ghost use Rattle.bq_insn.specs.Insn.{insn_bytes};
+ghost use Rattle.bq_insn.specs.Insn.{unit_bytes, insn_bytes};
 ghost use Rattle.bq_insn.specs.Opcode.{opcode_at};
 ghost use Rattle.bq_insn.specs.Rows.{is_left_out, is_listed, unit_fault};
 ghost use Rattle.bq_insn.specs.Slots.{insn_at, units, IsText};
@@ -32,7 +31,7 @@ pub fn worked_opcodes()
 
 /// How fields lie in a unit, and units in an instruction: `mov32s8 r10, r1`, `smod64 r0, r4` and
 /// `wide r0, 1099511627785`.
-#[tactic(auto, unfolding(crate::specs::Fields::unit_bytes))]
+#[tactic(auto, unfolding(crate::specs::Insn::unit_bytes))]
 pub fn worked_bytes()
     ensures fields { unit_bytes (record { opcode = 188; dst = 10; src = 1; offset = 8; imm = 0 }) ≡ 188 ∷ 26 ∷ 8 ∷ 0 ∷ 0 ∷ 0 ∷ 0 ∷ 0 ∷ [] }
     ensures signed { insn_bytes (insn.Alu W64 SignedMod 0 (Register 4)) ≡ 159 ∷ 64 ∷ 1 ∷ 0 ∷ 0 ∷ 0 ∷ 0 ∷ 0 ∷ [] }

@@ -13,10 +13,9 @@ use Rattle.bq_insn.specs.declared.insn.Size.TheVariants as sizes
 use Rattle.bq_meaning.specs.Place.{Place, IsPlacement, record_room}
 use Rattle.bq_insn.specs.Insn.{size_bytes}
 use Rattle.bq_word.specs.Word.{signed_bytes}
-use Rattle.bq_meaning.specs.Memory.{access, is_inside}
+use Rattle.bq_meaning.specs.Memory.{access, is_inside, MachineState as Machine}
 use Rattle.bq_meaning.specs.Meaning.{Outcome, Continues, Ends, Faults, held, value, taken, moved, reading, writing, stored, perform}
 use Rattle.bq_meaning.specs.Faults.{reason, OperandReads, LoadsAt, StoresAt, AreWithin, ReadsUnset, WritesFramePointer, AccessesOutside, WritesRecord, Holds, IsLeast, HoldsNone, IsDone, LeastFaultIsNamed}
-use Rattle.bq_meaning.specs.Machines.{MachineState as Machine}
 use Rattle.bq_meaning.specs.declared.machine.Location.{Location}
 use Rattle.bq_meaning.specs.declared.machine.Location.TheVariants.{Frame, Record}
 use Rattle.bq_meaning.specs.declared.fault.Fault.{Fault}

@@ -1,7 +1,7 @@
 -- A machine has one run: one end, or one fault, and not both.
 use Rattle.std.proofs.Common.{◌≡◌, ℕ, zero, suc, ◌<◌, ◌≤◌, arith, sym, ap, ◌∙◌, subst, List, inl, inr}
 use Rattle.bq_insn.specs.declared.insn.Insn.{Insn}
-use Rattle.bq_meaning.specs.Machines.{MachineState as Machine}
+use Rattle.bq_meaning.specs.Memory.{MachineState as Machine}
 use Rattle.bq_meaning.specs.declared.fault.Fault.{Fault}
 use Rattle.bq_meaning.specs.Place.{Place}
 use Rattle.bq_meaning.specs.Meaning.{Outcome, Continues, Ends, Faults}

@@ -2,7 +2,7 @@
 use Rattle.std.proofs.Common.{◌≡◌, ℕ, zero, suc, ◌+◌, ◌<◌, arith, refl, sym, subst, List, inl, inr, ap}
 use Rattle.std.specs.Prelude.{Result, Ok, Err}
 use Rattle.bq_insn.specs.declared.insn.Insn.{Insn}
-use Rattle.bq_meaning.specs.Machines.{MachineState as Machine}
+use Rattle.bq_meaning.specs.Memory.{MachineState as Machine}
 use Rattle.bq_meaning.specs.declared.fault.Fault.{Fault}
 use Rattle.bq_meaning.specs.declared.fault.Fault.TheVariants.{StepsOut}
 use Rattle.bq_meaning.specs.declared.step.Step.{Step}

@@ -7,10 +7,9 @@ use Rattle.std.specs.List.{splice}
 use borrow.Rule.Slice.PartMut.{put_mid}
 use Rattle.bq_word.specs.Word.{le_bytes}
 use Rattle.bq_meaning.specs.Place.{Place}
-use Rattle.bq_meaning.specs.Memory.{access}
+use Rattle.bq_meaning.specs.Memory.{access, MachineState as Machine}
 use Rattle.bq_meaning.specs.Meaning.{reading, stored}
 use Rattle.bq_meaning.specs.Runs.{StepAnswers}
-use Rattle.bq_meaning.specs.Machines.{MachineState as Machine}
 use Rattle.bq_meaning.specs.declared.machine.Location.{Location}
 use Rattle.bq_meaning.specs.declared.machine.Location.TheVariants.{Frame}
 use Rattle.bq_meaning.specs.declared.fault.Fault.TheVariants.{OutsideAccess}

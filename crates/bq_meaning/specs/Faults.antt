@@ -12,7 +12,7 @@ use Rattle.bq_meaning.specs.Place.{Place, IsPlacement, record_room}
 use Rattle.bq_insn.specs.Insn.{size_bytes}
 use Rattle.bq_word.specs.Word.{signed_bytes}
 use Rattle.bq_meaning.specs.Meaning.{Outcome, Continues, Ends, Faults, held, moved, perform}
-use Rattle.bq_meaning.specs.Machines.{MachineState as Machine}
+use Rattle.bq_meaning.specs.Memory.{MachineState as Machine}
 use Rattle.bq_meaning.specs.declared.fault.Fault.{Fault}
 use Rattle.bq_meaning.specs.declared.fault.Fault.TheVariants.{ReadUnset, WroteFramePointer, OutsideAccess, WroteRecord, BadPlace, StepsOut}
 

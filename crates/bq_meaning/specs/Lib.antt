@@ -1,4 +1,3 @@
-pub mod Machines
 pub mod Place
 pub mod Memory
 pub mod Meaning

@@ -27,7 +27,7 @@ pub struct Machine<'a> {
 impl<'a> Model for Machine<'a> {
     ghost use Rattle.std.specs.Prelude.{◌≡◌, ◌≤◌, length};
     ghost use Rattle.bq_meaning.specs.Place.{least_record, record_room};
-    ghost use Rattle.bq_meaning.specs.Machines.{MachineState};
+    ghost use Rattle.bq_meaning.specs.Memory.{MachineState};
 
     ghost Value = { MachineState };
 

@@ -4,8 +4,7 @@ use Rattle.std.proofs.lemmas.Bool.{cond_both, eqb-true, and_parts, not-true, tru
 use Rattle.std.proofs.lemmas.Nat.{and_comm}
 use Rattle.std.specs.Option.{option_and_then, IsSomeAnd, IfSome}
 use Rattle.std.specs.Prelude.{not}
-use Rattle.bq_word.specs.Word.{bits_of, low, signed}
-use Rattle.bq_word.specs.Relations.{relates}
+use Rattle.bq_word.specs.Word.{bits_of, low, signed, relates}
 use Rattle.bq_word.specs.declared.Width.{Width}
 use Rattle.bq_word.specs.declared.Relation.{Relation}
 use Rattle.bq_word.specs.declared.Relation.TheVariants.{Equal, Greater, GreaterOrEqual, CommonBit, NotEqual, SignedGreater, SignedGreaterOrEqual, Less, LessOrEqual, SignedLess, SignedLessOrEqual}

@@ -6,8 +6,7 @@ use Rattle.std.proofs.lemmas.Bool.{cond_both, and_parts, eqb-true, ltb-true}
 use Rattle.std.proofs.lemmas.Int.{ints}
 use Rattle.std.proofs.lemmas.Nat.{pow_pos, mod_below}
 use Rattle.std.proofs.Math.Nat.{mod-eq_of_lt, div-add-mod}
-use Rattle.bq_word.specs.Word.{operation, low, extended, swapped, bits_of, swap_bits, sign_bits}
-use Rattle.bq_word.specs.Relations.{relates}
+use Rattle.bq_word.specs.Word.{operation, low, extended, swapped, bits_of, swap_bits, sign_bits, relates}
 use Rattle.bq_word.specs.declared.Width.{Width}
 use Rattle.bq_word.specs.declared.Width.TheVariants.{W32, W64}
 use Rattle.bq_word.specs.declared.AluOp.{AluOp}

@@ -4,8 +4,7 @@ use Rattle.std.proofs.lemmas.Bool.{cond_both, cases_lt, cases_eq, ltb-true, ltb-
 use Rattle.std.proofs.Math.Nat.{mod-eq_of_lt}
 use Rattle.std.specs.Prelude.{ℤ, pos, negsuc, not}
 use Rattle.std.specs.Int.Signed.{lt_z, le_z}
-use Rattle.bq_word.specs.Word.{bits_of, low, signed}
-use Rattle.bq_word.specs.Relations.{relates}
+use Rattle.bq_word.specs.Word.{bits_of, low, signed, relates}
 use Rattle.bq_word.specs.declared.Width.{Width}
 use Rattle.bq_word.specs.declared.Width.TheVariants.{W32, W64}
 use Rattle.bq_word.specs.declared.Relation.{Relation}

@@ -3,8 +3,7 @@ use Rattle.std.proofs.Common.{◌≡◌, ℕ, ◌^◌, ◌<◌, ◌≤◌, Bool,
 use Rattle.std.specs.Prelude.{not, ⊤}
 use Rattle.std.specs.Option.{IfSome}
 use Rattle.std.proofs.lemmas.Bool.{cond_both, ltb-true, lt-ltb, and_parts, eqb-true, eq-eqb}
-use Rattle.bq_word.specs.Word.{bits_of}
-use Rattle.bq_word.specs.Relations.{relates}
+use Rattle.bq_word.specs.Word.{bits_of, relates}
 use Rattle.bq_word.specs.declared.Width.{Width}
 use Rattle.bq_word.specs.declared.Relation.{Relation}
 use Rattle.bq_word.specs.declared.Relation.TheVariants.{CommonBit}

@@ -1,7 +1,7 @@
 -- What a branch leaves of the ranges of its two operands, on either edge.
 use Rattle.std.specs.Prelude.{ℕ, ◌+◌, ◌-◌, ◌^◌, nat_lt, nat_le, min, max, if◌then◌else◌, ◌&&◌, Bool, true, false, not, Option, Some, None}
 use Rattle.std.specs.Option.{option_and_then, MatchOption}
-use Rattle.bq_word.specs.Relations.{relates}
+use Rattle.bq_word.specs.Word.{relates}
 use Rattle.bq_word.specs.declared.Relation.{Relation}
 use Rattle.bq_word.specs.declared.Relation.TheVariants.{Equal, Greater, GreaterOrEqual, CommonBit, NotEqual, SignedGreater, SignedGreaterOrEqual, Less, LessOrEqual, SignedLess, SignedLessOrEqual}
 use Rattle.bq_range.specs.Interval.{Interval, IsIn, between, is_single, join, meet}

@@ -6,7 +6,7 @@ use Rattle.bq_insn.specs.Insn.{IsInsn}
 use Rattle.bq_insn.specs.declared.insn.Insn.{Insn}
 use Rattle.bq_meaning.specs.Place.{Place, IsPlacement, record_room}
 use Rattle.bq_meaning.specs.Meaning.{held, perform}
-use Rattle.bq_meaning.specs.Machines.{MachineState as Machine}
+use Rattle.bq_meaning.specs.Memory.{MachineState as Machine}
 use Rattle.bq_state.specs.Covers.{KindHolds, StateHolds}
 use Rattle.bq_state.specs.Edges.{edges}
 use Rattle.bq_state.specs.Kinds.{StateKinds, kind_of}

@@ -3,7 +3,7 @@ use Rattle.std.specs.Prelude.{◌≡◌, ℕ, ◌^◌, ◌<◌, List, length, So
 use Rattle.bq_flow.specs.Paths.{Among}
 use Rattle.bq_meaning.specs.Place.{Place}
 use Rattle.bq_meaning.specs.Meaning.{Outcome, Continues, Ends, Faults, held}
-use Rattle.bq_meaning.specs.Machines.{MachineState as Machine}
+use Rattle.bq_meaning.specs.Memory.{MachineState as Machine}
 use Rattle.bq_state.specs.Covers.{StateHolds}
 use Rattle.bq_state.specs.Kinds.{StateKinds}
 use Rattle.bq_sound.specs.Safe.{AreBytes}

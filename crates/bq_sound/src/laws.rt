@@ -8,7 +8,7 @@ ghost use Rattle.bq_insn.specs.declared.insn.Insn.{Insn};
 ghost use Rattle.bq_flow.specs.Paths.{IsLongest};
 ghost use Rattle.bq_meaning.specs.Place.{Place, IsPlacement, record_room};
 ghost use Rattle.bq_meaning.specs.Meaning.{perform};
-ghost use Rattle.bq_meaning.specs.Machines.{MachineState as Machine};
+ghost use Rattle.bq_meaning.specs.Memory.{MachineState as Machine};
 ghost use Rattle.bq_range.specs.Interval.{Interval, IsIn};
 ghost use Rattle.bq_state.specs.Kinds.{StateKinds, AreLengths};
 ghost use Rattle.bq_state.specs.Covers.{StateHolds};

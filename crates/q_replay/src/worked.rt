@@ -25,7 +25,7 @@ pub fn worked()
 {}
 
 /// What the definitions say of the bytes of a head and of events.
-#[tactic(auto, unfolding(sc_msg::specs::Numbers::number_bytes, bq_check::specs::Spelling::short_bytes, bq_insn::specs::Fields::unit_bytes))]
+#[tactic(auto, unfolding(sc_msg::specs::Numbers::number_bytes, bq_check::specs::Spelling::short_bytes, bq_insn::specs::Insn::unit_bytes))]
 pub fn worked_bytes()
     ensures head_of_a_founder { head_bytes (record { version = Second; id = 1; config = record { beta_num = 4; beta_den = 5; gamma_num = 4; gamma_den = 5 }; founders = Some (1 ∷ []) }) ≡ 0x42 ∷ 0x51 ∷ 0x4a ∷ 2 ∷ 1 ∷ 0 ∷ 0 ∷ 0 ∷ 0 ∷ 0 ∷ 0 ∷ 0 ∷ 4 ∷ 0 ∷ 5 ∷ 0 ∷ 4 ∷ 0 ∷ 5 ∷ 0 ∷ 0 ∷ 1 ∷ 0 ∷ 1 ∷ 0 ∷ 0 ∷ 0 ∷ 0 ∷ 0 ∷ 0 ∷ 0 ∷ [] }
     ensures head_of_a_founder_v1 { head_bytes (record { version = First; id = 1; config = record { beta_num = 4; beta_den = 5; gamma_num = 4; gamma_den = 5 }; founders = Some (1 ∷ []) }) ≡ 0x42 ∷ 0x51 ∷ 0x4a ∷ 1 ∷ 1 ∷ 0 ∷ 0 ∷ 0 ∷ 0 ∷ 0 ∷ 0 ∷ 0 ∷ 4 ∷ 0 ∷ 5 ∷ 0 ∷ 4 ∷ 0 ∷ 5 ∷ 0 ∷ 0 ∷ 1 ∷ 0 ∷ 1 ∷ 0 ∷ 0 ∷ 0 ∷ 0 ∷ 0 ∷ 0 ∷ 0 ∷ [] }

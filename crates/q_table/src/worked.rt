@@ -7,7 +7,7 @@ ghost use Rattle.q_table.specs.Programs.{is_same_text, id_of, registered, checke
 ghost use Rattle.q_table.specs.declared.fault.TableFault.TheVariants as fault;
 
 /// What the definitions say at telling operands.
-#[tactic(auto, unfolding(bq_insn::specs::Fields::unit_bytes))]
+#[tactic(auto, unfolding(bq_insn::specs::Insn::unit_bytes))]
 pub fn worked()
     // Texts.
     ensures one_text { is_same_text (insn.Exit ∷ []) (insn.Exit ∷ []) ≡ true }

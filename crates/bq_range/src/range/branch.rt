@@ -5,8 +5,7 @@
 
 ghost use Rattle.std.specs.Prelude.{◌≡◌, ℕ, ◌≤◌, ◌<◌, ◌+◌, ◌^◌, ◌-◌, if◌then◌else◌, IfSome};
 ghost use Rattle.std.specs.Option.{IsSomeAnd, option_and_then};
-ghost use Rattle.bq_word.specs.Word.{bits_of};
-ghost use Rattle.bq_word.specs.Relations.{relates};
+ghost use Rattle.bq_word.specs.Word.{bits_of, relates};
 ghost use Rattle.bq_range.specs.Interval.{IsIn, Within};
 ghost use Rattle.bq_range.specs.Narrow.{below, from, hull, first, last, ahead, behind, sign, narrowed_to, opposite, converse, narrowed_by, by_common_bit, by_opposite, branched, IsNarrowing};
 

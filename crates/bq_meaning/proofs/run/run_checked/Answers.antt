@@ -6,7 +6,7 @@ use Rattle.std.specs.Prelude.{Ok, Err}
 use Rattle.bq_meaning.specs.declared.fault.Fault.TheVariants.{StepsOut}
 use Rattle.bq_meaning.specs.declared.step.Step.TheVariants.{Ends}
 use Rattle.bq_meaning.specs.declared.run.Ended.{Ended}
-use Rattle.bq_meaning.specs.Machines.{MachineState}
+use Rattle.bq_meaning.specs.Memory.{MachineState}
 use Rattle.bq_meaning.specs.Runs.{RunsTo, RunFaults, entry_machine}
 use Rattle.bq_meaning.proofs.Reach.{ends_after, faults_after, reaches_more, still_runs}
 use Rattle.bq_meaning.proofs.Once.{same_end, no_refusal, one_refusal}

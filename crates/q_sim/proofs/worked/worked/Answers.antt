@@ -3,7 +3,7 @@
 use Rattle.std.proofs.Common.{◌≡◌, ◌+◌, ◌++◌, append-nil, length, true≢false, refl, ap, sym, ◌∙◌, inl, inr, subst, arith}
 use Rattle.std.specs.FinSet as set
 use Rattle.std.specs.Fmt.{digits}
-use Rattle.bq_insn.specs.Fields.{unit_bytes}
+use Rattle.bq_insn.specs.Insn.{unit_bytes}
 use Rattle.bq_insn.specs.Slots.{spelling}
 use Rattle.q_files.specs.Memory.{Writes}
 use Rattle.q_history.specs.Calls.{Takes}

@@ -2,8 +2,7 @@
 use Rattle.std.proofs.Common.{◌≡◌, ◌+◌, ◌-◌, Some, length, sym, subst}
 use Rattle.std.specs.Prelude.{Ok}
 use borrow.Rule.Slice.PartMut.{put_mid}
-use Rattle.bq_meaning.specs.Machines.{MachineState}
-use Rattle.bq_meaning.specs.Memory.{access}
+use Rattle.bq_meaning.specs.Memory.{MachineState, access}
 use Rattle.bq_meaning.specs.Meaning.{reading, stored}
 use Rattle.bq_meaning.specs.Runs.{StepAnswers}
 use Rattle.bq_meaning.specs.declared.machine.Location.TheVariants.{Frame}

@@ -1,8 +1,7 @@
 -- Where both ranges are of the width, an edge leaves the least ranges.
 use Rattle.std.proofs.Common.{◌≡◌, ◌^◌, ◌<◌, ◌≤◌, Option, arith, ap, sym, subst, ◌∙◌}
 use Rattle.std.specs.Option.{IsSomeAnd, IfSome}
-use Rattle.bq_word.specs.Word.{bits_of}
-use Rattle.bq_word.specs.Relations.{relates}
+use Rattle.bq_word.specs.Word.{bits_of, relates}
 use Rattle.bq_word.specs.declared.Relation.{Relation}
 use Rattle.bq_range.specs.Interval.{Interval, IsIn, Within}
 use Rattle.bq_range.specs.Narrow.{by_opposite, opposite, IsNarrowing}
