@@ -3,6 +3,9 @@
 # LLVM builds the way to the next code into an arm only where at most so many arms give the same answer.
 ARMS = 16
 
+# How many arms go on by `GoOn` in any case: the branch that any step may have.
+ANY_GOING_ON = 1
+
 # The answers by which a register takes a value, behind so many steps.
 VALUES = {
     1: ("Single1", "Single2", "Single3"),
@@ -18,7 +21,8 @@ class Answers:
     def __init__(self, taken):
         """`taken` says how many arms of each number of steps are there already."""
         self.values = dict(taken)
-        self.going = self.going_on = self.jumps = 0
+        self.going = self.jumps = 0
+        self.going_on = ANY_GOING_ON
 
     def value(self, steps):
         """The answer of a code of so many steps that gives a register a value."""

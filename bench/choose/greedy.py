@@ -3,7 +3,7 @@
 from collections import defaultdict
 
 import forms
-from answers import ARMS, VALUES
+from answers import ANY_GOING_ON, ARMS, VALUES
 from codes import THREE, parsed
 from corpus import TEN
 from model import arrivals, cost_at, costs_with
@@ -11,40 +11,33 @@ from programs import codes_run, whole_forms
 
 # How many pairs of operations with all their parts there are. They are chosen by the program `arithmetic`, which has
 # operations in a row: one after another, each time the pair with which it runs the fewest codes.
-WHOLE_PAIRS = 36
+WHOLE_PAIRS = 26
 WHOLE_PAIRS_OF = "arithmetic"
-
-# How much room is kept for them while the others are chosen; what is left of the others at last makes room for the rest.
-WHOLE_ROOM = 26
 
 # Codes that stand in any case. A code of three steps is looked at only once that of its first two is chosen, and these
 # pairs gain little by themselves. Without them the model expects a fifth more of the programs `xorshift` and
-# `histogram`, which mix a word with itself shifted, and let counts in the frame grow.
+# `histogram`, which mix a word with itself shifted, and let counts in the frame grow by the range of a low part.
 GIVEN = [parsed(line) for line in (
     "Move into ShiftLeftNumber",
     "Move into ShiftLeftNumber into XorRegister",
     "Load8 into AddNumber",
     "Load8 into AddNumber into Store8Register",
+    "Load8 into AndNumber",
+    "Load8 into AndNumber into IfLessNumber",
 )]
 
-# The kinds of codes by what they answer, and how many of each there may be, with those that are given. For the first
-# three that is the room which answers have (`answers.py`), less what stands there in any case: pairs of operations with
-# all their parts, and stores and branches alone. For the last two it is fewer than there is room for.
+# The kinds of codes by what they answer, and how many of each there may be, with those that are given: the room which
+# answers have (`answers.py`), less what stands there in any case: pairs of operations with all their parts, stores and
+# branches alone, and the branch that any step may have. For the last it is fewer than there is room for.
 VALUE_OF_TWO, VALUE_OF_THREE, GO_ON, CHOICE, END = "two", "three", "go on", "choice", "end"
-GOING_ON_ALONE = sum(form.is_branch or form.kind == forms.STORE for form in forms.ONE_STEP)
+GOING_ON_ALONE = sum(form.is_branch or form.kind == forms.STORE for form in forms.ONE_STEP) + ANY_GOING_ON
 ROOM = {
-    VALUE_OF_TWO: ARMS * len(VALUES[2]) - WHOLE_ROOM,
+    VALUE_OF_TWO: ARMS * len(VALUES[2]) - WHOLE_PAIRS,
     VALUE_OF_THREE: ARMS * len(VALUES[3]),
     GO_ON: 2 * ARMS - GOING_ON_ALONE,
-    CHOICE: 14,
+    CHOICE: ARMS,
     END: 3,
 }
-
-# At last the codes that gain least are left again, since each has to be proved: so many of two steps, and so many of the
-# others stay. One of three stays with that of its first two.
-LEFT_OF_TWO = 12
-STAY_OF_THREE = 20
-STAY_OF_CHOICE = 12
 
 # A code is for several programs, or for one of the ten. Of the program that gains most by it, the gain counts up to so
 # many times the mean gain of the others, and so much more: what helps one program alone counts next to nothing.
@@ -120,17 +113,6 @@ def is_touched(program, code):
                for candidates in program.candidates for candidate in candidates)
 
 
-def without_the_least(order):
-    """The same codes, but for those that gain least; a code that is given gains most."""
-    by_gain = sorted(order, key=lambda pair: float("-inf") if pair[1] is None else -pair[1])
-    three = [code for code, _ in by_gain if code.section == THREE]
-    choices = [code for code, _ in by_gain if code.is_over]
-    two = [code for code, _ in by_gain if code.section != THREE and not code.is_over]
-    stay = set(three[:STAY_OF_THREE]) | set(choices[:STAY_OF_CHOICE]) | set(two[:-LEFT_OF_TWO])
-    stay |= {code.first_two for code in three[:STAY_OF_THREE]}
-    return [(code, gain) for code, gain in order if code in stay]
-
-
 def chosen(programs):
     """The codes that are given, without a gain, and then those that are chosen, each with its gain when it was."""
     room = dict(ROOM)
@@ -142,7 +124,7 @@ def chosen(programs):
     while True:
         best = best_of(zip(programs, gains), room, ten)
         if best is None:
-            return without_the_least(order)
+            return order
         code = best[0]
         order.append(best)
         codes.add(code)

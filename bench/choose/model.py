@@ -4,7 +4,7 @@ All numbers of the model stand here. They are set by hand: what counts is which 
 """
 
 import math
-from collections import Counter
+from collections import defaultdict
 from functools import lru_cache
 from typing import NamedTuple, Optional
 
@@ -30,7 +30,12 @@ BY_REGISTER = 0.5
 BEHIND_BRANCH_OVER = 1.0
 
 # How much one of the ten counts; a program of the corpus counts 1.
-WEIGHT_OF_TEN = 1.5
+WEIGHT_OF_TEN = 1.0
+
+# Which part of a program's weight its first build has: the one for version 2 where there is one, else that for version
+# 3. It is the build that DPDK's interpreter can run too, so the one by which the loop is compared. The others share the
+# rest.
+SHARE_OF_FIRST = 0.9
 
 
 class Candidate(NamedTuple):
@@ -90,10 +95,19 @@ def is_possible(code):
 
 def prepare(programs):
     """Gives each program its candidates and its weight, which its builds share."""
-    builds = Counter(program.name for program in programs)
+    builds = defaultdict(list)
+    for program in programs:
+        builds[program.name].append(program.build)
     for program in programs:
         program.candidates = [candidates_at(program, at) for at in range(len(program.units))]
-        program.weight = (WEIGHT_OF_TEN if program.half == TEN else 1.0) / builds[program.name]
+        program.weight = (WEIGHT_OF_TEN if program.half == TEN else 1.0) * share_of(program.build, builds[program.name])
+
+
+def share_of(build, builds):
+    """Which part of a program's weight one of its builds has."""
+    if len(builds) == 1:
+        return 1.0
+    return SHARE_OF_FIRST if build == min(builds) else (1 - SHARE_OF_FIRST) / (len(builds) - 1)
 
 
 def cost_at(program, at, candidate, costs):

@@ -124,8 +124,22 @@ def file_with(root, file, made):
     return source
 
 
+def answers_with(root, codes):
+    """Answers.antt of `advance`: of each branch over a step, that as many steps are done as of the code."""
+    source = Source(root, "bq_run/proofs/advance/advance/Answers.antt")
+    lines = []
+    for code in (code for code in codes if code.is_over):
+        goal, made = f"returns-in-{code.name}-clause-count", f"c.{code.snake_name}"
+        state = "(record { unit = unit; cells = c.args.cells.now; bytes = c.args.block.now })"
+        lines += [f"pub {goal} : goal.{goal}",
+                  f"{goal} c = λ unit. counted c.args.code.now _ {made}.result _ c.in-{code.name}.is "
+                  f"({made}.ensures.count {state} refl)", ""]
+    source.replace(source.find("pub returns-in-", 0, False), len(source.lines), lines[:-1])
+    return source
+
+
 def all_with(root, codes):
     """All sources with the rows of these codes."""
     made = functions.functions(codes, Answers(taken(root)))
     return [code_with(root, codes), lowered_with(root, codes), fuse_with(root, codes), advance_with(root, made),
-            *(file_with(root, file, made) for file in heads.TITLES)]
+            answers_with(root, codes), *(file_with(root, file, made) for file in heads.TITLES)]
