@@ -10,7 +10,7 @@ ghost use Rattle.q_net.specs.declared.replies.Reply.TheVariants as reply;
 ghost use Rattle.q_net.specs.declared.request.Request.TheVariants as request;
 ghost use Rattle.q_clients.specs.Books.{HasEndedIn, HasEnded, IsBookOf};
 ghost use Rattle.q_clients.specs.Clients.{IsSaid, due_of};
-ghost use Rattle.q_clients.specs.Sample.{gives_all, gives_nothing};
+ghost use Rattle.q_clients.specs.Sample.{gives_all, gives_first_answer, gives_nothing};
 ghost use Rattle.q_clients.specs.Serves.{IsAtHand, IsServed, IsSilent, IsTold};
 ghost use Rattle.q_clients.specs.declared.due.Due.TheVariants as due;
 
@@ -49,6 +49,10 @@ pub fn worked()
     ensures not_lost { IsTold 1 gives_nothing (request.Register [] []) (reply.Refused 52) → ⊥ }
     ensures never_silent { (version : Version) (input left before after : Option (List ℕ))
         → IsSilent version 1 gives_nothing input left before after → ⊥ }
+
+    // What the node gave to another request is not written.
+    ensures another_asked { (version : Version) → IsServed version 1 gives_first_answer
+        (Some (spelling (request.Answer 7))) (Some []) (Some []) (Some (0 ∷ 0 ∷ [])) → ⊥ }
 
     // Where nothing was read, nothing is written.
     ensures unasked { (version : Version) → IsAtHand version 1 gives_all [] (7 ∷ []) → ⊥ }

@@ -1,5 +1,5 @@
 -- worked: what the definitions say at telling operands.
-use Rattle.std.proofs.Common.{◌≡◌, ℕ, List, [], ◌∷◌, ◌++◌, length, get_or, ap, refl, inl, inr, lit<, arith, length-append}
+use Rattle.std.proofs.Common.{◌≡◌, ℕ, List, [], ◌∷◌, ◌++◌, length, get_or, Option, None, Some, ap, ◌∙◌, refl, inl, inr, lit<, arith, length-append}
 use Rattle.std.specs.FinMap as fin
 use Rattle.std.specs.List.{AllZip}
 use Rattle.std.specs.Ordering.{nat_cmp}
@@ -8,8 +8,10 @@ use Rattle.sc_msg.specs.declared.version.Version.{Version}
 use Rattle.q_net.specs.declared.request.Request.{Request}
 use Rattle.q_net.specs.declared.request.Request.TheVariants.{Register, Ask, Store, Answer, StoreOf}
 use Rattle.q_net.specs.declared.replies.Reply.{Reply}
+use Rattle.q_net.specs.declared.request.StreamEnd.{StreamEnd}
 use Rattle.q_net.specs.Requests.{spelling, spellings}
-use Rattle.q_clients.specs.Sample.{gives_all}
+use Rattle.q_net.specs.Serves.{last_reply}
+use Rattle.q_clients.specs.Sample.{gives_all, gives_first_answer}
 use Rattle.q_clients.specs.Serves.{IsAtHand, IsTold, replies_bytes}
 use Rattle.q_clients.proofs.Lost.{lost_said}
 use Rattle.q_clients.proofs.Spelled.{no_stop, nothing_read, request_has_bytes}
@@ -46,6 +48,30 @@ no_second (StoreOf value ∷ rs) (b ∷ bs) q said read written = let h : 4 ≡ 
 
 pub returns-clause-replied_to : goal.returns-clause-replied_to
 returns-clause-replied_to c = λ version h. no_second h.exchanged.requests h.exchanged.replies h.request h.exchanged.said h.exchanged.consumed h.exchanged.written
+
+-- two bytes are written to the answer that was asked for, and not to how the requests ended
+no_other : (rs : List Request) (bs : List Reply) (ended : Option StreamEnd) (last : List ℕ)
+    → AllZip (IsTold 1 gives_first_answer) rs bs → 4 ∷ long_bytes 7 ≡ (spellings rs ++ last) ++ []
+    → 0 ∷ 0 ∷ [] ≡ replies_bytes bs ++ last_reply ended → ⊥
+unfolding long_bytes
+no_other [] [] None last said read written = let h : 2 ≡ 0 = ap length written in omega (arith, h)
+no_other [] [] (Some stop) last said read written = let h : 2 ≡ 1 = ap length written in omega (arith, h)
+no_other [] (b ∷ bs) ended last said read written = said
+no_other (r ∷ rs) [] ended last said read written = said
+no_other (Register text notes ∷ rs) (b ∷ bs) ended last said read written = let h : 4 ≡ 1 = ap (λ (l : List ℕ). get_or l 0 0) read in omega (arith, h)
+no_other (Ask program start ∷ rs) (b ∷ bs) ended last said read written = let h : 4 ≡ 2 = ap (λ (l : List ℕ). get_or l 0 0) read in omega (arith, h)
+no_other (Store value ∷ rs) (b ∷ bs) ended last said read written = let h : 4 ≡ 3 = ap (λ (l : List ℕ). get_or l 0 0) read in omega (arith, h)
+no_other (Answer query ∷ rs) (b ∷ bs) ended last said read written =
+    elim said.0.1 [
+      | inl same ↦
+          let h : 7 ≡ 0 = ap (λ (l : List ℕ). get_or l 1 0) read ∙ ap (λ (r : Request). get_or (spelling r) 1 0) same in
+          omega (arith, h)
+      | inr lost ↦ lost
+    ]
+no_other (StoreOf value ∷ rs) (b ∷ bs) ended last said read written = let h : 4 ≡ 5 = ap (λ (l : List ℕ). get_or l 0 0) read in omega (arith, h)
+
+pub returns-clause-another_asked : goal.returns-clause-another_asked
+returns-clause-another_asked c = λ version h. no_other h.exchanged.requests h.exchanged.replies h.ended h.last h.exchanged.said h.exchanged.consumed h.exchanged.written
 
 -- what is written where nothing was read
 unasked : (version : Version) → IsAtHand version 1 gives_all [] (7 ∷ []) → ⊥
