@@ -5,3 +5,4 @@ mod Gifts
 mod Growing
 mod Looks
 mod Settling
+mod Leaving

@@ -1,6 +1,12 @@
 -- worked_asking: to whom a question goes, and at which looks.
+use Rattle.std.proofs.Common.{[], ◌∷◌}
+use Rattle.sc_msg.specs.declared.message.Body.TheVariants.{CollectQuery}
+use Rattle.q_kept.proofs.Targets.{not_counted}
 use Rattle.q_kept.proofs.Looks.{due_at, no_powers, not_due_at, powers}
 use Rattle.q_kept.proofs.worked.worked_asking.Goals as goal
+
+pub returns-clause-not_counted : goal.returns-clause-not_counted
+returns-clause-not_counted c = λ n p e t h. not_counted n p 3 (3 ∷ 4 ∷ []) (CollectQuery 7) p e t h
 
 pub returns-clause-due : goal.returns-clause-due
 returns-clause-due c = λ v m e. (due_at 1 v m powers.0 e, due_at 2 v m powers.1 e, due_at 4 v m powers.2 e, due_at 8 v m powers.3 e)
