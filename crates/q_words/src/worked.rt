@@ -1,13 +1,13 @@
 //! Worked values of what words say.
 
-ghost use Rattle.std.specs.Prelude.{◌≡◌, ℕ, List, [], ◌∷◌, Bool, Some, None, true, false, codes, map, option_map};
+ghost use Rattle.std.specs.Prelude.{◌≡◌, ℕ, List, [], ◌∷◌, Bool, Some, None, Ok, true, false, codes, map, option_map};
 ghost use Rattle.std.specs.IoError.{error_kind};
 ghost use Rattle.std.specs.declared.io.ErrorKind.TheVariants as kind;
 ghost use Rattle.clap.specs.Words.{Row, fault_of, first_of, subcommand_of};
 ghost use Rattle.clap.specs.declared.error.kind.ErrorKind.TheVariants as clap_kind;
 ghost use Rattle.bq_range.specs.Interval.{Interval};
 ghost use Rattle.q_script.specs.Words.{IsNumeral};
-ghost use Rattle.q_words.specs.Words.{AreGiven, HasCommand, HasLineFault, HasNode, HasProgram, IsMet, IsRunners, TellsUngiven, bqview, exit_status, form_of, is_given, is_strict, operand_of, operands_of};
+ghost use Rattle.q_words.specs.Words.{AreGiven, HasCommand, HasLineFault, HasNode, HasProgram, IsMet, IsRunners, Reads, TellsUngiven, bqview, exit_status, form_of, is_given, is_strict, operand_of, operands_of};
 ghost use Rattle.q_words.specs.declared.words.ProgramForm.TheVariants as form;
 ghost use Rattle.q_words.specs.declared.words.FileCommand.TheVariants as line;
 ghost use Rattle.q_words.specs.declared.words.Wanted.TheVariants as wanted;
@@ -66,4 +66,31 @@ pub fn worked()
     ensures no_memory_is_told_as_such { (error : _) → error_kind error ≡ kind.OutOfMemory → TellsUngiven error fault.NotUtf8 → ⊥ }
     ensures not_utf8_status { exit_status fault.NotUtf8 ≡ 2 }
     ensures no_memory_status { exit_status fault.OutOfMemory ≡ 1 }
+{}
+
+/// What whole command lines are read as: no word stands in another's place, and no flag is lost.
+pub fn worked_lines()
+    // A client finds its node at the first word, and not at that of its script; it is strict where that is asked.
+    ensures place { (place script : _) (strict : Bool)
+        → Reads (codes "bqview" ∷ codes "client" ∷ codes "a" ∷ codes "b" ∷ []) (Ok (wanted.Client place script strict))
+        → place.now ≡ codes "a" }
+    ensures strict_client { (place script : _)
+        → Reads (codes "bqview" ∷ codes "client" ∷ codes "--strict" ∷ codes "a" ∷ codes "b" ∷ [])
+        (Ok (wanted.Client place script false)) → ⊥ }
+
+    // A node writes its journal to the file that `--journal` names, and not over the file of the cluster.
+    ensures journal { (line : _)
+        → Reads (codes "bqview" ∷ codes "node" ∷ codes "a" ∷ codes "7" ∷ codes "--clients" ∷ codes "b"
+        ∷ codes "--journal" ∷ codes "c" ∷ []) (Ok (wanted.Node line))
+        → line.journal.now ≡ codes "c" }
+
+    // It keeps its journal on the disk where that is asked, and runs programs by no more than 64 threads.
+    ensures sync { (line : _)
+        → Reads (codes "bqview" ∷ codes "node" ∷ codes "a" ∷ codes "7" ∷ codes "--clients" ∷ codes "b"
+        ∷ codes "--journal" ∷ codes "c" ∷ codes "--sync" ∷ []) (Ok (wanted.Node line))
+        → line.sync ≡ true }
+    ensures sixty_four { IsRunners (codes "64") 64 }
+    ensures sixty_five { (line : _)
+        → Reads (codes "bqview" ∷ codes "node" ∷ codes "a" ∷ codes "7" ∷ codes "--clients" ∷ codes "b"
+        ∷ codes "--journal" ∷ codes "c" ∷ codes "--runners" ∷ codes "65" ∷ []) (Ok (wanted.Node line)) → ⊥ }
 {}
