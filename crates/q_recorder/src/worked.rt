@@ -1,6 +1,7 @@
 //! Worked values of what a recorder writes and of what stands in its file.
 
-ghost use Rattle.std.specs.Prelude.{◌≡◌, ◌++◌, ℕ, List, [], ◌∷◌, Some, Ok, Err, true, false};
+ghost use Rattle.std.specs.Prelude.{◌≡◌, ◌++◌, ℕ, List, [], ◌∷◌, length, min, take, Some, Ok, Err, true, false};
+ghost use Rattle.std.specs.Io.KnownBytes.{WriteAppends};
 ghost use Rattle.reasons.specs.declared.Reason.TheVariants as reasons;
 ghost use Rattle.q_desk.specs.declared.journal.Entry.{Entry};
 ghost use Rattle.q_desk.specs.declared.journal.Entry.TheVariants as entry;
@@ -9,7 +10,7 @@ ghost use Rattle.q_replay.specs.Spelling.{head_bytes};
 ghost use Rattle.q_replay.specs.Journal.{head_of, journal_of};
 ghost use Rattle.q_recorder.specs.State.{RecorderState};
 ghost use Rattle.q_recorder.specs.Faults.{reason};
-ghost use Rattle.q_recorder.specs.Recording.{Grows, IsRecorded, Records, lacking_bytes, recorded_bytes};
+ghost use Rattle.q_recorder.specs.Recording.{Grows, IsKept, IsRecorded, Records, lacking_bytes, recorded_bytes};
 ghost use Rattle.q_recorder.specs.declared.fault.Unrecorded.TheVariants as fault;
 
 /// What the definitions say at telling operands, of a book whose journal is a hand-out and a leave.
@@ -17,17 +18,35 @@ ghost use Rattle.q_recorder.specs.declared.fault.Unrecorded.TheVariants as fault
 pub fn worked()
     ensures failed { reason fault.Failed ≡ reasons.FileFailed }
 
-    // Of a journal that did not begin all lacks, and else the entries behind those that were written.
+    // Of a journal that did not begin all lacks, from the head on, and else the entries behind those that were written.
     ensures all_lacks { (r : RecorderState) (b : BookState) → r.begun ≡ false → r.written ≡ 0 → lacking_bytes r b ≡ journal_of b }
+    ensures head_lacks { (r : RecorderState) (b : BookState) → r.begun ≡ false
+        → take 3 (lacking_bytes r b) ≡ 0x42 ∷ 0x51 ∷ 0x4a ∷ [] }
     ensures last_lacks { (r : RecorderState) (b : BookState) → b.desk.journal ≡ entry.HandOut ∷ entry.Leave ∷ [] → r.begun ≡ true → r.written ≡ 1 → lacking_bytes r b ≡ 1 ∷ 0 ∷ 0 ∷ 0 ∷ 0 ∷ [] }
     ensures none_lacks { (r : RecorderState) (b : BookState) → b.desk.journal ≡ entry.HandOut ∷ entry.Leave ∷ [] → r.begun ≡ true → r.written ≡ 2 → lacking_bytes r b ≡ [] }
     ensures first_is_there { (r : RecorderState) (b : BookState) → b.desk.journal ≡ entry.HandOut ∷ entry.Leave ∷ [] → r.begun ≡ true → r.written ≡ 1 → recorded_bytes r b ≡ head_bytes (head_of b) ++ (6 ∷ 0 ∷ 0 ∷ 0 ∷ 0 ∷ []) }
+
+    // After a call that succeeds all that lacked stands in the file, to the last byte, and is counted.
+    ensures appends_all { (r s : RecorderState) (b : BookState) (all : List ℕ)
+        → b.desk.journal ≡ entry.HandOut ∷ entry.Leave ∷ [] → r.begun ≡ true → r.written ≡ 1 → r.file ≡ Some []
+        → s.file ≡ Some all → Records r b (Ok (tt {0})) s → all ≡ 1 ∷ 0 ∷ 0 ∷ 0 ∷ 0 ∷ [] }
+    ensures counts_all { (r s : RecorderState) (b : BookState) → b.desk.journal ≡ entry.HandOut ∷ entry.Leave ∷ []
+        → Records r b (Ok (tt {0})) s → s.written ≡ 2 }
 
     // A recorder that is broken writes nothing and never succeeds.
     ensures broken_writes_nothing { (r s : RecorderState) (b : BookState) → r.broken ≡ true → Records r b (Err fault.Failed) s → s ≡ r }
     ensures broken_fails { (r s : RecorderState) (b : BookState) → r.broken ≡ true → Records r b (Ok (tt {0})) s → ⊥ }
     ensures breaks { (r s : RecorderState) (b : BookState) → Records r b (Err fault.Failed) s → s.broken ≡ true }
     ensures kept { (r s : RecorderState) (b : BookState) (bytes : List ℕ) → r.keeps ≡ true → s.kept ≡ Some bytes → Records r b (Ok (tt {0})) s → s.file ≡ Some bytes }
+    ensures not_kept { (r : RecorderState) → r.file ≡ Some (7 ∷ []) → r.kept ≡ Some [] → IsKept r → ⊥ }
+
+    // A file holds what it says that it took, and takes no more than it has room for.
+    ensures not_held { WriteAppends {E = ℕ} (Some []) (Some []) (Ok 1) (7 ∷ []) → ⊥ }
+    ensures room_for_two { min (length (7 ∷ 8 ∷ 9 ∷ [])) 2 ≡ 2 }
+
+    // Of an empty file no head is said to be there.
+    ensures no_head { (r : RecorderState) (b : BookState) → r.begun ≡ true → r.broken ≡ false → r.file ≡ Some []
+        → IsRecorded (Some []) b r → ⊥ }
 
     // No entry is left out, also by a recorder that is broken, and a book does not grow by losing entries.
     ensures no_hole { (r : RecorderState) (b : BookState) → b.desk.journal ≡ entry.HandOut ∷ entry.Leave ∷ [] → r.file ≡ Some (head_bytes (head_of b) ++ (1 ∷ 0 ∷ 0 ∷ 0 ∷ 0 ∷ [])) → IsRecorded (Some []) b r → ⊥ }
