@@ -1,8 +1,9 @@
 //! Worked values of what commands answer, refuse and tell.
 
-ghost use Rattle.std.specs.Prelude.{◌≡◌, ◌++◌, ℕ, Bool, List, [], ◌∷◌, Option, Some, Ok, true, false, codes, replicate, IsUtf8};
+ghost use Rattle.std.specs.Prelude.{◌≡◌, ◌++◌, ℕ, Bool, List, [], ◌∷◌, Option, Some, None, Ok, true, false, codes, replicate, IsUtf8};
 ghost use Rattle.bq_asm.specs.Source.{IsSource};
 ghost use Rattle.bq_insn.specs.declared.insn.Insn.{Insn};
+ghost use Rattle.bq_insn.specs.declared.insn.Insn.TheVariants as insn;
 ghost use Rattle.bq_range.specs.Interval.{Interval};
 ghost use Rattle.q_desk.specs.Desks.{answer_in};
 ghost use Rattle.q_files.specs.Memory.{Reads, Writes, bytes_of, fails_next};
@@ -10,6 +11,7 @@ ghost use Rattle.q_files.specs.declared.memory.MemoryFiles.{MemoryFiles as Memor
 ghost use Rattle.q_session.specs.declared.query.Query.{Query};
 ghost use Rattle.q_sim.specs.declared.refusal.Refusal.TheVariants as refused;
 ghost use Rattle.q_words.specs.declared.words.FileCommand.{FileCommand};
+ghost use Rattle.q_words.specs.declared.words.FileCommand.TheVariants as command;
 ghost use Rattle.q_words.specs.declared.words.ProgramForm.TheVariants as form;
 ghost use Rattle.bq_check.specs.Spelling.{notes_bytes};
 ghost use Rattle.bq_check.specs.declared.form.NotesForm.TheVariants.{Second};
@@ -18,7 +20,8 @@ ghost use Rattle.bq_state.specs.Kinds.{StateKinds};
 ghost use Rattle.q_command.specs.Advice.{IsToldOf};
 ghost use Rattle.q_command.specs.Audit.{answer_lines};
 ghost use Rattle.q_command.specs.Listing.{listing_of};
-ghost use Rattle.q_command.specs.Perform.{Answers, AnswersRun, Ends, IsProgram, IsUnspelled, RefusesFile, SavesNotes, Spells, acceptance, end_of, failures_after, status_of};
+ghost use Rattle.q_command.specs.Perform.{Accepts, Answers, AnswersRun, Disassembles, Ends, IsProgram, IsUnaccepted, IsUnspelled, Refuses, RefusesFile, SavesNotes, Spells, acceptance, end_of, failures_after, status_of};
+ghost use Rattle.q_command.specs.declared.check.Check.{Check as Checking};
 ghost use Rattle.q_command.specs.declared.denied.Denied.{Denied};
 ghost use Rattle.q_command.specs.declared.perform.Outcome.TheVariants as outcome;
 
@@ -31,8 +34,31 @@ pub fn worked()
     ensures of_the_bytes { (text : List Insn) → Spells form.Bytes [] text → spelling text ≡ [] }
     ensures listed { listing_of (149 ∷ replicate 7 0) ≡ codes "9500000000000000\n" }
 
-    // What `check` tells and writes.
-    ensures accepted_alone { (notes : List (Option StateKinds)) → acceptance false [] notes 7 ≡ codes "accepted longest 7\n" }
+    // `dis` writes the assembler text of a program of which it is given the bytes, and does not read these as text.
+    ensures disassembled { (lines : List ℕ) → Disassembles (149 ∷ replicate 7 0) lines → lines ≡ codes "exit\n" }
+    ensures dis_is_of_bytes { (file denied : _) (old new : Memory) → file.now ≡ codes "a"
+        → fails_next old.passing ≡ false → bytes_of old.files (codes "a") ≡ Some (149 ∷ replicate 7 0)
+        → denied.refusal ≡ refused.FileFailed → Refuses Reads (command.Dis file) old denied new → ⊥ }
+
+    // `check` reads the form that is asked for: of bytes those of a program, which it does not refuse as no text.
+    ensures checked_as_bytes { (asked : Checking) (source lines : List ℕ) (unwritten : Bool) (old new : Memory)
+        → asked.form ≡ form.Bytes → Accepts (Writes {X = Unit {0}}) asked source old lines unwritten new
+        → (text : List Insn) × (source ≡ spelling text) }
+    ensures not_checked_as_text { (lengths : Interval) (source : List ℕ)
+        → IsUnaccepted form.Bytes lengths source refused.FileFailed → ⊥ }
+
+    // What `check` tells and writes: states only where they are asked for, and that notes are not written.
+    ensures accepted_alone { (text : List Insn) (notes : List (Option StateKinds))
+        → acceptance false text notes 7 ≡ codes "accepted longest 7\n" }
+    ensures accepted_with_states { acceptance true (insn.Exit ∷ []) (None ∷ []) 1
+        ≡ codes "accepted longest 1\nunit 0: exit\n" }
+    ensures unasked { (asked : Checking) (source lines : List ℕ) (unwritten : Bool) (old new : Memory)
+        → asked.states ≡ false → asked.notes ≡ None
+        → (h : Accepts (Writes {X = Unit {0}}) asked source old lines unwritten new)
+        → h.longest ≡ 1 → lines ≡ codes "accepted longest 1\n" }
+    ensures failed_is_unsaved { (old new : Memory) (name notes told : _)
+        → SavesNotes (Writes {X = Unit {0}}) (Some name) notes told old (told ++ codes "refused 87 FileFailed\n") false new
+        → ⊥ }
     ensures saved { (old new : Memory) (name notes told lines : _) → name.now ≡ codes "a" → SavesNotes (Writes {X = Unit {0}}) (Some name) notes told old lines false new → bytes_of new.files (codes "a") ≡ Some (notes_bytes Second notes) }
     ensures unsaved { (old new : Memory) (name notes told lines : _) → SavesNotes (Writes {X = Unit {0}}) (Some name) notes told old lines true new → lines ≡ told ++ codes "refused 87 FileFailed\n" }
 

@@ -7,3 +7,5 @@ mod Viewing
 mod Answering
 mod Telling
 mod Reading
+mod Alone
+mod Outcomes

@@ -13,7 +13,8 @@ told_by false P Q p q = q refl
 tails : (x y : ℕ) (xs ys : List ℕ) → x ∷ xs ≡ y ∷ ys → xs ≡ ys
 tails x y xs ys h = cc
 
-whole : (bytes rest body : List ℕ) (kind told : ℕ) → bytes ≡ kind ∷ rest → rest ≡ number_bytes 4 told ++ body → told < 2 ^ 32 → (length body < told → ⊥) → IsCut bytes → ⊥
+-- a body that is as long as is told, or longer
+pub whole : (bytes rest body : List ℕ) (kind told : ℕ) → bytes ≡ kind ∷ rest → rest ≡ number_bytes 4 told ++ body → told < 2 ^ 32 → (length body < told → ⊥) → IsCut bytes → ⊥
 whole bytes rest body kind told first second fits long (inl short) =
     omega (arith, short, ap length first, ap length second, length-append (number_bytes 4 told) body, length-number_bytes 4 told)
 whole bytes rest body kind told first second fits long (inr c) =
