@@ -1,6 +1,6 @@
 //! Worked values of what a recorder writes and of what stands in its file.
 
-ghost use Rattle.std.specs.Prelude.{◌≡◌, ◌++◌, ℕ, List, [], ◌∷◌, length, min, take, Some, Ok, Err, true, false};
+ghost use Rattle.std.specs.Prelude.{◌≡◌, ◌++◌, ℕ, List, [], ◌∷◌, take, Some, Ok, Err, true, false};
 ghost use Rattle.std.specs.Io.KnownBytes.{WriteAppends};
 ghost use Rattle.reasons.specs.declared.Reason.TheVariants as reasons;
 ghost use Rattle.q_desk.specs.declared.journal.Entry.{Entry};
@@ -40,7 +40,7 @@ pub fn worked()
     ensures kept { (r s : RecorderState) (b : BookState) (bytes : List ℕ) → r.keeps ≡ true → s.kept ≡ Some bytes → Records r b (Ok (tt {0})) s → s.file ≡ Some bytes }
     ensures not_kept { (r : RecorderState) → r.file ≡ Some (7 ∷ []) → r.kept ≡ Some [] → IsKept r → ⊥ }
 
-    // A file holds what it says that it took, and takes no more than it has room for.
+    // A file holds what it says that it took.
     ensures not_held { WriteAppends {E = ℕ} (Some []) (Some []) (Ok 1) (7 ∷ []) → ⊥ }
     ensures room_for_two { min (length (7 ∷ 8 ∷ 9 ∷ [])) 2 ≡ 2 }
 
