@@ -1,6 +1,5 @@
 -- That the book of a lone founder, to whom nothing has happened, gathers.
 use Rattle.std.proofs.Common.{◌≡◌, ◌<◌, ℕ, zero, suc, Bool, true, false, cond, ◌||◌, ◌==◌, List, [], ◌∷◌, ◌++◌, Option, Some, None, refl, sym, ap, ◌∙◌, subst, slice_get, arith}
-use Rattle.std.specs.List.{list_any}
 use Rattle.std.specs.Ordering.{nat_cmp}
 use Rattle.std.specs.FinSet as set
 use Rattle.std.proofs.lemmas.Bool.{eqb-true}
@@ -14,7 +13,7 @@ use Rattle.q_book.specs.State.{BookState}
 use Rattle.q_history.proofs.Lists.{same_some}
 use Rattle.q_history.specs.Heads.{founders_for}
 use Rattle.q_gather.specs.Gather.{Agree, AreRefused, Merge}
-use Rattle.q_gather.specs.Gathered.{AgreeOn, AreDistinct, AreTraces, HasBook}
+use Rattle.q_gather.specs.Gathered.{AgreeOn, AreDistinct}
 use Rattle.q_gather.specs.Merging.{Step, AreOver}
 use Rattle.q_gather.specs.Merging.Merges.{Over}
 use Rattle.q_gather.specs.Traces.{IsTrace, IsTraceFrom, entering}

@@ -30,7 +30,8 @@ to_none m p id e = ap (λ (b : Bool). map (message_to m) (map Some (cond (not b)
 same_phase : (p q : Phase) → (let o : Option Phase = Some p in o) ≡ Some q → p ≡ q
 same_phase p q e = cc
 
-pub not_counted : (n : NodeState) (p : Phase) (id : ℕ) (nodes : List ℕ) (b : Body) → asking_phase n b ≡ Some p → set.contains p.counted id ≡ true → IsFor n nodes b (Some id) → ⊥
+pub not_counted : (n : NodeState) (p : Phase) (id : ℕ) (nodes : List ℕ) (b : Body) → asking_phase n b ≡ Some p
+    → set.contains p.counted id ≡ true → IsFor n nodes b (Some id) → ⊥
 not_counted n p id nodes b is counted h =
     let same : p ≡ h.1 = same_phase p h.1 (sym is ∙ h.2) in
     let both : true ≡ false = sym counted ∙ ap (λ (q : Phase). set.contains q.counted id) same ∙ h.3 in

@@ -42,7 +42,6 @@ pub fn worked()
 
     // A file holds what it says that it took.
     ensures not_held { WriteAppends {E = ℕ} (Some []) (Some []) (Ok 1) (7 ∷ []) → ⊥ }
-    ensures room_for_two { min (length (7 ∷ 8 ∷ 9 ∷ [])) 2 ≡ 2 }
 
     // Of an empty file no head is said to be there.
     ensures no_head { (r : RecorderState) (b : BookState) → r.begun ≡ true → r.broken ≡ false → r.file ≡ Some []

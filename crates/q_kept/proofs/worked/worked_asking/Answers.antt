@@ -6,7 +6,7 @@ use Rattle.q_kept.proofs.Looks.{due_at, no_powers, not_due_at, powers}
 use Rattle.q_kept.proofs.worked.worked_asking.Goals as goal
 
 pub returns-clause-not_counted : goal.returns-clause-not_counted
-returns-clause-not_counted c = λ n p e t h. not_counted n p 3 (3 ∷ 4 ∷ []) (CollectQuery 7) p e t h
+returns-clause-not_counted c = λ n p e t h. not_counted n p 3 (3 ∷ 4 ∷ []) (CollectQuery 7) e t h
 
 pub returns-clause-due : goal.returns-clause-due
 returns-clause-due c = λ v m e. (due_at 1 v m powers.0 e, due_at 2 v m powers.1 e, due_at 4 v m powers.2 e, due_at 8 v m powers.3 e)
