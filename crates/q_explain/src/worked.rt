@@ -9,7 +9,7 @@ ghost use Rattle.bq_flow.specs.declared.fault.FlowRule.TheVariants.{FallsOff};
 ghost use Rattle.bq_state.specs.declared.rule.Rule.TheVariants.{AnswerKind};
 ghost use Rattle.bq_check.specs.declared.fault.CheckFault.TheVariants as fault;
 ghost use Rattle.q_explain.specs.Known.{register_line, states_text};
-ghost use Rattle.q_explain.specs.Told.{IsTold};
+ghost use Rattle.q_explain.specs.Told.{IsTold, IsToldOfCode};
 
 /// A fault of an instruction is told, and no other. Of a register the line says its kind; of one of which nothing is known
 /// there is none, nor of any where no run comes.
@@ -25,4 +25,5 @@ pub fn worked()
     ensures rule { IsTold {X = ℕ} (fault.Rule 7 AnswerKind) None → ⊥ }
     ensures entry { IsTold {X = ℕ} fault.Entry (Some 7) → ⊥ }
     ensures out_of_memory { IsTold {X = ℕ} fault.OutOfMemory (Some 7) → ⊥ }
+    ensures exit_code { IsToldOfCode {X = ℕ} (149 ∷ 0 ∷ 0 ∷ 0 ∷ 0 ∷ 0 ∷ 0 ∷ 0 ∷ []) (fault.Flow 0 FallsOff) None → ⊥ }
 {}

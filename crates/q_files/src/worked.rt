@@ -23,6 +23,7 @@ pub fn worked()
     ensures read { (old new : Memory) (bytes : List ℕ) → bytes_of old.files (codes "a") ≡ Some (7 ∷ []) → Reads 8 old (codes "a") (Ok bytes) new → bytes ≡ 7 ∷ [] }
     ensures not_found { (old new : Memory) (bytes : List ℕ) → bytes_of old.files (codes "a") ≡ None → Reads 8 old (codes "a") (Ok bytes) new → ⊥ }
     ensures too_long { (old new : Memory) (bytes : List ℕ) → bytes_of old.files (codes "a") ≡ Some (7 ∷ 7 ∷ []) → Reads 1 old (codes "a") (Ok bytes) new → ⊥ }
+    ensures longest { (old new : Memory) → fails_next old.passing ≡ false → bytes_of old.files (codes "a") ≡ Some (7 ∷ 7 ∷ []) → Reads 2 old (codes "a") (Err fault.Failed) new → ⊥ }
     ensures written { (old new : Memory) → Writes old (codes "a") (7 ∷ []) (Ok (tt {0})) new → bytes_of new.files (codes "a") ≡ Some (7 ∷ []) }
     ensures others_stay { (old new : Memory) → Writes old (codes "a") (7 ∷ []) (Ok (tt {0})) new → bytes_of new.files (codes "b") ≡ bytes_of old.files (codes "b") }
 {}

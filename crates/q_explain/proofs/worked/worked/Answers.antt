@@ -1,6 +1,8 @@
 -- worked: a fault of an instruction is told, and no other.
-use Rattle.std.proofs.Common.{refl}
+use Rattle.std.proofs.Common.{◌∷◌, [], refl, inl, inr, lit≤}
 use Rattle.std.specs.Fmt.{digits}
+use Rattle.bq_insn.specs.Insn.{unit_bytes}
+use Rattle.bq_insn.specs.declared.insn.Insn.TheVariants.{Exit}
 use Rattle.q_explain.proofs.worked.worked.Goals as goal
 
 pub returns-clause-number : goal.returns-clause-number
@@ -26,3 +28,10 @@ returns-clause-length c = refl
 pub returns-clause-not_reached : goal.returns-clause-not_reached
 unfolding digits
 returns-clause-not_reached c = refl
+
+pub returns-clause-exit_code : goal.returns-clause-exit_code
+unfolding unit_bytes
+returns-clause-exit_code c = λ h. elim h [
+  | inl told ↦ told tt
+  | inr none ↦ none.0 (Exit ∷ []) (record { insns = (tt, tt); some = lit≤ tt; few = lit≤ tt }) refl
+]
