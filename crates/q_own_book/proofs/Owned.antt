@@ -1,5 +1,5 @@
 -- What the lock keeps true.
-use Rattle.std.proofs.Common.{◌≡◌, ℕ, List, Option, Some, None, ap, ◌∙◌}
+use Rattle.std.proofs.Common.{◌≡◌, ℕ, List, Option, Some, None, ap, ◌∙◌, subst, sym}
 use Rattle.std.proofs.Props.{props}
 use Rattle.std.specs.Io.KnownBytes.{Appends}
 use Rattle.std.proofs.Math.Logic.{∥∥₁_elim, ∥∥₁_map}
@@ -15,6 +15,10 @@ own_stays node first b c r s g own stays = record {
   id = ap (λ (h : Head). h.id) g.head ∙ own.id;
   recorded = ∥∥₁_map own.recorded stays;
 }
+
+-- of a book and a recorder that are as they were
+pub own_same : (node : ℕ) (first : Option (List ℕ)) (b c : BookState) (r s : RecorderState) → c ≡ b → s ≡ r → IsOwn node first b r → IsOwn node first c s
+own_same node first b c r s books recorders own = subst (λ (x : BookState). IsOwn node first x s) (sym books) (subst (IsOwn node first b) (sym recorders) own)
 
 -- what is known to be appended is so in one way
 pub appends_prop : (a b : Option (List ℕ)) (bytes : List ℕ) → IsProp (Appends a b bytes)

@@ -1,41 +1,68 @@
 //! What the one lock of a node keeps, and what is done under it.
 
-ghost use Rattle.std.specs.Prelude.{◌≡◌, ◌⊎◌, ℕ, List, Option, IsTrue};
+ghost use Rattle.std.specs.Prelude.{◌≡◌, ◌↔◌, ◌==◌, ℕ, List, [], length, map, Option, option_map, is_some, vec_items, true, false, not, IsTrue};
+ghost use Rattle.std.specs.List.{AllByRecursion};
 ghost use Rattle.sc_msg.specs.declared.message.Message.{Message as Sent};
+ghost use Rattle.q_desk.specs.Desks.{answer_of};
 ghost use Rattle.q_book.specs.State.{BookState};
+ghost use Rattle.q_held.specs.Held.{both_unsent, ended_by};
 ghost use Rattle.q_net.specs.Replies.{Replies};
 ghost use Rattle.q_net.specs.declared.replies.Reply.{Reply as Told};
 ghost use Rattle.q_net.specs.declared.request.Request.{Request as Asked};
 ghost use Rattle.q_recorder.specs.State.{RecorderState};
 ghost use Rattle.q_recorder.specs.Recording.{Grows};
+ghost use Rattle.q_kept.specs.Letters.{SpellsFirst};
+ghost use Rattle.q_kept.specs.Questions.{GoesAgain, due, kept_questions, looked_at};
 ghost use Rattle.q_clients.specs.Books.{HasEnded, IsBookOf};
 ghost use Rattle.q_clients.specs.Clients.{IsReplyOf};
 ghost use Rattle.q_console.specs.Console.{IsSaidToLeave, status_of};
 ghost use Rattle.q_console.specs.Journal.{IsKept};
+ghost use Rattle.q_own_book.specs.State.{state_of};
 ghost use Rattle.q_own_book.specs.Own.{IsOwn};
+ghost use Rattle.q_own_book.specs.Calls.{Finishes, HasEndedWritten, HearsAndSettles, LeavesAndSettles, RepliedSo, Settles, SettlesAfter, is_behind, is_open, is_told, is_written, said_to_leave, why_unwritten};
 
 use crate::start::Start;
-use q_book::Book;
+use q_book::{Book, BookFault};
 use q_clients::has_ended;
 use q_console::{Said, Status};
-use q_held::{Losses, Unsent};
+use q_desk::{Completed, DeskFault};
+use q_held::{Losses, Lost, Unsent};
 use q_kept::laws::held_books_grow;
 use q_kept::{Kept, Letter};
 use q_net::{Reply, Request, reply};
 use q_recorder::laws::{books_grow, recorded_stays};
 use q_recorder::{JournalFile, Recorder, Unrecorded};
+use q_session::Ran;
 use reasons::Reason;
 use sc_msg::Version;
 use std::alloc::Global;
-use std::marker::PhantomData;
+use std::marker::{Model, PhantomData};
 
 /// What the one lock of a node keeps: its book, which is its own, the recorder of the journal, and what goes again. The
-/// file holds, behind what it held at first, what the recorder counts of the book's journal.
+/// file holds, behind what it held at first, what the recorder counts of the book's journal. Contracts see it as the
+/// record of what is kept.
 #[derive(Drop)]
 pub struct Own<'b, J: JournalFile, S: Start> {
     kept: Kept<'b, J>,
     start: PhantomData<S>,
-    ghost own: { IsOwn S.id S.first kept.held.book kept.recorder },
+}
+
+impl<'b, J: JournalFile, S: Start> Model for Own<'b, J, S> {
+    ghost use Rattle.std.specs.Coded.{codes};
+    ghost use Rattle.sc_msg.specs.contracts.message.Message as message;
+    ghost use Rattle.q_board.specs.contracts.seats.AskerSeat as asker;
+    ghost use Rattle.q_book.specs.contracts.book.Book as book;
+    ghost use Rattle.q_kept.specs.contracts.question.Question as question;
+    ghost use Rattle.q_own_book.specs.State.{OwnState, state_of};
+    ghost use Rattle.q_own_book.specs.Own.{IsOwn};
+
+    ghost Value = { OwnState };
+
+    ghost coded = { Prim.hlevel (codes, message.the_row.coded, asker.the_row.coded, book.the_row.coded, question.the_row.coded) };
+
+    ghost view = { λ o. state_of o.kept };
+
+    ghost invariant = { λ o. IsOwn S.id S.first o.kept.held.book o.kept.recorder };
 }
 
 /// What came of a datagram.
@@ -94,7 +121,8 @@ fn replies_grow()
 
 /// Pumps and writes the journal: what is to be sent, or none where it is not written.
 fn settle_kept<J: JournalFile>(alloc: Global, kept: &mut Kept<'_, J>) -> Option<Vec<Letter>>
-    ensures { (node : ℕ) (first : Option (List ℕ)) → IsOwn node first kept.old.held.book kept.old.recorder → IsOwn node first kept.new.held.book kept.new.recorder }
+    ensures own { (node : ℕ) (first : Option (List ℕ)) → IsOwn node first kept.old.held.book kept.old.recorder → IsOwn node first kept.new.held.book kept.new.recorder }
+    ensures settled { Settles (state_of kept.old) (option_map vec_items result) (state_of kept.new) }
 {
     kept.settle(alloc)
 }
@@ -105,7 +133,8 @@ fn record_all<J: JournalFile>(
     book: &Book,
     recorder: &mut Recorder<J>,
 ) -> Result<usize, Unrecorded>
-    ensures { (node : ℕ) (first : Option (List ℕ)) → IsBookOf node book.now → IsOwn node first book.now recorder.old → IsKept node first recorder.new.file result }
+    ensures kept { (node : ℕ) (first : Option (List ℕ)) → IsBookOf node book.now → IsOwn node first book.now recorder.old → IsKept node first recorder.new.file result }
+    ensures finished { Finishes recorder.old book.now result recorder.new }
 {
     books_grow();
     match recorder.record(alloc, book) {
@@ -114,10 +143,98 @@ fn record_all<J: JournalFile>(
     }
 }
 
+/// Whether an operation ended.
+fn is_end(heard: Result<Option<Completed>, Lost>) -> bool
+    ensures { result ≡ is_some (ended_by heard) }
+{
+    matches!(heard, Ok(Some(_)))
+}
+
+/// Takes a message's bytes, and settles.
+fn hear_kept<J: JournalFile>(alloc: Global, kept: &mut Kept<'_, J>, bytes: &[u8]) -> Heard
+    ensures own { (node : ℕ) (first : Option (List ℕ)) → IsOwn node first kept.old.held.book kept.old.recorder → IsOwn node first kept.new.held.book kept.new.recorder }
+    ensures heard { HearsAndSettles bytes.now (state_of kept.old) result.has_ended (option_map vec_items result.letters) (state_of kept.new) }
+{
+    held_books_grow();
+    own_stays();
+    let heard = kept.held.hear(alloc, bytes);
+    Heard {
+        letters: settle_kept(alloc, kept),
+        has_ended: is_end(heard),
+    }
+}
+
+/// Does what a request asks, and settles.
+fn answer_kept<J: JournalFile>(alloc: Global, kept: &mut Kept<'_, J>, request: &Request) -> Answered
+    ensures own { (node : ℕ) (first : Option (List ℕ)) → IsOwn node first kept.old.held.book kept.old.recorder → IsOwn node first kept.new.held.book kept.new.recorder }
+    ensures replied { SettlesAfter (RepliedSo request.now result.said (state_of kept.old)) (state_of kept.old) (option_map vec_items result.letters) (state_of kept.new) }
+{
+    replies_grow();
+    own_stays();
+    let held = &mut kept.held;
+    let said = reply(alloc, &mut held.book, request, &mut held.waiting);
+    Answered {
+        said,
+        letters: settle_kept(alloc, kept),
+    }
+}
+
+/// Why the journal was not written at the last attempt.
+fn why_unwritten<J: JournalFile>(recorder: &Recorder<J>) -> Reason
+    ensures { result ≡ why_unwritten recorder.now }
+{
+    if recorder.is_broken() {
+        Reason::FileFailed
+    } else {
+        Reason::OutOfMemory
+    }
+}
+
+/// What is said to a leave that came to this, where the journal was written or not.
+fn said_to_leave<J: JournalFile>(
+    left: Result<(), BookFault>,
+    has_written: bool,
+    recorder: &Recorder<J>,
+) -> Said
+    ensures { result ≡ said_to_leave left has_written recorder.now }
+{
+    match left {
+        Ok(()) => {
+            if has_written {
+                Said::Done
+            } else {
+                Said::Refused(why_unwritten(recorder))
+            }
+        }
+        Err(fault) => Said::Refused(fault.reason()),
+    }
+}
+
+/// Leaves the cluster for good, and settles.
+fn leave_kept<J: JournalFile>(alloc: Global, kept: &mut Kept<'_, J>) -> Left
+    ensures own { (node : ℕ) (first : Option (List ℕ)) → IsOwn node first kept.old.held.book kept.old.recorder → IsOwn node first kept.new.held.book kept.new.recorder }
+    ensures left { LeavesAndSettles (state_of kept.old) result.said (option_map vec_items result.letters) (state_of kept.new) }
+{
+    held_books_grow();
+    own_stays();
+    let left = kept.held.leave();
+    let letters = settle_kept(alloc, kept);
+    let said = said_to_leave(left, letters.is_some(), &kept.recorder);
+    Left { said, letters }
+}
+
+/// Whether a query has no answer yet.
+fn is_open(answer: Result<Option<Ran>, DeskFault>) -> bool
+    ensures { result ≡ is_open answer }
+{
+    matches!(answer, Ok(None))
+}
+
 impl<'b, J: JournalFile, S: Start> Own<'b, J, S> {
     /// A node that was just begun.
     pub fn new(kept: Kept<'b, J>) -> Self
         requires { IsOwn S.id S.first kept.held.book kept.recorder }
+        ensures { result ≡ state_of kept.entry }
     {
         Own {
             kept,
@@ -127,9 +244,8 @@ impl<'b, J: JournalFile, S: Start> Own<'b, J, S> {
 
     /// The book.
     fn book(&self) -> &Book
-        ensures same { result.now ≡ self.now.kept.held.book }
+        ensures same { result.now ≡ self.now.book }
         ensures own { IsBookOf S.id result.now }
-        ensures here { IsBookOf S.id self.now.kept.held.book }
     {
         let book = &self.kept.held.book;
         let _journal = book.journal();
@@ -138,127 +254,139 @@ impl<'b, J: JournalFile, S: Start> Own<'b, J, S> {
     }
 
     /// Pumps and writes the journal: what is to be sent, or none where it is not written.
-    pub fn settle(&mut self, alloc: Global) -> Option<Vec<Letter>> {
+    pub fn settle(&mut self, alloc: Global) -> Option<Vec<Letter>>
+        ensures { Settles self.old (option_map vec_items result) self.new }
+    {
         settle_kept(alloc, &mut self.kept)
     }
 
     /// Takes a message's bytes, and settles.
-    pub fn hear(&mut self, alloc: Global, bytes: &[u8]) -> Heard {
-        held_books_grow();
-        own_stays();
-        let has_ended = matches!(self.kept.held.hear(alloc, bytes), Ok(Some(_)));
-        Heard {
-            letters: self.settle(alloc),
-            has_ended,
-        }
+    pub fn hear(&mut self, alloc: Global, bytes: &[u8]) -> Heard
+        ensures { HearsAndSettles bytes.now self.old result.has_ended (option_map vec_items result.letters) self.new }
+    {
+        hear_kept(alloc, &mut self.kept, bytes)
     }
 
     /// Does what a request asks, and settles.
     pub fn answer(&mut self, alloc: Global, request: &Request) -> Answered
-        ensures { IsReplyOf S.id request.now result.said }
+        ensures said { IsReplyOf S.id request.now result.said }
+        ensures replied { SettlesAfter (RepliedSo request.now result.said self.old) self.old (option_map vec_items result.letters) self.new }
     {
-        replies_grow();
-        own_stays();
         let _book = self.book();
-        let held = &mut self.kept.held;
-        let said = reply(alloc, &mut held.book, request, &mut held.waiting);
-        Answered {
-            said,
-            letters: self.settle(alloc),
-        }
+        answer_kept(alloc, &mut self.kept, request)
     }
 
     /// Leaves the cluster for good, and settles.
     pub fn leave(&mut self, alloc: Global) -> Left
-        ensures { IsSaidToLeave S.id result.said }
+        ensures said { IsSaidToLeave S.id result.said }
+        ensures left { LeavesAndSettles self.old result.said (option_map vec_items result.letters) self.new }
     {
-        held_books_grow();
-        own_stays();
         let _book = self.book();
-        let left = self.kept.held.leave();
-        let letters = self.settle(alloc);
-        match left {
-            Ok(()) if letters.is_some() => Left {
-                said: Said::Done,
-                letters,
-            },
-            Ok(()) => Left {
-                said: Said::Refused(self.why_unwritten()),
-                letters,
-            },
-            Err(fault) => Left {
-                said: Said::Refused(fault.reason()),
-                letters,
-            },
-        }
-    }
-
-    /// Why the journal was not written at the last attempt.
-    fn why_unwritten(&self) -> Reason
-        ensures { (result ≡ Reason.FileFailed) ⊎ (result ≡ Reason.OutOfMemory) }
-    {
-        if self.is_mute() {
-            Reason::FileFailed
-        } else {
-            Reason::OutOfMemory
-        }
+        leave_kept(alloc, &mut self.kept)
     }
 
     /// What goes again at this look, to these nodes.
-    pub fn again(&mut self, alloc: Global, nodes: &[u64]) -> Vec<Letter> {
+    pub fn again(&mut self, alloc: Global, nodes: &[u64]) -> Vec<Letter>
+        // Each letter is of a message that was given before, and goes to a node that its operation has not counted; or
+        // to all, where the node tells of itself.
+        ensures each { AllByRecursion (GoesAgain self.old.book.version self.old.book.node nodes.now self.old.questions) result.items }
+
+        // All that is due goes, in turn, up to the first for which memory is short.
+        ensures all { self.old.recorder.broken ≡ false
+            → SpellsFirst self.old.book.version (due self.old.book.version self.old.book.node nodes.now self.old.questions) result.items }
+        ensures questions { self.old.recorder.broken ≡ false
+            → self.new.questions ≡ map looked_at (kept_questions self.old.book.node self.old.questions) }
+
+        // Once mute, always mute.
+        ensures mute { self.old.recorder.broken ≡ true → (result.items ≡ []) × (self.new.questions ≡ self.old.questions) }
+
+        // Nothing else changes.
+        ensures same { self.new ≡ record self.old { questions = self.new.questions } }
+    {
         self.kept.again(alloc, nodes)
     }
 
     /// The version of the book.
-    pub fn version(&self) -> Version {
+    pub fn version(&self) -> Version
+        ensures { result ≡ self.now.book.version }
+    {
         self.kept.held.book.version()
     }
 
     /// Whether all events of the book are written.
-    fn is_written(&self) -> bool {
+    fn is_written(&self) -> bool
+        ensures { result ≡ is_written self.now }
+    {
         self.kept.recorder.written() == self.kept.held.book.events()
     }
 
+    /// Whether no message waits.
+    fn is_empty(&self) -> bool
+        ensures { result ≡ (length self.now.waiting == 0) }
+    {
+        self.kept.held.waiting.is_empty()
+    }
+
     /// Whether something waits that a settling may write or give.
-    pub fn is_behind(&self) -> bool {
-        !self.kept.held.waiting.is_empty() || !self.is_written()
+    pub fn is_behind(&self) -> bool
+        ensures { result ≡ is_behind self.now }
+    {
+        !self.is_empty() || !self.is_written()
     }
 
     /// Whether a write of the journal failed: the node says nothing any more.
-    pub fn is_mute(&self) -> bool {
+    pub fn is_mute(&self) -> bool
+        ensures { result ≡ self.now.recorder.broken }
+    {
         self.kept.is_mute()
+    }
+
+    /// Whether all events of the book are written, and no write failed.
+    fn is_told(&self) -> bool
+        ensures { result ≡ is_told self.now }
+    {
+        !self.is_mute() && self.is_written()
     }
 
     /// How the node is.
     pub fn status(&self) -> Status
-        ensures { (b : BookState) × IsBookOf S.id b × (result ≡ status_of b) }
+        ensures own { (b : BookState) × IsBookOf S.id b × (result ≡ status_of b) }
+        ensures status { result ≡ status_of self.now.book }
     {
         Status::of(self.book())
     }
 
     /// Whether the operation with this tag was begun and has ended, and that is written.
     pub fn has_ended(&self, tag: u64) -> bool
-        ensures { IsTrue result → HasEnded S.id tag }
+        ensures own { IsTrue result → HasEnded S.id tag }
+        ensures written { IsTrue result ↔ HasEndedWritten self.now tag }
     {
-        if self.is_mute() || !self.is_written() {
+        if !self.is_told() {
             return false;
         }
         has_ended(self.book(), tag)
     }
 
     /// Whether a query has its answer, or never will have one.
-    pub fn is_answered(&self, query: u64) -> bool {
-        !matches!(self.kept.held.book.answer(query as usize), Ok(None))
+    pub fn is_answered(&self, query: u64) -> bool
+        ensures { result ≡ not (is_open (answer_of self.now.book.desk query)) }
+    {
+        !is_open(self.kept.held.book.answer(query as usize))
     }
 
     /// Counts what was not sent.
-    pub fn count_unsent(&mut self, unsent: Unsent) {
+    pub fn count_unsent(&mut self, unsent: Unsent)
+        ensures { self.new ≡ record self.old { unsent = both_unsent self.old.unsent unsent } }
+    {
         self.kept.held.count_unsent(unsent);
     }
 
     /// Writes what the file lacks still, and ends the node.
     pub fn end(self, alloc: Global) -> Ended<J>
-        ensures { IsKept S.id S.first result.recorder.file result.events }
+        ensures kept { IsKept S.id S.first result.recorder.file result.events }
+        ensures finished { Finishes self.entry.recorder self.entry.book result.events result.recorder }
+        ensures lost { result.lost ≡ self.entry.lost }
+        ensures unsent { result.unsent ≡ self.entry.unsent }
     {
         let _book = self.book();
         let Own { kept, .. } = self;

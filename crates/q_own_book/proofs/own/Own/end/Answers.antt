@@ -1,5 +1,15 @@
 -- Own::end: writes what the file lacks still, and ends the node.
+use Rattle.std.proofs.Common.{◌∙◌, ap, subst, sym}
+use Rattle.q_clients.specs.Books.{IsBookOf}
+use Rattle.q_own_book.specs.State.{OwnState}
+use Rattle.q_own_book.proofs.Told.{finishes_at}
 use Rattle.q_own_book.proofs.own.Own.end.Goals as goal
 
-pub returns : goal.returns
-returns g c = c.record_all.ensures _ _ c.book-book.ensures.here c.args.self.own
+pub returns-clause-kept : goal.returns-clause-kept
+returns-clause-kept g c =
+    let b = c.book-book.ensures in
+    c.record_all.ensures.kept _ _ (subst (IsBookOf g.S.Start.id) (b.same ∙ sym (ap (λ (o : OwnState). o.book) c.self.view_is)) b.own) c.self.invariant
+
+pub returns-clause-finished : goal.returns-clause-finished
+returns-clause-finished g c =
+    finishes_at _ _ _ _ c.record_all.result _ (ap (λ (o : OwnState). o.recorder) c.self.view_is) (ap (λ (o : OwnState). o.book) c.self.view_is) c.record_all.ensures.finished
