@@ -42,8 +42,16 @@ not_dropped c b q view ran queries phase h =
     let lines : answers_of (b ∷ []) ≡ (line ++ []) ++ [] =
     (λ j. answer_lines b.id 0 (queries j) ++ []) ∙ (λ j. (answer_line b.id 0 (phase j) ++ []) ++ []) in
     let end : List ℕ = codes "journals ok\n" in
-    omega (arith, has_bytes b.id 0 view ran, ap length h.says, length-append (answers_of (b ∷ [])) (h.met ++ end), length-append h.met end, ap length lines,
-        length-append (line ++ []) [], length-append line [])
+    omega (
+      arith,
+      has_bytes b.id 0 view ran,
+      ap length h.says,
+      length-append (answers_of (b ∷ [])) (h.met ++ end),
+      length-append h.met end,
+      ap length lines,
+      length-append (line ++ []) [],
+      length-append line [],
+    )
 
 -- ---- beginnings
 
@@ -85,4 +93,4 @@ not_gathered names pairs old new h =
     let files : List ℕ = flat_map source_line tells.sources in
     let end : List ℕ = codes "journals ok\n" in
     other_end (files ++ (answers ++ met))
-        (h.2 ∙ tells.says ∙ ap (λ (x : List ℕ). files ++ x) (tells.tells.says ∙ sym (append_assoc answers met end)) ∙ sym (append_assoc files (answers ++ met) end))
+    (h.2 ∙ tells.says ∙ ap (λ (x : List ℕ). files ++ x) (tells.tells.says ∙ sym (append_assoc answers met end)) ∙ sym (append_assoc files (answers ++ met) end))

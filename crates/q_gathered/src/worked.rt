@@ -51,5 +51,5 @@ pub fn worked()
     // Where the line of a refusal was written, nothing is told as gathered.
     ensures not_gathered { (names : List (List ℕ)) (pairs : Bool) (old new : Memory)
         → IsWritten (Reads longest_journal) names pairs old (Some []) ending.Gathered new
-            (Some (codes "refused 87 FileFailed\n")) → ⊥ }
+        (Some (codes "refused 87 FileFailed\n")) → ⊥ }
 {}
