@@ -21,8 +21,8 @@ use Rattle.q_gathered.specs.Files as gathered
 use Rattle.q_gathered.specs.declared.ending.Ending as gathered_ending
 use Rattle.q_lines.specs.Runs as nodes
 use Rattle.q_node.specs.Files as node_files
-use Rattle.q_console.specs.Runs as node
-use Rattle.q_console.specs.declared.ending.Ending as node_ending
+use Rattle.q_node.specs.Runs as node
+use Rattle.q_node.specs.declared.ending.Ending as node_ending
 use Rattle.q_lines.specs.declared.ending.Ending.{Ending}
 
 -- a standard output: what it took so far, where that is known, and how many of its calls failed

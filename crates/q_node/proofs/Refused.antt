@@ -3,9 +3,9 @@ use Rattle.std.proofs.Common.{◌≡◌, ℕ, List, Option, inl, inr}
 use Rattle.q_script.specs.File.{IsFault}
 use Rattle.q_script.specs.declared.fault.ClusterFileFault.TheVariants.{OutOfMemory, Syntax}
 use Rattle.q_script.proofs.Refusals.{not_refused}
-use Rattle.q_console.specs.declared.ending.Ending.TheVariants as ending
-use Rattle.q_console.specs.declared.fault.StartFault.TheVariants.{FileFailed}
-use Rattle.q_console.proofs.Refusing as refusing
+use Rattle.q_node.specs.declared.ending.Ending.TheVariants as ending
+use Rattle.q_node.specs.declared.fault.StartFault.TheVariants.{FileFailed}
+use Rattle.q_node.proofs.Refusing as refusing
 use Rattle.q_node.specs.Files.{RunsText}
 
 -- a line that is faulty is not told as a file that is not read

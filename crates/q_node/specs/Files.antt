@@ -5,10 +5,10 @@ use Rattle.q_script.specs.File.{IsFault, Spells}
 use Rattle.q_script.specs.declared.fault.ClusterFileFault.{ClusterFileFault}
 use Rattle.q_script.specs.declared.file.ClusterFile.{ClusterFile}
 use Rattle.q_ports.specs.Datagrams.{address_of}
-use Rattle.q_console.specs.Faults.{fault_of}
-use Rattle.q_console.specs.Runs.{EndsRefused, IsWritten}
-use Rattle.q_console.specs.declared.ending.Ending.{Ending}
-use Rattle.q_console.specs.declared.fault.StartFault.TheVariants as fault
+use Rattle.q_node.specs.Faults.{fault_of}
+use Rattle.q_node.specs.Runs.{EndsRefused, IsWritten}
+use Rattle.q_node.specs.declared.ending.Ending.{Ending}
+use Rattle.q_node.specs.declared.fault.StartFault.TheVariants as fault
 
 -- the most bytes that the file of a cluster has
 abbrev pub longest_file : ℕ

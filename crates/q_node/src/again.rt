@@ -1,9 +1,9 @@
 //! The thread that asks again, and watches the limits of the book.
 
 use crate::process::{NAP, Process};
+use crate::start::Start;
 use crate::watch::Watch;
 use q_kept::Letter;
-use q_own_book::Start;
 use q_ports::Post;
 use q_recorder::JournalFile;
 use std::alloc::Global;

@@ -6,9 +6,9 @@ ghost use Rattle.q_clients.specs.Clients.{IsReplyOf, IsSaid};
 
 use crate::clock::has_passed;
 use crate::process::Process;
+use crate::start::Start;
 use q_clients::{Due, Serving, serve_node};
 use q_net::{Reply, Request};
-use q_own_book::Start;
 use q_ports::{PATIENCE, Post, Stream};
 use q_recorder::JournalFile;
 use q_wire::Counted;

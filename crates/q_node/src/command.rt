@@ -2,11 +2,12 @@
 
 ghost use Rattle.std.specs.Prelude.{◌≡◌};
 ghost use Rattle.q_node.specs.Files.{IsWrittenFile, RunsBytes, RunsNode, RunsText, longest_file};
-ghost use Rattle.q_console.specs.Runs.{IsRun, IsWritten, failures_after};
+ghost use Rattle.q_node.specs.Runs.{IsRun, IsWritten, failures_after};
 
+use crate::ending::{Ending, print_refusal};
+use crate::fault::StartFault;
 use crate::run::{Setup, run_node};
 use q_board::MOST_RUNNERS;
-use q_console::{Ending, StartFault, print_refusal};
 use q_files::{Files, LONGEST_TEXT};
 use q_ports::{ClientDoor, DoorAddress, PostFault, UdpPost, address_of};
 use q_recorder::DiskFile;

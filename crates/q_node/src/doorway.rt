@@ -2,7 +2,7 @@
 
 use crate::client::serve_stream;
 use crate::process::Process;
-use q_own_book::Start;
+use crate::start::Start;
 use q_ports::{Door, Post, Stream};
 use q_recorder::JournalFile;
 use std::alloc::Global;

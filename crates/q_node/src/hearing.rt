@@ -3,7 +3,7 @@
 ghost use Rattle.std.specs.Prelude.{◌≡◌, length};
 
 use crate::process::Process;
-use q_own_book::Start;
+use crate::start::Start;
 use q_ports::{FRONT, Post, Received};
 use q_recorder::JournalFile;
 use sc_msg::MOST_MESSAGE_BYTES;

@@ -3,7 +3,7 @@
 ghost use Rattle.std.specs.Prelude.{ℕ};
 
 use crate::process::Process;
-use q_own_book::Start;
+use crate::start::Start;
 use q_pool::Gate;
 use q_ports::Post;
 use q_recorder::JournalFile;

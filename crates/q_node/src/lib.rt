@@ -12,11 +12,33 @@
 //! | each client | a request | reads it without the lock; takes it under the lock, settles, sends; replies when it is due |
 //! | the caller's | a line of the console | `status`, `leave`, `end` |
 //!
-//! What the one lock keeps, and each call under it, stands in `q_own_book`; what is said at the console, and last, in
-//! `q_console`. All that may change the book ends with settling (`q_kept`): no message leaves before the journal that
-//! gave it is written, and no reply is given before either. After a write that failed the node is mute, which for the
-//! others is a crash. A client that sends nothing for a minute, or takes nothing for ten seconds, is closed; the end of
-//! a store is waited for ten seconds, and an answer one.
+//! All that may change the book ends with settling (`q_kept`): no message leaves before the journal that gave it is
+//! written, and no reply is given before either. After a write that failed the node is mute, which for the others is a
+//! crash. A client that sends nothing for a minute, or takes nothing for ten seconds, is closed; the end of a store is
+//! waited for ten seconds, and an answer one.
+//!
+//! # Under the lock
+//!
+//! What the one lock keeps is an [`Own`], a type that says whose it is: a book of this node, and behind what the
+//! journal's file held at first what the recorder counts of that book's journal. Each call of it is made while the lock
+//! is held, keeps that true, and says what it does to what is kept. What is to be sent comes out of settling, or
+//! nothing where the journal is not written. When the threads have ended [`Own::end`] writes what the file lacks.
+//!
+//! A lock gives no more of what it keeps than what the type says; so a call promises also what it answers of *some*
+//! book of this node: the reply to a request, the status, that an operation has ended, what is said to `leave`; and
+//! [`Own::end`] what the file holds then. The run of a node is written over a type with the node's id and what the file
+//! held first ([`Start`]), since the type of what a lock keeps cannot speak of values.
+//!
+//! # At the console, and last
+//!
+//! A line of the console is a [`Command`]; what the node says to it, which [`put_said`] writes, is a [`Said`]: its
+//! [`Status`], `ok`, or the line of a refusal. When the run has ended [`close`] writes the last line, by how the
+//! conversation ended ([`Talk`]) and how the journal was written, and answers the [`Ending`], which has the exit
+//! status. A node that does not begin for a [`StartFault`] says so by [`print_refusal`], and nothing else. Over any
+//! writer just these bytes are written, or a write failed, which is counted once; a status is that of the book that it
+//! was made of.
+//!
+//! # What is promised
 //!
 //! Proved of a run ([`run_node`], [`run_file`]), if it returns: what is printed, line for line, with each line of the
 //! console what a book of this node gives; and that the journal's file holds, behind what it held at first, the whole
@@ -29,15 +51,31 @@ mod again;
 mod client;
 mod clock;
 mod command;
+mod console;
 mod doorway;
+mod ending;
+mod fault;
 mod hearing;
 mod job;
+mod own;
 mod process;
 mod run;
+mod start;
+mod status;
 mod talk;
+mod talk_end;
 mod threads;
 mod watch;
 pub mod worked;
+pub mod worked_console;
+pub mod worked_own;
 
 pub use command::{NodeWords, run_file};
+pub use console::{Command, Said, put_said};
+pub use ending::{Ending, close, print_refusal};
+pub use fault::StartFault;
+pub use own::{Answered, Ended, Heard, Left, Own};
 pub use run::{NodeRun, Setup, run_node};
+pub use start::Start;
+pub use status::Status;
+pub use talk_end::Talk;

@@ -4,10 +4,11 @@ ghost use Rattle.std.specs.Prelude.{◌≡◌, IfSome, IsTrue};
 ghost use Rattle.q_clients.specs.Books.{HasEnded};
 ghost use Rattle.q_clients.specs.Clients.{IsReplyOf};
 
+use crate::own::Own;
+use crate::start::Start;
 use q_held::Unsent;
 use q_kept::Letter;
 use q_net::{Reply, Request};
-use q_own_book::{Own, Start};
 use q_ports::Post;
 use q_recorder::JournalFile;
 use q_wire::TransportFault;

@@ -3,12 +3,13 @@
 ghost use Rattle.std.specs.Prelude.{◌≡◌, ◌++◌, ◌∷◌, [], ℕ, List, IfSome, OnOk, OnErr};
 ghost use Rattle.std.specs.Io.KnownBytes.{Appends};
 ghost use Rattle.q_wire.specs.Counts.{count_after};
-ghost use Rattle.q_console.specs.Console.{IsSaid, IsSaidTo};
-ghost use Rattle.q_console.specs.Talks.{Greets, Obeys, Talks, Tells, talk_count};
+ghost use Rattle.q_node.specs.Console.{IsSaid, IsSaidTo};
+ghost use Rattle.q_node.specs.Talks.{Greets, Obeys, Talks, Tells, talk_count};
 
+use crate::console::{Command, Said, put_said};
 use crate::process::Process;
-use q_console::{Command, Said, Talk, put_said};
-use q_own_book::Start;
+use crate::start::Start;
+use crate::talk_end::Talk;
 use q_ports::Post;
 use q_recorder::JournalFile;
 use q_wire::{Counted, TransportFailed};

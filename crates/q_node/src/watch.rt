@@ -2,7 +2,7 @@
 
 ghost use Rattle.std.specs.Prelude.{◌≡◌};
 
-use q_console::Status;
+use crate::status::Status;
 use q_desk::{MOST_EVENTS, MOST_QUERIES};
 use std::io::Eprint;
 

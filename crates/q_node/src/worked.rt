@@ -3,8 +3,8 @@
 ghost use Rattle.std.specs.Prelude.{ℕ, List, Option};
 ghost use Rattle.q_script.specs.File.{IsFault};
 ghost use Rattle.q_script.specs.declared.fault.ClusterFileFault.TheVariants as cluster_fault;
-ghost use Rattle.q_console.specs.declared.ending.Ending.TheVariants as ending;
-ghost use Rattle.q_console.specs.declared.fault.StartFault.TheVariants as fault;
+ghost use Rattle.q_node.specs.declared.ending.Ending.TheVariants as ending;
+ghost use Rattle.q_node.specs.declared.fault.StartFault.TheVariants as fault;
 ghost use Rattle.q_node.specs.Files.{RunsText};
 
 /// A text with a faulty line is not told as a file that is not read.

@@ -1,7 +1,7 @@
 -- run_at: begins a node whose board this is, and runs it to its end.
 use Rattle.std.proofs.Common.{refl, subst, sym}
 use Rattle.q_recorder.specs.State.{RecorderState}
-use Rattle.q_own_book.specs.Own.{IsOwn}
+use Rattle.q_node.specs.Own.{IsOwn}
 use Rattle.q_node.proofs.run.run_at.Goals as goal
 
 pub returns-in_default-clause-journal : goal.returns-in_default-clause-journal

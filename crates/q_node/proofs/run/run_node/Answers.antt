@@ -2,8 +2,8 @@
 -- then.
 use Rattle.std.proofs.Common.{subst, sym}
 use Rattle.q_recorder.specs.State.{RecorderState}
-use Rattle.q_console.specs.Faults.{IsUnbegun}
-use Rattle.q_console.specs.Runs.{IsJournal}
+use Rattle.q_node.specs.Faults.{IsUnbegun}
+use Rattle.q_node.specs.Runs.{IsJournal}
 use Rattle.q_node.proofs.run.run_node.Goals as goal
 
 pub returns-in-Err-clause-journal : goal.returns-in-Err-clause-journal

@@ -2,7 +2,7 @@
 -- to each.
 use Rattle.std.proofs.Common.{[], refl, rules}
 use Rattle.std.proofs.KnownBytes.{Appends-nil}
-use Rattle.q_console.proofs.Conversing.{behind, said_more}
+use Rattle.q_node.proofs.Conversing.{behind, said_more}
 use Rattle.q_node.proofs.talk.converse.Goals as goal
 
 pub loop-init : goal.loop-init

@@ -1,5 +1,5 @@
 use Rattle.std.proofs.Common.{◌≡◌}
-use Rattle.q_console.specs.Console.{Converses}
+use Rattle.q_node.specs.Console.{Converses}
 use Rattle.q_node.proofs.talk.converse.Given as goal
 
 -- what was said so far was written, and no write failed

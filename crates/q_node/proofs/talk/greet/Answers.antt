@@ -1,5 +1,5 @@
 -- greet: writes where the node hears, and then what is said at the console.
-use Rattle.q_console.proofs.Conversing.{greets}
+use Rattle.q_node.proofs.Conversing.{greets}
 use Rattle.q_node.proofs.talk.greet.Goals as goal
 
 pub returns-clause-said : goal.returns-clause-said

@@ -1,5 +1,5 @@
 -- put_greeting: writes a line.
-use Rattle.q_console.proofs.Conversing.{behind_last}
+use Rattle.q_node.proofs.Conversing.{behind_last}
 use Rattle.q_node.proofs.talk.put_greeting.Goals as goal
 
 pub returns-clause-failed : goal.returns-clause-failed

@@ -1,0 +1,48 @@
+-- Why a node does not begin, and the reasons that are told.
+use Rattle.std.specs.Prelude.{◌≡◌, ◌≢◌, ◌≤◌, ℕ, true, None, Err}
+use Rattle.reasons.specs.declared.Reason.{Reason}
+use Rattle.reasons.specs.declared.Reason.TheVariants as reasons
+use Rattle.sc_msg.specs.declared.version.Version.TheVariants.{Second}
+use Rattle.q_sim.specs.declared.refusal.RefusalPlace.{RefusalPlace}
+use Rattle.q_sim.specs.declared.refusal.RefusalPlace.TheVariants.{Untold, Line}
+use Rattle.q_files.specs.declared.files.FileFault.{FileFault}
+use Rattle.q_files.specs.declared.files.FileFault.TheVariants as file_fault
+use Rattle.q_book.specs.Books.{founded}
+use Rattle.q_book.specs.Faults as book
+use Rattle.q_script.specs.File as cluster
+use Rattle.q_script.specs.File.{founder_ids}
+use Rattle.q_script.specs.declared.fault.ClusterFileFault.TheVariants.{Syntax}
+use Rattle.q_script.specs.declared.file.ClusterFile.{ClusterFile}
+use Rattle.q_ports.specs.Datagrams.{address_of}
+use Rattle.q_node.specs.declared.fault.StartFault.{StartFault}
+use Rattle.q_node.specs.declared.fault.StartFault.TheVariants as fault
+
+abbrev pub reason : StartFault → Reason
+reason fault.FileFailed = reasons.FileFailed
+reason (fault.Cluster f) = cluster.reason f
+reason fault.NoSuchNode = reasons.NoSuchNode
+reason fault.BadCount = reasons.BadCount
+reason (fault.Book f) = book.reason f
+reason fault.TransportFailed = reasons.TransportFailed
+reason fault.NoJournal = reasons.FileFailed
+reason fault.OutOfMemory = reasons.OutOfMemory
+
+-- the line of the file that is faulty is told
+abbrev pub place_of : StartFault → RefusalPlace
+place_of (fault.Cluster (Syntax line)) = Line line
+place_of f = Untold
+
+-- Why a node of this file with this id and so many runners does not begin: there are not 1 to 64 runners; the file lacks
+-- the node; or the file's founders are refused. Memory may run out at any time.
+abbrev pub IsUnbegun : ClusterFile → ℕ → ℕ → StartFault → Type 0
+IsUnbegun file id runners fault.BadCount = ¬ ((1 ≤ runners) × (runners ≤ 64))
+IsUnbegun file id runners fault.NoSuchNode = address_of file.nodes.items id ≡ None
+IsUnbegun file id runners (fault.Book f) =
+    f ≢ book.memory → founded Second file.config id (founder_ids file.nodes.items) ≡ Err f
+IsUnbegun file id runners fault.OutOfMemory = Unit {0}
+IsUnbegun file id runners f = ⊥
+
+-- how a file that is not read is told
+abbrev pub fault_of : FileFault → StartFault
+fault_of file_fault.Failed = fault.FileFailed
+fault_of file_fault.OutOfMemory = fault.OutOfMemory

@@ -1,0 +1,131 @@
+//! How the run of a node ends.
+
+ghost use Rattle.std.specs.Prelude.{◌≡◌, ◌++◌, ℕ, List, Option, OnOk, OnErr, codes, decimal};
+ghost use Rattle.std.specs.Io.KnownBytes.{Appends};
+ghost use Rattle.q_refused.specs.Line.{line_of};
+ghost use Rattle.q_recorder.specs.Faults as recorder;
+ghost use Rattle.q_sim.specs.declared.refusal.RefusalPlace.TheVariants.{Untold};
+ghost use Rattle.q_wire.specs.Counts.{count_after};
+ghost use Rattle.q_node.specs.Journal.{IsKept};
+ghost use Rattle.q_node.specs.Runs.{Closes, EndsRefused, IsJournal, IsWritten, failures_after, journal_line, status_of};
+ghost use Rattle.q_node.specs.Talks.{Talks, talk_count};
+ghost use Rattle.q_node.specs.declared.ending.Ending.TheVariants.{Refused};
+ghost use Rattle.q_node.specs.declared.fault.StartFault.{StartFault as Fault};
+
+use crate::fault::StartFault;
+use crate::talk_end::Talk;
+use itoa::Buffer;
+use q_recorder::Unrecorded;
+use q_refused::put_line;
+use q_sim::RefusalPlace;
+use q_wire::{Counted, TransportFailed};
+use std::io::Write;
+
+/// How the run of a node ended.
+#[derive(Clone, Copy, Debug, PartialEq, Eq)]
+pub enum Ending {
+    /// It was ended at its console, and its whole journal is written.
+    Ended {
+        /// How many events the journal has.
+        events: usize,
+    },
+    /// 87: its journal could not be written, and it was mute from then on. 99: memory ran out, or a thread could not be
+    /// started.
+    Stopped(Unrecorded),
+    /// It did not begin.
+    Refused(StartFault),
+    /// The output failed.
+    Unwritten,
+}
+
+impl Ending {
+    /// The exit status: 0 where the node was ended and its journal is whole, and else 1.
+    pub fn status(self) -> u8
+        ensures { result ≡ status_of self }
+    {
+        match self {
+            Ending::Ended { .. } => 0,
+            Ending::Stopped(_) | Ending::Refused(_) | Ending::Unwritten => 1,
+        }
+    }
+}
+
+/// Writes a number in decimal, and what stands behind it.
+fn put_number_on<W: Write>(out: &mut Counted<W>, events: usize) -> Result<(), TransportFailed>
+    ensures written { OnOk result (Appends (W.contents out.old.inner) (W.contents out.new.inner) (decimal events ++ codes " events\n")) }
+    ensures failed { OnErr result ((part : List ℕ) × Appends (W.contents out.old.inner) (W.contents out.new.inner) part) }
+    ensures counted { out.new.failures ≡ count_after result out.old.failures }
+{
+    let mut buffer = Buffer::new();
+    let digits = buffer.format(events);
+    out.put(digits.as_bytes())?;
+    out.put(b" events\n")
+}
+
+/// Writes how many events the journal has.
+fn put_events<W: Write>(out: &mut Counted<W>, events: usize) -> Result<(), TransportFailed>
+    ensures written { OnOk result (Appends (W.contents out.old.inner) (W.contents out.new.inner) (journal_line events)) }
+    ensures failed { OnErr result ((part : List ℕ) × Appends (W.contents out.old.inner) (W.contents out.new.inner) part) }
+    ensures counted { out.new.failures ≡ count_after result out.old.failures }
+{
+    out.put(b"journal ")?;
+    put_number_on(out, events)
+}
+
+/// Prints the last line of a node that ran, or could not be started.
+fn print_end<W: Write>(events: Result<usize, Unrecorded>, out: &mut Counted<W>) -> Ending
+    ensures written { Closes events (W.contents out.old.inner) result (W.contents out.new.inner) }
+    ensures counted { out.new.failures ≡ failures_after result out.old.failures }
+{
+    let (written, ending) = match events {
+        Ok(events) => (put_events(out, events), Ending::Ended { events }),
+        Err(fault) => (
+            put_line(out, fault.reason(), RefusalPlace::Untold),
+            Ending::Stopped(fault),
+        ),
+    };
+    match written {
+        Ok(()) => ending,
+        Err(_) => Ending::Unwritten,
+    }
+}
+
+/// Prints the last line of a node whose threads were not started, or whose journal could not be begun.
+fn close_unstarted<W: Write>(events: Result<usize, Unrecorded>, out: &mut Counted<W>) -> Ending
+    ensures written { (node : ℕ) (greeting : List ℕ) → IsWritten node greeting result (W.contents out.old.inner) (W.contents out.new.inner) }
+    ensures journal { (node : ℕ) (first file : Option (List ℕ)) → IsKept node first file events → IsJournal node first file result }
+    ensures begun { (fault : Fault) → result ≡ Refused fault → ⊥ }
+    ensures counted { out.new.failures ≡ failures_after result out.old.failures }
+{
+    let fault = events.err().unwrap_or(Unrecorded::OutOfMemory);
+    print_end(Err(fault), out)
+}
+
+/// Prints the last line of a run whose conversation ended so, and whose journal was written so.
+pub fn close<W: Write>(
+    talk: Talk,
+    events: Result<usize, Unrecorded>,
+    out: &mut Counted<W>,
+) -> Ending
+    ensures written { (node : ℕ) (greeting : List ℕ) (before : Option (List ℕ)) → Talks node greeting before talk (W.contents out.old.inner) → IsWritten node greeting result before (W.contents out.new.inner) }
+    ensures journal { (node : ℕ) (first file : Option (List ℕ)) → IsKept node first file events → IsJournal node first file result }
+    ensures begun { (fault : Fault) → result ≡ Refused fault → ⊥ }
+    ensures counted { (n : ℕ) → out.old.failures ≡ talk_count talk n → out.new.failures ≡ failures_after result n }
+{
+    match talk {
+        Talk::Ended => print_end(events, out),
+        Talk::Unstarted => close_unstarted(events, out),
+        Talk::Unwritten => Ending::Unwritten,
+    }
+}
+
+/// Prints why a node does not begin.
+pub fn print_refusal<W: Write>(fault: StartFault, out: &mut Counted<W>) -> Ending
+    ensures written { EndsRefused fault result (W.contents out.old.inner) (W.contents out.new.inner) }
+    ensures counted { out.new.failures ≡ failures_after result out.old.failures }
+{
+    match put_line(out, fault.reason(), fault.place()) {
+        Ok(()) => Ending::Refused(fault),
+        Err(_) => Ending::Unwritten,
+    }
+}
