@@ -11,7 +11,7 @@ use Rattle.q_held.specs.Held.{Asks, Delivers, Hears, Leaves, Receives, Stores}
 use Rattle.q_held.specs.declared.held.Lost.{Lost}
 use Rattle.q_held.specs.declared.held.Lost.TheVariants as lost
 use Rattle.q_held.specs.declared.losses.Losses.{Losses}
-use Rattle.q_recorder.specs.Recording.{Grows}
+use Rattle.q_kept.specs.Recording.{Grows}
 
 module _ (same : (b : BookState) → Grows b b) (call : (b c : BookState) (e : Entry) → Follows b e c → Grows b c) where
   grows_same : (b c : BookState) → c ≡ b → Grows b c

@@ -7,9 +7,9 @@ use Rattle.q_desk.specs.declared.journal.Entry.TheVariants as entry
 use Rattle.q_book.specs.State.{BookState}
 use Rattle.q_replay.specs.Spelling.{head_bytes}
 use Rattle.q_replay.specs.Journal.{head_of, entries_bytes, journal_of}
-use Rattle.q_recorder.specs.State.{RecorderState}
-use Rattle.q_recorder.specs.Recording.{Breaks, IsRecorded, Records, RecordsAll}
-use Rattle.q_recorder.specs.declared.fault.Unrecorded.TheVariants.{Failed, OutOfMemory}
+use Rattle.q_kept.specs.State.{RecorderState}
+use Rattle.q_kept.specs.Recording.{Breaks, IsRecorded, Records, RecordsAll}
+use Rattle.q_kept.specs.declared.fault.Unrecorded.TheVariants.{Failed, OutOfMemory}
 use Rattle.q_kept.specs.Giving.{Outbox}
 use Rattle.q_kept.specs.Settling.{GivesNone, GivesWritten}
 use Rattle.q_kept.specs.declared.letter.Letter.{Letter}

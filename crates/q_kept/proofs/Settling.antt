@@ -15,10 +15,10 @@ use Rattle.q_book.specs.Books.{by_desk, with_desk}
 use Rattle.q_book.specs.declared.fault.BookFault.{BookFault}
 use Rattle.q_pump.specs.Pumped.{Carries, HandsOut, Posts, Pumped, Stopped}
 use Rattle.q_replay.specs.Journal.{head_of, journal_of}
-use Rattle.q_recorder.specs.State.{RecorderState}
-use Rattle.q_recorder.specs.Recording.{Grows, IsRecorded, Records, RecordsAll}
-use Rattle.q_recorder.specs.declared.fault.Unrecorded.{Unrecorded}
-use Rattle.q_recorder.specs.declared.fault.Unrecorded.TheVariants.{Failed, OutOfMemory}
+use Rattle.q_kept.specs.State.{RecorderState}
+use Rattle.q_kept.specs.Recording.{Grows, IsRecorded, Records, RecordsAll}
+use Rattle.q_kept.specs.declared.fault.Unrecorded.{Unrecorded}
+use Rattle.q_kept.specs.declared.fault.Unrecorded.TheVariants.{Failed, OutOfMemory}
 use Rattle.q_kept.specs.Giving.{Gives, outbox}
 use Rattle.q_kept.specs.Settling.{GivesNone, GivesWritten, Pumps}
 use Rattle.q_kept.specs.declared.letter.Letter.{Letter}

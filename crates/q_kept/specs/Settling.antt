@@ -6,9 +6,9 @@ use Rattle.q_book.specs.State.{BookState}
 use Rattle.q_book.specs.declared.fault.BookFault.{BookFault}
 use Rattle.q_pump.specs.Pumped.{Pumped, Stopped}
 use Rattle.q_replay.specs.Journal.{journal_of}
-use Rattle.q_recorder.specs.State.{RecorderState}
-use Rattle.q_recorder.specs.Recording.{IsRecorded, Records, RecordsAll}
-use Rattle.q_recorder.specs.declared.fault.Unrecorded.{Unrecorded}
+use Rattle.q_kept.specs.State.{RecorderState}
+use Rattle.q_kept.specs.Recording.{IsRecorded, Records, RecordsAll}
+use Rattle.q_kept.specs.declared.fault.Unrecorded.{Unrecorded}
 use Rattle.q_kept.specs.Giving.{Gives, Outbox}
 use Rattle.q_kept.specs.declared.letter.Letter.{Letter}
 

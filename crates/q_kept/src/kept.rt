@@ -5,18 +5,20 @@ ghost use Rattle.std.specs.List.{AllByRecursion};
 ghost use Rattle.std.specs.Io.KnownBytes.{Appends};
 ghost use Rattle.q_book.specs.State.{BookState};
 ghost use Rattle.q_replay.specs.Journal.{journal_of};
-ghost use Rattle.q_recorder.specs.Recording.{Grows, IsRecorded, Records};
+ghost use Rattle.q_kept.specs.Recording.{Grows, IsRecorded, Records};
 ghost use Rattle.q_kept.specs.Giving.{outbox};
 ghost use Rattle.q_kept.specs.Letters.{SpellsFirst};
 ghost use Rattle.q_kept.specs.Questions.{GoesAgain, due, kept_questions, looked_at};
 ghost use Rattle.q_kept.specs.Settling.{GivesNone, GivesWritten, Pumps};
 
 use crate::again::ask_again;
+use crate::fault::Unrecorded;
+use crate::file::JournalFile;
 use crate::giving::give_waiting;
 use crate::letter::Letter;
 use crate::question::Question;
+use crate::recorder::Recorder;
 use q_held::Held;
-use q_recorder::{JournalFile, Recorder, Unrecorded};
 use std::alloc::Global;
 
 /// A node's book with the messages that wait, the recorder of its journal, and what goes again.

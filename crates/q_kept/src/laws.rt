@@ -10,10 +10,10 @@ ghost use Rattle.q_board.specs.AskerModel.{AskerModel};
 ghost use Rattle.q_held.specs.Held.{Asks, Hears, Leaves, Receives, Stores};
 ghost use Rattle.q_held.specs.declared.held.Lost.{Lost};
 ghost use Rattle.q_held.specs.declared.losses.Losses.{Losses as Counts};
-ghost use Rattle.q_recorder.specs.Recording.{Grows};
+ghost use Rattle.q_kept.specs.Recording.{Grows};
 ghost use Rattle.q_kept.specs.Settling.{Pumps};
 
-use q_recorder::laws::books_grow;
+use crate::laws_recorder::books_grow;
 
 /// The book grows by each call under the lock, so what its file holds is of its journal still.
 pub fn held_books_grow()

@@ -3,7 +3,7 @@ use Rattle.std.proofs.Common.{◌≡◌, ◌⊎◌, ℕ, List, [], ◌++◌, Opt
 use Rattle.std.specs.Io.KnownBytes.{Appends}
 use Rattle.std.proofs.KnownBytes.{Appends-trans}
 use Rattle.q_replay.specs.Journal.{journal_of}
-use Rattle.q_recorder.specs.declared.fault.Unrecorded.{Unrecorded}
+use Rattle.q_kept.specs.declared.fault.Unrecorded.{Unrecorded}
 use Rattle.q_node.specs.Journal.{HoldsBeginning, HoldsJournal, IsKept}
 use Rattle.q_node.specs.Runs.{Closes, IsFront, IsJournal, IsWritten, ending_of, failures_after, last_line}
 use Rattle.q_node.specs.Talks.{Talks, talk_count}

@@ -5,8 +5,8 @@ use Rattle.std.specs.Io.KnownBytes.{Appends}
 use Rattle.std.proofs.Math.Logic.{∥∥₁_elim, ∥∥₁_map}
 use Rattle.q_book.specs.State.{BookState}
 use Rattle.q_replay.specs.Head.{Head}
-use Rattle.q_recorder.specs.State.{RecorderState}
-use Rattle.q_recorder.specs.Recording.{Grows, IsRecorded}
+use Rattle.q_kept.specs.State.{RecorderState}
+use Rattle.q_kept.specs.Recording.{Grows, IsRecorded}
 use Rattle.q_node.specs.Own.{IsOwn}
 
 -- of a book that grew, with what was recorded of it

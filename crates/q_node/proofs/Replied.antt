@@ -17,7 +17,7 @@ use Rattle.q_net.specs.declared.request.Request.{Request}
 use Rattle.q_net.specs.declared.request.Request.TheVariants as request
 use Rattle.q_net.specs.declared.served.Registered.{Registered}
 use Rattle.q_net.specs.declared.served.Registered.TheVariants as registration
-use Rattle.q_recorder.specs.Recording.{Grows}
+use Rattle.q_kept.specs.Recording.{Grows}
 
 module _ (same : (b : BookState) → Grows b b) (call : (b c : BookState) (e : Entry) → Follows b e c → Grows b c) where
   grows_same : (b c : BookState) → c ≡ b → Grows b c

@@ -9,8 +9,8 @@ use Rattle.q_held.specs.declared.losses.Losses.{Losses}
 use Rattle.q_held.specs.declared.losses.Unsent.{Unsent}
 use Rattle.q_net.specs.declared.replies.Reply.{Reply}
 use Rattle.q_net.specs.declared.request.Request.{Request}
-use Rattle.q_recorder.specs.State.{RecorderState}
-use Rattle.q_recorder.specs.Recording.{Grows, IsRecorded}
+use Rattle.q_kept.specs.State.{RecorderState}
+use Rattle.q_kept.specs.Recording.{Grows, IsRecorded}
 use Rattle.q_kept.specs.Settling.{GivesNone, GivesWritten, Pumps}
 use Rattle.q_kept.specs.declared.letter.Letter.{Letter}
 use Rattle.q_kept.specs.declared.question.Question.{Question}

@@ -8,8 +8,8 @@ use Rattle.q_book.specs.State.{BookState}
 use Rattle.q_book.specs.Books.{left}
 use Rattle.q_book.specs.declared.fault.BookFault.{BookFault}
 use Rattle.q_held.specs.Held.{Leaves}
-use Rattle.q_recorder.specs.State.{RecorderState}
-use Rattle.q_recorder.specs.declared.fault.Unrecorded.{Unrecorded}
+use Rattle.q_kept.specs.State.{RecorderState}
+use Rattle.q_kept.specs.declared.fault.Unrecorded.{Unrecorded}
 use Rattle.q_kept.specs.declared.letter.Letter.{Letter}
 use Rattle.q_clients.specs.Books.{HasEndedIn, IsBookOf}
 use Rattle.q_node.specs.Console.{IsSaidToLeave}

@@ -3,8 +3,8 @@ use Rattle.std.specs.Prelude.{◌≡◌, ℕ, List, Option, length, Result, Ok, 
 use Rattle.std.specs.Io.KnownBytes.{Appends}
 use Rattle.q_book.specs.State.{BookState}
 use Rattle.q_replay.specs.Journal.{journal_of}
-use Rattle.q_recorder.specs.Recording.{AppendsPart}
-use Rattle.q_recorder.specs.declared.fault.Unrecorded.{Unrecorded}
+use Rattle.q_kept.specs.Recording.{AppendsPart}
+use Rattle.q_kept.specs.declared.fault.Unrecorded.{Unrecorded}
 use Rattle.q_clients.specs.Books.{IsBookOf}
 
 -- the file holds the whole journal of a book of the node, which has so many events

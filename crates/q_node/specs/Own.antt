@@ -1,8 +1,8 @@
 -- What the lock of a node keeps true.
 use Rattle.std.specs.Prelude.{◌≡◌, ℕ, List, Option}
 use Rattle.q_book.specs.State.{BookState}
-use Rattle.q_recorder.specs.State.{RecorderState}
-use Rattle.q_recorder.specs.Recording.{IsRecorded}
+use Rattle.q_kept.specs.State.{RecorderState}
+use Rattle.q_kept.specs.Recording.{IsRecorded}
 
 -- the book is this node's, and behind what the file held at first stands of its journal what the recorder counts, so that
 -- there is a part of the journal which stands there

@@ -6,8 +6,8 @@ use Rattle.std.specs.Io.KnownBytes.{Appends}
 use Rattle.q_sim.specs.declared.refusal.RefusalPlace.TheVariants.{Untold}
 use Rattle.q_refused.specs.Line.{line_of}
 use Rattle.q_wire.specs.Counts.{one_more}
-use Rattle.q_recorder.specs.Faults as recorder
-use Rattle.q_recorder.specs.declared.fault.Unrecorded.{Unrecorded}
+use Rattle.q_kept.specs.Faults as recorder
+use Rattle.q_kept.specs.declared.fault.Unrecorded.{Unrecorded}
 use Rattle.q_node.specs.Journal.{HoldsBeginning, HoldsJournal}
 use Rattle.q_node.specs.Console.{IsSaid, said_line}
 use Rattle.q_node.specs.Faults.{reason, place_of}

@@ -5,7 +5,7 @@ use Rattle.q_board.specs.AskerModel.{AskerModel}
 use Rattle.q_book.specs.State.{BookState}
 use Rattle.q_held.specs.declared.losses.Losses.{Losses}
 use Rattle.q_held.specs.declared.losses.Unsent.{Unsent}
-use Rattle.q_recorder.specs.State.{RecorderState}
+use Rattle.q_kept.specs.State.{RecorderState}
 use Rattle.q_kept.specs.Giving.{Outbox, outbox}
 use Rattle.q_kept.specs.declared.kept.Kept.{Kept}
 use Rattle.q_kept.specs.declared.question.Question.{Question}

@@ -3,7 +3,7 @@
 ghost use Rattle.std.specs.Prelude.{◌≡◌, ◌++◌, ℕ, List, Option, OnOk, OnErr, codes, decimal};
 ghost use Rattle.std.specs.Io.KnownBytes.{Appends};
 ghost use Rattle.q_refused.specs.Line.{line_of};
-ghost use Rattle.q_recorder.specs.Faults as recorder;
+ghost use Rattle.q_kept.specs.Faults as recorder;
 ghost use Rattle.q_sim.specs.declared.refusal.RefusalPlace.TheVariants.{Untold};
 ghost use Rattle.q_wire.specs.Counts.{count_after};
 ghost use Rattle.q_node.specs.Journal.{IsKept};
@@ -15,7 +15,7 @@ ghost use Rattle.q_node.specs.declared.fault.StartFault.{StartFault as Fault};
 use crate::fault::StartFault;
 use crate::talk_end::Talk;
 use itoa::Buffer;
-use q_recorder::Unrecorded;
+use q_kept::Unrecorded;
 use q_refused::put_line;
 use q_sim::RefusalPlace;
 use q_wire::{Counted, TransportFailed};

@@ -5,7 +5,7 @@ ghost use Rattle.reasons.specs.Table as table;
 ghost use Rattle.reasons.specs.declared.Reason.TheVariants as reasons;
 ghost use Rattle.q_script.specs.declared.file.ClusterFile.{ClusterFile as File};
 ghost use Rattle.q_script.specs.declared.fault.ClusterFileFault.TheVariants as cluster_fault;
-ghost use Rattle.q_recorder.specs.declared.fault.Unrecorded.TheVariants as unrecorded;
+ghost use Rattle.q_kept.specs.declared.fault.Unrecorded.TheVariants as unrecorded;
 ghost use Rattle.q_sim.specs.declared.refusal.RefusalPlace.TheVariants as place;
 ghost use Rattle.q_desk.specs.declared.journal.Entry.TheVariants as entry;
 ghost use Rattle.q_book.specs.State.{BookState};

@@ -1,6 +1,6 @@
 -- run_at: begins a node whose board this is, and runs it to its end.
 use Rattle.std.proofs.Common.{refl, subst, sym}
-use Rattle.q_recorder.specs.State.{RecorderState}
+use Rattle.q_kept.specs.State.{RecorderState}
 use Rattle.q_node.specs.Own.{IsOwn}
 use Rattle.q_node.proofs.run.run_at.Goals as goal
 

@@ -1,7 +1,7 @@
 -- run_node: runs a node until its console, or the console's input, ends it, and gives what its journal's file holds
 -- then.
 use Rattle.std.proofs.Common.{subst, sym}
-use Rattle.q_recorder.specs.State.{RecorderState}
+use Rattle.q_kept.specs.State.{RecorderState}
 use Rattle.q_node.specs.Faults.{IsUnbegun}
 use Rattle.q_node.specs.Runs.{IsJournal}
 use Rattle.q_node.proofs.run.run_node.Goals as goal

@@ -1,7 +1,7 @@
 -- What is not done, what is not told, and what is behind.
 use Rattle.std.proofs.Common.{ap}
 use Rattle.q_desk.specs.declared.journal.Entry.TheVariants.{HandOut, Leave}
-use Rattle.q_recorder.specs.State.{RecorderState}
+use Rattle.q_kept.specs.State.{RecorderState}
 use Rattle.q_node.proofs.Told.{not_one, undone}
 use Rattle.q_node.proofs.Waits.{behind_by, told_by, untold_by, wait_on}
 use Rattle.q_node.proofs.worked_own.worked.Goals as goal

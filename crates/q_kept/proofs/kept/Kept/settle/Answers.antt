@@ -2,7 +2,7 @@
 -- wait, as letters.
 use Rattle.std.proofs.Common.{◌∙◌, refl, sym, subst}
 use Rattle.q_book.specs.State.{BookState}
-use Rattle.q_recorder.specs.Recording.{Grows, IsRecorded}
+use Rattle.q_kept.specs.Recording.{Grows, IsRecorded}
 use Rattle.q_kept.proofs.Settling.{gives_none, gives_written, is_sound, pumps_after, pumps_either, pumps_grow, stays_broken}
 use Rattle.q_kept.proofs.kept.Kept.settle.Goals as goal
 

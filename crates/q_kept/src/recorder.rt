@@ -4,7 +4,7 @@ ghost use Rattle.std.specs.Prelude.{◌≡◌, ℕ, List, Option, Some, true, fa
 ghost use Rattle.std.specs.Io.KnownBytes.{Appends};
 ghost use Rattle.q_book.specs.State.{BookState};
 ghost use Rattle.q_replay.specs.Journal.{journal_of};
-ghost use Rattle.q_recorder.specs.Recording.{AppendsPart, Grows, IsRecorded, Records, lacking_bytes};
+ghost use Rattle.q_kept.specs.Recording.{AppendsPart, Grows, IsRecorded, Records, lacking_bytes};
 
 use crate::fault::Unrecorded;
 use crate::file::JournalFile;
@@ -27,7 +27,7 @@ pub struct Recorder<J: JournalFile> {
 }
 
 impl<J: JournalFile> Model for Recorder<J> {
-    ghost use Rattle.q_recorder.specs.State.{RecorderState};
+    ghost use Rattle.q_kept.specs.State.{RecorderState};
 
     ghost Value = { RecorderState };
 

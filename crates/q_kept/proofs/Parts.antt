@@ -6,7 +6,7 @@ use Rattle.std.proofs.KnownBytes.{Appends-nil, Appends-trans}
 use Rattle.std.specs.Prelude.{if◌then◌else◌}
 use Rattle.std.specs.List.{flat_map}
 use Rattle.std.specs.Io.KnownBytes.{Appends}
-use Rattle.q_recorder.specs.Recording.{AppendsPart}
+use Rattle.q_kept.specs.Recording.{AppendsPart}
 
 -- ---- beginnings that are appended
 

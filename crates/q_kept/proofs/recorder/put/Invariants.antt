@@ -1,6 +1,6 @@
 use Rattle.std.proofs.Common.{◌≡◌, ℕ, List, ◌++◌, length}
 use Rattle.std.specs.Io.KnownBytes.{Appends}
-use Rattle.q_recorder.proofs.recorder.put.Given as goal
+use Rattle.q_kept.proofs.recorder.put.Given as goal
 
 -- what was written and what is left
 abbrev pub invariant-loop-rest : goal.invariant-loop-rest

@@ -8,10 +8,10 @@ ghost use Rattle.q_desk.specs.declared.journal.Entry.TheVariants as entry;
 ghost use Rattle.q_book.specs.State.{BookState};
 ghost use Rattle.q_replay.specs.Spelling.{head_bytes};
 ghost use Rattle.q_replay.specs.Journal.{head_of, journal_of};
-ghost use Rattle.q_recorder.specs.State.{RecorderState};
-ghost use Rattle.q_recorder.specs.Faults.{reason};
-ghost use Rattle.q_recorder.specs.Recording.{Grows, IsKept, IsRecorded, Records, lacking_bytes, recorded_bytes};
-ghost use Rattle.q_recorder.specs.declared.fault.Unrecorded.TheVariants as fault;
+ghost use Rattle.q_kept.specs.State.{RecorderState};
+ghost use Rattle.q_kept.specs.Faults.{reason};
+ghost use Rattle.q_kept.specs.Recording.{Grows, IsKept, IsRecorded, Records, lacking_bytes, recorded_bytes};
+ghost use Rattle.q_kept.specs.declared.fault.Unrecorded.TheVariants as fault;
 
 /// What the definitions say at telling operands, of a book whose journal is a hand-out and a leave.
 #[tactic(auto, unfolding(sc_msg::specs::Numbers::number_bytes))]

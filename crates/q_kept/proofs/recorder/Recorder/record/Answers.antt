@@ -2,9 +2,9 @@
 -- entries behind those that are.
 use Rattle.std.proofs.Common.{rules}
 use Rattle.std.specs.Prelude.{Ok, Err}
-use Rattle.q_recorder.specs.declared.fault.Unrecorded.TheVariants.{Failed, OutOfMemory}
-use Rattle.q_recorder.proofs.Recorded.{recorded_next, whole_next}
-use Rattle.q_recorder.proofs.recorder.Recorder.record.Goals as goal
+use Rattle.q_kept.specs.declared.fault.Unrecorded.TheVariants.{Failed, OutOfMemory}
+use Rattle.q_kept.proofs.Recorded.{recorded_next, whole_next}
+use Rattle.q_kept.proofs.recorder.Recorder.record.Goals as goal
 
 -- it was broken before
 pub returns-then-self-clause-recorded : goal.returns-then-self-clause-recorded

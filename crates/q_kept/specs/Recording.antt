@@ -5,9 +5,9 @@ use Rattle.q_desk.specs.declared.journal.Entry.{Entry}
 use Rattle.q_book.specs.State.{BookState}
 use Rattle.q_replay.specs.Spelling.{head_bytes}
 use Rattle.q_replay.specs.Journal.{head_of, entries_bytes, journal_of}
-use Rattle.q_recorder.specs.State.{RecorderState}
-use Rattle.q_recorder.specs.declared.fault.Unrecorded.{Unrecorded}
-use Rattle.q_recorder.specs.declared.fault.Unrecorded.TheVariants.{Failed, OutOfMemory}
+use Rattle.q_kept.specs.State.{RecorderState}
+use Rattle.q_kept.specs.declared.fault.Unrecorded.{Unrecorded}
+use Rattle.q_kept.specs.declared.fault.Unrecorded.TheVariants.{Failed, OutOfMemory}
 
 -- ---- one call
 

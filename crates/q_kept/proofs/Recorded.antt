@@ -7,12 +7,12 @@ use Rattle.q_desk.specs.declared.journal.Entry.{Entry}
 use Rattle.q_book.specs.State.{BookState}
 use Rattle.q_replay.specs.Spelling.{head_bytes, event_bytes}
 use Rattle.q_replay.specs.Journal.{written_of, head_of, journal_of}
-use Rattle.q_recorder.specs.State.{RecorderState}
-use Rattle.q_recorder.specs.Recording.{AppendsPart, Breaks, Grows, IsRecorded, Records, RecordsAll, lacking_bytes, recorded_bytes}
-use Rattle.q_recorder.specs.declared.fault.Unrecorded.{Unrecorded}
-use Rattle.q_recorder.specs.declared.fault.Unrecorded.TheVariants.{Failed, OutOfMemory}
-use Rattle.q_recorder.proofs.Parts.{part_none, part_all, part_behind, there_and_lacking, there_whole}
-use Rattle.q_recorder.proofs.Growing.{recorded_stays}
+use Rattle.q_kept.specs.State.{RecorderState}
+use Rattle.q_kept.specs.Recording.{AppendsPart, Breaks, Grows, IsRecorded, Records, RecordsAll, lacking_bytes, recorded_bytes}
+use Rattle.q_kept.specs.declared.fault.Unrecorded.{Unrecorded}
+use Rattle.q_kept.specs.declared.fault.Unrecorded.TheVariants.{Failed, OutOfMemory}
+use Rattle.q_kept.proofs.Parts.{part_none, part_all, part_behind, there_and_lacking, there_whole}
+use Rattle.q_kept.proofs.GrownJournals.{recorded_stays}
 
 -- nothing is written yet
 pub recorded_none : (first : Option (List ℕ)) (b : BookState) (r : RecorderState) → r.file ≡ first → r.begun ≡ false → r.written ≡ 0 → IsRecorded first b r

@@ -8,8 +8,8 @@ use Rattle.q_desk.specs.declared.journal.Entry.TheVariants as entry
 use Rattle.q_book.specs.State.{BookState}
 use Rattle.q_replay.specs.Spelling.{head_bytes}
 use Rattle.q_replay.specs.Journal.{head_of, entries_bytes}
-use Rattle.q_recorder.specs.State.{RecorderState}
-use Rattle.q_recorder.specs.Recording.{Grows, IsRecorded, RecordsAll, lacking_bytes, recorded_bytes}
+use Rattle.q_kept.specs.State.{RecorderState}
+use Rattle.q_kept.specs.Recording.{Grows, IsRecorded, RecordsAll, lacking_bytes, recorded_bytes}
 
 -- behind an empty file the part is all that is there
 part_is : (file : Option (List ℕ)) (all part : List ℕ) → file ≡ Some all → Appends (Some []) file part → all ≡ part

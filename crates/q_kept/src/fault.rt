@@ -1,7 +1,7 @@
 //! Why a journal is not recorded, and the reason that is told of each.
 
 ghost use Rattle.std.specs.Prelude.{◌≡◌};
-ghost use Rattle.q_recorder.specs.Faults.{reason};
+ghost use Rattle.q_kept.specs.Faults.{reason};
 
 use reasons::{Reason, told};
 use std::alloc::AllocError;
@@ -25,7 +25,7 @@ impl Unrecorded {
 }
 
 impl From<AllocError> for Unrecorded {
-    ghost use Rattle.q_recorder.specs.declared.fault.Unrecorded.TheVariants.{OutOfMemory};
+    ghost use Rattle.q_kept.specs.declared.fault.Unrecorded.TheVariants.{OutOfMemory};
 
     ghost from_gives = { λ _ e. e ≡ OutOfMemory };
 

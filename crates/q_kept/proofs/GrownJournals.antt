@@ -10,9 +10,9 @@ use Rattle.q_book.proofs.Followed.{follows-next}
 use Rattle.q_replay.specs.Head.{Head}
 use Rattle.q_replay.specs.Spelling.{head_bytes, event_bytes}
 use Rattle.q_replay.specs.Journal.{written_of, head_of, entries_bytes, journal_of}
-use Rattle.q_recorder.specs.State.{RecorderState}
-use Rattle.q_recorder.specs.Recording.{AppendsPart, Grows, IsRecorded, recorded_bytes}
-use Rattle.q_recorder.proofs.Parts.{part_more, there_stays, more_behind}
+use Rattle.q_kept.specs.State.{RecorderState}
+use Rattle.q_kept.specs.Recording.{AppendsPart, Grows, IsRecorded, recorded_bytes}
+use Rattle.q_kept.proofs.Parts.{part_more, there_stays, more_behind}
 
 -- ---- books
 

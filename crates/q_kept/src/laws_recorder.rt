@@ -5,8 +5,8 @@ ghost use Rattle.std.specs.Prelude.{◌≡◌, ℕ, List, Option};
 ghost use Rattle.q_desk.specs.declared.journal.Entry.{Entry};
 ghost use Rattle.q_book.specs.State.{BookState};
 ghost use Rattle.q_book.specs.Replays.{Follows, Replays};
-ghost use Rattle.q_recorder.specs.State.{RecorderState};
-ghost use Rattle.q_recorder.specs.Recording.{Grows, IsRecorded};
+ghost use Rattle.q_kept.specs.State.{RecorderState};
+ghost use Rattle.q_kept.specs.Recording.{Grows, IsRecorded};
 
 /// A book grows by each call that it accepts.
 pub fn books_grow()

@@ -1,5 +1,0 @@
--- What stands in a file after writes of a journal, and how books grow.
-mod Parts
-mod Growing
-mod Recorded
-mod LeftOut

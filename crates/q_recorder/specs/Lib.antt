@@ -1,4 +1,0 @@
--- What a recorder does with the journal of a book.
-pub mod State
-pub mod Recording
-pub mod Faults
