@@ -1,4 +1,5 @@
 mod Auditing
+mod Commands
 mod Lines
 mod Lists
 mod Programs

@@ -2,3 +2,4 @@ pub mod Advice
 pub mod Audit
 pub mod Listing
 pub mod Perform
+pub mod Words

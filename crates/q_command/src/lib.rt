@@ -1,5 +1,8 @@
-//! The commands of the program `bqview`, over any files and any writer.
+//! The commands of the program `bqview`: the command line, and what each does over any files and any writer.
 //!
+//! - [`read_words`] reads the words of the command line with `clap`. Where it answers a command, that is the command with
+//!   the operands which `clap`'s rules find in the words. Its fault prints what is wrong with them, or the help, and has
+//!   the exit status that belongs to it.
 //! - [`carry_out`] runs a command over any [`Files`] and any writer, and says how it ended. Where it answered, the
 //!   writer took exactly the text that the command answers: the listing of the program that FILE spells; the assembler
 //!   text of its bytes; the longest path of that program, whose notes pass, what those notes know at each unit, and the
@@ -35,7 +38,9 @@ mod lister;
 mod perform;
 mod sources;
 mod told;
+mod words;
 pub mod worked;
+pub mod worked_words;
 
 pub use advising::{advice, nodes_advice};
 pub use auditor::audit;
@@ -44,3 +49,6 @@ pub use denied::Denied;
 pub use lister::listing;
 pub use perform::{LONGEST_JOURNAL, Outcome, carry_out};
 pub use sources::{certified, program, utf8};
+pub use words::{
+    FileCommand, NodeCommand, ProgramForm, VERSION, Wanted, WordsFault, given_words, read_words,
+};
