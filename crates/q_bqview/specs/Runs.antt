@@ -17,8 +17,8 @@ use Rattle.q_asker.specs.Runs as asker
 use Rattle.q_asker.specs.declared.ending.Ending as asker_ending
 use Rattle.q_command.specs.Perform as command
 use Rattle.q_command.specs.declared.perform.Outcome.{Outcome}
-use Rattle.q_gathered.specs.Files as gathered
-use Rattle.q_gathered.specs.declared.ending.Ending as gathered_ending
+use Rattle.q_command.specs.JournalFiles as gathered
+use Rattle.q_command.specs.declared.gathered_ending.Ending as gathered_ending
 use Rattle.q_lines.specs.Runs as nodes
 use Rattle.q_node.specs.Files as node_files
 use Rattle.q_console.specs.Runs as node

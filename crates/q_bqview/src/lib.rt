@@ -31,7 +31,7 @@
 //! [`read_words`]: q_command::read_words
 //! [`carry_out`]: q_command::carry_out
 //! [`run_file`]: q_nodes::run_file
-//! [`gather_files`]: q_gathered::gather_files
+//! [`gather_files`]: q_command::gather_files
 //! [`nodes_advice`]: q_command::nodes_advice
 #![tactic(auto)]
 

@@ -8,11 +8,10 @@ ghost use Rattle.q_bqview.specs.Runs.{CarriesOut, Does, Explains, Gathers, IsUng
 use crate::client::client_advice;
 use q_asker::Ending as ClientEnding;
 use q_command::{
-    Denied, FileCommand, NodeCommand, Wanted, WordsFault, carry_out, given_words, nodes_advice,
-    read_words,
+    Denied, FileCommand, NodeCommand, Wanted, WordsFault, carry_out, gather_files, given_words,
+    nodes_advice, read_words,
 };
 use q_files::Files;
-use q_gathered::gather_files;
 use q_lines::{Ending, NodesFault};
 use q_nodes::{FileRun, run_file};
 use q_refused::put_refusal;
