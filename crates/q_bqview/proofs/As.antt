@@ -3,9 +3,9 @@ use Rattle.std.proofs.Common.{◌≡◌, ℕ, Bool, List, Vec, Global, map, sym,
 use denote.Ref.{Bor}
 use Rattle.q_files.specs.Files.{Reading}
 use Rattle.q_sim.specs.Simulates.{Writing}
-use Rattle.q_words.specs.declared.words.Wanted.{Wanted}
-use Rattle.q_words.specs.declared.words.Wanted.TheVariants as wanted
-use Rattle.q_words.specs.declared.words.WordsFault.{WordsFault}
+use Rattle.q_command.specs.declared.words.Wanted.{Wanted}
+use Rattle.q_command.specs.declared.words.Wanted.TheVariants as wanted
+use Rattle.q_command.specs.declared.words.WordsFault.{WordsFault}
 use Rattle.q_bqview.specs.Runs.{Does, Explains, Gathers, Output}
 
 pub explained_as : (f g : WordsFault) (before : Output) (status : ℕ) (after : Output) → f ≡ g → Explains g before status after → Explains f before status after

@@ -7,18 +7,18 @@ use Rattle.q_sim.specs.Refusal.{refusal_line}
 use Rattle.q_sim.specs.Simulates.{Writing}
 use Rattle.q_sim.specs.declared.refusal.Refusal.TheVariants as refusal
 use Rattle.q_wire.specs.Counts.{one_more}
-use Rattle.q_words.specs.Words.{Reads, TellsUngiven, exit_status}
-use Rattle.q_words.specs.declared.words.FileCommand.{FileCommand}
-use Rattle.q_words.specs.declared.words.Wanted.{Wanted}
-use Rattle.q_words.specs.declared.words.Wanted.TheVariants as wanted
-use Rattle.q_words.specs.declared.words.WordsFault.{WordsFault}
-use Rattle.q_words.specs.declared.words.WordsFault.TheVariants.{Help, OutOfMemory}
+use Rattle.q_command.specs.Words.{Reads, TellsUngiven, exit_status}
+use Rattle.q_command.specs.declared.words.FileCommand.{FileCommand}
+use Rattle.q_command.specs.declared.words.Wanted.{Wanted}
+use Rattle.q_command.specs.declared.words.Wanted.TheVariants as wanted
+use Rattle.q_command.specs.declared.words.WordsFault.{WordsFault}
+use Rattle.q_command.specs.declared.words.WordsFault.TheVariants.{Help, OutOfMemory}
 use Rattle.q_asker.specs.Runs as asker
 use Rattle.q_asker.specs.declared.ending.Ending as asker_ending
 use Rattle.q_command.specs.Perform as command
 use Rattle.q_command.specs.declared.perform.Outcome.{Outcome}
-use Rattle.q_gathered.specs.Files as gathered
-use Rattle.q_gathered.specs.declared.ending.Ending as gathered_ending
+use Rattle.q_command.specs.JournalFiles as gathered
+use Rattle.q_command.specs.declared.gathered_ending.Ending as gathered_ending
 use Rattle.q_lines.specs.Runs as nodes
 use Rattle.q_node.specs.Files as node_files
 use Rattle.q_node.specs.Runs as node

@@ -28,10 +28,10 @@
 //! The program hands over the machine: its words, its files, its standard output, and its standard error as the notes.
 //! Why the system refuses a file is told on the standard error, too.
 //!
-//! [`read_words`]: q_words::read_words
+//! [`read_words`]: q_command::read_words
 //! [`carry_out`]: q_command::carry_out
 //! [`run_file`]: q_nodes::run_file
-//! [`gather_files`]: q_gathered::gather_files
+//! [`gather_files`]: q_command::gather_files
 //! [`nodes_advice`]: q_command::nodes_advice
 #![tactic(auto)]
 

@@ -2,20 +2,21 @@
 
 ghost use Rattle.std.specs.Prelude.{◌≡◌, ◌⊎◌, ℕ, List, IfOk, IfErr, map, string_bytes};
 ghost use Rattle.std.specs.Vec.Iter.{into_iter_items};
-ghost use Rattle.q_words.specs.Words.{exit_status};
+ghost use Rattle.q_command.specs.Words.{exit_status};
 ghost use Rattle.q_bqview.specs.Runs.{CarriesOut, Does, Explains, Gathers, IsUngiven, Puts, PutsMemory, Runs, RunsApart, RunsClient, RunsNodes};
 
 use crate::client::client_advice;
 use q_asker::Ending as ClientEnding;
-use q_command::{Denied, carry_out, nodes_advice};
+use q_command::{
+    Denied, FileCommand, NodeCommand, Wanted, WordsFault, carry_out, gather_files, given_words,
+    nodes_advice, read_words,
+};
 use q_files::Files;
-use q_gathered::gather_files;
 use q_lines::{Ending, NodesFault};
 use q_nodes::{FileRun, run_file};
 use q_refused::put_refusal;
 use q_sim::Refusal;
 use q_wire::Counted;
-use q_words::{FileCommand, NodeCommand, Wanted, WordsFault, given_words, read_words};
 use std::alloc::{AllocError, Global};
 use std::convert::AsStr;
 use std::env::Args;

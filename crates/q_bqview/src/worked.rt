@@ -2,7 +2,7 @@
 
 ghost use Rattle.std.specs.Prelude.{◌≡◌, ◌++◌, ℕ, List, [], Some, codes};
 ghost use Rattle.std.specs.Io.KnownBytes.{Appends};
-ghost use Rattle.q_words.specs.declared.words.WordsFault.TheVariants as fault;
+ghost use Rattle.q_command.specs.declared.words.WordsFault.TheVariants as fault;
 ghost use Rattle.q_bqview.specs.Runs.{Explains, Output, Puts};
 
 /// Where each text goes, and which exit status comes of it.

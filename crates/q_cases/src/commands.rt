@@ -1,11 +1,9 @@
 //! The files of cases, and what their commands print.
 
 use crate::line::CaseLine;
-use q_command::carry_out;
+use q_command::{FileCommand, Wanted, WordsFault, carry_out, gather_files, read_words};
 use q_files::{Files, LONGEST_TEXT, MemoryFiles};
-use q_gathered::gather_files;
 use q_wire::Counted;
-use q_words::{FileCommand, Wanted, WordsFault, read_words};
 use std::alloc::{AllocError, Global};
 use std::io;
 use std::io::Write;

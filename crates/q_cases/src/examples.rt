@@ -7,9 +7,9 @@
 //! The refusals are the rows `| NUMBER | NAME |` that `docs/REFUSALS.md` has. `./check-documents` looks them up there.
 
 use crate::commands::{explained, gathered_notes};
+use q_command::{FileCommand, Wanted, read_words};
 use q_files::{Files, Folder, LONGEST_TEXT};
 use q_wire::Counted;
-use q_words::{FileCommand, Wanted, read_words};
 use reasons::Reason;
 use std::alloc::Global;
 use std::io::{ErrorKind, Write};

@@ -1,9 +1,8 @@
 //! Commands whose writer fails.
 
-use q_command::{Outcome, carry_out};
+use q_command::{FileCommand, Outcome, carry_out};
 use q_files::{Files, MemoryFiles};
 use q_wire::Counted;
-use q_words::FileCommand;
 use std::alloc::Global;
 use std::io;
 use std::io::{ErrorKind, Write};

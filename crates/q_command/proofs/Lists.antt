@@ -3,7 +3,7 @@ use Rattle.std.proofs.Common.{◌≡◌, ℕ, List, string_bytes, subst}
 use Rattle.std.specs.Prelude.{Result, Ok, Err, IfOk}
 use Rattle.bq_insn.specs.declared.insn.Insn.{Insn}
 use Rattle.bq_range.specs.Interval.{Interval}
-use Rattle.q_words.specs.declared.words.ProgramForm.{ProgramForm}
+use Rattle.q_command.specs.declared.words.ProgramForm.{ProgramForm}
 use Rattle.q_command.specs.Perform.{AnswersFile, AnswersRun, Computes, ReadingOf, Spells}
 use Rattle.q_command.specs.declared.answer.Answer.{Answer}
 use Rattle.q_command.specs.declared.denied.Denied.{Denied}

@@ -6,8 +6,8 @@ use Rattle.bq_check.specs.declared.fault.CheckFault.{CheckFault}
 use Rattle.q_sim.specs.Programs.{IsUncertified}
 use Rattle.q_sim.specs.declared.refusal.Refusal.{Refusal}
 use Rattle.q_sim.specs.declared.refusal.Refusal.TheVariants.{Program, OutOfMemory}
-use Rattle.q_words.specs.declared.words.ProgramForm.{ProgramForm}
-use Rattle.q_words.specs.declared.words.ProgramForm.TheVariants.{Text, Bytes}
+use Rattle.q_command.specs.declared.words.ProgramForm.{ProgramForm}
+use Rattle.q_command.specs.declared.words.ProgramForm.TheVariants.{Text, Bytes}
 use Rattle.q_command.specs.Perform.{IsUnaccepted, IsUnspelled, Spells}
 
 -- memory runs out for a program that is spelled

@@ -9,7 +9,7 @@ use Rattle.q_sim.specs.declared.refusal.Refusal.TheVariants.{FileFailed, Script}
 use Rattle.q_command.specs.Perform.{IsUnsimulated, Refuses}
 use Rattle.q_command.specs.declared.denied.Denied.{Denied}
 use Rattle.q_files.specs.Files.{Reading}
-use Rattle.q_words.specs.declared.words.FileCommand.{FileCommand}
+use Rattle.q_command.specs.declared.words.FileCommand.{FileCommand}
 
 -- a script that is read is not run
 pub unsimulated_script : (bytes : List ℕ) (script : Events) (r : Refusal) → IsUtf8 bytes → IsScript bytes script → IsSimulationFault script.founding r

@@ -40,11 +40,11 @@ use Rattle.q_command.specs.declared.perform.Outcome.TheVariants.{Answered, Unsav
 use Rattle.q_command.specs.declared.perform.Work.{Work}
 use Rattle.q_command.specs.declared.perform.Work.TheVariants as work
 use Rattle.q_wire.specs.Counts.{one_more}
-use Rattle.q_words.specs.Words.{is_strict}
-use Rattle.q_words.specs.declared.words.FileCommand.{FileCommand}
-use Rattle.q_words.specs.declared.words.FileCommand.TheVariants.{Asm, Dis, Check, Run, Sim, Audit}
-use Rattle.q_words.specs.declared.words.ProgramForm.{ProgramForm}
-use Rattle.q_words.specs.declared.words.ProgramForm.TheVariants.{Text, Bytes}
+use Rattle.q_command.specs.Words.{is_strict}
+use Rattle.q_command.specs.declared.words.FileCommand.{FileCommand}
+use Rattle.q_command.specs.declared.words.FileCommand.TheVariants.{Asm, Dis, Check, Run, Sim, Audit}
+use Rattle.q_command.specs.declared.words.ProgramForm.{ProgramForm}
+use Rattle.q_command.specs.declared.words.ProgramForm.TheVariants.{Text, Bytes}
 use denote.Ref.{Bor}
 
 -- what a read of a name may answer, of a file of some kind, over files that stand thus before and after

@@ -6,6 +6,7 @@ ghost use Rattle.q_command.specs.Advice.{IsToldOf, Meets, IsExplained, is_of_nod
 use crate::denied::Denied;
 use crate::line::{line_of, text_of, write_form};
 use crate::sources::program;
+use crate::words::{FileCommand, ProgramForm};
 use bq_asm::AsmFault;
 use bq_check::CheckFault;
 use bq_insn::{DecodeFault, Text};
@@ -17,7 +18,6 @@ use q_explain::{
 use q_replay::ReplayFault;
 use q_script::{RecordFault, RecordsFault, ScriptFault};
 use q_sim::Refusal;
-use q_words::{FileCommand, ProgramForm};
 use std::alloc::{AllocError, Global};
 use std::str;
 

@@ -5,12 +5,12 @@ ghost use Rattle.q_explain.specs.Known.{states_text};
 ghost use Rattle.q_command.specs.Perform.{Accepts, IsUnaccepted, SavesNotes, acceptance};
 
 use crate::sources::certified;
+use crate::words::ProgramForm;
 use bq_check::{Certified, Notes};
 use bq_state::Bounds;
 use q_explain::states;
 use q_files::{FileFault, Files};
 use q_sim::{Printed, Refusal};
-use q_words::ProgramForm;
 use std::alloc::{AllocError, Global};
 
 /// What `check` is asked of the program in a file.

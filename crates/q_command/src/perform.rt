@@ -12,6 +12,7 @@ use crate::denied::Denied;
 use crate::lister::listing;
 use crate::sources::{certified, program, utf8};
 use crate::told::{tell_lines, tell_refusal};
+use crate::words::{FileCommand, ProgramForm};
 use bq_asm::disassemble;
 use bq_check::Certified;
 use bq_frame::Block;
@@ -22,7 +23,6 @@ use q_script::{Script, read_records};
 use q_session::run_fold;
 use q_sim::{Printed, Refusal, simulate};
 use q_wire::Counted;
-use q_words::{FileCommand, ProgramForm};
 use std::alloc::Global;
 use std::io::Write;
 

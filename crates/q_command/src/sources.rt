@@ -6,12 +6,12 @@ ghost use Rattle.bq_sound.specs.Passes.{Passes};
 ghost use Rattle.bq_verify.specs.Least.{AreLeast};
 ghost use Rattle.q_command.specs.Perform.{IsUnaccepted, IsUnspelled, Spells};
 
+use crate::words::ProgramForm;
 use bq_asm::assemble;
 use bq_check::Certified;
 use bq_insn::{Text, decode};
 use bq_state::Bounds;
 use q_sim::{Refusal, certified_text};
-use q_words::ProgramForm;
 use std::alloc::Global;
 use std::str;
 

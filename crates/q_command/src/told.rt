@@ -4,9 +4,9 @@ use crate::advising::advice;
 use crate::answer::Answer;
 use crate::denied::Denied;
 use crate::line::text_of;
+use crate::words::FileCommand;
 use q_refused::write_refused_line;
 use q_sim::RefusedLine;
-use q_words::FileCommand;
 use std::alloc::{AllocError, Global};
 use std::io::Write;
 

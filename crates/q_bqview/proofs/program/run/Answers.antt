@@ -3,9 +3,9 @@ use Rattle.std.proofs.Common.{◌≡◌, List, String, inr, map, refl, string_by
 use Rattle.std.specs.Prelude.{Err}
 use Rattle.std.specs.declared.alloc.Global.{Global}
 use Rattle.std.specs.Vec.Iter.{into_iter_items}
-use Rattle.q_words.specs.Words.{Reads, TellsUngiven}
-use Rattle.q_words.specs.declared.words.WordsFault.{WordsFault}
-use Rattle.q_words.specs.declared.words.WordsFault.TheVariants.{OutOfMemory}
+use Rattle.q_command.specs.Words.{Reads, TellsUngiven}
+use Rattle.q_command.specs.declared.words.WordsFault.{WordsFault}
+use Rattle.q_command.specs.declared.words.WordsFault.TheVariants.{OutOfMemory}
 use Rattle.q_bqview.specs.Runs.{Output, Runs}
 use Rattle.q_bqview.proofs.Given.{at_err, at_ok, of_given}
 use Rattle.q_bqview.proofs.program.run.Goals as goal

@@ -1,7 +1,7 @@
 -- program: the program that a file of this form spells.
 use Rattle.std.proofs.Common.{subst, sym}
 use Rattle.std.specs.Prelude.{IfOk, IfErr}
-use Rattle.q_words.specs.declared.words.ProgramForm.{ProgramForm}
+use Rattle.q_command.specs.declared.words.ProgramForm.{ProgramForm}
 use Rattle.q_command.specs.Perform.{IsUnspelled, Spells}
 use Rattle.q_command.proofs.sources.program.Goals as goal
 

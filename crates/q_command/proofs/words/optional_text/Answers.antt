@@ -1,0 +1,8 @@
+-- optional_text: the text of an option that may be left out, if it was given.
+use Rattle.std.proofs.Common.{◌∙◌}
+use Rattle.clap.specs.Words.{found_of}
+use Rattle.clap.proofs.WalkLemmas.{first_value-rows}
+use Rattle.q_command.proofs.words.optional_text.Goals as goal
+
+pub returns : goal.returns
+returns c = c.get_str.ensures ∙ first_value-rows (found_of c.args.found.now) c.args.name.now

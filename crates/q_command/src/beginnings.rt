@@ -1,0 +1,190 @@
+//! The longest beginning of bytes that is a journal.
+
+ghost use Rattle.std.specs.Prelude.{◌≡◌, ◌<◌, ◌≤◌, ◌-◌, ◌^◌, ◌∷◌, ◌++◌, [], ℕ, List, length, take, IfOk, IfErr, IfSome, IfNone, MatchBool, MatchOption};
+ghost use Rattle.sc_msg.specs.Numbers.{number_bytes};
+ghost use Rattle.q_replay.specs.Spelling.{event_bytes, IsWritten};
+ghost use Rattle.q_replay.specs.declared.raw_entry.RawEntry.{RawEntry};
+ghost use Rattle.q_replay.specs.Replayed.{IsFault};
+ghost use Rattle.q_command.specs.Beginning.{IsBeginning, IsAfter, IsCut, IsRefused};
+
+use q_book::Book;
+use q_replay::laws::{one_event, one_fault, one_head};
+use q_replay::{ReplayFault, read_event, read_head, replay};
+use sc_msg::Version;
+use std::alloc::{AllocError, Global};
+
+/// The journal with which some bytes begin.
+#[derive(Drop)]
+pub struct Journal {
+    /// The book of which it is the journal.
+    pub book: Book,
+    /// How many bytes it has.
+    pub kept: usize,
+}
+
+/// The longest beginning of the bytes that is a journal. What is left is nothing, or too little for an event.
+///
+/// Refused with what is first wrong: 57 with event 0, where no head stands first, also where the head is not whole; 57
+/// with the number of an event that is whole and of no form; 58 with that of an event that does not follow, or with 0
+/// where the head is refused. 99 OutOfMemory may stand in place of any answer.
+pub fn beginning(alloc: Global, bytes: &[u8]) -> Result<Journal, ReplayFault>
+    ensures begins { IfOk result (λ j. IsBeginning bytes.now (take j.kept bytes.now) j.book) }
+    ensures within { IfOk result (λ j. j.kept ≤ length bytes.now) }
+
+    // Bytes that have such a beginning are refused only where memory runs out.
+    ensures refused { IfErr result (IsRefused bytes.now) }
+{
+    match replay(alloc, bytes) {
+        Ok(book) => Ok(Journal {
+            book,
+            kept: bytes.len(),
+        }),
+        Err(fault) => beginning_before(alloc, bytes, fault),
+    }
+}
+
+/// The same of bytes that have this fault.
+fn beginning_before(alloc: Global, bytes: &[u8], fault: ReplayFault) -> Result<Journal, ReplayFault>
+    requires { IsFault bytes.now fault }
+    ensures begins { IfOk result (λ j. IsBeginning bytes.now (take j.kept bytes.now) j.book) }
+    ensures within { IfOk result (λ j. j.kept ≤ length bytes.now) }
+    ensures refused { IfErr result (IsRefused bytes.now) }
+{
+    one_head();
+    one_event();
+    one_fault();
+    match unread_event(fault) {
+        Some(event) => beginning_up_to(alloc, bytes, event),
+        None => Err(fault),
+    }
+}
+
+/// The event of which bytes with this fault have no form, if it is one.
+fn unread_event(fault: ReplayFault) -> Option<usize>
+    ensures { MatchOption result
+        ((event : ℕ) → 0 < event → fault ≡ ReplayFault.Form event → ⊥)
+        (λ event. (0 < event) × (fault ≡ ReplayFault.Form event)) }
+{
+    match fault {
+        ReplayFault::Form { event: 0 } => None,
+        ReplayFault::Form { event } => Some(event),
+        ReplayFault::Mismatch { .. } | ReplayFault::OutOfMemory => None,
+    }
+}
+
+/// The same of bytes in which this event is the first of which the bytes have no form.
+fn beginning_up_to(alloc: Global, bytes: &[u8], event: usize) -> Result<Journal, ReplayFault>
+    requires some { 0 < event }
+    requires is_fault { IsFault bytes.now (ReplayFault.Form event) }
+    ensures begins { IfOk result (λ j. IsBeginning bytes.now (take j.kept bytes.now) j.book) }
+    ensures within { IfOk result (λ j. j.kept ≤ length bytes.now) }
+    ensures refused { IfErr result (IsRefused bytes.now) }
+{
+    one_head();
+    one_event();
+    one_fault();
+    match after_events(alloc, bytes, event - 1) {
+        Ok(left) => beginning_without(alloc, bytes, event, left),
+        Err(_) => Err(ReplayFault::OutOfMemory),
+    }
+}
+
+/// The same where these are the bytes from that event on.
+fn beginning_without(
+    alloc: Global,
+    bytes: &[u8],
+    event: usize,
+    left: &[u8],
+) -> Result<Journal, ReplayFault>
+    requires some { 0 < event }
+    requires is_fault { IsFault bytes.now (ReplayFault.Form event) }
+    requires is_left { (version : Version) (rest : List ℕ) → IsAfter version bytes.now (event - 1) rest → left.now ≡ rest }
+    requires within { length left.now ≤ length bytes.now }
+    ensures begins { IfOk result (λ j. IsBeginning bytes.now (take j.kept bytes.now) j.book) }
+    ensures within { IfOk result (λ j. j.kept ≤ length bytes.now) }
+    ensures refused { IfErr result (IsRefused bytes.now) }
+{
+    one_head();
+    one_event();
+    one_fault();
+    if !is_cut(left) {
+        return Err(ReplayFault::Form { event });
+    }
+    let kept = bytes.len() - left.len();
+    // These are a journal: memory alone may be short.
+    match replay(alloc, &bytes[..kept]) {
+        Ok(book) => Ok(Journal { book, kept }),
+        Err(_) => Err(ReplayFault::OutOfMemory),
+    }
+}
+
+/// The bytes after a head and so many events, where these stand first. The one error is then that memory ran out.
+fn after_events(alloc: Global, bytes: &[u8], count: usize) -> Result<&[u8], AllocError>
+    ensures rest { (version : Version) (rest : List ℕ) → IsAfter version bytes.now count rest → IfOk result (λ r. r.now ≡ rest) }
+    ensures within { IfOk result (λ r. length r.now ≤ length bytes.now) }
+{
+    one_head();
+    one_event();
+    let (version, mut rest) = after_head(alloc, bytes)?;
+    for _ in 0..count {
+        rest = after_event(alloc, version, rest)?;
+    }
+    Ok(rest)
+}
+
+/// The version that a head tells, and what stands after it. There is a head: memory alone may be short.
+fn after_head(alloc: Global, bytes: &[u8]) -> Result<(Version, &[u8]), AllocError>
+    ensures { IfOk result (λ r. IsAfter r.0 bytes.now 0 r.1.now) }
+{
+    match read_head(alloc, bytes) {
+        Ok((head, rest)) => Ok((head.version, rest)),
+        Err(_) => Err(AllocError),
+    }
+}
+
+/// What stands after an event of that version. There is one: memory alone may be short.
+fn after_event(alloc: Global, version: Version, bytes: &[u8]) -> Result<&[u8], AllocError>
+    ensures { IfOk result (λ r. (w : RawEntry) × IsWritten version w × (bytes.now ≡ event_bytes version w ++ r.now)) }
+{
+    match read_event(alloc, version, bytes) {
+        Ok((_event, rest)) => Ok(rest),
+        Err(_) => Err(AllocError),
+    }
+}
+
+/// The first byte, and what stands after it; none where there is no byte.
+fn byte(bytes: &[u8]) -> Option<(u8, &[u8])>
+    ensures told { IfSome result (λ r. bytes.now ≡ r.0 ∷ r.1.now) }
+    ensures none { IfNone result (bytes.now ≡ []) }
+{
+    match bytes {
+        [byte, rest @ ..] => Some((*byte, rest)),
+        [] => None,
+    }
+}
+
+/// A number of four bytes, and what stands after it; none where the bytes are fewer.
+#[tactic(auto, unfolding(sc_msg::specs::Numbers::number_bytes))]
+fn word(bytes: &[u8]) -> Option<(u32, &[u8])>
+    ensures told { IfSome result (λ r. bytes.now ≡ number_bytes 4 r.0 ++ r.1.now) }
+    ensures fits { IfSome result (λ r. r.0 < 2 ^ 32) }
+    ensures none { IfNone result (length bytes.now < 4) }
+{
+    match bytes {
+        [a, b, c, d, rest @ ..] => Some((u32::from_le_bytes([*a, *b, *c, *d]), rest)),
+        _ => None,
+    }
+}
+
+/// Whether the bytes are too few for an event.
+fn is_cut(bytes: &[u8]) -> bool
+    ensures { MatchBool result (IsCut bytes.now) (IsCut bytes.now → ⊥) }
+{
+    let Some((_kind, rest)) = byte(bytes) else {
+        return true;
+    };
+    match word(rest) {
+        Some((told, body)) => body.len() < told as usize,
+        None => true,
+    }
+}

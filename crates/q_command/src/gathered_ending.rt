@@ -1,0 +1,29 @@
+//! How gathering files ends.
+
+ghost use Rattle.std.specs.Prelude.{◌≡◌};
+ghost use Rattle.q_command.specs.JournalFiles.{status_of};
+
+use q_sim::Refusal;
+
+/// How gathering files ended.
+#[derive(Clone, Copy)]
+pub enum Ending {
+    /// The journals gather, and what they tell was written.
+    Gathered,
+    /// This refusal was written.
+    Refused(Refusal),
+    /// The writer failed.
+    Unwritten,
+}
+
+impl Ending {
+    /// The exit status: 0 where the journals gather and all was written, and else 1.
+    pub fn status(self) -> u8
+        ensures { result ≡ status_of self }
+    {
+        match self {
+            Ending::Gathered => 0,
+            Ending::Refused(_) | Ending::Unwritten => 1,
+        }
+    }
+}

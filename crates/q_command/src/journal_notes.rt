@@ -1,0 +1,104 @@
+//! What explains why journals do not gather, for a person. No contract speaks of it, and that the notes take none
+//! changes nothing.
+
+use q_book::Book;
+use q_gather::GatherFault;
+use q_replay::ReplayFault;
+use std::io::Write;
+
+/// Says of the file with this name why it begins with no journal.
+pub(crate) fn note_journal<N: Write>(notes: &mut N, name: &str, fault: ReplayFault) {
+    let _ = match fault {
+        ReplayFault::Form { event: 0 } => {
+            writeln!(
+                notes,
+                "{name}: It does not begin with the head of a journal."
+            )
+        }
+        ReplayFault::Form { event } => writeln!(
+            notes,
+            "{name}: Event {event} is whole, and of no form of an event."
+        ),
+        ReplayFault::Mismatch { event: 0 } => writeln!(
+            notes,
+            "{name}: No node begins with this head: its fractions or founders are refused."
+        ),
+        ReplayFault::Mismatch { event } => writeln!(
+            notes,
+            "{name}: Event {event} does not follow: no node's calls give it there, or its answer is wrong."
+        ),
+        ReplayFault::OutOfMemory => Ok(()),
+    };
+}
+
+/// The place of the first book of which a later book is of the same node, and the place of that.
+fn twice(books: &[Book]) -> Option<(usize, usize)> {
+    for (place, book) in books.iter().enumerate() {
+        for (later, other) in books.iter().enumerate().skip(place + 1) {
+            if other.id() == book.id() {
+                return Some((place, later));
+            }
+        }
+    }
+    None
+}
+
+/// The name of the file at this place.
+fn name_at<'a>(names: &[&'a str], place: usize) -> &'a str {
+    match names.get(place) {
+        Some(name) => name,
+        None => "",
+    }
+}
+
+fn note_twice<N: Write>(notes: &mut N, names: &[&str], books: &[Book]) {
+    let Some((place, later)) = twice(books) else {
+        return;
+    };
+    let first = name_at(names, place);
+    let second = name_at(names, later);
+    let _ = writeln!(notes, "{first}, {second}: Both are journals of one node.");
+}
+
+/// Whether the books have the same version and the same fractions.
+fn is_alike(book: &Book, other: &Book) -> bool {
+    book.version() == other.version() && book.config() == other.config()
+}
+
+fn note_heads<N: Write>(notes: &mut N, names: &[&str], books: &[Book]) {
+    for (place, book) in books.iter().enumerate() {
+        if !is_alike(book, &books[0]) {
+            let name = name_at(names, place);
+            let first = name_at(names, 0);
+            let _ = writeln!(
+                notes,
+                "{name}: It has another version or other fractions than {first}."
+            );
+            return;
+        }
+    }
+    let _ = writeln!(
+        notes,
+        "The journal of a founder is missing, or the heads name other founders."
+    );
+}
+
+/// Says why the journals of the files with these names do not gather.
+pub(crate) fn note_gather<N: Write>(
+    notes: &mut N,
+    names: &[&str],
+    books: &[Book],
+    fault: GatherFault,
+) {
+    match fault {
+        GatherFault::IdUsed => note_twice(notes, names, books),
+        GatherFault::BadFounders => note_heads(notes, names, books),
+        GatherFault::NeverSent => {
+            let _ = writeln!(
+                notes,
+                "A message was delivered that none of these journals sent: one is missing, was cut, or is of another run."
+            );
+        }
+        GatherFault::Journal { .. } | GatherFault::OutOfMemory => {}
+    }
+}

@@ -1,8 +1,0 @@
-use Rattle.std.proofs.Common.{◌≡◌, ◌++◌, flat_map, map, string_bytes}
-use Rattle.q_gathered.specs.Lines.{store_text}
-use Rattle.q_gathered.proofs.Viewing.{shown}
-use Rattle.q_gathered.proofs.answers.print_view.Given as goal
-
--- the stores so far are printed
-abbrev pub invariant-loop-node : goal.invariant-loop-node
-invariant-loop-node l = string_bytes l.lines ≡ string_bytes l.initial.lines ++ flat_map store_text (map shown l.yielded)

@@ -1,7 +1,0 @@
--- every_gathered_answer_is_true: a law: whatever cluster the books gather into, by whatever order of their events,
--- each answer that the books record is recorded in it, and true.
-use Rattle.q_gathered.proofs.Telling.{all_true}
-use Rattle.q_gathered.proofs.laws.every_gathered_answer_is_true.Goals as goal
-
-pub returns : goal.returns
-returns c = all_true c.every_answer_is_true.ensures c.every_world_is_a_history.ensures c.regular.ensures.regular
