@@ -9,26 +9,52 @@
 //! | `put IDS ROUNDS` | newer values of known ids, in a view that alone has its chunks and in one that shares them |
 //! | `merge IDS ROUNDS` | two views as one, by how much the second tells; sharing a view, and reading it |
 //! | `deliver IDS ROUNDS` | a store message that reaches a node, by how much its view tells |
+//! | `hand JOBS` | one thread offers, takes, runs, finishes and polls each job, one behind the other |
+//! | `run JOBS RUNNERS` | one thread offers and polls, so many others take, run and finish |
+//! | `stores NODES COUNT FLIGHT` | so many stores at node 1 over sockets of loopback, FLIGHT of them open at once, without the start and the end of the nodes |
+//! | `asks NODES COUNT FLIGHT` | the same of queries, after one store |
+//! | `script NODES COUNT` | a script of so many stores at node 1, one after the other, as `bqview cluster` runs it |
+//! | `idle NODES` | four seconds of so many nodes that have nothing to do |
+//! | `answers COUNT` | so many requests of clients for an answer, read and replied to over memory |
+//! | `registrations COUNT` | so many registrations of a program of three units, each decoded and checked |
+//! | `gather NODES STORES` | founders that each stored so often, gathered by their journals and by their books |
 //!
-//! With the last three, views hold values of so many nodes, 1 to 256. The counts go to the standard output and are the
-//! same at each run; the times go to the standard error, and with the last three as nanoseconds of one call. With no
-//! words it does a small run of each. To give the parts work is all that its functions do, so they promise nothing more
-//! than that they end and are safe.
+//! The counts go to the standard output and are the same at each run; the times go to the standard error. With no words
+//! it does a small run of each, but of nodes that have nothing to do. To give the parts work is all that its functions
+//! do, so they promise nothing more than that they are safe, and that they end where they wait for nothing.
+//!
+//! With `put`, `merge` and `deliver`, views hold values of so many nodes, 1 to 256, and the times are told as
+//! nanoseconds of one call. With `hand` and `run` each job runs three instructions over one record, once over the job
+//! board and once through two queues, each behind a lock; with `hand`, the time of a job that is run where it is comes
+//! last, and what a job takes beyond that is its hand-over.
+//!
+//! Stores, queries and requests are each done five times, and the least time is told. The count is of what ended in
+//! each of the five, so that a store or a query that was left unanswered is missing there. The nodes that are gathered
+//! ran one after another and without sockets, until each had taken every message; the count is that of their events,
+//! and they are gathered once.
 #![tactic(auto)]
 
 mod asm;
+mod board;
 mod check;
 mod cluster;
 mod deliver;
 mod fold;
+mod gathers;
+mod jobs;
+mod measured;
 mod merge;
+mod nodes;
 mod put;
+mod queues;
+mod requests;
+mod service;
 mod sizes;
 mod store;
 mod values;
 
 use crate::sizes::size;
-use anyhow::{Result, bail};
+use anyhow::Result;
 use std::env;
 
 /// How large what is measured is, and how often it is done.
@@ -59,7 +85,7 @@ fn run(rt: &HostRuntime, word: &str, words: &[String]) -> Result<()> {
         "put" => put::run(rt, size_of(words, 256, 1)?),
         "merge" => merge::run(rt, size_of(words, 256, 1)?),
         "deliver" => deliver::run(rt, size_of(words, 256, 1)?),
-        _ => bail!("{word:?} is none of asm, check, fold, store, put, merge and deliver"),
+        _ => service::run_word(rt, word, words),
     }
 }
 
@@ -74,7 +100,7 @@ fn run_all(rt: &HostRuntime) -> Result<()> {
     for word in ["store", "put", "merge", "deliver"] {
         run(rt, word, &[])?;
     }
-    Ok(())
+    service::run_all(rt)
 }
 
 fn main(rt: HostRuntime) -> Result<()> {

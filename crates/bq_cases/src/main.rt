@@ -13,13 +13,18 @@
 //! | `operation`, `edge`, `mapped`, `load`, `join`, `meet` | [`range`]: ranges of words |
 //! | `after`, `edges`, `offsets` | [`state`]: what is known of registers |
 //! | `flow`, `verify`, `check`, `accept`, `certify`, `known`, `size`, `within` | [`check`]: flow, notes, certificates |
+//! | `calls` | [`calls`]: public calls that no other line makes |
+//! | `memory` | [`memory`]: calls that take memory, made once more where it is refused |
 //!
 //! In a source `/` stands for a line feed and `~` for a carriage return. Numbers are words in decimal digits, with `-`
-//! for what they are below 2^64. A line that asks for nothing of these is a comment.
+//! for what they are below 2^64. A line that asks for nothing of these is a comment. With a word behind its name the
+//! program does what `memory` does with this word alone, and reads no line.
 #![tactic(auto)]
 
+mod calls;
 mod changed;
 mod check;
+mod memory;
 mod range;
 mod raw;
 mod refusal;
@@ -32,7 +37,7 @@ mod words;
 use crate::run::Setting;
 use bq_frame::Block;
 use std::alloc::Global;
-use std::io;
+use std::{env, io};
 
 /// Prints what comes of a line, whose first word is `verb`.
 fn answer(
@@ -60,6 +65,8 @@ fn answer(
         "flow" | "verify" | "check" | "accept" | "certify" | "known" | "size" | "within" => {
             check::answer(rt, alloc, verb, rest)
         }
+        "calls" => calls::answer(rt, alloc, rest),
+        "memory" => memory::answer(rt, alloc, rest),
         _ => Ok(()),
     }
 }
@@ -91,7 +98,20 @@ fn tell_lines(
     Ok(())
 }
 
+/// The first word behind the program's name.
+fn first_word(rt: &HostRuntime) -> io::Result<Option<String>> {
+    Ok(env::args(rt)?.nth(1))
+}
+
 fn main(rt: HostRuntime) -> io::Result<()> {
     let alloc = rt.alloc();
-    tell_lines(&rt, alloc, &mut Setting::first(), &mut Block::new(alloc)?)
+    // It takes memory too, so it is asked for once more where it is refused.
+    let first = match first_word(&rt) {
+        Ok(word) => word,
+        Err(_) => first_word(&rt)?,
+    };
+    match first {
+        Some(name) => memory::answer(&rt, alloc, name.as_str()),
+        None => tell_lines(&rt, alloc, &mut Setting::first(), &mut Block::new(alloc)?),
+    }
 }

@@ -52,7 +52,7 @@ fn nothing_but(kind: Kind, lengths: Bounds) -> State {
     State::new(kinds, lengths)
 }
 
-fn of_views(kind: Kind) -> State {
+pub(crate) fn of_views(kind: Kind) -> State {
     nothing_but(kind, Bounds::of_views())
 }
 

@@ -35,7 +35,7 @@ pub(crate) fn print_decode_fault(rt: &impl Print, fault: DecodeFault) -> io::Res
     print_refusal(rt, fault.reason(), unit)
 }
 
-fn print_lines(rt: &impl Print, lines: &str) -> io::Result<()> {
+pub(crate) fn print_lines(rt: &impl Print, lines: &str) -> io::Result<()> {
     for line in lines.split_terminator('\n') {
         println!(rt; " {line}")?;
     }
@@ -61,7 +61,7 @@ fn print_bytes(rt: &impl Print, alloc: Global, bytes: &[u8]) -> io::Result<()> {
     print_text(rt, alloc, bytes)
 }
 
-fn print_assembled(rt: &impl Print, alloc: Global, text: &Text) -> io::Result<()> {
+pub(crate) fn print_assembled(rt: &impl Print, alloc: Global, text: &Text) -> io::Result<()> {
     print_bytes(rt, alloc, encode(alloc, text)?.as_slice())
 }
 
@@ -140,7 +140,7 @@ fn over(rt: &impl Print, alloc: Global, count: u64, line: &str) -> io::Result<()
 }
 
 /// The bytes of so many units `exit`.
-fn exit_bytes(alloc: Global, count: u64) -> Result<Vec<u8>, AllocError> {
+pub(crate) fn exit_bytes(alloc: Global, count: u64) -> Result<Vec<u8>, AllocError> {
     let mut bytes = Vec::new(alloc);
     for _ in 0..count {
         bytes.extend_from_slice(&EXIT)?;

@@ -84,17 +84,6 @@ fn pump_until_answered<R: Clock>(
     false
 }
 
-/// Asks a query, and pumps until it is answered. Whether it is.
-fn ask_and_answer<R: Clock>(
-    rt: &R,
-    asker: &mut Asker<'_>,
-    founder: &mut Founder,
-    query: usize,
-    looks: u64,
-) -> bool {
-    founder.ask(query as u64) && pump_until_answered(rt, asker, founder, query, looks)
-}
-
 /// Query 0 is answered first. Query 2 is asked once query 1 is held, and answered while it is; then query 1 is. Whether
 /// all are, and right.
 fn ask_three<R: Clock>(
@@ -104,11 +93,12 @@ fn ask_three<R: Clock>(
     signs: &Signs,
 ) -> bool {
     let looks = signs.looks;
-    let is_held = ask_and_answer(rt, asker, founder, 0, looks)
+    let is_held = founder.ask(0)
+        && pump_until_answered(rt, asker, founder, 0, looks)
         && founder.ask(1)
         && asker.pump(&mut founder.book).is_count()
         && wait_for(rt, &signs.began, looks);
-    if !(is_held && ask_and_answer(rt, asker, founder, 2, looks)) {
+    if !(is_held && founder.ask(2) && pump_until_answered(rt, asker, founder, 2, looks)) {
         return false;
     }
     signs.answered.store(true, SeqCst);

@@ -3,19 +3,14 @@
 use crate::console::{Mailbox, end_at, number_of};
 use crate::masks::{masked, spelled};
 use crate::plan::first;
-use crate::stage::Stage;
+use crate::stage::{Machine, Stage};
 use q_book::Book;
 use q_command::{beginning, gathered};
 use q_files::{Files, MemoryFiles};
 use q_node::{NodeWords, run_file};
 use q_sim::Refusal;
 use q_wire::{Counted, Transport};
-use std::fs::Files as SystemFiles;
-use std::io::{Eprint, Write};
-use std::net::{Net, TcpListener, TcpStream};
-use std::sync::Wait;
-use std::thread::Threads;
-use std::time::Clock;
+use std::io::Write;
 use std::{fs, io};
 
 /// The most bytes of a journal that are gathered.
@@ -24,15 +19,8 @@ const LONGEST_JOURNAL: usize = 1_000_000;
 /// The lines of the console of the command.
 const LINES: &[u8] = b"status\nend\n";
 
-impl<'s, R> Stage<'s, R>
+impl<'s, R: Machine> Stage<'s, R>
 where
-    R: Net<Listener = TcpListener, Stream = TcpStream>
-        + SystemFiles
-        + Wait
-        + Threads
-        + Clock
-        + Eprint
-        + Sync,
     R::File: Send,
 {
     /// The book of the beginning of a node's journal, if the node has ended; tells why it has none.

@@ -55,14 +55,9 @@ mod strangers;
 
 use crate::plan::Plan;
 use crate::sockets::{open, places, roles};
-use crate::stage::Stage;
+use crate::stage::{Machine, Stage};
 use std::alloc::Global;
-use std::fs::Files;
-use std::io::{Eprint, Input, Print, Write};
-use std::net::{Net, TcpListener, TcpStream};
-use std::sync::Wait;
-use std::thread::Threads;
-use std::time::Clock;
+use std::io::{Input, Print, Write};
 use std::{io, thread};
 
 /// Opens the sockets of a plan, and does these steps.
@@ -74,13 +69,7 @@ fn play<'a, R, W>(
     out: &mut W,
 ) -> io::Result<()>
 where
-    R: Net<Listener = TcpListener, Stream = TcpStream>
-        + Files
-        + Wait
-        + Threads
-        + Clock
-        + Eprint
-        + Sync,
+    R: Machine,
     R::File: Send,
     W: Write,
 {
@@ -113,13 +102,7 @@ where
 /// Runs the case of these lines.
 fn run_case<'a, R, W>(rt: &'a R, alloc: Global, lines: &'a [String], out: &mut W) -> io::Result<()>
 where
-    R: Net<Listener = TcpListener, Stream = TcpStream>
-        + Files
-        + Wait
-        + Threads
-        + Clock
-        + Eprint
-        + Sync,
+    R: Machine,
     R::File: Send,
     W: Write,
 {

@@ -3,15 +3,11 @@
 use crate::clients::bytes_of;
 use crate::plan::first;
 use crate::sockets::NUMBER;
-use crate::stage::{LOOKS, NAP, Stage, place_of};
+use crate::stage::{LOOKS, Machine, NAP, Stage, place_of};
 use q_ports::{Post, UdpPost};
-use std::fs::Files;
-use std::io::{Eprint, Write};
-use std::net::{Net, TcpListener, TcpStream};
-use std::sync::Wait;
+use std::io::Write;
 use std::sync::atomic::Ordering::SeqCst;
-use std::thread::Threads;
-use std::time::{Clock, Duration};
+use std::time::Duration;
 use std::{io, thread};
 
 /// Sends bytes to a node from a socket, behind this number of a run. Whether they were sent.
@@ -22,16 +18,7 @@ fn send_as(post: &mut UdpPost, number: u64, to: u64, bytes: &[u8]) -> bool {
     sent
 }
 
-impl<'s, R> Stage<'s, R>
-where
-    R: Net<Listener = TcpListener, Stream = TcpStream>
-        + Files
-        + Wait
-        + Threads
-        + Clock
-        + Eprint
-        + Sync,
-{
+impl<'s, R: Machine> Stage<'s, R> {
     /// The socket of a node that was not started, or that of the stranger.
     fn socket(&mut self, id: u64) -> &mut UdpPost {
         match self.roles.get_mut(place_of(id)) {

@@ -1,5 +1,5 @@
 use Rattle.std.proofs.Common.{◌≡◌}
-use Rattle.q_bench.proofs.board.offer_all.Given as goal
+use Rattle.bench.proofs.board.offer_all.Given as goal
 
 abbrev pub invariant-loop-job : goal.invariant-loop-job
 invariant-loop-job g l = record { board : l.asker.table ≡ l.initial.asker.table }
