@@ -7,3 +7,4 @@ mod Gathering
 mod Truth
 mod Reading
 mod Endings
+mod Untold

@@ -4,6 +4,7 @@ ghost use Rattle.std.specs.Prelude.{◌≡◌, ℕ, true, false, List, [], ◌�
 ghost use Rattle.std.specs.declared.alloc.Global.{Global};
 ghost use Rattle.reasons.specs.Table as table;
 ghost use Rattle.bq_check.specs.Certificate.{Certificate};
+ghost use Rattle.sc_msg.specs.declared.version.Version.TheVariants as version;
 ghost use Rattle.sc_node.specs.declared.answer.Begun.{Begun as Started};
 ghost use Rattle.q_session.specs.declared.query.Query.{Query};
 ghost use Rattle.q_session.specs.declared.ran.Ran.{Ran};
@@ -11,7 +12,9 @@ ghost use Rattle.q_desk.specs.Desks.{answer_in};
 ghost use Rattle.q_book.specs.State.{BookState};
 ghost use Rattle.q_book.specs.Books.{registered, stored};
 ghost use Rattle.q_book.specs.declared.fault.BookFault.TheVariants as book;
+ghost use Rattle.q_cluster.specs.Acts.{book_at};
 ghost use Rattle.q_files.specs.declared.files.FileFault.TheVariants as file;
+ghost use Rattle.q_gather.specs.Gather.{Agree};
 ghost use Rattle.q_gather.specs.declared.fault.GatherFault.TheVariants as gather;
 ghost use Rattle.q_history.specs.State.{ClusterState};
 ghost use Rattle.q_script.specs.declared.founding.Founding.{Founding};
@@ -24,7 +27,7 @@ ghost use Rattle.q_sim.specs.declared.refusal.RefusalPlace.TheVariants as place;
 ghost use Rattle.q_lines.specs.Books.{BeginsStore, IsBookOf, Registers};
 ghost use Rattle.q_lines.specs.Faults as faults;
 ghost use Rattle.q_lines.specs.Lines.{ComesTo, IsNode, IsQueryOf, IsTold, program_id, refused_line, tally_of, text_of};
-ghost use Rattle.q_lines.specs.Runs.{IsRefusedAlone, IsWrittenFile, IsWrittenOf, failures_after, ids_to, status_of};
+ghost use Rattle.q_lines.specs.Runs.{IsRefusedAlone, IsTelling, IsWrittenFile, IsWrittenOf, failures_after, ids_to, status_of};
 ghost use Rattle.q_lines.specs.Scripts.{Fits, IsClusterScript, IsUnfit, SpellsLine};
 ghost use Rattle.q_lines.specs.declared.ending.Ending.TheVariants as ending;
 ghost use Rattle.q_lines.specs.declared.fault.NodesFault.{NodesFault};
@@ -50,6 +53,11 @@ pub fn worked()
     ensures never_sent { table.number (faults.reason (faults.of_gather gather.NeverSent)) ≡ 82 }
     ensures at_a_line { faults.place (Script (refusal.Script (script_fault.Syntax 7))) ≡ place.Line 7 }
     ensures nowhere { faults.place BadCount ≡ place.Untold }
+
+    // The nodes are counted from 1.
+    ensures first { IsNode 3 1 }
+    ensures last { IsNode 3 3 }
+    ensures fourth { IsNode 3 4 → ⊥ }
 
     // A number that is too large is that of no program.
     ensures greatest_program { program_id 4294967296 ≡ 4294967295 }
@@ -93,8 +101,22 @@ pub fn worked_lines()
     ensures outside { (nodes node : ℕ) (value : Vec ℕ Global) (c : ClusterState) (r : Tells) → (IsNode nodes node → ⊥) → IsTold nodes c (line.Store node value) r → r ≡ report.Refused faults.no_such_node }
     ensures inside { (nodes node : ℕ) (value : Vec ℕ Global) (c : ClusterState) → IsNode nodes node → IsTold nodes c (line.Store node value) (report.Refused faults.no_such_node) → ⊥ }
     ensures answered { (nodes : ℕ) (c : ClusterState) (r : Ran) → IsTold nodes c (line.Ask 2 3 7) (report.Asked 2 0 (Some r)) → (q : Query) × IsQueryOf c 2 0 3 7 q × (Some r ≡ answer_in q.phase) }
+    ensures another_program { (nodes : ℕ) (c : ClusterState) (b : BookState) (q : Query) (answer : Option Ran)
+        → book_at c 2 ≡ Some b → b.desk.queries ≡ q ∷ [] → q.program ≡ 7
+        → IsTold nodes c (line.Ask 2 3 7) (report.Asked 2 0 answer) → ⊥ }
     ensures another_line { (nodes tag : ℕ) (c : ClusterState) → IsTold nodes c (line.Ask 2 3 7) (report.Stored tag true) → ⊥ }
     ensures another_outcome { (nodes tag : ℕ) → ComesTo nodes (line.Ask 2 3 7) (outcome.Stored tag) → ⊥ }
+{}
+
+/// Of which books lines are told as of one cluster.
+pub fn worked_books()
+    // Of books of two versions they never are; and of a lone founder whose book agrees with its script, it is never
+    // told that it does not gather.
+    ensures ungathered { (s : ClusterScript) (b c : BookState) (t : Counts) (text : List ℕ)
+        → b.version ≡ version.First → c.version ≡ version.Second → IsTelling s (b ∷ c ∷ []) t None text → ⊥ }
+    ensures gathers { (s : ClusterScript) (b : BookState) (t : Counts) (text : List ℕ) → s.nodes ≡ 1
+        → s.config ≡ b.config → s.lines.items ≡ [] → b.founders ≡ Some (1 ∷ []) → Agree (b ∷ [])
+        → IsTelling s (b ∷ []) t (Some faults.bad_founders) text → ⊥ }
 {}
 
 /// Which scripts are taken, and how runs end.

@@ -1,4 +1,4 @@
--- 81 is told just where there is no such node.
+-- worked_lines: 81 is told just where there is no such node, and no answer of another program.
 use Rattle.std.proofs.Common.{◌≡◌, ℕ, Vec, Global, inl, inr, ap}
 use Rattle.q_book.specs.declared.fault.BookFault.{BookFault}
 use Rattle.q_book.specs.declared.fault.BookFault.TheVariants.{Node, Desk, BadValue}
@@ -10,6 +10,7 @@ use Rattle.q_lines.specs.declared.outcome.Outcome.TheVariants as outcome
 use Rattle.q_lines.specs.declared.report.Report.{Report}
 use Rattle.q_lines.specs.declared.report.Report.TheVariants.{Refused, Registered, Stored, Asked}
 use Rattle.q_lines.specs.declared.script.ClusterLine.TheVariants as line
+use Rattle.q_lines.proofs.Untold.{another_program}
 use Rattle.q_lines.proofs.worked.worked_lines.Goals as goal
 
 -- no book refuses with 81
@@ -37,3 +38,6 @@ returns-clause-outside c = outside
 
 pub returns-clause-inside : goal.returns-clause-inside
 returns-clause-inside c = inside
+
+pub returns-clause-another_program : goal.returns-clause-another_program
+returns-clause-another_program c = another_program
