@@ -5,8 +5,9 @@ use crate::deaf::Deaf;
 use crate::forged::{Forged, datagrams};
 use crate::noise::{Flooding, Noisy};
 use q_files::{Files, MemoryFiles};
-use q_lines::{ClusterScript, Ending, NodesFault};
-use q_nodes::{open_sockets, run_cluster, run_file, run_over_sockets};
+use q_nodes::{
+    ClusterScript, Ending, NodesFault, open_sockets, run_cluster, run_file, run_over_sockets,
+};
 use q_script::number;
 use q_wire::{Counted, Hub, MemoryTransport, Peer, UdpTransport};
 use q_words::{Wanted, read_words};
