@@ -2,8 +2,9 @@
 
 use crate::measured::{Measured, RUNS};
 use anyhow::{Context, Result, bail};
-use q_lines::{ClusterScript, NodesFault, Outcome};
-use q_nodes::{Calls, make_calls, open_sockets, run_over_sockets};
+use q_nodes::{
+    Calls, ClusterScript, NodesFault, Outcome, make_calls, open_sockets, run_over_sockets,
+};
 use q_wire::{Counted, UdpTransport};
 use std::alloc::{AllocError, Global};
 use std::net::Net;

@@ -19,11 +19,11 @@ use Rattle.q_command.specs.Perform as command
 use Rattle.q_command.specs.declared.perform.Outcome.{Outcome}
 use Rattle.q_command.specs.JournalFiles as gathered
 use Rattle.q_command.specs.declared.gathered_ending.Ending as gathered_ending
-use Rattle.q_lines.specs.Runs as nodes
+use Rattle.q_nodes.specs.Runs as nodes
 use Rattle.q_node.specs.Files as node_files
 use Rattle.q_node.specs.Runs as node
 use Rattle.q_node.specs.declared.ending.Ending as node_ending
-use Rattle.q_lines.specs.declared.ending.Ending.{Ending}
+use Rattle.q_nodes.specs.declared.ending.Ending.{Ending}
 
 -- a standard output: what it took so far, where that is known, and how many of its calls failed
 pub record Output : Type 0 where

@@ -12,8 +12,7 @@ use q_command::{
     nodes_advice, read_words,
 };
 use q_files::Files;
-use q_lines::{Ending, NodesFault};
-use q_nodes::{FileRun, run_file};
+use q_nodes::{Ending, FileRun, NodesFault, run_file};
 use q_refused::put_refusal;
 use q_sim::Refusal;
 use q_wire::Counted;

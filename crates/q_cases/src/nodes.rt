@@ -6,8 +6,9 @@ use crate::forged::{Forged, datagrams};
 use crate::noise::{Flooding, Noisy};
 use q_command::{Wanted, read_words};
 use q_files::{Files, MemoryFiles};
-use q_lines::{ClusterScript, Ending, NodesFault};
-use q_nodes::{open_sockets, run_cluster, run_file, run_over_sockets};
+use q_nodes::{
+    ClusterScript, Ending, NodesFault, open_sockets, run_cluster, run_file, run_over_sockets,
+};
 use q_script::number;
 use q_wire::{Counted, Hub, MemoryTransport, Peer, UdpTransport};
 use std::alloc::{AllocError, Global};

@@ -4,7 +4,7 @@ use Rattle.std.proofs.lemmas.List.{length_push}
 use Rattle.q_board.specs.AskerModel.{opened_asker, opened_askers}
 use Rattle.q_board.specs.BoardId.{board_id}
 use Rattle.q_board.specs.declared.board.Board.{Board}
-use Rattle.q_lines.specs.Runs.{ids_to}
+use Rattle.q_nodes.specs.Runs.{ids_to}
 
 pub ids_many : (n : ℕ) → length (ids_to n) ≡ n
 ids_many zero = refl

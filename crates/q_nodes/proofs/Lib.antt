@@ -1,2 +1,11 @@
--- Nodes in threads: lemmas.
+-- Nodes in threads, and their scripts: lemmas.
 mod Counts
+mod Turns
+mod Nodes
+mod Filing
+mod Finding
+mod Gathering
+mod Truth
+mod Reading
+mod Endings
+mod Untold

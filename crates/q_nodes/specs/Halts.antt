@@ -1,6 +1,6 @@
 -- Why no line of a script is told.
 use Rattle.std.specs.Prelude.{ℕ, ◌≤◌}
-use Rattle.q_lines.specs.Runs.{IsAstray}
+use Rattle.q_nodes.specs.Runs.{IsAstray}
 use Rattle.q_nodes.specs.declared.halt.Halt.{Halt}
 use Rattle.q_nodes.specs.declared.halt.Halt.TheVariants.{Astray, BadCount}
 

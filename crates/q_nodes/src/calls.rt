@@ -2,8 +2,8 @@
 
 ghost use Rattle.std.specs.Prelude.{◌≡◌, ◌≤◌, All, IfErr, IfOk, length};
 ghost use Rattle.q_board.specs.BoardId.{board_id};
-ghost use Rattle.q_lines.specs.Lines.{ComesTo, InTurn};
-ghost use Rattle.q_lines.specs.Runs.{ids_to};
+ghost use Rattle.q_nodes.specs.Lines.{ComesTo, InTurn};
+ghost use Rattle.q_nodes.specs.Runs.{ids_to};
 ghost use Rattle.q_nodes.specs.Halts.{IsHalt};
 
 use crate::bell::Bell;
@@ -11,10 +11,11 @@ use crate::flight::Flight;
 use crate::halt::Halt;
 use crate::line::run_lines;
 use crate::node::{Wire, tend, wires};
+use crate::outcome::Outcome;
+use crate::script::{ClusterLine, ClusterScript};
 use q_board::{AskerSeat, Board, RunnerSeat};
 use q_book::Book;
 use q_held::{Held, Losses, Unsent};
-use q_lines::{ClusterLine, ClusterScript, Outcome};
 use q_pool::with_runners;
 use q_wire::Transport;
 use sc_members::Config;

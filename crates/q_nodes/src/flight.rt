@@ -2,9 +2,9 @@
 
 use crate::bell::Bell;
 use crate::clock::has_passed;
+use crate::outcome::Outcome;
 use crate::seat;
 use q_held::Held;
-use q_lines::Outcome;
 use q_wire::Transport;
 use std::alloc::Global;
 use std::sync::{Mutex, Wait};

@@ -1,11 +1,11 @@
 //! Why no line of a script is told.
 
 ghost use Rattle.std.specs.Prelude.{◌≡◌, ◌≤◌, ℕ};
-ghost use Rattle.q_lines.specs.Runs.{IsUntold};
+ghost use Rattle.q_nodes.specs.Runs.{IsUntold};
 ghost use Rattle.q_nodes.specs.Halts.{IsHalt};
 
+use crate::fault::NodesFault;
 use q_board::OpenFault;
-use q_lines::NodesFault;
 use std::alloc::AllocError;
 
 /// Why no line of a script is told.

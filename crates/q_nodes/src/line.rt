@@ -1,15 +1,17 @@
 //! The calls that the lines of a script name, one after the other.
 
 ghost use Rattle.std.specs.Prelude.{IfErr, IfOk};
-ghost use Rattle.q_lines.specs.Books.{BeginsQuery, BeginsStore, Registers};
-ghost use Rattle.q_lines.specs.Lines.{CallsAt, ComesTo, ComesToProgram, InTurn};
+ghost use Rattle.q_nodes.specs.Books.{BeginsQuery, BeginsStore, Registers};
+ghost use Rattle.q_nodes.specs.Lines.{CallsAt, ComesTo, ComesToProgram, InTurn};
 ghost use Rattle.q_nodes.specs.Halts.{IsHalt};
 
+use crate::fault::NodesFault;
 use crate::flight::Flight;
 use crate::halt::Halt;
+use crate::outcome::Outcome;
+use crate::script::{ClusterLine, is_node, node_of, program_id};
 use crate::seat;
 use q_held::Held;
-use q_lines::{ClusterLine, NodesFault, Outcome, is_node, node_of, program_id};
 use q_sim::certified_code;
 use q_table::{Program, ProgramId};
 use q_wire::Transport;

@@ -1,17 +1,20 @@
 //! A whole cluster, run by threads.
 
 ghost use Rattle.std.specs.Prelude.{◌≡◌, ◌≤◌, IfErr, IfOk, length, string_bytes};
-ghost use Rattle.q_lines.specs.Lines.{ComesTo, InTurn};
-ghost use Rattle.q_lines.specs.Runs.{IsTellingOfNodes, IsWritten, failures_after};
+ghost use Rattle.q_nodes.specs.Lines.{ComesTo, InTurn};
+ghost use Rattle.q_nodes.specs.Runs.{IsTellingOfNodes, IsWritten, failures_after};
 ghost use Rattle.q_nodes.specs.Halts.{IsHalt};
 
 use crate::calls::{Calls, ids, make_calls};
+use crate::ending::{Ending, print_telling, print_untold};
+use crate::fault::NodesFault;
 use crate::halt::Halt;
+use crate::outcome::Outcome;
+use crate::own::are_of_nodes;
+use crate::report::Tally;
+use crate::script::ClusterScript;
+use crate::telling::{Telling, tell};
 use q_held::Unsent;
-use q_lines::{
-    ClusterScript, Ending, NodesFault, Outcome, Tally, Telling, are_of_nodes, print_telling,
-    print_untold, tell,
-};
 use q_refused::write_refused_line;
 use q_sim::RefusedLine;
 use q_wire::{Counted, Transport};

@@ -6,10 +6,12 @@
 
 ghost use Rattle.std.specs.Prelude.{MatchOption};
 ghost use Rattle.q_book.specs.State.{BookState};
-ghost use Rattle.q_lines.specs.Books.{BeginsQuery, BeginsStore, IsOther, Registers};
+ghost use Rattle.q_nodes.specs.Books.{BeginsQuery, BeginsStore, IsOther, Registers};
 
+use crate::fault::NodesFault;
+use crate::outcome::Outcome;
+use crate::own::is_of;
 use q_held::Held;
-use q_lines::{NodesFault, Outcome, is_of};
 use q_table::{Program, ProgramId};
 use std::sync::Mutex;
 

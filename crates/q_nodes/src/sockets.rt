@@ -1,12 +1,14 @@
 //! Clusters whose nodes have a socket each.
 
 ghost use Rattle.std.specs.Prelude.{◌≡◌};
-ghost use Rattle.q_lines.specs.Runs.{IsWrittenBytes, IsWrittenFile, IsWrittenOf, failures_after};
+ghost use Rattle.q_nodes.specs.Runs.{IsWrittenBytes, IsWrittenFile, IsWrittenOf, failures_after};
 ghost use Rattle.q_nodes.specs.Files.{longest_script};
 
+use crate::ending::{Ending, print_refusal};
+use crate::fault::NodesFault;
 use crate::run::run_script;
+use crate::script::ClusterScript;
 use q_files::{Files, LONGEST_TEXT};
-use q_lines::{ClusterScript, Ending, NodesFault, print_refusal};
 use q_sim::Refusal;
 use q_wire::{Counted, Peer, UdpTransport};
 use std::alloc::Global;

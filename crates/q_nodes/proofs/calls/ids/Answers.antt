@@ -1,6 +1,6 @@
 -- ids: the ids 1 to this number.
 use Rattle.std.proofs.Common.{◌≡◌, ◌∙◌, ap, arith}
-use Rattle.q_lines.specs.Runs.{ids_to}
+use Rattle.q_nodes.specs.Runs.{ids_to}
 use Rattle.q_nodes.proofs.calls.ids.Goals as goal
 
 pub returns : goal.returns

@@ -1,10 +1,10 @@
 -- run_lines: makes the calls of the lines in turn, and waits for the end of what they begin: what each came to.
 use Rattle.std.proofs.Common.{rules, ◌≡◌, ◌+◌, List, [], ◌∷◌, ◌++◌, take, sym, subst}
 use Rattle.std.proofs.lemmas.List.{take_more}
-use Rattle.q_lines.specs.Lines.{ComesTo, InTurn}
-use Rattle.q_lines.specs.declared.script.ClusterLine.{ClusterLine}
-use Rattle.q_lines.specs.declared.outcome.Outcome.{Outcome}
-use Rattle.q_lines.proofs.Turns.{turn_behind}
+use Rattle.q_nodes.specs.Lines.{ComesTo, InTurn}
+use Rattle.q_nodes.specs.declared.script.ClusterLine.{ClusterLine}
+use Rattle.q_nodes.specs.declared.outcome.Outcome.{Outcome}
+use Rattle.q_nodes.proofs.Turns.{turn_behind}
 use Rattle.q_nodes.proofs.line.run_lines.Goals as goal
 
 pub loop-line-preserved : goal.loop-line-preserved

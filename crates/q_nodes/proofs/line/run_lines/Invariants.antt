@@ -1,5 +1,5 @@
 use Rattle.std.proofs.Common.{take}
-use Rattle.q_lines.specs.Lines.{ComesTo, InTurn}
+use Rattle.q_nodes.specs.Lines.{ComesTo, InTurn}
 use Rattle.q_nodes.proofs.line.run_lines.Given as goal
 
 abbrev pub invariant-loop-line : goal.invariant-loop-line

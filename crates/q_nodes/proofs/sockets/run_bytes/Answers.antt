@@ -1,6 +1,6 @@
 -- run_bytes: the same of the bytes of a file.
 use Rattle.std.proofs.Common.{ℕ, List, inl, subst}
-use Rattle.q_lines.specs.Runs.{IsWrittenOf}
+use Rattle.q_nodes.specs.Runs.{IsWrittenOf}
 use Rattle.q_nodes.proofs.sockets.run_bytes.Goals as goal
 
 pub returns-in-Ok-clause-written : goal.returns-in-Ok-clause-written

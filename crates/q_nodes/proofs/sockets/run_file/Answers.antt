@@ -1,6 +1,6 @@
 -- run_file: the command `cluster`: runs the script in the file of this name so.
 use Rattle.std.proofs.Common.{ℕ, List, inl, subst}
-use Rattle.q_lines.specs.Runs.{IsWrittenBytes}
+use Rattle.q_nodes.specs.Runs.{IsWrittenBytes}
 use Rattle.q_nodes.proofs.sockets.run_file.Goals as goal
 
 pub returns-clause-written : goal.returns-clause-written

@@ -1,6 +1,0 @@
-use Rattle.std.proofs.Common.{take}
-use Rattle.q_lines.specs.Lines.{InTurn, IsToldApart}
-use Rattle.q_lines.proofs.apart.tell_apart.Given as goal
-
-abbrev pub invariant-loop-place : goal.invariant-loop-place
-invariant-loop-place l = InTurn (IsToldApart l.nodes l.books) (take l.place l.lines) l.reports.items

@@ -1,6 +1,0 @@
-use Rattle.std.proofs.Common.{◌≡◌, take, flat_map, string_bytes}
-use Rattle.q_lines.specs.Lines.{text_of}
-use Rattle.q_lines.proofs.report.texts.Given as goal
-
-abbrev pub invariant-loop-report : goal.invariant-loop-report
-invariant-loop-report l = string_bytes l.text ≡ flat_map text_of (take l.report-index l.reports)

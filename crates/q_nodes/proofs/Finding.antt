@@ -1,0 +1,73 @@
+-- What is found in the gathered cluster of the call of a line, and what is not.
+use Rattle.std.proofs.Common.{◌≡◌, ℕ, Bool, true, false, List, Some, Vec, Global, sym, ap, ◌∙◌, slice_get}
+use Rattle.std.specs.Prelude.{MatchBool, IfOk, Result, Ok, Err}
+use Rattle.bq_check.specs.Certificate.{Certificate}
+use Rattle.bq_insn.specs.Slots.{spelling}
+use Rattle.sc_operations.specs.declared.session.OperationKind.TheVariants as kind
+use Rattle.sc_view.specs.declared.view.Stored.{Stored as Entry}
+use Rattle.sc_world.specs.Records.{Among}
+use Rattle.sc_world.specs.declared.op.Op.{Op}
+use Rattle.q_session.specs.declared.query.Query.{Query}
+use Rattle.q_book.specs.State.{BookState}
+use Rattle.q_cluster.specs.Acts.{book_at}
+use Rattle.q_history.specs.State.{ClusterState}
+use Rattle.q_history.proofs.Lists.{same_some}
+use Rattle.q_nodes.specs.Found.{IsOnly}
+use Rattle.q_nodes.specs.Lines.{Has, IsProgramOf, IsQueryOf, IsStoreOf, program_id}
+use Rattle.q_nodes.specs.declared.outcome.Outcome.TheVariants as outcome
+use Rattle.q_nodes.specs.declared.script.ClusterLine.TheVariants as line
+
+-- ---- programs
+
+pub program_is : (c : ClusterState) (node id : ℕ) (code : List ℕ) (b : BookState) (p : Certificate) (is : Bool) → Some b ≡ book_at c node → Some p ≡ slice_get b.desk.programs id
+    → MatchBool is (code ≡ spelling p.text) (code ≡ spelling p.text → ⊥) → MatchBool is (IsProgramOf c node id code) (IsProgramOf c node id code → ⊥)
+program_is c node id code b p true at has spelled = record { book = b; at = sym at; program = p; numbered = sym has; spelled = spelled }
+program_is c node id code b p false at has other = λ h.
+    let same : b ≡ h.book = same_some b h.book (at ∙ h.at) in
+    let one : h.program ≡ p = same_some h.program p (sym h.numbered ∙ ap (λ (x : BookState). slice_get x.desk.programs id) (sym same) ∙ sym has) in
+    other (h.spelled ∙ ap (λ (x : Certificate). spelling x.text) one)
+
+-- ---- stores
+
+pub no_store : (c : ClusterState) (node tag : ℕ) (bytes : List ℕ) → ((o : Op) → Among o c.world.ops → o.node ≡ node → o.tag ≡ tag → ⊥) → (o : Op) → IsStoreOf c node tag bytes o → ⊥
+no_store c node tag bytes none o h = none o h.among h.by h.tagged
+
+pub other_store : (c : ClusterState) (node tag : ℕ) (bytes : List ℕ) (op : Op) → IsOnly c.world.ops node tag op → ((e : Entry) → op.session.kind ≡ kind.Store e → e.value ≡ bytes → ⊥)
+    → (o : Op) → IsStoreOf c node tag bytes o → ⊥
+other_store c node tag bytes op only other o h =
+    let same : o ≡ op = only.only o h.among h.by h.tagged in
+    other h.entry (ap (λ (x : Op). x.session.kind) (sym same) ∙ h.kind) h.value
+
+pub store_lost : (c : ClusterState) (node tag : ℕ) (value : Vec ℕ Global) → ((o : Op) → IsStoreOf c node tag value.items o → ⊥) → Has c (line.Store node value) (outcome.Stored tag) → ⊥
+store_lost c node tag value none h = none h.0 h.1
+
+-- ---- queries
+
+pub query_is : (c : ClusterState) (node query program start : ℕ) (b : BookState) (q : Query) → Some b ≡ book_at c node → Some q ≡ slice_get b.desk.queries query → q.program ≡ program → q.start ≡ start
+    → IsQueryOf c node query program start q
+query_is c node query program start b q at there names begins = record { book = b; at = sym at; numbered = sym there; names = names; begins = begins }
+
+-- the query that stands there is the one that is looked for
+that_query : (c : ClusterState) (node query program start : ℕ) (b : BookState) (x q : Query) → Some b ≡ book_at c node → Some x ≡ slice_get b.desk.queries query → IsQueryOf c node query program start q → x ≡ q
+that_query c node query program start b x q at there h =
+    let same : b ≡ h.book = same_some b h.book (at ∙ h.at) in
+    same_some x q (there ∙ ap (λ (y : BookState). slice_get y.desk.queries query) same ∙ h.numbered)
+
+pub other_program : (c : ClusterState) (node query program start : ℕ) (b : BookState) (x : Query) → Some b ≡ book_at c node → Some x ≡ slice_get b.desk.queries query → (x.program ≡ program → ⊥)
+    → (q : Query) → IsQueryOf c node query program start q → ⊥
+other_program c node query program start b x at there other q h =
+    other (ap (λ (y : Query). y.program) (that_query c node query program start b x q at there h) ∙ h.names)
+
+pub other_start : (c : ClusterState) (node query program start : ℕ) (b : BookState) (x : Query) → Some b ≡ book_at c node → Some x ≡ slice_get b.desk.queries query → (x.start ≡ start → ⊥)
+    → (q : Query) → IsQueryOf c node query program start q → ⊥
+other_start c node query program start b x at there other q h =
+    other (ap (λ (y : Query). y.start) (that_query c node query program start b x q at there h) ∙ h.begins)
+
+pub query_lost : (c : ClusterState) (node program start query : ℕ) → ((q : Query) → IsQueryOf c node query (program_id program) start q → ⊥) → Has c (line.Ask node program start) (outcome.Asked query) → ⊥
+query_lost c node program start query none h = none h.0 h.1
+
+-- what is tested of the bytes is so of the program that the node has
+pub program_tested : {E : Type 0} (c : ClusterState) (node id : ℕ) (code : List ℕ) (b : BookState) (p : Certificate) (r : Result Bool E) → Some b ≡ book_at c node → Some p ≡ slice_get b.desk.programs id
+    → IfOk r (λ is. MatchBool is (code ≡ spelling p.text) (code ≡ spelling p.text → ⊥)) → IfOk r (λ has. MatchBool has (IsProgramOf c node id code) (IsProgramOf c node id code → ⊥))
+program_tested c node id code b p (Ok is) at has spelled = program_is c node id code b p is at has spelled
+program_tested c node id code b p (Err e) at has spelled = tt

@@ -1,0 +1,60 @@
+-- What books of nodes that run in threads have, and what their calls come to. Which book of a node it is no contract of
+-- its lock says: it is the replay of its journal.
+use Rattle.std.specs.Prelude.{◌≡◌, ◌≢◌, ℕ, ◌+◌, ◌-◌, List, length, Option, Result, Some, None, Ok, Err, slice_get}
+use Rattle.bq_check.specs.Certificate.{Certificate}
+use Rattle.sc_node.specs.declared.answer.Begun.{Begun}
+use Rattle.q_session.specs.declared.ran.Ran.{Ran}
+use Rattle.q_desk.specs.Answers.{AnswersAreRight}
+use Rattle.q_desk.specs.Desks.{answer_of}
+use Rattle.q_desk.specs.declared.fault.DeskFault.{DeskFault}
+use Rattle.q_book.specs.State.{BookState}
+use Rattle.q_book.specs.Books.{asked, registered, stored}
+use Rattle.q_book.specs.Replays.{IsReplay}
+use Rattle.q_book.specs.Faults.{memory}
+use Rattle.q_book.specs.declared.answer.Asked.{Asked}
+use Rattle.q_book.specs.declared.fault.BookFault.{BookFault}
+use Rattle.q_nodes.specs.declared.outcome.Outcome.{Outcome}
+use Rattle.q_nodes.specs.declared.outcome.Outcome.TheVariants as outcome
+use Rattle.q_nodes.specs.Faults.{of_fault}
+
+-- a book of this node, which is the replay of its journal, and whose recorded answers are right
+pub record IsBookOf (node : ℕ) (b : BookState) : Type 0 where
+  pub id : b.id ≡ node
+  pub replay : IsReplay b
+  pub right : AnswersAreRight b.desk
+
+-- a book of another node, which is the replay of its journal
+abbrev pub IsOther : ℕ → BookState → Type 0
+IsOther node b = IsReplay b × (b.id ≡ node → ⊥)
+
+-- the books of so many nodes, whose ids are 1 to their number, in their order
+pub record AreBooksOf (nodes : ℕ) (books : List BookState) : Type 0 where
+  pub many : length books ≡ nodes
+  pub each : (k : ℕ) (b : BookState) → slice_get books k ≡ Some b → IsBookOf (k + 1) b
+
+-- the book of a node among those of all nodes
+abbrev pub own_book : List BookState → ℕ → Option BookState
+own_book books node = slice_get books (node - 1)
+
+abbrev pub answer_or_none : Result (Option Ran) DeskFault → Option Ran
+answer_or_none (Ok answer) = answer
+answer_or_none (Err f) = None
+
+-- the recorded answer of a query in a book, if there is one
+abbrev pub recorded : BookState → ℕ → Option Ran
+recorded b query = answer_or_none (answer_of b.desk query)
+
+-- what a call of a book of this node came to: it was refused with what the book refuses it with, or accepted and
+-- answered so
+abbrev pub Calls : {A : Type 0} → (A → Outcome) → ℕ → (BookState → Result (A × BookState) BookFault) → Outcome → Type 0
+Calls told node said (outcome.Refused r) = (b : BookState) × (f : BookFault) × IsBookOf node b × (r ≡ of_fault f) × (f ≢ memory → said b ≡ Err f)
+Calls {A} told node said o = (b c : BookState) × (a : A) × IsBookOf node b × (said b ≡ Ok (a, c)) × (o ≡ told a)
+
+abbrev pub Registers : ℕ → Certificate → Outcome → Type 0
+Registers node program = Calls (λ (id : ℕ). outcome.Registered id) node (λ b. registered b program)
+
+abbrev pub BeginsStore : ℕ → List ℕ → Outcome → Type 0
+BeginsStore node value = Calls (λ (a : Begun). outcome.Stored a.tag) node (λ b. stored b value)
+
+abbrev pub BeginsQuery : ℕ → ℕ → ℕ → Outcome → Type 0
+BeginsQuery node program start = Calls (λ (a : Asked). outcome.Asked a.query) node (λ b. asked b program start)

@@ -1,0 +1,118 @@
+//! Why nodes are not run, or a line of their script is refused.
+
+ghost use Rattle.std.specs.Prelude.{◌≡◌, Some};
+ghost use Rattle.q_nodes.specs.Faults.{bad_founders, no_such_node, of_world, place, reason, text, of_fault, memory, of_gather};
+ghost use Rattle.q_sim.specs.Refusal.{refusal_of};
+
+use q_book::BookFault;
+use q_files::FileFault;
+use q_gather::GatherFault;
+use q_history::ClusterFault;
+use q_sim::{Refusal, RefusalPlace};
+use reasons::{Reason, told};
+use sc_node::NodeFault;
+use sc_world::WorldFault;
+use std::alloc::AllocError;
+use std::fmt;
+
+/// A refusal. Its text is the line that is printed, without the line feed.
+#[derive(Clone, Copy, Debug, PartialEq, Eq)]
+pub enum NodesFault {
+    /// 62: more than 16 nodes.
+    BadCount,
+    /// 86: a socket could not be opened.
+    TransportFailed,
+    /// What a simulated cluster may refuse too.
+    Script(Refusal),
+}
+
+impl NodesFault {
+    /// 81: the cluster has no such node.
+    pub fn no_such_node() -> NodesFault
+        ensures { result ≡ no_such_node }
+    {
+        NodesFault::of_world(WorldFault::NoSuchNode)
+    }
+
+    /// 49: the cluster has no founders.
+    pub fn bad_founders() -> NodesFault
+        ensures { result ≡ bad_founders }
+    {
+        NodesFault::of_world(WorldFault::Node(NodeFault::BadFounders))
+    }
+
+    /// The reason by which the refusal is told.
+    pub fn reason(self) -> Reason
+        ensures { result ≡ reason self }
+    {
+        told!(self, NodesFault: BadCount, TransportFailed, Script(refusal))
+    }
+
+    /// Where the refusal arose, as its line tells it.
+    pub fn place(&self) -> RefusalPlace
+        ensures { result ≡ place self.now }
+    {
+        match self {
+            NodesFault::BadCount | NodesFault::TransportFailed => RefusalPlace::Untold,
+            NodesFault::Script(refusal) => refusal.place(),
+        }
+    }
+
+    fn of_world(fault: WorldFault) -> NodesFault
+        ensures { result ≡ of_world fault }
+    {
+        NodesFault::Script(Refusal::Cluster(ClusterFault::World(fault)))
+    }
+}
+
+impl fmt::Display for NodesFault {
+    ghost output = { λ fault. Some (text fault) };
+
+    fn fmt<W: fmt::Write>(&self, f: &mut fmt::Formatter<W>) -> fmt::Result {
+        match self {
+            NodesFault::BadCount => write!(f, "refused {}", Reason::BadCount),
+            NodesFault::TransportFailed => write!(f, "refused {}", Reason::TransportFailed),
+            NodesFault::Script(refusal) => write!(f, "{refusal}"),
+        }
+    }
+}
+
+impl From<BookFault> for NodesFault {
+    ghost from_gives = { λ refusal e. e ≡ of_fault refusal };
+
+    fn from(fault: BookFault) -> NodesFault {
+        NodesFault::Script(Refusal::Cluster(ClusterFault::from(fault)))
+    }
+}
+
+impl From<FileFault> for NodesFault {
+    ghost use Rattle.q_nodes.specs.declared.fault.NodesFault.TheVariants.{Script};
+
+    ghost from_gives = { λ fault e. e ≡ Script (refusal_of fault) };
+
+    fn from(fault: FileFault) -> NodesFault {
+        NodesFault::Script(Refusal::from(fault))
+    }
+}
+
+impl From<AllocError> for NodesFault {
+    ghost from_gives = { λ _ e. e ≡ memory };
+
+    fn from(_: AllocError) -> NodesFault {
+        NodesFault::Script(Refusal::OutOfMemory)
+    }
+}
+
+impl From<GatherFault> for NodesFault {
+    ghost from_gives = { λ refusal e. e ≡ of_gather refusal };
+
+    fn from(fault: GatherFault) -> NodesFault {
+        match fault {
+            GatherFault::Journal { fault, .. } => NodesFault::Script(Refusal::Journal(fault)),
+            GatherFault::IdUsed => NodesFault::of_world(WorldFault::IdUsed),
+            GatherFault::BadFounders => NodesFault::bad_founders(),
+            GatherFault::NeverSent => NodesFault::of_world(WorldFault::NeverSent),
+            GatherFault::OutOfMemory => NodesFault::Script(Refusal::OutOfMemory),
+        }
+    }
+}
