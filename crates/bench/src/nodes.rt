@@ -5,7 +5,7 @@ use anyhow::{Context, Result, bail};
 use q_nodes::{
     Calls, ClusterScript, NodesFault, Outcome, make_calls, open_sockets, run_over_sockets,
 };
-use q_wire::{Counted, UdpTransport};
+use q_outside::{Counted, UdpTransport};
 use std::alloc::{AllocError, Global};
 use std::net::Net;
 use std::sync::Wait;

@@ -4,7 +4,7 @@ use crate::measured::{Measured, RUNS};
 use anyhow::{Result, anyhow};
 use q_book::Book;
 use q_net::serve;
-use q_wire::Counted;
+use q_outside::Counted;
 use sc_members::Config;
 use std::alloc::Global;
 use std::sync::Wait;

@@ -13,8 +13,8 @@ use Rattle.bq_insn.specs.declared.insn.Operand.TheVariants as operands
 use Rattle.bq_insn.specs.declared.insn.Operand.{Operand}
 use Rattle.bq_insn.specs.declared.insn.Insn.TheVariants as insns
 use Rattle.bq_insn.specs.Insn.{IsOperand, IsInsn}
-use Rattle.bq_labels.specs.declared.jump.Jump.{Jump}
-use Rattle.bq_labels.specs.declared.jump.Jump.TheVariants as jumps
+use Rattle.bq_asm.specs.declared.jump.Jump.{Jump}
+use Rattle.bq_asm.specs.declared.jump.Jump.TheVariants as jumps
 use Rattle.bq_asm.specs.Line.{Statement, Complete, JumpTo, IsName, IsJump, IsStatement, is_letter, is_name_byte, AreListed, statement_operands, statement_mnemonic}
 use Rattle.bq_asm.specs.Operands.{register, operand, distance, memory, jump_insn, jump_mnemonic, jump_operands}
 use Rattle.bq_asm.specs.Reading.{◌>>=◌, strip, positive_at, negative_at, signed_at, signed_else, distance_at, distance_else, positive_of, negative_of, fits, register_at, operand_at, operand_else, place_of, place_else, place_at, memory_at, is_name, jump_bits, target_at, target_else, pair_at, trimmed, statement_at}

@@ -9,3 +9,6 @@ pub mod Said
 pub mod Unique
 pub mod Lines
 pub mod Writing
+pub mod First
+pub mod Repeating
+pub mod Resolving

@@ -6,7 +6,7 @@ use Rattle.std.specs.List.{AllZip}
 use Rattle.std.proofs.lemmas.List.{take-append-drop, drop_more, map_push, length-map}
 use Rattle.std.proofs.lemmas.Slice.Zip.{all_zipped_more}
 use Rattle.bq_asm.specs.Line.{Line, Spells}
-use Rattle.bq_labels.specs.Labels.{IsFirstLine}
+use Rattle.bq_asm.specs.Labels.{IsFirstLine}
 use Rattle.bq_asm.specs.Source.{IsUnreadable}
 use Rattle.bq_asm.specs.Reading.{line_at}
 use Rattle.bq_asm.proofs.Said.{line_sound, unreadable}

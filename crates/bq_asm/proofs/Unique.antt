@@ -8,7 +8,7 @@ use Rattle.bq_asm.specs.declared.fault.AsmFault.{AsmFault}
 use Rattle.bq_asm.specs.declared.fault.AsmFault.TheVariants as faults
 use Rattle.bq_asm.specs.Operands.{jump_insn}
 use Rattle.bq_asm.specs.Line.{Statement, Complete, JumpTo, Line, Blank, Label, Instruction, Spells}
-use Rattle.bq_labels.specs.Labels.{NoLine, IsFirstLine, IsRepeated, IsUnresolved, HasLabelFault, Mean, Means}
+use Rattle.bq_asm.specs.Labels.{NoLine, IsFirstLine, IsRepeated, IsUnresolved, HasLabelFault, Mean, Means}
 use Rattle.bq_asm.specs.Source.{lines_of, Says, IsSource, IsUnreadable, IsFault, HasOneFault}
 use Rattle.bq_asm.specs.Steps.{IsLengthFault, least}
 use Rattle.bq_asm.proofs.Said.{one_saying}

@@ -13,7 +13,7 @@ use Rattle.bq_insn.proofs.Reading.{begun-append, begun-slots_of}
 use Rattle.bq_asm.specs.Mnemonic.{name}
 use Rattle.bq_asm.specs.Operands.{mnemonic_of, operands_of}
 use Rattle.bq_asm.specs.Line.{Complete, Line, Blank, Instruction, AreListed, IsGap, Spells}
-use Rattle.bq_labels.specs.Labels.{NoLine, IsRepeated, Mean}
+use Rattle.bq_asm.specs.Labels.{NoLine, IsRepeated, Mean}
 use Rattle.bq_asm.specs.Source.{lines_of, IsSource, listed, spaced, insn_line, disassembly}
 use Rattle.bq_asm.proofs.Parts.{Lacks}
 use Rattle.bq_asm.proofs.Spaces.{lacks_append}

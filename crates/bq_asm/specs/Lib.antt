@@ -1,9 +1,11 @@
-pub use Rattle.bq_labels.specs.Labels
-pub use Rattle.bq_labels.specs.View
-pub use Rattle.bq_labels.specs.Placed
 pub mod Mnemonic
 pub mod Operands
 pub mod Line
 pub mod Source
 pub mod Reading
 pub mod Steps
+pub mod Jumps
+pub mod Statement
+pub mod View
+pub mod Labels
+pub mod Placed

@@ -3,10 +3,10 @@ use Rattle.std.specs.Prelude.{◌≡◌, ◌≢◌, ℕ, ◌<◌, ◌≤◌, Boo
 use Rattle.std.specs.List.{AllByRecursion}
 use Rattle.std.specs.Char.{is_ascii_digit, is_ascii_alphabetic}
 use Rattle.bq_insn.specs.Insn.{IsInsn, IsOperand}
-pub use Rattle.bq_labels.specs.Line.{Statement, Complete, JumpTo, Line, Blank, Label, Instruction}
+pub use Rattle.bq_asm.specs.Statement.{Statement, Complete, JumpTo, Line, Blank, Label, Instruction}
 use Rattle.bq_asm.specs.declared.mnemonic.Mnemonic.{Mnemonic}
-use Rattle.bq_labels.specs.declared.jump.Jump.{Jump}
-use Rattle.bq_labels.specs.declared.jump.Jump.TheVariants as jumps
+use Rattle.bq_asm.specs.declared.jump.Jump.{Jump}
+use Rattle.bq_asm.specs.declared.jump.Jump.TheVariants as jumps
 use Rattle.bq_asm.specs.Mnemonic.{name}
 use Rattle.bq_asm.specs.Operands.{mnemonic_of, operands_of, jump_mnemonic, jump_operands}
 

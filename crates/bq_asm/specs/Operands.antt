@@ -5,11 +5,11 @@ use Rattle.bq_insn.specs.declared.insn.Operand.{Operand}
 use Rattle.bq_insn.specs.declared.insn.Operand.TheVariants as operands
 use Rattle.bq_insn.specs.declared.insn.Insn.{Insn}
 use Rattle.bq_insn.specs.declared.insn.Insn.TheVariants as insns
-pub use Rattle.bq_labels.specs.Jumps.{jump_insn}
+pub use Rattle.bq_asm.specs.Jumps.{jump_insn}
 use Rattle.bq_asm.specs.declared.mnemonic.Mnemonic.{Mnemonic}
 use Rattle.bq_asm.specs.declared.mnemonic.Mnemonic.TheVariants as mnemonics
-use Rattle.bq_labels.specs.declared.jump.Jump.{Jump}
-use Rattle.bq_labels.specs.declared.jump.Jump.TheVariants as jumps
+use Rattle.bq_asm.specs.declared.jump.Jump.{Jump}
+use Rattle.bq_asm.specs.declared.jump.Jump.TheVariants as jumps
 
 -- `r0` to `r10`
 abbrev pub register : ℕ → List ℕ

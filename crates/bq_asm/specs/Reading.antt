@@ -7,11 +7,11 @@ use Rattle.decimal.specs.Natural.{natural_at}
 use Rattle.bq_insn.specs.declared.insn.Operand.{Operand}
 use Rattle.bq_insn.specs.declared.insn.Operand.TheVariants as operands
 use Rattle.bq_insn.specs.declared.insn.Insn.TheVariants as insns
-pub use Rattle.bq_labels.specs.Jumps.{fits, jump_bits, jump_by}
+pub use Rattle.bq_asm.specs.Jumps.{fits, jump_bits, jump_by}
 use Rattle.bq_asm.specs.declared.mnemonic.Mnemonic.{Mnemonic}
 use Rattle.bq_asm.specs.declared.mnemonic.Mnemonic.TheVariants as mnemonics
-use Rattle.bq_labels.specs.declared.jump.Jump.{Jump}
-use Rattle.bq_labels.specs.declared.jump.Jump.TheVariants as jumps
+use Rattle.bq_asm.specs.declared.jump.Jump.{Jump}
+use Rattle.bq_asm.specs.declared.jump.Jump.TheVariants as jumps
 use Rattle.bq_asm.specs.Mnemonic.{mnemonic_at}
 use Rattle.bq_asm.specs.Line.{Statement, Complete, JumpTo, Line, Blank, Label, Instruction, is_letter, is_name_byte}
 

@@ -10,7 +10,7 @@ use Rattle.bq_asm.specs.declared.fault.AsmFault.TheVariants.{Syntax, Label, BadL
 use Rattle.bq_asm.specs.Mnemonic.{name}
 use Rattle.bq_asm.specs.Operands.{mnemonic_of, operands_of}
 use Rattle.bq_asm.specs.Line.{Line, Spells}
-use Rattle.bq_labels.specs.Labels.{Mean, NoLine, IsFirstLine, IsRepeated, HasLabelFault}
+use Rattle.bq_asm.specs.Labels.{Mean, NoLine, IsFirstLine, IsRepeated, HasLabelFault}
 
 -- ---- spellings
 

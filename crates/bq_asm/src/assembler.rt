@@ -2,12 +2,13 @@ ghost use Rattle.std.specs.Prelude.{◌≡◌, IfOk, IfErr, MatchResult, List, m
 ghost use Rattle.bq_insn.specs.Slots.{IsText};
 ghost use Rattle.bq_asm.specs.Source.{Says, IsSource, IsFault};
 ghost use Rattle.bq_asm.specs.Steps.{IsReadFault, IsLengthFault, least};
-ghost use Rattle.bq_labels.specs.View.{line_view};
+ghost use Rattle.bq_asm.specs.View.{line_view};
 
 use crate::fault::AsmFault;
 use crate::line::read_line;
 use bq_insn::{DecodeFault, Insn, Text};
-use bq_labels::{Line, first_repeated, resolve};
+use crate::labels::{first_repeated, resolve};
+use crate::statement::Line;
 use std::alloc::Global;
 
 /// What the lines of a source say.

@@ -21,7 +21,8 @@
 //!
 //! What a source spells is defined in `specs/`, apart from the code: `Mnemonic` has the mnemonics,
 //! `Operands` the operands of each instruction, `Line` the grammar of a line, and `Source` the spellings of a
-//! text, the one that is written, and which fault stands first. What lines mean is `Labels` of the crate `bq_labels`.
+//! text, the one that is written, and which fault stands first. What lines mean that define names and jump to them is
+//! `Labels`, which knows nothing of how lines are spelled; `Jumps` has the jump by a distance.
 //!
 //! The program that reads files of assembler text stands on this crate.
 //!
@@ -43,11 +44,14 @@
 mod assembler;
 mod disassembler;
 mod fault;
+mod jump;
+mod labels;
 pub mod laws;
 mod line;
 mod mnemonic;
 mod number;
 mod operand;
+mod statement;
 mod text;
 pub mod worked;
 

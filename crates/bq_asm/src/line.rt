@@ -2,14 +2,15 @@ ghost use Rattle.std.specs.Prelude.{◌≡◌};
 ghost use Rattle.std.specs.List.{list_all};
 ghost use Rattle.bq_asm.specs.Line.{Complete, is_name_byte};
 ghost use Rattle.bq_asm.specs.Reading.{Gives, is_name, is_comment, target_at, statement_at, instruction_at, words_at, label_else, cut, trimmed, line_at};
-ghost use Rattle.bq_labels.specs.View.{line_view, statement_view};
+ghost use Rattle.bq_asm.specs.View.{line_view, statement_view};
 
 use crate::mnemonic::Mnemonic;
 use crate::number::distance;
 use crate::operand::{memory, operand, register};
 use crate::text::{cut, pair, trimmed};
 use bq_insn::{Extension, Insn, Size};
-use bq_labels::{Jump, Line, Statement};
+use crate::jump::Jump;
+use crate::statement::{Line, Statement};
 use bq_word::{AluOp, Relation, SignBits, Width};
 use decimal::natural;
 

@@ -8,7 +8,7 @@ ghost use Rattle.bq_asm.specs.Reading.{jump_by, line_at, operand_at, place_at, s
 ghost use Rattle.bq_asm.specs.Source.{disassembly, reason, insn_line, IsFault};
 ghost use Rattle.bq_asm.specs.Line.{Label};
 ghost use Rattle.bq_asm.specs.declared.fault.AsmFault.TheVariants as fault;
-ghost use Rattle.bq_labels.specs.declared.jump.Jump.TheVariants as jump;
+ghost use Rattle.bq_asm.specs.declared.jump.Jump.TheVariants as jump;
 ghost use Rattle.bq_asm.specs.declared.mnemonic.Mnemonic.TheVariants as mnemonic;
 ghost use Rattle.bq_insn.specs.declared.insn.Extension.TheVariants as extension;
 ghost use Rattle.bq_insn.specs.declared.insn.Insn.TheVariants as insn;

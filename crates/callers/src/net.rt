@@ -5,7 +5,7 @@ ghost use Rattle.q_net.specs.Serves.{IsServed};
 
 use q_book::Book;
 use q_net::serve;
-use q_wire::{Counted, TransportFailed};
+use q_outside::{Counted, TransportFailed};
 use sc_msg::Message;
 use std::alloc::Global;
 use std::io::{Read, Write};

@@ -5,7 +5,7 @@ use Rattle.std.proofs.KnownBytes.{Appends-nil, Appends-trans, Consumes-nil, Cons
 use Rattle.std.proofs.lemmas.List.Concat.{flat_map-append}
 use Rattle.std.proofs.lemmas.List.Folds.{list_all-append}
 use Rattle.reasons.specs.declared.Reason.{Reason}
-use Rattle.q_refused.specs.Line.{line_of}
+use Rattle.q_sim.specs.Line.{line_of}
 use Rattle.q_sim.specs.declared.refusal.RefusalPlace.{RefusalPlace}
 use Rattle.q_net.specs.declared.request.Request.{Request}
 use Rattle.q_asker.specs.declared.connection.ExchangeFault.{ExchangeFault}

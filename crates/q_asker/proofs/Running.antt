@@ -4,7 +4,7 @@ use Rattle.std.specs.Prelude.{IfOk, IsErrAnd, Vec}
 use Rattle.std.specs.declared.alloc.Global.{Global}
 use Rattle.reasons.specs.declared.Reason.{Reason}
 use Rattle.reasons.specs.declared.Reason.TheVariants as reasons
-use Rattle.q_refused.specs.Line.{line_of}
+use Rattle.q_sim.specs.Line.{line_of}
 use Rattle.q_sim.specs.declared.refusal.RefusalPlace.{RefusalPlace}
 use Rattle.q_sim.specs.declared.refusal.RefusalPlace.TheVariants.{Untold}
 use Rattle.q_net.specs.declared.replies.Reply.{Reply}

@@ -5,7 +5,7 @@ use Rattle.std.specs.Io.KnownBytes.{Appends, Consumes}
 use Rattle.std.specs.List.{flat_map, list_all}
 use Rattle.reasons.specs.Table.{number}
 use Rattle.reasons.specs.declared.Reason.{Reason}
-use Rattle.q_refused.specs.Line.{line_of}
+use Rattle.q_sim.specs.Line.{line_of}
 use Rattle.q_sim.specs.declared.refusal.RefusalPlace.{RefusalPlace}
 use Rattle.q_sim.specs.declared.refusal.RefusalPlace.TheVariants.{Untold}
 use Rattle.q_net.specs.Replies.{reply_bytes}
@@ -14,7 +14,7 @@ use Rattle.q_net.specs.declared.replies.Reply.{Reply}
 use Rattle.q_net.specs.declared.replies.Reply.TheVariants as reply
 use Rattle.q_net.specs.declared.request.Request.{Request}
 use Rattle.q_net.specs.declared.request.Request.TheVariants as request
-use Rattle.q_wire.specs.declared.counted.Counted.{Counted}
+use Rattle.q_outside.specs.declared.counted.Counted.{Counted}
 use Rattle.q_asker.specs.Makes.{IsMemory, Makes, MakesNone}
 use Rattle.q_asker.specs.Replies.{MayReply}
 use Rattle.q_asker.specs.declared.connection.Connection.{Connection}

@@ -10,7 +10,7 @@ ghost use Rattle.q_asker.specs.Replies.{MayReply};
 use crate::bytes::request_bytes;
 use crate::replies::{expected, read_reply};
 use q_net::{Reply, Request};
-use q_wire::Counted;
+use q_outside::Counted;
 use reasons::{Reason, told};
 use std::alloc::Global;
 use std::io::{Read, Write};

@@ -3,9 +3,8 @@
 ghost use Rattle.std.specs.Prelude.{◌≡◌};
 ghost use Rattle.q_asker.specs.Runs.{IsRefusedAlone, failures_after, status_of};
 
-use q_refused::put_refusal;
-use q_sim::Refusal;
-use q_wire::Counted;
+use q_sim::{Refusal, put_refusal};
+use q_outside::Counted;
 use std::io::Write;
 
 /// How a run ended.

@@ -8,7 +8,7 @@ use crate::clock::has_passed;
 use crate::connection::Connection;
 use crate::step::{Cause, Halt, LineEnd, end_of, give_up, tell_exchange};
 use q_net::{Reply, Request};
-use q_wire::Counted;
+use q_outside::Counted;
 use reasons::Reason;
 use std::alloc::Global;
 use std::io::{Read, Write};

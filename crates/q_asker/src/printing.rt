@@ -3,8 +3,8 @@
 ghost use Rattle.std.specs.Prelude.{◌≡◌, ◌++◌, ℕ, List, OnOk, OnErr, codes, decimal};
 ghost use Rattle.std.specs.Io.KnownBytes.{Appends};
 ghost use Rattle.std.specs.List.{flat_map};
-ghost use Rattle.q_wire.specs.Counts.{count_after};
-ghost use Rattle.q_refused.specs.Line.{line_of};
+ghost use Rattle.q_outside.specs.Counts.{count_after};
+ghost use Rattle.q_sim.specs.Line.{line_of};
 ghost use Rattle.reasons.specs.Table as table;
 ghost use Rattle.reasons.specs.declared.Reason.{Reason as Why};
 ghost use Rattle.q_asker.specs.Replies.{IsRefusal, MayReply};
@@ -13,9 +13,8 @@ ghost use Rattle.q_asker.specs.Steps.{Tells, number_word, query_of, spaced, told
 use crate::replies::reason_of;
 use itoa::Buffer;
 use q_net::{Reply, Request};
-use q_refused::put_line;
-use q_sim::RefusalPlace;
-use q_wire::{Counted, TransportFailed};
+use q_sim::{RefusalPlace, put_line};
+use q_outside::{Counted, TransportFailed};
 use std::io::Write;
 
 /// Writes a space and a number in decimal.

@@ -5,12 +5,12 @@ ghost use Rattle.reasons.specs.Table as table;
 ghost use Rattle.reasons.specs.declared.Reason.{Reason as Why};
 ghost use Rattle.q_net.specs.Replies.{reply_bytes};
 ghost use Rattle.q_net.specs.declared.replies.Reply.{Reply as Said};
-ghost use Rattle.q_wire.specs.Counts.{count_after};
+ghost use Rattle.q_outside.specs.Counts.{count_after};
 ghost use Rattle.q_asker.specs.Replies.{CanBe, Hears, HearsBehind, IsRefusal, expected};
 ghost use Rattle.q_asker.specs.declared.replies.ReplyKind.TheVariants as kind;
 
 use q_net::{Reply, Request, read_byte, read_long, read_short};
-use q_wire::{Counted, TransportFailed};
+use q_outside::{Counted, TransportFailed};
 use reasons::Reason;
 use std::io::Read;
 

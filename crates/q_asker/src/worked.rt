@@ -1,7 +1,7 @@
 //! Worked values of a client's lines, requests, replies, steps and endings.
 
 ghost use Rattle.std.specs.Prelude.{◌≡◌, ℕ, List, [], ◌∷◌, ◌++◌, codes, false, true, Option, Some, Ok};
-ghost use Rattle.q_files.specs.declared.files.FileFault.TheVariants as file_fault;
+ghost use Rattle.q_outside.specs.declared.files.FileFault.TheVariants as file_fault;
 ghost use Rattle.q_net.specs.declared.replies.Reply.TheVariants as reply;
 ghost use Rattle.q_net.specs.declared.request.Request.TheVariants as request;
 ghost use Rattle.q_script.specs.Records.{record_lines};

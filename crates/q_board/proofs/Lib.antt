@@ -8,3 +8,8 @@ pub mod Rows
 pub mod AskerCalls
 pub mod RunnerCalls
 pub mod Opened
+mod Rounds
+mod Passing
+pub mod Looks
+mod Turning
+mod Pumping

@@ -10,3 +10,7 @@ pub mod AskerModel
 pub mod RunnerModel
 pub mod Calls
 pub mod Faults
+pub mod Looks
+pub mod Served
+pub mod Pumped
+pub mod Turns

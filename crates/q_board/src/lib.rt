@@ -11,6 +11,12 @@
 //! seat holds in every schedule. [`Board`] has the calls, [`AskerSeat`] and [`RunnerSeat`] are what a thread needs for
 //! them, and [`Claim`] is the right to a job. Only [`Board::open`] takes memory.
 //!
+//! A runner's thread tries the slots of a board in turn, and runs and finishes each job that it claims: [`run_some`] is
+//! its round, [`with_runners`] has the threads. The pump of a node carries results from its asker's row into its book,
+//! and jobs from the book into the row: [`pump_once`]. A [`Gate`] is told of each run. `specs/Served` says what a round
+//! makes of a runner's seat, and that each job that it finished passed the gate; `specs/Pumped` what the pump makes of
+//! a row and a book, and `specs/Turns` of each turn. That a thread gets on is said nowhere.
+//!
 //! A seat is seen as the record of what its holder has done: `specs/AskerModel`, `specs/RunnerModel`; `specs/Calls`
 //! says what each call makes of it.
 //!
@@ -47,15 +53,24 @@ mod claim;
 mod drowsy;
 mod fault;
 mod found;
+mod gate;
 mod law;
+mod pump;
 mod rule;
+mod runner;
+mod runners;
 mod seats;
 mod view;
 pub mod worked;
+pub mod worked_runners;
 
 pub use board::{Board, MOST_ASKERS, MOST_RUNNERS};
 pub use claim::Claim;
 pub use drowsy::Drowsy;
 pub use fault::{OpenFault, RowFull};
+pub use gate::{Gate, Open};
 pub use law::accounted;
+pub use pump::pump_once;
+pub use runner::run_some;
+pub use runners::with_runners;
 pub use seats::{AskerSeat, ROW, RunnerSeat, Slot};

@@ -4,9 +4,8 @@ ghost use Rattle.std.specs.Prelude.{◌≡◌, All};
 ghost use Rattle.q_board.specs.BoardId.{board_id};
 
 use crate::step::Outcome;
-use q_board::{AskerSeat, Board, ROW};
+use q_board::{AskerSeat, Board, ROW, pump_once};
 use q_book::Book;
-use q_pool::pump_once;
 use q_session::{Done, Job};
 use std::alloc::Global;
 

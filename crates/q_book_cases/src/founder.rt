@@ -7,7 +7,7 @@ use q_book::Book;
 use q_net::serve;
 use q_session::{Done, Job, Ran};
 use q_table::ProgramId;
-use q_wire::Counted;
+use q_outside::Counted;
 use sc_members::Config;
 use sc_msg::{Message, Version};
 use std::alloc::Global;

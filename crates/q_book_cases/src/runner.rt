@@ -5,8 +5,7 @@ ghost use Rattle.q_board.specs.BoardId.{board_id};
 
 use crate::step::Outcome;
 use bq_frame::Block;
-use q_board::{Board, RunnerSeat};
-use q_pool::{Open, run_some};
+use q_board::{Board, Open, RunnerSeat, run_some};
 use std::alloc::Global;
 
 /// At how many slots a runner looks: the row of one asker.

@@ -1,7 +1,7 @@
 -- What is explained and what is done, of a value that is known in another way.
 use Rattle.std.proofs.Common.{◌≡◌, ℕ, Bool, List, Vec, Global, map, sym, subst}
 use denote.Ref.{Bor}
-use Rattle.q_files.specs.Files.{Reading}
+use Rattle.q_outside.specs.Files.{Reading}
 use Rattle.q_sim.specs.Simulates.{Writing}
 use Rattle.q_command.specs.declared.words.Wanted.{Wanted}
 use Rattle.q_command.specs.declared.words.Wanted.TheVariants as wanted

@@ -2,11 +2,11 @@
 use Rattle.std.specs.Prelude.{◌≡◌, ◌⊎◌, ℕ, Bool, List, Option, Ok, Err, map}
 use Rattle.std.specs.Io.KnownBytes.{Appends}
 use Rattle.std.specs.declared.io.Error as io
-use Rattle.q_files.specs.Files.{Reading}
+use Rattle.q_outside.specs.Files.{Reading}
 use Rattle.q_sim.specs.Refusal.{refusal_line}
 use Rattle.q_sim.specs.Simulates.{Writing}
 use Rattle.q_sim.specs.declared.refusal.Refusal.TheVariants as refusal
-use Rattle.q_wire.specs.Counts.{one_more}
+use Rattle.q_outside.specs.Counts.{one_more}
 use Rattle.q_command.specs.Words.{Reads, TellsUngiven, exit_status}
 use Rattle.q_command.specs.declared.words.FileCommand.{FileCommand}
 use Rattle.q_command.specs.declared.words.Wanted.{Wanted}

@@ -54,7 +54,7 @@ fn line_advice(
 /// What explains why the script in the file of this name is refused, from its bytes; none of a file that was not read,
 /// of which [`Folder`] tells, and where memory ran out.
 ///
-/// [`Folder`]: q_files::Folder
+/// [`Folder`]: q_outside::Folder
 pub(crate) fn client_advice(
     alloc: Global,
     script: &str,

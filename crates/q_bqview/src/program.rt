@@ -11,11 +11,9 @@ use q_command::{
     Denied, FileCommand, NodeCommand, Wanted, WordsFault, carry_out, gather_files, given_words,
     nodes_advice, read_words,
 };
-use q_files::Files;
+use q_outside::{Counted, Files};
 use q_nodes::{Ending, FileRun, NodesFault, run_file};
-use q_refused::put_refusal;
-use q_sim::Refusal;
-use q_wire::Counted;
+use q_sim::{Refusal, put_refusal};
 use std::alloc::{AllocError, Global};
 use std::convert::AsStr;
 use std::env::Args;

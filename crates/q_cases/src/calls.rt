@@ -9,7 +9,7 @@ use crate::program::refusal;
 use crate::writer::listed;
 use bq_state::Bounds;
 use q_cluster::Cluster;
-use q_files::MemoryFiles;
+use q_outside::MemoryFiles;
 use q_script::{Script, number};
 use q_session::Ran;
 use q_sim::{Printed, Refusal, simulate};

@@ -2,8 +2,7 @@
 
 use crate::line::CaseLine;
 use q_command::{FileCommand, Wanted, WordsFault, carry_out, gather_files, read_words};
-use q_files::{Files, LONGEST_TEXT, MemoryFiles};
-use q_wire::Counted;
+use q_outside::{Counted, Files, LONGEST_TEXT, MemoryFiles};
 use std::alloc::{AllocError, Global};
 use std::io;
 use std::io::Write;

@@ -1,6 +1,6 @@
 //! A transport that hears nothing, or sends nothing, or fails to send.
 
-use q_wire::{Transport, TransportFault};
+use q_outside::{Transport, TransportFault};
 
 /// A transport that hears nothing where it is deaf, sends nothing where it is mute, and fails at each send where it is
 /// failing.

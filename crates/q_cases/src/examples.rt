@@ -8,8 +8,7 @@
 
 use crate::commands::{explained, gathered_notes};
 use q_command::{FileCommand, Wanted, read_words};
-use q_files::{Files, Folder, LONGEST_TEXT};
-use q_wire::Counted;
+use q_outside::{Counted, Files, Folder, LONGEST_TEXT};
 use reasons::Reason;
 use std::alloc::Global;
 use std::io::{ErrorKind, Write};

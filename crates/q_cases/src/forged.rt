@@ -1,6 +1,6 @@
 //! A transport over which a node hears, before all else, what nobody sent.
 
-use q_wire::{Transport, TransportFault, put_at_start};
+use q_outside::{Transport, TransportFault, put_at_start};
 use std::alloc::{AllocError, Global};
 
 /// The message by which node 99 leaves, in version 1: bytes that are no message to a node of version 2.

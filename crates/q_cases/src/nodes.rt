@@ -5,12 +5,11 @@ use crate::deaf::Deaf;
 use crate::forged::{Forged, datagrams};
 use crate::noise::{Flooding, Noisy};
 use q_command::{Wanted, read_words};
-use q_files::{Files, MemoryFiles};
+use q_outside::{Counted, Files, Hub, MemoryFiles, MemoryTransport, Peer, UdpTransport};
 use q_nodes::{
     ClusterScript, Ending, NodesFault, open_sockets, run_cluster, run_file, run_over_sockets,
 };
 use q_script::number;
-use q_wire::{Counted, Hub, MemoryTransport, Peer, UdpTransport};
 use std::alloc::{AllocError, Global};
 use std::io;
 use std::io::Write;

@@ -2,7 +2,7 @@
 
 ghost use Rattle.std.specs.Prelude.{◌≡◌};
 
-use q_wire::{Transport, TransportFault, put_at_start};
+use q_outside::{Transport, TransportFault, put_at_start};
 use std::alloc::{AllocError, Global};
 
 /// Bytes that are no message.

@@ -1,8 +1,7 @@
 //! Commands whose writer fails.
 
 use q_command::{FileCommand, Outcome, carry_out};
-use q_files::{Files, MemoryFiles};
-use q_wire::Counted;
+use q_outside::{Counted, Files, MemoryFiles};
 use std::alloc::Global;
 use std::io;
 use std::io::{ErrorKind, Write};

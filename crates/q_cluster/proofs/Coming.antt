@@ -25,10 +25,10 @@ use Rattle.q_history.specs.Clusters.{Said, put, enters, entered, crashed}
 use Rattle.q_history.proofs.Accepted.{at_live}
 use Rattle.q_history.proofs.EveryBook.{history_are}
 use Rattle.q_history.proofs.Histories.{history_next}
-use Rattle.q_shelf.specs.Tables.{BookMap}
+use Rattle.q_cluster.specs.Tables.{BookMap}
 use Rattle.q_cluster.specs.Acts.{cluster_of, IsHeaded, IsCluster, IsThere}
 use Rattle.q_cluster.proofs.Histories.{follows}
-use Rattle.q_shelf.proofs.Tables.{get-each}
+use Rattle.q_cluster.proofs.Tables.{get-each}
 use Rattle.q_cluster.proofs.Going.{node_of, desk_of, put_is, head_on, files}
 
 pub none_of : {X : Type 0} (o : Option X) → is_some o ≡ false → o ≡ None

@@ -19,8 +19,8 @@ use Rattle.q_history.specs.Faults.{of_book}
 use Rattle.q_history.specs.State.{ClusterState}
 use Rattle.q_history.specs.Clusters.{Said, lift, posts, posted, finished}
 use Rattle.q_history.specs.Calls.{Answers, Follows, Takes}
-use Rattle.q_shelf.specs.Tables.{BookMap}
-use Rattle.q_shelf.specs.Calls.{StepsAt}
+use Rattle.q_cluster.specs.Tables.{BookMap}
+use Rattle.q_cluster.specs.Calls.{StepsAt}
 use Rattle.q_cluster.specs.Acts.{cluster_of, IsCluster, MayRun}
 use Rattle.q_cluster.proofs.Posting.{refused_so}
 use Rattle.q_cluster.proofs.Calls.{Call, IsCall, posting}

@@ -35,11 +35,11 @@ use Rattle.q_history.specs.Clusters.{Said, put, quiet, noted, lift, by_book, at,
 use Rattle.q_history.specs.Heads.{founders_for}
 use Rattle.q_history.proofs.Accepted.{at_live}
 use Rattle.q_history.proofs.Histories.{history_next, history_kept}
-use Rattle.q_shelf.specs.Tables.{BookMap}
-use Rattle.q_shelf.specs.Calls.{StepsAt}
+use Rattle.q_cluster.specs.Tables.{BookMap}
+use Rattle.q_cluster.specs.Calls.{StepsAt}
 use Rattle.q_cluster.specs.Acts.{Doing, cluster_of, IsHeaded, AreFiled, IsCluster, IsThere, booked, book_at}
 use Rattle.q_cluster.proofs.Histories.{nothing}
-use Rattle.q_shelf.proofs.Tables.{same_some, get-each, each-insert}
+use Rattle.q_cluster.proofs.Tables.{same_some, get-each, each-insert}
 use Rattle.q_cluster.proofs.Calls.{Keeps, Call, does, IsCall, Note, delivering}
 
 abbrev pub node_of : BookState → NodeState

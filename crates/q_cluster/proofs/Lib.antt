@@ -1,4 +1,4 @@
--- What the parts of an event make together.
+-- Tables of books, and what the parts of an event make together.
 pub mod Histories
 pub mod Calls
 pub mod Posting
@@ -6,3 +6,5 @@ pub mod Going
 pub mod Coming
 pub mod Finishing
 pub mod Founding
+pub mod Tables
+mod FoundBooks

@@ -12,7 +12,7 @@ use Rattle.q_history.specs.State.{ClusterState}
 use Rattle.q_history.specs.Clusters.{Said}
 use Rattle.q_history.specs.Calls.{IsHistory}
 use Rattle.q_history.specs.Heads.{founders_for, book_of}
-use Rattle.q_shelf.specs.Tables.{BookMap, each}
+use Rattle.q_cluster.specs.Tables.{BookMap, each}
 
 -- a cluster by its parts
 abbrev pub cluster_of : Version → BookMap → Past → List Job → ClusterState

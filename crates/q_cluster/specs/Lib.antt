@@ -1,4 +1,5 @@
--- What the parts of a cluster do at an event.
-pub use Rattle.q_shelf.specs.Tables
+-- The books of a cluster, and what its parts do at an event.
 pub mod Acts
 pub mod Codes
+pub mod Tables
+pub mod Calls

@@ -24,7 +24,7 @@ use q_history::laws::{
 };
 use q_history::{Answer, ClusterEvent, ClusterFault, ClusterStep, EventAnswer, Handed};
 use q_session::{Done, Job};
-use q_shelf::{Books, found_books};
+use crate::books::{Books, found_books};
 use q_table::{Program, ProgramId};
 use sc_members::Config;
 use sc_msg::{Message, Version};

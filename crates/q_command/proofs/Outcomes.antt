@@ -10,8 +10,8 @@ use Rattle.q_session.specs.declared.query.Phase.TheVariants.{Answered, Collectin
 use Rattle.q_session.specs.declared.query.Query.{Query}
 use Rattle.q_session.specs.declared.ran.Ran.{Ran}
 use Rattle.q_book.specs.State.{BookState}
-use Rattle.q_files.specs.Memory.{Reads}
-use Rattle.q_files.specs.declared.memory.MemoryFiles.{MemoryFiles}
+use Rattle.q_outside.specs.Memory.{Reads}
+use Rattle.q_outside.specs.declared.memory_files.MemoryFiles.{MemoryFiles}
 use Rattle.q_history.specs.State.{ClusterState}
 use Rattle.q_replay.specs.Journal.{journal_of}
 use Rattle.q_command.specs.Beginning.{IsBeginning, IsCut}

@@ -8,7 +8,7 @@ use Rattle.q_sim.specs.declared.refusal.Refusal.{Refusal}
 use Rattle.q_sim.specs.declared.refusal.Refusal.TheVariants.{FileFailed, Script}
 use Rattle.q_command.specs.Perform.{IsUnsimulated, Refuses}
 use Rattle.q_command.specs.declared.denied.Denied.{Denied}
-use Rattle.q_files.specs.Files.{Reading}
+use Rattle.q_outside.specs.Files.{Reading}
 use Rattle.q_command.specs.declared.words.FileCommand.{FileCommand}
 
 -- a script that is read is not run

@@ -3,7 +3,7 @@ use Rattle.std.specs.Prelude.{◌≡◌, ◌⊎◌, ℕ, ◌-◌, Bool, List, []
 use Rattle.std.specs.List.{flat_map}
 use Rattle.std.specs.Io.KnownBytes.{Appends}
 use Rattle.q_book.specs.State.{BookState}
-use Rattle.q_files.specs.declared.files.FileFault.{FileFault}
+use Rattle.q_outside.specs.declared.files.FileFault.{FileFault}
 use Rattle.q_gather.specs.Gather.{AreRefused}
 use Rattle.q_gather.specs.declared.fault.GatherFault.{GatherFault}
 use Rattle.q_history.specs.State.{ClusterState}
@@ -11,7 +11,7 @@ use Rattle.q_replay.specs.declared.fault.ReplayFault.{ReplayFault}
 use Rattle.q_sim.specs.Refusal.{refusal_line, refusal_of}
 use Rattle.q_sim.specs.declared.refusal.Refusal.{Refusal}
 use Rattle.q_sim.specs.declared.refusal.Refusal.TheVariants as refusal
-use Rattle.q_wire.specs.Counts.{one_more}
+use Rattle.q_outside.specs.Counts.{one_more}
 use Rattle.q_command.specs.Beginning.{IsBeginning, IsRefused}
 use Rattle.q_command.specs.GatheredLines.{journal_line}
 use Rattle.q_command.specs.Tells.{Tells, of_gather}

@@ -30,16 +30,16 @@ use Rattle.q_sim.specs.Refusal.{refusal_line, refusal_of}
 use Rattle.q_sim.specs.Simulates.{IsSimulationFault, Simulates, Writing}
 use Rattle.q_command.specs.Audit.{Audits, IsUnaudited}
 use Rattle.q_command.specs.Listing.{listing_of}
-use Rattle.q_files.specs.Files.{Reading}
-use Rattle.q_files.specs.declared.files.FileFault.{FileFault}
-use Rattle.q_files.specs.declared.files.FileFault.TheVariants.{Failed}
+use Rattle.q_outside.specs.Files.{Reading}
+use Rattle.q_outside.specs.declared.files.FileFault.{FileFault}
+use Rattle.q_outside.specs.declared.files.FileFault.TheVariants.{Failed}
 use Rattle.q_command.specs.declared.check.Check.{Check as Checking}
 use Rattle.q_command.specs.declared.denied.Denied.{Denied}
 use Rattle.q_command.specs.declared.perform.Outcome.{Outcome}
 use Rattle.q_command.specs.declared.perform.Outcome.TheVariants.{Answered, Unsaved, LineRefused, Refused, Unwritten}
 use Rattle.q_command.specs.declared.perform.Work.{Work}
 use Rattle.q_command.specs.declared.perform.Work.TheVariants as work
-use Rattle.q_wire.specs.Counts.{one_more}
+use Rattle.q_outside.specs.Counts.{one_more}
 use Rattle.q_command.specs.Words.{is_strict}
 use Rattle.q_command.specs.declared.words.FileCommand.{FileCommand}
 use Rattle.q_command.specs.declared.words.FileCommand.TheVariants.{Asm, Dis, Check, Run, Sim, Audit}

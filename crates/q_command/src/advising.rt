@@ -266,7 +266,7 @@ fn is_explained(denied: &Denied<'_>) -> bool
 ///
 /// The one error is that memory ran out (99 OutOfMemory).
 ///
-/// [`Folder`]: q_files::Folder
+/// [`Folder`]: q_outside::Folder
 pub fn advice(
     alloc: Global,
     line: &FileCommand<'_>,

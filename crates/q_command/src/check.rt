@@ -9,7 +9,7 @@ use crate::words::ProgramForm;
 use bq_check::{Certified, Notes};
 use bq_state::Bounds;
 use q_explain::states;
-use q_files::{FileFault, Files};
+use q_outside::{FileFault, Files};
 use q_sim::{Printed, Refusal};
 use std::alloc::{AllocError, Global};
 

@@ -11,10 +11,8 @@ use crate::gathered_ending::Ending;
 use crate::gathered_teller::gathered;
 use crate::journal_notes::note_gather;
 use crate::journal_sources::{Sources, of_gather, read_all};
-use q_files::Files;
-use q_refused::put_refusal;
-use q_sim::Refusal;
-use q_wire::Counted;
+use q_outside::{Counted, Files};
+use q_sim::{Refusal, put_refusal};
 use std::alloc::Global;
 use std::io::Write;
 

@@ -10,7 +10,7 @@ ghost use Rattle.q_command.specs.Tells as tells;
 use crate::beginnings::beginning;
 use crate::journal_notes::note_journal;
 use q_book::Book;
-use q_files::Files;
+use q_outside::Files;
 use q_gather::GatherFault;
 use q_history::ClusterFault;
 use q_sim::Refusal;

@@ -5,8 +5,7 @@ use crate::answer::Answer;
 use crate::denied::Denied;
 use crate::line::text_of;
 use crate::words::FileCommand;
-use q_refused::write_refused_line;
-use q_sim::RefusedLine;
+use q_sim::{RefusedLine, write_refused_line};
 use std::alloc::{AllocError, Global};
 use std::io::Write;
 

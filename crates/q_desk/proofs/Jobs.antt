@@ -14,8 +14,8 @@ use Rattle.q_desk.specs.State.{DeskState}
 use Rattle.q_desk.specs.declared.journal.Entry.{Entry}
 use Rattle.q_desk.specs.declared.journal.Entry.TheVariants as entry
 use Rattle.q_desk.specs.Desks.{most_events, how_many_run, with_phase, is_ready, is_running, is_job_of, ready_view, job_at, job_from, next_job, handed_out, posted}
-use Rattle.q_queries.specs.Queries.{next_at, next_from, next_of, checked_at, checked, IsOfRunning}
-use Rattle.q_queries.specs.declared.unfit.Unfit.TheVariants as unfit
+use Rattle.q_desk.specs.Queries.{next_at, next_from, next_of, checked_at, checked, IsOfRunning}
+use Rattle.q_desk.specs.declared.unfit.Unfit.TheVariants as unfit
 use Rattle.q_session.specs.Jobs.{view_in}
 use Rattle.q_session.specs.Records.{HasRecordsWithin}
 use Rattle.q_desk.specs.Answers.{IsAnswered}

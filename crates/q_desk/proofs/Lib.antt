@@ -9,3 +9,4 @@ pub mod Accepted
 pub mod Moves
 pub mod Changes
 pub mod Own
+mod NextJobs

@@ -24,7 +24,7 @@ use Rattle.q_session.specs.declared.query.Phase.TheVariants.{Collecting, Ready, 
 use Rattle.q_session.specs.declared.query.Query.{Query}
 use Rattle.q_session.specs.declared.job.Job.{Job}
 pub use Rattle.q_session.specs.Same.{is_same_entry, is_same_view, is_same_program, is_job_of}
-pub use Rattle.q_queries.specs.Queries.{is_ready, ready_view, job_on, answer_in}
+pub use Rattle.q_desk.specs.Queries.{is_ready, ready_view, job_on, answer_in}
 use Rattle.q_desk.specs.declared.fault.CallFault.{CallFault}
 use Rattle.q_desk.specs.declared.fault.CallFault.TheVariants as call
 use Rattle.q_desk.specs.declared.fault.DeskFault.{DeskFault}

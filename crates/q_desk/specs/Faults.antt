@@ -4,8 +4,8 @@ use Rattle.reasons.specs.declared.Reason.TheVariants as reasons
 use Rattle.sc_node.specs.declared.fault.NodeFault.TheVariants as node
 use Rattle.q_table.specs.declared.fault.TableFault.{TableFault}
 use Rattle.q_table.specs.declared.fault.TableFault.TheVariants as table
-use Rattle.q_queries.specs.declared.unfit.Unfit.{Unfit}
-use Rattle.q_queries.specs.declared.unfit.Unfit.TheVariants as unfit
+use Rattle.q_desk.specs.declared.unfit.Unfit.{Unfit}
+use Rattle.q_desk.specs.declared.unfit.Unfit.TheVariants as unfit
 use Rattle.q_desk.specs.declared.fault.CallFault.{CallFault}
 use Rattle.q_desk.specs.declared.fault.CallFault.TheVariants as call
 use Rattle.q_desk.specs.declared.fault.DeskFault.{DeskFault}

@@ -7,7 +7,7 @@ use Rattle.sc_operations.specs.declared.progress.Ended.{Ended}
 use Rattle.bq_check.specs.Certificate.{Certificate}
 use Rattle.q_table.specs.Programs.{IsTable}
 use Rattle.q_session.specs.Jobs.{view_in}
-pub use Rattle.q_queries.specs.Queries.{MayAllRun}
+pub use Rattle.q_desk.specs.Queries.{MayAllRun}
 use Rattle.q_session.specs.Records.{HasRecordsWithin}
 use Rattle.q_desk.specs.State.{DeskState}
 use Rattle.q_desk.specs.Desks.{most_queries, most_events, how_many_run}

@@ -1,7 +1,8 @@
--- Desks: what each call answers and does, and why answers are right.
+-- Desks: what queries ask for, what each call answers and does, and why answers are right.
 pub mod State
 pub mod Desks
 pub mod Answers
 pub mod Keeping
 pub mod Faults
 pub mod Sample
+pub mod Queries

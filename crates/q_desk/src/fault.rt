@@ -3,7 +3,7 @@
 ghost use Rattle.std.specs.Prelude.{◌≡◌};
 ghost use Rattle.q_desk.specs.Faults.{of_table, of_result, memory, reason};
 
-use q_queries::Unfit;
+use crate::unfit::Unfit;
 use q_table::TableFault;
 use reasons::{Reason, passed_on, told};
 use sc_node::NodeFault;

@@ -9,14 +9,24 @@
 //! the node: the journal has room for the entry before the node acts, so both do their part, or neither. No call drops
 //! or changes an earlier entry.
 //!
+//! Of its queries the one that is ready and has the least number is handed out next. The result of a job of this node
+//! alone is accepted, where its query runs and the job is that query's: so a query has one answer, and whoever posts
+//! the result of another job, or a second result, is refused. `specs/Queries` says what is answered, and with which of
+//! the two refusals.
+//!
 //! Each call is exact: `specs/Desks` says what it answers and which state it leaves, or with which fault it refuses.
 //! After a refusal the desk is as it was.
 #![tactic(auto)]
 
+mod answer;
+mod check;
 mod completed;
 mod desk;
+mod entries;
 mod fault;
 mod journal;
+mod next;
+mod unfit;
 pub mod worked;
 
 pub use completed::Completed;

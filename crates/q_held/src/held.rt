@@ -2,14 +2,13 @@
 
 ghost use Rattle.std.specs.Prelude.{◌≡◌, ◌≤◌, ◌+◌, [], vec_len, vec_capacity, MatchResult};
 ghost use Rattle.q_board.specs.BoardId.{board_id};
-ghost use Rattle.q_pump.specs.Pumped.{Pumped, Stopped};
+ghost use Rattle.q_board.specs.Pumped.{Pumped, Stopped};
 ghost use Rattle.q_held.specs.Held.{Asks, Delivers, Hears, Leaves, Receives, Stores, both_unsent, counted, no_losses, no_unsent};
 
 use crate::losses::{Losses, Unsent};
-use q_board::{AskerSeat, Board};
+use q_board::{AskerSeat, Board, pump_once};
 use q_book::{Asked, Book, BookFault};
 use q_desk::Completed;
-use q_pump::pump_once;
 use q_table::ProgramId;
 use sc_decode::decode_as;
 use sc_msg::{Message, MessageFault};

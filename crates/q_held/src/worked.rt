@@ -14,7 +14,7 @@ ghost use Rattle.q_book.specs.Books.{asked, delivered, stored};
 ghost use Rattle.q_book.specs.declared.answer.Asked.{Asked};
 ghost use Rattle.q_book.specs.declared.answer.Taken.{Taken};
 ghost use Rattle.q_book.specs.declared.fault.BookFault.TheVariants as book;
-ghost use Rattle.q_pump.specs.Pumped.{Pumped};
+ghost use Rattle.q_board.specs.Pumped.{Pumped};
 ghost use Rattle.q_held.specs.Held.{Asks, Delivers, Hears, Receives, Stores, both_unsent, counted, losses_text, no_losses, sum_of, together, unsent_text, with_one};
 ghost use Rattle.q_held.specs.Addressees.{addressee_of, asking_tag};
 ghost use Rattle.q_held.specs.declared.held.Lost.{Lost};

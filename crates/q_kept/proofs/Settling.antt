@@ -13,7 +13,7 @@ use Rattle.q_desk.specs.declared.fault.DeskFault.{DeskFault}
 use Rattle.q_book.specs.State.{BookState}
 use Rattle.q_book.specs.Books.{by_desk, with_desk}
 use Rattle.q_book.specs.declared.fault.BookFault.{BookFault}
-use Rattle.q_pump.specs.Pumped.{Carries, HandsOut, Posts, Pumped, Stopped}
+use Rattle.q_board.specs.Pumped.{Carries, HandsOut, Posts, Pumped, Stopped}
 use Rattle.q_replay.specs.Journal.{head_of, journal_of}
 use Rattle.q_kept.specs.State.{RecorderState}
 use Rattle.q_kept.specs.Recording.{Grows, IsRecorded, Records, RecordsAll}

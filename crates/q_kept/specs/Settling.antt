@@ -4,7 +4,7 @@ use Rattle.std.specs.Io.KnownBytes.{Appends}
 use Rattle.q_board.specs.AskerModel.{AskerModel}
 use Rattle.q_book.specs.State.{BookState}
 use Rattle.q_book.specs.declared.fault.BookFault.{BookFault}
-use Rattle.q_pump.specs.Pumped.{Pumped, Stopped}
+use Rattle.q_board.specs.Pumped.{Pumped, Stopped}
 use Rattle.q_replay.specs.Journal.{journal_of}
 use Rattle.q_kept.specs.State.{RecorderState}
 use Rattle.q_kept.specs.Recording.{IsRecorded, Records, RecordsAll}

@@ -9,7 +9,7 @@ use std::alloc::Global;
 use std::io;
 use std::io::{ErrorKind, Write};
 
-/// A journal's file in memory, which may become full. In a [`Counted`](q_wire::Counted) one of its calls can
+/// A journal's file in memory, which may become full. In a [`Counted`](q_outside::Counted) one of its calls can
 /// be made to fail.
 #[derive(Drop)]
 pub struct MemoryFile {

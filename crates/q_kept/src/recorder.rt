@@ -10,7 +10,7 @@ use crate::fault::Unrecorded;
 use crate::file::JournalFile;
 use q_book::Book;
 use q_replay::{entries_bytes, head_bytes};
-use q_wire::{Counted, TransportFailed};
+use q_outside::{Counted, TransportFailed};
 use std::alloc::{AllocError, Global};
 use std::io::Write;
 use std::marker::Model;

@@ -18,7 +18,7 @@ use Rattle.q_net.specs.declared.incoming.Incoming.TheVariants as next
 use Rattle.q_net.specs.Requests.{spelling, spellings, IsRequest, IsGot}
 use Rattle.q_net.specs.Replies.{reply_bytes, Replies}
 use Rattle.std.specs.Prelude.{IsErrAnd}
-use Rattle.q_wire.specs.declared.fault.TransportFailed.{TransportFailed}
+use Rattle.q_outside.specs.declared.fault.TransportFailed.{TransportFailed}
 use Rattle.q_net.specs.Replies.{stop_number}
 use Rattle.q_net.specs.Serves.{Serves, IsAtHand, IsBroken, IsServed, IsTaken, IsTurn, IsEnd, last_reply}
 

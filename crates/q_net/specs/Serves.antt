@@ -5,7 +5,7 @@ use Rattle.std.specs.Io.KnownBytes.{Appends, Consumes}
 use Rattle.sc_msg.specs.declared.message.Message.{Message}
 use Rattle.sc_msg.specs.declared.version.Version.{Version}
 use Rattle.q_book.specs.State.{BookState}
-use Rattle.q_wire.specs.declared.fault.TransportFailed.{TransportFailed}
+use Rattle.q_outside.specs.declared.fault.TransportFailed.{TransportFailed}
 use Rattle.q_net.specs.declared.request.Request.{Request}
 use Rattle.q_net.specs.declared.request.StreamEnd.{StreamEnd}
 use Rattle.q_net.specs.declared.replies.Reply.{Reply}

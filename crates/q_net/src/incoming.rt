@@ -3,12 +3,12 @@
 ghost use Rattle.std.specs.Prelude.{◌≡◌, ◌≤◌, ℕ, List, [], ◌∷◌, ◌++◌, length, IfSome};
 ghost use Rattle.bq_check.specs.Spelling.{short_bytes};
 ghost use Rattle.sc_msg.specs.declared.version.Version.{Version as BookVersion};
-ghost use Rattle.q_wire.specs.Counts.{count_after};
+ghost use Rattle.q_outside.specs.Counts.{count_after};
 ghost use Rattle.q_net.specs.Requests.{GetsNext, most_text, most_notes};
 
 use crate::pieces::{Piece, read_blob, read_byte, read_long, read_short, read_some, read_value};
 use crate::request::{Blob, Request, StreamEnd};
-use q_wire::{Counted, TransportFailed};
+use q_outside::{Counted, TransportFailed};
 use sc_msg::Version;
 use std::alloc::Global;
 use std::io::Read;

@@ -3,10 +3,10 @@
 ghost use Rattle.std.specs.Prelude.{◌≡◌, [], ◌∷◌, length, IfOk, IfSome};
 ghost use Rattle.bq_check.specs.Spelling.{short_bytes, long_bytes};
 ghost use Rattle.q_net.specs.Requests.{Gets, GetsBlob};
-ghost use Rattle.q_wire.specs.Counts.{count_after};
+ghost use Rattle.q_outside.specs.Counts.{count_after};
 
 use crate::request::{Blob, Short};
-use q_wire::{Counted, TransportFailed};
+use q_outside::{Counted, TransportFailed};
 use sc_view::{VALUE_LENGTH, Value};
 use std::alloc::Global;
 use std::io::Read;

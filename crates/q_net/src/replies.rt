@@ -2,10 +2,10 @@
 
 ghost use Rattle.std.specs.Prelude.{◌≡◌, ℕ, List, OnOk, OnErr};
 ghost use Rattle.std.specs.Io.KnownBytes.{Appends};
-ghost use Rattle.q_wire.specs.Counts.{count_after};
+ghost use Rattle.q_outside.specs.Counts.{count_after};
 ghost use Rattle.q_net.specs.Replies.{reply_bytes};
 
-use q_wire::{Counted, TransportFailed};
+use q_outside::{Counted, TransportFailed};
 use std::io::Write;
 
 /// A reply.

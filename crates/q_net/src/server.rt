@@ -2,7 +2,7 @@
 
 ghost use Rattle.std.specs.Prelude.{◌≡◌};
 ghost use Rattle.q_net.specs.Replies.{stop_number};
-ghost use Rattle.q_wire.specs.Counts.{Counts};
+ghost use Rattle.q_outside.specs.Counts.{Counts};
 ghost use Rattle.q_net.specs.Serves.{IsEnd, IsTurn};
 
 use crate::incoming::{Incoming, read_next};
@@ -10,7 +10,7 @@ use crate::replies::Reply;
 use crate::request::StreamEnd;
 use crate::served::reply;
 use q_book::Book;
-use q_wire::{Counted, TransportFailed};
+use q_outside::{Counted, TransportFailed};
 use reasons::Reason;
 use sc_msg::{Message, Version};
 use std::alloc::Global;

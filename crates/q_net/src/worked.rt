@@ -3,8 +3,8 @@
 ghost use Rattle.std.specs.Prelude.{◌≡◌, ℕ, List, [], ◌∷◌, length, Option, Some, None, Ok, replicate};
 ghost use Rattle.q_book.specs.State.{BookState};
 ghost use Rattle.q_desk.specs.Desks.{answer_of};
-ghost use Rattle.q_wire.specs.Counts.{Counts};
-ghost use Rattle.q_wire.specs.declared.fault.TransportFailed.{TransportFailed};
+ghost use Rattle.q_outside.specs.Counts.{Counts};
+ghost use Rattle.q_outside.specs.declared.fault.TransportFailed.{TransportFailed};
 ghost use Rattle.sc_msg.specs.declared.message.Message.{Message};
 ghost use Rattle.sc_msg.specs.declared.version.Version.{Version};
 ghost use Rattle.q_net.specs.Requests.{IsNext, IsRead, IsRequest, spelling};

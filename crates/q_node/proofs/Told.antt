@@ -11,7 +11,7 @@ use Rattle.q_held.specs.Held.{Leaves}
 use Rattle.q_kept.specs.State.{RecorderState}
 use Rattle.q_kept.specs.declared.fault.Unrecorded.{Unrecorded}
 use Rattle.q_kept.specs.declared.letter.Letter.{Letter}
-use Rattle.q_clients.specs.Books.{HasEndedIn, IsBookOf}
+use Rattle.q_doors.specs.Books.{HasEndedIn, IsBookOf}
 use Rattle.q_node.specs.Console.{IsSaidToLeave}
 use Rattle.q_node.specs.declared.console.Said.{Said}
 use Rattle.q_node.specs.declared.console.Said.TheVariants as said

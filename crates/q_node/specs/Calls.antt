@@ -20,7 +20,7 @@ use Rattle.q_kept.specs.Recording.{Grows, IsRecorded, Records, RecordsAll}
 use Rattle.q_kept.specs.declared.fault.Unrecorded.{Unrecorded}
 use Rattle.q_kept.specs.Settling.{GivesNone, GivesWritten, Pumps}
 use Rattle.q_kept.specs.declared.letter.Letter.{Letter}
-use Rattle.q_clients.specs.Books.{HasEndedIn}
+use Rattle.q_doors.specs.Books.{HasEndedIn}
 use Rattle.q_node.specs.declared.console.Said.{Said}
 use Rattle.q_node.specs.declared.console.Said.TheVariants as said
 use Rattle.q_node.specs.State.{OwnState, outbox_of}

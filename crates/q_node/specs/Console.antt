@@ -13,8 +13,8 @@ use Rattle.q_book.specs.State.{BookState}
 use Rattle.q_book.specs.Faults.{reason}
 use Rattle.q_book.specs.declared.fault.BookFault.{BookFault}
 use Rattle.q_held.specs.Held.{Leaves}
-use Rattle.q_refused.specs.Line.{line_of}
-use Rattle.q_clients.specs.Books.{IsBookOf}
+use Rattle.q_sim.specs.Line.{line_of}
+use Rattle.q_doors.specs.Books.{IsBookOf}
 use Rattle.q_node.specs.declared.status.Status.{Status}
 use Rattle.q_node.specs.declared.console.Command.{Command}
 use Rattle.q_node.specs.declared.console.Command.TheVariants as command

@@ -5,15 +5,15 @@ use Rattle.reasons.specs.declared.Reason.TheVariants as reasons
 use Rattle.sc_msg.specs.declared.version.Version.TheVariants.{Second}
 use Rattle.q_sim.specs.declared.refusal.RefusalPlace.{RefusalPlace}
 use Rattle.q_sim.specs.declared.refusal.RefusalPlace.TheVariants.{Untold, Line}
-use Rattle.q_files.specs.declared.files.FileFault.{FileFault}
-use Rattle.q_files.specs.declared.files.FileFault.TheVariants as file_fault
+use Rattle.q_outside.specs.declared.files.FileFault.{FileFault}
+use Rattle.q_outside.specs.declared.files.FileFault.TheVariants as file_fault
 use Rattle.q_book.specs.Books.{founded}
 use Rattle.q_book.specs.Faults as book
 use Rattle.q_script.specs.File as cluster
 use Rattle.q_script.specs.File.{founder_ids}
 use Rattle.q_script.specs.declared.fault.ClusterFileFault.TheVariants.{Syntax}
 use Rattle.q_script.specs.declared.file.ClusterFile.{ClusterFile}
-use Rattle.q_ports.specs.Datagrams.{address_of}
+use Rattle.q_doors.specs.Datagrams.{address_of}
 use Rattle.q_node.specs.declared.fault.StartFault.{StartFault}
 use Rattle.q_node.specs.declared.fault.StartFault.TheVariants as fault
 

@@ -1,10 +1,10 @@
 -- A node whose cluster's file, socket, door and journal are named by words.
 use Rattle.std.specs.Prelude.{◌≡◌, ◌⊎◌, ℕ, List, None, Option, Result, Ok, Err, IsUtf8}
-use Rattle.q_files.specs.declared.files.FileFault.{FileFault}
+use Rattle.q_outside.specs.declared.files.FileFault.{FileFault}
 use Rattle.q_script.specs.File.{IsFault, Spells}
 use Rattle.q_script.specs.declared.fault.ClusterFileFault.{ClusterFileFault}
 use Rattle.q_script.specs.declared.file.ClusterFile.{ClusterFile}
-use Rattle.q_ports.specs.Datagrams.{address_of}
+use Rattle.q_doors.specs.Datagrams.{address_of}
 use Rattle.q_node.specs.Faults.{fault_of}
 use Rattle.q_node.specs.Runs.{EndsRefused, IsWritten}
 use Rattle.q_node.specs.declared.ending.Ending.{Ending}

@@ -4,8 +4,8 @@ use Rattle.std.specs.Fmt.{decimal}
 use Rattle.std.specs.List.{AllByRecursion, flat_map}
 use Rattle.std.specs.Io.KnownBytes.{Appends}
 use Rattle.q_sim.specs.declared.refusal.RefusalPlace.TheVariants.{Untold}
-use Rattle.q_refused.specs.Line.{line_of}
-use Rattle.q_wire.specs.Counts.{one_more}
+use Rattle.q_sim.specs.Line.{line_of}
+use Rattle.q_outside.specs.Counts.{one_more}
 use Rattle.q_kept.specs.Faults as recorder
 use Rattle.q_kept.specs.declared.fault.Unrecorded.{Unrecorded}
 use Rattle.q_node.specs.Journal.{HoldsBeginning, HoldsJournal}

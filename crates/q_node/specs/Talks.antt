@@ -1,7 +1,7 @@
 -- How a conversation at the console goes.
 use Rattle.std.specs.Prelude.{◌≡◌, ℕ, List, [], ◌∷◌, ◌++◌, Option, Some, None, Result, Ok, Err}
 use Rattle.std.specs.Io.KnownBytes.{Appends}
-use Rattle.q_wire.specs.Counts.{one_more}
+use Rattle.q_outside.specs.Counts.{one_more}
 use Rattle.q_node.specs.Console.{Converses, IsSaidTo}
 use Rattle.q_node.specs.Runs.{IsFront}
 use Rattle.q_node.specs.declared.console.Command.{Command}

@@ -4,7 +4,7 @@ use crate::process::{NAP, Process};
 use crate::start::Start;
 use crate::watch::Watch;
 use q_kept::{JournalFile, Letter};
-use q_ports::Post;
+use q_doors::Post;
 use std::alloc::Global;
 use std::io::Eprint;
 use std::sync::Wait;

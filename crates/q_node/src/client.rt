@@ -1,17 +1,16 @@
 //! The clients of a node, each served by a thread of its own.
 
 ghost use Rattle.std.specs.Prelude.{◌≡◌, IfSome, IsTrue};
-ghost use Rattle.q_clients.specs.Books.{HasEnded};
-ghost use Rattle.q_clients.specs.Clients.{IsReplyOf, IsSaid};
+ghost use Rattle.q_doors.specs.Books.{HasEnded};
+ghost use Rattle.q_doors.specs.Clients.{IsReplyOf, IsSaid};
 
 use crate::clock::has_passed;
 use crate::process::Process;
 use crate::start::Start;
-use q_clients::{Due, Serving, serve_node};
+use q_doors::{Due, PATIENCE, Post, Serving, Stream, serve_node};
 use q_kept::JournalFile;
 use q_net::{Reply, Request};
-use q_ports::{PATIENCE, Post, Stream};
-use q_wire::Counted;
+use q_outside::Counted;
 use sc_msg::Version;
 use std::alloc::Global;
 use std::io;

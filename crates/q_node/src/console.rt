@@ -2,15 +2,14 @@
 
 ghost use Rattle.std.specs.Prelude.{◌≡◌, ◌++◌, ℕ, List, OnOk, OnErr, decimal};
 ghost use Rattle.std.specs.Io.KnownBytes.{Appends};
-ghost use Rattle.q_wire.specs.Counts.{count_after};
+ghost use Rattle.q_outside.specs.Counts.{count_after};
 ghost use Rattle.q_node.specs.Console.{command_of, front_text, limits_text, of_text, presence_text, rest_text, said_line, status_line, truth};
 
 use crate::status::Status;
 use itoa::Buffer;
 use q_desk::{MOST_EVENTS, MOST_QUERIES};
-use q_refused::put_line;
-use q_sim::RefusalPlace;
-use q_wire::{Counted, TransportFailed};
+use q_sim::{RefusalPlace, put_line};
+use q_outside::{Counted, TransportFailed};
 use reasons::Reason;
 use std::io::Write;
 

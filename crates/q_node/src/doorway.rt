@@ -4,7 +4,7 @@ use crate::client::serve_stream;
 use crate::process::Process;
 use crate::start::Start;
 use q_kept::JournalFile;
-use q_ports::{Door, Post, Stream};
+use q_doors::{Door, Post, Stream};
 use std::alloc::Global;
 use std::sync::Wait;
 use std::sync::atomic::Ordering;

@@ -2,10 +2,10 @@
 
 ghost use Rattle.std.specs.Prelude.{◌≡◌, ◌++◌, ℕ, List, Option, OnOk, OnErr, codes, decimal};
 ghost use Rattle.std.specs.Io.KnownBytes.{Appends};
-ghost use Rattle.q_refused.specs.Line.{line_of};
+ghost use Rattle.q_sim.specs.Line.{line_of};
 ghost use Rattle.q_kept.specs.Faults as recorder;
 ghost use Rattle.q_sim.specs.declared.refusal.RefusalPlace.TheVariants.{Untold};
-ghost use Rattle.q_wire.specs.Counts.{count_after};
+ghost use Rattle.q_outside.specs.Counts.{count_after};
 ghost use Rattle.q_node.specs.Journal.{IsKept};
 ghost use Rattle.q_node.specs.Runs.{Closes, EndsRefused, IsJournal, IsWritten, failures_after, journal_line, status_of};
 ghost use Rattle.q_node.specs.Talks.{Talks, talk_count};
@@ -16,9 +16,8 @@ use crate::fault::StartFault;
 use crate::talk_end::Talk;
 use itoa::Buffer;
 use q_kept::Unrecorded;
-use q_refused::put_line;
-use q_sim::RefusalPlace;
-use q_wire::{Counted, TransportFailed};
+use q_sim::{RefusalPlace, put_line};
+use q_outside::{Counted, TransportFailed};
 use std::io::Write;
 
 /// How the run of a node ended.

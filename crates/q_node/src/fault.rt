@@ -5,7 +5,7 @@ ghost use Rattle.q_node.specs.Faults.{place_of, reason};
 ghost use Rattle.q_node.specs.declared.fault.StartFault.TheVariants.{OutOfMemory};
 
 use q_book::BookFault;
-use q_files::FileFault;
+use q_outside::FileFault;
 use q_script::ClusterFileFault;
 use q_sim::RefusalPlace;
 use reasons::{Reason, told};

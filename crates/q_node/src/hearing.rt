@@ -5,7 +5,7 @@ ghost use Rattle.std.specs.Prelude.{◌≡◌, length};
 use crate::process::Process;
 use crate::start::Start;
 use q_kept::JournalFile;
-use q_ports::{FRONT, Post, Received};
+use q_doors::{FRONT, Post, Received};
 use sc_msg::MOST_MESSAGE_BYTES;
 use std::alloc::{AllocError, Global};
 use std::sync::Wait;

@@ -5,8 +5,8 @@ ghost use Rattle.std.specs.Prelude.{ℕ};
 use crate::process::Process;
 use crate::start::Start;
 use q_kept::JournalFile;
-use q_pool::Gate;
-use q_ports::Post;
+use q_board::Gate;
+use q_doors::Post;
 use std::alloc::Global;
 use std::sync::Wait;
 

@@ -43,7 +43,7 @@
 //! Proved of a run ([`run_node`], [`run_file`]), if it returns: what is printed, line for line, with each line of the
 //! console what a book of this node gives; and that the journal's file holds, behind what it held at first, the whole
 //! journal of a book of this node where the last line says so, and a beginning of it in any case. What clients are
-//! replied is proved in `q_clients`, to which this node promises that its replies are those of its own books. Tested
+//! replied is proved in `q_doors`, to which this node promises that its replies are those of its own books. Tested
 //! alone: that threads hear, send, wake and end, how long all takes, and what a disk or a socket holds.
 #![tactic(auto)]
 

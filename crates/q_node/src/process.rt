@@ -1,16 +1,16 @@
 //! What the threads of a node share.
 
 ghost use Rattle.std.specs.Prelude.{◌≡◌, IfSome, IsTrue};
-ghost use Rattle.q_clients.specs.Books.{HasEnded};
-ghost use Rattle.q_clients.specs.Clients.{IsReplyOf};
+ghost use Rattle.q_doors.specs.Books.{HasEnded};
+ghost use Rattle.q_doors.specs.Clients.{IsReplyOf};
 
 use crate::own::Own;
 use crate::start::Start;
 use q_held::Unsent;
 use q_kept::{JournalFile, Letter};
 use q_net::{Reply, Request};
-use q_ports::Post;
-use q_wire::TransportFault;
+use q_doors::Post;
+use q_outside::TransportFault;
 use std::alloc::Global;
 use std::sync::atomic::{AtomicBool, AtomicU64, Ordering};
 use std::sync::{Condvar, Mutex, Wait};

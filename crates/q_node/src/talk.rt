@@ -2,7 +2,7 @@
 
 ghost use Rattle.std.specs.Prelude.{◌≡◌, ◌++◌, ◌∷◌, [], ℕ, List, IfSome, OnOk, OnErr};
 ghost use Rattle.std.specs.Io.KnownBytes.{Appends};
-ghost use Rattle.q_wire.specs.Counts.{count_after};
+ghost use Rattle.q_outside.specs.Counts.{count_after};
 ghost use Rattle.q_node.specs.Console.{IsSaid, IsSaidTo};
 ghost use Rattle.q_node.specs.Talks.{Greets, Obeys, Talks, Tells, talk_count};
 
@@ -11,8 +11,8 @@ use crate::process::Process;
 use crate::start::Start;
 use crate::talk_end::Talk;
 use q_kept::JournalFile;
-use q_ports::Post;
-use q_wire::{Counted, TransportFailed};
+use q_doors::Post;
+use q_outside::{Counted, TransportFailed};
 use reasons::Reason;
 use std::alloc::Global;
 use std::io::{BufRead, Write};

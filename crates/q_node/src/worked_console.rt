@@ -9,7 +9,7 @@ ghost use Rattle.q_kept.specs.declared.fault.Unrecorded.TheVariants as unrecorde
 ghost use Rattle.q_sim.specs.declared.refusal.RefusalPlace.TheVariants as place;
 ghost use Rattle.q_desk.specs.declared.journal.Entry.TheVariants as entry;
 ghost use Rattle.q_book.specs.State.{BookState};
-ghost use Rattle.q_clients.specs.Books.{IsBookOf};
+ghost use Rattle.q_doors.specs.Books.{IsBookOf};
 ghost use Rattle.q_node.specs.Console as console;
 ghost use Rattle.q_node.specs.Console.{IsSaidTo, IsSaidToLeave, command_of, said_line, status_line};
 ghost use Rattle.q_node.specs.Faults.{IsUnbegun, place_of, reason};

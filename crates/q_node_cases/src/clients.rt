@@ -5,7 +5,7 @@ use crate::masks::spelled;
 use crate::plan::first;
 use crate::stage::{LOOKS, Machine, NAP, Stage, place_of};
 use q_asker::run_text;
-use q_wire::{Counted, Hub, Transport};
+use q_outside::{Counted, Hub, Transport};
 use std::alloc::{AllocError, Global};
 use std::io::{ErrorKind, Read, Write};
 use std::net::{Net, Shutdown, TcpStream};

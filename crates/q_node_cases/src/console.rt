@@ -1,6 +1,6 @@
 //! A node's console and output over mailboxes, by which the steps of a case speak with it.
 
-use q_wire::{Hub, MemoryTransport, Transport};
+use q_outside::{Hub, MemoryTransport, Transport};
 use std::io;
 use std::io::{ErrorKind, Read, Write};
 use std::sync::Wait;

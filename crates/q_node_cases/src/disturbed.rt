@@ -1,10 +1,10 @@
 //! A node's socket that loses and doubles datagrams, and counts those of strangers.
 
 ghost use Rattle.std.specs.Prelude.{◌≡◌, length, IfOk};
-ghost use Rattle.q_ports.specs.Datagrams.{Fits};
+ghost use Rattle.q_doors.specs.Datagrams.{Fits};
 
-use q_ports::{Post, Received, UdpPost};
-use q_wire::TransportFault;
+use q_doors::{Post, Received, UdpPost};
+use q_outside::TransportFault;
 use std::sync::atomic::AtomicU64;
 use std::sync::atomic::Ordering::SeqCst;
 

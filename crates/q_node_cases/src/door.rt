@@ -1,6 +1,6 @@
 //! The door of a node of a case. It does not wait for clients, so that nothing has to wake it.
 
-use q_ports::{Door, DoorAddress, PATIENCE, Stream};
+use q_doors::{Door, DoorAddress, PATIENCE, Stream};
 use std::fs::Files;
 use std::io;
 use std::io::{Read, Write};

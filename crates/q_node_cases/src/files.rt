@@ -6,10 +6,9 @@ use crate::plan::first;
 use crate::stage::{Machine, Stage};
 use q_book::Book;
 use q_command::{beginning, gathered};
-use q_files::{Files, MemoryFiles};
+use q_outside::{Counted, Files, MemoryFiles, Transport};
 use q_node::{NodeWords, run_file};
 use q_sim::Refusal;
-use q_wire::{Counted, Transport};
 use std::io::Write;
 use std::{fs, io};
 

@@ -7,7 +7,7 @@ use crate::sockets::Common;
 use q_kept::MemoryFile;
 use q_node::{Setup, run_node};
 use q_script::ClusterFile;
-use q_wire::{Counted, Hub, Transport};
+use q_outside::{Counted, Hub, Transport};
 use std::alloc::Global;
 use std::io;
 use std::io::{BufReader, Eprint, Write};

@@ -4,7 +4,7 @@ use crate::clients::bytes_of;
 use crate::plan::first;
 use crate::sockets::NUMBER;
 use crate::stage::{LOOKS, Machine, NAP, Stage, place_of};
-use q_ports::{Post, UdpPost};
+use q_doors::{Post, UdpPost};
 use std::io::Write;
 use std::sync::atomic::Ordering::SeqCst;
 use std::time::Duration;

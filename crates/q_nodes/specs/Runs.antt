@@ -3,14 +3,14 @@ use Rattle.std.specs.Prelude.{◌≡◌, ◌⊎◌, ℕ, zero, suc, ◌+◌, ◌
 use Rattle.std.specs.Io.KnownBytes.{Appends}
 use Rattle.reasons.specs.declared.Reason.TheVariants.{OutOfMemory}
 use Rattle.q_book.specs.State.{BookState}
-use Rattle.q_files.specs.declared.files.FileFault.{FileFault}
+use Rattle.q_outside.specs.declared.files.FileFault.{FileFault}
 use Rattle.q_gather.specs.Gather.{AreRefused, GathersBooks}
 use Rattle.q_gather.specs.declared.fault.GatherFault.{GatherFault}
 use Rattle.q_history.specs.Calls.{IsHistory}
 use Rattle.q_history.specs.State.{ClusterState}
 use Rattle.q_sim.specs.Refusal.{refusal_of}
 use Rattle.q_sim.specs.declared.refusal.Refusal.TheVariants as refusal
-use Rattle.q_wire.specs.Counts.{one_more}
+use Rattle.q_outside.specs.Counts.{one_more}
 use Rattle.q_nodes.specs.Books.{AreBooksOf, IsOther}
 use Rattle.q_nodes.specs.Faults.{bad_founders, of_gather, reason}
 use Rattle.q_nodes.specs.Lines.{InTurn, IsNode, IsTold, IsToldApart, Lacks, is_clean, refused_line, tally_of, texts_of}

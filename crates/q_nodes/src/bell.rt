@@ -1,6 +1,6 @@
 //! The bell of the thread that makes the calls.
 
-use q_pool::Gate;
+use q_board::Gate;
 use std::sync::{Condvar, Wait};
 use std::time::Duration;
 

@@ -5,7 +5,7 @@ use crate::clock::has_passed;
 use crate::outcome::Outcome;
 use crate::seat;
 use q_held::Held;
-use q_wire::Transport;
+use q_outside::Transport;
 use std::alloc::Global;
 use std::sync::{Mutex, Wait};
 use std::time::{Clock, Duration, Instant};

@@ -14,7 +14,7 @@ use crate::seat;
 use q_held::Held;
 use q_sim::certified_code;
 use q_table::{Program, ProgramId};
-use q_wire::Transport;
+use q_outside::Transport;
 use std::alloc::Global;
 use std::sync::{Mutex, Wait};
 use std::time::Clock;

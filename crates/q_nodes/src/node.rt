@@ -8,7 +8,7 @@ use crate::clock::has_passed;
 use crate::script::is_node;
 use q_desk::Completed;
 use q_held::{Held, Unsent, addressee};
-use q_wire::Transport;
+use q_outside::Transport;
 use sc_msg::{MOST_MESSAGE_BYTES, Message, Version, encode_fitting};
 use std::alloc::{AllocError, Global};
 use std::sync::atomic::{AtomicBool, Ordering};

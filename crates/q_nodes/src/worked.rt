@@ -13,7 +13,7 @@ ghost use Rattle.q_book.specs.State.{BookState};
 ghost use Rattle.q_book.specs.Books.{registered, stored};
 ghost use Rattle.q_book.specs.declared.fault.BookFault.TheVariants as book;
 ghost use Rattle.q_cluster.specs.Acts.{book_at};
-ghost use Rattle.q_files.specs.declared.files.FileFault.TheVariants as file;
+ghost use Rattle.q_outside.specs.declared.files.FileFault.TheVariants as file;
 ghost use Rattle.q_gather.specs.Gather.{Agree};
 ghost use Rattle.q_gather.specs.declared.fault.GatherFault.TheVariants as gather;
 ghost use Rattle.q_history.specs.State.{ClusterState};

@@ -3,9 +3,8 @@
 ghost use Rattle.std.specs.Prelude.{◌≡◌, All};
 ghost use Rattle.q_board.specs.BoardId.{board_id};
 
-use q_board::{AskerSeat, Board};
+use q_board::{AskerSeat, Board, pump_once};
 use q_book::{Book, BookFault};
-use q_pool::pump_once;
 
 /// An asker's seat, and the board where it is.
 #[derive(Drop)]

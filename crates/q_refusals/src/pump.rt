@@ -7,8 +7,7 @@ use crate::again::again;
 use crate::alone::{Founder, begin, end, found};
 use crate::asker::{Asker, seated};
 use bq_frame::Block;
-use q_board::{Board, OpenFault, RunnerSeat};
-use q_pool::{Open, run_some};
+use q_board::{Board, Open, OpenFault, RunnerSeat, run_some};
 use std::io;
 
 /// At how many slots a runner looks: the row of one asker.

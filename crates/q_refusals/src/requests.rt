@@ -3,7 +3,7 @@
 use crate::again::{again, tell};
 use crate::alone::{Founder, found, run_job, settle};
 use q_net::serve;
-use q_wire::Counted;
+use q_outside::Counted;
 use std::alloc::{AllocError, Global};
 use std::io;
 use std::sync::Wait;

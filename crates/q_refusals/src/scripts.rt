@@ -1,7 +1,7 @@
 //! Scripts as a whole, over files in memory.
 
 use crate::rows::{ROWS, Row};
-use q_files::MemoryFiles;
+use q_outside::MemoryFiles;
 use q_script::Script;
 use q_sim::{Printed, Refusal, simulate};
 use std::io;

@@ -5,7 +5,7 @@ use Rattle.sc_view.specs.Views.{ViewMap}
 use Rattle.bq_meaning.specs.Answers.{IsAnswer}
 use Rattle.bq_check.specs.Certificate.{Certificate}
 use Rattle.bq_check.specs.Certified.{IsCertified}
-use Rattle.q_fold.specs.Records.{view_records}
+use Rattle.q_session.specs.Records.{view_records}
 use Rattle.q_session.specs.declared.ran.Ran.{Ran}
 
 -- The program is one that the checker accepts. The answer is the meaning of its text, folded over the records of the

@@ -1,7 +1,7 @@
 //! The fold of a program over a view.
 
 ghost use Rattle.std.specs.Prelude.{◌≡◌, ◌≤◌, ◌+◌, take, length};
-ghost use Rattle.q_fold.specs.Records.{record_bytes, HasRecordsWithin};
+ghost use Rattle.q_session.specs.Records.{record_bytes, HasRecordsWithin};
 ghost use Rattle.q_session.specs.Right.{IsRight};
 
 use crate::ran::Ran;

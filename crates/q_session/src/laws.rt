@@ -2,7 +2,7 @@
 
 ghost use Rattle.sc_view.specs.Values.{Lengths};
 ghost use Rattle.sc_view.specs.Views.{ViewMap, HasValuesWithin};
-ghost use Rattle.q_fold.specs.Records.{HasRecordsWithin, records_of};
+ghost use Rattle.q_session.specs.Records.{HasRecordsWithin, records_of};
 
 /// Values make records of 16 bytes more.
 pub fn records_of_values()

@@ -9,8 +9,8 @@
 //! [`is_job_of`] tells whether a job is that of a query. It compares the program, the start value and the view, and not
 //! only their numbers: a right answer of such a job is a right answer of the query.
 //!
-//! `specs/Records` of `q_fold` says which bytes a record has, `specs/Right` when an answer is right, `specs/Same` when
-//! two views and two programs are the same.
+//! `specs/Records` says which bytes a record has, `specs/Folds` what a fold comes to, `specs/Right` when an answer is
+//! right, `specs/Same` when two views and two programs are the same.
 #![tactic(auto)]
 
 mod done;
@@ -22,6 +22,7 @@ mod ran;
 mod run;
 mod same;
 mod shared_view;
+mod view_fold;
 pub mod worked;
 
 pub use done::Done;

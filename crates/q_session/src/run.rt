@@ -1,12 +1,12 @@
 //! The fold of a program over a view by the loop without tests.
 
-ghost use Rattle.q_fold.specs.Records.{HasRecordsWithin};
+ghost use Rattle.q_session.specs.Records.{HasRecordsWithin};
 ghost use Rattle.q_session.specs.Right.{IsRight};
 
 use crate::ran::Ran;
 use bq_check::Certified;
 use bq_frame::Block;
-use q_fold::fold_view;
+use crate::view_fold::fold_view;
 use sc_view::View;
 
 /// What a certified program comes to over the records of a view, by the loop without tests: the meaning of its text, as

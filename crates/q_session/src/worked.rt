@@ -5,7 +5,7 @@ ghost use Rattle.bq_check.specs.Certificate.{Certificate};
 ghost use Rattle.sc_view.specs.Views.{ViewMap};
 ghost use Rattle.q_session.specs.Done.{Finished};
 ghost use Rattle.q_session.specs.Jobs.{JobValue, job_of, job_over};
-ghost use Rattle.q_fold.specs.Records.{record_bytes, view_records};
+ghost use Rattle.q_session.specs.Records.{record_bytes, view_records};
 ghost use Rattle.q_session.specs.Right.{IsRight};
 ghost use Rattle.q_session.specs.declared.query.Phase.TheVariants as phase;
 ghost use Rattle.q_session.specs.declared.ran.Ran.{Ran as RanValue};

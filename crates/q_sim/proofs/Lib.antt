@@ -17,3 +17,4 @@ mod Leading
 mod Counting
 mod Recording
 mod Truths
+mod Parts

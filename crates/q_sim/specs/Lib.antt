@@ -8,3 +8,4 @@ pub mod Refusal
 pub mod Seen
 pub mod Simulates
 pub mod Truths
+pub mod Line

@@ -15,8 +15,8 @@ use Rattle.q_script.specs.Script as script
 use Rattle.q_script.specs.declared.script.ScriptFault.TheVariants as script_fault
 use Rattle.q_history.specs.Faults as cluster
 use Rattle.q_replay.specs.Faults as journal
-use Rattle.q_files.specs.declared.files.FileFault.{FileFault}
-use Rattle.q_files.specs.declared.files.FileFault.TheVariants as file_fault
+use Rattle.q_outside.specs.declared.files.FileFault.{FileFault}
+use Rattle.q_outside.specs.declared.files.FileFault.TheVariants as file_fault
 use Rattle.q_sim.specs.declared.refusal.Refusal.{Refusal}
 use Rattle.q_sim.specs.declared.refusal.Refusal.TheVariants.{FileFailed, Assembler, Bytes, Program, Records, Script, Fraction, Cluster, Journal, OutOfMemory}
 use Rattle.q_sim.specs.declared.refusal.RefusalPlace.{RefusalPlace}

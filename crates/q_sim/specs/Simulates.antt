@@ -26,8 +26,8 @@ use Rattle.q_history.specs.Headline.{AnswersAreTrue}
 use Rattle.q_history.specs.Books.{BooksAreReplays}
 use Rattle.q_cluster.specs.Acts.{book_at}
 use Rattle.q_replay.specs.Journal.{journal_of}
-use Rattle.q_files.specs.declared.files.FileFault.{FileFault}
-use Rattle.q_files.specs.declared.files.FileFault.TheVariants.{Failed}
+use Rattle.q_outside.specs.declared.files.FileFault.{FileFault}
+use Rattle.q_outside.specs.declared.files.FileFault.TheVariants.{Failed}
 use Rattle.q_sim.specs.declared.refusal.RefusedLine.{RefusedLine}
 use Rattle.q_sim.specs.declared.refusal.Refusal.{Refusal}
 use Rattle.q_sim.specs.declared.refusal.Refusal.TheVariants as refusal

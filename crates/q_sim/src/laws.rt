@@ -5,7 +5,7 @@ ghost use Rattle.q_script.specs.declared.script.Script.{Script};
 ghost use Rattle.q_sim.specs.Simulates.{Simulates};
 ghost use Rattle.q_sim.specs.Truths.{AreTrueLines};
 
-use q_files::Files;
+use q_outside::Files;
 use q_history::laws::answers_stay;
 
 /// A law: whatever script is run over whatever files, each `run` line prints an answer that the last cluster has

@@ -10,7 +10,7 @@ use crate::printing::{print_messages, print_told};
 use crate::program::certified_code;
 use crate::refusal::{Refusal, RefusedLine};
 use q_cluster::Cluster;
-use q_files::{FileFault, Files};
+use q_outside::{FileFault, Files};
 use q_history::{ClusterEvent, ClusterFault, ClusterStep};
 use q_replay::journal_bytes;
 use q_script::{Founding, Script, ScriptLine};

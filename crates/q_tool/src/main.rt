@@ -4,8 +4,7 @@
 #![tactic(auto)]
 
 use q_bqview::run;
-use q_files::Folder;
-use q_wire::Counted;
+use q_outside::{Counted, Folder};
 use std::io::IsTerminal;
 use std::process::ExitCode;
 use std::{env, io};

@@ -7,7 +7,7 @@ use Rattle.std.proofs.lemmas.Iterator.Consumers.{YieldsList-turn, YieldsList-so_
 use Rattle.std.proofs.lemmas.Iterator.Splits.{YieldsList-from_str_split}
 use Rattle.bq_asm.specs.Line.{Spells}
 use Rattle.bq_asm.specs.Source.{lines_of}
-use Rattle.bq_labels.specs.View.{line_view}
+use Rattle.bq_asm.specs.View.{line_view}
 use Rattle.bq_asm.proofs.Lines.{first_unreadable, none_first, read_more, all_read}
 use Rattle.bq_asm.proofs.assembler.read_lines.Goals as goal
 

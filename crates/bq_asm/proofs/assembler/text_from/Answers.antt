@@ -2,7 +2,7 @@
 use Rattle.std.proofs.Common.{map, sym, subst}
 use Rattle.std.specs.Prelude.{IfErr}
 use Rattle.bq_asm.specs.Steps.{IsLengthFault}
-use Rattle.bq_labels.specs.View.{line_view}
+use Rattle.bq_asm.specs.View.{line_view}
 use Rattle.bq_asm.proofs.Unique.{Repeats, label_fault, no_label, length_fault, may_run_out, run_out}
 use Rattle.bq_asm.proofs.assembler.text_from.Goals as goal
 

@@ -10,10 +10,10 @@ use Rattle.bq_insn.proofs.Unique.{one_text}
 use Rattle.std.proofs.Common.{◌≡◌, ℕ, Bool, true, false, true≢false, List, [], ◌∷◌, ◌++◌, length, length-append, replicate, Option, Some, Ok, Err, refl, ap, sym, ◌∙◌, inl, inr, subst, codes, arith, ◌<◌, ◌≤◌, lit≤, Bor}
 use Rattle.std.specs.Fmt.{digits}
 use Rattle.hex.proofs.OnLiterals.{hex_on_literals}
-use Rattle.q_files.specs.Memory.{IsNoneWithin, Reads, Writes, bytes_of, fails_next}
-use Rattle.q_files.specs.declared.files.FileFault.{FileFault}
-use Rattle.q_files.specs.declared.files.FileFault.TheVariants.{Failed, OutOfMemory}
-use Rattle.q_files.specs.declared.memory.MemoryFiles.{MemoryFiles}
+use Rattle.q_outside.specs.Memory.{IsNoneWithin, Reads, Writes, bytes_of, fails_next}
+use Rattle.q_outside.specs.declared.files.FileFault.{FileFault}
+use Rattle.q_outside.specs.declared.files.FileFault.TheVariants.{Failed, OutOfMemory}
+use Rattle.q_outside.specs.declared.memory_files.MemoryFiles.{MemoryFiles}
 use Rattle.q_sim.specs.Refusal.{refusal_of}
 use Rattle.q_sim.specs.declared.refusal.Refusal.TheVariants.{FileFailed}
 use Rattle.q_command.specs.Audit.{answer_line, answer_lines}

@@ -7,8 +7,8 @@ use Rattle.std.specs.FinMap.{len-entries}
 use Rattle.bq_meaning.specs.Runs.{RecordRun}
 use Rattle.bq_meaning.specs.Answers.{FoldsTo, zero_frame}
 use Rattle.bq_range.specs.Interval.{IsIn}
-use Rattle.q_fold.proofs.Records.{shown, all_read, room, one_more, lengths_at, record_length}
-use Rattle.q_fold.specs.Records.{record_bytes}
+use Rattle.q_session.proofs.Records.{shown, all_read, room, one_more, lengths_at, record_length}
+use Rattle.q_session.specs.Records.{record_bytes}
 use Rattle.q_session.proofs.fold.fold_checked.Goals as goal
 
 pub loop-id-init : goal.loop-id-init

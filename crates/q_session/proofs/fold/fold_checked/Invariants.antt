@@ -2,8 +2,8 @@
 use Rattle.std.proofs.Common.{◌*◌, ◌≤◌, length, map}
 use Rattle.bq_meaning.specs.Place.{Place, IsPlacement}
 use Rattle.bq_meaning.specs.Answers.{FoldsTo, zero_frame}
-use Rattle.q_fold.specs.Records.{record_bytes}
-use Rattle.q_fold.proofs.Records.{shown}
+use Rattle.q_session.specs.Records.{record_bytes}
+use Rattle.q_session.proofs.Records.{shown}
 use Rattle.q_session.proofs.fold.fold_checked.Given as goal
 
 abbrev pub invariant-loop-id : goal.invariant-loop-id

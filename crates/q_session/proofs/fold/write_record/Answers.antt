@@ -2,8 +2,8 @@
 use Rattle.std.proofs.Common.{◌∙◌, ◌+◌, ◌-◌, ◌++◌, List, ℕ, length, sym, ap, take}
 use Rattle.std.specs.Int.{w64, to_le_bytes}
 use borrow.Rule.Slice.PartMut.{put_mid, post_of}
-use Rattle.q_fold.proofs.Records.{eight_bytes, written}
-use Rattle.q_fold.specs.Records.{record_bytes}
+use Rattle.q_session.proofs.Records.{eight_bytes, written}
+use Rattle.q_session.specs.Records.{record_bytes}
 use Rattle.q_session.proofs.fold.write_record.Goals as goal
 
 pub returns-clause-first : goal.returns-clause-first

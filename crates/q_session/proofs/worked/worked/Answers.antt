@@ -4,7 +4,7 @@ use Rattle.bq_check.specs.Certificate.{Certificate}
 use Rattle.bq_meaning.specs.Place.{IsPlacement}
 use Rattle.bq_meaning.specs.Answers.{Folds, zero_frame}
 use Rattle.sc_view.specs.Views.{ViewMap}
-use Rattle.q_fold.specs.Records.{view_records}
+use Rattle.q_session.specs.Records.{view_records}
 use Rattle.q_session.specs.Right.{IsRight}
 use Rattle.q_session.specs.declared.ran.Ran.{Ran}
 use Rattle.q_session.proofs.worked.worked.Goals as goal

@@ -5,7 +5,7 @@ use Rattle.std.specs.FinSet as set
 use Rattle.std.specs.Fmt.{digits}
 use Rattle.bq_insn.specs.Insn.{unit_bytes}
 use Rattle.bq_insn.specs.Slots.{spelling}
-use Rattle.q_files.specs.Memory.{Writes}
+use Rattle.q_outside.specs.Memory.{Writes}
 use Rattle.q_history.specs.Calls.{Takes}
 use Rattle.q_history.specs.declared.event.ClusterEvent.TheVariants as event
 use Rattle.q_sim.specs.Delivered.{pair_cmp}

@@ -6,7 +6,7 @@ use Rattle.sc_world.specs.Worlds.{live_at}
 use Rattle.sc_world.proofs.Tables.{live_some, live_none}
 use Rattle.q_history.specs.State.{ClusterState}
 use Rattle.q_cluster.specs.contracts.cluster.Cluster as cluster
-use Rattle.q_shelf.proofs.Tables.{get-each}
+use Rattle.q_cluster.proofs.Tables.{get-each}
 use Rattle.q_cluster.proofs.Going.{node_of}
 use Rattle.q_cluster.proofs.cluster.Cluster.is_live.Goals as goal
 

@@ -7,7 +7,7 @@ use Rattle.q_session.specs.declared.query.Query.{Query}
 use Rattle.q_desk.specs.declared.journal.Entry.TheVariants as entry
 use Rattle.q_desk.specs.State.{DeskState}
 use Rattle.q_desk.specs.Keeping.{MayAllRun}
-use Rattle.q_queries.specs.Queries.{next_of}
+use Rattle.q_desk.specs.Queries.{next_of}
 use Rattle.q_desk.specs.Desks.{with_phase, next_job, handed_out}
 use Rattle.q_desk.proofs.Keeps.{IsAppended}
 use Rattle.q_desk.proofs.Jobs.{Moves, may_all_run, next-same, desk-handed, jobs-handed, handed}

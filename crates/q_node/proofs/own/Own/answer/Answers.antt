@@ -1,6 +1,6 @@
 -- Own::answer: does what a request asks, and settles.
 use Rattle.std.proofs.Common.{subst}
-use Rattle.q_clients.specs.Books.{IsBookOf}
+use Rattle.q_doors.specs.Books.{IsBookOf}
 use Rattle.q_node.specs.State.{state_of}
 use Rattle.q_node.proofs.Settled.{replies_at}
 use Rattle.q_node.proofs.own.Own.answer.Goals as goal

@@ -1,6 +1,6 @@
 -- Own::end: writes what the file lacks still, and ends the node.
 use Rattle.std.proofs.Common.{◌∙◌, ap, subst, sym}
-use Rattle.q_clients.specs.Books.{IsBookOf}
+use Rattle.q_doors.specs.Books.{IsBookOf}
 use Rattle.q_node.specs.State.{OwnState}
 use Rattle.q_node.proofs.Told.{finishes_at}
 use Rattle.q_node.proofs.own.Own.end.Goals as goal

@@ -1,0 +1,12 @@
+-- Books::hand_out: hands out a job of this node, which is there.
+use Rattle.std.proofs.Common.{Option, IsSome, refl, subst}
+use Rattle.q_book.specs.State.{BookState}
+use Rattle.q_book.specs.Books as book
+use Rattle.q_cluster.proofs.Tables.{steps_at}
+use Rattle.q_cluster.proofs.books.Books.hand_out.Goals as goal
+
+pub returns : goal.returns
+returns c =
+    steps_at c.self.inside.entries.entries (c.get_mut.follows.lender c.hand_out.new.self).entries c.args.self.now c.args.id c.in-Some.book.now c.self.view_is c.in-Some.ensures.value
+    (λ (b : BookState). book.handed_out b) c.hand_out.new.self c.hand_out.result c.hand_out.ensures
+    ((c.get_mut.follows.holds c.hand_out.new.self).3 (subst (λ (o : Option BookState). IsSome o) c.in-Some.ensures.value refl)).0

@@ -1,0 +1,3 @@
+-- Proofs of counted readers and writers, and of files in memory.
+pub mod Parts
+mod Written

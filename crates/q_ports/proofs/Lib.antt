@@ -1,2 +1,0 @@
--- Proofs of datagrams.
-pub mod Senders

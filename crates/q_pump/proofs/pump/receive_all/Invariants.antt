@@ -1,6 +1,0 @@
-use Rattle.std.proofs.Common.{◌≤◌}
-use Rattle.q_pump.specs.Turns.{Receiving}
-use Rattle.q_pump.proofs.pump.receive_all.Given as goal
-
-abbrev pub invariant-loop-place : goal.invariant-loop-place
-invariant-loop-place l = record { receiving : Receiving l.initial.seat l.initial.book l.place l.posted l.seat l.book; few : l.posted ≤ l.place }

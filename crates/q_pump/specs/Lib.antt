@@ -1,3 +1,0 @@
-pub mod Pumped
-pub mod Turns
-pub use Rattle.q_runner.specs.Looks

@@ -1,2 +1,0 @@
--- The job of the first query that is ready.
-mod Jobs

@@ -1,2 +1,0 @@
--- What the queries of a node ask for.
-pub mod Queries

@@ -1,2 +1,0 @@
--- Proofs of the line of a refusal.
-mod Parts

@@ -1,3 +1,0 @@
-mod Rounds
-mod Passing
-pub mod Looks

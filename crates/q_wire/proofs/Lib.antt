@@ -1,2 +1,0 @@
--- Proofs of counted readers and writers.
-pub mod Parts

@@ -1,5 +1,0 @@
-use Rattle.std.specs.Io.KnownBytes.{Keeps}
-use Rattle.q_wire.proofs.counted.read_through.Given as goal
-
-abbrev pub invariant-reads : goal.invariant-reads
-invariant-reads g l = Keeps (g.R.Read.remaining l.fn.reader) (g.R.Read.remaining l.reader)
