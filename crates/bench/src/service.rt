@@ -14,7 +14,8 @@ use std::thread::Threads;
 use std::time::Clock;
 
 /// The words of all parts, those of other crates first.
-const WORDS: &str = "asm, check, fold, store, put, merge, deliver, hand, run, stores, asks, script, idle, answers, \
+const WORDS: &str =
+    "asm, check, fold, store, put, merge, deliver, hand, run, stores, asks, script, idle, answers, \
     registrations and gather";
 
 /// Times the part that this word names, in the size that the words give. It is asked last, so it refuses a word that

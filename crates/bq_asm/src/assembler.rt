@@ -5,10 +5,10 @@ ghost use Rattle.bq_asm.specs.Steps.{IsReadFault, IsLengthFault, least};
 ghost use Rattle.bq_asm.specs.View.{line_view};
 
 use crate::fault::AsmFault;
-use crate::line::read_line;
-use bq_insn::{DecodeFault, Insn, Text};
 use crate::labels::{first_repeated, resolve};
+use crate::line::read_line;
 use crate::statement::Line;
+use bq_insn::{DecodeFault, Insn, Text};
 use std::alloc::Global;
 
 /// What the lines of a source say.

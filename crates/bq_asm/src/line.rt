@@ -4,13 +4,13 @@ ghost use Rattle.bq_asm.specs.Line.{Complete, is_name_byte};
 ghost use Rattle.bq_asm.specs.Reading.{Gives, is_name, is_comment, target_at, statement_at, instruction_at, words_at, label_else, cut, trimmed, line_at};
 ghost use Rattle.bq_asm.specs.View.{line_view, statement_view};
 
+use crate::jump::Jump;
 use crate::mnemonic::Mnemonic;
 use crate::number::distance;
 use crate::operand::{memory, operand, register};
+use crate::statement::{Line, Statement};
 use crate::text::{cut, pair, trimmed};
 use bq_insn::{Extension, Insn, Size};
-use crate::jump::Jump;
-use crate::statement::{Line, Statement};
 use bq_word::{AluOp, Relation, SignBits, Width};
 use decimal::natural;
 

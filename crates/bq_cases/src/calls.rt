@@ -106,11 +106,7 @@ fn assembled(rt: &impl Print, alloc: Global) -> io::Result<()> {
 fn print_fields(rt: &impl Print, fields: Fields, left: usize) -> io::Result<()> {
     println!(rt;
         " opcode {} dst {} src {} offset {} imm {} left {left}",
-        fields.opcode,
-        fields.dst,
-        fields.src,
-        fields.offset,
-        fields.imm
+        fields.opcode, fields.dst, fields.src, fields.offset, fields.imm
     )?;
     match fields.check() {
         Ok(_) => println!(rt; " none"),
@@ -195,7 +191,11 @@ fn certified(alloc: Global, text: Text) -> Result<Certified, CheckFault> {
 fn print_certificate(rt: &impl Print, certified: &Certified) -> io::Result<()> {
     let (units, lengths) = (certified.text().units(), certified.lengths());
     let is_entry = certified.notes().at(0) == Some(State::entry(Bounds::all()));
-    println!(rt; " units {units} lengths {} {} entry {is_entry}", lengths.least(), lengths.most())
+    println!(rt;
+        " units {units} lengths {} {} entry {is_entry}",
+        lengths.least(),
+        lengths.most()
+    )
 }
 
 fn certificate(rt: &impl Print, alloc: Global) -> io::Result<()> {

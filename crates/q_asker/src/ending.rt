@@ -3,8 +3,8 @@
 ghost use Rattle.std.specs.Prelude.{◌≡◌};
 ghost use Rattle.q_asker.specs.Runs.{IsRefusedAlone, failures_after, status_of};
 
-use q_sim::{Refusal, put_refusal};
 use q_outside::Counted;
+use q_sim::{Refusal, put_refusal};
 use std::io::Write;
 
 /// How a run ended.

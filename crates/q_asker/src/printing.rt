@@ -13,8 +13,8 @@ ghost use Rattle.q_asker.specs.Steps.{Tells, number_word, query_of, spaced, told
 use crate::replies::reason_of;
 use itoa::Buffer;
 use q_net::{Reply, Request};
-use q_sim::{RefusalPlace, put_line};
 use q_outside::{Counted, TransportFailed};
+use q_sim::{RefusalPlace, put_line};
 use std::io::Write;
 
 /// Writes a space and a number in decimal.

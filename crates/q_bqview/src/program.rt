@@ -11,8 +11,8 @@ use q_command::{
     Denied, FileCommand, NodeCommand, Wanted, WordsFault, carry_out, gather_files, given_words,
     nodes_advice, read_words,
 };
-use q_outside::{Counted, Files};
 use q_nodes::{Ending, FileRun, NodesFault, run_file};
+use q_outside::{Counted, Files};
 use q_sim::{Refusal, put_refusal};
 use std::alloc::{AllocError, Global};
 use std::convert::AsStr;

@@ -5,10 +5,10 @@ use crate::deaf::Deaf;
 use crate::forged::{Forged, datagrams};
 use crate::noise::{Flooding, Noisy};
 use q_command::{Wanted, read_words};
-use q_outside::{Counted, Files, Hub, MemoryFiles, MemoryTransport, Peer, UdpTransport};
 use q_nodes::{
     ClusterScript, Ending, NodesFault, open_sockets, run_cluster, run_file, run_over_sockets,
 };
+use q_outside::{Counted, Files, Hub, MemoryFiles, MemoryTransport, Peer, UdpTransport};
 use q_script::number;
 use std::alloc::{AllocError, Global};
 use std::io;

@@ -16,6 +16,7 @@ ghost use Rattle.q_history.specs.Headline.{AnswersAreTrue, AnswersStay, ViewsAre
 ghost use Rattle.q_history.specs.Books.{BooksAreReplays};
 ghost use Rattle.q_cluster.specs.Acts.{Doing, IsThere, MayRun, book_at};
 
+use crate::books::{Books, found_books};
 use bq_frame::Block;
 use q_book::{Asked, Book, Taken};
 use q_history::laws::{
@@ -24,7 +25,6 @@ use q_history::laws::{
 };
 use q_history::{Answer, ClusterEvent, ClusterFault, ClusterStep, EventAnswer, Handed};
 use q_session::{Done, Job};
-use crate::books::{Books, found_books};
 use q_table::{Program, ProgramId};
 use sc_members::Config;
 use sc_msg::{Message, Version};

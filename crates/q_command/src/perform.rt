@@ -18,9 +18,9 @@ use bq_check::Certified;
 use bq_frame::Block;
 use bq_state::Bounds;
 use q_outside::{Counted, Files, LONGEST_TEXT};
-use q_sim::{Printed, Refusal, put_refusal, simulate};
 use q_script::{Script, read_records};
 use q_session::run_fold;
+use q_sim::{Printed, Refusal, put_refusal, simulate};
 use std::alloc::Global;
 use std::io::Write;
 

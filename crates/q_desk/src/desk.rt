@@ -12,14 +12,14 @@ ghost use Rattle.q_desk.specs.Faults.{memory};
 ghost use Rattle.q_desk.specs.Answers.{AnswersAreRight};
 ghost use Rattle.q_desk.specs.Keeping.{IsDesk, ProgramsAreKnown, ProgramsFit, ViewsFit, EndsWithin};
 
-use crate::completed::Completed;
-use crate::fault::{CallFault, DeskFault};
-use crate::journal::Entry;
-use bq_state::Bounds;
 use crate::answer::answer_in;
 use crate::check::check_result;
+use crate::completed::Completed;
 use crate::entries::append;
+use crate::fault::{CallFault, DeskFault};
+use crate::journal::Entry;
 use crate::next::next_job;
+use bq_state::Bounds;
 use q_session::{Done, Job, Phase, Query, Ran};
 use q_table::{Program, ProgramId, Programs};
 use sc_msg::Message;

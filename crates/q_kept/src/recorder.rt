@@ -9,8 +9,8 @@ ghost use Rattle.q_kept.specs.Recording.{AppendsPart, Grows, IsRecorded, Records
 use crate::fault::Unrecorded;
 use crate::file::JournalFile;
 use q_book::Book;
-use q_replay::{entries_bytes, head_bytes};
 use q_outside::{Counted, TransportFailed};
+use q_replay::{entries_bytes, head_bytes};
 use std::alloc::{AllocError, Global};
 use std::io::Write;
 use std::marker::Model;

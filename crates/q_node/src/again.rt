@@ -3,8 +3,8 @@
 use crate::process::{NAP, Process};
 use crate::start::Start;
 use crate::watch::Watch;
-use q_kept::{JournalFile, Letter};
 use q_doors::Post;
+use q_kept::{JournalFile, Letter};
 use std::alloc::Global;
 use std::io::Eprint;
 use std::sync::Wait;

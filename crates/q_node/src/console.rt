@@ -8,8 +8,8 @@ ghost use Rattle.q_node.specs.Console.{command_of, front_text, limits_text, of_t
 use crate::status::Status;
 use itoa::Buffer;
 use q_desk::{MOST_EVENTS, MOST_QUERIES};
-use q_sim::{RefusalPlace, put_line};
 use q_outside::{Counted, TransportFailed};
+use q_sim::{RefusalPlace, put_line};
 use reasons::Reason;
 use std::io::Write;
 

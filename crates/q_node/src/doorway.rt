@@ -3,8 +3,8 @@
 use crate::client::serve_stream;
 use crate::process::Process;
 use crate::start::Start;
-use q_kept::JournalFile;
 use q_doors::{Door, Post, Stream};
+use q_kept::JournalFile;
 use std::alloc::Global;
 use std::sync::Wait;
 use std::sync::atomic::Ordering;

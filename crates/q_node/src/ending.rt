@@ -16,8 +16,8 @@ use crate::fault::StartFault;
 use crate::talk_end::Talk;
 use itoa::Buffer;
 use q_kept::Unrecorded;
-use q_sim::{RefusalPlace, put_line};
 use q_outside::{Counted, TransportFailed};
+use q_sim::{RefusalPlace, put_line};
 use std::io::Write;
 
 /// How the run of a node ended.

@@ -4,8 +4,8 @@ ghost use Rattle.std.specs.Prelude.{◌≡◌, length};
 
 use crate::process::Process;
 use crate::start::Start;
-use q_kept::JournalFile;
 use q_doors::{FRONT, Post, Received};
+use q_kept::JournalFile;
 use sc_msg::MOST_MESSAGE_BYTES;
 use std::alloc::{AllocError, Global};
 use std::sync::Wait;

@@ -4,9 +4,9 @@ ghost use Rattle.std.specs.Prelude.{ℕ};
 
 use crate::process::Process;
 use crate::start::Start;
-use q_kept::JournalFile;
 use q_board::Gate;
 use q_doors::Post;
+use q_kept::JournalFile;
 use std::alloc::Global;
 use std::sync::Wait;
 

@@ -6,10 +6,10 @@ ghost use Rattle.q_doors.specs.Clients.{IsReplyOf};
 
 use crate::own::Own;
 use crate::start::Start;
+use q_doors::Post;
 use q_held::Unsent;
 use q_kept::{JournalFile, Letter};
 use q_net::{Reply, Request};
-use q_doors::Post;
 use q_outside::TransportFault;
 use std::alloc::Global;
 use std::sync::atomic::{AtomicBool, AtomicU64, Ordering};

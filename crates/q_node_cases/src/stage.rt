@@ -17,21 +17,24 @@ use std::time::{Clock, Duration};
 use std::{fs, io, thread};
 
 /// The machine that a case runs on.
-pub trait Machine:
-    Net<Listener = TcpListener, Stream = TcpStream> + Files + Wait + Threads + Clock + Eprint + Sync
-{
-}
+pub trait Machine: Net<Listener = TcpListener, Stream = TcpStream>
+    + Files
+    + Wait
+    + Threads
+    + Clock
+    + Eprint
+    + Sync {}
 
-impl<R> Machine for R where
+impl<R> Machine for R
+where
     R: Net<Listener = TcpListener, Stream = TcpStream>
         + Files
         + Wait
         + Threads
         + Clock
         + Eprint
-        + Sync
-{
-}
+        + Sync,
+{}
 
 /// How often something is looked for.
 pub const LOOKS: u32 = 400;

@@ -5,9 +5,9 @@ ghost use Rattle.q_nodes.specs.Faults.{bad_founders, no_such_node, of_world, pla
 ghost use Rattle.q_sim.specs.Refusal.{refusal_of};
 
 use q_book::BookFault;
-use q_outside::FileFault;
 use q_gather::GatherFault;
 use q_history::ClusterFault;
+use q_outside::FileFault;
 use q_sim::{Refusal, RefusalPlace};
 use reasons::{Reason, told};
 use sc_node::NodeFault;

@@ -4,9 +4,9 @@ ghost use Rattle.q_session.specs.Records.{HasRecordsWithin};
 ghost use Rattle.q_session.specs.Right.{IsRight};
 
 use crate::ran::Ran;
+use crate::view_fold::fold_view;
 use bq_check::Certified;
 use bq_frame::Block;
-use crate::view_fold::fold_view;
 use sc_view::View;
 
 /// What a certified program comes to over the records of a view, by the loop without tests: the meaning of its text, as

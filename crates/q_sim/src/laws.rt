@@ -5,8 +5,8 @@ ghost use Rattle.q_script.specs.declared.script.Script.{Script};
 ghost use Rattle.q_sim.specs.Simulates.{Simulates};
 ghost use Rattle.q_sim.specs.Truths.{AreTrueLines};
 
-use q_outside::Files;
 use q_history::laws::answers_stay;
+use q_outside::Files;
 
 /// A law: whatever script is run over whatever files, each `run` line prints an answer that the last cluster has
 /// recorded for this node's query, and that is true; or its refusal, and then it is told that a line was refused. The

@@ -8,8 +8,8 @@ ghost use Rattle.q_sim.specs.Refusal.{place_text, refusal_line};
 ghost use Rattle.q_sim.specs.Line.{line_of};
 
 use itoa::Buffer;
-use q_sim::{Refusal, RefusalPlace};
 use q_outside::{Counted, TransportFailed};
+use q_sim::{Refusal, RefusalPlace};
 use reasons::Reason;
 use std::io::Write;
 

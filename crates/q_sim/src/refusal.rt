@@ -8,8 +8,8 @@ ghost use Rattle.q_sim.specs.declared.refusal.Refusal.TheVariants.{Assembler, By
 use bq_asm::AsmFault;
 use bq_check::CheckFault;
 use bq_insn::DecodeFault;
-use q_outside::FileFault;
 use q_history::ClusterFault;
+use q_outside::FileFault;
 use q_replay::ReplayFault;
 use q_script::{RecordsFault, ScriptFault};
 use reasons::{Reason, passed_on};
