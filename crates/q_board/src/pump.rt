@@ -8,7 +8,8 @@ ghost use Rattle.q_book.specs.Books.{room_for_post};
 ghost use Rattle.q_board.specs.Pumped.{Pumped, Stopped};
 ghost use Rattle.q_board.specs.Turns.{Polls, IsOpenAt, Receiving, NoRoomPast, OffersNext, RefusesNext, OfferedAll, StopsOffering};
 
-use q_board::{AskerSeat, Board, ROW};
+use crate::board::Board;
+use crate::seats::{AskerSeat, ROW};
 use q_book::laws::{hand_outs_are_noted, posts_are_noted};
 use q_book::{Book, BookFault};
 

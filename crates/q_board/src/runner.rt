@@ -5,9 +5,11 @@ ghost use Rattle.q_board.specs.BoardId.{board_id};
 ghost use Rattle.q_board.specs.Calls.{Finishes, is_at};
 ghost use Rattle.q_board.specs.Served.{Served, Passed};
 
+use crate::board::Board;
+use crate::claim::Claim;
 use crate::gate::Gate;
+use crate::seats::RunnerSeat;
 use bq_frame::Block;
-use q_board::{Board, Claim, RunnerSeat};
 use q_session::{Ran, run_fold};
 
 /// Tries this many slots, in turn from where the seat left off. Runs each job that it claims over the block, between

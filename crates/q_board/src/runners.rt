@@ -3,10 +3,11 @@
 ghost use Rattle.std.specs.Prelude.{◌≡◌, All, IfOk};
 ghost use Rattle.q_board.specs.BoardId.{board_id};
 
+use crate::board::{Board, MOST_ASKERS};
 use crate::gate::Gate;
 use crate::runner::run_some;
+use crate::seats::RunnerSeat;
 use bq_frame::Block;
-use q_board::{Board, MOST_ASKERS, RunnerSeat};
 use std::alloc::{AllocError, Global};
 use std::sync::Wait;
 use std::sync::atomic::AtomicBool;

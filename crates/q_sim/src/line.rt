@@ -7,9 +7,9 @@ ghost use Rattle.q_outside.specs.Counts.{count_after};
 ghost use Rattle.q_sim.specs.Refusal.{place_text, refusal_line};
 ghost use Rattle.q_sim.specs.Line.{line_of};
 
+use crate::refusal::{Refusal, RefusalPlace};
 use itoa::Buffer;
 use q_outside::{Counted, TransportFailed};
-use q_sim::{Refusal, RefusalPlace};
 use reasons::Reason;
 use std::io::Write;
 

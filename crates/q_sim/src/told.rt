@@ -1,9 +1,9 @@
 //! A line of a script that was refused, in words for a person.
 
+use crate::refusal::{Refusal, RefusedLine};
 use bq_state::Bounds;
 use q_explain::{explain_bytes, explain_code, of_event, write_shown};
 use q_script::{Line, LineFault as Unread, ScriptLine};
-use q_sim::{Refusal, RefusedLine};
 use std::alloc::{AllocError, Global};
 
 /// The bytes of the program that a line registers; none where it registers none.
