@@ -10,7 +10,7 @@ mod Uncertified
 mod Founders
 mod Ids
 mod Pairing
-mod Told
+mod PairsTold
 mod Performing
 mod Storing
 mod Leading

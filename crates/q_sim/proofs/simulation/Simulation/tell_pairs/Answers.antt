@@ -1,7 +1,7 @@
 -- Simulation::tell_pairs: tells of each pair of a store and a later collect.
 use Rattle.std.proofs.Common.{string_bytes}
 use Rattle.q_sim.specs.Seen.{seen}
-use Rattle.q_sim.proofs.Told.{pairs_told}
+use Rattle.q_sim.proofs.PairsTold.{pairs_told}
 use Rattle.q_sim.proofs.simulation.Simulation.tell_pairs.Goals as goal
 
 pub returns : goal.returns
