@@ -3,14 +3,15 @@
 use crate::console::{MAILBOXES, end_at};
 use crate::masks::spelled;
 use crate::plan::first;
-use crate::stage::{LOOKS, Machine, NAP, Stage, place_of};
+use crate::stage::{LOOKS, NAP, Stage, place_of};
 use q_asker::run_text;
 use q_outside::{Counted, Hub, Transport};
 use std::alloc::{AllocError, Global};
-use std::io::{ErrorKind, Read, Write};
-use std::net::{Net, Shutdown, TcpStream};
+use std::fs::Files;
+use std::io::{Eprint, ErrorKind, Read, Write};
+use std::net::{Net, Shutdown, TcpListener, TcpStream};
 use std::sync::Wait;
-use std::thread::Scope;
+use std::thread::{Scope, Threads};
 use std::time::{Clock, Duration};
 use std::{io, str, thread};
 
@@ -84,7 +85,16 @@ fn heard<R: Wait>(rt: &R, hub: &Hub, from: u64, into: &mut [u8]) -> usize {
     0
 }
 
-impl<'s, R: Machine> Stage<'s, R> {
+impl<'s, R> Stage<'s, R>
+where
+    R: Net<Listener = TcpListener, Stream = TcpStream>
+        + Files
+        + Wait
+        + Threads
+        + Clock
+        + Eprint
+        + Sync,
+{
     /// Where the clients of a node connect.
     pub fn place(&self, id: u64) -> &str {
         match self.places.get(place_of(id)) {

@@ -3,13 +3,18 @@
 use crate::console::{Mailbox, end_at, number_of};
 use crate::masks::{masked, spelled};
 use crate::plan::first;
-use crate::stage::{Machine, Stage};
+use crate::stage::Stage;
 use q_book::Book;
 use q_command::{beginning, gathered};
 use q_node::{NodeWords, run_file};
 use q_outside::{Counted, Files, MemoryFiles, Transport};
 use q_sim::Refusal;
-use std::io::Write;
+use std::fs::Files as SystemFiles;
+use std::io::{Eprint, Write};
+use std::net::{Net, TcpListener, TcpStream};
+use std::sync::Wait;
+use std::thread::Threads;
+use std::time::Clock;
 use std::{fs, io};
 
 /// The most bytes of a journal that are gathered.
@@ -18,8 +23,15 @@ const LONGEST_JOURNAL: usize = 1_000_000;
 /// The lines of the console of the command.
 const LINES: &[u8] = b"status\nend\n";
 
-impl<'s, R: Machine> Stage<'s, R>
+impl<'s, R> Stage<'s, R>
 where
+    R: Net<Listener = TcpListener, Stream = TcpStream>
+        + SystemFiles
+        + Wait
+        + Threads
+        + Clock
+        + Eprint
+        + Sync,
     R::File: Send,
 {
     /// The book of the beginning of a node's journal, if the node has ended; tells why it has none.

@@ -55,9 +55,14 @@ mod strangers;
 
 use crate::plan::Plan;
 use crate::sockets::{open, places, roles};
-use crate::stage::{Machine, Stage};
+use crate::stage::Stage;
 use std::alloc::Global;
-use std::io::{Input, Print, Write};
+use std::fs::Files;
+use std::io::{Eprint, Input, Print, Write};
+use std::net::{Net, TcpListener, TcpStream};
+use std::sync::Wait;
+use std::thread::Threads;
+use std::time::Clock;
 use std::{io, thread};
 
 /// Opens the sockets of a plan, and does these steps.
@@ -69,7 +74,13 @@ fn play<'a, R, W>(
     out: &mut W,
 ) -> io::Result<()>
 where
-    R: Machine,
+    R: Net<Listener = TcpListener, Stream = TcpStream>
+        + Files
+        + Wait
+        + Threads
+        + Clock
+        + Eprint
+        + Sync,
     R::File: Send,
     W: Write,
 {
@@ -102,7 +113,13 @@ where
 /// Runs the case of these lines.
 fn run_case<'a, R, W>(rt: &'a R, alloc: Global, lines: &'a [String], out: &mut W) -> io::Result<()>
 where
-    R: Machine,
+    R: Net<Listener = TcpListener, Stream = TcpStream>
+        + Files
+        + Wait
+        + Threads
+        + Clock
+        + Eprint
+        + Sync,
     R::File: Send,
     W: Write,
 {

@@ -16,26 +16,6 @@ use std::thread::{Scope, Threads};
 use std::time::{Clock, Duration};
 use std::{fs, io, thread};
 
-/// The machine that a case runs on.
-pub trait Machine: Net<Listener = TcpListener, Stream = TcpStream>
-    + Files
-    + Wait
-    + Threads
-    + Clock
-    + Eprint
-    + Sync {}
-
-impl<R> Machine for R
-where
-    R: Net<Listener = TcpListener, Stream = TcpStream>
-        + Files
-        + Wait
-        + Threads
-        + Clock
-        + Eprint
-        + Sync,
-{}
-
 /// How often something is looked for.
 pub const LOOKS: u32 = 400;
 
@@ -65,8 +45,15 @@ pub fn place_of(number: u64) -> usize {
     (number as usize).wrapping_sub(1)
 }
 
-impl<'s, R: Machine> Stage<'s, R>
+impl<'s, R> Stage<'s, R>
 where
+    R: Net<Listener = TcpListener, Stream = TcpStream>
+        + Files
+        + Wait
+        + Threads
+        + Clock
+        + Eprint
+        + Sync,
     R::File: Send,
 {
     /// Starts the thread of a node.

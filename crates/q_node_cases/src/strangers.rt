@@ -3,11 +3,15 @@
 use crate::clients::bytes_of;
 use crate::plan::first;
 use crate::sockets::NUMBER;
-use crate::stage::{LOOKS, Machine, NAP, Stage, place_of};
+use crate::stage::{LOOKS, NAP, Stage, place_of};
 use q_doors::{Post, UdpPost};
-use std::io::Write;
+use std::fs::Files;
+use std::io::{Eprint, Write};
+use std::net::{Net, TcpListener, TcpStream};
+use std::sync::Wait;
 use std::sync::atomic::Ordering::SeqCst;
-use std::time::Duration;
+use std::thread::Threads;
+use std::time::{Clock, Duration};
 use std::{io, thread};
 
 /// Sends bytes to a node from a socket, behind this number of a run. Whether they were sent.
@@ -18,7 +22,16 @@ fn send_as(post: &mut UdpPost, number: u64, to: u64, bytes: &[u8]) -> bool {
     sent
 }
 
-impl<'s, R: Machine> Stage<'s, R> {
+impl<'s, R> Stage<'s, R>
+where
+    R: Net<Listener = TcpListener, Stream = TcpStream>
+        + Files
+        + Wait
+        + Threads
+        + Clock
+        + Eprint
+        + Sync,
+{
     /// The socket of a node that was not started, or that of the stranger.
     fn socket(&mut self, id: u64) -> &mut UdpPost {
         match self.roles.get_mut(place_of(id)) {
