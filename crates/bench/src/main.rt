@@ -55,7 +55,12 @@ mod values;
 
 use crate::sizes::size;
 use anyhow::Result;
+use std::alloc::Global;
 use std::env;
+use std::net::Net;
+use std::sync::Wait;
+use std::thread::Threads;
+use std::time::Clock;
 
 /// How large what is measured is, and how often it is done.
 #[derive(Clone, Copy)]
@@ -73,7 +78,10 @@ fn size_of(words: &[String], count: u64, runs: u64) -> Result<Size> {
 }
 
 /// Times the part that this word names, in the size that the words give.
-fn run(rt: &HostRuntime, word: &str, words: &[String]) -> Result<()> {
+fn run<R>(rt: &R, word: &str, words: &[String]) -> Result<()>
+where
+    R: Net + Wait + Threads + Clock + Print + Eprint + Alloc<A = Global> + Sync,
+{
     match word {
         "asm" => asm::run(rt, size_of(words, 64, 1)?),
         "check" => check::run(rt, size_of(words, 64, 1)?),
@@ -90,7 +98,10 @@ fn run(rt: &HostRuntime, word: &str, words: &[String]) -> Result<()> {
 }
 
 /// A small run of each.
-fn run_all(rt: &HostRuntime) -> Result<()> {
+fn run_all<R>(rt: &R) -> Result<()>
+where
+    R: Net + Wait + Threads + Clock + Print + Eprint + Alloc<A = Global> + Sync,
+{
     for word in ["asm", "check"] {
         run(rt, word, &[])?;
     }
