@@ -10,8 +10,8 @@ use sc_view::View;
 use std::alloc::Global;
 use std::time::{Clock, Duration, Instant};
 
-fn refused(fault: NodeFault) -> anyhow::Error {
-    anyhow!("refused {}", fault.reason())
+fn refused(reason: NodeFault) -> anyhow::Error {
+    anyhow!("refused {reason}")
 }
 
 /// What founder 2 sends to store this view.

@@ -20,8 +20,8 @@ fn measure(rt: &impl Clock, cluster: &mut Cluster, rounds: u64) -> Result<(Durat
     Ok((took, cluster.deliveries().saturating_sub(before)))
 }
 
-fn refused(fault: WorldFault) -> anyhow::Error {
-    anyhow!("refused {}", fault.reason())
+fn refused(reason: WorldFault) -> anyhow::Error {
+    anyhow!("refused {reason}")
 }
 
 /// Times so many rounds of a cluster.

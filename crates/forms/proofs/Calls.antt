@@ -1,6 +1,6 @@
 -- What an accepted call was: each test held, and each part was accepted; and what another answer makes of a call.
 use Rattle.std.proofs.Common.{◌≡◌, Bool, true, false, cond, [], ◌∷◌, refl, sym, ap, ◌∙◌, Result, Ok, Err}
-use Rattle.forms.specs.Calls.{Tests, tested, mapped, then_by}
+use Rattle.forms.specs.Calls.{Tests, tested, mapped, and_then}
 
 pub same_answer : {A E : Type 0} (x y : A) → (let r : Result A E = Ok x in r) ≡ Ok y → x ≡ y
 same_answer x y h = cc
@@ -50,9 +50,9 @@ passes ts value x rest h =
 -- ---- parts
 
 -- an accepted call's part was accepted, and so was the rest
-pub then_ok : {S A B E F : Type 0} (raise : E → F) (r : Result (A × S) E) (rest : A → S → Result B F) (y : B) → then_by raise r rest ≡ Ok y → (a : A × S) × (r ≡ Ok a) × (rest a.0 a.1 ≡ Ok y)
-then_ok raise (Ok a) rest y h = (a, refl, h)
-then_ok raise (Err e) rest y h = absurd (no_refusal (raise e) y h)
+pub and_then_ok : {S A B E : Type 0} (r : Result (A × S) E) (rest : A → S → Result B E) (y : B) → and_then r rest ≡ Ok y → (a : A × S) × (r ≡ Ok a) × (rest a.0 a.1 ≡ Ok y)
+and_then_ok (Ok a) rest y h = (a, refl, h)
+and_then_ok (Err e) rest y h = absurd (no_refusal e y h)
 
 -- an accepted call with another answer was accepted
 pub mapped_ok : {S A B E : Type 0} (f : A → B) (r : Result (A × S) E) (y : B × S) → mapped f r ≡ Ok y → (a : A × S) × (r ≡ Ok a) × ((f a.0, a.1) ≡ y)

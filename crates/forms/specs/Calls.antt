@@ -35,6 +35,6 @@ mapped f (Ok a) = Ok (f a.0, a.1)
 mapped f (Err e) = Err e
 
 -- A part is done, and then the rest, which has the part's answer and state. A fault of the part is one of the call.
-abbrev pub then_by : {S A B E F : Type 0} → (E → F) → Result (A × S) E → (A → S → Result B F) → Result B F
-then_by raise (Ok a) rest = rest a.0 a.1
-then_by raise (Err e) rest = Err (raise e)
+abbrev pub and_then : {S A B E : Type 0} → Result (A × S) E → (A → S → Result B E) → Result B E
+and_then (Ok a) rest = rest a.0 a.1
+and_then (Err e) rest = Err e

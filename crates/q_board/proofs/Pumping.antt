@@ -6,7 +6,7 @@ use Rattle.q_board.specs.declared.found.Look.{Look}
 use Rattle.q_board.specs.AskerModel.{AskerModel}
 use Rattle.q_desk.specs.declared.journal.Entry.{Entry}
 use Rattle.q_desk.specs.declared.journal.Entry.TheVariants as entry
-use Rattle.q_book.specs.declared.fault.BookFault.{BookFault}
+use Rattle.reasons.specs.declared.Reason.{Reason}
 use Rattle.q_book.specs.State.{BookState}
 use Rattle.q_board.specs.Looks.{slots_of}
 use Rattle.q_board.specs.Pumped.{open_slots, post_of, Carries, Pumped, Stopped}
@@ -37,10 +37,10 @@ all_slots a looks eight s = s ∙ ap (open_slots (8 * a.number)) (take_all 8 a.r
 pub pumps : (a a₁ a₂ : AskerModel) (b b₁ b₂ : BookState) (n : ℕ) → length a.row ≡ 8 → Receiving a b 8 n a₁ b₁ → OfferedAll a₁ b₁ a₂ b₂ → Pumped a b n a₂ b₂
 pumps a a₁ a₂ b b₁ b₂ n eight r o = record { carries = carries_both a a₁ a₂ b b₁ b₂ n o.count r o.offering; each = all_slots a r.looks eight r.slots; count = r.count; ends = o.ends }
 
-pub stops_offering : (a a₁ a₂ : AskerModel) (b b₁ b₂ : BookState) (n : ℕ) (e : BookFault) → length a.row ≡ 8 → Receiving a b 8 n a₁ b₁ → StopsOffering a₁ b₁ e a₂ b₂ → Stopped a b e a₂ b₂
+pub stops_offering : (a a₁ a₂ : AskerModel) (b b₁ b₂ : BookState) (n : ℕ) (e : Reason) → length a.row ≡ 8 → Receiving a b 8 n a₁ b₁ → StopsOffering a₁ b₁ e a₂ b₂ → Stopped a b e a₂ b₂
 stops_offering a a₁ a₂ b b₁ b₂ n e eight r o = record { carries = carries_both a a₁ a₂ b b₁ b₂ n o.count r o.offering; why = inr (all_slots a r.looks eight r.slots, o.refused) }
 
-pub stops_receiving : (a a₁ : AskerModel) (b b₁ : BookState) (e : BookFault) → NoRoomPast a b e a₁ b₁ → Stopped a b e a₁ b₁
+pub stops_receiving : (a a₁ : AskerModel) (b b₁ : BookState) (e : Reason) → NoRoomPast a b e a₁ b₁ → Stopped a b e a₁ b₁
 stops_receiving a a₁ b b₁ e s = let r = s.receiving in record {
   carries = record {
     looks = r.looks;

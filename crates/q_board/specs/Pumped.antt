@@ -8,8 +8,8 @@ use Rattle.q_board.specs.Places.{jobs}
 use Rattle.q_board.specs.Calls.{SameAsker}
 use Rattle.q_desk.specs.declared.journal.Entry.{Entry}
 use Rattle.q_desk.specs.declared.journal.Entry.TheVariants as entry
-use Rattle.q_book.specs.declared.fault.BookFault.{BookFault}
-use Rattle.q_book.specs.Faults.{memory}
+use Rattle.reasons.specs.declared.Reason.{Reason}
+use Rattle.reasons.specs.declared.Reason.TheVariants.{OutOfMemory as memory}
 use Rattle.q_book.specs.State.{BookState}
 use Rattle.q_book.specs.Books.{handed_out, posted, room_for_post}
 use Rattle.q_book.specs.Noted.{IsResultFault}
@@ -26,7 +26,7 @@ abbrev pub Posts : BookState → List Finished → List Finished → BookState �
 Posts b [] accepted c = (accepted ≡ []) × (c ≡ b)
 Posts b (d ∷ ds) accepted c =
     ((m : BookState) × (rest : List Finished) × (posted b d.job d.ran ≡ Ok (tt, m)) × (accepted ≡ d ∷ rest) × Posts m ds rest c)
-    ⊎ ((e : BookFault) × (posted b d.job d.ran ≡ Err e) × IsResultFault e × Posts b ds accepted c)
+    ⊎ ((e : Reason) × (posted b d.job d.ran ≡ Err e) × IsResultFault e × Posts b ds accepted c)
 
 -- these jobs are handed out in turn
 abbrev pub HandsOut : BookState → List Job → BookState → Type 0
@@ -63,15 +63,15 @@ pub record Pumped (a : AskerModel) (b : BookState) (n : ℕ) (a' : AskerModel) (
   pub ends : (jobs a'.row ≡ 8) ⊎ (handed_out b' ≡ Ok (None, b'))
 
 -- before the slot at a place is looked at, there is no room for a post; no job is handed out
-abbrev pub NoRoomAt : AskerModel → List Look → List Job → BookState → BookFault → Type 0
+abbrev pub NoRoomAt : AskerModel → List Look → List Job → BookState → Reason → Type 0
 NoRoomAt a looks handed b' e =
     (place : ℕ) × (place < 8) × (slots_of looks ≡ open_slots (8 * a.number) (take place a.row)) × (handed ≡ []) × (room_for_post b' ≡ Err e)
 
 -- after all looks, the next hand-out is refused
-abbrev pub NoHandOut : AskerModel → List Look → BookState → BookFault → Type 0
+abbrev pub NoHandOut : AskerModel → List Look → BookState → Reason → Type 0
 NoHandOut a looks b' e = (slots_of looks ≡ open_slots (8 * a.number) a.row) × (e ≢ memory → handed_out b' ≡ Err e)
 
 -- the pump stops at a refusal, before a look or at a hand-out
-pub record Stopped (a : AskerModel) (b : BookState) (e : BookFault) (a' : AskerModel) (b' : BookState) : Type 0 where
+pub record Stopped (a : AskerModel) (b : BookState) (e : Reason) (a' : AskerModel) (b' : BookState) : Type 0 where
   pub carries : Carries a b a' b'
   pub why : NoRoomAt a carries.looks carries.handed b' e ⊎ NoHandOut a carries.looks b' e

@@ -8,8 +8,8 @@ use Rattle.q_board.specs.AskerModel.{AskerModel}
 use Rattle.q_board.specs.Places.{jobs}
 use Rattle.q_board.specs.Calls.{SameAsker, is_at, Offers, LooksOnly, Receives}
 use Rattle.q_desk.specs.declared.journal.Entry.TheVariants as entry
-use Rattle.q_book.specs.declared.fault.BookFault.{BookFault}
-use Rattle.q_book.specs.Faults.{memory}
+use Rattle.reasons.specs.declared.Reason.{Reason}
+use Rattle.reasons.specs.declared.Reason.TheVariants.{OutOfMemory as memory}
 use Rattle.q_book.specs.State.{BookState}
 use Rattle.q_book.specs.Books.{handed_out, posted, room_for_post}
 use Rattle.q_book.specs.Noted.{IsResultFault}
@@ -24,7 +24,7 @@ IsOpenAt a place = (j : Job) × is_at a.row place (Some j)
 -- the result is posted, and accepted or refused with 55 or 56
 abbrev pub PostsOne : Bool → BookState → Finished → BookState → Type 0
 PostsOne true b d b' = posted b d.job d.ran ≡ Ok (tt, b')
-PostsOne false b d b' = (e : BookFault) × (posted b d.job d.ran ≡ Err e) × IsResultFault e × (b' ≡ b)
+PostsOne false b d b' = (e : Reason) × (posted b d.job d.ran ≡ Err e) × IsResultFault e × (b' ≡ b)
 
 -- no job is open at the place; or one look showed no finished job; or a result was received and posted
 abbrev pub Polls : AskerModel → BookState → ℕ → Bool → AskerModel → BookState → Type 0
@@ -51,7 +51,7 @@ pub record Receiving (a : AskerModel) (b : BookState) (places : ℕ) (n : ℕ) (
   pub same : SameAsker a a'
 
 -- before the open slot at a place is looked at, there is no room for a post
-pub record NoRoomPast (a : AskerModel) (b : BookState) (e : BookFault) (a' : AskerModel) (b' : BookState) : Type 0 where
+pub record NoRoomPast (a : AskerModel) (b : BookState) (e : Reason) (a' : AskerModel) (b' : BookState) : Type 0 where
   pub place : ℕ
   pub near : place < 8
   pub count : ℕ
@@ -65,7 +65,7 @@ abbrev pub OffersNext : AskerModel → BookState → Bool → AskerModel → Boo
 OffersNext a b true a' b' = (j : Job) × (i : ℕ) × (handed_out b ≡ Ok (Some j, b')) × Offers a i j a' × (jobs a'.row ≡ jobs a.row + 1)
 OffersNext a b false a' b' = (handed_out b ≡ Ok (None, b)) × (a' ≡ a) × (b' ≡ b)
 
-abbrev pub RefusesNext : AskerModel → BookState → BookFault → AskerModel → BookState → Type 0
+abbrev pub RefusesNext : AskerModel → BookState → Reason → AskerModel → BookState → Type 0
 RefusesNext a b e a' b' = (e ≢ memory → handed_out b ≡ Err e) × (a' ≡ a) × (b' ≡ b)
 
 -- so many jobs were handed out and offered
@@ -87,7 +87,7 @@ pub record OfferedAll (a : AskerModel) (b : BookState) (a' : AskerModel) (b' : B
   pub ends : (jobs a'.row ≡ 8) ⊎ (handed_out b' ≡ Ok (None, b'))
 
 -- the next hand-out is refused
-pub record StopsOffering (a : AskerModel) (b : BookState) (e : BookFault) (a' : AskerModel) (b' : BookState) : Type 0 where
+pub record StopsOffering (a : AskerModel) (b : BookState) (e : Reason) (a' : AskerModel) (b' : BookState) : Type 0 where
   pub count : ℕ
   pub offering : Offering a b count a' b'
   pub refused : e ≢ memory → handed_out b' ≡ Err e

@@ -10,7 +10,7 @@ use Rattle.sc_node.specs.State.{NodeState}
 use Rattle.sc_node.specs.Nodes as node
 use Rattle.sc_node.specs.declared.answer.Begun.{Begun}
 use Rattle.sc_node.specs.declared.answer.Delivered.{Delivered}
-use Rattle.sc_node.specs.declared.fault.NodeFault.{NodeFault}
+use Rattle.reasons.specs.declared.Reason.{Reason}
 use Rattle.bq_check.specs.Certificate.{Certificate}
 use Rattle.bq_range.specs.Interval.{Interval}
 use Rattle.q_session.specs.Right.{IsRight}
@@ -20,13 +20,9 @@ use Rattle.q_desk.specs.State.{DeskState, new_desk}
 use Rattle.q_desk.specs.Desks as desk
 use Rattle.q_desk.specs.declared.journal.Entry.{Entry}
 use Rattle.q_desk.specs.declared.journal.Entry.TheVariants as entry
-use Rattle.q_desk.specs.Faults.{memory as desk_memory}
-use Rattle.q_desk.specs.declared.fault.CallFault.{CallFault}
-use Rattle.q_desk.specs.declared.fault.DeskFault.{DeskFault}
 use Rattle.q_book.specs.declared.answer.Asked.{Asked}
 use Rattle.q_book.specs.declared.answer.Taken.{Taken}
-use Rattle.q_book.specs.declared.fault.BookFault.{BookFault}
-use Rattle.q_book.specs.Faults.{memory, of_call}
+use Rattle.reasons.specs.declared.Reason.TheVariants.{OutOfMemory as memory}
 use Rattle.q_book.specs.State.{BookState}
 use Rattle.q_book.specs.Books.{present, asking, storing, taking, by_desk, by_node, with_desk, asks, asks_node, asked, stores, stores_node, stored, delivers, delivers_node, delivered, leaves, leaves_node, left, record_lengths}
 use Rattle.q_book.specs.Replays.{IsBook}
@@ -36,9 +32,9 @@ use Rattle.q_book.proofs.Parts.{noted_is}
 use Rattle.q_book.proofs.Replays.{with, book_next}
 
 -- where a book passed its tests, they hold of it by its fields
-pub holds_inside : {A : Type 0} (tests : BookState → Tests BookFault) (b seen : BookState) (value x : A) → b ≡ seen → (let t : Result A BookFault = Ok x in t) ≡ tested (tests seen) (Ok value) → AllHold (tests b)
+pub holds_inside : {A : Type 0} (tests : BookState → Tests Reason) (b seen : BookState) (value x : A) → b ≡ seen → (let t : Result A Reason = Ok x in t) ≡ tested (tests seen) (Ok value) → AllHold (tests b)
 holds_inside tests b seen value x same h =
-    let rest : Result (Unit {0}) BookFault = Ok tt in
+    let rest : Result (Unit {0}) Reason = Ok tt in
     subst (λ (s : BookState). AllHold (tests s)) (sym same) (passes (tests seen) value x rest h).1
 
 -- ---- a book whose parts are as they were
@@ -69,38 +65,38 @@ posted_book b j ran d hold h right r =
 -- ---- calls of the node that the desk notes
 
 -- what the book makes of such a call
-abbrev pub by_call : {A C : Type 0} → (A → DeskState → NodeState → C) → Result (A × (DeskState × NodeState)) CallFault → Result C BookFault
+abbrev pub by_call : {A C : Type 0} → (A → DeskState → NodeState → C) → Result (A × (DeskState × NodeState)) Reason → Result C Reason
 by_call f (Ok a) = Ok (f a.0 a.1.0 a.1.1)
-by_call f (Err e) = Err (of_call e)
+by_call f (Err e) = Err e
 
 -- the desk's part and then the node's are that call
 by_both : {A B C D : Type 0} (f : A → DeskState → B → NodeState → D) (g : A → B → C) (k : C → DeskState → NodeState → D)
     → ((a : A) (d : DeskState) (b : B) (n : NodeState) → f a d b n ≡ k (g a b) d n)
-    → (x : Result (A × DeskState) DeskFault) (r : Result (B × NodeState) NodeFault) → by_desk (λ a d. by_node (f a d) r) x ≡ by_call k (desk.with_node g x r)
+    → (x : Result (A × DeskState) Reason) (r : Result (B × NodeState) Reason) → by_desk (λ a d. by_node (f a d) r) x ≡ by_call k (desk.with_node g x r)
 by_both f g k same (Ok d) (Ok n) = ap Ok (same d.0 d.1 n.0 n.1)
 by_both f g k same (Ok d) (Err e) = refl
 by_both f g k same (Err e) r = refl
 
 -- both were accepted
-with_node-ok : {A B C : Type 0} (f : A → B → C) (x : Result (A × DeskState) DeskFault) (r : Result (B × NodeState) NodeFault) (y : C × (DeskState × NodeState)) → desk.with_node f x r ≡ Ok y
+with_node-ok : {A B C : Type 0} (f : A → B → C) (x : Result (A × DeskState) Reason) (r : Result (B × NodeState) Reason) (y : C × (DeskState × NodeState)) → desk.with_node f x r ≡ Ok y
     → (d : A × DeskState) × (x ≡ Ok d) × (b : B × NodeState) × (r ≡ Ok b) × ((f d.0 b.0, (d.1, b.1)) ≡ y)
 with_node-ok f (Ok d) (Ok b) y h = (d, refl, b, refl, same_answer _ y h)
 with_node-ok f (Ok d) (Err e) y h = absurd (no_refusal _ y h)
 with_node-ok f (Err e) r y h = absurd (no_refusal _ y h)
 
 -- what the node and the desk did at a call that was noted
-pub noted_call : {A : Type 0} (d : DeskState) (e : Entry) (r : Result (A × NodeState) NodeFault) (a : A) (x : DeskState) (n : NodeState) → desk.noting d e r ≡ Ok (a, (x, n)) → (desk.with_entry d e ≡ x) × (r ≡ Ok (a, n))
+pub noted_call : {A : Type 0} (d : DeskState) (e : Entry) (r : Result (A × NodeState) Reason) (a : A) (x : DeskState) (n : NodeState) → desk.noting d e r ≡ Ok (a, (x, n)) → (desk.with_entry d e ≡ x) × (r ≡ Ok (a, n))
 noted_call {A} d e r a x n h =
     let w = with_node-ok (λ u (y : A). y) (desk.noted d e) r (a, (x, n)) h in (
       ap (λ (p : Unit {0} × DeskState). p.1) (noted_is d e w.0 w.1) ∙ ap (λ (p : A × (DeskState × NodeState)). p.1.0) w.4,
-      w.3 ∙ ap (λ (p : A × (DeskState × NodeState)). let y : Result (A × NodeState) NodeFault = Ok (p.0, p.1.1) in y) w.4,
+      w.3 ∙ ap (λ (p : A × (DeskState × NodeState)). let y : Result (A × NodeState) Reason = Ok (p.0, p.1.1) in y) w.4,
     )
 
 -- a call that was refused
-pub call_refused : {A C : Type 0} (old new : BookState) (said : Result (C × BookState) BookFault) (g : A → DeskState → NodeState → C × BookState) (r : Result (A × (DeskState × NodeState)) CallFault) (f : CallFault) (result : Result C BookFault)
-    → said ≡ by_call g r → new ≡ old → (f ≢ desk_memory → r ≡ Err f) → IsErrAnd result (λ e. e ≡ of_call f) → Steps memory said old new result
+pub call_refused : {A C : Type 0} (old new : BookState) (said : Result (C × BookState) Reason) (g : A → DeskState → NodeState → C × BookState) (r : Result (A × (DeskState × NodeState)) Reason) (f : Reason) (result : Result C Reason)
+    → said ≡ by_call g r → new ≡ old → (f ≢ memory → r ≡ Err f) → IsErrAnd result (λ e. e ≡ f) → Steps memory said old new result
 call_refused old new said g r f (Ok a) is same told gives = absurd gives
-call_refused old new said g r f (Err e) is same told gives = (same, λ other. is ∙ ap (by_call g) (told (λ m. other (gives ∙ ap of_call m))) ∙ sym (ap Err gives))
+call_refused old new said g r f (Err e) is same told gives = (same, λ other. is ∙ ap (by_call g) (told (λ m. other (gives ∙ m))) ∙ sym (ap Err gives))
 
 module _ (b : BookState) where
   abbrev pub asks_call : ℕ × Begun → DeskState → NodeState → Asked × BookState
@@ -144,7 +140,7 @@ founded_book version id config ids listed n d l f same new lengths =
     subst (λ (p : List ℕ × DeskState). IsBook (record { version = version; id = id; config = config; founders = Some p.0; node = n; desk = p.1 })) (λ i. (sym same i, sym is i))
     (record { replay = record { first = n; begun = f; replayed = refl }; lengths = refl })
 
-pub entered_book : (version : Version) (id : ℕ) (config : Config) (outs : List Message) (n : NodeState) (d : DeskState) (l : Interval) → (let r : Result (NodeState × List Message) NodeFault = Ok (node.entered config id) in r) ≡ Ok (n, outs)
+pub entered_book : (version : Version) (id : ℕ) (config : Config) (outs : List Message) (n : NodeState) (d : DeskState) (l : Interval) → (let r : Result (NodeState × List Message) Reason = Ok (node.entered config id) in r) ≡ Ok (n, outs)
     → d ≡ new_desk l → l ≡ record_lengths version → IsBook (record { version = version; id = id; config = config; founders = None; node = n; desk = d })
 entered_book version id config outs n d l e new lengths =
     let p : node.entered config id ≡ (n, outs) = cc in

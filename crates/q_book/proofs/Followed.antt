@@ -24,13 +24,13 @@ use Rattle.q_book.specs.Books as book
 use Rattle.q_book.specs.Replays.{Follows, EntryFits}
 use Rattle.q_book.specs.declared.answer.Asked.{Asked}
 use Rattle.q_book.specs.declared.answer.Taken.{Taken}
-use Rattle.q_book.specs.declared.fault.BookFault.{BookFault}
+use Rattle.reasons.specs.declared.Reason.{Reason}
 use Rattle.q_book.proofs.Parts.{is_there, left-parts, stored-parts, asked-parts, delivered-parts, desk-parts, stored-fits, delivered-fits}
 
 -- ---- what is said of a call
 
 -- what is seen of an answer, where the call is accepted
-abbrev pub seen : {A X : Type 0} → (A → X) → X → Result (A × BookState) BookFault → X
+abbrev pub seen : {A X : Type 0} → (A → X) → X → Result (A × BookState) Reason → X
 seen f none (Ok a) = f a.0
 seen f none (Err e) = none
 
@@ -71,7 +71,7 @@ value_fits l value h = told_is (length value) l h
 -- ---- each call
 
 module _ (b : BookState) where
-  seen_is : {A X : Type 0} (f : A → X) (none : X) (r : Result (A × BookState) BookFault) (z y : A × BookState) → r ≡ Ok z → y ≡ z → f y.0 ≡ seen f none r
+  seen_is : {A X : Type 0} (f : A → X) (none : X) (r : Result (A × BookState) Reason) (z y : A × BookState) → r ≡ Ok z → y ≡ z → f y.0 ≡ seen f none r
   seen_is f none r z y h same = ap (λ (x : _ × BookState). f x.0) same ∙ sym (ap (seen f none) h)
 
   -- from what is said of each part
@@ -173,7 +173,7 @@ module _ (b : BookState) where
 
   -- ---- one book at most
 
-  same_next : {A : Type 0} (r : Result (A × BookState) BookFault) (x y : A) (c d : BookState) → r ≡ Ok (x, c) → r ≡ Ok (y, d) → c ≡ d
+  same_next : {A : Type 0} (r : Result (A × BookState) Reason) (x y : A) (c d : BookState) → r ≡ Ok (x, c) → r ≡ Ok (y, d) → c ≡ d
   same_next {A} r x y c d f g = ap (λ (p : A × BookState). p.1) (same_answer {A = A × BookState} (x, c) (y, d) (sym f ∙ g))
 
   -- a post changes the desk alone

@@ -9,17 +9,15 @@ use Rattle.q_session.specs.declared.query.Phase.TheVariants.{Collecting, Ready, 
 use Rattle.q_session.specs.declared.query.Query.{Query}
 use Rattle.q_desk.specs.State.{DeskState}
 use Rattle.q_desk.specs.Desks as desk
-use Rattle.q_desk.specs.declared.fault.DeskFault.{DeskFault}
-use Rattle.q_desk.specs.declared.fault.DeskFault.TheVariants as desk_fault
-use Rattle.q_book.specs.declared.fault.BookFault.{BookFault}
-use Rattle.q_book.specs.Faults.{of_desk}
+use Rattle.reasons.specs.declared.Reason.{Reason}
+use Rattle.reasons.specs.declared.Reason.TheVariants as reasons
 use Rattle.q_book.specs.State.{BookState}
 use Rattle.q_book.specs.Books.{present, posting, with_desk, by_desk}
 use Rattle.q_book.specs.Noted.{IsResultFault, PostsAreNoted, RoomLeavesResultFaults, HandOutsAreNoted, NoneChangesNothing}
 use Rattle.q_book.proofs.Followed.{handed-accepted, none-handed, posted-accepted}
 
 abbrev Desked : Type 0 → Type 0
-Desked A = Result (A × DeskState) DeskFault
+Desked A = Result (A × DeskState) Reason
 
 -- ---- an accepted call of the desk
 
@@ -34,46 +32,39 @@ none_changes b c h = sym (none-handed b c h)
 
 -- ---- a refused post
 
-abbrev IsPostFault : DeskFault → Type 0
-IsPostFault f = (f ≡ desk_fault.Stranger) ⊎ (f ≡ desk_fault.AlreadyAnswered)
-
-fault-of : (g f : DeskFault) (h : (let r : Desked (Unit {0}) = Err g in r) ≡ Err f) → g ≡ f
+fault-of : (g f : Reason) (h : (let r : Desked (Unit {0}) = Err g in r) ≡ Err f) → g ≡ f
 fault-of g f h = cc
 
-stranger : (f : DeskFault) → (let r : Desked (Unit {0}) = Err desk_fault.Stranger in r) ≡ Err f → IsPostFault f
-stranger f h = inl (sym (fault-of desk_fault.Stranger f h))
+stranger : (f : Reason) → (let r : Desked (Unit {0}) = Err reasons.Stranger in r) ≡ Err f → IsResultFault f
+stranger f h = inl (sym (fault-of reasons.Stranger f h))
 
-test-fault : (same roomy : Bool) (x : DeskState) (f : DeskFault) → roomy ≡ true
-    → (let r : Desked (Unit {0}) = if same then (if roomy then Ok (tt, x) else Err desk_fault.BookFull) else Err desk_fault.Stranger in r) ≡ Err f → IsPostFault f
+test-fault : (same roomy : Bool) (x : DeskState) (f : Reason) → roomy ≡ true
+    → (let r : Desked (Unit {0}) = if same then (if roomy then Ok (tt, x) else Err reasons.BookFull) else Err reasons.Stranger in r) ≡ Err f → IsResultFault f
 test-fault true true x f room h = absurd (cc)
 test-fault true false x f room h = absurd (cc)
 test-fault false roomy x f room h = stranger f h
 
-phase-fault : (s : DeskState) (j : Job) (ran : Ran) (q : Query) (p : Phase) (f : DeskFault) → desk.has_room s ≡ true → desk.posted_to s j ran q p ≡ Err f → IsPostFault f
+phase-fault : (s : DeskState) (j : Job) (ran : Ran) (q : Query) (p : Phase) (f : Reason) → desk.has_room s ≡ true → desk.posted_to s j ran q p ≡ Err f → IsResultFault f
 phase-fault s j ran q (Running view) f room h = test-fault (desk.is_job_of s.programs j q view) (desk.has_room s) _ f room h
-phase-fault s j ran q (Answered view old) f room h = inr (sym (fault-of desk_fault.AlreadyAnswered f h))
+phase-fault s j ran q (Answered view old) f room h = inr (sym (fault-of reasons.AlreadyAnswered f h))
 phase-fault s j ran q Collecting f room h = stranger f h
 phase-fault s j ran q (Ready view) f room h = stranger f h
 
-query-fault : (s : DeskState) (j : Job) (ran : Ran) (o : Option Query) (f : DeskFault) → desk.has_room s ≡ true → desk.posted_at s j ran o ≡ Err f → IsPostFault f
+query-fault : (s : DeskState) (j : Job) (ran : Ran) (o : Option Query) (f : Reason) → desk.has_room s ≡ true → desk.posted_at s j ran o ≡ Err f → IsResultFault f
 query-fault s j ran (Some q) f room h = phase-fault s j ran q q.phase f room h
 query-fault s j ran None f room h = stranger f h
 
-own-fault : (own : Bool) (s : DeskState) (j : Job) (ran : Ran) (o : Option Query) (f : DeskFault) → desk.has_room s ≡ true → (if own then desk.posted_at s j ran o else Err desk_fault.Stranger) ≡ Err f → IsPostFault f
+own-fault : (own : Bool) (s : DeskState) (j : Job) (ran : Ran) (o : Option Query) (f : Reason) → desk.has_room s ≡ true → (if own then desk.posted_at s j ran o else Err reasons.Stranger) ≡ Err f → IsResultFault f
 own-fault true s j ran o f room h = query-fault s j ran o f room h
 own-fault false s j ran o f room h = stranger f h
 
-of-desk : (f : DeskFault) → IsPostFault f → IsResultFault (of_desk f)
-of-desk f (inl e) = inl (ap of_desk e)
-of-desk f (inr e) = inr (ap of_desk e)
-
-desk-fault : (b : BookState) (r : Desked (Unit {0})) (e : BookFault) → ((f : DeskFault) → r ≡ Err f → IsPostFault f) → by_desk (with_desk b) r ≡ Err e → IsResultFault e
+desk-fault : (b : BookState) (r : Desked (Unit {0})) (e : Reason) → ((f : Reason) → r ≡ Err f → IsResultFault f) → by_desk (with_desk b) r ≡ Err e → IsResultFault e
 desk-fault b (Ok x) e faults h = absurd (cc)
-desk-fault b (Err f) e faults h = let same : of_desk f ≡ e = cc in subst IsResultFault same (of-desk f (faults f refl))
+desk-fault b (Err f) e faults h = let same : f ≡ e = cc in subst IsResultFault same (faults f refl)
 
 pub room_leaves : RoomLeavesResultFaults
 room_leaves b j ran e room h =
-    let none : Result (Unit {0}) BookFault = Ok tt in
+    let none : Result (Unit {0}) Reason = Ok tt in
     let hold = (tested_ok (posting b) none tt room).0 in
     let r : Desked (Unit {0}) = desk.posted b.desk b.id j ran in
     desk-fault b r e (λ f. own-fault (j.node == b.id) b.desk j ran (slice_get b.desk.queries j.query) f hold.1.0)

@@ -2,7 +2,7 @@
 use Rattle.std.proofs.Common.{◌≡◌, ℕ, true, false, List, length, sym, subst, Result, Ok}
 use Rattle.std.proofs.lemmas.Bool.{not-true}
 use Rattle.forms.specs.Calls.{tested}
-use Rattle.forms.proofs.Calls.{same_answer, tested_ok, then_ok}
+use Rattle.forms.proofs.Calls.{same_answer, tested_ok, and_then_ok}
 use Rattle.sc_view.specs.Values.{is_within}
 use Rattle.sc_msg.specs.declared.message.Message.{Message}
 use Rattle.sc_msg.specs.Lengths as message
@@ -11,24 +11,21 @@ use Rattle.sc_node.specs.State.{NodeState}
 use Rattle.sc_node.specs.Nodes as node
 use Rattle.sc_node.specs.declared.answer.Begun.{Begun}
 use Rattle.sc_node.specs.declared.answer.Delivered.{Delivered}
-use Rattle.sc_node.specs.declared.fault.NodeFault.{NodeFault}
+use Rattle.reasons.specs.declared.Reason.{Reason}
 use Rattle.q_desk.specs.State.{DeskState}
 use Rattle.q_desk.specs.Desks as desk
 use Rattle.q_desk.specs.declared.journal.Entry.{Entry}
 use Rattle.q_desk.specs.declared.journal.Entry.TheVariants as entry
-use Rattle.q_desk.specs.declared.fault.DeskFault.{DeskFault}
-use Rattle.q_book.specs.Faults.{of_desk}
 use Rattle.q_book.specs.State.{BookState}
 use Rattle.q_book.specs.Books as book
 use Rattle.q_book.specs.declared.answer.Asked.{Asked}
 use Rattle.q_book.specs.declared.answer.Taken.{Taken}
-use Rattle.q_book.specs.declared.fault.BookFault.{BookFault}
-use Rattle.q_book.specs.declared.fault.BookFault.TheVariants as fault
+use Rattle.reasons.specs.declared.Reason.TheVariants as reasons
 
 -- the node's part was accepted
-pub by_node-ok : {A B : Type 0} (f : A → NodeState → B) (r : Result (A × NodeState) NodeFault) (z : B) → book.by_node f r ≡ Ok z → (a : A × NodeState) × (r ≡ Ok a) × (f a.0 a.1 ≡ z)
+pub by_node-ok : {A B : Type 0} (f : A → NodeState → B) (r : Result (A × NodeState) Reason) (z : B) → book.by_node f r ≡ Ok z → (a : A × NodeState) × (r ≡ Ok a) × (f a.0 a.1 ≡ z)
 by_node-ok f r z h =
-    let a = then_ok fault.Node r (λ x n. Ok (f x n)) z h in
+    let a = and_then_ok r (λ x n. Ok (f x n)) z h in
     (a.0, a.1, same_answer _ z a.2)
 
 -- what the desk is after an entry that was noted
@@ -36,16 +33,16 @@ pub noted_is : (d : DeskState) (e : Entry) (y : Unit {0} × DeskState) → desk.
 noted_is d e y h = same_answer _ y (tested_ok (desk.room d) _ y h).1
 
 -- the desk had room for the entry
-pub noted-ok : {B : Type 0} (f : Unit {0} → DeskState → Result B BookFault) (d : DeskState) (e : Entry) (z : B) → book.by_desk f (desk.noted d e) ≡ Ok z → f tt (desk.with_entry d e) ≡ Ok z
+pub noted-ok : {B : Type 0} (f : Unit {0} → DeskState → Result B Reason) (d : DeskState) (e : Entry) (z : B) → book.by_desk f (desk.noted d e) ≡ Ok z → f tt (desk.with_entry d e) ≡ Ok z
 noted-ok f d e z h =
-    let a = then_ok of_desk (desk.noted d e) f z h in
+    let a = and_then_ok (desk.noted d e) f z h in
     subst (λ (x : Unit {0} × DeskState). f x.0 x.1 ≡ Ok z) (sym (noted_is d e a.0 a.1)) a.2
 
 -- ---- what a book's node and its desk did
 
 module _ (b : BookState) where
   -- the node had not left
-  pub is_there : {B : Type 0} (r : Result B BookFault) (z : B) → tested (book.present b) r ≡ Ok z → b.node.gone ≡ false
+  pub is_there : {B : Type 0} (r : Result B Reason) (z : B) → tested (book.present b) r ≡ Ok z → b.node.gone ≡ false
   is_there r z h = not-true b.node.gone (tested_ok (book.present b) r z h).0.0
 
   pub left-parts : (z : List Message × BookState) → book.left b ≡ Ok z
@@ -77,13 +74,13 @@ module _ (b : BookState) where
       → (d : ℕ × DeskState) × (desk.asked b.desk b.node.operations program start ≡ Ok d)
       × (a : Begun × NodeState) × (node.collect_begun b.node ≡ Ok a) × (book.asks b d.0 d.1 a.0 a.1 ≡ z)
   asked-parts program start z h =
-      let d = then_ok of_desk (desk.asked b.desk b.node.operations program start) (book.asks_node b) z (tested_ok (book.asking b program) _ z h).1 in
+      let d = and_then_ok (desk.asked b.desk b.node.operations program start) (book.asks_node b) z (tested_ok (book.asking b program) _ z h).1 in
       let a = by_node-ok (book.asks b d.0.0 d.0.1) (node.collect_begun b.node) z d.2 in
       (d.0, d.1, a.0, a.1, a.2)
 
   -- a call of the desk alone
-  pub desk-parts : {A : Type 0} (r : Result (A × DeskState) DeskFault) (z : A × BookState) → tested (book.present b) (book.by_desk (book.with_desk b) r) ≡ Ok z
+  pub desk-parts : {A : Type 0} (r : Result (A × DeskState) Reason) (z : A × BookState) → tested (book.present b) (book.by_desk (book.with_desk b) r) ≡ Ok z
       → (d : A × DeskState) × (r ≡ Ok d) × ((d.0, record b { desk = d.1 }) ≡ z)
   desk-parts r z h =
-      let d = then_ok of_desk r (book.with_desk b) z (tested_ok (book.present b) _ z h).1 in
+      let d = and_then_ok r (book.with_desk b) z (tested_ok (book.present b) _ z h).1 in
       (d.0, d.1, same_answer _ z d.2)

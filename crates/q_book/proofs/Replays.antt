@@ -6,7 +6,7 @@ use Rattle.std.specs.Ordering.{nat_cmp}
 use Rattle.std.specs.FinSet as set
 use Rattle.forms.proofs.Calls.{passed}
 use Rattle.sc_node.specs.Nodes as node
-use Rattle.sc_node.specs.declared.fault.NodeFault.TheVariants as node_fault
+use Rattle.reasons.specs.declared.Reason.TheVariants as reasons
 use Rattle.sc_node.specs.State.{NodeState}
 use Rattle.q_desk.specs.State.{DeskState}
 use Rattle.q_desk.specs.declared.journal.Entry.{Entry}
@@ -68,6 +68,6 @@ pub founders_few : (b : BookState) (n : NodeState) (o : Option (List ℕ)) → I
 founders_few b n None f = tt
 founders_few b n (Some ids) f =
     let own = set.contains (set.from_list {R = nat_cmp} ids) b.id in
-    let held = (passed (node.are_founders ids && own) node_fault.BadFounders _ n f).0 in
+    let held = (passed (node.are_founders ids && own) reasons.BadFounders _ n f).0 in
     let some = first_so (node.are_founders ids) own held in
     leb-true (length ids) node.most_founders (first_so _ (node.rises ids) (second_so (nat_le 1 (length ids)) _ some))

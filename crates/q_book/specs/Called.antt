@@ -5,11 +5,11 @@ use Rattle.q_book.specs.declared.call.Call.{Call}
 use Rattle.q_book.specs.declared.call.Call.TheVariants as call
 use Rattle.q_book.specs.declared.call.Reply.{Reply}
 use Rattle.q_book.specs.declared.call.Reply.TheVariants as reply
-use Rattle.q_book.specs.declared.fault.BookFault.{BookFault}
+use Rattle.reasons.specs.declared.Reason.{Reason}
 use Rattle.q_book.specs.State.{BookState}
 use Rattle.q_book.specs.Books.{registered, asked, stored, delivered, left, handed_out, posted}
 
-abbrev pub called : BookState → Call → Result (Reply × BookState) BookFault
+abbrev pub called : BookState → Call → Result (Reply × BookState) Reason
 called b call.Leave = mapped reply.Left (left b)
 called b (call.Register program) = mapped reply.Registered (registered b program.now)
 called b (call.Ask program start) = mapped reply.Asked (asked b program start)

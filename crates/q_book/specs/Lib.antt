@@ -1,6 +1,5 @@
 -- Books: what each call answers and does, and that a book is the replay of its journal.
 pub mod State
-pub mod Faults
 pub mod Books
 pub mod Called
 pub mod Replays

@@ -2,22 +2,21 @@
 use Rattle.std.specs.Prelude.{◌≡◌, ◌++◌, [], ◌∷◌, ◌⊎◌, Some, None, Ok, Err}
 use Rattle.q_session.specs.declared.ran.Ran.{Ran}
 use Rattle.q_session.specs.declared.job.Job.{Job}
-use Rattle.q_desk.specs.declared.fault.DeskFault.TheVariants as desk_fault
+use Rattle.reasons.specs.declared.Reason.TheVariants as reasons
 use Rattle.q_desk.specs.declared.journal.Entry.TheVariants as entry
-use Rattle.q_book.specs.declared.fault.BookFault.{BookFault}
-use Rattle.q_book.specs.declared.fault.BookFault.TheVariants as fault
+use Rattle.reasons.specs.declared.Reason.{Reason}
 use Rattle.q_book.specs.State.{BookState}
 use Rattle.q_book.specs.Books.{handed_out, posted, room_for_post}
 
 -- 55 or 56: the result is not that of a query that runs, or its query is answered
-abbrev pub IsResultFault : BookFault → Type 0
-IsResultFault e = (e ≡ fault.Desk desk_fault.Stranger) ⊎ (e ≡ fault.Desk desk_fault.AlreadyAnswered)
+abbrev pub IsResultFault : Reason → Type 0
+IsResultFault e = (e ≡ reasons.Stranger) ⊎ (e ≡ reasons.AlreadyAnswered)
 
 abbrev pub PostsAreNoted : Type 0
 PostsAreNoted = (b : BookState) (j : Job) (ran : Ran) (c : BookState) → posted b j ran ≡ Ok (tt, c) → c.desk.journal ≡ b.desk.journal ++ entry.Post j.query ran ∷ []
 
 abbrev pub RoomLeavesResultFaults : Type 0
-RoomLeavesResultFaults = (b : BookState) (j : Job) (ran : Ran) (e : BookFault) → room_for_post b ≡ Ok tt → posted b j ran ≡ Err e → IsResultFault e
+RoomLeavesResultFaults = (b : BookState) (j : Job) (ran : Ran) (e : Reason) → room_for_post b ≡ Ok tt → posted b j ran ≡ Err e → IsResultFault e
 
 abbrev pub HandOutsAreNoted : Type 0
 HandOutsAreNoted = (b : BookState) (j : Job) (c : BookState) → handed_out b ≡ Ok (Some j, c) → c.desk.journal ≡ b.desk.journal ++ entry.HandOut ∷ []

@@ -11,26 +11,31 @@ ghost use Rattle.q_desk.specs.Desks as desk;
 ghost use Rattle.q_desk.specs.Desks.{ends, completed_by};
 ghost use Rattle.q_desk.specs.Answers.{AnswersAreRight};
 ghost use Rattle.q_desk.specs.Keeping.{ProgramsAreKnown, EndsWithin};
-ghost use Rattle.q_book.specs.Faults.{memory};
+ghost use Rattle.reasons.specs.declared.Reason.TheVariants as reasons;
+ghost use Rattle.reasons.specs.declared.Reason.TheVariants.{OutOfMemory as memory};
 ghost use Rattle.q_book.specs.Books.{present, asking, storing, taking, registered, asked, stored, delivered, left, handed_out, posted, room_for_post, founded, entered};
 ghost use Rattle.q_book.specs.Called.{called};
 ghost use Rattle.q_book.specs.Replays.{IsReplay, EntryFits};
 
 use crate::answer::{Asked, Taken};
 use crate::call::{Call, Reply};
-use crate::fault::BookFault;
 use crate::lengths::record_lengths;
-use q_desk::{Desk, DeskFault, Entry};
+use q_desk::{Desk, Entry};
 use q_session::laws::records_of_values;
 use q_session::{Done, Job, Ran};
 use q_table::{Program, ProgramId};
+use reasons::Reason;
 use sc_members::Config;
 use sc_msg::{Message, Version};
 use sc_node::laws::delivery_keeps_lengths;
-use sc_node::{Begun, Delivered, MOST_OPEN, Node, NodeFault, Outs};
+use sc_node::{Begun, Delivered, MOST_OPEN, Node, Outs};
 use sc_view::Value;
 use std::alloc::{AllocError, Global};
 use std::marker::Model;
+
+/// Why a book refuses a call. After a refusal the book is as it was. Where several hold, the first of 42, 41, 51, 59,
+/// 50, 52, 56, 55, 43, 53, 48, 46, 47 is told; 49 is the founders' alone, 54 that of a question for an answer.
+pub type BookFault = Reason;
 
 /// A node with its desk. Contracts see it as the record of its fields. It is the replay of its journal, and its
 /// programs run over records of the lengths of its version.
@@ -225,7 +230,7 @@ impl Book {
 
     /// The recorded answer of a query, if there is one yet; also where the node has left. Refused with 54. Takes no
     /// memory.
-    pub fn answer(&self, query: usize) -> Result<Option<Ran>, DeskFault>
+    pub fn answer(&self, query: usize) -> Result<Option<Ran>, BookFault>
         ensures { result ≡ desk.answer_of self.now.desk query }
     {
         self.desk.answer(query)
@@ -321,7 +326,7 @@ impl Book {
         ensures { result ≡ tested (present self.now) (Ok tt) }
     {
         if self.node.is_gone() {
-            return Err(BookFault::Node(NodeFault::Gone));
+            return Err(BookFault::Gone);
         }
         Ok(())
     }
@@ -332,13 +337,13 @@ impl Book {
     {
         self.check_here()?;
         if !self.node.has_joined() {
-            return Err(BookFault::Node(NodeFault::NotJoined));
+            return Err(BookFault::NotJoined);
         }
         if !self.desk.knows(program) {
-            return Err(BookFault::Desk(DeskFault::UnknownProgram));
+            return Err(BookFault::UnknownProgram);
         }
         if MOST_OPEN <= self.node.open_operations() {
-            return Err(BookFault::Node(NodeFault::SessionsFull));
+            return Err(BookFault::SessionsFull);
         }
         Ok(())
     }
@@ -349,11 +354,11 @@ impl Book {
     {
         self.check_here()?;
         if !self.node.has_joined() {
-            return Err(BookFault::Node(NodeFault::NotJoined));
+            return Err(BookFault::NotJoined);
         }
         let value = fitting_value(self.version, bytes)?;
         if MOST_OPEN <= self.node.open_operations() {
-            return Err(BookFault::Node(NodeFault::SessionsFull));
+            return Err(BookFault::SessionsFull);
         }
         Ok(value)
     }
@@ -372,7 +377,7 @@ impl Book {
 
 // The value of these bytes, if they are so many as values of that version are.
 fn fitting_value(version: Version, bytes: &[u8]) -> Result<Value, BookFault>
-    ensures { result ≡ tested ((is_within (length bytes.now) (value_lengths version), BookFault.BadValue) ∷ []) (Ok bytes.now) }
+    ensures { result ≡ tested ((is_within (length bytes.now) (value_lengths version), reasons.BadValue) ∷ []) (Ok bytes.now) }
 {
     match Value::new(bytes) {
         Ok(value) if version.has_length(bytes.len()) => Ok(value),

@@ -34,13 +34,11 @@
 mod answer;
 mod book;
 mod call;
-mod fault;
 pub mod laws;
 mod lengths;
 pub mod worked;
 
 pub use answer::{Asked, Taken};
-pub use book::Book;
+pub use book::{Book, BookFault};
 pub use call::{Call, Reply};
-pub use fault::BookFault;
 pub use lengths::record_lengths;

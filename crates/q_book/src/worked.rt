@@ -13,7 +13,7 @@ ghost use Rattle.sc_msg.specs.declared.message.Message.{Message};
 ghost use Rattle.sc_node.specs.Nodes.{is_view_full, stored_view};
 ghost use Rattle.sc_node.specs.State.{NodeState};
 ghost use Rattle.sc_operations.specs.declared.progress.Completion.TheVariants as completion;
-ghost use Rattle.sc_node.specs.declared.fault.NodeFault.TheVariants as node_fault;
+ghost use Rattle.reasons.specs.declared.Reason.TheVariants as reasons;
 ghost use Rattle.sc_operations.specs.declared.session.Session.{Session};
 ghost use Rattle.q_session.specs.declared.job.Job.{Job};
 ghost use Rattle.q_session.specs.declared.query.Phase.TheVariants.{Collecting, Ready};
@@ -22,42 +22,40 @@ ghost use Rattle.q_desk.specs.Desks as desk;
 ghost use Rattle.q_desk.specs.Sample.{query};
 ghost use Rattle.q_desk.specs.State.{DeskState, new_desk};
 ghost use Rattle.q_desk.specs.declared.completed.Completed.TheVariants as completed;
-ghost use Rattle.q_desk.specs.declared.fault.DeskFault.TheVariants as desk_fault;
 ghost use Rattle.q_desk.specs.declared.journal.Entry.TheVariants as entry;
 ghost use Rattle.q_book.specs.Books.{record_lengths, registered, asked, stored, delivers, delivered, left, handed_out, posted, room_for_post};
 ghost use Rattle.q_book.specs.Called.{called};
-ghost use Rattle.q_book.specs.Faults.{memory};
+ghost use Rattle.reasons.specs.declared.Reason.TheVariants.{OutOfMemory as memory};
 ghost use Rattle.q_book.specs.Sample.{there, node_there};
 ghost use Rattle.q_book.specs.State.{BookState};
 ghost use Rattle.q_book.specs.declared.answer.Asked.{Asked};
 ghost use Rattle.q_book.specs.declared.call.Call.TheVariants as call;
 ghost use Rattle.q_book.specs.declared.call.Reply.TheVariants as reply;
-ghost use Rattle.q_book.specs.declared.fault.BookFault.{BookFault};
-ghost use Rattle.q_book.specs.declared.fault.BookFault.TheVariants as fault;
+ghost use Rattle.reasons.specs.declared.Reason.{Reason};
 
 /// What the definitions say at telling operands.
 pub fn worked()
     // The desk's calls.
     ensures registered { (b : BookState) (n : NodeState) (c : Certificate) → registered (there b n (new_desk (between 16 128))) (record c { lengths = between 16 128 }) ≡ Ok (0, there b n (record (new_desk (between 16 128)) { programs = record c { lengths = between 16 128 } ∷ []; journal = entry.Register (record c { lengths = between 16 128 }) ∷ [] })) }
     ensures posted { (b : BookState) (n : NodeState) (d e : DeskState) (j : Job) (ran : Ran) → desk.posted d b.id j ran ≡ Ok (tt, e) → posted (there b n d) j ran ≡ Ok (tt, there b n e) }
-    ensures no_room { (b : BookState) (n : NodeState) (d : DeskState) → length d.journal ≡ 65536 → room_for_post (there b n d) ≡ Err (fault.Desk desk_fault.BookFull) }
+    ensures no_room { (b : BookState) (n : NodeState) (d : DeskState) → length d.journal ≡ 65536 → room_for_post (there b n d) ≡ Err reasons.BookFull }
 
     // A query waits for the collect that begins with it, the sixth operation. A refused one is not kept.
     ensures asked { (b : BookState) (n : NodeState) (c : Certificate) (l : Interval) → MatchResult (asked (there b n (record (new_desk l) { programs = c ∷ [] })) 0 7) (λ r. r.1.desk.queries ≡ query 5 Collecting ∷ []) (λ _. ⊥) }
-    ensures not_kept { (b : BookState) (n : NodeState) (e : BookFault) (l : Interval) → Steps {A = Asked} memory (asked (there b n (new_desk l)) 0 7) (there b n (new_desk l)) (there b n (record (new_desk l) { queries = query 5 Collecting ∷ [] })) (Err e) → ⊥ }
+    ensures not_kept { (b : BookState) (n : NodeState) (e : Reason) (l : Interval) → Steps {A = Asked} memory (asked (there b n (new_desk l)) 0 7) (there b n (new_desk l)) (there b n (record (new_desk l) { queries = query 5 Collecting ∷ [] })) (Err e) → ⊥ }
 
     // A new book of version 1 registers programs for 64 bytes, where values have 48; one of version 2 for 16 to 128.
     ensures first_records { record_lengths First ≡ single 64 }
     ensures second_records { record_lengths Second ≡ between 16 128 }
-    ensures wrong_bounds { (b : BookState) (n : NodeState) (c : Certificate) → registered (there b n (new_desk (record_lengths Second))) (record c { lengths = single 64 }) ≡ Err (fault.Desk desk_fault.WrongBounds) }
-    ensures gone { (b : BookState) (n : NodeState) (c : Certificate) (l : Interval) → registered (record b { node = record n { gone = true }; desk = new_desk l }) c ≡ Err (fault.Node node_fault.Gone) }
+    ensures wrong_bounds { (b : BookState) (n : NodeState) (c : Certificate) → registered (there b n (new_desk (record_lengths Second))) (record c { lengths = single 64 }) ≡ Err reasons.WrongBounds }
+    ensures gone { (b : BookState) (n : NodeState) (c : Certificate) (l : Interval) → registered (record b { node = record n { gone = true }; desk = new_desk l }) c ≡ Err reasons.Gone }
 
     // In version 1 values have 48 bytes, in version 2 at most 112.
     ensures stored { (b : BookState) (n : NodeState) (value : List ℕ) (l : Interval) → length value ≡ 48 → is_view_full (stored_view (node_there n) value) ≡ false → MatchResult (stored (there (record b { version = First }) n (new_desk l)) value) (λ r. r.1.desk.journal ≡ entry.Store value ∷ []) (λ _. ⊥) }
     ensures stored_any { (b : BookState) (n : NodeState) (value : List ℕ) (l : Interval) → length value ≡ 112 → is_view_full (stored_view (node_there n) value) ≡ false → MatchResult (stored (there (record b { version = Second }) n (new_desk l)) value) (λ r. r.1.desk.journal ≡ entry.Store value ∷ []) (λ _. ⊥) }
-    ensures stored_shorter { (b : BookState) (n : NodeState) (d : DeskState) → stored (there (record b { version = First }) n d) (7 ∷ []) ≡ Err fault.BadValue }
-    ensures stored_longer { (b : BookState) (n : NodeState) (d : DeskState) (value : List ℕ) → length value ≡ 113 → stored (there (record b { version = Second }) n d) value ≡ Err fault.BadValue }
-    ensures told_shorter { (b : BookState) (n : NodeState) (d : DeskState) (m : Message) → fits First m ≡ false → delivered (there (record b { version = First }) n d) m ≡ Err fault.BadValue }
+    ensures stored_shorter { (b : BookState) (n : NodeState) (d : DeskState) → stored (there (record b { version = First }) n d) (7 ∷ []) ≡ Err reasons.BadValue }
+    ensures stored_longer { (b : BookState) (n : NodeState) (d : DeskState) (value : List ℕ) → length value ≡ 113 → stored (there (record b { version = Second }) n d) value ≡ Err reasons.BadValue }
+    ensures told_shorter { (b : BookState) (n : NodeState) (d : DeskState) (m : Message) → fits First m ≡ false → delivered (there (record b { version = First }) n d) m ≡ Err reasons.BadValue }
 
     // Each call as a value is its own.
     ensures leave { (b : BookState) → called b call.Leave ≡ mapped reply.Left (left b) }

@@ -41,7 +41,7 @@ pub fn askers(alloc: Global, board: &Board, seats: Vec<AskerSeat>) -> Option<Vec
 fn post(book: &mut Book, done: &Done) -> Outcome {
     match book.post(done) {
         Ok(()) => Outcome::Query(done.job().query()),
-        Err(fault) => Outcome::Refused(fault.reason().number()),
+        Err(reason) => Outcome::Refused(reason.number()),
     }
 }
 
@@ -50,7 +50,7 @@ impl Asker<'_> {
     pub fn pump(&mut self, book: &mut Book) -> Outcome {
         match pump_once(self.board, &mut self.seat, book) {
             Ok(posted) => Outcome::Count(posted.into()),
-            Err(fault) => Outcome::Refused(fault.reason().number()),
+            Err(reason) => Outcome::Refused(reason.number()),
         }
     }
 
@@ -69,7 +69,7 @@ impl Asker<'_> {
         match book.hand_out() {
             Ok(Some(job)) => self.offer_job(job),
             Ok(None) => Outcome::Nothing,
-            Err(fault) => Outcome::Refused(fault.reason().number()),
+            Err(reason) => Outcome::Refused(reason.number()),
         }
     }
 

@@ -178,7 +178,7 @@ impl Founder {
     fn leave(&mut self) -> Outcome {
         match self.book.leave() {
             Ok(_) => Outcome::Done,
-            Err(fault) => Outcome::Refused(fault.reason().number()),
+            Err(reason) => Outcome::Refused(reason.number()),
         }
     }
 
@@ -186,7 +186,7 @@ impl Founder {
     fn room(&self) -> Outcome {
         match self.book.room_for_post() {
             Ok(()) => Outcome::Done,
-            Err(fault) => Outcome::Refused(fault.reason().number()),
+            Err(reason) => Outcome::Refused(reason.number()),
         }
     }
 

@@ -81,7 +81,7 @@ pub enum Ending {
 fn run_events(cluster: &mut Cluster, events: &[ClusterEvent]) -> Ending {
     match cluster.run(events) {
         Ok(()) => Ending::All,
-        Err((place, fault)) => Ending::Refused(place, fault.reason().number()),
+        Err((place, reason)) => Ending::Refused(place, reason.number()),
     }
 }
 

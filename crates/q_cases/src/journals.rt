@@ -174,7 +174,7 @@ pub struct FurtherStore {
 fn stored(book: &mut Book, len: usize) -> u8 {
     match book.store(&ZEROS[..len.min(ZEROS.len())]) {
         Ok(_) => 0,
-        Err(fault) => fault.reason().number(),
+        Err(reason) => reason.number(),
     }
 }
 

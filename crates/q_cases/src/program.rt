@@ -37,7 +37,7 @@ fn founder(alloc: Global, version: Version) -> Option<Box<Book>> {
 fn registered(book: &mut Book, program: &Program) -> u8 {
     match book.register(program) {
         Ok(_) => 0,
-        Err(fault) => fault.reason().number(),
+        Err(reason) => reason.number(),
     }
 }
 

@@ -13,7 +13,7 @@ use Rattle.q_book.specs.State.{BookState}
 use Rattle.q_book.specs.Books as book
 use Rattle.q_book.specs.declared.answer.Asked.{Asked}
 use Rattle.q_book.specs.declared.answer.Taken.{Taken}
-use Rattle.q_book.specs.declared.fault.BookFault.{BookFault}
+use Rattle.reasons.specs.declared.Reason.{Reason}
 use Rattle.q_history.specs.declared.event.ClusterEvent.{ClusterEvent}
 use Rattle.q_history.specs.declared.event.ClusterEvent.TheVariants as event
 use Rattle.q_history.specs.declared.event.ClusterStep.{ClusterStep}
@@ -26,7 +26,7 @@ use Rattle.q_cluster.specs.Acts.{Doing}
 use Rattle.q_book.proofs.Followed.{registered-accepted, handed-accepted, none-handed, posted-accepted, asked-accepted, stored-accepted, delivered-accepted, left-accepted}
 
 -- where it is accepted, nothing but the node and the desk of the book changes
-abbrev pub Keeps : {A : Type 0} → BookState → Result (A × BookState) BookFault → Type 0
+abbrev pub Keeps : {A : Type 0} → BookState → Result (A × BookState) Reason → Type 0
 Keeps {A} b r = (a : A) (c : BookState) → r ≡ Ok (a, c) → record b { node = c.node; desk = c.desk } ≡ c
 
 pub handed_keeps : (b : BookState) → Keeps b (book.handed_out b)
@@ -36,7 +36,7 @@ handed_keeps b (Some j) c h = (handed-accepted b j c h).same
 -- an event, what the book does at it, and what its cluster makes of that
 pub record Call (A : Type 0) : Type 0 where
   pub event : ClusterEvent
-  pub said : BookState → Result (A × BookState) BookFault
+  pub said : BookState → Result (A × BookState) Reason
   pub keeps : (b : BookState) → Keeps b (said b)
   pub next : ClusterState → A → BookState → ClusterStep × ClusterState
 

@@ -9,7 +9,7 @@ use Rattle.sc_msg.specs.declared.message.Message.{Message}
 use Rattle.sc_msg.specs.declared.version.Version.{Version}
 use Rattle.sc_world.specs.declared.event.WorldEvent.TheVariants as world_event
 use Rattle.sc_world.specs.declared.event.Sent.{Sent}
-use Rattle.sc_world.specs.declared.fault.WorldFault.TheVariants as world_fault
+use Rattle.reasons.specs.declared.Reason.TheVariants as reasons
 use Rattle.sc_world.specs.Ledgers.{recorded, numbered, stopped}
 use Rattle.sc_world.specs.State.{Past}
 use Rattle.sc_world.specs.Worlds.{live_at}
@@ -19,7 +19,6 @@ use Rattle.q_book.specs.Books as book
 use Rattle.q_history.specs.declared.event.ClusterEvent.TheVariants as event
 use Rattle.q_history.specs.declared.event.ClusterStep.{ClusterStep}
 use Rattle.q_history.specs.declared.event.EventAnswer.TheVariants as told
-use Rattle.q_history.specs.declared.fault.ClusterFault.TheVariants as fault
 use Rattle.q_history.specs.State.{ClusterState}
 use Rattle.q_history.specs.Clusters.{Said, put, enters, entered, crashed}
 use Rattle.q_history.proofs.Accepted.{at_live}
@@ -75,7 +74,7 @@ module _ (version : Version) (books : BookMap) (past : Past) (jobs : List Job) (
 
   -- ---- a node enters
 
-  used_by : (o : Option NodeState) → true ≡ is_some o → entered c id o ≡ Err (fault.World world_fault.IdUsed)
+  used_by : (o : Option NodeState) → true ≡ is_some o → entered c id o ≡ Err reasons.IdUsed
   used_by None h = absurd (cc)
   used_by (Some n) h = refl
 
@@ -84,9 +83,9 @@ module _ (version : Version) (books : BookMap) (past : Past) (jobs : List Job) (
   map_some (Some b) = refl
 
   -- the id is used
-  pub enter_used : (x : ClusterState) → c ≡ x → true ≡ is_some (fin.get books id) → entered x id (fin.get x.world.nodes id) ≡ Err (fault.World world_fault.IdUsed)
+  pub enter_used : (x : ClusterState) → c ≡ x → true ≡ is_some (fin.get books id) → entered x id (fin.get x.world.nodes id) ≡ Err reasons.IdUsed
   enter_used x is h =
-      subst (λ (z : ClusterState). entered z id (fin.get z.world.nodes id) ≡ Err (fault.World world_fault.IdUsed)) is
+      subst (λ (z : ClusterState). entered z id (fin.get z.world.nodes id) ≡ Err reasons.IdUsed) is
       (used_by (fin.get c.world.nodes id) (h ∙ map_some (fin.get books id) ∙ ap (λ (o : Option NodeState). is_some o) (sym (get-each node_of books id))))
 
   module _ (old : IsCluster version books past jobs) (absent : fin.get books id ≡ None) (b : BookState) (outs : List Message) (made : book.entered version past.config id ≡ (b, outs)) (books' : BookMap) (put_in : books' ≡ fin.insert books id b)

@@ -10,12 +10,10 @@ use Rattle.q_session.specs.declared.job.Job.{Job}
 use Rattle.q_session.specs.declared.ran.Ran.{Ran}
 use Rattle.q_book.specs.State.{BookState}
 use Rattle.q_book.specs.Books as book
-use Rattle.q_book.specs.declared.fault.BookFault.{BookFault}
+use Rattle.reasons.specs.declared.Reason.{Reason}
 use Rattle.q_history.specs.declared.event.ClusterEvent.TheVariants as event
 use Rattle.q_history.specs.declared.event.ClusterStep.{ClusterStep}
 use Rattle.q_history.specs.declared.event.EventAnswer.TheVariants as told
-use Rattle.q_history.specs.declared.fault.ClusterFault.{ClusterFault}
-use Rattle.q_history.specs.Faults.{of_book}
 use Rattle.q_history.specs.State.{ClusterState}
 use Rattle.q_history.specs.Clusters.{Said, lift, posts, posted, finished}
 use Rattle.q_history.specs.Calls.{Answers, Follows, Takes}
@@ -44,10 +42,10 @@ module _ {version : Version} {books : BookMap} {past : Past} {jobs : List Job} {
   job_is = ap (λ (z : ClusterState). slice_get z.jobs number) is ∙ may_run.job
 
   -- what the table's contract says, of the very job
-  abbrev Posts : Result (Unit {0}) BookFault → Type 0
+  abbrev Posts : Result (Unit {0}) Reason → Type 0
   Posts r = (b : BookState) → fin.get books k.node ≡ Some b → StepsAt (book.posted b f.job f.ran) books books' k.node r
 
-  posts_at : (r : Result (Unit {0}) BookFault) → Posts r → CallsAt call books books' f.job.node r
+  posts_at : (r : Result (Unit {0}) Reason) → Posts r → CallsAt call books books' f.job.node r
   posts_at r posts = subst (λ (q : Job). (b : BookState) → fin.get books q.node ≡ Some b → StepsAt (book.posted b f.job f.ran) books books' q.node r) same posts
 
   turns : (r : Ran) → finished c r (slice_get jobs number) ≡ lift (posts c f.job r) (book.posted s.book f.job r)
@@ -56,19 +54,19 @@ module _ {version : Version} {books : BookMap} {past : Past} {jobs : List Job} {
   so : IsFinished f → IsCall call c f.job.node f.ran
   so right = (subst (λ (o : Option Job). IfSome o (λ q. Answers q f.ran)) (sym job_is) right, ap (finished c f.ran) job_is)
 
-  pub finish_stays : IsFinished f → (y : BookFault) → Posts (Err y) → IsCluster version books' past jobs
+  pub finish_stays : IsFinished f → (y : Reason) → Posts (Err y) → IsCluster version books' past jobs
   finish_stays right y posts = stays call s f.ran (so right) y books' (posts_at (Err y) posts) refl refl
 
   -- the book refuses
-  pub finish_turns : (y : BookFault) → Posts (Err y) → (e : ClusterFault) → e ≡ of_book y → (t : Result ClusterStep ClusterFault) → t ≡ Err e → Takes x (event.Finish number) (cluster_of version books' past jobs) t
+  pub finish_turns : (y : Reason) → Posts (Err y) → (e : Reason) → e ≡ y → (t : Result ClusterStep Reason) → t ≡ Err e → Takes x (event.Finish number) (cluster_of version books' past jobs) t
   finish_turns y posts' e why t tells =
       let steps = posts_at (Err y) posts' s.book s.has in
       subst (λ (z : ClusterState). Takes z (event.Finish number) (cluster_of version books' past jobs) t) is
-      (subst (λ (z : Result ClusterStep ClusterFault). Takes c (event.Finish number) (cluster_of version books' past jobs) z) (sym tells) (
+      (subst (λ (z : Result ClusterStep Reason). Takes c (event.Finish number) (cluster_of version books' past jobs) z) (sym tells) (
         ap (λ (m : BookMap). cluster_of version m past jobs) steps.0,
         λ loud r.
-            turns r ∙ ap (lift (posts c f.job r)) (refused_so s.book f.job f.ran r y (steps.1 (λ same. loud (why ∙ ap of_book same))))
-            ∙ ap (λ (z : ClusterFault). let q : Said = Err z in q) (sym why),
+            turns r ∙ ap (lift (posts c f.job r)) (refused_so s.book f.job f.ran r y (steps.1 (λ same. loud (why ∙ same))))
+            ∙ ap (λ (z : Reason). let q : Said = Err z in q) (sym why),
       ))
 
   -- the book records the answer

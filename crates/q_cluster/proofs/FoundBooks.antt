@@ -6,20 +6,18 @@ use Rattle.sc_members.specs.Members.{Config}
 use Rattle.sc_msg.specs.declared.version.Version.{Version}
 use Rattle.sc_node.specs.State.{NodeState}
 use Rattle.sc_node.specs.Nodes.{founder, are_founders}
-use Rattle.sc_node.specs.declared.fault.NodeFault.{NodeFault}
-use Rattle.sc_node.specs.declared.fault.NodeFault.TheVariants as node_fault
+use Rattle.reasons.specs.declared.Reason.{Reason}
+use Rattle.reasons.specs.declared.Reason.TheVariants as reasons
 use Rattle.q_book.specs.Books as book
-use Rattle.q_book.specs.Faults as book_faults
-use Rattle.q_book.specs.declared.fault.BookFault.{BookFault}
-use Rattle.q_book.specs.declared.fault.BookFault.TheVariants as fault
+use Rattle.reasons.specs.declared.Reason.TheVariants.{OutOfMemory as memory}
 
 module _ (version : Version) (c : Config) (ids : List ℕ) where
-  refused_by : (x : ℕ) (f : BookFault) (a b : Bool) → are_founders ids ≡ a → b ≡ true
-      → book.founds version x c ids (let r : Result NodeState NodeFault = cond (a && b) (Ok (founder c ids x)) (Err node_fault.BadFounders) in r) ≡ Err f → (are_founders ids ≡ false) × (f ≡ fault.Node node_fault.BadFounders)
+  refused_by : (x : ℕ) (f : Reason) (a b : Bool) → are_founders ids ≡ a → b ≡ true
+      → book.founds version x c ids (let r : Result NodeState Reason = cond (a && b) (Ok (founder c ids x)) (Err reasons.BadFounders) in r) ≡ Err f → (are_founders ids ≡ false) × (f ≡ reasons.BadFounders)
   refused_by x f a false is has h = absurd (cc)
   refused_by x f true true is has h = absurd (cc)
-  refused_by x f false true is has h = let e : fault.Node node_fault.BadFounders ≡ f = cc in (is, sym e)
+  refused_by x f false true is has h = let e : reasons.BadFounders ≡ f = cc in (is, sym e)
 
   -- the refusal of one founder is that of all
-  pub found_refused : (x : ℕ) (f : BookFault) → set.contains (set.from_list {R = nat_cmp} ids) x ≡ true → (f ≢ book_faults.memory → book.founded version c x ids ≡ Err f) → f ≢ book_faults.memory → (are_founders ids ≡ false) × (f ≡ fault.Node node_fault.BadFounders)
+  pub found_refused : (x : ℕ) (f : Reason) → set.contains (set.from_list {R = nat_cmp} ids) x ≡ true → (f ≢ memory → book.founded version c x ids ≡ Err f) → f ≢ memory → (are_founders ids ≡ false) × (f ≡ reasons.BadFounders)
   found_refused x f has h loud = refused_by x f (are_founders ids) (set.contains (set.from_list {R = nat_cmp} ids) x) refl has (h loud)

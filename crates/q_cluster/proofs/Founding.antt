@@ -6,12 +6,11 @@ use Rattle.sc_members.specs.Members.{Config}
 use Rattle.sc_msg.specs.declared.version.Version.{Version}
 use Rattle.sc_node.specs.State.{NodeState}
 use Rattle.sc_node.specs.Nodes.{founder, are_founders}
-use Rattle.sc_node.specs.declared.fault.NodeFault.TheVariants as node_fault
+use Rattle.reasons.specs.declared.Reason.TheVariants as reasons
 use Rattle.sc_world.specs.State.{Past, world_of}
 use Rattle.sc_world.specs.Ledgers.{first}
 use Rattle.sc_world.specs.Worlds as world
 use Rattle.sc_world.specs.Worlds.{nodes_with}
-use Rattle.sc_world.specs.declared.fault.WorldFault.TheVariants as world_fault
 use Rattle.sc_world.proofs.Finite.{get-insert}
 use Rattle.q_session.specs.declared.job.Job.{Job}
 use Rattle.q_book.specs.State.{BookState}
@@ -64,7 +63,7 @@ module _ (version : Version) (c : Config) (ids : List ℕ) where
   }
 
   starts : (b : Bool) → are_founders ids ≡ b → b ≡ true → started version c ids ≡ Ok (start version c ids)
-  starts true is h = ap (λ (b : Bool). founded version c ids (cond b (Ok (world.start c ids)) (Err (world_fault.Node node_fault.BadFounders)))) is
+  starts true is h = ap (λ (b : Bool). founded version c ids (cond b (Ok (world.start c ids)) (Err reasons.BadFounders))) is
   starts false is h = absurd (cc)
 
   new_by : are_founders ids ≡ true → IsCluster version (books_with version c ids fin.empty ids) (first c ids) []

@@ -25,11 +25,10 @@ use Rattle.q_book.specs.State.{BookState}
 use Rattle.q_book.specs.Books as book
 use Rattle.q_book.proofs.Parts.{delivered-parts}
 use Rattle.q_book.specs.declared.answer.Taken.{Taken}
-use Rattle.q_book.specs.declared.fault.BookFault.{BookFault}
+use Rattle.reasons.specs.declared.Reason.{Reason}
 use Rattle.q_history.specs.declared.event.ClusterStep.{ClusterStep}
 use Rattle.q_history.specs.declared.event.EventAnswer.{EventAnswer}
-use Rattle.q_history.specs.declared.fault.ClusterFault.{ClusterFault}
-use Rattle.q_history.specs.Faults.{memory, of_book}
+use Rattle.reasons.specs.declared.Reason.TheVariants.{OutOfMemory as memory}
 use Rattle.q_history.specs.State.{ClusterState}
 use Rattle.q_history.specs.Clusters.{Said, put, quiet, noted, lift, by_book, at, delivered_as, stepped}
 use Rattle.q_history.specs.Heads.{founders_for}
@@ -107,7 +106,7 @@ module _ (version : Version) (books : BookMap) (past : Past) (jobs : List Job) w
         head_on p x (filed_by id b new old p x (p == id) refl (sym (get-insert books id b p) ∙ ap (λ (m : BookMap). fin.get m p) (sym put_in) ∙ here))
 
   -- a call keeps the head
-  pub headed : {A : Type 0} (id : ℕ) (b c : BookState) (a : A) (said : Result (A × BookState) BookFault) → Keeps b said → said ≡ Ok (a, c) → IsHeaded version past id b → IsHeaded version past id c
+  pub headed : {A : Type 0} (id : ℕ) (b c : BookState) (a : A) (said : Result (A × BookState) Reason) → Keeps b said → said ≡ Ok (a, c) → IsHeaded version past id b → IsHeaded version past id c
   headed id b c a said keeps is h =
       let k = sym (keeps a c is) in
       record {
@@ -118,12 +117,12 @@ module _ (version : Version) (books : BookMap) (past : Past) (jobs : List Job) w
       }
 
 -- what a call of the book at id makes of the table
-abbrev pub CallsAt : {A : Type 0} → Call A → BookMap → BookMap → ℕ → Result A BookFault → Type 0
+abbrev pub CallsAt : {A : Type 0} → Call A → BookMap → BookMap → ℕ → Result A Reason → Type 0
 CallsAt k old new id r = (b : BookState) → fin.get old id ≡ Some b → StepsAt (k.said b) old new id r
 
 -- a refusal of a book, as its cluster answers it
-abbrev pub IsRefused : Result ClusterStep ClusterFault → BookFault → Type 0
-IsRefused r y = (f : ClusterFault) × (r ≡ Err f) × (f ≡ of_book y)
+abbrev pub IsRefused : Result ClusterStep Reason → Reason → Type 0
+IsRefused r y = (f : Reason) × (r ≡ Err f) × (f ≡ y)
 
 module _ {A : Type 0} {version : Version} {books : BookMap} {past : Past} {jobs : List Job} {x : ClusterState} {id : ℕ} (k : Call A) (s : Stands version books past jobs x id) (ran : Ran) (so : IsCall k (cluster_of version books past jobs) id ran) where
   abbrev c : ClusterState
@@ -133,7 +132,7 @@ module _ {A : Type 0} {version : Version} {books : BookMap} {past : Past} {jobs 
   turns = so.1 ∙ s.turns (does k c)
 
   -- the call is refused
-  module _ (y : BookFault) (books' : BookMap) (calls : let r : Result A BookFault = Err y in CallsAt k books books' id r) {past' : Past} {jobs' : List Job} (same_past : past' ≡ past) (same_jobs : jobs' ≡ jobs) where
+  module _ (y : Reason) (books' : BookMap) (calls : let r : Result A Reason = Err y in CallsAt k books books' id r) {past' : Past} {jobs' : List Job} (same_past : past' ≡ past) (same_jobs : jobs' ≡ jobs) where
     same_books : books' ≡ books
     same_books = (calls s.book s.has).0
 
@@ -142,18 +141,18 @@ module _ {A : Type 0} {version : Version} {books : BookMap} {past : Past} {jobs 
         subst (λ (m : BookMap). IsCluster version m past' jobs') (sym same_books)
         (subst (λ (p : Past). IsCluster version books p jobs') (sym same_past) (subst (λ (js : List Job). IsCluster version books past js) (sym same_jobs) s.old))
 
-    pub refuses : (r : Result ClusterStep ClusterFault) → IsRefused r y → Steps memory (stepped ran x k.event) x (cluster_of version books' past' jobs') r
+    pub refuses : (r : Result ClusterStep Reason) → IsRefused r y → Steps memory (stepped ran x k.event) x (cluster_of version books' past' jobs') r
     refuses r h =
         subst (λ (z : ClusterState). Steps memory (stepped ran z k.event) z (cluster_of version books' past' jobs') r) s.is
-        (subst (λ (z : Result ClusterStep ClusterFault). Steps memory (stepped ran c k.event) c (cluster_of version books' past' jobs') z) (sym h.1) (
+        (subst (λ (z : Result ClusterStep Reason). Steps memory (stepped ran c k.event) c (cluster_of version books' past' jobs') z) (sym h.1) (
           (λ i. cluster_of version (same_books i) (same_past i) (same_jobs i)),
           λ loud.
-              turns ∙ ap (lift (k.next c)) ((calls s.book s.has).1 (λ same. loud (h.2 ∙ ap of_book same)))
-              ∙ ap (λ (z : ClusterFault). let q : Said = Err z in q) (sym h.2),
+              turns ∙ ap (lift (k.next c)) ((calls s.book s.has).1 (λ same. loud (h.2 ∙ same)))
+              ∙ ap (λ (z : Reason). let q : Said = Err z in q) (sym h.2),
         ))
 
   -- the call is accepted
-  module _ (a : A) (books' : BookMap) (calls : let r : Result A BookFault = Ok a in CallsAt k books books' id r) where
+  module _ (a : A) (books' : BookMap) (calls : let r : Result A Reason = Ok a in CallsAt k books books' id r) where
     abbrev new : BookState
     new = (calls s.book s.has).0
 

@@ -11,8 +11,8 @@ use Rattle.forms.proofs.Maps.{found, get_found, one_written}
 use Rattle.sc_world.proofs.Finite.{get-insert}
 use Rattle.forms.specs.Calls.{Steps, Does}
 use Rattle.q_book.specs.State.{BookState}
-use Rattle.q_book.specs.declared.fault.BookFault.{BookFault}
-use Rattle.q_book.specs.Faults.{memory}
+use Rattle.reasons.specs.declared.Reason.{Reason}
+use Rattle.reasons.specs.declared.Reason.TheVariants.{OutOfMemory as memory}
 use Rattle.q_cluster.specs.Tables.{BookMap, each}
 use Rattle.q_cluster.specs.Calls.{StepsAt}
 
@@ -77,7 +77,7 @@ module _ (es fs : List (ℕ × BookState)) (old : BookMap) (id : ℕ) (n : BookS
   unchanged : (n' : BookState) → n' ≡ n → Writes es fs id n' → fin.from_entries fs ≡ old
   unchanged n' same writes = written n' writes ∙ ap (fin.insert old id) same ∙ insert_same old id n at_old
 
-  pub steps_at : {A : Type 0} (said : BookState → Result (A × BookState) BookFault) (n' : BookState) (r : Result A BookFault) → Steps memory (said n) n n' r → Writes es fs id n'
+  pub steps_at : {A : Type 0} (said : BookState → Result (A × BookState) Reason) (n' : BookState) (r : Result A Reason) → Steps memory (said n) n n' r → Writes es fs id n'
       → (b : BookState) → fin.get old id ≡ Some b → StepsAt (said b) old (fin.from_entries fs) id r
   steps_at said n' (Ok a) h writes b here = (n', ap said (sym (is_book b here)) ∙ h, written n' writes)
   steps_at said n' (Err e) h writes b here = (unchanged n' h.0 writes, λ no. ap said (sym (is_book b here)) ∙ h.1 no)

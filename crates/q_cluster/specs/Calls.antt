@@ -4,16 +4,15 @@ use Rattle.std.specs.FinMap as fin
 use Rattle.sc_members.specs.Members.{Config}
 use Rattle.sc_msg.specs.declared.version.Version.{Version}
 use Rattle.sc_node.specs.Nodes.{founder, are_founders}
-use Rattle.sc_node.specs.declared.fault.NodeFault.TheVariants as node_fault
+use Rattle.reasons.specs.declared.Reason.TheVariants as reasons
 use Rattle.q_book.specs.State.{BookState}
 use Rattle.q_book.specs.Books.{new_book}
-use Rattle.q_book.specs.declared.fault.BookFault.{BookFault}
-use Rattle.q_book.specs.declared.fault.BookFault.TheVariants as fault
-use Rattle.q_book.specs.Faults.{memory}
+use Rattle.reasons.specs.declared.Reason.{Reason}
+use Rattle.reasons.specs.declared.Reason.TheVariants.{OutOfMemory as memory}
 use Rattle.q_cluster.specs.Tables.{BookMap}
 
 -- the book of that id does what is said, and the others are as they were; or it refuses, and all are
-abbrev pub StepsAt : {A : Type 0} → Result (A × BookState) BookFault → BookMap → BookMap → ℕ → Result A BookFault → Type 0
+abbrev pub StepsAt : {A : Type 0} → Result (A × BookState) Reason → BookMap → BookMap → ℕ → Result A Reason → Type 0
 StepsAt said old new id (Ok a) = (b : BookState) × (said ≡ Ok (a, b)) × (new ≡ fin.insert old id b)
 StepsAt said old new id (Err e) = (new ≡ old) × (e ≢ memory → said ≡ Err e)
 
@@ -24,6 +23,6 @@ books_with version c ids books (id ∷ rest) =
     books_with version c ids (fin.insert books id (new_book version id c (Some ids) (founder c ids id))) rest
 
 -- the books of the founders are given, or they are refused
-abbrev pub Founds : BookFault → Version → Config → List ℕ → Result BookMap BookFault → Type 0
+abbrev pub Founds : Reason → Version → Config → List ℕ → Result BookMap Reason → Type 0
 Founds e version c ids (Ok books) = (are_founders ids ≡ true) × (books ≡ books_with version c ids fin.empty ids)
-Founds e version c ids (Err f) = f ≢ e → (are_founders ids ≡ false) × (f ≡ fault.Node node_fault.BadFounders)
+Founds e version c ids (Err f) = f ≢ e → (are_founders ids ≡ false) × (f ≡ reasons.BadFounders)

@@ -4,7 +4,7 @@ ghost use Rattle.std.specs.Prelude.{◌≡◌, OnOk, OnErr, Some, is_some, optio
 ghost use Rattle.std.specs.FinMap as fin;
 ghost use Rattle.q_book.specs.State.{BookState};
 ghost use Rattle.q_book.specs.Books as book;
-ghost use Rattle.q_book.specs.Faults.{memory};
+ghost use Rattle.reasons.specs.declared.Reason.TheVariants.{OutOfMemory as memory};
 ghost use Rattle.q_cluster.specs.Calls.{StepsAt, Founds};
 
 use q_book::{Asked, Book, BookFault, Taken};
@@ -12,7 +12,7 @@ use q_session::{Done, Job};
 use q_table::{Program, ProgramId};
 use sc_members::Config;
 use sc_msg::{Message, Version};
-use sc_node::{Begun, NodeFault, Outs};
+use sc_node::{Begun, Outs};
 use sc_view::Value;
 use std::alloc::{AllocError, Global};
 use std::collections::BTreeMap;
@@ -67,7 +67,7 @@ impl Books {
         ensures { (b : BookState) → fin.get self.old id ≡ Some b → StepsAt (book.registered b program.now) self.old self.new id result }
     {
         let Some(book) = self.entries.get_mut(&id) else {
-            return Err(BookFault::Node(NodeFault::OutOfMemory));
+            return Err(BookFault::OutOfMemory);
         };
         book.register(program)
     }
@@ -77,7 +77,7 @@ impl Books {
         ensures { (b : BookState) → fin.get self.old id ≡ Some b → StepsAt (book.asked b program start) self.old self.new id result }
     {
         let Some(book) = self.entries.get_mut(&id) else {
-            return Err(BookFault::Node(NodeFault::OutOfMemory));
+            return Err(BookFault::OutOfMemory);
         };
         book.ask(program, start)
     }
@@ -87,7 +87,7 @@ impl Books {
         ensures { (b : BookState) → fin.get self.old id ≡ Some b → StepsAt (book.stored b value.now) self.old self.new id result }
     {
         let Some(book) = self.entries.get_mut(&id) else {
-            return Err(BookFault::Node(NodeFault::OutOfMemory));
+            return Err(BookFault::OutOfMemory);
         };
         book.store(value.bytes())
     }
@@ -97,7 +97,7 @@ impl Books {
         ensures { (b : BookState) → fin.get self.old id ≡ Some b → StepsAt (book.delivered b message.now) self.old self.new id result }
     {
         let Some(book) = self.entries.get_mut(&id) else {
-            return Err(BookFault::Node(NodeFault::OutOfMemory));
+            return Err(BookFault::OutOfMemory);
         };
         book.deliver(message)
     }
@@ -107,7 +107,7 @@ impl Books {
         ensures { (b : BookState) → fin.get self.old id ≡ Some b → StepsAt (book.left b) self.old self.new id result }
     {
         let Some(book) = self.entries.get_mut(&id) else {
-            return Err(BookFault::Node(NodeFault::OutOfMemory));
+            return Err(BookFault::OutOfMemory);
         };
         book.leave()
     }
@@ -117,7 +117,7 @@ impl Books {
         ensures { (b : BookState) → fin.get self.old id ≡ Some b → StepsAt (book.handed_out b) self.old self.new id result }
     {
         let Some(book) = self.entries.get_mut(&id) else {
-            return Err(BookFault::Node(NodeFault::OutOfMemory));
+            return Err(BookFault::OutOfMemory);
         };
         book.hand_out()
     }
@@ -127,7 +127,7 @@ impl Books {
         ensures { (b : BookState) → fin.get self.old id ≡ Some b → StepsAt (book.posted b done.now.job done.now.ran) self.old self.new id result }
     {
         let Some(book) = self.entries.get_mut(&id) else {
-            return Err(BookFault::Node(NodeFault::OutOfMemory));
+            return Err(BookFault::OutOfMemory);
         };
         book.post(done)
     }
@@ -143,7 +143,7 @@ pub(crate) fn found_books(
     ensures { Founds memory version config founders.now result }
 {
     if founders.is_empty() {
-        return Err(BookFault::Node(NodeFault::BadFounders));
+        return Err(BookFault::BadFounders);
     }
     let mut books = Books::new(alloc);
     for id in founders {

@@ -9,7 +9,7 @@ ghost use Rattle.sc_world.specs.Worlds as world;
 ghost use Rattle.sc_world.specs.Worlds.{IsHistory as IsWorldHistory};
 ghost use Rattle.forms.specs.Calls.{Steps, Gives};
 ghost use Rattle.q_session.specs.declared.ran.Ran.{Ran};
-ghost use Rattle.q_history.specs.Faults.{memory};
+ghost use Rattle.reasons.specs.declared.Reason.TheVariants.{OutOfMemory as memory};
 ghost use Rattle.q_history.specs.Clusters.{at, registered, asked, stored, delivered, handed_out, handed, with_job, finished, entered, left, crashed, started};
 ghost use Rattle.q_history.specs.Calls.{Takes, Runs, IsHistory};
 ghost use Rattle.q_history.specs.Headline.{AnswersAreTrue, AnswersStay, ViewsAreReturned};
@@ -30,7 +30,7 @@ use sc_members::Config;
 use sc_msg::{Message, Version};
 use sc_node::Begun;
 use sc_view::Value;
-use sc_world::{Ledger, Op, Opened, Sent, WorldEvent, WorldFault};
+use sc_world::{Ledger, Op, Opened, Sent, WorldEvent};
 use std::alloc::Global;
 use std::marker::Model;
 
@@ -295,7 +295,7 @@ impl Cluster {
         ensures { Steps memory (entered self.old id (fin.get self.old.world.nodes id)) self.old self.new result }
     {
         if self.books.get(id).is_some() {
-            return Err(ClusterFault::World(WorldFault::IdUsed));
+            return Err(ClusterFault::IdUsed);
         }
         self.ledger.reserve(id)?;
         let (book, outs) = Book::entering_as(self.alloc, self.version, self.ledger.config(), id)?;
@@ -322,7 +322,7 @@ impl Cluster {
         ensures { Steps memory (crashed self.old id (world.live_at self.old.world id)) self.old self.new result }
     {
         if !self.is_live(id) {
-            return Err(ClusterFault::World(WorldFault::NoSuchNode));
+            return Err(ClusterFault::NoSuchNode);
         }
         let sent = self.ledger.crash(id)?;
         Ok(told(EventAnswer::Crashed, sent))
@@ -371,7 +371,7 @@ impl Cluster {
         self.check_live(id)?;
         self.ledger.reserve(id)?;
         let Some(taken) = self.ledger.sent().get(message) else {
-            return Err(ClusterFault::World(WorldFault::NeverSent));
+            return Err(ClusterFault::NeverSent);
         };
         let counting = self.ledger.find(id, taken)?;
         let Taken {
@@ -423,7 +423,7 @@ impl Cluster {
         if self.is_live(id) {
             Ok(())
         } else {
-            Err(ClusterFault::World(WorldFault::NoSuchNode))
+            Err(ClusterFault::NoSuchNode)
         }
     }
 

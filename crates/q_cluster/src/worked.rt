@@ -17,8 +17,8 @@ ghost use Rattle.q_history.specs.Heads.{book_of};
 ghost use Rattle.q_history.specs.State.{ClusterState};
 ghost use Rattle.q_history.specs.declared.event.ClusterEvent.{ClusterEvent};
 ghost use Rattle.q_history.specs.declared.event.ClusterEvent.TheVariants as event;
-ghost use Rattle.q_history.specs.declared.fault.ClusterFault.{ClusterFault};
-ghost use Rattle.q_history.specs.declared.fault.ClusterFault.TheVariants as fault;
+ghost use Rattle.reasons.specs.declared.Reason.{Reason};
+ghost use Rattle.reasons.specs.declared.Reason.TheVariants as reasons;
 ghost use Rattle.q_cluster.specs.Acts.{book_at};
 
 /// What the definitions say at telling operands.
@@ -29,8 +29,8 @@ pub fn worked()
     ensures desk_of_one_that_enters { (c : ClusterState) → fin.get (enters c 7 (book.entered c.version c.world.config 7)).1.desks 7 ≡ Some (new_desk (book.record_lengths c.version)) }
 
     // A new id is taken, and events are refused by their own places.
-    ensures taken { (c d : ClusterState) → fin.get c.world.nodes 7 ≡ None → Takes c (event.Enter 7) d (Err fault.NoSuchJob) → ⊥ }
-    ensures own_place { (c d : ClusterState) (e : ClusterEvent) (f : ClusterFault) → Runs c (e ∷ []) d (Err (1, f)) → ⊥ }
+    ensures taken { (c d : ClusterState) → fin.get c.world.nodes 7 ≡ None → Takes c (event.Enter 7) d (Err reasons.NoSuchJob) → ⊥ }
+    ensures own_place { (c d : ClusterState) (e : ClusterEvent) (f : Reason) → Runs c (e ∷ []) d (Err (1, f)) → ⊥ }
 
     // A node is there until it leaves or crashes, and its book stays.
     ensures live { (w : WorldState) (n : NodeState) → set.contains w.crashed 7 ≡ false → fin.get w.nodes 7 ≡ Some n → n.gone ≡ false → live_at w 7 ≡ Some n }

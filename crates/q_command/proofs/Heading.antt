@@ -4,7 +4,7 @@ use Rattle.sc_members.specs.Members.{Config}
 use Rattle.sc_msg.specs.declared.version.Version.{Version}
 use Rattle.sc_node.specs.Nodes as node
 use Rattle.sc_node.specs.State.{NodeState}
-use Rattle.sc_node.specs.declared.fault.NodeFault.{NodeFault}
+use Rattle.reasons.specs.declared.Reason.{Reason}
 use Rattle.q_desk.specs.declared.journal.Entry.{Entry}
 use Rattle.q_desk.proofs.Accepted.{same_answer, no_refusal}
 use Rattle.q_book.specs.State.{BookState}
@@ -22,7 +22,7 @@ takes_all-version : (ws : List RawEntry) (a b : BookState) → TakesAll a ws b �
 takes_all-version [] a b t = ap (λ (x : BookState). x.version) t
 takes_all-version (w ∷ ws) a b t = takes_all-version ws t.0 b t.2 ∙ follows-version a t.1.called t.0 t.1.follows
 
-founds-version : (version : Version) (id : ℕ) (config : Config) (ids : List ℕ) (r : Result NodeState NodeFault) (b : BookState) → founds version id config ids r ≡ Ok b → b.version ≡ version
+founds-version : (version : Version) (id : ℕ) (config : Config) (ids : List ℕ) (r : Result NodeState Reason) (b : BookState) → founds version id config ids r ≡ Ok b → b.version ≡ version
 founds-version version id config ids (Ok n) b h = sym (ap (λ (x : BookState). x.version) (same_answer {A = BookState} (new_book version id config (Some ids) n) b h))
 founds-version version id config ids (Err e) b h = absurd (no_refusal _ b h)
 

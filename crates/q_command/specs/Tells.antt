@@ -5,12 +5,10 @@ use Rattle.q_gather.specs.Gather.{GathersBooks}
 use Rattle.q_gather.specs.declared.fault.GatherFault.{GatherFault}
 use Rattle.q_gather.specs.declared.fault.GatherFault.TheVariants as gather
 use Rattle.q_history.specs.State.{ClusterState}
-use Rattle.q_history.specs.declared.fault.ClusterFault.TheVariants as cluster
+use Rattle.reasons.specs.declared.Reason.TheVariants as reasons
 use Rattle.q_sim.specs.Printing.{TellsPairs, ended_pairs_of}
 use Rattle.q_sim.specs.declared.refusal.Refusal.{Refusal}
 use Rattle.q_sim.specs.declared.refusal.Refusal.TheVariants as refusal
-use Rattle.sc_node.specs.declared.fault.NodeFault.TheVariants as node
-use Rattle.sc_world.specs.declared.fault.WorldFault.TheVariants as world
 use Rattle.q_command.specs.GatheredLines.{answers_of}
 use Rattle.q_command.specs.Truth.{AnswersAreTrue}
 
@@ -26,7 +24,7 @@ pub record Tells (c : ClusterState) (books : List BookState) (pairs : Bool) (tex
 -- the refusal by which it is told that books do not gather
 abbrev pub of_gather : GatherFault → Refusal
 of_gather (gather.Journal place f) = refusal.Journal f
-of_gather gather.IdUsed = refusal.Cluster (cluster.World world.IdUsed)
-of_gather gather.BadFounders = refusal.Cluster (cluster.World (world.Node node.BadFounders))
-of_gather gather.NeverSent = refusal.Cluster (cluster.World world.NeverSent)
+of_gather gather.IdUsed = refusal.Cluster reasons.IdUsed
+of_gather gather.BadFounders = refusal.Cluster reasons.BadFounders
+of_gather gather.NeverSent = refusal.Cluster reasons.NeverSent
 of_gather gather.OutOfMemory = refusal.OutOfMemory

@@ -11,11 +11,9 @@ use crate::beginnings::beginning;
 use crate::journal_notes::note_journal;
 use q_book::Book;
 use q_gather::GatherFault;
-use q_history::ClusterFault;
 use q_outside::Files;
 use q_sim::Refusal;
-use sc_node::NodeFault;
-use sc_world::WorldFault;
+use reasons::Reason;
 use std::alloc::{AllocError, Global};
 use std::io::Write;
 
@@ -35,11 +33,9 @@ pub(crate) fn of_gather(fault: GatherFault) -> Refusal
 {
     match fault {
         GatherFault::Journal { fault, .. } => Refusal::Journal(fault),
-        GatherFault::IdUsed => Refusal::Cluster(ClusterFault::World(WorldFault::IdUsed)),
-        GatherFault::BadFounders => {
-            Refusal::Cluster(ClusterFault::World(WorldFault::Node(NodeFault::BadFounders)))
-        }
-        GatherFault::NeverSent => Refusal::Cluster(ClusterFault::World(WorldFault::NeverSent)),
+        GatherFault::IdUsed => Refusal::Cluster(Reason::IdUsed),
+        GatherFault::BadFounders => Refusal::Cluster(Reason::BadFounders),
+        GatherFault::NeverSent => Refusal::Cluster(Reason::NeverSent),
         GatherFault::OutOfMemory => Refusal::OutOfMemory,
     }
 }

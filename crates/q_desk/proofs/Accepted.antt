@@ -5,7 +5,7 @@ use Rattle.std.proofs.lemmas.Option.{get_or_from_slice_get}
 use Rattle.std.specs.Prelude.{◌&&◌}
 use Rattle.std.specs.Cmp.{first_so, second_so, unsigned_Decides}
 pub use Rattle.forms.proofs.Calls.{same_answer, no_refusal, passed, tested_ok}
-use Rattle.forms.proofs.Calls.{then_ok}
+use Rattle.forms.proofs.Calls.{and_then_ok}
 use Rattle.bq_range.specs.Interval.{Interval}
 use Rattle.sc_view.specs.Views.{ViewMap}
 use Rattle.bq_check.specs.Certificate.{Certificate}
@@ -17,9 +17,8 @@ use Rattle.q_session.specs.declared.query.Query.{Query}
 use Rattle.q_session.specs.declared.job.Job.{Job}
 use Rattle.q_desk.specs.State.{DeskState}
 use Rattle.q_desk.specs.Desks as desk
-use Rattle.q_desk.specs.Faults.{of_table}
 use Rattle.q_desk.specs.declared.journal.Entry.TheVariants as entry
-use Rattle.q_desk.specs.declared.fault.DeskFault.TheVariants as fault
+use Rattle.reasons.specs.declared.Reason.TheVariants as reasons
 
 -- ---- answers that were accepted, and reads of lists
 
@@ -83,15 +82,15 @@ same_lengths a b h =
 
 -- the program of an accepted registration was checked for the desk's lengths
 pub registered_checked : (d : DeskState) (program : Certificate) (y : ℕ × DeskState) → desk.registered d program ≡ Ok y → program.lengths ≡ d.lengths
-registered_checked d program y h = same_lengths program.lengths d.lengths (passed (desk.is_checked_for d.lengths program) fault.WrongBounds _ y h).0
+registered_checked d program y h = same_lengths program.lengths d.lengths (passed (desk.is_checked_for d.lengths program) reasons.WrongBounds _ y h).0
 
 -- the table has the program under an id, and the call's entry stands in the journal
 pub registered_is : (d : DeskState) (program : Certificate) (y : ℕ × DeskState) → desk.registered d program ≡ Ok y
     → (z : ℕ × List Certificate) × (table.registered d.programs program ≡ Ok z)
     × ((z.0, desk.with_entry (record d { programs = z.1 }) (entry.Register program)) ≡ y)
 registered_is d program y h =
-    let fits = passed (desk.is_checked_for d.lengths program) fault.WrongBounds _ y h in
-    let z = then_ok of_table (table.registered d.programs program) (desk.registers d program) y fits.1 in
+    let fits = passed (desk.is_checked_for d.lengths program) reasons.WrongBounds _ y h in
+    let z = and_then_ok (table.registered d.programs program) (desk.registers d program) y fits.1 in
     (z.0, z.1, same_answer _ y (tested_ok (desk.room d) _ y z.2).1)
 
 -- ---- the job that is handed out
@@ -147,7 +146,7 @@ module _ (d : DeskState) (j : Job) (ran : Ran) (y : Unit {0} × DeskState) where
   posted_to-is q (Ready view) at is h = absurd (no_refusal _ y h)
   posted_to-is q (Answered view old) at is h = absurd (no_refusal _ y h)
   posted_to-is q (Running view) at is h =
-      let a = tested_ok ((desk.is_job_of d.programs j q view, fault.Stranger) ∷ desk.room d) _ y h in
+      let a = tested_ok ((desk.is_job_of d.programs j q view, reasons.Stranger) ∷ desk.room d) _ y h in
       record {
         query = q;
         view = view;
@@ -165,7 +164,7 @@ module _ (d : DeskState) (j : Job) (ran : Ran) (y : Unit {0} × DeskState) where
   -- the job is this node's, and its answer is recorded
   pub posted_is : (node : ℕ) → desk.posted d node j ran ≡ Ok y → ((j.node == node) ≡ true) × IsPosted d j ran y.1
   posted_is node h =
-      let own = passed (j.node == node) fault.Stranger _ y h in
+      let own = passed (j.node == node) reasons.Stranger _ y h in
       (own.0, posted_at-is (slice_get d.queries j.query) refl own.1)
 
 same_running : (v w : ViewMap) → Running v ≡ Running w → v ≡ w

@@ -15,7 +15,7 @@ use Rattle.q_desk.specs.declared.journal.Entry.{Entry}
 use Rattle.q_desk.specs.declared.journal.Entry.TheVariants as entry
 use Rattle.q_desk.specs.Desks.{most_events, how_many_run, with_phase, is_ready, is_running, is_job_of, ready_view, job_at, job_from, next_job, handed_out, posted}
 use Rattle.q_desk.specs.Queries.{next_at, next_from, next_of, checked_at, checked, IsOfRunning}
-use Rattle.q_desk.specs.declared.unfit.Unfit.TheVariants as unfit
+use Rattle.reasons.specs.declared.Reason.TheVariants as reasons
 use Rattle.q_session.specs.Jobs.{view_in}
 use Rattle.q_session.specs.Records.{HasRecordsWithin}
 use Rattle.q_desk.specs.Answers.{IsAnswered}
@@ -90,7 +90,7 @@ posts s node j ran q view queries journal own there phase fits a after =
 
 -- it is one of this node
 pub own_result : (programs : List Certificate) (queries : List Query) (node : ℕ) (j : Job) (u : Unit {0}) → checked programs queries node j ≡ Ok u → (j.node == node) ≡ true
-own_result programs queries node j u h = (passed (j.node == node) unfit.Stranger (checked_at programs j (slice_get queries j.query)) u h).0
+own_result programs queries node j u h = (passed (j.node == node) reasons.Stranger (checked_at programs j (slice_get queries j.query)) u h).0
 
 -- one query runs, its own
 pub some-runs : (programs : List Certificate) (held queries : List Query) (j : Job) → held ≡ queries → IsOfRunning programs held j → 0 < how_many_run queries

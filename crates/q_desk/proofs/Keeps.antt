@@ -5,7 +5,7 @@ use Rattle.std.specs.Prelude.{slice_get, slice_set, nat_lt, IfSome}
 use Rattle.bq_range.specs.Interval.{Interval}
 use Rattle.sc_view.specs.Views.{ViewMap}
 use Rattle.bq_check.specs.Certificate.{Certificate}
-use Rattle.q_table.specs.declared.fault.TableFault.TheVariants as table
+use Rattle.reasons.specs.declared.Reason.TheVariants as reasons
 use Rattle.q_table.specs.Programs.{IsTable, registered_at, most_programs}
 use Rattle.q_session.specs.declared.ran.Ran.{Ran}
 use Rattle.q_session.specs.declared.query.Phase.{Phase}
@@ -98,7 +98,7 @@ desk-running s i view d fits = desk-with_phase s i (Running view) d fits (λ q t
 grown : (ps qs : List Certificate) (c : Certificate) (id : ℕ) (o : Option ℕ) → registered_at ps c o ≡ Ok (id, qs) → (ps ≡ qs) ⊎ (ps ++ c ∷ [] ≡ qs)
 grown ps qs c id (Some k) e = inl (ap (λ (r : ℕ × List Certificate). r.1) (same_answer _ (id, qs) e))
 grown ps qs c id None e =
-    let room = passed (nat_lt (length ps) most_programs) table.Full _ (id, qs) e in
+    let room = passed (nat_lt (length ps) most_programs) reasons.TableFull _ (id, qs) e in
     inr (ap (λ (r : ℕ × List Certificate). r.1) (same_answer _ (id, qs) room.1))
 
 -- a table that only grew, by a program for records of the desk's lengths

@@ -6,7 +6,7 @@ use Rattle.sc_operations.specs.declared.progress.Completion.{Completion}
 use Rattle.sc_operations.specs.declared.progress.Completion.TheVariants as completion
 use Rattle.sc_operations.specs.declared.progress.Ended.{Ended}
 use Rattle.bq_check.specs.Certificate.{Certificate}
-use Rattle.q_table.specs.declared.fault.TableFault.TheVariants as table_fault
+use Rattle.reasons.specs.declared.Reason.TheVariants as reasons
 use Rattle.q_table.specs.Programs as table
 use Rattle.q_session.specs.declared.ran.Ran.{Ran}
 use Rattle.q_session.specs.declared.query.Phase.{Phase}
@@ -53,7 +53,7 @@ more_programs : (ps : List Certificate) (c : Certificate) (o : Option ℕ) (r : 
 more_programs ps c (Some id) r h i p at =
     subst (λ (z : ℕ × List Certificate). slice_get z.1 i ≡ Some p) (same_answer _ r h) at
 more_programs ps c None r h i p at =
-    let k = passed (nat_lt (length ps) table.most_programs) table_fault.Full _ r h in
+    let k = passed (nat_lt (length ps) table.most_programs) reasons.TableFull _ r h in
     subst (λ (z : ℕ × List Certificate). slice_get z.1 i ≡ Some p) (same_answer _ r k.1) (get-front ps (c ∷ []) i p at)
 
 pub registered_moves : (d : DeskState) (program : Certificate) (y : ℕ × DeskState) → desk.registered d program ≡ Ok y → Moves d y.1 Nothing × GoesOn d (entry.Register program) y.1

@@ -1,6 +1,6 @@
 -- What each call of a desk answers and does, or why it refuses.
 use Rattle.std.specs.Prelude.{ℕ, ◌+◌, ◌==◌, ◌&&◌, Bool, true, false, nat_lt, List, [], ◌∷◌, ◌++◌, length, position, slice_get, slice_set, Option, Some, None, option_map, Result, Ok, Err, if◌then◌else◌}
-use Rattle.forms.specs.Calls.{Tests, tested, then_by}
+use Rattle.forms.specs.Calls.{Tests, tested, and_then}
 use Rattle.sc_view.specs.Views.{ViewMap}
 use Rattle.bq_range.specs.Interval.{Interval}
 use Rattle.bq_check.specs.Certificate.{Certificate}
@@ -9,14 +9,13 @@ use Rattle.sc_node.specs.declared.answer.Begun.{Begun}
 use Rattle.sc_operations.specs.declared.progress.Completion.{Completion}
 use Rattle.sc_operations.specs.declared.progress.Completion.TheVariants as completion
 use Rattle.sc_operations.specs.declared.progress.Ended.{Ended}
-use Rattle.sc_node.specs.declared.fault.NodeFault.{NodeFault}
+use Rattle.reasons.specs.declared.Reason.{Reason}
 use Rattle.sc_node.specs.Nodes as node
 use Rattle.sc_node.specs.State.{NodeState}
 use Rattle.q_desk.specs.declared.completed.Completed.{Completed}
 use Rattle.q_desk.specs.declared.completed.Completed.TheVariants as completed
 use Rattle.q_desk.specs.declared.journal.Entry.{Entry}
 use Rattle.q_desk.specs.declared.journal.Entry.TheVariants as entry
-use Rattle.q_desk.specs.Faults.{of_table}
 use Rattle.q_desk.specs.State.{DeskState}
 use Rattle.q_session.specs.declared.ran.Ran.{Ran}
 use Rattle.q_session.specs.declared.query.Phase.{Phase}
@@ -25,10 +24,7 @@ use Rattle.q_session.specs.declared.query.Query.{Query}
 use Rattle.q_session.specs.declared.job.Job.{Job}
 pub use Rattle.q_session.specs.Same.{is_same_entry, is_same_view, is_same_program, is_job_of}
 pub use Rattle.q_desk.specs.Queries.{is_ready, ready_view, job_on, answer_in}
-use Rattle.q_desk.specs.declared.fault.CallFault.{CallFault}
-use Rattle.q_desk.specs.declared.fault.CallFault.TheVariants as call
-use Rattle.q_desk.specs.declared.fault.DeskFault.{DeskFault}
-use Rattle.q_desk.specs.declared.fault.DeskFault.TheVariants as fault
+use Rattle.reasons.specs.declared.Reason.TheVariants as reasons
 
 -- at most so many queries, and so many entries of the journal
 abbrev pub most_queries : ℕ
@@ -43,15 +39,15 @@ abbrev pub has_room : DeskState → Bool
 has_room s = nat_lt (length s.journal) most_events
 
 -- there is room for one more entry
-abbrev pub room : DeskState → Tests DeskFault
-room s = (has_room s, fault.BookFull) ∷ []
+abbrev pub room : DeskState → Tests Reason
+room s = (has_room s, reasons.BookFull) ∷ []
 
 -- the journal goes on with an entry
 abbrev pub with_entry : DeskState → Entry → DeskState
 with_entry s e = record s { journal = s.journal ++ e ∷ [] }
 
 -- an entry that changes nothing else
-abbrev pub noted : DeskState → Entry → Result (Unit {0} × DeskState) DeskFault
+abbrev pub noted : DeskState → Entry → Result (Unit {0} × DeskState) Reason
 noted s e = tested (room s) (Ok (tt, with_entry s e))
 
 -- ---- programs
@@ -61,13 +57,13 @@ abbrev pub is_checked_for : Interval → Certificate → Bool
 is_checked_for lengths program = program.lengths.lo == lengths.lo && program.lengths.hi == lengths.hi
 
 -- the table has the program under this id
-abbrev pub registers : DeskState → Certificate → ℕ → List Certificate → Result (ℕ × DeskState) DeskFault
+abbrev pub registers : DeskState → Certificate → ℕ → List Certificate → Result (ℕ × DeskState) Reason
 registers s program id programs = tested (room s) (Ok (id, with_entry (record s { programs = programs }) (entry.Register program)))
 
-abbrev pub registered : DeskState → Certificate → Result (ℕ × DeskState) DeskFault
+abbrev pub registered : DeskState → Certificate → Result (ℕ × DeskState) Reason
 registered s program =
-    tested ((is_checked_for s.lengths program, fault.WrongBounds) ∷ [])
-    (then_by of_table (table.registered s.programs program) (registers s program))
+    tested ((is_checked_for s.lengths program, reasons.WrongBounds) ∷ [])
+    (and_then (table.registered s.programs program) (registers s program))
 
 abbrev pub knows : DeskState → ℕ → Bool
 knows s program = nat_lt program (length s.programs)
@@ -99,15 +95,15 @@ abbrev pub begun : ℕ → ℕ → ℕ → Query
 begun tag program start = record { tag = tag; program = program; start = start; phase = Collecting }
 
 -- a query of this program may begin
-abbrev pub beginning : DeskState → ℕ → Tests DeskFault
+abbrev pub beginning : DeskState → ℕ → Tests Reason
 beginning s program =
-    (knows s program, fault.UnknownProgram)
-    ∷ (nat_lt (length s.queries) most_queries, fault.BookFull)
-    ∷ (has_room s, fault.BookFull)
+    (knows s program, reasons.UnknownProgram)
+    ∷ (nat_lt (length s.queries) most_queries, reasons.BookFull)
+    ∷ (has_room s, reasons.BookFull)
     ∷ []
 
 -- a query begins whose collect has this tag
-abbrev pub asked : DeskState → ℕ → ℕ → ℕ → Result (ℕ × DeskState) DeskFault
+abbrev pub asked : DeskState → ℕ → ℕ → ℕ → Result (ℕ × DeskState) Reason
 asked s tag program start =
     tested (beginning s program)
     (Ok (length s.queries, with_entry (record s { queries = s.queries ++ begun tag program start ∷ [] }) (entry.Ask program start)))
@@ -147,18 +143,18 @@ completed_by (Some e) query = completes e.tag e.what query
 -- ---- calls of the desk's node
 
 -- the desk does its part and the node its own, or neither does anything; the desk is asked first
-abbrev pub with_node : {A B C : Type 0} → (A → B → C) → Result (A × DeskState) DeskFault → Result (B × NodeState) NodeFault → Result (C × (DeskState × NodeState)) CallFault
+abbrev pub with_node : {A B C : Type 0} → (A → B → C) → Result (A × DeskState) Reason → Result (B × NodeState) Reason → Result (C × (DeskState × NodeState)) Reason
 with_node f (Ok d) (Ok n) = Ok (f d.0 n.0, (d.1, n.1))
-with_node f (Ok d) (Err e) = Err (call.Node e)
-with_node f (Err e) n = Err (call.Desk e)
+with_node f (Ok d) (Err e) = Err e
+with_node f (Err e) n = Err e
 
 -- a call of the node that is noted: the journal has room, the node accepts the call, and its entry stands behind the
 -- others
-abbrev pub noting : {A : Type 0} → DeskState → Entry → Result (A × NodeState) NodeFault → Result (A × (DeskState × NodeState)) CallFault
+abbrev pub noting : {A : Type 0} → DeskState → Entry → Result (A × NodeState) Reason → Result (A × (DeskState × NodeState)) Reason
 noting s e r = with_node (λ u answer. answer) (noted s e) r
 
 -- the node begins to collect, and a query begins that waits for that collect, by its tag
-abbrev pub asking : DeskState → NodeState → ℕ → ℕ → Result ((ℕ × Begun) × (DeskState × NodeState)) CallFault
+abbrev pub asking : DeskState → NodeState → ℕ → ℕ → Result ((ℕ × Begun) × (DeskState × NodeState)) Reason
 asking s n program start = with_node (λ query begun. (query, begun)) (asked s n.operations program start) (node.collect_begun n)
 
 -- ---- jobs
@@ -185,36 +181,36 @@ next_job s node = job_from s node (position (λ q. is_ready q.phase) s.queries)
 abbrev pub running_job : DeskState → ℕ → ℕ → Option Job
 running_job s node k = job_at running_view s node k (slice_get s.queries k)
 
-abbrev pub hands : DeskState → Option Job → Result (Option Job × DeskState) DeskFault
+abbrev pub hands : DeskState → Option Job → Result (Option Job × DeskState) Reason
 hands s None = Ok (None, s)
 hands s (Some j) =
     tested (room s) (Ok (Some j, with_entry (record s { queries = with_phase s.queries j.query (Running j.view) }) entry.HandOut))
 
 -- it is handed out; where there is none, nothing changes
-abbrev pub handed_out : DeskState → ℕ → Result (Option Job × DeskState) DeskFault
+abbrev pub handed_out : DeskState → ℕ → Result (Option Job × DeskState) Reason
 handed_out s node = hands s (next_job s node)
 
 -- ---- answers
 
-abbrev pub posted_to : DeskState → Job → Ran → Query → Phase → Result (Unit {0} × DeskState) DeskFault
-posted_to s j ran q (Answered view old) = Err fault.AlreadyAnswered
+abbrev pub posted_to : DeskState → Job → Ran → Query → Phase → Result (Unit {0} × DeskState) Reason
+posted_to s j ran q (Answered view old) = Err reasons.AlreadyAnswered
 posted_to s j ran q (Running view) =
-    tested ((is_job_of s.programs j q view, fault.Stranger) ∷ room s)
+    tested ((is_job_of s.programs j q view, reasons.Stranger) ∷ room s)
     (Ok (tt, with_entry (record s { queries = with_phase s.queries j.query (Answered view ran) }) (entry.Post j.query ran)))
-posted_to s j ran q p = Err fault.Stranger
+posted_to s j ran q p = Err reasons.Stranger
 
-abbrev pub posted_at : DeskState → Job → Ran → Option Query → Result (Unit {0} × DeskState) DeskFault
-posted_at s j ran None = Err fault.Stranger
+abbrev pub posted_at : DeskState → Job → Ran → Option Query → Result (Unit {0} × DeskState) Reason
+posted_at s j ran None = Err reasons.Stranger
 posted_at s j ran (Some q) = posted_to s j ran q q.phase
 
 -- the result of a job of this node is recorded as its query's answer
-abbrev pub posted : DeskState → ℕ → Job → Ran → Result (Unit {0} × DeskState) DeskFault
-posted s node j ran = tested ((j.node == node, fault.Stranger) ∷ []) (posted_at s j ran (slice_get s.queries j.query))
+abbrev pub posted : DeskState → ℕ → Job → Ran → Result (Unit {0} × DeskState) Reason
+posted s node j ran = tested ((j.node == node, reasons.Stranger) ∷ []) (posted_at s j ran (slice_get s.queries j.query))
 
-abbrev pub answer_at : Option Query → Result (Option Ran) DeskFault
-answer_at None = Err fault.NoSuchQuery
+abbrev pub answer_at : Option Query → Result (Option Ran) Reason
+answer_at None = Err reasons.NoSuchQuery
 answer_at (Some q) = Ok (answer_in q.phase)
 
 -- the recorded answer of a query, if there is one yet
-abbrev pub answer_of : DeskState → ℕ → Result (Option Ran) DeskFault
+abbrev pub answer_of : DeskState → ℕ → Result (Option Ran) Reason
 answer_of s k = answer_at (slice_get s.queries k)

@@ -3,6 +3,5 @@ pub mod State
 pub mod Desks
 pub mod Answers
 pub mod Keeping
-pub mod Faults
 pub mod Sample
 pub mod Queries

@@ -9,8 +9,8 @@ use Rattle.q_session.specs.declared.query.Phase.TheVariants.{Ready, Running, Ans
 use Rattle.q_session.specs.declared.query.Query.{Query}
 use Rattle.q_session.specs.declared.job.Job.{Job}
 use Rattle.q_session.specs.Same.{is_job_of, Serves}
-use Rattle.q_desk.specs.declared.unfit.Unfit.{Unfit}
-use Rattle.q_desk.specs.declared.unfit.Unfit.TheVariants.{Stranger, AlreadyAnswered}
+use Rattle.reasons.specs.declared.Reason.{Reason}
+use Rattle.reasons.specs.declared.Reason.TheVariants.{Stranger, AlreadyAnswered}
 
 -- ---- jobs
 
@@ -46,17 +46,17 @@ MayAllRun programs queries = (k : ℕ) (q : Query) (program : Certificate) → s
 
 -- ---- results
 
-abbrev pub checked_in : List Certificate → Job → Query → Phase → Result (Unit {0}) Unfit
+abbrev pub checked_in : List Certificate → Job → Query → Phase → Result (Unit {0}) Reason
 checked_in programs j q (Answered view ran) = Err AlreadyAnswered
 checked_in programs j q (Running view) = if is_job_of programs j q view then Ok tt else Err Stranger
 checked_in programs j q p = Err Stranger
 
-abbrev pub checked_at : List Certificate → Job → Option Query → Result (Unit {0}) Unfit
+abbrev pub checked_at : List Certificate → Job → Option Query → Result (Unit {0}) Reason
 checked_at programs j None = Err Stranger
 checked_at programs j (Some q) = checked_in programs j q q.phase
 
 -- whether the result of this job may be recorded, at a node with these programs and queries
-abbrev pub checked : List Certificate → List Query → ℕ → Job → Result (Unit {0}) Unfit
+abbrev pub checked : List Certificate → List Query → ℕ → Job → Result (Unit {0}) Reason
 checked programs queries node j = if j.node == node then checked_at programs j (slice_get queries j.query) else Err Stranger
 
 -- the job is that of a query which runs, and each right answer of it is one of the query

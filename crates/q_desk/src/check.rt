@@ -4,7 +4,7 @@ ghost use Rattle.std.specs.Prelude.{◌≡◌, IfOk};
 ghost use Rattle.q_desk.specs.Queries.{checked, IsOfRunning};
 
 use crate::answer::answer_in;
-use crate::unfit::Unfit;
+use crate::desk::DeskFault;
 use q_session::{Job, Phase, Query, is_job_of};
 use q_table::Programs;
 
@@ -15,24 +15,24 @@ pub(crate) fn check_result(
     queries: &[Query],
     node: u64,
     job: &Job,
-) -> Result<(), Unfit>
+) -> Result<(), DeskFault>
     ensures told { result ≡ checked programs.now queries.now node job.now }
     ensures runs { IfOk result (λ _. IsOfRunning programs.now queries.now job.now) }
 {
     if job.node() != node {
-        return Err(Unfit::Stranger);
+        return Err(DeskFault::Stranger);
     }
     let Some(query) = queries.get(job.query()) else {
-        return Err(Unfit::Stranger);
+        return Err(DeskFault::Stranger);
     };
     if answer_in(&query.phase).is_some() {
-        return Err(Unfit::AlreadyAnswered);
+        return Err(DeskFault::AlreadyAnswered);
     }
     let Phase::Running(view) = &query.phase else {
-        return Err(Unfit::Stranger);
+        return Err(DeskFault::Stranger);
     };
     if !is_job_of(programs, job, query, view) {
-        return Err(Unfit::Stranger);
+        return Err(DeskFault::Stranger);
     }
     Ok(())
 }

@@ -8,7 +8,7 @@ ghost use Rattle.q_session.specs.Records.{HasRecordsWithin};
 ghost use Rattle.q_session.specs.declared.query.Query.{Query as QueryValue};
 ghost use Rattle.q_desk.specs.State.{DeskState, new_desk};
 ghost use Rattle.q_desk.specs.Desks as desk;
-ghost use Rattle.q_desk.specs.Faults.{memory};
+ghost use Rattle.reasons.specs.declared.Reason.TheVariants.{OutOfMemory as memory};
 ghost use Rattle.q_desk.specs.Answers.{AnswersAreRight};
 ghost use Rattle.q_desk.specs.Keeping.{IsDesk, ProgramsAreKnown, ProgramsFit, ViewsFit, EndsWithin};
 
@@ -16,12 +16,12 @@ use crate::answer::answer_in;
 use crate::check::check_result;
 use crate::completed::Completed;
 use crate::entries::append;
-use crate::fault::{CallFault, DeskFault};
 use crate::journal::Entry;
 use crate::next::next_job;
 use bq_state::Bounds;
 use q_session::{Done, Job, Phase, Query, Ran};
 use q_table::{Program, ProgramId, Programs};
+use reasons::Reason;
 use sc_msg::Message;
 use sc_node::{Begun, Completion, Delivered, Ended, Node, Outs};
 use sc_view::{Value, View};
@@ -34,6 +34,11 @@ pub const MOST_QUERIES: usize = 4096;
 
 /// The most events of a journal: its entries, the head aside.
 pub const MOST_EVENTS: usize = 65_536;
+
+/// Why a desk refuses a call. After a refusal the desk is as it was, and so is the node that it was given. Where several
+/// hold, the first of 51, 59, 52, 56, 55 and 53 is told, and then that of the node; 54 is that of a question for an
+/// answer.
+pub type DeskFault = Reason;
 
 /// The programs and queries of one node, and its journal: each call that was accepted and changed something, in turn.
 /// Its programs run over records of some lengths. Contracts see a desk as the record of these.
@@ -106,7 +111,7 @@ impl Desk {
 
     /// Registers a program; a text that is there keeps its id. Refused with 59, 52, 53, 99.
     pub fn register(&mut self, program: &Program) -> Result<ProgramId, DeskFault>
-        ensures { Steps DeskFault.OutOfMemory (desk.registered self.old program.now) self.old self.new result }
+        ensures { Steps memory (desk.registered self.old program.now) self.old self.new result }
     {
         if program.certified().lengths() != self.lengths {
             return Err(DeskFault::WrongBounds);
@@ -139,11 +144,11 @@ impl Desk {
     }
 
     /// The node leaves for good. Refused with 53, then as the node refuses it, with 99.
-    pub fn leave(&mut self, node: &mut Node) -> Result<Outs, CallFault>
+    pub fn leave(&mut self, node: &mut Node) -> Result<Outs, DeskFault>
         ensures { Steps memory (desk.noting self.old Entry.Leave (left node.old)) (self.old, node.old) (self.new, node.new) result }
     {
         if !self.has_room() {
-            return Err(CallFault::Desk(DeskFault::BookFull));
+            return Err(DeskFault::BookFull);
         }
         self.journal.reserve(self.running + 1)?;
         let outs = node.leave()?;
@@ -152,11 +157,11 @@ impl Desk {
     }
 
     /// The node begins to store a value. Refused with 53, then as the node refuses it, with 99.
-    pub fn store(&mut self, node: &mut Node, value: &Value) -> Result<Begun, CallFault>
+    pub fn store(&mut self, node: &mut Node, value: &Value) -> Result<Begun, DeskFault>
         ensures { Steps memory (desk.noting self.old (Entry.Store value.now) (store_begun node.old value.now)) (self.old, node.old) (self.new, node.new) result }
     {
         if !self.has_room() {
-            return Err(CallFault::Desk(DeskFault::BookFull));
+            return Err(DeskFault::BookFull);
         }
         self.journal.reserve(self.running + 1)?;
         let begun = node.begin_store(value)?;
@@ -166,11 +171,11 @@ impl Desk {
 
     /// The node takes a message. What it ended is for [`Desk::end`]. Refused with 53, then as the node refuses it,
     /// with 99.
-    pub fn deliver(&mut self, node: &mut Node, message: &Message) -> Result<Delivered, CallFault>
+    pub fn deliver(&mut self, node: &mut Node, message: &Message) -> Result<Delivered, DeskFault>
         ensures { Steps memory (desk.noting self.old (Entry.Deliver message.now) (delivered node.old message.now)) (self.old, node.old) (self.new, node.new) result }
     {
         if !self.has_room() {
-            return Err(CallFault::Desk(DeskFault::BookFull));
+            return Err(DeskFault::BookFull);
         }
         self.journal.reserve(self.running + 1)?;
         let kept = message.clone()?;
@@ -186,18 +191,18 @@ impl Desk {
         node: &mut Node,
         program: ProgramId,
         start: u64,
-    ) -> Result<(usize, Begun), CallFault>
+    ) -> Result<(usize, Begun), DeskFault>
         ensures { Steps memory (desk.asking self.old node.old program start) (self.old, node.old) (self.new, node.new) result }
     {
         if self.programs.len() <= program.number() as usize {
-            return Err(CallFault::Desk(DeskFault::UnknownProgram));
+            return Err(DeskFault::UnknownProgram);
         }
         let number = self.queries.len();
         if MOST_QUERIES <= number {
-            return Err(CallFault::Desk(DeskFault::BookFull));
+            return Err(DeskFault::BookFull);
         }
         if !self.has_room() {
-            return Err(CallFault::Desk(DeskFault::BookFull));
+            return Err(DeskFault::BookFull);
         }
         self.queries.reserve(1)?;
         self.journal.reserve(self.running + 1)?;
@@ -242,7 +247,7 @@ impl Desk {
 
     /// Hands out the job of the ready query with the least number; none where no query is ready. Refused with 53, 99.
     pub fn hand_out(&mut self, node: u64) -> Result<Option<Job>, DeskFault>
-        ensures { Steps DeskFault.OutOfMemory (desk.handed_out self.old node) self.old self.new result }
+        ensures { Steps memory (desk.handed_out self.old node) self.old self.new result }
     {
         let alloc = *self.queries.allocator();
         let Some(job) = next_job(alloc, &self.programs, &self.queries, node)? else {

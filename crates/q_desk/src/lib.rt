@@ -23,13 +23,10 @@ mod check;
 mod completed;
 mod desk;
 mod entries;
-mod fault;
 mod journal;
 mod next;
-mod unfit;
 pub mod worked;
 
 pub use completed::Completed;
-pub use desk::{Desk, MOST_EVENTS, MOST_QUERIES};
-pub use fault::{CallFault, DeskFault};
+pub use desk::{Desk, DeskFault, MOST_EVENTS, MOST_QUERIES};
 pub use journal::Entry;

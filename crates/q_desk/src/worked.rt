@@ -7,7 +7,7 @@ ghost use Rattle.sc_msg.specs.declared.message.Message.{Message};
 ghost use Rattle.sc_node.specs.State.{NodeState};
 ghost use Rattle.sc_node.specs.declared.answer.Begun.{Begun};
 ghost use Rattle.sc_operations.specs.declared.progress.Completion.TheVariants as completion;
-ghost use Rattle.sc_node.specs.declared.fault.NodeFault.TheVariants as node_fault;
+ghost use Rattle.reasons.specs.declared.Reason.TheVariants as reasons;
 ghost use Rattle.sc_view.specs.Views.{ViewMap};
 ghost use Rattle.q_session.specs.Jobs.{job_over};
 ghost use Rattle.q_session.specs.declared.query.Phase.TheVariants.{Collecting, Ready, Running, Answered};
@@ -16,8 +16,6 @@ ghost use Rattle.q_desk.specs.Desks as desk;
 ghost use Rattle.q_desk.specs.Sample.{query};
 ghost use Rattle.q_desk.specs.State.{DeskState, new_desk};
 ghost use Rattle.q_desk.specs.declared.completed.Completed.TheVariants as completed;
-ghost use Rattle.q_desk.specs.declared.fault.CallFault.TheVariants as call;
-ghost use Rattle.q_desk.specs.declared.fault.DeskFault.TheVariants as fault;
 ghost use Rattle.q_desk.specs.declared.journal.Entry.TheVariants as entry;
 
 /// What the definitions say at telling operands.
@@ -25,21 +23,21 @@ pub fn worked()
     // The journal goes on, up to its last entry.
     ensures noted { (s : DeskState) → desk.noted (record s { journal = entry.Leave ∷ [] }) entry.HandOut ≡ Ok (tt, record s { journal = entry.Leave ∷ entry.HandOut ∷ [] }) }
     ensures room { (s : DeskState) → length s.journal ≡ 65535 → desk.has_room s ≡ true }
-    ensures no_room { (s : DeskState) → length s.journal ≡ 65536 → desk.noted s entry.Leave ≡ Err fault.BookFull }
+    ensures no_room { (s : DeskState) → length s.journal ≡ 65536 → desk.noted s entry.Leave ≡ Err reasons.BookFull }
 
     // A call of the node is noted where the journal has room and the node accepts it. The desk is asked first.
     ensures noting { (s : DeskState) (n : NodeState) (outs : List Message) → desk.noting (record s { journal = [] }) entry.Leave (Ok (outs, n)) ≡ Ok (outs, (record s { journal = entry.Leave ∷ [] }, n)) }
-    ensures not_noted { (s : DeskState) → desk.noting {A = Begun} (record s { journal = [] }) entry.Leave (Err node_fault.Gone) ≡ Err (call.Node node_fault.Gone) }
-    ensures full_first { (s : DeskState) → length s.journal ≡ 65536 → desk.noting {A = Begun} s entry.Leave (Err node_fault.Gone) ≡ Err (call.Desk fault.BookFull) }
+    ensures not_noted { (s : DeskState) → desk.noting {A = Begun} (record s { journal = [] }) entry.Leave (Err reasons.Gone) ≡ Err reasons.Gone }
+    ensures full_first { (s : DeskState) → length s.journal ≡ 65536 → desk.noting {A = Begun} s entry.Leave (Err reasons.Gone) ≡ Err reasons.BookFull }
 
     // Programs.
     ensures registered { (c : Certificate) → desk.registered (new_desk (single 64)) (record c { lengths = single 64 }) ≡ Ok (0, record { lengths = single 64; programs = record c { lengths = single 64 } ∷ []; queries = []; journal = entry.Register (record c { lengths = single 64 }) ∷ [] }) }
-    ensures wrong_bounds { (c : Certificate) → desk.registered (new_desk (between 16 128)) (record c { lengths = single 64 }) ≡ Err fault.WrongBounds }
-    ensures unknown { (c : Certificate) (l : Interval) → desk.asked (record (new_desk l) { programs = c ∷ [] }) 9 1 7 ≡ Err fault.UnknownProgram }
+    ensures wrong_bounds { (c : Certificate) → desk.registered (new_desk (between 16 128)) (record c { lengths = single 64 }) ≡ Err reasons.WrongBounds }
+    ensures unknown { (c : Certificate) (l : Interval) → desk.asked (record (new_desk l) { programs = c ∷ [] }) 9 1 7 ≡ Err reasons.UnknownProgram }
 
     // Queries begin, and wait for their collects.
     ensures asked { (c : Certificate) (l : Interval) → desk.asked (record (new_desk l) { programs = c ∷ [] }) 9 0 7 ≡ Ok (0, record { lengths = l; programs = c ∷ []; queries = query 9 Collecting ∷ []; journal = entry.Ask 0 7 ∷ [] }) }
-    ensures too_many { (s : DeskState) → desk.knows s 0 ≡ true → length s.queries ≡ 4096 → desk.asked s 9 0 7 ≡ Err fault.BookFull }
+    ensures too_many { (s : DeskState) → desk.knows s 0 ≡ true → length s.queries ≡ 4096 → desk.asked s 9 0 7 ≡ Err reasons.BookFull }
     ensures returned { (s : DeskState) (v : ViewMap) → desk.returned (record s { queries = query 8 Collecting ∷ query 9 Collecting ∷ [] }) 9 v ≡ (Some 1, record s { queries = query 8 Collecting ∷ query 9 (Ready v) ∷ [] }) }
     ensures stored { (s : DeskState) → desk.ends (Some (record { tag = 5; what = completion.Stored })) s ≡ (None, s) }
     ensures completed { (query : Option ℕ) → desk.completed_by (Some (record { tag = 5; what = completion.Stored })) query ≡ Some (completed.Stored 5) }
@@ -52,5 +50,5 @@ pub fn worked()
     // Answers.
     ensures answer { (s : DeskState) (v : ViewMap) (ran : Ran) → desk.answer_of (record s { queries = query 8 Collecting ∷ query 9 (Answered v ran) ∷ [] }) 1 ≡ Ok (Some ran) }
     ensures no_answer { (s : DeskState) (v : ViewMap) (ran : Ran) → desk.answer_of (record s { queries = query 8 Collecting ∷ query 9 (Answered v ran) ∷ [] }) 0 ≡ Ok None }
-    ensures no_query { (s : DeskState) → desk.answer_of (record s { queries = query 8 Collecting ∷ [] }) 1 ≡ Err fault.NoSuchQuery }
+    ensures no_query { (s : DeskState) → desk.answer_of (record s { queries = query 8 Collecting ∷ [] }) 1 ≡ Err reasons.NoSuchQuery }
 {}

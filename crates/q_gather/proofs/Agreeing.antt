@@ -14,7 +14,7 @@ use Rattle.sc_msg.specs.contracts.version.VersionPartialEq.TheImpl.{eq-value as 
 use denote.Enum.Bare.{same_true}
 use Rattle.sc_world.specs.State.{WorldState}
 use Rattle.sc_world.specs.Worlds as world
-use Rattle.sc_world.specs.declared.fault.WorldFault.{WorldFault}
+use Rattle.reasons.specs.declared.Reason.{Reason}
 use Rattle.sc_world.proofs.Acting.{has_at}
 use Rattle.sc_world.proofs.Inverts.{same_answer, no_refusal}
 use Rattle.sc_world.proofs.Steps.{and_left, and_right}
@@ -22,7 +22,6 @@ use Rattle.q_book.specs.State.{BookState}
 use Rattle.q_history.specs.State.{ClusterState}
 use Rattle.q_history.specs.Heads.{founders_for}
 use Rattle.q_history.specs.Clusters.{start, started, founded}
-use Rattle.q_history.specs.declared.fault.ClusterFault.{ClusterFault}
 use Rattle.q_history.proofs.Lists.{same_some, no_some}
 use Rattle.q_gather.specs.Gathered.{HasBook, AreDistinct, AgreeOn}
 use Rattle.q_gather.specs.Gather.{AreReplayed, Agree, IsRefused}
@@ -122,8 +121,8 @@ versions_refused journals books i k a b r distinct at here other = (books, r, di
 
 -- ---- the start
 
-starts_by : (version : Version) (config : Config) (ids : List ℕ) (r : Result WorldState WorldFault) (c : ClusterState) → founded version config ids r ≡ Ok c → c ≡ start version config ids
-starts_by version config ids (Ok w) c h = same_answer {E = ClusterFault} c (start version config ids) (sym h)
+starts_by : (version : Version) (config : Config) (ids : List ℕ) (r : Result WorldState Reason) (c : ClusterState) → founded version config ids r ≡ Ok c → c ≡ start version config ids
+starts_by version config ids (Ok w) c h = same_answer {E = Reason} c (start version config ids) (sym h)
 starts_by version config ids (Err e) c h = absurd (no_refusal _ c h)
 
 pub starts : (version : Version) (config : Config) (ids : List ℕ) (c : ClusterState) → started version config ids ≡ Ok c → c ≡ start version config ids
@@ -131,7 +130,7 @@ starts version config ids c h = starts_by version config ids (world.started conf
 
 pub agree_on : (books : List BookState) (version : Version) (config : Config) (ids : List ℕ) (c : ClusterState) → started version config ids ≡ Ok c → AreHeaded books version config ids → AreThere books ids → AgreeOn books version config ids
 agree_on books version config ids c h heads there = record {
-  taken = h ∙ ap (λ (x : ClusterState). let r : Result ClusterState ClusterFault = Ok x in r) (starts version config ids c h);
+  taken = h ∙ ap (λ (x : ClusterState). let r : Result ClusterState Reason = Ok x in r) (starts version config ids c h);
   versions = λ k b at. (heads k b at).0;
   heads = λ k b at. let own = heads k b at in (own.1, own.2);
   there = there;

@@ -9,7 +9,7 @@ use Rattle.sc_msg.specs.declared.version.Version.{Version}
 use Rattle.sc_node.specs.State.{NodeState}
 use Rattle.sc_node.specs.Nodes.{founder}
 use Rattle.sc_node.specs.Nodes as node
-use Rattle.sc_node.specs.declared.fault.NodeFault.{NodeFault}
+use Rattle.reasons.specs.declared.Reason.{Reason}
 use Rattle.sc_world.proofs.Inverts.{same_answer}
 use Rattle.q_desk.specs.State.{DeskState, new_desk}
 use Rattle.q_book.specs.State.{BookState}
@@ -59,7 +59,7 @@ module _ (version : Version) (config : Config) (ids : List ℕ) where
         let made : IsFirst (book_of (start version config ids) b.id n.0 d.0) r.first (Some ids) = subst (IsFirst (book_of (start version config ids) b.id n.0 d.0) r.first) some r.begun in
         let own : IsFirst b t.first (Some ids) = subst (IsFirst b t.first) (heads ∙ some) t.begun in
         let moved : node.founded config b.id ids ≡ Ok t.first = subst (λ (x : Config). node.founded x b.id ids ≡ Ok t.first) same own in
-        let one : r.first ≡ t.first = same_answer {E = NodeFault} r.first t.first (sym made ∙ moved) in
+        let one : r.first ≡ t.first = same_answer {E = Reason} r.first t.first (sym made ∙ moved) in
         let book : book_of (start version config ids) b.id n.0 d.0 ≡ new_book version b.id config (founders_for b.id ids) r.first = replays_none n.0 d.0 r.first (start_new version config ids b.id d.0 d.1) r.replayed in
         There (new_book b.version b.id b.config b.founders t.first)
         ((λ i. booked (start version config ids) b.id (n.1 i) (d.1 i)) ∙ ap (λ (x : BookState). let o : Option BookState = Some x in o) book

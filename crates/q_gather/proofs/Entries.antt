@@ -30,8 +30,8 @@ use Rattle.q_desk.specs.Desks as desk
 use Rattle.q_desk.specs.Answers.{AnswersAreRight, IsAnswered}
 use Rattle.q_desk.specs.declared.journal.Entry.{Entry}
 use Rattle.q_desk.specs.declared.journal.Entry.TheVariants as entry
-use Rattle.q_desk.specs.declared.fault.DeskFault.{DeskFault}
-use Rattle.q_desk.specs.declared.fault.DeskFault.TheVariants as desk_fault
+use Rattle.reasons.specs.declared.Reason.{Reason}
+use Rattle.reasons.specs.declared.Reason.TheVariants as reasons
 use Rattle.q_book.specs.State.{BookState}
 use Rattle.q_book.specs.Books as book
 use Rattle.q_book.specs.Replays.{Follows}
@@ -132,7 +132,7 @@ module _ (programs : List Certificate) (queries : List Query) (j : Job) (o : IsO
       (own_fits programs j.node j.query q view j.certified its_certificate same_program)
 
 abbrev pub Posted : Type 0
-Posted = Result (Unit {0} × DeskState) DeskFault
+Posted = Result (Unit {0} × DeskState) Reason
 
 -- what is posted for a query that runs
 abbrev answers : DeskState → ViewMap → Ran → ℕ → Posted
@@ -142,9 +142,9 @@ answers d view ran k = tested (desk.room d) (Ok (tt, with_answer d k view ran))
 module _ (d : DeskState) (node : ℕ) (i j : Job) (ran : Ran) (q : Query) (view : ViewMap) (same : j.query ≡ i.query) (at : slice_get d.queries i.query ≡ Some q) (phase : q.phase ≡ Running view) where
   posted_as : (x : Job) → (x.node == node) ≡ true → slice_get d.queries x.query ≡ Some q → desk.is_job_of d.programs x q view ≡ true → desk.posted d node x ran ≡ answers d view ran x.query
   posted_as x own here fits =
-      tested_pass ((x.node == node, desk_fault.Stranger) ∷ []) (desk.posted_at d x ran (slice_get d.queries x.query)) (own, tt)
+      tested_pass ((x.node == node, reasons.Stranger) ∷ []) (desk.posted_at d x ran (slice_get d.queries x.query)) (own, tt)
       ∙ ap (desk.posted_at d x ran) here ∙ ap (desk.posted_to d x ran q) phase
-      ∙ tested_pass ((desk.is_job_of d.programs x q view, desk_fault.Stranger) ∷ []) (answers d view ran x.query) (fits, tt)
+      ∙ tested_pass ((desk.is_job_of d.programs x q view, reasons.Stranger) ∷ []) (answers d view ran x.query) (fits, tt)
 
   pub same_post : (i.node == node) ≡ true → (j.node == node) ≡ true → desk.is_job_of d.programs i q view ≡ true → desk.is_job_of d.programs j q view ≡ true → desk.posted d node j ran ≡ desk.posted d node i ran
   same_post mine yours one two =

@@ -3,7 +3,7 @@ use Rattle.std.proofs.Common.{◌≡◌, ℕ, zero, suc, List, [], ◌∷◌, �
 use Rattle.sc_msg.specs.declared.message.Message.{Message}
 use Rattle.sc_node.specs.State.{NodeState}
 use Rattle.sc_node.specs.Nodes as node
-use Rattle.sc_node.specs.declared.fault.NodeFault.{NodeFault}
+use Rattle.reasons.specs.declared.Reason.{Reason}
 use Rattle.q_desk.specs.State.{DeskState}
 use Rattle.q_desk.specs.declared.journal.Entry.{Entry}
 use Rattle.q_desk.specs.declared.journal.Entry.TheVariants as entry
@@ -35,7 +35,7 @@ from_front (e ∷ es) rest b c d steps others t u =
     (r.0, u.3 ∙ ap (λ (x : Steps). step_of b e ∷ x) r.1 ∙ ap (λ (x : Steps). x ++ r.0) (sym t.3), r.2)
 
 pub first_same : (a b : BookState) → a.id ≡ b.id → a.config ≡ b.config → (n m : NodeState) (founders : Option (List ℕ)) → IsFirst a n founders → IsFirst b m founders → n ≡ m
-first_same a b id config n m (Some ids) h k = same_answer {E = NodeFault} n m (sym h ∙ (λ i. node.founded (config i) (id i) ids) ∙ k)
+first_same a b id config n m (Some ids) h k = same_answer {E = Reason} n m (sym h ∙ (λ i. node.founded (config i) (id i) ids) ∙ k)
 first_same a b id config n m None h k = h ∙ (λ i. (node.entered (config i) (id i)).0) ∙ sym k
 
 -- a book with the head of the whole one

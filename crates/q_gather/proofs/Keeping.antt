@@ -9,7 +9,7 @@ use Rattle.q_book.specs.Books as book
 use Rattle.q_book.specs.Replays.{Replays}
 use Rattle.q_book.specs.declared.answer.Asked.{Asked}
 use Rattle.q_book.specs.declared.answer.Taken.{Taken}
-use Rattle.q_book.specs.declared.fault.BookFault.{BookFault}
+use Rattle.reasons.specs.declared.Reason.{Reason}
 use Rattle.q_book.proofs.Followed.{seen, sends}
 use Rattle.q_gather.specs.Merging.{Step}
 use Rattle.q_gather.specs.Traces.{sent_by, gives, IsTraceFrom}
@@ -18,7 +18,7 @@ pub trace_replays : (es : List Entry) (b c : BookState) (steps : List (Step Mess
 trace_replays [] b c steps t = t.1
 trace_replays (e ∷ es) b c steps t = (t.0, t.1, trace_replays es t.0 c t.2 t.4)
 
-seen_sent : {A : Type 0} (f : A → List Message) (r : Result (A × BookState) BookFault) → sent_by f r ≡ seen f [] r
+seen_sent : {A : Type 0} (f : A → List Message) (r : Result (A × BookState) Reason) → sent_by f r ≡ seen f [] r
 seen_sent f (Ok a) = refl
 seen_sent f (Err e) = refl
 

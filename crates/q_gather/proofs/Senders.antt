@@ -10,8 +10,8 @@ use Rattle.sc_node.specs.Nodes as node
 use Rattle.sc_node.specs.Nodes.{message_from, answers, stored_view}
 use Rattle.sc_node.specs.declared.answer.Begun.{Begun}
 use Rattle.sc_node.specs.declared.answer.Delivered.{Delivered}
-use Rattle.sc_node.specs.declared.fault.NodeFault.{NodeFault}
-use Rattle.sc_node.specs.declared.fault.NodeFault.TheVariants as node_fault
+use Rattle.reasons.specs.declared.Reason.{Reason}
+use Rattle.reasons.specs.declared.Reason.TheVariants as reasons
 use Rattle.sc_world.specs.Worlds.{Outcome, of_begun, of_left, of_delivered, by_node}
 use Rattle.sc_world.proofs.Inverts.{stores-ok, collects-ok, leaves-ok, delivers-ok}
 use Rattle.q_desk.specs.declared.journal.Entry.{Entry}
@@ -87,8 +87,8 @@ from_own (e ∷ es) b c steps r id named (suc k) t h =
 first_named : (b : BookState) (n : NodeState) (founders : Option (List ℕ)) → IsFirst b n founders → n.id ≡ b.id
 first_named b n None h = ap (λ (x : NodeState). x.id) h
 first_named b n (Some ids) h =
-    let founded = passed (node.are_founders ids && set.contains (set.from_list {R = nat_cmp} ids) b.id) node_fault.BadFounders (Ok (node.founder b.config ids b.id)) n h in
-    ap (λ (x : NodeState). x.id) (sym (same_answer {E = NodeFault} (node.founder b.config ids b.id) n founded.1))
+    let founded = passed (node.are_founders ids && set.contains (set.from_list {R = nat_cmp} ids) b.id) reasons.BadFounders (Ok (node.founder b.config ids b.id)) n h in
+    ap (λ (x : NodeState). x.id) (sym (same_answer {E = Reason} (node.founder b.config ids b.id) n founded.1))
 
 all_by : (b : BookState) (rest : List (Step Message)) (founders : Option (List ℕ)) → ((k : ℕ) (t : Step Message) → slice_get rest k ≡ Some t → AreOwn b.id t.gives)
     → (k : ℕ) (t : Step Message) → slice_get (entering b founders ++ rest) k ≡ Some t → AreOwn b.id t.gives

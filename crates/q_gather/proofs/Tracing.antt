@@ -2,7 +2,7 @@
 use Rattle.std.proofs.Common.{◌≡◌, ℕ, suc, List, [], ◌∷◌, ◌++◌, Option, Some, None, refl, sym, ap, ◌∙◌, subst, slice_get}
 use Rattle.sc_msg.specs.declared.message.Message.{Message}
 use Rattle.sc_node.specs.State.{NodeState}
-use Rattle.sc_node.specs.declared.fault.NodeFault.{NodeFault}
+use Rattle.reasons.specs.declared.Reason.{Reason}
 use Rattle.sc_world.proofs.Inverts.{same_answer}
 use Rattle.q_desk.specs.Desks as desk
 use Rattle.q_desk.specs.declared.journal.Entry.{Entry}
@@ -25,7 +25,7 @@ from_one (e ∷ es) b c d steps others t u =
     t.3 ∙ ap (λ (x : List (Step Message)). step_of b e ∷ x) rest ∙ sym u.3
 
 first_one : (b : BookState) (n m : NodeState) (founders : Option (List ℕ)) → IsFirst b n founders → IsFirst b m founders → n ≡ m
-first_one b n m (Some ids) h k = same_answer {E = NodeFault} n m (sym h ∙ k)
+first_one b n m (Some ids) h k = same_answer {E = Reason} n m (sym h ∙ k)
 first_one b n m None h k = h ∙ sym k
 
 pub trace_one : (b : BookState) (steps others : List (Step Message)) → IsTrace b steps → IsTrace b others → steps ≡ others

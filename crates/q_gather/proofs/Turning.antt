@@ -13,7 +13,7 @@ use Rattle.q_session.specs.declared.job.Job.{Job}
 use Rattle.q_session.specs.declared.ran.Ran.{Ran}
 use Rattle.q_desk.specs.State.{DeskState}
 use Rattle.q_book.specs.State.{BookState}
-use Rattle.q_book.specs.declared.fault.BookFault.{BookFault}
+use Rattle.reasons.specs.declared.Reason.{Reason}
 use Rattle.q_history.specs.declared.event.ClusterEvent.{ClusterEvent}
 use Rattle.q_history.specs.declared.event.ClusterStep.{ClusterStep}
 use Rattle.q_history.specs.State.{ClusterState}
@@ -58,7 +58,7 @@ module _ (c : ClusterState) (id : ℕ) (b : BookState) (up : IsUp c id b) where
   pub turns_to : (f : BookState → Said) → at_node c id f ≡ f b
   turns_to f = (λ i. by_book c id (is_live i) (up.here i) f) ∙ ap f up.is
 
-  pub call_says : {A : Type 0} (next : A → BookState → ClusterStep × ClusterState) (call : BookState → Result (A × BookState) BookFault) (a : A) (d : BookState) → call b ≡ Ok (a, d)
+  pub call_says : {A : Type 0} (next : A → BookState → ClusterStep × ClusterState) (call : BookState → Result (A × BookState) Reason) (a : A) (d : BookState) → call b ≡ Ok (a, d)
       → at_node c id (λ x. lift next (call x)) ≡ Ok (next a d)
   call_says next call a d h = turns_to (λ x. lift next (call x)) ∙ ap (lift next) h
 

@@ -7,7 +7,7 @@ use Rattle.q_desk.specs.declared.journal.Entry.{Entry}
 use Rattle.q_desk.specs.declared.journal.Entry.TheVariants as entry
 use Rattle.q_book.specs.declared.answer.Asked.{Asked}
 use Rattle.q_book.specs.declared.answer.Taken.{Taken}
-use Rattle.q_book.specs.declared.fault.BookFault.{BookFault}
+use Rattle.reasons.specs.declared.Reason.{Reason}
 use Rattle.q_book.specs.State.{BookState}
 use Rattle.q_book.specs.Books.{asked, stored, delivered, left, new_book, entered}
 use Rattle.q_book.specs.Replays.{Follows, IsFirst}
@@ -20,7 +20,7 @@ wants (entry.Deliver m) = Some m
 wants e = None
 
 -- what a call sends that is accepted
-abbrev pub sent_by : {A : Type 0} → (A → List Message) → Result (A × BookState) BookFault → List Message
+abbrev pub sent_by : {A : Type 0} → (A → List Message) → Result (A × BookState) Reason → List Message
 sent_by outs (Ok a) = outs a.0
 sent_by outs (Err e) = []
 

@@ -7,10 +7,10 @@ use Rattle.sc_node.specs.declared.answer.Begun.{Begun}
 use Rattle.q_desk.specs.declared.completed.Completed.{Completed}
 use Rattle.q_book.specs.State.{BookState}
 use Rattle.q_book.specs.Books.{asked, delivered, left, stored}
-use Rattle.q_book.specs.Faults.{memory}
+use Rattle.reasons.specs.declared.Reason.TheVariants.{OutOfMemory as memory}
 use Rattle.q_book.specs.declared.answer.Asked.{Asked}
 use Rattle.q_book.specs.declared.answer.Taken.{Taken}
-use Rattle.q_book.specs.declared.fault.BookFault.{BookFault}
+use Rattle.reasons.specs.declared.Reason.{Reason}
 use Rattle.q_held.specs.declared.held.Lost.{Lost}
 use Rattle.q_held.specs.declared.held.Lost.TheVariants as lost
 use Rattle.q_held.specs.declared.losses.Losses.{Losses}
@@ -35,17 +35,17 @@ Hears bytes b had (Err lost.OutOfMemory) c has = IsSame b had c has
 Hears bytes b had result c has = (m : Message) × IsMessage b.version m × (bytes ≡ message_bytes b.version m) × Delivers m b had result c has
 
 -- the store begins, and what the book gives waits behind what waited; or it is refused
-abbrev pub Stores : List ℕ → BookState → List Message → Result ℕ BookFault → BookState → List Message → Type 0
+abbrev pub Stores : List ℕ → BookState → List Message → Result ℕ Reason → BookState → List Message → Type 0
 Stores value b had (Ok tag) c has = (a : Begun) × (stored b value ≡ Ok (a, c)) × (tag ≡ a.tag) × (has ≡ had ++ a.outs)
 Stores value b had (Err f) c has = IsSame b had c has × (f ≢ memory → stored b value ≡ Err f)
 
 -- the query begins, and what the book gives waits behind what waited; or it is refused
-abbrev pub Asks : ℕ → ℕ → BookState → List Message → Result ℕ BookFault → BookState → List Message → Type 0
+abbrev pub Asks : ℕ → ℕ → BookState → List Message → Result ℕ Reason → BookState → List Message → Type 0
 Asks program start b had (Ok query) c has = (a : Asked) × (asked b program start ≡ Ok (a, c)) × (query ≡ a.query) × (has ≡ had ++ a.begun.outs)
 Asks program start b had (Err f) c has = IsSame b had c has × (f ≢ memory → asked b program start ≡ Err f)
 
 -- the node leaves for good, and what the book gives waits behind what waited; or that is refused
-abbrev pub Leaves : BookState → List Message → Result (Unit {0}) BookFault → BookState → List Message → Type 0
+abbrev pub Leaves : BookState → List Message → Result (Unit {0}) Reason → BookState → List Message → Type 0
 Leaves b had (Ok u) c has = (outs : List Message) × (left b ≡ Ok (outs, c)) × (has ≡ had ++ outs)
 Leaves b had (Err f) c has = IsSame b had c has × (f ≢ memory → left b ≡ Err f)
 

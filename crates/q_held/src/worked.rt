@@ -13,7 +13,7 @@ ghost use Rattle.q_book.specs.State.{BookState};
 ghost use Rattle.q_book.specs.Books.{asked, delivered, stored};
 ghost use Rattle.q_book.specs.declared.answer.Asked.{Asked};
 ghost use Rattle.q_book.specs.declared.answer.Taken.{Taken};
-ghost use Rattle.q_book.specs.declared.fault.BookFault.TheVariants as book;
+ghost use Rattle.reasons.specs.declared.Reason.TheVariants as reasons;
 ghost use Rattle.q_board.specs.Pumped.{Pumped};
 ghost use Rattle.q_held.specs.Held.{Asks, Delivers, Hears, Receives, Stores, both_unsent, counted, losses_text, no_losses, sum_of, together, unsent_text, with_one};
 ghost use Rattle.q_held.specs.Addressees.{addressee_of, asking_tag};
@@ -26,7 +26,7 @@ pub fn worked()
     // Datagrams that changed nothing, by why, up to the greatest value.
     ensures none { no_losses ≡ record { bytes = 0; book = 0; memory = 0 } }
     ensures no_message { (f : MessageFault) → with_one (record { bytes = 1; book = 2; memory = 3 }) (lost.Bytes f) ≡ record { bytes = 2; book = 2; memory = 3 } }
-    ensures by_the_book { with_one (record { bytes = 1; book = 2; memory = 3 }) (lost.Book book.BadValue) ≡ record { bytes = 1; book = 3; memory = 3 } }
+    ensures by_the_book { with_one (record { bytes = 1; book = 2; memory = 3 }) (lost.Book reasons.BadValue) ≡ record { bytes = 1; book = 3; memory = 3 } }
     ensures for_memory { with_one (record { bytes = 1; book = 2; memory = 3 }) lost.OutOfMemory ≡ record { bytes = 1; book = 2; memory = 4 } }
     ensures heard { counted (Ok None) (record { bytes = 1; book = 2; memory = 3 }) ≡ record { bytes = 1; book = 2; memory = 3 } }
     ensures not_heard { counted (Err lost.OutOfMemory) (record { bytes = 1; book = 2; memory = 3 }) ≡ record { bytes = 1; book = 2; memory = 4 } }

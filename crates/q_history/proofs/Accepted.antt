@@ -7,7 +7,7 @@ use Rattle.sc_node.specs.declared.answer.Begun.{Begun}
 use Rattle.sc_node.specs.State.{NodeState}
 use Rattle.sc_node.specs.Nodes.{collect_begun}
 use Rattle.sc_world.specs.declared.event.WorldEvent.{WorldEvent}
-use Rattle.sc_world.specs.declared.fault.WorldFault.{WorldFault}
+use Rattle.reasons.specs.declared.Reason.{Reason}
 use Rattle.sc_world.specs.declared.op.Op.{Op}
 use Rattle.sc_world.specs.State.{WorldState}
 use Rattle.sc_world.specs.Worlds.{Outcome, of_begun, told, after, took, acts, by_node, by_live, live_at, delivers}
@@ -23,7 +23,7 @@ pub at_live : (w : WorldState) (q : ℕ) (n : NodeState) → live_at w q ≡ Som
 at_live w q n h = live_is (set.contains w.crashed q) (fin.get w.nodes q) n h
 
 -- a live node takes an event
-pub acts-ok : (w : WorldState) (e : WorldEvent) (q : ℕ) (f : NodeState → Result Outcome WorldFault) (n : NodeState) (r : Outcome) → live_at w q ≡ Some n → f n ≡ Ok r
+pub acts-ok : (w : WorldState) (e : WorldEvent) (q : ℕ) (f : NodeState → Result Outcome Reason) (n : NodeState) (r : Outcome) → live_at w q ≡ Some n → f n ≡ Ok r
     → acts w e q f ≡ Ok (told w r, after w e q r)
 acts-ok w e q f n r live gives =
     ap (λ (o : Option NodeState). took w e q (by_live o f)) live ∙ ap (took w e q) gives

@@ -22,7 +22,7 @@ use Rattle.q_book.specs.Replays as replays
 use Rattle.q_book.proofs.Followed.{seen, sends, handed, none-handed}
 use Rattle.q_book.specs.declared.answer.Asked.{Asked}
 use Rattle.q_book.specs.declared.answer.Taken.{Taken}
-use Rattle.q_book.specs.declared.fault.BookFault.{BookFault}
+use Rattle.reasons.specs.declared.Reason.{Reason}
 use Rattle.q_history.specs.declared.event.ClusterEvent.{ClusterEvent}
 use Rattle.q_history.specs.declared.event.ClusterEvent.TheVariants as event
 use Rattle.q_history.specs.declared.event.ClusterStep.{ClusterStep}
@@ -50,13 +50,13 @@ by_book-ok c id f y None d live at h = absurd (no_refusal _ y h)
 pub at-ok : (c : ClusterState) (id : ℕ) (f : BookState → Said) (y : ClusterStep × ClusterState) → at_node c id f ≡ Ok y → IsAt c id f y
 at-ok c id f y h = by_book-ok c id f y (world.live_at c.world id) (fin.get c.desks id) refl refl h
 
-lift-ok : {A : Type 0} (next : A → BookState → ClusterStep × ClusterState) (r : Result (A × BookState) BookFault) (y : ClusterStep × ClusterState) → lift next r ≡ Ok y
+lift-ok : {A : Type 0} (next : A → BookState → ClusterStep × ClusterState) (r : Result (A × BookState) Reason) (y : ClusterStep × ClusterState) → lift next r ≡ Ok y
     → (a : A × BookState) × (r ≡ Ok a) × (next a.0 a.1 ≡ y)
 lift-ok next (Ok a) y h = (a, refl, same_answer _ y h)
 lift-ok next (Err e) y h = absurd (no_refusal _ y h)
 
 -- the book of a live node accepted a call, and this came of it
-pub record IsCall {A : Type 0} (c : ClusterState) (id : ℕ) (next : A → BookState → ClusterStep × ClusterState) (call : BookState → Result (A × BookState) BookFault) (d : ClusterState) : Type 0 where
+pub record IsCall {A : Type 0} (c : ClusterState) (id : ℕ) (next : A → BookState → ClusterStep × ClusterState) (call : BookState → Result (A × BookState) Reason) (d : ClusterState) : Type 0 where
   pub node : NodeState
   pub desk : DeskState
   pub live : world.live_at c.world id ≡ Some node
@@ -65,7 +65,7 @@ pub record IsCall {A : Type 0} (c : ClusterState) (id : ℕ) (next : A → BookS
   pub called : call (book_of c id node desk) ≡ Ok answer
   pub is : (next answer.0 answer.1).1 ≡ d
 
-pub call-ok : {A : Type 0} (c : ClusterState) (id : ℕ) (next : A → BookState → ClusterStep × ClusterState) (call : BookState → Result (A × BookState) BookFault) (y : ClusterStep × ClusterState)
+pub call-ok : {A : Type 0} (c : ClusterState) (id : ℕ) (next : A → BookState → ClusterStep × ClusterState) (call : BookState → Result (A × BookState) Reason) (y : ClusterStep × ClusterState)
     → at_node c id (λ b. lift next (call b)) ≡ Ok y → IsCall c id next call y.1
 call-ok c id next call y h =
     let a = at-ok c id (λ b. lift next (call b)) y h in
@@ -124,7 +124,7 @@ module _ (c : ClusterState) where
   noted_sent outs others same = ap (λ (x : List Message). c.world.sent ++ x) (sym same)
 
   -- from the call of a book to that of an entry
-  made : {A : Type 0} {next : A → BookState → ClusterStep × ClusterState} {call : BookState → Result (A × BookState) BookFault} {d : ClusterState} (id : ℕ)
+  made : {A : Type 0} {next : A → BookState → ClusterStep × ClusterState} {call : BookState → Result (A × BookState) Reason} {d : ClusterState} (id : ℕ)
       (k : IsCall c id next call d) (e : Entry) → replays.Follows (book_of c id k.node k.desk) e k.answer.1 → WasSent c.world.sent e
       → (p : Past) → p.sent ≡ c.world.sent ++ sends (book_of c id k.node k.desk) e
       → With c p (with_job c.jobs (handed (book_of c id k.node k.desk) e)) id k.answer.1 ≡ d → IsMade c d
@@ -188,11 +188,11 @@ module _ (c : ClusterState) where
 
   hand_out_by : (id : ℕ) (d : ClusterState) (k : IsCall c id (hands c id) book.handed_out d) (o : Option Job) → k.answer.0 ≡ o → IsMade c d
   hand_out_by id d k None none =
-      let called = k.called ∙ ap (λ (o : Option Job). let r : Result (Option Job × BookState) BookFault = Ok (o, k.answer.1) in r) none in
+      let called = k.called ∙ ap (λ (o : Option Job). let r : Result (Option Job × BookState) Reason = Ok (o, k.answer.1) in r) none in
       rests id k.node k.desk k.live k.at
       ((λ i. With c (past_of c.world) (with_job c.jobs (sym none i)) id (none-handed (book_of c id k.node k.desk) k.answer.1 called i)) ∙ k.is)
   hand_out_by id d k (Some j) some =
-      let called = k.called ∙ ap (λ (o : Option Job). let r : Result (Option Job × BookState) BookFault = Ok (o, k.answer.1) in r) some in
+      let called = k.called ∙ ap (λ (o : Option Job). let r : Result (Option Job × BookState) Reason = Ok (o, k.answer.1) in r) some in
       made id k entry.HandOut (j, called) tt (past_of c.world) quiet_sent
       (ap (λ (o : Option Job). With c (past_of c.world) (with_job c.jobs o) id k.answer.1) (ap (seen (λ (x : Option Job). x) None) k.called) ∙ k.is)
 

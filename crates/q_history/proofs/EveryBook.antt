@@ -10,9 +10,8 @@ use Rattle.std.specs.FinSet as set
 use Rattle.sc_members.specs.Members.{Config}
 use Rattle.sc_node.specs.State.{NodeState}
 use Rattle.sc_node.specs.Nodes.{founder, are_founders}
-use Rattle.sc_node.specs.declared.fault.NodeFault.{NodeFault}
-use Rattle.sc_node.specs.declared.fault.NodeFault.TheVariants as node_fault
-use Rattle.sc_world.specs.declared.fault.WorldFault.TheVariants as world_fault
+use Rattle.reasons.specs.declared.Reason.{Reason}
+use Rattle.reasons.specs.declared.Reason.TheVariants as reasons
 use Rattle.sc_world.specs.Worlds.{nodes_with}
 use Rattle.sc_world.specs.Worlds as world
 use Rattle.sc_world.proofs.Finite.{get-insert, contains-insert}
@@ -104,8 +103,8 @@ module _ (version : Version) (config : Config) (ids : List ℕ) where
   first_founder : (id : ℕ) → are_founders ids ≡ true → IsAmong ids id → IsFirst (book_of (start version config ids) id (founder config ids id) (fresh version)) (founder config ids id) (founders_for id ids)
   first_founder id are listed =
       subst (λ (b : Bool). IsFirst (book_of (start version config ids) id (founder config ids id) (fresh version)) (founder config ids id) (cond b (Some ids) None)) (sym listed)
-      (ap (λ (b : Bool). let r : Result NodeState NodeFault = cond (b && set.contains (set.from_list {R = nat_cmp} ids) id) (Ok (founder config ids id)) (Err node_fault.BadFounders) in r) are
-      ∙ ap (λ (b : Bool). let r : Result NodeState NodeFault = cond b (Ok (founder config ids id)) (Err node_fault.BadFounders) in r) listed)
+      (ap (λ (b : Bool). let r : Result NodeState Reason = cond (b && set.contains (set.from_list {R = nat_cmp} ids) id) (Ok (founder config ids id)) (Err reasons.BadFounders) in r) are
+      ∙ ap (λ (b : Bool). let r : Result NodeState Reason = cond b (Ok (founder config ids id)) (Err reasons.BadFounders) in r) listed)
 
   founder_book : (id : ℕ) (n : NodeState) (d : DeskState) → are_founders ids ≡ true → IsFounder config ids id n → fresh version ≡ d → IsReplay (book_of (start version config ids) id n d)
   founder_book id n d are f new =
@@ -123,7 +122,7 @@ module _ (version : Version) (config : Config) (ids : List ℕ) where
     founders = λ id listed. founder_there config ids ids fin.empty id (inr listed);
   }
 
-  founders_are : (b : Bool) → are_founders ids ≡ b → founded version config ids (cond b (Ok (world.start config ids)) (Err (world_fault.Node node_fault.BadFounders))) ≡ Ok (start version config ids) → are_founders ids ≡ true
+  founders_are : (b : Bool) → are_founders ids ≡ b → founded version config ids (cond b (Ok (world.start config ids)) (Err reasons.BadFounders)) ≡ Ok (start version config ids) → are_founders ids ≡ true
   founders_are true is h = is
   founders_are false is h = absurd (no_refusal _ _ h)
 

@@ -6,8 +6,8 @@ use Rattle.q_session.specs.declared.job.Job.{Job}
 use Rattle.q_history.specs.declared.event.ClusterEvent.{ClusterEvent}
 use Rattle.q_history.specs.declared.event.ClusterEvent.TheVariants as event
 use Rattle.q_history.specs.declared.event.ClusterStep.{ClusterStep}
-use Rattle.q_history.specs.declared.fault.ClusterFault.{ClusterFault}
-use Rattle.q_history.specs.Faults.{memory}
+use Rattle.reasons.specs.declared.Reason.{Reason}
+use Rattle.reasons.specs.declared.Reason.TheVariants.{OutOfMemory as memory}
 use Rattle.q_history.specs.State.{ClusterState}
 use Rattle.q_history.specs.Clusters.{stepped, start, started}
 
@@ -28,7 +28,7 @@ pub record Follows (c : ClusterState) (e : ClusterEvent) (told : ClusterStep) (d
 
 -- The event is accepted; or it is refused, whatever the answer of a job is, and the cluster is as it was; or memory
 -- was refused.
-abbrev pub Takes : ClusterState → ClusterEvent → ClusterState → Result ClusterStep ClusterFault → Type 0
+abbrev pub Takes : ClusterState → ClusterEvent → ClusterState → Result ClusterStep Reason → Type 0
 Takes old e new (Ok told) = Follows old e told new
 Takes old e new (Err f) = (new ≡ old) × (f ≢ memory → (ran : Ran) → stepped ran old e ≡ Err f)
 
@@ -39,7 +39,7 @@ Reaches c (e ∷ es) d = (told : ClusterStep) × (between : ClusterState) × Fol
 
 -- The events are accepted in turn, all of them, or those before the first one that is refused, which is named by its
 -- place.
-abbrev pub Runs : ClusterState → List ClusterEvent → ClusterState → Result (Unit {0}) (ℕ × ClusterFault) → Type 0
+abbrev pub Runs : ClusterState → List ClusterEvent → ClusterState → Result (Unit {0}) (ℕ × Reason) → Type 0
 Runs old es new (Ok _) = Reaches old es new
 Runs old es new (Err r) =
     Reaches old (take r.0 es) new

@@ -12,8 +12,8 @@ use Rattle.sc_operations.specs.declared.progress.Progress.{Progress}
 use Rattle.sc_world.specs.declared.act.Opened.{Opened}
 use Rattle.sc_world.specs.declared.event.WorldEvent.{WorldEvent}
 use Rattle.sc_world.specs.declared.event.WorldEvent.TheVariants as world_event
-use Rattle.sc_world.specs.declared.fault.WorldFault.{WorldFault}
-use Rattle.sc_world.specs.declared.fault.WorldFault.TheVariants as world_fault
+use Rattle.reasons.specs.declared.Reason.{Reason}
+use Rattle.reasons.specs.declared.Reason.TheVariants as reasons
 use Rattle.sc_world.specs.State.{WorldState, Past, world_of, past_of}
 use Rattle.sc_world.specs.Ledgers.{recorded, numbered, stopped}
 use Rattle.sc_world.specs.Worlds as world
@@ -25,16 +25,12 @@ use Rattle.q_book.specs.State.{BookState}
 use Rattle.q_book.specs.Books as book
 use Rattle.q_book.specs.declared.answer.Asked.{Asked}
 use Rattle.q_book.specs.declared.answer.Taken.{Taken}
-use Rattle.q_book.specs.declared.fault.BookFault.{BookFault}
 use Rattle.q_history.specs.declared.event.ClusterEvent.{ClusterEvent}
 use Rattle.q_history.specs.declared.event.ClusterEvent.TheVariants as event
 use Rattle.q_history.specs.declared.event.Handed.{Handed}
 use Rattle.q_history.specs.declared.event.EventAnswer.{EventAnswer}
 use Rattle.q_history.specs.declared.event.EventAnswer.TheVariants as told
 use Rattle.q_history.specs.declared.event.ClusterStep.{ClusterStep}
-use Rattle.q_history.specs.declared.fault.ClusterFault.{ClusterFault}
-use Rattle.q_history.specs.declared.fault.ClusterFault.TheVariants as fault
-use Rattle.q_history.specs.Faults.{of_book}
 use Rattle.q_history.specs.State.{ClusterState}
 use Rattle.q_history.specs.Heads.{book_of}
 
@@ -43,7 +39,7 @@ Desks = fin.FinMap nat_cmp DeskState
 
 -- what an event answers and makes of a cluster, or why it is refused
 abbrev pub Said : Type 0
-Said = Result (ClusterStep × ClusterState) ClusterFault
+Said = Result (ClusterStep × ClusterState) Reason
 
 -- ---- how the parts are put together
 
@@ -64,14 +60,14 @@ noted c t e id outs progress begun b = (
 )
 
 -- what a book answers, as its cluster tells it
-abbrev pub lift : {A : Type 0} → (A → BookState → ClusterStep × ClusterState) → Result (A × BookState) BookFault → Said
+abbrev pub lift : {A : Type 0} → (A → BookState → ClusterStep × ClusterState) → Result (A × BookState) Reason → Said
 lift next (Ok a) = Ok (next a.0 a.1)
-lift next (Err e) = Err (of_book e)
+lift next (Err e) = Err e
 
 -- a node that is there, with its desk, as its book
 abbrev pub by_book : ClusterState → ℕ → Option NodeState → Option DeskState → (BookState → Said) → Said
 by_book c id (Some n) (Some d) f = f (book_of c id n d)
-by_book c id n d f = Err (fault.World world_fault.NoSuchNode)
+by_book c id n d f = Err reasons.NoSuchNode
 
 abbrev pub at : ClusterState → ℕ → (BookState → Said) → Said
 at c id f = by_book c id (world.live_at c.world id) (fin.get c.desks id) f
@@ -107,7 +103,7 @@ abbrev pub delivers : ClusterState → ℕ → ℕ → Taken → BookState → C
 delivers c number id a b = noted c (told.Delivered a.completed) (world_event.Deliver number id) id a.outs a.progress None b
 
 abbrev pub delivered_as : ClusterState → ℕ → ℕ → BookState → Option Message → Said
-delivered_as c number id b None = Err (fault.World world_fault.NeverSent)
+delivered_as c number id b None = Err reasons.NeverSent
 delivered_as c number id b (Some m) = lift (delivers c number id) (book.delivered b m)
 
 abbrev pub delivered : ClusterState → ℕ → ℕ → BookState → Said
@@ -137,7 +133,7 @@ posted c j ran b = lift (posts c j ran) (book.posted b j ran)
 
 -- a job comes to this, and its node records it
 abbrev pub finished : ClusterState → Ran → Option Job → Said
-finished c ran None = Err fault.NoSuchJob
+finished c ran None = Err reasons.NoSuchJob
 finished c ran (Some j) = at c j.node (posted c j ran)
 
 -- ---- nodes that come and go
@@ -147,7 +143,7 @@ enters c id e = noted c told.Entered (world_event.Enter id) id e.1 None None e.0
 
 abbrev pub entered : ClusterState → ℕ → Option NodeState → Said
 entered c id None = Ok (enters c id (book.entered c.version c.world.config id))
-entered c id (Some n) = Err (fault.World world_fault.IdUsed)
+entered c id (Some n) = Err reasons.IdUsed
 
 abbrev pub leaves : ClusterState → ℕ → List Message → BookState → ClusterStep × ClusterState
 leaves c id outs b = noted c told.Left (world_event.Leave id) id outs None None b
@@ -156,7 +152,7 @@ abbrev pub left : ClusterState → ℕ → BookState → Said
 left c id b = lift (leaves c id) (book.left b)
 
 abbrev pub crashed : ClusterState → ℕ → Option NodeState → Said
-crashed c id None = Err (fault.World world_fault.NoSuchNode)
+crashed c id None = Err reasons.NoSuchNode
 crashed c id (Some n) = Ok (
   record { told = told.Crashed; sent = record { first = length c.world.sent; count = 0 } },
   record { version = c.version; world = world_of c.world.nodes (stopped (past_of c.world) id); desks = c.desks; jobs = c.jobs },
@@ -187,9 +183,9 @@ desks_with version desks (id ∷ ids) = desks_with version (fin.insert desks id 
 abbrev pub start : Version → Config → List ℕ → ClusterState
 start version config ids = record { version = version; world = world.start config ids; desks = desks_with version fin.empty ids; jobs = [] }
 
-abbrev pub founded : Version → Config → List ℕ → Result WorldState WorldFault → Result ClusterState ClusterFault
-founded version config ids (Err e) = Err (fault.World e)
+abbrev pub founded : Version → Config → List ℕ → Result WorldState Reason → Result ClusterState Reason
+founded version config ids (Err e) = Err e
 founded version config ids (Ok w) = Ok (start version config ids)
 
-abbrev pub started : Version → Config → List ℕ → Result ClusterState ClusterFault
+abbrev pub started : Version → Config → List ℕ → Result ClusterState Reason
 started version config ids = founded version config ids (world.started config ids)

@@ -1,6 +1,5 @@
 -- Clusters: what each event does, and what is true of every answer and every book.
 pub mod State
-pub mod Faults
 pub mod Heads
 pub mod Clusters
 pub mod Calls

@@ -3,8 +3,13 @@
 use q_desk::Completed;
 use q_session::Ran;
 use q_table::{Program, ProgramId};
+use reasons::Reason;
 use sc_view::Value;
 use sc_world::Sent;
+
+/// Why an event is refused. After a refusal the cluster is as it was. Where several hold, the first of 83, 81, 82, 42,
+/// 41, 51, 59, 50, 52, 56, 55, 43, 53, 48, 46, 47 is told; 44 is that of an entering, 49 the founders'.
+pub type ClusterFault = Reason;
 
 /// What happens to a cluster.
 #[derive(Drop)]

@@ -16,8 +16,6 @@
 #![tactic(auto)]
 
 mod event;
-mod fault;
 pub mod laws;
 
-pub use event::{Answer, ClusterEvent, ClusterStep, EventAnswer, Handed};
-pub use fault::ClusterFault;
+pub use event::{Answer, ClusterEvent, ClusterFault, ClusterStep, EventAnswer, Handed};

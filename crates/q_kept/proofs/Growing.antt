@@ -6,7 +6,7 @@ use Rattle.q_desk.specs.declared.journal.Entry.TheVariants as entry
 use Rattle.q_desk.specs.declared.completed.Completed.{Completed}
 use Rattle.q_book.specs.State.{BookState}
 use Rattle.q_book.specs.Replays.{Follows}
-use Rattle.q_book.specs.declared.fault.BookFault.{BookFault}
+use Rattle.reasons.specs.declared.Reason.{Reason}
 use Rattle.q_held.specs.Held.{Asks, Delivers, Hears, Leaves, Receives, Stores}
 use Rattle.q_held.specs.declared.held.Lost.{Lost}
 use Rattle.q_held.specs.declared.held.Lost.TheVariants as lost
@@ -33,14 +33,14 @@ module _ (same : (b : BookState) → Grows b b) (call : (b c : BookState) (e : E
   receives_grow [] b c had has l k ended h = grows_same b c h.0.0
   receives_grow (byte ∷ bytes) b c had has l k ended h = hears_grow (byte ∷ bytes) b c had has h.0 h.1
 
-  pub stores_grow : (value : List ℕ) (b c : BookState) (had has : List Message) (r : Result ℕ BookFault) → Stores value b had r c has → Grows b c
+  pub stores_grow : (value : List ℕ) (b c : BookState) (had has : List Message) (r : Result ℕ Reason) → Stores value b had r c has → Grows b c
   stores_grow value b c had has (Ok tag) h = call b c (entry.Store value) (h.0, h.1)
   stores_grow value b c had has (Err f) h = grows_same b c h.0.0
 
-  pub asks_grow : (program start : ℕ) (b c : BookState) (had has : List Message) (r : Result ℕ BookFault) → Asks program start b had r c has → Grows b c
+  pub asks_grow : (program start : ℕ) (b c : BookState) (had has : List Message) (r : Result ℕ Reason) → Asks program start b had r c has → Grows b c
   asks_grow program start b c had has (Ok query) h = call b c (entry.Ask program start) (h.0, h.1)
   asks_grow program start b c had has (Err f) h = grows_same b c h.0.0
 
-  pub leaves_grow : (b c : BookState) (had has : List Message) (r : Result (Unit {0}) BookFault) → Leaves b had r c has → Grows b c
+  pub leaves_grow : (b c : BookState) (had has : List Message) (r : Result (Unit {0}) Reason) → Leaves b had r c has → Grows b c
   leaves_grow b c had has (Ok u) h = call b c entry.Leave (h.0, h.1)
   leaves_grow b c had has (Err f) h = grows_same b c h.0.0

@@ -9,10 +9,9 @@ use Rattle.q_session.specs.Done.{Finished}
 use Rattle.q_board.specs.AskerModel.{AskerModel}
 use Rattle.q_desk.specs.State.{DeskState}
 use Rattle.q_desk.specs.Desks as desk
-use Rattle.q_desk.specs.declared.fault.DeskFault.{DeskFault}
+use Rattle.reasons.specs.declared.Reason.{Reason}
 use Rattle.q_book.specs.State.{BookState}
 use Rattle.q_book.specs.Books.{by_desk, with_desk}
-use Rattle.q_book.specs.declared.fault.BookFault.{BookFault}
 use Rattle.q_board.specs.Pumped.{Carries, HandsOut, Posts, Pumped, Stopped}
 use Rattle.q_replay.specs.Journal.{head_of, journal_of}
 use Rattle.q_kept.specs.State.{RecorderState}
@@ -25,7 +24,7 @@ use Rattle.q_kept.specs.declared.letter.Letter.{Letter}
 use Rattle.q_kept.specs.declared.question.Question.{Question}
 
 -- a call of the desk leaves the head as it is
-head_stays : {A : Type 0} (present : Bool) (f : BookFault) (r : Result (A × DeskState) DeskFault) (b c : BookState) (a : A)
+head_stays : {A : Type 0} (present : Bool) (f : Reason) (r : Result (A × DeskState) Reason) (b c : BookState) (a : A)
     → (if present then by_desk (with_desk b) r else Err f) ≡ Ok (a, c) → head_of c ≡ head_of b
 head_stays false f r b c a e = absurd (cc)
 head_stays true f (Err x) b c a e = absurd (cc)
@@ -56,7 +55,7 @@ pumps_grow a a' b b' (inl p) = carries_grow a a' b b' p.1.carries
 pumps_grow a a' b b' (inr p) = carries_grow a a' b b' p.1.carries
 
 -- whatever the pump answered
-pub pumps_either : (a a' : AskerModel) (b b' : BookState) (r : Result ℕ BookFault)
+pub pumps_either : (a a' : AskerModel) (b b' : BookState) (r : Result ℕ Reason)
     → MatchResult r (λ posted. Pumped a b posted a' b') (λ fault. Stopped a b fault a' b') → Pumps a b a' b'
 pumps_either a a' b b' (Ok posted) p = inl (posted, p)
 pumps_either a a' b b' (Err fault) p = inr (fault, p)

@@ -3,7 +3,7 @@ use Rattle.std.specs.Prelude.{◌≡◌, ◌⊎◌, ℕ, List, Option, Err}
 use Rattle.std.specs.Io.KnownBytes.{Appends}
 use Rattle.q_board.specs.AskerModel.{AskerModel}
 use Rattle.q_book.specs.State.{BookState}
-use Rattle.q_book.specs.declared.fault.BookFault.{BookFault}
+use Rattle.reasons.specs.declared.Reason.{Reason}
 use Rattle.q_board.specs.Pumped.{Pumped, Stopped}
 use Rattle.q_replay.specs.Journal.{journal_of}
 use Rattle.q_kept.specs.State.{RecorderState}
@@ -14,7 +14,7 @@ use Rattle.q_kept.specs.declared.letter.Letter.{Letter}
 
 -- the pump did as it says, to its end or up to a refusal
 abbrev pub Pumps : AskerModel → BookState → AskerModel → BookState → Type 0
-Pumps a b a' b' = ((posted : ℕ) × Pumped a b posted a' b') ⊎ ((fault : BookFault) × Stopped a b fault a' b')
+Pumps a b a' b' = ((posted : ℕ) × Pumped a b posted a' b') ⊎ ((fault : Reason) × Stopped a b fault a' b')
 
 -- Of a book that was b before the pump and is c: its journal stands in the file, whole, behind what the file held at
 -- first, and messages that waited are given.

@@ -5,7 +5,7 @@ ghost use Rattle.std.specs.Prelude.{ℕ, List, Option, Result};
 ghost use Rattle.sc_msg.specs.declared.message.Message.{Message as Said};
 ghost use Rattle.q_desk.specs.declared.completed.Completed.{Completed};
 ghost use Rattle.q_book.specs.State.{BookState};
-ghost use Rattle.q_book.specs.declared.fault.BookFault.{BookFault as Fault};
+ghost use Rattle.reasons.specs.declared.Reason.{Reason as Fault};
 ghost use Rattle.q_board.specs.AskerModel.{AskerModel};
 ghost use Rattle.q_held.specs.Held.{Asks, Hears, Leaves, Receives, Stores};
 ghost use Rattle.q_held.specs.declared.held.Lost.{Lost};

@@ -2,7 +2,7 @@
 use Rattle.std.proofs.Common.{◌≡◌, ℕ, List, [], ◌++◌, Err, refl, sym, ◌∙◌, subst, append-nil}
 use Rattle.sc_msg.specs.declared.message.Message.{Message}
 use Rattle.q_book.specs.State.{BookState}
-use Rattle.q_book.specs.Faults.{memory}
+use Rattle.reasons.specs.declared.Reason.TheVariants.{OutOfMemory as memory}
 use Rattle.q_net.specs.declared.request.Request.{Request}
 use Rattle.q_net.specs.declared.request.Request.TheVariants.{Register, Ask, Store}
 use Rattle.q_net.specs.declared.replies.Reply.{Reply}

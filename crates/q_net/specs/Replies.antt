@@ -23,14 +23,11 @@ use Rattle.sc_msg.specs.declared.version.Version.TheVariants.{First, Second}
 use Rattle.sc_node.specs.declared.answer.Begun.{Begun}
 use Rattle.forms.specs.Calls.{Steps}
 use Rattle.q_session.specs.declared.ran.Ran.{Ran}
-use Rattle.q_desk.specs.declared.fault.DeskFault.{DeskFault}
-use Rattle.q_desk.specs.Faults as desk_fault
 use Rattle.q_desk.specs.Desks.{answer_of}
 use Rattle.q_book.specs.State.{BookState}
 use Rattle.q_book.specs.Books as book
 use Rattle.q_book.specs.Books.{record_lengths}
-use Rattle.q_book.specs.Faults.{memory, reason}
-use Rattle.q_book.specs.declared.fault.BookFault.{BookFault}
+use Rattle.reasons.specs.declared.Reason.TheVariants.{OutOfMemory as memory}
 use Rattle.q_book.specs.declared.answer.Asked.{Asked}
 use Rattle.q_net.specs.declared.request.Request.{Request}
 use Rattle.q_net.specs.declared.request.Request.TheVariants.{Register, Ask, Store, Answer, StoreOf}
@@ -71,9 +68,9 @@ Registers b bytes notes (registered.Book r) c =
     × IsNotes (form_of b.version) program.notes × (notes ≡ notes_bytes (form_of b.version) program.notes)
     × Steps memory (book.registered b program) b c r
 
-abbrev pub of_register : Result ℕ BookFault → Reply
+abbrev pub of_register : Result ℕ Reason → Reply
 of_register (Ok id) = reply.Program id
-of_register (Err e) = reply.Refused (number (reason e))
+of_register (Err e) = reply.Refused (number e)
 
 abbrev pub of_registered : Registered → Reply
 of_registered (registered.Text f) = reply.Refused (number (decode.reason f))
@@ -83,38 +80,38 @@ of_registered (registered.Book r) = of_register r
 
 -- ---- the other requests
 
-abbrev pub of_ask : Result Asked BookFault → Reply
+abbrev pub of_ask : Result Asked Reason → Reply
 of_ask (Ok a) = reply.Number a.query
-of_ask (Err e) = reply.Refused (number (reason e))
+of_ask (Err e) = reply.Refused (number e)
 
-abbrev pub sent_by_ask : Result Asked BookFault → List Message
+abbrev pub sent_by_ask : Result Asked Reason → List Message
 sent_by_ask (Ok a) = a.begun.outs
 sent_by_ask (Err e) = []
 
-abbrev pub of_store : Result Begun BookFault → Reply
+abbrev pub of_store : Result Begun Reason → Reply
 of_store (Ok a) = reply.Number a.tag
-of_store (Err e) = reply.Refused (number (reason e))
+of_store (Err e) = reply.Refused (number e)
 
-abbrev pub sent_by_store : Result Begun BookFault → List Message
+abbrev pub sent_by_store : Result Begun Reason → List Message
 sent_by_store (Ok a) = a.outs
 sent_by_store (Err e) = []
 
-abbrev pub of_answer : Result (Option Ran) DeskFault → Reply
+abbrev pub of_answer : Result (Option Ran) Reason → Reply
 of_answer (Ok None) = reply.Open
 of_answer (Ok (Some ran)) = reply.Answer ran.acc ran.steps
-of_answer (Err e) = reply.Refused (number (desk_fault.reason e))
+of_answer (Err e) = reply.Refused (number e)
 
 -- A request to a book is replied to, sends messages and leaves a book. What a call of the book answers is its own, or
 -- that memory ran out, after which the book is as it was and nothing is sent.
 abbrev pub Replies : BookState → Request → Reply → List Message → BookState → Type 0
 Replies b (Register bytes notes) said sent c = (r : Registered) × Registers b bytes notes r c × (said ≡ of_registered r) × (sent ≡ [])
 Replies b (Ask program start) said sent c =
-    (r : Result Asked BookFault) × Steps memory (book.asked b program start) b c r × (said ≡ of_ask r) × (sent ≡ sent_by_ask r)
+    (r : Result Asked Reason) × Steps memory (book.asked b program start) b c r × (said ≡ of_ask r) × (sent ≡ sent_by_ask r)
 Replies b (Store value) said sent c =
-    (r : Result Begun BookFault) × Steps memory (book.stored b value) b c r × (said ≡ of_store r) × (sent ≡ sent_by_store r)
+    (r : Result Begun Reason) × Steps memory (book.stored b value) b c r × (said ≡ of_store r) × (sent ≡ sent_by_store r)
 Replies b (Answer query) said sent c = (c ≡ b) × (said ≡ of_answer (answer_of b.desk query)) × (sent ≡ [])
 Replies b (StoreOf value) said sent c =
-    (r : Result Begun BookFault) × Steps memory (book.stored b value) b c r × (said ≡ of_store r) × (sent ≡ sent_by_store r)
+    (r : Result Begun Reason) × Steps memory (book.stored b value) b c r × (said ≡ of_store r) × (sent ≡ sent_by_store r)
 
 -- why requests stop, and the reply at which they do
 abbrev pub stop_reason : StreamEnd → Reason

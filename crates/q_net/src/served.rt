@@ -70,7 +70,7 @@ fn reply_to_registered(registered: &Registered) -> Reply
         Registered::Notes(fault) => Reply::Refused(fault.reason().number()),
         Registered::Check(fault) => Reply::Refused(fault.reason().number()),
         Registered::Book(Ok(program)) => Reply::Program(program.number()),
-        Registered::Book(Err(fault)) => Reply::Refused(fault.reason().number()),
+        Registered::Book(Err(reason)) => Reply::Refused(reason.number()),
     }
 }
 
@@ -89,7 +89,7 @@ fn ask(book: &mut Book, program: u32, start: u64, sent: &mut Vec<Message>) -> Re
             collect.outs.append_to(sent);
             Reply::Number(query as u64)
         }
-        Err(fault) => Reply::Refused(fault.reason().number()),
+        Err(reason) => Reply::Refused(reason.number()),
     }
 }
 
@@ -103,7 +103,7 @@ fn store(book: &mut Book, value: &[u8], sent: &mut Vec<Message>) -> Reply
             begun.outs.append_to(sent);
             Reply::Number(begun.tag)
         }
-        Err(fault) => Reply::Refused(fault.reason().number()),
+        Err(reason) => Reply::Refused(reason.number()),
     }
 }
 
@@ -127,7 +127,7 @@ fn answer(book: &Book, query: u64) -> Reply
             steps: ran.steps,
         },
         Ok(None) => Reply::Open,
-        Err(fault) => Reply::Refused(fault.reason().number()),
+        Err(reason) => Reply::Refused(reason.number()),
     }
 }
 

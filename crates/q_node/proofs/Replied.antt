@@ -7,10 +7,10 @@ use Rattle.q_desk.specs.declared.journal.Entry.{Entry}
 use Rattle.q_desk.specs.declared.journal.Entry.TheVariants as entry
 use Rattle.q_book.specs.State.{BookState}
 use Rattle.q_book.specs.Books.{asked, registered, stored}
-use Rattle.q_book.specs.Faults.{memory}
+use Rattle.reasons.specs.declared.Reason.TheVariants.{OutOfMemory as memory}
 use Rattle.q_book.specs.Replays.{Follows}
 use Rattle.q_book.specs.declared.answer.Asked.{Asked}
-use Rattle.q_book.specs.declared.fault.BookFault.{BookFault}
+use Rattle.reasons.specs.declared.Reason.{Reason}
 use Rattle.q_net.specs.Replies.{Registers, Replies}
 use Rattle.q_net.specs.declared.replies.Reply.{Reply}
 use Rattle.q_net.specs.declared.request.Request.{Request}
@@ -30,11 +30,11 @@ module _ (same : (b : BookState) → Grows b b) (call : (b c : BookState) (e : E
   registers_grow b c text notes (registration.Book (Ok id)) h = call b c (entry.Register h.0) (id, h.6)
   registers_grow b c text notes (registration.Book (Err e)) h = grows_same b c h.6.0
 
-  store_grows : (b c : BookState) (value : List ℕ) (r : Result Begun BookFault) → Steps memory (stored b value) b c r → Grows b c
+  store_grows : (b c : BookState) (value : List ℕ) (r : Result Begun Reason) → Steps memory (stored b value) b c r → Grows b c
   store_grows b c value (Ok a) h = call b c (entry.Store value) (a, h)
   store_grows b c value (Err e) h = grows_same b c h.0
 
-  ask_grows : (b c : BookState) (program start : ℕ) (r : Result Asked BookFault) → Steps memory (asked b program start) b c r → Grows b c
+  ask_grows : (b c : BookState) (program start : ℕ) (r : Result Asked Reason) → Steps memory (asked b program start) b c r → Grows b c
   ask_grows b c program start (Ok a) h = call b c (entry.Ask program start) (a, h)
   ask_grows b c program start (Err e) h = grows_same b c h.0
 

@@ -6,7 +6,7 @@ use Rattle.sc_msg.specs.declared.message.Message.{Message}
 use Rattle.q_desk.specs.declared.journal.Entry.{Entry}
 use Rattle.q_book.specs.State.{BookState}
 use Rattle.q_book.specs.Books.{left}
-use Rattle.q_book.specs.declared.fault.BookFault.{BookFault}
+use Rattle.reasons.specs.declared.Reason.{Reason}
 use Rattle.q_held.specs.Held.{Leaves}
 use Rattle.q_kept.specs.State.{RecorderState}
 use Rattle.q_kept.specs.declared.fault.Unrecorded.{Unrecorded}
@@ -24,7 +24,7 @@ why_by : (b : Bool) → ((if b then reasons.FileFailed else reasons.OutOfMemory)
 why_by true = inl refl
 why_by false = inr refl
 
-said_by : (node : ℕ) (b c : BookState) (had has : List Message) (r : Result (Unit {0}) BookFault) (written : Bool) (recorder : RecorderState) → IsBookOf node b → Leaves b had r c has
+said_by : (node : ℕ) (b c : BookState) (had has : List Message) (r : Result (Unit {0}) Reason) (written : Bool) (recorder : RecorderState) → IsBookOf node b → Leaves b had r c has
     → IsSaidToLeave node (said_to_leave r written recorder)
 said_by node b c had has (Err f) written recorder own h = inl (b, c, had, has, f, own, h, refl)
 said_by node b c had has (Ok u) true recorder own h = (b, c, had, has, own, h)
@@ -37,13 +37,13 @@ says_left node old told letters new own l =
     subst (IsSaidToLeave node) (sym l.says)
     (said_by node old.book l.settled.book old.waiting l.settled.waiting l.left (is_some letters) new.recorder own l.settled.happened.0)
 
-undone_by : (b c : BookState) (had has : List Message) (r : Result (Unit {0}) BookFault) (written : Bool) (recorder : RecorderState) (f : BookFault) → left b ≡ Err f → Leaves b had r c has
+undone_by : (b c : BookState) (had has : List Message) (r : Result (Unit {0}) Reason) (written : Bool) (recorder : RecorderState) (f : Reason) → left b ≡ Err f → Leaves b had r c has
     → said.Done ≡ said_to_leave r written recorder → ⊥
 undone_by b c had has (Ok u) written recorder f refused h s = let x = sym refused ∙ h.1 in absurd cc
 undone_by b c had has (Err g) written recorder f refused h s = absurd cc
 
 -- what the book refuses is not done
-pub undone : (old : OwnState) (letters : Option (List Letter)) (new : OwnState) (f : BookFault) → left old.book ≡ Err f → LeavesAndSettles old said.Done letters new → ⊥
+pub undone : (old : OwnState) (letters : Option (List Letter)) (new : OwnState) (f : Reason) → left old.book ≡ Err f → LeavesAndSettles old said.Done letters new → ⊥
 undone old letters new f refused l =
     undone_by old.book l.settled.book old.waiting l.settled.waiting l.left (is_some letters) new.recorder f refused l.settled.happened.0 l.says
 

@@ -5,10 +5,7 @@ use Rattle.reasons.specs.declared.Reason.TheVariants as reasons
 use Rattle.sc_msg.specs.declared.message.Message.{Message}
 use Rattle.q_session.specs.declared.ran.Ran.{Ran}
 use Rattle.q_desk.specs.declared.completed.Completed.{Completed}
-use Rattle.q_desk.specs.declared.fault.DeskFault.{DeskFault}
 use Rattle.q_book.specs.State.{BookState}
-use Rattle.q_book.specs.Faults.{reason}
-use Rattle.q_book.specs.declared.fault.BookFault.{BookFault}
 use Rattle.q_held.specs.Held.{Hears, Leaves, counted, ended_by}
 use Rattle.q_held.specs.declared.held.Lost.{Lost}
 use Rattle.q_held.specs.declared.losses.Losses.{Losses}
@@ -65,7 +62,7 @@ RepliedSo r said old book waiting lost =
     (outs : List Message) × Replies old.book r said outs book × (waiting ≡ old.waiting ++ outs) × (lost ≡ old.lost)
 
 -- the node leaves, with this result
-abbrev pub LeftSo : Result (Unit {0}) BookFault → OwnState → BookState → List Message → Losses → Type 0
+abbrev pub LeftSo : Result (Unit {0}) Reason → OwnState → BookState → List Message → Losses → Type 0
 LeftSo r old book waiting lost = Leaves old.book old.waiting r book waiting × (lost ≡ old.lost)
 
 -- ---- the calls that settle
@@ -83,14 +80,14 @@ why_unwritten r = if r.broken then reasons.FileFailed else reasons.OutOfMemory
 
 -- what is said to a leave with this result, by whether the journal is written: that it is done where the book took it
 -- and that is written
-abbrev pub said_to_leave : Result (Unit {0}) BookFault → Bool → RecorderState → Said
-said_to_leave (Err f) written r = said.Refused (reason f)
+abbrev pub said_to_leave : Result (Unit {0}) Reason → Bool → RecorderState → Said
+said_to_leave (Err f) written r = said.Refused f
 said_to_leave (Ok u) true r = said.Done
 said_to_leave (Ok u) false r = said.Refused (why_unwritten r)
 
 -- the node leaves, and then all is settled; it is said what came of it
 pub record LeavesAndSettles (old : OwnState) (told : Said) (letters : Option (List Letter)) (new : OwnState) : Type 0 where
-  pub left : Result (Unit {0}) BookFault
+  pub left : Result (Unit {0}) Reason
   pub says : told ≡ said_to_leave left (is_some letters) new.recorder
   pub settled : SettlesAfter (LeftSo left old) old letters new
 
@@ -114,7 +111,7 @@ pub record HasEndedWritten (o : OwnState) (tag : ℕ) : Type 0 where
   pub ended : HasEndedIn o.book tag
 
 -- a query has no answer yet
-abbrev pub is_open : Result (Option Ran) DeskFault → Bool
+abbrev pub is_open : Result (Option Ran) Reason → Bool
 is_open (Ok None) = true
 is_open r = false
 

@@ -10,8 +10,6 @@ use Rattle.sc_members.specs.Members.{present}
 use Rattle.sc_msg.specs.declared.message.Message.{Message}
 use Rattle.q_sim.specs.declared.refusal.RefusalPlace.TheVariants.{Untold}
 use Rattle.q_book.specs.State.{BookState}
-use Rattle.q_book.specs.Faults.{reason}
-use Rattle.q_book.specs.declared.fault.BookFault.{BookFault}
 use Rattle.q_held.specs.Held.{Leaves}
 use Rattle.q_sim.specs.Line.{line_of}
 use Rattle.q_doors.specs.Books.{IsBookOf}
@@ -87,8 +85,8 @@ abbrev pub IsSaidToLeave : ℕ → Said → Type 0
 IsSaidToLeave node said.Done =
     (b c : BookState) × (had has : List Message) × IsBookOf node b × Leaves b had (Ok tt) c has
 IsSaidToLeave node (said.Refused why) =
-    ((b c : BookState) × (had has : List Message) × (f : BookFault) × IsBookOf node b × Leaves b had (Err f) c has
-    × (why ≡ reason f))
+    ((b c : BookState) × (had has : List Message) × (f : Reason) × IsBookOf node b × Leaves b had (Err f) c has
+    × (why ≡ f))
     ⊎ ((why ≡ reasons.FileFailed) ⊎ (why ≡ reasons.OutOfMemory))
 IsSaidToLeave node (said.Status s) = ⊥
 

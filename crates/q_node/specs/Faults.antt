@@ -8,7 +8,6 @@ use Rattle.q_sim.specs.declared.refusal.RefusalPlace.TheVariants.{Untold, Line}
 use Rattle.q_outside.specs.declared.files.FileFault.{FileFault}
 use Rattle.q_outside.specs.declared.files.FileFault.TheVariants as file_fault
 use Rattle.q_book.specs.Books.{founded}
-use Rattle.q_book.specs.Faults as book
 use Rattle.q_script.specs.File as cluster
 use Rattle.q_script.specs.File.{founder_ids}
 use Rattle.q_script.specs.declared.fault.ClusterFileFault.TheVariants.{Syntax}
@@ -22,7 +21,7 @@ reason fault.FileFailed = reasons.FileFailed
 reason (fault.Cluster f) = cluster.reason f
 reason fault.NoSuchNode = reasons.NoSuchNode
 reason fault.BadCount = reasons.BadCount
-reason (fault.Book f) = book.reason f
+reason (fault.Book f) = f
 reason fault.TransportFailed = reasons.TransportFailed
 reason fault.NoJournal = reasons.FileFailed
 reason fault.OutOfMemory = reasons.OutOfMemory
@@ -38,7 +37,7 @@ abbrev pub IsUnbegun : ClusterFile → ℕ → ℕ → StartFault → Type 0
 IsUnbegun file id runners fault.BadCount = ¬ ((1 ≤ runners) × (runners ≤ 64))
 IsUnbegun file id runners fault.NoSuchNode = address_of file.nodes.items id ≡ None
 IsUnbegun file id runners (fault.Book f) =
-    f ≢ book.memory → founded Second file.config id (founder_ids file.nodes.items) ≡ Err f
+    f ≢ reasons.OutOfMemory → founded Second file.config id (founder_ids file.nodes.items) ≡ Err f
 IsUnbegun file id runners fault.OutOfMemory = Unit {0}
 IsUnbegun file id runners f = ⊥
 

@@ -8,7 +8,7 @@ use q_book::BookFault;
 use q_outside::FileFault;
 use q_script::ClusterFileFault;
 use q_sim::RefusalPlace;
-use reasons::{Reason, told};
+use reasons::Reason;
 use std::alloc::AllocError;
 
 /// Why a node does not begin.
@@ -37,8 +37,15 @@ impl StartFault {
     pub fn reason(self) -> Reason
         ensures { result ≡ reason self }
     {
-        told!(self, StartFault: FileFailed, Cluster(fault), NoSuchNode, BadCount, Book(fault), TransportFailed,
-            NoJournal => FileFailed, OutOfMemory)
+        match self {
+            StartFault::FileFailed | StartFault::NoJournal => Reason::FileFailed,
+            StartFault::Cluster(fault) => fault.reason(),
+            StartFault::NoSuchNode => Reason::NoSuchNode,
+            StartFault::BadCount => Reason::BadCount,
+            StartFault::Book(reason) => reason,
+            StartFault::TransportFailed => Reason::TransportFailed,
+            StartFault::OutOfMemory => Reason::OutOfMemory,
+        }
     }
 
     /// The line of the file that is faulty, where the fault is one of a line.

@@ -25,7 +25,7 @@ use crate::console::Said;
 use crate::start::Start;
 use crate::status::Status;
 use q_book::{Book, BookFault};
-use q_desk::{Completed, DeskFault};
+use q_desk::Completed;
 use q_doors::has_ended;
 use q_held::{Losses, Lost, Unsent};
 use q_kept::laws::held_books_grow;
@@ -206,7 +206,7 @@ fn said_to_leave<J: JournalFile>(
                 Said::Refused(why_unwritten(recorder))
             }
         }
-        Err(fault) => Said::Refused(fault.reason()),
+        Err(reason) => Said::Refused(reason),
     }
 }
 
@@ -224,7 +224,7 @@ fn leave_kept<J: JournalFile>(alloc: Global, kept: &mut Kept<'_, J>) -> Left
 }
 
 /// Whether a query has no answer yet.
-fn is_open(answer: Result<Option<Ran>, DeskFault>) -> bool
+fn is_open(answer: Result<Option<Ran>, BookFault>) -> bool
     ensures { result ≡ is_open answer }
 {
     matches!(answer, Ok(None))

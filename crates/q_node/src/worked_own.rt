@@ -3,13 +3,11 @@
 ghost use Rattle.std.specs.Prelude.{◌≡◌, List, [], ◌∷◌, Option, None, Ok, Err, true, false};
 ghost use Rattle.reasons.specs.declared.Reason.TheVariants as reasons;
 ghost use Rattle.sc_msg.specs.declared.message.Message.{Message as Sent};
-ghost use Rattle.sc_node.specs.declared.fault.NodeFault.TheVariants as node_fault;
-ghost use Rattle.q_desk.specs.declared.fault.DeskFault.{DeskFault as NoAnswer};
+ghost use Rattle.reasons.specs.declared.Reason.{Reason as NoAnswer};
 ghost use Rattle.q_desk.specs.declared.journal.Entry.TheVariants as entry;
 ghost use Rattle.q_book.specs.State.{BookState};
 ghost use Rattle.q_book.specs.Books.{left};
-ghost use Rattle.q_book.specs.declared.fault.BookFault.{BookFault as Fault};
-ghost use Rattle.q_book.specs.declared.fault.BookFault.TheVariants as fault;
+ghost use Rattle.reasons.specs.declared.Reason.{Reason as Fault};
 ghost use Rattle.q_kept.specs.State.{RecorderState};
 ghost use Rattle.q_kept.specs.declared.fault.Unrecorded.TheVariants as unrecorded;
 ghost use Rattle.q_kept.specs.declared.letter.Letter.{Letter as Given};
@@ -21,7 +19,7 @@ ghost use Rattle.q_node.specs.Calls.{Finishes, IsGiven, LeavesAndSettles, is_beh
 pub fn worked()
     // A leave is done where the book took it and that is written; else why not is said.
     ensures done { (r : RecorderState) → said_to_leave (Ok (tt {0})) true r ≡ said.Done }
-    ensures refused { (r : RecorderState) → said_to_leave (Err (fault.Node node_fault.Gone)) true r ≡ said.Refused reasons.Gone }
+    ensures refused { (r : RecorderState) → said_to_leave (Err reasons.Gone) true r ≡ said.Refused reasons.Gone }
     ensures mute { (r : RecorderState) → said_to_leave (Ok (tt {0})) false (record r { broken = true }) ≡ said.Refused reasons.FileFailed }
     ensures no_memory { (r : RecorderState) → said_to_leave (Ok (tt {0})) false (record r { broken = false }) ≡ said.Refused reasons.OutOfMemory }
     ensures undone { (old new : OwnState) (letters : Option (List Given)) (f : Fault) → left old.book ≡ Err f → LeavesAndSettles old said.Done letters new → ⊥ }

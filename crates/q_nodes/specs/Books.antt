@@ -6,13 +6,12 @@ use Rattle.sc_node.specs.declared.answer.Begun.{Begun}
 use Rattle.q_session.specs.declared.ran.Ran.{Ran}
 use Rattle.q_desk.specs.Answers.{AnswersAreRight}
 use Rattle.q_desk.specs.Desks.{answer_of}
-use Rattle.q_desk.specs.declared.fault.DeskFault.{DeskFault}
+use Rattle.reasons.specs.declared.Reason.{Reason}
 use Rattle.q_book.specs.State.{BookState}
 use Rattle.q_book.specs.Books.{asked, registered, stored}
 use Rattle.q_book.specs.Replays.{IsReplay}
-use Rattle.q_book.specs.Faults.{memory}
+use Rattle.reasons.specs.declared.Reason.TheVariants.{OutOfMemory as memory}
 use Rattle.q_book.specs.declared.answer.Asked.{Asked}
-use Rattle.q_book.specs.declared.fault.BookFault.{BookFault}
 use Rattle.q_nodes.specs.declared.outcome.Outcome.{Outcome}
 use Rattle.q_nodes.specs.declared.outcome.Outcome.TheVariants as outcome
 use Rattle.q_nodes.specs.Faults.{of_fault}
@@ -36,7 +35,7 @@ pub record AreBooksOf (nodes : ℕ) (books : List BookState) : Type 0 where
 abbrev pub own_book : List BookState → ℕ → Option BookState
 own_book books node = slice_get books (node - 1)
 
-abbrev pub answer_or_none : Result (Option Ran) DeskFault → Option Ran
+abbrev pub answer_or_none : Result (Option Ran) Reason → Option Ran
 answer_or_none (Ok answer) = answer
 answer_or_none (Err f) = None
 
@@ -46,8 +45,8 @@ recorded b query = answer_or_none (answer_of b.desk query)
 
 -- what a call of a book of this node came to: it was refused with what the book refuses it with, or accepted and
 -- answered so
-abbrev pub Calls : {A : Type 0} → (A → Outcome) → ℕ → (BookState → Result (A × BookState) BookFault) → Outcome → Type 0
-Calls told node said (outcome.Refused r) = (b : BookState) × (f : BookFault) × IsBookOf node b × (r ≡ of_fault f) × (f ≢ memory → said b ≡ Err f)
+abbrev pub Calls : {A : Type 0} → (A → Outcome) → ℕ → (BookState → Result (A × BookState) Reason) → Outcome → Type 0
+Calls told node said (outcome.Refused r) = (b : BookState) × (f : Reason) × IsBookOf node b × (r ≡ of_fault f) × (f ≢ memory → said b ≡ Err f)
 Calls {A} told node said o = (b c : BookState) × (a : A) × IsBookOf node b × (said b ≡ Ok (a, c)) × (o ≡ told a)
 
 abbrev pub Registers : ℕ → Certificate → Outcome → Type 0

@@ -1,17 +1,13 @@
 //! Why nodes are not run, or a line of their script is refused.
 
 ghost use Rattle.std.specs.Prelude.{◌≡◌, Some};
-ghost use Rattle.q_nodes.specs.Faults.{bad_founders, no_such_node, of_world, place, reason, text, of_fault, memory, of_gather};
+ghost use Rattle.q_nodes.specs.Faults.{bad_founders, no_such_node, place, reason, text, of_fault, memory, of_gather};
 ghost use Rattle.q_sim.specs.Refusal.{refusal_of};
 
-use q_book::BookFault;
 use q_gather::GatherFault;
-use q_history::ClusterFault;
 use q_outside::FileFault;
 use q_sim::{Refusal, RefusalPlace};
 use reasons::{Reason, told};
-use sc_node::NodeFault;
-use sc_world::WorldFault;
 use std::alloc::AllocError;
 use std::fmt;
 
@@ -31,14 +27,14 @@ impl NodesFault {
     pub fn no_such_node() -> NodesFault
         ensures { result ≡ no_such_node }
     {
-        NodesFault::of_world(WorldFault::NoSuchNode)
+        NodesFault::from(Reason::NoSuchNode)
     }
 
     /// 49: the cluster has no founders.
     pub fn bad_founders() -> NodesFault
         ensures { result ≡ bad_founders }
     {
-        NodesFault::of_world(WorldFault::Node(NodeFault::BadFounders))
+        NodesFault::from(Reason::BadFounders)
     }
 
     /// The reason by which the refusal is told.
@@ -57,12 +53,6 @@ impl NodesFault {
             NodesFault::Script(refusal) => refusal.place(),
         }
     }
-
-    fn of_world(fault: WorldFault) -> NodesFault
-        ensures { result ≡ of_world fault }
-    {
-        NodesFault::Script(Refusal::Cluster(ClusterFault::World(fault)))
-    }
 }
 
 impl fmt::Display for NodesFault {
@@ -77,11 +67,11 @@ impl fmt::Display for NodesFault {
     }
 }
 
-impl From<BookFault> for NodesFault {
+impl From<Reason> for NodesFault {
     ghost from_gives = { λ refusal e. e ≡ of_fault refusal };
 
-    fn from(fault: BookFault) -> NodesFault {
-        NodesFault::Script(Refusal::Cluster(ClusterFault::from(fault)))
+    fn from(reason: Reason) -> NodesFault {
+        NodesFault::Script(Refusal::Cluster(reason))
     }
 }
 
@@ -109,9 +99,9 @@ impl From<GatherFault> for NodesFault {
     fn from(fault: GatherFault) -> NodesFault {
         match fault {
             GatherFault::Journal { fault, .. } => NodesFault::Script(Refusal::Journal(fault)),
-            GatherFault::IdUsed => NodesFault::of_world(WorldFault::IdUsed),
+            GatherFault::IdUsed => NodesFault::from(Reason::IdUsed),
             GatherFault::BadFounders => NodesFault::bad_founders(),
-            GatherFault::NeverSent => NodesFault::of_world(WorldFault::NeverSent),
+            GatherFault::NeverSent => NodesFault::from(Reason::NeverSent),
             GatherFault::OutOfMemory => NodesFault::Script(Refusal::OutOfMemory),
         }
     }

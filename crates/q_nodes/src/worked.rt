@@ -11,7 +11,7 @@ ghost use Rattle.q_session.specs.declared.ran.Ran.{Ran};
 ghost use Rattle.q_desk.specs.Desks.{answer_in};
 ghost use Rattle.q_book.specs.State.{BookState};
 ghost use Rattle.q_book.specs.Books.{registered, stored};
-ghost use Rattle.q_book.specs.declared.fault.BookFault.TheVariants as book;
+ghost use Rattle.reasons.specs.declared.Reason.TheVariants as reasons;
 ghost use Rattle.q_cluster.specs.Acts.{book_at};
 ghost use Rattle.q_outside.specs.declared.files.FileFault.TheVariants as file;
 ghost use Rattle.q_gather.specs.Gather.{Agree};
@@ -48,7 +48,7 @@ pub fn worked()
     ensures bad_founders { table.number (faults.reason faults.bad_founders) ≡ 49 }
     ensures out_of_memory { table.number (faults.reason faults.memory) ≡ 99 }
     ensures file_failed { table.number (faults.reason (Script refusal.FileFailed)) ≡ 87 }
-    ensures bad_value { table.number (faults.reason (faults.of_fault book.BadValue)) ≡ 50 }
+    ensures bad_value { table.number (faults.reason (faults.of_fault reasons.BadValue)) ≡ 50 }
     ensures id_used { table.number (faults.reason (faults.of_gather gather.IdUsed)) ≡ 44 }
     ensures never_sent { table.number (faults.reason (faults.of_gather gather.NeverSent)) ≡ 82 }
     ensures at_a_line { faults.place (Script (refusal.Script (script_fault.Syntax 7))) ≡ place.Line 7 }

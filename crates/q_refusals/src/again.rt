@@ -1,8 +1,6 @@
 //! Calls that are made once more where memory is refused, which is told.
 
 use q_board::OpenFault;
-use q_book::BookFault;
-use q_history::ClusterFault;
 use q_script::ScriptFault;
 use q_sim::Refusal;
 use reasons::Reason;
@@ -78,15 +76,9 @@ impl Fault for Refusal {
     }
 }
 
-impl Fault for ClusterFault {
+impl Fault for Reason {
     fn is_want(&self) -> bool {
-        self.reason() == Reason::OutOfMemory
-    }
-}
-
-impl Fault for BookFault {
-    fn is_want(&self) -> bool {
-        self.reason() == Reason::OutOfMemory
+        *self == Reason::OutOfMemory
     }
 }
 

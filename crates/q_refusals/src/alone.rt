@@ -50,13 +50,12 @@ fn counting(alloc: Global) -> Result<Program, Refusal> {
 fn print_number(rt: &HostRuntime, word: &str, number: Result<u64, BookFault>) -> io::Result<()> {
     match number {
         Ok(number) => println!(rt; "{word} {number}"),
-        Err(fault) => print_refusal(rt, fault),
+        Err(reason) => print_refusal(rt, reason),
     }
 }
 
 /// Prints why a call is refused.
-fn print_refusal(rt: &HostRuntime, fault: BookFault) -> io::Result<()> {
-    let reason = fault.reason();
+fn print_refusal(rt: &HostRuntime, reason: BookFault) -> io::Result<()> {
     println!(rt; "refused {} {}", reason.number(), reason.name())
 }
 
@@ -130,7 +129,7 @@ fn ask(rt: &HostRuntime, founder: &mut Founder, start: u64) -> io::Result<()> {
 fn hear(rt: &HostRuntime, founder: &mut Founder, message: &Message) -> io::Result<()> {
     match again!(rt, founder.hear(message)) {
         Ok(()) => Ok(()),
-        Err(fault) => print_refusal(rt, fault),
+        Err(reason) => print_refusal(rt, reason),
     }
 }
 
@@ -162,7 +161,7 @@ pub fn run_job(rt: &HostRuntime, founder: &mut Founder) -> io::Result<()> {
     };
     match again!(rt, founder.run_job(&mut block)) {
         Ok(()) => Ok(()),
-        Err(fault) => print_refusal(rt, fault),
+        Err(reason) => print_refusal(rt, reason),
     }
 }
 

@@ -17,10 +17,7 @@ const LOOKS: u32 = 8;
 pub fn pump(rt: &HostRuntime, asker: &mut Asker<'_>, founder: &mut Founder) -> io::Result<()> {
     match again!(rt, asker.pump(&mut founder.book)) {
         Ok(_) => Ok(()),
-        Err(fault) => {
-            let reason = fault.reason();
-            println!(rt; "refused {} {}", reason.number(), reason.name())
-        }
+        Err(reason) => println!(rt; "refused {} {}", reason.number(), reason.name()),
     }
 }
 

@@ -13,9 +13,9 @@ use Rattle.q_desk.specs.declared.journal.Entry.{Entry}
 use Rattle.q_desk.specs.declared.journal.Entry.TheVariants as entry
 use Rattle.q_book.specs.State.{BookState}
 use Rattle.q_book.specs.Books as book
-use Rattle.q_book.specs.Faults.{memory}
+use Rattle.reasons.specs.declared.Reason.TheVariants.{OutOfMemory as memory}
 use Rattle.q_book.specs.Replays.{Follows}
-use Rattle.q_book.specs.declared.fault.BookFault.{BookFault}
+use Rattle.reasons.specs.declared.Reason.{Reason}
 use Rattle.q_replay.specs.Spelling.{head_bytes, event_bytes, IsWritten}
 use Rattle.q_replay.specs.declared.raw_entry.RawEntry.{RawEntry}
 use Rattle.q_desk.specs.Desks.{running_job}
@@ -33,15 +33,15 @@ use Rattle.q_replay.proofs.Leading.{leads_next}
 
 -- ---- calls that are refused
 
-no_memory : (f : BookFault) → of_book f ≡ Mismatch → f ≢ memory
+no_memory : (f : Reason) → of_book f ≡ Mismatch → f ≢ memory
 no_memory f h q = let x : OutOfMemory ≡ Mismatch = sym (ap of_book q) ∙ h in absurd (cc)
 
-refused_by : (old new : BookState) (e : Entry) (f : BookFault) (x : Refusal) → of_book f ≡ x → (f ≢ memory → (c : BookState) → Follows old e c → IsAnswering old e → ⊥) → Calling old e new (Err x)
+refused_by : (old new : BookState) (e : Entry) (f : Reason) (x : Refusal) → of_book f ≡ x → (f ≢ memory → (c : BookState) → Follows old e c → IsAnswering old e → ⊥) → Calling old e new (Err x)
 refused_by old new e f Mismatch h nowhere = nowhere (no_memory f h)
 refused_by old new e f OutOfMemory h nowhere = tt
 
 -- a call that the book refuses leads nowhere
-pub refused : (old new : BookState) (e : Entry) (f : BookFault) (r : Result (Unit {0}) Refusal) → IsErrAnd r (λ x. x ≡ of_book f) → (f ≢ memory → (c : BookState) → Follows old e c → IsAnswering old e → ⊥) → Calling old e new r
+pub refused : (old new : BookState) (e : Entry) (f : Reason) (r : Result (Unit {0}) Refusal) → IsErrAnd r (λ x. x ≡ of_book f) → (f ≢ memory → (c : BookState) → Follows old e c → IsAnswering old e → ⊥) → Calling old e new r
 refused old new e f (Ok u) is nowhere = absurd is
 refused old new e f (Err x) is nowhere = refused_by old new e f x (sym is) nowhere
 
@@ -79,7 +79,7 @@ own_post b c k j r runs f =
     )
 
 -- an answer that the book refuses is recorded for no job
-pub no_post : (b : BookState) (k : ℕ) (i j : Job) (r s : Ran) (f : BookFault) → running_job b.desk b.id k ≡ Some j → i ≡ j → r ≡ s → book.posted b i r ≡ Err f → (c : BookState) → Follows b (entry.Post k s) c → ⊥
+pub no_post : (b : BookState) (k : ℕ) (i j : Job) (r s : Ran) (f : Reason) → running_job b.desk b.id k ≡ Some j → i ≡ j → r ≡ s → book.posted b i r ≡ Err f → (c : BookState) → Follows b (entry.Post k s) c → ⊥
 no_post b k i j r s f runs job ran err c follows =
     let o = own_post b c k j s runs follows in
     no_refusal f (tt, o.0) (sym err ∙ (λ t. book.posted b (job t) (ran t)) ∙ o.1)

@@ -7,13 +7,12 @@ use Rattle.sc_members.specs.Members.{Config, IsConfig}
 use Rattle.sc_msg.specs.declared.version.Version.{Version}
 use Rattle.sc_node.specs.State.{NodeState}
 use Rattle.sc_node.specs.Nodes as node
-use Rattle.sc_node.specs.declared.fault.NodeFault.{NodeFault}
+use Rattle.reasons.specs.declared.Reason.{Reason}
 use Rattle.q_desk.specs.Answers.{AnswersAreRight}
 use Rattle.q_desk.specs.declared.journal.Entry.{Entry}
 use Rattle.q_book.specs.State.{BookState}
 use Rattle.q_book.specs.Books.{new_book, founds}
 use Rattle.q_book.specs.Replays.{Replays, IsFirst}
-use Rattle.q_book.specs.declared.fault.BookFault.{BookFault}
 use Rattle.q_replay.specs.Head.{Head}
 use Rattle.q_replay.specs.Spelling.{head_bytes, event_bytes, IsHead, IsWritten}
 use Rattle.q_replay.specs.declared.raw_entry.RawEntry.{RawEntry}
@@ -39,7 +38,7 @@ record IsBegun (h : Head) (o : Option (List ℕ)) (b : BookState) : Type 0 where
   is : new_book h.version h.id h.config o node ≡ b
   first : IsFirst (new_book h.version h.id h.config o node) node o
 
-founds_is : (version : Version) (id : ℕ) (config : Config) (ids : List ℕ) (r : Result NodeState NodeFault) (b : BookState) → founds version id config ids r ≡ Ok b → (n : NodeState) × (r ≡ Ok n) × (new_book version id config (Some ids) n ≡ b)
+founds_is : (version : Version) (id : ℕ) (config : Config) (ids : List ℕ) (r : Result NodeState Reason) (b : BookState) → founds version id config ids r ≡ Ok b → (n : NodeState) × (r ≡ Ok n) × (new_book version id config (Some ids) n ≡ b)
 founds_is version id config ids (Ok n) b h = (n, refl, same_answer {A = BookState} _ b h)
 founds_is version id config ids (Err e) b h = absurd (no_refusal _ b h)
 
@@ -181,7 +180,7 @@ end_stops b o = no_event b.version o.event o.more o.parts
 
 begun_by : (b : BookState) (o : Option (List ℕ)) (n : NodeState) → IsFirst b n o → begun (head_of b) o ≡ Ok (new_book b.version b.id b.config o n)
 begun_by b (Some ids) n f = ap (founds b.version b.id b.config ids) f
-begun_by b None n f = ap (λ (m : NodeState). let r : Result BookState BookFault = Ok (new_book b.version b.id b.config None m) in r) (sym f)
+begun_by b None n f = ap (λ (m : NodeState). let r : Result BookState Reason = Ok (new_book b.version b.id b.config None m) in r) (sym f)
 
 takes_all : (version : Version) (es : List Entry) (s b : BookState) → s.version ≡ version → Replays s es b → AnswersAreRight b.desk → AllByRecursion (IsEntry version) es → TakesAll s (map written_of es) b
 takes_all version [] s b own r right a = r

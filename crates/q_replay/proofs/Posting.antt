@@ -10,8 +10,8 @@ use Rattle.q_session.specs.declared.job.Job.{Job}
 use Rattle.q_desk.specs.State.{DeskState}
 use Rattle.q_desk.specs.Desks as desk
 use Rattle.q_desk.specs.Desks.{running_view, job_on, job_at, running_job}
-use Rattle.q_desk.specs.declared.fault.DeskFault.{DeskFault}
-use Rattle.q_desk.specs.declared.fault.DeskFault.TheVariants as fault
+use Rattle.reasons.specs.declared.Reason.{Reason}
+use Rattle.reasons.specs.declared.Reason.TheVariants as reasons
 use Rattle.std.specs.Cmp.{second_so}
 use Rattle.forms.proofs.Calls.{tested_pass}
 use Rattle.q_desk.proofs.Accepted.{answered, IsPosted}
@@ -74,7 +74,7 @@ same_program : (c : Certificate) → desk.is_same_program c (Some c) ≡ true
 same_program c = and_both (is_same_text c.text c.text) _ (same_bytes (spelling c.text)) (same_number c.longest)
 
 abbrev Outcome : Type 0
-Outcome = Result (Unit {0} × DeskState) DeskFault
+Outcome = Result (Unit {0} × DeskState) Reason
 
 -- where there is room, the answer of a query that runs is recorded, as that of its own job
 pub own_posts : (d : DeskState) (node k : ℕ) (j : Job) (ran : Ran) → Runs d node k j → desk.has_room d ≡ true → (e : DeskState) × (desk.posted d node j ran ≡ Ok (tt, e))
@@ -84,9 +84,9 @@ own_posts d node k j ran r room =
     let fits = own_fits d.programs node k r.query r.view r.program r.named (same_program r.program) in
     let said : Outcome = Ok (tt, after) in
     let own : desk.posted d node made ran ≡ Ok (tt, after) =
-    tested_pass ((node == node, fault.Stranger) ∷ []) (desk.posted_at d made ran (slice_get d.queries k)) (same_number node, tt)
+    tested_pass ((node == node, reasons.Stranger) ∷ []) (desk.posted_at d made ran (slice_get d.queries k)) (same_number node, tt)
     ∙ ap (desk.posted_at d made ran) r.at ∙ ap (desk.posted_to d made ran r.query) r.phase
-    ∙ tested_pass ((desk.is_job_of d.programs made r.query r.view, fault.Stranger) ∷ desk.room d) said (fits, (room, tt)) in
+    ∙ tested_pass ((desk.is_job_of d.programs made r.query r.view, reasons.Stranger) ∷ desk.room d) said (fits, (room, tt)) in
     (after, subst (λ (i : Job). desk.posted d node i ran ≡ Ok (tt, after)) r.is own)
 
 -- the query's answer, once it is recorded

@@ -11,7 +11,7 @@ use Rattle.q_desk.specs.declared.journal.Entry.TheVariants as entry
 use Rattle.q_book.specs.State.{BookState}
 use Rattle.q_book.specs.Books.{founded, entered}
 use Rattle.q_book.specs.Replays.{Follows}
-use Rattle.q_book.specs.declared.fault.BookFault.{BookFault}
+use Rattle.reasons.specs.declared.Reason.{Reason}
 use Rattle.q_replay.specs.Head.{Head}
 use Rattle.q_replay.specs.Spelling.{head_bytes, event_bytes, IsHead, IsWritten}
 use Rattle.q_replay.specs.declared.raw_entry.RawEntry.{RawEntry}
@@ -22,7 +22,7 @@ use Rattle.q_replay.specs.declared.fault.ReplayFault.TheVariants.{Form, Mismatch
 -- ---- one event
 
 -- the book of that version of a node that so began, before any event
-abbrev pub begun : Head → Option (List ℕ) → Result BookState BookFault
+abbrev pub begun : Head → Option (List ℕ) → Result BookState Reason
 begun h (Some ids) = founded h.version h.config h.id ids
 begun h None = Ok (entered h.version h.config h.id).0
 

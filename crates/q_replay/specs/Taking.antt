@@ -2,20 +2,19 @@
 use Rattle.std.specs.Prelude.{Result, Ok, Err}
 use Rattle.bq_check.specs.declared.fault.CheckFault.{CheckFault}
 use Rattle.bq_check.specs.declared.fault.CheckFault.TheVariants as check_fault
-use Rattle.sc_node.specs.declared.fault.NodeFault.TheVariants as node_fault
+use Rattle.reasons.specs.declared.Reason.TheVariants as reasons
 use Rattle.q_desk.specs.declared.journal.Entry.{Entry}
 use Rattle.q_book.specs.State.{BookState}
 use Rattle.q_book.specs.Replays.{Follows}
-use Rattle.q_book.specs.declared.fault.BookFault.{BookFault}
-use Rattle.q_book.specs.declared.fault.BookFault.TheVariants as book_fault
+use Rattle.reasons.specs.declared.Reason.{Reason}
 use Rattle.q_replay.specs.Head.{Head}
 use Rattle.q_replay.specs.declared.raw_entry.RawEntry.{RawEntry}
 use Rattle.q_replay.specs.Replayed.{IsAnswering, Begins, Takes}
 use Rattle.q_replay.specs.declared.refusal.Refusal.{Refusal}
 use Rattle.q_replay.specs.declared.refusal.Refusal.TheVariants.{Mismatch, OutOfMemory}
 
-abbrev pub of_book : BookFault → Refusal
-of_book (book_fault.Node node_fault.OutOfMemory) = OutOfMemory
+abbrev pub of_book : Reason → Refusal
+of_book reasons.OutOfMemory = OutOfMemory
 of_book f = Mismatch
 
 abbrev pub of_check : CheckFault → Refusal

@@ -7,7 +7,6 @@ use bq_check::CheckFault;
 use q_book::BookFault;
 use reasons::passed_on;
 use sc_members::BadFraction;
-use sc_node::NodeFault;
 use std::alloc::{AllocError, AllocFailed};
 
 /// Why an event is not taken, or no book begins with a head.
@@ -24,7 +23,7 @@ impl From<BookFault> for Refusal {
 
     fn from(fault: BookFault) -> Refusal {
         match fault {
-            BookFault::Node(NodeFault::OutOfMemory) => Refusal::OutOfMemory,
+            BookFault::OutOfMemory => Refusal::OutOfMemory,
             _ => Refusal::Mismatch,
         }
     }

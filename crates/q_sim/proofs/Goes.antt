@@ -19,11 +19,10 @@ use Rattle.q_session.specs.declared.job.Job.{Job}
 use Rattle.q_session.specs.declared.ran.Ran.{Ran}
 use Rattle.q_book.specs.State.{BookState}
 use Rattle.q_book.specs.Books as book
-use Rattle.q_book.specs.declared.fault.BookFault.{BookFault}
+use Rattle.reasons.specs.declared.Reason.{Reason}
 use Rattle.q_history.specs.declared.event.ClusterEvent.{ClusterEvent}
 use Rattle.q_history.specs.declared.event.ClusterEvent.TheVariants as event
 use Rattle.q_history.specs.declared.event.ClusterStep.{ClusterStep}
-use Rattle.q_history.specs.declared.fault.ClusterFault.{ClusterFault}
 use Rattle.q_history.specs.State.{ClusterState}
 use Rattle.q_history.specs.Clusters.{lift, opened, registers, asks, stores, delivers, delivered_as, delivered, hands, posts, finished, leaves, crashed, stepped, at as at_node}
 use Rattle.q_history.specs.Heads.{book_of}
@@ -68,7 +67,7 @@ crash_goes c id (Some m) y h = subst (λ (z : ClusterStep × ClusterState). Goes
     stays n l = not_stopped (n == id) (set.contains c.world.crashed n) (fin.get c.world.nodes n) (subst (λ (b : Bool). IsSome (live b (fin.get c.world.nodes n))) (contains-insert c.world.crashed id n) l)
 
 -- the book of a live node accepted a call
-call_goes : {A : Type 0} (c : ClusterState) (id : ℕ) (next : A → BookState → ClusterStep × ClusterState) (call : BookState → Result (A × BookState) BookFault) (y : ClusterStep × ClusterState)
+call_goes : {A : Type 0} (c : ClusterState) (id : ℕ) (next : A → BookState → ClusterStep × ClusterState) (call : BookState → Result (A × BookState) Reason) (y : ClusterStep × ClusterState)
     → ((m : NodeState) → live_at c.world id ≡ Some m → (a : A) (b : BookState) → Goes c.world (next a b).1.world) → at_node c id (λ b. lift next (call b)) ≡ Ok y → Goes c.world y.1.world
 call_goes c id next call y goes h =
     let k = call-ok c id next call y h in
@@ -116,10 +115,10 @@ pub goes_itself : (w : WorldState) → Goes w w
 goes_itself w = record { live = λ n h. h; sent = omega arith }
 
 -- an event that is refused
-pub refused_goes : (c d : ClusterState) (e : ClusterEvent) (f : ClusterFault) → Takes c e d (Err f) → Goes c.world d.world
+pub refused_goes : (c d : ClusterState) (e : ClusterEvent) (f : Reason) → Takes c e d (Err f) → Goes c.world d.world
 refused_goes c d e f h = subst (λ (x : ClusterState). Goes c.world x.world) (sym h.0) (goes_itself c.world)
 
 -- an event that is taken or refused
-pub takes_goes : (c d : ClusterState) (e : ClusterEvent) (r : Result ClusterStep ClusterFault) → IsNoEnter e → Takes c e d r → Goes c.world d.world
+pub takes_goes : (c d : ClusterState) (e : ClusterEvent) (r : Result ClusterStep Reason) → IsNoEnter e → Takes c e d r → Goes c.world d.world
 takes_goes c d e (Ok told) other h = event_goes c h.ran e (told, d) other h.stepped
 takes_goes c d e (Err f) other h = refused_goes c d e f h

@@ -3,7 +3,7 @@ use Rattle.std.proofs.Common.{◌≡◌, inl, inr, ℕ, zero, suc, true, List, [
 use Rattle.sc_members.specs.Members.{Config}
 use Rattle.sc_msg.specs.declared.version.Version.{Version}
 use Rattle.sc_world.specs.State.{WorldState}
-use Rattle.sc_world.specs.declared.fault.WorldFault.{WorldFault}
+use Rattle.reasons.specs.declared.Reason.{Reason}
 use Rattle.sc_world.proofs.Inverts.{no_refusal, same_answer}
 use Rattle.q_book.specs.State.{BookState}
 use Rattle.q_script.specs.declared.line.ScriptLine.{ScriptLine}
@@ -11,7 +11,6 @@ use Rattle.q_script.specs.declared.line.ScriptLine.TheVariants.{Program, Store, 
 use Rattle.q_history.specs.declared.event.ClusterEvent.{ClusterEvent}
 use Rattle.q_history.specs.declared.event.ClusterEvent.TheVariants as event
 use Rattle.q_history.specs.declared.event.ClusterStep.{ClusterStep}
-use Rattle.q_history.specs.declared.fault.ClusterFault.{ClusterFault}
 use Rattle.q_history.specs.State.{ClusterState}
 use Rattle.q_history.specs.Calls.{Reaches, Takes}
 use Rattle.q_history.specs.Clusters.{founded, start}
@@ -36,7 +35,7 @@ pub leads_on : (a b c : ClusterState) → Leads a b → Leads b c → Leads a c
 leads_on a b c h k = (h.0 ++ k.0, reaches_on h.0 k.0 a b c h.1 k.1)
 
 -- an event that is taken or refused
-takes_leads : (c d : ClusterState) (e : ClusterEvent) (r : Result ClusterStep ClusterFault) → Takes c e d r → Leads c d
+takes_leads : (c d : ClusterState) (e : ClusterEvent) (r : Result ClusterStep Reason) → Takes c e d r → Leads c d
 takes_leads c d e (Ok told) h = (e ∷ [], (told, d, h, refl))
 takes_leads c d e (Err f) h = subst (Leads c) (sym h.0) (leads_itself c)
 
@@ -65,7 +64,7 @@ led_next s = record { leads = leads_itself s.cluster; refused = λ h. h }
 led_on : (s t u : SimState) → IsLed s t → IsLed t u → IsLed s u
 led_on s t u h k = record { leads = leads_on s.cluster t.cluster u.cluster h.leads k.leads; refused = λ told. k.refused (h.refused told) }
 
-still_refused : (line : ℕ) (r : Result ClusterStep ClusterFault) (faults : List RefusedLine) → is_any faults ≡ true → is_any (or_refused line r faults) ≡ true
+still_refused : (line : ℕ) (r : Result ClusterStep Reason) (faults : List RefusedLine) → is_any faults ≡ true → is_any (or_refused line r faults) ≡ true
 still_refused line (Ok told) faults h = h
 still_refused line (Err f) faults h = any_with faults line (Cluster f)
 
@@ -115,6 +114,6 @@ plays_led writes [] s before text t after p = led_itself s t p.0
 plays_led writes (l ∷ ls) s before text t after p = led_on s p.0 t (led_on s (at_next_line s) p.0 (led_next s) (does_led writes l (at_next_line s) before p.2 p.0 p.1 p.4)) (plays_led writes ls p.0 p.1 p.3 t after p.5)
 
 -- founders that are not refused are those of the first cluster
-pub founded_is : (version : Version) (config : Config) (ids : List ℕ) (r : Result WorldState WorldFault) (c : ClusterState) → founded version config ids r ≡ Ok c → start version config ids ≡ c
+pub founded_is : (version : Version) (config : Config) (ids : List ℕ) (r : Result WorldState Reason) (c : ClusterState) → founded version config ids r ≡ Ok c → start version config ids ≡ c
 founded_is version config ids (Ok w) c h = same_answer _ c h
 founded_is version config ids (Err e) c h = absurd (no_refusal _ c h)

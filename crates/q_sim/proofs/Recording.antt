@@ -13,7 +13,7 @@ use Rattle.q_desk.specs.Desks as desks
 use Rattle.q_desk.proofs.Accepted.{answered as with_answer, posted_is}
 use Rattle.q_book.specs.State.{BookState}
 use Rattle.q_book.specs.Books as book
-use Rattle.q_book.specs.declared.fault.BookFault.{BookFault}
+use Rattle.reasons.specs.declared.Reason.{Reason}
 use Rattle.q_book.proofs.Parts.{desk-parts}
 use Rattle.q_history.specs.declared.event.ClusterStep.{ClusterStep}
 use Rattle.q_history.specs.declared.event.EventAnswer.TheVariants as told
@@ -36,7 +36,7 @@ pub record IsRecorded (stepped : ClusterStep) (c : ClusterState) : Type 0 where
   pub number : slice_get desk.queries query ≡ Some asked
   pub answered : asked.phase ≡ Answered view ran
 
-lift-ok : {A : Type 0} (next : A → BookState → ClusterStep × ClusterState) (r : Result (A × BookState) BookFault) (y : ClusterStep × ClusterState) → lift next r ≡ Ok y
+lift-ok : {A : Type 0} (next : A → BookState → ClusterStep × ClusterState) (r : Result (A × BookState) Reason) (y : ClusterStep × ClusterState) → lift next r ≡ Ok y
     → (a : A × BookState) × (r ≡ Ok a) × (next a.0 a.1 ≡ y)
 lift-ok next (Ok a) y h = (a, refl, same_answer _ y h)
 lift-ok next (Err e) y h = absurd (no_refusal _ y h)

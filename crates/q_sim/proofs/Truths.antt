@@ -12,7 +12,7 @@ use Rattle.q_history.specs.declared.event.ClusterEvent.TheVariants as event
 use Rattle.q_history.specs.declared.event.ClusterStep.{ClusterStep}
 use Rattle.q_history.specs.declared.event.EventAnswer.{EventAnswer}
 use Rattle.q_history.specs.declared.event.EventAnswer.TheVariants as told
-use Rattle.q_history.specs.declared.fault.ClusterFault.{ClusterFault}
+use Rattle.reasons.specs.declared.Reason.{Reason}
 use Rattle.q_history.specs.State.{ClusterState}
 use Rattle.q_history.specs.Calls.{Reaches, Takes}
 use Rattle.q_history.specs.Clusters.{start}
@@ -49,8 +49,8 @@ module _ (last : ClusterState) (answers : AnswersAreTrue last) where
         is_true = answers r.node r.query kept.0 r.asked r.view r.ran kept.1 kept.2 r.answered;
       }
 
-  ran_true : (c d : ClusterState) (job : ℕ) (text : List ℕ) (refused : Bool) (r : Result ClusterStep ClusterFault) → Takes c (event.Finish job) d r → AnswersStay d last
-      → ((f : ClusterFault) → r ≡ Err f → refused ≡ true) → text ≡ printed d r → IsTrueLine last refused (Run job) text
+  ran_true : (c d : ClusterState) (job : ℕ) (text : List ℕ) (refused : Bool) (r : Result ClusterStep Reason) → Takes c (event.Finish job) d r → AnswersStay d last
+      → ((f : Reason) → r ≡ Err f → refused ≡ true) → text ≡ printed d r → IsTrueLine last refused (Run job) text
   ran_true c d job text refused (Err f) h stays told is = inr (f, is, told f refl)
   ran_true c d job text refused (Ok stepped) h stays told is = inl (recorded_true d stepped text (finish_recorded c h.ran (slice_get c.jobs job) (stepped, d) h.stepped) stays is)
 
@@ -61,7 +61,7 @@ module _ (first : ClusterState) (last : SimState) (stays : (c : ClusterState) �
   line_true writes (Run job) s before text t after h k d =
       let road = leads_on first s.cluster t.cluster h (acts_led (event.Finish job) s text t d.0).leads in
       ran_true last.cluster answers s.cluster t.cluster job text (is_any last.faults) d.0.result d.0.takes (stays t.cluster road k.leads)
-      (λ f is. k.refused (ap is_any (d.0.faults ∙ ap (λ (r : Result ClusterStep ClusterFault). or_refused s.line r s.faults) is) ∙ any_with s.faults s.line (Cluster f))) d.0.says
+      (λ f is. k.refused (ap is_any (d.0.faults ∙ ap (λ (r : Result ClusterStep Reason). or_refused s.line r s.faults) is) ∙ any_with s.faults s.line (Cluster f))) d.0.says
   line_true writes l s before text t after h k d = tt
 
   lines_true : {F : Type 0} (writes : Writing F) (ls : List ScriptLine) (s : SimState) (before : F) (text : List ℕ) (after : F) → Leads first s.cluster → Plays writes ls s before text last after

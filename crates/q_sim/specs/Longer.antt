@@ -5,8 +5,8 @@ use Rattle.q_session.specs.declared.ran.Ran.{Ran}
 use Rattle.q_history.specs.Clusters.{stepped}
 use Rattle.q_history.specs.State.{ClusterState}
 use Rattle.q_history.specs.declared.event.ClusterEvent.TheVariants as event
-use Rattle.q_history.specs.declared.fault.ClusterFault.{ClusterFault}
+use Rattle.reasons.specs.declared.Reason.{Reason}
 
 -- the cluster refuses each of them so at this node
-abbrev pub RefusesLonger : ClusterState → ℕ → ClusterFault → Type 0
+abbrev pub RefusesLonger : ClusterState → ℕ → Reason → Type 0
 RefusesLonger c node f = (value : List ℕ) (ran : Ran) → most_bytes < length value → stepped ran c (event.Store node value) ≡ Err f

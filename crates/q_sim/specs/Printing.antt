@@ -13,7 +13,7 @@ use Rattle.q_history.specs.declared.event.Handed.{Handed}
 use Rattle.q_history.specs.declared.event.EventAnswer.{EventAnswer}
 use Rattle.q_history.specs.declared.event.EventAnswer.TheVariants as told
 use Rattle.q_history.specs.declared.event.ClusterStep.{ClusterStep}
-use Rattle.q_history.specs.declared.fault.ClusterFault.{ClusterFault}
+use Rattle.reasons.specs.declared.Reason.{Reason}
 use Rattle.q_history.specs.State.{ClusterState}
 use Rattle.q_sim.specs.declared.refusal.Refusal.TheVariants.{Cluster}
 use Rattle.q_sim.specs.Refusal.{refusal_line}
@@ -58,7 +58,7 @@ message_lines sent first zero = []
 message_lines sent first (suc count) = message_line sent first ++ message_lines sent (suc first) count
 
 -- what is printed of an event that led to this cluster: what it told and its messages, or its refusal
-abbrev pub printed : ClusterState → Result ClusterStep ClusterFault → List ℕ
+abbrev pub printed : ClusterState → Result ClusterStep Reason → List ℕ
 printed c (Ok stepped) = told_lines stepped.told ++ message_lines c.world.sent stepped.sent.first stepped.sent.count
 printed c (Err f) = refusal_line (Cluster f)
 

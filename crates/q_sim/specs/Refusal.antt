@@ -13,7 +13,6 @@ use Rattle.q_script.specs.Records as records
 use Rattle.q_script.specs.declared.records.RecordsFault.TheVariants as records_fault
 use Rattle.q_script.specs.Script as script
 use Rattle.q_script.specs.declared.script.ScriptFault.TheVariants as script_fault
-use Rattle.q_history.specs.Faults as cluster
 use Rattle.q_replay.specs.Faults as journal
 use Rattle.q_outside.specs.declared.files.FileFault.{FileFault}
 use Rattle.q_outside.specs.declared.files.FileFault.TheVariants as file_fault
@@ -31,7 +30,7 @@ reason (Records (records_fault.Line line f)) = records.reason f
 reason (Records records_fault.OutOfMemory) = reasons.OutOfMemory
 reason (Script f) = script.reason f
 reason (Fraction f) = reasons.BadFraction
-reason (Cluster f) = cluster.reason f
+reason (Cluster f) = f
 reason (Journal f) = journal.reason f
 reason OutOfMemory = reasons.OutOfMemory
 

@@ -7,7 +7,7 @@ use Rattle.bq_check.specs.Certificate.{Certificate}
 use Rattle.sc_members.specs.Members.{Config, IsFraction}
 use Rattle.sc_msg.specs.declared.version.Version.TheVariants.{Second}
 use Rattle.sc_world.specs.Worlds.{live_at}
-use Rattle.sc_world.specs.declared.fault.WorldFault.TheVariants as world_fault
+use Rattle.reasons.specs.declared.Reason.TheVariants as reasons
 use Rattle.q_book.specs.State.{BookState}
 use Rattle.q_script.specs.declared.founding.Founding.{Founding}
 use Rattle.q_script.specs.declared.line.ScriptLine.{ScriptLine}
@@ -16,9 +16,8 @@ use Rattle.q_script.specs.declared.script.Script.{Script}
 use Rattle.q_history.specs.declared.event.ClusterEvent.{ClusterEvent}
 use Rattle.q_history.specs.declared.event.ClusterEvent.TheVariants as event
 use Rattle.q_history.specs.declared.event.ClusterStep.{ClusterStep}
-use Rattle.q_history.specs.declared.fault.ClusterFault.{ClusterFault}
-use Rattle.q_history.specs.declared.fault.ClusterFault.TheVariants as cluster_fault
-use Rattle.q_history.specs.Faults.{memory}
+use Rattle.reasons.specs.declared.Reason.{Reason}
+use Rattle.reasons.specs.declared.Reason.TheVariants.{OutOfMemory as memory}
 use Rattle.q_history.specs.State.{ClusterState}
 use Rattle.q_history.specs.Clusters.{started}
 use Rattle.q_history.specs.Calls.{Takes}
@@ -74,23 +73,23 @@ at_next_line s = record s { line = s.line + 1 }
 -- ---- one event
 
 -- the id of a node that came is put among the others
-abbrev pub joined : ClusterEvent → Result ClusterStep ClusterFault → List ℕ → List ℕ
+abbrev pub joined : ClusterEvent → Result ClusterStep Reason → List ℕ → List ℕ
 joined (event.Enter id) (Ok told) ids = with_id id ids
 joined e r ids = ids
 
 -- an accepted delivery is noted
-abbrev pub noted : ClusterEvent → Result ClusterStep ClusterFault → Deliveries → Deliveries
+abbrev pub noted : ClusterEvent → Result ClusterStep Reason → Deliveries → Deliveries
 noted (event.Deliver message node) (Ok told) d = set.insert d (message, node)
 noted e r d = d
 
 -- where the event is refused, so is the line
-abbrev pub or_refused : ℕ → Result ClusterStep ClusterFault → List RefusedLine → List RefusedLine
+abbrev pub or_refused : ℕ → Result ClusterStep Reason → List RefusedLine → List RefusedLine
 or_refused line (Ok told) faults = faults
 or_refused line (Err f) faults = with_fault line (refusal.Cluster f) faults
 
 -- the event is taken or refused, and that is printed: a store of more bytes than a value has is one, and is refused
 pub record Acts (e : ClusterEvent) (s : SimState) (text : List ℕ) (t : SimState) : Type 0 where
-  pub result : Result ClusterStep ClusterFault
+  pub result : Result ClusterStep Reason
   pub takes : Takes s.cluster e t.cluster result
   pub nodes : t.nodes ≡ joined e result s.nodes
   pub delivered : t.delivered ≡ noted e result s.delivered
@@ -122,7 +121,7 @@ pub record IsNext (s : SimState) (message node : ℕ) : Type 0 where
 
 -- The delivery is taken or refused, but not for want of memory, and not tried again. No line is refused by it.
 pub record Tries (s : SimState) (message node : ℕ) (t : SimState) : Type 0 where
-  pub result : Result ClusterStep ClusterFault
+  pub result : Result ClusterStep Reason
   pub takes : Takes s.cluster (event.Deliver message node) t.cluster result
   pub answered : result ≢ Err memory
   pub nodes : t.nodes ≡ s.nodes
@@ -164,7 +163,7 @@ Writing F = F → List ℕ → List ℕ → Result (Unit {0}) FileFault → F �
 
 -- there never was such a node
 abbrev pub no_such_node : Refusal
-no_such_node = refusal.Cluster (cluster_fault.World world_fault.NoSuchNode)
+no_such_node = refusal.Cluster reasons.NoSuchNode
 
 module _ {F : Type 0} (writes : Writing F) where
   -- The journal of this book is written under this name, and the number of its events is printed; or the file fails: so

@@ -11,7 +11,7 @@ use Rattle.q_script.specs.declared.line.ScriptLine.TheVariants.{Run}
 use Rattle.q_history.specs.Headline as headline
 use Rattle.q_history.specs.State.{ClusterState}
 use Rattle.q_history.specs.declared.event.EventAnswer.TheVariants as told
-use Rattle.q_history.specs.declared.fault.ClusterFault.{ClusterFault}
+use Rattle.reasons.specs.declared.Reason.{Reason}
 use Rattle.q_sim.specs.declared.refusal.Refusal.TheVariants.{Cluster}
 use Rattle.q_sim.specs.Printing.{told_lines}
 use Rattle.q_sim.specs.Refusal.{refusal_line}
@@ -33,7 +33,7 @@ pub record IsTrueAnswer (c : ClusterState) (text : List ℕ) : Type 0 where
 -- What a line of a script printed, where it is told whether a line was refused: a `run` line the line of a true answer,
 -- or its refusal, and that is told.
 abbrev pub IsTrueLine : ClusterState → Bool → ScriptLine → List ℕ → Type 0
-IsTrueLine c refused (Run job) text = IsTrueAnswer c text ⊎ ((f : ClusterFault) × (text ≡ refusal_line (Cluster f)) × (refused ≡ true))
+IsTrueLine c refused (Run job) text = IsTrueAnswer c text ⊎ ((f : Reason) × (text ≡ refusal_line (Cluster f)) × (refused ≡ true))
 IsTrueLine c refused line text = Unit {0}
 
 -- the text is what these lines printed, one after the other

@@ -94,7 +94,7 @@ impl Refusal {
             Refusal::Records(RecordsFault::Line { fault, .. }) => fault.reason(),
             Refusal::Script(fault) => fault.reason(),
             Refusal::Fraction(fault) => fault.reason(),
-            Refusal::Cluster(fault) => fault.reason(),
+            Refusal::Cluster(reason) => reason,
             Refusal::Journal(fault) => fault.reason(),
             Refusal::Records(RecordsFault::OutOfMemory) | Refusal::OutOfMemory => {
                 Reason::OutOfMemory

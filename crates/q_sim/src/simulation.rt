@@ -17,9 +17,7 @@ use q_script::{Founding, Script, ScriptLine};
 use q_table::ProgramId;
 use reasons::Reason;
 use sc_members::Config;
-use sc_node::NodeFault;
 use sc_view::Value;
-use sc_world::WorldFault;
 use std::alloc::{AllocError, Global};
 
 /// A cluster that a script runs, and what the script printed.
@@ -247,13 +245,13 @@ impl Simulation {
         ensures { RefusesLonger self.now.cluster node result }
     {
         let Some(book) = self.cluster.book(node) else {
-            return ClusterFault::World(WorldFault::NoSuchNode);
+            return ClusterFault::NoSuchNode;
         };
         if !self.cluster.is_live(node) {
-            return ClusterFault::World(WorldFault::NoSuchNode);
+            return ClusterFault::NoSuchNode;
         }
         if !book.node().has_joined() {
-            return ClusterFault::World(WorldFault::Node(NodeFault::NotJoined));
+            return ClusterFault::NotJoined;
         }
         ClusterFault::BadValue
     }
@@ -354,10 +352,8 @@ impl Simulation {
         ensures silent { OnOk result (self.new.lines ≡ self.old.lines) }
     {
         let answer = self.cluster.step(&ClusterEvent::Deliver { message, node });
-        if let Err(fault) = answer {
-            if let Reason::OutOfMemory = fault.reason() {
-                return Ok(false);
-            }
+        if let Err(Reason::OutOfMemory) = answer {
+            return Ok(false);
         }
         self.delivered.insert(message, node)?;
         Ok(true)
@@ -383,7 +379,7 @@ impl Simulation {
         ensures { OnOk result (PrintsOver (Saves F.write_gives node name.now) self.old files.old self.new files.new) }
     {
         let Some(book) = self.cluster.book(node) else {
-            let unknown = ClusterFault::World(WorldFault::NoSuchNode);
+            let unknown = ClusterFault::NoSuchNode;
             return self.refuse(&Refusal::Cluster(unknown));
         };
         let events = book.events();

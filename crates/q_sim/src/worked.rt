@@ -11,11 +11,11 @@ ghost use Rattle.q_cluster.specs.Acts.{book_at};
 ghost use Rattle.q_outside.specs.Memory.{Writes, fails_next};
 ghost use Rattle.q_outside.specs.declared.memory_files.MemoryFiles.{MemoryFiles as Memory};
 ghost use Rattle.q_history.specs.Calls.{Takes};
-ghost use Rattle.q_history.specs.Faults.{memory};
+ghost use Rattle.reasons.specs.declared.Reason.TheVariants.{OutOfMemory as memory};
 ghost use Rattle.q_history.specs.State.{ClusterState};
 ghost use Rattle.q_history.specs.declared.event.ClusterEvent.TheVariants as event;
 ghost use Rattle.q_history.specs.declared.event.EventAnswer.TheVariants as told;
-ghost use Rattle.q_history.specs.declared.fault.ClusterFault.TheVariants as cluster_fault;
+ghost use Rattle.reasons.specs.declared.Reason.TheVariants as reasons;
 ghost use Rattle.q_script.specs.declared.line.ScriptLine.TheVariants as line;
 ghost use Rattle.q_script.specs.declared.founding.Founding.{Founding};
 ghost use Rattle.q_sim.specs.Delivered.{Deliveries};
@@ -52,7 +52,7 @@ pub fn worked()
 
     // Which lines were refused: a refused event's is one, and no delivery that `all` tries is. The first event of a
     // script is on line 2.
-    ensures refused_event { or_refused 7 (Err cluster_fault.NoSuchJob) [] ≡ (record { line = 7; refusal = refused.Cluster cluster_fault.NoSuchJob }) ∷ [] }
+    ensures refused_event { or_refused 7 (Err reasons.NoSuchJob) [] ≡ (record { line = 7; refusal = refused.Cluster reasons.NoSuchJob }) ∷ [] }
     ensures refused_delivery { (s t : SimState) (h : Tries s 7 3 t) → t.faults ≡ s.faults }
     ensures first_event { (f : Founding) (s : SimState) → Begins f s → (at_next_line s).line ≡ 2 }
 

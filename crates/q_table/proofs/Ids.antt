@@ -11,7 +11,7 @@ use Rattle.std.specs.Str.{bytes_eq}
 use Rattle.bq_insn.specs.declared.insn.Insn.{Insn}
 use Rattle.bq_insn.specs.Slots.{spelling}
 use Rattle.bq_check.specs.Certificate.{Certificate}
-use Rattle.q_table.specs.declared.fault.TableFault.TheVariants as fault
+use Rattle.reasons.specs.declared.Reason.TheVariants as reasons
 use Rattle.q_table.specs.Programs.{is_same_text, id_of, registered, checked, checked_by, AreSpelled, IsTable}
 
 abbrev pub Entries : Type 0
@@ -50,7 +50,7 @@ count-is es programs is = ap length (sym is) ∙ length-map es _
 pub registered-there : (programs : List Certificate) (c : Certificate) (id : ℕ) → id_of programs c.text ≡ Some id → registered programs c ≡ Ok (id, programs)
 registered-there programs c id there = rw there
 
-pub registered-full : (programs : List Certificate) (c : Certificate) → id_of programs c.text ≡ None → 1024 ≤ length programs → registered programs c ≡ Err fault.Full
+pub registered-full : (programs : List Certificate) (c : Certificate) → id_of programs c.text ≡ None → 1024 ≤ length programs → registered programs c ≡ Err reasons.TableFull
 registered-full programs c absent full = rw (absent, le-ltb _ _ full)
 
 pub registered-new : (programs : List Certificate) (c : Certificate) → id_of programs c.text ≡ None → length programs < 1024 → registered programs c ≡ Ok (length programs, programs ++ c ∷ [])
@@ -60,7 +60,7 @@ pub none-from : {A : Type 0} (r : Option A) → is_some r ≡ false → r ≡ No
 none-from None e = refl
 none-from (Some i) e = absurd (both_ways true e refl)
 
-pub checked-full : (programs : List Certificate) (c : Certificate) (r : Option ℕ) → id_of programs c.text ≡ r → is_some r ≡ false → 1024 ≤ length programs → checked programs c ≡ Err fault.Full
+pub checked-full : (programs : List Certificate) (c : Certificate) (r : Option ℕ) → id_of programs c.text ≡ r → is_some r ≡ false → 1024 ≤ length programs → checked programs c ≡ Err reasons.TableFull
 checked-full programs c r at none full = ap checked_by (registered-full programs c (at ∙ none-from r none) full)
 
 pub checked-new : (programs : List Certificate) (c : Certificate) (r : Option ℕ) → id_of programs c.text ≡ r → is_some r ≡ false → length programs < 1024 → checked programs c ≡ Ok tt

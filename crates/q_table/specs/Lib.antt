@@ -1,3 +1,2 @@
 -- The programs of a desk, and what refuses one more.
 pub mod Programs
-pub mod Faults

@@ -4,8 +4,8 @@ use Rattle.std.specs.List.{AllByRecursion}
 use Rattle.bq_insn.specs.declared.insn.Insn.{Insn}
 use Rattle.bq_insn.specs.Slots.{spelling}
 use Rattle.bq_check.specs.Certificate.{Certificate}
-use Rattle.q_table.specs.declared.fault.TableFault.{TableFault}
-use Rattle.q_table.specs.declared.fault.TableFault.TheVariants as fault
+use Rattle.reasons.specs.declared.Reason.{Reason}
+use Rattle.reasons.specs.declared.Reason.TheVariants as reasons
 
 -- at most so many programs
 abbrev pub most_programs : ℕ
@@ -19,21 +19,21 @@ is_same_text a b = bytes_eq (spelling a) (spelling b)
 abbrev pub id_of : List Certificate → List Insn → Option ℕ
 id_of programs text = position (λ c. is_same_text text c.text) programs
 
-abbrev pub registered_at : List Certificate → Certificate → Option ℕ → Result (ℕ × List Certificate) TableFault
+abbrev pub registered_at : List Certificate → Certificate → Option ℕ → Result (ℕ × List Certificate) Reason
 registered_at programs c (Some id) = Ok (id, programs)
 registered_at programs c None =
-    if nat_lt (length programs) most_programs then Ok (length programs, programs ++ c ∷ []) else Err fault.Full
+    if nat_lt (length programs) most_programs then Ok (length programs, programs ++ c ∷ []) else Err reasons.TableFull
 
 -- A text that is there keeps its id and its first certificate; a new one gets the next id.
-abbrev pub registered : List Certificate → Certificate → Result (ℕ × List Certificate) TableFault
+abbrev pub registered : List Certificate → Certificate → Result (ℕ × List Certificate) Reason
 registered programs c = registered_at programs c (id_of programs c.text)
 
-abbrev pub checked_by : Result (ℕ × List Certificate) TableFault → Result (Unit {0}) TableFault
+abbrev pub checked_by : Result (ℕ × List Certificate) Reason → Result (Unit {0}) Reason
 checked_by (Ok r) = Ok tt
 checked_by (Err e) = Err e
 
 -- whether it may be registered
-abbrev pub checked : List Certificate → Certificate → Result (Unit {0}) TableFault
+abbrev pub checked : List Certificate → Certificate → Result (Unit {0}) Reason
 checked programs c = checked_by (registered programs c)
 
 -- no text comes twice

@@ -25,13 +25,11 @@
 //! ```
 #![tactic(auto)]
 
-mod fault;
 mod keyed;
 mod program;
 mod programs;
 pub mod worked;
 
-pub use fault::TableFault;
 pub use keyed::Keyed;
 pub use program::{Program, ProgramId};
-pub use programs::{MOST_PROGRAMS, Programs};
+pub use programs::{MOST_PROGRAMS, Programs, TableFault};

@@ -2,18 +2,21 @@
 
 ghost use Rattle.std.specs.Prelude.{◌≡◌, [], length, option_map, slice_get, position, Ok, IfOk};
 ghost use Rattle.forms.specs.Calls.{Steps};
-ghost use Rattle.q_table.specs.declared.fault.TableFault.TheVariants as fault;
+ghost use Rattle.reasons.specs.declared.Reason.TheVariants as reasons;
 ghost use Rattle.q_table.specs.Programs.{registered, checked, IsTable};
 
-use crate::fault::TableFault;
 use crate::keyed::Keyed;
 use crate::program::{Program, ProgramId};
 use indexmap::IndexMap;
+use reasons::Reason;
 use std::alloc::{AllocError, Global};
 use std::marker::Model;
 
 /// The most programs of a table.
 pub const MOST_PROGRAMS: usize = 1024;
+
+/// Why a program is not registered: 52 TableFull, or 99 OutOfMemory. After a refusal the table is as it was.
+pub type TableFault = Reason;
 
 /// Certified programs of distinct texts, by the bytes of their texts, in the order in which they were registered.
 /// Contracts see it as the list of the certificates.
@@ -49,7 +52,7 @@ impl Programs {
     /// Registers a program: a text that is there keeps its id and its first certificate, a new one gets the next id.
     /// Refused with 52 where a new text would be the 1,025th; else 99.
     pub fn register(&mut self, program: &Program) -> Result<ProgramId, TableFault>
-        ensures { Steps fault.OutOfMemory (registered self.old program.now) self.old self.new result }
+        ensures { Steps reasons.OutOfMemory (registered self.old program.now) self.old self.new result }
     {
         let keyed = self.keyed(program)?;
         self.take(keyed)
@@ -70,14 +73,14 @@ impl Programs {
         if self.by_text.get_index_of(&keyed.bytes).is_none()
             && MOST_PROGRAMS <= self.by_text.len()
         {
-            return Err(TableFault::Full);
+            return Err(TableFault::TableFull);
         }
         Ok(())
     }
 
     /// Registers a program, as [`register`](Programs::register) does. Refused with 52, 99.
     pub fn take(&mut self, keyed: Keyed) -> Result<ProgramId, TableFault>
-        ensures { Steps fault.OutOfMemory (registered self.old keyed) self.old self.new result }
+        ensures { Steps reasons.OutOfMemory (registered self.old keyed) self.old self.new result }
     {
         let Keyed { bytes, program } = keyed;
         if let Some(id) = self.by_text.get_index_of(&bytes) {
@@ -85,7 +88,7 @@ impl Programs {
         }
         let id = self.by_text.len();
         if MOST_PROGRAMS <= id {
-            return Err(TableFault::Full);
+            return Err(TableFault::TableFull);
         }
         match self.by_text.insert(bytes, program) {
             Ok(_) => Ok(ProgramId::new(id as u32)),

@@ -8,8 +8,10 @@
 ghost use Rattle.std.specs.Prelude.{◌≡◌, Contains, map};
 ghost use Rattle.std.specs.List.Sorted.{IsStrictlyIncreasing};
 ghost use Rattle.reasons.specs.declared.Reason.{Reason as Why};
+ghost use Rattle.reasons.specs.declared.Reason.TheVariants.{OutOfMemory};
 ghost use Rattle.reasons.specs.Table.{number, name};
 
+use std::alloc::{AllocError, AllocFailed};
 use std::fmt;
 
 pub mod worked;
@@ -128,6 +130,22 @@ pub enum Reason {
     StepsOut = 96,
     // Memory.
     OutOfMemory = 99,
+}
+
+impl From<AllocError> for Reason {
+    ghost from_gives = { λ _ e. e ≡ OutOfMemory };
+
+    fn from(_: AllocError) -> Reason {
+        Reason::OutOfMemory
+    }
+}
+
+impl<T: Drop> From<AllocFailed<T>> for Reason {
+    ghost from_gives = { λ _ e. e ≡ OutOfMemory };
+
+    fn from(_: AllocFailed<T>) -> Reason {
+        Reason::OutOfMemory
+    }
 }
 
 impl Reason {

@@ -96,7 +96,7 @@ fn step_unchanged(
 fn step_again(world: &mut World, event: &WorldEvent) -> Result<bool, WorldFault> {
     let before = size(world);
     match world.step(*event) {
-        Err(fault) if fault.reason().number() == 99 => step_unchanged(world, event, before),
+        Err(fault) if fault.number() == 99 => step_unchanged(world, event, before),
         Err(fault) => Err(fault),
         Ok(_) => Ok(true),
     }
@@ -154,8 +154,8 @@ fn tell_world(rt: &impl Print, world: &World, is_unchanged: bool) -> io::Result<
     println!(rt; "{}", if is_unchanged { "" } else { " changed" })
 }
 
-fn refuse(rt: &impl Print, fault: WorldFault) -> io::Result<()> {
-    println!(rt; " refused {}", fault.reason())
+fn refuse(rt: &impl Print, reason: WorldFault) -> io::Result<()> {
+    println!(rt; " refused {reason}")
 }
 
 fn tell_run(rt: &impl Print, world: &mut World) -> io::Result<()> {
@@ -177,7 +177,7 @@ fn tell_again(rt: &impl Print, alloc: Global) -> io::Result<()> {
 pub(crate) fn tell(rt: &impl Print, alloc: Global) -> io::Result<()> {
     match first_world(alloc) {
         Ok(mut world) => tell_run(rt, &mut world),
-        Err(fault) if fault.reason().number() == 99 => tell_again(rt, alloc),
+        Err(fault) if fault.number() == 99 => tell_again(rt, alloc),
         Err(fault) => refuse(rt, fault),
     }
 }

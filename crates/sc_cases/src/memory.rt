@@ -42,7 +42,7 @@ fn first_store_again(alloc: Global) -> Result<u64, NodeFault> {
 fn tell_node(rt: &impl Print, alloc: Global) -> io::Result<()> {
     match first_store_again(alloc) {
         Ok(tag) => println!(rt; " tag {tag}"),
-        Err(fault) => println!(rt; " refused {}", fault.reason()),
+        Err(reason) => println!(rt; " refused {reason}"),
     }
 }
 

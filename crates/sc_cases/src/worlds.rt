@@ -44,8 +44,8 @@ fn tell_sent(rt: &impl Print, world: &World, sent: Sent) -> io::Result<()> {
     Ok(())
 }
 
-fn refuse(rt: &impl Print, fault: WorldFault) -> io::Result<()> {
-    println!(rt; " refused {}", fault.reason())
+fn refuse(rt: &impl Print, reason: WorldFault) -> io::Result<()> {
+    println!(rt; " refused {reason}")
 }
 
 fn step(rt: &impl Print, world: &mut World, event: WorldEvent) -> io::Result<()> {

@@ -68,6 +68,14 @@ impl<T: Drop> From<AllocFailed<T>> for FactsFault {
     }
 }
 
+impl From<FactsFault> for Reason {
+    ghost from_gives = { λ fault e. e ≡ reason fault };
+
+    fn from(fault: FactsFault) -> Reason {
+        fault.reason()
+    }
+}
+
 impl Facts {
     /// Nobody entered, joined or left.
     pub fn new(alloc: Global) -> Facts

@@ -11,12 +11,12 @@ use Rattle.sc_members.specs.declared.facts.FactsFault.TheVariants as facts
 use Rattle.sc_view.specs.Views.{ViewMap, most_entries, merge}
 use Rattle.sc_msg.specs.declared.message.Body.TheVariants.{EnterEcho}
 use Rattle.sc_node.specs.declared.answer.Delivered.{Delivered}
-use Rattle.sc_node.specs.declared.fault.NodeFault.{NodeFault}
-use Rattle.sc_node.specs.declared.fault.NodeFault.TheVariants as fault
+use Rattle.reasons.specs.declared.Reason.{Reason}
+use Rattle.reasons.specs.declared.Reason.TheVariants as reasons
 use Rattle.sc_node.specs.State.{NodeState}
 use Rattle.forms.specs.Calls.{Steps, tested}
 use Rattle.forms.proofs.Calls.{tested_pass}
-use Rattle.sc_node.specs.Faults.{of_facts}
+use Rattle.sc_members.specs.Faults.{reason}
 use Rattle.sc_node.specs.Nodes.{fitting, message_from, joins, node_after, delivery, facts_after, delivered}
 
 few : (a b c : ℕ) → a ≤ most_facts → b ≤ most_facts → c ≤ most_facts → (nat_lt most_facts a || (nat_lt most_facts b || nat_lt most_facts c)) ≡ false
@@ -59,17 +59,17 @@ is_room a b h = grind (arith, h)
 
 -- an echo for this node with too many facts is refused, whether the node joins or not
 pub too_many : (n : NodeState) (from : ℕ) (j : Bool) (f : Facts) (v : ViewMap) → n.gone ≡ false → (most_entries < fin.len (merge n.view v) → ⊥)
-    → is_overfull (union_facts n.facts f) ≡ true → delivered n (message_from from (EnterEcho n.id j f v)) ≡ Err fault.FactsFull
+    → is_overfull (union_facts n.facts f) ≡ true → delivered n (message_from from (EnterEcho n.id j f v)) ≡ Err reasons.FactsFull
 too_many n from j f v here room over =
     let said = EnterEcho n.id j f v in
-    let taken : Result (Delivered × NodeState) NodeFault = Ok (delivery n from said, node_after n from said) in
-    tested_pass ((not n.gone, fault.Gone) ∷ fitting (merge n.view v)) (tested ((not (is_overfull (facts_after n from said)), fault.FactsFull) ∷ []) taken)
+    let taken : Result (Delivered × NodeState) Reason = Ok (delivery n from said, node_after n from said) in
+    tested_pass ((not n.gone, reasons.Gone) ∷ fitting (merge n.view v)) (tested ((not (is_overfull (facts_after n from said)), reasons.FactsFull) ∷ []) taken)
     (ap not here, (ap not (is_room most_entries (fin.len (merge n.view v)) room), tt))
-    ∙ ap (λ b. cond (not b) taken (Err fault.FactsFull)) (overfull_after (joins n from said) (union_facts n.facts f) n.id over)
+    ∙ ap (λ b. cond (not b) taken (Err reasons.FactsFull)) (overfull_after (joins n from said) (union_facts n.facts f) n.id over)
 
 -- a call that facts refuse
-pub refused : (said : Result (Delivered × NodeState) NodeFault) (n : NodeState) (why : FactsFault) (r : Result Delivered NodeFault)
-    → IsErrAnd r (λ e. e ≡ of_facts why) → (why ≡ facts.Full → said ≡ Err fault.FactsFull) → Steps fault.OutOfMemory said n n r
+pub refused : (said : Result (Delivered × NodeState) Reason) (n : NodeState) (why : FactsFault) (r : Result Delivered Reason)
+    → IsErrAnd r (λ e. e ≡ reason why) → (why ≡ facts.Full → said ≡ Err reasons.FactsFull) → Steps reasons.OutOfMemory said n n r
 refused said n why (Ok d) same h = absurd same
 refused said n facts.Full (Err e) same h = (refl, λ _. h refl ∙ ap Err (sym same))
 refused said n facts.OutOfMemory (Err e) same h = (refl, λ other. absurd (other same))

@@ -2,5 +2,4 @@
 pub use Rattle.sc_operations.specs.Sessions
 pub mod State
 pub mod Nodes
-pub mod Faults
 pub mod Lengths

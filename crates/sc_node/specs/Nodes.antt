@@ -20,8 +20,8 @@ use Rattle.sc_operations.specs.declared.progress.Advance.TheVariants as advance
 use Rattle.sc_operations.specs.declared.progress.Progress.{Progress}
 use Rattle.sc_node.specs.declared.answer.Begun.{Begun}
 use Rattle.sc_node.specs.declared.answer.Delivered.{Delivered}
-use Rattle.sc_node.specs.declared.fault.NodeFault.{NodeFault}
-use Rattle.sc_node.specs.declared.fault.NodeFault.TheVariants as fault
+use Rattle.reasons.specs.declared.Reason.{Reason}
+use Rattle.reasons.specs.declared.Reason.TheVariants as reasons
 use Rattle.sc_operations.specs.Sessions.{new_phase, count_sender, is_reached, querying, storing, ended_by}
 use Rattle.sc_node.specs.State.{NodeState}
 pub use Rattle.sc_operations.specs.Sessions.{ack_progress, session_moved, sessions_after, ended_session}
@@ -181,15 +181,15 @@ delivery n from b =
     }
 
 -- the message may be taken
-abbrev pub hearing : NodeState → Message → Tests NodeFault
+abbrev pub hearing : NodeState → Message → Tests Reason
 hearing n m =
-    (not n.gone, fault.Gone)
-    ∷ (not (tells_view n m.body && is_view_full (view_after n m.body)), fault.ViewFull)
-    ∷ (not (tells_facts m.body && is_overfull (facts_after n m.from m.body)), fault.FactsFull)
+    (not n.gone, reasons.Gone)
+    ∷ (not (tells_view n m.body && is_view_full (view_after n m.body)), reasons.ViewFull)
+    ∷ (not (tells_facts m.body && is_overfull (facts_after n m.from m.body)), reasons.FactsFull)
     ∷ []
 
 -- the node takes a message
-abbrev pub delivered : NodeState → Message → Result (Delivered × NodeState) NodeFault
+abbrev pub delivered : NodeState → Message → Result (Delivered × NodeState) Reason
 delivered n m = tested (hearing n m) (Ok (delivery n m.from m.body, node_after n m.from m.body))
 
 -- the node of this id says this alone
@@ -197,19 +197,19 @@ abbrev pub saying : ℕ → Body → Delivered
 saying id body = record { outs = message_from id body ∷ []; progress = None; ended = None }
 
 -- the node may have this view
-abbrev pub fitting : ViewMap → Tests NodeFault
-fitting v = (not (is_view_full v), fault.ViewFull) ∷ []
+abbrev pub fitting : ViewMap → Tests Reason
+fitting v = (not (is_view_full v), reasons.ViewFull) ∷ []
 
 -- the node may know these facts
-abbrev pub knowing : Facts → Tests NodeFault
-knowing f = (not (is_overfull f), fault.FactsFull) ∷ []
+abbrev pub knowing : Facts → Tests Reason
+knowing f = (not (is_overfull f), reasons.FactsFull) ∷ []
 
 -- facts and a view may be learned
-abbrev pub learning : NodeState → Facts → ViewMap → Tests NodeFault
+abbrev pub learning : NodeState → Facts → ViewMap → Tests Reason
 learning n f v = fitting (merge n.view v) ++ knowing (union_facts n.facts f)
 
 -- the node learns facts and a view
-abbrev pub learned : NodeState → Facts → ViewMap → Result (Unit {0} × NodeState) NodeFault
+abbrev pub learned : NodeState → Facts → ViewMap → Result (Unit {0} × NodeState) Reason
 learned n f v = tested (learning n f v) (Ok (tt, record n { facts = union_facts n.facts f; view = merge n.view v }))
 
 -- an echo for a node that waits to join is counted, and what it told is known
@@ -217,7 +217,7 @@ abbrev pub echo_counted : NodeState → ℕ → Option ℕ → Facts → ViewMap
 echo_counted n from threshold f v = record n { facts = f; view = v; join_threshold = threshold; echoes = set.insert n.echoes from }
 
 -- the node joins at the last echo that it waited for
-abbrev pub joining : NodeState → ℕ → Option ℕ → Facts → ViewMap → Result (Delivered × NodeState) NodeFault
+abbrev pub joining : NodeState → ℕ → Option ℕ → Facts → ViewMap → Result (Delivered × NodeState) Reason
 joining n from threshold f v =
     tested (knowing (with_joined f n.id)) (Ok (
       saying n.id Join,
@@ -244,12 +244,12 @@ abbrev pub begun : NodeState → Session → Body → Begun
 begun n s b = record { tag = n.operations; session = s; outs = message_from n.id b ∷ [] }
 
 -- an operation may begin
-abbrev pub opening : NodeState → Tests NodeFault
+abbrev pub opening : NodeState → Tests Reason
 opening n =
-    (not n.gone, fault.Gone)
-    ∷ (n.joined, fault.NotJoined)
-    ∷ (nat_lt (fin.len n.sessions) most_open, fault.SessionsFull)
-    ∷ (nat_lt n.operations most_operations, fault.NumbersOut)
+    (not n.gone, reasons.Gone)
+    ∷ (n.joined, reasons.NotJoined)
+    ∷ (nat_lt (fin.len n.sessions) most_open, reasons.SessionsFull)
+    ∷ (nat_lt n.operations most_operations, reasons.NumbersOut)
     ∷ []
 
 abbrev pub next_stored : NodeState → List ℕ → Stored
@@ -263,7 +263,7 @@ store_session n value =
     record { kind = kind.Store (next_stored n value); query = None; back = Some (record { view = stored_view n value; phase = new_phase (beta_threshold n) }) }
 
 -- the node's view with a value of its own
-abbrev pub with_value : NodeState → Stored → Result ViewMap NodeFault
+abbrev pub with_value : NodeState → Stored → Result ViewMap Reason
 with_value n e = tested (fitting (put n.view n.id e)) (Ok (put n.view n.id e))
 
 abbrev pub session_of : NodeState → Stored → ViewMap → Session
@@ -279,7 +279,7 @@ abbrev pub store_opened : NodeState → Stored → ViewMap → Begun × NodeStat
 store_opened n e view = (begun n (session_of n e view) (Store n.operations view), opened n view (n.stores + 1) (session_of n e view))
 
 -- the node begins to store a value
-abbrev pub store_begun : NodeState → List ℕ → Result (Begun × NodeState) NodeFault
+abbrev pub store_begun : NodeState → List ℕ → Result (Begun × NodeState) Reason
 store_begun n value =
     tested (opening n ++ fitting (stored_view n value)) (Ok (
       begun n (store_session n value) (Store n.operations (stored_view n value)),
@@ -290,16 +290,16 @@ abbrev pub collect_session : NodeState → Session
 collect_session n = record { kind = kind.Collect; query = Some (new_phase (beta_threshold n)); back = None }
 
 -- the node begins to collect
-abbrev pub collect_begun : NodeState → Result (Begun × NodeState) NodeFault
+abbrev pub collect_begun : NodeState → Result (Begun × NodeState) Reason
 collect_begun n =
     tested (opening n) (Ok (begun n (collect_session n) (CollectQuery n.operations), opened n n.view n.stores (collect_session n)))
 
 -- the node may leave
-abbrev pub leaving : NodeState → Tests NodeFault
-leaving n = (not n.gone, fault.Gone) ∷ knowing (with_left n.facts n.id)
+abbrev pub leaving : NodeState → Tests Reason
+leaving n = (not n.gone, reasons.Gone) ∷ knowing (with_left n.facts n.id)
 
 -- the node leaves
-abbrev pub left : NodeState → Result (List Message × NodeState) NodeFault
+abbrev pub left : NodeState → Result (List Message × NodeState) Reason
 left n = tested (leaving n) (Ok (message_from n.id Leave ∷ [], record n { facts = with_left n.facts n.id; gone = true }))
 
 -- a node before its first event
@@ -343,6 +343,6 @@ rises (id ∷ ids) = rises_from id ids
 abbrev pub are_founders : List ℕ → Bool
 are_founders ids = nat_le 1 (length ids) && (nat_le (length ids) most_founders && rises ids)
 
-abbrev pub founded : Config → ℕ → List ℕ → Result NodeState NodeFault
+abbrev pub founded : Config → ℕ → List ℕ → Result NodeState Reason
 founded c id ids =
-    tested ((are_founders ids && set.contains (set.from_list {R = nat_cmp} ids) id, fault.BadFounders) ∷ []) (Ok (founder c ids id))
+    tested ((are_founders ids && set.contains (set.from_list {R = nat_cmp} ids) id, reasons.BadFounders) ∷ []) (Ok (founder c ids id))

@@ -31,14 +31,12 @@
 
 mod answer;
 mod copies;
-mod fault;
 pub mod laws;
 mod node;
 mod outs;
 pub mod worked;
 
 pub use answer::{Advance, Begun, Completion, Delivered, Ended, Progress};
-pub use fault::NodeFault;
-pub use node::{MOST_FOUNDERS, MOST_OPEN, MOST_OPERATIONS, Node};
+pub use node::{MOST_FOUNDERS, MOST_OPEN, MOST_OPERATIONS, Node, NodeFault};
 pub use outs::Outs;
 pub use sc_operations::{OperationKind, Phase, Session, StoreBack};

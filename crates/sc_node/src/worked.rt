@@ -9,18 +9,18 @@ ghost use Rattle.sc_node.specs.Sessions.{completed};
 ghost use Rattle.sc_node.specs.State.{NodeState};
 ghost use Rattle.sc_node.specs.Nodes.{delivered, entered, founded, founder, left, message_from, next_stored, progress_of};
 ghost use Rattle.sc_operations.specs.declared.progress.Completion.TheVariants as completion;
-ghost use Rattle.sc_node.specs.declared.fault.NodeFault.TheVariants as fault;
+ghost use Rattle.reasons.specs.declared.Reason.TheVariants as reasons;
 ghost use Rattle.sc_operations.specs.declared.session.OperationKind.TheVariants as kind;
 
 /// What the definitions say of founders and of a node that enters, of one that leaves or has left, of the number of a
 /// store, and of an acknowledgement for another node.
 pub fn worked()
     ensures founder { (c : Config) → founded c 7 (7 ∷ []) ≡ Ok (founder c (7 ∷ []) 7) }
-    ensures not_listed { (c : Config) → founded c 7 (8 ∷ []) ≡ Err fault.BadFounders }
-    ensures not_rising { (c : Config) → founded c 7 (7 ∷ 7 ∷ []) ≡ Err fault.BadFounders }
+    ensures not_listed { (c : Config) → founded c 7 (8 ∷ []) ≡ Err reasons.BadFounders }
+    ensures not_rising { (c : Config) → founded c 7 (7 ∷ 7 ∷ []) ≡ Err reasons.BadFounders }
     ensures enters { (c : Config) → (entered c 7).1 ≡ message_from 7 Enter ∷ [] }
     ensures leaves { (n : NodeState) → n.gone ≡ false → is_overfull (with_left n.facts n.id) ≡ false → left n ≡ Ok (message_from n.id Leave ∷ [], record n { facts = with_left n.facts n.id; gone = true }) }
-    ensures gone { (n : NodeState) (m : Sent) → n.gone ≡ true → delivered n m ≡ Err fault.Gone }
+    ensures gone { (n : NodeState) (m : Sent) → n.gone ≡ true → delivered n m ≡ Err reasons.Gone }
     ensures number { (n : NodeState) → n.stores ≡ 4 → (next_stored n (9 ∷ [])).number ≡ 5 }
     ensures returned { (v : ViewMap) → completed kind.Collect v ≡ completion.Returned v }
     ensures for_another { (n : NodeState) (from to tag : ℕ) → (to == n.id) ≡ false → progress_of n from (StoreAck to tag) ≡ None }

@@ -111,6 +111,14 @@ impl<T: Drop> From<AllocFailed<T>> for ViewFault {
     }
 }
 
+impl From<ViewFault> for Reason {
+    ghost from_gives = { λ fault e. e ≡ reason fault };
+
+    fn from(fault: ViewFault) -> Reason {
+        fault.reason()
+    }
+}
+
 /// For each node the newest value that is known of it: at most 256 nodes, sequence numbers from 1, values of at most 112
 /// bytes.
 #[derive(Drop)]

@@ -8,8 +8,8 @@ use Rattle.std.specs.FinMap as fin
 use Rattle.std.specs.FinSet as set
 use Rattle.sc_members.specs.Members.{Config}
 use Rattle.sc_msg.specs.declared.message.Message.{Message}
-use Rattle.sc_node.specs.declared.fault.NodeFault.{NodeFault}
-use Rattle.sc_node.specs.declared.fault.NodeFault.TheVariants as node_fault
+use Rattle.reasons.specs.declared.Reason.{Reason}
+use Rattle.reasons.specs.declared.Reason.TheVariants as reasons
 use Rattle.sc_node.specs.State.{NodeState}
 use Rattle.sc_node.specs.Nodes.{entered, founded, founder, are_founders}
 use Rattle.sc_world.specs.declared.act.Act.{Act}
@@ -18,12 +18,10 @@ use Rattle.sc_world.specs.declared.act.Report.{Report}
 use Rattle.sc_world.specs.declared.event.WorldEvent.{WorldEvent}
 use Rattle.sc_world.specs.declared.event.WorldEvent.TheVariants as event
 use Rattle.sc_world.specs.declared.event.Sent.{Sent}
-use Rattle.sc_world.specs.declared.fault.WorldFault.{WorldFault}
-use Rattle.sc_world.specs.declared.fault.WorldFault.TheVariants as fault
 use Rattle.sc_world.specs.State.{WorldState, Past, world_of, past_of}
 use Rattle.sc_world.specs.Ledgers.{recorded, numbered, stopped}
 use Rattle.sc_world.specs.Worlds.{live_at, by_live, took, acts, acted, of_entered, tag_of, crashes, enters, event_of, stepped, founder_nodes, founded_nodes}
-use Rattle.sc_world.specs.Acts.{memory, outcome}
+use Rattle.sc_world.specs.Acts.{outcome}
 
 pub act_step : (w : WorldState) (e : WorldEvent) (id : ℕ) (a : Act) (r : Report) (n : NodeState) (nodes : fin.FinMap nat_cmp NodeState) (past : Past) (tag : Option ℕ) (numbers : Sent)
     → by_live (live_at w id) (acted w.sent a) ≡ Ok (outcome r n) → nodes ≡ fin.insert w.nodes id n → past ≡ recorded (past_of w) e id r.outs r.progress r.begun
@@ -78,16 +76,16 @@ any_at (x ∷ ids) (suc k) d lt = or_right (eq_by_cmp nat_cmp (get_or ids k d) x
 pub has_at : (ids : List ℕ) (k d : ℕ) → k < length ids → set.contains (set.from_list {R = nat_cmp} ids) (get_or ids k d) ≡ true
 has_at ids k d lt = set.contains-from_list nat_cmp_total ids (get_or ids k d) ∙ any_at ids k d lt
 
-by_founders : (c : Config) (ids : List ℕ) (x : ℕ) (f : NodeFault) (a b : Bool) → are_founders ids ≡ a → b ≡ true → (let r : Result NodeState NodeFault = cond (a && b) (Ok (founder c ids x)) (Err node_fault.BadFounders) in r) ≡ Err f
-    → founded_nodes c ids ≡ Err (fault.Node f)
+by_founders : (c : Config) (ids : List ℕ) (x : ℕ) (f : Reason) (a b : Bool) → are_founders ids ≡ a → b ≡ true → (let r : Result NodeState Reason = cond (a && b) (Ok (founder c ids x)) (Err reasons.BadFounders) in r) ≡ Err f
+    → founded_nodes c ids ≡ Err f
 by_founders c ids x f a false is has h = absurd (cc)
 by_founders c ids x f true true is has h = absurd (cc)
 by_founders c ids x f false true is has h =
-    let same : node_fault.BadFounders ≡ f = cc in
-    ap (λ (t : Bool). let r : Result (fin.FinMap nat_cmp NodeState) WorldFault = cond t (Ok (founder_nodes c ids)) (Err (fault.Node node_fault.BadFounders)) in r) is
-    ∙ ap (λ (y : NodeFault). let r : Result (fin.FinMap nat_cmp NodeState) WorldFault = Err (fault.Node y) in r) same
+    let same : reasons.BadFounders ≡ f = cc in
+    ap (λ (t : Bool). let r : Result (fin.FinMap nat_cmp NodeState) Reason = cond t (Ok (founder_nodes c ids)) (Err reasons.BadFounders) in r) is
+    ∙ ap (λ (y : Reason). let r : Result (fin.FinMap nat_cmp NodeState) Reason = Err y in r) same
 
 -- the refusal of one founder is that of all
-pub found_refused : (c : Config) (ids : List ℕ) (x : ℕ) (f : NodeFault) → set.contains (set.from_list {R = nat_cmp} ids) x ≡ true → (f ≢ node_fault.OutOfMemory → founded c x ids ≡ Err f) → fault.Node f ≢ memory → founded_nodes c ids ≡ Err (fault.Node f)
+pub found_refused : (c : Config) (ids : List ℕ) (x : ℕ) (f : Reason) → set.contains (set.from_list {R = nat_cmp} ids) x ≡ true → (f ≢ reasons.OutOfMemory → founded c x ids ≡ Err f) → f ≢ reasons.OutOfMemory → founded_nodes c ids ≡ Err f
 found_refused c ids x f has h no_memory =
-    by_founders c ids x f (are_founders ids) (set.contains (set.from_list {R = nat_cmp} ids) x) refl has (h (λ e. no_memory (ap (λ (y : NodeFault). fault.Node y) e)))
+    by_founders c ids x f (are_founders ids) (set.contains (set.from_list {R = nat_cmp} ids) x) refl has (h no_memory)

@@ -22,7 +22,7 @@ use Rattle.sc_node.specs.Nodes.{progress_of, ended_session}
 use Rattle.sc_world.specs.declared.event.WorldEvent.{WorldEvent}
 use Rattle.sc_world.specs.declared.event.WorldEvent.TheVariants as event
 use Rattle.sc_world.specs.declared.event.WorldStep.{WorldStep}
-use Rattle.sc_world.specs.declared.fault.WorldFault.{WorldFault}
+use Rattle.reasons.specs.declared.Reason.{Reason}
 use Rattle.sc_world.specs.declared.op.Op.{Op}
 use Rattle.sc_world.specs.State.{WorldState}
 use Rattle.sc_world.specs.Worlds.{clock, Outcome, told, after, end_at, moved, advanced, live_at, crashes, enters, stores, collects, leaves, delivers, stepped}
@@ -187,11 +187,11 @@ module _ (w : WorldState) (linked : IsLinked w) (t : IsTallied w) where
     }
 
   -- after an outcome that is known
-  taken_recorded : (e : WorldEvent) (q : ℕ) (f : NodeState → Result Outcome WorldFault) (a : WorldStep) (w' : WorldState) (k : IsTaken w e q f a w') → EndIsRecorded w e (told w k.outcome) (after w e q k.outcome) → EndIsRecorded w e a w'
+  taken_recorded : (e : WorldEvent) (q : ℕ) (f : NodeState → Result Outcome Reason) (a : WorldStep) (w' : WorldState) (k : IsTaken w e q f a w') → EndIsRecorded w e (told w k.outcome) (after w e q k.outcome) → EndIsRecorded w e a w'
   taken_recorded e q f a w' k h = subst (λ (s : WorldStep). EndIsRecorded w e s w') k.says (subst (EndIsRecorded w e (told w k.outcome)) k.is h)
 
   -- a node that begins an operation or leaves tells of no end
-  quiet_recorded : (e : WorldEvent) (q : ℕ) (f : NodeState → Result Outcome WorldFault) (a : WorldStep) (w' : WorldState) (k : IsTaken w e q f a w') (x : Outcome) → x ≡ k.outcome → x.ended ≡ None → EndIsRecorded w e a w'
+  quiet_recorded : (e : WorldEvent) (q : ℕ) (f : NodeState → Result Outcome Reason) (a : WorldStep) (w' : WorldState) (k : IsTaken w e q f a w') (x : Outcome) → x ≡ k.outcome → x.ended ≡ None → EndIsRecorded w e a w'
   quiet_recorded e q f a w' k x same none =
       taken_recorded e q f a w' k (no_end w e (told w k.outcome) (after w e q k.outcome) (ap (λ (y : Outcome). y.ended) (sym same) ∙ none))
 

@@ -20,7 +20,7 @@ use Rattle.sc_world.specs.declared.act.Opened.{Opened}
 use Rattle.sc_world.specs.declared.event.WorldEvent.{WorldEvent}
 use Rattle.sc_world.specs.declared.event.WorldEvent.TheVariants as event
 use Rattle.sc_world.specs.declared.event.WorldStep.{WorldStep}
-use Rattle.sc_world.specs.declared.fault.WorldFault.{WorldFault}
+use Rattle.reasons.specs.declared.Reason.{Reason}
 use Rattle.sc_world.specs.declared.op.Op.{Op}
 use Rattle.sc_world.specs.State.{WorldState}
 use Rattle.sc_world.specs.Worlds.{clock, node_of, Outcome, told, after, end_at, advanced, op_begun, live_at, crashes, enters, stores, collects, leaves, delivers, stepped}
@@ -125,11 +125,11 @@ module _ (w : WorldState) (records : AreRecords w) where
       outcome_told = record { by = λ o in' ended. (record_told o in' ended).by ∙ sym own; told = λ o in' ended. (record_told o in' ended).told }
 
     -- after an outcome that is known
-    taken_told : (e : WorldEvent) (f : NodeState → Result Outcome WorldFault) (a : WorldStep) (w' : WorldState) (k : IsTaken w e q f a w') → EndIsTold w e (told w k.outcome) (after w e q k.outcome) → EndIsTold w e a w'
+    taken_told : (e : WorldEvent) (f : NodeState → Result Outcome Reason) (a : WorldStep) (w' : WorldState) (k : IsTaken w e q f a w') → EndIsTold w e (told w k.outcome) (after w e q k.outcome) → EndIsTold w e a w'
     taken_told e f a w' k h = subst (λ (s : WorldStep). EndIsTold w e s w') k.says (subst (EndIsTold w e (told w k.outcome)) k.is h)
 
     -- a node that begins an operation or leaves ends none
-    quiet_told : (e : WorldEvent) → node_of e ≡ q → (f : NodeState → Result Outcome WorldFault) (a : WorldStep) (w' : WorldState) (k : IsTaken w e q f a w') (x : Outcome) → x ≡ k.outcome → x.progress ≡ None → EndIsTold w e a w'
+    quiet_told : (e : WorldEvent) → node_of e ≡ q → (f : NodeState → Result Outcome Reason) (a : WorldStep) (w' : WorldState) (k : IsTaken w e q f a w') (x : Outcome) → x ≡ k.outcome → x.progress ≡ None → EndIsTold w e a w'
     quiet_told e own f a w' k x same none =
         taken_told e f a w' k
         (outcome_told e own k.outcome (none_told k.outcome.progress k.outcome.ended (ap (λ (y : Outcome). y.progress) (sym same) ∙ none)))

@@ -9,7 +9,7 @@ use Rattle.sc_node.specs.State.{NodeState}
 use Rattle.sc_world.specs.declared.event.WorldEvent.{WorldEvent}
 use Rattle.sc_world.specs.declared.event.WorldEvent.TheVariants as event
 use Rattle.sc_world.specs.declared.event.WorldStep.{WorldStep}
-use Rattle.sc_world.specs.declared.fault.WorldFault.{WorldFault}
+use Rattle.reasons.specs.declared.Reason.{Reason}
 use Rattle.sc_world.specs.State.{WorldState}
 use Rattle.sc_world.specs.Worlds.{clock, Outcome, live_at, crashes, enters, stores, collects, leaves, delivers, stepped, Reaches, start, IsHistory, WasBefore}
 use Rattle.sc_world.proofs.Inverts.{same_answer, no_refusal, IsTaken, acts-ok}
@@ -32,7 +32,7 @@ pub record IsNext (w : WorldState) (e : WorldEvent) (w' : WorldState) : Type 0 w
   pub sent : w'.sent ≡ w.sent ++ outs
 
 module _ (w : WorldState) where
-  taken_next : (e : WorldEvent) (id : ℕ) (f : NodeState → Result Outcome WorldFault) (a : WorldStep) (w' : WorldState) → IsTaken w e id f a w' → IsNext w e w'
+  taken_next : (e : WorldEvent) (id : ℕ) (f : NodeState → Result Outcome Reason) (a : WorldStep) (w' : WorldState) → IsTaken w e id f a w' → IsNext w e w'
   taken_next e id f a w' k = subst (IsNext w e) k.is (record { config = refl; founders = refl; events = refl; outs = k.outcome.outs; sent = refl })
 
   crash_next : (q : ℕ) (o : Option NodeState) (a : WorldStep) (w' : WorldState) → crashes w q o ≡ Ok (a, w') → IsNext w (event.Crash q) w'

@@ -9,8 +9,8 @@ use Rattle.std.specs.BTreeMap.{is_at}
 use Rattle.forms.proofs.Maps.{found, get_found, one_written}
 use Rattle.sc_node.specs.State.{NodeState}
 use Rattle.sc_world.specs.declared.act.Report.{Report}
-use Rattle.sc_world.specs.declared.fault.WorldFault.{WorldFault}
-use Rattle.sc_world.specs.declared.fault.WorldFault.TheVariants as fault
+use Rattle.reasons.specs.declared.Reason.{Reason}
+use Rattle.reasons.specs.declared.Reason.TheVariants as reasons
 use Rattle.sc_world.specs.Worlds.{Outcome, live, by_live}
 use Rattle.sc_world.specs.Acts.{Acts, ActsAt}
 
@@ -42,7 +42,7 @@ written_back : (es : List (ℕ × NodeState)) (id q : ℕ) (n : NodeState) (b : 
 written_back es id q n false is at = refl
 written_back es id q n true is at = at ∙ ap (found es) (eqb-true id q (sym (unsigned_tied id q) ∙ is))
 
-module _ (es fs : List (ℕ × NodeState)) (old : fin.FinMap nat_cmp NodeState) (id : ℕ) (crashed : Bool) (f : NodeState → Result Outcome WorldFault) (n : NodeState)
+module _ (es fs : List (ℕ × NodeState)) (old : fin.FinMap nat_cmp NodeState) (id : ℕ) (crashed : Bool) (f : NodeState → Result Outcome Reason) (n : NodeState)
     (is : fin.from_entries es ≡ old) (at : Some n ≡ found es id) (up : true ≡ is_some (live crashed (fin.get old id))) where
   at_old : Some n ≡ fin.get old id
   at_old = at ∙ sym (get_found es id) ∙ ap (λ (m : fin.FinMap nat_cmp NodeState). fin.get m id) is
@@ -61,7 +61,7 @@ module _ (es fs : List (ℕ × NodeState)) (old : fin.FinMap nat_cmp NodeState) 
   unchanged writes = fin.same_map nat_cmp_total fin.nat_cmp-IsAntisymmetric (fin.from_entries fs) (fin.from_entries es) (λ q. get_found fs q ∙ writes q ∙ written_back es id q n (is_at (nat_cmp id) q) refl at ∙ sym (get_found es q)) ∙ is
 
   -- a node of a table acts
-  pub acts_at : (n' : NodeState) (r : Result Report WorldFault) → Acts (f n) n n' r → ((q : ℕ) → found fs q ≡ cond (is_at (nat_cmp id) q) (Some n') (found es q))
+  pub acts_at : (n' : NodeState) (r : Result Report Reason) → Acts (f n) n n' r → ((q : ℕ) → found fs q ≡ cond (is_at (nat_cmp id) q) (Some n') (found es q))
       → ActsAt (by_live (live crashed (fin.get old id)) f) old (fin.from_entries fs) id r
   acts_at n' (Ok r) h writes = (n', said ∙ h, written n' writes)
   acts_at n' (Err e) h writes = (
@@ -70,9 +70,9 @@ module _ (es fs : List (ℕ × NodeState)) (old : fin.FinMap nat_cmp NodeState) 
   )
 
 -- there is no such node
-pub no_node : (old : fin.FinMap nat_cmp NodeState) (id : ℕ) (crashed : Bool) (f : NodeState → Result Outcome WorldFault) (es : List (ℕ × NodeState)) → fin.from_entries es ≡ old → None ≡ found es id → by_live (live crashed (fin.get old id)) f ≡ Err fault.NoSuchNode
+pub no_node : (old : fin.FinMap nat_cmp NodeState) (id : ℕ) (crashed : Bool) (f : NodeState → Result Outcome Reason) (es : List (ℕ × NodeState)) → fin.from_entries es ≡ old → None ≡ found es id → by_live (live crashed (fin.get old id)) f ≡ Err reasons.NoSuchNode
 no_node old id crashed f es is at = ap (λ (o : Option NodeState). by_live (live crashed o) f) (sym (at ∙ sym (get_found es id) ∙ ap (λ (m : fin.FinMap nat_cmp NodeState). fin.get m id) is)) ∙ by_crash crashed
   where
-    by_crash : (c : Bool) → by_live (live c None) f ≡ Err fault.NoSuchNode
+    by_crash : (c : Bool) → by_live (live c None) f ≡ Err reasons.NoSuchNode
     by_crash true = refl
     by_crash false = refl

@@ -9,33 +9,28 @@ use Rattle.sc_msg.specs.declared.message.Body.{Body}
 use Rattle.sc_msg.specs.declared.message.Body.TheVariants.{StoreAck, CollectReply}
 use Rattle.sc_operations.specs.declared.session.Session.{Session}
 use Rattle.sc_operations.specs.declared.progress.Progress.{Progress}
-use Rattle.sc_node.specs.declared.fault.NodeFault.TheVariants as node_fault
+use Rattle.reasons.specs.declared.Reason.TheVariants.{OutOfMemory as memory}
 use Rattle.sc_node.specs.Sessions.{counted_in, open_phase, counting_phase}
 use Rattle.sc_node.specs.State.{NodeState}
 use Rattle.sc_world.specs.declared.act.Act.{Act}
 use Rattle.sc_world.specs.declared.act.Act.TheVariants as act
 use Rattle.sc_world.specs.declared.act.Report.{Report}
 use Rattle.sc_world.specs.declared.counting.Counting.{Counting}
-use Rattle.sc_world.specs.declared.fault.WorldFault.{WorldFault}
-use Rattle.sc_world.specs.declared.fault.WorldFault.TheVariants as fault
+use Rattle.reasons.specs.declared.Reason.{Reason}
 use Rattle.sc_world.specs.declared.op.Op.{Op}
 use Rattle.sc_world.specs.Worlds.{Outcome, moved}
-
--- memory was refused
-abbrev pub memory : WorldFault
-memory = fault.Node node_fault.OutOfMemory
 
 -- what a node tells, and the node as it then is
 abbrev pub outcome : Report → NodeState → Outcome
 outcome r n = record { node = n; outs = r.outs; progress = r.progress; begun = r.begun; ended = r.ended }
 
 -- a node does what is said, or refuses
-abbrev pub Acts : Result Outcome WorldFault → NodeState → NodeState → Result Report WorldFault → Type 0
+abbrev pub Acts : Result Outcome Reason → NodeState → NodeState → Result Report Reason → Type 0
 Acts said old new (Ok r) = said ≡ Ok (outcome r new)
 Acts said old new (Err e) = (new ≡ old) × (e ≢ memory → said ≡ Err e)
 
 -- the node of that id does what is said, or it is refused
-abbrev pub ActsAt : Result Outcome WorldFault → fin.FinMap nat_cmp NodeState → fin.FinMap nat_cmp NodeState → ℕ → Result Report WorldFault → Type 0
+abbrev pub ActsAt : Result Outcome Reason → fin.FinMap nat_cmp NodeState → fin.FinMap nat_cmp NodeState → ℕ → Result Report Reason → Type 0
 ActsAt said old new id (Ok r) = (n : NodeState) × (said ≡ Ok (outcome r n)) × (new ≡ fin.insert old id n)
 ActsAt said old new id (Err e) = (new ≡ old) × (e ≢ memory → said ≡ Err e)
 

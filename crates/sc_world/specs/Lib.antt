@@ -6,5 +6,4 @@ pub mod Records
 pub mod Regular
 pub mod Acts
 pub mod Ledgers
-pub mod Faults
 pub mod Quorums

@@ -11,8 +11,8 @@ use Rattle.sc_operations.specs.declared.progress.Progress.{Progress}
 use Rattle.sc_operations.specs.declared.progress.Ended.{Ended}
 use Rattle.sc_node.specs.declared.answer.Begun.{Begun}
 use Rattle.sc_node.specs.declared.answer.Delivered.{Delivered}
-use Rattle.sc_node.specs.declared.fault.NodeFault.{NodeFault}
-use Rattle.sc_node.specs.declared.fault.NodeFault.TheVariants as node_fault
+use Rattle.reasons.specs.declared.Reason.{Reason}
+use Rattle.reasons.specs.declared.Reason.TheVariants as reasons
 use Rattle.sc_node.specs.Sessions.{apply}
 use Rattle.sc_node.specs.State.{NodeState}
 use Rattle.sc_node.specs.Nodes.{delivered, store_begun, collect_begun, left, entered, founder, are_founders}
@@ -22,8 +22,6 @@ use Rattle.sc_world.specs.declared.act.Opened.{Opened}
 use Rattle.sc_world.specs.declared.event.WorldEvent.{WorldEvent}
 use Rattle.sc_world.specs.declared.event.WorldEvent.TheVariants as event
 use Rattle.sc_world.specs.declared.event.WorldStep.{WorldStep}
-use Rattle.sc_world.specs.declared.fault.WorldFault.{WorldFault}
-use Rattle.sc_world.specs.declared.fault.WorldFault.TheVariants as fault
 use Rattle.sc_world.specs.declared.op.Op.{Op}
 use Rattle.sc_world.specs.State.{WorldState}
 
@@ -52,9 +50,9 @@ abbrev pub of_delivered : Delivered × NodeState → Outcome
 of_delivered d = record { node = d.1; outs = d.0.outs; progress = d.0.progress; begun = None; ended = d.0.ended }
 
 -- a node's answer, or its refusal as the world's
-abbrev pub by_node : {A : Type 0} → (A → Outcome) → Result A NodeFault → Result Outcome WorldFault
+abbrev pub by_node : {A : Type 0} → (A → Outcome) → Result A Reason → Result Outcome Reason
 by_node f (Ok a) = Ok (f a)
-by_node f (Err e) = Err (fault.Node e)
+by_node f (Err e) = Err e
 
 abbrev pub end_at : ℕ → Advance → Option ℕ
 end_at place advance.Ended = Some place
@@ -94,7 +92,7 @@ after w e node r =
 abbrev pub told : WorldState → Outcome → WorldStep
 told w r = record { tag = tag_of r.begun; ended = r.ended; sent = record { first = length w.sent; count = length r.outs } }
 
-abbrev pub took : WorldState → WorldEvent → ℕ → Result Outcome WorldFault → Result (WorldStep × WorldState) WorldFault
+abbrev pub took : WorldState → WorldEvent → ℕ → Result Outcome Reason → Result (WorldStep × WorldState) Reason
 took w e node (Ok r) = Ok (told w r, after w e node r)
 took w e node (Err f) = Err f
 
@@ -108,41 +106,41 @@ abbrev pub live_at : WorldState → ℕ → Option NodeState
 live_at w id = live (set.contains w.crashed id) (fin.get w.nodes id)
 
 -- what a node does, where there is one
-abbrev pub by_live : Option NodeState → (NodeState → Result Outcome WorldFault) → Result Outcome WorldFault
-by_live None f = Err fault.NoSuchNode
+abbrev pub by_live : Option NodeState → (NodeState → Result Outcome Reason) → Result Outcome Reason
+by_live None f = Err reasons.NoSuchNode
 by_live (Some n) f = f n
 
 -- a live node takes an event
-abbrev pub acts : WorldState → WorldEvent → ℕ → (NodeState → Result Outcome WorldFault) → Result (WorldStep × WorldState) WorldFault
+abbrev pub acts : WorldState → WorldEvent → ℕ → (NodeState → Result Outcome Reason) → Result (WorldStep × WorldState) Reason
 acts w e id f = took w e id (by_live (live_at w id) f)
 
-abbrev pub enters : WorldState → ℕ → Option NodeState → Result (WorldStep × WorldState) WorldFault
+abbrev pub enters : WorldState → ℕ → Option NodeState → Result (WorldStep × WorldState) Reason
 enters w id None = took w (event.Enter id) id (Ok (of_entered (entered w.config id)))
-enters w id (Some n) = Err fault.IdUsed
+enters w id (Some n) = Err reasons.IdUsed
 
 -- an event that sends nothing
 abbrev pub silent : WorldState → WorldStep
 silent w = record { tag = None; ended = None; sent = record { first = length w.sent; count = 0 } }
 
-abbrev pub crashes : WorldState → ℕ → Option NodeState → Result (WorldStep × WorldState) WorldFault
-crashes w id None = Err fault.NoSuchNode
+abbrev pub crashes : WorldState → ℕ → Option NodeState → Result (WorldStep × WorldState) Reason
+crashes w id None = Err reasons.NoSuchNode
 crashes w id (Some n) = Ok (silent w, record w { crashed = set.insert w.crashed id; events = w.events ++ event.Crash id ∷ [] })
 
-abbrev pub leaves : NodeState → Result Outcome WorldFault
+abbrev pub leaves : NodeState → Result Outcome Reason
 leaves n = by_node of_left (left n)
 
-abbrev pub stores : List ℕ → NodeState → Result Outcome WorldFault
+abbrev pub stores : List ℕ → NodeState → Result Outcome Reason
 stores value n = by_node of_begun (store_begun n value)
 
-abbrev pub collects : NodeState → Result Outcome WorldFault
+abbrev pub collects : NodeState → Result Outcome Reason
 collects n = by_node of_begun (collect_begun n)
 
-abbrev pub delivers : Option Message → NodeState → Result Outcome WorldFault
-delivers None n = Err fault.NeverSent
+abbrev pub delivers : Option Message → NodeState → Result Outcome Reason
+delivers None n = Err reasons.NeverSent
 delivers (Some m) n = by_node of_delivered (delivered n m)
 
 -- what a node does at an act
-abbrev pub acted : List Message → Act → NodeState → Result Outcome WorldFault
+abbrev pub acted : List Message → Act → NodeState → Result Outcome Reason
 acted sent act.Leave n = leaves n
 acted sent (act.Store value) n = stores value n
 acted sent act.Collect n = collects n
@@ -165,7 +163,7 @@ node_of (event.Collect id) = id
 node_of (event.Deliver number id) = id
 
 -- what an event answers and makes of a world, or why it is refused
-abbrev pub stepped : WorldState → WorldEvent → Result (WorldStep × WorldState) WorldFault
+abbrev pub stepped : WorldState → WorldEvent → Result (WorldStep × WorldState) Reason
 stepped w (event.Enter id) = enters w id (fin.get w.nodes id)
 stepped w (event.Leave id) = acts w (event.Leave id) id (acted w.sent act.Leave)
 stepped w (event.Crash id) = crashes w id (live_at w id)
@@ -190,11 +188,11 @@ founder_nodes c ids = nodes_with c ids fin.empty ids
 abbrev pub start : Config → List ℕ → WorldState
 start c ids = record { config = c; founders = ids; nodes = founder_nodes c ids; crashed = set.empty; events = []; sent = []; ops = [] }
 
-abbrev pub founded_nodes : Config → List ℕ → Result (fin.FinMap nat_cmp NodeState) WorldFault
-founded_nodes c ids = if are_founders ids then Ok (founder_nodes c ids) else Err (fault.Node node_fault.BadFounders)
+abbrev pub founded_nodes : Config → List ℕ → Result (fin.FinMap nat_cmp NodeState) Reason
+founded_nodes c ids = if are_founders ids then Ok (founder_nodes c ids) else Err reasons.BadFounders
 
-abbrev pub started : Config → List ℕ → Result WorldState WorldFault
-started c ids = if are_founders ids then Ok (start c ids) else Err (fault.Node node_fault.BadFounders)
+abbrev pub started : Config → List ℕ → Result WorldState Reason
+started c ids = if are_founders ids then Ok (start c ids) else Err reasons.BadFounders
 
 -- the world is what its events made of its founders
 abbrev pub IsHistory : WorldState → Type 0

@@ -4,7 +4,7 @@ ghost use Rattle.std.specs.Prelude.{◌≡◌, None, Some};
 ghost use Rattle.sc_world.specs.Acts.{Acts};
 ghost use Rattle.sc_world.specs.Worlds.{acted, leaves, stores, collects, delivers};
 
-use crate::fault::WorldFault;
+use crate::world::WorldFault;
 use sc_msg::Message;
 use sc_node::{Begun, Delivered, Ended, Node, Outs, Progress, Session};
 use sc_view::Value;

@@ -14,7 +14,6 @@
 mod act;
 mod counting;
 mod event;
-mod fault;
 pub mod laws;
 mod ledger;
 mod nodes;
@@ -26,7 +25,6 @@ mod world;
 pub use act::Opened;
 pub use counting::Counting;
 pub use event::{Sent, WorldEvent, WorldStep};
-pub use fault::WorldFault;
 pub use ledger::Ledger;
 pub use op::{Op, meets};
-pub use world::World;
+pub use world::{World, WorldFault};

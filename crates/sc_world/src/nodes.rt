@@ -3,14 +3,15 @@
 ghost use Rattle.std.specs.Prelude.{◌≡◌, OnOk, OnErr, is_some, option_copied};
 ghost use Rattle.std.specs.FinMap as fin;
 ghost use Rattle.forms.specs.Calls.{Gives};
-ghost use Rattle.sc_world.specs.Acts.{ActsAt, memory};
+ghost use Rattle.reasons.specs.declared.Reason.TheVariants.{OutOfMemory as memory};
+ghost use Rattle.sc_world.specs.Acts.{ActsAt};
 ghost use Rattle.sc_world.specs.Worlds.{acted, by_live, live, founded_nodes};
 
 use crate::act::{Act, Report, perform};
-use crate::fault::WorldFault;
+use crate::world::WorldFault;
 use sc_members::Config;
 use sc_msg::Message;
-use sc_node::{Node, NodeFault};
+use sc_node::Node;
 use std::alloc::{AllocError, Global};
 use std::collections::BTreeMap;
 use std::marker::Model;
@@ -107,7 +108,7 @@ pub(crate) fn found_nodes(
     ensures { Gives memory (founded_nodes config founders.now) result }
 {
     if founders.is_empty() {
-        return Err(WorldFault::Node(NodeFault::BadFounders));
+        return Err(WorldFault::BadFounders);
     }
     let mut nodes = Nodes::new(alloc);
     for id in founders {

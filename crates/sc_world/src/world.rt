@@ -3,7 +3,8 @@
 ghost use Rattle.std.specs.Prelude.{◌≡◌, length, None, IfOk, slice_get, option_copied};
 ghost use Rattle.std.specs.FinMap as fin;
 ghost use Rattle.forms.specs.Calls.{Steps, Gives};
-ghost use Rattle.sc_world.specs.Acts.{memory, answered_at, IsReady};
+ghost use Rattle.reasons.specs.declared.Reason.TheVariants.{OutOfMemory as memory};
+ghost use Rattle.sc_world.specs.Acts.{answered_at, IsReady};
 ghost use Rattle.sc_world.specs.Worlds.{enters, crashes, live_at, event_of, stepped, started, tag_of, IsHistory};
 ghost use Rattle.sc_world.specs.Records.{AreRecords};
 ghost use Rattle.sc_world.specs.Regular.{IsRegular};
@@ -11,15 +12,19 @@ ghost use Rattle.sc_world.specs.Regular.{IsRegular};
 use crate::act::{Act, Opened, Report};
 use crate::counting::Counting;
 use crate::event::{Sent, WorldEvent, WorldStep};
-use crate::fault::WorldFault;
 use crate::ledger::Ledger;
 use crate::nodes::{Nodes, found_nodes};
 use crate::op::Op;
+use reasons::Reason;
 use sc_members::Config;
 use sc_msg::Message;
 use sc_node::Node;
 use std::alloc::{AllocError, Global};
 use std::marker::Model;
+
+/// Why an event is refused. After a refusal the world is as it was. Where several hold, the first of these is told:
+/// 44 IdUsed, 81 NoSuchNode, 82 NeverSent, and those of the node; 49 BadFounders is that of [`World::new`].
+pub type WorldFault = Reason;
 
 /// The nodes of a store-collect object, the list of accepted events, every message that was ever sent, and the
 /// record of each operation.

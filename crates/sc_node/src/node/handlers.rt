@@ -3,14 +3,14 @@
 ghost use Rattle.std.specs.Prelude.{◌≡◌, false, ◌&&◌, is_none, [], Some, None, Ok, IfOk, OnOk, OnErr, if◌then◌else◌};
 ghost use Rattle.std.specs.FinSet as set;
 ghost use Rattle.forms.specs.Calls.{Steps};
-ghost use Rattle.sc_node.specs.declared.fault.NodeFault.TheVariants as NodeFault;
+ghost use Rattle.reasons.specs.declared.Reason.TheVariants as reasons;
 ghost use Rattle.sc_node.specs.Nodes.{message_from, delivered, learned, joining, echo_counted, saying, gamma_threshold, is_met, query_ended};
 ghost use Rattle.sc_msg.specs.declared.message.Body.TheVariants.{Enter, EnterEcho, Join, JoinEcho, Leave, LeaveEcho, Store, StoreAck, StoreEcho, CollectQuery, CollectReply};
 
 use super::Node;
 use crate::answer::{Advance, Delivered};
 use crate::copies::Copies;
-use crate::fault::NodeFault;
+use crate::node::NodeFault;
 use crate::outs::Outs;
 use sc_members::Facts;
 use sc_msg::Body;
@@ -20,7 +20,7 @@ use std::alloc::AllocError;
 impl Node {
     pub(super) fn on_enter(&mut self, from: u64) -> Result<Delivered, NodeFault>
         requires { self.old.gone ≡ false }
-        ensures { Steps NodeFault.OutOfMemory (delivered self.old (message_from from Enter)) self.old self.new result }
+        ensures { Steps reasons.OutOfMemory (delivered self.old (message_from from Enter)) self.old self.new result }
     {
         let facts = self.facts.with_entered(from)?;
         let echo = self.enter_echo(from, &facts)?;
@@ -44,7 +44,7 @@ impl Node {
 
     pub(super) fn on_join(&mut self, from: u64) -> Result<Delivered, NodeFault>
         requires { self.old.gone ≡ false }
-        ensures { Steps NodeFault.OutOfMemory (delivered self.old (message_from from Join)) self.old self.new result }
+        ensures { Steps reasons.OutOfMemory (delivered self.old (message_from from Join)) self.old self.new result }
     {
         self.facts = self.facts.with_joined(from)?;
         Ok(self.sends(Body::JoinEcho { about: from }))
@@ -52,7 +52,7 @@ impl Node {
 
     pub(super) fn on_join_echo(&mut self, from: u64, about: u64) -> Result<Delivered, NodeFault>
         requires { self.old.gone ≡ false }
-        ensures { Steps NodeFault.OutOfMemory (delivered self.old (message_from from (JoinEcho about))) self.old self.new result }
+        ensures { Steps reasons.OutOfMemory (delivered self.old (message_from from (JoinEcho about))) self.old self.new result }
     {
         self.facts = self.facts.with_joined(about)?;
         Ok(self.silent())
@@ -60,7 +60,7 @@ impl Node {
 
     pub(super) fn on_leave(&mut self, from: u64) -> Result<Delivered, NodeFault>
         requires { self.old.gone ≡ false }
-        ensures { Steps NodeFault.OutOfMemory (delivered self.old (message_from from Leave)) self.old self.new result }
+        ensures { Steps reasons.OutOfMemory (delivered self.old (message_from from Leave)) self.old self.new result }
     {
         self.facts = self.facts.with_left(from)?;
         Ok(self.sends(Body::LeaveEcho { about: from }))
@@ -68,7 +68,7 @@ impl Node {
 
     pub(super) fn on_leave_echo(&mut self, from: u64, about: u64) -> Result<Delivered, NodeFault>
         requires { self.old.gone ≡ false }
-        ensures { Steps NodeFault.OutOfMemory (delivered self.old (message_from from (LeaveEcho about))) self.old self.new result }
+        ensures { Steps reasons.OutOfMemory (delivered self.old (message_from from (LeaveEcho about))) self.old self.new result }
     {
         self.facts = self.facts.with_left(about)?;
         Ok(self.silent())
@@ -82,7 +82,7 @@ impl Node {
         view: &View,
     ) -> Result<Delivered, NodeFault>
         requires { self.old.gone ≡ false }
-        ensures { Steps NodeFault.OutOfMemory (delivered self.old (message_from from (Store tag view.now))) self.old self.new result }
+        ensures { Steps reasons.OutOfMemory (delivered self.old (message_from from (Store tag view.now))) self.old self.new result }
     {
         let learned = self.held.view.merged(view)?;
         if !self.joined {
@@ -98,7 +98,7 @@ impl Node {
 
     pub(super) fn on_store_echo(&mut self, from: u64, view: &View) -> Result<Delivered, NodeFault>
         requires { self.old.gone ≡ false }
-        ensures { Steps NodeFault.OutOfMemory (delivered self.old (message_from from (StoreEcho view.now))) self.old self.new result }
+        ensures { Steps reasons.OutOfMemory (delivered self.old (message_from from (StoreEcho view.now))) self.old self.new result }
     {
         self.held.view = self.held.view.merged(view)?;
         Ok(self.silent())
@@ -107,7 +107,7 @@ impl Node {
     /// Tells what it knows.
     pub(super) fn on_collect_query(&mut self, from: u64, tag: u64) -> Result<Delivered, NodeFault>
         requires { self.old.gone ≡ false }
-        ensures { Steps NodeFault.OutOfMemory (delivered self.old (message_from from (CollectQuery tag))) self.old self.new result }
+        ensures { Steps reasons.OutOfMemory (delivered self.old (message_from from (CollectQuery tag))) self.old self.new result }
     {
         if self.joined {
             let view = self.held.view.clone()?;
@@ -129,7 +129,7 @@ impl Node {
         view: &View,
     ) -> Result<Delivered, NodeFault>
         requires { self.old.gone ≡ false }
-        ensures { Steps NodeFault.OutOfMemory (delivered self.old (message_from from (EnterEcho to joined facts.now view.now))) self.old self.new result }
+        ensures { Steps reasons.OutOfMemory (delivered self.old (message_from from (EnterEcho to joined facts.now view.now))) self.old self.new result }
     {
         if to == self.id && !self.joined {
             return self.on_own_enter_echo(from, joined, facts, view);
@@ -140,7 +140,7 @@ impl Node {
 
     // Learns facts and a view.
     fn learn(&mut self, facts: &Facts, view: &View) -> Result<(), NodeFault>
-        ensures { Steps NodeFault.OutOfMemory (learned self.old facts.now view.now) self.old self.new result }
+        ensures { Steps reasons.OutOfMemory (learned self.old facts.now view.now) self.old self.new result }
     {
         let both = self.held.view.merged(view)?;
         self.facts = self.facts.united(facts)?;
@@ -158,7 +158,7 @@ impl Node {
     ) -> Result<Delivered, NodeFault>
         requires here { self.old.gone ≡ false }
         requires waits { self.old.joined ≡ false }
-        ensures { Steps NodeFault.OutOfMemory (delivered self.old (message_from from (EnterEcho self.old.id joined facts.now view.now))) self.old self.new result }
+        ensures { Steps reasons.OutOfMemory (delivered self.old (message_from from (EnterEcho self.old.id joined facts.now view.now))) self.old self.new result }
     {
         let learned = self.held.view.merged(view)?;
         let heard = self.facts.united(facts)?;
@@ -178,7 +178,7 @@ impl Node {
         heard: &Facts,
         view: View,
     ) -> Result<Delivered, NodeFault>
-        ensures { Steps NodeFault.OutOfMemory (joining self.old from threshold heard.now view) self.old self.new result }
+        ensures { Steps reasons.OutOfMemory (joining self.old from threshold heard.now view) self.old self.new result }
     {
         let known = heard.with_joined(self.id)?;
         self.count_echo(from, threshold, known, view)?;
@@ -246,7 +246,7 @@ impl Node {
         tag: u64,
     ) -> Result<Delivered, NodeFault>
         requires { self.old.gone ≡ false }
-        ensures { Steps NodeFault.OutOfMemory (delivered self.old (message_from from (StoreAck to tag))) self.old self.new result }
+        ensures { Steps reasons.OutOfMemory (delivered self.old (message_from from (StoreAck to tag))) self.old self.new result }
     {
         if to != self.id {
             return Ok(self.silent());
@@ -268,7 +268,7 @@ impl Node {
         view: &View,
     ) -> Result<Delivered, NodeFault>
         requires { self.old.gone ≡ false }
-        ensures { Steps NodeFault.OutOfMemory (delivered self.old (message_from from (CollectReply to tag view.now))) self.old self.new result }
+        ensures { Steps reasons.OutOfMemory (delivered self.old (message_from from (CollectReply to tag view.now))) self.old self.new result }
     {
         if to != self.id {
             return Ok(self.silent());
@@ -286,7 +286,7 @@ impl Node {
 
     // Stores back the view, which is the node's from now on: the query phase ends with this sender's reply.
     fn store_back(&mut self, from: u64, tag: u64, view: View) -> Result<Delivered, NodeFault>
-        ensures { Steps NodeFault.OutOfMemory (Ok (query_ended self.old from tag view)) self.old self.new result }
+        ensures { Steps reasons.OutOfMemory (Ok (query_ended self.old from tag view)) self.old self.new result }
     {
         let threshold = self.beta_threshold();
         let copies = Copies::of(&view)?;

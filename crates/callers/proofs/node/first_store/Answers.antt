@@ -2,16 +2,16 @@
 use Rattle.std.proofs.Common.{◌≡◌, ◌∙◌, sym, ap, Bool, true, false, cond, ℕ, List, [], ◌∷◌, Ok, Err}
 use Rattle.sc_members.specs.Members.{Config}
 use Rattle.sc_node.specs.declared.answer.Begun.{Begun}
-use Rattle.sc_node.specs.declared.fault.NodeFault.TheVariants as fault
+use Rattle.reasons.specs.declared.Reason.TheVariants as reasons
 use Rattle.sc_node.specs.State.{NodeState}
 use Rattle.sc_node.specs.Nodes.{founded, founder, store_begun, stored_view}
 use Rattle.sc_world.specs.Worlds.{Outcome, by_node, of_begun}
 use Rattle.sc_world.proofs.Inverts.{no_refusal, same_answer, stores-ok}
 use Rattle.callers.proofs.node.first_store.Goals as goal
 
-founder_by : (is : Bool) (x y : NodeState) → cond is (Ok x) (Err fault.BadFounders) ≡ Ok y → x ≡ y
+founder_by : (is : Bool) (x y : NodeState) → cond is (Ok x) (Err reasons.BadFounders) ≡ Ok y → x ≡ y
 founder_by true x y h = same_answer x y h
-founder_by false x y h = absurd (no_refusal fault.BadFounders y h)
+founder_by false x y h = absurd (no_refusal reasons.BadFounders y h)
 
 founder_is : (config : Config) (id : ℕ) (ids : List ℕ) (n : NodeState) → founded config id ids ≡ Ok n → founder config ids id ≡ n
 founder_is config id ids n h = founder_by _ _ n h

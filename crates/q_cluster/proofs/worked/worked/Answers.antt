@@ -3,7 +3,7 @@ use Rattle.std.proofs.Common.{rules, ◌≡◌, Option, Err, subst}
 use Rattle.std.specs.FinMap as fin
 use Rattle.sc_node.specs.State.{NodeState}
 use Rattle.q_history.specs.Clusters.{entered}
-use Rattle.q_history.specs.declared.fault.ClusterFault.TheVariants.{NoSuchJob}
+use Rattle.reasons.specs.declared.Reason.TheVariants.{NoSuchJob}
 use Rattle.q_cluster.proofs.worked.worked.Goals as goal
 
 pub returns-clause-desk_of_a_founder : goal.returns-clause-desk_of_a_founder

@@ -3,7 +3,7 @@ use Rattle.std.proofs.Common.{ℕ, [], Err, refl, sym, ap, ◌∙◌, subst, app
 use Rattle.reasons.specs.Table.{number}
 use Rattle.forms.specs.Calls.{Steps}
 use Rattle.q_book.specs.Books.{asked}
-use Rattle.q_book.specs.Faults.{memory}
+use Rattle.reasons.specs.declared.Reason.TheVariants.{OutOfMemory as memory}
 use Rattle.q_net.specs.declared.replies.Reply.TheVariants.{Refused}
 use Rattle.q_net.proofs.served.ask.Goals as goal
 

@@ -1,7 +1,7 @@
 -- worked_lines: 81 is told just where there is no such node, and no answer of another program.
 use Rattle.std.proofs.Common.{◌≡◌, ℕ, Vec, Global, inl, inr, ap}
-use Rattle.q_book.specs.declared.fault.BookFault.{BookFault}
-use Rattle.q_book.specs.declared.fault.BookFault.TheVariants.{Node, Desk, BadValue}
+use Rattle.reasons.specs.declared.Reason.{Reason}
+use Rattle.reasons.specs.declared.Reason.TheVariants.{BadValue}
 use Rattle.q_history.specs.State.{ClusterState}
 use Rattle.q_nodes.specs.Faults.{no_such_node, of_fault}
 use Rattle.q_nodes.specs.Lines.{IsNode, IsTold}
@@ -14,7 +14,7 @@ use Rattle.q_nodes.proofs.Untold.{another_program}
 use Rattle.q_nodes.proofs.worked.worked_lines.Goals as goal
 
 -- no book refuses with 81
-not_of_books : (f : BookFault) → no_such_node ≡ of_fault f → ⊥
+not_of_books : (f : Reason) → no_such_node ≡ of_fault f → ⊥
 not_of_books (Node f) e = absurd (cc)
 not_of_books (Desk f) e = absurd (cc)
 not_of_books BadValue e = absurd (cc)

@@ -2,10 +2,10 @@
 use Rattle.std.proofs.Common.{Option, Result, Ok, ap, ◌∙◌}
 use Rattle.q_session.specs.declared.job.Job.{Job}
 use Rattle.q_book.specs.State.{BookState}
-use Rattle.q_book.specs.declared.fault.BookFault.{BookFault}
+use Rattle.reasons.specs.declared.Reason.{Reason}
 use Rattle.q_replay.proofs.call.hand_out.Goals as goal
 
 pub returns : goal.returns
 returns c =
     let new : BookState = c.hand_out.new.self in
-    ((c.in-Some._job, c.in_ok-_job.ensures ∙ ap (λ (o : Option Job). let r : Result (Option Job × BookState) BookFault = Ok (o, new) in r) c.in-Some.is), tt)
+    ((c.in-Some._job, c.in_ok-_job.ensures ∙ ap (λ (o : Option Job). let r : Result (Option Job × BookState) Reason = Ok (o, new) in r) c.in-Some.is), tt)

@@ -2,7 +2,7 @@
 use Rattle.std.proofs.Common.{Option, IsSome, refl, subst}
 use Rattle.q_book.specs.State.{BookState}
 use Rattle.q_book.specs.Books as book
-use Rattle.q_book.specs.Faults.{memory}
+use Rattle.reasons.specs.declared.Reason.TheVariants.{OutOfMemory as memory}
 use Rattle.q_cluster.proofs.Tables.{steps_at, steps_of}
 use Rattle.q_cluster.proofs.books.Books.post.Goals as goal
 

@@ -3,7 +3,7 @@ use Rattle.std.proofs.Common.{ℕ, List, Option, IsSome, refl, subst}
 use Rattle.forms.specs.Calls.{Steps}
 use Rattle.q_book.specs.State.{BookState}
 use Rattle.q_book.specs.Books as book
-use Rattle.q_book.specs.Faults.{memory}
+use Rattle.reasons.specs.declared.Reason.TheVariants.{OutOfMemory as memory}
 use Rattle.q_cluster.proofs.Tables.{steps_at}
 use Rattle.q_cluster.proofs.books.Books.store.Goals as goal
 
