@@ -9,3 +9,4 @@ mod Truth
 mod Reading
 mod Endings
 mod Untold
+mod NoNode

@@ -58,7 +58,7 @@ not_gone n false h = refl
 
 module _ (c : ClusterState) (id : ℕ) (value : List ℕ) where
   by_parts : (crashed : Bool) (node : Option NodeState) (desk : Option DeskState) (b : BookState) (e : Reason) → Some b ≡ booked c id node desk → is_some (live crashed node) ≡ true
-      → (b.node.gone ≡ false → book.stored b value ≡ Err e) → by_book c id (live crashed node) desk (stored c id value) ≡ Err (of_book e)
+      → (b.node.gone ≡ false → book.stored b value ≡ Err e) → by_book c id (live crashed node) desk (stored c id value) ≡ Err e
   by_parts crashed None desk b e is lives says = absurd cc
   by_parts crashed (Some n) None b e is lives says = absurd cc
   by_parts true (Some n) (Some d) b e is lives says = absurd (true≢false (sym lives))

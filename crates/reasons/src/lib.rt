@@ -1,7 +1,8 @@
 //! Every refusal that a caller is told, each with its number and its name.
 //!
-//! A crate that refuses has faults of its own, with what each carries, and tells of each the [`Reason`] that stands
-//! here. The definition of the table is in `specs/Table.antt`. Two names stand twice, for texts and for messages: 2 and
+//! From the node up a call that refuses answers the [`Reason`] itself. Faults that carry more (a unit, a line, a place)
+//! are of the crates that refuse with them, and tell of each its reason. The definition of the table is in
+//! `specs/Table.antt`. Two names stand twice, for texts and for messages: 2 and
 //! 73 are both `TooLong`, 6 and 77 both `BadField`. No number does.
 #![tactic(auto)]
 
@@ -80,25 +81,41 @@ pub enum Reason {
     AnswerKind = 30,
     NoteForm = 31,
     // Calls of nodes and views.
+    /// The node has not joined, so it can begin no operation.
     NotJoined = 41,
+    /// The node has left.
     Gone = 42,
+    /// 64 operations are open.
     SessionsFull = 43,
+    /// The id was used before, also by a node that left or crashed.
     IdUsed = 44,
     BadFraction = 45,
+    /// A view would have more than 256 ids.
     ViewFull = 46,
+    /// More than 1,024 ids would be known to have entered, joined or left.
     FactsFull = 47,
+    /// The node has begun 2^32 operations.
     NumbersOut = 48,
+    /// The founders' ids do not rise strictly, are not 1 to 256, or lack the node's own.
     BadFounders = 49,
     // Programs, queries and journals.
+    /// A value has another length than those of the version.
     BadValue = 50,
+    /// No program has this id.
     UnknownProgram = 51,
+    /// A 1,025th program would come.
     TableFull = 52,
+    /// A 4,097th query or a 65,537th entry of the journal would come.
     BookFull = 53,
+    /// No query has this number.
     NoSuchQuery = 54,
+    /// The result is of another node, program, view or start, or of a query that does not run.
     Stranger = 55,
+    /// The query's answer is recorded.
     AlreadyAnswered = 56,
     JournalForm = 57,
     JournalMismatch = 58,
+    /// The program was checked for records of other lengths than those of the desk's views.
     WrongBounds = 59,
     // Job boards.
     RowFull = 61,
@@ -114,8 +131,11 @@ pub enum Reason {
     /// Told as `BadField`.
     MessageField = 77,
     // Events, requests, transports and files.
+    /// No such node was ever there, or it has left or crashed.
     NoSuchNode = 81,
+    /// No message of that number was sent.
     NeverSent = 82,
+    /// No job of this number was handed out.
     NoSuchJob = 83,
     BadRequest = 84,
     CutRequest = 85,
@@ -128,7 +148,7 @@ pub enum Reason {
     WroteRecord = 94,
     BadPlace = 95,
     StepsOut = 96,
-    // Memory.
+    /// Memory was refused.
     OutOfMemory = 99,
 }
 
