@@ -2,8 +2,8 @@
 //!
 //! From the node up a call that refuses answers the [`Reason`] itself. Faults that carry more (a unit, a line, a place)
 //! are of the crates that refuse with them, and tell of each its reason. The definition of the table is in
-//! `specs/Table.antt`. Two names stand twice, for texts and for messages: 2 and
-//! 73 are both `TooLong`, 6 and 77 both `BadField`. No number does.
+//! `specs/Table.antt`. Two names stand twice, for texts and for messages: 2 and 73 are both `TooLong`, 6 and 77 both
+//! `BadField`. No number does.
 #![tactic(auto)]
 
 ghost use Rattle.std.specs.Prelude.{◌≡◌, Contains, map};
