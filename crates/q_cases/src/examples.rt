@@ -1,15 +1,12 @@
-//! Runs the commands of documents as they are written there, over the files that they name, and lists the refusals.
+//! Runs the commands of documents as they are written there, over the files that they name.
 //!
 //! In a document's blocks that begin with a line "```console" a line `$ ./bqview WORDS`, or `$ ./look WORDS`, is a
 //! command, and what stands behind it, up to the next or to the block's end, is what it prints: its standard output,
 //! and then what explains its refusal. Each command is printed, with whether it prints just that.
-//!
-//! The refusals are the rows `| NUMBER | NAME |` that `docs/REFUSALS.md` has. `./check-documents` looks them up there.
 
 use crate::commands::{explained, gathered_notes};
 use q_command::{FileCommand, Wanted, read_words};
 use q_outside::{Counted, Files, Folder, LONGEST_TEXT};
-use reasons::Reason;
 use std::alloc::Global;
 use std::io::{ErrorKind, Write};
 use std::{io, str};
@@ -175,14 +172,6 @@ fn run_document<F: Files>(
     };
     let text = text_of(bytes.as_slice())?;
     run_text(rt, alloc, &mut document, text, files)
-}
-
-/// Lists the refusals, each as the row that the document has.
-pub fn list_refusals(rt: &impl Print) -> io::Result<()> {
-    for reason in Reason::all().iter() {
-        println!(rt; "| {} | {} |", reason.number(), reason.name())?;
-    }
-    Ok(())
 }
 
 /// Runs the commands of each document that these lines name.

@@ -41,8 +41,6 @@
 //!
 //! `== documents`: each line names a document, whose commands are run as they are written there.
 //!
-//! `== refusals`: the refusals are listed.
-//!
 //! `== nodes`: scripts of nodes in threads, over memory and over sockets of loopback.
 //!
 //! | Line | What it does |
@@ -82,7 +80,7 @@ mod writer;
 
 use crate::calls::run_calls;
 use crate::commands::run_commands;
-use crate::examples::{list_refusals, run_documents};
+use crate::examples::run_documents;
 use crate::nodes::run_nodes;
 use std::io;
 use std::net::Net;
@@ -109,7 +107,6 @@ fn run<T: Net + Wait + Threads + Clock + Sync>(
         "commands" => run_commands(rt, rt.alloc(), lines),
         "calls" => run_calls(rt, rt.alloc(), lines),
         "documents" => run_documents(rt, lines),
-        "refusals" => list_refusals(rt),
         "nodes" => run_nodes(rt, threads, rt.alloc(), lines),
         kind => println!(rt; "no kind {kind}"),
     }
