@@ -1,6 +1,6 @@
 //! Worked values of what scripts do and print.
 
-ghost use Rattle.std.specs.Prelude.{◌≡◌, ℕ, List, [], ◌∷◌, length, Bool, true, false, Some, None, Err, codes};
+ghost use Rattle.std.specs.Prelude.{◌≡◌, ℕ, List, [], ◌∷◌, length, Bool, true, false, Some, None, Ok, Err, codes};
 ghost use Rattle.std.specs.FinSet as set;
 ghost use Rattle.bq_check.specs.Certificate.{Certificate};
 ghost use Rattle.bq_insn.specs.declared.fault.DecodeFault.TheVariants as decode_fault;
@@ -12,7 +12,10 @@ ghost use Rattle.q_outside.specs.Memory.{Writes, fails_next};
 ghost use Rattle.q_outside.specs.declared.memory_files.MemoryFiles.{MemoryFiles as Memory};
 ghost use Rattle.q_history.specs.Calls.{Takes};
 ghost use Rattle.reasons.specs.declared.Reason.TheVariants.{OutOfMemory as memory};
+ghost use Rattle.q_history.specs.Clusters.{stepped};
 ghost use Rattle.q_history.specs.State.{ClusterState};
+ghost use Rattle.q_history.specs.declared.event.ClusterStep.{ClusterStep};
+ghost use Rattle.q_session.specs.declared.ran.Ran.{Ran};
 ghost use Rattle.q_history.specs.declared.event.ClusterEvent.TheVariants as event;
 ghost use Rattle.q_history.specs.declared.event.EventAnswer.TheVariants as told;
 ghost use Rattle.reasons.specs.declared.Reason.TheVariants as reasons;
@@ -43,9 +46,11 @@ pub fn worked()
     // Refusals.
     ensures at_a_unit { (fault : _) → refusal.place (refused.Bytes (decode_fault.At 3 fault)) ≡ at.Unit 3 }
 
-    // Deliveries of `all`: where one is awaited, an `all` that prints nothing has tried one; want of memory is no try, and
-    // is told.
+    // Deliveries of `all`: where one is awaited, an `all` that prints nothing has tried one, and it is tried no more; a
+    // try is that event of the cluster; want of memory is no try, and is told.
     ensures one_is_tried { (s t : SimState) → Awaits s 7 3 → DeliversAll 1 s [] t → (m n : ℕ) × Tries s m n t }
+    ensures never_silent { (s : SimState) → Awaits s 7 3 → DeliversAll 1 s [] s → ⊥ }
+    ensures tried_is_taken { (s t : SimState) (said : ClusterStep) (d : ClusterState) → ((ran : Ran) → stepped ran s.cluster (event.Deliver 7 3) ≡ Ok (said, d)) → Tries s 7 3 t → t.cluster ≡ d }
     ensures want_of_memory_is_no_try { (s t : SimState) (h : Tries s 7 3 t) → h.result ≡ Err memory → ⊥ }
     ensures want_of_memory_is_a_refusal { (s t : SimState) (text : List ℕ) → WantsMemory s text t → t.faults ≡ with_fault s.line refused.OutOfMemory s.faults }
     ensures want_of_memory_is_told { refusal.refusal_line refused.OutOfMemory ≡ codes "refused 99 OutOfMemory\n" }

@@ -1,5 +1,5 @@
 -- What tables of new desks hold, and why a node of a new id is not refused.
-use Rattle.std.proofs.Common.{rules, ◌≡◌, Option, Err, subst}
+use Rattle.std.proofs.Common.{rules, ◌≡◌, ◌∙◌, Option, Err, subst, sym}
 use Rattle.std.specs.FinMap as fin
 use Rattle.sc_node.specs.State.{NodeState}
 use Rattle.q_history.specs.Clusters.{entered}
@@ -11,6 +11,12 @@ returns-clause-desk_of_a_founder c = search (rules, fin.gets)
 
 pub returns-clause-desk_of_one_that_enters : goal.returns-clause-desk_of_one_that_enters
 returns-clause-desk_of_one_that_enters c = search (rules, fin.gets)
+
+pub returns-clause-forgotten : goal.returns-clause-forgotten
+returns-clause-forgotten c = λ old new e q view ran desk query answered none stay.
+    let later = stay 7 0 e q view ran desk query answered in
+    let there = sym none ∙ later.1 in
+    absurd (cc)
 
 pub returns-clause-taken : goal.returns-clause-taken
 returns-clause-taken c = λ old new none t.

@@ -1,17 +1,24 @@
 -- worked: what the definitions say of programs, deliveries, refusals, printed lines and scripts, over files in
 -- memory.
-use Rattle.std.proofs.Common.{◌≡◌, ◌+◌, ◌++◌, append-nil, length, true≢false, refl, ap, sym, ◌∙◌, inl, inr, subst, arith}
+use Rattle.std.proofs.Common.{◌≡◌, ◌≢◌, Result, Ok, Err, ◌+◌, ◌++◌, append-nil, length, true≢false, refl, ap, sym, ◌∙◌, inl, inr, subst, arith}
 use Rattle.std.specs.FinSet as set
 use Rattle.std.specs.Fmt.{digits}
 use Rattle.bq_insn.specs.Insn.{unit_bytes}
 use Rattle.bq_insn.specs.Slots.{spelling}
 use Rattle.q_outside.specs.Memory.{Writes}
+use Rattle.forms.proofs.Calls.{no_refusal, same_answer}
+use Rattle.reasons.specs.declared.Reason.{Reason}
+use Rattle.reasons.specs.declared.Reason.TheVariants.{OutOfMemory}
+use Rattle.q_session.specs.declared.ran.Ran.{Ran}
 use Rattle.q_history.specs.Calls.{Takes}
+use Rattle.q_history.specs.Clusters.{stepped}
+use Rattle.q_history.specs.State.{ClusterState}
+use Rattle.q_history.specs.declared.event.ClusterStep.{ClusterStep}
 use Rattle.q_history.specs.declared.event.ClusterEvent.TheVariants as event
-use Rattle.q_sim.specs.Delivered.{pair_cmp}
+use Rattle.q_sim.specs.Delivered.{Deliveries, pair_cmp}
 use Rattle.q_sim.specs.Simulates.{SavesAny, SimState, Tries}
 use Rattle.q_sim.specs.Truths.{IsTrueAnswer}
-use Rattle.q_sim.proofs.Pairs.{pair_cmp_total}
+use Rattle.q_sim.proofs.Pairs.{in_itself, pair_cmp_total}
 use Rattle.q_sim.proofs.worked.worked.Goals as goal
 
 pub returns-clause-other_bytes : goal.returns-clause-other_bytes
@@ -32,6 +39,25 @@ returns-clause-one_is_tried c = λ s t awaits h. elim h [
   | inr (inl short) ↦ let e = short.2 in absurd (cc)
   | inr (inr d) ↦ (d.0, d.1, subst (λ (x : SimState). Tries s d.0 d.1 x) (sym d.5.0) d.4)
 ]
+
+pub returns-clause-never_silent : goal.returns-clause-never_silent
+returns-clause-never_silent c = λ s awaits h. elim h [
+  | inl none ↦ absurd (none.0 7 3 awaits)
+  | inr (inl short) ↦ let e = short.2 in absurd (cc)
+  | inr (inr d) ↦ absurd (true≢false (
+      sym (in_itself s.delivered (d.0, d.1))
+      ∙ ap (λ (x : Deliveries). set.contains x (d.0, d.1)) (sym d.4.delivered ∙ ap (λ (x : SimState). x.delivered) (sym d.5.0))
+      ∙ d.3.awaits.left))
+]
+
+-- an accepted event leads to one cluster
+same_cluster : (r : Ran) (s : SimState) (said : ClusterStep) (d t : ClusterState) (result : Result ClusterStep Reason)
+    → ((ran : Ran) → stepped ran s.cluster (event.Deliver 7 3) ≡ Ok (said, d)) → result ≢ Err OutOfMemory → Takes s.cluster (event.Deliver 7 3) t result → t ≡ d
+same_cluster r s said d t (Ok told) is loud takes = ap (λ (x : ClusterStep × ClusterState). x.1) (same_answer (told, t) (said, d) (sym takes.stepped ∙ is takes.ran))
+same_cluster r s said d t (Err f) is loud takes = absurd (no_refusal f (said, d) (sym (takes.1 (λ e. loud (ap Err e)) r) ∙ is r))
+
+pub returns-clause-tried_is_taken : goal.returns-clause-tried_is_taken
+returns-clause-tried_is_taken c = λ s t said d is h. same_cluster (record { acc = 0; steps = 0 }) s said d t.cluster h.result is h.answered h.takes
 
 pub returns-clause-want_of_memory_is_no_try : goal.returns-clause-want_of_memory_is_no_try
 returns-clause-want_of_memory_is_no_try c = λ s t h is. h.answered is
