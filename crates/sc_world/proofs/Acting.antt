@@ -18,9 +18,12 @@ use Rattle.sc_world.specs.declared.act.Report.{Report}
 use Rattle.sc_world.specs.declared.event.WorldEvent.{WorldEvent}
 use Rattle.sc_world.specs.declared.event.WorldEvent.TheVariants as event
 use Rattle.sc_world.specs.declared.event.Sent.{Sent}
+use Rattle.sc_world.specs.declared.event.WorldStep.{WorldStep}
 use Rattle.sc_world.specs.State.{WorldState, Past, world_of, past_of}
 use Rattle.sc_world.specs.Ledgers.{recorded, numbered, stopped}
-use Rattle.sc_world.specs.Worlds.{live_at, by_live, took, acts, acted, of_entered, tag_of, crashes, enters, event_of, stepped, founder_nodes, founded_nodes}
+use Rattle.forms.specs.Calls.{Steps}
+use Rattle.std.specs.Prelude.{IsErrAnd}
+use Rattle.sc_world.specs.Worlds.{Outcome, live_at, by_live, took, acts, acted, of_entered, tag_of, crashes, enters, event_of, stepped, founder_nodes, founded_nodes}
 use Rattle.sc_world.specs.Acts.{outcome}
 
 pub act_step : (w : WorldState) (e : WorldEvent) (id : ℕ) (a : Act) (r : Report) (n : NodeState) (nodes : fin.FinMap nat_cmp NodeState) (past : Past) (tag : Option ℕ) (numbers : Sent)
@@ -35,6 +38,16 @@ act_stepped w id act.Leave = refl
 act_stepped w id (act.Store value) = refl
 act_stepped w id act.Collect = refl
 act_stepped w id (act.Deliver number) = refl
+
+-- an act that the node refuses, or for which memory was refused
+pub act_refused : (w new : WorldState) (id : ℕ) (a : Act) (said : Result Outcome Reason) (f : Reason) (r : Result WorldStep Reason) → by_live (live_at w id) (acted w.sent a) ≡ said → new ≡ w
+    → (f ≢ reasons.OutOfMemory → said ≡ Err f) → IsErrAnd r (λ e. e ≡ f) → Steps reasons.OutOfMemory (stepped w (event_of id a)) w new r
+act_refused w new id a said f (Ok s) is same told gives = absurd gives
+act_refused w new id a said f (Err e) is same told gives = (
+  same,
+  λ loud. act_stepped w id a ∙ ap (took w (event_of id a) id) (is ∙ told (λ m. loud (gives ∙ m)))
+      ∙ ap (λ (x : Reason). let q : Result (WorldStep × WorldState) Reason = Err x in q) (sym gives),
+)
 
 by_absent : (w : WorldState) (id : ℕ) (o : Option NodeState) → is_some o ≡ false → enters w id o ≡ enters w id None
 by_absent w id None h = refl

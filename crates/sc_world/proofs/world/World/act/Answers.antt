@@ -7,7 +7,7 @@ use Rattle.sc_world.specs.Ledgers.{IsRight, recorded, numbered}
 use Rattle.sc_world.specs.Worlds.{event_of, stepped}
 use Rattle.sc_world.proofs.Histories.{history_next}
 use Rattle.sc_world.proofs.Moving.{seen, seen_right}
-use Rattle.sc_world.proofs.Acting.{act_stepped, act_step}
+use Rattle.sc_world.proofs.Acting.{act_refused, act_stepped, act_step}
 use Rattle.sc_world.proofs.world.World.act.Goals as goal
 
 module _ (c : goal.After-event_of) where
@@ -54,6 +54,16 @@ module _ (c : goal.After-record-sent) where
       (c.record-sent.ensures.past ∙ (λ i. recorded (c.in_ok-reserve.ensures.past i) (c.event_of.ensures i) c.args.id c.in_ok-outs.field-0.outs c.in_ok-outs.field-0.progress c.in_ok-outs.field-0.begun))
       c.tag_of-tag.ensures
       (c.record-sent.ensures.sent ∙ ap (λ (p : Past). numbered p c.in_ok-outs.field-0.outs) c.in_ok-reserve.ensures.past)
+
+pub returns-in_err-outs : goal.returns-in_err-outs
+returns-in_err-outs c =
+    let v = world.the_view c.self.inside in
+    let crashed : c.has_crashed-crashed.result ≡ set.contains v.crashed c.args.id
+    = c.has_crashed-crashed.ensures ∙ ap (λ (p : Past). set.contains p.crashed c.args.id) c.in_ok-reserve.ensures.past in
+    let sent : c.sent.result.now ≡ v.sent = c.sent.ensures ∙ ap (λ (p : Past). p.sent) c.in_ok-reserve.ensures.past in
+    rw (← c.self.view_is) (act_refused v (world_of c.act.new.self c.reserve.new.self.past) c.args.id c.args.act.now _ c.in_err-outs.field-0.0 c.from_residual-in_err-outs.result
+    (seen v c.self.invariant c.args.id c.args.act.now c.has_crashed-crashed.result c.sent.result.now crashed sent)
+    (λ i. world_of (c.in_err-outs.ensures.0 i) (c.in_ok-reserve.ensures.past i)) c.in_err-outs.ensures.1 c.from_residual-in_err-outs.ensures.1)
 
 pub invariant_of-self-2 : goal.invariant_of-self-2
 invariant_of-self-2 c = history_next (world.the_view c.self.inside) (event_of c.args.id c.args.act.now) _ _ c.self.invariant (step c)
