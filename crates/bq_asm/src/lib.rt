@@ -11,6 +11,7 @@
 //!   instruction, then 2 TooLong for more than 4,096 units. 99 OutOfMemory may stand in place of any
 //!   but of a first line that is of no form.
 //! - [`disassemble`] writes the one spelling of a text that has distances alone.
+//! - [`Mnemonic`] is what the first word of an instruction says, and [`Mnemonic::all`] has every one.
 //! - What is written of a text is assembled to that text, and a source spells one text at most
 //!   ([`laws`]).
 //!
@@ -58,3 +59,4 @@ pub mod worked;
 pub use assembler::assemble;
 pub use disassembler::disassemble;
 pub use fault::AsmFault;
+pub use mnemonic::Mnemonic;

@@ -1,6 +1,6 @@
 ghost use Rattle.std.specs.Prelude.{◌≡◌, ◌++◌, find};
 ghost use Rattle.std.specs.Str.{bytes_eq};
-ghost use Rattle.bq_asm.specs.Mnemonic.{name, op_name, width_name, relation_name, extension_name, order_name, bits_name, mnemonic_at};
+ghost use Rattle.bq_asm.specs.Mnemonic.{name, op_name, width_name, relation_name, extension_name, order_name, bits_name, all_mnemonics, mnemonic_at};
 
 use bq_insn::{ByteOrder, Extension, Size};
 use bq_word::{AluOp, Relation, SignBits, SwapBits, Width};
@@ -219,6 +219,13 @@ fn order_name(order: ByteOrder, bits: SwapBits) -> &'static str
 }
 
 impl Mnemonic {
+    /// Every mnemonic.
+    pub fn all() -> &'static [Mnemonic]
+        ensures { result.now ≡ all_mnemonics }
+    {
+        &MNEMONICS
+    }
+
     /// The text of a mnemonic.
     pub fn name(self) -> &'static str
         ensures { result.now ≡ name self }
@@ -250,7 +257,7 @@ impl Mnemonic {
     }
 
     /// The mnemonic of this text, where there is one.
-    pub fn read(text: &str) -> Option<Mnemonic>
+    pub(crate) fn read(text: &str) -> Option<Mnemonic>
         ensures { result ≡ mnemonic_at text.now }
     {
         find(&MNEMONICS, text)

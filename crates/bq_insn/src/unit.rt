@@ -1,13 +1,14 @@
 //! The first unit of an instruction: its opcode and its fields.
 
 ghost use Rattle.std.specs.Prelude.{◌≡◌, ◌<◌};
-ghost use Rattle.bq_insn.specs.Insn.{code_of, offset_of, source_of, src_of, imm_of, extension_width, extension_bits, opcode_of, fields_of};
+ghost use Rattle.bq_insn.specs.Insn.{source_of, src_of, imm_of, extension_width, extension_bits, opcode_of, fields_of};
 ghost use Rattle.bq_word.specs.Word.{sign_bits, swap_bits};
 
 use crate::fields::{Fields, ZERO};
 use crate::insn::{Extension, Insn, Operand};
 use crate::opcode::{AluCode, Opcode, Source};
-use bq_word::{AluOp, SignBits, SwapBits, Width};
+use crate::operation::{alu_code, signed_offset};
+use bq_word::{SignBits, SwapBits, Width};
 
 impl Operand {
     /// Where it stands.
@@ -39,37 +40,6 @@ impl Operand {
             Operand::Register(_) => 0,
             Operand::Number(number) => number.cast_unsigned(),
         }
-    }
-}
-
-/// The code of an operation, which a signed division or remainder has in common with its unsigned
-/// form.
-fn alu_code(op: AluOp) -> AluCode
-    ensures { result ≡ code_of op }
-{
-    match op {
-        AluOp::Add => AluCode::Add,
-        AluOp::Sub => AluCode::Sub,
-        AluOp::Mul => AluCode::Mul,
-        AluOp::Div | AluOp::SignedDiv => AluCode::Div,
-        AluOp::Or => AluCode::Or,
-        AluOp::And => AluCode::And,
-        AluOp::ShiftLeft => AluCode::ShiftLeft,
-        AluOp::ShiftRight => AluCode::ShiftRight,
-        AluOp::Mod | AluOp::SignedMod => AluCode::Mod,
-        AluOp::Xor => AluCode::Xor,
-        AluOp::Mov => AluCode::Mov,
-        AluOp::ArithmeticShiftRight => AluCode::ArithmeticShiftRight,
-    }
-}
-
-/// The offset of an operation: 1 where it is signed, 0 where it is unsigned or has no signed form.
-fn signed_offset(op: AluOp) -> u16
-    ensures { result ≡ offset_of op }
-{
-    match op {
-        AluOp::SignedDiv | AluOp::SignedMod => 1,
-        _ => 0,
     }
 }
 

@@ -12,7 +12,7 @@ use Rattle.bq_word.specs.declared.SwapBits.TheVariants.{B16, B32, B64}
 use Rattle.bq_word.specs.declared.Width.TheVariants.{W32, W64}
 use Rattle.bq_word.specs.declared.Width.{Width}
 use Rattle.bq_word.specs.declared.AluOp.{AluOp}
-use Rattle.bq_word.specs.declared.AluOp.TheVariants.{Add, Sub, Mul, Div, SignedDiv, Or, And, ShiftLeft, ShiftRight, Mod, SignedMod, Xor, Mov, ArithmeticShiftRight}
+use Rattle.bq_word.specs.declared.AluOp.TheVariants.{Add, Sub, Mul, Div, Or, And, ShiftLeft, ShiftRight, Mod, Xor, Mov, ArithmeticShiftRight}
 use Rattle.bq_word.proofs.Bounds.{low_bound, operation_bound, extended_bound, swapped_bound}
 use Rattle.bq_range.specs.Interval.{Interval, IsInterval, IsIn, Within, between, single, is_single, top, whole, cut}
 use Rattle.bq_range.specs.Table.{operated, row, sums, differences, products, quotients, remainders, ones, conjunctions, disjunctions, exclusive_disjunctions, shifted_left, left_shifts, right_shifts, arithmetic_right_shifts, negatives, negated, extensions, sign_extended, low_range, swapped_range}
@@ -241,16 +241,15 @@ row_within width Add a b c d h = sums_within (bits_of width) a b c d h
 row_within width Sub a b c d h = differences_within (bits_of width) a b c d h
 row_within width Mul a b c d h = products_within (bits_of width) a b c d h.left h.right
 row_within width Div a b c d h = quotients_within (bits_of width) a b c d h
-row_within width SignedDiv a b c d h = itself (whole (bits_of width))
 row_within width Or a b c d h = disjunctions_within a b c d (omega (arith, words width, h.c_fits)) (omega (arith, words width, h.d_fits)) h.left h.right
 row_within width And a b c d h = conjunctions_within a b c d h.left h.right
 row_within width ShiftLeft a b c d h = left_shifts_within (bits_of width) a b c d h.b_ordered h.left h.right
 row_within width ShiftRight a b c d h = right_shifts_within (bits_of width) a b c d h.b_ordered h.left h.right
 row_within width Mod a b c d h = remainders_within (bits_of width) a b c d h
-row_within width SignedMod a b c d h = itself (whole (bits_of width))
 row_within width Xor a b c d h = exclusive_within a b c d (omega (arith, words width, h.c_fits)) (omega (arith, words width, h.d_fits)) h.left h.right
 row_within width Mov a b c d h = h.right
 row_within width ArithmeticShiftRight a b c d h = arithmetic_within (bits_of width) a b c d h
+row_within width _ a b c d h = itself (whole (bits_of width))
 
 -- ---- operands cut to their low bits
 
@@ -357,20 +356,16 @@ row_whole : (width : Width) (op : AluOp) → Fits (bits_of width) (row (bits_of 
 row_whole width Add = sums_fit (bits_of width) (whole (bits_of width)) (whole (bits_of width)) (whole_fits (bits_of width)) (whole_fits (bits_of width))
 row_whole width Sub = differences_fit (bits_of width) (whole (bits_of width)) (whole (bits_of width)) (whole_fits (bits_of width)) (whole_fits (bits_of width))
 row_whole width Mul = products_fit (bits_of width) (whole (bits_of width)) (whole (bits_of width))
-row_whole width Div = whole_fits (bits_of width)
-row_whole width SignedDiv = whole_fits (bits_of width)
 row_whole W32 Or = omega (arith, ones_least (max (2 ^ 32 - 1) (2 ^ 32 - 1)) 32 (omega arith) (omega arith))
 row_whole W64 Or = omega (arith, ones_least (max (2 ^ 64 - 1) (2 ^ 64 - 1)) 64 (omega arith) (omega arith))
 row_whole width And = omega (arith, pow_pos (bits_of width))
 row_whole width ShiftLeft = left_shifts_fit (bits_of width) (whole (bits_of width)) (whole (bits_of width))
 row_whole W32 ShiftRight = omega arith
 row_whole W64 ShiftRight = omega arith
-row_whole width Mod = whole_fits (bits_of width)
-row_whole width SignedMod = whole_fits (bits_of width)
 row_whole W32 Xor = omega (arith, ones_least (max (2 ^ 32 - 1) (2 ^ 32 - 1)) 32 (omega arith) (omega arith))
 row_whole W64 Xor = omega (arith, ones_least (max (2 ^ 64 - 1) (2 ^ 64 - 1)) 64 (omega arith) (omega arith))
-row_whole width Mov = whole_fits (bits_of width)
 row_whole width ArithmeticShiftRight = arithmetic_fit (bits_of width) (whole (bits_of width)) (whole (bits_of width)) (whole_fits (bits_of width))
+row_whole width _ = whole_fits (bits_of width)
 
 row_fits : (width : Width) (op : AluOp) (a b : Interval) → a.lo ≤ a.hi → b.lo ≤ b.hi → a.hi < 2 ^ bits_of width → b.hi < 2 ^ bits_of width → (row (bits_of width) op a b).hi < 2 ^ bits_of width
 row_fits width op a b o p h k =

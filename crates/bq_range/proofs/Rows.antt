@@ -9,7 +9,7 @@ use Rattle.bq_word.proofs.Low.{sub_is, mod_is}
 use Rattle.bq_word.proofs.Bounds.{operation_bound}
 use Rattle.bq_word.specs.declared.Width.{Width}
 use Rattle.bq_word.specs.declared.AluOp.{AluOp}
-use Rattle.bq_word.specs.declared.AluOp.TheVariants.{Add, Sub, Mul, Div, SignedDiv, Or, And, ShiftLeft, ShiftRight, Mod, SignedMod, Xor, Mov, ArithmeticShiftRight}
+use Rattle.bq_word.specs.declared.AluOp.TheVariants.{Add, Sub, Mul, Div, Or, And, ShiftLeft, ShiftRight, Mod, Xor, Mov, ArithmeticShiftRight}
 use Rattle.bq_range.specs.Interval.{Interval, IsIn, between, single, top}
 use Rattle.bq_range.specs.Table.{row, sums, differences, products, quotients, remainders, ones, disjunctions, shifted_left, left_shifts, right_shifts, arithmetic_right_shifts}
 use Rattle.bq_range.proofs.Held.{words, IsIn-whole, pick, pick_le, pick_lt, pick_eq, held_both, div_mono}
@@ -160,13 +160,12 @@ row_holds width Add a b x y p q h k = sums_hold (bits_of width) a b x y p q h k
 row_holds width Sub a b x y p q h k = rw (sub_is (bits_of width) x y, same width b y q k) (differences_hold (bits_of width) a b x y p q h k)
 row_holds width Mul a b x y p q h k = products_hold (bits_of width) a b x y h k
 row_holds width Div a b x y p q h k = rw (same width a x p h, same width b y q k) (quotients_hold a b x y h k)
-row_holds width SignedDiv a b x y p q h k = IsIn-whole (bits_of width) (operation (bits_of width) SignedDiv x y) (operation_bound (bits_of width) SignedDiv x y)
 row_holds width Or a b x y p q h k = rw (same width a x p h, same width b y q k) (disjunctions_hold a b x y (omega (arith, words width)) (omega (arith, words width)) h k)
 row_holds width And a b x y p q h k = rw (same width a x p h, same width b y q k) (record { low = omega arith; high = omega (arith, and_le_l x y, and_le_r x y) })
 row_holds width ShiftLeft a b x y p q h k = left_shifts_hold (bits_of width) a b x y h k
 row_holds width ShiftRight a b x y p q h k = rw (same width a x p h) (right_shifts_hold (bits_of width) a b x y h k)
 row_holds width Mod a b x y p q h k = rw (same width a x p h, same width b y q k) (remainders_hold a b x y h k)
-row_holds width SignedMod a b x y p q h k = IsIn-whole (bits_of width) (operation (bits_of width) SignedMod x y) (operation_bound (bits_of width) SignedMod x y)
 row_holds width Xor a b x y p q h k = rw (same width a x p h, same width b y q k) (record { low = omega arith; high = xor_ones x y (max a.hi b.hi) (omega (arith, words width)) (omega arith) (omega arith) })
 row_holds width Mov a b x y p q h k = rw (same width b y q k) k
 row_holds width ArithmeticShiftRight a b x y p q h k = arithmetic_right_shifts_hold (bits_of width) a b x y p h k
+row_holds width op a b x y p q h k = IsIn-whole (bits_of width) (operation (bits_of width) op x y) (operation_bound (bits_of width) op x y)

@@ -4,7 +4,7 @@ use Rattle.std.specs.Prelude.{◌≡◌, ◌≤◌, ℕ, ◌+◌, ◌-◌, ◌*�
 use Rattle.std.specs.Int.Count.{count_leading_zeros}
 use Rattle.bq_word.specs.Word.{operation, low, swapped, extended}
 use Rattle.bq_word.specs.declared.AluOp.{AluOp}
-use Rattle.bq_word.specs.declared.AluOp.TheVariants.{Add, Sub, Mul, Div, SignedDiv, Or, And, ShiftLeft, ShiftRight, Mod, SignedMod, Xor, Mov, ArithmeticShiftRight}
+use Rattle.bq_word.specs.declared.AluOp.TheVariants.{Add, Sub, Mul, Div, Or, And, ShiftLeft, ShiftRight, Mod, Xor, Mov, ArithmeticShiftRight}
 use Rattle.bq_range.specs.Interval.{Interval, between, single, is_single, top, whole, cut}
 
 abbrev pub sums : ℕ → Interval → Interval → Interval
@@ -64,22 +64,21 @@ arithmetic_right_shifts w a b =
     if is_single b then (if nat_lt a.hi (2 ^ (w - 1)) || nat_le (2 ^ (w - 1)) a.lo then between (operation w ArithmeticShiftRight a.lo b.lo) (operation w ArithmeticShiftRight a.hi b.lo) else whole w)
     else (if nat_lt a.hi (2 ^ (w - 1)) then between 0 a.hi else whole w)
 
--- the row of an operation
+-- the row of an operation; of one that has none, as the signed quotient and remainder, any number of w bits
 abbrev pub row : ℕ → AluOp → Interval → Interval → Interval
 row w Add a b = sums w a b
 row w Sub a b = differences w a b
 row w Mul a b = products w a b
 row w Div a b = quotients a b
-row w SignedDiv a b = whole w
 row w Or a b = disjunctions a b
 row w And a b = conjunctions a b
 row w ShiftLeft a b = left_shifts w a b
 row w ShiftRight a b = right_shifts w a b
 row w Mod a b = remainders a b
-row w SignedMod a b = whole w
 row w Xor a b = exclusive_disjunctions a b
 row w Mov a b = b
 row w ArithmeticShiftRight a b = arithmetic_right_shifts w a b
+row w _ a b = whole w
 
 -- of two words the exact result; else the row of the operands cut to w bits
 abbrev pub operated : ℕ → AluOp → Interval → Interval → Interval

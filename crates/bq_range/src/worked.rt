@@ -58,7 +58,6 @@ pub fn worked()
     ensures modulo { operated 64 op.Mod (between 5 9) (between 1 3) ≡ between 0 2 }
     ensures modulo_more { operated 64 op.Mod (between 1 3) (between 5 9) ≡ between 1 3 }
     ensures modulo_zero { operated 64 op.Mod (between 5 9) (between 0 4) ≡ between 0 9 }
-    ensures signed_modulo { operated 64 op.SignedMod (between 5 9) (between 1 3) ≡ all_words }
     ensures and { operated 64 op.And (between 3 31) all_words ≡ between 0 31 }
     ensures or { operated 64 op.Or (between 5 9) (between 1 3) ≡ between 5 15 }
     ensures xor { operated 64 op.Xor (between 5 9) (between 1 3) ≡ between 0 15 }

@@ -1,10 +1,10 @@
 -- The signed quotient and remainder of words, as the program computes them and as the definitions say them.
-use Rattle.std.proofs.Common.{◌≡◌, ℕ, zero, suc, ◌+◌, ◌-◌, ◌/◌, ◌%◌, ◌^◌, ◌<◌, ◌≤◌, Bool, true, false, cond, eqb, ltb, refl, ap, sym, ◌∙◌, subst, arith, Fits}
+use Rattle.std.proofs.Common.{◌≡◌, ℕ, zero, suc, ◌-◌, ◌/◌, ◌%◌, ◌^◌, ◌<◌, ◌≤◌, Bool, true, false, cond, eqb, ltb, refl, ap, sym, ◌∙◌, subst, arith, Fits}
 use Rattle.std.specs.Prelude.{ℤ, pos, negsuc, neg_ℤ, int_div, int_rem}
 use Rattle.std.specs.Int.{w32, w64, cast_signed, cast_unsigned}
 use Rattle.std.proofs.lemmas.Bool.{cond-false, ne_eqb}
 use Rattle.std.proofs.lemmas.Int.{of_z-to_z}
-use Rattle.std.proofs.Math.Nat.{div-le_self, mod-le, mod-eq_of_lt}
+use Rattle.std.proofs.Math.Nat.{div-le_self, mod-eq_of_lt}
 use Rattle.std.proofs.Math.Facts.{sfits_to_z}
 use Rattle.bq_word.specs.Word.{operation, low, modulo, signed}
 use Rattle.bq_word.specs.declared.AluOp.TheVariants.{SignedDiv, SignedMod}

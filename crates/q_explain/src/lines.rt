@@ -1,47 +1,44 @@
 //! What may stand on a line, by its first word.
 
-/// Arithmetic of two operands, without the width.
-const ARITHMETIC: [&str; 14] = [
-    "add", "sub", "mul", "div", "sdiv", "or", "and", "lsh", "rsh", "mod", "smod", "xor", "mov",
-    "arsh",
-];
-
-/// Conditional jumps, without the width.
-const BRANCHES: [&str; 11] = [
-    "jeq", "jne", "jgt", "jge", "jlt", "jle", "jsgt", "jsge", "jslt", "jsle", "jset",
-];
+use bq_asm::Mnemonic;
 
 /// A word without the digits at its end.
 fn stem(word: &str) -> &str {
     word.trim_end_matches(|letter: char| letter.is_ascii_digit())
 }
 
-/// The form of an instruction whose mnemonic has this text, in words.
-fn instruction(word: &str) -> &'static str {
-    let stem = stem(word);
-    if ARITHMETIC.contains(&stem) {
-        return "Arithmetic has its width after its name, and takes a register, a comma, and a\nregister or a number from -2147483648 to 2147483647: add64 r1, r2 or mov32 r0, -5.";
-    }
-    if BRANCHES.contains(&stem) {
-        return "A conditional jump has its width after its name, and takes a register, a register\nor a number, and a later label or a distance, with commas between:\njlt64 r4, 10, done or jlt64 r4, 10, +2.";
-    }
-    match stem {
-        "load" | "loads" =>
+/// The form of an instruction with this mnemonic, in words.
+fn form(mnemonic: Mnemonic) -> &'static str {
+    match mnemonic {
+        Mnemonic::Alu(..) =>
+            "Arithmetic has its width after its name, and takes a register, a comma, and a\nregister or a number from -2147483648 to 2147483647: add64 r1, r2 or mov32 r0, -5.",
+        Mnemonic::Branch(..) =>
+            "A conditional jump has its width after its name, and takes a register, a register\nor a number, and a later label or a distance, with commas between:\njlt64 r4, 10, done or jlt64 r4, 10, +2.",
+        Mnemonic::Load(_) | Mnemonic::LoadSigned(_) =>
             "Loads are load1, load2, load4, load8, loads1, loads2 and loads4, and take a\nregister, a comma, and a place whose distance is always written: load8 r4, [r1+16].",
-        "store" =>
+        Mnemonic::Store(_) =>
             "Stores are store1, store2, store4 and store8, and take a place whose distance is\nalways written, a comma, and a register or a number: store8 [r10-8], r4.",
-        "ja" =>
+        Mnemonic::Jump | Mnemonic::JumpFar =>
             "ja and ja32 take a label of a later line, or a distance with its sign: ja done or ja +2.",
-        "neg" => "neg32 and neg64 take a register: neg64 r0.",
-        "le" | "be" | "swap" =>
+        Mnemonic::Negate(_) => "neg32 and neg64 take a register: neg64 r0.",
+        Mnemonic::Order(..) =>
             "Byte orders have 16, 32 or 64 after their name, and take a register: be16 r0.",
-        "mov32s" | "mov64s" =>
+        Mnemonic::Extend(_) =>
             "Moves with a sign are mov32s8, mov32s16, mov64s8, mov64s16 and mov64s32, and take\ntwo registers: mov64s8 r0, r4.",
-        "wide" => "wide takes a register and a number below 2^64: wide r0, 1099511627785.",
-        "exit" => "exit stands alone.",
-        _ =>
-            "No instruction begins so. A line has one instruction, as mov64 r0, r3; or a label\nalone, as done: or a comment, which begins with #; or nothing.",
+        Mnemonic::Wide => "wide takes a register and a number below 2^64: wide r0, 1099511627785.",
+        Mnemonic::Exit => "exit stands alone.",
     }
+}
+
+/// The form of an instruction whose first word is this one, or has other digits at its end, in words.
+fn instruction(word: &str) -> &'static str {
+    let asked = stem(word);
+    for mnemonic in Mnemonic::all() {
+        if stem(mnemonic.name()) == asked {
+            return form(*mnemonic);
+        }
+    }
+    "No instruction begins so. A line has one instruction, as mov64 r0, r3; or a label\nalone, as done: or a comment, which begins with #; or nothing."
 }
 
 /// What an assembler line may say that begins as this text does.

@@ -28,7 +28,7 @@ impl Range {
     }
 }
 
-// The row of an operation.
+// The row of an operation. One that has none may leave any number of the width.
 fn row(width: Width, op: AluOp, a: Range, b: Range) -> Range
     requires left { a.hi < 2 ^ bits_of width }
     requires right { b.hi < 2 ^ bits_of width }
@@ -39,16 +39,15 @@ fn row(width: Width, op: AluOp, a: Range, b: Range) -> Range
         AluOp::Sub => differences(width, a, b),
         AluOp::Mul => products(width, a, b),
         AluOp::Div => quotients(a, b),
-        AluOp::SignedDiv => whole(width),
         AluOp::Or => disjunctions(a, b),
         AluOp::And => conjunctions(a, b),
         AluOp::ShiftLeft => left_shifts(width, a, b),
         AluOp::ShiftRight => right_shifts(width, a, b),
         AluOp::Mod => remainders(a, b),
-        AluOp::SignedMod => whole(width),
         AluOp::Xor => exclusive_disjunctions(a, b),
         AluOp::Mov => b,
         AluOp::ArithmeticShiftRight => arithmetic_right_shifts(width, a, b),
+        _ => whole(width),
     }
 }
 

@@ -1,8 +1,0 @@
--- signed_quotient64: the quotient of 64 bits, with signs.
-use Rattle.bq_word.proofs.Signed.{quotient64}
-use Rattle.bq_word.proofs.signed_quotient64.Goals as goal
-
-pub returns-else-b-eq0 : goal.returns-else-b-eq0
-returns-else-b-eq0 c =
-    quotient64 c.args.a c.args.b c.cast_unsigned.result c.cast_signed.result c.cast_signed-else-b-eq0.result c.wrapping_div.result c.ranges.a c.ranges.b c.if-b-eq0.false
-    c.cast_signed.ensures c.cast_signed-else-b-eq0.ensures c.wrapping_div.ensures c.cast_unsigned.ensures
