@@ -1,5 +1,5 @@
 -- What a job that is handed out or posted makes of a desk.
-use Rattle.std.proofs.Common.{◌≡◌, ◌<◌, ◌+◌, ℕ, true, List, length, Option, Some, None, Ok, refl, sym, ap, subst, ◌∙◌, rules}
+use Rattle.std.proofs.Common.{◌≡◌, ◌<◌, ◌+◌, ℕ, Bool, true, false, cond, List, length, Option, Some, None, Result, Ok, Err, refl, sym, ap, subst, ◌∙◌, rules}
 use Rattle.std.specs.Prelude.{slice_get, position, nat_lt, ◌==◌, IfSome}
 use Rattle.sc_view.specs.Views.{ViewMap}
 use Rattle.bq_range.specs.Interval.{Interval}
@@ -7,14 +7,16 @@ use Rattle.bq_check.specs.Certificate.{Certificate}
 use Rattle.q_session.specs.Right.{IsRight}
 use Rattle.q_session.specs.declared.ran.Ran.{Ran}
 use Rattle.q_session.specs.declared.query.Phase.{Phase}
-use Rattle.q_session.specs.declared.query.Phase.TheVariants.{Ready, Running, Answered}
+use Rattle.q_session.specs.declared.query.Phase.TheVariants.{Collecting, Ready, Running, Answered}
 use Rattle.q_session.specs.declared.query.Query.{Query}
 use Rattle.q_session.specs.declared.job.Job.{Job}
 use Rattle.q_desk.specs.State.{DeskState}
 use Rattle.q_desk.specs.declared.journal.Entry.{Entry}
 use Rattle.q_desk.specs.declared.journal.Entry.TheVariants as entry
-use Rattle.q_desk.specs.Desks.{most_events, how_many_run, with_phase, is_ready, is_running, is_job_of, ready_view, job_at, job_from, next_job, handed_out, posted}
-use Rattle.q_desk.specs.Queries.{next_at, next_from, next_of, checked_at, checked, IsOfRunning}
+use Rattle.q_desk.specs.Desks.{most_events, how_many_run, with_phase, is_ready, is_running, is_job_of, ready_view, job_at, job_from, next_job, handed_out, posted, posted_at, posted_to}
+use Rattle.q_desk.specs.Queries.{next_at, next_from, next_of, checked_in, checked_at, checked, IsOfRunning}
+use Rattle.forms.proofs.Calls.{no_refusal, same_fault}
+use Rattle.reasons.specs.declared.Reason.{Reason}
 use Rattle.reasons.specs.declared.Reason.TheVariants as reasons
 use Rattle.q_session.specs.Jobs.{view_in}
 use Rattle.q_session.specs.Records.{HasRecordsWithin}
@@ -91,6 +93,32 @@ posts s node j ran q view queries journal own there phase fits a after =
 -- it is one of this node
 pub own_result : (programs : List Certificate) (queries : List Query) (node : ℕ) (j : Job) (u : Unit {0}) → checked programs queries node j ≡ Ok u → (j.node == node) ≡ true
 own_result programs queries node j u h = (passed (j.node == node) reasons.Stranger (checked_at programs j (slice_get queries j.query)) u h).0
+
+-- ---- a result that may not be recorded is refused with what says so
+
+abbrev Posted : Type 0
+Posted = Result (Unit {0} × DeskState) Reason
+
+same_refusal : (e f : Reason) → (let r : Result (Unit {0}) Reason = Err e in r) ≡ Err f → (let r : Posted = Err f in r) ≡ Err e
+same_refusal e f h = ap (λ (x : Reason). let r : Posted = Err x in r) (sym (same_fault e f h))
+
+refused_by : (b : Bool) (e f : Reason) (r : Result (Unit {0}) Reason) (p : Posted) → (r ≡ Err e → p ≡ Err e) → (let x : Result (Unit {0}) Reason = Err e in x) ≡ cond b r (Err f) → cond b p (Err f) ≡ Err e
+refused_by true e f r p later h = later (sym h)
+refused_by false e f r p later h = same_refusal e f h
+
+refused_in : (s : DeskState) (j : Job) (ran : Ran) (q : Query) (phase : Phase) (e : Reason) → (let r : Result (Unit {0}) Reason = Err e in r) ≡ checked_in s.programs j q phase → posted_to s j ran q phase ≡ Err e
+refused_in s j ran q (Answered view old) e h = same_refusal e reasons.AlreadyAnswered h
+refused_in s j ran q (Running view) e h = refused_by (is_job_of s.programs j q view) e reasons.Stranger (Ok tt) _ (λ k. absurd (no_refusal e tt (sym k))) h
+refused_in s j ran q Collecting e h = same_refusal e reasons.Stranger h
+refused_in s j ran q (Ready view) e h = same_refusal e reasons.Stranger h
+
+refused_at : (s : DeskState) (j : Job) (ran : Ran) (o : Option Query) (e : Reason) → (let r : Result (Unit {0}) Reason = Err e in r) ≡ checked_at s.programs j o → posted_at s j ran o ≡ Err e
+refused_at s j ran None e h = same_refusal e reasons.Stranger h
+refused_at s j ran (Some q) e h = refused_in s j ran q q.phase e h
+
+pub refused_so : (s : DeskState) (node : ℕ) (j : Job) (ran : Ran) (e : Reason) → (let r : Result (Unit {0}) Reason = Err e in r) ≡ checked s.programs s.queries node j → posted s node j ran ≡ Err e
+refused_so s node j ran e h =
+    refused_by (j.node == node) e reasons.Stranger (checked_at s.programs j (slice_get s.queries j.query)) (posted_at s j ran (slice_get s.queries j.query)) (λ k. refused_at s j ran (slice_get s.queries j.query) e (sym k)) h
 
 -- one query runs, its own
 pub some-runs : (programs : List Certificate) (held queries : List Query) (j : Job) → held ≡ queries → IsOfRunning programs held j → 0 < how_many_run queries

@@ -1,17 +1,20 @@
 -- Desk::post: records the result of a job as its query's answer, as desk of this node.
-use Rattle.std.proofs.Common.{◌≡◌, ℕ, List, [], ◌∷◌, ◌++◌, true, rules, sym, ap, subst, ◌∙◌, arith}
+use Rattle.std.proofs.Common.{◌≡◌, ℕ, List, [], ◌∷◌, ◌++◌, true, rules, Result, Err, refl, sym, ap, subst, ◌∙◌, arith}
 use Rattle.std.specs.Prelude.{slice_get, ◌==◌}
 use Rattle.q_session.specs.Right.{IsRight}
 use Rattle.q_session.specs.declared.ran.Ran.{Ran}
 use Rattle.q_session.specs.declared.query.Phase.TheVariants.{Answered}
 use Rattle.q_session.specs.declared.query.Query.{Query}
 use Rattle.q_session.specs.declared.job.Job.{Job}
-use Rattle.q_desk.specs.Queries.{IsOfRunning}
+use Rattle.std.proofs.lemmas.Result.{err_from_is_err_and}
+use Rattle.forms.specs.Calls.{Does}
+use Rattle.reasons.specs.declared.Reason.{Reason}
+use Rattle.q_desk.specs.Queries.{IsOfRunning, checked}
 use Rattle.q_desk.specs.declared.journal.Entry.TheVariants as entry
 use Rattle.q_desk.specs.State.{DeskState}
 use Rattle.q_desk.specs.Desks.{posted, with_phase}
 use Rattle.q_desk.proofs.Keeps.{IsAppended}
-use Rattle.q_desk.proofs.Jobs.{desk-posted, posts, answers, own_result, some-runs}
+use Rattle.q_desk.proofs.Jobs.{desk-posted, posts, refused_so, answers, own_result, some-runs}
 use Rattle.q_desk.proofs.Running.{run-answered}
 use Rattle.q_desk.proofs.desk.Desk.post.Goals as goal
 
@@ -43,6 +46,17 @@ appended c =
       room = search rules;
       is = is ∙ ap (λ (k : ℕ). c.self.inside.journal.items ++ entry.Post k c.ran-ran.result ∷ []) c.query-query.ensures;
     }
+
+pub returns-in_err-check_result : goal.returns-in_err-check_result
+returns-in_err-check_result c =
+    let s : DeskState = record { lengths = c.self.inside.lengths; programs = c.self.inside.programs; queries = c.self.inside.queries.items; journal = c.self.inside.journal.items } in
+    let done = c.args.done.now in
+    let why = err_from_is_err_and c.from_residual.result c.from_residual.ensures.1 in
+    let told = c.in_err-check_result.ensures.told
+    ∙ ap (λ (queries : List Query). checked s.programs queries c.args.node c.job-job.result.now) c.deref.ensures.value
+    ∙ ap (λ (j : Job). checked s.programs s.queries c.args.node j) c.job-job.ensures.job in
+    rw (← c.self.view_is) (subst (λ (r : Result (Unit {0}) Reason). Does (posted s c.args.node done.job done.ran) s s r) (sym why.1)
+    (refl, refused_so s c.args.node done.job done.ran why.0 (ap (λ (x : Reason). let r : Result (Unit {0}) Reason = Err x in r) why.2 ∙ told)))
 
 pub overflow_sub-self : goal.overflow_sub-self
 overflow_sub-self c =
