@@ -34,8 +34,8 @@ pub store_finds_a_node : (b : BookState) (value : List ℕ) → book.stored b va
 store_finds_a_node b value h =
     not_tested reasons.NoSuchNode (book.storing b value) _ ((λ e. absurd cc), ((λ e. absurd cc), ((λ e. absurd cc), ((λ e. absurd cc), tt))))
     (not_then reasons.NoSuchNode (desk.noted b.desk (entry.Store value)) (book.stores_node b value)
-      (not_tested reasons.NoSuchNode (desk.room b.desk) _ ((λ e. absurd cc), tt) (λ e. absurd cc))
-      (λ u d. not_then reasons.NoSuchNode (node.store_begun b.node value) _ (not_begun b.node value) (λ a n e. absurd cc))) h
+    (not_tested reasons.NoSuchNode (desk.room b.desk) _ ((λ e. absurd cc), tt) (λ e. absurd cc))
+    (λ u d. not_then reasons.NoSuchNode (node.store_begun b.node value) _ (not_begun b.node value) (λ a n e. absurd cc))) h
   where
     not_begun : (n : _) (value : List ℕ) → node.store_begun n value ≡ Err reasons.NoSuchNode → ⊥
     not_begun n value =

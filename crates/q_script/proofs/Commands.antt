@@ -7,7 +7,6 @@ use Rattle.std.proofs.lemmas.Bool.{and_parts, eq-eqb, not-true}
 use Rattle.std.proofs.lemmas.Slice.Eq.{bytes_eq-Decides}
 use Rattle.q_script.specs.declared.command.TheConstants as consts
 use Rattle.q_script.specs.declared.command.Command.{Command}
-use Rattle.q_script.specs.declared.command.Command.TheVariants.{Program, Store, Ask, Deliver, All, Hand, Run, Enter, Leave, Crash, Pairs, Journal}
 use Rattle.q_script.specs.Words.{Lacks}
 use Rattle.q_script.specs.Command.{name, all_commands, command_at}
 
@@ -38,18 +37,7 @@ command_sound word c e = found word all_commands c e
 -- each word is read as its command
 pub command_again : (c : Command) → command_at (name c) ≡ Some c
 unfolding command_at
-command_again Program = refl
-command_again Store = refl
-command_again Ask = refl
-command_again Deliver = refl
-command_again All = refl
-command_again Hand = refl
-command_again Run = refl
-command_again Enter = refl
-command_again Leave = refl
-command_again Crash = refl
-command_again Pairs = refl
-command_again Journal = refl
+command_again _ = refl
 
 true_false : (b : Bool) → b ≡ true → b ≡ false → ⊥
 true_false b h k = absurd cc
@@ -63,18 +51,7 @@ lacks_by_test c [] h = tt
 lacks_by_test c (d ∷ s) h = let p = and_parts _ _ h in ((λ e. let t : eqb d c ≡ true = eq-eqb d c e in let f : eqb d c ≡ false = not-true _ p.0 in true_false _ t f), lacks_by_test c s p.1)
 
 name_test : (c : Command) → are_not 32 (name c) ≡ true
-name_test Program = refl
-name_test Store = refl
-name_test Ask = refl
-name_test Deliver = refl
-name_test All = refl
-name_test Hand = refl
-name_test Run = refl
-name_test Enter = refl
-name_test Leave = refl
-name_test Crash = refl
-name_test Pairs = refl
-name_test Journal = refl
+name_test _ = refl
 
 pub name_lacks_space : (c : Command) → Lacks 32 (name c)
 name_lacks_space c = lacks_by_test 32 (name c) (name_test c)

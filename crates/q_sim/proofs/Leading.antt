@@ -7,7 +7,7 @@ use Rattle.reasons.specs.declared.Reason.{Reason}
 use Rattle.sc_world.proofs.Inverts.{no_refusal, same_answer}
 use Rattle.q_book.specs.State.{BookState}
 use Rattle.q_script.specs.declared.line.ScriptLine.{ScriptLine}
-use Rattle.q_script.specs.declared.line.ScriptLine.TheVariants.{Program, Store, Ask, Deliver, All, Hand, Run, Enter, Leave, Crash, Pairs, Journal}
+use Rattle.q_script.specs.declared.line.ScriptLine.TheVariants.{Program, All, Pairs, Journal}
 use Rattle.q_history.specs.declared.event.ClusterEvent.{ClusterEvent}
 use Rattle.q_history.specs.declared.event.ClusterEvent.TheVariants as event
 use Rattle.q_history.specs.declared.event.ClusterStep.{ClusterStep}
@@ -97,17 +97,10 @@ saves_led writes (Some b) name s before text t after h = elim h [
 
 pub does_led : {F : Type 0} (writes : Writing F) (l : ScriptLine) (s : SimState) (before : F) (text : List ℕ) (t : SimState) (after : F) → Does writes l s before text t after → IsLed s t
 does_led writes (Program node code) s before text t after h = registers_led node code.items s text t h.0
-does_led writes (Store node value) s before text t after h = acts_led _ s text t h.0
-does_led writes (Ask node program begin) s before text t after h = acts_led _ s text t h.0
-does_led writes (Deliver message node) s before text t after h = acts_led _ s text t h.0
 does_led writes (All limit) s before text t after h = delivers_led limit s text t h.0
-does_led writes (Hand node) s before text t after h = acts_led _ s text t h.0
-does_led writes (Run job) s before text t after h = acts_led _ s text t h.0
-does_led writes (Enter id) s before text t after h = acts_led _ s text t h.0
-does_led writes (Leave id) s before text t after h = acts_led _ s text t h.0
-does_led writes (Crash id) s before text t after h = acts_led _ s text t h.0
 does_led writes Pairs s before text t after h = led_itself s t h.0.1
 does_led writes (Journal node file) s before text t after h = saves_led writes (book_at s.cluster node) (string_bytes file) s before text t after h
+does_led writes event s before text t after h = acts_led _ s text t h.0
 
 pub plays_led : {F : Type 0} (writes : Writing F) (ls : List ScriptLine) (s : SimState) (before : F) (text : List ℕ) (t : SimState) (after : F) → Plays writes ls s before text t after → IsLed s t
 plays_led writes [] s before text t after p = led_itself s t p.0
