@@ -1,8 +1,8 @@
 -- That a book keeps what each book keeps at each of its calls.
-use Rattle.std.proofs.Common.{◌≡◌, ◌≢◌, ℕ, List, Option, Some, None, Result, Ok, Err, refl, sym, ap, subst, ◌∙◌}
+use Rattle.std.proofs.Common.{◌≡◌, ◌≢◌, ℕ, Bool, true, false, cond, List, [], ◌∷◌, Option, Some, None, Result, Ok, Err, refl, sym, ap, subst, ◌∙◌}
 use Rattle.std.specs.Result.{IsErrAnd}
 use Rattle.forms.specs.Calls.{Steps, Tests, tested}
-use Rattle.forms.proofs.Calls.{AllHold, tested_pass, passes}
+use Rattle.forms.proofs.Calls.{AllHold, same_fault, tested_pass, passes}
 use Rattle.sc_members.specs.Members.{Config}
 use Rattle.sc_msg.specs.declared.message.Message.{Message}
 use Rattle.sc_msg.specs.declared.version.Version.{Version}
@@ -97,6 +97,23 @@ pub call_refused : {A C : Type 0} (old new : BookState) (said : Result (C × Boo
     → said ≡ by_call g r → new ≡ old → (f ≢ memory → r ≡ Err f) → IsErrAnd result (λ e. e ≡ f) → Steps memory said old new result
 call_refused old new said g r f (Ok a) is same told gives = absurd gives
 call_refused old new said g r f (Err e) is same told gives = (same, λ other. is ∙ ap (by_call g) (told (λ m. other (gives ∙ m))) ∙ sym (ap Err gives))
+
+-- a test that does not hold refuses whatever follows
+refuses_at : {A B : Type 0} (t : Bool) (e f : Reason) (r : Result A Reason) (s : Result B Reason) → (r ≡ Err e → s ≡ Err e) → (let x : Result A Reason = Err e in x) ≡ cond t r (Err f) → cond t s (Err f) ≡ Err e
+refuses_at true e f r s later h = later (sym h)
+refuses_at {A} {B} false e f r s later h = ap (λ (x : Reason). let y : Result B Reason = Err x in y) (sym (same_fault e f h))
+
+-- tests that refuse refuse whatever follows
+tests_refuse : {A B : Type 0} (ts : Tests Reason) (value : A) (e : Reason) (rest : Result B Reason) → (let x : Result A Reason = Err e in x) ≡ tested ts (Ok value) → tested ts rest ≡ Err e
+tests_refuse [] value e rest h = absurd (no_refusal e value h)
+tests_refuse (t ∷ ts) value e rest h = refuses_at t.0 e t.1 (tested ts (Ok value)) (tested ts rest) (λ k. tests_refuse ts value e rest (sym k)) h
+
+-- a call that its tests refuse
+pub test_refused : {A C : Type 0} (old : BookState) (ts : Tests Reason) (value : A) (rest : Result (C × BookState) Reason) (f : Reason) (result : Result C Reason)
+    → (let x : Result A Reason = Err f in x) ≡ tested ts (Ok value) → IsErrAnd result (λ e. e ≡ f) → Steps memory (tested ts rest) old old result
+test_refused old ts value rest f (Ok a) h gives = absurd gives
+test_refused {A} {C} old ts value rest f (Err e) h gives =
+    (refl, λ loud. tests_refuse ts value f rest h ∙ ap (λ (x : Reason). let y : Result (C × BookState) Reason = Err x in y) (sym gives))
 
 module _ (b : BookState) where
   abbrev pub asks_call : ℕ × Begun → DeskState → NodeState → Asked × BookState
