@@ -7,6 +7,7 @@ use Rattle.std.proofs.lemmas.Bool.{and_parts, eq-eqb, not-true}
 use Rattle.std.proofs.lemmas.Slice.Eq.{bytes_eq-Decides}
 use Rattle.q_script.specs.declared.command.TheConstants as consts
 use Rattle.q_script.specs.declared.command.Command.{Command}
+use Rattle.q_script.specs.declared.command.Command.TheVariants.{Program}
 use Rattle.q_script.specs.Words.{Lacks}
 use Rattle.q_script.specs.Command.{name, all_commands, command_at}
 
@@ -37,6 +38,7 @@ command_sound word c e = found word all_commands c e
 -- each word is read as its command
 pub command_again : (c : Command) → command_at (name c) ≡ Some c
 unfolding command_at
+command_again Program = refl
 command_again _ = refl
 
 true_false : (b : Bool) → b ≡ true → b ≡ false → ⊥
@@ -51,6 +53,7 @@ lacks_by_test c [] h = tt
 lacks_by_test c (d ∷ s) h = let p = and_parts _ _ h in ((λ e. let t : eqb d c ≡ true = eq-eqb d c e in let f : eqb d c ≡ false = not-true _ p.0 in true_false _ t f), lacks_by_test c s p.1)
 
 name_test : (c : Command) → are_not 32 (name c) ≡ true
+name_test Program = refl
 name_test _ = refl
 
 pub name_lacks_space : (c : Command) → Lacks 32 (name c)
