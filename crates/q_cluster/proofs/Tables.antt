@@ -59,9 +59,9 @@ abbrev pub Writes : List (ℕ × BookState) → List (ℕ × BookState) → ℕ 
 Writes es fs id n = (q : ℕ) → found fs q ≡ cond (is_at (nat_cmp id) q) (Some n) (found es q)
 
 -- a call that wants no memory is one that may
-pub steps_of : {S A E : Type 0} (memory : E) (said : Result (A × S) E) (n n' : S) (r : Result A E) → Does said n n' r → Steps memory said n n' r
-steps_of memory said n n' (Ok a) h = h
-steps_of memory said n n' (Err e) h = (h.0, λ no. h.1)
+pub steps_of : {S A E : Type 0} (want : E) (said : Result (A × S) E) (n n' : S) (r : Result A E) → Does said n n' r → Steps want said n n' r
+steps_of want said n n' (Ok a) h = h
+steps_of want said n n' (Err e) h = (h.0, λ no. h.1)
 
 -- a book of the table takes a call
 module _ (es fs : List (ℕ × BookState)) (old : BookMap) (id : ℕ) (n : BookState) (is : fin.from_entries es ≡ old) (at : Some n ≡ found es id) where

@@ -20,8 +20,9 @@ use Rattle.q_replay.specs.Spelling.{head_bytes, event_bytes, IsWritten}
 use Rattle.q_replay.specs.declared.raw_entry.RawEntry.{RawEntry}
 use Rattle.q_desk.specs.Desks.{running_job}
 use Rattle.q_replay.specs.Journal.{written_of, IsCertifiedEntry}
-use Rattle.q_replay.specs.Replayed.{IsAnswering, Takes, Leads, IsFault}
-use Rattle.q_replay.specs.Taking.{of_book, Taking, Calling}
+use Rattle.q_replay.specs.Head.{Head}
+use Rattle.q_replay.specs.Replayed.{IsAnswering, Takes, Leads, IsFault, begun}
+use Rattle.q_replay.specs.Taking.{of_book, Beginning, Taking, Calling}
 use Rattle.q_replay.specs.declared.fault.ReplayFault.TheVariants as fault
 use Rattle.q_replay.specs.declared.refusal.Refusal.{Refusal}
 use Rattle.q_replay.specs.declared.refusal.Refusal.TheVariants.{Mismatch, OutOfMemory}
@@ -44,6 +45,13 @@ refused_by old new e f OutOfMemory h nowhere = tt
 pub refused : (old new : BookState) (e : Entry) (f : Reason) (r : Result (Unit {0}) Refusal) → IsErrAnd r (λ x. x ≡ of_book f) → (f ≢ memory → (c : BookState) → Follows old e c → IsAnswering old e → ⊥) → Calling old e new r
 refused old new e f (Ok u) is nowhere = absurd is
 refused old new e f (Err x) is nowhere = refused_by old new e f x (sym is) nowhere
+
+-- ---- heads whose book is refused
+
+pub unbegun : (h : Head) (f : Reason) (r : Result BookState Refusal) → IsErrAnd r (λ x. x ≡ of_book f) → (f ≢ memory → begun h h.founders ≡ Err f) → Beginning h r
+unbegun h f (Ok b) is told = absurd is
+unbegun h f (Err Mismatch) is told = λ b k. absurd (no_refusal f b (sym (told (no_memory f (sym is))) ∙ k.book))
+unbegun h f (Err OutOfMemory) is told = tt
 
 -- ---- the event of an entry
 

@@ -1,6 +1,5 @@
 -- ask: a query.
-use Rattle.std.proofs.Common.{ℕ, [], Err, refl, sym, ap, ◌∙◌, subst, append-nil}
-use Rattle.reasons.specs.Table.{number}
+use Rattle.std.proofs.Common.{ℕ, [], Err, refl, sym, ap, subst, append-nil}
 use Rattle.forms.specs.Calls.{Steps}
 use Rattle.q_book.specs.Books.{asked}
 use Rattle.reasons.specs.declared.Reason.TheVariants.{OutOfMemory as memory}
@@ -9,5 +8,5 @@ use Rattle.q_net.proofs.served.ask.Goals as goal
 
 pub returns-in-Err : goal.returns-in-Err
 returns-in-Err c =
-    let said = subst (λ (p : ℕ). Steps memory (asked c.args.book.now p c.args.start) c.args.book.now c.ask.new.self (Err c.in-Err.fault)) c.new.ensures c.in-Err.ensures in
-    ([], (Err c.in-Err.fault, said, ap Refused (c.number.ensures ∙ ap number c.reason.ensures), refl), sym (append-nil c.args.sent.now.items))
+    let said = subst (λ (p : ℕ). Steps memory (asked c.args.book.now p c.args.start) c.args.book.now c.ask.new.self (Err c.in-Err.reason)) c.new.ensures c.in-Err.ensures in
+    ([], (Err c.in-Err.reason, said, ap Refused c.number.ensures, refl), sym (append-nil c.args.sent.now.items))
