@@ -6,7 +6,7 @@ use Rattle.std.specs.Fmt.{digits}
 use Rattle.bq_insn.specs.Insn.{unit_bytes}
 use Rattle.bq_insn.specs.Slots.{spelling}
 use Rattle.q_outside.specs.Memory.{Writes}
-use Rattle.forms.proofs.Calls.{no_refusal, same_answer}
+use Rattle.q_desk.proofs.Accepted.{no_refusal, same_answer}
 use Rattle.reasons.specs.declared.Reason.{Reason}
 use Rattle.reasons.specs.declared.Reason.TheVariants.{OutOfMemory}
 use Rattle.q_session.specs.declared.ran.Ran.{Ran}
