@@ -1,10 +1,11 @@
 -- No book refuses a store with 81: that there is no such node is said by those who look for it.
-use Rattle.std.proofs.Common.{◌≡◌, ◌≢◌, ℕ, List, [], ◌∷◌, Bool, true, false, cond, ap, Result, Ok, Err}
+use Rattle.std.proofs.Common.{◌≡◌, ◌≢◌, ℕ, List, [], ◌∷◌, ◌++◌, Bool, true, false, cond, sym, ap, Result, Ok, Err}
 use Rattle.forms.specs.Calls.{Tests, tested, and_then}
-use Rattle.forms.proofs.Calls.{same_fault}
+use Rattle.forms.proofs.Calls.{no_refusal, same_fault}
 use Rattle.reasons.specs.declared.Reason.{Reason}
 use Rattle.reasons.specs.declared.Reason.TheVariants as reasons
 use Rattle.sc_node.specs.Nodes as node
+use Rattle.sc_node.specs.State.{NodeState}
 use Rattle.q_desk.specs.Desks as desk
 use Rattle.q_desk.specs.declared.journal.Entry.TheVariants as entry
 use Rattle.q_book.specs.State.{BookState}
@@ -34,9 +35,9 @@ pub store_finds_a_node : (b : BookState) (value : List ℕ) → book.stored b va
 store_finds_a_node b value h =
     not_tested reasons.NoSuchNode (book.storing b value) _ ((λ e. absurd cc), ((λ e. absurd cc), ((λ e. absurd cc), ((λ e. absurd cc), tt))))
     (not_then reasons.NoSuchNode (desk.noted b.desk (entry.Store value)) (book.stores_node b value)
-    (not_tested reasons.NoSuchNode (desk.room b.desk) _ ((λ e. absurd cc), tt) (λ e. absurd cc))
-    (λ u d. not_then reasons.NoSuchNode (node.store_begun b.node value) _ (not_begun b.node value) (λ a n e. absurd cc))) h
+    (not_tested reasons.NoSuchNode (desk.room b.desk) _ ((λ e. absurd cc), tt) (λ e. no_refusal reasons.NoSuchNode _ (sym e)))
+    (λ u d. not_then reasons.NoSuchNode (node.store_begun b.node value) _ (not_begun b.node value) (λ a n e. no_refusal reasons.NoSuchNode _ (sym e)))) h
   where
-    not_begun : (n : _) (value : List ℕ) → node.store_begun n value ≡ Err reasons.NoSuchNode → ⊥
+    not_begun : (n : NodeState) (value : List ℕ) → node.store_begun n value ≡ Err reasons.NoSuchNode → ⊥
     not_begun n value =
-        not_tested reasons.NoSuchNode _ _ ((λ e. absurd cc), ((λ e. absurd cc), ((λ e. absurd cc), ((λ e. absurd cc), ((λ e. absurd cc), tt))))) (λ e. absurd cc)
+        not_tested reasons.NoSuchNode (node.opening n ++ node.fitting (node.stored_view n value)) _ ((λ e. absurd cc), ((λ e. absurd cc), ((λ e. absurd cc), ((λ e. absurd cc), ((λ e. absurd cc), tt))))) (λ e. no_refusal reasons.NoSuchNode _ (sym e))
