@@ -6,10 +6,9 @@ use Rattle.q_script.specs.declared.line.LineFault.{LineFault}
 use Rattle.q_script.specs.declared.line.LineFault.TheVariants.{Form, OutOfMemory}
 use Rattle.q_script.specs.declared.line.ScriptLine.{ScriptLine}
 use Rattle.q_script.specs.declared.line.ScriptLine.TheVariants.{Program, Store, Ask, Deliver, Pairs, Journal}
-use Rattle.q_script.specs.Command.{name, command_at}
-use Rattle.q_script.specs.Line.{HasCommand, HasOperands, IsAlone, Judges, Spells}
+use Rattle.q_script.specs.Line.{HasCommand, HasOperands, IsAlone, Judges, Spells, name}
 use Rattle.q_script.specs.Words.{Lacks}
-use Rattle.q_script.proofs.Commands.{command_again, name_lacks_space}
+use Rattle.q_script.proofs.Commands.{name_lacks_space, same_command}
 use Rattle.q_script.proofs.Parts.{cut_once, never_cut}
 use Rattle.q_nodes.specs.declared.script.ClusterLine.{ClusterLine}
 use Rattle.q_nodes.specs.declared.script.ClusterLine.TheVariants as line
@@ -50,7 +49,7 @@ operands_tell _ text l h = ap is_taken (sym h.2)
 one_kind : (text : List ℕ) (k l : ScriptLine) (p : HasCommand text k) (q : HasCommand text l) → is_taken k ≡ is_taken l
 one_kind text k l p q =
     let same = cut_once 32 text (name p.command) p.rest (name q.command) q.rest (name_lacks_space p.command, p.parts) (name_lacks_space q.command, q.parts) in
-    let commands : p.command ≡ q.command = cc (command_again p.command, command_again q.command, ap command_at same.0) in
+    let commands = same_command p.command q.command same.0 in
     sym (operands_tell p.command p.rest k p.operands) ∙ ap is_word_taken commands ∙ operands_tell q.command q.rest l q.operands
 
 taken_event : (l : ClusterLine) → is_taken (event_of l) ≡ true

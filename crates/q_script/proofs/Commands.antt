@@ -1,6 +1,6 @@
 -- The table has all commands, and each word is that of one command.
-use Rattle.std.proofs.Common.{◌≡◌, ℕ, Bool, true, false, cond, eqb, not, List, [], ◌∷◌, Option, Some, refl, ap, sym, ◌∙◌, inl, inr, ◌⊎◌}
-use Rattle.std.specs.Prelude.{find, codes}
+use Rattle.std.proofs.Common.{◌≡◌, ◌≢◌, ℕ, Bool, true, false, cond, eqb, not, List, [], ◌∷◌, Option, Some, None, refl, ap, sym, ◌∙◌, inl, inr, ◌⊎◌}
+use Rattle.std.specs.Prelude.{MatchOption, find, codes}
 use Rattle.std.specs.Str.{bytes_eq}
 use Rattle.std.specs.List.{list_all}
 use Rattle.std.proofs.lemmas.Bool.{and_parts, eq-eqb, not-true}
@@ -9,14 +9,11 @@ use Rattle.q_script.specs.declared.command.TheConstants as consts
 use Rattle.q_script.specs.declared.command.Command.{Command}
 use Rattle.q_script.specs.declared.command.Command.TheVariants.{Program}
 use Rattle.q_script.specs.Words.{Lacks}
-use Rattle.q_script.specs.Command.{name, all_commands, command_at}
+use Rattle.q_script.specs.Line.{name}
 
-whole : consts.COMMANDS ≡ all_commands
-whole = refl
-
-pub table_is : (word : List ℕ) → find (λ c. bytes_eq (name c) word) consts.COMMANDS ≡ command_at word
-unfolding command_at
-table_is word = ap (find (λ c. bytes_eq (name c) word)) whole
+-- the first command with this word
+command_at : List ℕ → Option Command
+command_at word = find (λ c. bytes_eq (name c) word) consts.COMMANDS
 
 chosen : (t : Bool) (c d : Command) (r : Option Command) → cond t (Some c) r ≡ Some d → ((t ≡ true) × (c ≡ d)) ⊎ (r ≡ Some d)
 chosen true c d r e = inl (refl, cc)
@@ -30,16 +27,25 @@ found word (c ∷ cs) d e =
       | inr g ↦ found word cs d g
     ]
 
--- a command that is read has that word
-pub command_sound : (word : List ℕ) (c : Command) → command_at word ≡ Some c → word ≡ name c
-unfolding command_at
-command_sound word c e = found word all_commands c e
-
 -- each word is read as its command
-pub command_again : (c : Command) → command_at (name c) ≡ Some c
+command_again : (c : Command) → command_at (name c) ≡ Some c
 unfolding command_at
 command_again Program = refl
 command_again _ = refl
+
+no_some : (c : Command) → None ≡ Some c → ⊥
+no_some c e = absurd cc
+
+-- no two commands have one word
+pub same_command : (c d : Command) → name c ≡ name d → c ≡ d
+same_command c d e = let found : Some c ≡ Some d = sym (command_again c) ∙ ap command_at e ∙ command_again d in cc
+
+-- what is found has the word, and where nothing is found no command has it
+pub command_judged : (word : List ℕ) (r : Option Command) → r ≡ find (λ c. bytes_eq (name c) word) consts.COMMANDS
+    → MatchOption r ((c : Command) → word ≢ name c) (λ c. word ≡ name c)
+unfolding command_at
+command_judged word None e = λ c is. no_some c (e ∙ ap command_at is ∙ command_again c)
+command_judged word (Some c) e = found word consts.COMMANDS c (sym e)
 
 true_false : (b : Bool) → b ≡ true → b ≡ false → ⊥
 true_false b h k = absurd cc

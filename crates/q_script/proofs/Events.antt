@@ -1,5 +1,5 @@
 -- The events of lines: what is no line spells none.
-use Rattle.std.proofs.Common.{◌≡◌, ℕ, List, ◌∷◌, ◌++◌, Some, None, Result, Ok, Err, Bool, true, false, inl, inr, ap, sym, ◌∙◌, subst, lit<, string_bytes}
+use Rattle.std.proofs.Common.{◌≡◌, ◌≢◌, ℕ, List, ◌∷◌, ◌++◌, Result, Ok, Err, Bool, true, false, inl, inr, ap, sym, ◌∙◌, subst, lit<, string_bytes}
 use Rattle.std.specs.Prelude.{Vec, IsTrue, ◌↔◌}
 use Rattle.std.specs.declared.alloc.Global.{Global}
 use Rattle.q_script.specs.declared.command.Command.{Command}
@@ -9,12 +9,11 @@ use Rattle.q_script.specs.declared.line.ScriptLine.TheVariants.{Program, Store, 
 use Rattle.q_script.specs.declared.line.LineFault.{LineFault}
 use Rattle.q_script.specs.declared.line.LineFault.TheVariants.{Form, OutOfMemory}
 use Rattle.q_script.specs.Words.{Lacks, IsFollowed, IsPair}
-use Rattle.q_script.specs.Command.{name, command_at}
 use Rattle.q_script.specs.Records.{IsValue}
-use Rattle.q_script.specs.Line.{IsCode, IsWord, IsProgram, IsStore, IsAsk, IsDeliver, IsJournal, HasOperands, HasCommand, IsAlone, Spells, Judges}
+use Rattle.q_script.specs.Line.{IsCode, IsWord, IsProgram, IsStore, IsAsk, IsDeliver, IsJournal, HasOperands, HasCommand, IsAlone, Spells, Judges, name}
 use Rattle.q_script.proofs.Parts.{IsCut, cut_once, never_cut}
 use Rattle.q_script.proofs.Pairs.{followed_once}
-use Rattle.q_script.proofs.Commands.{command_sound, command_again, name_lacks_space}
+use Rattle.q_script.proofs.Commands.{same_command, name_lacks_space}
 
 -- ---- operands
 
@@ -106,25 +105,19 @@ alone_judged s (Err OutOfMemory) l h = tt
 same_word : (s a b : List ℕ) (line : ScriptLine) (h : HasCommand s line) → IsCut 32 s a b → (a ≡ name h.command) × (b ≡ h.rest)
 same_word s a b line h e = cut_once 32 s a b (name h.command) h.rest e (name_lacks_space h.command, h.parts)
 
-no_some : (c : Command) → None ≡ Some c → ⊥
-no_some c e = absurd cc
-
-same_some : (c d : Command) → Some c ≡ Some d → c ≡ d
-same_some c d e = cc
-
 -- a line with a space has a command with operands
 spaced : (s a b : List ℕ) (line : ScriptLine) → IsCut 32 s a b → Spells s line → HasCommand s line
 spaced s a b line e (inl h) = absurd (never_cut 32 s a b (alone_lacks s line h) e)
 spaced s a b line e (inr h) = h
 
-pub no_command : (s a b : List ℕ) → IsCut 32 s a b → None ≡ command_at a → (line : ScriptLine) → Spells s line → ⊥
-no_command s a b e n line p = let h = spaced s a b line e p in no_some h.command (n ∙ ap command_at (same_word s a b line h e).0 ∙ command_again h.command)
+pub no_command : (s a b : List ℕ) → IsCut 32 s a b → ((c : Command) → a ≢ name c) → (line : ScriptLine) → Spells s line → ⊥
+no_command s a b e n line p = let h = spaced s a b line e p in n h.command (same_word s a b line h e).0
 
-pub line_judged : (s a b : List ℕ) (c : Command) (r : Result ScriptLine LineFault) → IsCut 32 s a b → Some c ≡ command_at a → Judges (HasOperands c) b r → Judges Spells s r
-line_judged s a b c (Ok line) e k h = inr (record { command = c; rest = b; parts = e.1 ∙ ap (λ w. w ++ (32 ∷ b)) (command_sound a c (sym k)); operands = h })
+pub line_judged : (s a b : List ℕ) (c : Command) (r : Result ScriptLine LineFault) → IsCut 32 s a b → a ≡ name c → Judges (HasOperands c) b r → Judges Spells s r
+line_judged s a b c (Ok line) e k h = inr (record { command = c; rest = b; parts = e.1 ∙ ap (λ w. w ++ (32 ∷ b)) k; operands = h })
 line_judged s a b c (Err Form) e k h = λ line q.
     let p = spaced s a b line e q in
     let same = same_word s a b line p e in
-    let d = same_some c p.command (k ∙ ap command_at same.0 ∙ command_again p.command) in
+    let d = same_command c p.command (sym k ∙ same.0) in
     h line (subst (λ (d : Command). HasOperands d b line) (sym d) (subst (λ x. HasOperands p.command x line) (sym same.1) p.operands))
 line_judged s a b c (Err OutOfMemory) e k h = tt

@@ -1,5 +1,5 @@
 -- The lines of a script behind its first: which event each spells.
-use Rattle.std.specs.Prelude.{◌≡◌, ◌⊎◌, ℕ, ◌≤◌, List, ◌∷◌, ◌++◌, length, string_bytes, Result, Ok, Err}
+use Rattle.std.specs.Prelude.{◌≡◌, ◌⊎◌, ℕ, ◌≤◌, List, ◌∷◌, ◌++◌, length, codes, string_bytes, Result, Ok, Err}
 use Rattle.hex.specs.Hex.{decode_of}
 use Rattle.q_script.specs.declared.command.Command.{Command}
 use Rattle.q_script.specs.declared.command.Command.TheVariants as command
@@ -8,7 +8,6 @@ use Rattle.q_script.specs.declared.line.ScriptLine.TheVariants.{Program, Store, 
 use Rattle.q_script.specs.declared.line.LineFault.{LineFault}
 use Rattle.q_script.specs.declared.line.LineFault.TheVariants.{Form, OutOfMemory}
 use Rattle.q_script.specs.Words.{Lacks, IsNumeral, IsPair, IsFollowed}
-use Rattle.q_script.specs.Command.{name}
 use Rattle.q_script.specs.Records.{IsValue}
 
 -- one byte at least, each as two hexadecimal digits, small or capital
@@ -19,7 +18,7 @@ IsCode digits code = (decode_of digits ≡ Ok code) × (1 ≤ length digits)
 abbrev pub IsWord : List ℕ → Type 0
 IsWord text = (1 ≤ length text) × Lacks 32 text
 
--- ---- the operands of each command
+-- ---- forms of operands
 
 -- `NODE HEX`
 abbrev pub IsProgram : List ℕ → ScriptLine → Type 0
@@ -54,20 +53,29 @@ IsJournal text _ = ⊥
 abbrev pub HasNone : List ℕ → ScriptLine → Type 0
 HasNone text line = ⊥
 
+-- ---- commands
+
+-- the word of each, and which event its operands spell
+abbrev pub row : Command → List ℕ × (List ℕ → ScriptLine → Type 0)
+row command.Program = (codes "program", IsProgram)
+row command.Store = (codes "store", IsStore)
+row command.Ask = (codes "ask", IsAsk)
+row command.Deliver = (codes "deliver", IsDeliver)
+row command.All = (codes "all", IsOne (λ limit. All limit))
+row command.Hand = (codes "hand", IsOne (λ node. Hand node))
+row command.Run = (codes "run", IsOne (λ job. Run job))
+row command.Enter = (codes "enter", IsOne (λ id. Enter id))
+row command.Leave = (codes "leave", IsOne (λ id. Leave id))
+row command.Crash = (codes "crash", IsOne (λ id. Crash id))
+row command.Pairs = (codes "pairs", HasNone)
+row command.Journal = (codes "journal", IsJournal)
+
+abbrev pub name : Command → List ℕ
+name c = (row c).0
+
 -- the event has this command, and the text spells its operands
 abbrev pub HasOperands : Command → List ℕ → ScriptLine → Type 0
-HasOperands command.Program = IsProgram
-HasOperands command.Store = IsStore
-HasOperands command.Ask = IsAsk
-HasOperands command.Deliver = IsDeliver
-HasOperands command.All = IsOne (λ limit. All limit)
-HasOperands command.Hand = IsOne (λ node. Hand node)
-HasOperands command.Run = IsOne (λ job. Run job)
-HasOperands command.Enter = IsOne (λ id. Enter id)
-HasOperands command.Leave = IsOne (λ id. Leave id)
-HasOperands command.Crash = IsOne (λ id. Crash id)
-HasOperands command.Pairs = HasNone
-HasOperands command.Journal = IsJournal
+HasOperands c = (row c).1
 
 -- ---- lines
 

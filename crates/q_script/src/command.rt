@@ -1,6 +1,13 @@
-ghost use Rattle.std.specs.Prelude.{◌≡◌, find};
+//! The commands of lines: the word of each, and its operands.
+
+ghost use Rattle.std.specs.Prelude.{◌≡◌, ◌≢◌, MatchOption, find};
 ghost use Rattle.std.specs.Str.{bytes_eq};
-ghost use Rattle.q_script.specs.Command.{name, command_at};
+ghost use Rattle.q_script.specs.declared.command.Command.{Command as Word};
+ghost use Rattle.q_script.specs.Line.{HasOperands, Judges, name};
+
+use crate::line::{LineFault, ScriptLine};
+use crate::operands::{ask, deliver, journal, one, program, store};
+use std::alloc::Global;
 
 /// What the first word of a line tells to do.
 #[derive(Clone, Copy)]
@@ -51,9 +58,29 @@ impl Command {
 
     /// The command with this word, where there is one.
     pub fn read(word: &str) -> Option<Command>
-        ensures { result ≡ command_at word.now }
+        ensures { MatchOption result ((c : Word) → word.now ≢ name c) (λ c. word.now ≡ name c) }
     {
         find(&COMMANDS, word)
+    }
+
+    /// The event of this command with the operands that a text spells.
+    pub fn operands(self, alloc: Global, text: &str) -> Result<ScriptLine, LineFault>
+        ensures { Judges (HasOperands self) text.now result }
+    {
+        match self {
+            Command::Program => program(alloc, text),
+            Command::Store => store(alloc, text),
+            Command::Ask => ask(text),
+            Command::Deliver => deliver(text),
+            Command::All => Ok(ScriptLine::All { limit: one(text)? }),
+            Command::Hand => Ok(ScriptLine::Hand { node: one(text)? }),
+            Command::Run => Ok(ScriptLine::Run { job: one(text)? }),
+            Command::Enter => Ok(ScriptLine::Enter { node: one(text)? }),
+            Command::Leave => Ok(ScriptLine::Leave { node: one(text)? }),
+            Command::Crash => Ok(ScriptLine::Crash { node: one(text)? }),
+            Command::Pairs => Err(LineFault::Form),
+            Command::Journal => journal(alloc, text),
+        }
     }
 }
 

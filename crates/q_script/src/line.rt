@@ -4,7 +4,6 @@ ghost use Rattle.std.specs.Prelude.{◌≡◌, ℕ, List};
 ghost use Rattle.q_script.specs.Line.{IsAlone, Judges};
 
 use crate::command::Command;
-use crate::operands::operands;
 use crate::text::cut;
 use std::alloc::Global;
 
@@ -113,7 +112,7 @@ impl Line for ScriptLine {
         let Some(command) = Command::read(word) else {
             return Err(LineFault::Form);
         };
-        operands(alloc, command, rest)
+        command.operands(alloc, rest)
     }
 }
 

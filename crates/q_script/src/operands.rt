@@ -1,9 +1,8 @@
 ghost use Rattle.std.specs.Prelude.{◌≡◌, ◌↔◌, IsTrue};
-ghost use Rattle.q_script.specs.Line.{IsCode, IsWord, IsProgram, IsStore, IsAsk, IsDeliver, IsJournal, HasOperands, Judges};
+ghost use Rattle.q_script.specs.Line.{IsCode, IsWord, IsProgram, IsStore, IsAsk, IsDeliver, IsJournal, Judges};
 ghost use Rattle.q_script.specs.Records.{AreDigits, IsNumber, IsValue};
 ghost use Rattle.q_script.specs.Words.{IsNumeral, IsPair};
 
-use crate::command::Command;
 use crate::line::{LineFault, ScriptLine};
 use crate::numeral::{leading, number, pair};
 use crate::records::value_bytes;
@@ -56,7 +55,8 @@ pub fn value(alloc: Global, text: &str) -> Result<Vec<u8>, LineFault>
     }
 }
 
-fn program(alloc: Global, text: &str) -> Result<ScriptLine, LineFault>
+/// The event of `program` with the operands that a text spells.
+pub fn program(alloc: Global, text: &str) -> Result<ScriptLine, LineFault>
     ensures { Judges IsProgram text.now result }
 {
     let Some((node, digits)) = leading(text, ' ') else {
@@ -68,7 +68,8 @@ fn program(alloc: Global, text: &str) -> Result<ScriptLine, LineFault>
     }
 }
 
-fn store(alloc: Global, text: &str) -> Result<ScriptLine, LineFault>
+/// The event of `store` with the operands that a text spells.
+pub fn store(alloc: Global, text: &str) -> Result<ScriptLine, LineFault>
     ensures { Judges IsStore text.now result }
 {
     let Some((node, rest)) = leading(text, ' ') else {
@@ -78,7 +79,8 @@ fn store(alloc: Global, text: &str) -> Result<ScriptLine, LineFault>
     Ok(ScriptLine::Store { node, value })
 }
 
-fn ask(text: &str) -> Result<ScriptLine, LineFault>
+/// The event of `ask` with the operands that a text spells.
+pub fn ask(text: &str) -> Result<ScriptLine, LineFault>
     ensures { Judges IsAsk text.now result }
 {
     let Some((node, rest)) = leading(text, ' ') else {
@@ -92,7 +94,8 @@ fn ask(text: &str) -> Result<ScriptLine, LineFault>
     })
 }
 
-fn deliver(text: &str) -> Result<ScriptLine, LineFault>
+/// The event of `deliver` with the operands that a text spells.
+pub fn deliver(text: &str) -> Result<ScriptLine, LineFault>
     ensures { Judges IsDeliver text.now result }
 {
     let (message, node) = two(text)?;
@@ -110,7 +113,7 @@ fn two(text: &str) -> Result<(u64, u64), LineFault>
 }
 
 /// The one number that is the operand of a command.
-fn one(text: &str) -> Result<u64, LineFault>
+pub fn one(text: &str) -> Result<u64, LineFault>
     ensures { Judges IsNumeral text.now result }
 {
     match number(text) {
@@ -129,7 +132,8 @@ fn is_word(text: &str) -> bool
     }
 }
 
-fn journal(alloc: Global, text: &str) -> Result<ScriptLine, LineFault>
+/// The event of `journal` with the operands that a text spells.
+pub fn journal(alloc: Global, text: &str) -> Result<ScriptLine, LineFault>
     ensures { Judges IsJournal text.now result }
 {
     let Some((node, file)) = leading(text, ' ') else {
@@ -141,25 +145,5 @@ fn journal(alloc: Global, text: &str) -> Result<ScriptLine, LineFault>
     match String::from_str(alloc, file) {
         Ok(file) => Ok(ScriptLine::Journal { node, file }),
         Err(_) => Err(LineFault::OutOfMemory),
-    }
-}
-
-/// The event of this command with the operands that a text spells.
-pub fn operands(alloc: Global, command: Command, text: &str) -> Result<ScriptLine, LineFault>
-    ensures { Judges (HasOperands command) text.now result }
-{
-    match command {
-        Command::Program => program(alloc, text),
-        Command::Store => store(alloc, text),
-        Command::Ask => ask(text),
-        Command::Deliver => deliver(text),
-        Command::All => Ok(ScriptLine::All { limit: one(text)? }),
-        Command::Hand => Ok(ScriptLine::Hand { node: one(text)? }),
-        Command::Run => Ok(ScriptLine::Run { job: one(text)? }),
-        Command::Enter => Ok(ScriptLine::Enter { node: one(text)? }),
-        Command::Leave => Ok(ScriptLine::Leave { node: one(text)? }),
-        Command::Crash => Ok(ScriptLine::Crash { node: one(text)? }),
-        Command::Pairs => Err(LineFault::Form),
-        Command::Journal => journal(alloc, text),
     }
 }

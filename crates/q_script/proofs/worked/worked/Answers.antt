@@ -1,14 +1,15 @@
 -- worked: what the definitions say of telling numbers, lines, scripts and records.
-use Rattle.std.proofs.Common.{◌≡◌, ℕ, List, ◌∷◌, ◌++◌, length, get_or, drop, codes, Ok, refl, ap, sym, ◌∙◌, inl, inr, lit<, arith}
+use Rattle.std.proofs.Common.{◌≡◌, ℕ, List, ◌∷◌, ◌++◌, length, get_or, drop, codes, Ok, refl, ap, sym, subst, ◌∙◌, inl, inr, lit<, arith}
 use Rattle.std.specs.Fmt.{digits}
 use Rattle.hex.specs.Hex.{decode_of}
 use Rattle.hex.proofs.OnLiterals.{hex_on_literals}
 use Rattle.q_script.specs.declared.command.Command.{Command}
 use Rattle.q_script.specs.declared.command.Command.TheVariants as command
 use Rattle.q_script.specs.declared.line.ScriptLine.TheVariants as line
-use Rattle.q_script.specs.Command.{name}
-use Rattle.q_script.specs.Line.{HasOperands, Spells}
+use Rattle.q_script.specs.Line.{HasOperands, Spells, name}
+use Rattle.q_script.proofs.Commands.{name_lacks_space, same_command}
 use Rattle.q_script.proofs.Learning.{zip_length}
+use Rattle.q_script.proofs.Parts.{cut_once}
 use Rattle.q_script.proofs.Values.{no_numeral}
 use Rattle.q_script.proofs.worked.worked.Goals as goal
 
@@ -31,23 +32,15 @@ pub returns-clause-delivered : goal.returns-clause-delivered
 unfolding digits
 returns-clause-delivered c = inr (record { command = command.Deliver; rest = codes "7 3"; parts = refl; operands = (lit< tt, lit< tt, refl) })
 
--- no command's operands are these two in the other order
-no_command : (command : Command) (rest : List ℕ) → codes "deliver 7 3" ≡ name command ++ (32 ∷ rest) → HasOperands command rest (line.Deliver 3 7) → ⊥
+-- no command's operands are these two in the other order: only one has the word
+no_command : (c : Command) (rest : List ℕ) → codes "deliver 7 3" ≡ name c ++ (32 ∷ rest) → HasOperands c rest (line.Deliver 3 7) → ⊥
 unfolding digits
-no_command command.Deliver rest e h =
-    let first : 55 ≡ 51 = ap (λ xs. get_or xs 8 0) e ∙ ap (λ xs. get_or xs 0 0) h.2 in
+no_command c rest e h =
+    let same = cut_once 32 (codes "deliver 7 3") (codes "deliver") (codes "7 3") (name c) rest (name_lacks_space command.Deliver, refl) (name_lacks_space c, e) in
+    let is = same_command command.Deliver c same.0 in
+    let operands : HasOperands command.Deliver rest (line.Deliver 3 7) = subst (λ (d : Command). HasOperands d rest (line.Deliver 3 7)) (sym is) h in
+    let first : 55 ≡ 51 = ap (λ xs. get_or xs 0 0) (same.1 ∙ operands.2) in
     omega (arith, first)
-no_command command.Program rest e h = h
-no_command command.Store rest e h = h
-no_command command.Ask rest e h = h
-no_command command.All rest e h = let no = h.2 in absurd cc
-no_command command.Hand rest e h = let no = h.2 in absurd cc
-no_command command.Run rest e h = let no = h.2 in absurd cc
-no_command command.Enter rest e h = let no = h.2 in absurd cc
-no_command command.Leave rest e h = let no = h.2 in absurd cc
-no_command command.Crash rest e h = let no = h.2 in absurd cc
-no_command command.Pairs rest e h = h
-no_command command.Journal rest e h = h
 
 pub returns-clause-node_first : goal.returns-clause-node_first
 returns-clause-node_first c = λ h. elim h [
