@@ -188,20 +188,30 @@ module _ {F : Type 0} (writes : Writing F) where
 abbrev pub LeavesFiles : {F : Type 0} → (SimState → List ℕ → SimState → Type 0) → SimState → F → List ℕ → SimState → F → Type 0
 LeavesFiles does s before text t after = does s text t × (after ≡ before)
 
+-- the event that a line is, and nothing else
+abbrev pub event_of : ScriptLine → Option ClusterEvent
+event_of (Ask node program start) = Some (event.Ask node (min program (2 ^ 32 - 1)) start)
+event_of (Deliver message node) = Some (event.Deliver message node)
+event_of (Hand node) = Some (event.HandOut node)
+event_of (Run job) = Some (event.Finish job)
+event_of (Enter id) = Some (event.Enter id)
+event_of (Leave id) = Some (event.Leave id)
+event_of (Crash id) = Some (event.Crash id)
+event_of _ = None
+
+-- this event, where there is one
+abbrev pub ActsAs : Option ClusterEvent → SimState → List ℕ → SimState → Type 0
+ActsAs (Some e) s text t = Acts e s text t
+ActsAs None s text t = ⊥
+
 module _ {F : Type 0} (writes : Writing F) where
   abbrev pub Does : ScriptLine → SimState → F → List ℕ → SimState → F → Type 0
   Does (Program node code) = LeavesFiles (Registers node code.items)
   Does (Store node value) = LeavesFiles (Acts (event.Store node value.items))
-  Does (Ask node program start) = LeavesFiles (Acts (event.Ask node (min program (2 ^ 32 - 1)) start))
-  Does (Deliver message node) = LeavesFiles (Acts (event.Deliver message node))
   Does (All limit) = LeavesFiles (Spreads limit)
-  Does (Hand node) = LeavesFiles (Acts (event.HandOut node))
-  Does (Run job) = LeavesFiles (Acts (event.Finish job))
-  Does (Enter id) = LeavesFiles (Acts (event.Enter id))
-  Does (Leave id) = LeavesFiles (Acts (event.Leave id))
-  Does (Crash id) = LeavesFiles (Acts (event.Crash id))
   Does Pairs = LeavesFiles Tells
   Does (Journal node file) = Saves writes node (string_bytes file)
+  Does line = LeavesFiles (ActsAs (event_of line))
 
   -- the lines in turn, each the next after the one before, and all that they print
   abbrev pub Plays : List ScriptLine → SimState → F → List ℕ → SimState → F → Type 0

@@ -1,7 +1,7 @@
 //! Scripts, run over a cluster in memory.
 
-ghost use Rattle.std.specs.Prelude.{◌≡◌, ◌≢◌, ℕ, ◌<◌, ◌≤◌, ◌↔◌, ◌++◌, ◌+◌, ◌-◌, ◌^◌, [], length, min, IfOk, IfErr, OnOk, OnErr, IsTrue, IsFalse, string_bytes};
-ghost use Rattle.q_sim.specs.Simulates.{IsSimulationFault, Rises, Simulates, TellsFaults, first_ids, with_id};
+ghost use Rattle.std.specs.Prelude.{◌≡◌, ◌≢◌, ℕ, ◌<◌, ◌≤◌, ◌↔◌, ◌++◌, ◌+◌, ◌-◌, ◌^◌, [], length, min, None, IfOk, IfErr, OnOk, OnErr, IsTrue, IsFalse, string_bytes};
+ghost use Rattle.q_sim.specs.Simulates.{IsSimulationFault, Rises, Simulates, TellsFaults, event_of, first_ids, with_id};
 ghost use Rattle.q_sim.specs.Awaited.{AwaitsFrom};
 
 use crate::delivered::Delivered;
@@ -186,33 +186,24 @@ impl Simulation {
     fn perform<F: Files>(&mut self, line: ScriptLine, files: &mut F) -> Result<(), AllocError>
         ensures { OnOk result (PrintsOver (Does F.write_gives line) self.old files.old self.new files.new) }
     {
+        match event(&line) {
+            Some(event) => self.step(&event),
+            None => self.perform_other(line, files),
+        }
+    }
+
+    /// Runs a line that is not an event and nothing else.
+    fn perform_other<F: Files>(&mut self, line: ScriptLine, files: &mut F) -> Result<(), AllocError>
+        requires { event_of line ≡ None }
+        ensures { OnOk result (PrintsOver (Does F.write_gives line) self.old files.old self.new files.new) }
+    {
         match line {
             ScriptLine::Program { node, code } => self.register(node, code.as_slice()),
             ScriptLine::Store { node, value } => self.store(node, value.as_slice()),
-            ScriptLine::Ask {
-                node,
-                program,
-                start,
-            } => {
-                let program = program_id(program);
-                self.step(&ClusterEvent::Ask {
-                    node,
-                    program,
-                    start,
-                })
-            }
-            ScriptLine::Deliver { message, node } => self.step(&ClusterEvent::Deliver {
-                message: message as usize,
-                node,
-            }),
             ScriptLine::All { limit } => self.deliver_all(limit),
-            ScriptLine::Hand { node } => self.step(&ClusterEvent::HandOut(node)),
-            ScriptLine::Run { job } => self.step(&ClusterEvent::Finish(job as usize)),
-            ScriptLine::Enter { node } => self.step(&ClusterEvent::Enter(node)),
-            ScriptLine::Leave { node } => self.step(&ClusterEvent::Leave(node)),
-            ScriptLine::Crash { node } => self.step(&ClusterEvent::Crash(node)),
             ScriptLine::Pairs => self.tell_pairs(),
             ScriptLine::Journal { node, file } => self.save(node, file.as_str(), files),
+            _ => unreachable!(),
         }
     }
 
@@ -417,6 +408,37 @@ impl Simulation {
             }
             Err(fault) => self.refuse(&Refusal::Cluster(*fault)),
         }
+    }
+}
+
+/// The event that a line is, and nothing else. A store may have more bytes than an event has.
+fn event(line: &ScriptLine) -> Option<ClusterEvent>
+    ensures { result ≡ event_of line.now }
+{
+    match line {
+        ScriptLine::Ask {
+            node,
+            program,
+            start,
+        } => Some(ClusterEvent::Ask {
+            node: *node,
+            program: program_id(*program),
+            start: *start,
+        }),
+        ScriptLine::Deliver { message, node } => Some(ClusterEvent::Deliver {
+            message: *message as usize,
+            node: *node,
+        }),
+        ScriptLine::Hand { node } => Some(ClusterEvent::HandOut(*node)),
+        ScriptLine::Run { job } => Some(ClusterEvent::Finish(*job as usize)),
+        ScriptLine::Enter { node } => Some(ClusterEvent::Enter(*node)),
+        ScriptLine::Leave { node } => Some(ClusterEvent::Leave(*node)),
+        ScriptLine::Crash { node } => Some(ClusterEvent::Crash(*node)),
+        ScriptLine::Program { .. }
+        | ScriptLine::Store { .. }
+        | ScriptLine::All { .. }
+        | ScriptLine::Pairs
+        | ScriptLine::Journal { .. } => None,
     }
 }
 

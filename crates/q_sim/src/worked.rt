@@ -16,16 +16,18 @@ ghost use Rattle.q_history.specs.Clusters.{stepped};
 ghost use Rattle.q_history.specs.State.{ClusterState};
 ghost use Rattle.q_history.specs.declared.event.ClusterStep.{ClusterStep};
 ghost use Rattle.q_session.specs.declared.ran.Ran.{Ran};
+ghost use Rattle.q_history.specs.declared.event.ClusterEvent.{ClusterEvent};
 ghost use Rattle.q_history.specs.declared.event.ClusterEvent.TheVariants as event;
 ghost use Rattle.q_history.specs.declared.event.EventAnswer.TheVariants as told;
 ghost use Rattle.reasons.specs.declared.Reason.TheVariants as reasons;
+ghost use Rattle.q_script.specs.declared.line.ScriptLine.{ScriptLine};
 ghost use Rattle.q_script.specs.declared.line.ScriptLine.TheVariants as line;
 ghost use Rattle.q_script.specs.declared.founding.Founding.{Founding};
 ghost use Rattle.q_sim.specs.Delivered.{Deliveries};
 ghost use Rattle.q_sim.specs.Printing.{TellsPair, is_over, message_lines, pair_line, told_lines};
 ghost use Rattle.q_sim.specs.Programs.{IsProgram, program_lengths};
 ghost use Rattle.q_sim.specs.Refusal as refusal;
-ghost use Rattle.q_sim.specs.Simulates.{Awaits, Begins, DeliversAll, Plays, Saves, SavesBook, SimState, Tries, WantsMemory, at_next_line, or_refused, with_fault};
+ghost use Rattle.q_sim.specs.Simulates.{Awaits, Begins, DeliversAll, Plays, Saves, SavesBook, SimState, Tries, WantsMemory, at_next_line, event_of, or_refused, with_fault};
 ghost use Rattle.q_sim.specs.Truths.{AreTrueLines, IsTrueAnswer};
 ghost use Rattle.q_sim.specs.declared.refusal.RefusalPlace.TheVariants as at;
 ghost use Rattle.q_sim.specs.declared.refusal.Refusal.TheVariants as refused;
@@ -68,8 +70,10 @@ pub fn worked()
     ensures behind_the_end { is_over (Some 3) 4 ≡ true }
     ensures meeting { (store collect : Op) (text : List ℕ) → TellsPair (store, collect) text → (least : _) × IsMeeting store collect least × (text ≡ pair_line store collect least) }
 
-    // What a script does: it plays its first line, a crash is one, and a journal is that of the node.
-    ensures crash { (s t : SimState) (before after : Memory) (text : List ℕ) → Plays (Writes {X = Unit {0}}) (line.Crash 3 ∷ []) s before text t after → (result : _) × Takes s.cluster (event.Crash 3) t.cluster result }
+    // What a script does: it plays its first line, which takes its event where it is one; and a journal is that of the
+    // node.
+    ensures message_first { event_of (line.Deliver 7 3) ≡ Some (event.Deliver 7 3) }
+    ensures event { (l : ScriptLine) (e : ClusterEvent) (s t : SimState) (before after : Memory) (text : List ℕ) → event_of l ≡ Some e → Plays (Writes {X = Unit {0}}) (l ∷ []) s before text t after → (result : _) × Takes s.cluster e t.cluster result }
     ensures no_such_node { (name text : List ℕ) (s t : SimState) (before after : Memory) → book_at s.cluster 3 ≡ None → Saves (Writes {X = Unit {0}}) 3 name s before text t after → after ≡ before }
     ensures file_fails { (book : BookState) (name text : List ℕ) (s t : SimState) (before after : Memory) → fails_next before.passing ≡ true → SavesBook (Writes {X = Unit {0}}) book name s before text t after → t.unwritten ≡ true }
 

@@ -1,11 +1,12 @@
 -- worked: what the definitions say of programs, deliveries, refusals, printed lines and scripts, over files in
 -- memory.
-use Rattle.std.proofs.Common.{◌≡◌, ◌≢◌, Result, Ok, Err, ◌+◌, ◌++◌, append-nil, length, true≢false, refl, ap, sym, ◌∙◌, inl, inr, subst, arith}
+use Rattle.std.proofs.Common.{◌≡◌, ◌≢◌, ℕ, List, ◌∷◌, [], Some, Result, Ok, Err, ◌+◌, ◌++◌, append-nil, length, true≢false, refl, ap, sym, ◌∙◌, inl, inr, subst, arith}
 use Rattle.std.specs.FinSet as set
 use Rattle.std.specs.Fmt.{digits}
 use Rattle.bq_insn.specs.Insn.{unit_bytes}
 use Rattle.bq_insn.specs.Slots.{spelling}
 use Rattle.q_outside.specs.Memory.{Writes}
+use Rattle.q_outside.specs.declared.memory_files.MemoryFiles.{MemoryFiles as Memory}
 use Rattle.q_desk.proofs.Accepted.{no_refusal, same_answer}
 use Rattle.reasons.specs.declared.Reason.{Reason}
 use Rattle.reasons.specs.declared.Reason.TheVariants.{OutOfMemory}
@@ -14,11 +15,14 @@ use Rattle.q_history.specs.Calls.{Takes}
 use Rattle.q_history.specs.Clusters.{stepped}
 use Rattle.q_history.specs.State.{ClusterState}
 use Rattle.q_history.specs.declared.event.ClusterStep.{ClusterStep}
+use Rattle.q_history.specs.declared.event.ClusterEvent.{ClusterEvent}
 use Rattle.q_history.specs.declared.event.ClusterEvent.TheVariants as event
+use Rattle.q_script.specs.declared.line.ScriptLine.{ScriptLine}
 use Rattle.q_sim.specs.Delivered.{Deliveries, pair_cmp}
-use Rattle.q_sim.specs.Simulates.{SavesAny, SimState, Tries}
+use Rattle.q_sim.specs.Simulates.{Acts, LeavesFiles, Plays, SavesAny, SimState, Tries, at_next_line, event_of}
 use Rattle.q_sim.specs.Truths.{IsTrueAnswer}
 use Rattle.q_sim.proofs.Pairs.{in_itself, pair_cmp_total}
+use Rattle.q_sim.proofs.Performing.{does_event}
 use Rattle.q_sim.proofs.worked.worked.Goals as goal
 
 pub returns-clause-other_bytes : goal.returns-clause-other_bytes
@@ -86,9 +90,16 @@ returns-clause-message c = refl
 pub returns-clause-meeting : goal.returns-clause-meeting
 returns-clause-meeting c = λ store collect text h. (h.least, h.meeting, h.says)
 
-pub returns-clause-crash : goal.returns-clause-crash
-returns-clause-crash c = λ s t before after text h.
-    (h.4.0.result, subst (λ (x : SimState). Takes s.cluster (event.Crash 3) x.cluster h.4.0.result) (sym h.5.0) h.4.0.takes)
+-- an event that is a line's
+event_taken : (l : ScriptLine) (e : ClusterEvent) (s t : SimState) (before after : Memory) (text : List ℕ) → event_of l ≡ Some e
+    → Plays (Writes {X = Unit {0}}) (l ∷ []) s before text t after → (result : Result ClusterStep Reason) × Takes s.cluster e t.cluster result
+event_taken l e s t before after text is h =
+    let does : LeavesFiles (Acts e) (at_next_line s) before h.2 h.0 h.1 =
+    subst (λ (d : SimState → Memory → List ℕ → SimState → Memory → Type 0). d (at_next_line s) before h.2 h.0 h.1) (does_event (Writes {X = Unit {0}}) l e is) h.4 in
+    (does.0.result, subst (λ (x : SimState). Takes s.cluster e x.cluster does.0.result) (sym h.5.0) does.0.takes)
+
+pub returns-clause-event : goal.returns-clause-event
+returns-clause-event c = event_taken
 
 pub returns-clause-no_such_node : goal.returns-clause-no_such_node
 returns-clause-no_such_node c = λ name text s t before after none h.
