@@ -49,7 +49,8 @@ macro_rules! passed_on {
     };
 }
 
-/// Why something is refused, each with its number, in the order of these.
+/// Why something is refused, each with its number, in the order of these. Of calls and events [`Reason::when`] says
+/// when each is told.
 #[derive(Clone, Copy, Debug, PartialEq, Eq)]
 pub enum Reason {
     // Texts of instructions, and sources of the assembler.
@@ -81,41 +82,25 @@ pub enum Reason {
     AnswerKind = 30,
     NoteForm = 31,
     // Calls of nodes and views.
-    /// The node has not joined, so it can begin no operation.
     NotJoined = 41,
-    /// The node has left.
     Gone = 42,
-    /// 64 operations are open.
     SessionsFull = 43,
-    /// The id was used before, also by a node that left or crashed.
     IdUsed = 44,
     BadFraction = 45,
-    /// A view would have more than 256 ids.
     ViewFull = 46,
-    /// More than 1,024 ids would be known to have entered, joined or left.
     FactsFull = 47,
-    /// The node has begun 2^32 operations.
     NumbersOut = 48,
-    /// The founders' ids do not rise strictly, are not 1 to 256, or lack the node's own.
     BadFounders = 49,
     // Programs, queries and journals.
-    /// A value has another length than those of the version.
     BadValue = 50,
-    /// No program has this id.
     UnknownProgram = 51,
-    /// A 1,025th program would come.
     TableFull = 52,
-    /// A 4,097th query or a 65,537th entry of the journal would come.
     BookFull = 53,
-    /// No query has this number.
     NoSuchQuery = 54,
-    /// The result is of another node, program, view or start, or of a query that does not run.
     Stranger = 55,
-    /// The query's answer is recorded.
     AlreadyAnswered = 56,
     JournalForm = 57,
     JournalMismatch = 58,
-    /// The program was checked for records of other lengths than those of the desk's views.
     WrongBounds = 59,
     // Job boards.
     RowFull = 61,
@@ -131,11 +116,8 @@ pub enum Reason {
     /// Told as `BadField`.
     MessageField = 77,
     // Events, requests, transports and files.
-    /// No such node was ever there, or it has left or crashed.
     NoSuchNode = 81,
-    /// No message of that number was sent.
     NeverSent = 82,
-    /// No job of this number was handed out.
     NoSuchJob = 83,
     BadRequest = 84,
     CutRequest = 85,
@@ -148,9 +130,79 @@ pub enum Reason {
     WroteRecord = 94,
     BadPlace = 95,
     StepsOut = 96,
-    /// Memory was refused.
     OutOfMemory = 99,
 }
+
+/// Every reason, in the order of numbers.
+const REASONS: [Reason; 67] = [
+    Reason::BadLength,
+    Reason::TooLong,
+    Reason::BadOpcode,
+    Reason::BadRegister,
+    Reason::UnusedField,
+    Reason::BadField,
+    Reason::CutWide,
+    Reason::LeftOut,
+    Reason::Syntax,
+    Reason::Label,
+    Reason::Backward,
+    Reason::OutsideText,
+    Reason::IntoWide,
+    Reason::FallsOff,
+    Reason::WrongCount,
+    Reason::Entry,
+    Reason::UnsetRegister,
+    Reason::WrongKind,
+    Reason::OutsideFrame,
+    Reason::OutsideRecord,
+    Reason::RecordWritten,
+    Reason::FramePointerWritten,
+    Reason::NotCovered,
+    Reason::AnswerKind,
+    Reason::NoteForm,
+    Reason::NotJoined,
+    Reason::Gone,
+    Reason::SessionsFull,
+    Reason::IdUsed,
+    Reason::BadFraction,
+    Reason::ViewFull,
+    Reason::FactsFull,
+    Reason::NumbersOut,
+    Reason::BadFounders,
+    Reason::BadValue,
+    Reason::UnknownProgram,
+    Reason::TableFull,
+    Reason::BookFull,
+    Reason::NoSuchQuery,
+    Reason::Stranger,
+    Reason::AlreadyAnswered,
+    Reason::JournalForm,
+    Reason::JournalMismatch,
+    Reason::WrongBounds,
+    Reason::RowFull,
+    Reason::BadCount,
+    Reason::BadHead,
+    Reason::Short,
+    Reason::LongMessage,
+    Reason::BadKind,
+    Reason::Unsorted,
+    Reason::Extra,
+    Reason::MessageField,
+    Reason::NoSuchNode,
+    Reason::NeverSent,
+    Reason::NoSuchJob,
+    Reason::BadRequest,
+    Reason::CutRequest,
+    Reason::TransportFailed,
+    Reason::FileFailed,
+    Reason::ReadUnset,
+    Reason::WroteFramePointer,
+    Reason::OutsideAccess,
+    Reason::WroteRecord,
+    Reason::BadPlace,
+    Reason::StepsOut,
+    Reason::OutOfMemory,
+];
 
 impl From<AllocError> for Reason {
     ghost from_gives = { λ _ e. e ≡ OutOfMemory };
@@ -174,75 +226,7 @@ impl Reason {
         ensures each { (reason : Why) → Contains result reason }
         ensures rising { IsStrictlyIncreasing (map number result) }
     {
-        [
-            Reason::BadLength,
-            Reason::TooLong,
-            Reason::BadOpcode,
-            Reason::BadRegister,
-            Reason::UnusedField,
-            Reason::BadField,
-            Reason::CutWide,
-            Reason::LeftOut,
-            Reason::Syntax,
-            Reason::Label,
-            Reason::Backward,
-            Reason::OutsideText,
-            Reason::IntoWide,
-            Reason::FallsOff,
-            Reason::WrongCount,
-            Reason::Entry,
-            Reason::UnsetRegister,
-            Reason::WrongKind,
-            Reason::OutsideFrame,
-            Reason::OutsideRecord,
-            Reason::RecordWritten,
-            Reason::FramePointerWritten,
-            Reason::NotCovered,
-            Reason::AnswerKind,
-            Reason::NoteForm,
-            Reason::NotJoined,
-            Reason::Gone,
-            Reason::SessionsFull,
-            Reason::IdUsed,
-            Reason::BadFraction,
-            Reason::ViewFull,
-            Reason::FactsFull,
-            Reason::NumbersOut,
-            Reason::BadFounders,
-            Reason::BadValue,
-            Reason::UnknownProgram,
-            Reason::TableFull,
-            Reason::BookFull,
-            Reason::NoSuchQuery,
-            Reason::Stranger,
-            Reason::AlreadyAnswered,
-            Reason::JournalForm,
-            Reason::JournalMismatch,
-            Reason::WrongBounds,
-            Reason::RowFull,
-            Reason::BadCount,
-            Reason::BadHead,
-            Reason::Short,
-            Reason::LongMessage,
-            Reason::BadKind,
-            Reason::Unsorted,
-            Reason::Extra,
-            Reason::MessageField,
-            Reason::NoSuchNode,
-            Reason::NeverSent,
-            Reason::NoSuchJob,
-            Reason::BadRequest,
-            Reason::CutRequest,
-            Reason::TransportFailed,
-            Reason::FileFailed,
-            Reason::ReadUnset,
-            Reason::WroteFramePointer,
-            Reason::OutsideAccess,
-            Reason::WroteRecord,
-            Reason::BadPlace,
-            Reason::StepsOut,
-            Reason::OutOfMemory,
-        ]
+        REASONS
     }
 
     /// The number by which it is told.
@@ -325,6 +309,40 @@ impl Reason {
             Reason::StepsOut => "StepsOut",
             Reason::OutOfMemory => "OutOfMemory",
         }
+    }
+
+    /// When it is told, in words for a person: of calls and events, and of memory.
+    pub fn when(self) -> Option<&'static str> {
+        let words = match self {
+            Reason::NotJoined => "The node has not joined, so it can begin no operation.",
+            Reason::Gone => "The node left. No call is made at it any more.",
+            Reason::SessionsFull => "The node has 64 operations open, the most that it has.",
+            Reason::IdUsed =>
+                "The id was used before, also by a node that left or crashed. Ids are used once.",
+            Reason::ViewFull => "A view would have more than 256 ids, the most that one has.",
+            Reason::FactsFull =>
+                "More than 1024 ids would be known to have entered, joined or left: the most.",
+            Reason::NumbersOut => "The node has begun 2^32 operations, the most that it begins.",
+            Reason::BadFounders =>
+                "The founders are not 1 to 256, their ids do not rise strictly, or they lack the node's own.",
+            Reason::BadValue => "A value has another length than those of the version.",
+            Reason::UnknownProgram => "No program of this node has this number.",
+            Reason::TableFull => "The node has 1024 programs, the most that it keeps.",
+            Reason::BookFull =>
+                "The node has 4096 queries, or 65536 entries in its journal: the most.",
+            Reason::NoSuchQuery => "No query of this node has this number.",
+            Reason::Stranger =>
+                "The result is of another node, program, view or start, or its query does not run.",
+            Reason::AlreadyAnswered => "The query of this job is answered.",
+            Reason::WrongBounds =>
+                "The program was checked for records of other lengths than those of the node's views.",
+            Reason::NoSuchNode => "No node of this id is there: it never entered, left or crashed.",
+            Reason::NeverSent => "No message of this number was sent.",
+            Reason::NoSuchJob => "No job of this number was handed out.",
+            Reason::OutOfMemory => "Memory was refused.",
+            _ => return None,
+        };
+        Some(words)
     }
 }
 

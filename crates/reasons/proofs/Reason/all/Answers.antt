@@ -1,82 +1,13 @@
 -- Reason::all: each reason, in the order of numbers.
-use Rattle.std.proofs.Common.{arith, refl, ◌∷◌, []}
+use Rattle.std.proofs.Common.{refl, map}
+use Rattle.reasons.specs.Table.{number}
+use Rattle.reasons.specs.declared.TheConstants as consts
+use Rattle.reasons.proofs.Listed.{each_listed}
 use Rattle.reasons.proofs.Rising.{rising}
-use Rattle.reasons.specs.declared.Reason.TheVariants as why
 use Rattle.reasons.proofs.Reason.all.Goals as goal
 
 pub returns-clause-each : goal.returns-clause-each
-returns-clause-each c why.BadLength = (0, (omega arith), refl)
-returns-clause-each c why.TooLong = (1, (omega arith), refl)
-returns-clause-each c why.BadOpcode = (2, (omega arith), refl)
-returns-clause-each c why.BadRegister = (3, (omega arith), refl)
-returns-clause-each c why.UnusedField = (4, (omega arith), refl)
-returns-clause-each c why.BadField = (5, (omega arith), refl)
-returns-clause-each c why.CutWide = (6, (omega arith), refl)
-returns-clause-each c why.LeftOut = (7, (omega arith), refl)
-returns-clause-each c why.Syntax = (8, (omega arith), refl)
-returns-clause-each c why.Label = (9, (omega arith), refl)
-returns-clause-each c why.Backward = (10, (omega arith), refl)
-returns-clause-each c why.OutsideText = (11, (omega arith), refl)
-returns-clause-each c why.IntoWide = (12, (omega arith), refl)
-returns-clause-each c why.FallsOff = (13, (omega arith), refl)
-returns-clause-each c why.WrongCount = (14, (omega arith), refl)
-returns-clause-each c why.Entry = (15, (omega arith), refl)
-returns-clause-each c why.UnsetRegister = (16, (omega arith), refl)
-returns-clause-each c why.WrongKind = (17, (omega arith), refl)
-returns-clause-each c why.OutsideFrame = (18, (omega arith), refl)
-returns-clause-each c why.OutsideRecord = (19, (omega arith), refl)
-returns-clause-each c why.RecordWritten = (20, (omega arith), refl)
-returns-clause-each c why.FramePointerWritten = (21, (omega arith), refl)
-returns-clause-each c why.NotCovered = (22, (omega arith), refl)
-returns-clause-each c why.AnswerKind = (23, (omega arith), refl)
-returns-clause-each c why.NoteForm = (24, (omega arith), refl)
-returns-clause-each c why.NotJoined = (25, (omega arith), refl)
-returns-clause-each c why.Gone = (26, (omega arith), refl)
-returns-clause-each c why.SessionsFull = (27, (omega arith), refl)
-returns-clause-each c why.IdUsed = (28, (omega arith), refl)
-returns-clause-each c why.BadFraction = (29, (omega arith), refl)
-returns-clause-each c why.ViewFull = (30, (omega arith), refl)
-returns-clause-each c why.FactsFull = (31, (omega arith), refl)
-returns-clause-each c why.NumbersOut = (32, (omega arith), refl)
-returns-clause-each c why.BadFounders = (33, (omega arith), refl)
-returns-clause-each c why.BadValue = (34, (omega arith), refl)
-returns-clause-each c why.UnknownProgram = (35, (omega arith), refl)
-returns-clause-each c why.TableFull = (36, (omega arith), refl)
-returns-clause-each c why.BookFull = (37, (omega arith), refl)
-returns-clause-each c why.NoSuchQuery = (38, (omega arith), refl)
-returns-clause-each c why.Stranger = (39, (omega arith), refl)
-returns-clause-each c why.AlreadyAnswered = (40, (omega arith), refl)
-returns-clause-each c why.JournalForm = (41, (omega arith), refl)
-returns-clause-each c why.JournalMismatch = (42, (omega arith), refl)
-returns-clause-each c why.WrongBounds = (43, (omega arith), refl)
-returns-clause-each c why.RowFull = (44, (omega arith), refl)
-returns-clause-each c why.BadCount = (45, (omega arith), refl)
-returns-clause-each c why.BadHead = (46, (omega arith), refl)
-returns-clause-each c why.Short = (47, (omega arith), refl)
-returns-clause-each c why.LongMessage = (48, (omega arith), refl)
-returns-clause-each c why.BadKind = (49, (omega arith), refl)
-returns-clause-each c why.Unsorted = (50, (omega arith), refl)
-returns-clause-each c why.Extra = (51, (omega arith), refl)
-returns-clause-each c why.MessageField = (52, (omega arith), refl)
-returns-clause-each c why.NoSuchNode = (53, (omega arith), refl)
-returns-clause-each c why.NeverSent = (54, (omega arith), refl)
-returns-clause-each c why.NoSuchJob = (55, (omega arith), refl)
-returns-clause-each c why.BadRequest = (56, (omega arith), refl)
-returns-clause-each c why.CutRequest = (57, (omega arith), refl)
-returns-clause-each c why.TransportFailed = (58, (omega arith), refl)
-returns-clause-each c why.FileFailed = (59, (omega arith), refl)
-returns-clause-each c why.ReadUnset = (60, (omega arith), refl)
-returns-clause-each c why.WroteFramePointer = (61, (omega arith), refl)
-returns-clause-each c why.OutsideAccess = (62, (omega arith), refl)
-returns-clause-each c why.WroteRecord = (63, (omega arith), refl)
-returns-clause-each c why.BadPlace = (64, (omega arith), refl)
-returns-clause-each c why.StepsOut = (65, (omega arith), refl)
-returns-clause-each c why.OutOfMemory = (66, (omega arith), refl)
+returns-clause-each c = each_listed
 
 pub returns-clause-rising : goal.returns-clause-rising
-returns-clause-rising c = rising
-    (1 ∷ 2 ∷ 3 ∷ 4 ∷ 5 ∷ 6 ∷ 7 ∷ 8 ∷ 9 ∷ 10 ∷ 11 ∷ 12 ∷ 13 ∷ 14 ∷ 21 ∷ 22 ∷ 23 ∷ 24 ∷ 25 ∷ 26 ∷ 27 ∷ 28 ∷
-    29 ∷ 30 ∷ 31 ∷ 41 ∷ 42 ∷ 43 ∷ 44 ∷ 45 ∷ 46 ∷ 47 ∷ 48 ∷ 49 ∷ 50 ∷ 51 ∷ 52 ∷ 53 ∷ 54 ∷ 55 ∷ 56 ∷ 57 ∷ 58 ∷
-    59 ∷ 61 ∷ 62 ∷ 71 ∷ 72 ∷ 73 ∷ 74 ∷ 75 ∷ 76 ∷ 77 ∷ 81 ∷ 82 ∷ 83 ∷ 84 ∷ 85 ∷ 86 ∷ 87 ∷ 91 ∷ 92 ∷ 93 ∷ 94 ∷
-    95 ∷ 96 ∷ 99 ∷ [])
-    refl
+returns-clause-rising c = rising (map number consts.REASONS) refl
