@@ -5,7 +5,7 @@ use Rattle.sc_msg.specs.declared.message.Body.TheVariants.{Store, StoreAck, Coll
 
 -- the one node that does something with the message, if it is one: the node that asked
 abbrev pub addressee_of : Body → Option ℕ
-addressee_of (StoreAck to tag) = Some to
+addressee_of (StoreAck a) = Some a.to
 addressee_of (CollectReply to tag view) = Some to
 addressee_of b = None
 

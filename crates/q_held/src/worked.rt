@@ -4,6 +4,7 @@ ghost use Rattle.std.specs.Prelude.{◌≡◌, ◌++◌, ℕ, List, [], codes, O
 ghost use Rattle.sc_msg.specs.declared.fault.MessageFault.{MessageFault};
 ghost use Rattle.sc_msg.specs.declared.message.Message.{Message as Sent};
 ghost use Rattle.sc_msg.specs.declared.message.Body.TheVariants as body;
+ghost use Rattle.sc_msg.specs.declared.message.StoreAck.{StoreAck as AckFields};
 ghost use Rattle.sc_members.specs.Members.{Facts};
 ghost use Rattle.sc_view.specs.Views.{ViewMap};
 ghost use Rattle.sc_node.specs.declared.answer.Begun.{Begun as Started};
@@ -56,10 +57,10 @@ pub fn worked_calls()
 
 /// For whom a message is meant, and which operation waits for answers to it.
 pub fn worked_addressees()
-    ensures acknowledgement { addressee_of (body.StoreAck 3 7) ≡ Some 3 }
+    ensures acknowledgement { (ack : AckFields) → addressee_of (body.StoreAck ack) ≡ Some ack.to }
     ensures reply { (v : ViewMap) → addressee_of (body.CollectReply 3 7 v) ≡ Some 3 }
     ensures all { (v : ViewMap) → (addressee_of (body.Store 7 v) ≡ None) × (addressee_of (body.StoreEcho v) ≡ None) × (addressee_of (body.CollectQuery 7) ≡ None) }
     ensures entering { (f : Facts) (v : ViewMap) → addressee_of (body.EnterEcho 3 true f v) ≡ None }
     ensures asks { (v : ViewMap) → (asking_tag (body.Store 7 v) ≡ Some 7) × (asking_tag (body.CollectQuery 7) ≡ Some 7) }
-    ensures asks_nothing { (v : ViewMap) → (asking_tag (body.StoreAck 3 7) ≡ None) × (asking_tag (body.StoreEcho v) ≡ None) }
+    ensures asks_nothing { (ack : AckFields) (v : ViewMap) → (asking_tag (body.StoreAck ack) ≡ None) × (asking_tag (body.StoreEcho v) ≡ None) }
 {}

@@ -76,7 +76,7 @@ module _ (n : NodeState) (nodes : List ℕ) where
   for_each (JoinEcho about) = for_uncounted (JoinEcho about) None refl
   for_each (LeaveEcho about) = for_uncounted (LeaveEcho about) None refl
   for_each (Store tag view) = for_uncounted (Store tag view) (asking_phase n (Store tag view)) refl
-  for_each (StoreAck to tag) = for_uncounted (StoreAck to tag) None refl
+  for_each (StoreAck a) = for_uncounted (StoreAck a) None refl
   for_each (StoreEcho view) = for_uncounted (StoreEcho view) None refl
   for_each (CollectQuery tag) = for_uncounted (CollectQuery tag) (asking_phase n (CollectQuery tag)) refl
   for_each (CollectReply to tag view) = for_uncounted (CollectReply to tag view) None refl

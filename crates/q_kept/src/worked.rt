@@ -6,6 +6,7 @@ ghost use Rattle.std.specs.FinSet as set;
 ghost use Rattle.sc_view.specs.Views.{ViewMap};
 ghost use Rattle.sc_msg.specs.Lengths.{fits};
 ghost use Rattle.sc_msg.specs.declared.message.Body.TheVariants as body;
+ghost use Rattle.sc_msg.specs.declared.message.StoreAck.{StoreAck as AckFields};
 ghost use Rattle.sc_msg.specs.declared.message.Message.{Message as Said};
 ghost use Rattle.sc_msg.specs.declared.version.Version.{Version as Wire};
 ghost use Rattle.sc_operations.specs.declared.session.Phase.{Phase as Waiting};
@@ -29,16 +30,16 @@ ghost use Rattle.q_kept.specs.declared.question.Question.{Question as Asking};
 
 /// To whom messages go, and which go again.
 pub fn worked()
-    ensures to_one { (from : ℕ) → (addressed (record { from = from; body = body.StoreAck 3 7 })).to ≡ Some 3 }
+    ensures to_one { (from : ℕ) (ack : AckFields) → (addressed (record { from = from; body = body.StoreAck ack })).to ≡ Some ack.to }
     ensures to_all { (from : ℕ) → (addressed (record { from = from; body = body.CollectQuery 7 })).to ≡ None }
 
     // The letter of an acknowledgement goes to the one node that asked, and to no other.
-    ensures acknowledgement { (v : Wire) (from : ℕ) (letter : Sent)
-        → Spells v (addressed (record { from = from; body = body.StoreAck 3 7 })) letter → letter.to ≡ Some 3 }
+    ensures acknowledgement { (v : Wire) (from : ℕ) (ack : AckFields) (letter : Sent)
+        → Spells v (addressed (record { from = from; body = body.StoreAck ack })) letter → letter.to ≡ Some ack.to }
 
     // What asks goes again, and no reply or echo does.
     ensures again { (v : ViewMap) → (goes_again body.Enter ≡ true) × (goes_again body.Join ≡ true) × (goes_again body.Leave ≡ true) × (goes_again (body.Store 7 v) ≡ true) × (goes_again (body.CollectQuery 7) ≡ true) }
-    ensures not_again { (v : ViewMap) → (goes_again (body.StoreAck 3 7) ≡ false) × (goes_again (body.StoreEcho v) ≡ false) × (goes_again (body.CollectReply 3 7 v) ≡ false) × (goes_again (body.JoinEcho 3) ≡ false) × (goes_again (body.LeaveEcho 3) ≡ false) }
+    ensures not_again { (ack : AckFields) (v : ViewMap) → (goes_again (body.StoreAck ack) ≡ false) × (goes_again (body.StoreEcho v) ≡ false) × (goes_again (body.CollectReply 3 7 v) ≡ false) × (goes_again (body.JoinEcho 3) ≡ false) × (goes_again (body.LeaveEcho 3) ≡ false) }
 {}
 
 /// For how long a question is kept.

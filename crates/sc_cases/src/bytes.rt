@@ -43,7 +43,7 @@ fn tell_body(rt: &impl Print, body: &Body) -> io::Result<()> {
             print!(rt; " tag {tag}")?;
             tell_view(rt, view)
         }
-        Body::StoreAck { to, tag } => print!(rt; " to {to} tag {tag}"),
+        Body::StoreAck(ack) => print!(rt; " to {} tag {}", ack.to, ack.tag),
         Body::StoreEcho { view } => tell_view(rt, view),
         Body::CollectQuery { tag } => print!(rt; " tag {tag}"),
         Body::CollectReply { to, tag, view } => {

@@ -61,7 +61,7 @@ back kinds.JoinEcho (number about ∷ []) = bodies.JoinEcho about
 back kinds.Leave fs = bodies.Leave
 back kinds.LeaveEcho (number about ∷ []) = bodies.LeaveEcho about
 back kinds.Store (number tag ∷ view version v ∷ []) = bodies.Store tag v
-back kinds.StoreAck (number to ∷ number tag ∷ []) = bodies.StoreAck to tag
+back kinds.StoreAck (number to ∷ number tag ∷ []) = bodies.StoreAck (record { to = to; tag = tag })
 back kinds.StoreEcho (view version v ∷ []) = bodies.StoreEcho v
 back kinds.CollectQuery (number tag ∷ []) = bodies.CollectQuery tag
 back kinds.CollectReply (number to ∷ number tag ∷ view version v ∷ []) = bodies.CollectReply to tag v
@@ -77,7 +77,7 @@ laid_out version (bodies.JoinEcho about) = (refl, refl)
 laid_out version bodies.Leave = (refl, refl)
 laid_out version (bodies.LeaveEcho about) = (refl, refl)
 laid_out version (bodies.Store tag v) = (refl, refl)
-laid_out version (bodies.StoreAck to tag) = (refl, refl)
+laid_out version (bodies.StoreAck a) = (refl, refl)
 laid_out version (bodies.StoreEcho v) = (refl, refl)
 laid_out version (bodies.CollectQuery tag) = (refl, refl)
 laid_out version (bodies.CollectReply to tag v) = (refl, refl)

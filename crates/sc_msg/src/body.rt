@@ -7,7 +7,7 @@ ghost use Rattle.sc_msg.specs.Fault.{head_fault, most_bytes};
 
 use crate::fault::MessageFault;
 use crate::kind::MessageKind;
-use crate::message::{Body, MOST_MESSAGE_BYTES};
+use crate::message::{Body, MOST_MESSAGE_BYTES, StoreAck};
 use crate::reader::Reader;
 use crate::version::Version;
 use std::alloc::Global;
@@ -71,7 +71,7 @@ impl<'a> Reader<'a> {
     {
         let to = self.number()?;
         let tag = self.number()?;
-        Ok(Body::StoreAck { to, tag })
+        Ok(Body::StoreAck(StoreAck { to, tag }))
     }
 
     fn collect_reply(&mut self, alloc: Global, version: Version) -> Result<Body, MessageFault>

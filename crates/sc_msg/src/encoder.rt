@@ -160,9 +160,9 @@ fn push_body(out: &mut Vec<u8>, version: Version, body: &Body) -> Result<(), All
             push_number(out, *tag)?;
             push_view(out, version, view)
         }
-        Body::StoreAck { to, tag } => {
-            push_number(out, *to)?;
-            push_number(out, *tag)
+        Body::StoreAck(ack) => {
+            push_number(out, ack.to)?;
+            push_number(out, ack.tag)
         }
         Body::StoreEcho { view } => push_view(out, version, view),
         Body::CollectQuery { tag } => push_number(out, *tag),

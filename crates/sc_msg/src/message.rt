@@ -11,6 +11,15 @@ use std::alloc::AllocError;
 /// The most bytes of a message that are read. No message is written with more than 57,629.
 pub const MOST_MESSAGE_BYTES: usize = 60_000;
 
+/// What the sender of a [`Body::StoreAck`] has learned.
+#[derive(Drop, Clone, Copy)]
+pub struct StoreAck {
+    /// The node whose store it is.
+    pub to: u64,
+    /// The operation of that node.
+    pub tag: u64,
+}
+
 /// What a message says.
 #[derive(Drop)]
 pub enum Body {
@@ -41,10 +50,7 @@ pub enum Body {
         view: View,
     },
     /// The sender has learned what that operation of the node stores.
-    StoreAck {
-        to: u64,
-        tag: u64,
-    },
+    StoreAck(StoreAck),
     /// What the sender knows after a store.
     StoreEcho {
         view: View,
@@ -149,7 +155,7 @@ impl Clone for Body {
                 tag: *tag,
                 view: view.clone()?,
             },
-            Body::StoreAck { to, tag } => Body::StoreAck { to: *to, tag: *tag },
+            Body::StoreAck(ack) => Body::StoreAck(*ack),
             Body::StoreEcho { view } => Body::StoreEcho {
                 view: view.clone()?,
             },

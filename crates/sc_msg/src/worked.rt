@@ -13,6 +13,7 @@ ghost use Rattle.sc_msg.specs.Values.{length_fault, value_bytes, value_fault, Is
 ghost use Rattle.sc_msg.specs.declared.fault.MessageFault.TheVariants as fault;
 ghost use Rattle.sc_msg.specs.declared.kind.MessageKind.TheVariants as kind;
 ghost use Rattle.sc_msg.specs.declared.message.Body.TheVariants as body;
+ghost use Rattle.sc_msg.specs.declared.message.StoreAck.{StoreAck};
 ghost use Rattle.sc_msg.specs.declared.version.Version.TheVariants.{First, Second};
 
 /// What the definitions say of kinds, of the messages by which node 3 enters and tells that node 7 joined or that it
@@ -21,7 +22,7 @@ ghost use Rattle.sc_msg.specs.declared.version.Version.TheVariants.{First, Secon
 pub fn worked()
     ensures kind_of_join_echo { kind_of (body.JoinEcho 7) ≡ kind.JoinEcho }
     ensures kind_of_leave_echo { kind_of (body.LeaveEcho 7) ≡ kind.LeaveEcho }
-    ensures kind_of_ack { kind_of (body.StoreAck 1 0) ≡ kind.StoreAck }
+    ensures kind_of_ack { (ack : StoreAck) → kind_of (body.StoreAck ack) ≡ kind.StoreAck }
     ensures fourth_byte { kind_at 9 ≡ Some kind.StoreEcho }
     ensures no_kind { kind_at 12 ≡ None }
     ensures last_kind { code kind.CollectReply ≡ 11 }
@@ -34,7 +35,7 @@ pub fn worked()
     ensures value { value_bytes Second (5 ∷ 0 ∷ 7 ∷ []) ≡ 3 ∷ 5 ∷ 0 ∷ 7 ∷ [] }
     ensures no_bytes { value_bytes Second [] ≡ 0 ∷ [] }
     ensures view_of_reply { (v : ViewMap) → view_of (body.CollectReply 1 0 v) ≡ Some v }
-    ensures view_of_ack { view_of (body.StoreAck 1 0) ≡ None }
+    ensures view_of_ack { (ack : StoreAck) → view_of (body.StoreAck ack) ≡ None }
     ensures values_of_no_view { has_values_within (lengths 48 48) (record { from = 3; body = body.Enter }) ≡ true }
     ensures sender_0 { MessageHasValuesWithin (lengths 48 48) (record { from = 0; body = body.Enter }) }
     ensures first_lengths { IsLength First 48 × (IsLength First 47 → ⊥) × (IsLength First 49 → ⊥) }

@@ -28,7 +28,7 @@ use Rattle.sc_node.specs.declared.answer.Begun.{Begun}
 use Rattle.sc_node.specs.declared.answer.Delivered.{Delivered}
 use Rattle.sc_node.specs.Sessions.{apply, advanced_by, session_with, ends, ended_by, ended_at, ended_with, querying, storing, count_sender, is_reached, view_in}
 use Rattle.sc_node.specs.State.{NodeState}
-use Rattle.sc_node.specs.Nodes.{fresh, founded, entered, store_begun, collect_begun, left, delivered, delivery, node_after, view_after, is_reply, sessions_after, session_moved, ended_session, progress_of, ack_progress, reply_progress, answers, store_of, store_back, joins, message_from, beta_threshold, hearing, opening, fitting, leaving, stored_view, store_session, collect_session, next_stored}
+use Rattle.sc_node.specs.Nodes.{fresh, founded, entered, store_begun, collect_begun, left, delivered, delivery, node_after, view_after, is_reply, sessions_after, session_moved, ended_session, progress_of, ack_progress, reply_progress, ack_for, answers, store_of, store_back, joins, message_from, beta_threshold, hearing, opening, fitting, leaving, stored_view, store_session, collect_session, next_stored}
 use Rattle.sc_node.specs.Lengths.{KindHasValuesWithin, SessionHasValuesWithin, TableHasValuesWithin, NodeHasValuesWithin, BegunHasValuesWithin, AdvanceHasValuesWithin, ProgressHasValuesWithin, EndedHasValuesWithin, DeliveryHasValuesWithin}
 
 -- a call that passed its tests does this
@@ -138,7 +138,7 @@ module _ (l : Lengths) where
   replied from tag view next (Some p) h = advance_if (is_reached (count_sender p from)) (advance.Turned next view) advance.Counted h tt
 
   progress_told : (s : NodeState) (from : ℕ) (b : Body) → NodeHasValuesWithin l s → BodyHasValuesWithin l b → IfSome (progress_of s from b) (ProgressHasValuesWithin l)
-  progress_told s from (StoreAck to t) h told = progress_if (to == s.id) (ack_progress from t (storing (fin.get s.sessions t))) (acked from t (storing (fin.get s.sessions t)))
+  progress_told s from (StoreAck a) h told = progress_if (a.to == s.id) (ack_progress from a.tag (storing (fin.get s.sessions a.tag))) (acked from a.tag (storing (fin.get s.sessions a.tag)))
   progress_told s from (CollectReply to t v) h told =
       progress_if (to == s.id) (reply_progress from t (merge s.view v) (beta_threshold s) (querying (fin.get s.sessions t)))
       (replied from t (merge s.view v) (beta_threshold s) (querying (fin.get s.sessions t)) (merge_within l s.view v h.view told))
@@ -162,7 +162,7 @@ module _ (l : Lengths) where
   answers_told s from (EnterEcho to j f v) h told = bodies_if (joins s from (EnterEcho to j f v)) (Join ∷ []) (tt, tt)
   answers_told s from Join h told = (tt, tt)
   answers_told s from Leave h told = (tt, tt)
-  answers_told s from (Store t v) h told = bodies_if s.joined (StoreAck from t ∷ StoreEcho (merge s.view v) ∷ []) (tt, (merge_within l s.view v h.view told, tt))
+  answers_told s from (Store t v) h told = bodies_if s.joined (StoreAck (ack_for from t) ∷ StoreEcho (merge s.view v) ∷ []) (tt, (merge_within l s.view v h.view told, tt))
   answers_told s from (CollectQuery t) h told = bodies_if s.joined (CollectReply from t s.view ∷ []) (h.view, tt)
   answers_told s from (CollectReply to t v) h told = stored_back (progress_of s from (CollectReply to t v)) (progress_told s from (CollectReply to t v) h told)
   answers_told s from b h told = tt

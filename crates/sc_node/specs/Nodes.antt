@@ -11,6 +11,7 @@ use Rattle.sc_members.specs.Ids.{Ids}
 use Rattle.sc_members.specs.Members.{Facts, Config, is_overfull, no_facts, founding, present, members, threshold, union_facts, with_entered, with_joined, with_left}
 use Rattle.sc_msg.specs.declared.message.Message.{Message}
 use Rattle.sc_msg.specs.declared.message.Body.{Body}
+use Rattle.sc_msg.specs.declared.message.StoreAck.{StoreAck as AckFields}
 use Rattle.sc_msg.specs.declared.message.Body.TheVariants.{Enter, EnterEcho, Join, JoinEcho, Leave, LeaveEcho, Store, StoreAck, StoreEcho, CollectQuery, CollectReply}
 use Rattle.sc_operations.specs.declared.session.OperationKind.TheVariants as kind
 use Rattle.sc_operations.specs.declared.session.Phase.{Phase}
@@ -99,7 +100,7 @@ reply_progress from tag view next (Some p) =
 -- The operation that a message moves. An acknowledgement counts where the operation is stored or stored back, and
 -- ends it at the threshold; a reply counts in the query phase, at whose threshold the view is stored back.
 abbrev pub progress_of : NodeState → ℕ → Body → Option Progress
-progress_of n from (StoreAck to t) = if to == n.id then ack_progress from t (storing (fin.get n.sessions t)) else None
+progress_of n from (StoreAck a) = if a.to == n.id then ack_progress from a.tag (storing (fin.get n.sessions a.tag)) else None
 progress_of n from (CollectReply to t v) =
     if to == n.id then reply_progress from t (merge n.view v) (beta_threshold n) (querying (fin.get n.sessions t)) else None
 progress_of n from b = None
@@ -144,13 +145,17 @@ store_back (Some p) = store_of p.tag p.advance
 abbrev pub turned : NodeState → ℕ → ℕ → ViewMap → Progress
 turned n from tag view = record { tag = tag; sender = from; advance = advance.Turned (beta_threshold n) view }
 
+-- what acknowledges this store of that node
+abbrev pub ack_for : ℕ → ℕ → AckFields
+ack_for from tag = record { to = from; tag = tag }
+
 -- what a node answers
 abbrev pub answers : NodeState → ℕ → Body → List Body
 answers n from Enter = EnterEcho from n.joined (facts_heard n from Enter) n.view ∷ []
 answers n from (EnterEcho to j f v) = if joins n from (EnterEcho to j f v) then Join ∷ [] else []
 answers n from Join = JoinEcho from ∷ []
 answers n from Leave = LeaveEcho from ∷ []
-answers n from (Store t v) = if n.joined then StoreAck from t ∷ StoreEcho (merge n.view v) ∷ [] else []
+answers n from (Store t v) = if n.joined then StoreAck (ack_for from t) ∷ StoreEcho (merge n.view v) ∷ [] else []
 answers n from (CollectQuery t) = if n.joined then CollectReply from t n.view ∷ [] else []
 answers n from (CollectReply to t v) = store_back (progress_of n from (CollectReply to t v))
 answers n from b = []

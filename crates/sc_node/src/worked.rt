@@ -5,6 +5,7 @@ ghost use Rattle.sc_view.specs.Views.{ViewMap};
 ghost use Rattle.sc_members.specs.Members.{Config, is_overfull, with_left};
 ghost use Rattle.sc_msg.specs.declared.message.Message.{Message as Sent};
 ghost use Rattle.sc_msg.specs.declared.message.Body.TheVariants.{Enter, Leave, StoreAck};
+ghost use Rattle.sc_msg.specs.declared.message.StoreAck.{StoreAck as AckFields};
 ghost use Rattle.sc_node.specs.Sessions.{completed};
 ghost use Rattle.sc_node.specs.State.{NodeState};
 ghost use Rattle.sc_node.specs.Nodes.{delivered, entered, founded, founder, left, message_from, next_stored, progress_of};
@@ -23,5 +24,5 @@ pub fn worked()
     ensures gone { (n : NodeState) (m : Sent) → n.gone ≡ true → delivered n m ≡ Err reasons.Gone }
     ensures number { (n : NodeState) → n.stores ≡ 4 → (next_stored n (9 ∷ [])).number ≡ 5 }
     ensures returned { (v : ViewMap) → completed kind.Collect v ≡ completion.Returned v }
-    ensures for_another { (n : NodeState) (from to tag : ℕ) → (to == n.id) ≡ false → progress_of n from (StoreAck to tag) ≡ None }
+    ensures for_another { (n : NodeState) (from : ℕ) (ack : AckFields) → (ack.to == n.id) ≡ false → progress_of n from (StoreAck ack) ≡ None }
 {}

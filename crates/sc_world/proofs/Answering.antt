@@ -19,7 +19,7 @@ use Rattle.sc_world.specs.declared.op.Op.{Op}
 use Rattle.sc_world.specs.State.{WorldState}
 use Rattle.sc_world.specs.Worlds.{moved, clock, Outcome, WasBefore, IsHistory}
 use Rattle.sc_world.specs.Records.{Among, Answers, IsAck, IsReply, IsDelivered, IsPhase, IsRunning, Stores, Queries, StoresBack, IsRecord}
-use Rattle.sc_world.proofs.Links.{IsLinked, IsTransition, IsAckMove, IsReplyMove, IsMove}
+use Rattle.sc_world.proofs.Links.{IsLinked, IsTransition, IsAckMove, IsReplyMove, IsMove, ack_is}
 use Rattle.sc_world.proofs.Steps.{is_open}
 use Rattle.sc_world.proofs.Histories.{IsNext, was_now}
 use Rattle.sc_world.proofs.Recording.{phase_kept, turn_before, record_kept, counted_phase, new_measured, new_open, event_new, sent_kept, acked_op, replied_op, moved_ack, moved_reply}
@@ -101,7 +101,7 @@ module _ (w : WorldState) (number q : ℕ) (w' : WorldState) (k : IsNext w (even
         began = old.began;
         tagged = old.tagged;
         numbered = old.numbered;
-        runs = acked_running w (event.Deliver number q) w' k o lt running c a.back m.from back refl (delivered_now (IsAck o) (answer_is p StoreAck tq a.body)) r.runs;
+        runs = acked_running w (event.Deliver number q) w' k o lt running c a.back m.from back refl (delivered_now (IsAck o) (ap (message_from m.from) (a.body ∙ ap StoreAck (ack_is o a.ack (a.to ∙ name) (a.tag ∙ sym tq))))) r.runs;
       })
 
   reply_record : (p : Progress) → o.tag ≡ p.tag → o.end ≡ None → (a : IsReplyMove n m.from m.body p) → o.session ≡ a.session → IsRecord w' (moved place p o)

@@ -9,6 +9,7 @@ use Rattle.sc_view.specs.Views.{ViewMap, number_at, IsBelow, merge}
 use Rattle.sc_members.specs.Members.{Config, with_left}
 use Rattle.sc_msg.specs.declared.message.Message.{Message}
 use Rattle.sc_msg.specs.declared.message.Body.{Body}
+use Rattle.sc_msg.specs.declared.message.StoreAck.{StoreAck as AckFields}
 use Rattle.sc_msg.specs.declared.message.Body.TheVariants.{Enter, EnterEcho, Join, Leave, Store, StoreAck, StoreEcho, CollectQuery, CollectReply}
 use Rattle.sc_operations.specs.declared.session.OperationKind.TheVariants as kind
 use Rattle.sc_operations.specs.declared.session.Phase.{Phase}
@@ -21,7 +22,7 @@ use Rattle.sc_world.specs.declared.act.Opened.{Opened}
 use Rattle.sc_node.specs.Sessions.{stored, view_in, phase_in, counted_in, phase_with, session_with, advanced_by, apply, ends, is_reached, count_sender, querying, query_before, storing}
 use Rattle.sc_node.specs.State.{NodeState}
 use Rattle.sc_node.specs.Nodes as node
-use Rattle.sc_node.specs.Nodes.{message_from, is_reply, view_after, progress_of, sessions_after, ack_progress, reply_progress, beta_threshold, joins, answers, store_back, store_of, delivery, node_after, begun, opened, store_session, collect_session, stored_view, next_stored, entered, entering}
+use Rattle.sc_node.specs.Nodes.{message_from, is_reply, view_after, progress_of, sessions_after, ack_progress, reply_progress, beta_threshold, joins, ack_for, answers, store_back, store_of, delivery, node_after, begun, opened, store_session, collect_session, stored_view, next_stored, entered, entering}
 use Rattle.sc_world.specs.declared.event.WorldEvent.{WorldEvent}
 use Rattle.sc_world.specs.declared.op.Op.{Op}
 use Rattle.sc_world.specs.State.{WorldState}
@@ -132,14 +133,14 @@ reply_stays false next v place = refl
 
 -- which messages move an operation, and how
 module _ (n : NodeState) (from : ℕ) where
-  ack_back : (to t : ℕ) (s : Session) (b : Option StoreBack) → (to == n.id) ≡ true → fin.get n.sessions t ≡ Some s → s.back ≡ b → IsMove n from (StoreAck to t) (ack_progress from t (phase_in b))
-  ack_back to t s None is at back = tt
-  ack_back to t s (Some b) is at back = inl (record { session = s; back = b; was = at; stores = back; body = ap (λ (x : ℕ). StoreAck x t) (eqb-true to n.id is); sender = refl; advance = refl })
+  ack_back : (a : AckFields) (s : Session) (b : Option StoreBack) → (a.to == n.id) ≡ true → fin.get n.sessions a.tag ≡ Some s → s.back ≡ b → IsMove n from (StoreAck a) (ack_progress from a.tag (phase_in b))
+  ack_back a s None is at back = tt
+  ack_back a s (Some b) is at back = inl (record { session = s; back = b; was = at; stores = back; ack = a; body = refl; to = eqb-true a.to n.id is; tag = refl; sender = refl; advance = refl })
 
-  ack_move : (to t : ℕ) (c : Bool) (s : Option Session) → (to == n.id) ≡ c → fin.get n.sessions t ≡ s → IsMove n from (StoreAck to t) (cond c (ack_progress from t (storing s)) None)
-  ack_move to t false s is at = tt
-  ack_move to t true None is at = tt
-  ack_move to t true (Some s) is at = ack_back to t s s.back is at refl
+  ack_move : (a : AckFields) (c : Bool) (s : Option Session) → (a.to == n.id) ≡ c → fin.get n.sessions a.tag ≡ s → IsMove n from (StoreAck a) (cond c (ack_progress from a.tag (storing s)) None)
+  ack_move a false s is at = tt
+  ack_move a true None is at = tt
+  ack_move a true (Some s) is at = ack_back a s s.back is at refl
 
   reply_back : (to t : ℕ) (view : ViewMap) (s : Session) (b : Option StoreBack) (p : Option Phase) → (to == n.id) ≡ true → fin.get n.sessions t ≡ Some s → s.back ≡ b → s.query ≡ p
       → IsMove n from (CollectReply to t view) (reply_progress from t (merge n.view view) (beta_threshold n) (query_before b p))
@@ -169,7 +170,7 @@ module _ (n : NodeState) (from : ℕ) where
   reply_move to t view true (Some s) is at = reply_back to t view s s.back s.query is at refl refl
 
   pub moves : (b : Body) → IsMove n from b (progress_of n from b)
-  moves (StoreAck to t) = ack_move to t (to == n.id) (fin.get n.sessions t) refl refl
+  moves (StoreAck a) = ack_move a (a.to == n.id) (fin.get n.sessions a.tag) refl refl
   moves (CollectReply to t v) = reply_move to t v (to == n.id) (fin.get n.sessions t) refl refl
   moves b = tt
 
@@ -180,6 +181,10 @@ module _ (w : WorldState) (e : WorldEvent) (q : ℕ) (n : NodeState) (at : fin.g
       subst (λ (x : ℕ). Among (message_from x (f q)) w.sent) (sym is)
       (subst (λ (x : ℕ). Among (message_from from (f x)) w.sent) (linked.named q n at) (subst (λ (y : Body). Among (message_from from y) w.sent) body sent))
 
+  said : (b c : Body) (sender : ℕ) → b ≡ c → sender ≡ from → Among (message_from from b) w.sent → Among (message_from sender c) w.sent
+  said b c sender body is sent =
+      subst (λ (x : ℕ). Among (message_from x c) w.sent) (sym is) (subst (λ (y : Body). Among (message_from from y) w.sent) body sent)
+
   progress_by : (b : Body) (p : Option Progress) → IsMove n from b p → Among (message_from from b) w.sent → IsProgress w q n (heard n from b) p
   progress_by b None k sent = tt
   progress_by b (Some p) (inl k) sent =
@@ -188,7 +193,10 @@ module _ (w : WorldState) (e : WorldEvent) (q : ℕ) (n : NodeState) (at : fin.g
         view = k.back.view;
         was = k.was;
         held = ap view_in k.stores;
-        sent = named b (λ x. StoreAck x p.tag) p.sender k.body k.sender sent;
+        ack = k.ack;
+        sent = said b (StoreAck k.ack) p.sender k.body k.sender sent;
+        to = k.to ∙ linked.named q n at;
+        tag = k.tag;
         makes =
             subst (λ (a : Advance). AckMakes k.session (advanced_by p.sender a k.session) p.sender) (sym k.advance)
             (ack_makes (is_reached (count_sender k.back.phase from)) k.session k.back p.sender k.stores);
@@ -240,7 +248,7 @@ module _ (w : WorldState) (e : WorldEvent) (q : ℕ) (n : NodeState) (at : fin.g
   answers_sent Leave sent = (tt, tt)
   answers_sent (Store t v) sent =
       let r : Outcome = heard n from (Store t v) in
-      each_if (IsBodySent w (after w e q r) q) n.joined (StoreAck from t ∷ StoreEcho (merge n.view v) ∷ [])
+      each_if (IsBodySent w (after w e q r) q) n.joined (StoreAck (ack_for from t) ∷ StoreEcho (merge n.view v) ∷ [])
       ((v, sent, subst (λ (y : ViewMap). IsBelow v y) (sym (view_next w e q n r at linked (heard_moves n from (Store t v)))) (merge_above n.view v)), (tt, tt))
   answers_sent (CollectQuery t) sent =
       each_if (IsBodySent w (after w e q (heard n from (CollectQuery t))) q) n.joined (CollectReply from t n.view ∷ [])
@@ -255,7 +263,7 @@ module _ (w : WorldState) (e : WorldEvent) (q : ℕ) (n : NodeState) (at : fin.g
       known_tag : (node tag : ℕ) → (q ≡ node) × (p.tag ≡ tag) → (m : NodeState) × (fin.get w.nodes node ≡ Some m) × (tag < m.operations)
       known_tag node tag about =
           elim k [
-            | inl a ↦ linked.known (message_from p.sender (StoreAck q p.tag)) a.sent node tag about
+            | inl a ↦ linked.known (message_from p.sender (StoreAck a.ack)) a.sent node tag (a.to ∙ about.0, a.tag ∙ about.1)
             | inr a ↦ linked.known (message_from p.sender (CollectReply q p.tag a.view)) a.sent node tag about
           ]
 
@@ -271,7 +279,7 @@ module _ (w : WorldState) (e : WorldEvent) (q : ℕ) (n : NodeState) (at : fin.g
   answers_known Leave sent = ((λ p t about. absurd about), tt)
   answers_known (Store t v) sent =
       let r : Outcome = heard n from (Store t v) in
-      each_if (IsBodyKnown (after w e q r) q) n.joined (StoreAck from t ∷ StoreEcho (merge n.view v) ∷ [])
+      each_if (IsBodyKnown (after w e q r) q) n.joined (StoreAck (ack_for from t) ∷ StoreEcho (merge n.view v) ∷ [])
       ((λ node tag about. let h = linked.known (message_from from (Store t v)) sent node tag about in known_next w e q n r at linked (heard_moves n from (Store t v)) node tag h.0 h.1 h.2), ((λ p t about. absurd about), tt))
   answers_known (CollectQuery t) sent =
       let r : Outcome = heard n from (CollectQuery t) in

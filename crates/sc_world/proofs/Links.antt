@@ -7,6 +7,7 @@ use Rattle.sc_view.specs.Views.{ViewMap, number_at, IsBelow, merge}
 use Rattle.sc_msg.specs.declared.message.Message.{Message}
 use Rattle.sc_msg.specs.declared.message.Body.{Body}
 use Rattle.sc_msg.specs.declared.message.Body.TheVariants.{StoreAck, CollectReply}
+use Rattle.sc_msg.specs.declared.message.StoreAck.{StoreAck as AckFields}
 use Rattle.sc_operations.specs.declared.session.OperationKind.TheVariants as kind
 use Rattle.sc_operations.specs.declared.session.Phase.{Phase}
 use Rattle.sc_operations.specs.declared.session.StoreBack.{StoreBack}
@@ -20,7 +21,7 @@ use Rattle.sc_node.specs.Nodes.{message_from, view_after, beta_threshold}
 use Rattle.sc_world.specs.declared.op.Op.{Op}
 use Rattle.sc_world.specs.State.{WorldState}
 use Rattle.sc_world.specs.Worlds.{Outcome, end_at}
-use Rattle.sc_world.specs.Records.{Among}
+use Rattle.sc_world.specs.Records.{Among, ack_of}
 use Rattle.sc_world.proofs.Changes.{IsAbout, IsBodyAbout}
 
 -- what a node keeps of an operation: its session while it is open
@@ -72,13 +73,20 @@ pub record ReplyMakes (s s' : Session) (from : ℕ) (v : ViewMap) : Type 0 where
   pub replied : repliers s' ≡ set.insert (repliers s) from
   pub view : (stored s' ≡ None) ⊎ ((stored s' ≡ Some v) × (ackers s' ≡ set.empty))
 
+-- what acknowledges an operation is known by whose it is
+pub ack_is : (o : Op) (a : AckFields) → a.to ≡ o.node → a.tag ≡ o.tag → a ≡ ack_of o
+ack_is o a to tag = λ i. record { to = to i; tag = tag i }
+
 -- an acknowledgement that moves an operation of the node
 pub record IsAckMove (n : NodeState) (from : ℕ) (b : Body) (p : Progress) : Type 0 where
   pub session : Session
   pub back : StoreBack
   pub was : fin.get n.sessions p.tag ≡ Some session
   pub stores : session.back ≡ Some back
-  pub body : b ≡ StoreAck n.id p.tag
+  pub ack : AckFields
+  pub body : b ≡ StoreAck ack
+  pub to : ack.to ≡ n.id
+  pub tag : ack.tag ≡ p.tag
   pub sender : p.sender ≡ from
   pub advance : p.advance ≡ cond (is_reached (count_sender back.phase from)) advance.Ended advance.Counted
 
@@ -104,7 +112,10 @@ pub record IsAckProgress (w : WorldState) (q : ℕ) (n : NodeState) (p : Progres
   pub view : ViewMap
   pub was : fin.get n.sessions p.tag ≡ Some session
   pub held : stored session ≡ Some view
-  pub sent : Among (message_from p.sender (StoreAck q p.tag)) w.sent
+  pub ack : AckFields
+  pub sent : Among (message_from p.sender (StoreAck ack)) w.sent
+  pub to : ack.to ≡ q
+  pub tag : ack.tag ≡ p.tag
   pub makes : AckMakes session (apply p session) p.sender
 
 pub record IsReplyProgress (w : WorldState) (q : ℕ) (n : NodeState) (r : Outcome) (p : Progress) : Type 0 where

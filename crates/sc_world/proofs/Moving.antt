@@ -9,7 +9,7 @@ use Rattle.std.specs.FinMap as fin
 use Rattle.std.specs.FinSet as set
 use Rattle.sc_msg.specs.declared.message.Message.{Message}
 use Rattle.sc_msg.specs.declared.message.Body.{Body}
-use Rattle.sc_msg.specs.declared.message.Body.TheVariants.{StoreAck, CollectReply}
+use Rattle.sc_msg.specs.declared.message.Body.TheVariants.{CollectReply}
 use Rattle.sc_operations.specs.declared.session.Phase.{Phase}
 use Rattle.sc_operations.specs.declared.session.StoreBack.{StoreBack}
 use Rattle.sc_operations.specs.declared.session.Session.{Session}
@@ -108,8 +108,9 @@ module _ (w : WorldState) (linked : IsLinked w) (distinct : AreDistinct w.ops) (
   -- which operation the message is for
   ack_for : (p : Progress) → IsAckMove n from b p → answered id from b ≡ Some (p.tag, p.sender)
   ack_for p k =
-      ap (answered id from) (k.body ∙ ap (λ (i : ℕ). StoreAck i p.tag) name)
-      ∙ ap (λ (t : Bool). let r : Option (ℕ × ℕ) = cond t (Some (p.tag, from)) None in r) own ∙ ap (λ (s : ℕ). let r : Option (ℕ × ℕ) = Some (p.tag, s) in r) (sym k.sender)
+      ap (answered id from) k.body ∙ ap (λ (i : ℕ). let r : Option (ℕ × ℕ) = cond (i == id) (Some (k.ack.tag, from)) None in r) (k.to ∙ name)
+      ∙ ap (λ (t : Bool). let r : Option (ℕ × ℕ) = cond t (Some (k.ack.tag, from)) None in r) own
+      ∙ ap (λ (t : ℕ). let r : Option (ℕ × ℕ) = Some (t, from) in r) k.tag ∙ ap (λ (s : ℕ). let r : Option (ℕ × ℕ) = Some (p.tag, s) in r) (sym k.sender)
 
   reply_for : (p : Progress) → IsReplyMove n from b p → answered id from b ≡ Some (p.tag, p.sender)
   reply_for p k =

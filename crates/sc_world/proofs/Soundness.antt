@@ -7,12 +7,13 @@ use Rattle.sc_view.specs.Views.{ViewMap, number_at, IsBelow}
 use Rattle.sc_members.specs.Ids.{Ids, Has}
 use Rattle.sc_msg.specs.declared.message.Message.{Message}
 use Rattle.sc_msg.specs.declared.message.Body.TheVariants.{Store, StoreAck, CollectQuery, CollectReply}
+use Rattle.sc_msg.specs.declared.message.StoreAck.{StoreAck as AckFields}
 use Rattle.sc_node.specs.Sessions.{stored, repliers, ackers}
 use Rattle.sc_node.specs.Nodes.{message_from}
 use Rattle.sc_world.specs.declared.op.Op.{Op}
 use Rattle.sc_world.specs.State.{WorldState}
 use Rattle.sc_world.specs.Worlds.{clock}
-use Rattle.sc_world.specs.Records.{Among}
+use Rattle.sc_world.specs.Records.{Among, ack_of}
 use Rattle.sc_world.proofs.Changes.{view_at, IsAbout, IsReplied, OpFrom, Kept, Begun, Acknowledged, Replied, IsChange, KnownBy, IsSound, HasNumber, MeetsEarlier}
 use Rattle.sc_world.proofs.Finite.{contains-insert}
 use Rattle.sc_view.proofs.ViewLemmas.{below_trans}
@@ -67,9 +68,9 @@ module _ (w w' : WorldState) (x : IsChange w w') (s : IsSound w) where
   grown v q h = below_trans v _ _ h (x.grows q)
 
   -- whoever's acknowledgement was sent has the view
-  ack_has : (q : ℕ) (o : Op) (v : ViewMap) → Among o w.ops → stored o.session ≡ Some v → Among (message_from q (StoreAck o.node o.tag)) w.sent → IsBelow v (view_at w q)
+  ack_has : (q : ℕ) (o : Op) (v : ViewMap) → Among o w.ops → stored o.session ≡ Some v → Among (message_from q (StoreAck (ack_of o))) w.sent → IsBelow v (view_at w q)
   ack_has q o v in_ops held sent =
-      let h = s.acks q o.node o.tag sent o in_ops refl refl in
+      let h = s.acks q (ack_of o) sent o in_ops refl refl in
       let eq : h.0 ≡ v = cc in
       subst (λ (y : ViewMap). IsBelow y (view_at w q)) eq h.2
 
@@ -80,7 +81,7 @@ module _ (w w' : WorldState) (x : IsChange w w') (s : IsSound w) where
       let same : u ≡ v = cc in
       let was : stored o0.session ≡ Some v = cc in
       grown v q (elim (counted _ _ from q r.ackers c) [
-        | inl is ↦ ack_has q o0 v a was (subst (λ (n : ℕ). Among (message_from n (StoreAck o0.node o0.tag)) w.sent) (sym is) m)
+        | inl is ↦ ack_has q o0 v a was (subst (λ (n : ℕ). Among (message_from n (StoreAck (ack_of o0))) w.sent) (sym is) m)
         | inr is ↦ s.acked o0 v q a was is
       ])
   acked' o v q (Replied o0 u from a m r) held c =
@@ -117,17 +118,17 @@ module _ (w w' : WorldState) (x : IsChange w w') (s : IsSound w) where
         | inr new ↦ new o in' np tt'
       ]
 
-  ack_old : (q p t : ℕ) → Among (message_from q (StoreAck p t)) w.sent → (o : Op) → o.node ≡ p → o.tag ≡ t → OpFrom w w' o → (v : ViewMap) × (stored o.session ≡ Some v) × IsBelow v (view_at w' q)
-  ack_old q p t sent o np tt' (Kept h) = let k = s.acks q p t sent o h np tt' in (k.0, k.1, grown k.0 q k.2)
-  ack_old q p t sent o np tt' (Begun b) = absurd (b.fresh (message_from q (StoreAck p t)) sent (sym np, sym tt'))
-  ack_old q p t sent o np tt' (Acknowledged o0 u f a m r) = let k = s.acks q p t sent o0 a (sym r.same.node ∙ np) (sym r.same.tag ∙ tt') in (k.0, cc, grown k.0 q k.2)
-  ack_old q p t sent o np tt' (Replied o0 u f a m r) = let k = s.acks q p t sent o0 a (sym r.same.node ∙ np) (sym r.same.tag ∙ tt') in absurd (cc)
+  ack_old : (q : ℕ) (a : AckFields) → Among (message_from q (StoreAck a)) w.sent → (o : Op) → o.node ≡ a.to → o.tag ≡ a.tag → OpFrom w w' o → (v : ViewMap) × (stored o.session ≡ Some v) × IsBelow v (view_at w' q)
+  ack_old q a sent o np tt' (Kept h) = let k = s.acks q a sent o h np tt' in (k.0, k.1, grown k.0 q k.2)
+  ack_old q a sent o np tt' (Begun b) = absurd (b.fresh (message_from q (StoreAck a)) sent (sym np, sym tt'))
+  ack_old q a sent o np tt' (Acknowledged o0 u f was m r) = let k = s.acks q a sent o0 was (sym r.same.node ∙ np) (sym r.same.tag ∙ tt') in (k.0, cc, grown k.0 q k.2)
+  ack_old q a sent o np tt' (Replied o0 u f was m r) = let k = s.acks q a sent o0 was (sym r.same.node ∙ np) (sym r.same.tag ∙ tt') in absurd (cc)
 
-  acks' : (q p t : ℕ) → Among (message_from q (StoreAck p t)) w'.sent → (o : Op) → Among o w'.ops → o.node ≡ p → o.tag ≡ t → (v : ViewMap) × (stored o.session ≡ Some v) × IsBelow v (view_at w' q)
-  acks' q p t sent o in' np tt' =
-      elim (x.sent (message_from q (StoreAck p t)) sent) [
-        | inl old ↦ ack_old q p t old o np tt' (x.ops o in')
-        | inr new ↦ (new.0, store_old p t new.0 new.1 o np tt' (x.ops o in'), new.2)
+  acks' : (q : ℕ) (a : AckFields) → Among (message_from q (StoreAck a)) w'.sent → (o : Op) → Among o w'.ops → o.node ≡ a.to → o.tag ≡ a.tag → (v : ViewMap) × (stored o.session ≡ Some v) × IsBelow v (view_at w' q)
+  acks' q a sent o in' np tt' =
+      elim (x.sent (message_from q (StoreAck a)) sent) [
+        | inl old ↦ ack_old q a old o np tt' (x.ops o in')
+        | inr new ↦ (new.0, store_old a.to a.tag new.0 new.1 o np tt' (x.ops o in'), new.2)
       ]
 
   -- what q had acknowledged before c began is in q's view

@@ -5,6 +5,7 @@ use Rattle.std.specs.FinMap as fin
 use Rattle.sc_view.specs.Views.{ViewMap, IsBelow}
 use Rattle.sc_msg.specs.declared.message.Message.{Message}
 use Rattle.sc_msg.specs.declared.message.Body.{Body}
+use Rattle.sc_msg.specs.declared.message.StoreAck.{StoreAck as AckFields}
 use Rattle.sc_msg.specs.declared.message.Body.TheVariants.{StoreAck, CollectReply}
 use Rattle.sc_operations.specs.declared.session.Session.{Session}
 use Rattle.sc_operations.specs.declared.progress.Advance.{Advance}
@@ -20,7 +21,7 @@ use Rattle.sc_world.specs.State.{WorldState}
 use Rattle.sc_world.specs.Worlds.{clock, Outcome, end_at, moved, advanced, op_begun, after}
 use Rattle.sc_world.specs.Records.{Among}
 use Rattle.sc_world.proofs.Changes.{view_of, view_at, IsAbout, OpFrom, Kept, Begun, Acknowledged, Replied, IsSent, IsBodySent, IsChange}
-use Rattle.sc_world.proofs.Links.{open_session, HasOwner, IsLinked, session_moved, session_after, IsBegunAt, IsTransition, AckMakes, ReplyMakes, IsAckProgress, IsReplyProgress, IsProgress, IsFresh, Each, IsBodyKnown}
+use Rattle.sc_world.proofs.Links.{open_session, HasOwner, IsLinked, session_moved, session_after, IsBegunAt, IsTransition, AckMakes, ReplyMakes, IsAckProgress, IsReplyProgress, IsProgress, IsFresh, Each, IsBodyKnown, ack_is}
 use Rattle.sc_world.proofs.Finite.{get-insert, get-insert_same}
 use Rattle.sc_view.proofs.ViewLemmas.{below_refl}
 
@@ -134,7 +135,7 @@ module _ (w : WorldState) (e : WorldEvent) (q : ℕ) (n : NodeState) (r : Outcom
         let m : AckMakes o.session (apply p o.session) p.sender = subst (λ (s : Session). AckMakes s (apply p s) p.sender) (sym f.1) k.makes in
         let was : stored o.session ≡ Some k.view = ap (λ (s : Session). stored s) f.1 ∙ k.held in
         Acknowledged o k.view p.sender in'
-        (subst (λ (t : ℕ). Among (message_from p.sender (StoreAck o.node t)) w.sent) (sym tt') (subst (λ (m : ℕ). Among (message_from p.sender (StoreAck m p.tag)) w.sent) (sym nq) k.sent))
+        (subst (λ (a : AckFields). Among (message_from p.sender (StoreAck a)) w.sent) (ack_is o k.ack (k.to ∙ sym nq) (k.tag ∙ sym tt')) k.sent)
         (record {
           same = record { node = refl; tag = refl; begin = refl; kind = m.kind; running = f.0 };
           was = was;

@@ -14,7 +14,7 @@ use Rattle.sc_operations.specs.declared.progress.Progress.{Progress}
 use Rattle.sc_world.specs.declared.act.Opened.{Opened}
 use Rattle.sc_node.specs.Sessions.{stored, session_with, advanced_by, is_reached, count_sender, querying}
 use Rattle.sc_node.specs.State.{NodeState}
-use Rattle.sc_node.specs.Nodes.{message_from, is_reply, view_after, progress_of, reply_progress, beta_threshold, joins, answers, store_back, store_of, store_session, collect_session, stored_view, next_stored}
+use Rattle.sc_node.specs.Nodes.{message_from, is_reply, view_after, progress_of, reply_progress, beta_threshold, joins, ack_for, answers, store_back, store_of, store_session, collect_session, stored_view, next_stored}
 use Rattle.sc_world.specs.declared.event.WorldEvent.{WorldEvent}
 use Rattle.sc_world.specs.declared.op.Op.{Op}
 use Rattle.sc_world.specs.State.{WorldState}
@@ -161,7 +161,7 @@ module _ (w : WorldState) (e : WorldEvent) (q : ℕ) (n : NodeState) (at : fin.g
   answers_true u from Join sent lifts = ((λ y is. absurd (cc)), tt)
   answers_true u from Leave sent lifts = ((λ y is. absurd (cc)), tt)
   answers_true u from (Store tag v) sent lifts =
-      each_if (TellsOf u) n.joined (StoreAck from tag ∷ StoreEcho (merge n.view v) ∷ [])
+      each_if (TellsOf u) n.joined (StoreAck (ack_for from tag) ∷ StoreEcho (merge n.view v) ∷ [])
       ((λ y is. absurd (cc)), ((λ y is. let same : merge n.view v ≡ y = cc in lifts y (subst (IsTrue w (clock w)) same (view_true from (Store tag v) sent))), tt))
   answers_true u from (CollectQuery tag) sent lifts =
       each_if (TellsOf u) n.joined (CollectReply from tag n.view ∷ []) ((λ y is. let same : n.view ≡ y = cc in lifts y (subst (IsTrue w (clock w)) same own)), tt)

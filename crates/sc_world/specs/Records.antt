@@ -9,6 +9,7 @@ use Rattle.sc_view.specs.Views.{ViewMap}
 use Rattle.sc_members.specs.Ids.{Ids, Has}
 use Rattle.sc_msg.specs.declared.message.Message.{Message}
 use Rattle.sc_msg.specs.declared.message.Body.TheVariants.{StoreAck, CollectReply}
+use Rattle.sc_msg.specs.declared.message.StoreAck.{StoreAck as AckFields}
 use Rattle.sc_operations.specs.declared.session.OperationKind.{OperationKind}
 use Rattle.sc_operations.specs.declared.session.OperationKind.TheVariants as kind
 use Rattle.sc_operations.specs.declared.session.Phase.{Phase}
@@ -51,9 +52,13 @@ stores_of node events = count_by (begins_store node) events
 abbrev pub Answers : Type 1
 Answers = ℕ → Message → Type 0
 
+-- what acknowledges an operation
+abbrev pub ack_of : Op → AckFields
+ack_of o = record { to = o.node; tag = o.tag }
+
 -- the sender's acknowledgement of what an operation stores, or stores back
 abbrev pub IsAck : Op → Answers
-IsAck o from m = m ≡ message_from from (StoreAck o.node o.tag)
+IsAck o from m = m ≡ message_from from (StoreAck (ack_of o))
 
 -- the sender's reply to a collect
 abbrev pub IsReply : Op → Answers

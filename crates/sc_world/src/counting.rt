@@ -57,7 +57,7 @@ fn answered(node: u64, message: &Message) -> Option<(u64, u64)>
     ensures { result ≡ answered node message.now.from message.now.body }
 {
     match &message.body {
-        Body::StoreAck { to, tag } if *to == node => Some((*tag, message.from)),
+        Body::StoreAck(ack) if ack.to == node => Some((ack.tag, message.from)),
         Body::CollectReply { to, tag, .. } if *to == node => Some((*tag, message.from)),
         _ => None,
     }

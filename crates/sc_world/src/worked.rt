@@ -5,6 +5,7 @@ ghost use Rattle.std.specs.FinSet as set;
 ghost use Rattle.sc_members.specs.Members.{Config};
 ghost use Rattle.sc_msg.specs.declared.message.Message.{Message};
 ghost use Rattle.sc_msg.specs.declared.message.Body.TheVariants.{StoreAck};
+ghost use Rattle.sc_node.specs.Nodes.{ack_for};
 ghost use Rattle.sc_node.specs.Sessions.{ackers};
 ghost use Rattle.sc_node.specs.State.{NodeState};
 ghost use Rattle.sc_operations.specs.declared.session.Session.{Session};
@@ -34,8 +35,8 @@ pub fn worked()
     ensures room_for_one { has_room 0 1 0 1 0 1 ≡ false }
 
     // An answer to a node moves the operation that it is for.
-    ensures answer { answered 3 4 (StoreAck 3 0) ≡ Some (0, 4) }
-    ensures for_another { answered 3 4 (StoreAck 5 0) ≡ None }
+    ensures answer { answered 3 4 (StoreAck (ack_for 3 0)) ≡ Some (0, 4) }
+    ensures for_another { answered 3 4 (StoreAck (ack_for 5 0)) ≡ None }
     ensures not_ready { (s : Session) → IsReady (record { node = 3; tag = 0; begin = 0; end = None; session = s } ∷ []) 3 (Some (0, 4)) None → ⊥ }
     ensures not_met { (a b : Op) → ackers a.session ≡ set.empty → IsMeeting a b (Some 4) → ⊥ }
 {}

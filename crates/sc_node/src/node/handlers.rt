@@ -5,7 +5,7 @@ ghost use Rattle.std.specs.FinSet as set;
 ghost use Rattle.forms.specs.Calls.{Steps};
 ghost use Rattle.reasons.specs.declared.Reason.TheVariants as reasons;
 ghost use Rattle.sc_node.specs.Nodes.{message_from, delivered, learned, joining, echo_counted, saying, gamma_threshold, is_met, query_ended};
-ghost use Rattle.sc_msg.specs.declared.message.Body.TheVariants.{Enter, EnterEcho, Join, JoinEcho, Leave, LeaveEcho, Store, StoreAck, StoreEcho, CollectQuery, CollectReply};
+ghost use Rattle.sc_msg.specs.declared.message.Body.TheVariants as bodies;
 
 use super::Node;
 use crate::answer::{Advance, Delivered};
@@ -13,14 +13,14 @@ use crate::copies::Copies;
 use crate::node::NodeFault;
 use crate::outs::Outs;
 use sc_members::Facts;
-use sc_msg::Body;
+use sc_msg::{Body, StoreAck};
 use sc_view::View;
 use std::alloc::AllocError;
 
 impl Node {
     pub(super) fn on_enter(&mut self, from: u64) -> Result<Delivered, NodeFault>
         requires { self.old.gone ≡ false }
-        ensures { Steps reasons.OutOfMemory (delivered self.old (message_from from Enter)) self.old self.new result }
+        ensures { Steps reasons.OutOfMemory (delivered self.old (message_from from bodies.Enter)) self.old self.new result }
     {
         let facts = self.facts.with_entered(from)?;
         let echo = self.enter_echo(from, &facts)?;
@@ -30,7 +30,7 @@ impl Node {
 
     // Tells a node that enters what this one knows, where these are the facts.
     fn enter_echo(&self, to: u64, facts: &Facts) -> Result<Delivered, AllocError>
-        ensures { IfOk result (λ told. told ≡ saying self.now.id (EnterEcho to self.now.joined facts.now self.now.view)) }
+        ensures { IfOk result (λ told. told ≡ saying self.now.id (bodies.EnterEcho to self.now.joined facts.now self.now.view)) }
     {
         let facts = facts.clone()?;
         let view = self.held.view.clone()?;
@@ -44,7 +44,7 @@ impl Node {
 
     pub(super) fn on_join(&mut self, from: u64) -> Result<Delivered, NodeFault>
         requires { self.old.gone ≡ false }
-        ensures { Steps reasons.OutOfMemory (delivered self.old (message_from from Join)) self.old self.new result }
+        ensures { Steps reasons.OutOfMemory (delivered self.old (message_from from bodies.Join)) self.old self.new result }
     {
         self.facts = self.facts.with_joined(from)?;
         Ok(self.sends(Body::JoinEcho { about: from }))
@@ -52,7 +52,7 @@ impl Node {
 
     pub(super) fn on_join_echo(&mut self, from: u64, about: u64) -> Result<Delivered, NodeFault>
         requires { self.old.gone ≡ false }
-        ensures { Steps reasons.OutOfMemory (delivered self.old (message_from from (JoinEcho about))) self.old self.new result }
+        ensures { Steps reasons.OutOfMemory (delivered self.old (message_from from (bodies.JoinEcho about))) self.old self.new result }
     {
         self.facts = self.facts.with_joined(about)?;
         Ok(self.silent())
@@ -60,7 +60,7 @@ impl Node {
 
     pub(super) fn on_leave(&mut self, from: u64) -> Result<Delivered, NodeFault>
         requires { self.old.gone ≡ false }
-        ensures { Steps reasons.OutOfMemory (delivered self.old (message_from from Leave)) self.old self.new result }
+        ensures { Steps reasons.OutOfMemory (delivered self.old (message_from from bodies.Leave)) self.old self.new result }
     {
         self.facts = self.facts.with_left(from)?;
         Ok(self.sends(Body::LeaveEcho { about: from }))
@@ -68,7 +68,7 @@ impl Node {
 
     pub(super) fn on_leave_echo(&mut self, from: u64, about: u64) -> Result<Delivered, NodeFault>
         requires { self.old.gone ≡ false }
-        ensures { Steps reasons.OutOfMemory (delivered self.old (message_from from (LeaveEcho about))) self.old self.new result }
+        ensures { Steps reasons.OutOfMemory (delivered self.old (message_from from (bodies.LeaveEcho about))) self.old self.new result }
     {
         self.facts = self.facts.with_left(about)?;
         Ok(self.silent())
@@ -82,7 +82,7 @@ impl Node {
         view: &View,
     ) -> Result<Delivered, NodeFault>
         requires { self.old.gone ≡ false }
-        ensures { Steps reasons.OutOfMemory (delivered self.old (message_from from (Store tag view.now))) self.old self.new result }
+        ensures { Steps reasons.OutOfMemory (delivered self.old (message_from from (bodies.Store tag view.now))) self.old self.new result }
     {
         let learned = self.held.view.merged(view)?;
         if !self.joined {
@@ -91,14 +91,14 @@ impl Node {
         }
         let told = learned.clone()?;
         self.held.view = learned;
-        let ack = self.says(Body::StoreAck { to: from, tag });
+        let ack = self.says(Body::StoreAck(StoreAck { to: from, tag }));
         let echo = self.says(Body::StoreEcho { view: told });
         Ok(Delivered::sending(Outs::two(self.alloc, ack, echo)))
     }
 
     pub(super) fn on_store_echo(&mut self, from: u64, view: &View) -> Result<Delivered, NodeFault>
         requires { self.old.gone ≡ false }
-        ensures { Steps reasons.OutOfMemory (delivered self.old (message_from from (StoreEcho view.now))) self.old self.new result }
+        ensures { Steps reasons.OutOfMemory (delivered self.old (message_from from (bodies.StoreEcho view.now))) self.old self.new result }
     {
         self.held.view = self.held.view.merged(view)?;
         Ok(self.silent())
@@ -107,7 +107,7 @@ impl Node {
     /// Tells what it knows.
     pub(super) fn on_collect_query(&mut self, from: u64, tag: u64) -> Result<Delivered, NodeFault>
         requires { self.old.gone ≡ false }
-        ensures { Steps reasons.OutOfMemory (delivered self.old (message_from from (CollectQuery tag))) self.old self.new result }
+        ensures { Steps reasons.OutOfMemory (delivered self.old (message_from from (bodies.CollectQuery tag))) self.old self.new result }
     {
         if self.joined {
             let view = self.held.view.clone()?;
@@ -129,7 +129,7 @@ impl Node {
         view: &View,
     ) -> Result<Delivered, NodeFault>
         requires { self.old.gone ≡ false }
-        ensures { Steps reasons.OutOfMemory (delivered self.old (message_from from (EnterEcho to joined facts.now view.now))) self.old self.new result }
+        ensures { Steps reasons.OutOfMemory (delivered self.old (message_from from (bodies.EnterEcho to joined facts.now view.now))) self.old self.new result }
     {
         if to == self.id && !self.joined {
             return self.on_own_enter_echo(from, joined, facts, view);
@@ -158,7 +158,7 @@ impl Node {
     ) -> Result<Delivered, NodeFault>
         requires here { self.old.gone ≡ false }
         requires waits { self.old.joined ≡ false }
-        ensures { Steps reasons.OutOfMemory (delivered self.old (message_from from (EnterEcho self.old.id joined facts.now view.now))) self.old self.new result }
+        ensures { Steps reasons.OutOfMemory (delivered self.old (message_from from (bodies.EnterEcho self.old.id joined facts.now view.now))) self.old self.new result }
     {
         let learned = self.held.view.merged(view)?;
         let heard = self.facts.united(facts)?;
@@ -239,19 +239,14 @@ impl Node {
     }
 
     /// Counts the acknowledgement. At enough of them the operation ends.
-    pub(super) fn on_store_ack(
-        &mut self,
-        from: u64,
-        to: u64,
-        tag: u64,
-    ) -> Result<Delivered, NodeFault>
+    pub(super) fn on_store_ack(&mut self, from: u64, ack: StoreAck) -> Result<Delivered, NodeFault>
         requires { self.old.gone ≡ false }
-        ensures { Steps reasons.OutOfMemory (delivered self.old (message_from from (StoreAck to tag))) self.old self.new result }
+        ensures { Steps reasons.OutOfMemory (delivered self.old (message_from from (bodies.StoreAck ack))) self.old self.new result }
     {
-        if to != self.id {
+        if ack.to != self.id {
             return Ok(self.silent());
         }
-        let told = self.held.acknowledge(self.alloc, tag, from)?;
+        let told = self.held.acknowledge(self.alloc, ack.tag, from)?;
         Ok(Delivered {
             outs: Outs::none(self.alloc),
             progress: told.progress,
@@ -268,7 +263,7 @@ impl Node {
         view: &View,
     ) -> Result<Delivered, NodeFault>
         requires { self.old.gone ≡ false }
-        ensures { Steps reasons.OutOfMemory (delivered self.old (message_from from (CollectReply to tag view.now))) self.old self.new result }
+        ensures { Steps reasons.OutOfMemory (delivered self.old (message_from from (bodies.CollectReply to tag view.now))) self.old self.new result }
     {
         if to != self.id {
             return Ok(self.silent());

@@ -6,7 +6,6 @@ use Rattle.std.specs.FinMap as fin
 use Rattle.sc_node.specs.State.{NodeState}
 use Rattle.forms.specs.Calls.{Gives}
 use Rattle.reasons.specs.declared.Reason.{Reason}
-use Rattle.reasons.specs.declared.Reason.TheVariants as reasons
 use Rattle.reasons.specs.declared.Reason.TheVariants.{OutOfMemory as memory}
 use Rattle.sc_world.specs.Worlds.{founded_nodes}
 use Rattle.sc_world.proofs.Acting.{has_at, found_refused}
