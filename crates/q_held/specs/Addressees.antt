@@ -6,7 +6,7 @@ use Rattle.sc_msg.specs.declared.message.Body.TheVariants.{Store, StoreAck, Coll
 -- the one node that does something with the message, if it is one: the node that asked
 abbrev pub addressee_of : Body → Option ℕ
 addressee_of (StoreAck a) = Some a.to
-addressee_of (CollectReply to tag view) = Some to
+addressee_of (CollectReply r) = Some r.to
 addressee_of b = None
 
 -- the operation of the sender that waits for answers to the message

@@ -2,8 +2,8 @@
 
 ghost use Rattle.std.specs.Prelude.{◌≡◌, ◌==◌, ℕ, false, [], None, Ok};
 ghost use Rattle.sc_msg.specs.declared.message.Body.TheVariants.{StoreAck, CollectReply};
+ghost use Rattle.sc_msg.specs.declared.message.CollectReply.{CollectReply as ReplyFields};
 ghost use Rattle.sc_msg.specs.declared.message.StoreAck.{StoreAck as AckFields};
-ghost use Rattle.sc_view.specs.Views.{ViewMap};
 ghost use Rattle.sc_node.specs.State.{NodeState};
 ghost use Rattle.sc_node.specs.Nodes.{delivered, message_from};
 ghost use Rattle.q_held.specs.Addressees.{addressee_of, asking_tag};
@@ -17,7 +17,7 @@ pub fn addressee(message: &Message) -> Option<u64>
 {
     match &message.body {
         Body::StoreAck(ack) => Some(ack.to),
-        Body::CollectReply { to, .. } => Some(*to),
+        Body::CollectReply(reply) => Some(reply.to),
         _ => None,
     }
 }
@@ -35,5 +35,5 @@ pub fn asking_operation(message: &Message) -> Option<u64>
 /// A law of every node: an acknowledgement and a reply for another leave it as it is, and it says nothing of them.
 pub fn others_take_nothing()
     ensures acknowledgement { (n : NodeState) (from : ℕ) (ack : AckFields) → n.gone ≡ false → (ack.to == n.id) ≡ false → delivered n (message_from from (StoreAck ack)) ≡ Ok (record { outs = []; progress = None; ended = None }, n) }
-    ensures reply { (n : NodeState) (from to tag : ℕ) (v : ViewMap) → n.gone ≡ false → (to == n.id) ≡ false → delivered n (message_from from (CollectReply to tag v)) ≡ Ok (record { outs = []; progress = None; ended = None }, n) }
+    ensures reply { (n : NodeState) (from : ℕ) (r : ReplyFields) → n.gone ≡ false → (r.to == n.id) ≡ false → delivered n (message_from from (CollectReply r)) ≡ Ok (record { outs = []; progress = None; ended = None }, n) }
 {}

@@ -4,6 +4,7 @@ ghost use Rattle.std.specs.Prelude.{◌≡◌, ◌++◌, ℕ, List, [], codes, O
 ghost use Rattle.sc_msg.specs.declared.fault.MessageFault.{MessageFault};
 ghost use Rattle.sc_msg.specs.declared.message.Message.{Message as Sent};
 ghost use Rattle.sc_msg.specs.declared.message.Body.TheVariants as body;
+ghost use Rattle.sc_msg.specs.declared.message.CollectReply.{CollectReply as ReplyFields};
 ghost use Rattle.sc_msg.specs.declared.message.StoreAck.{StoreAck as AckFields};
 ghost use Rattle.sc_members.specs.Members.{Facts};
 ghost use Rattle.sc_view.specs.Views.{ViewMap};
@@ -58,7 +59,7 @@ pub fn worked_calls()
 /// For whom a message is meant, and which operation waits for answers to it.
 pub fn worked_addressees()
     ensures acknowledgement { (ack : AckFields) → addressee_of (body.StoreAck ack) ≡ Some ack.to }
-    ensures reply { (v : ViewMap) → addressee_of (body.CollectReply 3 7 v) ≡ Some 3 }
+    ensures reply { (r : ReplyFields) → addressee_of (body.CollectReply r) ≡ Some r.to }
     ensures all { (v : ViewMap) → (addressee_of (body.Store 7 v) ≡ None) × (addressee_of (body.StoreEcho v) ≡ None) × (addressee_of (body.CollectQuery 7) ≡ None) }
     ensures entering { (f : Facts) (v : ViewMap) → addressee_of (body.EnterEcho 3 true f v) ≡ None }
     ensures asks { (v : ViewMap) → (asking_tag (body.Store 7 v) ≡ Some 7) × (asking_tag (body.CollectQuery 7) ≡ Some 7) }

@@ -79,7 +79,7 @@ module _ (n : NodeState) (nodes : List ℕ) where
   for_each (StoreAck a) = for_uncounted (StoreAck a) None refl
   for_each (StoreEcho view) = for_uncounted (StoreEcho view) None refl
   for_each (CollectQuery tag) = for_uncounted (CollectQuery tag) (asking_phase n (CollectQuery tag)) refl
-  for_each (CollectReply to tag view) = for_uncounted (CollectReply to tag view) None refl
+  for_each (CollectReply r) = for_uncounted (CollectReply r) None refl
 
   module _ (v : Version) (questions : List Question) where
     -- a message that was given before, is kept and is due, for whom it is

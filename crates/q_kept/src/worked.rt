@@ -6,6 +6,7 @@ ghost use Rattle.std.specs.FinSet as set;
 ghost use Rattle.sc_view.specs.Views.{ViewMap};
 ghost use Rattle.sc_msg.specs.Lengths.{fits};
 ghost use Rattle.sc_msg.specs.declared.message.Body.TheVariants as body;
+ghost use Rattle.sc_msg.specs.declared.message.CollectReply.{CollectReply as ReplyFields};
 ghost use Rattle.sc_msg.specs.declared.message.StoreAck.{StoreAck as AckFields};
 ghost use Rattle.sc_msg.specs.declared.message.Message.{Message as Said};
 ghost use Rattle.sc_msg.specs.declared.version.Version.{Version as Wire};
@@ -39,7 +40,7 @@ pub fn worked()
 
     // What asks goes again, and no reply or echo does.
     ensures again { (v : ViewMap) → (goes_again body.Enter ≡ true) × (goes_again body.Join ≡ true) × (goes_again body.Leave ≡ true) × (goes_again (body.Store 7 v) ≡ true) × (goes_again (body.CollectQuery 7) ≡ true) }
-    ensures not_again { (ack : AckFields) (v : ViewMap) → (goes_again (body.StoreAck ack) ≡ false) × (goes_again (body.StoreEcho v) ≡ false) × (goes_again (body.CollectReply 3 7 v) ≡ false) × (goes_again (body.JoinEcho 3) ≡ false) × (goes_again (body.LeaveEcho 3) ≡ false) }
+    ensures not_again { (ack : AckFields) (reply : ReplyFields) (v : ViewMap) → (goes_again (body.StoreAck ack) ≡ false) × (goes_again (body.StoreEcho v) ≡ false) × (goes_again (body.CollectReply reply) ≡ false) × (goes_again (body.JoinEcho 3) ≡ false) × (goes_again (body.LeaveEcho 3) ≡ false) }
 {}
 
 /// For how long a question is kept.

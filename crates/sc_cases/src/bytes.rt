@@ -46,9 +46,9 @@ fn tell_body(rt: &impl Print, body: &Body) -> io::Result<()> {
         Body::StoreAck(ack) => print!(rt; " to {} tag {}", ack.to, ack.tag),
         Body::StoreEcho { view } => tell_view(rt, view),
         Body::CollectQuery { tag } => print!(rt; " tag {tag}"),
-        Body::CollectReply { to, tag, view } => {
-            print!(rt; " to {to} tag {tag}")?;
-            tell_view(rt, view)
+        Body::CollectReply(reply) => {
+            print!(rt; " to {} tag {}", reply.to, reply.tag)?;
+            tell_view(rt, &reply.view)
         }
     }
 }

@@ -31,7 +31,7 @@ body_fits : (version : Version) (b : Body) → AllByRecursion IsField (fields ve
 body_fits version (bodies.EnterEcho to joined facts v) h = records_fit version v h.1.1.1.1.1.0
 body_fits version (bodies.Store tag v) h = records_fit version v h.1.0
 body_fits version (bodies.StoreEcho v) h = records_fit version v h.0
-body_fits version (bodies.CollectReply to tag v) h = records_fit version v h.1.1.0
+body_fits version (bodies.CollectReply r) h = records_fit version r.view h.1.1.0
 body_fits version b h = tt
 
 pub message_fits : (version : Version) (m : Message) → IsMessage version m → Fits version m

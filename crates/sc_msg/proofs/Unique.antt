@@ -64,7 +64,7 @@ back kinds.Store (number tag ∷ view version v ∷ []) = bodies.Store tag v
 back kinds.StoreAck (number to ∷ number tag ∷ []) = bodies.StoreAck (record { to = to; tag = tag })
 back kinds.StoreEcho (view version v ∷ []) = bodies.StoreEcho v
 back kinds.CollectQuery (number tag ∷ []) = bodies.CollectQuery tag
-back kinds.CollectReply (number to ∷ number tag ∷ view version v ∷ []) = bodies.CollectReply to tag v
+back kinds.CollectReply (number to ∷ number tag ∷ view version v ∷ []) = bodies.CollectReply (record { to = to; tag = tag; view = v })
 back _ _ = bodies.Enter
 
 -- the kind of a body says which fields it has, and with these it is the body
@@ -80,7 +80,7 @@ laid_out version (bodies.Store tag v) = (refl, refl)
 laid_out version (bodies.StoreAck a) = (refl, refl)
 laid_out version (bodies.StoreEcho v) = (refl, refl)
 laid_out version (bodies.CollectQuery tag) = (refl, refl)
-laid_out version (bodies.CollectReply to tag v) = (refl, refl)
+laid_out version (bodies.CollectReply r) = (refl, refl)
 
 same_body : (version : Version) (a b : Body) → kind_of a ≡ kind_of b → fields version a ≡ fields version b → a ≡ b
 same_body version a b k f = sym (laid_out version a).1 ∙ ap (λ x. back x (fields version a)) k ∙ ap (back (kind_of b)) f ∙ (laid_out version b).1

@@ -60,7 +60,7 @@ fields version (bodies.Store tag v) = number tag ∷ view version v ∷ []
 fields version (bodies.StoreAck a) = number a.to ∷ number a.tag ∷ []
 fields version (bodies.StoreEcho v) = view version v ∷ []
 fields version (bodies.CollectQuery tag) = number tag ∷ []
-fields version (bodies.CollectReply to tag v) = number to ∷ number tag ∷ view version v ∷ []
+fields version (bodies.CollectReply r) = number r.to ∷ number r.tag ∷ view version r.view ∷ []
 
 -- a number in eight bytes, a truth as 1 or 0 in one, ids and views by their entries
 abbrev pub field_bytes : Field → List ℕ

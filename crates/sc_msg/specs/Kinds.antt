@@ -16,7 +16,7 @@ kind_of (bodies.Store tag view) = Store
 kind_of (bodies.StoreAck a) = StoreAck
 kind_of (bodies.StoreEcho view) = StoreEcho
 kind_of (bodies.CollectQuery tag) = CollectQuery
-kind_of (bodies.CollectReply to tag view) = CollectReply
+kind_of (bodies.CollectReply r) = CollectReply
 
 -- the byte of a kind
 abbrev pub code : MessageKind → ℕ

@@ -14,7 +14,7 @@ abbrev pub view_of : Body → Option ViewMap
 view_of (bodies.EnterEcho to joined facts v) = Some v
 view_of (bodies.Store tag v) = Some v
 view_of (bodies.StoreEcho v) = Some v
-view_of (bodies.CollectReply to tag v) = Some v
+view_of (bodies.CollectReply r) = Some r.view
 view_of b = None
 
 -- each value that a body tells has one of these lengths

@@ -7,7 +7,7 @@ ghost use Rattle.sc_msg.specs.Fault.{head_fault, most_bytes};
 
 use crate::fault::MessageFault;
 use crate::kind::MessageKind;
-use crate::message::{Body, MOST_MESSAGE_BYTES, StoreAck};
+use crate::message::{Body, CollectReply, MOST_MESSAGE_BYTES, StoreAck};
 use crate::reader::Reader;
 use crate::version::Version;
 use std::alloc::Global;
@@ -81,7 +81,7 @@ impl<'a> Reader<'a> {
         let to = self.number()?;
         let tag = self.number()?;
         let view = self.view(alloc, version)?;
-        Ok(Body::CollectReply { to, tag, view })
+        Ok(Body::CollectReply(CollectReply { to, tag, view }))
     }
 
     /// The body of a message of this kind.

@@ -166,10 +166,10 @@ fn push_body(out: &mut Vec<u8>, version: Version, body: &Body) -> Result<(), All
         }
         Body::StoreEcho { view } => push_view(out, version, view),
         Body::CollectQuery { tag } => push_number(out, *tag),
-        Body::CollectReply { to, tag, view } => {
-            push_number(out, *to)?;
-            push_number(out, *tag)?;
-            push_view(out, version, view)
+        Body::CollectReply(reply) => {
+            push_number(out, reply.to)?;
+            push_number(out, reply.tag)?;
+            push_view(out, version, &reply.view)
         }
     }
 }

@@ -20,6 +20,17 @@ pub struct StoreAck {
     pub tag: u64,
 }
 
+/// What the sender of a [`Body::CollectReply`] knows.
+#[derive(Drop)]
+pub struct CollectReply {
+    /// The node that collects.
+    pub to: u64,
+    /// The operation of that node.
+    pub tag: u64,
+    /// The sender's view.
+    pub view: View,
+}
+
 /// What a message says.
 #[derive(Drop)]
 pub enum Body {
@@ -60,11 +71,7 @@ pub enum Body {
         tag: u64,
     },
     /// The sender's view, for that operation of the node.
-    CollectReply {
-        to: u64,
-        tag: u64,
-        view: View,
-    },
+    CollectReply(CollectReply),
 }
 
 /// A message, which is sent to all.
@@ -82,10 +89,9 @@ impl Body {
         ensures { option_copied result ≡ view_of self.now }
     {
         match self {
-            Body::EnterEcho { view, .. }
-            | Body::Store { view, .. }
-            | Body::StoreEcho { view }
-            | Body::CollectReply { view, .. } => Some(view),
+            Body::EnterEcho { view, .. } | Body::Store { view, .. } | Body::StoreEcho { view } =>
+                Some(view),
+            Body::CollectReply(reply) => Some(&reply.view),
             _ => None,
         }
     }
@@ -130,6 +136,18 @@ fn view_fits(view: &View, version: Version) -> bool
     }
 }
 
+impl Clone for CollectReply {
+    ghost is_clone = { λ reply copy. copy ≡ reply };
+
+    fn clone(&self) -> Result<CollectReply, AllocError> {
+        Ok(CollectReply {
+            to: self.to,
+            tag: self.tag,
+            view: self.view.clone()?,
+        })
+    }
+}
+
 impl Clone for Body {
     ghost is_clone = { λ body copy. copy ≡ body };
 
@@ -160,11 +178,7 @@ impl Clone for Body {
                 view: view.clone()?,
             },
             Body::CollectQuery { tag } => Body::CollectQuery { tag: *tag },
-            Body::CollectReply { to, tag, view } => Body::CollectReply {
-                to: *to,
-                tag: *tag,
-                view: view.clone()?,
-            },
+            Body::CollectReply(reply) => Body::CollectReply(reply.clone()?),
         })
     }
 }

@@ -3,7 +3,6 @@
 ghost use Rattle.std.specs.Prelude.{◌≡◌, ℕ, List, length, [], ◌∷◌, Some, None, true, codes};
 ghost use Rattle.std.specs.FinMap as fin;
 ghost use Rattle.sc_view.specs.Values.{lengths};
-ghost use Rattle.sc_view.specs.Views.{ViewMap};
 ghost use Rattle.sc_msg.specs.Entries.{count_fault, id_fault};
 ghost use Rattle.sc_msg.specs.Fault.{head_fault};
 ghost use Rattle.sc_msg.specs.Kinds.{code, kind_at, kind_of, name_of};
@@ -13,6 +12,7 @@ ghost use Rattle.sc_msg.specs.Values.{length_fault, value_bytes, value_fault, Is
 ghost use Rattle.sc_msg.specs.declared.fault.MessageFault.TheVariants as fault;
 ghost use Rattle.sc_msg.specs.declared.kind.MessageKind.TheVariants as kind;
 ghost use Rattle.sc_msg.specs.declared.message.Body.TheVariants as body;
+ghost use Rattle.sc_msg.specs.declared.message.CollectReply.{CollectReply};
 ghost use Rattle.sc_msg.specs.declared.message.StoreAck.{StoreAck};
 ghost use Rattle.sc_msg.specs.declared.version.Version.TheVariants.{First, Second};
 
@@ -34,7 +34,7 @@ pub fn worked()
     ensures second_store_echo { message_bytes Second (record { from = 3; body = body.StoreEcho fin.empty }) ≡ 66 ∷ 81 ∷ 2 ∷ 9 ∷ 3 ∷ 0 ∷ 0 ∷ 0 ∷ 0 ∷ 0 ∷ 0 ∷ 0 ∷ 0 ∷ 0 ∷ [] }
     ensures value { value_bytes Second (5 ∷ 0 ∷ 7 ∷ []) ≡ 3 ∷ 5 ∷ 0 ∷ 7 ∷ [] }
     ensures no_bytes { value_bytes Second [] ≡ 0 ∷ [] }
-    ensures view_of_reply { (v : ViewMap) → view_of (body.CollectReply 1 0 v) ≡ Some v }
+    ensures view_of_reply { (reply : CollectReply) → view_of (body.CollectReply reply) ≡ Some reply.view }
     ensures view_of_ack { (ack : StoreAck) → view_of (body.StoreAck ack) ≡ None }
     ensures values_of_no_view { has_values_within (lengths 48 48) (record { from = 3; body = body.Enter }) ≡ true }
     ensures sender_0 { MessageHasValuesWithin (lengths 48 48) (record { from = 0; body = body.Enter }) }

@@ -28,7 +28,7 @@ use Rattle.sc_node.specs.declared.answer.Begun.{Begun}
 use Rattle.sc_node.specs.declared.answer.Delivered.{Delivered}
 use Rattle.sc_node.specs.Sessions.{apply, advanced_by, session_with, ends, ended_by, ended_at, ended_with, querying, storing, count_sender, is_reached, view_in}
 use Rattle.sc_node.specs.State.{NodeState}
-use Rattle.sc_node.specs.Nodes.{fresh, founded, entered, store_begun, collect_begun, left, delivered, delivery, node_after, view_after, is_reply, sessions_after, session_moved, ended_session, progress_of, ack_progress, reply_progress, ack_for, answers, store_of, store_back, joins, message_from, beta_threshold, hearing, opening, fitting, leaving, stored_view, store_session, collect_session, next_stored}
+use Rattle.sc_node.specs.Nodes.{fresh, founded, entered, store_begun, collect_begun, left, delivered, delivery, node_after, view_after, is_reply, sessions_after, session_moved, ended_session, progress_of, ack_progress, reply_progress, ack_for, reply_for, answers, store_of, store_back, joins, message_from, beta_threshold, hearing, opening, fitting, leaving, stored_view, store_session, collect_session, next_stored}
 use Rattle.sc_node.specs.Lengths.{KindHasValuesWithin, SessionHasValuesWithin, TableHasValuesWithin, NodeHasValuesWithin, BegunHasValuesWithin, AdvanceHasValuesWithin, ProgressHasValuesWithin, EndedHasValuesWithin, DeliveryHasValuesWithin}
 
 -- a call that passed its tests does this
@@ -118,7 +118,7 @@ module _ (l : Lengths) where
   view_kept s (EnterEcho to j f v) h told = merge_within l s.view v h.view told
   view_kept s (Store t v) h told = merge_within l s.view v h.view told
   view_kept s (StoreEcho v) h told = merge_within l s.view v h.view told
-  view_kept s (CollectReply to t v) h told = view_if (is_reply s to t) (merge s.view v) s.view (merge_within l s.view v h.view told) h.view
+  view_kept s (CollectReply r) h told = view_if (is_reply s r) (merge s.view r.view) s.view (merge_within l s.view r.view h.view told) h.view
   view_kept s b h told = h.view
 
   advance_if : (b : Bool) (x y : Advance) → AdvanceHasValuesWithin l x → AdvanceHasValuesWithin l y → AdvanceHasValuesWithin l (cond b x y)
@@ -139,9 +139,9 @@ module _ (l : Lengths) where
 
   progress_told : (s : NodeState) (from : ℕ) (b : Body) → NodeHasValuesWithin l s → BodyHasValuesWithin l b → IfSome (progress_of s from b) (ProgressHasValuesWithin l)
   progress_told s from (StoreAck a) h told = progress_if (a.to == s.id) (ack_progress from a.tag (storing (fin.get s.sessions a.tag))) (acked from a.tag (storing (fin.get s.sessions a.tag)))
-  progress_told s from (CollectReply to t v) h told =
-      progress_if (to == s.id) (reply_progress from t (merge s.view v) (beta_threshold s) (querying (fin.get s.sessions t)))
-      (replied from t (merge s.view v) (beta_threshold s) (querying (fin.get s.sessions t)) (merge_within l s.view v h.view told))
+  progress_told s from (CollectReply r) h told =
+      progress_if (r.to == s.id) (reply_progress from r.tag (merge s.view r.view) (beta_threshold s) (querying (fin.get s.sessions r.tag)))
+      (replied from r.tag (merge s.view r.view) (beta_threshold s) (querying (fin.get s.sessions r.tag)) (merge_within l s.view r.view h.view told))
   progress_told s from b h told = tt
 
   stored_back : (p : Option Progress) → IfSome p (ProgressHasValuesWithin l) → AllByRecursion (BodyHasValuesWithin l) (store_back p)
@@ -163,8 +163,8 @@ module _ (l : Lengths) where
   answers_told s from Join h told = (tt, tt)
   answers_told s from Leave h told = (tt, tt)
   answers_told s from (Store t v) h told = bodies_if s.joined (StoreAck (ack_for from t) ∷ StoreEcho (merge s.view v) ∷ []) (tt, (merge_within l s.view v h.view told, tt))
-  answers_told s from (CollectQuery t) h told = bodies_if s.joined (CollectReply from t s.view ∷ []) (h.view, tt)
-  answers_told s from (CollectReply to t v) h told = stored_back (progress_of s from (CollectReply to t v)) (progress_told s from (CollectReply to t v) h told)
+  answers_told s from (CollectQuery t) h told = bodies_if s.joined (CollectReply (reply_for s from t) ∷ []) (h.view, tt)
+  answers_told s from (CollectReply r) h told = stored_back (progress_of s from (CollectReply r)) (progress_told s from (CollectReply r) h told)
   answers_told s from b h told = tt
 
   messages_of : (id : ℕ) (bs : List Body) → AllByRecursion (BodyHasValuesWithin l) bs → AllByRecursion (MessageHasValuesWithin l) (map (message_from id) bs)

@@ -11,6 +11,7 @@ use Rattle.sc_members.specs.Ids.{Ids}
 use Rattle.sc_members.specs.Members.{Facts, Config, is_overfull, no_facts, founding, present, members, threshold, union_facts, with_entered, with_joined, with_left}
 use Rattle.sc_msg.specs.declared.message.Message.{Message}
 use Rattle.sc_msg.specs.declared.message.Body.{Body}
+use Rattle.sc_msg.specs.declared.message.CollectReply.{CollectReply as ReplyFields}
 use Rattle.sc_msg.specs.declared.message.StoreAck.{StoreAck as AckFields}
 use Rattle.sc_msg.specs.declared.message.Body.TheVariants.{Enter, EnterEcho, Join, JoinEcho, Leave, LeaveEcho, Store, StoreAck, StoreEcho, CollectQuery, CollectReply}
 use Rattle.sc_operations.specs.declared.session.OperationKind.TheVariants as kind
@@ -73,15 +74,15 @@ facts_heard n from (LeaveEcho q) = with_left n.facts q
 facts_heard n from b = n.facts
 
 -- the message is for an operation of this node that is in its query phase
-abbrev pub is_reply : NodeState → ℕ → ℕ → Bool
-is_reply n to tag = to == n.id && is_some (querying (fin.get n.sessions tag))
+abbrev pub is_reply : NodeState → ReplyFields → Bool
+is_reply n r = r.to == n.id && is_some (querying (fin.get n.sessions r.tag))
 
 -- the message's view is merged
 abbrev pub tells_view : NodeState → Body → Bool
 tells_view n (EnterEcho to j f v) = true
 tells_view n (Store t v) = true
 tells_view n (StoreEcho v) = true
-tells_view n (CollectReply to t v) = is_reply n to t
+tells_view n (CollectReply r) = is_reply n r
 tells_view n b = false
 
 -- the view after a message
@@ -89,7 +90,7 @@ abbrev pub view_after : NodeState → Body → ViewMap
 view_after n (EnterEcho to j f v) = merge n.view v
 view_after n (Store t v) = merge n.view v
 view_after n (StoreEcho v) = merge n.view v
-view_after n (CollectReply to t v) = if is_reply n to t then merge n.view v else n.view
+view_after n (CollectReply r) = if is_reply n r then merge n.view r.view else n.view
 view_after n b = n.view
 
 abbrev pub reply_progress : ℕ → ℕ → ViewMap → ℕ → Option Phase → Option Progress
@@ -101,8 +102,8 @@ reply_progress from tag view next (Some p) =
 -- ends it at the threshold; a reply counts in the query phase, at whose threshold the view is stored back.
 abbrev pub progress_of : NodeState → ℕ → Body → Option Progress
 progress_of n from (StoreAck a) = if a.to == n.id then ack_progress from a.tag (storing (fin.get n.sessions a.tag)) else None
-progress_of n from (CollectReply to t v) =
-    if to == n.id then reply_progress from t (merge n.view v) (beta_threshold n) (querying (fin.get n.sessions t)) else None
+progress_of n from (CollectReply r) =
+    if r.to == n.id then reply_progress from r.tag (merge n.view r.view) (beta_threshold n) (querying (fin.get n.sessions r.tag)) else None
 progress_of n from b = None
 
 -- the echoes that are counted by a node that waits to join
@@ -149,6 +150,10 @@ turned n from tag view = record { tag = tag; sender = from; advance = advance.Tu
 abbrev pub ack_for : ℕ → ℕ → AckFields
 ack_for from tag = record { to = from; tag = tag }
 
+-- what the node replies to that node, which collects
+abbrev pub reply_for : NodeState → ℕ → ℕ → ReplyFields
+reply_for n from tag = record { to = from; tag = tag; view = n.view }
+
 -- what a node answers
 abbrev pub answers : NodeState → ℕ → Body → List Body
 answers n from Enter = EnterEcho from n.joined (facts_heard n from Enter) n.view ∷ []
@@ -156,8 +161,8 @@ answers n from (EnterEcho to j f v) = if joins n from (EnterEcho to j f v) then 
 answers n from Join = JoinEcho from ∷ []
 answers n from Leave = LeaveEcho from ∷ []
 answers n from (Store t v) = if n.joined then StoreAck (ack_for from t) ∷ StoreEcho (merge n.view v) ∷ [] else []
-answers n from (CollectQuery t) = if n.joined then CollectReply from t n.view ∷ [] else []
-answers n from (CollectReply to t v) = store_back (progress_of n from (CollectReply to t v))
+answers n from (CollectQuery t) = if n.joined then CollectReply (reply_for n from t) ∷ [] else []
+answers n from (CollectReply r) = store_back (progress_of n from (CollectReply r))
 answers n from b = []
 
 -- the node after a message

@@ -3,7 +3,6 @@ use Rattle.std.proofs.Common.{◌≡◌, ℕ, ◌<◌, Bool, true, false, cond, 
 use Rattle.std.specs.FinMap as fin
 use Rattle.sc_view.specs.Views.{ViewMap}
 use Rattle.sc_msg.specs.declared.message.Message.{Message}
-use Rattle.sc_msg.specs.declared.message.Body.{Body}
 use Rattle.sc_msg.specs.declared.message.Body.TheVariants.{StoreAck, CollectReply}
 use Rattle.sc_operations.specs.declared.session.OperationKind.TheVariants as kind
 use Rattle.sc_operations.specs.declared.session.Phase.{Phase}
@@ -19,7 +18,7 @@ use Rattle.sc_world.specs.declared.op.Op.{Op}
 use Rattle.sc_world.specs.State.{WorldState}
 use Rattle.sc_world.specs.Worlds.{moved, clock, Outcome, WasBefore, IsHistory}
 use Rattle.sc_world.specs.Records.{Among, Answers, IsAck, IsReply, IsDelivered, IsPhase, IsRunning, Stores, Queries, StoresBack, IsRecord}
-use Rattle.sc_world.proofs.Links.{IsLinked, IsTransition, IsAckMove, IsReplyMove, IsMove, ack_is}
+use Rattle.sc_world.proofs.Links.{IsLinked, IsTransition, IsAckMove, IsReplyMove, IsMove, ack_is, reply_is}
 use Rattle.sc_world.proofs.Steps.{is_open}
 use Rattle.sc_world.proofs.Histories.{IsNext, was_now}
 use Rattle.sc_world.proofs.Recording.{phase_kept, turn_before, record_kept, counted_phase, new_measured, new_open, event_new, sent_kept, acked_op, replied_op, moved_ack, moved_reply}
@@ -84,10 +83,6 @@ module _ (w : WorldState) (number q : ℕ) (w' : WorldState) (k : IsNext w (even
     answer = answer;
   }
 
-  -- the message, as the record names it
-  answer_is : (p : Progress) (f : ℕ → ℕ → Body) → o.tag ≡ p.tag → m.body ≡ f n.id p.tag → m ≡ message_from m.from (f o.node o.tag)
-  answer_is p f tq body = ap (message_from m.from) (body ∙ ap (λ (i : ℕ). f i p.tag) name ∙ ap (f o.node) (sym tq))
-
   -- the record before it moves
   old : IsRecord w' o
   old = record_kept w (event.Deliver number q) w' k o lt r
@@ -116,7 +111,7 @@ module _ (w : WorldState) (number q : ℕ) (w' : WorldState) (k : IsNext w (even
         numbered = old.numbered;
         runs =
             replied_running w (event.Deliver number q) w' k o lt running n (was_now w history) at_node c a.phase m.from _ none query refl
-            (delivered_now (IsReply o) (a.view, answer_is p (λ i t. CollectReply i t a.view) tq a.body)) r.runs;
+            (delivered_now (IsReply o) (a.reply.view, ap (message_from m.from) (a.body ∙ ap CollectReply (reply_is o a.reply (a.to ∙ name) (a.tag ∙ sym tq))))) r.runs;
       })
 
   pub moved_record : (r' : Outcome) → IsTransition n r' → Among o w.ops → (p : Progress) → o.tag ≡ p.tag → IsMove n m.from m.body (Some p) → IsRecord w' (moved place p o)

@@ -8,6 +8,7 @@ use Rattle.sc_members.specs.Ids.{Has}
 use Rattle.sc_msg.specs.declared.message.Message.{Message}
 use Rattle.sc_msg.specs.declared.message.Body.{Body}
 use Rattle.sc_msg.specs.declared.message.Body.TheVariants.{Store, StoreAck, CollectQuery, CollectReply}
+use Rattle.sc_msg.specs.declared.message.CollectReply.{CollectReply as ReplyFields}
 use Rattle.sc_msg.specs.declared.message.StoreAck.{StoreAck as AckFields}
 use Rattle.sc_operations.specs.declared.session.OperationKind.TheVariants as kind
 use Rattle.sc_node.specs.Sessions.{stored, repliers, ackers}
@@ -16,7 +17,7 @@ use Rattle.sc_node.specs.Nodes.{message_from}
 use Rattle.sc_world.specs.declared.op.Op.{Op}
 use Rattle.sc_world.specs.State.{WorldState}
 use Rattle.sc_world.specs.Worlds.{clock}
-use Rattle.sc_world.specs.Records.{Among, ack_of}
+use Rattle.sc_world.specs.Records.{Among, ack_of, reply_of}
 
 abbrev pub view_of : Option NodeState → ViewMap
 view_of None = fin.empty
@@ -34,7 +35,7 @@ abbrev pub IsBodyAbout : ℕ → Body → ℕ → ℕ → Type 0
 IsBodyAbout from (Store t v) node tag = (from ≡ node) × (t ≡ tag)
 IsBodyAbout from (StoreAck a) node tag = (a.to ≡ node) × (a.tag ≡ tag)
 IsBodyAbout from (CollectQuery t) node tag = (from ≡ node) × (t ≡ tag)
-IsBodyAbout from (CollectReply to t v) node tag = (to ≡ node) × (t ≡ tag)
+IsBodyAbout from (CollectReply r) node tag = (r.to ≡ node) × (r.tag ≡ tag)
 IsBodyAbout from b node tag = ⊥
 
 -- the message belongs to this operation
@@ -84,13 +85,13 @@ pub data OpFrom (w w' : WorldState) (o' : Op) : Type 0 where
   Kept : Among o' w.ops → OpFrom w w' o'
   Begun : IsBegun w o' → OpFrom w w' o'
   Acknowledged : (o : Op) (view : ViewMap) (from : ℕ) → Among o w.ops → Among (message_from from (StoreAck (ack_of o))) w.sent → IsAcknowledged o o' view from (clock w) → OpFrom w w' o'
-  Replied : (o : Op) (view : ViewMap) (from : ℕ) → Among o w.ops → Among (message_from from (CollectReply o.node o.tag view)) w.sent → IsReplied o o' view (view_at w' o'.node) from → OpFrom w w' o'
+  Replied : (o : Op) (view : ViewMap) (from : ℕ) → Among o w.ops → Among (message_from from (CollectReply (reply_of o view))) w.sent → IsReplied o o' view (view_at w' o'.node) from → OpFrom w w' o'
 
 -- what is known of a message of q as it is sent
 abbrev pub IsBodySent : WorldState → WorldState → ℕ → Body → Type 0
 IsBodySent w w' q (Store t v) = (o : Op) → Among o w'.ops → o.node ≡ q → o.tag ≡ t → stored o.session ≡ Some v
 IsBodySent w w' q (StoreAck a) = (v : ViewMap) × Among (message_from a.to (Store a.tag v)) w.sent × IsBelow v (view_at w' q)
-IsBodySent w w' q (CollectReply p t v) = Among (message_from p (CollectQuery t)) w.sent × IsBelow (view_at w q) v
+IsBodySent w w' q (CollectReply r) = Among (message_from r.to (CollectQuery r.tag)) w.sent × IsBelow (view_at w q) r.view
 IsBodySent w w' q b = Unit {0}
 
 abbrev pub IsSent : WorldState → WorldState → Message → Type 0
@@ -120,6 +121,6 @@ pub record IsSound (w : WorldState) : Type 0 where
   pub acked : (o : Op) (v : ViewMap) (q : ℕ) → Among o w.ops → stored o.session ≡ Some v → Has (ackers o.session) q → IsBelow v (view_at w q)
   pub stores : (p t : ℕ) (v : ViewMap) → Among (message_from p (Store t v)) w.sent → (o : Op) → Among o w.ops → o.node ≡ p → o.tag ≡ t → stored o.session ≡ Some v
   pub acks : (q : ℕ) (a : AckFields) → Among (message_from q (StoreAck a)) w.sent → (o : Op) → Among o w.ops → o.node ≡ a.to → o.tag ≡ a.tag → (v : ViewMap) × (stored o.session ≡ Some v) × IsBelow v (view_at w q)
-  pub replies : (q p t : ℕ) (v : ViewMap) → Among (message_from q (CollectReply p t v)) w.sent → (c : Op) → Among c w.ops → c.node ≡ p → c.tag ≡ t → KnownBy w c q v
+  pub replies : (q : ℕ) (r : ReplyFields) → Among (message_from q (CollectReply r)) w.sent → (c : Op) → Among c w.ops → c.node ≡ r.to → c.tag ≡ r.tag → KnownBy w c q r.view
   pub gathering : (c : Op) (q : ℕ) → Among c w.ops → stored c.session ≡ None → Has (repliers c.session) q → KnownBy w c q (view_at w c.node)
   pub gathered : (c : Op) (v : ViewMap) (q : ℕ) → Among c w.ops → stored c.session ≡ Some v → Has (repliers c.session) q → KnownBy w c q v

@@ -74,7 +74,7 @@ tells_at tag (advance.Turned t v) x s back ends was held = absurd (cc)
 
 tells_by : (n : NodeState) (from : ℕ) (b : Body) (p : Progress) → IsMove n from b (Some p) → p.advance ≡ advance.Ended → Tells (ended_by (Some p) (ended_session n.sessions (Some p))) p.tag
 tells_by n from b p (inl m) ends = tells_at p.tag p.advance (fin.get n.sessions p.tag) m.session m.back ends m.was m.stores
-tells_by n from b p (inr m) ends = absurd (reply_goes_on (is_reached (count_sender m.phase from)) (beta_threshold n) (merge n.view m.view) (sym m.advance ∙ ends))
+tells_by n from b p (inr m) ends = absurd (reply_goes_on (is_reached (count_sender m.phase from)) (beta_threshold n) (merge n.view m.reply.view) (sym m.advance ∙ ends))
 
 -- ---- each event
 

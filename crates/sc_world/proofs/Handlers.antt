@@ -9,6 +9,7 @@ use Rattle.sc_view.specs.Views.{ViewMap, number_at, IsBelow, merge}
 use Rattle.sc_members.specs.Members.{Config, with_left}
 use Rattle.sc_msg.specs.declared.message.Message.{Message}
 use Rattle.sc_msg.specs.declared.message.Body.{Body}
+use Rattle.sc_msg.specs.declared.message.CollectReply.{CollectReply as ReplyFields}
 use Rattle.sc_msg.specs.declared.message.StoreAck.{StoreAck as AckFields}
 use Rattle.sc_msg.specs.declared.message.Body.TheVariants.{Enter, EnterEcho, Join, Leave, Store, StoreAck, StoreEcho, CollectQuery, CollectReply}
 use Rattle.sc_operations.specs.declared.session.OperationKind.TheVariants as kind
@@ -22,7 +23,7 @@ use Rattle.sc_world.specs.declared.act.Opened.{Opened}
 use Rattle.sc_node.specs.Sessions.{stored, view_in, phase_in, counted_in, phase_with, session_with, advanced_by, apply, ends, is_reached, count_sender, querying, query_before, storing}
 use Rattle.sc_node.specs.State.{NodeState}
 use Rattle.sc_node.specs.Nodes as node
-use Rattle.sc_node.specs.Nodes.{message_from, is_reply, view_after, progress_of, sessions_after, ack_progress, reply_progress, beta_threshold, joins, ack_for, answers, store_back, store_of, delivery, node_after, begun, opened, store_session, collect_session, stored_view, next_stored, entered, entering}
+use Rattle.sc_node.specs.Nodes.{message_from, is_reply, view_after, progress_of, sessions_after, ack_progress, reply_progress, beta_threshold, joins, ack_for, reply_for, answers, store_back, store_of, delivery, node_after, begun, opened, store_session, collect_session, stored_view, next_stored, entered, entering}
 use Rattle.sc_world.specs.declared.event.WorldEvent.{WorldEvent}
 use Rattle.sc_world.specs.declared.op.Op.{Op}
 use Rattle.sc_world.specs.State.{WorldState}
@@ -59,7 +60,7 @@ view_grows : (n : NodeState) (b : Body) → IsBelow n.view (view_after n b)
 view_grows n (EnterEcho to j f v) = below_merge n.view v
 view_grows n (Store t v) = below_merge n.view v
 view_grows n (StoreEcho v) = below_merge n.view v
-view_grows n (CollectReply to t v) = below_if (is_reply n to t) n.view (merge n.view v) (below_merge n.view v)
+view_grows n (CollectReply r) = below_if (is_reply n r) n.view (merge n.view r.view) (below_merge n.view r.view)
 view_grows n b = below_refl n.view
 
 -- a look-up after an operation moved
@@ -142,45 +143,42 @@ module _ (n : NodeState) (from : ℕ) where
   ack_move a true None is at = tt
   ack_move a true (Some s) is at = ack_back a s s.back is at refl
 
-  reply_back : (to t : ℕ) (view : ViewMap) (s : Session) (b : Option StoreBack) (p : Option Phase) → (to == n.id) ≡ true → fin.get n.sessions t ≡ Some s → s.back ≡ b → s.query ≡ p
-      → IsMove n from (CollectReply to t view) (reply_progress from t (merge n.view view) (beta_threshold n) (query_before b p))
-  reply_back to t view s (Some b) p is at back query = tt
-  reply_back to t view s None None is at back query = tt
-  reply_back to t view s None (Some p) is at back query =
-      let test : is_reply n to t ≡ true =
-      ap (λ b. b && is_some (querying (fin.get n.sessions t))) is
+  reply_back : (r : ReplyFields) (s : Session) (b : Option StoreBack) (p : Option Phase) → (r.to == n.id) ≡ true → fin.get n.sessions r.tag ≡ Some s → s.back ≡ b → s.query ≡ p
+      → IsMove n from (CollectReply r) (reply_progress from r.tag (merge n.view r.view) (beta_threshold n) (query_before b p))
+  reply_back r s (Some b) p is at back query = tt
+  reply_back r s None None is at back query = tt
+  reply_back r s None (Some p) is at back query =
+      let test : is_reply n r ≡ true =
+      ap (λ b. b && is_some (querying (fin.get n.sessions r.tag))) is
       ∙ ap (λ (o : Option Session). is_some (querying o)) at ∙ ap (λ (b : Option StoreBack). is_some (query_before b s.query)) back ∙ ap (λ (x : Option Phase). is_some x) query in
       inr (record {
         session = s;
         phase = p;
-        view = view;
         was = at;
         none = back;
         query = query;
-        body = ap (λ (x : ℕ). CollectReply x t view) (eqb-true to n.id is);
+        reply = r;
+        body = refl;
+        to = eqb-true r.to n.id is;
+        tag = refl;
         sender = refl;
-        learned = sym (ap (λ b. cond b (merge n.view view) n.view) test);
+        learned = sym (ap (λ b. cond b (merge n.view r.view) n.view) test);
         advance = refl;
       })
 
-  reply_move : (to t : ℕ) (view : ViewMap) (c : Bool) (s : Option Session) → (to == n.id) ≡ c → fin.get n.sessions t ≡ s
-      → IsMove n from (CollectReply to t view) (cond c (reply_progress from t (merge n.view view) (beta_threshold n) (querying s)) None)
-  reply_move to t view false s is at = tt
-  reply_move to t view true None is at = tt
-  reply_move to t view true (Some s) is at = reply_back to t view s s.back s.query is at refl refl
+  reply_move : (r : ReplyFields) (c : Bool) (s : Option Session) → (r.to == n.id) ≡ c → fin.get n.sessions r.tag ≡ s
+      → IsMove n from (CollectReply r) (cond c (reply_progress from r.tag (merge n.view r.view) (beta_threshold n) (querying s)) None)
+  reply_move r false s is at = tt
+  reply_move r true None is at = tt
+  reply_move r true (Some s) is at = reply_back r s s.back s.query is at refl refl
 
   pub moves : (b : Body) → IsMove n from b (progress_of n from b)
   moves (StoreAck a) = ack_move a (a.to == n.id) (fin.get n.sessions a.tag) refl refl
-  moves (CollectReply to t v) = reply_move to t v (to == n.id) (fin.get n.sessions t) refl refl
+  moves (CollectReply r) = reply_move r (r.to == n.id) (fin.get n.sessions r.tag) refl refl
   moves b = tt
 
 module _ (w : WorldState) (e : WorldEvent) (q : ℕ) (n : NodeState) (at : fin.get w.nodes q ≡ Some n) (linked : IsLinked w) (from : ℕ) where
   -- the message, as its parts are known
-  named : (b : Body) (f : ℕ → Body) (sender : ℕ) → b ≡ f n.id → sender ≡ from → Among (message_from from b) w.sent → Among (message_from sender (f q)) w.sent
-  named b f sender body is sent =
-      subst (λ (x : ℕ). Among (message_from x (f q)) w.sent) (sym is)
-      (subst (λ (x : ℕ). Among (message_from from (f x)) w.sent) (linked.named q n at) (subst (λ (y : Body). Among (message_from from y) w.sent) body sent))
-
   said : (b c : Body) (sender : ℕ) → b ≡ c → sender ≡ from → Among (message_from from b) w.sent → Among (message_from sender c) w.sent
   said b c sender body is sent =
       subst (λ (x : ℕ). Among (message_from x c) w.sent) (sym is) (subst (λ (y : Body). Among (message_from from y) w.sent) body sent)
@@ -204,15 +202,17 @@ module _ (w : WorldState) (e : WorldEvent) (q : ℕ) (n : NodeState) (at : fin.g
   progress_by b (Some p) (inr k) sent =
       inr (record {
         session = k.session;
-        view = k.view;
         was = k.was;
         held = ap view_in k.none;
-        sent = named b (λ x. CollectReply x p.tag k.view) p.sender k.body k.sender sent;
+        reply = k.reply;
+        sent = said b (CollectReply k.reply) p.sender k.body k.sender sent;
+        to = k.to ∙ linked.named q n at;
+        tag = k.tag;
         makes =
             subst (λ (a : Advance). ReplyMakes k.session (advanced_by p.sender a k.session) p.sender (view_after n b)) (sym k.advance)
-            (reply_makes (is_reached (count_sender k.phase from)) k.session k.phase p.sender (beta_threshold n) (merge n.view k.view) (view_after n b) k.none k.query k.learned);
-        stays = λ place. ap (end_at place) k.advance ∙ reply_stays (is_reached (count_sender k.phase from)) (beta_threshold n) (merge n.view k.view) place;
-        learns = subst (λ (v : ViewMap). IsBelow k.view v) k.learned (merge_above n.view k.view);
+            (reply_makes (is_reached (count_sender k.phase from)) k.session k.phase p.sender (beta_threshold n) (merge n.view k.reply.view) (view_after n b) k.none k.query k.learned);
+        stays = λ place. ap (end_at place) k.advance ∙ reply_stays (is_reached (count_sender k.phase from)) (beta_threshold n) (merge n.view k.reply.view) place;
+        learns = subst (λ (v : ViewMap). IsBelow k.reply.view v) k.learned (merge_above n.view k.reply.view);
       })
 
   pub progress_is : (b : Body) → Among (message_from from b) w.sent → IsProgress w q n (heard n from b) (progress_of n from b)
@@ -251,9 +251,9 @@ module _ (w : WorldState) (e : WorldEvent) (q : ℕ) (n : NodeState) (at : fin.g
       each_if (IsBodySent w (after w e q r) q) n.joined (StoreAck (ack_for from t) ∷ StoreEcho (merge n.view v) ∷ [])
       ((v, sent, subst (λ (y : ViewMap). IsBelow v y) (sym (view_next w e q n r at linked (heard_moves n from (Store t v)))) (merge_above n.view v)), (tt, tt))
   answers_sent (CollectQuery t) sent =
-      each_if (IsBodySent w (after w e q (heard n from (CollectQuery t))) q) n.joined (CollectReply from t n.view ∷ [])
+      each_if (IsBodySent w (after w e q (heard n from (CollectQuery t))) q) n.joined (CollectReply (reply_for n from t) ∷ [])
       ((sent, subst (λ (y : ViewMap). IsBelow y n.view) (sym (ap view_of at)) (below_refl n.view)), tt)
-  answers_sent (CollectReply to t v) sent = back_sent (progress_of n from (CollectReply to t v)) (heard n from (CollectReply to t v)) refl refl
+  answers_sent (CollectReply r) sent = back_sent (progress_of n from (CollectReply r)) (heard n from (CollectReply r)) refl refl
   answers_sent b sent = tt
 
   back_known : (p : Option Progress) (r r' : Outcome) → IsTransition n r → IsProgress w q n r' p → Each (IsBodyKnown (after w e q r) q) (store_back p)
@@ -264,7 +264,7 @@ module _ (w : WorldState) (e : WorldEvent) (q : ℕ) (n : NodeState) (at : fin.g
       known_tag node tag about =
           elim k [
             | inl a ↦ linked.known (message_from p.sender (StoreAck a.ack)) a.sent node tag (a.to ∙ about.0, a.tag ∙ about.1)
-            | inr a ↦ linked.known (message_from p.sender (CollectReply q p.tag a.view)) a.sent node tag about
+            | inr a ↦ linked.known (message_from p.sender (CollectReply a.reply)) a.sent node tag (a.to ∙ about.0, a.tag ∙ about.1)
           ]
 
       go : (a : Advance) → Each (IsBodyKnown (after w e q r) q) (store_of p.tag a)
@@ -283,11 +283,11 @@ module _ (w : WorldState) (e : WorldEvent) (q : ℕ) (n : NodeState) (at : fin.g
       ((λ node tag about. let h = linked.known (message_from from (Store t v)) sent node tag about in known_next w e q n r at linked (heard_moves n from (Store t v)) node tag h.0 h.1 h.2), ((λ p t about. absurd about), tt))
   answers_known (CollectQuery t) sent =
       let r : Outcome = heard n from (CollectQuery t) in
-      each_if (IsBodyKnown (after w e q r) q) n.joined (CollectReply from t n.view ∷ [])
+      each_if (IsBodyKnown (after w e q r) q) n.joined (CollectReply (reply_for n from t) ∷ [])
       ((λ node tag about. let h = linked.known (message_from from (CollectQuery t)) sent node tag about in known_next w e q n r at linked (heard_moves n from (CollectQuery t)) node tag h.0 h.1 h.2), tt)
-  answers_known (CollectReply to t v) sent =
-      back_known (progress_of n from (CollectReply to t v)) (heard n from (CollectReply to t v)) (heard n from (CollectReply to t v))
-      (heard_moves n from (CollectReply to t v)) (progress_is (CollectReply to t v) sent)
+  answers_known (CollectReply r) sent =
+      back_known (progress_of n from (CollectReply r)) (heard n from (CollectReply r)) (heard n from (CollectReply r))
+      (heard_moves n from (CollectReply r)) (progress_is (CollectReply r) sent)
   answers_known b sent = tt
 
   -- a node sends in its own name

@@ -7,6 +7,7 @@ use Rattle.sc_view.specs.Views.{ViewMap, number_at, IsBelow, merge}
 use Rattle.sc_msg.specs.declared.message.Message.{Message}
 use Rattle.sc_msg.specs.declared.message.Body.{Body}
 use Rattle.sc_msg.specs.declared.message.Body.TheVariants.{StoreAck, CollectReply}
+use Rattle.sc_msg.specs.declared.message.CollectReply.{CollectReply as ReplyFields}
 use Rattle.sc_msg.specs.declared.message.StoreAck.{StoreAck as AckFields}
 use Rattle.sc_operations.specs.declared.session.OperationKind.TheVariants as kind
 use Rattle.sc_operations.specs.declared.session.Phase.{Phase}
@@ -21,7 +22,7 @@ use Rattle.sc_node.specs.Nodes.{message_from, view_after, beta_threshold}
 use Rattle.sc_world.specs.declared.op.Op.{Op}
 use Rattle.sc_world.specs.State.{WorldState}
 use Rattle.sc_world.specs.Worlds.{Outcome, end_at}
-use Rattle.sc_world.specs.Records.{Among, ack_of}
+use Rattle.sc_world.specs.Records.{Among, ack_of, reply_of}
 use Rattle.sc_world.proofs.Changes.{IsAbout, IsBodyAbout}
 
 -- what a node keeps of an operation: its session while it is open
@@ -77,6 +78,10 @@ pub record ReplyMakes (s s' : Session) (from : ℕ) (v : ViewMap) : Type 0 where
 pub ack_is : (o : Op) (a : AckFields) → a.to ≡ o.node → a.tag ≡ o.tag → a ≡ ack_of o
 ack_is o a to tag = λ i. record { to = to i; tag = tag i }
 
+-- and so is what replies to it
+pub reply_is : (o : Op) (r : ReplyFields) → r.to ≡ o.node → r.tag ≡ o.tag → r ≡ reply_of o r.view
+reply_is o r to tag = λ i. record { to = to i; tag = tag i; view = r.view }
+
 -- an acknowledgement that moves an operation of the node
 pub record IsAckMove (n : NodeState) (from : ℕ) (b : Body) (p : Progress) : Type 0 where
   pub session : Session
@@ -94,14 +99,16 @@ pub record IsAckMove (n : NodeState) (from : ℕ) (b : Body) (p : Progress) : Ty
 pub record IsReplyMove (n : NodeState) (from : ℕ) (b : Body) (p : Progress) : Type 0 where
   pub session : Session
   pub phase : Phase
-  pub view : ViewMap
   pub was : fin.get n.sessions p.tag ≡ Some session
   pub none : session.back ≡ None
   pub query : session.query ≡ Some phase
-  pub body : b ≡ CollectReply n.id p.tag view
+  pub reply : ReplyFields
+  pub body : b ≡ CollectReply reply
+  pub to : reply.to ≡ n.id
+  pub tag : reply.tag ≡ p.tag
   pub sender : p.sender ≡ from
-  pub learned : merge n.view view ≡ view_after n b
-  pub advance : p.advance ≡ cond (is_reached (count_sender phase from)) (advance.Turned (beta_threshold n) (merge n.view view)) advance.Counted
+  pub learned : merge n.view reply.view ≡ view_after n b
+  pub advance : p.advance ≡ cond (is_reached (count_sender phase from)) (advance.Turned (beta_threshold n) (merge n.view reply.view)) advance.Counted
 
 abbrev pub IsMove : NodeState → ℕ → Body → Option Progress → Type 0
 IsMove n from b None = Unit {0}
@@ -120,13 +127,15 @@ pub record IsAckProgress (w : WorldState) (q : ℕ) (n : NodeState) (p : Progres
 
 pub record IsReplyProgress (w : WorldState) (q : ℕ) (n : NodeState) (r : Outcome) (p : Progress) : Type 0 where
   pub session : Session
-  pub view : ViewMap
   pub was : fin.get n.sessions p.tag ≡ Some session
   pub held : stored session ≡ None
-  pub sent : Among (message_from p.sender (CollectReply q p.tag view)) w.sent
+  pub reply : ReplyFields
+  pub sent : Among (message_from p.sender (CollectReply reply)) w.sent
+  pub to : reply.to ≡ q
+  pub tag : reply.tag ≡ p.tag
   pub makes : ReplyMakes session (apply p session) p.sender r.node.view
   pub stays : (place : ℕ) → end_at place p.advance ≡ None
-  pub learns : IsBelow view r.node.view
+  pub learns : IsBelow reply.view r.node.view
 
 abbrev pub IsProgress : WorldState → ℕ → NodeState → Outcome → Option Progress → Type 0
 IsProgress w q n r None = Unit {0}

@@ -9,7 +9,6 @@ use Rattle.std.specs.FinMap as fin
 use Rattle.std.specs.FinSet as set
 use Rattle.sc_msg.specs.declared.message.Message.{Message}
 use Rattle.sc_msg.specs.declared.message.Body.{Body}
-use Rattle.sc_msg.specs.declared.message.Body.TheVariants.{CollectReply}
 use Rattle.sc_operations.specs.declared.session.Phase.{Phase}
 use Rattle.sc_operations.specs.declared.session.StoreBack.{StoreBack}
 use Rattle.sc_operations.specs.declared.session.Session.{Session}
@@ -105,17 +104,18 @@ module _ (w : WorldState) (linked : IsLinked w) (distinct : AreDistinct w.ops) (
   own : (id == id) ≡ true
   own = eq-eqb id id refl
 
+  for_tag : (to tag : ℕ) (p : Progress) → to ≡ n.id → tag ≡ p.tag → p.sender ≡ from → (let r : Option (ℕ × ℕ) = cond (to == id) (Some (tag, from)) None in r) ≡ Some (p.tag, p.sender)
+  for_tag to tag p here tagged sender =
+      ap (λ (i : ℕ). let r : Option (ℕ × ℕ) = cond (i == id) (Some (tag, from)) None in r) (here ∙ name)
+      ∙ ap (λ (t : Bool). let r : Option (ℕ × ℕ) = cond t (Some (tag, from)) None in r) own
+      ∙ ap (λ (t : ℕ). let r : Option (ℕ × ℕ) = Some (t, from) in r) tagged ∙ ap (λ (s : ℕ). let r : Option (ℕ × ℕ) = Some (p.tag, s) in r) (sym sender)
+
   -- which operation the message is for
   ack_for : (p : Progress) → IsAckMove n from b p → answered id from b ≡ Some (p.tag, p.sender)
-  ack_for p k =
-      ap (answered id from) k.body ∙ ap (λ (i : ℕ). let r : Option (ℕ × ℕ) = cond (i == id) (Some (k.ack.tag, from)) None in r) (k.to ∙ name)
-      ∙ ap (λ (t : Bool). let r : Option (ℕ × ℕ) = cond t (Some (k.ack.tag, from)) None in r) own
-      ∙ ap (λ (t : ℕ). let r : Option (ℕ × ℕ) = Some (t, from) in r) k.tag ∙ ap (λ (s : ℕ). let r : Option (ℕ × ℕ) = Some (p.tag, s) in r) (sym k.sender)
+  ack_for p k = ap (answered id from) k.body ∙ for_tag k.ack.to k.ack.tag p k.to k.tag k.sender
 
   reply_for : (p : Progress) → IsReplyMove n from b p → answered id from b ≡ Some (p.tag, p.sender)
-  reply_for p k =
-      ap (answered id from) (k.body ∙ ap (λ (i : ℕ). CollectReply i p.tag k.view) name)
-      ∙ ap (λ (t : Bool). let r : Option (ℕ × ℕ) = cond t (Some (p.tag, from)) None in r) own ∙ ap (λ (s : ℕ). let r : Option (ℕ × ℕ) = Some (p.tag, s) in r) (sym k.sender)
+  reply_for p k = ap (answered id from) k.body ∙ for_tag k.reply.to k.reply.tag p k.to k.tag k.sender
 
   ack_phase : (a : Advance) (c : Bool) (s : Session) → a ≡ cond c advance.Ended advance.Counted → counting_phase a s ≡ open_phase s.back s.query
   ack_phase (advance.Turned t v) true s is = absurd (cc)

@@ -222,7 +222,7 @@ start_invariant c ids = record {
     acked = λ o v q h. absurd h;
     stores = λ p t v h. absurd h;
     acks = λ q a h. absurd h;
-    replies = λ q p t v h. absurd h;
+    replies = λ q r h. absurd h;
     gathering = λ c q h. absurd h;
     gathered = λ c v q h. absurd h;
   };

@@ -7,13 +7,14 @@ use Rattle.sc_view.specs.Views.{ViewMap, number_at, IsBelow}
 use Rattle.sc_members.specs.Ids.{Ids, Has}
 use Rattle.sc_msg.specs.declared.message.Message.{Message}
 use Rattle.sc_msg.specs.declared.message.Body.TheVariants.{Store, StoreAck, CollectQuery, CollectReply}
+use Rattle.sc_msg.specs.declared.message.CollectReply.{CollectReply as ReplyFields}
 use Rattle.sc_msg.specs.declared.message.StoreAck.{StoreAck as AckFields}
 use Rattle.sc_node.specs.Sessions.{stored, repliers, ackers}
 use Rattle.sc_node.specs.Nodes.{message_from}
 use Rattle.sc_world.specs.declared.op.Op.{Op}
 use Rattle.sc_world.specs.State.{WorldState}
 use Rattle.sc_world.specs.Worlds.{clock}
-use Rattle.sc_world.specs.Records.{Among, ack_of}
+use Rattle.sc_world.specs.Records.{Among, ack_of, reply_of}
 use Rattle.sc_world.proofs.Changes.{view_at, IsAbout, IsReplied, OpFrom, Kept, Begun, Acknowledged, Replied, IsChange, KnownBy, IsSound, HasNumber, MeetsEarlier}
 use Rattle.sc_world.proofs.Finite.{contains-insert}
 use Rattle.sc_view.proofs.ViewLemmas.{below_trans}
@@ -135,22 +136,22 @@ module _ (w w' : WorldState) (x : IsChange w w') (s : IsSound w) where
   known_here : (c : Op) (q : ℕ) → KnownBy w c q (view_at w q)
   known_here c q o v in' before held acked = s.acked o v q in' held acked
 
-  replies' : (q p t : ℕ) (v : ViewMap) → Among (message_from q (CollectReply p t v)) w'.sent → (c : Op) → Among c w'.ops → c.node ≡ p → c.tag ≡ t → KnownBy w' c q v
-  replies' q p t v sent c in' np tt' =
-      elim (x.sent (message_from q (CollectReply p t v)) sent) [
+  replies' : (q : ℕ) (r : ReplyFields) → Among (message_from q (CollectReply r)) w'.sent → (c : Op) → Among c w'.ops → c.node ≡ r.to → c.tag ≡ r.tag → KnownBy w' c q r.view
+  replies' q r sent c in' np tt' =
+      elim (x.sent (message_from q (CollectReply r)) sent) [
         | inl old ↦
-            let k = origin c (message_from q (CollectReply p t v)) old (sym np, sym tt') (x.ops c in') in
-            known_kept w w' x s k.op c q v k.begin k.was (s.replies q p t v old k.op k.was (sym k.node ∙ np) (sym k.tag ∙ tt'))
+            let k = origin c (message_from q (CollectReply r)) old (sym np, sym tt') (x.ops c in') in
+            known_kept w w' x s k.op c q r.view k.begin k.was (s.replies q r old k.op k.was (sym k.node ∙ np) (sym k.tag ∙ tt'))
         | inr new ↦
-            let k = origin c (message_from p (CollectQuery t)) new.0 (sym np, sym tt') (x.ops c in') in
-            known_kept w w' x s k.op c q v k.begin k.was (known_above w k.op q (view_at w q) v new.1 (known_here k.op q))
+            let k = origin c (message_from r.to (CollectQuery r.tag)) new.0 (sym np, sym tt') (x.ops c in') in
+            known_kept w w' x s k.op c q r.view k.begin k.was (known_above w k.op q (view_at w q) r.view new.1 (known_here k.op q))
       ]
 
   -- whoever's reply is counted now, or was before
-  reply_known : (c c' : Op) (v : ViewMap) (from q : ℕ) → Among c w.ops → Among (message_from from (CollectReply c.node c.tag v)) w.sent → IsReplied c c' v (view_at w' c'.node) from → Has (repliers c'.session) q → KnownBy w' c' q (view_at w' c'.node)
+  reply_known : (c c' : Op) (v : ViewMap) (from q : ℕ) → Among c w.ops → Among (message_from from (CollectReply (reply_of c v))) w.sent → IsReplied c c' v (view_at w' c'.node) from → Has (repliers c'.session) q → KnownBy w' c' q (view_at w' c'.node)
   reply_known c c' v from q in_ops sent r h =
       known_kept w w' x s c c' q (view_at w' c'.node) r.same.begin in_ops (elim (counted _ _ from q r.repliers h) [
-        | inl is ↦ known_above w c q v (view_at w' c'.node) r.learns (subst (λ (n : ℕ). KnownBy w c n v) (sym is) (s.replies from c.node c.tag v sent c in_ops refl refl))
+        | inl is ↦ known_above w c q v (view_at w' c'.node) r.learns (subst (λ (n : ℕ). KnownBy w c n v) (sym is) (s.replies from (reply_of c v) sent c in_ops refl refl))
         | inr is ↦
             known_above w c q (view_at w c.node) (view_at w' c'.node)
             (below_at _ _ _ (ap (view_at w') (sym r.same.node)) (x.grows c.node))

@@ -5,6 +5,7 @@ use Rattle.std.specs.FinMap as fin
 use Rattle.sc_view.specs.Views.{ViewMap, IsBelow}
 use Rattle.sc_msg.specs.declared.message.Message.{Message}
 use Rattle.sc_msg.specs.declared.message.Body.{Body}
+use Rattle.sc_msg.specs.declared.message.CollectReply.{CollectReply as ReplyFields}
 use Rattle.sc_msg.specs.declared.message.StoreAck.{StoreAck as AckFields}
 use Rattle.sc_msg.specs.declared.message.Body.TheVariants.{StoreAck, CollectReply}
 use Rattle.sc_operations.specs.declared.session.Session.{Session}
@@ -21,7 +22,7 @@ use Rattle.sc_world.specs.State.{WorldState}
 use Rattle.sc_world.specs.Worlds.{clock, Outcome, end_at, moved, advanced, op_begun, after}
 use Rattle.sc_world.specs.Records.{Among}
 use Rattle.sc_world.proofs.Changes.{view_of, view_at, IsAbout, OpFrom, Kept, Begun, Acknowledged, Replied, IsSent, IsBodySent, IsChange}
-use Rattle.sc_world.proofs.Links.{open_session, HasOwner, IsLinked, session_moved, session_after, IsBegunAt, IsTransition, AckMakes, ReplyMakes, IsAckProgress, IsReplyProgress, IsProgress, IsFresh, Each, IsBodyKnown, ack_is}
+use Rattle.sc_world.proofs.Links.{open_session, HasOwner, IsLinked, session_moved, session_after, IsBegunAt, IsTransition, AckMakes, ReplyMakes, IsAckProgress, IsReplyProgress, IsProgress, IsFresh, Each, IsBodyKnown, ack_is, reply_is}
 use Rattle.sc_world.proofs.Finite.{get-insert, get-insert_same}
 use Rattle.sc_view.proofs.ViewLemmas.{below_refl}
 
@@ -150,13 +151,13 @@ module _ (w : WorldState) (e : WorldEvent) (q : ℕ) (n : NodeState) (r : Outcom
         let f = is_open o k.session p.tag in' nq tt' k.was in
         let m : ReplyMakes o.session (apply p o.session) p.sender r.node.view = subst (λ (s : Session). ReplyMakes s (apply p s) p.sender r.node.view) (sym f.1) k.makes in
         let view : view_at next o.node ≡ r.node.view = ap (view_at next) nq ∙ view_next in
-        Replied o k.view p.sender in'
-        (subst (λ (t : ℕ). Among (message_from p.sender (CollectReply o.node t k.view)) w.sent) (sym tt') (subst (λ (m : ℕ). Among (message_from p.sender (CollectReply m p.tag k.view)) w.sent) (sym nq) k.sent))
+        Replied o k.reply.view p.sender in'
+        (subst (λ (a : ReplyFields). Among (message_from p.sender (CollectReply a)) w.sent) (reply_is o k.reply (k.to ∙ sym nq) (k.tag ∙ sym tt')) k.sent)
         (record {
           same = record { node = refl; tag = refl; begin = refl; kind = m.kind; running = f.0 };
           was = ap (λ (s : Session). stored s) f.1 ∙ k.held;
           repliers = m.replied;
-          learns = subst (λ (v : ViewMap). IsBelow k.view v) (sym view) k.learns;
+          learns = subst (λ (v : ViewMap). IsBelow k.reply.view v) (sym view) k.learns;
           is = elim m.view [ inl a ↦ inl a | inr b ↦ inr (b.0 ∙ ap (λ (v : ViewMap). let o : Option ViewMap = Some v in o) (sym view), b.1) ];
           stays = k.stays (clock w);
         })

@@ -4,6 +4,7 @@ use Rattle.std.specs.FinMap as fin
 use Rattle.sc_view.specs.Views.{ViewMap, merge}
 use Rattle.sc_msg.specs.declared.message.Message.{Message}
 use Rattle.sc_msg.specs.declared.message.Body.{Body}
+use Rattle.sc_msg.specs.declared.message.CollectReply.{CollectReply as ReplyFields}
 use Rattle.sc_msg.specs.declared.message.Body.TheVariants.{Enter, EnterEcho, Join, Leave, Store, StoreAck, StoreEcho, CollectQuery, CollectReply}
 use Rattle.sc_operations.specs.declared.session.Phase.{Phase}
 use Rattle.sc_operations.specs.declared.session.StoreBack.{StoreBack}
@@ -14,7 +15,7 @@ use Rattle.sc_operations.specs.declared.progress.Progress.{Progress}
 use Rattle.sc_world.specs.declared.act.Opened.{Opened}
 use Rattle.sc_node.specs.Sessions.{stored, session_with, advanced_by, is_reached, count_sender, querying}
 use Rattle.sc_node.specs.State.{NodeState}
-use Rattle.sc_node.specs.Nodes.{message_from, is_reply, view_after, progress_of, reply_progress, beta_threshold, joins, ack_for, answers, store_back, store_of, store_session, collect_session, stored_view, next_stored}
+use Rattle.sc_node.specs.Nodes.{message_from, is_reply, view_after, progress_of, reply_progress, beta_threshold, joins, ack_for, reply_for, answers, store_back, store_of, store_session, collect_session, stored_view, next_stored}
 use Rattle.sc_world.specs.declared.event.WorldEvent.{WorldEvent}
 use Rattle.sc_world.specs.declared.op.Op.{Op}
 use Rattle.sc_world.specs.State.{WorldState}
@@ -118,8 +119,8 @@ module _ (w : WorldState) (e : WorldEvent) (q : ℕ) (n : NodeState) (at : fin.g
   view_true from (EnterEcho to j f v) sent = true_merge w (clock w) n.view v own (t.sent (message_from from (EnterEcho to j f v)) sent v refl)
   view_true from (Store tag v) sent = true_merge w (clock w) n.view v own (t.sent (message_from from (Store tag v)) sent v refl)
   view_true from (StoreEcho v) sent = true_merge w (clock w) n.view v own (t.sent (message_from from (StoreEcho v)) sent v refl)
-  view_true from (CollectReply to tag v) sent =
-      true_if w (clock w) (is_reply n to tag) (merge n.view v) n.view (true_merge w (clock w) n.view v own (t.sent (message_from from (CollectReply to tag v)) sent v refl)) own
+  view_true from (CollectReply r) sent =
+      true_if w (clock w) (is_reply n r) (merge n.view r.view) n.view (true_merge w (clock w) n.view r.view own (t.sent (message_from from (CollectReply r)) sent r.view refl)) own
   view_true from b sent = own
 
   abbrev TellsOf : WorldState → Body → Type 0
@@ -147,10 +148,10 @@ module _ (w : WorldState) (e : WorldEvent) (q : ℕ) (n : NodeState) (at : fin.g
       by_reached (is_reached (count_sender p from)) next k v z c.advance (ap (λ (x : Progress). x.advance) same) is
 
   -- what a collect stores back is true
-  reply_true : (from to tag : ℕ) (v : ViewMap) → Among (message_from from (CollectReply to tag v)) w.sent → (c : Progress) (k : ℕ) (z : ViewMap) → progress_of n from (CollectReply to tag v) ≡ Some c → c.advance ≡ advance.Turned k z → IsTrue w (clock w) z
-  reply_true from to tag v sent c k z h is =
-      subst (IsTrue w (clock w)) (by_query (to == n.id) (querying (fin.get n.sessions tag)) from tag (merge n.view v) (beta_threshold n) c k z h is)
-      (true_merge w (clock w) n.view v own (t.sent (message_from from (CollectReply to tag v)) sent v refl))
+  reply_true : (from : ℕ) (r : ReplyFields) → Among (message_from from (CollectReply r)) w.sent → (c : Progress) (k : ℕ) (z : ViewMap) → progress_of n from (CollectReply r) ≡ Some c → c.advance ≡ advance.Turned k z → IsTrue w (clock w) z
+  reply_true from r sent c k z h is =
+      subst (IsTrue w (clock w)) (by_query (r.to == n.id) (querying (fin.get n.sessions r.tag)) from r.tag (merge n.view r.view) (beta_threshold n) c k z h is)
+      (true_merge w (clock w) n.view r.view own (t.sent (message_from from (CollectReply r)) sent r.view refl))
 
   answers_true : (u : WorldState) (from : ℕ) (b : Body) → Among (message_from from b) w.sent → ((z : ViewMap) → IsTrue w (clock w) z → IsTrue u (clock u) z) → Each (TellsOf u) (answers n from b)
   answers_true u from Enter sent lifts = ((λ v is. lifts v (subst (IsTrue w (clock w)) (some_is is) own)), tt)
@@ -164,8 +165,8 @@ module _ (w : WorldState) (e : WorldEvent) (q : ℕ) (n : NodeState) (at : fin.g
       each_if (TellsOf u) n.joined (StoreAck (ack_for from tag) ∷ StoreEcho (merge n.view v) ∷ [])
       ((λ y is. absurd (cc)), ((λ y is. let same : merge n.view v ≡ y = cc in lifts y (subst (IsTrue w (clock w)) same (view_true from (Store tag v) sent))), tt))
   answers_true u from (CollectQuery tag) sent lifts =
-      each_if (TellsOf u) n.joined (CollectReply from tag n.view ∷ []) ((λ y is. let same : n.view ≡ y = cc in lifts y (subst (IsTrue w (clock w)) same own)), tt)
-  answers_true u from (CollectReply to tag v) sent lifts = back_true u (progress_of n from (CollectReply to tag v)) (λ c k y is st. lifts y (reply_true from to tag v sent c k y is st))
+      each_if (TellsOf u) n.joined (CollectReply (reply_for n from tag) ∷ []) ((λ y is. let same : n.view ≡ y = cc in lifts y (subst (IsTrue w (clock w)) same own)), tt)
+  answers_true u from (CollectReply r) sent lifts = back_true u (progress_of n from (CollectReply r)) (λ c k y is st. lifts y (reply_true from r sent c k y is st))
   answers_true u from b sent lifts = tt
 
   pub delivery_told : (from : ℕ) (b : Body) → Among (message_from from b) w.sent → IsTold w (after w e q (heard n from b))

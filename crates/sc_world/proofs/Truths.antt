@@ -30,7 +30,7 @@ abbrev pub body_view : Body → Option ViewMap
 body_view (EnterEcho to j f v) = Some v
 body_view (Store t v) = Some v
 body_view (StoreEcho v) = Some v
-body_view (CollectReply to t v) = Some v
+body_view (CollectReply r) = Some r.view
 body_view b = None
 
 -- the end of an operation, and now where it is open

@@ -37,7 +37,7 @@ ActsAt said old new id (Err e) = (new ≡ old) × (e ≢ memory → said ≡ Err
 -- the tag of the operation of this node that a message answers, and who answers
 abbrev pub answered : ℕ → ℕ → Body → Option (ℕ × ℕ)
 answered node from (StoreAck a) = if a.to == node then Some (a.tag, from) else None
-answered node from (CollectReply to tag v) = if to == node then Some (tag, from) else None
+answered node from (CollectReply r) = if r.to == node then Some (r.tag, from) else None
 answered node from b = None
 
 abbrev pub answered_by : ℕ → Option Message → Option (ℕ × ℕ)

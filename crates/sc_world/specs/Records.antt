@@ -9,6 +9,7 @@ use Rattle.sc_view.specs.Views.{ViewMap}
 use Rattle.sc_members.specs.Ids.{Ids, Has}
 use Rattle.sc_msg.specs.declared.message.Message.{Message}
 use Rattle.sc_msg.specs.declared.message.Body.TheVariants.{StoreAck, CollectReply}
+use Rattle.sc_msg.specs.declared.message.CollectReply.{CollectReply as ReplyFields}
 use Rattle.sc_msg.specs.declared.message.StoreAck.{StoreAck as AckFields}
 use Rattle.sc_operations.specs.declared.session.OperationKind.{OperationKind}
 use Rattle.sc_operations.specs.declared.session.OperationKind.TheVariants as kind
@@ -60,9 +61,13 @@ ack_of o = record { to = o.node; tag = o.tag }
 abbrev pub IsAck : Op → Answers
 IsAck o from m = m ≡ message_from from (StoreAck (ack_of o))
 
+-- what replies to a collect, with this view
+abbrev pub reply_of : Op → ViewMap → ReplyFields
+reply_of o view = record { to = o.node; tag = o.tag; view = view }
+
 -- the sender's reply to a collect
 abbrev pub IsReply : Op → Answers
-IsReply o from m = (view : ViewMap) × (m ≡ message_from from (CollectReply o.node o.tag view))
+IsReply o from m = (view : ViewMap) × (m ≡ message_from from (CollectReply (reply_of o view)))
 
 -- the sender's answer was sent, and delivered to the node at this place
 pub record IsDelivered (w : WorldState) (P : Answers) (node place from : ℕ) : Type 0 where

@@ -58,7 +58,7 @@ fn answered(node: u64, message: &Message) -> Option<(u64, u64)>
 {
     match &message.body {
         Body::StoreAck(ack) if ack.to == node => Some((ack.tag, message.from)),
-        Body::CollectReply { to, tag, .. } if *to == node => Some((*tag, message.from)),
+        Body::CollectReply(reply) if reply.to == node => Some((reply.tag, message.from)),
         _ => None,
     }
 }

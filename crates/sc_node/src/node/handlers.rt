@@ -13,7 +13,7 @@ use crate::copies::Copies;
 use crate::node::NodeFault;
 use crate::outs::Outs;
 use sc_members::Facts;
-use sc_msg::{Body, StoreAck};
+use sc_msg::{Body, CollectReply, StoreAck};
 use sc_view::View;
 use std::alloc::AllocError;
 
@@ -111,11 +111,11 @@ impl Node {
     {
         if self.joined {
             let view = self.held.view.clone()?;
-            return Ok(self.sends(Body::CollectReply {
+            return Ok(self.sends(Body::CollectReply(CollectReply {
                 to: from,
                 tag,
                 view,
-            }));
+            })));
         }
         Ok(self.silent())
     }
@@ -258,20 +258,19 @@ impl Node {
     pub(super) fn on_collect_reply(
         &mut self,
         from: u64,
-        to: u64,
-        tag: u64,
-        view: &View,
+        reply: &CollectReply,
     ) -> Result<Delivered, NodeFault>
         requires { self.old.gone ≡ false }
-        ensures { Steps reasons.OutOfMemory (delivered self.old (message_from from (bodies.CollectReply to tag view.now))) self.old self.new result }
+        ensures { Steps reasons.OutOfMemory (delivered self.old (message_from from (bodies.CollectReply reply.now))) self.old self.new result }
     {
-        if to != self.id {
+        if reply.to != self.id {
             return Ok(self.silent());
         }
+        let tag = reply.tag;
         let Some(phase) = self.held.sessions.querying(tag) else {
             return Ok(self.silent());
         };
-        let learned = self.held.view.merged(view)?;
+        let learned = self.held.view.merged(&reply.view)?;
         if phase.is_reached_with(from) {
             return self.store_back(from, tag, learned);
         }
