@@ -262,53 +262,14 @@ fn run_client<R: Net + Clock, F: Files, W: Write, N: Write>(
     ending.status(is_strict)
 }
 
-/// Runs a node by itself, whose console is the standard input: the exit status.
-fn run_node<R, F, W, N>(
-    rt: &R,
+/// The machine on which a command runs.
+#[derive(Drop)]
+struct Machine<'a, R> {
+    rt: &'a R,
     alloc: Global,
-    command: &NodeCommand<'_>,
-    files: &mut F,
-    out: &mut Counted<W>,
-    notes: &mut N,
-) -> u8
-where
-    R: Net<Listener = TcpListener, Stream = TcpStream>
-        + SystemFiles
-        + Input
-        + Eprint
-        + Wait
-        + Threads
-        + Clock
-        + Sync,
-    R::File: Send,
-    F: Files,
-    W: Write,
-    N: Write,
-    ensures { RunsApart F.read_gives F.write_gives command.now.file.now command.now.id files.old
-        (record { taken = W.contents out.old.inner; failures = out.old.failures }) result files.new
-        (record { taken = W.contents out.new.inner; failures = out.new.failures }) }
-{
-    let words = q_node::NodeWords {
-        file: command.file,
-        id: command.id,
-        clients: command.clients,
-        journal: command.journal,
-        runners: command.runners,
-        sync: command.sync,
-    };
-    let mut console = rt.reader();
-    q_node::run_file(rt, alloc, &words, files, &mut console, out, notes).status()
 }
 
-/// Does what is wanted: the exit status.
-fn do_wanted<R, F, W, N>(
-    rt: &R,
-    alloc: Global,
-    wanted: &Wanted<'_>,
-    files: &mut F,
-    out: &mut Counted<W>,
-    notes: &mut N,
-) -> u8
+impl<R> Machine<'_, R>
 where
     R: Net<Listener = TcpListener, Stream = TcpStream>
         + SystemFiles
@@ -319,60 +280,79 @@ where
         + Clock
         + Sync,
     R::File: Send,
-    F: Files,
-    W: Write,
-    N: Write,
-    ensures { Does F.read_gives F.write_gives wanted.now files.old
-        (record { taken = W.contents out.old.inner; failures = out.old.failures }) result files.new
-        (record { taken = W.contents out.new.inner; failures = out.new.failures }) }
 {
-    match wanted {
-        Wanted::FileCommand(line) => run_line(alloc, line, files, out, notes),
-        Wanted::Cluster { script, strict } => {
-            run_nodes(rt, alloc, script, *strict, files, out, notes)
-        }
-        Wanted::Gather { journals, pairs } => {
-            run_gather(alloc, journals.as_slice(), *pairs, files, out, notes)
-        }
-        Wanted::Client {
-            place,
-            script,
-            strict,
-        } => run_client(rt, alloc, place, script, *strict, files, out, notes),
-        Wanted::Node(command) => run_node(rt, alloc, command, files, out, notes),
+    /// Runs a node by itself, whose console is the standard input: the exit status.
+    fn run_node<F: Files, W: Write, N: Write>(
+        &self,
+        command: &NodeCommand<'_>,
+        files: &mut F,
+        out: &mut Counted<W>,
+        notes: &mut N,
+    ) -> u8
+        ensures { RunsApart F.read_gives F.write_gives command.now.file.now command.now.id files.old
+            (record { taken = W.contents out.old.inner; failures = out.old.failures }) result files.new
+            (record { taken = W.contents out.new.inner; failures = out.new.failures }) }
+    {
+        let words = q_node::NodeWords {
+            file: command.file,
+            id: command.id,
+            clients: command.clients,
+            journal: command.journal,
+            runners: command.runners,
+            sync: command.sync,
+        };
+        let mut console = self.rt.reader();
+        q_node::run_file(self.rt, self.alloc, &words, files, &mut console, out, notes).status()
     }
-}
 
-/// Does what is wanted, and says in the notes where the output fails: the exit status.
-fn run_wanted<R, F, W, N>(
-    rt: &R,
-    alloc: Global,
-    wanted: &Wanted<'_>,
-    files: &mut F,
-    out: &mut Counted<W>,
-    notes: &mut N,
-) -> u8
-where
-    R: Net<Listener = TcpListener, Stream = TcpStream>
-        + SystemFiles
-        + Input
-        + Eprint
-        + Wait
-        + Threads
-        + Clock
-        + Sync,
-    R::File: Send,
-    F: Files,
-    W: Write,
-    N: Write,
-    ensures { Does F.read_gives F.write_gives wanted.now files.old
-        (record { taken = W.contents out.old.inner; failures = out.old.failures }) result files.new
-        (record { taken = W.contents out.new.inner; failures = out.new.failures }) }
-{
-    let before = out.failures;
-    let status = do_wanted(rt, alloc, wanted, files, out, notes);
-    note_failure(out, before, notes);
-    status
+    /// Does what is wanted: the exit status.
+    fn do_wanted<F: Files, W: Write, N: Write>(
+        &self,
+        wanted: &Wanted<'_>,
+        files: &mut F,
+        out: &mut Counted<W>,
+        notes: &mut N,
+    ) -> u8
+        ensures { Does F.read_gives F.write_gives wanted.now files.old
+            (record { taken = W.contents out.old.inner; failures = out.old.failures }) result files.new
+            (record { taken = W.contents out.new.inner; failures = out.new.failures }) }
+    {
+        match wanted {
+            Wanted::FileCommand(line) => run_line(self.alloc, line, files, out, notes),
+            Wanted::Cluster { script, strict } => {
+                run_nodes(self.rt, self.alloc, script, *strict, files, out, notes)
+            }
+            Wanted::Gather { journals, pairs } => {
+                run_gather(self.alloc, journals.as_slice(), *pairs, files, out, notes)
+            }
+            Wanted::Client {
+                place,
+                script,
+                strict,
+            } => run_client(
+                self.rt, self.alloc, place, script, *strict, files, out, notes,
+            ),
+            Wanted::Node(command) => self.run_node(command, files, out, notes),
+        }
+    }
+
+    /// Does what is wanted, and says in the notes where the output fails: the exit status.
+    fn run_wanted<F: Files, W: Write, N: Write>(
+        &self,
+        wanted: &Wanted<'_>,
+        files: &mut F,
+        out: &mut Counted<W>,
+        notes: &mut N,
+    ) -> u8
+        ensures { Does F.read_gives F.write_gives wanted.now files.old
+            (record { taken = W.contents out.old.inner; failures = out.old.failures }) result files.new
+            (record { taken = W.contents out.new.inner; failures = out.new.failures }) }
+    {
+        let before = out.failures;
+        let status = self.do_wanted(wanted, files, out, notes);
+        note_failure(out, before, notes);
+        status
+    }
 }
 
 /// Runs the command of these words, of which the first is the program's name: the exit status.
@@ -406,7 +386,7 @@ where
         (record { taken = W.contents out.new.inner; failures = out.new.failures }) }
 {
     match read_words(alloc, words) {
-        Ok(wanted) => run_wanted(rt, alloc, &wanted, files, out, notes),
+        Ok(wanted) => Machine { rt, alloc }.run_wanted(&wanted, files, out, notes),
         Err(fault) => explain(alloc, &fault, out, notes),
     }
 }

@@ -77,155 +77,20 @@ fn greeting<R: Net<Listener = TcpListener, Stream = TcpStream>>(
     }
 }
 
-/// Makes the journal's file, and runs the node.
-fn run_with_journal<R, C, W, N>(
-    rt: &R,
-    alloc: Global,
-    words: &NodeWords<'_>,
-    file: &ClusterFile,
-    post: &UdpPost,
-    door: &ClientDoor<'_, R>,
-    console: &mut C,
-    out: &mut Counted<W>,
-    notes: &mut N,
-) -> Ending
-where
-    R: Net<Listener = TcpListener, Stream = TcpStream>
-        + SystemFiles
-        + Wait
-        + Threads
-        + Clock
-        + Eprint
-        + Sync,
-    R::File: Send,
-    C: BufRead,
-    W: Write,
-    N: Write,
-    ensures written { IsRun words.now.id result (W.contents out.old.inner) (W.contents out.new.inner) }
-    ensures counted { out.new.failures ≡ failures_after result out.old.failures }
-{
-    let Ok(greeting) = greeting(alloc, words, post, door) else {
-        return print_refusal(StartFault::OutOfMemory, out);
-    };
-    let setup = Setup {
-        file,
-        id: words.id,
-        runners: words.runners,
-        keeps: words.sync,
-        greeting: greeting.as_str(),
-    };
-    match File::create_new(rt, words.journal) {
-        Ok(journal) => {
-            let journal = DiskFile { file: journal };
-            run_node(rt, alloc, &setup, post, door, journal, console, out).ending
-        }
-        Err(error) => {
-            let name = words.journal;
-            let _ = writeln!(notes, "{name}: {error}");
-            print_refusal(StartFault::NoJournal, out)
-        }
-    }
-}
-
-/// Opens the door, runs the node, and closes the door.
-fn run_with_door<R, C, W, N>(
-    rt: &R,
-    alloc: Global,
-    words: &NodeWords<'_>,
-    file: &ClusterFile,
-    post: &UdpPost,
-    console: &mut C,
-    out: &mut Counted<W>,
-    notes: &mut N,
-) -> Ending
-where
-    R: Net<Listener = TcpListener, Stream = TcpStream>
-        + SystemFiles
-        + Wait
-        + Threads
-        + Clock
-        + Eprint
-        + Sync,
-    R::File: Send,
-    C: BufRead,
-    W: Write,
-    N: Write,
-    ensures written { IsRun words.now.id result (W.contents out.old.inner) (W.contents out.new.inner) }
-    ensures counted { out.new.failures ≡ failures_after result out.old.failures }
-{
-    match ClientDoor::open(rt, DoorAddress::of(words.clients)) {
-        Ok(door) => {
-            let ending = run_with_journal(rt, alloc, words, file, post, &door, console, out, notes);
-            door.close();
-            ending
-        }
-        Err(error) => {
-            let clients = words.clients;
-            let _ = writeln!(notes, "{clients}: {error}");
-            print_refusal(StartFault::TransportFailed, out)
-        }
-    }
-}
-
 /// Whether a board takes so many runners.
 fn is_runners(runners: usize) -> bool {
     (1..=MOST_RUNNERS).contains(&runners)
 }
 
-/// Opens the node's socket, and runs it.
-fn run_of<R, C, W, N>(
-    rt: &R,
+/// The machine on which a node is run, and what the words of the command say.
+#[derive(Drop)]
+struct Launch<'a, R> {
+    rt: &'a R,
     alloc: Global,
-    words: &NodeWords<'_>,
-    file: &ClusterFile,
-    console: &mut C,
-    out: &mut Counted<W>,
-    notes: &mut N,
-) -> Ending
-where
-    R: Net<Listener = TcpListener, Stream = TcpStream>
-        + SystemFiles
-        + Wait
-        + Threads
-        + Clock
-        + Eprint
-        + Sync,
-    R::File: Send,
-    C: BufRead,
-    W: Write,
-    N: Write,
-    ensures written { RunsNode file.now words.now.id result (W.contents out.old.inner) (W.contents out.new.inner) }
-    ensures counted { out.new.failures ≡ failures_after result out.old.failures }
-{
-    let Some(address) = address_of(&file.nodes, words.id) else {
-        return print_refusal(StartFault::NoSuchNode, out);
-    };
-    if !is_runners(words.runners) {
-        return print_refusal(StartFault::BadCount, out);
-    }
-    match UdpPost::open(rt, alloc, file, words.id, Duration::from_millis(PATIENCE)) {
-        Ok(post) => run_with_door(rt, alloc, words, file, &post, console, out, notes),
-        Err(PostFault::OutOfMemory) => print_refusal(StartFault::OutOfMemory, out),
-        Err(PostFault::Failed | PostFault::NoSuchNode) => {
-            let _ = writeln!(
-                notes,
-                "{address}: the address is in use, or not one of this machine's"
-            );
-            print_refusal(StartFault::TransportFailed, out)
-        }
-    }
+    words: &'a NodeWords<'a>,
 }
 
-/// Runs the node of the file that a text spells.
-fn run_text<R, C, W, N>(
-    rt: &R,
-    alloc: Global,
-    words: &NodeWords<'_>,
-    source: &str,
-    console: &mut C,
-    out: &mut Counted<W>,
-    notes: &mut N,
-) -> Ending
+impl<R> Launch<'_, R>
 where
     R: Net<Listener = TcpListener, Stream = TcpStream>
         + SystemFiles
@@ -235,51 +100,147 @@ where
         + Eprint
         + Sync,
     R::File: Send,
-    C: BufRead,
-    W: Write,
-    N: Write,
-    ensures written { RunsText source.now words.now.id result (W.contents out.old.inner) (W.contents out.new.inner) }
-    ensures counted { out.new.failures ≡ failures_after result out.old.failures }
 {
-    match read_cluster(alloc, source) {
-        Ok(file) => run_of(rt, alloc, words, &file, console, out, notes),
-        Err(fault) => {
-            let name = words.file;
-            let advice = advice(fault);
-            let _ = writeln!(notes, "{name}: {advice}");
-            print_refusal(StartFault::Cluster(fault), out)
+    /// Makes the journal's file, and runs the node.
+    fn run_with_journal<C: BufRead, W: Write, N: Write>(
+        &self,
+        file: &ClusterFile,
+        post: &UdpPost,
+        door: &ClientDoor<'_, R>,
+        console: &mut C,
+        out: &mut Counted<W>,
+        notes: &mut N,
+    ) -> Ending
+        ensures written { IsRun self.now.words.now.id result (W.contents out.old.inner) (W.contents out.new.inner) }
+        ensures counted { out.new.failures ≡ failures_after result out.old.failures }
+    {
+        let words = self.words;
+        let Ok(greeting) = greeting(self.alloc, words, post, door) else {
+            return print_refusal(StartFault::OutOfMemory, out);
+        };
+        let setup = Setup {
+            file,
+            id: words.id,
+            runners: words.runners,
+            keeps: words.sync,
+            greeting: greeting.as_str(),
+        };
+        match File::create_new(self.rt, words.journal) {
+            Ok(journal) => {
+                let journal = DiskFile { file: journal };
+                run_node(
+                    self.rt, self.alloc, &setup, post, door, journal, console, out,
+                )
+                .ending
+            }
+            Err(error) => {
+                let name = words.journal;
+                let _ = writeln!(notes, "{name}: {error}");
+                print_refusal(StartFault::NoJournal, out)
+            }
         }
     }
-}
 
-/// The same of bytes, which may be no text.
-fn run_bytes<R, C, W, N>(
-    rt: &R,
-    alloc: Global,
-    words: &NodeWords<'_>,
-    bytes: &[u8],
-    console: &mut C,
-    out: &mut Counted<W>,
-    notes: &mut N,
-) -> Ending
-where
-    R: Net<Listener = TcpListener, Stream = TcpStream>
-        + SystemFiles
-        + Wait
-        + Threads
-        + Clock
-        + Eprint
-        + Sync,
-    R::File: Send,
-    C: BufRead,
-    W: Write,
-    N: Write,
-    ensures written { RunsBytes bytes.now words.now.id result (W.contents out.old.inner) (W.contents out.new.inner) }
-    ensures counted { out.new.failures ≡ failures_after result out.old.failures }
-{
-    match str::from_utf8(bytes) {
-        Ok(source) => run_text(rt, alloc, words, source, console, out, notes),
-        Err(_) => print_refusal(StartFault::FileFailed, out),
+    /// Opens the door, runs the node, and closes the door.
+    fn run_with_door<C: BufRead, W: Write, N: Write>(
+        &self,
+        file: &ClusterFile,
+        post: &UdpPost,
+        console: &mut C,
+        out: &mut Counted<W>,
+        notes: &mut N,
+    ) -> Ending
+        ensures written { IsRun self.now.words.now.id result (W.contents out.old.inner) (W.contents out.new.inner) }
+        ensures counted { out.new.failures ≡ failures_after result out.old.failures }
+    {
+        let clients = self.words.clients;
+        match ClientDoor::open(self.rt, DoorAddress::of(clients)) {
+            Ok(door) => {
+                let ending = self.run_with_journal(file, post, &door, console, out, notes);
+                door.close();
+                ending
+            }
+            Err(error) => {
+                let _ = writeln!(notes, "{clients}: {error}");
+                print_refusal(StartFault::TransportFailed, out)
+            }
+        }
+    }
+
+    /// Opens the node's socket, and runs it.
+    fn run_of<C: BufRead, W: Write, N: Write>(
+        &self,
+        file: &ClusterFile,
+        console: &mut C,
+        out: &mut Counted<W>,
+        notes: &mut N,
+    ) -> Ending
+        ensures written { RunsNode file.now self.now.words.now.id result (W.contents out.old.inner) (W.contents out.new.inner) }
+        ensures counted { out.new.failures ≡ failures_after result out.old.failures }
+    {
+        let id = self.words.id;
+        let Some(address) = address_of(&file.nodes, id) else {
+            return print_refusal(StartFault::NoSuchNode, out);
+        };
+        if !is_runners(self.words.runners) {
+            return print_refusal(StartFault::BadCount, out);
+        }
+        match UdpPost::open(
+            self.rt,
+            self.alloc,
+            file,
+            id,
+            Duration::from_millis(PATIENCE),
+        ) {
+            Ok(post) => self.run_with_door(file, &post, console, out, notes),
+            Err(PostFault::OutOfMemory) => print_refusal(StartFault::OutOfMemory, out),
+            Err(PostFault::Failed | PostFault::NoSuchNode) => {
+                let _ = writeln!(
+                    notes,
+                    "{address}: the address is in use, or not one of this machine's"
+                );
+                print_refusal(StartFault::TransportFailed, out)
+            }
+        }
+    }
+
+    /// Runs the node of the file that a text spells.
+    fn run_text<C: BufRead, W: Write, N: Write>(
+        &self,
+        source: &str,
+        console: &mut C,
+        out: &mut Counted<W>,
+        notes: &mut N,
+    ) -> Ending
+        ensures written { RunsText source.now self.now.words.now.id result (W.contents out.old.inner) (W.contents out.new.inner) }
+        ensures counted { out.new.failures ≡ failures_after result out.old.failures }
+    {
+        match read_cluster(self.alloc, source) {
+            Ok(file) => self.run_of(&file, console, out, notes),
+            Err(fault) => {
+                let name = self.words.file;
+                let advice = advice(fault);
+                let _ = writeln!(notes, "{name}: {advice}");
+                print_refusal(StartFault::Cluster(fault), out)
+            }
+        }
+    }
+
+    /// The same of bytes, which may be no text.
+    fn run_bytes<C: BufRead, W: Write, N: Write>(
+        &self,
+        bytes: &[u8],
+        console: &mut C,
+        out: &mut Counted<W>,
+        notes: &mut N,
+    ) -> Ending
+        ensures written { RunsBytes bytes.now self.now.words.now.id result (W.contents out.old.inner) (W.contents out.new.inner) }
+        ensures counted { out.new.failures ≡ failures_after result out.old.failures }
+    {
+        match str::from_utf8(bytes) {
+            Ok(source) => self.run_text(source, console, out, notes),
+            Err(_) => print_refusal(StartFault::FileFailed, out),
+        }
     }
 }
 
@@ -313,7 +274,10 @@ where
     ensures counted { out.new.failures ≡ failures_after result out.old.failures }
 {
     match files.read(alloc, words.file, LONGEST_TEXT) {
-        Ok(bytes) => run_bytes(rt, alloc, words, bytes.as_slice(), console, out, notes),
+        Ok(bytes) => {
+            let launch = Launch { rt, alloc, words };
+            launch.run_bytes(bytes.as_slice(), console, out, notes)
+        }
         Err(fault) => print_refusal(StartFault::from(fault), out),
     }
 }

@@ -18,86 +18,67 @@ const MOST_CLIENTS: u64 = 64;
 /// For how many milliseconds the thread sleeps where its door fails.
 const PAUSE: u64 = 10;
 
-/// Lets a client in, if there is room.
-fn admit<'s, 'a, 'b, E, C, R, P, J, S>(
-    scope: &Scope<'s, E>,
-    process: &'s Process<'a, 'b, R, P, J, S>,
-    alloc: Global,
-    stream: C,
-)
+impl<'a, 'b, R, P, J, S> Process<'a, 'b, R, P, J, S>
 where
-    C: Stream + Send + Drop + 's,
-    R: Wait + Clock + Sync,
-    P: Post + Sync,
-    J: JournalFile + Send,
-    S: Start + Send,
-{
-    if process.clients.fetch_add(1, Ordering::SeqCst) >= MOST_CLIENTS
-        || scope
-            .spawn(move || serve_stream(process, alloc, stream))
-            .is_err()
-    {
-        process.clients.fetch_sub(1, Ordering::SeqCst);
-    }
-}
-
-/// Lets clients in until the threads are to end.
-fn admit_all<'s, 'a, 'b, E, D, R, P, J, S>(
-    scope: &Scope<'s, E>,
-    process: &'s Process<'a, 'b, R, P, J, S>,
-    alloc: Global,
-    door: &D,
-)
-where
-    D: Door,
-    D::Stream: Send + Drop + 's,
-    R: Wait + Clock + Sync,
-    P: Post + Sync,
-    J: JournalFile + Send,
-    S: Start + Send,
-{
-    for _ in process.rt.forever() {
-        let next = door.next();
-        if process.is_over() {
-            break;
-        }
-        match next {
-            Ok(stream) => admit(scope, process, alloc, stream),
-            Err(_) => thread::sleep(process.rt, Duration::from_millis(PAUSE)),
-        }
-    }
-}
-
-/// Keeps the door until the threads are to end.
-pub(crate) fn keep_door<D, R, P, J, S>(
-    process: &Process<'_, '_, R, P, J, S>,
-    alloc: Global,
-    door: &D,
-)
-where
-    D: Door,
-    D::Stream: Send + Drop,
     R: Wait + Threads + Clock + Sync,
     P: Post + Sync,
     J: JournalFile + Send,
     S: Start + Send,
 {
-    thread::scope(thread::scope_env(), process.rt, |scope| {
-        admit_all(scope, process, alloc, door);
-        process.shut.store(true, Ordering::SeqCst);
-    });
+    /// Lets a client in, if there is room.
+    fn admit<'s, E, C>(&'s self, scope: &Scope<'s, E>, alloc: Global, stream: C)
+    where
+        C: Stream + Send + Drop + 's,
+    {
+        if self.clients.fetch_add(1, Ordering::SeqCst) >= MOST_CLIENTS
+            || scope
+                .spawn(move || serve_stream(self, alloc, stream))
+                .is_err()
+        {
+            self.clients.fetch_sub(1, Ordering::SeqCst);
+        }
+    }
+
+    /// Lets clients in until the threads are to end.
+    fn admit_all<'s, E, D>(&'s self, scope: &Scope<'s, E>, alloc: Global, door: &D)
+    where
+        D: Door,
+        D::Stream: Send + Drop + 's,
+    {
+        for _ in self.rt.forever() {
+            let next = door.next();
+            if self.is_over() {
+                break;
+            }
+            match next {
+                Ok(stream) => self.admit(scope, alloc, stream),
+                Err(_) => thread::sleep(self.rt, Duration::from_millis(PAUSE)),
+            }
+        }
+    }
+
+    /// Keeps the door until the threads are to end.
+    pub(crate) fn keep_door<D>(&self, alloc: Global, door: &D)
+    where
+        D: Door,
+        D::Stream: Send + Drop,
+    {
+        thread::scope(thread::scope_env(), self.rt, |scope| {
+            self.admit_all(scope, alloc, door);
+            self.shut.store(true, Ordering::SeqCst);
+        });
+    }
 }
 
-/// Wakes the thread at the door until it has ended.
-pub(crate) fn shut_door<D: Door, R: Wait + Clock, P, J: JournalFile, S: Start>(
-    process: &Process<'_, '_, R, P, J, S>,
-    door: &D,
-) {
-    for _ in process.rt.forever() {
-        if process.shut.load(Ordering::SeqCst) {
-            break;
+impl<R: Wait + Clock, P, J: JournalFile, S: Start> Process<'_, '_, R, P, J, S> {
+    /// Wakes the thread at the door until it has ended.
+    pub(crate) fn shut_door<D: Door>(&self, door: &D) {
+        for _ in self.rt.forever() {
+            if self.shut.load(Ordering::SeqCst) {
+                break;
+            }
+            door.wake();
+            thread::sleep(self.rt, Duration::from_millis(PAUSE));
         }
-        door.wake();
-        thread::sleep(process.rt, Duration::from_millis(PAUSE));
     }
 }

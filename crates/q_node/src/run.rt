@@ -12,7 +12,6 @@ ghost use Rattle.q_node.specs.Talks.{Talks, talk_count};
 ghost use Rattle.q_node.specs.declared.ending.Ending.TheVariants.{Refused};
 ghost use Rattle.q_node.specs.declared.fault.StartFault.{StartFault as Fault};
 
-use crate::doorway::shut_door;
 use crate::ending::{Ending, close, print_refusal};
 use crate::fault::StartFault;
 use crate::own::{Ended, Own};
@@ -20,7 +19,7 @@ use crate::process::Process;
 use crate::start::Start;
 use crate::talk::hold_talk;
 use crate::talk_end::Talk;
-use crate::threads::{Crew, run_threads};
+use crate::threads::Crew;
 use q_board::{AskerSeat, Board, OpenFault, RunnerSeat};
 use q_book::Book;
 use q_doors::{Door, Post};
@@ -62,47 +61,76 @@ pub struct NodeRun<J: JournalFile> {
 
 // ---- the threads and the conversation
 
-/// Runs the threads of a node while its console is minded, and ends them then.
-fn run_minded<D, R, P, J, S, C, W>(
-    process: &Process<'_, '_, R, P, J, S>,
-    alloc: Global,
-    greeting: &[u8],
-    door: &D,
-    crew: Crew<'_>,
-    console: &mut C,
-    out: &mut Counted<W>,
-) -> Talk
+impl<R, P, J, S> Process<'_, '_, R, P, J, S>
 where
-    D: Door + Sync,
-    D::Stream: Send + Drop,
     R: Wait + Threads + Clock + Eprint + Sync,
     P: Post + Sync,
     J: JournalFile + Send,
     S: Start + Send,
-    C: BufRead,
-    W: Write,
-    ensures said { Talks S.id greeting.now (W.contents out.old.inner) result (W.contents out.new.inner) }
-    ensures counted { out.new.failures ≡ talk_count result out.old.failures }
 {
-    let mut crew = Some(crew);
-    let (_, talk) = thread::join_mut(
-        process.rt,
-        &mut || {
-            if let Some(crew) = crew.take() {
-                run_threads(process, alloc, door, crew);
-            }
-        },
-        &mut || -> Talk
-            ensures said { Talks S.id greeting.entry.now (W.contents out.entry.now.inner) result (W.contents out.exit.now.inner) }
-            ensures counted { out.exit.now.failures ≡ talk_count result out.entry.now.failures }
-        {
-            let talk = hold_talk(process, alloc, greeting, console, out);
-            process.end();
-            shut_door(process, door);
-            talk
-        },
-    );
-    talk
+    /// Runs the threads of a node while its console is minded, and ends them then.
+    fn run_minded<D, C, W>(
+        &self,
+        alloc: Global,
+        greeting: &[u8],
+        door: &D,
+        crew: Crew<'_>,
+        console: &mut C,
+        out: &mut Counted<W>,
+    ) -> Talk
+    where
+        D: Door + Sync,
+        D::Stream: Send + Drop,
+        C: BufRead,
+        W: Write,
+        ensures said { Talks S.id greeting.now (W.contents out.old.inner) result (W.contents out.new.inner) }
+        ensures counted { out.new.failures ≡ talk_count result out.old.failures }
+    {
+        let mut crew = Some(crew);
+        let (_, talk) = thread::join_mut(
+            self.rt,
+            &mut || {
+                if let Some(crew) = crew.take() {
+                    self.run_threads(alloc, door, crew);
+                }
+            },
+            &mut || -> Talk
+                ensures said { Talks S.id greeting.entry.now (W.contents out.entry.now.inner) result (W.contents out.exit.now.inner) }
+                ensures counted { out.exit.now.failures ≡ talk_count result out.entry.now.failures }
+            {
+                let talk = hold_talk(self, alloc, greeting, console, out);
+                self.end();
+                self.shut_door(door);
+                talk
+            },
+        );
+        talk
+    }
+
+    /// Writes the beginning of the journal, sends what waits, and runs the node. Where the journal is not written,
+    /// nothing runs.
+    fn begin_and_run<D, C, W>(
+        &self,
+        alloc: Global,
+        greeting: &[u8],
+        door: &D,
+        crew: Crew<'_>,
+        console: &mut C,
+        out: &mut Counted<W>,
+    ) -> Talk
+    where
+        D: Door + Sync,
+        D::Stream: Send + Drop,
+        C: BufRead,
+        W: Write,
+        ensures said { Talks S.id greeting.now (W.contents out.old.inner) result (W.contents out.new.inner) }
+        ensures counted { out.new.failures ≡ talk_count result out.old.failures }
+    {
+        if !self.settle(alloc) {
+            return Talk::Unstarted;
+        }
+        self.run_minded(alloc, greeting, door, crew, console, out)
+    }
 }
 
 /// Tells on the standard error which datagrams changed nothing, and what was not sent.
@@ -112,74 +140,6 @@ fn note_losses<R: Eprint, J: JournalFile>(rt: &R, ended: &Ended<J>, strangers: u
     let unsent = ended.unsent;
     if !unsent.is_none() {
         let _ = eprintln!(rt; "{unsent}");
-    }
-}
-
-/// Writes the beginning of the journal, sends what waits, and runs the node. Where the journal is not written, nothing
-/// runs.
-fn begin_and_run<D, R, P, J, S, C, W>(
-    process: &Process<'_, '_, R, P, J, S>,
-    alloc: Global,
-    greeting: &[u8],
-    door: &D,
-    crew: Crew<'_>,
-    console: &mut C,
-    out: &mut Counted<W>,
-) -> Talk
-where
-    D: Door + Sync,
-    D::Stream: Send + Drop,
-    R: Wait + Threads + Clock + Eprint + Sync,
-    P: Post + Sync,
-    J: JournalFile + Send,
-    S: Start + Send,
-    C: BufRead,
-    W: Write,
-    ensures said { Talks S.id greeting.now (W.contents out.old.inner) result (W.contents out.new.inner) }
-    ensures counted { out.new.failures ≡ talk_count result out.old.failures }
-{
-    if !process.settle(alloc) {
-        return Talk::Unstarted;
-    }
-    run_minded(process, alloc, greeting, door, crew, console, out)
-}
-
-/// Runs a node that was just begun, to its end.
-fn run_begun<D, R, P, J, S, C, W>(
-    rt: &R,
-    alloc: Global,
-    greeting: &[u8],
-    nodes: &[u64],
-    kept: Kept<'_, J>,
-    crew: Crew<'_>,
-    post: &P,
-    door: &D,
-    console: &mut C,
-    out: &mut Counted<W>,
-) -> NodeRun<J>
-where
-    D: Door + Sync,
-    D::Stream: Send + Drop,
-    R: Wait + Threads + Clock + Eprint + Sync,
-    P: Post + Sync,
-    J: JournalFile + Send,
-    S: Start + Send,
-    C: BufRead,
-    W: Write,
-    requires { IsOwn S.id S.first kept.held.book kept.recorder }
-    ensures written { IsWritten S.id greeting.now result.ending (W.contents out.old.inner) (W.contents out.new.inner) }
-    ensures journal { IsJournal S.id S.first result.recorder.file result.ending }
-    ensures begun { (fault : Fault) → result.ending ≡ Refused fault → ⊥ }
-    ensures counted { out.new.failures ≡ failures_after result.ending out.old.failures }
-{
-    let process: Process<'_, '_, R, P, J, S> = Process::new(rt, post, nodes, Own::new(kept));
-    let talk = begin_and_run(&process, alloc, greeting, door, crew, console, out);
-    let strangers = process.strangers();
-    let ended = process.own.into_inner().end(alloc);
-    note_losses(rt, &ended, strangers);
-    NodeRun {
-        ending: close(talk, ended.events, out),
-        recorder: ended.recorder,
     }
 }
 
@@ -270,55 +230,99 @@ fn refuse<J: JournalFile, W: Write>(
     }
 }
 
-/// Begins a node whose board this is, and runs it to its end.
-fn run_at<D, R, P, J, C, W>(
-    rt: &R,
+// ---- the whole run
+
+/// How a node is run: its machine, which node it is, its socket and its door.
+#[derive(Drop)]
+struct Site<'a, D, R, P> {
+    rt: &'a R,
     alloc: Global,
-    setup: &Setup<'_>,
-    board: &Board,
-    askers: Vec<AskerSeat>,
-    seats: Vec<RunnerSeat>,
-    recorder: Recorder<J>,
-    post: &P,
-    door: &D,
-    console: &mut C,
-    out: &mut Counted<W>,
-) -> NodeRun<J>
+    setup: &'a Setup<'a>,
+    post: &'a P,
+    door: &'a D,
+}
+
+impl<D, R, P> Site<'_, D, R, P>
 where
     D: Door + Sync,
     D::Stream: Send + Drop,
     R: Wait + Threads + Clock + Eprint + Sync,
     P: Post + Sync,
-    J: JournalFile + Send,
-    C: BufRead,
-    W: Write,
-    requires asking { All (λ s. s.table ≡ board_id board.now) askers.items }
-    requires running { All (λ s. s.table ≡ board_id board.now) seats.items }
-    requires fresh { (b : BookState) → IsRecorded recorder.file b recorder }
-    ensures written { IsWritten setup.now.id setup.now.greeting.now result.ending (W.contents out.old.inner) (W.contents out.new.inner) }
-    ensures journal { IsJournal setup.now.id recorder.file result.recorder.file result.ending }
-    ensures unbegun { (fault : Fault) → result.ending ≡ Refused fault → IsUnbegun setup.now.file.now setup.now.id setup.now.runners fault }
-    ensures counted { out.new.failures ≡ failures_after result.ending out.old.failures }
 {
-    let Ok(nodes) = ids(alloc, setup.file) else {
-        return refuse(StartFault::OutOfMemory, recorder, out);
-    };
-    let held = match begin(alloc, setup, board, askers) {
-        Ok(held) => held,
-        Err(fault) => return refuse(fault, recorder, out),
-    };
-    run_begun::<D, R, P, J, Brand, C, W>(
-        rt,
-        alloc,
-        setup.greeting.as_bytes(),
-        nodes.as_slice(),
-        Kept::new(alloc, held, recorder),
-        Crew { board, seats },
-        post,
-        door,
-        console,
-        out,
-    )
+    /// Runs a node that was just begun, to its end.
+    fn run_begun<J, S, C, W>(
+        &self,
+        nodes: &[u64],
+        kept: Kept<'_, J>,
+        crew: Crew<'_>,
+        console: &mut C,
+        out: &mut Counted<W>,
+    ) -> NodeRun<J>
+    where
+        J: JournalFile + Send,
+        S: Start + Send,
+        C: BufRead,
+        W: Write,
+        requires { IsOwn S.id S.first kept.held.book kept.recorder }
+        ensures written { IsWritten S.id self.now.setup.now.greeting.now result.ending (W.contents out.old.inner) (W.contents out.new.inner) }
+        ensures journal { IsJournal S.id S.first result.recorder.file result.ending }
+        ensures begun { (fault : Fault) → result.ending ≡ Refused fault → ⊥ }
+        ensures counted { out.new.failures ≡ failures_after result.ending out.old.failures }
+    {
+        let process: Process<'_, '_, R, P, J, S> = Process::new(
+            self.rt,
+            self.post,
+            nodes,
+            Own::new(kept),
+        );
+        let greeting = self.setup.greeting.as_bytes();
+        let talk = process.begin_and_run(self.alloc, greeting, self.door, crew, console, out);
+        let strangers = process.strangers();
+        let ended = process.own.into_inner().end(self.alloc);
+        note_losses(self.rt, &ended, strangers);
+        NodeRun {
+            ending: close(talk, ended.events, out),
+            recorder: ended.recorder,
+        }
+    }
+
+    /// Begins a node whose board this is, and runs it to its end.
+    fn run_at<J, C, W>(
+        &self,
+        board: &Board,
+        askers: Vec<AskerSeat>,
+        seats: Vec<RunnerSeat>,
+        recorder: Recorder<J>,
+        console: &mut C,
+        out: &mut Counted<W>,
+    ) -> NodeRun<J>
+    where
+        J: JournalFile + Send,
+        C: BufRead,
+        W: Write,
+        requires asking { All (λ s. s.table ≡ board_id board.now) askers.items }
+        requires running { All (λ s. s.table ≡ board_id board.now) seats.items }
+        requires fresh { (b : BookState) → IsRecorded recorder.file b recorder }
+        ensures written { IsWritten self.now.setup.now.id self.now.setup.now.greeting.now result.ending (W.contents out.old.inner) (W.contents out.new.inner) }
+        ensures journal { IsJournal self.now.setup.now.id recorder.file result.recorder.file result.ending }
+        ensures unbegun { (fault : Fault) → result.ending ≡ Refused fault → IsUnbegun self.now.setup.now.file.now self.now.setup.now.id self.now.setup.now.runners fault }
+        ensures counted { out.new.failures ≡ failures_after result.ending out.old.failures }
+    {
+        let Ok(nodes) = ids(self.alloc, self.setup.file) else {
+            return refuse(StartFault::OutOfMemory, recorder, out);
+        };
+        let held = match begin(self.alloc, self.setup, board, askers) {
+            Ok(held) => held,
+            Err(fault) => return refuse(fault, recorder, out),
+        };
+        self.run_begun::<J, Brand, C, W>(
+            nodes.as_slice(),
+            Kept::new(self.alloc, held, recorder),
+            Crew { board, seats },
+            console,
+            out,
+        )
+    }
 }
 
 /// Why there is no board for so many runners.
@@ -372,9 +376,16 @@ where
 {
     let recorder = Recorder::new(file, setup.keeps);
     match Board::open(alloc, 1, setup.runners) {
-        Ok((board, askers, seats)) => run_at(
-            rt, alloc, setup, &board, askers, seats, recorder, post, door, console, out,
-        ),
+        Ok((board, askers, seats)) => {
+            let site = Site {
+                rt,
+                alloc,
+                setup,
+                post,
+                door,
+            };
+            site.run_at(&board, askers, seats, recorder, console, out)
+        }
         Err(fault) => refuse(unseated(fault, setup.runners), recorder, out),
     }
 }

@@ -4,7 +4,6 @@ ghost use Rattle.std.specs.Prelude.{◌≡◌, All};
 ghost use Rattle.q_board.specs.BoardId.{board_id};
 
 use crate::again::look_again;
-use crate::doorway::keep_door;
 use crate::hearing::{hear_all, new_buffer};
 use crate::job::AfterJob;
 use crate::process::Process;
@@ -28,85 +27,64 @@ pub(crate) struct Crew<'b> {
     ghost seated: { All (λ s. s.table ≡ board_id board.now) seats.items },
 }
 
-/// Starts the thread that asks again. Whether it runs.
-fn start_again<'s, 'a, 'b, E, R, P, J, S>(
-    scope: &Scope<'s, E>,
-    process: &'s Process<'a, 'b, R, P, J, S>,
-    alloc: Global,
-) -> bool
+impl<'a, 'b, R, P, J, S> Process<'a, 'b, R, P, J, S>
 where
-    R: Wait + Clock + Eprint + Sync,
+    R: Wait + Threads + Clock + Eprint + Sync,
     P: Post + Sync,
     J: JournalFile + Send,
     S: Start + Send,
 {
-    scope.spawn(move || look_again(process, alloc)).is_ok()
-}
-
-/// Starts the thread at the door. Whether it runs.
-fn start_door<'s, 'a, 'b, E, D, R, P, J, S>(
-    scope: &Scope<'s, E>,
-    process: &'s Process<'a, 'b, R, P, J, S>,
-    alloc: Global,
-    door: &'s D,
-) -> bool
-where
-    D: Door + Sync,
-    D::Stream: Send + Drop,
-    R: Wait + Threads + Clock + Sync,
-    P: Post + Sync,
-    J: JournalFile + Send,
-    S: Start + Send,
-{
-    process.shut.store(false, Ordering::SeqCst);
-    let is_there = scope.spawn(move || keep_door(process, alloc, door)).is_ok();
-    if !is_there {
-        process.shut.store(true, Ordering::SeqCst);
+    /// Starts the thread that asks again. Whether it runs.
+    fn start_again<'s, E>(&'s self, scope: &Scope<'s, E>, alloc: Global) -> bool {
+        scope.spawn(move || look_again(self, alloc)).is_ok()
     }
-    is_there
-}
 
-/// Starts the other threads, and hears in this one until the threads are to end.
-fn tend<D, R, P, J, S>(process: &Process<'_, '_, R, P, J, S>, alloc: Global, door: &D)
-where
-    D: Door + Sync,
-    D::Stream: Send + Drop,
-    R: Wait + Threads + Clock + Eprint + Sync,
-    P: Post + Sync,
-    J: JournalFile + Send,
-    S: Start + Send,
-{
-    let Ok(mut buffer) = new_buffer(alloc) else {
-        return;
-    };
-    let buffer = buffer.as_mut_slice();
-    thread::scope(thread::scope_env(), process.rt, |scope| {
-        if start_again(scope, process, alloc) && start_door(scope, process, alloc, door) {
-            process.begin();
-            hear_all(process, alloc, buffer);
+    /// Starts the thread at the door. Whether it runs.
+    fn start_door<'s, E, D>(&'s self, scope: &Scope<'s, E>, alloc: Global, door: &'s D) -> bool
+    where
+        D: Door + Sync,
+        D::Stream: Send + Drop,
+    {
+        self.shut.store(false, Ordering::SeqCst);
+        let is_there = scope.spawn(move || self.keep_door(alloc, door)).is_ok();
+        if !is_there {
+            self.shut.store(true, Ordering::SeqCst);
         }
-        process.end();
-    });
-}
+        is_there
+    }
 
-/// Runs all threads of a node until they are to end. Where one cannot be started they end at once.
-pub(crate) fn run_threads<D, R, P, J, S>(
-    process: &Process<'_, '_, R, P, J, S>,
-    alloc: Global,
-    door: &D,
-    crew: Crew<'_>,
-)
-where
-    D: Door + Sync,
-    D::Stream: Send + Drop,
-    R: Wait + Threads + Clock + Eprint + Sync,
-    P: Post + Sync,
-    J: JournalFile + Send,
-    S: Start + Send,
-{
-    let after = AfterJob { process, alloc };
-    let Crew { board, seats } = crew;
-    let work = move || tend(process, alloc, door);
-    let _ = with_runners(process.rt, alloc, board, seats, &after, work);
-    process.end();
+    /// Starts the other threads, and hears in this one until the threads are to end.
+    fn tend<D>(&self, alloc: Global, door: &D)
+    where
+        D: Door + Sync,
+        D::Stream: Send + Drop,
+    {
+        let Ok(mut buffer) = new_buffer(alloc) else {
+            return;
+        };
+        let buffer = buffer.as_mut_slice();
+        thread::scope(thread::scope_env(), self.rt, |scope| {
+            if self.start_again(scope, alloc) && self.start_door(scope, alloc, door) {
+                self.begin();
+                hear_all(self, alloc, buffer);
+            }
+            self.end();
+        });
+    }
+
+    /// Runs all threads of a node until they are to end. Where one cannot be started they end at once.
+    pub(crate) fn run_threads<D>(&self, alloc: Global, door: &D, crew: Crew<'_>)
+    where
+        D: Door + Sync,
+        D::Stream: Send + Drop,
+    {
+        let after = AfterJob {
+            process: self,
+            alloc,
+        };
+        let Crew { board, seats } = crew;
+        let work = move || self.tend(alloc, door);
+        let _ = with_runners(self.rt, alloc, board, seats, &after, work);
+        self.end();
+    }
 }

@@ -1,5 +1,5 @@
--- run_begun: runs a node that was just begun, to its end.
-use Rattle.q_node.proofs.run.run_begun.Goals as goal
+-- Site::run_begun: runs a node that was just begun, to its end.
+use Rattle.q_node.proofs.run.Site.run_begun.Goals as goal
 
 pub returns-clause-written : goal.returns-clause-written
 returns-clause-written g c = c.close.ensures.written _ _ _ c.begin_and_run-talk.ensures.said

@@ -1,6 +1,6 @@
--- do_wanted: does what is wanted: the exit status.
+-- Machine::do_wanted: does what is wanted: the exit status.
 use Rattle.q_bqview.proofs.As.{done_as, gathered_as}
-use Rattle.q_bqview.proofs.program.do_wanted.Goals as goal
+use Rattle.q_bqview.proofs.program.Machine.do_wanted.Goals as goal
 
 pub returns-in-FileCommand : goal.returns-in-FileCommand
 returns-in-FileCommand g c = done_as g.F.Files.read_gives g.F.Files.write_gives c.args.wanted.now _ _ _ _ _ _ c.in-FileCommand.is c.run_line.ensures

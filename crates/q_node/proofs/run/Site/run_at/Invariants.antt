@@ -1,4 +1,4 @@
-use Rattle.q_node.proofs.run.run_at.Given as goal
+use Rattle.q_node.proofs.run.Site.run_at.Given as goal
 
 -- the node is that of its book, and the file holds what it held
 abbrev pub ghosts-run_begun : goal.ghosts-run_begun

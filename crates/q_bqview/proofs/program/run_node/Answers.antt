@@ -1,5 +1,0 @@
--- run_node: runs a node by itself, whose console is the standard input: the exit status.
-use Rattle.q_bqview.proofs.program.run_node.Goals as goal
-
-pub returns : goal.returns
-returns g c = (c.run_file.result, c.run_file.ensures.written, c.status.ensures, c.run_file.ensures.counted)
