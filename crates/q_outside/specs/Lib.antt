@@ -4,3 +4,4 @@ pub mod Faults
 pub mod Peers
 pub mod Files
 pub mod Memory
+pub mod Pieces
