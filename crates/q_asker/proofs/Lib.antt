@@ -1,7 +1,6 @@
 -- Proofs of a client.
 mod Reading
 mod Heard
-mod Writing
 mod Scripts
 mod Moves
 mod Beginnings

@@ -123,16 +123,19 @@ pub fn note_line<N: Write>(alloc: Global, notes: &mut N, number: u64, text: &str
     }
 }
 
-/// Tells how the connection failed.
-pub fn note_lost<N: Write>(notes: &mut N, fault: ExchangeFault) {
+/// Tells how the connection failed, and at which line.
+pub fn note_lost<N: Write>(notes: &mut N, number: u64, fault: ExchangeFault) {
     let words = match fault {
         ExchangeFault::Unsent => "the node took no request: the connection failed",
         ExchangeFault::Unheard =>
             "the node's reply was not read: the connection failed, or none came in 30 seconds",
-        ExchangeFault::NoReply => "the node ended the connection, or what it sent is no reply",
+        ExchangeFault::NoReply => {
+            "the node ended the connection, or what it sent is no reply. It ends it where a store has not ended in ten \
+             seconds, which may still take effect."
+        }
         ExchangeFault::OutOfMemory => "there was no memory for a request",
     };
-    let _ = writeln!(notes, "{words}");
+    let _ = writeln!(notes, "line {number}: {words}");
 }
 
 /// Tells why there is no connection with the node at a place.

@@ -29,14 +29,14 @@ pub(crate) fn print_lost<O: Write>(out: &mut Counted<O>) -> Ending
     }
 }
 
-/// How a run ends that does not come to its end.
-fn halt<O: Write, N: Write>(halt: Halt, out: &mut Counted<O>, notes: &mut N) -> Ending
+/// How a run ends that does not come to its end, but to a line with this number.
+fn halt<O: Write, N: Write>(halt: Halt, number: u64, out: &mut Counted<O>, notes: &mut N) -> Ending
     ensures written { Halts halt result (O.contents out.old.inner) (O.contents out.new.inner) }
     ensures counted { out.new.failures ≡ failures_halted halt result out.old.failures }
 {
     match halt {
         Halt::Lost(fault) => {
-            note_lost(notes, fault);
+            note_lost(notes, number, fault);
             print_lost(out)
         }
         Halt::Unwritten => Ending::Unwritten,
@@ -79,7 +79,7 @@ pub(crate) fn run_lines<T: Clock, R: Read, W: Write, O: Write, N: Write>(
                 note_line(alloc, notes, number, text, end);
                 clean = still_clean(clean, end);
             }
-            Err(halted) => return halt(halted, out, notes),
+            Err(halted) => return halt(halted, number, out, notes),
         }
     }
     Ending::Done { clean }

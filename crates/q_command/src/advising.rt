@@ -79,6 +79,8 @@ fn write_no_text(
     let words = match line {
         FileCommand::Asm { .. } | FileCommand::Check { .. } | FileCommand::Run { .. }
             if is_object_file(denied.bytes.as_slice()) => { OBJECT_FILE }
+        FileCommand::Run { records, .. } if file == *records =>
+            "It is not UTF-8, which lists of records are.",
         FileCommand::Check { .. } | FileCommand::Run { .. } =>
             "It is not UTF-8, which text files are. The bytes of a program are passed with --bytes.",
         _ => "It is not UTF-8, which text files are.",
@@ -214,6 +216,7 @@ fn write_program(
 /// What a journal asks of the event that breaks it.
 fn of_journal(fault: ReplayFault) -> &'static str {
     match fault {
+        ReplayFault::Form { event: 0 } => "It does not begin with the head of a journal.",
         ReplayFault::Form { .. } => "The bytes are cut there, or of no form of an event.",
         ReplayFault::Mismatch { .. } =>
             "No node's calls give this event there, or its answer is not what the program gives.",

@@ -1,10 +1,9 @@
 -- What is said at the console, one thing behind the other.
-use Rattle.std.specs.Prelude.{OnOk, OnErr}
-use Rattle.std.proofs.Common.{◌≡◌, ℕ, List, [], ◌∷◌, ◌++◌, Option, Result, Ok, Err, refl, sym, ap, ◌∙◌, append-nil, subst}
+use Rattle.std.proofs.Common.{ℕ, List, [], ◌∷◌, ◌++◌, Option, Result, Ok, Err, refl}
 use Rattle.std.specs.List.{AllByRecursion, flat_map}
 use Rattle.std.specs.Io.KnownBytes.{Appends}
 use Rattle.std.proofs.KnownBytes.{Appends-trans}
-use Rattle.std.proofs.lemmas.List.Concat.{flat_map-append}
+use Rattle.q_outside.proofs.Writing.{behind, one_more_written}
 use Rattle.q_node.specs.Console.{Converses, IsSaid, said_line}
 use Rattle.q_node.specs.Runs.{IsFront}
 use Rattle.q_node.specs.Talks.{Greets, Tells}
@@ -18,23 +17,7 @@ all_more P (y ∷ ys) x h p = (h.0, all_more P ys x h.1 p)
 pub said_more : (node : ℕ) (a b c : Option (List ℕ)) (s : Said) → Converses node a b → IsSaid node s → Appends b c (said_line s) → Converses node a c
 said_more node a b c s h is more =
     let (all, said, written) = h in
-    let same : flat_map said_line (all ++ s ∷ []) ≡ flat_map said_line all ++ said_line s =
-    flat_map-append said_line all (s ∷ []) ∙ ap (λ (l : List ℕ). flat_map said_line all ++ l) (append-nil (said_line s)) in
-    (all ++ s ∷ [], all_more (IsSaid node) all s said is, subst (Appends a c) (sym same) (Appends-trans a b c (flat_map said_line all) (said_line s) written more))
-
--- bytes, and then a part of what came behind them
-pub behind : (a b c : Option (List ℕ)) (bytes : List ℕ) → Appends a b bytes → (x : List ℕ) × Appends b c x → (x : List ℕ) × Appends a c x
-behind a b c bytes first part = (bytes ++ part.0, Appends-trans a b c bytes part.0 first part.1)
-
--- the same where the last of the writes may fail
-pub behind_last : {A E : Type 0} (a b c : Option (List ℕ)) (bytes : List ℕ) (r : Result A E) → Appends a b bytes → OnErr r ((x : List ℕ) × Appends b c x) → OnErr r ((x : List ℕ) × Appends a c x)
-behind_last a b c bytes (Ok u) first part = tt
-behind_last a b c bytes (Err e) first part = behind a b c bytes first part
-
--- the same where it does not
-pub ok_last : {A E : Type 0} (a b c : Option (List ℕ)) (bytes text : List ℕ) (r : Result A E) → Appends a b bytes → OnOk r (Appends b c text) → OnOk r (Appends a c (bytes ++ text))
-ok_last a b c bytes text (Ok u) first last = Appends-trans a b c bytes text first last
-ok_last a b c bytes text (Err e) first last = tt
+    (all ++ s ∷ [], all_more (IsSaid node) all s said is, one_more_written said_line a b c all (all ++ s ∷ []) s refl written more)
 
 -- what was said behind the line that tells where the node hears
 pub greeted : (node : ℕ) (greeting : List ℕ) (a b c : Option (List ℕ)) → Appends a b (greeting ++ 10 ∷ []) → Converses node b c → (front : List ℕ) × IsFront node greeting front × Appends a c front

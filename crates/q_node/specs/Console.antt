@@ -51,26 +51,13 @@ abbrev pub truth : Bool → List ℕ
 truth true = codes "true"
 truth false = codes "false"
 
--- so many of the most, behind words
-abbrev pub of_text : List ℕ → ℕ → ℕ → List ℕ
-of_text words number most = (words ++ decimal number) ++ (codes " of " ++ decimal most)
-
--- how many events and queries the book has, of the most
-abbrev pub limits_text : Status → List ℕ
-limits_text s = of_text (codes " events ") s.events most_events ++ of_text (codes " queries ") s.queries most_queries
-
-abbrev pub presence_text : Status → List ℕ
-presence_text s = truth s.joined ++ (codes " present " ++ decimal s.present)
-
-abbrev pub front_text : Status → List ℕ
-front_text s = codes "status joined " ++ presence_text s
-
-abbrev pub rest_text : Status → List ℕ
-rest_text s = (codes " open " ++ decimal s.underway) ++ 10 ∷ []
-
 -- the line of a status
 abbrev pub status_line : Status → List ℕ
-status_line s = front_text s ++ (limits_text s ++ rest_text s)
+status_line s =
+    codes "status joined " ++ (truth s.joined ++ (codes " present " ++ (decimal s.present
+    ++ (codes " events " ++ (decimal s.events ++ (codes " of " ++ (decimal most_events
+    ++ (codes " queries " ++ (decimal s.queries ++ (codes " of " ++ (decimal most_queries
+    ++ (codes " open " ++ (decimal s.underway ++ 10 ∷ [])))))))))))))
 
 abbrev pub said_line : Said → List ℕ
 said_line (said.Status s) = status_line s

@@ -14,12 +14,12 @@ use q_outside::{Counted, Files, LONGEST_TEXT};
 use q_script::{ClusterFile, ClusterFileFault, read_cluster};
 use std::alloc::{AllocError, Global};
 use std::fs::{File, Files as SystemFiles};
-use std::io::{BufRead, Eprint, Write};
+use std::io::{BufRead, Eprint, ErrorKind, Write};
 use std::net::{Net, TcpListener, TcpStream};
-use std::str;
 use std::sync::Wait;
 use std::thread::Threads;
 use std::time::{Clock, Duration};
+use std::{io, str};
 
 /// For how many milliseconds the socket waits for a datagram.
 const PATIENCE: u64 = 100;
@@ -42,8 +42,11 @@ pub struct NodeWords<'a> {
 }
 
 /// What would satisfy the reader of a cluster's file.
-fn advice(fault: ClusterFileFault) -> &'static str {
+fn advice(source: &str, fault: ClusterFileFault) -> &'static str {
     match fault {
+        ClusterFileFault::Syntax { .. } if source.contains('\r') => {
+            "Lines end by a line feed alone: the text has a carriage return."
+        }
         ClusterFileFault::Syntax { .. } => {
             "The first line is 'cluster NUMBER BETA GAMMA', as 'cluster 7310582 2/3 2/3'; each other line is \
              'founder ID ADDRESS' or 'node ID ADDRESS', as 'founder 1 10.88.0.1:7000'; 1,024 at most."
@@ -74,6 +77,25 @@ fn greeting<R: Net<Listener = TcpListener, Stream = TcpStream>>(
             format!(in alloc; "node {id} messages {messages} clients {clients}")
         }
         (Err(_), _) => format!(in alloc; "node {id} clients {clients}"),
+    }
+}
+
+/// Whether clients can come in there: the path of a socket has a slash, so no slip in an address becomes a file.
+fn is_door(address: DoorAddress<'_>) -> bool {
+    match address {
+        DoorAddress::Tcp(_) => true,
+        DoorAddress::Unix(path) => path.contains('/'),
+    }
+}
+
+/// Says why a door was not opened.
+fn note_unopened<N: Write>(notes: &mut N, clients: &str, error: &io::Error) {
+    let _ = writeln!(notes, "{clients}: {error}");
+    if error.kind() == ErrorKind::AddrInUse && clients.contains('/') {
+        let _ = writeln!(
+            notes,
+            "Where no node has this socket any more, remove its file."
+        );
     }
 }
 
@@ -154,14 +176,22 @@ where
         ensures counted { out.new.failures ≡ failures_after result out.old.failures }
     {
         let clients = self.words.clients;
-        match ClientDoor::open(self.rt, DoorAddress::of(clients)) {
+        let address = DoorAddress::of(clients);
+        if !is_door(address) {
+            let _ = writeln!(
+                notes,
+                "{clients}: It is no address, as 127.0.0.1:8001, and no path of a socket, which has a slash."
+            );
+            return print_refusal(StartFault::TransportFailed, out);
+        }
+        match ClientDoor::open(self.rt, address) {
             Ok(door) => {
                 let ending = self.run_with_journal(file, post, &door, console, out, notes);
                 door.close();
                 ending
             }
             Err(error) => {
-                let _ = writeln!(notes, "{clients}: {error}");
+                note_unopened(notes, clients, &error);
                 print_refusal(StartFault::TransportFailed, out)
             }
         }
@@ -180,6 +210,8 @@ where
     {
         let id = self.words.id;
         let Some(address) = address_of(&file.nodes, id) else {
+            let name = self.words.file;
+            let _ = writeln!(notes, "{name}: It has no node with the id {id}.");
             return print_refusal(StartFault::NoSuchNode, out);
         };
         if !is_runners(self.words.runners) {
@@ -219,7 +251,7 @@ where
             Ok(file) => self.run_of(&file, console, out, notes),
             Err(fault) => {
                 let name = self.words.file;
-                let advice = advice(fault);
+                let advice = advice(source, fault);
                 let _ = writeln!(notes, "{name}: {advice}");
                 print_refusal(StartFault::Cluster(fault), out)
             }
@@ -239,7 +271,11 @@ where
     {
         match str::from_utf8(bytes) {
             Ok(source) => self.run_text(source, console, out, notes),
-            Err(_) => print_refusal(StartFault::FileFailed, out),
+            Err(_) => {
+                let name = self.words.file;
+                let _ = writeln!(notes, "{name}: It is not UTF-8, which text files are.");
+                print_refusal(StartFault::FileFailed, out)
+            }
         }
     }
 }

@@ -1,14 +1,13 @@
 //! The lines of a node's console.
 
-ghost use Rattle.std.specs.Prelude.{◌≡◌, ◌++◌, ℕ, List, OnOk, OnErr, decimal};
+ghost use Rattle.std.specs.Prelude.{◌≡◌, ℕ, List, OnOk, OnErr};
 ghost use Rattle.std.specs.Io.KnownBytes.{Appends};
 ghost use Rattle.q_outside.specs.Counts.{count_after};
-ghost use Rattle.q_node.specs.Console.{command_of, front_text, limits_text, of_text, presence_text, rest_text, said_line, status_line, truth};
+ghost use Rattle.q_node.specs.Console.{command_of, said_line, status_line, truth};
 
 use crate::status::Status;
-use itoa::Buffer;
 use q_desk::{MOST_EVENTS, MOST_QUERIES};
-use q_outside::{Counted, TransportFailed};
+use q_outside::{Counted, Piece, TransportFailed};
 use q_sim::{RefusalPlace, put_line};
 use reasons::Reason;
 use std::io::Write;
@@ -61,101 +60,6 @@ fn truth(value: bool) -> &'static str
     }
 }
 
-/// Writes a number in decimal behind words.
-fn put_numbered<W: Write>(
-    out: &mut Counted<W>,
-    words: &str,
-    number: usize,
-) -> Result<(), TransportFailed>
-    ensures written { OnOk result (Appends
-        (W.contents out.old.inner) (W.contents out.new.inner) (words.now ++ decimal number)) }
-    ensures failed { OnErr result ((part : List ℕ) × Appends
-        (W.contents out.old.inner) (W.contents out.new.inner) part) }
-    ensures counted { out.new.failures ≡ count_after result out.old.failures }
-{
-    out.put(words.as_bytes())?;
-    let mut buffer = Buffer::new();
-    let digits = buffer.format(number);
-    out.put(digits.as_bytes())
-}
-
-/// Writes how many of the most there are, behind words.
-fn put_of<W: Write>(
-    out: &mut Counted<W>,
-    words: &str,
-    number: usize,
-    most: usize,
-) -> Result<(), TransportFailed>
-    ensures written { OnOk result (Appends
-        (W.contents out.old.inner) (W.contents out.new.inner) (of_text words.now number most)) }
-    ensures failed { OnErr result ((part : List ℕ) × Appends
-        (W.contents out.old.inner) (W.contents out.new.inner) part) }
-    ensures counted { out.new.failures ≡ count_after result out.old.failures }
-{
-    put_numbered(out, words, number)?;
-    put_numbered(out, " of ", most)
-}
-
-/// Writes how many events and queries the book has, of the most.
-fn put_limits<W: Write>(out: &mut Counted<W>, status: Status) -> Result<(), TransportFailed>
-    ensures written { OnOk result (Appends
-        (W.contents out.old.inner) (W.contents out.new.inner) (limits_text status)) }
-    ensures failed { OnErr result ((part : List ℕ) × Appends
-        (W.contents out.old.inner) (W.contents out.new.inner) part) }
-    ensures counted { out.new.failures ≡ count_after result out.old.failures }
-{
-    put_of(out, " events ", status.events, MOST_EVENTS)?;
-    put_of(out, " queries ", status.queries, MOST_QUERIES)
-}
-
-/// Writes whether the node has joined, and how many are present.
-fn put_presence<W: Write>(out: &mut Counted<W>, status: Status) -> Result<(), TransportFailed>
-    ensures written { OnOk result (Appends
-        (W.contents out.old.inner) (W.contents out.new.inner) (presence_text status)) }
-    ensures failed { OnErr result ((part : List ℕ) × Appends
-        (W.contents out.old.inner) (W.contents out.new.inner) part) }
-    ensures counted { out.new.failures ≡ count_after result out.old.failures }
-{
-    out.put(truth(status.joined).as_bytes())?;
-    put_numbered(out, " present ", status.present)
-}
-
-/// Writes what stands before the limits.
-fn put_front<W: Write>(out: &mut Counted<W>, status: Status) -> Result<(), TransportFailed>
-    ensures written { OnOk result (Appends
-        (W.contents out.old.inner) (W.contents out.new.inner) (front_text status)) }
-    ensures failed { OnErr result ((part : List ℕ) × Appends
-        (W.contents out.old.inner) (W.contents out.new.inner) part) }
-    ensures counted { out.new.failures ≡ count_after result out.old.failures }
-{
-    out.put(b"status joined ")?;
-    put_presence(out, status)
-}
-
-/// Writes what stands behind the limits.
-fn put_rest<W: Write>(out: &mut Counted<W>, status: Status) -> Result<(), TransportFailed>
-    ensures written { OnOk result (Appends
-        (W.contents out.old.inner) (W.contents out.new.inner) (rest_text status)) }
-    ensures failed { OnErr result ((part : List ℕ) × Appends
-        (W.contents out.old.inner) (W.contents out.new.inner) part) }
-    ensures counted { out.new.failures ≡ count_after result out.old.failures }
-{
-    put_numbered(out, " open ", status.underway)?;
-    out.put(b"\n")
-}
-
-/// Writes the limits, and what stands behind them.
-fn put_limits_on<W: Write>(out: &mut Counted<W>, status: Status) -> Result<(), TransportFailed>
-    ensures written { OnOk result (Appends
-        (W.contents out.old.inner) (W.contents out.new.inner) (limits_text status ++ rest_text status)) }
-    ensures failed { OnErr result ((part : List ℕ) × Appends
-        (W.contents out.old.inner) (W.contents out.new.inner) part) }
-    ensures counted { out.new.failures ≡ count_after result out.old.failures }
-{
-    put_limits(out, status)?;
-    put_rest(out, status)
-}
-
 /// Writes the line of a status.
 fn put_status<W: Write>(out: &mut Counted<W>, status: Status) -> Result<(), TransportFailed>
     ensures written { OnOk result (Appends
@@ -164,8 +68,23 @@ fn put_status<W: Write>(out: &mut Counted<W>, status: Status) -> Result<(), Tran
         (W.contents out.old.inner) (W.contents out.new.inner) part) }
     ensures counted { out.new.failures ≡ count_after result out.old.failures }
 {
-    put_front(out, status)?;
-    put_limits_on(out, status)
+    out.put_all(&[
+        Piece::Words("status joined "),
+        Piece::Words(truth(status.joined)),
+        Piece::Words(" present "),
+        Piece::Number(status.present as u64),
+        Piece::Words(" events "),
+        Piece::Number(status.events as u64),
+        Piece::Words(" of "),
+        Piece::Number(MOST_EVENTS as u64),
+        Piece::Words(" queries "),
+        Piece::Number(status.queries as u64),
+        Piece::Words(" of "),
+        Piece::Number(MOST_QUERIES as u64),
+        Piece::Words(" open "),
+        Piece::Number(status.underway as u64),
+        Piece::Words("\n"),
+    ])
 }
 
 /// Writes what the node says to a command. Refused with 86 where a write fails; a part may have been written before.

@@ -1,6 +1,6 @@
 //! How the run of a node ends.
 
-ghost use Rattle.std.specs.Prelude.{◌≡◌, ◌++◌, ℕ, List, Option, OnOk, OnErr, codes, decimal};
+ghost use Rattle.std.specs.Prelude.{◌≡◌, ℕ, List, Option, OnOk, OnErr};
 ghost use Rattle.std.specs.Io.KnownBytes.{Appends};
 ghost use Rattle.q_sim.specs.Line.{line_of};
 ghost use Rattle.q_kept.specs.Faults as recorder;
@@ -14,9 +14,8 @@ ghost use Rattle.q_node.specs.declared.fault.StartFault.{StartFault as Fault};
 
 use crate::fault::StartFault;
 use crate::talk_end::Talk;
-use itoa::Buffer;
 use q_kept::Unrecorded;
-use q_outside::{Counted, TransportFailed};
+use q_outside::{Counted, Piece, TransportFailed};
 use q_sim::{RefusalPlace, put_line};
 use std::io::Write;
 
@@ -49,26 +48,17 @@ impl Ending {
     }
 }
 
-/// Writes a number in decimal, and what stands behind it.
-fn put_number_on<W: Write>(out: &mut Counted<W>, events: usize) -> Result<(), TransportFailed>
-    ensures written { OnOk result (Appends (W.contents out.old.inner) (W.contents out.new.inner) (decimal events ++ codes " events\n")) }
-    ensures failed { OnErr result ((part : List ℕ) × Appends (W.contents out.old.inner) (W.contents out.new.inner) part) }
-    ensures counted { out.new.failures ≡ count_after result out.old.failures }
-{
-    let mut buffer = Buffer::new();
-    let digits = buffer.format(events);
-    out.put(digits.as_bytes())?;
-    out.put(b" events\n")
-}
-
 /// Writes how many events the journal has.
 fn put_events<W: Write>(out: &mut Counted<W>, events: usize) -> Result<(), TransportFailed>
     ensures written { OnOk result (Appends (W.contents out.old.inner) (W.contents out.new.inner) (journal_line events)) }
     ensures failed { OnErr result ((part : List ℕ) × Appends (W.contents out.old.inner) (W.contents out.new.inner) part) }
     ensures counted { out.new.failures ≡ count_after result out.old.failures }
 {
-    out.put(b"journal ")?;
-    put_number_on(out, events)
+    out.put_all(&[
+        Piece::Words("journal "),
+        Piece::Number(events as u64),
+        Piece::Words(" events\n"),
+    ])
 }
 
 /// Prints the last line of a node that ran, or could not be started.

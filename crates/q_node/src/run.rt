@@ -72,7 +72,7 @@ where
     fn run_minded<D, C, W>(
         &self,
         alloc: Global,
-        greeting: &[u8],
+        greeting: &str,
         door: &D,
         crew: Crew<'_>,
         console: &mut C,
@@ -112,7 +112,7 @@ where
     fn begin_and_run<D, C, W>(
         &self,
         alloc: Global,
-        greeting: &[u8],
+        greeting: &str,
         door: &D,
         crew: Crew<'_>,
         console: &mut C,
@@ -275,7 +275,7 @@ where
             nodes,
             Own::new(kept),
         );
-        let greeting = self.setup.greeting.as_bytes();
+        let greeting = self.setup.greeting;
         let talk = process.begin_and_run(self.alloc, greeting, self.door, crew, console, out);
         let strangers = process.strangers();
         let ended = process.own.into_inner().end(self.alloc);

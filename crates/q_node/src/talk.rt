@@ -12,7 +12,7 @@ use crate::start::Start;
 use crate::talk_end::Talk;
 use q_doors::Post;
 use q_kept::JournalFile;
-use q_outside::{Counted, TransportFailed};
+use q_outside::{Counted, Piece, TransportFailed};
 use reasons::Reason;
 use std::alloc::Global;
 use std::io::{BufRead, Write};
@@ -112,20 +112,19 @@ fn await_threads<R: Wait, P: Post, J: JournalFile, S: Start>(
 }
 
 /// Writes a line.
-fn put_greeting<W: Write>(greeting: &[u8], out: &mut Counted<W>) -> Result<(), TransportFailed>
+fn put_greeting<W: Write>(greeting: &str, out: &mut Counted<W>) -> Result<(), TransportFailed>
     ensures written { OnOk result (Appends (W.contents out.old.inner) (W.contents out.new.inner) (greeting.now ++ 10 ∷ [])) }
     ensures failed { OnErr result ((part : List ℕ) × Appends (W.contents out.old.inner) (W.contents out.new.inner) part) }
     ensures counted { out.new.failures ≡ count_after result out.old.failures }
 {
-    out.put(greeting)?;
-    out.put(b"\n")
+    out.put_all(&[Piece::Words(greeting), Piece::Words("\n")])
 }
 
 /// Writes where the node hears, and then what is said at the console. Refused with 86 where a write fails.
 fn greet<R: Wait, P: Post, J: JournalFile, S: Start, C: BufRead, W: Write>(
     process: &Process<'_, '_, R, P, J, S>,
     alloc: Global,
-    greeting: &[u8],
+    greeting: &str,
     console: &mut C,
     out: &mut Counted<W>,
 ) -> Result<(), TransportFailed>
@@ -141,7 +140,7 @@ fn greet<R: Wait, P: Post, J: JournalFile, S: Start, C: BufRead, W: Write>(
 pub(crate) fn hold_talk<R: Wait, P: Post, J: JournalFile, S: Start, C: BufRead, W: Write>(
     process: &Process<'_, '_, R, P, J, S>,
     alloc: Global,
-    greeting: &[u8],
+    greeting: &str,
     console: &mut C,
     out: &mut Counted<W>,
 ) -> Talk

@@ -14,10 +14,10 @@ use std::io::Write;
 /// A piece of what is written.
 #[derive(Clone, Copy)]
 pub enum Piece<'a> {
-    /// Words, as they stand.
-    Words(&'a str),
     /// A number in decimal.
     Number(u64),
+    /// Words, as they stand.
+    Words(&'a str),
 }
 
 impl<W: Write> Counted<W> {
@@ -28,12 +28,12 @@ impl<W: Write> Counted<W> {
         ensures counted { self.new.failures ≡ count_after result self.old.failures }
     {
         match piece {
-            Piece::Words(words) => self.put(words.as_bytes()),
             Piece::Number(number) => {
                 let mut buffer = Buffer::new();
                 let digits = buffer.format(*number);
                 self.put(digits.as_bytes())
             }
+            Piece::Words(words) => self.put(words.as_bytes()),
         }
     }
 

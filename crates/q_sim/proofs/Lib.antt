@@ -17,4 +17,3 @@ mod Leading
 mod Counting
 mod Recording
 mod Truths
-mod Parts

@@ -1,7 +1,8 @@
 -- put_numbers: writes numbers, each behind a space.
 use Rattle.std.proofs.Common.{◌≡◌, ◌+◌, [], ◌∷◌, ◌++◌, rules, take, get_or}
 use Rattle.std.proofs.lemmas.List.{take_more}
-use Rattle.q_asker.proofs.Writing.{behind, number_more, on_err}
+use Rattle.q_outside.proofs.Writing.{behind, on_err, one_more_written}
+use Rattle.q_asker.specs.Steps.{spaced}
 use Rattle.q_asker.proofs.printing.put_numbers.Goals as goal
 
 pub returns-in_err-put_spaced-clause-failed : goal.returns-in_err-put_spaced-clause-failed
@@ -12,4 +13,4 @@ loop-number-preserved g c =
     let numbers = c.args.numbers.now in
     let i = c.loop-number.number-index in
     let more : take (i + 1) numbers ≡ take i numbers ++ get_or numbers i 0 ∷ [] = search (rules, take_more) in
-    (number_more _ _ _ (take i numbers) (take (i + 1) numbers) (get_or numbers i 0) more c.loop-number.invariant.0 c.in_ok-put_spaced.ensures.written, search rules)
+    (one_more_written spaced _ _ _ (take i numbers) (take (i + 1) numbers) (get_or numbers i 0) more c.loop-number.invariant.0 c.in_ok-put_spaced.ensures.written, search rules)

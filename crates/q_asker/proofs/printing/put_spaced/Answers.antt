@@ -1,5 +1,5 @@
 -- put_spaced: writes a space and a number in decimal.
-use Rattle.q_asker.proofs.Writing.{behind_last}
+use Rattle.q_outside.proofs.Writing.{behind_last}
 use Rattle.q_asker.proofs.printing.put_spaced.Goals as goal
 
 pub returns-clause-failed : goal.returns-clause-failed

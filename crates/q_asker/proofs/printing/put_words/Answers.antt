@@ -1,6 +1,6 @@
 -- put_words: writes a line: a word, and numbers, each behind a space.
 use Rattle.std.proofs.KnownBytes.{Appends-trans}
-use Rattle.q_asker.proofs.Writing.{behind, behind_last, on_err}
+use Rattle.q_outside.proofs.Writing.{behind, behind_last, on_err}
 use Rattle.q_asker.proofs.printing.put_words.Goals as goal
 
 pub returns-in_err-put_numbers-clause-failed : goal.returns-in_err-put_numbers-clause-failed

@@ -1,6 +1,5 @@
 -- put_status: writes the line of a status.
-use Rattle.q_node.proofs.Conversing.{behind_last}
 use Rattle.q_node.proofs.console.put_status.Goals as goal
 
-pub returns-clause-failed : goal.returns-clause-failed
-returns-clause-failed g c = behind_last _ _ _ _ c.put_limits_on.result c.in_ok-put_front.ensures.written c.put_limits_on.ensures.failed
+pub returns-clause-written : goal.returns-clause-written
+returns-clause-written g c = rw (← c.truth.ensures) c.put_all.ensures.written

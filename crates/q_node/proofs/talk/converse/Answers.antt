@@ -2,7 +2,8 @@
 -- to each.
 use Rattle.std.proofs.Common.{[], refl, rules}
 use Rattle.std.proofs.KnownBytes.{Appends-nil}
-use Rattle.q_node.proofs.Conversing.{behind, said_more}
+use Rattle.q_outside.proofs.Writing.{behind}
+use Rattle.q_node.proofs.Conversing.{said_more}
 use Rattle.q_node.proofs.talk.converse.Goals as goal
 
 pub loop-init : goal.loop-init
