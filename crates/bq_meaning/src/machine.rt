@@ -39,7 +39,9 @@ impl<'a> Model for Machine<'a> {
 /// Where an access lies: so many bytes behind the start of the frame, or of the record.
 #[derive(Clone, Copy, Debug, PartialEq, Eq)]
 pub enum Location {
+    /// Behind the frame's first byte.
     Frame(usize),
+    /// Behind the record's first byte.
     Record(usize),
 }
 

@@ -14,7 +14,7 @@ pub const LEAST_RECORD: usize = 16;
 /// The most bytes of a record: a placement keeps room for so many.
 pub const RECORD_ROOM: usize = 128;
 
-/// How many bytes a record of a view has: texts are checked for records of this length.
+/// How many bytes a record has where each value has 48: those of views in the first version.
 pub const RECORD_LENGTH: usize = 64;
 
 /// Where a machine's memory lies: the address of the frame's first byte and that of the record's, in a space of 2^64

@@ -4,8 +4,11 @@ use Rattle.std.proofs.lemmas.Int.{ints, clamps}
 use Rattle.std.proofs.lemmas.Bool.{cases_Bool, cases_lt}
 use Rattle.std.proofs.lemmas.List.{ext_get_or, get_or_default}
 use Rattle.std.proofs.lemmas.List.Edits.{fill_by_more}
-use Rattle.bq_range.specs.Interval.{Interval, Within, join}
-use Rattle.bq_state.specs.Offsets.{Span, SpanWithin, join_spans}
+use Rattle.bq_meaning.specs.Place.{Place}
+use Rattle.bq_meaning.specs.Meaning.{held, moved}
+use Rattle.bq_range.specs.Interval.{Interval, IsIn, Within, join}
+use Rattle.bq_state.specs.Offsets.{Span, SpanWithin, IsOffset, join_spans}
+use Rattle.bq_state.specs.Covers.{KindHolds, StateHolds, start}
 use Rattle.bq_state.specs.Kinds.{StateKinds, kind_of, KindCovers, StateCovers, is_same, join_kinds, join_lists, join_states}
 use Rattle.bq_state.specs.declared.kind.Kind.{Kind}
 use Rattle.bq_state.specs.declared.kind.Kind.TheVariants.{Unset, Number, Pointer, Length}
@@ -201,3 +204,29 @@ joined_count a b e = lists_count a.lengths b.lengths a.kinds b.kinds e
 
 pub joined_kind : (a b : StateKinds) (r : ℕ) → r < length a.kinds → r < length b.kinds → kind_of (join_states a b) r ≡ join_kinds a.lengths b.lengths (kind_of a r) (kind_of b r)
 joined_kind a b r h k = kind_at a.lengths b.lengths a.kinds b.kinds r h k
+
+-- ---- machines
+
+word_through : (a b : Interval) (w : ℕ) → Within b a → IsIn w b → IsIn w a
+word_through a b w h k = record { low = omega arith; high = omega arith }
+
+offset_through : (a b : Span) (z : ℤ) → SpanWithin b a → IsOffset z b → IsOffset z a
+offset_through a b z h k = record { low = omega (arith, ints); high = omega (arith, ints) }
+
+kind_says_less : (p : Place) (len : ℕ) (l : Interval) (a b : Kind) (register : Option ℕ) → IsIn len l → KindCovers l a b → KindHolds p len b register → KindHolds p len a register
+kind_says_less p len l Unset b register w c h = tt
+kind_says_less p len l (Number x) (Number y) register w c h = record { word = h.word; held = h.held; within = word_through x y h.word c h.within }
+kind_says_less p len l (Number x) Length register w c h = record { word = len; held = h; within = word_through x l len c w }
+kind_says_less p len l (Pointer r x) (Pointer q y) register w c h = record {
+  offset = h.offset;
+  held = subst (λ s. register ≡ Some (moved (start p s) h.offset)) (sym c.0) h.held;
+  within = offset_through x y h.offset c.1 h.within;
+}
+kind_says_less p len l Length Length register w c h = h
+kind_says_less p len l a b register w c h = absurd c
+
+pub covering_says_less : (p : Place) (len : ℕ) (a b : StateKinds) (registers : List (Option ℕ)) → StateCovers a b → StateHolds p len b registers → StateHolds p len a registers
+covering_says_less p len a b registers c h = record {
+  within = word_through a.lengths b.lengths len c.lengths h.within;
+  each = λ r. kind_says_less p len b.lengths (kind_of a r) (kind_of b r) (held registers r) h.within (c.each r) (h.each r);
+}

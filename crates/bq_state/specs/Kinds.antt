@@ -22,7 +22,7 @@ pub record AreLengths (l : Interval) : Type 0 where
   pub ordered : l.lo ≤ l.hi
   pub most : l.hi ≤ record_room
 
--- the length of a view's records alone
+-- the length of a view's records in the first version alone
 abbrev pub view_lengths : Interval
 view_lengths = single record_length
 

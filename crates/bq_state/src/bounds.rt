@@ -51,7 +51,7 @@ impl Bounds {
         }
     }
 
-    /// The length of a view's records alone.
+    /// The length of a view's records in the first version, 64 bytes, alone.
     pub fn of_views() -> Bounds
         ensures { result ≡ view_lengths }
     {

@@ -1,14 +1,16 @@
 //! Laws of states, each the contract of a function that does nothing. Whoever needs one at a step
 //! calls it there.
 
-ghost use Rattle.std.specs.Prelude.{◌≡◌, ◌++◌, ℕ, length, Bool, true, false, Some, Ok};
+ghost use Rattle.std.specs.Prelude.{◌≡◌, ◌++◌, ℕ, List, length, Bool, true, false, Option, Some, Ok};
 ghost use Rattle.std.specs.List.{All};
 ghost use Rattle.bq_word.specs.declared.Width.{Width};
 ghost use Rattle.bq_word.specs.declared.Relation.{Relation};
 ghost use Rattle.bq_insn.specs.declared.insn.Insn.{Insn};
 ghost use Rattle.bq_insn.specs.declared.insn.Operand.{Operand};
+ghost use Rattle.bq_meaning.specs.Place.{Place};
 ghost use Rattle.bq_range.specs.Interval.{Interval};
-ghost use Rattle.bq_state.specs.Kinds.{StateKinds, join_states, entry_state};
+ghost use Rattle.bq_state.specs.Covers.{StateHolds};
+ghost use Rattle.bq_state.specs.Kinds.{StateKinds, StateCovers, join_states, entry_state};
 ghost use Rattle.bq_state.specs.Rules.{transfer};
 ghost use Rattle.bq_state.specs.Edges.{refined, edges};
 ghost use Rattle.bq_state.specs.InPlace.{way};
@@ -21,6 +23,11 @@ use bq_range::laws::rows_are_monotone;
 /// no more than any state that covers both.
 pub fn states_are_ordered()
     ensures { StatesAreOrdered }
+{}
+
+/// What a state says of a machine's registers and of the length of its record, each state that covers it says too.
+pub fn covering_says_less()
+    ensures { (p : Place) (len : ℕ) (a b : StateKinds) (registers : List (Option ℕ)) → StateCovers a b → StateHolds p len b registers → StateHolds p len a registers }
 {}
 
 /// Of less an instruction leaves less: where it breaks no rule of a state, it breaks none of a state that this one

@@ -15,7 +15,9 @@ const REPLY_PATIENCE: u64 = 30;
 /// A stream twice: once to read from and once to write to.
 #[derive(Drop)]
 pub struct Both<S> {
+    /// Where replies are read from.
     pub replies: S,
+    /// Where requests are written to.
     pub requests: S,
 }
 

@@ -15,6 +15,7 @@ pub struct Asked {
 /// A message that was delivered.
 #[derive(Drop)]
 pub struct Taken {
+    /// The messages that the node sends.
     pub outs: Outs,
     /// The operation that the message moved.
     pub progress: Option<Progress>,

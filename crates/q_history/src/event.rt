@@ -50,23 +50,31 @@ pub enum ClusterEvent {
 /// A job that was handed out, and its query.
 #[derive(Clone, Copy, Debug, PartialEq, Eq)]
 pub struct Handed {
+    /// The job's number, from 0.
     pub job: usize,
+    /// The number of its query at its node, from 0.
     pub query: usize,
 }
 
 /// The recorded answer of a query.
 #[derive(Clone, Copy, Debug, PartialEq, Eq)]
 pub struct Answer {
+    /// The node at which the query was asked.
     pub node: u64,
+    /// The number of the query there, from 0.
     pub query: usize,
+    /// The answer, and in how many steps.
     pub ran: Ran,
 }
 
 /// What an accepted event tells, beside its messages.
 #[derive(Clone, Copy, Debug, PartialEq, Eq)]
 pub enum EventAnswer {
+    /// A node entered.
     Entered,
+    /// The node left.
     Left,
+    /// The node stopped.
     Crashed,
     /// The program's id.
     Registered(ProgramId),
@@ -78,12 +86,15 @@ pub enum EventAnswer {
     Delivered(Option<Completed>),
     /// The job, where a query was ready.
     HandedOut(Option<Handed>),
+    /// The answer that the node recorded.
     Finished(Answer),
 }
 
 /// What an accepted event tells, and the messages that it sent.
 #[derive(Clone, Copy, Debug, PartialEq, Eq)]
 pub struct ClusterStep {
+    /// What it tells.
     pub told: EventAnswer,
+    /// The numbers of the messages that it sent.
     pub sent: Sent,
 }

@@ -3,7 +3,8 @@
 //! - [`Transport`] carries datagrams between nodes: [`UdpTransport`] over UDP on loopback, [`MemoryTransport`] over
 //!   mailboxes in memory. A failed call is answered 86 and counted once. Nothing is said of what a datagram holds when
 //!   it comes, or of whether it comes.
-//! - [`Counted`] is a reader or a writer whose failed calls are counted.
+//! - [`Counted`] is a reader or a writer whose failed calls are counted. A line goes to it as a list of [`Piece`]s,
+//!   words and numbers, with no text put together in memory.
 //! - [`Files`] is what a command asks of the folder that it runs in. Its contracts say what a read and a write may
 //!   answer by two relations of the implementing type, and count the calls that failed. It is told how far long work
 //!   is.

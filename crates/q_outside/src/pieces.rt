@@ -1,6 +1,6 @@
 //! Lines that are written piece by piece.
 
-ghost use Rattle.std.specs.Prelude.{◌≡◌, ℕ, List, OnOk, OnErr};
+ghost use Rattle.std.specs.Prelude.{◌≡◌, ◌<◌, ◌≤◌, ℕ, List, OnOk, OnErr};
 ghost use Rattle.std.specs.Io.KnownBytes.{Appends};
 ghost use Rattle.std.specs.List.{flat_map};
 ghost use Rattle.q_outside.specs.Counts.{count_after};
@@ -26,6 +26,8 @@ impl<W: Write> Counted<W> {
         ensures written { OnOk result (Appends (W.contents self.old.inner) (W.contents self.new.inner) (piece_text piece.now)) }
         ensures failed { OnErr result ((part : List ℕ) × Appends (W.contents self.old.inner) (W.contents self.new.inner) part) }
         ensures counted { self.new.failures ≡ count_after result self.old.failures }
+        ensures fewer { self.new.failing ≤ self.old.failing }
+        ensures not_reached { OnOk result (0 < self.old.failing → 0 < self.new.failing) }
     {
         match piece {
             Piece::Number(number) => {
@@ -43,6 +45,8 @@ impl<W: Write> Counted<W> {
         ensures written { OnOk result (Appends (W.contents self.old.inner) (W.contents self.new.inner) (flat_map piece_text pieces.now)) }
         ensures failed { OnErr result ((part : List ℕ) × Appends (W.contents self.old.inner) (W.contents self.new.inner) part) }
         ensures counted { self.new.failures ≡ count_after result self.old.failures }
+        ensures fewer { self.new.failing ≤ self.old.failing }
+        ensures not_reached { OnOk result (0 < self.old.failing → 0 < self.new.failing) }
     {
         for piece in pieces {
             self.put_piece(piece)?;

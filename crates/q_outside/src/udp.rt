@@ -15,7 +15,9 @@ use std::time::Duration;
 /// Where a node's socket is.
 #[derive(Clone, Copy)]
 pub struct Peer {
+    /// The node's id.
     pub id: u64,
+    /// The address of the node's socket.
     pub address: SocketAddr,
 }
 

@@ -6,7 +6,9 @@ use std::marker::Model;
 /// A fraction as a journal holds it.
 #[derive(Clone, Copy, Debug, PartialEq, Eq)]
 pub struct Fraction {
+    /// What stands above.
     pub numerator: u16,
+    /// What stands below.
     pub denominator: u16,
 }
 

@@ -12,17 +12,29 @@ use std::alloc::Global;
 /// What the first word of a line tells to do.
 #[derive(Clone, Copy)]
 pub enum Command {
+    /// A program is registered at a node.
     Program,
+    /// A node stores a value.
     Store,
+    /// A query is asked.
     Ask,
+    /// A message is delivered to a node.
     Deliver,
+    /// What is not yet delivered is delivered, so many times at most.
     All,
+    /// A node hands out a job.
     Hand,
+    /// A job is run, and its answer recorded.
     Run,
+    /// A node enters.
     Enter,
+    /// A node leaves.
     Leave,
+    /// A node stops, and tells nobody.
     Crash,
+    /// Each pair of a store and a later collect is told.
     Pairs,
+    /// A node's journal is written.
     Journal,
 }
 

@@ -234,10 +234,6 @@ joining n from threshold f v =
       record (echo_counted n from threshold (with_joined f n.id) v) { joined = true },
     ))
 
--- an operation of the node is moved
-abbrev pub sessions_moved : NodeState → Progress → NodeState
-sessions_moved n p = record n { sessions = sessions_after n.sessions (Some p) }
-
 -- the node stores back what a collect learned, and has that view from then on
 abbrev pub query_ended : NodeState → ℕ → ℕ → ViewMap → Delivered × NodeState
 query_ended n from tag view = (

@@ -11,12 +11,14 @@ pub struct Begun {
     pub tag: u64,
     /// The operation as the node keeps it, for a record of it.
     pub session: Session,
+    /// The messages that the node sends.
     pub outs: Outs,
 }
 
 /// What a node tells of a message that it took.
 #[derive(Drop)]
 pub struct Delivered {
+    /// The messages that the node sends.
     pub outs: Outs,
     /// The operation that the message moved.
     pub progress: Option<Progress>,

@@ -17,14 +17,18 @@ pub enum Advance {
 /// it is.
 #[derive(Drop)]
 pub struct Progress {
+    /// The operation's tag.
     pub tag: u64,
+    /// The node that was counted.
     pub sender: u64,
+    /// What that did to the phase.
     pub advance: Advance,
 }
 
 /// What an operation gives at its end.
 #[derive(Drop)]
 pub enum Completion {
+    /// A store gives nothing.
     Stored,
     /// The view that was stored back.
     Returned(View),
@@ -33,6 +37,8 @@ pub enum Completion {
 /// The operation that a message ended.
 #[derive(Drop)]
 pub struct Ended {
+    /// The operation's tag.
     pub tag: u64,
+    /// What it gives.
     pub what: Completion,
 }

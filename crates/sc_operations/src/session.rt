@@ -15,20 +15,25 @@ use std::alloc::{AllocError, Global};
 pub enum OperationKind {
     /// The value that is stored, and its number.
     Store(Stored),
+    /// A view is collected.
     Collect,
 }
 
 /// A phase ends when so many different senders are counted.
 #[derive(Drop)]
 pub struct Phase {
+    /// How many senders it waits for.
     pub threshold: u64,
+    /// The senders that were counted so far.
     pub counted: IdSet,
 }
 
 /// The view that an operation stores, or stores back, and the phase that waits for its acknowledgements.
 #[derive(Drop)]
 pub struct StoreBack {
+    /// The view.
     pub view: View,
+    /// The phase of its acknowledgements.
     pub phase: Phase,
 }
 
@@ -36,8 +41,11 @@ pub struct StoreBack {
 /// phase, whose counted senders it keeps, and stores back once that phase has ended.
 #[derive(Drop)]
 pub struct Session {
+    /// Whether it stores or collects.
     pub kind: OperationKind,
+    /// The query phase of a collect.
     pub query: Option<Phase>,
+    /// What is stored, or stored back, once it is.
     pub back: Option<StoreBack>,
 }
 

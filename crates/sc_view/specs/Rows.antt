@@ -1,5 +1,5 @@
 -- Rows of chunks: entries in rising id order, within each chunk and across them.
-use Rattle.std.specs.Prelude.{◌≡◌, ℕ, suc, ◌≤◌, ◌<◌, nat_lt, slice_set, slice_index_or, ◌==◌, Bool, true, false, cond, length, map, List, [], ◌∷◌, Option, Some, None, is_some}
+use Rattle.std.specs.Prelude.{◌≡◌, ℕ, suc, ◌≤◌, ◌<◌, nat_lt, slice_set, slice_index_or, Bool, true, false, cond, length, map, List, [], ◌∷◌, is_some}
 use Rattle.std.specs.Ordering.{nat_cmp}
 use Rattle.std.specs.FinMap.Entries.{find, put}
 use Rattle.std.specs.FinMap as fin
@@ -12,11 +12,6 @@ pub use Rattle.sc_chunk.specs.Entries.{before, without_first, from, Learns, is_l
 abbrev pub starts_above : ℕ → List (ℕ × Stored) → Bool
 starts_above id [] = false
 starts_above id (e ∷ es) = nat_lt id e.0
-
--- the value of an entry, if it has this id
-abbrev pub entry_at : ℕ → Option (ℕ × Stored) → Option Stored
-entry_at id None = None
-entry_at id (Some e) = cond (e.0 == id) (Some e.1) None
 
 -- how many of the entries have an id that isn't known
 abbrev pub count_lacking : List (ℕ × Stored) → List (ℕ × Stored) → ℕ

@@ -24,6 +24,7 @@ pub(crate) enum Act {
 pub struct Opened {
     /// The operation's tag.
     pub tag: u64,
+    /// The operation as the node keeps it.
     pub session: Session,
 }
 

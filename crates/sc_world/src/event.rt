@@ -23,7 +23,9 @@ pub enum WorldEvent {
 /// The numbers of the messages that an event sent: so many, in turn from the first.
 #[derive(Clone, Copy, Debug, PartialEq, Eq)]
 pub struct Sent {
+    /// The number of the first, from 0.
     pub first: usize,
+    /// How many there are.
     pub count: usize,
 }
 
@@ -34,5 +36,6 @@ pub struct WorldStep {
     pub tag: Option<u64>,
     /// The operation that ended, with the view that it returned.
     pub ended: Option<Ended>,
+    /// The messages that it sent.
     pub sent: Sent,
 }

@@ -13,6 +13,7 @@ use std::alloc::Global;
 /// The record of an operation.
 #[derive(Drop)]
 pub struct Op {
+    /// The node whose operation it is.
     pub node: u64,
     /// The node's number of the operation, from 0.
     pub tag: u64,
