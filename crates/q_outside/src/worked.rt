@@ -1,14 +1,11 @@
-//! Worked values of the counts of failed calls, of lines in pieces, and of where nodes are.
+//! Worked values of the counts of failed calls, and of where nodes are.
 
 ghost use Rattle.std.specs.Prelude.{◌≡◌, ℕ, [], ◌∷◌, ◌++◌, Some, None, Ok, Err};
 ghost use Rattle.std.specs.Io.KnownBytes.{Appends, Consumes};
-ghost use Rattle.std.specs.List.{flat_map};
 ghost use Rattle.std.specs.declared.net.socket_addr.SocketAddr.{SocketAddr};
 ghost use Rattle.q_outside.specs.Counts.{count_after, one_fewer, one_more, transport_count, write_count};
 ghost use Rattle.q_outside.specs.Peers.{HasMailbox, address_of};
-ghost use Rattle.q_outside.specs.Pieces.{piece_text};
 ghost use Rattle.q_outside.specs.declared.fault.TransportFault.TheVariants as fault;
-ghost use Rattle.q_outside.specs.declared.pieces.Piece.TheVariants as piece;
 
 /// What the definitions say at telling operands.
 pub fn worked()
@@ -33,9 +30,6 @@ pub fn worked()
     // What was read is told, and all of a piece is written.
     ensures read_is_told { Consumes (Some (1 ∷ [])) (Some []) [] → ⊥ }
     ensures all_is_written { Appends (Some []) (Some (1 ∷ [])) (1 ∷ 2 ∷ []) → ⊥ }
-
-    // A line of pieces is their texts, one behind the other; a number stands in decimal.
-    ensures pieces { flat_map piece_text (piece.Number 10 ∷ piece.Number 7 ∷ []) ≡ 49 ∷ 48 ∷ 55 ∷ [] }
 
     // Where a node is that was met at two addresses, and which nodes have a mailbox.
     ensures met_twice { (a b : SocketAddr) → address_of ((record { id = 7; address = a } ∷ []) ++ record { id = 7; address = b } ∷ []) 7 ≡ Some a }
