@@ -1,5 +1,5 @@
 -- What covers what.
-use Rattle.std.proofs.Common.{◌≡◌, true, inl, inr, ℕ, zero, suc, ◌<◌, arith, List, [], ◌∷◌, length, refl, ap, sym, subst, ◌∙◌, ◌+◌, get_or, set}
+use Rattle.std.proofs.Common.{◌≡◌, true, inl, inr, ℕ, ℤ, zero, suc, ◌<◌, arith, List, [], ◌∷◌, Option, Some, length, refl, ap, sym, subst, ◌∙◌, ◌+◌, get_or, set}
 use Rattle.std.proofs.lemmas.Int.{ints, clamps}
 use Rattle.std.proofs.lemmas.Bool.{cases_Bool, cases_lt}
 use Rattle.std.proofs.lemmas.List.{ext_get_or, get_or_default}
