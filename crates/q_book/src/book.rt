@@ -39,7 +39,6 @@ pub type BookFault = Reason;
 
 /// A node with its desk. Contracts see it as the record of its fields. It is the replay of its journal, and its
 /// programs run over records of the lengths of its version.
-#[derive(Drop)]
 pub struct Book {
     version: Version,
     id: u64,
@@ -47,6 +46,20 @@ pub struct Book {
     founders: Option<Vec<u64>>,
     node: Node,
     desk: Desk,
+}
+
+impl Drop for Book {
+    // By hand, so that it is proved here alone, and not in each crate that drops one.
+    fn drop(self) {
+        let Book {
+            version: _,
+            id: _,
+            config: _,
+            founders: _,
+            node: _,
+            desk: _,
+        } = self;
+    }
 }
 
 impl Model for Book {

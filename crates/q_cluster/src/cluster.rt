@@ -37,7 +37,6 @@ use std::marker::Model;
 /// The book of each node, all of one version, what is kept of every event, the jobs that were handed out, and the block
 /// over which they are run. Contracts see it as a world with a desk for each node. Some list of events made it of its
 /// founders.
-#[derive(Drop)]
 pub struct Cluster {
     alloc: Global,
     version: Version,
@@ -45,6 +44,20 @@ pub struct Cluster {
     ledger: Ledger,
     jobs: Vec<Job>,
     block: Block,
+}
+
+impl Drop for Cluster {
+    // By hand, so that it is proved here alone, and not in each crate that drops one.
+    fn drop(self) {
+        let Cluster {
+            alloc: _,
+            version: _,
+            books: _,
+            ledger: _,
+            jobs: _,
+            block: _,
+        } = self;
+    }
 }
 
 impl Model for Cluster {

@@ -15,7 +15,6 @@ use std::marker::Model;
 /// What is run to answer a query: its program over the view that its collect returned, from its start value. Contracts
 /// see it as the record of these. [`Job::of`] alone makes one, so it is that of a query with a returned view. Its
 /// program was checked for records of the lengths that its view has.
-#[derive(Drop)]
 pub struct Job {
     node: u64,
     query: usize,
@@ -23,6 +22,20 @@ pub struct Job {
     start: u64,
     certified: Program,
     view: SharedView,
+}
+
+impl Drop for Job {
+    // By hand, so that it is proved here alone, and not in each crate that drops one.
+    fn drop(self) {
+        let Job {
+            node: _,
+            query: _,
+            program: _,
+            start: _,
+            certified: _,
+            view: _,
+        } = self;
+    }
 }
 
 impl Model for Job {

@@ -23,9 +23,15 @@ impl Default for Slot {
 }
 
 /// The messages that one event sends, at most two. Each goes to all nodes, the sender included.
-#[derive(Drop)]
 pub struct Outs {
     slots: SmallVec<Slot, 2>,
+}
+
+impl Drop for Outs {
+    // By hand, so that it is proved here alone, and not in each crate that drops one.
+    fn drop(self) {
+        let Outs { slots: _ } = self;
+    }
 }
 
 impl Model for Outs {

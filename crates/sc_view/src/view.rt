@@ -121,11 +121,21 @@ impl From<ViewFault> for Reason {
 
 /// For each node the newest value that is known of it: at most 256 nodes, sequence numbers from 1, values of at most 112
 /// bytes.
-#[derive(Drop)]
 pub struct View {
     alloc: Global,
     row: Row,
     count: usize,
+}
+
+impl Drop for View {
+    // By hand, so that it is proved here alone, and not in each crate that drops one.
+    fn drop(self) {
+        let View {
+            alloc: _,
+            row: _,
+            count: _,
+        } = self;
+    }
 }
 
 impl Model for View {

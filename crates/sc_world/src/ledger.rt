@@ -19,7 +19,6 @@ use std::alloc::{AllocError, Global};
 use std::marker::Model;
 
 /// What is kept of every event, beside the nodes.
-#[derive(Drop)]
 pub struct Ledger {
     alloc: Global,
     config: Config,
@@ -29,6 +28,22 @@ pub struct Ledger {
     sent: Vec<Message>,
     ops: Vec<Op>,
     places: Places,
+}
+
+impl Drop for Ledger {
+    // By hand, so that it is proved here alone, and not in each crate that drops one.
+    fn drop(self) {
+        let Ledger {
+            alloc: _,
+            config: _,
+            founders: _,
+            crashed: _,
+            events: _,
+            sent: _,
+            ops: _,
+            places: _,
+        } = self;
+    }
 }
 
 impl Model for Ledger {

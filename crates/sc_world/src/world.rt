@@ -28,11 +28,21 @@ pub type WorldFault = Reason;
 
 /// The nodes of a store-collect object, the list of accepted events, every message that was ever sent, and the
 /// record of each operation.
-#[derive(Drop)]
 pub struct World {
     alloc: Global,
     nodes: Nodes,
     ledger: Ledger,
+}
+
+impl Drop for World {
+    // By hand, so that it is proved here alone, and not in each crate that drops one.
+    fn drop(self) {
+        let World {
+            alloc: _,
+            nodes: _,
+            ledger: _,
+        } = self;
+    }
 }
 
 impl Model for World {
