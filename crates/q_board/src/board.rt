@@ -38,7 +38,6 @@ pub const MOST_RUNNERS: usize = 64;
 
 /// A board, which its askers and runners share. Each asker has a row of eight slots. A bell wakes runners that sleep
 /// while there are no jobs; no clause speaks of it.
-#[derive(Drop)]
 pub struct Board {
     table: Table<Content, Holder, u64, Order, Global>,
     lanes: usize,
@@ -47,6 +46,18 @@ pub struct Board {
     // Rung where a slot was made ready and a runner is drowsy.
     bell: Condvar,
     ghost sized: { (table.shared.table_id.words ≡ lanes) × (table.shared.table_id.slots ≡ lanes) × (table.shared.key ≡ lanes) },
+}
+
+impl Drop for Board {
+    // By hand, so that it is proved here alone, and not in each crate that drops one.
+    fn drop(self) {
+        let Board {
+            table: _,
+            lanes: _,
+            drowsy: _,
+            bell: _,
+        } = self;
+    }
 }
 
 impl Board {

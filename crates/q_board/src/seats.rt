@@ -28,12 +28,22 @@ pub struct Slot {
 
 /// Offers jobs and receives their results, in a row of eight slots of its own. Contracts see it as the record of its
 /// board, its number and what it has done.
-#[derive(Drop)]
 pub struct AskerSeat {
     pub(crate) seat: Seat<Content, Holder>,
     pub(crate) number: usize,
     // The places in the row with no open job. The one that the seat took last is first.
     pub(crate) free: VecDeque<usize>,
+}
+
+impl Drop for AskerSeat {
+    // By hand, so that it is proved here alone, and not in each crate that drops one.
+    fn drop(self) {
+        let AskerSeat {
+            seat: _,
+            number: _,
+            free: _,
+        } = self;
+    }
 }
 
 impl Model for AskerSeat {
@@ -71,7 +81,6 @@ impl AskerSeat {
 
 /// Claims jobs in any slot, and finishes them or gives them back. Contracts see it as the record of its board, its
 /// number, what it has done and the slot whose turn it is.
-#[derive(Drop)]
 pub struct RunnerSeat {
     pub(crate) seat: Seat<Content, Holder>,
     pub(crate) number: u32,
@@ -79,6 +88,19 @@ pub struct RunnerSeat {
     pub(crate) claims: VecDeque<usize>,
     pub(crate) lanes: usize,
     pub(crate) next: usize,
+}
+
+impl Drop for RunnerSeat {
+    // By hand, so that it is proved here alone, and not in each crate that drops one.
+    fn drop(self) {
+        let RunnerSeat {
+            seat: _,
+            number: _,
+            claims: _,
+            lanes: _,
+            next: _,
+        } = self;
+    }
 }
 
 impl Model for RunnerSeat {

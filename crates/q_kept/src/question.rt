@@ -12,12 +12,21 @@ use sc_operations::Phase;
 const LAST_LOOK: u32 = 4;
 
 /// A message that was given, and that goes again.
-#[derive(Drop)]
 pub struct Question {
     /// The message.
     pub message: Message,
     /// How many looks at all questions came since it was given; the count stays at its greatest value.
     pub looks: u32,
+}
+
+impl Drop for Question {
+    // By hand, so that it is proved here alone, and not in each crate that drops one.
+    fn drop(self) {
+        let Question {
+            message: _,
+            looks: _,
+        } = self;
+    }
 }
 
 /// Whether a message goes again: what operations ask, and what a node tells of itself.

@@ -93,9 +93,15 @@ impl Door {
 }
 
 /// A mailbox with a lock of its own for each of some nodes, which are counted from 1. Contracts see how many.
-#[derive(Drop)]
 pub struct Hub {
     mailboxes: Vec<Door>,
+}
+
+impl Drop for Hub {
+    // By hand, so that it is proved here alone, and not in each crate that drops one.
+    fn drop(self) {
+        let Hub { mailboxes: _ } = self;
+    }
 }
 
 impl Model for Hub {
