@@ -96,6 +96,7 @@ fn tell_fault<W: Write, N: Write>(
         WordsFault::Wrong(_)
         | WordsFault::BadStart { .. }
         | WordsFault::BadLengths { .. }
+        | WordsFault::NotesOverProgram { .. }
         | WordsFault::BadId { .. }
         | WordsFault::BadRunners { .. }
         | WordsFault::NotUtf8 => note_fault(fault, notes),

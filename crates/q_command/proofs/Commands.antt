@@ -22,7 +22,7 @@ use Rattle.clap.specs.declared.parser.matches.ArgMatches.TheViews.{out-ArgMatche
 use Rattle.clap.proofs.OnLiterals.{clap_on_literals}
 use Rattle.q_command.specs.declared.words.Wanted.{Wanted}
 use Rattle.q_command.specs.declared.words.WordsFault.{WordsFault}
-use Rattle.q_command.specs.declared.words.WordsFault.TheVariants.{Help, Wrong, BadStart, BadLengths, BadId, BadRunners, NotUtf8, OutOfMemory}
+use Rattle.q_command.specs.declared.words.WordsFault.TheVariants.{Help, Wrong, BadStart, BadLengths, NotesOverProgram, BadId, BadRunners, NotUtf8, OutOfMemory}
 use Rattle.q_command.specs.Words.{Has, bqview, operand_of, AreBad, AreGiven, AreGivenFor, IsAskedFor, IsMet, HasFault, HasLineFault, IsRunners, Reads, Tells}
 
 simple : is_simple bqview ≡ true
@@ -151,6 +151,7 @@ read_so : (words : List Text) (r : Result Wanted WordsFault) (met : Text × List
 read_so words (Ok asked) met n s h = (n, was_met (IsMet asked) _ met s h)
 read_so words (Err (BadStart start)) met n s h = (n, was_met (HasLineFault (BadStart start)) _ met s h)
 read_so words (Err (BadLengths command least most)) met n s h = (n, was_met (HasLineFault (BadLengths command least most)) _ met s h)
+read_so words (Err (NotesOverProgram notes)) met n s h = (n, was_met (HasLineFault (NotesOverProgram notes)) _ met s h)
 read_so words (Err (BadId id)) met n s h = (n, was_met (HasLineFault (BadId id)) _ met s h)
 read_so words (Err (BadRunners runners)) met n s h = (n, was_met (HasLineFault (BadRunners runners)) _ met s h)
 read_so words (Err (Help e)) met n s h = absurd h
@@ -171,6 +172,7 @@ faulty_so words error (Wrong x) h t = elim h [
 faulty_so words error OutOfMemory h t = tt
 faulty_so words error (BadStart start) h t = absurd t
 faulty_so words error (BadLengths command least most) h t = absurd t
+faulty_so words error (NotesOverProgram notes) h t = absurd t
 faulty_so words error (BadId id) h t = absurd t
 faulty_so words error (BadRunners runners) h t = absurd t
 faulty_so words error NotUtf8 h t = absurd t

@@ -24,7 +24,7 @@ use Rattle.q_command.specs.declared.words.NodeCommand.{NodeCommand}
 use Rattle.q_command.specs.declared.words.Wanted.{Wanted}
 use Rattle.q_command.specs.declared.words.Wanted.TheVariants as wanted
 use Rattle.q_command.specs.declared.words.WordsFault.{WordsFault}
-use Rattle.q_command.specs.declared.words.WordsFault.TheVariants.{Help, Wrong, BadStart, BadLengths, BadId, BadRunners, NotUtf8, OutOfMemory}
+use Rattle.q_command.specs.declared.words.WordsFault.TheVariants.{Help, Wrong, BadStart, BadLengths, NotesOverProgram, BadId, BadRunners, NotUtf8, OutOfMemory}
 use Rattle.q_script.specs.Words.{IsNumeral}
 
 -- ---- the command line
@@ -168,6 +168,10 @@ AreBad rows = (lengths : Interval) → AreGiven rows lengths → ⊥
 abbrev pub IsRunners : Text → ℕ → Type 0
 IsRunners text n = IsNumeral text n × (1 ≤ n) × (n ≤ 64)
 
+-- the notes are to be written over the program's own file
+abbrev pub AreOverProgram : List Row → Type 0
+AreOverProgram rows = first_of (codes "notes") rows ≡ Some (operand_of (codes "FILE") rows)
+
 -- this count of threads was given for `--runners`, or stands for it
 abbrev pub AreRunners : List Row → ℕ → Type 0
 AreRunners rows n = IsRunners (operand_of (codes "runners") rows) n
@@ -186,7 +190,7 @@ HasCommand (Asm file) met = (met.0 ≡ codes "asm") × (file.now ≡ operand_of 
 HasCommand (Dis file) met = (met.0 ≡ codes "dis") × (file.now ≡ operand_of (codes "FILE") met.1)
 HasCommand (Check file held lengths states notes) met =
     (met.0 ≡ codes "check") × HasProgram file held lengths met.1 × (states ≡ is_given (codes "states") met.1)
-    × (option_map (λ name. name.now) notes ≡ first_of (codes "notes") met.1)
+    × (option_map (λ name. name.now) notes ≡ first_of (codes "notes") met.1) × ¬ (AreOverProgram met.1)
 HasCommand (Run file held start records lengths) met =
     (met.0 ≡ codes "run") × HasProgram file held lengths met.1 × IsNumeral (operand_of (codes "START") met.1) start
     × (records.now ≡ operand_of (codes "RECORDS") met.1)
@@ -236,6 +240,8 @@ HasLineFault (BadStart start) met = HasBadStart met × (start.now ≡ operand_of
 HasLineFault (BadLengths command least most) met =
     HasLengths met × AreBad met.1 × (command.now ≡ met.0)
     × (least.now ≡ operand_of (codes "least") met.1) × (most.now ≡ operand_of (codes "most") met.1)
+HasLineFault (NotesOverProgram notes) met =
+    (met.0 ≡ codes "check") × ((lengths : Interval) × AreGiven met.1 lengths) × AreOverProgram met.1 × (notes.now ≡ operand_of (codes "FILE") met.1)
 HasLineFault (BadId id) met = HasBadId met × (id.now ≡ operand_of (codes "ID") met.1)
 HasLineFault (BadRunners runners) met = HasBadRunners met × (runners.now ≡ operand_of (codes "runners") met.1)
 HasLineFault OutOfMemory met = ⊤
@@ -267,7 +273,7 @@ HasFault words OutOfMemory = ⊤
 HasFault words e = (fault_of bqview words ≡ []) × IsSomeAnd (subcommand_of bqview words) (HasLineFault e)
 
 -- a command is read exactly where the words have no fault by the rules of `clap`, START and ID are numbers, the lengths
--- are in order and within bounds, and so is the count of runners
+-- are in order and within bounds, and so is the count of runners, and notes do not go over their own program
 abbrev pub Reads : List Text → Result Wanted WordsFault → Type 0
 Reads words (Ok asked) = (fault_of bqview words ≡ []) × IsSomeAnd (subcommand_of bqview words) (IsMet asked)
 Reads words (Err e) = HasFault words e
@@ -279,6 +285,7 @@ exit_status OutOfMemory = 1
 exit_status (Wrong e) = 2
 exit_status (BadStart start) = 2
 exit_status (BadLengths command least most) = 2
+exit_status (NotesOverProgram notes) = 2
 exit_status (BadId id) = 2
 exit_status (BadRunners runners) = 2
 exit_status NotUtf8 = 2

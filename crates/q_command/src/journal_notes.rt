@@ -65,6 +65,41 @@ fn is_alike(book: &Book, other: &Book) -> bool {
     book.version() == other.version() && book.config() == other.config()
 }
 
+/// The founders that the first head names that names some, and the place of its book.
+fn named_founders(books: &[Book]) -> Option<(usize, &[u64])> {
+    for (place, book) in books.iter().enumerate() {
+        if let Some(founders) = book.founders() {
+            return Some((place, founders));
+        }
+    }
+    None
+}
+
+/// Says which head names other founders than the first that names some, or of which founder there is no journal.
+fn note_founders<N: Write>(notes: &mut N, names: &[&str], books: &[Book]) {
+    let Some((place, founders)) = named_founders(books) else {
+        let _ = writeln!(notes, "None of these journals is that of a founder.");
+        return;
+    };
+    let first = name_at(names, place);
+    for (place, book) in books.iter().enumerate() {
+        if book.founders().is_some_and(|others| others != founders) {
+            let name = name_at(names, place);
+            let _ = writeln!(notes, "{name}: It names other founders than {first}.");
+            return;
+        }
+    }
+    for founder in founders {
+        if !books.iter().any(|book| book.id() == *founder) {
+            let _ = writeln!(
+                notes,
+                "{first}: It names a founder, node {founder}, whose journal is missing."
+            );
+            return;
+        }
+    }
+}
+
 fn note_heads<N: Write>(notes: &mut N, names: &[&str], books: &[Book]) {
     for (place, book) in books.iter().enumerate() {
         if !is_alike(book, &books[0]) {
@@ -77,10 +112,7 @@ fn note_heads<N: Write>(notes: &mut N, names: &[&str], books: &[Book]) {
             return;
         }
     }
-    let _ = writeln!(
-        notes,
-        "The journal of a founder is missing, or the heads name other founders."
-    );
+    note_founders(notes, names, books);
 }
 
 /// Says why the journals of the files with these names do not gather.

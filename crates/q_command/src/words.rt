@@ -104,7 +104,7 @@ pub struct NodeCommand<'a> {
     pub file: &'a str,
     /// The id of the node.
     pub id: u64,
-    /// Where its clients come in: a host and a port, or the path of a Unix socket.
+    /// Where its clients come in: a host and a port, or the path of a Unix socket, which has a slash.
     pub clients: &'a str,
     /// The name of the file to which its journal is to be written.
     pub journal: &'a str,
@@ -172,6 +172,12 @@ pub enum WordsFault<'a> {
         /// What was given for `--most`, or stands for it.
         most: &'a str,
     },
+    /// The notes of `check` would be written over its program. The text belongs to the standard error.
+    #[error("error: --notes '{notes}' is the program's own file, which would be lost: name another\n\nFor more information, try 'bqview check --help'.\n")]
+    NotesOverProgram {
+        /// What was given for `--notes`, and for FILE.
+        notes: &'a str,
+    },
     /// The ID of `node` is no number. The text belongs to the standard error.
     #[error("error: ID is the node's id, and '{id}' is none: write a number from 0 to 18446744073709551615 in decimal, with no zero in front of other digits and no sign\n\nFor more information, try 'bqview node --help'.\n")]
     BadId {
@@ -204,6 +210,7 @@ impl WordsFault<'_> {
             WordsFault::Wrong(_)
             | WordsFault::BadStart { .. }
             | WordsFault::BadLengths { .. }
+            | WordsFault::NotesOverProgram { .. }
             | WordsFault::BadId { .. }
             | WordsFault::BadRunners { .. }
             | WordsFault::NotUtf8 => 2,
@@ -405,7 +412,7 @@ fn dis_command<'a>(alloc: Global) -> Result<Command<'a>, AllocError>
         alloc,
         "dis",
         "Prints the assembler text of a program's bytes, one instruction a line",
-        "All is printed at the end. What explains a refusal goes to the standard error.\nExit status: 0; 1 after a refusal, or where the output fails; 2 for a wrong command line.\nExample: bqview dis count.text\nFormats: docs/FORMATS.md, \"Assembler text\"",
+        "All is printed at the end. What explains a refusal goes to the standard error.\nExit status: 0; 1 after a refusal, or where the output fails; 2 for a wrong command line.\nExample: bqview dis examples/c/any.bin\nFormats: docs/FORMATS.md, \"Assembler text\"",
     );
     with_argument(
         Ok(command),
@@ -611,7 +618,7 @@ fn node_command<'a>(alloc: Global) -> Result<Command<'a>, AllocError>
         demanded(
             alloc,
             "clients",
-            "Where clients connect: an address, as 10.88.0.1:8000, or the path of a Unix socket",
+            "Where clients connect: an address, as 10.88.0.1:8000, or the path of a Unix socket, which has a slash",
             "ADDR",
         ),
     );
@@ -788,6 +795,18 @@ fn bad_lengths<'a>(found: &ArgMatches<'a>, command: &'a str) -> WordsFault<'a>
     }
 }
 
+/// The name under which notes are to be written, where that is the name of their program's file.
+fn over_program<'a>(notes: Option<&'a str>, file: &str) -> Option<&'a str>
+    ensures { MatchOption result
+        (¬ (option_map (λ name. name.now) notes ≡ Some file.now))
+        (λ name. (name.now ≡ file.now) × (option_map (λ name. name.now) notes ≡ Some file.now)) }
+{
+    match notes {
+        Some(name) if name == file => Some(name),
+        _ => None,
+    }
+}
+
 /// The command `check` with what was found for its operands.
 fn check_line<'a>(found: &ArgMatches<'a>) -> Result<Wanted<'a>, WordsFault<'a>>
     ensures { MatchResult result (λ wanted. IsMet wanted (codes "check", rows_of (found_of found.now))) (λ e. HasLineFault e (codes "check", rows_of (found_of found.now))) }
@@ -795,12 +814,17 @@ fn check_line<'a>(found: &ArgMatches<'a>) -> Result<Wanted<'a>, WordsFault<'a>>
     let Some(lengths) = lengths(found) else {
         return Err(bad_lengths(found, "check"));
     };
+    let file = operand_text(found, "FILE");
+    let notes = optional_text(found, "notes");
+    if let Some(notes) = over_program(notes, file) {
+        return Err(WordsFault::NotesOverProgram { notes });
+    }
     Ok(Wanted::FileCommand(FileCommand::Check {
-        file: operand_text(found, "FILE"),
+        file,
         form: program_form(found),
         lengths,
         states: is_given(found, "states"),
-        notes: optional_text(found, "notes"),
+        notes,
     }))
 }
 

@@ -7,7 +7,7 @@ ghost use Rattle.clap.specs.Words.{Row, fault_of, first_of, subcommand_of};
 ghost use Rattle.clap.specs.declared.error.kind.ErrorKind.TheVariants as clap_kind;
 ghost use Rattle.bq_range.specs.Interval.{Interval};
 ghost use Rattle.q_script.specs.Words.{IsNumeral};
-ghost use Rattle.q_command.specs.Words.{AreGiven, HasCommand, HasLineFault, HasNode, HasProgram, IsMet, IsRunners, Reads, TellsUngiven, bqview, exit_status, form_of, is_given, is_strict, operand_of, operands_of};
+ghost use Rattle.q_command.specs.Words.{AreGiven, AreOverProgram, HasCommand, HasLineFault, HasNode, HasProgram, IsMet, IsRunners, Reads, TellsUngiven, bqview, exit_status, form_of, is_given, is_strict, operand_of, operands_of};
 ghost use Rattle.q_command.specs.declared.words.ProgramForm.TheVariants as form;
 ghost use Rattle.q_command.specs.declared.words.FileCommand.TheVariants as line;
 ghost use Rattle.q_command.specs.declared.words.Wanted.TheVariants as wanted;
@@ -19,7 +19,7 @@ pub fn worked()
     ensures asm { (rows : List Row) (file : _) → file.now ≡ operand_of (codes "FILE") rows → HasCommand (line.Asm file) (codes "asm", rows) }
     ensures dis { (rows : List Row) (file : _) → file.now ≡ operand_of (codes "FILE") rows → HasCommand (line.Dis file) (codes "dis", rows) }
     ensures dis_is_no_asm { (rows : List Row) (file : _) → HasCommand (line.Asm file) (codes "dis", rows) → ⊥ }
-    ensures check { (rows : List Row) (file held lengths states notes : _) → HasProgram file held lengths rows → states ≡ is_given (codes "states") rows → option_map (λ name. name.now) notes ≡ first_of (codes "notes") rows → HasCommand (line.Check file held lengths states notes) (codes "check", rows) }
+    ensures check { (rows : List Row) (file held lengths states notes : _) → HasProgram file held lengths rows → states ≡ is_given (codes "states") rows → option_map (λ name. name.now) notes ≡ first_of (codes "notes") rows → ¬ (AreOverProgram rows) → HasCommand (line.Check file held lengths states notes) (codes "check", rows) }
     ensures check_is_no_asm { (rows : List Row) (file : _) → HasCommand (line.Asm file) (codes "check", rows) → ⊥ }
     ensures run { (rows : List Row) (file held start records lengths : _) → HasProgram file held lengths rows → IsNumeral (operand_of (codes "START") rows) start → records.now ≡ operand_of (codes "RECORDS") rows → HasCommand (line.Run file held start records lengths) (codes "run", rows) }
     ensures run_over_the_records { (rows : List Row) (file held start records lengths : _) → HasCommand (line.Run file held start records lengths) (codes "run", rows) → records.now ≡ operand_of (codes "RECORDS") rows }
@@ -27,6 +27,7 @@ pub fn worked()
     ensures text { option_map (λ met. form_of met.1) (subcommand_of bqview (codes "bqview" ∷ codes "check" ∷ codes "a" ∷ [])) ≡ Some form.Text }
     ensures notes { option_map (λ met. first_of (codes "notes") met.1) (subcommand_of bqview (codes "bqview" ∷ codes "check" ∷ codes "--notes" ∷ codes "b" ∷ codes "a" ∷ [])) ≡ Some (Some (codes "b")) }
     ensures no_notes { option_map (λ met. first_of (codes "notes") met.1) (subcommand_of bqview (codes "bqview" ∷ codes "check" ∷ codes "a" ∷ [])) ≡ Some None }
+    ensures notes_over_program { (rows : List Row) (file held lengths states notes : _) → AreOverProgram rows → HasCommand (line.Check file held lengths states notes) (codes "check", rows) → ⊥ }
     ensures bad_lengths { (rows : List Row) (command least most : _) → HasLineFault (fault.BadLengths command least most) (codes "run", rows) → (command.now ≡ codes "run") × (least.now ≡ operand_of (codes "least") rows) }
     ensures least { (rows : List Row) (lengths : Interval) → AreGiven rows lengths → IsNumeral (operand_of (codes "least") rows) lengths.lo }
     ensures most { (rows : List Row) (lengths : Interval) → AreGiven rows lengths → IsNumeral (operand_of (codes "most") rows) lengths.hi }
