@@ -39,6 +39,7 @@ pub struct StoreBack {
 
 /// An operation. A store has no query phase, and stores back from its beginning. A collect begins with its query
 /// phase, whose counted senders it keeps, and stores back once that phase has ended.
+#[derive(Drop)]
 pub struct Session {
     /// Whether it stores or collects.
     pub kind: OperationKind,
@@ -46,17 +47,6 @@ pub struct Session {
     pub query: Option<Phase>,
     /// What is stored, or stored back, once it is.
     pub back: Option<StoreBack>,
-}
-
-impl Drop for Session {
-    // By hand, so that it is proved here alone, and not in each crate that drops one.
-    fn drop(self) {
-        let Session {
-            kind: _,
-            query: _,
-            back: _,
-        } = self;
-    }
 }
 
 impl Phase {
