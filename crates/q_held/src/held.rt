@@ -15,6 +15,7 @@ use sc_msg::{Message, MessageFault};
 use std::alloc::Global;
 
 /// A node's book, the messages that its thread has still to send, and its seat at the board of jobs.
+#[derive(Drop)]
 pub struct Held<'b> {
     /// The book, which is the replay of its journal.
     pub book: Book,
@@ -29,20 +30,6 @@ pub struct Held<'b> {
     /// The node's seat at this board.
     pub asker: AskerSeat,
     ghost seated: { asker.table ≡ board_id board.now },
-}
-
-impl Drop for Held<'_> {
-    // By hand, so that it is proved here alone, and not in each crate that drops one.
-    fn drop(self) {
-        let Held {
-            book: _,
-            waiting: _,
-            lost: _,
-            unsent: _,
-            board: _,
-            asker: _,
-        } = self;
-    }
 }
 
 /// Why a datagram changes nothing: it counts as lost.

@@ -11,21 +11,12 @@ use reasons::{Reason, told};
 use std::alloc::Global;
 
 /// A script: how its cluster is founded, and its events in turn.
+#[derive(Drop)]
 pub struct Script {
     /// How the cluster is founded.
     pub founding: Founding,
     /// The events, of which the first stands on line 2.
     pub lines: Vec<ScriptLine>,
-}
-
-impl Drop for Script {
-    // By hand, so that it is proved here alone, and not in each crate that drops one.
-    fn drop(self) {
-        let Script {
-            founding: _,
-            lines: _,
-        } = self;
-    }
 }
 
 /// Why a script is not read.

@@ -106,7 +106,8 @@ impl Outs {
         requires { vec_len sent.old + length self ≤ vec_capacity sent.old }
         ensures { sent.new.items ≡ sent.old.items ++ self }
     {
-        for slot in self.slots {
+        let Outs { slots } = self;
+        for slot in slots {
             sent.push_reserved(slot.message);
         }
     }
