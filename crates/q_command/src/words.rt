@@ -1,6 +1,6 @@
 //! The words of the command line.
 
-ghost use Rattle.std.specs.Prelude.{◌≡◌, ℕ, codes, IfOk, IfErr, IsErrAnd, MatchOption, MatchResult, map, option_map, false, true};
+ghost use Rattle.std.specs.Prelude.{◌≡◌, ℕ, codes, IfOk, IfErr, IsErrAnd, MatchOption, MatchResult, map, option_map, Some, false, true};
 ghost use Rattle.std.specs.Option.{SomeIff};
 ghost use Rattle.std.specs.Vec.Iter.{into_iter_items};
 ghost use Rattle.bq_range.specs.Interval.{between};
@@ -798,8 +798,8 @@ fn bad_lengths<'a>(found: &ArgMatches<'a>, command: &'a str) -> WordsFault<'a>
 /// The name under which notes are to be written, where that is the name of their program's file.
 fn over_program<'a>(notes: Option<&'a str>, file: &str) -> Option<&'a str>
     ensures { MatchOption result
-        (¬ (option_map (λ name. name.now) notes ≡ Some file.now))
-        (λ name. (name.now ≡ file.now) × (option_map (λ name. name.now) notes ≡ Some file.now)) }
+        (¬ (option_map (λ name. name.now) notes.entry ≡ Some file.now))
+        (λ name. (name.now ≡ file.now) × (option_map (λ name. name.now) notes.entry ≡ Some file.now)) }
 {
     match notes {
         Some(name) if name == file => Some(name),
