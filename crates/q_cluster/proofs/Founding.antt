@@ -19,7 +19,7 @@ use Rattle.q_history.specs.Clusters.{desks_with, start, founded, started}
 use Rattle.q_history.proofs.EveryBook.{IsAmong, among_first, among_rest}
 use Rattle.std.proofs.lemmas.Bool.{eqb-true}
 use Rattle.q_cluster.specs.Tables.{BookMap, each}
-use Rattle.q_cluster.specs.Calls.{books_with}
+use Rattle.q_cluster.specs.Founders.{books_with}
 use Rattle.q_cluster.specs.Acts.{cluster_of, IsHeaded, AreFiled, IsCluster}
 use Rattle.q_cluster.proofs.Tables.{same_some, each-insert, each-empty}
 use Rattle.q_cluster.proofs.Going.{node_of, desk_of}

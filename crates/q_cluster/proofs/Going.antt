@@ -1,7 +1,8 @@
 -- What a call of one book and the record of it make of a cluster.
-use Rattle.std.proofs.Common.{◌≡◌, ℕ, Bool, true, false, cond, ◌==◌, List, length, Option, Some, None, refl, sym, ap, subst, ◌∙◌, slice_get, Result, Ok, Err}
-use Rattle.std.specs.Prelude.{option_map}
+use Rattle.std.proofs.Common.{◌≡◌, ◌≢◌, ℕ, Bool, true, false, cond, ◌==◌, List, length, Option, Some, None, refl, sym, ap, subst, ◌∙◌, slice_get, Result, Ok, Err}
+use Rattle.std.specs.Prelude.{option_map, IsErrAnd}
 use Rattle.std.proofs.lemmas.Bool.{eqb-true}
+use Rattle.std.proofs.lemmas.Result.{err_from_is_err_and}
 use Rattle.std.specs.FinMap as fin
 use Rattle.sc_node.specs.State.{NodeState}
 use Rattle.sc_node.specs.Nodes as node
@@ -35,10 +36,9 @@ use Rattle.q_history.specs.Heads.{founders_for}
 use Rattle.q_history.proofs.Accepted.{at_live}
 use Rattle.q_history.proofs.Histories.{history_next, history_kept}
 use Rattle.q_cluster.specs.Tables.{BookMap}
-use Rattle.q_cluster.specs.Calls.{StepsAt}
 use Rattle.q_cluster.specs.Acts.{Doing, cluster_of, IsHeaded, AreFiled, IsCluster, IsThere, booked, book_at}
 use Rattle.q_cluster.proofs.Histories.{nothing}
-use Rattle.q_cluster.proofs.Tables.{same_some, get-each, each-insert}
+use Rattle.q_cluster.proofs.Tables.{same_some, insert_same, get-each, each-insert}
 use Rattle.q_cluster.proofs.Calls.{Keeps, Call, does, IsCall, Note, delivering}
 
 abbrev pub node_of : BookState → NodeState
@@ -47,40 +47,32 @@ node_of b = b.node
 abbrev pub desk_of : BookState → DeskState
 desk_of b = b.desk
 
--- a cluster, as contracts see it, and the book of a node that is there
-pub record Stands (version : Version) (books : BookMap) (past : Past) (jobs : List Job) (x : ClusterState) (id : ℕ) : Type 0 where
-  pub is : cluster_of version books past jobs ≡ x
-  pub old : IsCluster version books past jobs
-  pub book : BookState
-  pub has : fin.get books id ≡ Some book
-  pub live : live_at (cluster_of version books past jobs).world id ≡ Some book.node
-  pub turns : (f : Doing) → at (cluster_of version books past jobs) id f ≡ f book
-
+-- a node that is there, as contracts see its cluster
 module _ {version : Version} {books : BookMap} {past : Past} {jobs : List Job} {x : ClusterState} {id : ℕ} (old : IsCluster version books past jobs) (is : cluster_of version books past jobs ≡ x) (there : IsThere x id) where
   abbrev here : ClusterState
   here = cluster_of version books past jobs
 
-  stands_by : (t : IsThere here id) (o : Option BookState) → fin.get books id ≡ o → option_map node_of o ≡ Some t.node → Stands version books past jobs x id
-  stands_by t None at_id h = absurd (cc)
-  stands_by t (Some b) at_id h =
-      let live : live_at here.world id ≡ Some b.node = t.live ∙ ap (λ (n : NodeState). let o : Option NodeState = Some n in o) (sym (same_some b.node t.node h)) in
-      let desk : fin.get here.desks id ≡ Some b.desk = get-each desk_of books id ∙ ap (option_map desk_of) at_id in
-      let head = old.filed id b at_id in
-      record {
-        is = is;
-        old = old;
-        book = b;
-        has = at_id;
-        live = live;
-        turns = λ f.
-            (λ i. by_book here id (live i) (desk i) f)
-            ∙ ap f (λ i. record { version = sym head.version i; id = sym head.id i; config = sym head.config i; founders = sym head.founders i; node = b.node; desk = b.desk });
-      }
+  abbrev t : IsThere here id
+  t = subst (λ (z : ClusterState). IsThere z id) (sym is) there
 
-  pub standing : Stands version books past jobs x id
-  standing =
-      let t : IsThere here id = subst (λ (z : ClusterState). IsThere z id) (sym is) there in
-      stands_by t (fin.get books id) refl (sym (get-each node_of books id) ∙ at_live here.world id t.node t.live)
+  -- it has a book
+  pub has_book : None ≡ fin.get books id → ⊥
+  has_book none = let e : None ≡ Some t.desk = ap (option_map desk_of) none ∙ sym (get-each desk_of books id) ∙ t.at in cc
+
+  module _ {b : BookState} (has : Some b ≡ fin.get books id) where
+    same_node : t.node ≡ b.node
+    same_node = same_some t.node b.node (sym (at_live here.world id t.node t.live) ∙ get-each node_of books id ∙ ap (option_map node_of) (sym has))
+
+    pub lives : live_at here.world id ≡ Some b.node
+    lives = t.live ∙ ap (λ (n : NodeState). let o : Option NodeState = Some n in o) same_node
+
+    -- what an event makes of it is said of its book
+    pub turns_to : (f : Doing) → at here id f ≡ f b
+    turns_to f =
+        let desk : fin.get here.desks id ≡ Some b.desk = get-each desk_of books id ∙ ap (option_map desk_of) (sym has) in
+        let head = old.filed id b (sym has) in
+        (λ i. by_book here id (lives i) (desk i) f)
+        ∙ ap f (λ i. record { version = sym head.version i; id = sym head.id i; config = sym head.config i; founders = sym head.founders i; node = b.node; desk = b.desk })
 
 module _ (version : Version) (books : BookMap) (past : Past) (jobs : List Job) where
   abbrev pub v : ClusterState
@@ -116,76 +108,69 @@ module _ (version : Version) (books : BookMap) (past : Past) (jobs : List Job) w
         founders = ap (λ (x : BookState). x.founders) k ∙ h.founders;
       }
 
--- what a call of the book at id makes of the table
-abbrev pub CallsAt : {A : Type 0} → Call A → BookMap → BookMap → ℕ → Result A Reason → Type 0
-CallsAt k old new id r = (b : BookState) → fin.get old id ≡ Some b → StepsAt (k.said b) old new id r
-
--- a refusal of a book, as its cluster answers it
-abbrev pub IsRefused : Result ClusterStep Reason → Reason → Type 0
-IsRefused r y = (f : Reason) × (r ≡ Err f) × (f ≡ y)
-
-module _ {A : Type 0} {version : Version} {books : BookMap} {past : Past} {jobs : List Job} {x : ClusterState} {id : ℕ} (k : Call A) (s : Stands version books past jobs x id) (ran : Ran) (so : IsCall k (cluster_of version books past jobs) id ran) where
+-- a call of the book of a node that is there
+module _ {A : Type 0} {version : Version} {books : BookMap} {past : Past} {jobs : List Job} {x : ClusterState} {id : ℕ} {b : BookState} (k : Call A) (old : IsCluster version books past jobs)
+    (same : cluster_of version books past jobs ≡ x) (there : IsThere x id) (has : Some b ≡ fin.get books id) (ran : Ran) (so : IsCall k (cluster_of version books past jobs) id ran) where
   abbrev c : ClusterState
   c = cluster_of version books past jobs
 
-  turns : stepped ran c k.event ≡ lift (k.next c) (k.said s.book)
-  turns = so.1 ∙ s.turns (does k c)
+  abbrev table : BookState → BookMap
+  table n = fin.insert books id n
+
+  turns : stepped ran c k.event ≡ lift (k.next c) (k.said b)
+  turns = so.1 ∙ turns_to old same there has (does k c)
 
   -- the call is refused
-  module _ (y : Reason) (books' : BookMap) (calls : let r : Result A Reason = Err y in CallsAt k books books' id r) {past' : Past} {jobs' : List Job} (same_past : past' ≡ past) (same_jobs : jobs' ≡ jobs) where
-    same_books : books' ≡ books
-    same_books = (calls s.book s.has).0
+  module _ {b' : BookState} {y : Reason} (steps : (b' ≡ b) × (y ≢ memory → k.said b ≡ Err y)) {past' : Past} {jobs' : List Job} (same_past : past' ≡ past) (same_jobs : jobs' ≡ jobs) where
+    same_books : table b' ≡ books
+    same_books = ap (fin.insert books id) steps.0 ∙ insert_same books id b (sym has)
 
-    pub stays : IsCluster version books' past' jobs'
+    pub stays : IsCluster version (table b') past' jobs'
     stays =
         subst (λ (m : BookMap). IsCluster version m past' jobs') (sym same_books)
-        (subst (λ (p : Past). IsCluster version books p jobs') (sym same_past) (subst (λ (js : List Job). IsCluster version books past js) (sym same_jobs) s.old))
+        (subst (λ (p : Past). IsCluster version books p jobs') (sym same_past) (subst (λ (js : List Job). IsCluster version books past js) (sym same_jobs) old))
 
-    pub refuses : (r : Result ClusterStep Reason) → IsRefused r y → Steps memory (stepped ran x k.event) x (cluster_of version books' past' jobs') r
+    pub refuses : (r : Result ClusterStep Reason) → IsErrAnd r (λ f. f ≡ y) → Steps memory (stepped ran x k.event) x (cluster_of version (table b') past' jobs') r
     refuses r h =
-        subst (λ (z : ClusterState). Steps memory (stepped ran z k.event) z (cluster_of version books' past' jobs') r) s.is
-        (subst (λ (z : Result ClusterStep Reason). Steps memory (stepped ran c k.event) c (cluster_of version books' past' jobs') z) (sym h.1) (
+        let why = err_from_is_err_and r h in
+        subst (λ (z : ClusterState). Steps memory (stepped ran z k.event) z (cluster_of version (table b') past' jobs') r) same
+        (subst (λ (z : Result ClusterStep Reason). Steps memory (stepped ran c k.event) c (cluster_of version (table b') past' jobs') z) (sym why.1) (
           (λ i. cluster_of version (same_books i) (same_past i) (same_jobs i)),
-          λ loud.
-              turns ∙ ap (lift (k.next c)) ((calls s.book s.has).1 (λ same. loud (h.2 ∙ same)))
-              ∙ ap (λ (z : Reason). let q : Said = Err z in q) (sym h.2),
+          λ loud. turns ∙ ap (lift (k.next c)) (steps.1 (λ full. loud (why.2 ∙ full))) ∙ ap (λ (z : Reason). let q : Said = Err z in q) (sym why.2),
         ))
 
   -- the call is accepted
-  module _ (a : A) (books' : BookMap) (calls : let r : Result A Reason = Ok a in CallsAt k books books' id r) where
-    abbrev new : BookState
-    new = (calls s.book s.has).0
-
+  module _ {b' : BookState} {a : A} (steps : k.said b ≡ Ok (a, b')) where
     -- and the cluster goes on to this past and these jobs
-    module _ (past' : Past) (jobs' : List Job) (t : ClusterStep) (is : k.next c a new ≡ (t, put c past' jobs' id new)) where
-      went : stepped ran c k.event ≡ Ok (t, cluster_of version books' past' jobs')
+    module _ (past' : Past) (jobs' : List Job) (t : ClusterStep) (is : k.next c a b' ≡ (t, put c past' jobs' id b')) where
+      went : stepped ran c k.event ≡ Ok (t, cluster_of version (table b') past' jobs')
       went =
-          turns ∙ ap (lift (k.next c)) (calls s.book s.has).1 ∙ ap (λ (p : ClusterStep × ClusterState). let r : Said = Ok p in r) is
-          ∙ ap (λ (d : ClusterState). let r : Said = Ok (t, d) in r) (put_is version books past jobs past' jobs' id new books' (calls s.book s.has).2)
+          turns ∙ ap (lift (k.next c)) steps ∙ ap (λ (p : ClusterStep × ClusterState). let r : Said = Ok p in r) is
+          ∙ ap (λ (d : ClusterState). let r : Said = Ok (t, d) in r) (put_is version books past jobs past' jobs' id b' (table b') refl)
 
-      says : stepped ran x k.event ≡ Ok (t, cluster_of version books' past' jobs')
-      says = subst (λ (z : ClusterState). stepped ran z k.event ≡ Ok (t, cluster_of version books' past' jobs')) s.is went
+      says : stepped ran x k.event ≡ Ok (t, cluster_of version (table b') past' jobs')
+      says = subst (λ (z : ClusterState). stepped ran z k.event ≡ Ok (t, cluster_of version (table b') past' jobs')) same went
 
-      goes : past'.config ≡ past.config → past'.founders ≡ past.founders → IsCluster version books' past' jobs'
+      goes : past'.config ≡ past.config → past'.founders ≡ past.founders → IsCluster version (table b') past' jobs'
       goes config founders = record {
-        history = history_next c (cluster_of version books' past' jobs') k.event t s.old.history (record { ran = ran; right = so.0; stepped = went });
-        filed = files version books past jobs past' config founders id new books' (calls s.book s.has).2
-            (headed version books past jobs id s.book new a (k.said s.book) (k.keeps s.book) (calls s.book s.has).1 (s.old.filed id s.book s.has)) s.old.filed;
+        history = history_next c (cluster_of version (table b') past' jobs') k.event t old.history (record { ran = ran; right = so.0; stepped = went });
+        filed = files version books past jobs past' config founders id b' (table b') refl
+            (headed version books past jobs id b b' a (k.said b) (k.keeps b) steps (old.filed id b (sym has))) old.filed;
       }
 
     -- nothing is recorded
-    module _ (tell : EventAnswer) (jobs' : List Job) (does_so : k.next c a new ≡ quiet c tell jobs' id new) {sent : Sent} {t : ClusterStep} (numbers : sent ≡ record { first = length past.sent; count = 0 }) (tells : t ≡ record { told = tell; sent = sent }) where
-      quiet_is : k.next c a new ≡ (t, put c past jobs' id new)
-      quiet_is = does_so ∙ (λ i. ((ap (λ (s : Sent). let x : ClusterStep = record { told = tell; sent = s } in x) (sym numbers) ∙ sym tells) i, put c past jobs' id new))
+    module _ (tell : EventAnswer) (jobs' : List Job) (does_so : k.next c a b' ≡ quiet c tell jobs' id b') {sent : Sent} {t : ClusterStep} (numbers : sent ≡ record { first = length past.sent; count = 0 }) (tells : t ≡ record { told = tell; sent = sent }) where
+      quiet_is : k.next c a b' ≡ (t, put c past jobs' id b')
+      quiet_is = does_so ∙ (λ i. ((ap (λ (s : Sent). let x : ClusterStep = record { told = tell; sent = s } in x) (sym numbers) ∙ sym tells) i, put c past jobs' id b'))
 
-      pub quiet_says : stepped ran x k.event ≡ Ok (t, cluster_of version books' past jobs')
+      pub quiet_says : stepped ran x k.event ≡ Ok (t, cluster_of version (table b') past jobs')
       quiet_says = says past jobs' t quiet_is
 
-      pub quiet_goes : IsCluster version books' past jobs'
+      pub quiet_goes : IsCluster version (table b') past jobs'
       quiet_goes = goes past jobs' t quiet_is refl refl
 
     -- the ledger records it
-    module _ (n : Note) (does_so : k.next c a new ≡ noted c n.told n.act id n.outs n.progress n.begun new) {reserved : Past} {past' : Past} {sent : Sent} {t : ClusterStep} (kept : reserved ≡ past)
+    module _ (n : Note) (does_so : k.next c a b' ≡ noted c n.told n.act id n.outs n.progress n.begun b') {reserved : Past} {past' : Past} {sent : Sent} {t : ClusterStep} (kept : reserved ≡ past)
         (records : past' ≡ recorded reserved n.act id n.outs n.progress n.begun) (numbers : sent ≡ numbered reserved n.outs) (tells : t ≡ record { told = n.told; sent = sent }) where
       past_is : past' ≡ recorded past n.act id n.outs n.progress n.begun
       past_is = records ∙ ap (λ (p : Past). recorded p n.act id n.outs n.progress n.begun) kept
@@ -193,13 +178,13 @@ module _ {A : Type 0} {version : Version} {books : BookMap} {past : Past} {jobs 
       told_is : t ≡ record { told = n.told; sent = numbered past n.outs }
       told_is = tells ∙ ap (λ (s : Sent). let x : ClusterStep = record { told = n.told; sent = s } in x) (numbers ∙ ap (λ (p : Past). numbered p n.outs) kept)
 
-      noted_is : k.next c a new ≡ (t, put c past' jobs id new)
-      noted_is = does_so ∙ (λ i. (sym told_is i, put c (sym past_is i) jobs id new))
+      noted_is : k.next c a b' ≡ (t, put c past' jobs id b')
+      noted_is = does_so ∙ (λ i. (sym told_is i, put c (sym past_is i) jobs id b'))
 
-      pub noted_says : stepped ran x k.event ≡ Ok (t, cluster_of version books' past' jobs)
+      pub noted_says : stepped ran x k.event ≡ Ok (t, cluster_of version (table b') past' jobs)
       noted_says = says past' jobs t noted_is
 
-      pub noted_goes : IsCluster version books' past' jobs
+      pub noted_goes : IsCluster version (table b') past' jobs
       noted_goes = goes past' jobs t noted_is (ap (λ (p : Past). p.config) past_is) (ap (λ (p : Past). p.founders) past_is)
 
 -- what the table has is what the cluster says
@@ -222,18 +207,21 @@ told_by b m a b' h =
     (p.0.0, p.0.1, p.1, ap (λ (x : Taken × BookState). x.0.progress) p.2)
 
 -- so what was made ready for it is right
-pub counted_right : {version : Version} {books : BookMap} {past : Past} {jobs : List Job} {x : ClusterState} {id : ℕ} (s : Stands version books past jobs x id) (m : Message) (a : Taken) (b' : BookState) → book.delivered s.book m ≡ Ok (a, b')
-    → (counting : Option Counting) (reserved : Past) → reserved ≡ past → IsReady reserved.ops id (answered id m.from m.body) counting → IsRight reserved.ops id (length reserved.events) a.progress counting
-counted_right {version} {books} {past} {jobs} {x} {id} s m a b' h counting reserved kept ready =
+pub counted_right : {version : Version} {books : BookMap} {past : Past} {jobs : List Job} {x : ClusterState} {id : ℕ} {b b' : BookState} → IsCluster version books past jobs → cluster_of version books past jobs ≡ x
+    → IsThere x id → Some b ≡ fin.get books id → (m : Message) (a : Taken) → book.delivered b m ≡ Ok (a, b') → (counting : Option Counting) (reserved : Past) → reserved ≡ past
+    → IsReady reserved.ops id (answered id m.from m.body) counting → IsRight reserved.ops id (length reserved.events) a.progress counting
+counted_right {version} {books} {past} {jobs} {x} {id} {b} {b'} old same there has m a h counting reserved kept ready =
     let c : ClusterState = cluster_of version books past jobs in
-    let t = told_by s.book m a b' h in
+    let t = told_by b m a b' h in
     subst (λ (p : Past). IsRight p.ops id (length p.events) a.progress counting) (sym kept)
     (subst (λ (p : Option Progress). IsRight past.ops id (length past.events) p counting) t.3
-    (delivery_right c.world (history_kept c s.old.history).world.history id s.book.node t.1 m t.0 counting (at_live c.world id s.book.node s.live) t.2
+    (delivery_right c.world (history_kept c old.history).world.history id b.node t.1 m t.0 counting (at_live c.world id b.node (lives old same there has)) t.2
     (subst (λ (p : Past). IsReady p.ops id (answered id m.from m.body) counting) kept ready)))
 
 -- a message that was sent is delivered
-pub is_delivery : {version : Version} {books : BookMap} {past : Past} {jobs : List Job} {x : ClusterState} {id : ℕ} (s : Stands version books past jobs x id) (number : ℕ) (m : Message) → slice_get past.sent number ≡ Some m
-    → IsCall (delivering number m id) (cluster_of version books past jobs) id nothing
-is_delivery {version} {books} {past} {jobs} {x} {id} s number m sent =
-    let c : ClusterState = cluster_of version books past jobs in (tt, ap (λ (o : Option Message). at c id (λ b. delivered_as c number id b o)) sent)
+pub is_delivery : {version : Version} {books : BookMap} {past : Past} {jobs : List Job} → IsCluster version books past jobs → (number : ℕ) (m : Message) (id : ℕ) → {reserved : Past} → reserved ≡ past
+    → {sent : List Message} → sent ≡ reserved.sent → slice_get sent number ≡ Some m → IsCall (delivering number m id) (cluster_of version books past jobs) id nothing
+is_delivery {version} {books} {past} {jobs} old number m id {reserved} kept {sent} is read =
+    let c : ClusterState = cluster_of version books past jobs in
+    let there : slice_get past.sent number ≡ Some m = ap (λ (ms : List Message). slice_get ms number) (sym (is ∙ ap (λ (p : Past). p.sent) kept)) ∙ read in
+    (tt, ap (λ (o : Option Message). at c id (λ b. delivered_as c number id b o)) there)

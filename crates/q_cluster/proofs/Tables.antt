@@ -1,20 +1,16 @@
 -- A table of books, seen as a finite map.
-use Rattle.std.proofs.Common.{◌≡◌, ℕ, Bool, true, false, cond, ◌==◌, List, [], ◌∷◌, map, Option, Some, refl, sym, ap, ◌∙◌, Result, Ok, Err}
+use Rattle.std.proofs.Common.{◌≡◌, ℕ, Bool, true, false, cond, ◌==◌, List, [], ◌∷◌, map, Option, Some, None, IsSome, MutBor, inl, inr, refl, sym, ap, ◌∙◌}
 use Rattle.std.specs.Prelude.{option_map}
+use Rattle.std.specs.Option.{option_copied_mut, ghost_name_of}
 use Rattle.std.proofs.lemmas.Bool.{eqb-true}
 use Rattle.std.specs.Ordering.{nat_cmp, is_eq}
 use Rattle.std.specs.Cmp.{nat_cmp_total}
 use Rattle.std.specs.FinMap as fin
 use Rattle.std.specs.FinMap.Entries.{find}
-use Rattle.std.specs.BTreeMap.{is_at}
-use Rattle.forms.proofs.Maps.{found, get_found, one_written}
 use Rattle.sc_world.proofs.Finite.{get-insert}
-use Rattle.forms.specs.Calls.{Steps, Does}
 use Rattle.q_book.specs.State.{BookState}
-use Rattle.reasons.specs.declared.Reason.{Reason}
-use Rattle.reasons.specs.declared.Reason.TheVariants.{OutOfMemory as memory}
 use Rattle.q_cluster.specs.Tables.{BookMap, each}
-use Rattle.q_cluster.specs.Calls.{StepsAt}
+use borrow.Follows.Closed.{read_of}
 
 pub same_some : {X : Type 0} (x y : X) → Some x ≡ Some y → x ≡ y
 same_some x y h = cc
@@ -54,30 +50,8 @@ module _ {X : Type 0} where
     pub each-empty : each f fin.empty ≡ fin.empty
     each-empty = same_map _ _ (λ q. get-each fin.empty q ∙ ap (option_map f) (fin.get-empty nat_cmp q) ∙ sym (fin.get-empty nat_cmp q))
 
--- what an entry list is after a write at an id
-abbrev pub Writes : List (ℕ × BookState) → List (ℕ × BookState) → ℕ → BookState → Type 0
-Writes es fs id n = (q : ℕ) → found fs q ≡ cond (is_at (nat_cmp id) q) (Some n) (found es q)
-
--- a call that wants no memory is one that may
-pub steps_of : {S A E : Type 0} (want : E) (said : Result (A × S) E) (n n' : S) (r : Result A E) → Does said n n' r → Steps want said n n' r
-steps_of want said n n' (Ok a) h = h
-steps_of want said n n' (Err e) h = (h.0, λ no. h.1)
-
--- a book of the table takes a call
-module _ (es fs : List (ℕ × BookState)) (old : BookMap) (id : ℕ) (n : BookState) (is : fin.from_entries es ≡ old) (at : Some n ≡ found es id) where
-  at_old : fin.get old id ≡ Some n
-  at_old = sym (at ∙ sym (get_found es id) ∙ ap (λ (m : BookMap). fin.get m id) is)
-
-  is_book : (b : BookState) → fin.get old id ≡ Some b → n ≡ b
-  is_book b h = same_some n b (sym at_old ∙ h)
-
-  written : (n' : BookState) → Writes es fs id n' → fin.from_entries fs ≡ fin.insert old id n'
-  written n' writes = one_written es fs id n' writes ∙ ap (λ (m : BookMap). fin.insert m id n') is
-
-  unchanged : (n' : BookState) → n' ≡ n → Writes es fs id n' → fin.from_entries fs ≡ old
-  unchanged n' same writes = written n' writes ∙ ap (fin.insert old id) same ∙ insert_same old id n at_old
-
-  pub steps_at : {A : Type 0} (said : BookState → Result (A × BookState) Reason) (n' : BookState) (r : Result A Reason) → Steps memory (said n) n n' r → Writes es fs id n'
-      → (b : BookState) → fin.get old id ≡ Some b → StepsAt (said b) old (fin.from_entries fs) id r
-  steps_at said n' (Ok a) h writes b here = (n', ap said (sym (is_book b here)) ∙ h, written n' writes)
-  steps_at said n' (Err e) h writes b here = (unchanged n' h.0 writes, λ no. ap said (sym (is_book b here)) ∙ h.1 no)
+-- a table is what its lender says of it
+pub lent : (r : Option (MutBor BookState)) {f g : BookState → BookMap} {old new : BookMap} → (IsSome (option_copied_mut r) → (b : BookState) → f b ≡ g b) → old ≡ new
+    → read_of (ghost_name_of r) f old ≡ read_of (ghost_name_of r) g new
+lent None writes same = ap inr same
+lent (Some b) writes same = λ i. inl (b.ghost_name, λ n. writes refl n i)

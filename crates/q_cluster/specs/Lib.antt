@@ -2,4 +2,5 @@
 pub mod Acts
 pub mod Codes
 pub mod Tables
-pub mod Calls
+pub mod Founders
+pub mod Lends

@@ -1,19 +1,16 @@
 //! The books of a cluster, by their nodes' ids.
 
-ghost use Rattle.std.specs.Prelude.{◌≡◌, OnOk, OnErr, Some, is_some, option_copied};
+ghost use Rattle.std.specs.Prelude.{◌≡◌, OnOk, OnErr, option_copied};
+ghost use Rattle.std.specs.Option.{option_copied_mut};
+ghost use Rattle.std.specs.Borrow.{sem};
 ghost use Rattle.std.specs.FinMap as fin;
-ghost use Rattle.q_book.specs.State.{BookState};
-ghost use Rattle.q_book.specs.Books as book;
 ghost use Rattle.reasons.specs.declared.Reason.TheVariants.{OutOfMemory as memory};
-ghost use Rattle.q_cluster.specs.Calls.{StepsAt, Founds};
+ghost use Rattle.q_cluster.specs.Founders.{Founds};
+ghost use Rattle.q_cluster.specs.Lends.{LendsBook};
 
-use q_book::{Asked, Book, BookFault, Taken};
-use q_session::{Done, Job};
-use q_table::{Program, ProgramId};
+use q_book::{Book, BookFault};
 use sc_members::Config;
-use sc_msg::{Message, Version};
-use sc_node::{Begun, Outs};
-use sc_view::Value;
+use sc_msg::Version;
 use std::alloc::{AllocError, Global};
 use std::collections::BTreeMap;
 use std::marker::Model;
@@ -62,74 +59,12 @@ impl Books {
         Ok(())
     }
 
-    /// Registers a program at this node, which is there.
-    pub fn register(&mut self, id: u64, program: &Program) -> Result<ProgramId, BookFault>
-        ensures { (b : BookState) → fin.get self.old id ≡ Some b → StepsAt (book.registered b program.now) self.old self.new id result }
+    /// The book of this node, to be changed.
+    pub fn get_mut(&mut self, id: u64) -> Option<&mut Book>
+        ensures* writes_back { sem 𝓛 (LendsBook self.entry id result) }
+        ensures book { option_copied_mut result ≡ fin.get self.old id }
     {
-        let Some(book) = self.entries.get_mut(&id) else {
-            return Err(BookFault::OutOfMemory);
-        };
-        book.register(program)
-    }
-
-    /// A query begins at this node, which is there.
-    pub fn ask(&mut self, id: u64, program: ProgramId, start: u64) -> Result<Asked, BookFault>
-        ensures { (b : BookState) → fin.get self.old id ≡ Some b → StepsAt (book.asked b program start) self.old self.new id result }
-    {
-        let Some(book) = self.entries.get_mut(&id) else {
-            return Err(BookFault::OutOfMemory);
-        };
-        book.ask(program, start)
-    }
-
-    /// A store begins at this node, which is there.
-    pub fn store(&mut self, id: u64, value: &Value) -> Result<Begun, BookFault>
-        ensures { (b : BookState) → fin.get self.old id ≡ Some b → StepsAt (book.stored b value.now) self.old self.new id result }
-    {
-        let Some(book) = self.entries.get_mut(&id) else {
-            return Err(BookFault::OutOfMemory);
-        };
-        book.store(value.bytes())
-    }
-
-    /// A message reaches this node, which is there.
-    pub fn deliver(&mut self, id: u64, message: &Message) -> Result<Taken, BookFault>
-        ensures { (b : BookState) → fin.get self.old id ≡ Some b → StepsAt (book.delivered b message.now) self.old self.new id result }
-    {
-        let Some(book) = self.entries.get_mut(&id) else {
-            return Err(BookFault::OutOfMemory);
-        };
-        book.deliver(message)
-    }
-
-    /// This node, which is there, leaves.
-    pub fn leave(&mut self, id: u64) -> Result<Outs, BookFault>
-        ensures { (b : BookState) → fin.get self.old id ≡ Some b → StepsAt (book.left b) self.old self.new id result }
-    {
-        let Some(book) = self.entries.get_mut(&id) else {
-            return Err(BookFault::OutOfMemory);
-        };
-        book.leave()
-    }
-
-    /// Hands out a job of this node, which is there.
-    pub fn hand_out(&mut self, id: u64) -> Result<Option<Job>, BookFault>
-        ensures { (b : BookState) → fin.get self.old id ≡ Some b → StepsAt (book.handed_out b) self.old self.new id result }
-    {
-        let Some(book) = self.entries.get_mut(&id) else {
-            return Err(BookFault::OutOfMemory);
-        };
-        book.hand_out()
-    }
-
-    /// Records a result at this node, which is there.
-    pub fn post(&mut self, id: u64, done: &Done) -> Result<(), BookFault>
-        ensures { (b : BookState) → fin.get self.old id ≡ Some b → StepsAt (book.posted b done.now.job done.now.ran) self.old self.new id result }
-    {
-        let Some(book) = self.entries.get_mut(&id) else {
-            return Err(BookFault::OutOfMemory);
-        };
-        book.post(done)
+        self.entries.get_mut(&id)
     }
 }
 

@@ -324,7 +324,10 @@ impl Cluster {
     {
         self.check_live(id)?;
         self.ledger.reserve(id)?;
-        let outs = self.books.leave(id)?;
+        let Some(book) = self.books.get_mut(id) else {
+            unreachable!()
+        };
+        let outs = book.leave()?;
         let sent = self
             .ledger
             .record(WorldEvent::Leave(id), id, outs, None, None, None);
@@ -345,7 +348,10 @@ impl Cluster {
         ensures { Steps memory (at self.old id (registered self.old id program.now)) self.old self.new result }
     {
         self.check_live(id)?;
-        let program = self.books.register(id, program)?;
+        let Some(book) = self.books.get_mut(id) else {
+            unreachable!()
+        };
+        let program = book.register(program)?;
         Ok(told(EventAnswer::Registered(program), self.ledger.silent()))
     }
 
@@ -354,7 +360,10 @@ impl Cluster {
     {
         self.check_live(id)?;
         self.ledger.reserve(id)?;
-        let Asked { query, begun } = self.books.ask(id, program, start)?;
+        let Some(book) = self.books.get_mut(id) else {
+            unreachable!()
+        };
+        let Asked { query, begun } = book.ask(program, start)?;
         let Begun { tag, session, outs } = begun;
         let opened = Some(Opened { tag, session });
         let sent = self
@@ -368,7 +377,10 @@ impl Cluster {
     {
         self.check_live(id)?;
         self.ledger.reserve(id)?;
-        let Begun { tag, session, outs } = self.books.store(id, value)?;
+        let Some(book) = self.books.get_mut(id) else {
+            unreachable!()
+        };
+        let Begun { tag, session, outs } = book.store(value.bytes())?;
         let opened = Some(Opened { tag, session });
         let event = WorldEvent::Store {
             node: id,
@@ -387,11 +399,14 @@ impl Cluster {
             return Err(ClusterFault::NeverSent);
         };
         let counting = self.ledger.find(id, taken)?;
+        let Some(book) = self.books.get_mut(id) else {
+            unreachable!()
+        };
         let Taken {
             outs,
             progress,
             completed,
-        } = self.books.deliver(id, taken)?;
+        } = book.deliver(taken)?;
         let event = WorldEvent::Deliver { message, node: id };
         let sent = self
             .ledger
@@ -404,7 +419,10 @@ impl Cluster {
     {
         self.check_live(id)?;
         self.jobs.reserve(1)?;
-        let job = self.books.hand_out(id)?;
+        let Some(book) = self.books.get_mut(id) else {
+            unreachable!()
+        };
+        let job = book.hand_out()?;
         let handed = put_job(&mut self.jobs, job);
         Ok(told(EventAnswer::HandedOut(handed), self.ledger.silent()))
     }
@@ -416,7 +434,10 @@ impl Cluster {
         let job = done.job();
         let node = job.node();
         let query = job.query();
-        self.books.post(node, &done)?;
+        let Some(book) = self.books.get_mut(node) else {
+            unreachable!()
+        };
+        book.post(&done)?;
         let answer = Answer {
             node,
             query,

@@ -6,9 +6,9 @@
 //! answer that any of its desks recorded is true: the meaning of its query's program over the view that the query's own
 //! collect returned, which holds each store that ended before the collect began and that meets it.
 //!
-//! The books of its nodes are kept by their ids, also those of nodes that have left. A call of one of them does what
-//! that book's own call does, and leaves the others as they were; where it is refused, all are as they were. So no call
-//! loses what another recorded (`specs/Tables`).
+//! The books of its nodes are kept by their ids, also those of nodes that have left. A book is lent for a call, which
+//! does what that book's own call does; the others are as they were, and where it is refused, all are. So no call loses
+//! what another recorded (`specs/Lends`).
 //!
 //! Each node with its desk is the replay of its own journal, also where it has left or crashed.
 //!

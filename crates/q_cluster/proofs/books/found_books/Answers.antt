@@ -5,7 +5,7 @@ use Rattle.sc_world.proofs.Acting.{has_at}
 use Rattle.reasons.specs.declared.Reason.TheVariants.{OutOfMemory as memory}
 use Rattle.reasons.specs.declared.Reason.{Reason}
 use Rattle.q_cluster.specs.Tables.{BookMap}
-use Rattle.q_cluster.specs.Calls.{Founds}
+use Rattle.q_cluster.specs.Founders.{Founds}
 use Rattle.q_cluster.proofs.FoundBooks.{found_refused}
 use Rattle.q_cluster.proofs.books.found_books.Goals as goal
 

@@ -1,34 +1,31 @@
 -- Cluster::ask: a query begins at a node.
 use Rattle.std.proofs.Common.{refl, length}
-use Rattle.std.proofs.lemmas.Result.{err_from_is_err_and}
 use Rattle.sc_world.proofs.Moving.{nothing_moves}
 use Rattle.q_cluster.proofs.Histories.{nothing}
 use Rattle.q_cluster.proofs.Calls.{asking, asks_note}
-use Rattle.q_cluster.proofs.Going.{standing, stays, refuses, noted_says, noted_goes}
+use Rattle.q_cluster.proofs.Going.{has_book, stays, refuses, noted_says, noted_goes}
 use Rattle.q_cluster.proofs.cluster.Cluster.ask.Goals as goal
 
 pub record-sent-requires-clause-ready : goal.record-sent-requires-clause-ready
 record-sent-requires-clause-ready c = nothing_moves c.reserve.new.self.past.ops c.args.id (length c.reserve.new.self.past.events)
 
+pub unreachable-requires : goal.unreachable-requires
+unreachable-requires c = has_book c.self.invariant c.self.view_is c.in_ok-check_live.ensures.there c.in_default.ensures.book
+
 pub invariant_of-self-in_err-query : goal.invariant_of-self-in_err-query
 invariant_of-self-in_err-query c =
-    let s = standing c.self.invariant c.self.view_is c.in_ok-check_live.ensures.there in
-    stays (asking c.args.id c.args.program c.args.start) s nothing (tt, refl) c.in_err-query.field-0.0 c.ask.new.self c.in_err-query.ensures c.in_ok-reserve.ensures.past refl
+    stays (asking c.args.id c.args.program c.args.start) c.self.invariant c.self.view_is c.in_ok-check_live.ensures.there c.in-Some.ensures.book nothing (tt, refl) c.in_err-query.ensures c.in_ok-reserve.ensures.past refl
 
 pub returns-in_err-query : goal.returns-in_err-query
 returns-in_err-query c =
-    let s = standing c.self.invariant c.self.view_is c.in_ok-check_live.ensures.there in
-    let why = err_from_is_err_and c.from_residual-in_err-query.result c.from_residual-in_err-query.ensures.1 in
-    refuses (asking c.args.id c.args.program c.args.start) s nothing (tt, refl) c.in_err-query.field-0.0 c.ask.new.self c.in_err-query.ensures c.in_ok-reserve.ensures.past refl c.from_residual-in_err-query.result why
+    refuses (asking c.args.id c.args.program c.args.start) c.self.invariant c.self.view_is c.in_ok-check_live.ensures.there c.in-Some.ensures.book nothing (tt, refl) c.in_err-query.ensures c.in_ok-reserve.ensures.past refl c.from_residual-in_err-query.result c.from_residual-in_err-query.ensures.1
 
 pub invariant_of-self-2 : goal.invariant_of-self-2
 invariant_of-self-2 c =
-    let s = standing c.self.invariant c.self.view_is c.in_ok-check_live.ensures.there in
-    noted_goes (asking c.args.id c.args.program c.args.start) s nothing (tt, refl) c.in_ok-query.field-0 c.ask.new.self c.in_ok-query.ensures (asks_note c.args.id c.in_ok-query.field-0) refl
+    noted_goes (asking c.args.id c.args.program c.args.start) c.self.invariant c.self.view_is c.in_ok-check_live.ensures.there c.in-Some.ensures.book nothing (tt, refl) c.in_ok-query.ensures (asks_note c.args.id c.in_ok-query.field-0) refl
     c.in_ok-reserve.ensures.past c.record-sent.ensures.past c.record-sent.ensures.sent c.told.ensures
 
 pub returns : goal.returns
 returns c =
-    let s = standing c.self.invariant c.self.view_is c.in_ok-check_live.ensures.there in
-    noted_says (asking c.args.id c.args.program c.args.start) s nothing (tt, refl) c.in_ok-query.field-0 c.ask.new.self c.in_ok-query.ensures (asks_note c.args.id c.in_ok-query.field-0) refl
+    noted_says (asking c.args.id c.args.program c.args.start) c.self.invariant c.self.view_is c.in_ok-check_live.ensures.there c.in-Some.ensures.book nothing (tt, refl) c.in_ok-query.ensures (asks_note c.args.id c.in_ok-query.field-0) refl
     c.in_ok-reserve.ensures.past c.record-sent.ensures.past c.record-sent.ensures.sent c.told.ensures

@@ -1,34 +1,31 @@
 -- Cluster::leave: a node leaves for good.
 use Rattle.std.proofs.Common.{refl, length}
-use Rattle.std.proofs.lemmas.Result.{err_from_is_err_and}
 use Rattle.sc_world.proofs.Moving.{nothing_moves}
 use Rattle.q_cluster.proofs.Histories.{nothing}
 use Rattle.q_cluster.proofs.Calls.{leaving, leaves_note}
-use Rattle.q_cluster.proofs.Going.{standing, stays, refuses, noted_says, noted_goes}
+use Rattle.q_cluster.proofs.Going.{has_book, stays, refuses, noted_says, noted_goes}
 use Rattle.q_cluster.proofs.cluster.Cluster.leave.Goals as goal
 
 pub record-sent-requires-clause-ready : goal.record-sent-requires-clause-ready
 record-sent-requires-clause-ready c = nothing_moves c.reserve.new.self.past.ops c.args.id (length c.reserve.new.self.past.events)
 
+pub unreachable-requires : goal.unreachable-requires
+unreachable-requires c = has_book c.self.invariant c.self.view_is c.in_ok-check_live.ensures.there c.in_default.ensures.book
+
 pub invariant_of-self-in_err-outs : goal.invariant_of-self-in_err-outs
 invariant_of-self-in_err-outs c =
-    let s = standing c.self.invariant c.self.view_is c.in_ok-check_live.ensures.there in
-    stays (leaving c.args.id) s nothing (tt, refl) c.in_err-outs.field-0.0 c.leave.new.self c.in_err-outs.ensures c.in_ok-reserve.ensures.past refl
+    stays (leaving c.args.id) c.self.invariant c.self.view_is c.in_ok-check_live.ensures.there c.in-Some.ensures.book nothing (tt, refl) c.in_err-outs.ensures c.in_ok-reserve.ensures.past refl
 
 pub returns-in_err-outs : goal.returns-in_err-outs
 returns-in_err-outs c =
-    let s = standing c.self.invariant c.self.view_is c.in_ok-check_live.ensures.there in
-    let why = err_from_is_err_and c.from_residual-in_err-outs.result c.from_residual-in_err-outs.ensures.1 in
-    refuses (leaving c.args.id) s nothing (tt, refl) c.in_err-outs.field-0.0 c.leave.new.self c.in_err-outs.ensures c.in_ok-reserve.ensures.past refl c.from_residual-in_err-outs.result why
+    refuses (leaving c.args.id) c.self.invariant c.self.view_is c.in_ok-check_live.ensures.there c.in-Some.ensures.book nothing (tt, refl) c.in_err-outs.ensures c.in_ok-reserve.ensures.past refl c.from_residual-in_err-outs.result c.from_residual-in_err-outs.ensures.1
 
 pub invariant_of-self-2 : goal.invariant_of-self-2
 invariant_of-self-2 c =
-    let s = standing c.self.invariant c.self.view_is c.in_ok-check_live.ensures.there in
-    noted_goes (leaving c.args.id) s nothing (tt, refl) c.in_ok-outs.outs c.leave.new.self c.in_ok-outs.ensures (leaves_note c.args.id c.in_ok-outs.outs) refl
+    noted_goes (leaving c.args.id) c.self.invariant c.self.view_is c.in_ok-check_live.ensures.there c.in-Some.ensures.book nothing (tt, refl) c.in_ok-outs.ensures (leaves_note c.args.id c.in_ok-outs.outs) refl
     c.in_ok-reserve.ensures.past c.record-sent.ensures.past c.record-sent.ensures.sent c.told.ensures
 
 pub returns : goal.returns
 returns c =
-    let s = standing c.self.invariant c.self.view_is c.in_ok-check_live.ensures.there in
-    noted_says (leaving c.args.id) s nothing (tt, refl) c.in_ok-outs.outs c.leave.new.self c.in_ok-outs.ensures (leaves_note c.args.id c.in_ok-outs.outs) refl
+    noted_says (leaving c.args.id) c.self.invariant c.self.view_is c.in_ok-check_live.ensures.there c.in-Some.ensures.book nothing (tt, refl) c.in_ok-outs.ensures (leaves_note c.args.id c.in_ok-outs.outs) refl
     c.in_ok-reserve.ensures.past c.record-sent.ensures.past c.record-sent.ensures.sent c.told.ensures

@@ -1,20 +1,13 @@
--- What calls make of a table of books, and the books of founders.
+-- The books of founders.
 use Rattle.std.specs.Prelude.{◌≡◌, ◌≢◌, ℕ, true, false, List, [], ◌∷◌, Some, Result, Ok, Err}
 use Rattle.std.specs.FinMap as fin
 use Rattle.sc_members.specs.Members.{Config}
 use Rattle.sc_msg.specs.declared.version.Version.{Version}
 use Rattle.sc_node.specs.Nodes.{founder, are_founders}
 use Rattle.reasons.specs.declared.Reason.TheVariants as reasons
-use Rattle.q_book.specs.State.{BookState}
 use Rattle.q_book.specs.Books.{new_book}
 use Rattle.reasons.specs.declared.Reason.{Reason}
-use Rattle.reasons.specs.declared.Reason.TheVariants.{OutOfMemory as memory}
 use Rattle.q_cluster.specs.Tables.{BookMap}
-
--- the book of that id does what is said, and the others are as they were; or it refuses, and all are
-abbrev pub StepsAt : {A : Type 0} → Result (A × BookState) Reason → BookMap → BookMap → ℕ → Result A Reason → Type 0
-StepsAt said old new id (Ok a) = (b : BookState) × (said ≡ Ok (a, b)) × (new ≡ fin.insert old id b)
-StepsAt said old new id (Err e) = (new ≡ old) × (e ≢ memory → said ≡ Err e)
 
 -- these books, and those of the founders of these ids
 abbrev pub books_with : Version → Config → List ℕ → BookMap → List ℕ → BookMap
